@@ -1,0 +1,95 @@
+-- The meaning of a module of a design: its settled maps, its steps, its runs, and what depends on what.
+use Rattle.std.specs.Prelude.{List, [], ◌∷◌, ◌++◌, map, drop, Option, Some, None, cond}
+use Rattle.wiring.specs.Wiring.{Settled as IsSettled, Depends as IsReached, IsAcyclic, HasHeights as HaveHeights}
+use Rattle.bits_core.specs.Word.{Word, first}
+use Rattle.hw_model.specs.Types.{Name}
+use Rattle.hw_model.specs.Design.{Ref, Module, Design, find_module, output_refs}
+use Rattle.hw_model.specs.Value.{op_value, joined, is_high}
+use Rattle.hw_model.specs.Flat.{Net, net, Source, source, Slot, Register, ResetBy, register_in, registers, held_width, state}
+use Rattle.hw_model.specs.Flat.Source.{nowhere, input, held, copy, made}
+use Rattle.hw_model.specs.Machine.{Machine}
+
+-- ---- nets
+
+-- the nets from whose values a net's value comes, without a register between
+abbrev pub needs_of : Source → List Net
+needs_of nowhere = []
+needs_of (input start w) = []
+needs_of (held start w) = []
+needs_of (copy n) = n ∷ []
+needs_of (made kind types t k ns) = ns
+
+abbrev pub needs : Design → Name → Net → List Net
+needs d top n = needs_of (source d top n)
+
+abbrev pub only : List Word → Word
+only [] = []
+only (x ∷ xs) = x
+
+-- the value of a net under inputs and content, from the values of the nets that it needs
+abbrev pub value_of : Word → Word → Source → List Word → Word
+value_of inputs content nowhere xs = []
+value_of inputs content (input start w) xs = first w (drop start inputs)
+value_of inputs content (held start w) xs = first w (drop start content)
+value_of inputs content (copy n) xs = only xs
+value_of inputs content (made kind types t k ns) xs = op_value kind types t k xs
+
+abbrev pub value : Design → Name → Word → Word → Net → List Word → Word
+value d top inputs content n xs = value_of inputs content (source d top n) xs
+
+-- under the map every net has the value of its own operation, every register its content, every input its bits
+abbrev pub Settled : Design → Name → Word → Word → (Net → Word) → Type 0
+Settled d top inputs content ρ = IsSettled (needs d top) (value d top inputs content) ρ
+
+-- a net depends on another by operations that are not registers
+abbrev pub Depends : Design → Name → Net → Net → Type 0
+Depends d top a b = IsReached (needs d top) a b
+
+-- no net of the flattened module depends on itself
+abbrev pub HasNoCycle : Design → Name → Type 0
+HasNoCycle d top = IsAcyclic (needs d top)
+
+-- the nets of the flattened module have heights: each is one higher than the highest that it needs
+abbrev pub HasHeights : Design → Name → Type 0
+HasHeights d top = HaveHeights (needs d top)
+
+-- ---- registers
+
+abbrev pub enabled : Option Ref → (Ref → Word) → Word → Word → Word
+enabled None τ old new = new
+enabled (Some e) τ old new = cond (is_high (τ e)) new old
+
+abbrev pub reset : Option ResetBy → (Ref → Word) → Word → Word
+reset None τ new = new
+reset (Some r) τ new = cond (is_high (τ r.signal)) (τ r.value) new
+
+-- what a register holds after a step: where its clock rises, with reset the reset value, otherwise without enable the
+-- old one, otherwise its data operand
+abbrev pub loaded : Option Register → (Ref → Word) → Word → Word
+loaded None τ old = old
+loaded (Some r) τ old = cond (is_high (τ r.clock)) (reset r.reset τ (enabled r.enable τ old (τ r.next))) old
+
+-- the content after a step: the registers in order, each taking its next value from the settled map
+abbrev pub next_content : List Slot → (Net → Word) → Word → Word
+next_content [] ρ content = []
+next_content (s ∷ ss) ρ content =
+  first (held_width s.op) (loaded (register_in s.op) (λ r. ρ (net s.path r)) (first (held_width s.op) content))
+    ++ next_content ss ρ (drop (held_width s.op) content)
+
+-- ---- the machine of a module
+
+abbrev pub outputs_of : Option Module → List Ref
+outputs_of None = []
+outputs_of (Some m) = output_refs m.body
+
+-- the outputs under a map, in port order
+abbrev pub outputs : Design → Name → (Net → Word) → Word
+outputs d top ρ = joined (map (λ r. ρ (net [] r)) (outputs_of (find_module d top)))
+
+-- what the module of a symbol does
+abbrev pub machine : Design → Name → Machine Net
+machine d top = record {
+  size = state d top;
+  settled = Settled d top;
+  outputs = outputs d top;
+  next = next_content (registers d top) }

@@ -1,0 +1,2 @@
+//! What a design of the hw, comb and seq dialects means.
+#![tactic(auto)]
