@@ -1,0 +1,10 @@
+pub mod Tree
+pub mod Tokens
+pub mod Grammar
+pub mod Numerals
+pub mod Reserved
+pub mod Expression
+pub mod Hierarchy
+pub mod Checks
+pub mod Meaning
+pub mod Behaviour

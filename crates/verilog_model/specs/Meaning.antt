@@ -1,0 +1,74 @@
+-- What a module of a tree does: its settled maps, its outputs, its steps (IEEE 1364-2005, 6.1: continuous assignments;
+-- 9.2.2: nonblocking assignments), read by cycles.
+use Rattle.std.specs.Prelude.{◌≡◌, ℕ, Bool, false, cond, List, [], ◌∷◌, ◌++◌, map, drop, filter, Option, Some, None}
+use Rattle.bits_core.specs.Word.{Word, first}
+use Rattle.hw_model.specs.Types.{Name}
+use Rattle.hw_model.specs.Value.{joined, is_high}
+use Rattle.hw_model.specs.Machine.{Machine}
+use Rattle.verilog_model.specs.Tree.{Expr, VPort, Load, Block, VModule, Tree}
+use Rattle.verilog_model.specs.Tree.Block.{load, if_load, if_else, if_else_if}
+use Rattle.verilog_model.specs.Expression.{assigned, own_value, is_true, extended, low_bits}
+use Rattle.verilog_model.specs.Hierarchy.{VPath, VNet, vnet, Drive, drive, vmodule_at, width_in, width_at, block_target, find_vmodule, vports_of, vstate, VSlot, vregisters}
+use Rattle.verilog_model.specs.Hierarchy.Drive.{nothing, input, held, expression, net}
+
+-- the words of the names at the end of a path
+abbrev pub names_at : VPath → (VNet → Word) → Name → Word
+names_at q ρ n = ρ (vnet q n)
+
+-- what a drive gives to a net of k bits
+abbrev pub driven : Tree → Name → Word → Word → (VNet → Word) → ℕ → Drive → Word
+driven t top inputs content ρ k nothing = []
+driven t top inputs content ρ k (input start w) = first w (drop start inputs)
+driven t top inputs content ρ k (held start w) = first w (drop start content)
+driven t top inputs content ρ k (expression q e) = assigned (width_at (vmodule_at t top q)) (names_at q ρ) k e
+driven t top inputs content ρ k (net v) = low_bits k (extended k false (ρ v))
+
+-- under the map each net has what drives it
+abbrev pub TreeSettled : Tree → Name → Word → Word → (VNet → Word) → Type 0
+TreeSettled t top inputs content ρ =
+  (v : VNet) → ρ v ≡ driven t top inputs content ρ (width_at (vmodule_at t top v.path) v.name) (drive t top v)
+
+-- ---- registers
+
+abbrev pub load_value : VModule → (Name → Word) → ℕ → Load → Word
+load_value m τ k l = assigned (width_in m) τ k l.value
+
+abbrev pub holds : VModule → (Name → Word) → Expr → Bool
+holds m τ e = is_true (own_value (width_in m) τ e)
+
+-- what the block's register of k bits takes
+abbrev pub block_value : VModule → (Name → Word) → ℕ → Word → Block → Word
+block_value m τ k old (load l) = load_value m τ k l
+block_value m τ k old (if_load c l) = cond (holds m τ c) (load_value m τ k l) old
+block_value m τ k old (if_else c l e) = cond (holds m τ c) (load_value m τ k l) (load_value m τ k e)
+block_value m τ k old (if_else_if c l b e) = cond (holds m τ c) (load_value m τ k l) (cond (holds m τ b) (load_value m τ k e) old)
+
+-- where the clock's bit is 1 in this step, the block runs
+abbrev pub slot_value : (VNet → Word) → ℕ → Word → VSlot → Word
+slot_value ρ k old s = cond (is_high (ρ (vnet s.path s.clock))) (block_value s.in_module (names_at s.path ρ) k old s.block) old
+
+abbrev pub slot_width : VSlot → ℕ
+slot_width s = width_in s.in_module (block_target s.block)
+
+-- the content after a step: all registers at once
+abbrev pub next_vcontent : List VSlot → (VNet → Word) → Word → Word
+next_vcontent [] ρ content = []
+next_vcontent (s ∷ ss) ρ content =
+  first (slot_width s) (slot_value ρ (slot_width s) (first (slot_width s) content) s) ++ next_vcontent ss ρ (drop (slot_width s) content)
+
+-- ---- the machine of a module
+
+abbrev pub output_ports : List VPort → List VPort
+output_ports ps = filter (λ (p : VPort). p.is_output) ps
+
+-- the output ports' words, in port order
+abbrev pub tree_outputs : Tree → Name → (VNet → Word) → Word
+tree_outputs t top ρ = joined (map (λ (p : VPort). ρ (vnet [] p.name)) (output_ports (vports_of (find_vmodule t top))))
+
+-- what the module of a name does
+abbrev pub tree_machine : Tree → Name → Machine VNet
+tree_machine t top = record {
+  size = vstate t top;
+  settled = TreeSettled t top;
+  outputs = tree_outputs t top;
+  next = next_vcontent (vregisters t top) }

@@ -1,0 +1,2 @@
+//! What a Verilog text means: the text that is read, and what its modules do.
+#![tactic(auto)]
