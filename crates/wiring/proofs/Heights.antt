@@ -1,7 +1,7 @@
 -- Heights: where they are, and what they give.
 use Rattle.std.proofs.Common.{◌≡◌, ℕ, zero, suc, ◌+◌, ◌<◌, ◌≤◌, max, ◌⊎◌, List, [], ◌∷◌, ◌++◌, length, map, refl, sym, ap, subst, ◌∙◌, inl, inr, arith}
 use Rattle.wiring.specs.Wiring.{In, greatest, Chain, Depends, IsAcyclic, IsWithin, IsHeight, HasHeights, FallsAlong, Settled, SettlesOnce}
-use Rattle.wiring.proofs.Lists.{In-map, from_In-map}
+use Rattle.wiring.proofs.Members.{In-map, from_In-map}
 use Rattle.wiring.proofs.Chains.{chain-le}
 use Rattle.wiring.proofs.Settled.{by_falling, settles_once, settles_along, settled_alike}
 

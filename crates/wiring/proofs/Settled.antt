@@ -1,7 +1,7 @@
 -- Exactly one map is settled where each net has a depth, which all chains from it stay below; and induction along needs.
 use Rattle.std.proofs.Common.{◌≡◌, ℕ, zero, suc, ◌<◌, ◌≤◌, List, [], ◌∷◌, length, map, refl, sym, ap, subst, ◌∙◌, inl, inr, arith}
 use Rattle.wiring.specs.Wiring.{In, Chain, Depends, IsAcyclic, IsWithin, FallsAlong, Settled, SettlesOnce}
-use Rattle.wiring.proofs.Lists.{map_same}
+use Rattle.wiring.proofs.Members.{map_same}
 use Rattle.wiring.proofs.Chains.{chain-le}
 
 module _ {A : Type 0} (needs : A → List A) where
