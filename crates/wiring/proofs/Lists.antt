@@ -1,7 +1,7 @@
 -- Lists by positions: what stands at a position of joined lists, of parts and after a write.
 -- The standard library has more: `slice_get-map` and `slice_get_past` in `lemmas.Option`, `map-append`, `length-map`,
 -- `take_at`, `drop_at` and others in `lemmas.List`, and what `insert` and `remove` leave in `lemmas.List.Edits`.
-use Rattle.std.proofs.Common.{◌≡◌, ℕ, zero, suc, ◌+◌, ◌-◌, ◌<◌, ◌≤◌, ◌≢◌, ◌⊎◌, List, [], ◌∷◌, ◌++◌, length, map, take, drop, set, slice_get, Option, Some, None, refl, sym, ap, ap₂, subst, ◌∙◌, inl, inr, arith, zero-add, suc-add}
+use Rattle.std.proofs.Common.{◌≡◌, ℕ, zero, suc, ◌+◌, ◌-◌, ◌<◌, ◌≤◌, ◌≢◌, List, [], ◌∷◌, ◌++◌, length, take, drop, set, slice_get, Some, None, refl, sym, ap, ap₂, ◌∙◌, arith, zero-add, suc-add}
 pub use mathlib.Core.List.{map-map}
 
 module _ {A : Type 0} where
@@ -13,13 +13,13 @@ module _ {A : Type 0} where
   pub slice_get-append_right : (xs ys : List A) (k : ℕ) → slice_get (xs ++ ys) (length xs + k) ≡ slice_get ys k
   slice_get-append_right [] ys k = ap (slice_get ys) (zero-add k)
   slice_get-append_right (x ∷ xs) ys k =
-    ap (slice_get (x ∷ xs ++ ys)) (suc-add (length xs) k) ∙ slice_get-append_right xs ys k
+      ap (slice_get (x ∷ xs ++ ys)) (suc-add (length xs) k) ∙ slice_get-append_right xs ys k
 
   -- the same from the position in the whole
   pub slice_get-append_past : (xs ys : List A) (i : ℕ) → length xs ≤ i → slice_get (xs ++ ys) i ≡ slice_get ys (i - length xs)
   slice_get-append_past xs ys i past =
-    let sum : i ≡ length xs + (i - length xs) = omega arith in
-    ap (slice_get (xs ++ ys)) sum ∙ slice_get-append_right xs ys (i - length xs)
+      let sum : i ≡ length xs + (i - length xs) = omega arith in
+      ap (slice_get (xs ++ ys)) sum ∙ slice_get-append_right xs ys (i - length xs)
 
   pub slice_get-append_at : (xs : List A) (y : A) (ys : List A) → slice_get (xs ++ y ∷ ys) (length xs) ≡ Some y
   slice_get-append_at [] y ys = refl
@@ -93,5 +93,5 @@ module _ {A : Type 0} where
   same_positions [] (y ∷ ys) same = let clash = same 0 in cc
   same_positions (x ∷ xs) [] same = let clash = same 0 in cc
   same_positions (x ∷ xs) (y ∷ ys) same =
-    let first : x ≡ y = let e = same 0 in cc in
-    ap₂ (λ z zs. z ∷ zs) first (same_positions xs ys (λ i. same (suc i)))
+      let first : x ≡ y = let e = same 0 in cc in
+      ap₂ (λ z zs. z ∷ zs) first (same_positions xs ys (λ i. same (suc i)))

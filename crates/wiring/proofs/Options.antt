@@ -1,5 +1,5 @@
 -- Steps that may fail: what follows from the value of a chain, and how chains are joined.
-use Rattle.std.proofs.Common.{◌≡◌, ◌⊎◌, Option, Some, None, option_and_then, refl, sym, ap, inl, inr}
+use Rattle.std.proofs.Common.{◌≡◌, ◌⊎◌, Option, Some, None, option_and_then, refl, ap, inl, inr}
 use Rattle.wiring.specs.Options.{bind, omap}
 
 module _ {A : Type 0} where

@@ -11,8 +11,7 @@ ghost use Rattle.wiring.specs.Wiring.{IsAcyclic, IsWithin, IsHeight, HasHeights,
 pub fn one_map_settles<Net, Value>()
     ensures acyclic { (needs : Net → List Net) (value : Net → List Value → Value) (nets : List Net) → IsWithin needs nets → IsAcyclic needs → SettlesOnce needs value }
     ensures heights { (needs : Net → List Net) (value : Net → List Value → Value) → HasHeights needs → SettlesOnce needs value }
-{
-}
+{}
 
 /// Does nothing. Its clauses say that a wiring without cycles is one whose nets have heights, if the nets that need
 /// others stand in a list; that any number that falls along needs gives heights; that a net has one height; and how
@@ -23,5 +22,4 @@ pub fn heights_are_acyclic<Net>()
     ensures falling { (needs : Net → List Net) (h : Net → ℕ) → FallsAlong needs h → HasHeights needs }
     ensures unique { (needs : Net → List Net) (g h : Net → ℕ) → IsHeight needs g → IsHeight needs h → (a : Net) → g a ≡ h a }
     ensures bounded { (needs : Net → List Net) (nets : List Net) → IsWithin needs nets → (h : Net → ℕ) → IsHeight needs h → (a : Net) → h a ≤ suc (length nets) }
-{
-}
+{}
