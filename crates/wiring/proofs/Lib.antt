@@ -6,3 +6,4 @@ pub mod Totals
 pub mod Chains
 pub mod Settled
 pub mod Heights
+pub mod Samples
