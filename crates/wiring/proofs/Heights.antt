@@ -1,8 +1,8 @@
 -- Heights: where they are, and what they give.
-use Rattle.std.proofs.Common.{◌≡◌, ℕ, zero, suc, ◌+◌, ◌<◌, ◌≤◌, max, ◌⊎◌, List, [], ◌∷◌, ◌++◌, length, map, refl, sym, ap, subst, ◌∙◌, inl, inr, arith}
+use Rattle.std.proofs.Common.{◌≡◌, ℕ, zero, suc, ◌<◌, ◌≤◌, max, ◌⊎◌, List, [], ◌∷◌, ◌++◌, length, map, refl, sym, subst, ◌∙◌, inl, inr, arith}
 use Rattle.wiring.specs.Wiring.{In, greatest, Chain, Depends, IsAcyclic, IsWithin, IsHeight, HasHeights, FallsAlong, SettlesOnce}
 use Rattle.wiring.proofs.Members.{In-map, from_In-map}
-use Rattle.wiring.proofs.Chains.{chain-le}
+use Rattle.wiring.proofs.Chains.{Chain-le, Depends-falls, IsAcyclic-falling}
 use Rattle.wiring.proofs.Settled.{by_falling, settles_once, settles_along, settled_alike}
 
 -- no member is greater
@@ -42,20 +42,6 @@ module _ {A : Type 0} (needs : A → List A) where
       let is : h a ≡ suc (greatest (map h (needs a))) = height a in
       omega arith
 
-  -- and so along chains
-  pub Chain-falls : (h : A → ℕ) → FallsAlong needs h → (k : ℕ) (a b : A) → Chain needs k a b → h b + k ≤ h a
-  Chain-falls h falls zero a b same = let is : h a ≡ h b = ap h same in omega arith
-  Chain-falls h falls (suc k) a b (c, need, chain) =
-      let lower : h c < h a = falls a c need in
-      let rest : h b + k ≤ h c = Chain-falls h falls k c b chain in
-      omega arith
-
-  pub Depends-falls : (h : A → ℕ) → FallsAlong needs h → (a b : A) → Depends needs a b → h b < h a
-  Depends-falls h falls a b (k, chain) = let bound : h b + suc k ≤ h a = Chain-falls h falls (suc k) a b chain in omega arith
-
-  pub IsAcyclic-falling : (h : A → ℕ) → FallsAlong needs h → IsAcyclic needs
-  IsAcyclic-falling h falls a around = let lower : h a < h a = Depends-falls h falls a a around in absurd (omega arith)
-
   -- a number that falls along needs gives heights
   pub heights : (h : A → ℕ) → FallsAlong needs h → HasHeights needs
   heights h falls = let once = settles_along needs (λ a ns. suc (greatest ns)) h falls in (once.0, once.1)
@@ -67,7 +53,7 @@ module _ {A : Type 0} (needs : A → List A) where
 
   -- and where a wiring has heights there is no cycle
   pub IsAcyclic-heights : HasHeights needs → IsAcyclic needs
-  IsAcyclic-heights (h, height) = IsAcyclic-falling h (FallsAlong-height h height)
+  IsAcyclic-heights (h, height) = IsAcyclic-falling needs h (FallsAlong-height h height)
 
   -- two maps of heights are equal
   pub heights_alike : (g h : A → ℕ) → IsHeight needs g → IsHeight needs h → (a : A) → g a ≡ h a
@@ -92,7 +78,7 @@ module _ {A : Type 0} (needs : A → List A) where
       by_size zero is = omega arith
       by_size (suc n) is =
           let reached = chain_of_height h height n a is in
-          let bound : n ≤ length nets = chain-le needs nets within (IsAcyclic-heights (h, height)) n a reached.0 reached.1 in
+          let bound : n ≤ length nets = Chain-le needs nets within (IsAcyclic-heights (h, height)) n a reached.0 reached.1 in
           omega arith
 
   -- induction along needs, by heights
@@ -103,3 +89,10 @@ module _ {A V : Type 0} (needs : A → List A) (value : A → List V → V) wher
   -- exactly one map is settled where the nets have heights
   pub settles : HasHeights needs → SettlesOnce needs value
   settles (h, height) = settles_along needs value h (FallsAlong-height needs h height)
+
+module _ {A B : Type 0} (needs : A → List A) (needs' : B → List B) where
+  -- a wiring has heights where its nets stand for nets of a wiring with heights, and each need for a chain of needs there
+  pub HasHeights-follows : (f : A → B) → ((a b : A) → In b (needs a) → Depends needs' (f a) (f b)) → HasHeights needs' → HasHeights needs
+  HasHeights-follows f follows (h, height) =
+      heights needs (λ a. h (f a))
+      (λ a b need. Depends-falls needs' h (FallsAlong-height needs' h height) (f a) (f b) (follows a b need))

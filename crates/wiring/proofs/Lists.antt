@@ -30,6 +30,16 @@ module _ {A : Type 0} where
   slice_get-append_some (z ∷ zs) ys zero x is = is
   slice_get-append_some (z ∷ zs) ys (suc i) x is = slice_get-append_some zs ys i x is
 
+  pub take-append_right : (xs ys : List A) (k : ℕ) → take (length xs + k) (xs ++ ys) ≡ xs ++ take k ys
+  take-append_right [] ys k = ap (λ n. take n ys) (zero-add k)
+  take-append_right (x ∷ xs) ys k =
+      ap (λ n. take n (x ∷ xs ++ ys)) (suc-add (length xs) k) ∙ ap (λ zs. x ∷ zs) (take-append_right xs ys k)
+
+  pub drop-append_right : (xs ys : List A) (k : ℕ) → drop (length xs + k) (xs ++ ys) ≡ drop k ys
+  drop-append_right [] ys k = ap (λ n. drop n ys) (zero-add k)
+  drop-append_right (x ∷ xs) ys k =
+      ap (λ n. drop n (x ∷ xs ++ ys)) (suc-add (length xs) k) ∙ drop-append_right xs ys k
+
   pub slice_get-take : (n : ℕ) (xs : List A) (i : ℕ) → i < n → slice_get (take n xs) i ≡ slice_get xs i
   slice_get-take zero xs i below = absurd (omega arith)
   slice_get-take (suc n) [] i below = refl

@@ -74,8 +74,8 @@ module _ {A : Type 0} where
       let found = position_of_In x xs here in
       (found.0, slice_get_within xs found.0 x found.1, get_or_from_slice_get xs found.0 x x found.1)
 
-  pub In-from_contains : (x : A) (xs : List A) → Contains xs x → In x xs
-  In-from_contains x xs (k, within, is) =
+  pub In-from_Contains : (x : A) (xs : List A) → Contains xs x → In x xs
+  In-from_Contains x xs (k, within, is) =
       In-slice_get x xs k (slice_get-get_or xs k x within ∙ ap Some is)
 
   -- what holds of each member holds of all, in the words of `All`, and back

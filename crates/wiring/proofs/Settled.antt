@@ -1,8 +1,8 @@
 -- Exactly one map is settled where each net has a depth, which all chains from it stay below; and induction along needs.
-use Rattle.std.proofs.Common.{◌≡◌, ℕ, zero, suc, ◌<◌, ◌≤◌, List, [], length, map, refl, sym, ap, ◌∙◌, arith}
+use Rattle.std.proofs.Common.{◌≡◌, ℕ, zero, suc, ◌+◌, ◌≤◌, List, [], length, map, refl, sym, ap, ◌∙◌, arith}
 use Rattle.wiring.specs.Wiring.{In, Chain, IsAcyclic, IsWithin, FallsAlong, Settled, SettlesOnce}
 use Rattle.wiring.proofs.Members.{map_same}
-use Rattle.wiring.proofs.Chains.{chain-le}
+use Rattle.wiring.proofs.Chains.{Chain-le, Chain-falls}
 
 module _ {A : Type 0} (needs : A → List A) where
   -- each chain from a has fewer than n steps
@@ -12,23 +12,16 @@ module _ {A : Type 0} (needs : A → List A) where
   pub EndsBefore-needed : (n : ℕ) (a b : A) → EndsBefore (suc n) a → In b (needs a) → EndsBefore n b
   EndsBefore-needed n a b ends need c chain = ends c (b, need, chain)
 
-  -- in a wiring without cycles the number of nets that have needs is such a bound
+  -- where no net needs itself, a chain has at most as many steps as there are nets that have needs
   pub EndsBefore-within : (nets : List A) → IsWithin needs nets → IsAcyclic needs → (a : A) → EndsBefore (suc (length nets)) a
   EndsBefore-within nets within acyclic a b chain =
-      let bound : suc (length nets) ≤ length nets = chain-le needs nets within acyclic (suc (length nets)) a b chain in
+      let bound : suc (length nets) ≤ length nets = Chain-le needs nets within acyclic (suc (length nets)) a b chain in
       absurd (omega arith)
 
-  -- and so is a number that falls along needs
-  falls_on_chain : (h : A → ℕ) → FallsAlong needs h → (k : ℕ) (a b : A) → Chain needs k a b → k ≤ h a
-  falls_on_chain h falls zero a b chain = omega arith
-  falls_on_chain h falls (suc k) a b (c, need, chain) =
-      let lower : h c < h a = falls a c need in
-      let rest : k ≤ h c = falls_on_chain h falls k c b chain in
-      omega arith
-
+  -- where numbers fall along needs, a chain has at most as many steps as the number of its first net
   pub EndsBefore-falling : (h : A → ℕ) → FallsAlong needs h → (a : A) → EndsBefore (suc (h a)) a
   EndsBefore-falling h falls a b chain =
-      let bound : suc (h a) ≤ h a = falls_on_chain h falls (suc (h a)) a b chain in
+      let bound : h b + suc (h a) ≤ h a = Chain-falls needs h falls (suc (h a)) a b chain in
       absurd (omega arith)
 
   -- induction along needs, below a depth
