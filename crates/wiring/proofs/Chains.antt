@@ -1,7 +1,7 @@
 -- Chains of needs: where no net needs itself, no chain is longer than a list of the nets that have needs.
 -- This is the pigeonhole principle, by places in the list: no two nets are ever compared.
 use Rattle.std.proofs.Common.{◌≡◌, ℕ, zero, suc, ◌+◌, ◌<◌, ◌≤◌, ◌⊎◌, List, [], ◌∷◌, length, refl, sym, ap, subst, ◌∙◌, inl, inr, arith, zero-add, suc-add}
-use Rattle.wiring.specs.Wiring.{In, Chain, Depends, IsAcyclic, IsWithin}
+use Rattle.wiring.specs.Wiring.{In, Chain, Depends, IsAcyclic, IsWithin, FallsAlong}
 
 module _ {A : Type 0} where
   -- the list without the member that stands at the place `here`
@@ -28,19 +28,26 @@ module _ {A : Type 0} where
       behind (inr stays) = inr (inr stays)
 
 module _ {A : Type 0} (needs : A → List A) where
-  pub chain_append : (j k : ℕ) (a b c : A) → Chain needs j a b → Chain needs k b c → Chain needs (j + k) a c
-  chain_append zero k a b c first second =
-    subst (λ n. Chain needs n a c) (sym (zero-add k)) (subst (λ d. Chain needs k d c) (sym first) second)
-  chain_append (suc j) k a b c (d, need, first) second =
-    subst (λ n. Chain needs n a c) (sym (suc-add j k)) (d, need, chain_append j k d b c first second)
+  pub Chain-append : (j k : ℕ) (a b c : A) → Chain needs j a b → Chain needs k b c → Chain needs (j + k) a c
+  Chain-append zero k a b c first second =
+      subst (λ n. Chain needs n a c) (sym (zero-add k)) (subst (λ d. Chain needs k d c) (sym first) second)
+  Chain-append (suc j) k a b c (d, need, first) second =
+      subst (λ n. Chain needs n a c) (sym (suc-add j k)) (d, need, Chain-append j k d b c first second)
 
   pub Depends-direct : (a b : A) → In b (needs a) → Depends needs a b
   Depends-direct a b need = (0, (b, need, refl))
 
   pub Depends-trans : (a b c : A) → Depends needs a b → Depends needs b c → Depends needs a c
   Depends-trans a b c (j, first) (k, second) =
-    let n : j + suc k ≡ j + suc k = refl in
-    (j + suc k, subst (λ m. Chain needs m a c) (suc-add j (suc k)) (chain_append (suc j) (suc k) a b c first second))
+      (j + suc k, subst (λ m. Chain needs m a c) (suc-add j (suc k)) (Chain-append (suc j) (suc k) a b c first second))
+
+  pub Depends-step : (a b c : A) → In b (needs a) → Depends needs b c → Depends needs a c
+  Depends-step a b c need (k, chain) = (suc k, (b, need, chain))
+
+  -- a net that is needed is needed directly, or by a net that is
+  pub Depends_cases : (a c : A) → Depends needs a c → (b : A) × In b (needs a) × ((b ≡ c) ⊎ Depends needs b c)
+  Depends_cases a c (zero, (b, need, same)) = (b, need, inl same)
+  Depends_cases a c (suc k, (b, need, chain)) = (b, need, inr (k, chain))
 
   -- the nets that chains from a reach and that need others stand in the list
   abbrev ReachesWithin : A → List A → Type 0
@@ -50,10 +57,10 @@ module _ {A : Type 0} (needs : A → List A) where
   chain_within : IsAcyclic needs → (k : ℕ) (nets : List A) (a b : A) → ReachesWithin a nets → Chain needs k a b → k ≤ length nets
   chain_within acyclic zero nets a b within chain = omega arith
   chain_within acyclic (suc k) nets a b within (c, need, chain) =
-    let here : In a nets = within 0 a c refl need in
-    let shorter : k ≤ length (without a nets here) = chain_within acyclic k (without a nets here) c b (later here) chain in
-    let size : length nets ≡ suc (length (without a nets here)) = length-without a nets here in
-    omega arith
+      let here : In a nets = within 0 a c refl need in
+      let shorter : k ≤ length (without a nets here) = chain_within acyclic k (without a nets here) c b (later here) chain in
+      let size : length nets ≡ suc (length (without a nets here)) = length-without a nets here in
+      omega arith
     where
       later : (here : In a nets) → ReachesWithin c (without a nets here)
       later here j d e reached needed = other (In-without a d nets here (within (suc j) d e (c, need, reached) needed))
@@ -63,6 +70,20 @@ module _ {A : Type 0} (needs : A → List A) where
           other (inr stays) = stays
 
   -- no chain is longer than a list of the nets that have needs
-  pub chain-le : (nets : List A) → IsWithin needs nets → IsAcyclic needs → (k : ℕ) (a b : A) → Chain needs k a b → k ≤ length nets
-  chain-le nets within acyclic k a b chain =
-    chain_within acyclic k nets a b (λ j c d reached needed. within c d needed) chain
+  pub Chain-le : (nets : List A) → IsWithin needs nets → IsAcyclic needs → (k : ℕ) (a b : A) → Chain needs k a b → k ≤ length nets
+  Chain-le nets within acyclic k a b chain =
+      chain_within acyclic k nets a b (λ j c d reached needed. within c d needed) chain
+
+  -- numbers that fall along needs fall along chains
+  pub Chain-falls : (h : A → ℕ) → FallsAlong needs h → (k : ℕ) (a b : A) → Chain needs k a b → h b + k ≤ h a
+  Chain-falls h falls zero a b same = let is : h a ≡ h b = ap h same in omega arith
+  Chain-falls h falls (suc k) a b (c, need, chain) =
+      let lower : h c < h a = falls a c need in
+      let rest : h b + k ≤ h c = Chain-falls h falls k c b chain in
+      omega arith
+
+  pub Depends-falls : (h : A → ℕ) → FallsAlong needs h → (a b : A) → Depends needs a b → h b < h a
+  Depends-falls h falls a b (k, chain) = let bound : h b + suc k ≤ h a = Chain-falls h falls (suc k) a b chain in omega arith
+
+  pub IsAcyclic-falling : (h : A → ℕ) → FallsAlong needs h → IsAcyclic needs
+  IsAcyclic-falling h falls a around = let lower : h a < h a = Depends-falls h falls a a around in absurd (omega arith)

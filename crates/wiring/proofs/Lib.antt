@@ -1,4 +1,9 @@
+pub mod Options
+pub mod Members
 pub mod Lists
+pub mod Edits
+pub mod Totals
 pub mod Chains
 pub mod Settled
 pub mod Heights
+pub mod Samples

@@ -1,8 +1,8 @@
 -- Exactly one map is settled where each net has a depth, which all chains from it stay below; and induction along needs.
-use Rattle.std.proofs.Common.{◌≡◌, ℕ, zero, suc, ◌<◌, ◌≤◌, List, [], ◌∷◌, length, map, refl, sym, ap, subst, ◌∙◌, inl, inr, arith}
-use Rattle.wiring.specs.Wiring.{In, Chain, Depends, IsAcyclic, IsWithin, FallsAlong, Settled, SettlesOnce}
-use Rattle.wiring.proofs.Lists.{map_same}
-use Rattle.wiring.proofs.Chains.{chain-le}
+use Rattle.std.proofs.Common.{◌≡◌, ℕ, zero, suc, ◌+◌, ◌≤◌, List, [], length, map, refl, sym, ap, ◌∙◌, arith}
+use Rattle.wiring.specs.Wiring.{In, Chain, IsAcyclic, IsWithin, FallsAlong, Settled, SettlesOnce}
+use Rattle.wiring.proofs.Members.{map_same}
+use Rattle.wiring.proofs.Chains.{Chain-le, Chain-falls}
 
 module _ {A : Type 0} (needs : A → List A) where
   -- each chain from a has fewer than n steps
@@ -12,30 +12,23 @@ module _ {A : Type 0} (needs : A → List A) where
   pub EndsBefore-needed : (n : ℕ) (a b : A) → EndsBefore (suc n) a → In b (needs a) → EndsBefore n b
   EndsBefore-needed n a b ends need c chain = ends c (b, need, chain)
 
-  -- in a wiring without cycles the number of nets that have needs is such a bound
+  -- where no net needs itself, a chain has at most as many steps as there are nets that have needs
   pub EndsBefore-within : (nets : List A) → IsWithin needs nets → IsAcyclic needs → (a : A) → EndsBefore (suc (length nets)) a
   EndsBefore-within nets within acyclic a b chain =
-    let bound : suc (length nets) ≤ length nets = chain-le needs nets within acyclic (suc (length nets)) a b chain in
-    absurd (omega arith)
+      let bound : suc (length nets) ≤ length nets = Chain-le needs nets within acyclic (suc (length nets)) a b chain in
+      absurd (omega arith)
 
-  -- and so is a number that falls along needs
-  falls_on_chain : (h : A → ℕ) → FallsAlong needs h → (k : ℕ) (a b : A) → Chain needs k a b → k ≤ h a
-  falls_on_chain h falls zero a b chain = omega arith
-  falls_on_chain h falls (suc k) a b (c, need, chain) =
-    let lower : h c < h a = falls a c need in
-    let rest : k ≤ h c = falls_on_chain h falls k c b chain in
-    omega arith
-
+  -- where numbers fall along needs, a chain has at most as many steps as the number of its first net
   pub EndsBefore-falling : (h : A → ℕ) → FallsAlong needs h → (a : A) → EndsBefore (suc (h a)) a
   EndsBefore-falling h falls a b chain =
-    let bound : suc (h a) ≤ h a = falls_on_chain h falls (suc (h a)) a b chain in
-    absurd (omega arith)
+      let bound : h b + suc (h a) ≤ h a = Chain-falls needs h falls (suc (h a)) a b chain in
+      absurd (omega arith)
 
   -- induction along needs, below a depth
   by_depth : (P : A → Type 0) → ((a : A) → ((b : A) → In b (needs a) → P b) → P a) → (n : ℕ) (a : A) → EndsBefore n a → P a
   by_depth P step zero a ends = absurd (ends a refl)
   by_depth P step (suc n) a ends =
-    step a (λ b need. by_depth P step n b (EndsBefore-needed n a b ends need))
+      step a (λ b need. by_depth P step n b (EndsBefore-needed n a b ends need))
 
   -- induction along needs: what holds of a net where it holds of all that the net needs holds of each net
   pub by_needs : (P : A → Type 0) → ((a : A) → ((b : A) → In b (needs a) → P b) → P a)
@@ -57,29 +50,30 @@ module _ {A V : Type 0} (needs : A → List A) (value : A → List V → V) wher
   settled_at : (σ : A → V) → Settled needs value σ → (n : ℕ) (a : A) → EndsBefore needs n a → σ a ≡ value_at n a
   settled_at σ settled zero a ends = absurd (ends a refl)
   settled_at σ settled (suc n) a ends =
-    settled a ∙ ap (value a) (map_same σ (value_at n) (needs a) (λ b need. settled_at σ settled n b (EndsBefore-needed needs n a b ends need)))
+      settled a ∙ ap (value a) (map_same σ (value_at n) (needs a) (λ b need. settled_at σ settled n b (EndsBefore-needed needs n a b ends need)))
 
   -- deep enough, the value does not change with the depth
   steady : (m n : ℕ) (a : A) → EndsBefore needs m a → EndsBefore needs n a → value_at m a ≡ value_at n a
   steady zero n a ends also = absurd (ends a refl)
   steady (suc m) zero a ends also = absurd (also a refl)
   steady (suc m) (suc n) a ends also =
-    ap (value a) (map_same (value_at m) (value_at n) (needs a)
+      ap (value a) (map_same (value_at m) (value_at n) (needs a)
       (λ b need. steady m n b (EndsBefore-needed needs m a b ends need) (EndsBefore-needed needs n a b also need)))
 
   module _ (depth : A → ℕ) (ends : (a : A) → EndsBefore needs (depth a) a) where
     at_depth : (n : ℕ) (a : A) → EndsBefore needs n a → value_at n a ≡ value a (map (λ b. value_at (depth b) b) (needs a))
     at_depth zero a below = absurd (below a refl)
     at_depth (suc n) a below =
-      ap (value a) (map_same (value_at n) (λ b. value_at (depth b) b) (needs a)
+        ap (value a) (map_same (value_at n) (λ b. value_at (depth b) b) (needs a)
         (λ b need. steady n (depth b) b (EndsBefore-needed needs n a b below need) (ends b)))
 
     -- exactly one map is settled where each net has a depth
     settles_by : SettlesOnce needs value
-    settles_by =
-      ( (λ a. value_at (depth a) a)
-      , (λ a. at_depth (depth a) a (ends a))
-      , (λ σ settled a. settled_at σ settled (depth a) a (ends a)))
+    settles_by = (
+      (λ a. value_at (depth a) a),
+      (λ a. at_depth (depth a) a (ends a)),
+      (λ σ settled a. settled_at σ settled (depth a) a (ends a)),
+    )
 
   -- exactly one map is settled where no net needs itself and the nets that have needs stand in a list
   pub settles_once : (nets : List A) → IsWithin needs nets → IsAcyclic needs → SettlesOnce needs value
@@ -96,4 +90,4 @@ module _ {A V : Type 0} (needs : A → List A) (value : A → List V → V) wher
   -- a map that has the values of a settled one is settled
   pub Settled-same : (ρ σ : A → V) → ((a : A) → σ a ≡ ρ a) → Settled needs value ρ → Settled needs value σ
   Settled-same ρ σ same settled a =
-    same a ∙ settled a ∙ ap (value a) (map_same ρ σ (needs a) (λ b need. sym (same b)))
+      same a ∙ settled a ∙ ap (value a) (map_same ρ σ (needs a) (λ b need. sym (same b)))
