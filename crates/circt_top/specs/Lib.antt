@@ -1,0 +1,4 @@
+pub mod Tokens
+pub mod Form
+pub mod Translation
+pub mod Printing

@@ -1,0 +1,2 @@
+//! The program: its words, and what it does.
+#![tactic(auto)]
