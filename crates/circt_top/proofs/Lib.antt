@@ -1,1 +1,5 @@
+pub mod Names
 pub mod Printed
+pub mod AdderDesign
+pub mod AdderTree
+pub mod AdderSame
