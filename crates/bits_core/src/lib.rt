@@ -339,3 +339,6 @@ fn signed_bits(width: u32, negative: bool, magnitude: u128) -> Bits
         Bits::truncated(width, magnitude)
     }
 }
+
+#[cfg(test)]
+mod tests;
