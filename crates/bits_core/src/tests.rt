@@ -1,8 +1,8 @@
 //! Worked values, in hexadecimal.
 
-use super::*;
-
 ghost use Rattle.std.specs.Prelude.{◌≡◌, length};
+
+use super::*;
 
 fn byte(value: u128) -> Bits
     ensures { length result ≡ 8 }
@@ -107,7 +107,13 @@ fn parts(rt: HostRuntime) {
     assert_eq!(rt; byte(0xff).parity(), Bits::truncated(1, 0));
     assert_eq!(rt; word.extract(2, 4), Bits::truncated(4, 0xd));
     assert_eq!(rt; word.extract(0, 8), word);
-    assert_eq!(rt; word.concat(&Bits::truncated(4, 0x3)), Bits::truncated(12, 0xb63));
-    assert_eq!(rt; Bits::truncated(2, 1).replicate(3), Bits::truncated(6, 0x15));
+    assert_eq!(rt;
+        word.concat(&Bits::truncated(4, 0x3)),
+        Bits::truncated(12, 0xb63)
+    );
+    assert_eq!(rt;
+        Bits::truncated(2, 1).replicate(3),
+        Bits::truncated(6, 0x15)
+    );
     assert_eq!(rt; byte(0xa5).replicate(16).value(), u128::MAX / 255 * 0xa5);
 }
