@@ -2,6 +2,7 @@
 use Rattle.std.proofs.Common.{◌≡◌, ℕ, zero, suc, ◌+◌, ◌-◌, ◌*◌, ◌^◌, ◌<◌, ◌≤◌, max, Bool, true, false, cond, not, ◌&&◌, ◌||◌, List, [], ◌∷◌, ◌++◌, map, length, take, drop, replicate, Option, Some, None, slice_get, refl, sym, ◌∙◌, ap, ap₂, subst, IsTrue, arith}
 use Rattle.bits_core.specs.Word.{Word, number, bits, first, add as add_words, sign}
 use Rattle.bits_core.proofs.Numbers.{length-bits}
+use Rattle.bits_core.proofs.First.{length-first}
 use Rattle.hw_model.specs.Types.{Name}
 use Rattle.hw_model.specs.Design.{same_name}
 use Rattle.hw_model.specs.Design.Ref.{port, result, undefined}
@@ -19,7 +20,7 @@ use Rattle.verilog_model.specs.Hierarchy.Drive.{nothing, expression, input}
 use Rattle.verilog_model.specs.Meaning.{driven, names_at, TreeSettled, tree_machine}
 use Rattle.circt_top.specs.Form.{Adder, design_of, place_of}
 use Rattle.circt_top.specs.Printing.{high_of, vport, input_name, name_or_none, tree_of, vmodule_of, sum_wire}
-use Rattle.circt_top.proofs.Names.{same_name-self, same_name-true, same_name-sym, contains_at, place_found, place_is, some_at}
+use Rattle.circt_top.proofs.Names.{same_name-self, same_name-true, same_name-sym, contains_at, place_found, place_is, some_at, differs_from_member}
 use Rattle.circt_top.proofs.AdderDesign as D
 use Rattle.circt_top.proofs.AdderTree as V
 
@@ -33,11 +34,6 @@ pub record IsAdder (a : Adder) : Type 0 where
   pub right : a.right < length a.inputs
   pub low : 1 ≤ a.width
   pub small : a.width < 2 ^ 64
-
-length-first : (w : ℕ) (s : Word) → length (first w s) ≡ w
-length-first zero s = refl
-length-first (suc w) [] = ap suc (length-first w [])
-length-first (suc w) (b ∷ s) = ap suc (length-first w s)
 
 pub extended_own : (k : ℕ) (s : Bool) (x : Word) → length x ≡ k → extended k s x ≡ x
 extended_own k s x h = ap (λ n. replicate n (s && sign x) ++ x) (let e : k - length x ≡ 0 = omega arith in e)
