@@ -1,0 +1,5 @@
+-- The words of this crate's contracts.
+pub mod Faults
+pub mod Bytes
+pub mod Pieces
+pub mod SinkState
