@@ -1,7 +1,8 @@
 -- A text on its way out: what a sink holds after a front of it, and the puts that lead there.
-use Rattle.std.proofs.Common.{◌≡◌, ℕ, ◌+◌, ◌-◌, ◌/◌, ◌%◌, ◌*◌, ◌≤◌, ◌<◌, List, [], ◌∷◌, ◌++◌, zero, suc, take, drop, length, Option, Some, Bool, true, false, refl, sym, ap, ◌∙◌, subst, inl, inr, arith, append_assoc, length-append, length-drop}
+use Rattle.std.proofs.Common.{◌≡◌, ℕ, ◌+◌, ◌-◌, ◌/◌, ◌%◌, ◌*◌, ◌≤◌, ◌<◌, List, [], ◌∷◌, ◌++◌, zero, suc, None, take, drop, length, Option, Some, Bool, true, false, refl, sym, ap, ◌∙◌, subst, inl, inr, arith, append_assoc, length-append, length-drop}
 use Rattle.std.proofs.lemmas.List.{append-nil, take-append-le, take-append-drop}
 use Rattle.std.proofs.Math.Seq.{take-append-add}
+use Rattle.std.specs.Io.KnownBytes as io
 use Rattle.io_edge.specs.Bytes.{Appends, AppendsFront}
 use Rattle.io_edge.specs.Pieces.{first_pieces, pieces_of, Sends}
 
@@ -91,3 +92,14 @@ Sends-fails {S} {told} {faults} {puts} {before} {now} {next} {text} {rest} piece
 pub Sends-ends : {S : Type 0} {told : S → Option (List ℕ)} {faults : S → ℕ} {puts : S → List ℕ → Bool → S → Type 0} {before now : S} {text rest : List ℕ}
     → IsSending told faults puts before now text rest → rest ≡ [] → Sends puts before (pieces_of 4096 text) true now
 Sends-ends {S} {told} {faults} {puts} {before} {now} {text} {rest} h e = h.onward true now (rw (e, pieces_of-nil) (refl, refl))
+
+-- what std says of a write is what this crate says of a put
+pub Appends-known : (before after : Option (List ℕ)) (bytes : List ℕ) → io.Appends before after bytes → Appends before after bytes
+Appends-known None after bytes h = λ held e. cc
+Appends-known (Some known) None bytes h = absurd h
+Appends-known (Some known) (Some now) bytes h = λ held e. cc
+
+pub Appends-kept : (before after : Option (List ℕ)) → io.Keeps before after → Appends before after []
+Appends-kept None after h = λ held e. cc
+Appends-kept (Some known) None h = absurd h
+Appends-kept (Some known) (Some now) h = λ held e. cc (append-nil held)

@@ -3,3 +3,7 @@ pub mod Faults
 pub mod Bytes
 pub mod Pieces
 pub mod SinkState
+pub mod RealState
+pub mod Reading
+pub mod FilesState
+pub mod Listed

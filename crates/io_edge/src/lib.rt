@@ -5,5 +5,8 @@
 #![tactic(auto)]
 
 pub mod byte_text;
+pub mod file_access;
+pub mod memory_files;
 pub mod memory_sink;
+pub mod real_sink;
 pub mod sinks;
