@@ -9,3 +9,7 @@ Appends before after bytes = (held : List ℕ) → before ≡ Some held → afte
 abbrev pub AppendsFront : Option (List ℕ) → Option (List ℕ) → List ℕ → Type 0
 AppendsFront before after bytes =
     (held : List ℕ) → before ≡ Some held → (count : ℕ) × (count ≤ length bytes) × (after ≡ Some (held ++ take count bytes))
+
+-- told bytes begin with `bytes`, and lose them
+abbrev pub Loses : Option (List ℕ) → Option (List ℕ) → List ℕ → Type 0
+Loses before after bytes = (whole : List ℕ) → before ≡ Some whole → (rest : List ℕ) × (whole ≡ bytes ++ rest) × (after ≡ Some rest)

@@ -7,3 +7,4 @@ pub mod RealState
 pub mod Reading
 pub mod FilesState
 pub mod Listed
+pub mod Source

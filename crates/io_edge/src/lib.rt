@@ -8,5 +8,6 @@ pub mod byte_text;
 pub mod file_access;
 pub mod memory_files;
 pub mod memory_sink;
+pub mod real_files;
 pub mod real_sink;
 pub mod sinks;

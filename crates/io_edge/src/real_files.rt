@@ -1,0 +1,124 @@
+//! The system's files and standard input.
+ghost use Rattle.std.specs.Prelude.{◌≡◌, ◌≤◌, ◌<◌, length, None, IfOk};
+ghost use Rattle.io_edge.specs.Source.{IsFront, Moves};
+ghost use Rattle.io_edge.specs.Reading.{HasFileCause};
+
+use crate::byte_text::Text;
+use crate::file_access::{FileFail, Files};
+use std::alloc::Global;
+use std::io::{ErrorKind, Read};
+use std::marker::Model;
+use std::{fs, rt};
+
+// How many bytes one read asks for at most.
+const WINDOW: usize = 65_536;
+
+/// The system's files and standard input. Nothing of them is told but how many reads failed.
+#[derive(Drop)]
+pub struct RealFiles<'a, R: rt::Files + Input> {
+    rt: &'a R,
+    read_faults: u64,
+}
+
+impl<'a, R: rt::Files + Input> Model for RealFiles<'a, R> {
+    ghost use Rattle.io_edge.specs.RealState.{FaultCounts};
+
+    ghost Value = { FaultCounts };
+
+    ghost view = { λ s. record { reads = s.read_faults; writes = 0 } };
+}
+
+impl<'a, R: rt::Files + Input> RealFiles<'a, R> {
+    /// The files that this runtime reaches.
+    pub fn new(rt: &'a R) -> RealFiles<'a, R>
+        ensures { result ≡ record { reads = 0; writes = 0 } }
+    {
+        RealFiles { rt, read_faults: 0 }
+    }
+
+    /// How many reads failed. The count stands still at its type's end.
+    pub fn read_faults(&self) -> u64
+        ensures { result ≡ self.now.reads }
+    {
+        self.read_faults
+    }
+}
+
+impl<'a, R: rt::Files + Input> Files for RealFiles<'a, R> {
+    ghost files = { λ counts. None };
+
+    ghost read_faults = { λ counts name. counts.reads };
+
+    ghost write_faults = { λ counts name. counts.writes };
+
+    fn read(&mut self, alloc: Global, name: &str, limit: u64) -> Result<Text, FileFail> {
+        if name == "-" {
+            return read_text(&mut self.rt.reader(), alloc, limit, &mut self.read_faults);
+        }
+        match fs::open(self.rt, name) {
+            Ok(mut file) => read_text(&mut file, alloc, limit, &mut self.read_faults),
+            Err(_) => {
+                self.read_faults = self.read_faults.saturating_add(1);
+                Err(FileFail::Failed)
+            }
+        }
+    }
+}
+
+// Reads to the end or to `limit` bytes, and counts each fault.
+fn read_text<S: Read>(
+    source: &mut S,
+    alloc: Global,
+    limit: u64,
+    faults: &mut u64,
+) -> Result<Text, FileFail>
+    ensures text { IfOk result (IsFront (S.remaining source.old) limit) }
+    ensures within { IfOk result (λ text. length text ≤ limit) }
+    ensures cause { HasFileCause faults.old faults.new result }
+{
+    let mut text = Text::new(alloc);
+    let mut window = [0u8; WINDOW];
+    'reads: for _ in 0..u64::MAX {
+        let left = limit - text.len() as u64;
+        if left == 0 {
+            return Ok(text);
+        }
+        let room = left.min(WINDOW as u64) as usize;
+        match read_some(source, window.split_at_mut(room).0, &mut text, faults) {
+            Ok(true) => return Ok(text),
+            Ok(false) => {}
+            Err(fail) => return Err(fail),
+        }
+    }
+    *faults = faults.saturating_add(1);
+    Err(FileFail::Failed)
+}
+
+// One read of at least one byte, put at the end of the text: whether the source has ended. A fault
+// is counted; after an interrupted read nothing is put, and the next may be tried.
+fn read_some<S: Read>(
+    source: &mut S,
+    window: &mut [u8],
+    text: &mut Text,
+    faults: &mut u64,
+) -> Result<bool, FileFail>
+    requires { 0 < length window.old }
+    ensures ok { IfOk result (Moves (S.remaining source.old) (S.remaining source.new) text.old text.new (length window.old)) }
+    ensures cause { HasFileCause faults.old faults.new result }
+{
+    match source.read(window) {
+        Ok(0) => Ok(true),
+        Ok(count) => {
+            text.push_bytes(&window[..count])?;
+            Ok(false)
+        }
+        Err(error) => {
+            *faults = faults.saturating_add(1);
+            if error.kind() == ErrorKind::Interrupted {
+                Ok(false)
+            } else {
+                Err(FileFail::Failed)
+            }
+        }
+    }
+}
