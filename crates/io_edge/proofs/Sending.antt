@@ -1,10 +1,10 @@
 -- A text on its way out: what a sink holds after a front of it, and the puts that lead there.
-use Rattle.std.proofs.Common.{◌≡◌, ℕ, ◌+◌, ◌-◌, ◌/◌, ◌%◌, ◌*◌, ◌≤◌, ◌<◌, List, [], ◌∷◌, ◌++◌, zero, suc, None, take, drop, length, Option, Some, Bool, true, false, refl, sym, ap, ◌∙◌, subst, inl, inr, arith, append_assoc, length-append, length-drop}
+use Rattle.std.proofs.Common.{◌≡◌, ℕ, ◌+◌, ◌/◌, ◌≤◌, ◌<◌, List, [], ◌∷◌, ◌++◌, suc, None, take, drop, length, Option, Some, Bool, true, false, refl, sym, ap, ◌∙◌, inl, inr, arith, append_assoc, length-append, length-drop}
 use Rattle.std.proofs.lemmas.List.{append-nil, take-append-le, take-append-drop}
 use Rattle.std.proofs.Math.Seq.{take-append-add}
 use Rattle.std.specs.Io.KnownBytes as io
 use Rattle.io_edge.specs.Bytes.{Appends, AppendsFront}
-use Rattle.io_edge.specs.Pieces.{first_pieces, pieces_of, Sends}
+use Rattle.io_edge.specs.Pieces.{pieces_of, Sends}
 
 -- a front of the text went out, and `rest` is still to come
 pub record HasSent (before now : Option (List ℕ)) (text rest : List ℕ) : Type 0 where

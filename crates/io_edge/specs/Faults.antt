@@ -1,5 +1,5 @@
 -- Counts of faults: when they rise, and that a call fails only where its own count rose.
-use Rattle.std.specs.Prelude.{◌≡◌, ℕ, ◌+◌, ◌-◌, ◌^◌, ◌≤◌, List, min, Result, OnErr, IsErrOf}
+use Rattle.std.specs.Prelude.{ℕ, ◌+◌, ◌-◌, ◌^◌, ◌≤◌, min, Result, OnErr}
 
 -- the count one higher; it stands still at the end of a u64
 abbrev pub counted : ℕ → ℕ

@@ -1,5 +1,5 @@
 -- Files by name, and what a read of one answers.
-use Rattle.std.specs.Prelude.{◌≡◌, ℕ, ◌≤◌, List, [], ◌∷◌, ◌++◌, take, length, Option, None, Some, IsSome, Result, Ok, Err, ⊤, nat_eq, if◌then◌else◌}
+use Rattle.std.specs.Prelude.{◌≡◌, ℕ, ◌≤◌, List, [], ◌∷◌, take, Option, None, Some, Result, Ok, Err, ⊤, nat_eq, if◌then◌else◌}
 use Rattle.std.specs.Option.{option_map}
 use Rattle.std.specs.Cmp.Lexicographic.{pointwise}
 use Rattle.io_edge.specs.Faults.{HasRisen}

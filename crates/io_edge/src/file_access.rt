@@ -5,13 +5,16 @@ ghost use Rattle.io_edge.specs.Reading.{Reads, HasNamedCause};
 use crate::byte_text::Text;
 use std::alloc::{AllocError, Global};
 use std::fmt::Debug;
+use thiserror::Error;
 
 /// Why a file was not read.
-#[derive(Clone, Copy, Debug, PartialEq, Eq)]
+#[derive(Clone, Copy, Debug, PartialEq, Eq, Error)]
 pub enum FileFail {
     /// The file could not be read. The count of faults of its name rose.
+    #[error("cannot be read")]
     Failed,
     /// There was no memory for the text.
+    #[error("out of memory")]
     NoMemory,
 }
 

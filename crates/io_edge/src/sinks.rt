@@ -5,12 +5,14 @@ ghost use Rattle.io_edge.specs.Faults.{HasCause};
 ghost use Rattle.io_edge.specs.Pieces.{pieces_of, Sends};
 
 use std::fmt::Debug;
+use thiserror::Error;
 
 /// How many bytes a piece has at most, in which a text goes out.
 pub const PIECE: usize = 4096;
 
 /// A put that failed. The sink's count of faults rose.
-#[derive(Clone, Copy, Debug, PartialEq, Eq)]
+#[derive(Clone, Copy, Debug, PartialEq, Eq, Error)]
+#[error("cannot be written")]
 pub struct Failed;
 
 /// Something that bytes go out to.

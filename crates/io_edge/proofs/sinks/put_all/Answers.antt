@@ -1,5 +1,5 @@
 -- Each turn sends the next piece.
-use Rattle.std.proofs.Common.{◌≡◌, ◌<◌, ◌==◌, ℕ, List, [], length, sym, arith, rules, length-drop}
+use Rattle.std.proofs.Common.{◌≡◌, ◌<◌, length, sym, arith, rules, length-drop}
 use Rattle.std.proofs.lemmas.List.{nil_from_length, take-append-drop}
 use Rattle.io_edge.proofs.Sending.{IsSending-more, AppendsFront-rest, AppendsFront-piece, Sends-fails, Sends-ends}
 use Rattle.io_edge.proofs.sinks.put_all.Goals as goal
