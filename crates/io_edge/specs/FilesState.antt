@@ -1,0 +1,38 @@
+-- Files in memory: what they are, and what a read answers and leaves.
+use Rattle.std.specs.Prelude.{◌≡◌, ℕ, List, [], take, Option, None, Some, IsSome, Result, Ok, Err, is_some, ◌==◌, if◌then◌else◌}
+use Rattle.std.specs.Option.{option_map}
+use Rattle.std.specs.List.{list_any}
+use Rattle.io_edge.specs.Faults.{counted}
+use Rattle.io_edge.specs.Reading.{file_at}
+use Rattle.io_edge.specs.declared.file_access.FileFail.{FileFail}
+use Rattle.io_edge.specs.declared.file_access.FileFail.TheVariants.{Failed, NoMemory}
+
+-- `failing` are the reads that are to fail, by their places from 0 on, and `reads` is the place of the next read
+pub record FilesState : Type 0 where
+  pub files : List (List ℕ × List ℕ)
+  pub failing : List ℕ
+  pub reads : ℕ
+  pub read_faults : ℕ
+
+-- these files, of which no read is to fail
+abbrev pub untouched : List (List ℕ × List ℕ) → FilesState
+untouched files = record { files = files; failing = []; reads = 0; read_faults = 0 }
+
+-- what the next read is to answer; None is a fault, at a read that is to fail and at an unknown name
+abbrev pub wanted : FilesState → List ℕ → ℕ → Option (List ℕ)
+wanted state name limit =
+    if list_any (λ place. place == state.reads) state.failing then None else option_map (take limit) (file_at name state.files)
+
+-- the files after a read
+abbrev pub after_read : FilesState → List ℕ → ℕ → FilesState
+after_read state name limit =
+    record state {
+      reads = counted state.reads;
+      read_faults = if is_some (wanted state name limit) then state.read_faults else counted state.read_faults;
+    }
+
+-- a read answers what is wanted, a fault where nothing is, and want of memory only in place of a text
+abbrev pub IsAnswer : Option (List ℕ) → Result (List ℕ) FileFail → Type 0
+IsAnswer wanted (Ok text) = wanted ≡ Some text
+IsAnswer wanted (Err Failed) = wanted ≡ None
+IsAnswer wanted (Err NoMemory) = IsSome wanted

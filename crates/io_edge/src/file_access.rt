@@ -1,0 +1,53 @@
+//! Files, which are read by name.
+ghost use Rattle.std.specs.Prelude.{◌≡◌, ℕ, ◌≤◌, List, Option, length, IfOk};
+ghost use Rattle.io_edge.specs.Reading.{Reads, HasNamedCause};
+
+use crate::byte_text::Text;
+use std::alloc::{AllocError, Global};
+use std::fmt::Debug;
+use thiserror::Error;
+
+/// Why a file was not read.
+#[derive(Clone, Copy, Debug, PartialEq, Eq, Error)]
+pub enum FileFail {
+    /// The file could not be read. The count of faults of its name rose.
+    #[error("cannot be read")]
+    Failed,
+    /// There was no memory for the text.
+    #[error("out of memory")]
+    NoMemory,
+}
+
+impl From<AllocError> for FileFail {
+    ghost use Rattle.std.specs.Prelude.{◌≡◌};
+    ghost use Rattle.io_edge.specs.declared.file_access.FileFail.TheVariants.{NoMemory};
+
+    ghost from_gives = { λ _ fail. fail ≡ NoMemory };
+
+    fn from(_error: AllocError) -> FileFail {
+        FileFail::NoMemory
+    }
+}
+
+/// Something that has files.
+pub trait Files {
+    // The files, each a name and its bytes, where they are told. The first of a name counts.
+    ghost files: { Self → Option (List (List ℕ × List ℕ)) };
+
+    // How many faults reads of a name met. No count ever falls; each stands still at the end of a u64.
+    ghost read_faults: { Self → List ℕ → ℕ };
+
+    // How many faults writes of a name met, in the same way.
+    ghost write_faults: { Self → List ℕ → ℕ };
+
+    /// The whole content of the file of this name, or its first `limit` bytes where it is longer:
+    /// more is not read. The name `-` is standard input. It fails with `Failed` where the file
+    /// cannot be read, as at an unknown name, and with `NoMemory` for want of memory. It changes
+    /// no file.
+    fn read(&mut self, alloc: Global, name: &str, limit: u64) -> Result<Text, FileFail>
+        ensures text { Reads (files self.old) name.now limit result }
+        ensures within { IfOk result (λ text. length text ≤ limit) }
+        ensures unchanged { files self.new ≡ files self.old }
+        ensures cause { HasNamedCause name.now (read_faults self.old) (read_faults self.new) result }
+        ensures writes { write_faults self.new ≡ write_faults self.old };
+}

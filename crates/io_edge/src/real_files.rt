@@ -1,0 +1,198 @@
+//! The system's files and standard input.
+ghost use Rattle.std.specs.Prelude.{◌≡◌, ◌≤◌, ◌<◌, length, None, IfOk};
+ghost use Rattle.io_edge.specs.Source.{IsFront, Moves};
+ghost use Rattle.io_edge.specs.Reading.{HasFileCause};
+
+use crate::byte_text::Text;
+use crate::file_access::{FileFail, Files};
+use std::alloc::Global;
+use std::io::{ErrorKind, Read};
+use std::marker::Model;
+use std::{fs, rt};
+
+// How many bytes one read asks for at most.
+const WINDOW: usize = 65_536;
+
+/// The system's files and standard input. Nothing of them is told but how many reads failed.
+#[derive(Drop)]
+pub struct RealFiles<'a, R: rt::Files + Input> {
+    rt: &'a R,
+    read_faults: u64,
+}
+
+impl<'a, R: rt::Files + Input> Model for RealFiles<'a, R> {
+    ghost use Rattle.io_edge.specs.RealState.{FaultCounts};
+
+    ghost Value = { FaultCounts };
+
+    ghost view = { λ s. record { reads = s.read_faults; writes = 0 } };
+}
+
+impl<'a, R: rt::Files + Input> RealFiles<'a, R> {
+    /// The files that this runtime reaches.
+    pub fn new(rt: &'a R) -> RealFiles<'a, R>
+        ensures { result ≡ record { reads = 0; writes = 0 } }
+    {
+        RealFiles { rt, read_faults: 0 }
+    }
+
+    /// How many reads failed. The count stands still at its type's end.
+    pub fn read_faults(&self) -> u64
+        ensures { result ≡ self.now.reads }
+    {
+        self.read_faults
+    }
+}
+
+impl<'a, R: rt::Files + Input> Files for RealFiles<'a, R> {
+    ghost files = { λ counts. None };
+
+    ghost read_faults = { λ counts name. counts.reads };
+
+    ghost write_faults = { λ counts name. counts.writes };
+
+    fn read(&mut self, alloc: Global, name: &str, limit: u64) -> Result<Text, FileFail> {
+        if name == "-" {
+            return read_text(&mut self.rt.reader(), alloc, limit, &mut self.read_faults);
+        }
+        match fs::open(self.rt, name) {
+            Ok(mut file) => read_text(&mut file, alloc, limit, &mut self.read_faults),
+            Err(_) => {
+                self.read_faults = self.read_faults.saturating_add(1);
+                Err(FileFail::Failed)
+            }
+        }
+    }
+}
+
+// Reads to the end or to `limit` bytes, and counts each fault.
+fn read_text<S: Read>(
+    source: &mut S,
+    alloc: Global,
+    limit: u64,
+    faults: &mut u64,
+) -> Result<Text, FileFail>
+    ensures text { IfOk result (IsFront (S.remaining source.old) limit) }
+    ensures within { IfOk result (λ text. length text ≤ limit) }
+    ensures cause { HasFileCause faults.old faults.new result }
+{
+    let mut text = Text::new(alloc);
+    let mut window = [0u8; WINDOW];
+    'reads: for _ in 0..u64::MAX {
+        let left = limit - text.len() as u64;
+        if left == 0 {
+            return Ok(text);
+        }
+        let room = left.min(WINDOW as u64) as usize;
+        match read_some(source, window.split_at_mut(room).0, &mut text, faults) {
+            Ok(true) => return Ok(text),
+            Ok(false) => {}
+            Err(fail) => return Err(fail),
+        }
+    }
+    *faults = faults.saturating_add(1);
+    Err(FileFail::Failed)
+}
+
+// One read of at least one byte, put at the end of the text: whether the source has ended. A fault
+// is counted; after an interrupted read nothing is put, and the next may be tried.
+fn read_some<S: Read>(
+    source: &mut S,
+    window: &mut [u8],
+    text: &mut Text,
+    faults: &mut u64,
+) -> Result<bool, FileFail>
+    requires { 0 < length window.old }
+    ensures ok { IfOk result (Moves (S.remaining source.old) (S.remaining source.new) text.old text.new (length window.old)) }
+    ensures cause { HasFileCause faults.old faults.new result }
+{
+    match source.read(window) {
+        Ok(0) => Ok(true),
+        Ok(count) => {
+            text.push_bytes(&window[..count])?;
+            Ok(false)
+        }
+        Err(error) => {
+            *faults = faults.saturating_add(1);
+            if error.kind() == ErrorKind::Interrupted {
+                Ok(false)
+            } else {
+                Err(FileFail::Failed)
+            }
+        }
+    }
+}
+
+#[cfg(test)]
+mod tests {
+    use super::*;
+    use std::io;
+    use std::test::Fail;
+
+    // Gives its bytes by three a read. Its second read is interrupted, and its read `last` fails.
+    #[derive(Drop)]
+    struct Drip {
+        rest: &'static [u8],
+        reads: u32,
+        last: u32,
+    }
+
+    impl Read for Drip {
+        fn read(&mut self, window: &mut [u8]) -> io::Result<usize> {
+            self.reads = self.reads.saturating_add(1);
+            if self.reads == 2 {
+                return Err(io::Error::from(ErrorKind::Interrupted));
+            }
+            if self.reads == self.last {
+                return Err(io::Error::from(ErrorKind::Other));
+            }
+            let room = window.len().min(3);
+            self.rest.read(window.split_at_mut(room).0)
+        }
+    }
+
+    #[test]
+    fn reads_to_the_end_the_limit_or_a_fault(rt: HostRuntime) -> Result<(), Fail> {
+        for (last, limit, text, faults) in [
+            (9, 100, Some(b"abcdefgh".as_slice()), 1),
+            (9, 8, Some(b"abcdefgh".as_slice()), 1),
+            (9, 4, Some(b"abcd".as_slice()), 1),
+            (9, 0, Some(b"".as_slice()), 0),
+            (3, 100, None, 2),
+        ] {
+            let mut source = Drip {
+                rest: b"abcdefgh",
+                reads: 0,
+                last,
+            };
+            let mut met = 0;
+            let answer = read_text(&mut source, rt.alloc(), limit, &mut met);
+            match (text, answer) {
+                (Some(wanted), Ok(text)) => assert_eq!(rt; text.as_bytes(), wanted),
+                (None, Err(fail)) => assert_eq!(rt; fail, FileFail::Failed),
+                _ => panic!(rt; "another answer at {last} {limit}"),
+            }
+            assert_eq!(rt; met, faults, "at {last} {limit}");
+        }
+        Ok(())
+    }
+
+    #[test]
+    fn reads_a_file_of_the_system(rt: HostRuntime) -> Result<(), Fail> {
+        let name = "io_edge_read_test.mlir";
+        fs::write(&rt, name, "module {}")?;
+        let mut files = RealFiles::new(&rt);
+        let whole = files.read(rt.alloc(), name, 100)?;
+        let front = files.read(rt.alloc(), name, 6)?;
+        fs::remove_file(&rt, name)?;
+        assert_eq!(rt; whole.as_bytes(), b"module {}".as_slice());
+        assert_eq!(rt; front.as_bytes(), b"module".as_slice());
+        assert_eq!(rt; files.read_faults(), 0);
+        assert_eq!(rt;
+            files.read(rt.alloc(), name, 100).err(),
+            Some(FileFail::Failed)
+        );
+        assert_eq!(rt; files.read_faults(), 1);
+        Ok(())
+    }
+}

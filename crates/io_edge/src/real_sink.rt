@@ -1,0 +1,150 @@
+//! A sink over a writer of the system.
+ghost use Rattle.std.specs.Prelude.{◌≡◌, ◌≤◌, [], take, length, OnOk, OnErr, IfOk};
+ghost use Rattle.io_edge.specs.Bytes.{Appends, AppendsFront};
+ghost use Rattle.io_edge.specs.Faults.{HasCause};
+
+use crate::sinks::{Failed, Sink};
+use std::io::{ErrorKind, Write};
+use std::marker::Model;
+
+/// A sink that writes to a file, standard output or any other writer. Over the system it tells
+/// nothing; over a writer that says what it holds, as a `Vec<u8>`, it tells that.
+#[derive(Drop)]
+pub struct RealSink<W: Write + Drop> {
+    writer: W,
+    faults: u64,
+}
+
+impl<W: Write + Drop> Model for RealSink<W> {
+    ghost use Rattle.io_edge.specs.RealState.{WriterState};
+
+    ghost Value = { WriterState };
+
+    ghost view = { λ s. record { told = W.contents s.writer; faults = s.faults } };
+}
+
+impl<W: Write + Drop> RealSink<W> {
+    /// The sink over this writer.
+    pub fn new(writer: W) -> RealSink<W>
+        ensures { result ≡ record { told = W.contents writer; faults = 0 } }
+    {
+        RealSink { writer, faults: 0 }
+    }
+
+    /// How many writes failed or took nothing. The count stands still at its type's end.
+    pub fn faults(&self) -> u64
+        ensures { result ≡ self.now.faults }
+    {
+        self.faults
+    }
+}
+
+impl<W: Write + Drop> Sink for RealSink<W> {
+    ghost told = { λ sink. sink.told };
+
+    ghost faults = { λ sink. sink.faults };
+
+    ghost puts = { λ sink piece taken after. Unit {0} };
+
+    /// Writes until the whole piece is taken. A write that fails is a fault, and so is one that
+    /// takes nothing; after an interrupted one the next is tried.
+    fn put(&mut self, bytes: &[u8]) -> Result<(), Failed> {
+        write_out(&mut self.writer, bytes, &mut self.faults)
+    }
+}
+
+// Writes all bytes, and counts each fault.
+fn write_out<W: Write>(writer: &mut W, bytes: &[u8], faults: &mut u64) -> Result<(), Failed>
+    ensures ok { OnOk result (Appends (W.contents writer.old) (W.contents writer.new) bytes.now) }
+    ensures err { OnErr result (AppendsFront (W.contents writer.old) (W.contents writer.new) bytes.now) }
+    ensures cause { HasCause faults.old faults.new result }
+{
+    let mut rest = bytes;
+    'writes: for _ in 0..u64::MAX {
+        if rest.is_empty() {
+            return Ok(());
+        }
+        match write_some(writer, rest, faults) {
+            Ok(count) => rest = rest.split_at(count).1,
+            Err(failed) => return Err(failed),
+        }
+    }
+    *faults = faults.saturating_add(1);
+    Err(Failed)
+}
+
+// One write of at least one byte: how many it took, which is 0 where it was interrupted. A fault is
+// counted.
+fn write_some<W: Write>(writer: &mut W, bytes: &[u8], faults: &mut u64) -> Result<usize, Failed>
+    ensures ok { IfOk result (λ count. count ≤ length bytes.now) }
+    ensures bytes { IfOk result (λ count. Appends (W.contents writer.old) (W.contents writer.new) (take count bytes.now)) }
+    ensures err { OnErr result (Appends (W.contents writer.old) (W.contents writer.new) []) }
+    ensures cause { HasCause faults.old faults.new result }
+{
+    match writer.write(bytes) {
+        Ok(0) => {}
+        Ok(count) => return Ok(count),
+        Err(error) => {
+            if error.kind() == ErrorKind::Interrupted {
+                *faults = faults.saturating_add(1);
+                return Ok(0);
+            }
+        }
+    }
+    *faults = faults.saturating_add(1);
+    Err(Failed)
+}
+
+#[cfg(test)]
+mod tests {
+    use super::*;
+    use std::io;
+    use std::test::Fail;
+
+    // Takes three bytes a write. Its second write is interrupted, and its write `last` takes nothing.
+    #[derive(Drop)]
+    struct Trickle {
+        taken: Vec<u8>,
+        writes: u32,
+        last: u32,
+    }
+
+    impl Write for Trickle {
+        fn write(&mut self, bytes: &[u8]) -> io::Result<usize> {
+            self.writes = self.writes.saturating_add(1);
+            if self.writes == 2 {
+                return Err(io::Error::from(ErrorKind::Interrupted));
+            }
+            if self.writes == self.last {
+                return Ok(0);
+            }
+            let count = bytes.len().min(3);
+            self.taken.extend_from_slice(&bytes[..count])?;
+            Ok(count)
+        }
+
+        fn flush(&mut self) -> io::Result<()> {
+            Ok(())
+        }
+    }
+
+    #[test]
+    fn writes_to_the_end_or_a_fault(rt: HostRuntime) -> Result<(), Fail> {
+        for (last, taken, faults, is_ok) in [
+            (9, b"abcdefgh".as_slice(), 1, true),
+            (3, b"abc".as_slice(), 2, false),
+            (1, b"".as_slice(), 1, false),
+        ] {
+            let mut writer = Trickle {
+                taken: Vec::new(rt.alloc()),
+                writes: 0,
+                last,
+            };
+            let mut sink = RealSink::new(&mut writer);
+            assert_eq!(rt; sink.put(b"abcdefgh").is_ok(), is_ok, "at {last}");
+            assert_eq!(rt; sink.faults(), faults, "at {last}");
+            assert_eq!(rt; writer.taken.as_slice(), taken, "at {last}");
+        }
+        Ok(())
+    }
+}

@@ -1,0 +1,76 @@
+use crate::byte_text::Text;
+use crate::file_access::{FileFail, Files};
+use crate::memory_files::{MemoryFile, MemoryFiles};
+use crate::memory_sink::MemorySink;
+use crate::sinks::{Sink, put_all};
+use std::test::Fail;
+
+#[test]
+fn texts_are_their_bytes(rt: HostRuntime) -> Result<(), Fail> {
+    let alloc = rt.alloc();
+    let mut text = Text::with_room(alloc, 8)?;
+    text.push(b'm')?;
+    text.push_bytes(b"odule")?;
+    assert_eq!(rt; text.as_bytes(), b"module".as_slice());
+    assert_eq!(rt; text.len(), 6);
+    let same = text.try_clone(alloc)?;
+    assert!(rt; same == text);
+    assert!(rt; Text::new(alloc) < Text::from_vec(text.into_vec()));
+    Ok(())
+}
+
+#[test]
+fn a_text_goes_out_in_pieces_of_4096_bytes(rt: HostRuntime) -> Result<(), Fail> {
+    let alloc = rt.alloc();
+    for (length, failing, held) in [
+        (0, 0, 0),
+        (1, 1, 1),
+        (8192, 2, 8192),
+        (8193, 2, 8192),
+        (10_000, 1, 4096),
+        (10_000, 0, 0),
+    ] {
+        let text = vec![in alloc; 7u8; length]?;
+        let mut sink = MemorySink::new(alloc, 20_000)?.failing(vec![in alloc; failing]?);
+        let answer = put_all(&mut sink, text.as_slice());
+        assert_eq!(rt; sink.held().len(), held, "of {length}");
+        assert_eq!(rt; answer.is_ok(), held == length, "of {length}");
+        assert_eq!(rt; sink.faults(), u64::from(held != length), "of {length}");
+    }
+    Ok(())
+}
+
+#[test]
+fn a_full_sink_keeps_what_fits(rt: HostRuntime) -> Result<(), Fail> {
+    let mut sink = MemorySink::new(rt.alloc(), 5)?;
+    assert!(rt; sink.put(b"abc").is_ok());
+    assert!(rt; sink.put(b"def").is_err());
+    assert_eq!(rt; sink.held(), b"abcde".as_slice());
+    assert_eq!(rt; sink.faults(), 1);
+    Ok(())
+}
+
+#[test]
+fn files_in_memory_are_read_by_name(rt: HostRuntime) -> Result<(), Fail> {
+    let alloc = rt.alloc();
+    let mut files = vec![in alloc]?;
+    files.push(MemoryFile {
+        name: Text::of(alloc, b"-")?,
+        bytes: Text::of(alloc, b"module")?,
+    })?;
+    let mut files = MemoryFiles::new(alloc, files).failing(vec![in alloc; 2]?);
+    for (name, limit, wanted) in [
+        ("-", 100, Some(b"module".as_slice())),
+        ("-", 3, Some(b"mod".as_slice())),
+        ("-", 100, None),
+        ("x.mlir", 100, None),
+    ] {
+        match (wanted, files.read(alloc, name, limit)) {
+            (Some(wanted), Ok(text)) => assert_eq!(rt; text.as_bytes(), wanted),
+            (None, Err(fail)) => assert_eq!(rt; fail, FileFail::Failed),
+            _ => panic!(rt; "another answer for {name} {limit}"),
+        }
+    }
+    assert_eq!(rt; files.read_faults(), 2);
+    Ok(())
+}
