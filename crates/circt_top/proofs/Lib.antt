@@ -3,3 +3,4 @@ pub mod Printed
 pub mod AdderDesign
 pub mod AdderTree
 pub mod AdderSame
+pub mod AdderChecks
