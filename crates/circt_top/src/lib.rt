@@ -1,2 +1,4 @@
 //! The program: its words, and what it does.
 #![tactic(auto)]
+
+mod lexer;
