@@ -3,3 +3,5 @@ pub mod Form
 pub mod Translation
 pub mod Printing
 pub mod Lexemes
+pub mod Reading
+pub mod Parts

@@ -1,4 +1,6 @@
 //! The program: its words, and what it does.
 #![tactic(auto)]
 
+mod form;
 mod lexer;
+mod reader;
