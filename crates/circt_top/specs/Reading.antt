@@ -6,7 +6,7 @@ use Rattle.hw_model.specs.Design.{same_name}
 use Rattle.verilog_model.specs.Tree.{Numeral}
 use Rattle.circt_top.specs.Tokens.{Token}
 use Rattle.circt_top.specs.Tokens.Token.{word, value, symbol, mark}
-use Rattle.circt_top.specs.Form.{Input, Source}
+use Rattle.circt_top.specs.Form.{Input, Source, type_token}
 
 -- what one step gives, taken on by the next
 abbrev pub after : {A B : Type 0} → Option A → (A → Option B) → Option B
@@ -114,6 +114,23 @@ source_with n first others t = record {
   output = t.output.name; output_digits = t.output.digits;
   sum = t.sum.name; left = t.sum.left; right = t.sum.right; sum_digits = t.sum.digits;
   given = t.given.name; given_digits = t.given.digits }
+
+-- ---- the same pieces spelled, as the grammar spells them
+
+abbrev pub output_text_spelled : Input → List Token → List Token
+output_text_spelled o rest = word (codes "out") ∷ word o.name ∷ mark 58 ∷ type_token o.digits ∷ mark 41 ∷ mark 123 ∷ rest
+
+abbrev pub operands_spelled : Sum → List Token → List Token
+operands_spelled m rest = value m.left ∷ mark 44 ∷ value m.right ∷ mark 58 ∷ type_token m.digits ∷ rest
+
+abbrev pub sum_text_spelled : Sum → List Token → List Token
+sum_text_spelled m rest = value m.name ∷ mark 61 ∷ word (codes "comb.add") ∷ operands_spelled m rest
+
+abbrev pub given_text_spelled : Input → List Token
+given_text_spelled g = word (codes "hw.output") ∷ value g.name ∷ mark 58 ∷ type_token g.digits ∷ mark 125 ∷ []
+
+abbrev pub tail_spelled : Tail → List Token
+tail_spelled t = output_text_spelled t.output (sum_text_spelled t.sum (given_text_spelled t.given))
 
 -- ---- what code gives is what is read
 

@@ -3,7 +3,7 @@ ghost use Rattle.std.specs.Prelude.{◌≡◌, ℕ, ◌<◌, ◌∷◌, [], List
 ghost use Rattle.circt_top.specs.Tokens.{Token, tokens};
 ghost use Rattle.circt_top.specs.Tokens.Token.{word, value, symbol, mark};
 ghost use Rattle.circt_top.specs.Form.{type_token, input_spelled};
-ghost use Rattle.circt_top.specs.Reading.{Gives, word_behind, mark_behind, word_at, value_at, symbol_at, behind_i, type_at, header_at, input_at, output_at, operands_at, sum_at, given_at, tail_at};
+ghost use Rattle.circt_top.specs.Reading.{Gives, word_behind, mark_behind, word_at, value_at, symbol_at, behind_i, type_at, header_at, input_at, output_at, operands_at, sum_at, given_at, tail_at, output_text_spelled, operands_spelled, sum_text_spelled, given_text_spelled, tail_spelled};
 ghost use Rattle.circt_top.specs.Parts.{input_of, sum_of, tail_of};
 
 use crate::form::{Body, ModuleText, SumText, TypedName};
@@ -98,4 +98,104 @@ fn type_at(bytes: &[u8]) -> Option<(&[u8], &[u8])>
     let (name, rest) = word_at(rest)?;
     let digits = behind_i(name)?;
     Some((digits, rest))
+}
+
+/// `hw.module @N(`: the module's name.
+#[tactic(auto, unfolding(crate::specs::Reading::header_at))]
+fn header_at(bytes: &[u8]) -> Option<(&[u8], &[u8])>
+    ensures gives { Gives (λ r. (r.0.now, tokens r.1.now)) result (header_at (tokens bytes.now)) }
+    ensures spelled { IfSome result (λ r. tokens bytes.now ≡ word (codes "hw.module") ∷ symbol r.0.now ∷ mark 40 ∷ tokens r.1.now) }
+{
+    let rest = word_behind(b"hw.module", bytes)?;
+    let (name, rest) = symbol_at(rest)?;
+    let rest = mark_behind(b'(', rest)?;
+    Some((name, rest))
+}
+
+/// `in %v : iW,`: an input port.
+#[tactic(auto, unfolding(crate::specs::Reading::input_at))]
+fn input_at<'s>(bytes: &'s [u8]) -> Option<(TypedName<'s>, &'s [u8])>
+    ensures gives { Gives (λ r. (input_of r.0, tokens r.1.now)) result (input_at (tokens bytes.now)) }
+    ensures spelled { IfSome result (λ r. tokens bytes.now ≡ input_spelled (input_of r.0) (tokens r.1.now)) }
+    ensures length { IfSome result (λ r. length r.1.now < length bytes.now) }
+{
+    let rest = word_behind(b"in", bytes)?;
+    let (name, rest) = value_at(rest)?;
+    let (digits, rest) = type_at(rest)?;
+    let rest = mark_behind(b',', rest)?;
+    Some((TypedName { name, digits }, rest))
+}
+
+/// `out name : iW) {`: the output port.
+#[tactic(auto, unfolding(crate::specs::Reading::output_at))]
+fn output_at<'s>(bytes: &'s [u8]) -> Option<(TypedName<'s>, &'s [u8])>
+    ensures gives { Gives (λ r. (input_of r.0, tokens r.1.now)) result (output_at (tokens bytes.now)) }
+    ensures spelled { IfSome result (λ r. tokens bytes.now ≡ output_text_spelled (input_of r.0) (tokens r.1.now)) }
+{
+    let rest = word_behind(b"out", bytes)?;
+    let (name, rest) = word_at(rest)?;
+    let (digits, rest) = type_at(rest)?;
+    let rest = mark_behind(b')', rest)?;
+    let rest = mark_behind(b'{', rest)?;
+    Some((TypedName { name, digits }, rest))
+}
+
+/// `%a, %b : iW`: the operands of the sum of a name.
+#[tactic(auto, unfolding(crate::specs::Reading::operands_at))]
+fn operands_at<'s>(name: &'s [u8], bytes: &'s [u8]) -> Option<(SumText<'s>, &'s [u8])>
+    ensures gives { Gives (λ r. (sum_of r.0, tokens r.1.now)) result (operands_at name.now (tokens bytes.now)) }
+    ensures named { IfSome result (λ r. (sum_of r.0).name ≡ name.now) }
+    ensures spelled { IfSome result (λ r. tokens bytes.now ≡ operands_spelled (sum_of r.0) (tokens r.1.now)) }
+{
+    let (left, rest) = value_at(bytes)?;
+    let rest = mark_behind(b',', rest)?;
+    let (right, rest) = value_at(rest)?;
+    let (digits, rest) = type_at(rest)?;
+    let sum = SumText {
+        name,
+        left,
+        right,
+        digits,
+    };
+    Some((sum, rest))
+}
+
+/// `%r = comb.add %a, %b : iW`: the sum.
+#[tactic(auto, unfolding(crate::specs::Reading::sum_at))]
+fn sum_at<'s>(bytes: &'s [u8]) -> Option<(SumText<'s>, &'s [u8])>
+    ensures gives { Gives (λ r. (sum_of r.0, tokens r.1.now)) result (sum_at (tokens bytes.now)) }
+    ensures spelled { IfSome result (λ r. tokens bytes.now ≡ sum_text_spelled (sum_of r.0) (tokens r.1.now)) }
+{
+    let (name, rest) = value_at(bytes)?;
+    let rest = mark_behind(b'=', rest)?;
+    let rest = word_behind(b"comb.add", rest)?;
+    operands_at(name, rest)
+}
+
+/// `hw.output %r : iW }` and the text's end: the value that the output is given.
+#[tactic(auto, unfolding(crate::specs::Reading::given_at))]
+fn given_at<'s>(bytes: &'s [u8]) -> Option<TypedName<'s>>
+    ensures gives { Gives (λ r. input_of r) result (given_at (tokens bytes.now)) }
+    ensures spelled { IfSome result (λ r. tokens bytes.now ≡ given_text_spelled (input_of r)) }
+{
+    let rest = word_behind(b"hw.output", bytes)?;
+    let (name, rest) = value_at(rest)?;
+    let (digits, rest) = type_at(rest)?;
+    let rest = mark_behind(b'}', rest)?;
+    match next_token(rest) {
+        None => Some(TypedName { name, digits }),
+        Some(_) => None,
+    }
+}
+
+/// The output port and the body, up to the text's end.
+#[tactic(auto, unfolding(crate::specs::Reading::tail_at))]
+fn tail_at<'s>(bytes: &'s [u8]) -> Option<Body<'s>>
+    ensures gives { Gives tail_of result (tail_at (tokens bytes.now)) }
+    ensures spelled { IfSome result (λ r. tokens bytes.now ≡ tail_spelled (tail_of r)) }
+{
+    let (output, rest) = output_at(bytes)?;
+    let (sum, rest) = sum_at(rest)?;
+    let given = given_at(rest)?;
+    Some(Body { output, sum, given })
 }
