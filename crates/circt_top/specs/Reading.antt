@@ -6,7 +6,7 @@ use Rattle.hw_model.specs.Design.{same_name}
 use Rattle.verilog_model.specs.Tree.{Numeral}
 use Rattle.circt_top.specs.Tokens.{Token}
 use Rattle.circt_top.specs.Tokens.Token.{word, value, symbol, mark}
-use Rattle.circt_top.specs.Form.{Input, Source, type_token}
+use Rattle.circt_top.specs.Form.{Input, Source, type_token, source_spelled}
 
 -- what one step gives, taken on by the next
 abbrev pub after : {A B : Type 0} → Option A → (A → Option B) → Option B
@@ -137,3 +137,8 @@ tail_spelled t = output_text_spelled t.output (sum_text_spelled t.sum (given_tex
 abbrev pub Gives : {A B : Type 0} → (A → B) → Option A → Option B → Type 0
 Gives view None read = read ≡ None
 Gives view (Some x) read = read ≡ Some (view x)
+
+-- the source that spells the tokens, or none does
+abbrev pub IsSourceOf : List Token → Option Source → Type 0
+IsSourceOf ts None = (s : Source) → ts ≡ source_spelled s → ⊥
+IsSourceOf ts (Some s) = ts ≡ source_spelled s

@@ -1,10 +1,13 @@
 //! The reader of the first form: from a text to its parts.
-ghost use Rattle.std.specs.Prelude.{◌≡◌, ℕ, ◌<◌, ◌∷◌, [], List, length, codes, map, IfSome};
+ghost use Rattle.std.specs.Prelude.{◌≡◌, ℕ, ◌<◌, ◌∷◌, [], List, length, codes, map, IfSome, IfOk, None};
 ghost use Rattle.circt_top.specs.Tokens.{Token, tokens};
 ghost use Rattle.circt_top.specs.Tokens.Token.{word, value, symbol, mark};
-ghost use Rattle.circt_top.specs.Form.{type_token, input_spelled};
-ghost use Rattle.circt_top.specs.Reading.{Gives, word_behind, mark_behind, word_at, value_at, symbol_at, behind_i, type_at, header_at, input_at, output_at, operands_at, sum_at, given_at, tail_at, output_text_spelled, operands_spelled, sum_text_spelled, given_text_spelled, tail_spelled};
-ghost use Rattle.circt_top.specs.Parts.{input_of, sum_of, tail_of};
+ghost use Rattle.circt_top.specs.Form.{type_token, input_spelled, inputs_spelled};
+ghost use Rattle.circt_top.specs.Reading.{Gives, word_behind, mark_behind, word_at, value_at, symbol_at, behind_i, type_at, header_at, input_at, output_at, operands_at, sum_at, given_at, tail_at, output_text_spelled, operands_spelled, sum_text_spelled, given_text_spelled, tail_spelled, IsSourceOf};
+ghost use Rattle.circt_top.specs.Parts.{input_of, sum_of, tail_of, source_of};
+ghost use Rattle.std.specs.Option.{option_map};
+
+use std::alloc::{AllocError, Global};
 
 use crate::form::{Body, ModuleText, SumText, TypedName};
 use crate::lexer::{Token, next_token};
@@ -198,4 +201,42 @@ fn tail_at<'s>(bytes: &'s [u8]) -> Option<Body<'s>>
     let (sum, rest) = sum_at(rest)?;
     let given = given_at(rest)?;
     Some(Body { output, sum, given })
+}
+
+/// The input ports at the front of a text, as many as stand there, and the bytes behind them.
+fn inputs_at<'s>(alloc: Global, bytes: &'s [u8]) -> Result<(Vec<TypedName<'s>>, &'s [u8]), AllocError>
+    ensures spelled { IfOk result (λ r. tokens bytes.now ≡ inputs_spelled (map input_of r.0.items) (tokens r.1.now)) }
+    ensures ended { IfOk result (λ r. input_at (tokens r.1.now) ≡ None) }
+{
+    let mut inputs = Vec::new(alloc);
+    let mut rest = bytes;
+    while let Some((input, behind)) = input_at(rest) {
+        inputs.push(input)?;
+        rest = behind;
+    }
+    Ok((inputs, rest))
+}
+
+/// The parts of a text that has the first form's tokens; `None` for every other text.
+///
+/// The error comes only for want of memory.
+pub fn read_module<'s>(alloc: Global, bytes: &'s [u8]) -> Result<Option<ModuleText<'s>>, AllocError>
+    ensures { IfOk result (λ r. IsSourceOf (tokens bytes.now) (option_map source_of r)) }
+{
+    let Some((symbol, rest)) = header_at(bytes) else {
+        return Ok(None);
+    };
+    let Some((first, rest)) = input_at(rest) else {
+        return Ok(None);
+    };
+    let (others, rest) = inputs_at(alloc, rest)?;
+    let Some(body) = tail_at(rest) else {
+        return Ok(None);
+    };
+    Ok(Some(ModuleText {
+        symbol,
+        first,
+        others,
+        body,
+    }))
 }
