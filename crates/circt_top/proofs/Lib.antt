@@ -5,3 +5,4 @@ pub mod AdderTree
 pub mod AdderSame
 pub mod AdderChecks
 pub mod ReadAgain
+pub mod Digits

@@ -5,3 +5,4 @@ pub mod Printing
 pub mod Lexemes
 pub mod Reading
 pub mod Parts
+pub mod Places

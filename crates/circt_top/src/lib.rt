@@ -3,4 +3,7 @@
 
 mod form;
 mod lexer;
+mod port_names;
 mod reader;
+mod reserved;
+mod widths;
