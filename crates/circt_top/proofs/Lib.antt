@@ -6,3 +6,4 @@ pub mod AdderSame
 pub mod AdderChecks
 pub mod ReadAgain
 pub mod Digits
+pub mod Standing
