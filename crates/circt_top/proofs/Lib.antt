@@ -7,3 +7,4 @@ pub mod AdderChecks
 pub mod ReadAgain
 pub mod Digits
 pub mod Standing
+pub mod Resolved

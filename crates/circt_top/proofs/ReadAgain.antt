@@ -10,7 +10,7 @@ use Rattle.circt_top.specs.Reading.{word_behind, mark_behind, word_at, value_at,
 abbrev header_spelled : Name → List Token → List Token
 header_spelled n rest = word (codes "hw.module") ∷ symbol n ∷ mark 40 ∷ rest
 
-abbrev tail_in : Source → Tail
+abbrev pub tail_in : Source → Tail
 tail_in s = record {
   output = record { name = s.output; digits = s.output_digits };
   sum = record { name = s.sum; left = s.left; right = s.right; digits = s.sum_digits };

@@ -6,3 +6,4 @@ pub mod Lexemes
 pub mod Reading
 pub mod Parts
 pub mod Places
+pub mod Resolving

@@ -1,9 +1,11 @@
 //! The program: its words, and what it does.
 #![tactic(auto)]
 
+mod adder;
 mod form;
 mod lexer;
 mod port_names;
 mod reader;
 mod reserved;
 mod widths;
+mod writer;
