@@ -8,3 +8,4 @@ pub mod ReadAgain
 pub mod Digits
 pub mod Standing
 pub mod Resolved
+pub mod LinesPrinted
