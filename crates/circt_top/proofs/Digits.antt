@@ -9,5 +9,5 @@ number-more ds i lt =
     rw (add-one, take-suc ds i 0 lt) (number_from-append decimal_digit 10 0 (take i ds) (get_or ds i 0 ∷ []))
 
 pub most_more : (ds : List ℕ) (i n : ℕ) → i < length ds → n ≡ min (decimal_number (take i ds)) 129 →
-  min (n * 10 + (get_or ds i 0 - 48)) 129 ≡ min (decimal_number (take (i + 1) ds)) 129
+    min (n * 10 + (get_or ds i 0 - 48)) 129 ≡ min (decimal_number (take (i + 1) ds)) 129
 most_more ds i n lt h = let e = number-more ds i lt in omega arith

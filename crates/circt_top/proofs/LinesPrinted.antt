@@ -23,29 +23,29 @@ no_line w text = sym (nothing_more text)
 
 -- one more line behind those of the first i ports
 pub line_more : (w : ℕ) (xs : List (Bor (List ℕ))) (i : ℕ) (d : Bor (List ℕ)) (range text one two : List ℕ) → i < length xs →
-  range ≡ range_text w → one ≡ text ++ codes "  input wire " → two ≡ one ++ (range ++ ((get_or xs i d).now ++ (44 ∷ 10 ∷ []))) →
-  (front : List ℕ) → text ≡ front ++ inputs_text w (map (λ n. n.now) (take i xs)) →
-  two ≡ front ++ inputs_text w (map (λ n. n.now) (take (i + 1) xs))
+    range ≡ range_text w → one ≡ text ++ codes "  input wire " → two ≡ one ++ (range ++ ((get_or xs i d).now ++ (44 ∷ 10 ∷ []))) →
+    (front : List ℕ) → text ≡ front ++ inputs_text w (map (λ n. n.now) (take i xs)) →
+    two ≡ front ++ inputs_text w (map (λ n. n.now) (take (i + 1) xs))
 unfolding input_text
 line_more w xs i d range text one two lt ranged first second front so_far =
-  let n : Name = (get_or xs i d).now in
-  let more : inputs_text w (map (λ n. n.now) (take (i + 1) xs)) ≡ inputs_text w (map (λ n. n.now) (take i xs)) ++ input_text w n =
-        rw (add-one, take-suc xs i d lt, map-append) (inputs_text-more w (map (λ n. n.now) (take i xs)) n) in
-  rw (more, second, first, so_far, ranged) (simp append_assoc)
+    let n : Name = (get_or xs i d).now in
+    let more : inputs_text w (map (λ n. n.now) (take (i + 1) xs)) ≡ inputs_text w (map (λ n. n.now) (take i xs)) ++ input_text w n =
+    rw (add-one, take-suc xs i d lt, map-append) (inputs_text-more w (map (λ n. n.now) (take i xs)) n) in
+    rw (more, second, first, so_far, ranged) (simp append_assoc)
 
 pub name_at : (xs : List (Bor (List ℕ))) (i : ℕ) (x : Bor (List ℕ)) → i < length xs → x ≡ get_or xs i x →
-  x.now ≡ name_or_none (slice_get (map (λ n. n.now) xs) i)
+    x.now ≡ name_or_none (slice_get (map (λ n. n.now) xs) i)
 name_at xs i x lt e =
-  ap (λ (y : Bor (List ℕ)). y.now) e
+    ap (λ (y : Bor (List ℕ)). y.now) e
     ∙ sym (ap name_or_none (slice_get-map (λ (n : Bor (List ℕ)). n.now) xs i ∙ ap (option_map (λ (n : Bor (List ℕ)). n.now)) (slice_get-get_or xs i x lt)))
 
 -- the pieces one behind another are the text
 pub module_printed : (a : Adder) (range text one two three four five six left right : List ℕ) →
-  range ≡ range_text a.width → left ≡ input_name a a.left → right ≡ input_name a a.right →
-  one ≡ text ++ header_text a.symbol → two ≡ one ++ inputs_text a.width a.inputs →
-  three ≡ two ++ (codes "  output wire " ++ (range ++ (a.output ++ (10 ∷ 41 ∷ 59 ∷ 10 ∷ [])))) →
-  four ≡ three ++ (codes "  wire " ++ (range ++ (sum_wire ++ (59 ∷ 10 ∷ [])))) →
-  five ≡ four ++ sum_text left right → six ≡ five ++ given_text a.output → six ≡ text ++ verilog_text a
+    range ≡ range_text a.width → left ≡ input_name a a.left → right ≡ input_name a a.right →
+    one ≡ text ++ header_text a.symbol → two ≡ one ++ inputs_text a.width a.inputs →
+    three ≡ two ++ (codes "  output wire " ++ (range ++ (a.output ++ (10 ∷ 41 ∷ 59 ∷ 10 ∷ [])))) →
+    four ≡ three ++ (codes "  wire " ++ (range ++ (sum_wire ++ (59 ∷ 10 ∷ [])))) →
+    five ≡ four ++ sum_text left right → six ≡ five ++ given_text a.output → six ≡ text ++ verilog_text a
 unfolding verilog_text output_text wire_text
 module_printed a range text one two three four five six left right ranged is_left is_right e f g h i j =
-  rw (j, i, h, g, f, e, ranged, is_left, is_right) (simp append_assoc)
+    rw (j, i, h, g, f, e, ranged, is_left, is_right) (simp append_assoc)

@@ -26,4 +26,7 @@ adder_of_code a = record {
   symbol = a.symbol.now;
   inputs = map (λ n. n.now) a.inputs.items;
   output = a.output.now;
-  left = a.left; right = a.right; width = a.width }
+  left = a.left;
+  right = a.right;
+  width = a.width;
+}

@@ -48,25 +48,25 @@ behind_i (b ∷ bs) = cond (b == 105) (Some bs) None
 -- `: iW`
 unfoldable pub type_at : List Token → Option (Numeral × List Token)
 type_at ts =
-  after (mark_behind 58 ts) (λ behind. after (word_at behind) (λ w. after (behind_i w.0) (λ digits. Some (digits, w.1))))
+    after (mark_behind 58 ts) (λ behind. after (word_at behind) (λ w. after (behind_i w.0) (λ digits. Some (digits, w.1))))
 
 -- ---- the pieces of the form
 
 -- `hw.module @N(`
 unfoldable pub header_at : List Token → Option (Name × List Token)
 header_at ts =
-  after (word_behind (codes "hw.module") ts) (λ behind. after (symbol_at behind) (λ n. after (mark_behind 40 n.1) (λ rest. Some (n.0, rest))))
+    after (word_behind (codes "hw.module") ts) (λ behind. after (symbol_at behind) (λ n. after (mark_behind 40 n.1) (λ rest. Some (n.0, rest))))
 
 -- `in %v : iW,`
 unfoldable pub input_at : List Token → Option (Input × List Token)
 input_at ts =
-  after (word_behind (codes "in") ts) (λ behind. after (value_at behind) (λ n. after (type_at n.1) (λ t.
+    after (word_behind (codes "in") ts) (λ behind. after (value_at behind) (λ n. after (type_at n.1) (λ t.
     after (mark_behind 44 t.1) (λ rest. Some (record { name = n.0; digits = t.0 }, rest)))))
 
 -- `out name : iW) {`
 unfoldable pub output_at : List Token → Option (Input × List Token)
 output_at ts =
-  after (word_behind (codes "out") ts) (λ behind. after (word_at behind) (λ n. after (type_at n.1) (λ t.
+    after (word_behind (codes "out") ts) (λ behind. after (word_at behind) (λ n. after (type_at n.1) (λ t.
     after (mark_behind 41 t.1) (λ closed. after (mark_behind 123 closed) (λ rest. Some (record { name = n.0; digits = t.0 }, rest))))))
 
 pub record Sum : Type 0 where
@@ -78,13 +78,13 @@ pub record Sum : Type 0 where
 -- `%a, %b : iW`
 unfoldable pub operands_at : Name → List Token → Option (Sum × List Token)
 operands_at name ts =
-  after (value_at ts) (λ left. after (mark_behind 44 left.1) (λ behind. after (value_at behind) (λ right. after (type_at right.1) (λ t.
+    after (value_at ts) (λ left. after (mark_behind 44 left.1) (λ behind. after (value_at behind) (λ right. after (type_at right.1) (λ t.
     Some (record { name = name; left = left.0; right = right.0; digits = t.0 }, t.1)))))
 
 -- `%r = comb.add %a, %b : iW`
 unfoldable pub sum_at : List Token → Option (Sum × List Token)
 sum_at ts =
-  after (value_at ts) (λ n. after (mark_behind 61 n.1) (λ behind. after (word_behind (codes "comb.add") behind) (λ rest. operands_at n.0 rest)))
+    after (value_at ts) (λ n. after (mark_behind 61 n.1) (λ behind. after (word_behind (codes "comb.add") behind) (λ rest. operands_at n.0 rest)))
 
 -- no token
 abbrev pub ended : List Token → Option (Unit {0})
@@ -94,7 +94,7 @@ ended (t ∷ ts) = None
 -- `hw.output %r : iW }` and the text's end
 unfoldable pub given_at : List Token → Option Input
 given_at ts =
-  after (word_behind (codes "hw.output") ts) (λ behind. after (value_at behind) (λ n. after (type_at n.1) (λ t.
+    after (word_behind (codes "hw.output") ts) (λ behind. after (value_at behind) (λ n. after (type_at n.1) (λ t.
     after (mark_behind 125 t.1) (λ rest. after (ended rest) (λ _. Some (record { name = n.0; digits = t.0 }))))))
 
 -- the output port and the body
@@ -105,15 +105,23 @@ pub record Tail : Type 0 where
 
 unfoldable pub tail_at : List Token → Option Tail
 tail_at ts =
-  after (output_at ts) (λ o. after (sum_at o.1) (λ m. after (given_at m.1) (λ given. Some (record { output = o.0; sum = m.0; given = given }))))
+    after (output_at ts) (λ o. after (sum_at o.1) (λ m. after (given_at m.1) (λ given. Some (record { output = o.0; sum = m.0; given = given }))))
 
 -- the source of its parts
 abbrev pub source_with : Name → Input → List Input → Tail → Source
 source_with n first others t = record {
-  symbol = n; first = first; others = others;
-  output = t.output.name; output_digits = t.output.digits;
-  sum = t.sum.name; left = t.sum.left; right = t.sum.right; sum_digits = t.sum.digits;
-  given = t.given.name; given_digits = t.given.digits }
+  symbol = n;
+  first = first;
+  others = others;
+  output = t.output.name;
+  output_digits = t.output.digits;
+  sum = t.sum.name;
+  left = t.sum.left;
+  right = t.sum.right;
+  sum_digits = t.sum.digits;
+  given = t.given.name;
+  given_digits = t.given.digits;
+}
 
 -- ---- the same pieces spelled, as the grammar spells them
 

@@ -12,9 +12,9 @@ is_nowhere (Some place) = false
 -- the places of the operands, by a table of the inputs' places
 abbrev pub operands_of : (Name → Option ℕ) → Tail → Option (ℕ × ℕ)
 operands_of place t =
-  cond (is_suffix t.sum.name && is_nowhere (place t.sum.name))
+    cond (is_suffix t.sum.name && is_nowhere (place t.sum.name))
     (after (place t.sum.left) (λ left. after (place t.sum.right) (λ right.
-      cond (same_name t.given.name t.sum.name && is_nowhere (place t.output.name)) (Some (left, right)) None)))
+    cond (same_name t.given.name t.sum.name && is_nowhere (place t.output.name)) (Some (left, right)) None)))
     None
 
 -- the source's adder where names are as they have to be, and none where they are not

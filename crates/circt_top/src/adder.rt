@@ -8,12 +8,11 @@ ghost use Rattle.circt_top.specs.Places.{place_in};
 ghost use Rattle.circt_top.specs.Resolving.{operands_of, Resolves};
 ghost use Rattle.circt_top.specs.Parts.{source_of, tail_of, adder_of_code};
 
-use std::alloc::{AllocError, Global};
-
 use crate::form::{Adder, Body, ModuleText};
 use crate::port_names::{Places, all_plain, is_plain, is_suffix, places_of};
 use crate::reader::read_module;
 use crate::widths::common_width;
+use std::alloc::{AllocError, Global};
 
 /// The most bytes of a text of the first form.
 const MOST_BYTES: usize = 67_108_864;
@@ -55,7 +54,11 @@ fn operands<'s>(places: &Places<'s>, body: &Body<'s>) -> Option<(usize, usize)>
 }
 
 /// The adder of a module's parts, of which every type has a width; `None` where a name is not as it has to be.
-fn adder_from<'s>(alloc: Global, parts: &ModuleText<'s>, width: u32) -> Result<Option<Adder<'s>>, AllocError>
+fn adder_from<'s>(
+    alloc: Global,
+    parts: &ModuleText<'s>,
+    width: u32,
+) -> Result<Option<Adder<'s>>, AllocError>
     requires { width ≡ decimal_number (source_of parts.now).output_digits }
     ensures { IfOk result (λ r. Resolves (source_of parts.now) (option_map adder_of_code r)) }
 {

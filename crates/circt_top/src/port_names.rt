@@ -7,12 +7,11 @@ ghost use Rattle.verilog_model.specs.Checks.{starts_name};
 ghost use Rattle.circt_top.specs.Form.{is_suffix, is_plain, all_plain};
 ghost use Rattle.circt_top.specs.Places.{place_in, IsTableOf};
 
-use std::alloc::{AllocError, Global};
-use std::collections::HashMap;
-
 use crate::lexer::{is_digit, is_letter};
 use crate::reserved::is_reserved;
 use crate::widths::all_digits;
+use std::alloc::{AllocError, Global};
+use std::collections::HashMap;
 
 /// Whether a value may have a name: digits alone, or no digit first.
 pub fn is_suffix(name: &[u8]) -> bool
@@ -50,7 +49,8 @@ fn starts_name(name: &[u8]) -> bool
 pub fn is_plain(name: &[u8]) -> bool
     ensures { result ≡ is_plain name.now }
 {
-    (starts_name(name) && all_plain_bytes(name)) && (!is_reserved(name) && name != b"_GEN".as_slice())
+    (starts_name(name) && all_plain_bytes(name))
+        && (!is_reserved(name) && name != b"_GEN".as_slice())
 }
 
 /// Whether each of these names is plain.

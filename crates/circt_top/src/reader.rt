@@ -7,10 +7,9 @@ ghost use Rattle.circt_top.specs.Reading.{Gives, word_behind, mark_behind, word_
 ghost use Rattle.circt_top.specs.Parts.{input_of, sum_of, tail_of, source_of};
 ghost use Rattle.std.specs.Option.{option_map};
 
-use std::alloc::{AllocError, Global};
-
 use crate::form::{Body, ModuleText, SumText, TypedName};
 use crate::lexer::{Token, next_token};
+use std::alloc::{AllocError, Global};
 
 /// The bytes behind a given word.
 #[tactic(auto, unfolding(crate::specs::Reading::word_behind))]
@@ -204,7 +203,10 @@ fn tail_at<'s>(bytes: &'s [u8]) -> Option<Body<'s>>
 }
 
 /// The input ports at the front of a text, as many as stand there, and the bytes behind them.
-fn inputs_at<'s>(alloc: Global, bytes: &'s [u8]) -> Result<(Vec<TypedName<'s>>, &'s [u8]), AllocError>
+fn inputs_at<'s>(
+    alloc: Global,
+    bytes: &'s [u8],
+) -> Result<(Vec<TypedName<'s>>, &'s [u8]), AllocError>
     ensures spelled { IfOk result (λ r. tokens bytes.now ≡ inputs_spelled (map input_of r.0.items) (tokens r.1.now)) }
     ensures ended { IfOk result (λ r. input_at (tokens r.1.now) ≡ None) }
 {

@@ -65,7 +65,8 @@ pub fn common_width(parts: &ModuleText<'_>) -> Option<u32>
     if width < 1 || width > WIDEST {
         return None;
     }
-    let ports = writes(width, parts.first.digits) && (inputs_write(width, &parts.others) && writes(width, output));
+    let ports = writes(width, parts.first.digits)
+        && (inputs_write(width, &parts.others) && writes(width, output));
     if ports && (writes(width, parts.body.sum.digits) && writes(width, parts.body.given.digits)) {
         Some(width)
     } else {

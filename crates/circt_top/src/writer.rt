@@ -4,11 +4,9 @@ ghost use Rattle.std.specs.Prelude.{◌≡◌, ◌++◌, ◌∷◌, [], ◌<◌,
 ghost use Rattle.circt_top.specs.Printing.{verilog_text, range_text, inputs_text, header_text, sum_text, given_text, sum_wire};
 ghost use Rattle.circt_top.specs.Parts.{adder_of_code};
 
-use std::alloc::{AllocError, Global};
-
-use io_edge::byte_text::Text;
-
 use crate::form::Adder;
+use io_edge::byte_text::Text;
+use std::alloc::{AllocError, Global};
 
 /// `[h:0] `, or nothing for one bit.
 #[tactic(auto, unfolding(crate::specs::Printing::range_text))]
@@ -97,7 +95,10 @@ fn push_given(text: &mut Text, name: &[u8]) -> Result<(), AllocError>
 fn room_for(adder: &Adder<'_>, range: usize) -> usize {
     let mut room = 256usize;
     for name in &adder.inputs {
-        room = room.saturating_add(name.len()).saturating_add(range).saturating_add(16);
+        room = room
+            .saturating_add(name.len())
+            .saturating_add(range)
+            .saturating_add(16);
     }
     room
 }

@@ -19,7 +19,7 @@ returns-clause-some c =
     IfOk-weaker c.adder_from.result (λ r. Resolves (source_of c.in-Some.parts) (option_map adder_of_code r))
     (λ r. IfSome r (λ x. IsForm c.args.source.now (adder_of_code x)))
     (λ r h. some_viewed (λ a. IsForm c.args.source.now a) adder_of_code r (reads_some c.args.source.now (source_of c.in-Some.parts) c.in-Some-common_width.width (option_map adder_of_code r)
-      c.if-source-gt-MOST_BYTES.false spelled wide.0 wide.1 h))
+    c.if-source-gt-MOST_BYTES.false spelled wide.0 wide.1 h))
     c.adder_from.ensures
 
 pub returns-clause-none : goal.returns-clause-none

@@ -20,5 +20,5 @@ loop-i-preserved c =
     let e : c.loop-i.i ≡ suc (c.loop-i.i - 1) = omega arith in
     let lt : c.loop-i.i - 1 < length c.args.names.now = omega arith in
     let both = table_grows c.args.names.now c.loop-i.i (c.loop-i.i - 1) nothing (place_in c.loop-i.places) (place_in c.add.new.self) e lt
-          c.loop-i.invariant.apart c.loop-i.invariant.places (c.in_ok-add.ensures.fresh.0 c.if-not-branch.false) c.in_ok-add.ensures.added in
+    c.loop-i.invariant.apart c.loop-i.invariant.places (c.in_ok-add.ensures.fresh.0 c.if-not-branch.false) c.in_ok-add.ensures.added in
     record { apart = both.0; places = both.1 }

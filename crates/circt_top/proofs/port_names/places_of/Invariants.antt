@@ -6,5 +6,5 @@ use Rattle.circt_top.proofs.port_names.places_of.Given as goal
 abbrev pub invariant-loop-i : goal.invariant-loop-i
 invariant-loop-i l = record {
   apart : are_distinct (map (λ n. n.now) (drop l.i l.names)) ≡ true;
-  places : (n : List ℕ) → place_in l.places n ≡ place_from l.i (map (λ n. n.now) (drop l.i l.names)) n
+  places : (n : List ℕ) → place_in l.places n ≡ place_from l.i (map (λ n. n.now) (drop l.i l.names)) n;
 }
