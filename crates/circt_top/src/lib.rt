@@ -3,6 +3,8 @@
 
 mod adder;
 mod form;
+#[cfg(test)]
+mod form_tests;
 mod lexer;
 mod port_names;
 mod reader;
