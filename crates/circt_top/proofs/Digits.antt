@@ -1,7 +1,7 @@
 -- Numbers that are read digit by digit, up to a most.
-use Rattle.std.proofs.Common.{◌≡◌, ℕ, zero, suc, ◌+◌, ◌-◌, ◌*◌, ◌<◌, ◌≤◌, min, Bool, true, false, ◌&&◌, ◌==◌, List, [], ◌∷◌, ◌++◌, length, get_or, take, refl, sym, ◌∙◌, ap, arith, add-one}
+use Rattle.std.proofs.Common.{◌≡◌, ℕ, ◌+◌, ◌-◌, ◌*◌, ◌<◌, min, List, [], ◌∷◌, length, get_or, take, arith, add-one}
 use Rattle.std.proofs.Math.Seq.{take-suc}
-use Rattle.verilog_model.specs.Numerals.{decimal_number, decimal_digit, number_from}
+use Rattle.verilog_model.specs.Numerals.{decimal_number, decimal_digit}
 use Rattle.verilog_model.proofs.Numerals.{number_from-append}
 
 number-more : (ds : List ℕ) (i : ℕ) → i < length ds → decimal_number (take (i + 1) ds) ≡ decimal_number (take i ds) * 10 + (get_or ds i 0 - 48)

@@ -1,5 +1,5 @@
 -- The lines of the input ports, one after another.
-use Rattle.std.proofs.Common.{◌≡◌, ℕ, suc, ◌+◌, ◌<◌, List, [], ◌∷◌, ◌++◌, map, length, get_or, take, codes, refl, sym, ◌∙◌, ap, append_assoc, add-one, Bor, slice_get, Option, Some}
+use Rattle.std.proofs.Common.{◌≡◌, ℕ, ◌+◌, ◌<◌, List, [], ◌∷◌, ◌++◌, map, length, get_or, take, codes, refl, sym, ◌∙◌, ap, append_assoc, add-one, Bor, slice_get}
 use Rattle.std.specs.Option.{option_map}
 use Rattle.std.proofs.lemmas.Option.{slice_get-map, slice_get-get_or}
 use Rattle.circt_top.specs.Form.{Adder}

@@ -1,9 +1,9 @@
 -- The pieces of a source that is spelled are read again, so tokens spell one source at most.
-use Rattle.std.proofs.Common.{◌≡◌, ℕ, List, [], ◌∷◌, ◌++◌, map, Option, Some, None, codes, refl, sym, ◌∙◌, ap, arith}
+use Rattle.std.proofs.Common.{◌≡◌, List, [], ◌∷◌, ◌++◌, Some, None, codes, refl, sym, ◌∙◌, ap}
 use Rattle.std.proofs.lemmas.Option.{none-some, some_pair_parts, same_Some}
 use Rattle.hw_model.specs.Types.{Name}
 use Rattle.circt_top.specs.Tokens.{Token}
-use Rattle.circt_top.specs.Tokens.Token.{word, value, symbol, mark}
+use Rattle.circt_top.specs.Tokens.Token.{word, symbol, mark}
 use Rattle.circt_top.specs.Form.{Input, Source, input_spelled, inputs_spelled, inputs_of, source_spelled}
 use Rattle.circt_top.specs.Reading.{word_behind, mark_behind, word_at, value_at, symbol_at, type_at, header_at, input_at, output_at, operands_at, sum_at, given_at, tail_at, Tail, tail_spelled, output_text_spelled, source_with}
 

@@ -1,5 +1,5 @@
 -- What the tests on names decide, and so what a text is.
-use Rattle.std.proofs.Common.{◌≡◌, ℕ, suc, ◌+◌, ◌<◌, ◌≤◌, ◌^◌, Bool, true, false, cond, not, ◌&&◌, ◌||◌, List, [], ◌∷◌, length, Option, Some, None, refl, sym, ◌∙◌, ap, subst, arith, IsTrue}
+use Rattle.std.proofs.Common.{◌≡◌, ℕ, ◌+◌, ◌≤◌, ◌^◌, Bool, true, false, cond, not, ◌&&◌, List, ◌∷◌, length, Option, Some, None, refl, sym, ◌∙◌, ap, arith}
 use Rattle.std.specs.Option.{IfSome, IfNone, option_map}
 use Rattle.std.proofs.lemmas.Option.{some_pair_parts}
 use Rattle.hw_model.specs.Types.{Name}
@@ -7,9 +7,9 @@ use Rattle.hw_model.specs.Design.{same_name}
 use Rattle.verilog_model.specs.Checks.{contains_name, are_distinct}
 use Rattle.verilog_model.specs.Numerals.{decimal_number}
 use Rattle.circt_top.specs.Tokens.{tokens}
-use Rattle.circt_top.specs.Form.{Source, Adder, IsForm, adder_of, input_names, place_of, is_suffix, is_plain, all_plain, has_values, has_names, has_width, source_spelled}
+use Rattle.circt_top.specs.Form.{Source, Adder, IsForm, input_names, place_of, is_suffix, is_plain, all_plain, has_values, has_names, has_width, source_spelled}
 use Rattle.circt_top.specs.Places.{place_from}
-use Rattle.circt_top.specs.Reading.{IsSourceOf, Tail, after}
+use Rattle.circt_top.specs.Reading.{after}
 use Rattle.circt_top.specs.Resolving.{is_nowhere, operands_of, Resolves}
 use Rattle.circt_top.proofs.Standing.{place_from-is}
 use Rattle.circt_top.proofs.ReadAgain.{one_source, tail_in}

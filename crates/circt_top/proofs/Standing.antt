@@ -1,5 +1,5 @@
 -- Tables of places, made from the last name on.
-use Rattle.std.proofs.Common.{◌≡◌, ℕ, zero, suc, ◌+◌, ◌-◌, ◌<◌, Bool, true, false, cond, not, ◌&&◌, ◌||◌, List, [], ◌∷◌, map, length, get_or, drop, Option, Some, None, refl, sym, ◌∙◌, ap, subst, arith, Bor, drop-cons}
+use Rattle.std.proofs.Common.{◌≡◌, ℕ, zero, suc, ◌+◌, ◌<◌, Bool, true, false, cond, not, ◌&&◌, ◌||◌, List, [], ◌∷◌, map, length, get_or, drop, Option, Some, None, refl, sym, ◌∙◌, ap, subst, arith, Bor, drop-cons}
 use Rattle.hw_model.specs.Types.{Name}
 use Rattle.hw_model.specs.Design.{same_name}
 use Rattle.verilog_model.specs.Checks.{contains_name, are_distinct}

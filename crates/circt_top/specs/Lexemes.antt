@@ -1,5 +1,4 @@
 -- What the lexer's values say of a text's tokens.
-use Rattle.std.specs.Prelude.{ℕ, List}
 use Rattle.circt_top.specs.Tokens.{Token, Lead}
 use Rattle.circt_top.specs.Tokens.Token.{word, value, symbol, mark}
 use Rattle.circt_top.specs.Tokens.Lead.{no_lead, percent, at_sign}

@@ -1,5 +1,5 @@
 -- What the reader's values say of a source.
-use Rattle.std.specs.Prelude.{List, map}
+use Rattle.std.specs.Prelude.{map}
 use Rattle.circt_top.specs.Form.{Input, Source, Adder}
 use Rattle.circt_top.specs.Reading.{Sum, Tail, source_with}
 use Rattle.circt_top.specs.declared.form.TypedName.{TypedName}

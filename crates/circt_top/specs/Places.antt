@@ -1,5 +1,5 @@
 -- Where names stand in a list.
-use Rattle.std.specs.Prelude.{◌≡◌, ℕ, suc, cond, Bool, true, false, List, [], ◌∷◌, Option, Some, None}
+use Rattle.std.specs.Prelude.{◌≡◌, ℕ, suc, cond, true, false, List, [], ◌∷◌, Option, Some, None}
 use Rattle.std.specs.HashMap.{get_by}
 use Rattle.hw_model.specs.Types.{Name}
 use Rattle.hw_model.specs.Design.{same_name}

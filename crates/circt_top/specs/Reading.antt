@@ -1,6 +1,6 @@
 -- The first form read from tokens: each function gives what the front of the tokens says and the tokens behind it, or
 -- None where they do not begin so.
-use Rattle.std.specs.Prelude.{◌≡◌, ℕ, Bool, true, false, cond, ◌==◌, List, [], ◌∷◌, Option, Some, None, codes, map}
+use Rattle.std.specs.Prelude.{◌≡◌, ℕ, cond, ◌==◌, List, [], ◌∷◌, Option, Some, None, codes}
 use Rattle.hw_model.specs.Types.{Name}
 use Rattle.hw_model.specs.Design.{same_name}
 use Rattle.verilog_model.specs.Tree.{Numeral}

@@ -1,8 +1,8 @@
 -- From a source to its adder: which places the operands have.
-use Rattle.std.specs.Prelude.{◌≡◌, ℕ, cond, Bool, true, false, ◌&&◌, Option, Some, None, List}
+use Rattle.std.specs.Prelude.{◌≡◌, ℕ, cond, Bool, true, false, ◌&&◌, Option, Some, None}
 use Rattle.hw_model.specs.Types.{Name}
 use Rattle.hw_model.specs.Design.{same_name}
-use Rattle.circt_top.specs.Form.{Source, Adder, IsForm, adder_of, has_values, has_names, is_suffix}
+use Rattle.circt_top.specs.Form.{Source, Adder, adder_of, has_values, has_names, is_suffix}
 use Rattle.circt_top.specs.Reading.{Tail, after}
 
 abbrev pub is_nowhere : Option ℕ → Bool

@@ -21,7 +21,7 @@ const MOST_BYTES: usize = 67_108_864;
 fn input_names<'s>(alloc: Global, parts: &ModuleText<'s>) -> Result<Vec<&'s [u8]>, AllocError>
     ensures { IfOk result (λ v. map (λ n. n.now) v.items ≡ input_names (source_of parts.now)) }
 {
-    let mut names = Vec::new(alloc);
+    let mut names = Vec::with_capacity(alloc, parts.others.len() + 1)?;
     names.push(parts.first.name)?;
     for input in &parts.others {
         names.push(input.name)?;

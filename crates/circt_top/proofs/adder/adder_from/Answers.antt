@@ -1,4 +1,4 @@
-use Rattle.std.proofs.Common.{◌≡◌, ℕ, List, map, sym, ap, ◌∙◌, Bor}
+use Rattle.std.proofs.Common.{ap, ◌∙◌}
 use Rattle.circt_top.specs.Places.{place_in}
 use Rattle.circt_top.specs.Parts.{source_of}
 use Rattle.circt_top.proofs.Standing.{names_in}

@@ -1,4 +1,4 @@
-use Rattle.std.proofs.Common.{◌≡◌, ℕ, suc, ◌-◌, ◌<◌, List, [], length, Bor, IsTrue, true, arith}
+use Rattle.std.proofs.Common.{◌≡◌, ℕ, suc, ◌-◌, ◌<◌, List, [], length, Bor, arith}
 use Rattle.circt_top.specs.Places.{place_in}
 use Rattle.circt_top.proofs.Standing.{table_grows, table_fails}
 use Rattle.circt_top.proofs.port_names.places_of.Goals as goal

@@ -1,4 +1,3 @@
-use Rattle.std.proofs.Common.{◌≡◌}
 use Rattle.circt_top.specs.Parts.{adder_of_code}
 use Rattle.circt_top.proofs.LinesPrinted.{name_at, module_printed}
 use Rattle.circt_top.proofs.writer.push_module.Goals as goal
