@@ -9,3 +9,4 @@ pub mod Digits
 pub mod Standing
 pub mod Resolved
 pub mod LinesPrinted
+pub mod FormBounds
