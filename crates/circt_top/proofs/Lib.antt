@@ -9,4 +9,3 @@ pub mod Digits
 pub mod Standing
 pub mod Resolved
 pub mod LinesPrinted
-pub mod FormBounds
