@@ -4,3 +4,4 @@ pub mod AdderDesign
 pub mod AdderTree
 pub mod AdderSame
 pub mod AdderChecks
+pub mod Translated
