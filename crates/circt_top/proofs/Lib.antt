@@ -5,3 +5,5 @@ pub mod AdderTree
 pub mod AdderSame
 pub mod AdderChecks
 pub mod Translated
+pub mod Answered
+pub mod Completed

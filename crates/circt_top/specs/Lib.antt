@@ -1,4 +1,7 @@
-pub mod Tokens
+pub mod Answer
+pub mod Codes
 pub mod Form
-pub mod Translation
 pub mod Printing
+pub mod Tokens
+pub mod Translation
+pub mod Words

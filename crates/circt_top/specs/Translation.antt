@@ -1,5 +1,5 @@
 -- What `translate --export-verilog` does with a text: the design that it says, and a Verilog text that behaves as it.
-use Rattle.std.specs.Prelude.{◌≡◌, ℕ, List, map}
+use Rattle.std.specs.Prelude.{◌≡◌, ℕ, List, map, Option, Some, None}
 use Rattle.hw_model.specs.Types.{Name}
 use Rattle.hw_model.specs.Design.{Module, Design}
 use Rattle.verilog_model.specs.Behaviour.{Behaves, Shown, shown_of}
@@ -26,3 +26,8 @@ pub record IsTranslation (bytes text : List ℕ) : Type 0 where
   pub behaves : Behaves text design name_kept ports_kept
   -- and it is laid out so
   pub laid_out : text ≡ verilog_text accepted.adder
+
+-- what is answered for the bytes: their translation, or None where no adder is said
+abbrev pub IsAnswered : List ℕ → Option (List ℕ) → Type 0
+IsAnswered bytes (Some text) = IsTranslation bytes text
+IsAnswered bytes None = (a : Adder) → IsForm bytes a → ⊥

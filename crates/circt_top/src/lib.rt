@@ -1,2 +1,9 @@
-//! The program: its words, and what it does.
+//! The program: what it does for its words, its files and its sinks.
+//!
+//! [`run::run_circt`] is the whole program over any files and sinks.
 #![tactic(auto)]
+
+pub mod run;
+pub mod status;
+mod translation;
+mod words;
