@@ -51,6 +51,8 @@ impl<'a, R: rt::Files + Input> Files for RealFiles<'a, R> {
 
     ghost write_faults = { λ counts name. counts.writes };
 
+    /// Reads to the end of the file or to `limit` bytes. A file that cannot be opened is a fault,
+    /// and so is a read that fails; after an interrupted one, which counts too, the next is tried.
     fn read(&mut self, alloc: Global, name: &str, limit: u64) -> Result<Text, FileFail> {
         if name == "-" {
             return read_text(&mut self.rt.reader(), alloc, limit, &mut self.read_faults);

@@ -44,10 +44,12 @@ impl<W: Write + Drop> Sink for RealSink<W> {
 
     ghost faults = { λ sink. sink.faults };
 
+    // What a put does to a writer of the system is not known beyond the clauses.
     ghost puts = { λ sink piece taken after. Unit {0} };
 
     /// Writes until the whole piece is taken. A write that fails is a fault, and so is one that
-    /// takes nothing; after an interrupted one the next is tried.
+    /// takes nothing; after an interrupted one, which counts too, the next is tried. A writer with
+    /// a buffer of its own is not flushed.
     fn put(&mut self, bytes: &[u8]) -> Result<(), Failed> {
         write_out(&mut self.writer, bytes, &mut self.faults)
     }
