@@ -11,6 +11,8 @@ ghost use Rattle.bits_core.specs.Word.{number, bits, sign, signed, bits_of_ℤ, 
 use std::cmp::Ordering;
 use std::marker::Model;
 
+pub mod laws;
+
 /// A word of 1 to 128 bits.
 ///
 /// Contracts see it as the list of its bits, the most significant first.
