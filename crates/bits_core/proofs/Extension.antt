@@ -1,16 +1,16 @@
 -- Words extended above, by bits of 0 or by copies of the sign, and wider words cut to their low bits.
-use Rattle.std.proofs.Common.{◌≡◌, refl, sym, ap, ap₂, ◌∙◌, ℕ, zero, suc, ◌+◌, ◌-◌, ◌*◌, ◌/◌, ◌%◌, ◌^◌, ◌<◌, ◌≤◌, ◌==◌, Bool, true, false, List, [], ◌∷◌, ◌++◌, length, take, drop, replicate, arith, pow-suc, pow-add, pow_pos, zero-add, suc-add, add_comm, ℤ, pos, negsuc, shr-shr, length-append, drop_at, take_at}
+use Rattle.std.proofs.Common.{◌≡◌, refl, sym, ap, ap₂, ◌∙◌, ℕ, zero, suc, ◌+◌, ◌*◌, ◌/◌, ◌%◌, ◌^◌, ◌==◌, Bool, true, false, ◌∷◌, ◌++◌, length, take, drop, replicate, arith, pow-suc, zero-add, suc-add, add_comm, pos, negsuc, shr-shr, drop_at, take_at}
 use Rattle.std.proofs.Math.ListN.{length-replicate}
-use Rattle.bits_core.specs.Word.{Word, bit, number, bits, sign, signed, zeros, ones, flag}
-use Rattle.bits_core.proofs.Numbers.{length-bits, number_below, number-append, number-zeros, number-ones, same_from_number}
-use Rattle.bits_core.proofs.Complement.{signed-natural, signed-negative}
+use Rattle.bits_core.specs.Word.{Word, bit, number, bits, signed, zeros, ones, flag}
+use Rattle.bits_core.proofs.Numbers.{length-bits, number-append, number-zeros, number-ones, same_from_number}
+use Rattle.bits_core.proofs.Complement.{signed-negative}
 
 -- the bits of a number, in a high and a low part
 pub bits-add : (k w n : ℕ) → bits (k + w) n ≡ bits k (n / 2 ^ w) ++ bits w n
 bits-add zero w n = ap (λ (m : ℕ). bits m n) (zero-add w)
 bits-add (suc k) w n =
     let high : n / 2 ^ (k + w) ≡ n / 2 ^ w / 2 ^ k =
-        sym (shr-shr n w k ∙ ap (λ (m : ℕ). n / 2 ^ m) (add_comm w k)) in
+    sym (shr-shr n w k ∙ ap (λ (m : ℕ). n / 2 ^ m) (add_comm w k)) in
     ap (λ (m : ℕ). bits m n) (suc-add k w)
     ∙ ap₂ (λ (m : ℕ) (bs : Word). (m % 2 == 1) ∷ bs) high (bits-add k w n)
 

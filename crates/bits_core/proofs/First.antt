@@ -1,8 +1,8 @@
 -- Parts of words: the first bits, extracted bits and copies.
-use Rattle.std.proofs.Common.{◌≡◌, refl, sym, ap, ap₂, ◌∙◌, ℕ, zero, suc, ◌+◌, ◌-◌, ◌*◌, ◌≤◌, Bool, true, false, List, [], ◌∷◌, ◌++◌, length, take, drop, arith, append_assoc, append-nil, length-append, length-drop, length-take, drop-drop, take-take, take_all, zero-add, suc-add, le_refl}
+use Rattle.std.proofs.Common.{◌≡◌, refl, sym, ap, ap₂, ◌∙◌, ℕ, zero, suc, ◌+◌, ◌-◌, ◌≤◌, false, [], ◌∷◌, ◌++◌, length, take, drop, arith, append_assoc, append-nil, length-append, length-drop, length-take, drop-drop, take-take, take_all, zero-add, suc-add, le_refl}
 use Rattle.std.proofs.Math.Seq.{take-append_seam, drop-append_seam}
 use Rattle.std.proofs.lemmas.List.{drop-take}
-use Rattle.bits_core.specs.Word.{Word, first, extract, copies, zeros, flag}
+use Rattle.bits_core.specs.Word.{Word, first, extract, copies, zeros}
 
 -- ---- the first bits
 

@@ -1,5 +1,5 @@
 -- Arithmetic on words is arithmetic on the integers that they stand for, signed or not.
-use Rattle.std.proofs.Common.{◌≡◌, refl, sym, ap, ap₂, ◌∙◌, ℕ, zero, suc, ◌+◌, ◌-◌, ◌*◌, ◌/◌, ◌%◌, ◌^◌, ◌<◌, ◌≤◌, Bool, true, false, List, [], ◌∷◌, length, arith, pow_pos, le-mul_of_pos_right, mul_assoc, mul_comm, mul-suc, add-sub_cancel, zero-mul, div-add-mod', ℤ, pos, negsuc, neg_ℤ, ◌+ℤ◌, ◌-ℤ◌, ◌*ℤ◌, int_div, int_rem}
+use Rattle.std.proofs.Common.{◌≡◌, refl, sym, ap, ap₂, ◌∙◌, ℕ, zero, suc, ◌+◌, ◌-◌, ◌*◌, ◌/◌, ◌%◌, ◌^◌, ◌<◌, ◌≤◌, Bool, true, false, length, arith, pow_pos, le-mul_of_pos_right, mul_assoc, mul_comm, mul-suc, add-sub_cancel, zero-mul, div-add-mod', ℤ, pos, negsuc, neg_ℤ, ◌+ℤ◌, ◌-ℤ◌, ◌*ℤ◌, int_div, int_rem}
 use Rattle.std.proofs.Math.Nat.{mul-sub, mul-mul-mul_comm, mod-one}
 use Rattle.std.proofs.lemmas.Int.{ints}
 use Rattle.bits_core.specs.Word.{Word, bit, number, bits, sign, signed, bits_of_ℤ, not_word, add, sub, mul, signed_quotient, signed_rest}
@@ -74,8 +74,8 @@ product-negative w a b =
     let q = 2 ^ w - 1 in
     let e : 2 ^ w ≡ suc q = omega (arith, pow_pos w) in
     sym (ap₂ mul (raised w a) (raised w b) ∙ mul-bits w (suc a * 2 ^ w - suc a) (suc b * 2 ^ w - suc b)
-         ∙ ap₂ (λ (m n : ℕ). bits w (m * n)) (below_power a (2 ^ w) q e) (below_power b (2 ^ w) q e)
-         ∙ ap (bits w) (mul-mul-mul_comm (suc a) q (suc b) q) ∙ squared w (suc a * suc b) q e)
+    ∙ ap₂ (λ (m n : ℕ). bits w (m * n)) (below_power a (2 ^ w) q e) (below_power b (2 ^ w) q e)
+    ∙ ap (bits w) (mul-mul-mul_comm (suc a) q (suc b) q) ∙ squared w (suc a * suc b) q e)
 
 pub bits_of-product : (w : ℕ) (y z : ℤ) → bits_of_ℤ w (y *ℤ z) ≡ mul (bits_of_ℤ w y) (bits_of_ℤ w z)
 bits_of-product w (pos a) (pos b) = product-natural w a b
@@ -94,8 +94,10 @@ signed-above x = go (sign x) refl
   where
     negative_above : (n p : ℕ) → n < p → negsuc (p - 1 - n) +ℤ pos (1 * p) ≡ pos n
     negative_above n p h = omega (arith, ints)
+
     natural_above : (n p : ℕ) → pos n +ℤ pos (0 * p) ≡ pos n
     natural_above n p = omega (arith, ints)
+
     go : (b : Bool) → sign x ≡ b → signed x +ℤ pos (bit (sign x) * 2 ^ length x) ≡ pos (number x)
     go true h =
         ap₂ (λ (z : ℤ) (b : Bool). z +ℤ pos (bit b * 2 ^ length x)) (signed-negative x h) h
@@ -108,7 +110,7 @@ signed-above x = go (sign x) refl
 pub add-signed : (x y : Word) → length x ≡ length y → add x y ≡ bits_of_ℤ (length x) (signed x +ℤ signed y)
 add-signed x y l =
     sym (bits_of-sum (length x) (signed x) (signed y)
-         ∙ ap₂ add (bits_of-signed x) (ap (λ (w : ℕ). bits_of_ℤ w (signed y)) l ∙ bits_of-signed y))
+    ∙ ap₂ add (bits_of-signed x) (ap (λ (w : ℕ). bits_of_ℤ w (signed y)) l ∙ bits_of-signed y))
 
 pub sub-signed : (x y : Word) → length x ≡ length y → sub x y ≡ bits_of_ℤ (length x) (signed x -ℤ signed y)
 sub-signed x y l =
@@ -119,7 +121,7 @@ sub-signed x y l =
 pub mul-signed : (x y : Word) → length x ≡ length y → mul x y ≡ bits_of_ℤ (length x) (signed x *ℤ signed y)
 mul-signed x y l =
     sym (bits_of-product (length x) (signed x) (signed y)
-         ∙ ap₂ mul (bits_of-signed x) (ap (λ (w : ℕ). bits_of_ℤ w (signed y)) l ∙ bits_of-signed y))
+    ∙ ap₂ mul (bits_of-signed x) (ap (λ (w : ℕ). bits_of_ℤ w (signed y)) l ∙ bits_of-signed y))
 
 -- ---- signed quotients
 

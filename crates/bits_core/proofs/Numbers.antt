@@ -1,5 +1,5 @@
 -- Words and the numbers that they stand for.
-use Rattle.std.proofs.Common.{◌≡◌, refl, sym, ap, ◌∙◌, ℕ, zero, suc, ◌+◌, ◌-◌, ◌*◌, ◌/◌, ◌%◌, ◌^◌, ◌<◌, ◌≤◌, ◌==◌, Bool, true, false, List, [], ◌∷◌, ◌++◌, length, take, drop, arith, ap₂, pow_pos, pow-suc, pow-add, mod-lt, mod-eq_of_lt, length-append, length-drop, length-take, take-append-drop, replicate}
+use Rattle.std.proofs.Common.{◌≡◌, refl, sym, ap, ◌∙◌, ℕ, zero, suc, ◌+◌, ◌-◌, ◌*◌, ◌/◌, ◌%◌, ◌^◌, ◌<◌, ◌≤◌, ◌==◌, Bool, true, false, [], ◌∷◌, ◌++◌, length, take, drop, arith, ap₂, pow_pos, pow-suc, pow-add, mod-eq_of_lt, length-append, length-drop, length-take, take-append-drop}
 use Rattle.std.proofs.Math.ListN.{length-replicate}
 use Rattle.std.proofs.Math.Nat.{mul-add-div_right, mul-add-mod_self_right}
 use Rattle.std.proofs.lemmas.Nat.{shr_split, mod_low, shr_high, field_of}

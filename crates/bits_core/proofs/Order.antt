@@ -1,11 +1,11 @@
 -- The order of words of one width.
-use Rattle.std.proofs.Common.{◌≡◌, refl, sym, ap, ap₂, ◌∙◌, ℕ, zero, suc, ◌+◌, ◌-◌, ◌*◌, ◌/◌, ◌%◌, ◌^◌, ◌<◌, ◌≤◌, ◌≢◌, ◌==◌, Bool, true, false, not, ◌&&◌, cond, List, [], ◌∷◌, length, arith, ℤ, pos, negsuc, ◌-ℤ◌, nat_lt, int_lt, nat_cmp, Ordering, Less, Equal, Greater, eq-eqb, eqb-true, ltb-true, lt-ltb, true≢false}
+use Rattle.std.proofs.Common.{◌≡◌, refl, sym, ap, ap₂, ◌∙◌, ℕ, suc, ◌+◌, ◌-◌, ◌*◌, ◌/◌, ◌^◌, ◌≤◌, ◌≢◌, ◌==◌, Bool, true, false, cond, [], ◌∷◌, length, arith, ℤ, pos, negsuc, nat_lt, int_lt, nat_cmp, Less, Equal, Greater, eq-eqb, eqb-true, ltb-true, lt-ltb, true≢false}
 use Rattle.std.proofs.lemmas.Bool.Decides.{nat_tests}
 use Rattle.std.specs.Cmp.{both_ways}
 use Rattle.std.specs.Ordering.{is_lt, is_eq, is_gt}
 use Rattle.std.proofs.lemmas.Nat.{shr_high}
 use Rattle.bits_core.specs.SameWord.{same_word_self, same_from_test}
-use Rattle.bits_core.specs.Word.{Word, bit, number, bits, sign, signed, less, signed_less, same_word, ordering, order}
+use Rattle.bits_core.specs.Word.{Word, bit, number, sign, signed, less, signed_less, same_word, ordering, order}
 use Rattle.bits_core.proofs.Numbers.{number_below, same_from_number}
 use Rattle.bits_core.proofs.Complement.{signed-natural, signed-negative}
 

@@ -1,8 +1,8 @@
 -- `same_word` tells words apart, and is an equivalence.
-use Rattle.std.specs.Prelude.{◌≡◌, Bool, true, false, not, ◌&&◌, List, [], ◌∷◌, refl}
-use Rattle.std.proofs.Common.{sym, ◌∙◌, ap, ap₂, subst}
+use Rattle.std.specs.Prelude.{◌≡◌, true, false, [], ◌∷◌, refl}
+use Rattle.std.proofs.Common.{ap}
 use Rattle.std.specs.Cmp.{IsPartialEquivalence, IsEquivalence, partial_equiv_from_equiv}
-use Rattle.bits_core.specs.Word.{Word, xor, same_word}
+use Rattle.bits_core.specs.Word.{Word, same_word}
 
 pub same_word_self : (x : Word) → same_word x x ≡ true
 same_word_self [] = refl

@@ -57,6 +57,15 @@ impl Eq for Bits {
     ghost laws = { same_word_equivalence };
 }
 
+impl From<bool> for Bits {
+    ghost from_gives = { λ bit word. word ≡ flag bit };
+
+    /// One bit.
+    fn from(bit: bool) -> Bits {
+        Bits::truncated(1, u128::from(bit))
+    }
+}
+
 impl Bits {
     /// The word of `width` bits that stands for `value`, or `None` where `width` is not in
     /// 1..=128 or `value` needs more bits.
@@ -257,7 +266,7 @@ impl Bits {
     pub fn parity(&self) -> Bits
         ensures { result ≡ flag (parity self.now) }
     {
-        Bits::truncated(1, u128::from(self.value().count_ones()))
+        Bits::from(self.value().count_ones() % 2 == 1)
     }
 
     /// The `width` bits from bit `low` on, bit 0 being the least significant.

@@ -103,7 +103,7 @@ fn orders(rt: HostRuntime) {
 #[test]
 fn parts(rt: HostRuntime) {
     let word = byte(0xb6);
-    assert_eq!(rt; word.parity(), Bits::truncated(1, 1));
+    assert_eq!(rt; word.parity(), Bits::from(true));
     assert_eq!(rt; byte(0xff).parity(), Bits::truncated(1, 0));
     assert_eq!(rt; word.extract(2, 4), Bits::truncated(4, 0xd));
     assert_eq!(rt; word.extract(0, 8), word);
