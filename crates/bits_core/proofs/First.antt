@@ -52,6 +52,13 @@ extract_all x =
     let none : length x - (0 + length x) ≡ 0 = omega arith in
     ap (λ (k : ℕ). take (length x) (drop k x)) none ∙ take_all (length x) x (le_refl (length x))
 
+-- the low bits are the end of the word
+pub extract_low : (width : ℕ) (x : Word) → width ≤ length x → extract 0 width x ≡ drop (length x - width) x
+extract_low width x h =
+    let above : length x - (0 + width) ≡ length x - width = omega arith in
+    ap (λ (k : ℕ). take width (drop k x)) above
+    ∙ take_all width (drop (length x - width) x) (omega (arith, length-drop (length x - width) x))
+
 -- bits of extracted bits
 pub extract-extract : (low width inner_low inner_width : ℕ) (x : Word) → low + width ≤ inner_width → inner_low + inner_width ≤ length x → extract low width (extract inner_low inner_width x) ≡ extract (inner_low + low) width x
 extract-extract low width inner_low inner_width x h k =

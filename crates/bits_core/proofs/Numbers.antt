@@ -69,6 +69,11 @@ bits-append x y =
     (ap (λ (n : ℕ). n % 2 ^ (length x + length y)) (sym (number-append x y))
     ∙ mod-eq_of_lt (rw length-append at (number_below (x ++ y))))
 
+-- what stands above a word is no part of its bits
+pub bits-append_low : (x y : Word) → bits (length y) (number (x ++ y)) ≡ y
+bits-append_low x y =
+    ap (bits (length y)) (number-append x y) ∙ bits-high (length y) (number x) (number y) ∙ bits-number y
+
 pub number-split : (k : ℕ) (x : Word) → number x ≡ number (take k x) * 2 ^ (length x - k) + number (drop k x)
 number-split k x =
     ap number (sym (take-append-drop k x)) ∙ number-append (take k x) (drop k x)

@@ -9,6 +9,7 @@ ghost use Rattle.std.specs.Prelude.{◌≡◌, ◌+◌, ◌-◌, ◌*◌, ◌/�
 ghost use Rattle.bits_core.specs.Word.{number, bits, sign, signed, bits_of_ℤ, flag, extract, copies, add, sub, mul, quotient, rest, signed_quotient, signed_rest, and_words, or_words, xor_words, not_word, parity, shift_left, shift_right, shift_right_signed, same_word, order};
 
 use std::cmp::Ordering;
+use std::hash::{Hash, Hasher};
 use std::marker::Model;
 
 pub mod laws;
@@ -55,6 +56,20 @@ impl Eq for Bits {
     ghost use Rattle.bits_core.specs.SameWord.{same_word_equivalence};
 
     ghost laws = { same_word_equivalence };
+}
+
+impl Hash for Bits {
+    ghost use Rattle.std.specs.Hash as fed;
+    ghost use Rattle.bits_core.specs.SameWord.{same_word_decides};
+
+    ghost hash_input = { λ x. fed.u32 (length x) ++ fed.u128 (number x) };
+
+    ghost respects_eq = { (fed.same_Alike (λ x. fed.u32 (length x) ++ fed.u128 (number x)) same_word_decides).fed };
+
+    fn hash<H: Hasher>(&self, state: &mut H) {
+        self.width().hash(state);
+        self.value().hash(state);
+    }
 }
 
 impl From<bool> for Bits {
