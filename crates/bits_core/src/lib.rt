@@ -9,7 +9,10 @@ ghost use Rattle.std.specs.Prelude.{◌≡◌, ◌+◌, ◌-◌, ◌*◌, ◌/�
 ghost use Rattle.bits_core.specs.Word.{number, bits, sign, signed, bits_of_ℤ, flag, extract, copies, add, sub, mul, quotient, rest, signed_quotient, signed_rest, and_words, or_words, xor_words, not_word, parity, shift_left, shift_right, shift_right_signed, same_word, order};
 
 use std::cmp::Ordering;
+use std::hash::{Hash, Hasher};
 use std::marker::Model;
+
+pub mod laws;
 
 /// A word of 1 to 128 bits.
 ///
@@ -53,6 +56,29 @@ impl Eq for Bits {
     ghost use Rattle.bits_core.specs.SameWord.{same_word_equivalence};
 
     ghost laws = { same_word_equivalence };
+}
+
+impl Hash for Bits {
+    ghost use Rattle.std.specs.Hash as fed;
+    ghost use Rattle.bits_core.specs.SameWord.{same_word_decides};
+
+    ghost hash_input = { λ x. fed.u32 (length x) ++ fed.u128 (number x) };
+
+    ghost respects_eq = { (fed.same_Alike (λ x. fed.u32 (length x) ++ fed.u128 (number x)) same_word_decides).fed };
+
+    fn hash<H: Hasher>(&self, state: &mut H) {
+        self.width().hash(state);
+        self.value().hash(state);
+    }
+}
+
+impl From<bool> for Bits {
+    ghost from_gives = { λ bit word. word ≡ flag bit };
+
+    /// One bit.
+    fn from(bit: bool) -> Bits {
+        Bits::truncated(1, u128::from(bit))
+    }
 }
 
 impl Bits {
@@ -255,7 +281,7 @@ impl Bits {
     pub fn parity(&self) -> Bits
         ensures { result ≡ flag (parity self.now) }
     {
-        Bits::truncated(1, u128::from(self.value().count_ones()))
+        Bits::from(self.value().count_ones() % 2 == 1)
     }
 
     /// The `width` bits from bit `low` on, bit 0 being the least significant.
