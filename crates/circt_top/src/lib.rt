@@ -3,7 +3,10 @@
 //! [`run::run_circt`] is the whole program over any files and sinks.
 #![tactic(auto)]
 
+pub mod report;
 pub mod run;
 pub mod status;
 mod translation;
 mod words;
+#[cfg(test)]
+mod tests;

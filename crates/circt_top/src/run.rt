@@ -8,6 +8,7 @@ ghost use Rattle.circt_top.specs.Words.{is_command, fault_of};
 ghost use Rattle.circt_top.specs.Translation.{Accepted, IsTranslation};
 ghost use Rattle.circt_top.specs.Answer.{standard_input, told_input, Prints, PrintsFront, usage_of, Refuses, OnReadFault, OnWriteFault, OnWritten, Unwritten, IsDoneOrNoMemory, IsRefusedOrNoMemory, IsOutside, line_of, Reports};
 
+use crate::report::report;
 use crate::status::{Cause, OpName, Place, Refusal, Status, UsageKind};
 use crate::translation::translate;
 use crate::words::is_translate;
@@ -102,24 +103,3 @@ const OUTSIDE_PROFILE: Refusal = Refusal {
     op: OpName::File,
     cause: Cause::OutsideProfile,
 };
-
-// Sends the line on what is wrong. A fault of the sink is let go.
-fn report<E: Sink>(err: &mut E, status: &Status)
-    ensures { Reports E.told E.faults err.old err.new (line_of status.now) }
-{
-    let _ = put_all(err, line(status));
-}
-
-// The line on what is wrong; nothing where all went well.
-fn line(status: &Status) -> &'static [u8]
-    ensures { result.now ≡ line_of status.now }
-{
-    match status {
-        Status::Done => b"",
-        Status::Refused(_) => b"<stdin>:1:1: error: 'builtin.module' S4: outside the profile\n",
-        Status::Usage(_) => b"circt: usage: bad arguments\n",
-        Status::ReadFault => b"circt: cannot read <stdin>\n",
-        Status::WriteFault => b"circt: cannot write <stdout>\n",
-        Status::NoMemory => b"circt: out of memory\n",
-    }
-}
