@@ -1,0 +1,3 @@
+-- Lemmas.
+pub mod Anchors
+pub mod Edited
