@@ -1,6 +1,8 @@
 -- Words of bits, most significant first, and the operations of hardware on them.
 -- A word of w bits stands for a number below 2 ^ w, and by its top bit for a signed one (two's complement).
 -- Arithmetic is that of vectors in IEEE 1364-2005, 5.1, where every bit is known.
+use Rattle.std.specs.declared.cmp.Ordering.{Ordering}
+use Rattle.std.specs.declared.cmp.Ordering.TheVariants.{Less, Equal, Greater}
 use Rattle.std.specs.Prelude.{ℕ, zero, suc, ◌+◌, ◌-◌, ◌*◌, ◌/◌, ◌%◌, ◌^◌, min, Bool, true, false, cond, not, ◌&&◌, ◌||◌, ◌==◌, nat_lt, List, [], ◌∷◌, ◌++◌, map, length, take, drop, replicate, ℤ, pos, negsuc, ◌-ℤ◌, int_lt, int_div, int_rem}
 
 -- a word: its bits, the most significant first
@@ -157,3 +159,14 @@ same_word [] [] = true
 same_word [] (b ∷ y) = false
 same_word (a ∷ x) [] = false
 same_word (a ∷ x) (b ∷ y) = not (xor a b) && same_word x y
+
+-- the order of two values, by whether the first is less and whether they are equal
+abbrev pub ordering : Bool → Bool → Ordering
+ordering true equal = Less
+ordering false true = Equal
+ordering false false = Greater
+
+-- the order of two words of one width, by their signed readings or by their numbers
+abbrev pub order : Bool → Word → Word → Ordering
+order true x y = ordering (signed_less x y) (same_word x y)
+order false x y = ordering (less x y) (same_word x y)
