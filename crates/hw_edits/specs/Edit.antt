@@ -6,18 +6,10 @@ use Rattle.bits_core.specs.Word.{Word}
 use Rattle.hw_model.specs.Types.{HwType}
 use Rattle.hw_model.specs.Design.{Ref, Port, Op, Module, is_instance, is_register, is_output_op, result_type}
 use Rattle.hw_model.specs.Value.{op_value}
+use Rattle.hw_model.specs.Sound.{body_of, ports_of}
 use Rattle.hw_model.specs.Design.Ref.{port, result, undefined}
 
--- ---- modules and their bodies
-
--- the body of a module, and its ports; a module that is not there is as one without operations and ports
-abbrev pub body_of : Option Module → List Op
-body_of None = []
-body_of (Some m) = m.body
-
-abbrev pub ports_of : Option Module → List Port
-ports_of None = []
-ports_of (Some m) = m.ports
+-- ---- operands
 
 -- an operation with each operand changed
 abbrev pub retarget : (Ref → Ref) → Op → Op

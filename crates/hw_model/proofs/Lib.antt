@@ -1,2 +1,5 @@
 -- Lemmas.
 pub mod Machines
+pub mod Sorts
+pub mod Paths
+pub mod Widths
