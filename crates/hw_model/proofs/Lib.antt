@@ -3,3 +3,4 @@ pub mod Machines
 pub mod Sorts
 pub mod Paths
 pub mod Widths
+pub mod NetWidths
