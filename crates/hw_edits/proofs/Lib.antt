@@ -1,3 +1,4 @@
 -- Lemmas.
 pub mod Anchors
 pub mod Edited
+pub mod Heights

@@ -1,1 +1,3 @@
 pub mod Edit
+pub mod Falls
+pub mod Follows

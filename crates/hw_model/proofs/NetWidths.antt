@@ -17,11 +17,11 @@ use Rattle.hw_model.specs.Design.Ref.{port, result, undefined}
 use Rattle.hw_model.specs.Flat.{Path, Net, net, Source, instances, module_at, base, body_state, state, port_ref, operand_for, input_count, input_width, input_of, port_source, copy_of, joined_ref, joined_at, given_ref, held_of, made_of, source}
 use Rattle.hw_model.specs.Flat.Source.{nowhere, input, held, copy, made}
 use Rattle.hw_model.specs.Meaning.{needs_of, needs, value_of, HasHeights, Settled}
-use Rattle.hw_model.specs.Sound.{body_of, ports_of, input_types, output_types, input_type, type_in, OpFits, InstanceFits, SoundBody, Sound, Fits}
+use Rattle.hw_model.specs.Sound.{HasWidth, body_of, ports_of, input_types, output_types, input_type, type_in, OpFits, InstanceFits, SoundBody, Sound, Fits}
 use Rattle.hw_model.proofs.Sorts.{Sort, sort_of, instance_found}
 use Rattle.hw_model.proofs.Sorts.Sort.{a_register, an_instance, an_output, a_made}
 use Rattle.hw_model.proofs.Paths.{module_inside, joined_body, input_ports, port_of, output_of, op_in, result_in, result_here}
-use Rattle.hw_model.proofs.Widths.{HasWidth, HaveWidths, fits_width}
+use Rattle.hw_model.proofs.Widths.{HaveWidths, fits_width}
 
 -- ---- soundness at a path
 

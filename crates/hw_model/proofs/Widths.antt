@@ -20,13 +20,9 @@ use Rattle.hw_model.specs.Kinds.Literals.{no_literals, literal}
 use Rattle.hw_model.specs.Kinds.Kind.{add, mul, and, or, xor, sub, divu, modu, divs, mods, shl, shru, shrs, icmp, parity, extract, concat, replicate, mux, constant, aggregate_constant, array_create, array_concat, array_get, array_slice, array_inject, struct_create, struct_extract, struct_inject, struct_explode, bitcast, wire, instance, output, compreg, compreg_ce, firreg}
 use Rattle.hw_model.specs.Design.{instance_in, register_form, same_name}
 use Rattle.hw_model.specs.Value.{joined, is_high, and_all, or_all, xor_all, of_one, of_two, of_three, word_of_literal, word_of_literals, element, elements_from, slice_of, injected_below, injected, field_of, with_field, field_at, fields, written, op_value}
-use Rattle.hw_model.specs.Sound.{field_list, field_type, literal_width, literals_width, AllAre, Fits}
+use Rattle.hw_model.specs.Sound.{HasWidth, field_list, field_type, literal_width, literals_width, AllAre, Fits}
 
--- the word has as many bits as its type; nothing is asked where there is no type
-abbrev pub HasWidth : Option HwType → Word → Type 0
-HasWidth None w = Unit {0}
-HasWidth (Some t) w = length w ≡ width t
-
+-- the words have the widths of their types
 abbrev pub HaveWidths : List (Option HwType) → List Word → Type 0
 HaveWidths [] [] = Unit {0}
 HaveWidths [] (w ∷ ws) = ⊥

@@ -4,6 +4,7 @@ use Rattle.std.specs.Prelude.{◌≡◌, ℕ, zero, suc, ◌+◌, ◌*◌, ◌<�
 use Rattle.wiring.specs.Options.{bind, omap}
 use Rattle.wiring.specs.Lists.{total}
 use Rattle.wiring.specs.Wiring.{In}
+use Rattle.bits_core.specs.Word.{Word}
 use Rattle.hw_model.specs.Types.{Name, HwType, FieldTypes, width}
 use Rattle.hw_model.specs.Types.HwType.{int, clock, array, struct}
 use Rattle.hw_model.specs.Types.FieldTypes.{no_fields, field}
@@ -45,6 +46,11 @@ abbrev pub type_in : List Port → List Op → Ref → Option HwType
 type_in ports os (port j) = input_type (slice_get ports j)
 type_in ports os (result j k) = bind (slice_get os j) (λ (o : Op). result_type o k)
 type_in ports os undefined = None
+
+-- the word has as many bits as its type; nothing is asked where there is no type
+abbrev pub HasWidth : Option HwType → Word → Type 0
+HasWidth None w = Unit {0}
+HasWidth (Some t) w = length w ≡ width t
 
 -- ---- aggregates
 
