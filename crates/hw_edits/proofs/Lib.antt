@@ -2,3 +2,5 @@
 pub mod Anchors
 pub mod Edited
 pub mod Heights
+pub mod Types
+pub mod Follows

@@ -1,5 +1,5 @@
 -- Edits of a body: where its operations go, and what stands in the new body for a value of the old one.
-use Rattle.std.specs.Prelude.{◌≡◌, ℕ, zero, suc, Bool, true, false, cond, List, [], ◌∷◌, map, take, Option, Some, None, slice_get}
+use Rattle.std.specs.Prelude.{◌≡◌, ℕ, zero, suc, Bool, true, false, cond, List, [], ◌∷◌, map, take, Option, Some, None, is_some, slice_get}
 use Rattle.std.specs.List.{filter}
 use Rattle.wiring.specs.Options.{omap}
 use Rattle.bits_core.specs.Word.{Word}
@@ -45,6 +45,7 @@ pub record Edit (os os' : List Op) : Type 0 where
 
 -- a module and what an edit of its body makes of it; its ports stay
 pub record EditedModule (old new : Option Module) : Type 0 where
+  pub is_there : is_some new ≡ is_some old
   pub ports_are : ports_of new ≡ ports_of old
   pub edit : Edit (body_of old) (body_of new)
 
