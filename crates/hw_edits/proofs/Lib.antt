@@ -4,3 +4,4 @@ pub mod Edited
 pub mod Heights
 pub mod Types
 pub mod Follows
+pub mod Positions

@@ -1,3 +1,4 @@
 pub mod Edit
 pub mod Falls
 pub mod Follows
+pub mod Laws
