@@ -25,7 +25,7 @@ use Rattle.hw_edits.proofs.Anchors.{instances_follow, output_refs_follow, body_s
 
 -- ---- other operands
 
-length_map : {A B : Type 0} (f : A → B) (xs : List A) → length (map f xs) ≡ length xs
+pub length_map : {A B : Type 0} (f : A → B) (xs : List A) → length (map f xs) ≡ length xs
 length_map f [] = refl
 length_map f (x ∷ xs) = ap suc (length_map f xs)
 

@@ -5,3 +5,6 @@ pub mod Heights
 pub mod Types
 pub mod Follows
 pub mod Positions
+pub mod ChangeInPlace
+pub mod PutIn
+pub mod TakeOut
