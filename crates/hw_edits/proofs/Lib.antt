@@ -8,3 +8,4 @@ pub mod Positions
 pub mod ChangeInPlace
 pub mod PutIn
 pub mod TakeOut
+pub mod Unused

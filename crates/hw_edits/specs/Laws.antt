@@ -104,8 +104,9 @@ pub record PutIn (md : Module) (i : ℕ) (o : Op) : Type 0 where
   pub plain : is_anchor o ≡ false
   pub fits : OpFits (type_in md.ports md.body) o
 
--- o at position i may go: it is made of its operands, and no operation names its results
+-- o at position i may go: it is made of its operands and fits them, and no operation names its results
 pub record IsUnused (md : Module) (i : ℕ) (o : Op) : Type 0 where
   pub there : slice_get md.body i ≡ Some o
   pub plain : is_anchor o ≡ false
+  pub fits : OpFits (type_in md.ports md.body) o
   pub unnamed : (j : ℕ) (y : Op) (r : Ref) → slice_get md.body j ≡ Some y → In r y.operands → IsNotOf i r
