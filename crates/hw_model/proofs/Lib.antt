@@ -4,3 +4,4 @@ pub mod Sorts
 pub mod Paths
 pub mod Widths
 pub mod NetWidths
+pub mod Finite

@@ -7,3 +7,4 @@ pub mod Machine
 pub mod Meaning
 pub mod Weight
 pub mod Sound
+pub mod Hierarchy
