@@ -1,1 +1,7 @@
+-- Lemmas.
 pub mod Machines
+pub mod Sorts
+pub mod Paths
+pub mod Widths
+pub mod NetWidths
+pub mod Finite

@@ -1,0 +1,2 @@
+//! Edits of a module's body that keep what every module of the design does.
+#![tactic(auto)]
