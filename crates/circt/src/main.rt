@@ -23,7 +23,14 @@ fn main(rt: HostRuntime) -> ExitCode {
     };
     let mut files = RealFiles::new(&rt);
     let mut out = RealSink::new(rt.stdout());
-    let status = run_circt(&rt, rt.alloc(), words.as_slice(), &mut files, &mut out, &mut err);
+    let status = run_circt(
+        &rt,
+        rt.alloc(),
+        words.as_slice(),
+        &mut files,
+        &mut out,
+        &mut err,
+    );
     ExitCode::from(status.code())
 }
 

@@ -76,7 +76,7 @@ module _ (a : Adder) where
 
   pub settles : AlwaysSettles (machine design a.symbol)
   settles inputs content =
-    settles_along (needs design a.symbol) (value design a.symbol inputs content) (λ (n : Net). height n.ref) (λ n b here. falls_at n.path n.ref b here)
+      settles_along (needs design a.symbol) (value design a.symbol inputs content) (λ (n : Net). height n.ref) (λ n b here. falls_at n.path n.ref b here)
 
   -- ---- under a settled map
 
@@ -89,7 +89,7 @@ module _ (a : Adder) where
 
     pub port_word : (j : ℕ) → ρ (port_net j) ≡ value_of inputs content (input_of (slice_get (module_of a).ports j) (input_width (take j (module_of a).ports))) []
     port_word j = settled (port_net j) ∙ ap₂ (value_of inputs content) (port_source j)
-      (ap (λ ns. map ρ ns) (ap needs_of (port_source j) ∙ input_has_no_needs (slice_get (module_of a).ports j) (input_width (take j (module_of a).ports))))
+        (ap (λ ns. map ρ ns) (ap needs_of (port_source j) ∙ input_has_no_needs (slice_get (module_of a).ports j) (input_width (take j (module_of a).ports))))
 
   pub output_word : (ρ : Net → Word) → outputs design a.symbol ρ ≡ ρ sum_net ++ []
   output_word ρ = ap (λ o. joined (map (λ r. ρ (net [] r)) (outputs_of o))) module_found
@@ -113,8 +113,8 @@ module _ (a : Adder) where
   before_input w (m ∷ ns) ps (suc i) n h = omega (arith, before_input w ns ps i n h)
 
   pub input_word : (inputs content : Word) (ρ : Net → Word) → Settled design a.symbol inputs content ρ → (i : ℕ) (n : Name) → slice_get a.inputs i ≡ Some n →
-    ρ (port_net i) ≡ first a.width (drop (i * a.width) inputs)
+      ρ (port_net i) ≡ first a.width (drop (i * a.width) inputs)
   input_word inputs content ρ settled i n h =
-    port_word inputs content ρ settled i
+      port_word inputs content ρ settled i
       ∙ ap₂ (λ o k. value_of inputs content (input_of o k) []) (port_at a.width a.inputs (output_port a.width a.output ∷ []) i n h)
-          (before_input a.width a.inputs (output_port a.width a.output ∷ []) i n h)
+      (before_input a.width a.inputs (output_port a.width a.output ∷ []) i n h)

@@ -39,7 +39,7 @@ module _ (w : ℕ) (out : Name) where
   input_found [] n h = cc
   input_found (m ∷ ns) n h = go (same_name m n) refl h (input_found ns n) where
     go : (b : Bool) → same_name m n ≡ b → (b || contains_name n ns) ≡ true → (contains_name n ns ≡ true → find_port (ports_of ns) n ≡ Some (vport false w n)) →
-      or_else (when b (vport false w m)) (find_port (ports_of ns) n) ≡ Some (vport false w n)
+        or_else (when b (vport false w m)) (find_port (ports_of ns) n) ≡ Some (vport false w n)
     go true e f g = ap (λ k. Some (vport false w k)) (same_name-true m n e)
     go false e f g = g f
 
@@ -47,7 +47,7 @@ module _ (w : ℕ) (out : Name) where
   output_found [] h = ap (λ b. or_else (when b (vport true w out)) None) (same_name-self out)
   output_found (m ∷ ns) h = go (same_name m out) h (output_found ns) where
     go : (b : Bool) → (b || contains_name out ns) ≡ false → (contains_name out ns ≡ false → find_port (ports_of ns) out ≡ Some (vport true w out)) →
-      or_else (when b (vport false w m)) (find_port (ports_of ns) out) ≡ Some (vport true w out)
+        or_else (when b (vport false w m)) (find_port (ports_of ns) out) ≡ Some (vport true w out)
     go true f g = cc
     go false f g = g f
 
@@ -55,7 +55,7 @@ module _ (w : ℕ) (out : Name) where
   none_found [] n h o = ap (λ b. or_else (when b (vport true w out)) None) o
   none_found (m ∷ ns) n h o = go (same_name m n) h (λ f. none_found ns n f o) where
     go : (b : Bool) → (b || contains_name n ns) ≡ false → (contains_name n ns ≡ false → find_port (ports_of ns) n ≡ None) →
-      or_else (when b (vport false w m)) (find_port (ports_of ns) n) ≡ None
+        or_else (when b (vport false w m)) (find_port (ports_of ns) n) ≡ None
     go true f g = cc
     go false f g = g f
 
@@ -64,7 +64,7 @@ module _ (w : ℕ) (out : Name) where
   range_from_port [] n p h = cc
   range_from_port (q ∷ ps) n p h = go (same_name q.name n) h (range_from_port ps n p) where
     go : (b : Bool) → or_else (when b q) (find_port ps n) ≡ Some p → (find_port ps n ≡ Some p → find_high ps n ≡ Some p.high) →
-      or_else (when b q.high) (find_high ps n) ≡ Some p.high
+        or_else (when b q.high) (find_high ps n) ≡ Some p.high
     go true f g = let e : q ≡ p = cc in ap (λ (x : VPort). Some x.high) e
     go false f g = g f
 
@@ -72,20 +72,20 @@ module _ (w : ℕ) (out : Name) where
   no_range_from_port [] n h = refl
   no_range_from_port (q ∷ ps) n h = go (same_name q.name n) h (no_range_from_port ps n) where
     go : (b : Bool) → or_else (when b q) (find_port ps n) ≡ None → (find_port ps n ≡ None → find_high ps n ≡ None) →
-      or_else (when b q.high) (find_high ps n) ≡ None
+        or_else (when b q.high) (find_high ps n) ≡ None
     go true f g = cc
     go false f g = g f
 
   -- the bits of the inputs before one
   pub before_port : (ns : List Name) (ps : List VPort) (i : ℕ) (n : Name) → IsTrue (are_distinct ns) → slice_get ns i ≡ Some n → range_width (high_of w) ≡ w →
-    input_width_before n (map (vport false w) ns ++ ps) ≡ i * w
+      input_width_before n (map (vport false w) ns ++ ps) ≡ i * w
   before_port [] ps i n apart h wide = cc
   before_port (m ∷ ns) ps zero n apart h wide =
-    let e : m ≡ n = cc in
-    ap (λ k. cond (same_name k n) 0 (range_width (high_of w) + input_width_before n (map (vport false w) ns ++ ps))) e
+      let e : m ≡ n = cc in
+      ap (λ k. cond (same_name k n) 0 (range_width (high_of w) + input_width_before n (map (vport false w) ns ++ ps))) e
       ∙ (ap (λ b. cond b 0 (range_width (high_of w) + input_width_before n (map (vport false w) ns ++ ps))) (same_name-self n) ∙ omega arith)
   before_port (m ∷ ns) ps (suc i) n apart h wide =
-    ap (λ b. cond b 0 (range_width (high_of w) + input_width_before n (map (vport false w) ns ++ ps))) (later_differs m ns i n apart h)
+      ap (λ b. cond b 0 (range_width (high_of w) + input_width_before n (map (vport false w) ns ++ ps))) (later_differs m ns i n apart h)
       ∙ omega (arith, before_port ns ps i n (distinct_rest m ns apart) h wide, wide)
 
   pub outputs_are : (ns : List Name) → output_ports (ports_of ns) ≡ vport true w out ∷ []
@@ -119,7 +119,7 @@ module _ (a : Adder) where
 
   -- an input port has its bits of the inputs
   pub input_drive : (n : Name) → contains_name n a.inputs ≡ true →
-    drive tree a.symbol (vnet [] n) ≡ input (input_width_before n ports) (range_width (high_of a.width))
+      drive tree a.symbol (vnet [] n) ≡ input (input_width_before n ports) (range_width (high_of a.width))
   input_drive n h = drive_found n (Some (vport false a.width n)) (input_found a.width a.output a.inputs n h)
 
   -- the wire has the sum
@@ -129,13 +129,13 @@ module _ (a : Adder) where
   -- the output has the wire
   pub output_drive : contains_name a.output a.inputs ≡ false → same_name sum_wire a.output ≡ false → drive tree a.symbol (vnet [] a.output) ≡ expression [] (name sum_wire)
   output_drive h o =
-    drive_found a.output (Some (vport true a.width a.output)) (output_found a.width a.output a.inputs h)
+      drive_found a.output (Some (vport true a.width a.output)) (output_found a.width a.output a.inputs h)
       ∙ ap₂ (λ b c. drive_or_nothing (or_else (when b (expression [] sum_expr)) (or_else (when c (expression [] (name sum_wire))) None))) o (same_name-self a.output)
 
   -- nothing else is driven
   pub no_drive : (n : Name) → contains_name n a.inputs ≡ false → same_name a.output n ≡ false → same_name sum_wire n ≡ false → drive tree a.symbol (vnet [] n) ≡ nothing
   no_drive n h o s =
-    drive_found n None (none_found a.width a.output a.inputs n h o)
+      drive_found n None (none_found a.width a.output a.inputs n h o)
       ∙ ap₂ (λ b c. drive_or_nothing (or_else (when b (expression [] sum_expr)) (or_else (when c (expression [] (name sum_wire))) None))) s o
 
   -- ---- widths
@@ -151,13 +151,13 @@ module _ (a : Adder) where
 
   pub sum_width_is : contains_name sum_wire a.inputs ≡ false → same_name a.output sum_wire ≡ false → width_in (vmodule_of a) sum_wire ≡ range_width (high_of a.width)
   sum_width_is h o = ap (λ r. width_of_range (or_else r (first_some (item_range sum_wire) (vmodule_of a).items)))
-    (no_range_from_port a.width a.output ports sum_wire (none_found a.width a.output a.inputs sum_wire h o))
+      (no_range_from_port a.width a.output ports sum_wire (none_found a.width a.output a.inputs sum_wire h o))
 
   -- ---- outputs and content
 
   pub output_word : (σ : VNet → Word) → tree_outputs tree a.symbol σ ≡ σ (vnet [] a.output) ++ []
   output_word σ = ap (λ o. joined (map (λ (p : VPort). σ (vnet [] p.name)) (output_ports (vports_of o)))) vmodule_found
-    ∙ ap (λ ps. joined (map (λ (p : VPort). σ (vnet [] p.name)) ps)) (outputs_are a.width a.output a.inputs)
+      ∙ ap (λ ps. joined (map (λ (p : VPort). σ (vnet [] p.name)) ps)) (outputs_are a.width a.output a.inputs)
 
   pub no_content : (σ : VNet → Word) (content : Word) → next_vcontent (vregisters tree a.symbol) σ content ≡ []
   no_content σ content = ap (λ o. next_vcontent (vregisters_of (vmodule_registers 1 tree) [] o) σ content) vmodule_found

@@ -13,7 +13,7 @@ module _ (words : List Name) (input : Option (List ℕ)) (R W P F : Type 0) (com
   no_usage status usage = usage ∙ ap unless_command command
 
   pub complete : (status : Status) → usage_of status ≡ fault_of words → Refuses status input → OnReadFault status R → OnWriteFault status W →
-    (d : Design) → Accepted bytes d → ¬ R → ¬ W → IsDoneOrNoMemory status
+      (d : Design) → Accepted bytes d → ¬ R → ¬ W → IsDoneOrNoMemory status
   complete Done usage refuses read write d accepted no_read no_write = tt
   complete (Refused refusal) usage refuses read write d accepted no_read no_write = refuses.1 bytes told d accepted
   complete (Usage kind) usage refuses read write d accepted no_read no_write = let none : Some kind ≡ None = no_usage (Usage kind) usage in cc
@@ -22,7 +22,7 @@ module _ (words : List Name) (input : Option (List ℕ)) (R W P F : Type 0) (com
   complete NoMemory usage refuses read write d accepted no_read no_write = tt
 
   pub refusing : (status : Status) → usage_of status ≡ fault_of words → OnReadFault status R → (OnWritten status P) → (OnWriteFault status F) →
-    (P → (text : List ℕ) × IsTranslation bytes text) → (F → (text : List ℕ) × IsTranslation bytes text) → IsOutside bytes → ¬ R → IsRefusedOrNoMemory status
+      (P → (text : List ℕ) × IsTranslation bytes text) → (F → (text : List ℕ) × IsTranslation bytes text) → IsOutside bytes → ¬ R → IsRefusedOrNoMemory status
   refusing Done usage read done front printed fronted outside no_read = let t = (printed done).1 in outside t.design t.accepted
   refusing (Refused refusal) usage read done front printed fronted outside no_read = tt
   refusing (Usage kind) usage read done front printed fronted outside no_read = let none : Some kind ≡ None = no_usage (Usage kind) usage in cc

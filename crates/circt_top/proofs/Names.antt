@@ -43,7 +43,7 @@ pub place_found : (ns : List Name) (n : Name) → contains_name n ns ≡ true �
 place_found [] n h = cc
 place_found (m ∷ ms) n h = go (same_name m n) refl h (place_found ms n) where
   go : (b : Bool) → same_name m n ≡ b → (b || contains_name n ms) ≡ true → (contains_name n ms ≡ true → slice_get ms (place_of ms n) ≡ Some n) →
-    slice_get (m ∷ ms) (cond b 0 (suc (place_of ms n))) ≡ Some n
+      slice_get (m ∷ ms) (cond b 0 (suc (place_of ms n))) ≡ Some n
   go true e f g = ap Some (same_name-true m n e)
   go false e f g = g f
 
@@ -59,6 +59,7 @@ pub later_differs : (m : Name) (ms : List Name) (i : ℕ) (n : Name) → IsTrue 
 later_differs m ms i n apart h = go (same_name m n) refl where
   alone : contains_name m ms ≡ false
   alone = not_true (contains_name m ms) (and_first (not (contains_name m ms)) (are_distinct ms) apart)
+
   go : (b : Bool) → same_name m n ≡ b → b ≡ false
   go false e = refl
   go true e = sym (ap (λ k. contains_name k ms) (same_name-true m n e) ∙ contains_at ms i n h) ∙ alone
@@ -71,7 +72,7 @@ pub place_is : (ns : List Name) (i : ℕ) (n : Name) → IsTrue (are_distinct ns
 place_is [] i n apart h = cc
 place_is (m ∷ ms) zero n apart h = let e : m ≡ n = cc in rw e (ap (λ b. cond b 0 (suc (place_of ms n))) (same_name-self n))
 place_is (m ∷ ms) (suc i) n apart h =
-  ap (λ b. cond b 0 (suc (place_of ms n))) (later_differs m ms i n apart h) ∙ ap suc (place_is ms i n (distinct_rest m ms apart) h)
+    ap (λ b. cond b 0 (suc (place_of ms n))) (later_differs m ms i n apart h) ∙ ap suc (place_is ms i n (distinct_rest m ms apart) h)
 
 pub some_at : {A : Type 0} (xs : List A) (i : ℕ) → i < length xs → (x : A) × (slice_get xs i ≡ Some x)
 some_at [] i h = absurd (omega arith)

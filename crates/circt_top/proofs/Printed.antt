@@ -22,7 +22,8 @@ word_read n tail rest w apart = ap tokens (append_assoc n tail rest) ∙ ap with
 decimal_is_word : (n : ℕ) → n < 2 ^ 64 → IsWord (decimal n)
 decimal_is_word n small = let d = is_decimal-decimal n small in record {
   some = and_first (is_nonempty (decimal n)) (all_bytes is_digit (decimal n)) d;
-  bytes = all_digits_are_word (decimal n) (and_second (is_nonempty (decimal n)) (all_bytes is_digit (decimal n)) d) }
+  bytes = all_digits_are_word (decimal n) (and_second (is_nonempty (decimal n)) (all_bytes is_digit (decimal n)) d);
+}
 
 range_read : (w : ℕ) (rest : List ℕ) → w < 2 ^ 64 → tokens (range_text w ++ rest) ≡ range_spelled (high_of w) (tokens rest)
 unfolding range_text
@@ -32,9 +33,9 @@ range_read w rest small = go (w == 1) where
   go false = ap (λ ts. mark 91 ∷ ts) (word_read (decimal (w - 1)) (codes ":0] ") rest (decimal_is_word (w - 1) (omega arith)) refl)
 
 named_read : (w : ℕ) (n tail rest : List ℕ) → w < 2 ^ 64 → IsWord n → IsTrue (begins_no_word (pieces (tail ++ rest))) →
-  tokens ((range_text w ++ (n ++ tail)) ++ rest) ≡ range_spelled (high_of w) (word n ∷ tokens (tail ++ rest))
+    tokens ((range_text w ++ (n ++ tail)) ++ rest) ≡ range_spelled (high_of w) (word n ∷ tokens (tail ++ rest))
 named_read w n tail rest small is apart =
-  ap tokens (append_assoc (range_text w) (n ++ tail) rest)
+    ap tokens (append_assoc (range_text w) (n ++ tail) rest)
     ∙ (range_read w ((n ++ tail) ++ rest) small ∙ ap (range_spelled (high_of w)) (word_read n tail rest is apart))
 
 input_read : (w : ℕ) (n rest : List ℕ) → w < 2 ^ 64 → IsWord n → tokens (input_text w n ++ rest) ≡ port_spelled (vport false w n) (comma ∷ tokens rest)
@@ -55,21 +56,21 @@ ports_behind w [] out ps = port_spelled (vport true w out) (close_paren ∷ ps)
 ports_behind w (n ∷ ns) out ps = port_spelled (vport false w n) (comma ∷ ports_behind w ns out ps)
 
 ports_read : (w : ℕ) (ns : List Name) (out rest : List ℕ) → w < 2 ^ 64 → AllWords ns → IsWord out →
-  tokens (inputs_text w ns ++ (output_text w out ++ rest)) ≡ ports_behind w ns out (semicolon ∷ tokens rest)
+    tokens (inputs_text w ns ++ (output_text w out ++ rest)) ≡ ports_behind w ns out (semicolon ∷ tokens rest)
 unfolding inputs_text
 ports_read w [] out rest small are is = output_read w out rest small is
 ports_read w (n ∷ ns) out rest small are is =
-  ap tokens (append_assoc (input_text w n) (inputs_text w ns) (output_text w out ++ rest))
+    ap tokens (append_assoc (input_text w n) (inputs_text w ns) (output_text w out ++ rest))
     ∙ (input_read w n (inputs_text w ns ++ (output_text w out ++ rest)) small are.0
     ∙ ap (λ ts. port_spelled (vport false w n) (comma ∷ ts)) (ports_read w ns out rest small are.1 is))
 
 ports_listed : (w : ℕ) (n : Name) (ns : List Name) (out : Name) (ps : List Piece) →
-  port_spelled (vport false w n) (more_ports_spelled (map (vport false w) ns ++ vport true w out ∷ []) (close_paren ∷ ps)) ≡ ports_behind w (n ∷ ns) out ps
+    port_spelled (vport false w n) (more_ports_spelled (map (vport false w) ns ++ vport true w out ∷ []) (close_paren ∷ ps)) ≡ ports_behind w (n ∷ ns) out ps
 ports_listed w n [] out ps = refl
 ports_listed w n (m ∷ ns) out ps = ap (λ ts. port_spelled (vport false w n) (comma ∷ ts)) (ports_listed w m ns out ps)
 
 ports_are : (w : ℕ) (ns : List Name) (out : Name) (ps : List Piece) →
-  ports_spelled (map (vport false w) ns ++ vport true w out ∷ []) ps ≡ open_paren ∷ ports_behind w ns out ps
+    ports_spelled (map (vport false w) ns ++ vport true w out ∷ []) ps ≡ open_paren ∷ ports_behind w ns out ps
 ports_are w [] out ps = refl
 ports_are w (n ∷ ns) out ps = ap (λ ts. open_paren ∷ ts) (ports_listed w n ns out ps)
 
@@ -85,15 +86,15 @@ unfolding wire_text
 wire_read w rest small = ap (λ ts. word (codes "wire") ∷ ts) (named_read w sum_wire (59 ∷ 10 ∷ []) rest small sum_wire_is_word refl)
 
 sum_read : (left right rest : List ℕ) → IsWord left → IsWord right →
-  tokens (sum_text left right ++ rest) ≡ word (codes "assign") ∷ word sum_wire ∷ operator (61 ∷ []) ∷ word left ∷ operator (43 ∷ []) ∷ word right ∷ semicolon ∷ tokens rest
+    tokens (sum_text left right ++ rest) ≡ word (codes "assign") ∷ word sum_wire ∷ operator (61 ∷ []) ∷ word left ∷ operator (43 ∷ []) ∷ word right ∷ semicolon ∷ tokens rest
 unfolding sum_text
 sum_read left right rest is are =
-  ap (λ ts. word (codes "assign") ∷ word sum_wire ∷ operator (61 ∷ []) ∷ ts)
+    ap (λ ts. word (codes "assign") ∷ word sum_wire ∷ operator (61 ∷ []) ∷ ts)
     (word_read left (codes " + " ++ (right ++ (59 ∷ 10 ∷ []))) rest is refl
-      ∙ ap (λ ts. word left ∷ operator (43 ∷ []) ∷ ts) (word_read right (59 ∷ 10 ∷ []) rest are refl))
+    ∙ ap (λ ts. word left ∷ operator (43 ∷ []) ∷ ts) (word_read right (59 ∷ 10 ∷ []) rest are refl))
 
 given_read : (n : List ℕ) → IsWord n →
-  tokens (given_text n) ≡ word (codes "assign") ∷ word n ∷ operator (61 ∷ []) ∷ word sum_wire ∷ semicolon ∷ word (codes "endmodule") ∷ []
+    tokens (given_text n) ≡ word (codes "assign") ∷ word n ∷ operator (61 ∷ []) ∷ word sum_wire ∷ semicolon ∷ word (codes "endmodule") ∷ []
 unfolding given_text
 given_read n is = ap (λ ts. word (codes "assign") ∷ ts) (ap without_gaps (pieces_word n (codes " = _GEN;" ++ (10 ∷ (codes "endmodule" ++ 10 ∷ []))) is.some is.bytes refl))
 
@@ -109,24 +110,30 @@ pub record HasWords (a : Adder) : Type 0 where
 pub printed : (a : Adder) → HasWords a → tokens (verilog_text a) ≡ spelled (tree_of a)
 unfolding verilog_text
 printed a h =
-  header_read a.symbol (inputs_text a.width a.inputs ++ (output_text a.width a.output ++ after)) h.symbol
+    header_read a.symbol (inputs_text a.width a.inputs ++ (output_text a.width a.output ++ after)) h.symbol
     ∙ (ap (λ ts. word (codes "module") ∷ word a.symbol ∷ open_paren ∷ ts) (ports_read a.width a.inputs a.output after h.width h.inputs h.output)
     ∙ (ap (λ ts. word (codes "module") ∷ word a.symbol ∷ open_paren ∷ ports_behind a.width a.inputs a.output (semicolon ∷ ts)) after_read
     ∙ ap (λ ts. word (codes "module") ∷ word a.symbol ∷ ts) (sym (ports_are a.width a.inputs a.output (semicolon ∷ after_spelled))))) where
-  left_name : Name
-  left_name = input_name a a.left
-  right_name : Name
-  right_name = input_name a a.right
-  after : List ℕ
-  after = wire_text a.width ++ (sum_text left_name right_name ++ given_text a.output)
-  given_spelled : List Piece
-  given_spelled = word (codes "assign") ∷ word a.output ∷ operator (61 ∷ []) ∷ word sum_wire ∷ semicolon ∷ word (codes "endmodule") ∷ []
-  sum_spelled : List Piece
-  sum_spelled = word (codes "assign") ∷ word sum_wire ∷ operator (61 ∷ []) ∷ word left_name ∷ operator (43 ∷ []) ∷ word right_name ∷ semicolon ∷ given_spelled
-  after_spelled : List Piece
-  after_spelled = word (codes "wire") ∷ range_spelled (high_of a.width) (word sum_wire ∷ semicolon ∷ sum_spelled)
-  after_read : tokens after ≡ after_spelled
-  after_read = wire_read a.width (sum_text left_name right_name ++ given_text a.output) h.width
-    ∙ ap (λ ts. word (codes "wire") ∷ range_spelled (high_of a.width) (word sum_wire ∷ semicolon ∷ ts))
-        (sum_read left_name right_name (given_text a.output) h.left h.right
+      left_name : Name
+      left_name = input_name a a.left
+
+      right_name : Name
+      right_name = input_name a a.right
+
+      after : List ℕ
+      after = wire_text a.width ++ (sum_text left_name right_name ++ given_text a.output)
+
+      given_spelled : List Piece
+      given_spelled = word (codes "assign") ∷ word a.output ∷ operator (61 ∷ []) ∷ word sum_wire ∷ semicolon ∷ word (codes "endmodule") ∷ []
+
+      sum_spelled : List Piece
+      sum_spelled = word (codes "assign") ∷ word sum_wire ∷ operator (61 ∷ []) ∷ word left_name ∷ operator (43 ∷ []) ∷ word right_name ∷ semicolon ∷ given_spelled
+
+      after_spelled : List Piece
+      after_spelled = word (codes "wire") ∷ range_spelled (high_of a.width) (word sum_wire ∷ semicolon ∷ sum_spelled)
+
+      after_read : tokens after ≡ after_spelled
+      after_read = wire_read a.width (sum_text left_name right_name ++ given_text a.output) h.width
+          ∙ ap (λ ts. word (codes "wire") ∷ range_spelled (high_of a.width) (word sum_wire ∷ semicolon ∷ ts))
+          (sum_read left_name right_name (given_text a.output) h.left h.right
           ∙ ap (λ ts. word (codes "assign") ∷ word sum_wire ∷ operator (61 ∷ []) ∷ word left_name ∷ operator (43 ∷ []) ∷ word right_name ∷ semicolon ∷ ts) (given_read a.output h.output))

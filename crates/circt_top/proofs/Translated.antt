@@ -81,8 +81,15 @@ module _ (s : Source) (w : ℕ) (width : IsTrue (has_width w s)) (values : IsTru
 
   named : decimal_number s.output_digits ≡ w → IsNamed adder
   named wide = let small : decimal_number s.output_digits < 2 ^ 64 = omega (arith, high) in record {
-    symbol = symbol_plain; output = output_plain; inputs = inputs_plain; distinct = inputs_distinct; apart = output_apart;
-    left = name_found s.left left_in; right = name_found s.right right_in; small = small }
+    symbol = symbol_plain;
+    output = output_plain;
+    inputs = inputs_plain;
+    distinct = inputs_distinct;
+    apart = output_apart;
+    left = name_found s.left left_in;
+    right = name_found s.right right_in;
+    small = small;
+  }
 
   is_adder : decimal_number s.output_digits ≡ w → IsAdder adder
   is_adder wide = record {
@@ -93,7 +100,8 @@ module _ (s : Source) (w : ℕ) (width : IsTrue (has_width w s)) (values : IsTru
     left = place_below (input_names s) s.left left_in;
     right = place_below (input_names s) s.right right_in;
     low = omega (arith, low);
-    small = omega (arith, high) }
+    small = omega (arith, high);
+  }
 
   has_words : decimal_number s.output_digits ≡ w → HasWords adder
   has_words wide = record {
@@ -102,12 +110,13 @@ module _ (s : Source) (w : ℕ) (width : IsTrue (has_width w s)) (values : IsTru
     output = plain_is_word s.output output_plain;
     left = plain_is_word (input_name adder adder.left) (plain_at (input_names s) adder.left (input_name adder adder.left) inputs_plain (name_found s.left left_in));
     right = plain_is_word (input_name adder adder.right) (plain_at (input_names s) adder.right (input_name adder adder.right) inputs_plain (name_found s.right right_in));
-    width = omega (arith, high) }
+    width = omega (arith, high);
+  }
 
 -- ---- the ports that both show
 
 shown_ports : (w : ℕ) (ns : List Name) (out : Name) → range_width (high_of w) ≡ w →
-  map shown_port (map (vport false w) ns ++ vport true w out ∷ []) ≡ map shown_of (map (input_port w) ns ++ output_port w out ∷ [])
+    map shown_port (map (vport false w) ns ++ vport true w out ∷ []) ≡ map shown_of (map (input_port w) ns ++ output_port w out ∷ [])
 shown_ports w [] out e = ap (λ k. record { is_output = true; name = out; width = k } ∷ []) e
 shown_ports w (n ∷ ns) out e = ap₂ (λ k rest. record { is_output = false; name = n; width = k } ∷ rest) e (shown_ports w ns out e)
 
@@ -115,20 +124,25 @@ adder_behaves : (a : Adder) → HasWords a → IsNamed a → IsAdder a → Behav
 adder_behaves a words names adder = record {
   tree = tree_of a;
   is_verilog = record { spelled = printed a words; fits = adder_fits a names; checks = adder_checks a names };
-  partners = (record {
-    partner = vmodule_of a;
-    found = vmodule_found a;
-    ports_are = shown_ports a.width a.inputs a.output (range_width-high_of a.width adder.low adder.small);
-    same = adder_same a adder }, tt) }
+  partners = (
+    record {
+      partner = vmodule_of a;
+      found = vmodule_found a;
+      ports_are = shown_ports a.width a.inputs a.output (range_width-high_of a.width adder.low adder.small);
+      same = adder_same a adder;
+    },
+    tt,
+  );
+}
 
 pub form_behaves : (bytes : List ℕ) (a : Adder) → IsForm bytes a → Behaves (verilog_text a) (design_of a) name_kept ports_kept
 form_behaves bytes a form =
-  subst (λ (b : Adder). Behaves (verilog_text b) (design_of b) name_kept ports_kept) (sym form.says)
+    subst (λ (b : Adder). Behaves (verilog_text b) (design_of b) name_kept ports_kept) (sym form.says)
     (let wide : decimal_number form.source.output_digits ≡ a.width = sym (ap (λ (b : Adder). b.width) form.says) in
-      adder_behaves (adder_of form.source)
-        (has_words form.source a.width form.width form.values form.names wide)
-        (named form.source a.width form.width form.values form.names wide)
-        (is_adder form.source a.width form.width form.values form.names wide))
+    adder_behaves (adder_of form.source)
+    (has_words form.source a.width form.width form.values form.names wide)
+    (named form.source a.width form.width form.values form.names wide)
+    (is_adder form.source a.width form.width form.values form.names wide))
 
 -- the theorem: the text printed for an adder that the bytes say behaves as their design
 pub translated : (bytes : List ℕ) (a : Adder) → IsForm bytes a → IsTranslation bytes (verilog_text a)
@@ -136,4 +150,5 @@ translated bytes a form = record {
   design = design_of a;
   accepted = record { adder = a; form = form; design = refl };
   behaves = form_behaves bytes a form;
-  laid_out = refl }
+  laid_out = refl;
+}

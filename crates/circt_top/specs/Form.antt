@@ -55,7 +55,7 @@ output_spelled s rest = word (codes "out") ∷ word s.output ∷ mark 58 ∷ typ
 -- `%r = comb.add %a, %b : iW`
 abbrev pub sum_spelled : Source → List Token → List Token
 sum_spelled s rest =
-  value s.sum ∷ mark 61 ∷ word (codes "comb.add") ∷ value s.left ∷ mark 44 ∷ value s.right ∷ mark 58 ∷ type_token s.sum_digits ∷ rest
+    value s.sum ∷ mark 61 ∷ word (codes "comb.add") ∷ value s.left ∷ mark 44 ∷ value s.right ∷ mark 58 ∷ type_token s.sum_digits ∷ rest
 
 -- `hw.output %r : iW }`
 abbrev pub given_spelled : Source → List Token
@@ -63,7 +63,7 @@ given_spelled s = word (codes "hw.output") ∷ value s.given ∷ mark 58 ∷ typ
 
 abbrev pub source_spelled : Source → List Token
 source_spelled s =
-  word (codes "hw.module") ∷ symbol s.symbol ∷ mark 40 ∷ inputs_spelled (inputs_of s) (output_spelled s (sum_spelled s (given_spelled s)))
+    word (codes "hw.module") ∷ symbol s.symbol ∷ mark 40 ∷ inputs_spelled (inputs_of s) (output_spelled s (sum_spelled s (given_spelled s)))
 
 -- ---- the conditions
 
@@ -78,7 +78,7 @@ is_suffix (b ∷ bs) = cond (is_digit b) (all_bytes is_digit bs) true
 -- letters, digits and `_`, no digit first, not reserved in Verilog, not `_GEN`
 abbrev pub is_plain : Name → Bool
 is_plain n =
-  (starts_name n && all_bytes (λ b. is_name_start b || is_digit b) n) && (not (contains_name n reserved_words) && not (same_name n (codes "_GEN")))
+    (starts_name n && all_bytes (λ b. is_name_start b || is_digit b) n) && (not (contains_name n reserved_words) && not (same_name n (codes "_GEN")))
 
 abbrev pub all_plain : List Name → Bool
 all_plain [] = true
@@ -95,12 +95,12 @@ inputs_write w (i ∷ is) = writes w i.digits && inputs_write w is
 -- one width from 1 to 128 everywhere
 abbrev pub has_width : ℕ → Source → Bool
 has_width w s =
-  (nat_le 1 w && nat_le w 128) && (inputs_write w (inputs_of s) && (writes w s.output_digits && (writes w s.sum_digits && writes w s.given_digits)))
+    (nat_le 1 w && nat_le w 128) && (inputs_write w (inputs_of s) && (writes w s.output_digits && (writes w s.sum_digits && writes w s.given_digits)))
 
 -- no value name is defined twice, each operand is an input, the output is the sum
 abbrev pub has_values : Source → Bool
 has_values s =
-  (is_suffix s.sum && are_distinct (s.sum ∷ input_names s))
+    (is_suffix s.sum && are_distinct (s.sum ∷ input_names s))
     && (contains_name s.left (input_names s) && (contains_name s.right (input_names s) && same_name s.given s.sum))
 
 -- plain names, no two ports of one name
@@ -130,7 +130,8 @@ adder_of s = record {
   output = s.output;
   left = place_of (input_names s) s.left;
   right = place_of (input_names s) s.right;
-  width = decimal_number s.output_digits }
+  width = decimal_number s.output_digits;
+}
 
 -- the bytes are a text of the first form that says this adder
 pub record IsForm (bytes : List ℕ) (a : Adder) : Type 0 where
@@ -156,22 +157,35 @@ add_op a = record {
   operands = port a.left ∷ port a.right ∷ [];
   types = int a.width ∷ [];
   results = record { type = int a.width; again = false } ∷ [];
-  named = 1; name = []; dictionary = []; bin = false; place = nowhere_place }
+  named = 1;
+  name = [];
+  dictionary = [];
+  bin = false;
+  place = nowhere_place;
+}
 
 abbrev pub output_op : Adder → Op
 output_op a = record {
   kind = output;
   operands = result 0 0 ∷ [];
   types = int a.width ∷ [];
-  results = []; named = 0; name = []; dictionary = []; bin = false; place = nowhere_place }
+  results = [];
+  named = 0;
+  name = [];
+  dictionary = [];
+  bin = false;
+  place = nowhere_place;
+}
 
 abbrev pub module_of : Adder → Module
 module_of a = record {
-  symbol = a.symbol; is_private = false;
+  symbol = a.symbol;
+  is_private = false;
   ports = map (input_port a.width) a.inputs ++ output_port a.width a.output ∷ [];
   dictionary = [];
   body = add_op a ∷ output_op a ∷ [];
-  place = nowhere_place }
+  place = nowhere_place;
+}
 
 abbrev pub design_of : Adder → Design
 design_of a = module_of a ∷ []

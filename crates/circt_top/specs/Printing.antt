@@ -32,10 +32,11 @@ vmodule_of a = record {
   name = a.symbol;
   ports = map (vport false a.width) a.inputs ++ vport true a.width a.output ∷ [];
   items =
-    wire (high_of a.width) sum_wire
-    ∷ assign sum_wire (binary plus (name (input_name a a.left)) (name (input_name a a.right)))
-    ∷ assign a.output (name sum_wire)
-    ∷ [] }
+      wire (high_of a.width) sum_wire
+      ∷ assign sum_wire (binary plus (name (input_name a a.left)) (name (input_name a a.right)))
+      ∷ assign a.output (name sum_wire)
+      ∷ [];
+}
 
 abbrev pub tree_of : Adder → Tree
 tree_of a = vmodule_of a ∷ []
@@ -75,5 +76,5 @@ given_text n = codes "  assign " ++ (n ++ (codes " = _GEN;" ++ (10 ∷ (codes "e
 -- the text of the adder's module
 unfoldable pub verilog_text : Adder → List ℕ
 verilog_text a =
-  header_text a.symbol ++ (inputs_text a.width a.inputs ++ (output_text a.width a.output ++ (wire_text a.width
+    header_text a.symbol ++ (inputs_text a.width a.inputs ++ (output_text a.width a.output ++ (wire_text a.width
     ++ (sum_text (input_name a a.left) (input_name a a.right) ++ given_text a.output))))

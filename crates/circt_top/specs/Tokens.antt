@@ -64,10 +64,10 @@ begins_with_slash (b ∷ bs) = b == 47
 -- what a byte begins, in front of the bytes behind it
 abbrev pub begun : ℕ → List ℕ → Mode
 begun b bs =
-  cond (is_word_byte b) (run no_lead (b ∷ []))
+    cond (is_word_byte b) (run no_lead (b ∷ []))
     (cond (b == 37) (run percent [])
-      (cond (b == 64) (run at_sign [])
-        (cond (b == 47 && begins_with_slash bs) comment between)))
+    (cond (b == 64) (run at_sign [])
+    (cond (b == 47 && begins_with_slash bs) comment between)))
 
 -- a mark is a token by itself
 abbrev pub marked : Mode → ℕ → List Token → List Token
@@ -78,7 +78,7 @@ marked _ b rest = rest
 abbrev pub tokens_from : Mode → List ℕ → List Token
 tokens_from mode [] = closed mode []
 tokens_from mode (b ∷ bs) =
-  cond (goes_on mode b) (tokens_from (grown mode b) bs) (closed mode (marked (begun b bs) b (tokens_from (begun b bs) bs)))
+    cond (goes_on mode b) (tokens_from (grown mode b) bs) (closed mode (marked (begun b bs) b (tokens_from (begun b bs) bs)))
 
 abbrev pub tokens : List ℕ → List Token
 tokens bytes = tokens_from between bytes

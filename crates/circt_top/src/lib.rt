@@ -6,7 +6,7 @@
 pub mod report;
 pub mod run;
 pub mod status;
-mod translation;
-mod words;
 #[cfg(test)]
 mod tests;
+mod translation;
+mod words;

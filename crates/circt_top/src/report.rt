@@ -3,7 +3,7 @@ ghost use Rattle.std.specs.Prelude.{◌≡◌};
 ghost use Rattle.circt_top.specs.Answer.{line_of, Reports};
 
 use crate::status::Status;
-use io_edge::sinks::{put_all, Sink};
+use io_edge::sinks::{Sink, put_all};
 
 /// Sends the line on what is wrong, if anything is. A fault of the sink is let go.
 pub fn report<E: Sink>(err: &mut E, status: &Status)

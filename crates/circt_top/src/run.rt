@@ -13,7 +13,7 @@ use crate::status::{Cause, OpName, Place, Refusal, Status, UsageKind};
 use crate::translation::translate;
 use crate::words::is_translate;
 use io_edge::file_access::{FileFail, Files};
-use io_edge::sinks::{put_all, Sink};
+use io_edge::sinks::{Sink, put_all};
 use std::alloc::Global;
 use std::thread::Threads;
 
@@ -42,16 +42,12 @@ pub fn run_circt<R: Threads + Sync, F: Files, O: Sink, E: Sink>(
     ensures front { OnWriteFault result (PrintsFront O.puts O.told out.old out.new (told_input (F.files files.old))) }
     ensures files { F.files files.new ≡ F.files files.old }
     ensures writes { F.write_faults files.new ≡ F.write_faults files.old }
-    ensures complete {
-      is_command (map string_bytes words.now) ≡ true → (bytes : List ℕ) → told_input (F.files files.old) ≡ Some bytes → (d : Design) → Accepted bytes d
+    ensures complete { is_command (map string_bytes words.now) ≡ true → (bytes : List ℕ) → told_input (F.files files.old) ≡ Some bytes → (d : Design) → Accepted bytes d
         → ¬ HasRisen (F.read_faults files.old standard_input) (F.read_faults files.new standard_input) → ¬ HasRisen (O.faults out.old) (O.faults out.new)
-        → IsDoneOrNoMemory result
-    }
-    ensures refusing {
-      is_command (map string_bytes words.now) ≡ true → (bytes : List ℕ) → told_input (F.files files.old) ≡ Some bytes → IsOutside bytes
+        → IsDoneOrNoMemory result }
+    ensures refusing { is_command (map string_bytes words.now) ≡ true → (bytes : List ℕ) → told_input (F.files files.old) ≡ Some bytes → IsOutside bytes
         → ¬ HasRisen (F.read_faults files.old standard_input) (F.read_faults files.new standard_input)
-        → IsRefusedOrNoMemory result
-    }
+        → IsRefusedOrNoMemory result }
     ensures report { Reports E.told E.faults err.old err.new (line_of result) }
 {
     let _ = rt;
@@ -61,12 +57,7 @@ pub fn run_circt<R: Threads + Sync, F: Files, O: Sink, E: Sink>(
 }
 
 // The run but for the line on `err`.
-fn answer<F: Files, O: Sink>(
-    alloc: Global,
-    words: &[String],
-    files: &mut F,
-    out: &mut O,
-) -> Status
+fn answer<F: Files, O: Sink>(alloc: Global, words: &[String], files: &mut F, out: &mut O) -> Status
     ensures usage { usage_of result ≡ fault_of (map string_bytes words.now) }
     ensures refused { Refuses result (told_input (F.files files.old)) }
     ensures read_fault { OnReadFault result (HasRisen (F.read_faults files.old standard_input) (F.read_faults files.new standard_input)) }

@@ -48,7 +48,15 @@ fn runs_end_as_they_should(rt: HostRuntime) -> Result<(), Fail> {
         (COMMAND, "", false, false, 1, "", REFUSED),
         ("", ADDER, false, false, 2, "", USAGE),
         ("translate", ADDER, false, false, 2, "", USAGE),
-        ("--export-verilog translate", ADDER, false, false, 2, "", USAGE),
+        (
+            "--export-verilog translate",
+            ADDER,
+            false,
+            false,
+            2,
+            "",
+            USAGE,
+        ),
         (COMMAND, ADDER, true, false, 5, "", UNREAD),
         (COMMAND, ADDER, false, true, 6, "", UNWRITTEN),
     ] {
@@ -58,7 +66,14 @@ fn runs_end_as_they_should(rt: HostRuntime) -> Result<(), Fail> {
         let failing = vec![in alloc; 0; usize::from(put_fails)]?;
         let mut sink = MemorySink::new(alloc, 4096)?.failing_at(failing);
         let mut errors = MemorySink::new(alloc, 4096)?;
-        let status = run_circt(&rt, alloc, words.as_slice(), &mut files, &mut sink, &mut errors);
+        let status = run_circt(
+            &rt,
+            alloc,
+            words.as_slice(),
+            &mut files,
+            &mut sink,
+            &mut errors,
+        );
         assert_eq!(rt; status.code(), code, "of {input}");
         assert_eq!(rt; sink.held(), out.as_bytes(), "of {input}");
         assert_eq!(rt; errors.held(), err.as_bytes(), "of {input}");
@@ -95,7 +110,14 @@ fn a_text_that_is_too_long_is_refused(rt: HostRuntime) -> Result<(), Fail> {
     let mut files = input_of(alloc, text.as_str(), false)?;
     let mut sink = MemorySink::new(alloc, 4096)?;
     let mut errors = MemorySink::new(alloc, 4096)?;
-    let status = run_circt(&rt, alloc, words.as_slice(), &mut files, &mut sink, &mut errors);
+    let status = run_circt(
+        &rt,
+        alloc,
+        words.as_slice(),
+        &mut files,
+        &mut sink,
+        &mut errors,
+    );
     assert!(rt; matches!(status, Status::Refused(_)));
     assert_eq!(rt; sink.held(), b"".as_slice());
     Ok(())

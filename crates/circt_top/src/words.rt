@@ -7,7 +7,8 @@ pub fn is_translate(words: &[String]) -> bool
     ensures { result ≡ is_command (map string_bytes words.now) }
 {
     match words {
-        [command, option] => command.as_bytes() == b"translate".as_slice() && option.as_bytes() == b"--export-verilog".as_slice(),
+        [command, option] => command.as_bytes() == b"translate".as_slice()
+            && option.as_bytes() == b"--export-verilog".as_slice(),
         _ => false,
     }
 }

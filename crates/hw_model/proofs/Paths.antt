@@ -51,9 +51,9 @@ output_of (Some m) k = refl
 -- where result k of an operation at position j of a body at the end of a path comes from
 abbrev pub op_in : Design → Name → Path → List Op → ℕ → ℕ → Op → Source
 op_in d top p os j k o =
-  cond (is_register o) (held_of (base d top p + body_state (state d) (take j os)) (result_type o k))
+    cond (is_register o) (held_of (base d top p + body_state (state d) (take j os)) (result_type o k))
     (cond (is_instance o) (copy_of (length (instances (take j os)) ∷ p) (given_ref d k o))
-      (cond (is_output_op o) nowhere (made_of p o k (result_type o k))))
+    (cond (is_output_op o) nowhere (made_of p o k (result_type o k))))
 
 abbrev pub result_in : Design → Name → Path → List Op → ℕ → ℕ → Option Op → Source
 result_in d top p os j k None = nowhere
@@ -72,4 +72,3 @@ result_body d top p j k (Some m) = go (slice_get m.body j)
 pub result_here : (d : Design) (top : Name) (p : Path) (j k : ℕ)
     → source d top (net p (result j k)) ≡ result_in d top p (body_of (module_at d top p)) j k (slice_get (body_of (module_at d top p)) j)
 result_here d top p j k = result_body d top p j k (module_at d top p)
-
