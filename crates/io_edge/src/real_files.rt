@@ -1,5 +1,6 @@
 //! The system's files and standard input.
 ghost use Rattle.std.specs.Prelude.{◌≡◌, ◌≤◌, ◌<◌, length, None, IfOk, false};
+ghost use Rattle.io_edge.specs.Bytes.{Loses};
 ghost use Rattle.io_edge.specs.Source.{IsFront, Moves};
 ghost use Rattle.io_edge.specs.Faults.{HasRisen};
 ghost use Rattle.io_edge.specs.Reading.{HasFileCause};
@@ -76,6 +77,7 @@ fn read_text<S: Read>(
     faults: &mut u64,
 ) -> Result<Text, FileFail>
     ensures text { IfOk result (IsFront (S.remaining source.old) limit) }
+    ensures no_further { IfOk result (Loses (S.remaining source.old) (S.remaining source.new)) }
     ensures within { IfOk result (λ text. length text ≤ limit) }
     ensures cause { HasFileCause faults.old faults.new result }
 {
