@@ -1,6 +1,8 @@
 //! The system's files and standard input.
-ghost use Rattle.std.specs.Prelude.{◌≡◌, ◌≤◌, ◌<◌, length, None, IfOk};
+ghost use Rattle.std.specs.Prelude.{◌≡◌, ◌≤◌, ◌<◌, length, None, IfOk, false};
+ghost use Rattle.io_edge.specs.Bytes.{Loses};
 ghost use Rattle.io_edge.specs.Source.{IsFront, Moves};
+ghost use Rattle.io_edge.specs.Faults.{HasRisen};
 ghost use Rattle.io_edge.specs.Reading.{HasFileCause};
 
 use crate::byte_text::Text;
@@ -75,6 +77,7 @@ fn read_text<S: Read>(
     faults: &mut u64,
 ) -> Result<Text, FileFail>
     ensures text { IfOk result (IsFront (S.remaining source.old) limit) }
+    ensures no_further { IfOk result (Loses (S.remaining source.old) (S.remaining source.new)) }
     ensures within { IfOk result (λ text. length text ≤ limit) }
     ensures cause { HasFileCause faults.old faults.new result }
 {
@@ -106,6 +109,7 @@ fn read_some<S: Read>(
 ) -> Result<bool, FileFail>
     requires { 0 < length window.old }
     ensures ok { IfOk result (Moves (S.remaining source.old) (S.remaining source.new) text.old text.new (length window.old)) }
+    ensures nothing { IfOk result (λ ended. ended ≡ false → text.new ≡ text.old → HasRisen faults.old faults.new) }
     ensures cause { HasFileCause faults.old faults.new result }
 {
     match source.read(window) {
