@@ -10,7 +10,7 @@ use Rattle.hw_model.specs.Flat.{Path, Net, net, module_at, state}
 use Rattle.hw_model.specs.Machine.{Same}
 use Rattle.hw_model.specs.Meaning.{needs, value, Settled, HasHeights, machine}
 use Rattle.hw_model.specs.Sound.{body_of, ports_of, Sound}
-use Rattle.hw_model.proofs.Machines.{AlwaysSettles, Carries, same_back, same_self, same_then}
+use Rattle.hw_model.proofs.Machines.{AlwaysSettles, same_back, same_self, same_then}
 use Rattle.hw_model.proofs.NetWidths.{net_widths}
 use Rattle.hw_edits.specs.Edit.{retarget, Edit, EditedModule, Holds}
 use Rattle.hw_edits.specs.Falls.{LocalHeight, Falls}
