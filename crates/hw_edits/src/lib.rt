@@ -6,5 +6,9 @@
 //! instances. Four edits are there to be used (`specs/Laws.antt`): an operation is changed in place, taken out with a
 //! value in the place of its result, put in, or taken out where nothing names it.
 #![tactic(auto)]
+
 mod laws;
-pub use laws::{edits_follow, following_composes, in_follows, out_follows, place_follows, unused_follows};
+
+pub use laws::{
+    edits_follow, following_composes, in_follows, out_follows, place_follows, unused_follows,
+};
