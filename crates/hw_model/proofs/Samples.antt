@@ -1,18 +1,18 @@
 -- Small designs, and what every run of them gives.
-use Rattle.std.proofs.Common.{◌≡◌, ℕ, true, false, ◌-◌, ◌^◌, ℤ, pos, negsuc, List, [], ◌∷◌, ◌++◌, map, length, None, refl}
+use Rattle.std.proofs.Common.{◌≡◌, ℕ, true, false, ◌-◌, ◌^◌, pos, negsuc, List, [], ◌∷◌, ◌++◌, map, length, None, refl}
 use Rattle.std.specs.Prelude.{codes}
-use Rattle.bits_core.specs.Word.{Word, bits, flag}
+use Rattle.bits_core.specs.Word.{Word, bits}
 use Rattle.hw_model.specs.Types.{Name, HwType}
 use Rattle.hw_model.specs.Types.HwType.{int, clock, array, struct}
 use Rattle.hw_model.specs.Types.FieldTypes.{no_fields, field}
-use Rattle.hw_model.specs.Kinds.{Kind, Instance}
+use Rattle.hw_model.specs.Kinds.{Kind}
 use Rattle.hw_model.specs.Kinds.Reset.{sync_reset}
 use Rattle.hw_model.specs.Kinds.Kind.{add, xor, divs, shl, shru, shrs, constant, array_get, bitcast, instance, output, compreg_ce}
-use Rattle.hw_model.specs.Design.{Ref, Port, OpResult, Op, Module, Design, nowhere_place}
+use Rattle.hw_model.specs.Design.{Ref, Port, Op, Module, Design, nowhere_place}
 use Rattle.hw_model.specs.Design.Ref.{port, result}
 use Rattle.hw_model.specs.Machine.{Run}
 use Rattle.hw_model.specs.Meaning.{machine}
-use Rattle.hw_model.proofs.Evaluation.{shallow, run_of, run_value}
+use Rattle.hw_model.proofs.Evaluation.{run_value}
 
 abbrev operation : Kind → List Ref → List HwType → List HwType → Op
 operation kind operands types results = record {
@@ -24,7 +24,8 @@ operation kind operands types results = record {
   name = [];
   dictionary = [];
   bin = false;
-  place = nowhere_place }
+  place = nowhere_place;
+}
 
 abbrev in_port : Name → HwType → Port
 in_port name t = record { name = name; is_output = false; type = t; again = false }
@@ -55,12 +56,12 @@ nine = operation (constant (pos 9)) [] (int 8 ∷ []) (int 8 ∷ [])
 
 abbrev register_module : Module
 register_module =
-  module_of (codes "Reg") (register_ports ++ out_port (codes "q") (int 8) ∷ [])
+    module_of (codes "Reg") (register_ports ++ out_port (codes "q") (int 8) ∷ [])
     (nine ∷ register_of (port 3) (result 0 0) ∷ operation output (result 1 0 ∷ []) (int 8 ∷ []) [] ∷ [])
 
 abbrev instance_of : Name → List Ref → Op
 instance_of name operands =
-  operation (instance (record { name = name; inner_symbol = None; symbol = codes "Reg"; inputs = codes "clk" ∷ codes "rst" ∷ codes "en" ∷ codes "d" ∷ []; outputs = codes "q" ∷ [] }))
+    operation (instance (record { name = name; inner_symbol = None; symbol = codes "Reg"; inputs = codes "clk" ∷ codes "rst" ∷ codes "en" ∷ codes "d" ∷ []; outputs = codes "q" ∷ [] }))
     operands (clock ∷ int 1 ∷ int 1 ∷ int 8 ∷ int 8 ∷ []) (int 8 ∷ [])
 
 abbrev two_ports : List Port
@@ -68,7 +69,7 @@ two_ports = register_ports ++ out_port (codes "a") (int 8) ∷ out_port (codes "
 
 abbrev two_registers : Design
 two_registers =
-  register_module ∷ module_of (codes "Two") two_ports
+    register_module ∷ module_of (codes "Two") two_ports
     (instance_of (codes "u1") (port 0 ∷ port 1 ∷ port 2 ∷ port 3 ∷ [])
     ∷ instance_of (codes "u2") (port 0 ∷ port 1 ∷ port 2 ∷ result 0 0 ∷ [])
     ∷ operation output (result 0 0 ∷ result 1 0 ∷ []) (int 8 ∷ int 8 ∷ []) [] ∷ []) ∷ []
@@ -76,7 +77,7 @@ two_registers =
 -- the same with the instances' bodies in their places
 abbrev flattened : Design
 flattened =
-  module_of (codes "Two") two_ports
+    module_of (codes "Two") two_ports
     (nine ∷ register_of (port 3) (result 0 0) ∷ nine ∷ register_of (result 1 0) (result 2 0)
     ∷ operation output (result 1 0 ∷ result 3 0 ∷ []) (int 8 ∷ int 8 ∷ []) [] ∷ []) ∷ []
 
@@ -105,11 +106,11 @@ pair = struct (field (codes "p") (int 8) (field (codes "q") (int 8) no_fields))
 
 abbrev bitcasts : Design
 bitcasts = only_module (in_port (codes "x") (int 16) ∷ out_port (codes "h") (int 8) ∷ out_port (codes "s") pair ∷ [])
-  (operation (constant (negsuc 0)) [] (int 1 ∷ []) (int 1 ∷ [])
-  ∷ operation bitcast (port 0 ∷ []) (int 16 ∷ array 2 (int 8) ∷ []) (array 2 (int 8) ∷ [])
-  ∷ operation array_get (result 1 0 ∷ result 0 0 ∷ []) (array 2 (int 8) ∷ int 1 ∷ []) (int 8 ∷ [])
-  ∷ operation bitcast (port 0 ∷ []) (int 16 ∷ pair ∷ []) (pair ∷ [])
-  ∷ operation output (result 2 0 ∷ result 3 0 ∷ []) (int 8 ∷ pair ∷ []) [] ∷ [])
+    (operation (constant (negsuc 0)) [] (int 1 ∷ []) (int 1 ∷ [])
+    ∷ operation bitcast (port 0 ∷ []) (int 16 ∷ array 2 (int 8) ∷ []) (array 2 (int 8) ∷ [])
+    ∷ operation array_get (result 1 0 ∷ result 0 0 ∷ []) (array 2 (int 8) ∷ int 1 ∷ []) (int 8 ∷ [])
+    ∷ operation bitcast (port 0 ∷ []) (int 16 ∷ pair ∷ []) (pair ∷ [])
+    ∷ operation output (result 2 0 ∷ result 3 0 ∷ []) (int 8 ∷ pair ∷ []) [] ∷ [])
 
 bitcast_run : (outs : List Word) → Run (machine bitcasts (codes "M")) [] (bits 16 0xabcd ∷ []) outs → outs ≡ (byte 0xab ++ byte 0xab ++ byte 0xcd) ∷ []
 bitcast_run outs run = run_value bitcasts (codes "M") 5 refl [] (bits 16 0xabcd ∷ []) outs run
@@ -118,7 +119,7 @@ bitcast_run outs run = run_value bitcasts (codes "M") 5 refl [] (bits 16 0xabcd 
 
 abbrev pick : Design
 pick = only_module (in_port (codes "a") (array 3 (int 8)) ∷ in_port (codes "i") (int 2) ∷ out_port (codes "c") (int 8) ∷ [])
-  (operation array_get (port 0 ∷ port 1 ∷ []) (array 3 (int 8) ∷ int 2 ∷ []) (int 8 ∷ []) ∷ operation output (result 0 0 ∷ []) (int 8 ∷ []) [] ∷ [])
+    (operation array_get (port 0 ∷ port 1 ∷ []) (array 3 (int 8) ∷ int 2 ∷ []) (int 8 ∷ []) ∷ operation output (result 0 0 ∷ []) (int 8 ∷ []) [] ∷ [])
 
 abbrev elements : Word
 elements = byte 0x30 ++ byte 0x20 ++ byte 0x10
@@ -134,8 +135,8 @@ bytes = int 8 ∷ []
 
 abbrev signed_division : Design
 signed_division = only_module (in_port (codes "a") (int 8) ∷ in_port (codes "b") (int 8) ∷ out_port (codes "c") (int 8) ∷ [])
-  (operation (constant (negsuc 2)) [] bytes bytes ∷ operation divs (port 0 ∷ result 0 0 ∷ []) bytes bytes
-  ∷ operation shru (result 1 0 ∷ port 1 ∷ []) bytes bytes ∷ operation output (result 2 0 ∷ []) bytes [] ∷ [])
+    (operation (constant (negsuc 2)) [] bytes bytes ∷ operation divs (port 0 ∷ result 0 0 ∷ []) bytes bytes
+    ∷ operation shru (result 1 0 ∷ port 1 ∷ []) bytes bytes ∷ operation output (result 2 0 ∷ []) bytes [] ∷ [])
 
 signed_division_run : (outs : List Word) → Run (machine signed_division (codes "M")) [] ((byte 7 ++ byte 1) ∷ []) outs → outs ≡ byte 0x7f ∷ []
 signed_division_run outs run = run_value signed_division (codes "M") 5 refl [] ((byte 7 ++ byte 1) ∷ []) outs run
@@ -144,7 +145,7 @@ signed_division_run outs run = run_value signed_division (codes "M") 5 refl [] (
 
 abbrev arithmetic_shift : Design
 arithmetic_shift = only_module (in_port (codes "a") (int 8) ∷ in_port (codes "b") (int 8) ∷ in_port (codes "c") (int 8) ∷ out_port (codes "o") (int 8) ∷ [])
-  (operation shrs (port 0 ∷ port 1 ∷ []) bytes bytes ∷ operation xor (result 0 0 ∷ port 2 ∷ []) bytes bytes ∷ operation output (result 1 0 ∷ []) bytes [] ∷ [])
+    (operation shrs (port 0 ∷ port 1 ∷ []) bytes bytes ∷ operation xor (result 0 0 ∷ port 2 ∷ []) bytes bytes ∷ operation output (result 1 0 ∷ []) bytes [] ∷ [])
 
 arithmetic_shift_run : (outs : List Word) → Run (machine arithmetic_shift (codes "M")) [] ((byte 0x80 ++ byte 1 ++ byte 0) ∷ []) outs → outs ≡ byte 0xc0 ∷ []
 arithmetic_shift_run outs run = run_value arithmetic_shift (codes "M") 5 refl [] ((byte 0x80 ++ byte 1 ++ byte 0) ∷ []) outs run
@@ -153,8 +154,8 @@ arithmetic_shift_run outs run = run_value arithmetic_shift (codes "M") 5 refl []
 
 abbrev widest : Design
 widest = only_module (in_port (codes "a") (int 128) ∷ in_port (codes "b") (int 128) ∷ out_port (codes "s") (int 128) ∷ out_port (codes "t") (int 128) ∷ [])
-  (operation add (port 0 ∷ port 1 ∷ []) (int 128 ∷ []) (int 128 ∷ []) ∷ operation (constant (pos 200)) [] (int 128 ∷ []) (int 128 ∷ [])
-  ∷ operation shl (port 0 ∷ result 1 0 ∷ []) (int 128 ∷ []) (int 128 ∷ []) ∷ operation output (result 0 0 ∷ result 2 0 ∷ []) (int 128 ∷ int 128 ∷ []) [] ∷ [])
+    (operation add (port 0 ∷ port 1 ∷ []) (int 128 ∷ []) (int 128 ∷ []) ∷ operation (constant (pos 200)) [] (int 128 ∷ []) (int 128 ∷ [])
+    ∷ operation shl (port 0 ∷ result 1 0 ∷ []) (int 128 ∷ []) (int 128 ∷ []) ∷ operation output (result 0 0 ∷ result 2 0 ∷ []) (int 128 ∷ int 128 ∷ []) [] ∷ [])
 
 widest_run : (outs : List Word) → Run (machine widest (codes "M")) [] ((bits 128 (2 ^ 128 - 1) ++ bits 128 1) ∷ []) outs → outs ≡ (bits 128 0 ++ bits 128 0) ∷ []
 widest_run outs run = run_value widest (codes "M") 5 refl [] ((bits 128 (2 ^ 128 - 1) ++ bits 128 1) ∷ []) outs run

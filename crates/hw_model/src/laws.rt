@@ -52,5 +52,5 @@ pub fn same_behaviour()
         → Carries (machine d a) (machine e b) to → Same (machine d a) (machine e b) }
     ensures runs_once { (d : Design) (top : Name) → HasHeights d top → (content : Word) (steps : List Word)
         → (outputs : List Word) × Run (machine d top) content steps outputs
-          × ((others : List Word) → Run (machine d top) content steps others → others ≡ outputs) }
+        × ((others : List Word) → Run (machine d top) content steps others → others ≡ outputs) }
 {}

@@ -4,5 +4,7 @@
 //! and where its nets' values come from, machines, steps and runs, weights, and sound designs. The laws on them are the
 //! clauses of the functions below, which do nothing.
 #![tactic(auto)]
+
 mod laws;
+
 pub use laws::{heights_are_acyclic, one_map_settles, same_behaviour, widths_fit_types};
