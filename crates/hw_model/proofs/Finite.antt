@@ -1,10 +1,10 @@
 -- Where no module is within itself, the nets that need others stand in a list.
 use Rattle.std.proofs.Common.{◌≡◌, ◌⊎◌, ℕ, zero, suc, ◌+◌, ◌<◌, ◌≤◌, Bool, true, false, cond, List, [], ◌∷◌, ◌++◌, length, map, take, flat_map, slice_get, is_some, Option, Some, None, refl, sym, ap, subst, ◌∙◌, inl, inr, arith}
 use Rattle.std.proofs.lemmas.List.{length-map}
-use Rattle.std.proofs.lemmas.Option.{slice_get-map, slice_get_within}
+use Rattle.std.proofs.lemmas.Option.{slice_get_within}
 use Rattle.std.specs.Cmp.Lexicographic.{same_text}
-use Rattle.wiring.specs.Options.{bind, omap}
-use Rattle.wiring.specs.Wiring.{In, Chain, IsAcyclic, IsWithin}
+use Rattle.wiring.specs.Options.{bind}
+use Rattle.wiring.specs.Wiring.{In, Chain, IsWithin}
 use Rattle.wiring.proofs.Options.{bind_some, omap_some}
 use Rattle.wiring.proofs.Members.{In-append_left, In-append_right, In-map, In-flat_map}
 use Rattle.wiring.proofs.Chains.{Chain-append, Chain-le}
@@ -14,15 +14,15 @@ use Rattle.hw_model.specs.Types.{Name, HwType, width}
 use Rattle.hw_model.specs.Kinds.{Instance}
 use Rattle.hw_model.specs.Design.{Ref, Port, OpResult, Op, Module, Design, same_name, find_module, instance_in, register_form, result_type, output_refs, callee}
 use Rattle.hw_model.specs.Design.Ref.{port, result, undefined}
-use Rattle.hw_model.specs.Flat.{Path, Net, net, Source, instances, module_at, base, body_state, state, input_width, port_ref, operand_for, input_count, input_of, input_source, copy_of, joined_ref, joined_at, given_ref, held_of, made_of, source}
-use Rattle.hw_model.specs.Flat.Source.{nowhere, input, held, copy, made}
+use Rattle.hw_model.specs.Flat.{Path, Net, net, instances, module_at, base, body_state, state, input_width, port_ref, operand_for, input_count, input_of, copy_of, joined_ref, joined_at, given_ref, held_of, made_of}
+use Rattle.hw_model.specs.Flat.Source.{nowhere, input}
 use Rattle.hw_model.specs.Meaning.{needs_of, needs, value, HasNoCycle, HasHeights, machine}
 use Rattle.hw_model.specs.Machine.{SettlesOnce}
 use Rattle.hw_model.specs.Sound.{body_of, ports_of}
 use Rattle.hw_model.specs.Hierarchy.{called, called_by, calls, HasNoRecursion}
 use Rattle.hw_model.proofs.Sorts.{Sort, sort_of}
 use Rattle.hw_model.proofs.Sorts.Sort.{a_register, an_instance, an_output, a_made}
-use Rattle.hw_model.proofs.Paths.{module_inside, joined_body, input_ports, port_of, output_of, op_in, result_in, result_here}
+use Rattle.hw_model.proofs.Paths.{input_ports, output_of, op_in, result_in, result_here}
 use Rattle.hw_model.proofs.NetWidths.{chosen_instance}
 
 -- ---- symbols

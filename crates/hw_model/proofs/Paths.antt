@@ -1,10 +1,10 @@
 -- What a path of instances leads to, by the body and the ports of the module there.
-use Rattle.std.proofs.Common.{◌≡◌, ℕ, ◌+◌, cond, List, [], ◌∷◌, length, take, slice_get, Option, Some, None, refl}
+use Rattle.std.proofs.Common.{◌≡◌, ℕ, ◌+◌, cond, List, ◌∷◌, length, take, slice_get, Option, Some, None, refl}
 use Rattle.wiring.specs.Options.{bind}
 use Rattle.hw_model.specs.Types.{Name}
 use Rattle.hw_model.specs.Design.{Ref, Op, Module, Design, is_instance, is_register, is_output_op, result_type, output_refs, callee}
-use Rattle.hw_model.specs.Design.Ref.{port, result, undefined}
-use Rattle.hw_model.specs.Flat.{Path, Net, net, Source, Slot, instances, before_instance, module_at, body_state, state, state_of, state_before, base, port_ref, input_width, input_of, input_source, copy_of, joined_ref, joined_at, given_ref, held_of, made_of, result_source, result_source_of, source, body_registers, registers_of}
+use Rattle.hw_model.specs.Design.Ref.{result}
+use Rattle.hw_model.specs.Flat.{Path, net, Source, Slot, instances, before_instance, module_at, body_state, state, state_of, state_before, base, port_ref, input_width, input_of, input_source, copy_of, joined_ref, joined_at, given_ref, held_of, made_of, result_source, result_source_of, source, body_registers, registers_of}
 use Rattle.hw_model.specs.Flat.Source.{nowhere}
 use Rattle.hw_model.specs.Meaning.{outputs_of}
 use Rattle.hw_model.specs.Sound.{body_of, ports_of}

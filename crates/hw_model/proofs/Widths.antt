@@ -1,11 +1,11 @@
 -- The value of each kind of operation has as many bits as its type, where its operands' words have as many as theirs.
-use Rattle.std.proofs.Common.{◌≡◌, ℕ, zero, suc, ◌+◌, ◌-◌, ◌*◌, ◌/◌, ◌<◌, ◌≤◌, Bool, true, false, cond, nat_lt, ◌==◌, List, [], ◌∷◌, ◌++◌, length, map, take, drop, slice_get, Option, Some, None, refl, sym, ap, subst, ◌∙◌, inl, inr, arith, length-append, length-drop, length-take, zero-mul, suc-mul, add-mul}
+use Rattle.std.proofs.Common.{◌≡◌, ℕ, zero, suc, ◌+◌, ◌*◌, ◌/◌, ◌<◌, ◌≤◌, Bool, true, false, cond, nat_lt, ◌==◌, List, [], ◌∷◌, ◌++◌, length, map, take, drop, slice_get, Option, Some, None, refl, sym, ap, subst, ◌∙◌, inl, inr, arith, length-append, length-drop, length-take, zero-mul, suc-mul, add-mul}
 use Rattle.std.proofs.Math.ListN.{length-replicate}
 use Rattle.std.proofs.Math.Nat.{mul-div_cancel, mul-le-mul}
 use Rattle.std.proofs.lemmas.Bool.{ltb-true}
 use Rattle.wiring.specs.Lists.{total}
 use Rattle.wiring.specs.Wiring.{In}
-use Rattle.bits_core.specs.Word.{Word, number, bits_of_ℤ, copies, zeros, extract as bits_from, and_words, or_words, xor_words, bitwise, ones, flag}
+use Rattle.bits_core.specs.Word.{Word, number, copies, zeros, extract as bits_from}
 use Rattle.bits_core.proofs.Numbers.{length-bits, length-copies, length-extract}
 use Rattle.bits_core.proofs.Arithmetic.{length-sub, length-quotient, length-rest, length-signed_quotient, length-signed_rest}
 use Rattle.bits_core.proofs.Bitwise.{length-bitwise}
@@ -20,14 +20,7 @@ use Rattle.hw_model.specs.Kinds.Literals.{no_literals, literal}
 use Rattle.hw_model.specs.Kinds.Kind.{add, mul, and, or, xor, sub, divu, modu, divs, mods, shl, shru, shrs, icmp, parity, extract, concat, replicate, mux, constant, aggregate_constant, array_create, array_concat, array_get, array_slice, array_inject, struct_create, struct_extract, struct_inject, struct_explode, bitcast, wire, instance, output, compreg, compreg_ce, firreg}
 use Rattle.hw_model.specs.Design.{instance_in, register_form, same_name}
 use Rattle.hw_model.specs.Value.{joined, is_high, and_all, or_all, xor_all, of_one, of_two, of_three, word_of_literal, word_of_literals, element, elements_from, slice_of, injected_below, injected, field_of, with_field, field_at, fields, written, op_value}
-use Rattle.hw_model.specs.Sound.{HasWidth, field_list, field_type, literal_width, literals_width, AllAre, Fits}
-
--- the words have the widths of their types
-abbrev pub HaveWidths : List (Option HwType) → List Word → Type 0
-HaveWidths [] [] = Unit {0}
-HaveWidths [] (w ∷ ws) = ⊥
-HaveWidths (x ∷ xs) [] = ⊥
-HaveWidths (x ∷ xs) (w ∷ ws) = HasWidth x w × HaveWidths xs ws
+use Rattle.hw_model.specs.Sound.{HasWidth, HaveWidths, field_list, field_type, literal_width, literals_width, AllAre, Fits}
 
 -- ---- operands of one type
 

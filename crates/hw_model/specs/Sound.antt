@@ -1,7 +1,7 @@
 -- A sound design: the types of each operation's operands and results fit (CIRCT: HW, Comb and Seq dialects: the types
 -- that each operation asks for).
-use Rattle.std.specs.Prelude.{◌≡◌, ℕ, zero, suc, ◌+◌, ◌*◌, ◌<◌, ◌≤◌, Bool, true, false, cond, List, [], ◌∷◌, map, length, Option, Some, None, slice_get}
-use Rattle.wiring.specs.Options.{bind, omap}
+use Rattle.std.specs.Prelude.{◌≡◌, ℕ, ◌+◌, ◌*◌, ◌<◌, ◌≤◌, Bool, true, false, cond, List, [], ◌∷◌, map, length, Option, Some, None, slice_get}
+use Rattle.wiring.specs.Options.{bind}
 use Rattle.wiring.specs.Lists.{total}
 use Rattle.wiring.specs.Wiring.{In}
 use Rattle.bits_core.specs.Word.{Word}
@@ -51,6 +51,13 @@ type_in ports os undefined = None
 abbrev pub HasWidth : Option HwType → Word → Type 0
 HasWidth None w = Unit {0}
 HasWidth (Some t) w = length w ≡ width t
+
+-- the words have the widths of their types
+abbrev pub HaveWidths : List (Option HwType) → List Word → Type 0
+HaveWidths [] [] = Unit {0}
+HaveWidths [] (w ∷ ws) = ⊥
+HaveWidths (x ∷ xs) [] = ⊥
+HaveWidths (x ∷ xs) (w ∷ ws) = HasWidth x w × HaveWidths xs ws
 
 -- ---- aggregates
 
