@@ -152,3 +152,17 @@ translated bytes a form = record {
   behaves = form_behaves bytes a form;
   laid_out = refl;
 }
+
+-- an adder's operands are inputs, and its width is within bounds
+pub record HasOperands (a : Adder) : Type 0 where
+  pub left : a.left < length a.inputs
+  pub right : a.right < length a.inputs
+  pub least : 1 ≤ a.width
+  pub most : a.width ≤ 128
+
+pub form_operands : (bytes : List ℕ) (a : Adder) → IsForm bytes a → HasOperands a
+form_operands bytes a form =
+    subst (λ (b : Adder). HasOperands b) (sym form.says)
+    (let wide : decimal_number form.source.output_digits ≡ a.width = sym (ap (λ (b : Adder). b.width) form.says) in
+     let is = is_adder form.source a.width form.width form.values form.names wide in
+     record { left = is.left; right = is.right; least = is.low; most = rw wide (high form.source a.width form.width form.values form.names) })
