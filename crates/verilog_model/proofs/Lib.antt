@@ -1,2 +1,5 @@
 pub mod Numerals
 pub mod Reread
+pub mod Machine
+pub mod Reading
+pub mod Rereading
