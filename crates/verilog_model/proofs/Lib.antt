@@ -3,3 +3,4 @@ pub mod Reread
 pub mod Machine
 pub mod Reading
 pub mod Rereading
+pub mod Uniqueness
