@@ -164,5 +164,5 @@ pub form_operands : (bytes : List ℕ) (a : Adder) → IsForm bytes a → HasOpe
 form_operands bytes a form =
     subst (λ (b : Adder). HasOperands b) (sym form.says)
     (let wide : decimal_number form.source.output_digits ≡ a.width = sym (ap (λ (b : Adder). b.width) form.says) in
-     let is = is_adder form.source a.width form.width form.values form.names wide in
-     record { left = is.left; right = is.right; least = is.low; most = rw wide (high form.source a.width form.width form.values form.names) })
+    let is = is_adder form.source a.width form.width form.values form.names wide in
+    record { left = is.left; right = is.right; least = is.low; most = rw wide (high form.source a.width form.width form.values form.names) })

@@ -79,9 +79,9 @@ based_word : (w h : Name) (s : Bool) → IsTrue (is_decimal w) → lexeme_of (w 
 based_word [] h s d = cc
 based_word (b ∷ w) h s d =
     digit_word b (w ++ (base_mark s ++ h)) (and_first (is_digit b) (all_bytes is_digit w) d) ∙ parts s where
-  parts : (s : Bool) → number_or_literal (before_quote ((b ∷ w) ++ (base_mark s ++ h))) (after_quote ((b ∷ w) ++ (base_mark s ++ h))) ≡ based (b ∷ w) s h
-  parts false = rw (before_first (b ∷ w) (104 ∷ h) d, after_first (b ∷ w) (104 ∷ h) d) refl
-  parts true = rw (before_first (b ∷ w) (115 ∷ 104 ∷ h) d, after_first (b ∷ w) (115 ∷ 104 ∷ h) d) refl
+      parts : (s : Bool) → number_or_literal (before_quote ((b ∷ w) ++ (base_mark s ++ h))) (after_quote ((b ∷ w) ++ (base_mark s ++ h))) ≡ based (b ∷ w) s h
+      parts false = rw (before_first (b ∷ w) (104 ∷ h) d, after_first (b ∷ w) (104 ∷ h) d) refl
+      parts true = rw (before_first (b ∷ w) (115 ∷ 104 ∷ h) d, after_first (b ∷ w) (115 ∷ 104 ∷ h) d) refl
 
 -- ---- strengths
 

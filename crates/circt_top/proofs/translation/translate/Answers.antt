@@ -10,23 +10,23 @@ use Rattle.circt_top.proofs.translation.translate.Goals as goal
 
 pub write_adder-requires-clause-left : goal.write_adder-requires-clause-left
 write_adder-requires-clause-left c =
-  let form = rw c.in-Some.is at c.in_ok-adder.ensures.some in
-  let has : HasOperands (adder_of_code c.in-Some.adder) = form_operands c.args.source.now (adder_of_code c.in-Some.adder) form in
-  rw length-map at has.left
+    let form = rw c.in-Some.is at c.in_ok-adder.ensures.some in
+    let has : HasOperands (adder_of_code c.in-Some.adder) = form_operands c.args.source.now (adder_of_code c.in-Some.adder) form in
+    rw length-map at has.left
 
 pub write_adder-requires-clause-right : goal.write_adder-requires-clause-right
 write_adder-requires-clause-right c =
-  let form = rw c.in-Some.is at c.in_ok-adder.ensures.some in
-  let has : HasOperands (adder_of_code c.in-Some.adder) = form_operands c.args.source.now (adder_of_code c.in-Some.adder) form in
-  rw length-map at has.right
+    let form = rw c.in-Some.is at c.in_ok-adder.ensures.some in
+    let has : HasOperands (adder_of_code c.in-Some.adder) = form_operands c.args.source.now (adder_of_code c.in-Some.adder) form in
+    rw length-map at has.right
 
 pub write_adder-requires-clause-width : goal.write_adder-requires-clause-width
 write_adder-requires-clause-width c =
-  let form = rw c.in-Some.is at c.in_ok-adder.ensures.some in
-  let has : HasOperands (adder_of_code c.in-Some.adder) = form_operands c.args.source.now (adder_of_code c.in-Some.adder) form in
-  (has.least, has.most)
+    let form = rw c.in-Some.is at c.in_ok-adder.ensures.some in
+    let has : HasOperands (adder_of_code c.in-Some.adder) = form_operands c.args.source.now (adder_of_code c.in-Some.adder) form in
+    (has.least, has.most)
 
 pub returns : goal.returns
 returns c =
-  let form = rw c.in-Some.is at c.in_ok-adder.ensures.some in
-  subst (λ t. IsTranslation c.args.source.now t) (sym c.in_ok-text.ensures) (translated c.args.source.now (adder_of_code c.in-Some.adder) form)
+    let form = rw c.in-Some.is at c.in_ok-adder.ensures.some in
+    subst (λ t. IsTranslation c.args.source.now t) (sym c.in_ok-text.ensures) (translated c.args.source.now (adder_of_code c.in-Some.adder) form)
