@@ -1,10 +1,10 @@
 -- Laws of arithmetic on words.
-use Rattle.std.proofs.Common.{◌≡◌, refl, sym, ap, ap₂, ◌∙◌, ℕ, zero, suc, ◌+◌, ◌-◌, ◌*◌, ◌/◌, ◌%◌, ◌^◌, ◌<◌, ◌≤◌, Bool, true, false, List, [], ◌∷◌, length, arith, pow_pos, mod-eq_of_lt, ℤ, pos, negsuc, neg_ℤ, ◌+ℤ◌, ◌-ℤ◌, add_comm, add_assoc, mul_comm, mul_assoc, mul-add, add-zero, mul-one, mul-zero, div-one, div-add-mod', pow-suc, zero-le, le_refl, int_div, int_rem}
+use Rattle.std.proofs.Common.{◌≡◌, refl, sym, ap, ap₂, ◌∙◌, ℕ, suc, ◌+◌, ◌-◌, ◌*◌, ◌/◌, ◌%◌, ◌^◌, ◌<◌, ◌≤◌, true, false, [], ◌∷◌, length, arith, pow_pos, ℤ, pos, negsuc, neg_ℤ, ◌-ℤ◌, add_comm, add_assoc, mul_comm, mul_assoc, mul-add, add-zero, mul-one, mul-zero, div-one, div-add-mod', pow-suc, zero-le, le_refl, int_div, int_rem}
 use Rattle.std.proofs.Math.Nat.{mod-add-mod, add-mod-mod, mod-one, sub-zero, sub_self}
 use Rattle.std.proofs.lemmas.Int.{ints}
 use Rattle.std.proofs.lemmas.Nat.{mul-mod_first, mul-mod_second}
-use Rattle.bits_core.specs.Word.{Word, number, bits, sign, signed, bits_of_ℤ, zeros, not_word, add, sub, mul, quotient, rest, signed_quotient, signed_rest}
-use Rattle.bits_core.proofs.Numbers.{length-bits, number-bits, number-bits-below, number_below, bits-number, bits-mod, bits-high, bits_from_number, number-zeros}
+use Rattle.bits_core.specs.Word.{Word, number, bits, signed, bits_of_ℤ, zeros, add, sub, mul, quotient, rest, signed_quotient, signed_rest}
+use Rattle.bits_core.proofs.Numbers.{length-bits, number-bits, number-bits-below, number_below, bits-number, bits-mod, bits-high, number-zeros}
 use Rattle.bits_core.proofs.Complement.{length-bits_of_ℤ, difference-natural, bits_of-difference, bits_of-signed, signed-bits_of_ℤ}
 use Rattle.bits_core.proofs.Storage.{bits-zero}
 

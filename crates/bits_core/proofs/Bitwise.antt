@@ -1,5 +1,5 @@
 -- Operations bit by bit, on words and on their numbers.
-use Rattle.std.proofs.Common.{◌≡◌, refl, sym, ap, ap₂, ◌∙◌, ℕ, zero, suc, ◌+◌, ◌*◌, ◌/◌, ◌%◌, ◌^◌, ◌<◌, ◌==◌, min, max, Bool, true, false, not, ◌&&◌, ◌||◌, List, [], ◌∷◌, length, replicate, arith, mod-lt, bit_and, bit_or, bit_xor}
+use Rattle.std.proofs.Common.{◌≡◌, refl, sym, ap, ap₂, ◌∙◌, ℕ, zero, suc, ◌+◌, ◌/◌, ◌%◌, ◌^◌, ◌<◌, ◌==◌, min, max, Bool, true, false, ◌&&◌, ◌||◌, [], ◌∷◌, length, replicate, arith, mod-lt, bit_and, bit_or, bit_xor}
 use Rattle.std.proofs.lemmas.Nat.Bits.{bit_at_and, bit_at_or, bit_at_xor}
 use Rattle.bits_core.specs.Word.{Word, number, bits, xor, bitwise, and_words, or_words, xor_words, not_word, zeros, ones}
 use Rattle.bits_core.proofs.Numbers.{bits-number}

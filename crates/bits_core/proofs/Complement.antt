@@ -1,12 +1,11 @@
 -- Two's complement: inverted words, signed readings and words of integers.
-use Rattle.std.proofs.Common.{◌≡◌, refl, sym, ap, ap₂, ◌∙◌, ℕ, zero, suc, ◌+◌, ◌-◌, ◌*◌, ◌/◌, ◌%◌, ◌^◌, ◌<◌, ◌≤◌, ◌⊎◌, inl, inr, ◌==◌, Bool, true, false, not, cond, List, [], ◌∷◌, ◌++◌, length, arith, pow_pos, pow-suc, pow-add, mod-lt, mod-eq_of_lt, div-add-mod', zero-add, ℤ, pos, negsuc, neg_ℤ, nat_abs, ◌-ℤ◌, ◌≤ℤ◌, ◌<ℤ◌, int_div, int_rem}
+use Rattle.std.proofs.Common.{◌≡◌, refl, sym, ap, ap₂, ◌∙◌, ℕ, suc, ◌+◌, ◌-◌, ◌*◌, ◌/◌, ◌%◌, ◌^◌, ◌<◌, ◌≤◌, inl, inr, ◌==◌, Bool, true, false, not, cond, [], ◌∷◌, length, arith, pow_pos, pow-suc, mod-lt, mod-eq_of_lt, div-add-mod', zero-add, ℤ, pos, negsuc, neg_ℤ, nat_abs, ◌-ℤ◌, ◌≤ℤ◌, ◌<ℤ◌, int_div, int_rem}
 use Rattle.std.proofs.Math.Bool.{beq}
 use Rattle.std.proofs.Math.Nat.{mul-add-mod_self_right, mul-mod_left, mod-eq-sub-mod, div-eq_of_lt}
 use Rattle.std.proofs.lemmas.Bool.{cases_lt}
 use Rattle.std.proofs.lemmas.Int.{ints}
 use Rattle.std.proofs.lemmas.List.{length-map}
-use Rattle.std.proofs.lemmas.Nat.{shr_split}
-use Rattle.bits_core.specs.Word.{Word, bit, number, bits, sign, signed, bits_of_ℤ, not_word, xor}
+use Rattle.bits_core.specs.Word.{Word, number, bits, sign, signed, bits_of_ℤ, not_word, xor}
 use Rattle.bits_core.proofs.Numbers.{length-bits, number-bits, number-bits-below, number_below, bits-number, bits-high, same_from_number}
 
 -- ---- inverted words

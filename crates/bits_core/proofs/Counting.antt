@@ -1,8 +1,8 @@
 -- The parity of a word and the ones of its number.
-use Rattle.std.proofs.Common.{◌≡◌, refl, sym, ap, ◌∙◌, ℕ, zero, suc, ◌+◌, ◌*◌, ◌/◌, ◌%◌, ◌^◌, ◌<◌, ◌==◌, Bool, true, false, not, List, [], ◌∷◌, length, arith, mod-lt, zero-add, div-one}
+use Rattle.std.proofs.Common.{◌≡◌, refl, sym, ap, ◌∙◌, ℕ, zero, suc, ◌+◌, ◌%◌, ◌<◌, ◌==◌, Bool, true, false, not, [], ◌∷◌, ◌++◌, length, arith, mod-lt, zero-add}
 use Rattle.std.proofs.Math.Nat.{add-mod-mod}
 use Rattle.std.specs.Int.Count.{ones as count_ones, ones_in, ones_cat}
-use Rattle.bits_core.specs.Word.{Word, bit, number, bits, flag, xor, parity}
+use Rattle.bits_core.specs.Word.{Word, number, xor, parity}
 use Rattle.bits_core.proofs.Numbers.{number_below}
 
 -- one more turns the parity
@@ -26,5 +26,12 @@ parity-count_ones (false ∷ x) =
     ap (λ (m : ℕ). m % 2 == 1) (ones_cat (length x) 0 (number x) (number_below x) ∙ zero-add (count_ones (number x)))
     ∙ parity-count_ones x
 
-pub bits-parity : (x : Word) → bits 1 (count_ones (number x)) ≡ flag (parity x)
-bits-parity x = ap (λ (m : ℕ). flag (m % 2 == 1)) (div-one (count_ones (number x))) ∙ ap flag (parity-count_ones x)
+pub parity-append : (x y : Word) → parity (x ++ y) ≡ xor (parity x) (parity y)
+parity-append [] y = refl
+parity-append (true ∷ x) y = ap not (parity-append x y) ∙ not-xor (parity x) (parity y)
+  where
+    not-xor : (a b : Bool) → not (xor a b) ≡ xor (not a) b
+    not-xor true true = refl
+    not-xor true false = refl
+    not-xor false b = refl
+parity-append (false ∷ x) y = parity-append x y

@@ -1,5 +1,5 @@
 -- The definitions of `specs/Word.antt` computed on words of eight bits.
-use Rattle.std.proofs.Common.{◌≡◌, refl, ℕ, Bool, true, false, List, [], ◌∷◌, ◌++◌, ℤ, pos, negsuc, length}
+use Rattle.std.proofs.Common.{◌≡◌, refl, ℕ, true, false, [], ◌∷◌, pos, negsuc}
 use Rattle.bits_core.specs.Word.{Word, number, bits, sign, signed, bits_of_ℤ, zeros, ones, flag, first, extract, copies, add, sub, mul, quotient, rest, signed_quotient, signed_rest, and_words, or_words, xor_words, not_word, parity, shift_left, shift_right, shift_right_signed, less, signed_less, same_word}
 
 abbrev byte : ℕ → Word

@@ -1,8 +1,8 @@
 -- Parts of words: the first bits, extracted bits and copies.
-use Rattle.std.proofs.Common.{◌≡◌, refl, sym, ap, ap₂, ◌∙◌, ℕ, zero, suc, ◌+◌, ◌-◌, ◌*◌, ◌≤◌, Bool, true, false, List, [], ◌∷◌, ◌++◌, length, take, drop, arith, append_assoc, append-nil, length-append, length-drop, length-take, drop-drop, take-take, take_all, zero-add, suc-add, le_refl}
+use Rattle.std.proofs.Common.{◌≡◌, refl, sym, ap, ap₂, ◌∙◌, ℕ, zero, suc, ◌+◌, ◌-◌, ◌≤◌, false, [], ◌∷◌, ◌++◌, length, take, drop, arith, append_assoc, append-nil, length-append, length-drop, length-take, drop-drop, take-take, take_all, zero-add, suc-add, le_refl}
 use Rattle.std.proofs.Math.Seq.{take-append_seam, drop-append_seam}
 use Rattle.std.proofs.lemmas.List.{drop-take}
-use Rattle.bits_core.specs.Word.{Word, first, extract, copies, zeros, flag}
+use Rattle.bits_core.specs.Word.{Word, first, extract, copies, zeros}
 
 -- ---- the first bits
 
@@ -51,6 +51,13 @@ pub extract_all : (x : Word) → extract 0 (length x) x ≡ x
 extract_all x =
     let none : length x - (0 + length x) ≡ 0 = omega arith in
     ap (λ (k : ℕ). take (length x) (drop k x)) none ∙ take_all (length x) x (le_refl (length x))
+
+-- the low bits are the end of the word
+pub extract_low : (width : ℕ) (x : Word) → width ≤ length x → extract 0 width x ≡ drop (length x - width) x
+extract_low width x h =
+    let above : length x - (0 + width) ≡ length x - width = omega arith in
+    ap (λ (k : ℕ). take width (drop k x)) above
+    ∙ take_all width (drop (length x - width) x) (omega (arith, length-drop (length x - width) x))
 
 -- bits of extracted bits
 pub extract-extract : (low width inner_low inner_width : ℕ) (x : Word) → low + width ≤ inner_width → inner_low + inner_width ≤ length x → extract low width (extract inner_low inner_width x) ≡ extract (inner_low + low) width x

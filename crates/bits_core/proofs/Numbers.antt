@@ -1,5 +1,5 @@
 -- Words and the numbers that they stand for.
-use Rattle.std.proofs.Common.{◌≡◌, refl, sym, ap, ◌∙◌, ℕ, zero, suc, ◌+◌, ◌-◌, ◌*◌, ◌/◌, ◌%◌, ◌^◌, ◌<◌, ◌≤◌, ◌==◌, Bool, true, false, List, [], ◌∷◌, ◌++◌, length, take, drop, arith, ap₂, pow_pos, pow-suc, pow-add, mod-lt, mod-eq_of_lt, length-append, length-drop, length-take, take-append-drop, replicate}
+use Rattle.std.proofs.Common.{◌≡◌, refl, sym, ap, ◌∙◌, ℕ, zero, suc, ◌+◌, ◌-◌, ◌*◌, ◌/◌, ◌%◌, ◌^◌, ◌<◌, ◌≤◌, ◌==◌, Bool, true, false, [], ◌∷◌, ◌++◌, length, take, drop, arith, ap₂, pow_pos, pow-suc, pow-add, mod-eq_of_lt, length-append, length-drop, length-take, take-append-drop}
 use Rattle.std.proofs.Math.ListN.{length-replicate}
 use Rattle.std.proofs.Math.Nat.{mul-add-div_right, mul-add-mod_self_right}
 use Rattle.std.proofs.lemmas.Nat.{shr_split, mod_low, shr_high, field_of}
@@ -68,6 +68,11 @@ bits-append x y =
     bits_from_number (length x + length y) (number x * 2 ^ length y + number y) (x ++ y) (length-append x y)
     (ap (λ (n : ℕ). n % 2 ^ (length x + length y)) (sym (number-append x y))
     ∙ mod-eq_of_lt (rw length-append at (number_below (x ++ y))))
+
+-- what stands above a word is no part of its bits
+pub bits-append_low : (x y : Word) → bits (length y) (number (x ++ y)) ≡ y
+bits-append_low x y =
+    ap (bits (length y)) (number-append x y) ∙ bits-high (length y) (number x) (number y) ∙ bits-number y
 
 pub number-split : (k : ℕ) (x : Word) → number x ≡ number (take k x) * 2 ^ (length x - k) + number (drop k x)
 number-split k x =

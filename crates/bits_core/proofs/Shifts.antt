@@ -1,12 +1,12 @@
 -- Shifts of words, and of their numbers.
-use Rattle.std.proofs.Common.{◌≡◌, refl, sym, ap, ap₂, ◌∙◌, ℕ, zero, suc, ◌+◌, ◌-◌, ◌*◌, ◌/◌, ◌%◌, ◌^◌, ◌<◌, ◌≤◌, ◌⊎◌, inl, inr, min, Bool, true, false, not, List, [], ◌∷◌, ◌++◌, map, length, take, drop, replicate, arith, pow_pos, pow_mono, mod-eq_of_lt, length-append, length-drop, length-take, drop_of_length-le, take_all, append-nil, add-zero, le_refl, pow-add, mul_assoc, lt_of_lt_of_le, lt_of_le_of_lt, div-le_self}
+use Rattle.std.proofs.Common.{◌≡◌, refl, sym, ap, ap₂, ◌∙◌, ℕ, zero, suc, ◌+◌, ◌-◌, ◌*◌, ◌/◌, ◌%◌, ◌^◌, ◌<◌, ◌≤◌, inl, inr, min, Bool, true, false, not, ◌∷◌, ◌++◌, length, take, drop, replicate, arith, pow_mono, mod-eq_of_lt, length-append, length-drop, length-take, drop_of_length-le, take_all, append-nil, add-zero, le_refl, pow-add, mul_assoc, lt_of_lt_of_le, lt_of_le_of_lt, div-le_self}
 use Rattle.std.proofs.Math.ListN.{length-replicate}
 use Rattle.std.proofs.Math.Nat.{div-eq_of_lt, mul-mod_left, min-eq_left, min-eq_right, sub-zero, zero-min}
 use Rattle.std.proofs.lemmas.Bool.{cases_lt}
 use Rattle.std.proofs.lemmas.List.{map-append, take-map}
 use Rattle.std.proofs.lemmas.Nat.{mod-pow-add, shl-shr}
-use Rattle.bits_core.specs.Word.{Word, bit, number, bits, sign, zeros, ones, not_word, shift_left, shift_right, shift_right_signed}
-use Rattle.bits_core.proofs.Numbers.{length-bits, number-bits, number_below, bits_from_number, number-append, number-take, number-drop, number-zeros, same_from_number}
+use Rattle.bits_core.specs.Word.{Word, number, bits, sign, zeros, ones, not_word, shift_left, shift_right, shift_right_signed}
+use Rattle.bits_core.proofs.Numbers.{number_below, bits_from_number, number-append, number-take, number-drop, number-zeros}
 use Rattle.bits_core.proofs.Complement.{length-not, not-not_word}
 
 -- ---- length

@@ -1,10 +1,10 @@
 -- Words kept in numbers of 128 bits, whose arithmetic wraps there.
-use Rattle.std.proofs.Common.{◌≡◌, refl, sym, ap, ap₂, ◌∙◌, ℕ, zero, suc, ◌+◌, ◌-◌, ◌*◌, ◌/◌, ◌%◌, ◌^◌, ◌<◌, ◌≤◌, Bool, true, false, List, [], ◌∷◌, ◌++◌, length, arith, pow-add, mul_assoc, mul-le-mul_right, pow_pos, bit_or, ℤ, pos, neg_ℤ, ◌-ℤ◌, mod-eq_of_lt}
+use Rattle.std.proofs.Common.{◌≡◌, sym, ap, ◌∙◌, ℕ, suc, ◌+◌, ◌-◌, ◌*◌, ◌/◌, ◌%◌, ◌^◌, ◌<◌, ◌≤◌, true, false, [], ◌∷◌, length, arith, pow-add, mul_assoc, mul-le-mul_right, pow_pos, bit_or, pos, neg_ℤ, ◌-ℤ◌, mod-eq_of_lt}
 use Rattle.std.proofs.lemmas.Int.{ints}
 use Rattle.std.proofs.lemmas.Nat.{shr_split, shl_whole, or_shifted}
-use Rattle.bits_core.specs.Word.{Word, bit, number, bits, bits_of_ℤ, sign, copies, not_word, zeros}
-use Rattle.bits_core.proofs.Numbers.{length-bits, number-bits, bits-high, number_below, bits_from_number, bits-append, number-zeros, length-copies}
-use Rattle.bits_core.proofs.Complement.{number-not, length-not, bits_of-difference, bits_of-negated}
+use Rattle.bits_core.specs.Word.{Word, number, bits, bits_of_ℤ, sign, copies, not_word, zeros}
+use Rattle.bits_core.proofs.Numbers.{bits-high, number_below, bits_from_number, number-zeros, length-copies}
+use Rattle.bits_core.proofs.Complement.{number-not, length-not, bits_of-difference}
 use Rattle.std.proofs.Math.ListN.{length-replicate}
 use Rattle.std.proofs.Math.Nat.{zero-mod}
 

@@ -1,8 +1,8 @@
 -- `same_word` tells words apart, and is an equivalence.
-use Rattle.std.specs.Prelude.{◌≡◌, Bool, true, false, not, ◌&&◌, List, [], ◌∷◌, refl}
-use Rattle.std.proofs.Common.{sym, ◌∙◌, ap, ap₂, subst}
+use Rattle.std.specs.Prelude.{◌≡◌, Decides, true, false, [], ◌∷◌, refl}
+use Rattle.std.proofs.Common.{sym, ap, ◌∙◌}
 use Rattle.std.specs.Cmp.{IsPartialEquivalence, IsEquivalence, partial_equiv_from_equiv}
-use Rattle.bits_core.specs.Word.{Word, xor, same_word}
+use Rattle.bits_core.specs.Word.{Word, same_word}
 
 pub same_word_self : (x : Word) → same_word x x ≡ true
 same_word_self [] = refl
@@ -36,3 +36,7 @@ same_word_equivalence = record {
 
 pub same_word_laws : IsPartialEquivalence same_word
 same_word_laws = partial_equiv_from_equiv same_word_equivalence
+
+-- the test decides whether two words are one
+pub same_word_decides : (x y : Word) → Decides (same_word x y) (x ≡ y)
+same_word_decides x y = (same_from_test x y, λ e. ap (same_word x) (sym e) ∙ same_word_self x)

@@ -3,7 +3,7 @@
 -- Arithmetic is that of vectors in IEEE 1364-2005, 5.1, where every bit is known.
 use Rattle.std.specs.declared.cmp.Ordering.{Ordering}
 use Rattle.std.specs.declared.cmp.Ordering.TheVariants.{Less, Equal, Greater}
-use Rattle.std.specs.Prelude.{ℕ, zero, suc, ◌+◌, ◌-◌, ◌*◌, ◌/◌, ◌%◌, ◌^◌, min, Bool, true, false, cond, not, ◌&&◌, ◌||◌, ◌==◌, nat_lt, List, [], ◌∷◌, ◌++◌, map, length, take, drop, replicate, ℤ, pos, negsuc, ◌-ℤ◌, int_lt, int_div, int_rem}
+use Rattle.std.specs.Prelude.{ℕ, zero, suc, ◌+◌, ◌-◌, ◌*◌, ◌/◌, ◌%◌, ◌^◌, min, Bool, true, false, if◌then◌else◌, not, ◌&&◌, ◌||◌, ◌==◌, nat_lt, List, [], ◌∷◌, ◌++◌, map, length, take, drop, replicate, ℤ, pos, negsuc, ◌-ℤ◌, int_lt, int_div, int_rem}
 
 -- a word: its bits, the most significant first
 abbrev pub Word : Type 0
@@ -33,7 +33,7 @@ sign (b ∷ bs) = b
 
 -- the two's complement reading: 2 ^ w less where the top bit is 1
 abbrev pub signed : Word → ℤ
-signed x = cond (sign x) (pos (number x) -ℤ pos (2 ^ length x)) (pos (number x))
+signed x = if sign x then pos (number x) -ℤ pos (2 ^ length x) else pos (number x)
 
 -- the low w bits of an integer in two's complement, where -(n + 1) has the bits of n inverted
 abbrev pub bits_of_ℤ : ℕ → ℤ → Word
@@ -83,19 +83,19 @@ sub x y = bits_of_ℤ (length x) (pos (number x) -ℤ pos (number y))
 abbrev pub mul : Word → Word → Word
 mul x y = bits (length x) (number x * number y)
 
--- the quotient; 0 by 0
+-- the quotient, and 0 where the divisor is 0
 abbrev pub quotient : Word → Word → Word
 quotient x y = bits (length x) (number x / number y)
 
--- the rest of that quotient; the dividend by 0
+-- the rest of that quotient, and the dividend where the divisor is 0
 abbrev pub rest : Word → Word → Word
 rest x y = bits (length x) (number x % number y)
 
--- the quotient of the signed readings, rounded to zero; 0 by 0
+-- the quotient of the signed readings, rounded to zero, and 0 where the divisor is 0
 abbrev pub signed_quotient : Word → Word → Word
 signed_quotient x y = bits_of_ℤ (length x) (int_div (signed x) (signed y))
 
--- the rest of that quotient, with the dividend's sign; the dividend by 0
+-- the rest of that quotient, with the dividend's sign, and the dividend where the divisor is 0
 abbrev pub signed_rest : Word → Word → Word
 signed_rest x y = bits_of_ℤ (length x) (int_rem (signed x) (signed y))
 

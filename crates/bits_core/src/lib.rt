@@ -5,11 +5,14 @@
 //! amount of a shift may have any width, and any value.
 #![tactic(auto)]
 
-ghost use Rattle.std.specs.Prelude.{◌≡◌, ◌+◌, ◌-◌, ◌*◌, ◌/◌, ◌%◌, ◌^◌, ◌<◌, ◌≤◌, ◌++◌, length, nat_abs, neg_ℤ, pos, cond, SomeIff, true};
+ghost use Rattle.std.specs.Prelude.{◌≡◌, ◌+◌, ◌-◌, ◌*◌, ◌/◌, ◌%◌, ◌^◌, ◌<◌, ◌≤◌, ◌++◌, length, nat_abs, neg_ℤ, pos, if◌then◌else◌, SomeIff, true};
 ghost use Rattle.bits_core.specs.Word.{number, bits, sign, signed, bits_of_ℤ, flag, extract, copies, add, sub, mul, quotient, rest, signed_quotient, signed_rest, and_words, or_words, xor_words, not_word, parity, shift_left, shift_right, shift_right_signed, same_word, order};
 
 use std::cmp::Ordering;
+use std::hash::{Hash, Hasher};
 use std::marker::Model;
+
+pub mod laws;
 
 /// A word of 1 to 128 bits.
 ///
@@ -53,6 +56,29 @@ impl Eq for Bits {
     ghost use Rattle.bits_core.specs.SameWord.{same_word_equivalence};
 
     ghost laws = { same_word_equivalence };
+}
+
+impl Hash for Bits {
+    ghost use Rattle.std.specs.Hash as fed;
+    ghost use Rattle.bits_core.specs.SameWord.{same_word_decides};
+
+    ghost hash_input = { λ x. fed.u32 (length x) ++ fed.u128 (number x) };
+
+    ghost respects_eq = { (fed.same_Alike (λ x. fed.u32 (length x) ++ fed.u128 (number x)) same_word_decides).fed };
+
+    fn hash<H: Hasher>(&self, state: &mut H) {
+        self.width().hash(state);
+        self.value().hash(state);
+    }
+}
+
+impl From<bool> for Bits {
+    ghost from_gives = { λ bit word. word ≡ flag bit };
+
+    /// One bit.
+    fn from(bit: bool) -> Bits {
+        Bits::truncated(1, u128::from(bit))
+    }
 }
 
 impl Bits {
@@ -162,7 +188,7 @@ impl Bits {
         Bits::truncated(self.width(), self.value() ^ b.value())
     }
 
-    /// The quotient of the numbers. By 0 it is 0.
+    /// The quotient of the numbers, and 0 where the divisor is 0.
     pub fn divu(&self, b: &Bits) -> Bits
         requires { length self.now ≡ length b.now }
         ensures { result ≡ quotient self.now b.now }
@@ -170,7 +196,7 @@ impl Bits {
         Bits::truncated(self.width(), quotient_of(self.value(), b.value()))
     }
 
-    /// The rest of the quotient of the numbers. By 0 it is `self`.
+    /// The rest of the quotient of the numbers, and `self` where the divisor is 0.
     pub fn modu(&self, b: &Bits) -> Bits
         requires { length self.now ≡ length b.now }
         ensures { result ≡ rest self.now b.now }
@@ -178,8 +204,8 @@ impl Bits {
         Bits::truncated(self.width(), rest_of(self.value(), b.value()))
     }
 
-    /// The quotient of the signed readings, rounded to 0; the least one by -1 wraps, to itself.
-    /// By 0 it is 0.
+    /// The quotient of the signed readings, rounded to 0, and 0 where the divisor is 0. The least
+    /// one by -1 wraps, to itself.
     pub fn divs(&self, b: &Bits) -> Bits
         requires { length self.now ≡ length b.now }
         ensures { result ≡ signed_quotient self.now b.now }
@@ -192,8 +218,8 @@ impl Bits {
         )
     }
 
-    /// The rest of the quotient of the signed readings, with the sign of `self`. By 0 it is
-    /// `self`.
+    /// The rest of the quotient of the signed readings, with the sign of `self`, and `self` where
+    /// the divisor is 0.
     pub fn mods(&self, b: &Bits) -> Bits
         requires { length self.now ≡ length b.now }
         ensures { result ≡ signed_rest self.now b.now }
@@ -255,7 +281,7 @@ impl Bits {
     pub fn parity(&self) -> Bits
         ensures { result ≡ flag (parity self.now) }
     {
-        Bits::truncated(1, u128::from(self.value().count_ones()))
+        Bits::from(self.value().count_ones() % 2 == 1)
     }
 
     /// The `width` bits from bit `low` on, bit 0 being the least significant.
@@ -331,7 +357,7 @@ fn rest_of(a: u128, b: u128) -> u128
 fn signed_bits(width: u32, negative: bool, magnitude: u128) -> Bits
     requires least { 1 ≤ width }
     requires most { width ≤ 128 }
-    ensures { result ≡ bits_of_ℤ width (cond negative (neg_ℤ (pos magnitude)) (pos magnitude)) }
+    ensures { result ≡ bits_of_ℤ width (if negative then neg_ℤ (pos magnitude) else pos magnitude) }
 {
     if negative {
         Bits::truncated(width, 0u128.wrapping_sub(magnitude))

@@ -3,6 +3,8 @@
 ghost use Rattle.std.specs.Prelude.{◌≡◌, length};
 
 use super::*;
+use std::collections::HashMap;
+use std::test::Fail;
 
 fn byte(value: u128) -> Bits
     ensures { length result ≡ 8 }
@@ -103,7 +105,7 @@ fn orders(rt: HostRuntime) {
 #[test]
 fn parts(rt: HostRuntime) {
     let word = byte(0xb6);
-    assert_eq!(rt; word.parity(), Bits::truncated(1, 1));
+    assert_eq!(rt; word.parity(), Bits::from(true));
     assert_eq!(rt; byte(0xff).parity(), Bits::truncated(1, 0));
     assert_eq!(rt; word.extract(2, 4), Bits::truncated(4, 0xd));
     assert_eq!(rt; word.extract(0, 8), word);
@@ -116,4 +118,14 @@ fn parts(rt: HostRuntime) {
         Bits::truncated(6, 0x15)
     );
     assert_eq!(rt; byte(0xa5).replicate(16).value(), u128::MAX / 255 * 0xa5);
+}
+
+#[test]
+fn keys_of_a_map(rt: HostRuntime) -> Result<(), Fail> {
+    let mut names = HashMap::new(rt.alloc());
+    names.insert(byte(0x05), 'a')?;
+    names.insert(Bits::truncated(9, 0x05), 'b')?;
+    assert_eq!(rt; names.get(&byte(0x05)).copied(), Some('a'));
+    assert_eq!(rt; names.get(&byte(0x06)).copied(), None);
+    Ok(())
 }

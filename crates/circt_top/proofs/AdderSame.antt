@@ -8,8 +8,8 @@ use Rattle.hw_model.specs.Design.{same_name}
 use Rattle.hw_model.specs.Design.Ref.{port, result, undefined}
 use Rattle.hw_model.specs.Flat.{Net, net}
 use Rattle.hw_model.specs.Meaning.{Settled, machine}
-use Rattle.hw_model.specs.Machine.{Machine, Same, SettlesOnce}
-use Rattle.hw_model.proofs.Machines.{AlwaysSettles, Carries, same_forth}
+use Rattle.hw_model.specs.Machine.{Machine, Same, SettlesOnce, Carries}
+use Rattle.hw_model.proofs.Machines.{AlwaysSettles, same_forth}
 use Rattle.verilog_model.specs.Tree.{VPort, VModule, Tree, Expr}
 use Rattle.verilog_model.specs.Tree.Operator.{plus}
 use Rattle.verilog_model.specs.Tree.Expr.{name, binary}

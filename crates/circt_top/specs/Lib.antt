@@ -1,9 +1,12 @@
-pub mod Tokens
+pub mod Answer
+pub mod Codes
 pub mod Form
-pub mod Translation
-pub mod Printing
 pub mod Lexemes
-pub mod Reading
 pub mod Parts
 pub mod Places
+pub mod Printing
+pub mod Reading
 pub mod Resolving
+pub mod Tokens
+pub mod Translation
+pub mod Words

@@ -1,4 +1,6 @@
-//! The program: its words, and what it does.
+//! The program: what it does for its words, its files and its sinks.
+//!
+//! [`run::run_circt`] is the whole program over any files and sinks.
 #![tactic(auto)]
 
 mod adder;
@@ -8,6 +10,13 @@ mod form_tests;
 mod lexer;
 mod port_names;
 mod reader;
+pub mod report;
 mod reserved;
+pub mod run;
+pub mod status;
+#[cfg(test)]
+mod tests;
+mod translation;
 mod widths;
+mod words;
 mod writer;

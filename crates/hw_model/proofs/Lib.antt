@@ -1,1 +1,9 @@
+-- Lemmas.
 pub mod Machines
+pub mod Sorts
+pub mod Paths
+pub mod Widths
+pub mod NetWidths
+pub mod Finite
+pub mod Evaluation
+mod Samples

@@ -6,3 +6,5 @@ pub mod Flat
 pub mod Machine
 pub mod Meaning
 pub mod Weight
+pub mod Sound
+pub mod Hierarchy

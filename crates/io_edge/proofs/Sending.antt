@@ -1,8 +1,7 @@
 -- A text on its way out: what a sink holds after a front of it, and the puts that lead there.
-use Rattle.std.proofs.Common.{◌≡◌, ℕ, ◌+◌, ◌/◌, ◌≤◌, ◌<◌, List, [], ◌∷◌, ◌++◌, suc, None, take, drop, length, Option, Some, Bool, true, false, refl, sym, ap, ◌∙◌, inl, inr, arith, append_assoc, length-append, length-drop}
+use Rattle.std.proofs.Common.{◌≡◌, ℕ, ◌+◌, ◌/◌, ◌≤◌, ◌<◌, List, [], ◌∷◌, ◌++◌, suc, take, drop, length, Option, Bool, true, false, refl, sym, inl, inr, arith, append_assoc, length-append, length-drop}
 use Rattle.std.proofs.lemmas.List.{append-nil, take-append-le, take-append-drop}
 use Rattle.std.proofs.Math.Seq.{take-append-add}
-use Rattle.std.specs.Io.KnownBytes as io
 use Rattle.io_edge.specs.Bytes.{Appends, AppendsFront}
 use Rattle.io_edge.specs.Pieces.{pieces_of, Sends}
 
@@ -12,9 +11,6 @@ pub record HasSent (before now : Option (List ℕ)) (text rest : List ℕ) : Typ
   pub split : text ≡ sent ++ rest
   pub grown : Appends before now sent
 
-pub HasSent-start : (before : Option (List ℕ)) (text : List ℕ) → HasSent before before text text
-HasSent-start before text = record { sent = []; split = refl; grown = λ held e. rw (append-nil held) e }
-
 pub HasSent-more : {before now next : Option (List ℕ)} {text rest : List ℕ} (piece others : List ℕ) → HasSent before now text rest
     → rest ≡ piece ++ others → Appends now next piece → HasSent before next text others
 HasSent-more {before} {now} {next} {text} {rest} piece others h e a = record {
@@ -22,10 +18,6 @@ HasSent-more {before} {now} {next} {text} {rest} piece others h e a = record {
   split = rw (append_assoc h.sent piece others, ← e) h.split;
   grown = λ held f. rw (← append_assoc held h.sent piece) (a (held ++ h.sent) (h.grown held f));
 }
-
--- nothing is still to come: all of the text went out
-pub Appends-end : {before now : Option (List ℕ)} {text rest : List ℕ} → HasSent before now text rest → rest ≡ [] → Appends before now text
-Appends-end {before} {now} {text} {rest} h e = let all : text ≡ h.sent = h.split ∙ (ap (λ r. h.sent ++ r) e ∙ append-nil h.sent) in rw all h.grown
 
 -- a front of what was still to come is a front of the text
 pub AppendsFront-rest : {before now next : Option (List ℕ)} {text rest : List ℕ} → HasSent before now text rest
@@ -92,14 +84,3 @@ Sends-fails {S} {told} {faults} {puts} {before} {now} {next} {text} {rest} piece
 pub Sends-ends : {S : Type 0} {told : S → Option (List ℕ)} {faults : S → ℕ} {puts : S → List ℕ → Bool → S → Type 0} {before now : S} {text rest : List ℕ}
     → IsSending told faults puts before now text rest → rest ≡ [] → Sends puts before (pieces_of 4096 text) true now
 Sends-ends {S} {told} {faults} {puts} {before} {now} {text} {rest} h e = h.onward true now (rw (e, pieces_of-nil) (refl, refl))
-
--- what std says of a write is what this crate says of a put
-pub Appends-known : (before after : Option (List ℕ)) (bytes : List ℕ) → io.Appends before after bytes → Appends before after bytes
-Appends-known None after bytes h = λ held e. cc
-Appends-known (Some known) None bytes h = absurd h
-Appends-known (Some known) (Some now) bytes h = λ held e. cc
-
-pub Appends-kept : (before after : Option (List ℕ)) → io.Keeps before after → Appends before after []
-Appends-kept None after h = λ held e. cc
-Appends-kept (Some known) None h = absurd h
-Appends-kept (Some known) (Some now) h = λ held e. cc (append-nil held)

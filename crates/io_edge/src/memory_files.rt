@@ -6,7 +6,7 @@ ghost use Rattle.io_edge.specs.Listed.{listed};
 
 use crate::byte_text::Text;
 use crate::file_access::{FileFail, Files};
-use std::alloc::Global;
+use std::alloc::{AllocError, Global};
 use std::marker::Model;
 
 /// A file: its name and its bytes.
@@ -14,6 +14,19 @@ use std::marker::Model;
 pub struct MemoryFile {
     pub name: Text,
     pub bytes: Text,
+}
+
+impl MemoryFile {
+    /// The file of this name with these bytes.
+    pub fn of(alloc: Global, name: &str, bytes: &[u8]) -> Result<MemoryFile, AllocError>
+        ensures name { IfOk result (λ file. file.name ≡ name.now) }
+        ensures bytes { IfOk result (λ file. file.bytes ≡ bytes.now) }
+    {
+        Ok(MemoryFile {
+            name: Text::of(alloc, name.as_bytes())?,
+            bytes: Text::of(alloc, bytes)?,
+        })
+    }
 }
 
 /// Stated files, of which stated reads fail. They are told.
@@ -55,7 +68,7 @@ impl MemoryFiles {
 
     /// The same files, of which the reads at these places are to fail. Places are counted from 0,
     /// over the reads of all names.
-    pub fn failing(self, places: Vec<u64>) -> MemoryFiles
+    pub fn failing_at(self, places: Vec<u64>) -> MemoryFiles
         ensures { result ≡ record self { failing = places.items } }
     {
         let mut files = self;
@@ -78,7 +91,7 @@ impl Files for MemoryFiles {
 
     ghost write_faults = { λ state name. 0 };
 
-    /// Fails with `Failed` only at a read that is to fail and at an unknown name.
+    /// Fails with `Failed` exactly at a read that is to fail and at an unknown name.
     fn read(&mut self, alloc: Global, name: &str, limit: u64) -> Result<Text, FileFail>
         ensures text { Reads (Some self.old.files) name.now limit result }
         ensures within { IfOk result (λ text. length text ≤ limit) }

@@ -51,7 +51,7 @@ impl MemorySink {
     }
 
     /// The same sink, of which the puts at these places are to fail. Places are counted from 0.
-    pub fn failing(self, places: Vec<u64>) -> MemorySink
+    pub fn failing_at(self, places: Vec<u64>) -> MemorySink
         ensures { result ≡ record self { failing = places.items } }
     {
         let mut sink = self;
@@ -81,7 +81,7 @@ impl Sink for MemorySink {
 
     ghost puts = { λ sink piece taken after. (taken ≡ takes_all sink piece) × (after ≡ after_put sink piece) };
 
-    /// Fails only at a put that is to fail, which takes nothing, and where the piece does not fit:
+    /// Fails exactly at a put that is to fail, which takes nothing, and where the piece does not fit:
     /// then as much of it is taken as there is room for.
     fn put(&mut self, bytes: &[u8]) -> Result<(), Failed> {
         let is_to_fail = self.failing.contains(&self.calls);

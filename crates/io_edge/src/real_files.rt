@@ -1,6 +1,8 @@
 //! The system's files and standard input.
-ghost use Rattle.std.specs.Prelude.{◌≡◌, ◌≤◌, ◌<◌, length, None, IfOk};
+ghost use Rattle.std.specs.Prelude.{◌≡◌, ◌≤◌, ◌<◌, length, None, IfOk, false};
+ghost use Rattle.io_edge.specs.Bytes.{Loses};
 ghost use Rattle.io_edge.specs.Source.{IsFront, Moves};
+ghost use Rattle.io_edge.specs.Faults.{HasRisen};
 ghost use Rattle.io_edge.specs.Reading.{HasFileCause};
 
 use crate::byte_text::Text;
@@ -51,6 +53,8 @@ impl<'a, R: rt::Files + Input> Files for RealFiles<'a, R> {
 
     ghost write_faults = { λ counts name. counts.writes };
 
+    /// Reads to the end of the file or to `limit` bytes. A file that cannot be opened is a fault,
+    /// and so is a read that fails; after an interrupted one, which counts too, the next is tried.
     fn read(&mut self, alloc: Global, name: &str, limit: u64) -> Result<Text, FileFail> {
         if name == "-" {
             return read_text(&mut self.rt.reader(), alloc, limit, &mut self.read_faults);
@@ -73,6 +77,7 @@ fn read_text<S: Read>(
     faults: &mut u64,
 ) -> Result<Text, FileFail>
     ensures text { IfOk result (IsFront (S.remaining source.old) limit) }
+    ensures no_further { IfOk result (Loses (S.remaining source.old) (S.remaining source.new)) }
     ensures within { IfOk result (λ text. length text ≤ limit) }
     ensures cause { HasFileCause faults.old faults.new result }
 {
@@ -104,6 +109,7 @@ fn read_some<S: Read>(
 ) -> Result<bool, FileFail>
     requires { 0 < length window.old }
     ensures ok { IfOk result (Moves (S.remaining source.old) (S.remaining source.new) text.old text.new (length window.old)) }
+    ensures nothing { IfOk result (λ ended. ended ≡ false → text.new ≡ text.old → HasRisen faults.old faults.new) }
     ensures cause { HasFileCause faults.old faults.new result }
 {
     match source.read(window) {

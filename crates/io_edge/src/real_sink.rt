@@ -1,7 +1,7 @@
 //! A sink over a writer of the system.
 ghost use Rattle.std.specs.Prelude.{◌≡◌, ◌≤◌, [], take, length, OnOk, OnErr, IfOk};
 ghost use Rattle.io_edge.specs.Bytes.{Appends, AppendsFront};
-ghost use Rattle.io_edge.specs.Faults.{HasCause};
+ghost use Rattle.io_edge.specs.Faults.{HasCause, HasRisen};
 
 use crate::sinks::{Failed, Sink};
 use std::io::{ErrorKind, Write};
@@ -44,10 +44,12 @@ impl<W: Write + Drop> Sink for RealSink<W> {
 
     ghost faults = { λ sink. sink.faults };
 
+    // What a put does to a writer of the system is not known beyond the clauses.
     ghost puts = { λ sink piece taken after. Unit {0} };
 
     /// Writes until the whole piece is taken. A write that fails is a fault, and so is one that
-    /// takes nothing; after an interrupted one the next is tried.
+    /// takes nothing; after an interrupted one, which counts too, the next is tried. A writer with
+    /// a buffer of its own is not flushed.
     fn put(&mut self, bytes: &[u8]) -> Result<(), Failed> {
         write_out(&mut self.writer, bytes, &mut self.faults)
     }
@@ -73,10 +75,10 @@ fn write_out<W: Write>(writer: &mut W, bytes: &[u8], faults: &mut u64) -> Result
     Err(Failed)
 }
 
-// One write of at least one byte: how many it took, which is 0 where it was interrupted. A fault is
-// counted.
+// One write: how many bytes it took, which is 0 only where it was interrupted. A fault is counted.
 fn write_some<W: Write>(writer: &mut W, bytes: &[u8], faults: &mut u64) -> Result<usize, Failed>
     ensures ok { IfOk result (λ count. count ≤ length bytes.now) }
+    ensures nothing { IfOk result (λ count. count ≡ 0 → HasRisen faults.old faults.new) }
     ensures bytes { IfOk result (λ count. Appends (W.contents writer.old) (W.contents writer.new) (take count bytes.now)) }
     ensures err { OnErr result (Appends (W.contents writer.old) (W.contents writer.new) []) }
     ensures cause { HasCause faults.old faults.new result }

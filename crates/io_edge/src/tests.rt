@@ -31,7 +31,7 @@ fn a_text_goes_out_in_pieces_of_4096_bytes(rt: HostRuntime) -> Result<(), Fail> 
         (10_000, 0, 0),
     ] {
         let text = vec![in alloc; 7u8; length]?;
-        let mut sink = MemorySink::new(alloc, 20_000)?.failing(vec![in alloc; failing]?);
+        let mut sink = MemorySink::new(alloc, 20_000)?.failing_at(vec![in alloc; failing]?);
         let answer = put_all(&mut sink, text.as_slice());
         assert_eq!(rt; sink.held().len(), held, "of {length}");
         assert_eq!(rt; answer.is_ok(), held == length, "of {length}");
@@ -54,11 +54,8 @@ fn a_full_sink_keeps_what_fits(rt: HostRuntime) -> Result<(), Fail> {
 fn files_in_memory_are_read_by_name(rt: HostRuntime) -> Result<(), Fail> {
     let alloc = rt.alloc();
     let mut files = vec![in alloc]?;
-    files.push(MemoryFile {
-        name: Text::of(alloc, b"-")?,
-        bytes: Text::of(alloc, b"module")?,
-    })?;
-    let mut files = MemoryFiles::new(alloc, files).failing(vec![in alloc; 2]?);
+    files.push(MemoryFile::of(alloc, "-", b"module")?)?;
+    let mut files = MemoryFiles::new(alloc, files).failing_at(vec![in alloc; 2]?);
     for (name, limit, wanted) in [
         ("-", 100, Some(b"module".as_slice())),
         ("-", 3, Some(b"mod".as_slice())),

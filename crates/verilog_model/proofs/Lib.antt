@@ -1,2 +1,6 @@
 pub mod Numerals
 pub mod Reread
+pub mod Machine
+pub mod Reading
+pub mod Rereading
+pub mod Uniqueness

@@ -25,12 +25,12 @@ number_from-append digit radix n (b ∷ bs) cs = number_from-append digit radix 
 pub all_bytes-append : (p : ℕ → Bool) (bs cs : List ℕ) → IsTrue (all_bytes p bs) → IsTrue (all_bytes p cs) → IsTrue (all_bytes p (bs ++ cs))
 all_bytes-append p [] cs h g = g
 all_bytes-append p (b ∷ bs) cs h g =
-  and_intro (p b) (all_bytes p (bs ++ cs)) (and_first (p b) (all_bytes p bs) h) (all_bytes-append p bs cs (and_second (p b) (all_bytes p bs) h) g)
+    and_intro (p b) (all_bytes p (bs ++ cs)) (and_first (p b) (all_bytes p bs) h) (all_bytes-append p bs cs (and_second (p b) (all_bytes p bs) h) g)
 
 pub all_bytes_weaker : (p q : ℕ → Bool) → ((b : ℕ) → IsTrue (p b) → IsTrue (q b)) → (bs : List ℕ) → IsTrue (all_bytes p bs) → IsTrue (all_bytes q bs)
 all_bytes_weaker p q f [] h = refl
 all_bytes_weaker p q f (b ∷ bs) h =
-  and_intro (q b) (all_bytes q bs) (f b (and_first (p b) (all_bytes p bs) h)) (all_bytes_weaker p q f bs (and_second (p b) (all_bytes p bs) h))
+    and_intro (q b) (all_bytes q bs) (f b (and_first (p b) (all_bytes p bs) h)) (all_bytes_weaker p q f bs (and_second (p b) (all_bytes p bs) h))
 
 is_digit_of : (d : ℕ) → d < 10 → IsTrue (is_digit (48 + d))
 is_digit_of d small = grind arith
@@ -48,6 +48,6 @@ pub is_decimal-decimal : (n : ℕ) → n < 2 ^ 64 → IsTrue (is_decimal (decima
 is_decimal-decimal = decimal_by_steps (λ n ds. IsTrue (is_decimal ds)) (λ n small. and_intro (is_digit (48 + n)) true (is_digit_of n small) refl) more where
   more : (n : ℕ) (ds : List ℕ) → 10 ≤ n → IsTrue (is_decimal ds) → IsTrue (is_decimal (ds ++ ((48 + n % 10) ∷ [])))
   more n ds big h = let d : n % 10 < 10 = omega arith in
-    and_intro (is_nonempty (ds ++ ((48 + n % 10) ∷ []))) (all_bytes is_digit (ds ++ ((48 + n % 10) ∷ [])))
+      and_intro (is_nonempty (ds ++ ((48 + n % 10) ∷ []))) (all_bytes is_digit (ds ++ ((48 + n % 10) ∷ [])))
       (is_nonempty-append ds ((48 + n % 10) ∷ []) refl)
       (all_bytes-append is_digit ds ((48 + n % 10) ∷ []) (and_second (is_nonempty ds) (all_bytes is_digit ds) h) (and_intro (is_digit (48 + n % 10)) true (is_digit_of (n % 10) d) refl))

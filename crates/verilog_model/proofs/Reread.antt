@@ -33,7 +33,7 @@ pub pieces_word : (w rest : List ℕ) → IsTrue (is_nonempty w) → IsTrue (all
 pieces_word [] rest some h apart = cc
 pieces_word (b ∷ []) rest some h apart = pieces_first b rest (and_first (is_word_byte b) true h) apart
 pieces_word (b ∷ c ∷ w) rest some h apart =
-  ap (λ s. join s b (pieces (c ∷ w ++ rest))) (sort_of_word b (and_first (is_word_byte b) (all_bytes is_word_byte (c ∷ w)) h))
+    ap (λ s. join s b (pieces (c ∷ w ++ rest))) (sort_of_word b (and_first (is_word_byte b) (all_bytes is_word_byte (c ∷ w)) h))
     ∙ ap (join word_byte b) (pieces_word (c ∷ w) rest refl (and_second (is_word_byte b) (all_bytes is_word_byte (c ∷ w)) h) apart)
 
 name_byte_is_word : (b : ℕ) → IsTrue (is_name_byte b) → IsTrue (is_word_byte b)

@@ -267,7 +267,7 @@ ports_check (p ∷ ps) = high_checks p.high && ports_check ps
 
 abbrev pub module_checks : Tree → VModule → Bool
 module_checks t m =
-  (names_check (map (λ (d : Declared). d.name) (declared_in m)) && ports_check m.ports)
+    (names_check (map (λ (d : Declared). d.name) (declared_in m)) && ports_check m.ports)
     && (items_check t (declared_ports m.ports) m.items && (each_driven t m.items (declared_in m) && clocks_check t m.ports m.items))
 
 abbrev pub modules_check : Tree → List VModule → Bool

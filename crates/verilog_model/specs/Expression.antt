@@ -129,7 +129,7 @@ abbrev pub binary_value : Context → Operator → ℕ → Bool → Operand → 
 binary_value both_operands o k s a b = arithmetic o s (a.value_at k s) (b.value_at k s)
 binary_value left_operand o k s a b = shifted o s (a.value_at k s) (number (own b))
 binary_value no_operand o k s a b =
-  extended k s (flag (compared o (a.is_signed && b.is_signed)
+    extended k s (flag (compared o (a.is_signed && b.is_signed)
     (a.value_at (max a.long b.long) (a.is_signed && b.is_signed))
     (b.value_at (max a.long b.long) (a.is_signed && b.is_signed))))
 
@@ -151,8 +151,8 @@ module _ (widths : Name → ℕ) (ρ : Name → Word) where
     value k s (paren e) = value k s e
     value k s (odd e) = extended k s (flag (parity (value (length_of widths e) (is_signed e) e)))
     value k s (binary o a b) = binary_value (context_of o) o k s
-      (record { value_at = λ l t. value l t a; long = length_of widths a; is_signed = is_signed a })
-      (record { value_at = λ l t. value l t b; long = length_of widths b; is_signed = is_signed b })
+        (record { value_at = λ l t. value l t a; long = length_of widths a; is_signed = is_signed a })
+        (record { value_at = λ l t. value l t b; long = length_of widths b; is_signed = is_signed b })
     value k s (choice c a b) = cond (is_true (value (length_of widths c) (is_signed c) c)) (value k s a) (value k s b)
 
     -- the parts of a concatenation, each by its own width and sign

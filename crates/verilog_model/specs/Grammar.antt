@@ -18,34 +18,47 @@ Spelling = List Piece
 
 abbrev pub open_paren : Piece
 open_paren = mark 40
+
 abbrev pub close_paren : Piece
 close_paren = mark 41
+
 abbrev pub open_bracket : Piece
 open_bracket = mark 91
+
 abbrev pub close_bracket : Piece
 close_bracket = mark 93
+
 abbrev pub open_brace : Piece
 open_brace = mark 123
+
 abbrev pub close_brace : Piece
 close_brace = mark 125
+
 abbrev pub comma : Piece
 comma = mark 44
+
 abbrev pub semicolon : Piece
 semicolon = mark 59
+
 abbrev pub dot : Piece
 dot = mark 46
+
 abbrev pub at_sign : Piece
 at_sign = mark 64
 
 -- `:` and `=` and `<=` and `?` and `^`
 abbrev pub colon : Piece
 colon = operator (58 ∷ [])
+
 abbrev pub equal : Piece
 equal = operator (61 ∷ [])
+
 abbrev pub arrow : Piece
 arrow = operator (60 ∷ 61 ∷ [])
+
 abbrev pub question : Piece
 question = operator (63 ∷ [])
+
 abbrev pub caret : Piece
 caret = operator (94 ∷ [])
 
@@ -182,8 +195,10 @@ strength bit_or = 2
 -- `?:` binds least strongly, a unary operator more than every binary one, and a primary most
 abbrev pub choice_level : ℕ
 choice_level = 1
+
 abbrev pub unary_level : ℕ
 unary_level = 10
+
 abbrev pub primary_level : ℕ
 primary_level = 11
 

@@ -26,7 +26,7 @@ driven t top inputs content ρ k (net v) = low_bits k (extended k false (ρ v))
 -- under the map each net has what drives it
 abbrev pub TreeSettled : Tree → Name → Word → Word → (VNet → Word) → Type 0
 TreeSettled t top inputs content ρ =
-  (v : VNet) → ρ v ≡ driven t top inputs content ρ (width_at (vmodule_at t top v.path) v.name) (drive t top v)
+    (v : VNet) → ρ v ≡ driven t top inputs content ρ (width_at (vmodule_at t top v.path) v.name) (drive t top v)
 
 -- ---- registers
 
@@ -54,7 +54,7 @@ slot_width s = width_in s.in_module (block_target s.block)
 abbrev pub next_vcontent : List VSlot → (VNet → Word) → Word → Word
 next_vcontent [] ρ content = []
 next_vcontent (s ∷ ss) ρ content =
-  first (slot_width s) (slot_value ρ (slot_width s) (first (slot_width s) content) s) ++ next_vcontent ss ρ (drop (slot_width s) content)
+    first (slot_width s) (slot_value ρ (slot_width s) (first (slot_width s) content) s) ++ next_vcontent ss ρ (drop (slot_width s) content)
 
 -- ---- the machine of a module
 
@@ -71,4 +71,5 @@ tree_machine t top = record {
   size = vstate t top;
   settled = TreeSettled t top;
   outputs = tree_outputs t top;
-  next = next_vcontent (vregisters t top) }
+  next = next_vcontent (vregisters t top);
+}

@@ -1,4 +1,4 @@
-use Rattle.std.proofs.Common.{ap, ◌∙◌, ◌≡◌, ◌-◌, arith, refl}
+use Rattle.std.proofs.Common.{◌≡◌, ◌-◌, arith, refl}
 use Rattle.std.proofs.lemmas.Nat.Bits.{ones_shr}
 use Rattle.bits_core.proofs.mask.Goals as goal
 

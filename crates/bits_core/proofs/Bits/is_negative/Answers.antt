@@ -1,4 +1,4 @@
-use Rattle.std.proofs.Common.{◌≡◌, ◌≤◌, length, arith}
+use Rattle.std.proofs.Common.{◌≤◌, length, arith}
 use Rattle.bits_core.proofs.Order.{top_bit}
 use Rattle.bits_core.proofs.Bits.is_negative.Goals as goal
 

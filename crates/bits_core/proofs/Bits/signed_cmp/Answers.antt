@@ -1,4 +1,4 @@
-use Rattle.std.proofs.Common.{◌≡◌, sym, ◌∙◌}
+use Rattle.std.proofs.Common.{◌≡◌, sym}
 use Rattle.bits_core.specs.Word.{sign}
 use Rattle.bits_core.proofs.Order.{order-negative, order-natural, order_same_sign}
 use Rattle.bits_core.proofs.Bits.signed_cmp.Goals as goal

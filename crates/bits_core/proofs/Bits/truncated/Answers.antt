@@ -1,6 +1,4 @@
-use Rattle.std.proofs.Common.{ap, ◌∙◌, bit_and}
 use Rattle.std.proofs.lemmas.Nat.{and_mask}
-use Rattle.bits_core.specs.Word.{bits}
 use Rattle.bits_core.proofs.Numbers.{bits-mod}
 use Rattle.bits_core.proofs.Bits.truncated.Goals as goal
 

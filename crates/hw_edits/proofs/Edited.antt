@@ -1,0 +1,458 @@
+-- A design in which each module is edited, and what the two designs have in common at each path of instances.
+use Rattle.std.proofs.Common.{◌≡◌, ℕ, zero, suc, ◌+◌, Bool, true, false, cond, List, [], ◌∷◌, ◌++◌, length, map, take, drop, slice_get, Option, Some, None, refl, sym, ap, ap₂, subst, ◌∙◌, arith, zero-add}
+use Rattle.std.proofs.lemmas.List.{map-id, map-append}
+use Rattle.std.proofs.lemmas.Option.{slice_get-map}
+use mathlib.Core.Path.{fun_ext, subst₂}
+use Rattle.wiring.specs.Options.{bind, omap}
+use Rattle.wiring.proofs.Lists.{map-map}
+use Rattle.bits_core.specs.Word.{Word, first}
+use Rattle.hw_model.specs.Types.{Name, HwType, width}
+use Rattle.hw_model.specs.Kinds.{Instance, Reset}
+use Rattle.hw_model.specs.Kinds.Reset.{no_reset, sync_reset}
+use Rattle.hw_model.specs.Design.{Ref, Port, Op, Module, Design, RegisterForm, find_module, instance_in, register_form, result_type, output_refs, callee}
+use Rattle.hw_model.specs.Design.Ref.{port, result, undefined}
+use Rattle.hw_model.specs.Value.{joined}
+use Rattle.hw_model.specs.Flat.{Path, Net, net, Source, Slot, instances, before_instance, module_at, body_state, module_state, state, base, port_ref, operand_for, input_count, input_width, input_of, port_source, copy_of, joined_ref, joined_at, given_ref, held_of, made_of, source, register_in, register_parts, held_width, body_registers, module_registers, registers}
+use Rattle.hw_model.specs.Flat.Source.{nowhere, input, held, copy, made}
+use Rattle.hw_model.specs.Meaning.{needs_of, value_of, loaded, next_content, outputs}
+use Rattle.hw_model.specs.Sound.{body_of, ports_of}
+use Rattle.hw_model.proofs.Sorts.{Sort, sort_of, instance_found}
+use Rattle.hw_model.proofs.Sorts.Sort.{a_register, an_instance, an_output, a_made}
+use Rattle.hw_model.proofs.Paths.{module_inside, state_body, before_body, registers_body, outputs_body, input_ports, joined_body, port_of, output_of, op_in, result_in, result_here}
+use Rattle.hw_edits.specs.Edit.{retarget, anchors, Kept, Edit, EditedModule, made_word, word_of_op, word_of, Holds}
+use Rattle.hw_edits.proofs.Anchors.{instances_follow, output_refs_follow, body_state_follows, before_instance_follows, body_registers-anchors, instances-anchors}
+
+-- ---- other operands
+
+pub length_map : {A B : Type 0} (f : A → B) (xs : List A) → length (map f xs) ≡ length xs
+length_map f [] = refl
+length_map f (x ∷ xs) = ap suc (length_map f xs)
+
+retarget_id : (o : Op) → retarget (λ r. r) o ≡ o
+retarget_id o = ap (λ rs. record o { operands = rs }) (map-id o.operands)
+
+pub map_retarget_id : (os : List Op) → map (retarget (λ r. r)) os ≡ os
+map_retarget_id [] = refl
+map_retarget_id (o ∷ os) = ap₂ (λ x xs. x ∷ xs) (retarget_id o) (map_retarget_id os)
+
+pub omap_retarget_id : (x : Option Op) → omap (retarget (λ r. r)) x ≡ x
+omap_retarget_id None = refl
+omap_retarget_id (Some o) = ap Some (retarget_id o)
+
+-- nothing changed
+unfoldable pub no_edit : (os : List Op) → Edit os os
+no_edit os = record {
+  stand = λ r. r;
+  port_is = λ j. refl;
+  undefined_is = refl;
+  anchors_are = sym (map_retarget_id (anchors os));
+  place = λ j. Some j;
+  kept = λ j j' is.
+      let same : j ≡ j' = cc in
+      subst (λ z. Kept os os (λ r. r) j z) same (record {
+        op = sym (omap_retarget_id (slice_get os j));
+        before = sym (map_retarget_id (anchors (take j os)));
+        stands = λ k. refl;
+      });
+}
+
+-- a source in which other nets stand for those that it needs
+abbrev pub map_source : (Net → Net) → Source → Source
+map_source f nowhere = nowhere
+map_source f (input start w) = input start w
+map_source f (held start w) = held start w
+map_source f (copy n) = copy (f n)
+map_source f (made kind types t k ns) = made kind types t k (map f ns)
+
+-- what a source gives under a map of nets
+abbrev pub reads : Word → Word → (Net → Word) → Source → Word
+reads inputs content ρ s = value_of inputs content s (map ρ (needs_of s))
+
+pub reads-map_source : (inputs content : Word) (ρ : Net → Word) (f : Net → Net) (s : Source)
+    → reads inputs content ρ (map_source f s) ≡ reads inputs content (λ a. ρ (f a)) s
+reads-map_source inputs content ρ f nowhere = refl
+reads-map_source inputs content ρ f (input start w) = refl
+reads-map_source inputs content ρ f (held start w) = refl
+reads-map_source inputs content ρ f (copy n) = refl
+reads-map_source inputs content ρ f (made kind types t k ns) = ap (value_of inputs content (made kind types t k ns)) (map-map ρ f ns)
+
+map_source-input : (f : Net → Net) (x : Option Port) (start : ℕ) → map_source f (input_of x start) ≡ input_of x start
+map_source-input f None start = refl
+map_source-input f (Some q) start = go q.is_output
+  where
+    go : (b : Bool) → map_source f (cond b nowhere (input start (width q.type))) ≡ cond b nowhere (input start (width q.type))
+    go true = refl
+    go false = refl
+
+map_source-held : (f : Net → Net) (start : ℕ) (t : Option HwType) → map_source f (held_of start t) ≡ held_of start t
+map_source-held f start None = refl
+map_source-held f start (Some t) = refl
+
+port_ref-map : (f : Ref → Ref) (ps : List Port) (rs : List Ref) (j : ℕ) → port_ref ps (map f rs) j ≡ omap f (port_ref ps rs j)
+port_ref-map f ps rs j = go (slice_get ps j)
+  where
+    given : (b : Bool) → cond b None (slice_get (map f rs) (input_count (take j ps))) ≡ omap f (cond b None (slice_get rs (input_count (take j ps))))
+    given true = refl
+    given false = slice_get-map f rs (input_count (take j ps))
+
+    go : (x : Option Port) → operand_for x (map f rs) (input_count (take j ps)) ≡ omap f (operand_for x rs (input_count (take j ps)))
+    go None = refl
+    go (Some q) = given q.is_output
+
+-- what a register loads with other operands
+loaded-retarget : (f : Ref → Ref) (o : Op) (τ : Ref → Word) (old : Word)
+    → loaded (register_in (retarget f o)) τ old ≡ loaded (register_in o) (λ r. τ (f r)) old
+loaded-retarget f o τ old = go (register_form o.kind)
+  where
+    parts_same : (e : Bool) (r : Reset) (rs : List Ref) → loaded (register_parts e r (map f rs)) τ old ≡ loaded (register_parts e r rs) (λ r. τ (f r)) old
+    parts_same false no_reset (d ∷ c ∷ []) = refl
+    parts_same true no_reset (d ∷ c ∷ e ∷ []) = refl
+    parts_same false sync_reset (d ∷ c ∷ r ∷ v ∷ []) = refl
+    parts_same true sync_reset (d ∷ c ∷ e ∷ r ∷ v ∷ []) = refl
+    parts_same _ _ _ = refl
+
+    go : (x : Option RegisterForm) → loaded (bind x (λ (g : RegisterForm). register_parts g.has_enable g.reset (map f o.operands))) τ old
+        ≡ loaded (bind x (λ (g : RegisterForm). register_parts g.has_enable g.reset o.operands)) (λ r. τ (f r)) old
+    go None = refl
+    go (Some g) = parts_same g.has_enable g.reset o.operands
+
+-- ---- the modules of two designs at a path
+
+-- both are those of one symbol, or both are not there
+pub data Found (d d' : Design) (o o' : Option Module) : Type 0 where
+  of_symbol : (s : Name) → o ≡ find_module d s → o' ≡ find_module d' s → Found d d' o o'
+  absent : o ≡ None → o' ≡ None → Found d d' o o'
+
+-- what holds of the modules of each symbol holds of them
+pub of_found : (d d' : Design) (F : Option Module → Option Module → Type 0) → F None None
+    → ((s : Name) → F (find_module d s) (find_module d' s)) → (o o' : Option Module) → Found d d' o o' → F o o'
+of_found d d' F none each o o' (of_symbol s is is') = subst₂ F (sym is) (sym is') (each s)
+of_found d d' F none each o o' (absent is is') = subst₂ F (sym is) (sym is') none
+
+found_callee : (d d' : Design) (f : Ref → Ref) (x : Option Op) → Found d d' (bind x (callee d)) (bind (omap (retarget f) x) (callee d'))
+found_callee d d' f None = absent refl refl
+found_callee d d' f (Some o) = go (instance_in o.kind)
+  where
+    go : (y : Option Instance) → Found d d' (bind y (λ (i : Instance). find_module d i.symbol)) (bind y (λ (i : Instance). find_module d' i.symbol))
+    go None = absent refl refl
+    go (Some i) = of_symbol i.symbol refl refl
+
+-- where a body says what word a result has, that is what the result's source gives
+pub word_read : (d : Design) (top : Name) (inputs content : Word) (ρ : Net → Word) (p : Path) (j k : ℕ) (w : Word)
+    → word_of (λ r. ρ (net p r)) k (slice_get (body_of (module_at d top p)) j) ≡ Some w
+    → reads inputs content ρ (source d top (net p (result j k))) ≡ w
+word_read d top inputs content ρ p j k w says =
+    ap (reads inputs content ρ) (result_here d top p j k) ∙ go (slice_get (body_of (module_at d top p)) j) says
+  where
+    made_read : (o : Op) (t : Option HwType) → reads inputs content ρ (made_of p o k t) ≡ made_word (λ r. ρ (net p r)) o k t
+    made_read o None = refl
+    made_read o (Some t) = ap (value_of inputs content (made o.kind o.types t k (map (net p) o.operands))) (map-map ρ (net p) o.operands)
+
+    by_sort : (o : Op) → Sort o.kind → word_of_op (λ r. ρ (net p r)) k o ≡ Some w
+        → reads inputs content ρ (op_in d top p (body_of (module_at d top p)) j k o) ≡ w
+    by_sort o (a_register f r i u) is = let never : None ≡ Some w = simp r at is in cc
+    by_sort o (an_instance x r i u) is = let never : None ≡ Some w = simp (r, i) at is in cc
+    by_sort o (an_output r i u) is = let same : Some [] ≡ Some w = simp (r, i, u) at is in let e : [] ≡ w = cc in simp (r, i, u) e
+    by_sort o (a_made r i u) is =
+        let same : Some (made_word (λ r. ρ (net p r)) o k (result_type o k)) ≡ Some w = simp (r, i, u) at is in
+        let e : made_word (λ r. ρ (net p r)) o k (result_type o k) ≡ w = cc in
+        simp (r, i, u) (made_read o (result_type o k) ∙ e)
+
+    go : (x : Option Op) → word_of (λ r. ρ (net p r)) k x ≡ Some w
+        → reads inputs content ρ (result_in d top p (body_of (module_at d top p)) j k x) ≡ w
+    go None is = cc
+    go (Some o) is = by_sort o (sort_of o.kind) is
+
+-- so the values at the end of a path hold in its body under a settled map
+pub holds_at : (d : Design) (top : Name) (inputs content : Word) (ρ : Net → Word)
+    → ((a : Net) → ρ a ≡ reads inputs content ρ (source d top a))
+    → (p : Path) → Holds (body_of (module_at d top p)) (λ r. ρ (net p r))
+holds_at d top inputs content ρ settled p = record {
+  undefined_is = settled (net p undefined);
+  result_is = λ j k w but says. settled (net p (result j k)) ∙ word_read d top inputs content ρ p j k w says;
+}
+
+-- ---- the two designs
+
+module _ (d d' : Design) (F : Option Module → Option Module → Type 0) (shape : (o o' : Option Module) → F o o' → EditedModule o o')
+    (none : F None None) (each : (s : Name) → F (find_module d s) (find_module d' s)) where
+  found_inside : (o o' : Option Module) → F o o' → (u : ℕ)
+      → Found d d' (bind o (λ (m : Module). bind (slice_get (instances m.body) u) (callee d))) (bind o' (λ (m : Module). bind (slice_get (instances m.body) u) (callee d')))
+  found_inside o o' x u =
+      subst₂ (Found d d') (sym (module_inside d u o)) (sym (module_inside d' u o'))
+      (subst (λ z. Found d d' (bind (slice_get (instances (body_of o)) u) (callee d)) (bind z (callee d'))) (sym instance_is)
+      (found_callee d d' (shape o o' x).edit.stand (slice_get (instances (body_of o)) u)))
+    where
+      instance_is : slice_get (instances (body_of o')) u ≡ omap (retarget (shape o o' x).edit.stand) (slice_get (instances (body_of o)) u)
+      instance_is =
+          ap (λ xs. slice_get xs u) (instances_follow (body_of o) (body_of o') (shape o o' x).edit.stand (shape o o' x).edit.anchors_are)
+          ∙ slice_get-map (retarget (shape o o' x).edit.stand) (instances (body_of o)) u
+
+  -- the ports of what an operation instances stay
+  ports_callee : (o : Op) → ports_of (callee d' o) ≡ ports_of (callee d o)
+  ports_callee o = go (instance_in o.kind)
+    where
+      go : (y : Option Instance) → ports_of (bind y (λ (i : Instance). find_module d' i.symbol)) ≡ ports_of (bind y (λ (i : Instance). find_module d i.symbol))
+      go None = refl
+      go (Some i) = (shape (find_module d i.symbol) (find_module d' i.symbol) (each i.symbol)).ports_are
+
+  -- the content of a module has as many bits
+  module_state_same : (n : ℕ) (s : Name) → module_state n d' s ≡ module_state n d s
+  module_state_same zero s = refl
+  module_state_same (suc n) s =
+      let e : Edit (body_of (find_module d s)) (body_of (find_module d' s)) = (shape (find_module d s) (find_module d' s) (each s)).edit in
+      state_body (module_state n d') (find_module d' s)
+      ∙ ap (λ inner. body_state inner (body_of (find_module d' s))) (fun_ext (module_state_same n))
+      ∙ body_state_follows (body_of (find_module d s)) (body_of (find_module d' s)) e.stand e.anchors_are (module_state n d)
+      ∙ sym (state_body (module_state n d) (find_module d s))
+
+  pub state_same : length d' ≡ length d → state d' ≡ state d
+  state_same same = fun_ext (λ s. ap (λ n. module_state (suc n) d' s) same ∙ module_state_same (suc (length d)) s)
+
+  module _ (top : Name) where
+    pub found : (p : Path) → Found d d' (module_at d top p) (module_at d' top p)
+    found [] = of_symbol top refl refl
+    found (u ∷ p) =
+        found_inside (module_at d top p) (module_at d' top p)
+        (of_found d d' F none each (module_at d top p) (module_at d' top p) (found p)) u
+
+    -- what holds of the two modules at a path
+    pub at : (p : Path) → F (module_at d top p) (module_at d' top p)
+    at p = of_found d d' F none each (module_at d top p) (module_at d' top p) (found p)
+
+    abbrev pub shape_at : (p : Path) → EditedModule (module_at d top p) (module_at d' top p)
+    shape_at p = shape (module_at d top p) (module_at d' top p) (at p)
+
+    -- what stands in the new design for a net of the old one
+    abbrev pub stand_at : Path → Ref → Ref
+    stand_at p = (shape_at p).edit.stand
+
+    abbrev pub standing : Net → Net
+    standing a = net a.path (stand_at a.path a.ref)
+
+    instance_at : (p : Path) (u : ℕ) → slice_get (instances (body_of (module_at d' top p))) u ≡ omap (retarget (stand_at p)) (slice_get (instances (body_of (module_at d top p))) u)
+    instance_at p u =
+        ap (λ xs. slice_get xs u) (instances_follow (body_of (module_at d top p)) (body_of (module_at d' top p)) (stand_at p) (shape_at p).edit.anchors_are)
+        ∙ slice_get-map (retarget (stand_at p)) (instances (body_of (module_at d top p))) u
+
+    -- content begins where it began
+    pub base_same : length d' ≡ length d → (p : Path) → base d' top p ≡ base d top p
+    base_same same [] = refl
+    base_same same (u ∷ p) =
+        ap₂ (λ a b. a + b) (base_same same p)
+        (before_body d' u (module_at d' top p)
+        ∙ ap (λ inner. body_state inner (before_instance u (body_of (module_at d' top p)))) (state_same same)
+        ∙ before_instance_follows (body_of (module_at d top p)) (body_of (module_at d' top p)) (stand_at p) (shape_at p).edit.anchors_are (state d) u
+        ∙ sym (before_body d u (module_at d top p)))
+
+    -- ---- registers
+
+    abbrev pub edit_slot : Slot → Slot
+    edit_slot s = record { path = s.path; op = retarget (stand_at s.path) s.op }
+
+    registers_along : (inner inner' : Path → Name → List Slot) (p : Path) (os : List Op) (n : ℕ)
+        → ((v w : ℕ) (o : Op) (i : Instance) → w ≡ n + v → slice_get (instances os) v ≡ Some o → instance_in o.kind ≡ Some i
+        → inner' (w ∷ p) i.symbol ≡ map edit_slot (inner (w ∷ p) i.symbol))
+        → body_registers inner' p n (map (retarget (stand_at p)) os) ≡ map edit_slot (body_registers inner p n os)
+    registers_along inner inner' p [] n alike = refl
+    registers_along inner inner' p (o ∷ os) n alike =
+        go (sort_of o.kind) (registers_along inner inner' p os n) (registers_along inner inner' p os (suc n))
+      where
+        go : Sort o.kind
+            → (((v w : ℕ) (x : Op) (i : Instance) → w ≡ n + v → slice_get (instances os) v ≡ Some x → instance_in x.kind ≡ Some i
+            → inner' (w ∷ p) i.symbol ≡ map edit_slot (inner (w ∷ p) i.symbol))
+            → body_registers inner' p n (map (retarget (stand_at p)) os) ≡ map edit_slot (body_registers inner p n os))
+            → (((v w : ℕ) (x : Op) (i : Instance) → w ≡ suc n + v → slice_get (instances os) v ≡ Some x → instance_in x.kind ≡ Some i
+            → inner' (w ∷ p) i.symbol ≡ map edit_slot (inner (w ∷ p) i.symbol))
+            → body_registers inner' p (suc n) (map (retarget (stand_at p)) os) ≡ map edit_slot (body_registers inner p (suc n) os))
+            → body_registers inner' p n (map (retarget (stand_at p)) (o ∷ os)) ≡ map edit_slot (body_registers inner p n (o ∷ os))
+        go (a_register f r i u) rest more =
+            simp (r, i) (ap (λ xs. edit_slot (record { path = p; op = o }) ∷ xs)
+            (rest (λ v w x y is at_v inst. alike v w x y is (simp i at_v) inst)))
+        go (an_instance x r i u) rest more =
+            simp (r, i) (ap₂ (λ xs ys. xs ++ ys) (alike 0 n o x (omega arith) (simp i) i)
+            (more (λ v w y z is at_v inst. alike (suc v) w y z (omega arith) (simp i at_v) inst))
+            ∙ sym (map-append edit_slot (inner (n ∷ p) x.symbol) (body_registers inner p (suc n) os)))
+        go (an_output r i u) rest more =
+            simp (r, i) (rest (λ v w x y is at_v inst. alike v w x y is (simp i at_v) inst))
+        go (a_made r i u) rest more =
+            simp (r, i) (rest (λ v w x y is at_v inst. alike v w x y is (simp i at_v) inst))
+
+    -- the registers are those of the old design, with other operands
+    module_registers_same : (n : ℕ) (p : Path) (s : Name) → module_at d top p ≡ find_module d s → module_at d' top p ≡ find_module d' s
+        → module_registers n d' p s ≡ map edit_slot (module_registers n d p s)
+    module_registers_same zero p s is is' = refl
+    module_registers_same (suc n) p s is is' =
+        registers_body (module_registers n d') p (find_module d' s)
+        ∙ ap (λ o. body_registers (module_registers n d') p 0 (body_of o)) (sym is')
+        ∙ sym (body_registers-anchors (module_registers n d') p 0 os')
+        ∙ ap (body_registers (module_registers n d') p 0) (shape_at p).edit.anchors_are
+        ∙ registers_along (module_registers n d) (module_registers n d') p (anchors os) 0 (below (λ q t. module_registers_same n q t))
+        ∙ ap (map edit_slot) (body_registers-anchors (module_registers n d) p 0 os)
+        ∙ ap (λ o. map edit_slot (body_registers (module_registers n d) p 0 (body_of o))) is
+        ∙ ap (map edit_slot) (sym (registers_body (module_registers n d) p (find_module d s)))
+      where
+        os : List Op
+        os = body_of (module_at d top p)
+
+        os' : List Op
+        os' = body_of (module_at d' top p)
+
+        below : ((q : Path) (t : Name) → module_at d top q ≡ find_module d t → module_at d' top q ≡ find_module d' t
+            → module_registers n d' q t ≡ map edit_slot (module_registers n d q t))
+            → (v w : ℕ) (o : Op) (i : Instance) → w ≡ 0 + v → slice_get (instances (anchors os)) v ≡ Some o → instance_in o.kind ≡ Some i
+            → module_registers n d' (w ∷ p) i.symbol ≡ map edit_slot (module_registers n d (w ∷ p) i.symbol)
+        below inner v w o i same at_v inst =
+            let here : slice_get (instances os) w ≡ Some o = ap₂ slice_get (sym (instances-anchors os)) (same ∙ zero-add v) ∙ at_v in
+            let there : slice_get (instances os') w ≡ Some (retarget (stand_at p) o) = instance_at p w ∙ ap (omap (retarget (stand_at p))) here in
+            inner (w ∷ p) i.symbol
+            (module_inside d w (module_at d top p) ∙ ap (λ x. bind x (callee d)) here ∙ ap (λ y. bind y (λ (x : Instance). find_module d x.symbol)) inst)
+            (module_inside d' w (module_at d' top p) ∙ ap (λ x. bind x (callee d')) there ∙ ap (λ y. bind y (λ (x : Instance). find_module d' x.symbol)) inst)
+
+    pub registers_same : length d' ≡ length d → registers d' top ≡ map edit_slot (registers d top)
+    registers_same same = ap (λ n. module_registers (suc n) d' [] top) same ∙ module_registers_same (suc (length d)) [] top refl refl
+
+    next_along : (ss : List Slot) (ρ : Net → Word) (content : Word)
+        → next_content (map edit_slot ss) ρ content ≡ next_content ss (λ a. ρ (standing a)) content
+    next_along [] ρ content = refl
+    next_along (s ∷ ss) ρ content =
+        ap₂ (λ x y. first (held_width s.op) x ++ y)
+        (loaded-retarget (stand_at s.path) s.op (λ r. ρ (net s.path r)) (first (held_width s.op) content))
+        (next_along ss ρ (drop (held_width s.op) content))
+
+    pub next_same : length d' ≡ length d → (ρ : Net → Word) (content : Word)
+        → next_content (registers d' top) ρ content ≡ next_content (registers d top) (λ a. ρ (standing a)) content
+    next_same same ρ content = ap (λ ss. next_content ss ρ content) (registers_same same) ∙ next_along (registers d top) ρ content
+
+    pub outputs_same : (ρ : Net → Word) → outputs d' top ρ ≡ outputs d top (λ a. ρ (standing a))
+    outputs_same ρ =
+        ap joined (ap (map (λ r. ρ (net [] r))) (outputs_body (find_module d' top)
+        ∙ output_refs_follow (body_of (find_module d top)) (body_of (find_module d' top)) (stand_at []) (shape_at []).edit.anchors_are)
+        ∙ map-map (λ r. ρ (net [] r)) (stand_at []) (output_refs (body_of (find_module d top)))
+        ∙ ap (map (λ r. ρ (net [] (stand_at [] r)))) (sym (outputs_body (find_module d top))))
+
+    -- ---- where values come from
+
+    copy_same : (p : Path) (x : Option Ref) → copy_of p (omap (stand_at p) x) ≡ map_source standing (copy_of p x)
+    copy_same p None = refl
+    copy_same p (Some r) = refl
+
+    made_same : (p : Path) (o : Op) (k : ℕ) (t : Option HwType) → made_of p (retarget (stand_at p) o) k t ≡ map_source standing (made_of p o k t)
+    made_same p o k None = refl
+    made_same p o k (Some t) =
+        ap (made o.kind o.types t k) (map-map (net p) (stand_at p) o.operands ∙ sym (map-map standing (net p) o.operands))
+
+    joined_same : (p : Path) (u j : ℕ) → bind (module_at d' top p) (joined_at d' u j) ≡ omap (stand_at p) (bind (module_at d top p) (joined_at d u j))
+    joined_same p u j =
+        joined_body d' u j (module_at d' top p) ∙ ap (λ x. bind x (joined_ref d' j)) (instance_at p u)
+        ∙ go (slice_get (instances (body_of (module_at d top p))) u) ∙ ap (omap (stand_at p)) (sym (joined_body d u j (module_at d top p)))
+      where
+        go : (x : Option Op) → bind (omap (retarget (stand_at p)) x) (joined_ref d' j) ≡ omap (stand_at p) (bind x (joined_ref d j))
+        go None = refl
+        go (Some o) =
+            port_of (callee d' o) (map (stand_at p) o.operands) j
+            ∙ ap (λ ps. port_ref ps (map (stand_at p) o.operands) j) (ports_callee o)
+            ∙ port_ref-map (stand_at p) (ports_of (callee d o)) o.operands j
+            ∙ ap (omap (stand_at p)) (sym (port_of (callee d o) o.operands j))
+
+    pub port_same : (p : Path) (j : ℕ) → port_source d' top p j ≡ map_source standing (port_source d top p j)
+    port_same [] j =
+        input_ports j (find_module d' top)
+        ∙ ap (λ ps. input_of (slice_get ps j) (input_width (take j ps))) (shape_at []).ports_are
+        ∙ sym (map_source-input standing (slice_get (ports_of (find_module d top)) j) (input_width (take j (ports_of (find_module d top)))))
+        ∙ ap (map_source standing) (sym (input_ports j (find_module d top)))
+    port_same (u ∷ p) j = ap (copy_of p) (joined_same p u j) ∙ copy_same p (bind (module_at d top p) (joined_at d u j))
+
+    -- the module that an instance leads to
+    inside_at : (p : Path) (u : ℕ) (o : Op) → slice_get (instances (body_of (module_at d top p))) u ≡ Some o → module_at d top (u ∷ p) ≡ callee d o
+    inside_at p u o is = module_inside d u (module_at d top p) ∙ ap (λ x. bind x (callee d)) is
+
+    inside_at' : (p : Path) (u : ℕ) (o : Op) → slice_get (instances (body_of (module_at d' top p))) u ≡ Some o → module_at d' top (u ∷ p) ≡ callee d' o
+    inside_at' p u o is = module_inside d' u (module_at d' top p) ∙ ap (λ x. bind x (callee d')) is
+
+    given_same : (p : Path) (u k : ℕ) (o : Op) → slice_get (instances (body_of (module_at d top p))) u ≡ Some o
+        → given_ref d' k (retarget (stand_at p) o) ≡ omap (stand_at (u ∷ p)) (given_ref d k o)
+    given_same p u k o is =
+        output_of (callee d' o) k
+        ∙ ap (λ m. slice_get (output_refs (body_of m)) k) (sym (inside_at' p u (retarget (stand_at p) o) (instance_at p u ∙ ap (omap (retarget (stand_at p))) is)))
+        ∙ ap (λ rs. slice_get rs k) (output_refs_follow (body_of (module_at d top (u ∷ p))) (body_of (module_at d' top (u ∷ p))) (stand_at (u ∷ p)) (shape_at (u ∷ p)).edit.anchors_are)
+        ∙ slice_get-map (stand_at (u ∷ p)) (output_refs (body_of (module_at d top (u ∷ p)))) k
+        ∙ ap (λ m. omap (stand_at (u ∷ p)) (slice_get (output_refs (body_of m)) k)) (inside_at p u o is)
+        ∙ ap (omap (stand_at (u ∷ p))) (sym (output_of (callee d o) k))
+
+    -- an operation that stays has its source, with other nets in it
+    pub kept_same : length d' ≡ length d → (p : Path) (j j' k : ℕ)
+        → Kept (body_of (module_at d top p)) (body_of (module_at d' top p)) (stand_at p) j j'
+        → source d' top (net p (result j' k)) ≡ map_source standing (source d top (net p (result j k)))
+    kept_same same p j j' k stays =
+        result_here d' top p j' k
+        ∙ ap (result_in d' top p os' j' k) stays.op
+        ∙ go (slice_get os j) refl
+        ∙ ap (map_source standing) (sym (result_here d top p j k))
+      where
+        os : List Op
+        os = body_of (module_at d top p)
+
+        os' : List Op
+        os' = body_of (module_at d' top p)
+
+        count_same : length (instances (take j' os')) ≡ length (instances (take j os))
+        count_same =
+            ap length (instances_follow (take j os) (take j' os') (stand_at p) stays.before)
+            ∙ length_map (retarget (stand_at p)) (instances (take j os))
+
+        offset_same : base d' top p + body_state (state d') (take j' os') ≡ base d top p + body_state (state d) (take j os)
+        offset_same =
+            ap₂ (λ a b. a + b) (base_same same p)
+            (ap (λ inner. body_state inner (take j' os')) (state_same same)
+            ∙ body_state_follows (take j os) (take j' os') (stand_at p) stays.before (state d))
+
+        by_sort : (o : Op) → slice_get os j ≡ Some o → Sort o.kind
+            → op_in d' top p os' j' k (retarget (stand_at p) o) ≡ map_source standing (op_in d top p os j k o)
+        by_sort o is (a_register f r i u) =
+            simp r (ap (λ n. held_of n (result_type o k)) offset_same
+            ∙ sym (map_source-held standing (base d top p + body_state (state d) (take j os)) (result_type o k)))
+        by_sort o is (an_instance x r i u) =
+            let at_u : slice_get (instances os) (length (instances (take j os))) ≡ Some o = instance_found os j o x is i in
+            let from : copy_of (length (instances (take j' os')) ∷ p) (given_ref d' k (retarget (stand_at p) o))
+            ≡ map_source standing (copy_of (length (instances (take j os)) ∷ p) (given_ref d k o)) =
+            ap₂ (λ n y. copy_of (n ∷ p) y) count_same (given_same p (length (instances (take j os))) k o at_u)
+            ∙ copy_same (length (instances (take j os)) ∷ p) (given_ref d k o) in
+            simp (r, i) (simp i at from)
+        by_sort o is (an_output r i u) = simp (r, i, u)
+        by_sort o is (a_made r i u) = simp (r, i, u) (made_same p o k (result_type o k))
+
+        go : (x : Option Op) → slice_get os j ≡ x
+            → result_in d' top p os' j' k (omap (retarget (stand_at p)) x) ≡ map_source standing (result_in d top p os j k x)
+        go None is = refl
+        go (Some o) is = by_sort o is (sort_of o.kind)
+
+    -- ---- settled maps go back
+
+    -- a settled map of the new design, seen from the old one
+    pub back_settled : length d' ≡ length d
+        → (inputs content : Word) (ρ : Net → Word) → ((a : Net) → ρ a ≡ reads inputs content ρ (source d' top a))
+        → ((p : Path) (j k : ℕ) → (shape_at p).edit.place j ≡ None
+        → word_of (λ r. ρ (net p (stand_at p r))) k (slice_get (body_of (module_at d top p)) j) ≡ Some (ρ (net p (stand_at p (result j k)))))
+        → (a : Net) → ρ (standing a) ≡ reads inputs content (λ b. ρ (standing b)) (source d top a)
+    back_settled same inputs content ρ settled changed a = by_ref a.path a.ref
+      where
+        -- where the new source is the old one with other nets in it
+        stays : (p : Path) (r : Ref) → source d' top (net p (stand_at p r)) ≡ map_source standing (source d top (net p r))
+            → ρ (net p (stand_at p r)) ≡ reads inputs content (λ b. ρ (standing b)) (source d top (net p r))
+        stays p r is =
+            settled (net p (stand_at p r)) ∙ ap (reads inputs content ρ) is
+            ∙ reads-map_source inputs content ρ standing (source d top (net p r))
+
+        by_place : (p : Path) (j k : ℕ) (x : Option ℕ) → (shape_at p).edit.place j ≡ x
+            → ρ (net p (stand_at p (result j k))) ≡ reads inputs content (λ b. ρ (standing b)) (source d top (net p (result j k)))
+        by_place p j k None gone =
+            sym (word_read d top inputs content (λ b. ρ (standing b)) p j k (ρ (net p (stand_at p (result j k)))) (changed p j k gone))
+        by_place p j k (Some j') is =
+            let there : Kept (body_of (module_at d top p)) (body_of (module_at d' top p)) (stand_at p) j j' = (shape_at p).edit.kept j j' is in
+            stays p (result j k) (ap (λ r. source d' top (net p r)) (there.stands k) ∙ kept_same same p j j' k there)
+
+        by_ref : (p : Path) (r : Ref) → ρ (net p (stand_at p r)) ≡ reads inputs content (λ b. ρ (standing b)) (source d top (net p r))
+        by_ref p (port j) = stays p (port j) (ap (λ r. source d' top (net p r)) ((shape_at p).edit.port_is j) ∙ port_same p j)
+        by_ref p undefined = stays p undefined (ap (λ r. source d' top (net p r)) (shape_at p).edit.undefined_is)
+        by_ref p (result j k) = by_place p j k ((shape_at p).edit.place j) refl

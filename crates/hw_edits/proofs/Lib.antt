@@ -1,0 +1,11 @@
+-- Lemmas.
+pub mod Anchors
+pub mod Edited
+pub mod Heights
+pub mod Types
+pub mod Follows
+pub mod Positions
+pub mod ChangeInPlace
+pub mod PutIn
+pub mod TakeOut
+pub mod Unused

@@ -1,0 +1,4 @@
+pub mod Edit
+pub mod Falls
+pub mod Follows
+pub mod Laws
