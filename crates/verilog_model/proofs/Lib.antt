@@ -4,3 +4,5 @@ pub mod Machine
 pub mod Reading
 pub mod Rereading
 pub mod Uniqueness
+pub mod Samples
+pub mod TwoRegisters
