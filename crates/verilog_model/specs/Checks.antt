@@ -1,7 +1,7 @@
 -- What a tree must meet beside its grammar: names declared once and before use (IEEE 1364-2005, 12.7: scope rules),
 -- selects in range and on ranges (5.2.1), one driver for each net and output, nonzero literal divisors, clocks that come
 -- from the inputs at the top.
-use Rattle.std.specs.Prelude.{ℕ, zero, suc, ◌+◌, Bool, true, false, cond, not, ◌&&◌, ◌||◌, ◌==◌, nat_lt, nat_le, List, [], ◌∷◌, ◌++◌, length, map, Option, Some, None, is_some}
+use Rattle.std.specs.Prelude.{ℕ, zero, suc, ◌+◌, ◌%◌, ◌^◌, Bool, true, false, cond, not, ◌&&◌, ◌||◌, ◌==◌, nat_lt, nat_le, List, [], ◌∷◌, ◌++◌, length, map, Option, Some, None, is_some}
 use Rattle.wiring.specs.Options.{bind}
 use Rattle.hw_model.specs.Types.{Name}
 use Rattle.hw_model.specs.Design.{same_name}
@@ -85,8 +85,9 @@ abbrev pub has_bit : Option Declared → ℕ → Bool
 has_bit None k = false
 has_bit (Some d) k = can_read d.role && within d.high k
 
+-- a literal that is not 0 in its width, to which it is cut (3.5.1)
 abbrev pub is_divisor : Expr → Bool
-is_divisor (literal w s h) = nat_lt 0 (hex_number h)
+is_divisor (literal w s h) = nat_lt 0 (hex_number h % 2 ^ decimal_number w)
 is_divisor _ = false
 
 abbrev pub divides : Operator → Bool
