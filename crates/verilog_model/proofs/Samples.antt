@@ -4,11 +4,15 @@ use Rattle.bits_core.specs.Word.{Word, bits}
 use Rattle.hw_model.specs.Types.{Name}
 use Rattle.hw_model.specs.Design.{same_name}
 use Rattle.verilog_model.specs.Tokens.{tokens}
-use Rattle.verilog_model.specs.Tree.{Expr}
+use Rattle.verilog_model.specs.Tree.{Expr, VModule, Tree}
 use Rattle.verilog_model.specs.Tree.Operator.{minus, over, right_shift, signed_right_shift, bit_xor}
 use Rattle.verilog_model.specs.Tree.Expr.{name, literal, as_signed, as_unsigned, paren, binary}
+use Rattle.verilog_model.specs.Tree.Item.{instance}
 use Rattle.verilog_model.specs.Grammar.{expr_spelled, fits}
 use Rattle.verilog_model.specs.Expression.{assigned}
+use Rattle.verilog_model.specs.Reserved.{reserved_words}
+use Rattle.verilog_model.specs.Checks.{Declared, expr_checks, tree_checks}
+use Rattle.verilog_model.specs.Checks.Role.{net}
 
 abbrev a : Expr
 a = name (codes "a")
@@ -95,3 +99,27 @@ signed_division_fits = refl
 
 signed_division_value : gives 7 1 0 signed_division ≡ bits 8 127
 signed_division_value = refl
+
+-- a divisor is not 0 in its width
+
+abbrev declared_a : List Declared
+declared_a = record { name = codes "a"; role = net; high = None } ∷ []
+
+divisors : (expr_checks declared_a (binary over a (literal (codes "8") false (codes "3"))) ≡ true) × (expr_checks declared_a (binary over a (literal (codes "1") false (codes "2"))) ≡ false)
+divisors = (refl, refl)
+
+-- no module is within itself
+
+abbrev holder : Name → Name → VModule
+holder n m = record { name = n; ports = []; items = instance m (codes "u") [] ∷ [] }
+
+abbrev leaf : VModule
+leaf = record { name = codes "Leaf"; ports = []; items = [] }
+
+nested_checks : tree_checks (holder (codes "Top") (codes "Mid") ∷ holder (codes "Mid") (codes "Leaf") ∷ leaf ∷ []) ≡ true
+unfolding reserved_words
+nested_checks = refl
+
+cyclic_does_not_check : tree_checks (holder (codes "Top") (codes "Mid") ∷ holder (codes "Mid") (codes "Top") ∷ []) ≡ false
+unfolding reserved_words
+cyclic_does_not_check = refl

@@ -13,7 +13,7 @@ use Rattle.verilog_model.specs.Tree.Block.{load, if_load, if_else, if_else_if}
 use Rattle.verilog_model.specs.Tree.Item.{wire, reg, assign, always, instance}
 use Rattle.verilog_model.specs.Hierarchy.{first_some, when, or_else, find_vmodule, find_port, vports_of, block_target}
 use Rattle.verilog_model.specs.Grammar.{spelled, fits, all_fit, level, strength, choice_level, primary_level, block_fits, connections_fit, item_fits, items_fit, tree_fits}
-use Rattle.verilog_model.specs.Checks.{contains_name, starts_name, is_identifier, are_distinct, all_identifiers, Role, Declared, find_declared, has_role, can_read, can_assign, is_input, is_variable, within, has_bit, divides, is_divisor, expr_checks, exprs_check, load_checks, block_checks, joins_net, connection_checks, connections_check, ports_joined, item_checks, items_check, declared_by, declared_ports, declared_items, declared_in, names_check, ports_check, each_driven, clocks_check, module_checks, modules_check, tree_checks}
+use Rattle.verilog_model.specs.Checks.{contains_name, starts_name, is_identifier, are_distinct, all_identifiers, Role, Declared, find_declared, has_role, can_read, can_assign, is_input, is_variable, within, has_bit, divides, is_divisor, expr_checks, exprs_check, load_checks, block_checks, joins_net, connection_checks, connections_check, ports_joined, item_checks, items_check, declared_by, declared_ports, declared_items, declared_in, names_check, ports_check, each_driven, clocks_check, nesting_checks, module_checks, modules_check, tree_checks}
 use Rattle.verilog_model.specs.Behaviour.{IsVerilog}
 use Rattle.verilog_model.proofs.Numerals.{and_intro, and_first, and_second}
 use Rattle.verilog_model.proofs.Machine.{run}
@@ -213,7 +213,7 @@ module _ (t : Tree) (modules_named : IsTrue (all_identifiers (map (λ (m : VModu
   module_clear : (m : VModule) → IsTrue (items_fit m.items) → IsTrue (module_checks t m) → ClearItems m.items
   module_clear m f c =
       let names = map (λ (d : Declared). d.name) (declared_in m) in
-      let drivers = each_driven t m.items (declared_in m) && clocks_check t m.ports m.items in
+      let drivers = each_driven t m.items (declared_in m) && (clocks_check t m.ports m.items && nesting_checks t m) in
       let parts = both (names_check names && ports_check m.ports) (items_check t (declared_ports m.ports) m.items && drivers) c in
       let declared = named_parts (declared_ports m.ports) (declared_items m.items)
           (and_second (are_distinct names) (all_identifiers names) (and_first (names_check names) (ports_check m.ports) parts.0)) in
