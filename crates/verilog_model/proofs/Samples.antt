@@ -1,12 +1,12 @@
 -- Texts, their trees and values, computed.
-use Rattle.std.proofs.Common.{◌≡◌, ℕ, ◌==◌, Bool, true, false, cond, List, [], ◌∷◌, ◌++◌, map, Option, Some, None, refl, codes, IsTrue, IsFalse}
+use Rattle.std.proofs.Common.{◌≡◌, ℕ, true, false, cond, List, [], ◌∷◌, None, refl, codes}
 use Rattle.bits_core.specs.Word.{Word, bits}
 use Rattle.hw_model.specs.Types.{Name}
 use Rattle.hw_model.specs.Design.{same_name}
 use Rattle.verilog_model.specs.Tokens.{tokens}
-use Rattle.verilog_model.specs.Tree.{Expr, VModule, Tree}
-use Rattle.verilog_model.specs.Tree.Operator.{minus, over, right_shift, signed_right_shift, bit_xor}
-use Rattle.verilog_model.specs.Tree.Expr.{name, literal, as_signed, as_unsigned, paren, binary}
+use Rattle.verilog_model.specs.Tree.{Expr, VModule}
+use Rattle.verilog_model.specs.Tree.Operator.{plus, minus, over, right_shift, signed_right_shift, bit_xor}
+use Rattle.verilog_model.specs.Tree.Expr.{name, literal, as_signed, as_unsigned, paren, odd, binary, choice}
 use Rattle.verilog_model.specs.Tree.Item.{instance}
 use Rattle.verilog_model.specs.Grammar.{expr_spelled, fits}
 use Rattle.verilog_model.specs.Expression.{assigned}
@@ -49,6 +49,11 @@ bare_difference_text = refl
 
 bare_difference_does_not_fit : fits (binary minus a (binary minus b c)) ≡ false
 bare_difference_does_not_fit = refl
+
+-- a unary operator may touch what is in front of it
+touching_texts : (tokens (codes "a+^b") ≡ expr_spelled (binary plus a (odd b)) []) × (tokens (codes "a^^b") ≡ expr_spelled (binary bit_xor a (odd b)) [])
+    × (tokens (codes "a?^b:^c") ≡ expr_spelled (choice a (odd b) (odd c)) [])
+touching_texts = (refl, refl, refl)
 
 -- ---- values at 8 bits
 

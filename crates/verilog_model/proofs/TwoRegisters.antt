@@ -1,16 +1,13 @@
 -- Two registers of eight bits, one behind the other, in one module and as instances of a module: their texts, trees and
 -- steps, computed.
-use Rattle.std.proofs.Common.{◌≡◌, ℕ, zero, suc, Bool, true, false, List, [], ◌∷◌, ◌++◌, Option, Some, None, refl, codes, IsTrue}
+use Rattle.std.proofs.Common.{◌≡◌, ℕ, zero, suc, Bool, true, false, List, [], ◌∷◌, ◌++◌, Option, Some, None, refl, codes}
 use Rattle.bits_core.specs.Word.{Word, bits}
 use Rattle.hw_model.specs.Types.{Name}
-use Rattle.verilog_model.specs.Tokens.{tokens}
-use Rattle.verilog_model.specs.Tree.{Expr, VPort, Load, Block, Connection, Item, VModule, Tree}
+use Rattle.verilog_model.specs.Tree.{VPort, Connection, Item, Tree}
 use Rattle.verilog_model.specs.Tree.Expr.{name, literal}
 use Rattle.verilog_model.specs.Tree.Block.{if_else_if}
 use Rattle.verilog_model.specs.Tree.Item.{wire, reg, assign, always, instance}
-use Rattle.verilog_model.specs.Grammar.{spelled, tree_fits}
 use Rattle.verilog_model.specs.Reserved.{reserved_words}
-use Rattle.verilog_model.specs.Checks.{tree_checks}
 use Rattle.verilog_model.specs.Hierarchy.{VNet, drive, vmodule_at, width_at, vregisters, vstate}
 use Rattle.verilog_model.specs.Meaning.{driven, tree_outputs, next_vcontent}
 use Rattle.verilog_model.specs.Behaviour.{IsVerilog}

@@ -2,7 +2,6 @@
 -- selects in range and on ranges (5.2.1), one driver for each net and output, nonzero literal divisors, clocks that come
 -- from the inputs at the top, no module within itself.
 use Rattle.std.specs.Prelude.{ℕ, zero, suc, ◌+◌, ◌%◌, ◌^◌, Bool, true, false, cond, not, ◌&&◌, ◌||◌, ◌==◌, nat_lt, nat_le, List, [], ◌∷◌, ◌++◌, length, map, Option, Some, None, is_some}
-use Rattle.wiring.specs.Options.{bind}
 use Rattle.hw_model.specs.Types.{Name}
 use Rattle.hw_model.specs.Design.{same_name}
 use Rattle.verilog_model.specs.Tokens.{is_name_start, is_name_byte}

@@ -1,6 +1,6 @@
 -- What a module of a tree does: its settled maps, its outputs, its steps (IEEE 1364-2005, 6.1: continuous assignments;
 -- 9.2.2: nonblocking assignments), read by cycles.
-use Rattle.std.specs.Prelude.{◌≡◌, ℕ, Bool, false, cond, List, [], ◌∷◌, ◌++◌, map, drop, filter, Option, Some, None}
+use Rattle.std.specs.Prelude.{◌≡◌, ℕ, Bool, false, cond, List, [], ◌∷◌, ◌++◌, map, drop, filter}
 use Rattle.bits_core.specs.Word.{Word, first}
 use Rattle.hw_model.specs.Types.{Name}
 use Rattle.hw_model.specs.Value.{joined, is_high}

@@ -2,4 +2,5 @@
 #![tactic(auto)]
 
 mod laws;
+
 pub use laws::one_tree;

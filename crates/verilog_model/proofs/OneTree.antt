@@ -1,9 +1,9 @@
 -- A text is at most one tree's: trees that keep precedence and meet the checks are read back from their spellings.
-use Rattle.std.proofs.Common.{◌≡◌, ℕ, zero, suc, Bool, true, false, cond, not, ◌&&◌, ◌||◌, nat_le, nat_lt, List, [], ◌∷◌, ◌++◌, map, Option, Some, None, is_some, refl, sym, ◌∙◌, ap, subst, IsTrue, arith, leb-true}
+use Rattle.std.proofs.Common.{◌≡◌, ℕ, suc, Bool, true, false, cond, not, ◌&&◌, ◌||◌, nat_le, nat_lt, List, [], ◌∷◌, ◌++◌, map, Option, Some, None, is_some, refl, sym, ◌∙◌, ap, subst, IsTrue, leb-true}
 use Rattle.std.specs.Cmp.Lexicographic.{bytes_decides}
 use Rattle.hw_model.specs.Types.{Name}
 use Rattle.hw_model.specs.Design.{same_name}
-use Rattle.verilog_model.specs.Tokens.{is_name_byte, tokens}
+use Rattle.verilog_model.specs.Tokens.{is_name_byte}
 use Rattle.verilog_model.specs.Numerals.{all_bytes, is_decimal, is_hex, decimal_number}
 use Rattle.verilog_model.specs.Reserved.{reserved_words}
 use Rattle.verilog_model.specs.Tree.{Expr, Exprs, VPort, Load, Block, Connection, Item, VModule, Tree}
@@ -12,14 +12,14 @@ use Rattle.verilog_model.specs.Tree.Exprs.{last, more}
 use Rattle.verilog_model.specs.Tree.Block.{load, if_load, if_else, if_else_if}
 use Rattle.verilog_model.specs.Tree.Item.{wire, reg, assign, always, instance}
 use Rattle.verilog_model.specs.Hierarchy.{first_some, when, or_else, find_vmodule, find_port, vports_of, block_target}
-use Rattle.verilog_model.specs.Grammar.{spelled, fits, all_fit, level, strength, choice_level, primary_level, block_fits, connections_fit, item_fits, items_fit, tree_fits}
-use Rattle.verilog_model.specs.Checks.{contains_name, starts_name, is_identifier, are_distinct, all_identifiers, Role, Declared, find_declared, has_role, can_read, can_assign, is_input, is_variable, within, has_bit, divides, is_divisor, expr_checks, exprs_check, load_checks, block_checks, joins_net, connection_checks, connections_check, ports_joined, item_checks, items_check, declared_by, declared_ports, declared_items, declared_in, names_check, ports_check, each_driven, clocks_check, nesting_checks, module_checks, modules_check, tree_checks}
+use Rattle.verilog_model.specs.Grammar.{fits, all_fit, level, strength, choice_level, primary_level, block_fits, connections_fit, item_fits, items_fit, tree_fits}
+use Rattle.verilog_model.specs.Checks.{contains_name, starts_name, is_identifier, are_distinct, all_identifiers, Role, Declared, find_declared, has_role, can_read, can_assign, is_input, is_variable, has_bit, divides, is_divisor, expr_checks, exprs_check, load_checks, block_checks, joins_net, connection_checks, connections_check, ports_joined, item_checks, items_check, declared_by, declared_ports, declared_items, declared_in, names_check, ports_check, each_driven, clocks_check, nesting_checks, module_checks, modules_check, tree_checks}
 use Rattle.verilog_model.specs.Behaviour.{IsVerilog}
 use Rattle.verilog_model.proofs.Numerals.{and_intro, and_first, and_second}
-use Rattle.verilog_model.proofs.Machine.{run}
-use Rattle.verilog_model.proofs.Machine.State.{modules}
-use Rattle.verilog_model.proofs.Reading.{Clear, AllClear}
-use Rattle.verilog_model.proofs.Rereading.{NoKeyword, ClearBlock, ClearConnections, ClearItem, ClearItems, ClearTree, read_tree}
+use Rattle.verilog_model.proofs.TokenReader.{run}
+use Rattle.verilog_model.proofs.TokenReader.State.{modules}
+use Rattle.verilog_model.proofs.ReadExpressions.{Clear, AllClear}
+use Rattle.verilog_model.proofs.ReadTrees.{NoKeyword, ClearBlock, ClearConnections, ClearItem, ClearItems, ClearTree, read_tree}
 
 both : (a b : Bool) → IsTrue (a && b) → IsTrue a × IsTrue b
 both a b h = (and_first a b h, and_second a b h)
@@ -45,11 +45,12 @@ found_name : {A : Type 0} (name_of : A → Name) (xs : List A) (n : Name) → Is
 found_name name_of [] n h f = cc
 found_name {A = A} name_of (x ∷ xs) n h f =
     go (same_name (name_of x) n) refl f (found_name name_of xs n (and_second (is_identifier (name_of x)) (all_identifiers (map name_of xs)) h)) where
-  rest : Option A
-  rest = first_some (λ (y : A). when (same_name (name_of y) n) y) xs
-  go : (b : Bool) → same_name (name_of x) n ≡ b → IsTrue (is_some (or_else (when b x) rest)) → (IsTrue (is_some rest) → IsTrue (is_identifier n)) → IsTrue (is_identifier n)
-  go true e g later = subst (λ k. IsTrue (is_identifier k)) ((bytes_decides (name_of x) n).0 e) (and_first (is_identifier (name_of x)) (all_identifiers (map name_of xs)) h)
-  go false e g later = later g
+      rest : Option A
+      rest = first_some (λ (y : A). when (same_name (name_of y) n) y) xs
+
+      go : (b : Bool) → same_name (name_of x) n ≡ b → IsTrue (is_some (or_else (when b x) rest)) → (IsTrue (is_some rest) → IsTrue (is_identifier n)) → IsTrue (is_identifier n)
+      go true e g later = subst (λ k. IsTrue (is_identifier k)) ((bytes_decides (name_of x) n).0 e) (and_first (is_identifier (name_of x)) (all_identifiers (map name_of xs)) h)
+      go false e g later = later g
 
 -- ---- what is declared
 
@@ -93,7 +94,7 @@ module _ (known : List Declared) (named : AllNamed known) where
     expr_clear (bit_select n k) f c = starts_of n (bit_name n (decimal_number k) (and_second (is_decimal k) (has_bit (find_declared known n) (decimal_number k)) c))
     expr_clear (part_select n h l) f c =
         starts_of n (bit_name n (decimal_number h) (and_second (nat_le (decimal_number l) (decimal_number h)) (has_bit (find_declared known n) (decimal_number h))
-            (and_second (is_decimal h && is_decimal l) (nat_le (decimal_number l) (decimal_number h) && has_bit (find_declared known n) (decimal_number h)) c)))
+        (and_second (is_decimal h && is_decimal l) (nat_le (decimal_number l) (decimal_number h) && has_bit (find_declared known n) (decimal_number h)) c)))
     expr_clear (literal w s h) f c = and_first (is_decimal w) (is_hex h) (and_first (is_decimal w && is_hex h) (nat_lt 0 (decimal_number w)) c)
     expr_clear (joined es) f c = exprs_clear es f c
     expr_clear (repeated n es) f c =
@@ -193,22 +194,24 @@ module _ (t : Tree) (modules_named : IsTrue (all_identifiers (map (λ (m : VModu
   item_clear known named (assign n e) f c = expr_clear known named e f (and_second (has_role can_assign (find_declared known n)) (expr_checks known e) c)
   item_clear known named (always clock b) f c =
       let parts = both (has_role is_variable (find_declared known (block_target b))) (block_checks known (block_target b) b)
-          (and_second (has_role is_input (find_declared known clock)) (has_role is_variable (find_declared known (block_target b)) && block_checks known (block_target b) b) c) in
+      (and_second (has_role is_input (find_declared known clock)) (has_role is_variable (find_declared known (block_target b)) && block_checks known (block_target b) b) c) in
       block_clear known named (block_target b) b (role_name known named is_variable (block_target b) parts.0) f parts.1
   item_clear known named (instance m u cs) f c =
       let ports = vports_of (find_vmodule t m) in
-      let parts = both (is_some (find_vmodule t m)) (connections_check known ports cs && ports_joined ports cs) c in
-      (keyword_of m (found_name (λ (k : VModule). k.name) t m modules_named parts.0),
-       connections_clear known named ports cs f (and_first (connections_check known ports cs) (ports_joined ports cs) parts.1))
+      let parts = both (is_some (find_vmodule t m)) (connections_check known ports cs && ports_joined ports cs) c in (
+        keyword_of m (found_name (λ (k : VModule). k.name) t m modules_named parts.0),
+        connections_clear known named ports cs f (and_first (connections_check known ports cs) (ports_joined ports cs) parts.1),
+      )
 
   items_clear : (known : List Declared) → AllNamed known → (is : List Item) → AllNamed (declared_items is) → IsTrue (items_fit is) → IsTrue (items_check t known is) → ClearItems is
   items_clear known named [] h f c = tt
   items_clear known named (i ∷ is) h f c =
       let declared = named_parts (declared_by i) (declared_items is) h in
       let fit = both (item_fits i) (items_fit is) f in
-      let checked = both (item_checks t known i) (items_check t (known ++ declared_by i) is) c in
-      (item_clear known named i fit.0 checked.0,
-       items_clear (known ++ declared_by i) (named_append known (declared_by i) named declared.0) is declared.1 fit.1 checked.1)
+      let checked = both (item_checks t known i) (items_check t (known ++ declared_by i) is) c in (
+        item_clear known named i fit.0 checked.0,
+        items_clear (known ++ declared_by i) (named_append known (declared_by i) named declared.0) is declared.1 fit.1 checked.1,
+      )
 
   module_clear : (m : VModule) → IsTrue (items_fit m.items) → IsTrue (module_checks t m) → ClearItems m.items
   module_clear m f c =
@@ -216,7 +219,7 @@ module _ (t : Tree) (modules_named : IsTrue (all_identifiers (map (λ (m : VModu
       let drivers = each_driven t m.items (declared_in m) && (clocks_check t m.ports m.items && nesting_checks t m) in
       let parts = both (names_check names && ports_check m.ports) (items_check t (declared_ports m.ports) m.items && drivers) c in
       let declared = named_parts (declared_ports m.ports) (declared_items m.items)
-          (and_second (are_distinct names) (all_identifiers names) (and_first (names_check names) (ports_check m.ports) parts.0)) in
+      (and_second (are_distinct names) (all_identifiers names) (and_first (names_check names) (ports_check m.ports) parts.0)) in
       items_clear (declared_ports m.ports) declared.0 m.items declared.1 f (and_first (items_check t (declared_ports m.ports) m.items) drivers parts.1)
 
   modules_clear : (ms : Tree) → IsTrue (tree_fits ms) → IsTrue (modules_check t ms) → ClearTree ms
