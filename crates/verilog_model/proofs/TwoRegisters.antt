@@ -1,15 +1,21 @@
 -- Two registers of eight bits, one behind the other, in one module and as instances of a module: their texts, trees and
 -- steps, computed.
-use Rattle.std.proofs.Common.{◌≡◌, ℕ, zero, suc, Bool, true, false, List, [], ◌∷◌, ◌++◌, Option, Some, None, refl, codes}
+use Rattle.std.proofs.Common.{◌≡◌, ℕ, zero, suc, Bool, true, false, List, [], ◌∷◌, ◌++◌, Option, Some, None, refl, sym, ◌∙◌, ap, subst, ◌||◌, codes}
 use Rattle.bits_core.specs.Word.{Word, bits}
+use Rattle.std.specs.Cmp.Lexicographic.{bytes_decides}
+use Rattle.wiring.specs.Options.{bind}
 use Rattle.hw_model.specs.Types.{Name}
-use Rattle.verilog_model.specs.Tree.{VPort, Connection, Item, Tree}
+use Rattle.hw_model.specs.Design.{same_name}
+use Rattle.hw_model.specs.Machine.{Machine, Step, Run}
+use Rattle.verilog_model.specs.Checks.{contains_name}
+use Rattle.verilog_model.specs.Tree.{VPort, Connection, Item, VModule, Tree}
 use Rattle.verilog_model.specs.Tree.Expr.{name, literal}
 use Rattle.verilog_model.specs.Tree.Block.{if_else_if}
 use Rattle.verilog_model.specs.Tree.Item.{wire, reg, assign, always, instance}
 use Rattle.verilog_model.specs.Reserved.{reserved_words}
-use Rattle.verilog_model.specs.Hierarchy.{VNet, drive, vmodule_at, width_at, vregisters, vstate}
-use Rattle.verilog_model.specs.Meaning.{driven, tree_outputs, next_vcontent}
+use Rattle.verilog_model.specs.Hierarchy.{VNet, VPath, VInstance, vnet, Drive, drive, drive_at, find_instance, find_vmodule, vmodule_at, width_at, vregisters, vstate}
+use Rattle.verilog_model.specs.Hierarchy.Drive.{nothing}
+use Rattle.verilog_model.specs.Meaning.{TreeSettled, tree_machine, driven, tree_outputs, next_vcontent}
 use Rattle.verilog_model.specs.Behaviour.{IsVerilog}
 
 abbrev high : Option Name
@@ -108,3 +114,53 @@ flat_steps = refl
 
 layered_steps : outputs_over 4 layered (pair 5 6) steps ≡ outputs
 layered_steps = refl
+
+-- ---- the maps are settled
+
+-- after k rounds another round changes nothing of what the drive gives
+abbrev Steady : Tree → ℕ → Drive → Type 0
+Steady t k d =
+    (s content : Word) (w : ℕ) → driven t (codes "Two") s content (rounds k t s content) w d ≡ driven t (codes "Two") s content (rounds (suc k) t s content) w d
+
+abbrev Each : (Name → Type 0) → List Name → Type 0
+Each Q [] = Unit {0}
+Each Q (n ∷ ns) = Q n × Each Q ns
+
+-- what holds of each name of a list, and of each name that is none of them, holds of every name
+by_name : (Q : Name → Type 0) (n : Name) (ns : List Name) → Each Q ns → (contains_name n ns ≡ false → Q n) → Q n
+by_name Q n [] each other = other refl
+by_name Q n (m ∷ ns) each other = go (same_name m n) refl (by_name Q n ns each.1) where
+  go : (b : Bool) → same_name m n ≡ b → ((contains_name n ns ≡ false → Q n) → Q n) → Q n
+  go true e f = subst Q ((bytes_decides m n).0 e) each.0
+  go false e f = f (λ h. other (ap (λ b. b || contains_name n ns) e ∙ h))
+
+apart : (m n : Name) (ns : List Name) → contains_name n ns ≡ false → contains_name m ns ≡ true → same_name m n ≡ false
+apart m n ns h g = go (same_name m n) refl where
+  go : (b : Bool) → same_name m n ≡ b → b ≡ false
+  go false e = refl
+  go true e = let f : contains_name n ns ≡ true = subst (λ k. contains_name k ns ≡ true) ((bytes_decides m n).0 e) g in cc (f, h)
+
+abbrev flat_names : List Name
+flat_names = codes "clk" ∷ codes "rst" ∷ codes "en" ∷ codes "d" ∷ codes "a" ∷ codes "b" ∷ codes "u1_r" ∷ codes "u2_r" ∷ []
+
+flat_other : (n : Name) → contains_name n flat_names ≡ false → drive flat (codes "Two") (vnet [] n) ≡ nothing
+flat_other n h = rw (away (codes "clk") refl, away (codes "rst") refl, away (codes "en") refl, away (codes "d") refl, away (codes "a") refl, away (codes "b") refl, away (codes "u1_r") refl, away (codes "u2_r") refl, away (codes "a") refl, away (codes "b") refl) refl where
+  away : (m : Name) → contains_name m flat_names ≡ true → same_name m n ≡ false
+  away m g = apart m n flat_names h g
+
+flat_steady : (n : Name) → Steady flat 1 (drive flat (codes "Two") (vnet [] n))
+flat_steady n =
+    by_name (λ n. Steady flat 1 (drive flat (codes "Two") (vnet [] n))) n flat_names
+    (λ s c w. refl, (λ s c w. refl, (λ s c w. refl, (λ s c w. refl, (λ s c w. refl, (λ s c w. refl, (λ s c w. refl, (λ s c w. refl, tt))))))))
+    (λ h. subst (Steady flat 1) (sym (flat_other n h)) (λ s c w. refl))
+
+flat_outside : (u : Name) (q : VPath) → vmodule_at flat (codes "Two") (u ∷ q) ≡ None
+flat_outside u [] = refl
+flat_outside u (w ∷ q) = ap (λ o. bind o (λ (m : VModule). bind (find_instance m.items u) (λ (i : VInstance). find_vmodule flat i.module_name))) (flat_outside w q)
+
+flat_settled : (s content : Word) → TreeSettled flat (codes "Two") s content (rounds 2 flat s content)
+flat_settled s content v = go v.path where
+  go : (q : VPath) → rounds 2 flat s content (vnet q v.name)
+      ≡ driven flat (codes "Two") s content (rounds 2 flat s content) (width_at (vmodule_at flat (codes "Two") q) v.name) (drive flat (codes "Two") (vnet q v.name))
+  go [] = flat_steady v.name s content (width_at (vmodule_at flat (codes "Two") []) v.name)
+  go (u ∷ q) = subst (λ o. Steady flat 1 (drive_at flat (codes "Two") (u ∷ q) v.name o)) (sym (flat_outside u q)) (λ s c w. refl) s content (width_at (vmodule_at flat (codes "Two") (u ∷ q)) v.name)
