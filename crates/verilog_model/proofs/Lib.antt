@@ -1,6 +1,8 @@
 pub mod Numerals
 pub mod Reread
-pub mod Machine
-pub mod Reading
-pub mod Rereading
-pub mod Uniqueness
+pub mod TokenReader
+pub mod ReadExpressions
+pub mod ReadTrees
+pub mod OneTree
+pub mod Samples
+pub mod TwoRegisters

@@ -1,7 +1,7 @@
 -- Decimal numerals say their numbers again.
-use Rattle.std.proofs.Common.{◌≡◌, ℕ, zero, suc, ◌+◌, ◌-◌, ◌*◌, ◌/◌, ◌%◌, ◌^◌, ◌<◌, ◌≤◌, Bool, true, false, ◌&&◌, cond, nat_le, List, [], ◌∷◌, ◌++◌, decimal, refl, sym, ◌∙◌, ap, arith, IsTrue, leb}
+use Rattle.std.proofs.Common.{◌≡◌, ℕ, ◌+◌, ◌*◌, ◌/◌, ◌%◌, ◌^◌, ◌<◌, ◌≤◌, Bool, true, false, ◌&&◌, List, [], ◌∷◌, ◌++◌, decimal, refl, ◌∙◌, arith, IsTrue}
 use Rattle.std.proofs.lemmas.Fmt.{decimal_by_steps}
-use Rattle.verilog_model.specs.Tokens.{is_between, is_digit, is_word_byte, is_name_byte, is_name_start}
+use Rattle.verilog_model.specs.Tokens.{is_digit}
 use Rattle.verilog_model.specs.Tree.{Numeral}
 use Rattle.verilog_model.specs.Numerals.{number_from, decimal_digit, decimal_number, all_bytes, is_nonempty, is_decimal}
 

@@ -1,10 +1,10 @@
 -- A word in a text is read as that word where no other follows it at once.
-use Rattle.std.proofs.Common.{◌≡◌, ℕ, Bool, true, false, ◌&&◌, ◌||◌, cond, List, [], ◌∷◌, ◌++◌, refl, sym, ◌∙◌, ap, IsTrue, ◌==◌}
-use Rattle.verilog_model.specs.Tokens.{Sort, Piece, sort_of, join, pieces, is_word_byte, is_name_byte, is_name_start, is_digit}
-use Rattle.verilog_model.specs.Tokens.Sort.{word_byte, operator_byte, blank, mark_byte}
+use Rattle.std.proofs.Common.{◌≡◌, ℕ, Bool, true, false, ◌||◌, List, [], ◌∷◌, ◌++◌, refl, ◌∙◌, ap, IsTrue, ◌==◌}
+use Rattle.verilog_model.specs.Tokens.{Piece, sort_of, join, pieces, is_word_byte, is_name_byte, is_name_start, is_digit}
+use Rattle.verilog_model.specs.Tokens.Sort.{word_byte}
 use Rattle.verilog_model.specs.Tokens.Piece.{word, operator, mark, gap}
 use Rattle.verilog_model.specs.Numerals.{all_bytes, is_nonempty}
-use Rattle.verilog_model.proofs.Numerals.{and_intro, and_first, and_second, all_bytes_weaker}
+use Rattle.verilog_model.proofs.Numerals.{and_first, and_second, all_bytes_weaker}
 
 -- the text goes on with no word
 abbrev pub begins_no_word : List Piece → Bool

@@ -1,5 +1,5 @@
 -- What a Verilog text is, and when it behaves as a design.
-use Rattle.std.specs.Prelude.{◌≡◌, ℕ, Bool, true, false, List, [], ◌∷◌, map, Option, Some, None, IsTrue}
+use Rattle.std.specs.Prelude.{◌≡◌, ℕ, Bool, true, false, List, [], ◌∷◌, map, Some, IsTrue}
 use Rattle.hw_model.specs.Types.{Name, width}
 use Rattle.hw_model.specs.Design.{Port, Module, Design}
 use Rattle.hw_model.specs.Machine.{Same}

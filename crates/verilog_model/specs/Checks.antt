@@ -1,8 +1,7 @@
 -- What a tree must meet beside its grammar: names declared once and before use (IEEE 1364-2005, 12.7: scope rules),
 -- selects in range and on ranges (5.2.1), one driver for each net and output, nonzero literal divisors, clocks that come
--- from the inputs at the top.
-use Rattle.std.specs.Prelude.{ℕ, zero, suc, ◌+◌, Bool, true, false, cond, not, ◌&&◌, ◌||◌, ◌==◌, nat_lt, nat_le, List, [], ◌∷◌, ◌++◌, length, map, Option, Some, None, is_some}
-use Rattle.wiring.specs.Options.{bind}
+-- from the inputs at the top, no module within itself.
+use Rattle.std.specs.Prelude.{ℕ, zero, suc, ◌+◌, ◌%◌, ◌^◌, Bool, true, false, cond, not, ◌&&◌, ◌||◌, ◌==◌, nat_lt, nat_le, List, [], ◌∷◌, ◌++◌, length, map, Option, Some, None, is_some}
 use Rattle.hw_model.specs.Types.{Name}
 use Rattle.hw_model.specs.Design.{same_name}
 use Rattle.verilog_model.specs.Tokens.{is_name_start, is_name_byte}
@@ -85,8 +84,9 @@ abbrev pub has_bit : Option Declared → ℕ → Bool
 has_bit None k = false
 has_bit (Some d) k = can_read d.role && within d.high k
 
+-- a literal that is not 0 in its width, to which it is cut (3.5.1)
 abbrev pub is_divisor : Expr → Bool
-is_divisor (literal w s h) = nat_lt 0 (hex_number h)
+is_divisor (literal w s h) = nat_lt 0 (hex_number h % 2 ^ decimal_number w)
 is_divisor _ = false
 
 abbrev pub divides : Operator → Bool
@@ -256,6 +256,26 @@ clocks_check t ports [] = true
 clocks_check t ports (instance m u cs ∷ is) = clocks_joined t ports m cs && clocks_check t ports is
 clocks_check t ports (_ ∷ is) = clocks_check t ports is
 
+-- ---- modules within modules
+
+abbrev pub instances_end : (Name → Bool) → List Item → Bool
+instances_end ends [] = true
+instances_end ends (instance m u cs ∷ is) = ends m && instances_end ends is
+instances_end ends (_ ∷ is) = instances_end ends is
+
+abbrev pub items_of : Option VModule → List Item
+items_of None = []
+items_of (Some m) = m.items
+
+-- whether below the module of a name no instance is deeper than so many modules
+abbrev pub ends_within : ℕ → Tree → Name → Bool
+ends_within zero t n = false
+ends_within (suc k) t n = instances_end (ends_within k t) (items_of (find_vmodule t n))
+
+-- no module is within itself: below none is a depth of more modules than there are
+abbrev pub nesting_checks : Tree → VModule → Bool
+nesting_checks t m = instances_end (ends_within (length t) t) m.items
+
 -- ---- modules
 
 abbrev pub names_check : List Name → Bool
@@ -268,7 +288,7 @@ ports_check (p ∷ ps) = high_checks p.high && ports_check ps
 abbrev pub module_checks : Tree → VModule → Bool
 module_checks t m =
     (names_check (map (λ (d : Declared). d.name) (declared_in m)) && ports_check m.ports)
-    && (items_check t (declared_ports m.ports) m.items && (each_driven t m.items (declared_in m) && clocks_check t m.ports m.items))
+    && (items_check t (declared_ports m.ports) m.items && (each_driven t m.items (declared_in m) && (clocks_check t m.ports m.items && nesting_checks t m)))
 
 abbrev pub modules_check : Tree → List VModule → Bool
 modules_check t [] = true

@@ -1,8 +1,8 @@
 -- The grammar: how each tree is spelled in tokens (IEEE 1364-2005, Annex A), the rest of the text being an argument; and
 -- which trees keep the precedence and association of the operators (5.1.2, table 5-4).
-use Rattle.std.specs.Prelude.{ℕ, suc, ◌≡◌, ◌++◌, Bool, true, false, ◌&&◌, nat_le, List, [], ◌∷◌, Option, Some, None, codes}
+use Rattle.std.specs.Prelude.{ℕ, suc, ◌++◌, Bool, true, false, ◌&&◌, nat_le, List, [], ◌∷◌, Option, Some, None, codes}
 use Rattle.hw_model.specs.Types.{Name}
-use Rattle.verilog_model.specs.Tokens.{Piece, tokens}
+use Rattle.verilog_model.specs.Tokens.{Piece}
 use Rattle.verilog_model.specs.Tokens.Piece.{word, operator, mark}
 use Rattle.verilog_model.specs.Tree.{Numeral, Operator, Expr, Exprs, VPort, Load, Block, Connection, Item, VModule, Tree}
 use Rattle.verilog_model.specs.Tree.Operator.{times, over, modulo, plus, minus, left_shift, right_shift, signed_right_shift, below, at_most, above, at_least, equals, differs, bit_and, bit_xor, bit_or}
@@ -46,42 +46,42 @@ dot = mark 46
 abbrev pub at_sign : Piece
 at_sign = mark 64
 
--- `:` and `=` and `<=` and `?` and `^`
 abbrev pub colon : Piece
-colon = operator (58 ∷ [])
+colon = mark 58
 
+abbrev pub question : Piece
+question = mark 63
+
+abbrev pub caret : Piece
+caret = mark 94
+
+-- `=` and `<=`
 abbrev pub equal : Piece
 equal = operator (61 ∷ [])
 
 abbrev pub arrow : Piece
 arrow = operator (60 ∷ 61 ∷ [])
 
-abbrev pub question : Piece
-question = operator (63 ∷ [])
-
-abbrev pub caret : Piece
-caret = operator (94 ∷ [])
-
 -- ---- expressions
 
-abbrev pub symbol_of : Operator → Name
-symbol_of times = codes "*"
-symbol_of over = codes "/"
-symbol_of modulo = codes "%"
-symbol_of plus = codes "+"
-symbol_of minus = codes "-"
-symbol_of left_shift = codes "<<"
-symbol_of right_shift = codes ">>"
-symbol_of signed_right_shift = codes ">>>"
-symbol_of below = codes "<"
-symbol_of at_most = codes "<="
-symbol_of above = codes ">"
-symbol_of at_least = codes ">="
-symbol_of equals = codes "=="
-symbol_of differs = codes "!="
-symbol_of bit_and = codes "&"
-symbol_of bit_xor = codes "^"
-symbol_of bit_or = codes "|"
+abbrev pub operator_token : Operator → Piece
+operator_token times = operator (codes "*")
+operator_token over = operator (codes "/")
+operator_token modulo = operator (codes "%")
+operator_token plus = operator (codes "+")
+operator_token minus = operator (codes "-")
+operator_token left_shift = operator (codes "<<")
+operator_token right_shift = operator (codes ">>")
+operator_token signed_right_shift = operator (codes ">>>")
+operator_token below = operator (codes "<")
+operator_token at_most = operator (codes "<=")
+operator_token above = operator (codes ">")
+operator_token at_least = operator (codes ">=")
+operator_token equals = operator (codes "==")
+operator_token differs = operator (codes "!=")
+operator_token bit_and = operator (codes "&")
+operator_token bit_xor = caret
+operator_token bit_or = operator (codes "|")
 
 -- `'h` and `'sh`
 abbrev pub base_mark : Bool → Name
@@ -100,7 +100,7 @@ abbrev mutual
   expr_spelled (as_unsigned e) ps = word (codes "$unsigned") ∷ open_paren ∷ expr_spelled e (close_paren ∷ ps)
   expr_spelled (paren e) ps = open_paren ∷ expr_spelled e (close_paren ∷ ps)
   expr_spelled (odd e) ps = caret ∷ expr_spelled e ps
-  expr_spelled (binary o a b) ps = expr_spelled a (operator (symbol_of o) ∷ expr_spelled b ps)
+  expr_spelled (binary o a b) ps = expr_spelled a (operator_token o ∷ expr_spelled b ps)
   expr_spelled (choice c a b) ps = expr_spelled c (question ∷ expr_spelled a (colon ∷ expr_spelled b ps))
 
   pub exprs_spelled : Exprs → Spelling → Spelling

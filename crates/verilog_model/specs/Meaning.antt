@@ -1,6 +1,6 @@
 -- What a module of a tree does: its settled maps, its outputs, its steps (IEEE 1364-2005, 6.1: continuous assignments;
 -- 9.2.2: nonblocking assignments), read by cycles.
-use Rattle.std.specs.Prelude.{◌≡◌, ℕ, Bool, false, cond, List, [], ◌∷◌, ◌++◌, map, drop, filter, Option, Some, None}
+use Rattle.std.specs.Prelude.{◌≡◌, ℕ, Bool, false, cond, List, [], ◌∷◌, ◌++◌, map, drop, filter}
 use Rattle.bits_core.specs.Word.{Word, first}
 use Rattle.hw_model.specs.Types.{Name}
 use Rattle.hw_model.specs.Value.{joined, is_high}
@@ -43,9 +43,9 @@ block_value m τ k old (if_load c l) = cond (holds m τ c) (load_value m τ k l)
 block_value m τ k old (if_else c l e) = cond (holds m τ c) (load_value m τ k l) (load_value m τ k e)
 block_value m τ k old (if_else_if c l b e) = cond (holds m τ c) (load_value m τ k l) (cond (holds m τ b) (load_value m τ k e) old)
 
--- where the clock's bit is 1 in this step, the block runs
+-- where the clock's lowest bit is 1 in this step, the block runs (9.7.2: event control)
 abbrev pub slot_value : (VNet → Word) → ℕ → Word → VSlot → Word
-slot_value ρ k old s = cond (is_high (ρ (vnet s.path s.clock))) (block_value s.in_module (names_at s.path ρ) k old s.block) old
+slot_value ρ k old s = cond (is_high (low_bits 1 (ρ (vnet s.path s.clock)))) (block_value s.in_module (names_at s.path ρ) k old s.block) old
 
 abbrev pub slot_width : VSlot → ℕ
 slot_width s = width_in s.in_module (block_target s.block)

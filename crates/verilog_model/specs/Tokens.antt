@@ -1,8 +1,9 @@
 -- The tokens of a Verilog text (IEEE 1364-2005, 3.1 to 3.7: lexical conventions). Bytes of words that stand together
 -- are one word (a name, a keyword, a number, `8'hFF`, `$signed`), operator bytes that stand together one operator, any
--- other byte is a mark alone, and blanks part what they stand between. Two operators that the standard would part where
--- they touch are one operator here, of which no text consists: such a text is not read.
-use Rattle.std.specs.Prelude.{ℕ, Bool, true, false, cond, ◌&&◌, ◌||◌, ◌==◌, nat_le, List, [], ◌∷◌, codes}
+-- other byte is a mark alone, and blanks part what they stand between. `^`, `?` and `:` are marks, since a unary operator
+-- may touch what is in front of it, as in `a+^b`. Operators that no text here has, as `~^`, are parted otherwise than
+-- in the standard: such a text is not read.
+use Rattle.std.specs.Prelude.{ℕ, Bool, true, false, cond, ◌&&◌, ◌||◌, ◌==◌, nat_le, List, [], ◌∷◌}
 use Rattle.hw_model.specs.Types.{Name}
 
 pub data Sort : Type 0 where
@@ -30,9 +31,9 @@ is_name_byte b = is_name_start b || (is_digit b || b == 36)
 abbrev pub is_word_byte : ℕ → Bool
 is_word_byte b = is_name_byte b || b == 39
 
--- + - * / % < > = ! & | ^ ~ ? :
+-- + - * / % < > = ! & | ~
 abbrev pub is_operator_byte : ℕ → Bool
-is_operator_byte b = is_among b (43 ∷ 45 ∷ 42 ∷ 47 ∷ 37 ∷ 60 ∷ 62 ∷ 61 ∷ 33 ∷ 38 ∷ 124 ∷ 94 ∷ 126 ∷ 63 ∷ 58 ∷ [])
+is_operator_byte b = is_among b (43 ∷ 45 ∷ 42 ∷ 47 ∷ 37 ∷ 60 ∷ 62 ∷ 61 ∷ 33 ∷ 38 ∷ 124 ∷ 126 ∷ [])
 
 -- space, tab, newline, formfeed (3.2: white space)
 abbrev pub is_blank : ℕ → Bool

@@ -1,9 +1,9 @@
 -- A text is at most one tree's: trees that keep precedence and meet the checks are read back from their spellings.
-use Rattle.std.proofs.Common.{◌≡◌, ℕ, zero, suc, Bool, true, false, cond, not, ◌&&◌, ◌||◌, nat_le, nat_lt, List, [], ◌∷◌, ◌++◌, map, Option, Some, None, is_some, refl, sym, ◌∙◌, ap, subst, IsTrue, arith, leb-true}
+use Rattle.std.proofs.Common.{◌≡◌, ℕ, suc, Bool, true, false, cond, not, ◌&&◌, ◌||◌, nat_le, nat_lt, List, [], ◌∷◌, ◌++◌, map, Option, Some, None, is_some, refl, sym, ◌∙◌, ap, subst, IsTrue, leb-true}
 use Rattle.std.specs.Cmp.Lexicographic.{bytes_decides}
 use Rattle.hw_model.specs.Types.{Name}
 use Rattle.hw_model.specs.Design.{same_name}
-use Rattle.verilog_model.specs.Tokens.{is_name_byte, tokens}
+use Rattle.verilog_model.specs.Tokens.{is_name_byte}
 use Rattle.verilog_model.specs.Numerals.{all_bytes, is_decimal, is_hex, decimal_number}
 use Rattle.verilog_model.specs.Reserved.{reserved_words}
 use Rattle.verilog_model.specs.Tree.{Expr, Exprs, VPort, Load, Block, Connection, Item, VModule, Tree}
@@ -12,14 +12,14 @@ use Rattle.verilog_model.specs.Tree.Exprs.{last, more}
 use Rattle.verilog_model.specs.Tree.Block.{load, if_load, if_else, if_else_if}
 use Rattle.verilog_model.specs.Tree.Item.{wire, reg, assign, always, instance}
 use Rattle.verilog_model.specs.Hierarchy.{first_some, when, or_else, find_vmodule, find_port, vports_of, block_target}
-use Rattle.verilog_model.specs.Grammar.{spelled, fits, all_fit, level, strength, choice_level, primary_level, block_fits, connections_fit, item_fits, items_fit, tree_fits}
-use Rattle.verilog_model.specs.Checks.{contains_name, starts_name, is_identifier, are_distinct, all_identifiers, Role, Declared, find_declared, has_role, can_read, can_assign, is_input, is_variable, within, has_bit, divides, is_divisor, expr_checks, exprs_check, load_checks, block_checks, joins_net, connection_checks, connections_check, ports_joined, item_checks, items_check, declared_by, declared_ports, declared_items, declared_in, names_check, ports_check, each_driven, clocks_check, module_checks, modules_check, tree_checks}
+use Rattle.verilog_model.specs.Grammar.{fits, all_fit, level, strength, choice_level, primary_level, block_fits, connections_fit, item_fits, items_fit, tree_fits}
+use Rattle.verilog_model.specs.Checks.{contains_name, starts_name, is_identifier, are_distinct, all_identifiers, Role, Declared, find_declared, has_role, can_read, can_assign, is_input, is_variable, has_bit, divides, is_divisor, expr_checks, exprs_check, load_checks, block_checks, joins_net, connection_checks, connections_check, ports_joined, item_checks, items_check, declared_by, declared_ports, declared_items, declared_in, names_check, ports_check, each_driven, clocks_check, nesting_checks, module_checks, modules_check, tree_checks}
 use Rattle.verilog_model.specs.Behaviour.{IsVerilog}
 use Rattle.verilog_model.proofs.Numerals.{and_intro, and_first, and_second}
-use Rattle.verilog_model.proofs.Machine.{run}
-use Rattle.verilog_model.proofs.Machine.State.{modules}
-use Rattle.verilog_model.proofs.Reading.{Clear, AllClear}
-use Rattle.verilog_model.proofs.Rereading.{NoKeyword, ClearBlock, ClearConnections, ClearItem, ClearItems, ClearTree, read_tree}
+use Rattle.verilog_model.proofs.TokenReader.{run}
+use Rattle.verilog_model.proofs.TokenReader.State.{modules}
+use Rattle.verilog_model.proofs.ReadExpressions.{Clear, AllClear}
+use Rattle.verilog_model.proofs.ReadTrees.{NoKeyword, ClearBlock, ClearConnections, ClearItem, ClearItems, ClearTree, read_tree}
 
 both : (a b : Bool) → IsTrue (a && b) → IsTrue a × IsTrue b
 both a b h = (and_first a b h, and_second a b h)
@@ -216,7 +216,7 @@ module _ (t : Tree) (modules_named : IsTrue (all_identifiers (map (λ (m : VModu
   module_clear : (m : VModule) → IsTrue (items_fit m.items) → IsTrue (module_checks t m) → ClearItems m.items
   module_clear m f c =
       let names = map (λ (d : Declared). d.name) (declared_in m) in
-      let drivers = each_driven t m.items (declared_in m) && clocks_check t m.ports m.items in
+      let drivers = each_driven t m.items (declared_in m) && (clocks_check t m.ports m.items && nesting_checks t m) in
       let parts = both (names_check names && ports_check m.ports) (items_check t (declared_ports m.ports) m.items && drivers) c in
       let declared = named_parts (declared_ports m.ports) (declared_items m.items)
       (and_second (are_distinct names) (all_identifiers names) (and_first (names_check names) (ports_check m.ports) parts.0)) in

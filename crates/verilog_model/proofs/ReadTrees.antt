@@ -1,20 +1,20 @@
--- The machine reads each tree back from its spelling.
-use Rattle.std.proofs.Common.{◌≡◌, ℕ, zero, suc, Bool, true, false, cond, List, [], ◌∷◌, Option, Some, None, refl, sym, ◌∙◌, ap, IsTrue, arith, codes}
+-- The reader reads each tree back from its spelling.
+use Rattle.std.proofs.Common.{◌≡◌, ℕ, Bool, true, false, List, [], ◌∷◌, Option, Some, None, refl, ◌∙◌, ap, arith, codes}
 use Rattle.hw_model.specs.Types.{Name}
 use Rattle.hw_model.specs.Design.{same_name}
 use Rattle.verilog_model.specs.Tokens.{Piece}
 use Rattle.verilog_model.specs.Tokens.Piece.{word, operator, mark, gap}
-use Rattle.verilog_model.specs.Tree.{Numeral, Expr, VPort, Load, Block, Connection, Item, VModule, Tree}
+use Rattle.verilog_model.specs.Tree.{Numeral, Expr, VPort, Load, Block, Connection, Item, Tree}
 use Rattle.verilog_model.specs.Tree.Block.{load, if_load, if_else, if_else_if}
 use Rattle.verilog_model.specs.Tree.Item.{wire, reg, assign, always, instance}
-use Rattle.verilog_model.specs.Grammar.{expr_spelled, load_spelled, if_spelled, block_spelled, connection_spelled, more_connections_spelled, connections_spelled, range_spelled, direction, port_spelled, more_ports_spelled, ports_spelled, item_spelled, items_spelled, module_spelled, spelled, open_paren, close_paren, open_bracket, close_bracket, comma, semicolon, colon, arrow, equal, dot, at_sign}
+use Rattle.verilog_model.specs.Grammar.{expr_spelled, load_spelled, if_spelled, block_spelled, more_connections_spelled, connections_spelled, range_spelled, direction, port_spelled, more_ports_spelled, ports_spelled, item_spelled, items_spelled, spelled, open_paren, close_paren, semicolon, arrow}
 use Rattle.verilog_model.specs.Reserved.{reserved_words}
 use Rattle.verilog_model.specs.Checks.{contains_name}
-use Rattle.verilog_model.proofs.Machine.{Rest, State, Around, Class, class_of, next, run, on_word, load_behind, if_behind, with_block, block_word, else_word, after_if_word, item_word, instance_behind, connection_behind, first_connection, port_behind, range_or_name, more_or_end, skip}
-use Rattle.verilog_model.proofs.Machine.State.{take, operand, modules, port, items, connection, after_if}
-use Rattle.verilog_model.proofs.Machine.Class.{ends}
-use Rattle.verilog_model.proofs.Machine.Around.{bottom}
-use Rattle.verilog_model.proofs.Reading.{Clear, read_expr, pull_two}
+use Rattle.verilog_model.proofs.TokenReader.{Rest, State, Class, class_of, next, run, on_word, load_behind, if_behind, with_block, block_word, else_word, after_if_word, item_word, instance_behind, connection_behind, first_connection, range_or_name, more_or_end, skip}
+use Rattle.verilog_model.proofs.TokenReader.State.{take, operand, modules, port, items, connection, after_if}
+use Rattle.verilog_model.proofs.TokenReader.Class.{ends}
+use Rattle.verilog_model.proofs.TokenReader.Around.{bottom}
+use Rattle.verilog_model.proofs.ReadExpressions.{Clear, read_expr, pull_two}
 
 -- no reserved word is the name
 abbrev pub NoKeyword : Name → Type 0

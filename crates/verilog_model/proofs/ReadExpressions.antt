@@ -1,25 +1,25 @@
--- The machine reads each expression back from its spelling.
-use Rattle.std.proofs.Common.{◌≡◌, ℕ, zero, suc, ◌<◌, ◌≤◌, Bool, true, false, cond, ◌==◌, ◌&&◌, ◌||◌, nat_le, List, [], ◌∷◌, ◌++◌, refl, sym, ◌∙◌, ap, subst, IsTrue, arith, leb, leb-true, le-leb, le_trans, le_refl, codes}
+-- The reader reads each expression back from its spelling.
+use Rattle.std.proofs.Common.{◌≡◌, ℕ, suc, ◌<◌, ◌≤◌, Bool, true, false, ◌==◌, List, [], ◌∷◌, ◌++◌, refl, ◌∙◌, ap, IsTrue, arith, le-leb}
 use Rattle.std.proofs.lemmas.Bool.{lt-leb}
 use Rattle.std.proofs.lemmas.Bool.Decides.{nat_tests}
 use Rattle.hw_model.specs.Types.{Name}
-use Rattle.verilog_model.specs.Tokens.{Piece, is_name_start, is_digit, is_between}
-use Rattle.verilog_model.specs.Tokens.Piece.{word, operator, mark, gap}
-use Rattle.verilog_model.specs.Tree.{Numeral, Operator, Expr, Exprs}
+use Rattle.verilog_model.specs.Tokens.{Piece, is_name_start, is_digit}
+use Rattle.verilog_model.specs.Tokens.Piece.{word}
+use Rattle.verilog_model.specs.Tree.{Operator, Expr, Exprs}
 use Rattle.verilog_model.specs.Tree.Operator.{times, over, modulo, plus, minus, left_shift, right_shift, signed_right_shift, below, at_most, above, at_least, equals, differs, bit_and, bit_xor, bit_or}
 use Rattle.verilog_model.specs.Tree.Expr.{name, bit_select, part_select, literal, joined, repeated, as_signed, as_unsigned, paren, odd, binary, choice}
 use Rattle.verilog_model.specs.Tree.Exprs.{last, more}
-use Rattle.verilog_model.specs.Numerals.{all_bytes, is_nonempty, is_decimal}
-use Rattle.verilog_model.specs.Grammar.{symbol_of, base_mark, expr_spelled, exprs_spelled, strength, level, choice_level, unary_level, primary_level, open_paren, close_paren, open_bracket, close_bracket, open_brace, close_brace, comma, colon, question, caret}
+use Rattle.verilog_model.specs.Numerals.{all_bytes, is_decimal}
+use Rattle.verilog_model.specs.Grammar.{operator_token, base_mark, expr_spelled, exprs_spelled, strength, level, choice_level, primary_level, close_paren, open_bracket, close_bracket, open_brace, close_brace, comma, colon, question}
 use Rattle.verilog_model.specs.Checks.{starts_name}
 use Rattle.verilog_model.proofs.Numerals.{and_first, and_second}
-use Rattle.verilog_model.proofs.Machine.{Around, State, Class, Lexeme, class_of, weight, push, next, after_name, lexeme_of, before_quote, after_quote, tail, number_or_literal, begin_word, begin, step, run, behind}
-use Rattle.verilog_model.proofs.Machine.Around.{bottom, left_of, tested, chosen, odd_of, inside, listed}
-use Rattle.verilog_model.proofs.Machine.State.{lost, take, operand, named, complete}
-use Rattle.verilog_model.proofs.Machine.Class.{joins, ask, select, ends}
-use Rattle.verilog_model.proofs.Machine.Lexeme.{identifier, number, based, call}
+use Rattle.verilog_model.proofs.TokenReader.{Around, State, Class, class_of, weight, push, next, after_name, lexeme_of, before_quote, after_quote, number_or_literal, begin_word, run}
+use Rattle.verilog_model.proofs.TokenReader.Around.{bottom, left_of, tested, chosen, odd_of, inside, listed}
+use Rattle.verilog_model.proofs.TokenReader.State.{take, operand, complete}
+use Rattle.verilog_model.proofs.TokenReader.Class.{joins, ask, select}
+use Rattle.verilog_model.proofs.TokenReader.Lexeme.{identifier, number, based}
 
--- what the machine needs of an expression: its operands bind as strongly as their places ask, its names begin as names,
+-- what the reader needs of an expression: its operands bind as strongly as their places ask, its names begin as names,
 -- its numerals are decimal
 abbrev mutual
   pub Clear : Expr → Type 0
@@ -85,24 +85,24 @@ based_word (b ∷ w) h s d =
 
 -- ---- strengths
 
-class_of_symbol : (o : Operator) → class_of (operator (symbol_of o)) ≡ joins o
-class_of_symbol times = refl
-class_of_symbol over = refl
-class_of_symbol modulo = refl
-class_of_symbol plus = refl
-class_of_symbol minus = refl
-class_of_symbol left_shift = refl
-class_of_symbol right_shift = refl
-class_of_symbol signed_right_shift = refl
-class_of_symbol below = refl
-class_of_symbol at_most = refl
-class_of_symbol above = refl
-class_of_symbol at_least = refl
-class_of_symbol equals = refl
-class_of_symbol differs = refl
-class_of_symbol bit_and = refl
-class_of_symbol bit_xor = refl
-class_of_symbol bit_or = refl
+class_of_operator : (o : Operator) → class_of (operator_token o) ≡ joins o
+class_of_operator times = refl
+class_of_operator over = refl
+class_of_operator modulo = refl
+class_of_operator plus = refl
+class_of_operator minus = refl
+class_of_operator left_shift = refl
+class_of_operator right_shift = refl
+class_of_operator signed_right_shift = refl
+class_of_operator below = refl
+class_of_operator at_most = refl
+class_of_operator above = refl
+class_of_operator at_least = refl
+class_of_operator equals = refl
+class_of_operator differs = refl
+class_of_operator bit_and = refl
+class_of_operator bit_xor = refl
+class_of_operator bit_or = refl
 
 strength_within : (o : Operator) → (2 ≤ strength o) × (strength o ≤ 9)
 strength_within times = omega arith
@@ -195,8 +195,8 @@ mutual
   read_expr (paren e) s p ps h g w = read_expr e (inside paren s) close_paren (p ∷ ps) h (omega (arith, pull_two e)) (omega arith)
   read_expr (odd e) s p ps h g w = read_expr e (odd_of s) p ps h.1 (omega (arith, h.0, pull_level e)) (omega (arith, h.0, w))
   read_expr (binary o a b) s p ps h g w =
-      read_expr a s (operator (symbol_of o)) (expr_spelled b (p ∷ ps)) h.1.0 (omega (arith, g, h.0.0, pull_level a)) (rw (class_of_symbol o) h.0.0)
-      ∙ ap (λ t. run t (expr_spelled b (p ∷ ps))) (ap (next s a) (class_of_symbol o) ∙ push_operator s a o g)
+      read_expr a s (operator_token o) (expr_spelled b (p ∷ ps)) h.1.0 (omega (arith, g, h.0.0, pull_level a)) (rw (class_of_operator o) h.0.0)
+      ∙ ap (λ t. run t (expr_spelled b (p ∷ ps))) (ap (next s a) (class_of_operator o) ∙ push_operator s a o g)
       ∙ read_expr b (left_of o a s) p ps h.1.1 (omega (arith, h.0.1, pull_level b)) (omega (arith, w, h.0.1))
       ∙ ap (λ t. run t ps) (join_right o a b s (class_of p) w)
   read_expr (choice c a b) s p ps h g w =

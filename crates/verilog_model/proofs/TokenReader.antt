@@ -1,17 +1,17 @@
--- A machine that reads the tokens of a tree back into the tree: one step for each token, operators by their strengths.
-use Rattle.std.proofs.Common.{ℕ, zero, suc, Bool, true, false, cond, ◌==◌, nat_le, List, [], ◌∷◌, ◌++◌, Option, Some, None}
+-- A reader, a machine of states, that reads the tokens of a tree back into the tree: one step for each token, operators by their strengths.
+use Rattle.std.proofs.Common.{ℕ, Bool, true, false, cond, ◌==◌, nat_le, List, [], ◌∷◌, Option, Some, None}
 use Rattle.std.specs.Prelude.{codes}
 use Rattle.hw_model.specs.Types.{Name}
 use Rattle.hw_model.specs.Design.{same_name}
 use Rattle.verilog_model.specs.Tokens.{Piece, is_name_start}
 use Rattle.verilog_model.specs.Tokens.Piece.{word, operator, mark, gap}
-use Rattle.verilog_model.specs.Tree.{Numeral, Operator, Expr, Exprs, VPort, Load, Block, Connection, Item, VModule, Tree}
+use Rattle.verilog_model.specs.Tree.{Numeral, Operator, Expr, Exprs, VPort, Load, Block, Connection, Item, Tree}
 use Rattle.verilog_model.specs.Tree.Operator.{times, over, modulo, plus, minus, left_shift, right_shift, signed_right_shift, below, at_most, above, at_least, equals, differs, bit_and, bit_xor, bit_or}
 use Rattle.verilog_model.specs.Tree.Expr.{name, bit_select, part_select, literal, joined, repeated, as_signed, as_unsigned, paren, odd, binary, choice}
 use Rattle.verilog_model.specs.Tree.Exprs.{last, more}
 use Rattle.verilog_model.specs.Tree.Block.{load, if_load, if_else, if_else_if}
 use Rattle.verilog_model.specs.Tree.Item.{wire, reg, assign, always, instance}
-use Rattle.verilog_model.specs.Grammar.{symbol_of, strength}
+use Rattle.verilog_model.specs.Grammar.{operator_token, strength}
 
 -- what is made of the items behind a place, and of the modules behind them
 abbrev pub Rest : Type 0
@@ -44,21 +44,26 @@ mutual
 
 pub data Class : Type 0 where
   joins : Operator → Class
-  ask select comma colon ends : Class
+  ask select comma ends : Class
 
+-- the operators but `^`, which is a mark
 abbrev pub operators : List Operator
 operators =
     times ∷ over ∷ modulo ∷ plus ∷ minus ∷ left_shift ∷ right_shift ∷ signed_right_shift ∷ below ∷ at_most ∷ above ∷ at_least ∷
-    equals ∷ differs ∷ bit_and ∷ bit_xor ∷ bit_or ∷ []
+    equals ∷ differs ∷ bit_and ∷ bit_or ∷ []
+
+abbrev pub is_operator : Name → Piece → Bool
+is_operator w (operator v) = same_name v w
+is_operator w _ = false
 
 abbrev pub operator_class : List Operator → Name → Class
-operator_class [] w = cond (same_name (codes "?") w) ask colon
-operator_class (o ∷ os) w = cond (same_name (symbol_of o) w) (joins o) (operator_class os w)
+operator_class [] w = ends
+operator_class (o ∷ os) w = cond (is_operator w (operator_token o)) (joins o) (operator_class os w)
 
 abbrev pub class_of : Piece → Class
 class_of (word w) = ends
 class_of (operator w) = operator_class operators w
-class_of (mark b) = cond (b == 91) select (cond (b == 44) comma ends)
+class_of (mark b) = cond (b == 94) (joins bit_xor) (cond (b == 63) ask (cond (b == 91) select (cond (b == 44) comma ends)))
 class_of gap = ends
 
 -- how strong an expression in front of it has to be
@@ -67,7 +72,6 @@ weight (joins o) = strength o
 weight ask = 2
 weight select = 12
 weight comma = 0
-weight colon = 0
 weight ends = 0
 
 -- ---- states that take tokens one by one
@@ -113,8 +117,7 @@ next (listed k s) e c = behind c (push (listed k s) e) (k (last e))
 
 -- `[h:l]` or `[h]` behind a name
 abbrev pub select_low : Name → Numeral → Around → Piece → State
-select_low n h s (operator w) = take (on_word (λ (l : Name). skip (complete (part_select n h l) s)))
-select_low n h s _ = complete (bit_select n h) s
+select_low n h s p = on_mark 58 (take (on_word (λ (l : Name). skip (complete (part_select n h l) s)))) (complete (bit_select n h) s) p
 
 abbrev pub after_name : Name → Around → Class → State
 after_name n s select = take (on_word (λ (h : Name). take (select_low n h s)))
@@ -165,8 +168,8 @@ begin_word w s (call g) = skip (operand (inside g s))
 
 abbrev pub begin : Around → Piece → State
 begin s (word w) = begin_word w s (lexeme_of w)
-begin s (operator w) = operand (odd_of s)
-begin s (mark b) = cond (b == 40) (operand (inside paren s)) (operand (listed (λ (es : Exprs). complete (joined es) s) s))
+begin s (operator w) = lost
+begin s (mark b) = cond (b == 40) (operand (inside paren s)) (cond (b == 94) (operand (odd_of s)) (operand (listed (λ (es : Exprs). complete (joined es) s) s)))
 begin s gap = lost
 
 -- ---- blocks
@@ -225,7 +228,7 @@ module_behind f = take (on_word (λ (n : Name). take (on_mark 40
     (port (λ (ps : List VPort) (is : List Item) (t : Tree). f (record { name = n; ports = ps; items = is } ∷ t)))
     (items (λ (is : List Item) (t : Tree). f (record { name = n; ports = []; items = is } ∷ t))))))
 
--- ---- the machine
+-- ---- the reader
 
 abbrev pub step : State → Piece → State
 step lost p = lost
