@@ -1,0 +1,68 @@
+// Formulas in conjunctive normal form.
+ghost use Rattle.std.specs.Prelude.{◌≡◌, ◌↔◌, ◌&&◌, true, IsSome, IfSome};
+ghost use Rattle.cdcl_proof.specs.Literal.{is_once};
+ghost use Rattle.cdcl_proof.specs.Clause.{is_within, is_clause};
+ghost use Rattle.cdcl_proof.specs.Formula.{Formula, are_clauses};
+
+use crate::clause::{Clause, is_within_variables};
+use std::marker::Model;
+
+/// A formula in conjunctive normal form: a number of variables, which are numbered from 1, and a list of clauses
+/// over these variables alone, as in the DIMACS format. It is true where each of its clauses is.
+#[derive(Drop, Debug)]
+pub struct Cnf {
+    variables: u64,
+    clauses: Vec<Clause>,
+}
+
+impl Model for Cnf {
+    ghost use Rattle.std.specs.Prelude.{◌≡◌, true};
+    ghost use Rattle.cdcl_proof.specs.Formula.{Formula, are_clauses};
+
+    ghost Value = { Formula };
+
+    ghost view = { λ c. record { variables = c.variables; clauses = c.clauses.items } };
+
+    ghost invariant = { λ c. are_clauses c.variables c.clauses.items ≡ true };
+}
+
+impl Cnf {
+    /// The formula of these clauses, or `None` where a literal's variable is 0 or above `variables`.
+    pub fn new(variables: u64, clauses: Vec<Clause>) -> Option<Cnf>
+        ensures some { IsSome result ↔ (are_clauses variables clauses.items ≡ true) }
+        ensures value { IfSome result (λ c. c ≡ record { variables = variables; clauses = clauses.items }) }
+    {
+        if are_within_variables(&clauses, variables) {
+            Some(Cnf { variables, clauses })
+        } else {
+            None
+        }
+    }
+
+    /// The number of variables.
+    pub fn variables(&self) -> u64
+        ensures { result ≡ self.now.variables }
+    {
+        self.variables
+    }
+
+    /// The clauses, in their order: clause number 1 comes first.
+    pub fn clauses(&self) -> &[Clause]
+        ensures clauses { result.now ≡ self.now.clauses }
+        ensures within { are_clauses self.now.variables self.now.clauses ≡ true }
+    {
+        &self.clauses
+    }
+}
+
+fn are_within_variables(clauses: &[Clause], variables: u64) -> bool
+    ensures { result ≡ are_clauses variables clauses.now }
+{
+    clauses.iter().all(|c| is_clause_within(c, variables))
+}
+
+fn is_clause_within(clause: &Clause, variables: u64) -> bool
+    ensures { result ≡ is_clause variables clause.now }
+{
+    is_within_variables(clause.as_slice(), variables)
+}
