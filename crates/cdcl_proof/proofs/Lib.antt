@@ -1,1 +1,6 @@
 pub mod Sets
+pub mod Pigeons
+pub mod Entries
+pub mod Satisfying
+pub mod Scanning
+pub mod Sound

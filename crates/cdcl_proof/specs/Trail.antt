@@ -76,3 +76,8 @@ is_after es floor v = mentions (literals (drop floor es)) v
 -- the set has a literal of each variable
 abbrev pub IsTotal : ℕ → List Literal → Type 0
 IsTotal variables s = (v : ℕ) → 1 ≤ v → v ≤ variables → mentions s v ≡ true
+
+-- the sign of a marked variable, and false for the others
+abbrev pub sign_of : Option Mark → Bool
+sign_of None = false
+sign_of (Some m) = m.positive

@@ -63,7 +63,8 @@ fn pass_over(store: &Store, trail: &mut Trail) -> Result<Pass, AllocError>
     ensures outcome { IfOk result (λ p. IsPass (known store.now) trail.old trail.new p) }
 {
     let mut moved = false;
-    for number in 1..store.len() as u64 + 1 {
+    for index in 0..store.len() {
+        let number = index as u64 + 1;
         match state_of(trail, store.clause(number)) {
             State::Closed => {}
             State::Open(literal) => {
@@ -83,20 +84,20 @@ fn state_of(trail: &Trail, clause: &[Literal]) -> State
     requires { is_within trail.now.variables clause.now ≡ true }
     ensures { IsState (literals trail.now.entries) clause.now result }
 {
-    let mut open: Option<Literal> = None;
+    let mut single: Option<Literal> = None;
     for literal in clause {
         match trail.value(*literal) {
             Some(true) => return State::Closed,
             Some(false) => {}
             None => {
-                if open.is_some() {
+                if single.is_some() {
                     return State::Closed;
                 }
-                open = Some(*literal);
+                single = Some(*literal);
             }
         }
     }
-    match open {
+    match single {
         Some(literal) => State::Open(literal),
         None => State::False,
     }

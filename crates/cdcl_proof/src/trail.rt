@@ -6,7 +6,7 @@ ghost use Rattle.cdcl_proof.specs.Clause.{is_among};
 ghost use Rattle.cdcl_proof.specs.Fresh.{is_free};
 ghost use Rattle.cdcl_proof.specs.Formula.{is_true};
 ghost use Rattle.cdcl_proof.specs.declared.literal.Literal.{Literal};
-ghost use Rattle.cdcl_proof.specs.Trail.{Path, literals, entry_at, value_of, is_after, NoDecision, AreApart};
+ghost use Rattle.cdcl_proof.specs.Trail.{Path, literals, entry_at, value_of, is_after, NoDecision, AreApart, sign_of};
 ghost use Rattle.cdcl_proof.specs.Learning.{is_seen, is_seen_entry, seen_negations};
 
 use crate::clause::Clause;
@@ -226,11 +226,17 @@ impl Trail {
     {
         let mut values = Vec::new(alloc);
         for mark in &self.marks {
-            values.push(match mark {
-                Some(mark) => mark.positive,
-                None => false,
-            })?;
+            values.push(sign(*mark))?;
         }
         Ok(values)
+    }
+}
+
+fn sign(mark: Option<Mark>) -> bool
+    ensures { result ≡ sign_of mark }
+{
+    match mark {
+        Some(mark) => mark.positive,
+        None => false,
     }
 }
