@@ -4,3 +4,4 @@ pub mod Entries
 pub mod Satisfying
 pub mod Scanning
 pub mod Sound
+pub mod Chains

@@ -9,5 +9,6 @@ pub mod Store
 pub mod Propagation
 pub mod Resolving
 pub mod Proof
+pub mod Activity
 pub mod Search
 pub mod Answer

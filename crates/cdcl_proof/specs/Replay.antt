@@ -1,5 +1,5 @@
 -- Logs that replay: each step's clause comes from the clauses before it by a chain of resolutions.
-use Rattle.std.specs.Prelude.{ℕ, Bool, true, false, ◌≡◌, nat_le, ◌==◌, not, ◌&&◌, ◌||◌, ◌-◌, ◌++◌, List, [], ◌∷◌, length, slice_index_or, map}
+use Rattle.std.specs.Prelude.{ℕ, Bool, true, false, ◌≡◌, nat_le, not, ◌&&◌, ◌||◌, ◌-◌, ◌++◌, List, [], ◌∷◌, length, slice_index_or, map}
 use Rattle.std.proofs.Math.Bool.{beq}
 use Rattle.std.specs.List.{list_all}
 use Rattle.cdcl_proof.specs.declared.literal.Literal.{Literal}
@@ -21,9 +21,13 @@ is_number known n = nat_le 1 n && nat_le n (length known)
 abbrev pub clause_at : List (List Literal) → ℕ → List Literal
 clause_at known n = slice_index_or known (n - 1) []
 
--- the clauses can be resolved on the variable: its literals in them are opposite, and no others are
+-- the second clause's literals of the variable, and no others, are opposite to literals of the first
+abbrev pub opposes : ℕ → List Literal → List Literal → Bool
+opposes p a b = list_all (λ l. beq (is_on p l) (holds a (negation l))) b
+
+-- the clauses can be resolved on the variable: their literals of it are opposite, and no others are
 abbrev pub is_clash : ℕ → List Literal → List Literal → Bool
-is_clash p a b = mentions b p && list_all (λ l. beq (is_on p l) (holds a (negation l))) b
+is_clash p a b = mentions b p && opposes p a b
 
 -- the hint names a clause that can be resolved with the first on the pivot
 abbrev pub fits : List (List Literal) → List Literal → Hint → Bool
@@ -45,7 +49,7 @@ chained known a (h ∷ hs) = chained known (resolved known a h) hs
 
 -- none of the hints resolves on the literal's variable
 abbrev pub survives : List Hint → Literal → Bool
-survives hs l = list_all (λ h. not (h.pivot == l.variable)) hs
+survives hs l = list_all (λ h. not (is_on h.pivot l)) hs
 
 -- each literal that the hints leave of the part is one of the clause
 abbrev pub covers : List Hint → List Literal → List Literal → Bool

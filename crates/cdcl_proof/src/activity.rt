@@ -1,5 +1,5 @@
 // The activity of variables: how much they took part in recent conflicts.
-ghost use Rattle.std.specs.Prelude.{◌≡◌, length, IfOk, IfNone, IsTrue};
+ghost use Rattle.std.specs.Prelude.{◌≡◌, length, IfOk};
 
 use crate::literal::Literal;
 use std::alloc::{AllocError, Global};
@@ -15,6 +15,8 @@ pub(crate) struct Activity {
 const BOUND: u64 = 0x1000_0000_0000_0000;
 
 impl Activity {
+    ghost use Rattle.cdcl_proof.specs.Activity.{score_of, is_higher};
+
     pub(crate) fn new(alloc: Global, variables: u64) -> Result<Activity, AllocError>
         ensures { IfOk result (λ a. length a.scores.items ≡ variables) }
     {
@@ -64,17 +66,20 @@ impl Activity {
         self.decay();
     }
 
-    /// Whether the variable of the index has a higher score than the other, if there is one.
-    pub(crate) fn is_higher(&self, index: u64, other: Option<u64>) -> bool
-        ensures { IfNone other (IsTrue result) }
+    /// Whether the variable has a higher score than the other, if there is one.
+    pub(crate) fn is_higher(&self, variable: u64, other: Option<u64>) -> bool
+        ensures { result ≡ is_higher self.now variable other }
     {
         match other {
-            Some(other) => self.score(other) < self.score(index),
+            Some(other) => self.score(other) < self.score(variable),
             None => true,
         }
     }
 
-    fn score(&self, index: u64) -> u64 {
-        self.scores.get(index as usize).copied().unwrap_or(0)
+    fn score(&self, variable: u64) -> u64
+        ensures { result ≡ score_of self.now variable }
+    {
+        let index = variable.saturating_sub(1) as usize;
+        self.scores.get(index).copied().unwrap_or(0)
     }
 }

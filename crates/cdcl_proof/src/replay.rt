@@ -2,7 +2,7 @@
 ghost use Rattle.std.specs.Prelude.{◌≡◌, ◌++◌, true};
 ghost use Rattle.cdcl_proof.specs.Literal.{holds, is_once};
 ghost use Rattle.cdcl_proof.specs.Clause.{is_subset};
-ghost use Rattle.cdcl_proof.specs.Replay.{learnt, is_number, clause_at, fits, is_chain, chained, derives, replay, survives, covers};
+ghost use Rattle.cdcl_proof.specs.Replay.{learnt, is_number, clause_at, opposes, fits, is_chain, chained, derives, replay, survives, covers};
 
 use crate::clause::{Clause, holds_literal, mentions_variable};
 use crate::cnf::Cnf;
@@ -36,9 +36,7 @@ fn is_derived(given: &[Clause], steps: &[Step], hints: &[Hint], clause: &[Litera
     let start = clause_of(given, steps, first.clause);
     is_resolution_chain(given, steps, start, rest)
         && (is_covered(given, steps, start, rest, clause)
-            && clause
-                .iter()
-                .all(|l| chain_holds(given, steps, start, rest, *l)))
+            && is_given(given, steps, start, rest, clause))
 }
 
 /// Whether the number is that of a clause of the formula or of one of the steps.
@@ -99,10 +97,40 @@ fn is_fitting(
     let clause = clause_of(given, steps, hint.clause);
     is_clause_number(given, steps, hint.clause)
         && (mentions_variable(clause, hint.pivot)
-            && clause.iter().all(|l| {
-                (l.variable == hint.pivot)
-                    == chain_holds(given, steps, start, hints, l.negation())
-            }))
+            && is_opposed(given, steps, start, hints, clause, hint.pivot))
+}
+
+/// Whether the clause's literals of the pivot, and no others, are opposite to literals that the chain gives.
+fn is_opposed(
+    given: &[Clause],
+    steps: &[Step],
+    start: &[Literal],
+    hints: &[Hint],
+    clause: &[Literal],
+    pivot: u64,
+) -> bool
+    ensures {
+        result ≡ opposes pivot (chained (given.now ++ learnt steps.now) start.now hints.now) clause.now
+    }
+{
+    clause
+        .iter()
+        .all(|l| (l.variable == pivot) == chain_holds(given, steps, start, hints, l.negation()))
+}
+
+/// Whether the chain gives each literal of the clause.
+fn is_given(
+    given: &[Clause],
+    steps: &[Step],
+    start: &[Literal],
+    hints: &[Hint],
+    clause: &[Literal],
+) -> bool
+    ensures { result ≡ is_subset clause.now (chained (given.now ++ learnt steps.now) start.now hints.now) }
+{
+    clause
+        .iter()
+        .all(|l| chain_holds(given, steps, start, hints, *l))
 }
 
 /// Whether the chain from `start` gives a clause with the literal. Only the last clause with the literal counts,
@@ -118,7 +146,7 @@ fn chain_holds(
 {
     let mut rest = hints;
     while let Some((last, earlier)) = rest.split_last() {
-        if last.pivot == literal.variable {
+        if literal.variable == last.pivot {
             return false;
         }
         if holds_literal(clause_of(given, steps, last.clause), literal) {
@@ -133,7 +161,7 @@ fn chain_holds(
 fn is_kept(hints: &[Hint], literal: Literal) -> bool
     ensures { result ≡ survives hints.now literal }
 {
-    hints.iter().all(|h| h.pivot != literal.variable)
+    hints.iter().all(|h| literal.variable != h.pivot)
 }
 
 /// Whether each literal that the chain leaves is one of the clause.

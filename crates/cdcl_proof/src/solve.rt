@@ -1,5 +1,5 @@
 // The solver: conflict-driven clause learning with a log of its resolutions.
-ghost use Rattle.std.specs.Prelude.{ℕ, ◌≡◌, ◌≤◌, ◌<◌, ◌+◌, ◌^◌, [], ◌∷◌, IfOk, IfSome, IfNone, IsNone, true, false, length};
+ghost use Rattle.std.specs.Prelude.{ℕ, ◌≡◌, ◌≤◌, ◌<◌, ◌+◌, ◌-◌, ◌^◌, [], IfOk, IsNone, true, false, length};
 ghost use Rattle.cdcl_proof.specs.Literal.{mentions};
 ghost use Rattle.cdcl_proof.specs.Replay.{derives};
 ghost use Rattle.cdcl_proof.specs.Fresh.{is_closed};
@@ -7,7 +7,7 @@ ghost use Rattle.cdcl_proof.specs.Trail.{literals, entry_at, NoDecision, IsTotal
 ghost use Rattle.cdcl_proof.specs.Store.{known};
 ghost use Rattle.cdcl_proof.specs.Propagation.{IsConflict, IsOutcome};
 ghost use Rattle.cdcl_proof.specs.Answer.{Answers, IsDecided, IsSatisfied};
-ghost use Rattle.cdcl_proof.specs.Search.{IsSearching};
+ghost use Rattle.cdcl_proof.specs.Search.{IsSearching, IsBest};
 
 use crate::activity::Activity;
 use crate::assignment::Assignment;
@@ -170,19 +170,27 @@ impl<'a> Search<'a> {
 
     /// The unassigned variable of the highest score, of these the first.
     fn most_active(&self) -> Option<u64>
-        requires { IsSearching self.now }
-        ensures free {
-            IfSome result (λ v. (1 ≤ v) × (v ≤ self.now.trail.variables) × (mentions (literals self.now.trail.entries) v ≡ false))
-        }
-        ensures none { IfNone result (IsTotal self.now.trail.variables (literals self.now.trail.entries)) }
+        ensures { IsBest self.now self.now.trail.variables result }
     {
         let mut best: Option<u64> = None;
         for index in 0..self.trail.variables() {
-            if !self.trail.is_assigned(index + 1) && self.activity.is_higher(index, best) {
-                best = Some(index);
-            }
+            best = self.better(best, index + 1);
         }
-        best.map(|index| index + 1)
+        best
+    }
+
+    /// The best of the variables up to this one, where `best` is that of those before it.
+    fn better(&self, best: Option<u64>, variable: u64) -> Option<u64>
+        requires positive { 1 ≤ variable }
+        requires among { variable ≤ self.now.trail.variables }
+        requires best { IsBest self.now (variable - 1) best }
+        ensures { IsBest self.now variable result }
+    {
+        if !self.trail.is_assigned(variable) && self.activity.is_higher(variable, best) {
+            Some(variable)
+        } else {
+            best
+        }
     }
 
     /// The assignment of a trail that has a value for each variable.
