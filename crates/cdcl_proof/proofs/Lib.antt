@@ -5,3 +5,4 @@ pub mod Satisfying
 pub mod Scanning
 pub mod Sound
 pub mod Chains
+pub mod Marking

@@ -43,3 +43,12 @@ pub record IsLesson (variables : ℕ) (known : List (List Literal)) (es : List E
   pub full : is_empty step.clause ≡ false
   pub short : place ≤ length es
   pub sound : IsSound variables (known ++ step.clause ∷ []) (take place es)
+
+-- the analysis with the entries from the place on done: `count` literals from the floor on are left
+pub record IsAnalysis (variables : ℕ) (known : List (List Literal)) (es : List Entry) (floor keep place count : ℕ) (hints : List Hint) (seen : List Bool) : Type 0 where
+  pub resolving : IsResolving known es hints seen
+  pub counted : count ≡ count_seen seen (drop floor es)
+  pub kept : keep ≤ count
+  pub none : NoneSeen seen es place
+  pub short : place ≤ length es
+  pub len : length seen ≡ variables

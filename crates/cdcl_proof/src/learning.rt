@@ -2,11 +2,12 @@
 ghost use Rattle.std.specs.Prelude.{ℕ, ◌≡◌, ◌<◌, ◌≤◌, ◌+◌, ◌-◌, true, false, [], length, take, drop, IfOk, Some, IsNone, slice_set};
 ghost use Rattle.cdcl_proof.specs.Clause.{is_within};
 ghost use Rattle.cdcl_proof.specs.Replay.{derives, clause_at};
+ghost use Rattle.cdcl_proof.specs.Literal.{mentions};
 ghost use Rattle.cdcl_proof.specs.Trail.{IsSound, literals, entry_at, NoDecision};
-ghost use Rattle.cdcl_proof.specs.Learning.{is_seen_entry, count_seen};
+ghost use Rattle.cdcl_proof.specs.Learning.{is_seen, is_seen_entry, count_seen};
 ghost use Rattle.cdcl_proof.specs.Store.{known};
 ghost use Rattle.cdcl_proof.specs.Propagation.{IsConflict};
-ghost use Rattle.cdcl_proof.specs.Resolving.{AddsMarks, IsResolving, IsLesson, IsLevel, Resolves};
+ghost use Rattle.cdcl_proof.specs.Resolving.{AddsMarks, IsResolving, IsAnalysis, IsLesson, IsLevel, Resolves};
 
 use crate::clause::Clause;
 use crate::literal::Literal;
@@ -101,28 +102,79 @@ fn resolve_down(
     ensures count { IfOk result (λ _. count_seen seen.new (drop floor trail.now.entries) ≡ keep) }
     ensures len { IfOk result (λ _. length seen.new ≡ length seen.old) }
 {
-    seen.fill(false);
     let mut hints = Vec::new(alloc);
     hints.push(Hint {
         clause: conflict,
         pivot: 0,
     })?;
-    let mut count = mark_clause(trail, seen, store.clause(conflict), 0, floor, 0);
+    let mut count = mark_conflict(store, trail, seen, conflict, floor);
     let mut place = trail.len();
     while count > keep {
         place -= 1;
-        let entry = trail.entry(place);
-        if seen[entry.literal.variable as usize - 1] {
-            if let Some(reason) = entry.reason {
-                hints.push(Hint {
-                    clause: reason,
-                    pivot: entry.literal.variable,
-                })?;
-                count = resolve_at(store, trail, seen, place, reason, floor, count);
-            }
-        }
+        count = resolve_entry(store, trail, seen, &mut hints, place, floor, keep, count)?;
     }
     Ok(hints)
+}
+
+/// Marks the variables of the false clause alone.
+fn mark_conflict(
+    store: &Store,
+    trail: &Trail,
+    seen: &mut [bool],
+    conflict: u64,
+    floor: usize,
+) -> usize
+    requires variables { trail.now.variables ≡ store.now.formula.variables }
+    requires seen { length seen.old ≡ trail.now.variables }
+    ensures count { result ≡ count_seen seen.new (drop floor trail.now.entries) }
+    ensures len { length seen.new ≡ length seen.old }
+    ensures marks {
+        (v : ℕ) → 1 ≤ v → is_seen seen.new v ≡ mentions (clause_at (known store.now) conflict) v
+    }
+{
+    seen.fill(false);
+    mark_clause(trail, seen, store.clause(conflict), 0, floor, 0)
+}
+
+/// Resolves with the reason of the entry at the place, if it is marked. The result is how many marked entries from
+/// `floor` on are left.
+fn resolve_entry(
+    store: &Store,
+    trail: &Trail,
+    seen: &mut [bool],
+    hints: &mut Vec<Hint>,
+    place: usize,
+    floor: usize,
+    keep: usize,
+    count: usize,
+) -> Result<usize, AllocError>
+    requires variables { trail.now.variables ≡ store.now.formula.variables }
+    requires sound { IsSound trail.now.variables (known store.now) trail.now.entries }
+    requires implied { NoDecision trail.now.entries (floor + keep) (length trail.now.entries) }
+    requires place { place < length trail.now.entries }
+    requires floor { floor + keep ≤ place }
+    requires analysis {
+        IsAnalysis trail.now.variables (known store.now) trail.now.entries floor keep (place + 1) count hints.old.items seen.old
+    }
+    requires more { keep < count }
+    ensures analysis {
+        IfOk result (λ n. IsAnalysis trail.now.variables (known store.now) trail.now.entries floor keep place n hints.new.items seen.new)
+    }
+{
+    let entry = trail.entry(place);
+    if !seen[entry.literal.variable as usize - 1] {
+        return Ok(count);
+    }
+    match entry.reason {
+        Some(reason) => {
+            hints.push(Hint {
+                clause: reason,
+                pivot: entry.literal.variable,
+            })?;
+            Ok(resolve_at(store, trail, seen, place, reason, floor, count))
+        }
+        None => Ok(count),
+    }
 }
 
 /// Marks what a resolution with the reason of the marked entry at the place gives.

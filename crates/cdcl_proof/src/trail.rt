@@ -1,5 +1,5 @@
 // The trail of a search: the literals assumed or implied so far, oldest first.
-ghost use Rattle.std.specs.Prelude.{ℕ, ◌≡◌, ◌<◌, ◌≤◌, ◌++◌, ◌∷◌, ◌+◌, ◌-◌, [], true, false, length, take, drop, None, IsNone, IsSome, OnOk, IfOk, IfSome, IfNone, Bool, List};
+ghost use Rattle.std.specs.Prelude.{ℕ, ◌≡◌, ◌<◌, ◌≤◌, ◌++◌, ◌∷◌, ◌+◌, ◌-◌, ◌^◌, [], true, false, length, take, drop, None, IsNone, IsSome, OnOk, IfOk, IfSome, IfNone, Bool, List};
 ghost use Rattle.cdcl_proof.specs.declared.trail.Entry.{Entry};
 ghost use Rattle.cdcl_proof.specs.Literal.{is_once, holds, mentions, negation};
 ghost use Rattle.cdcl_proof.specs.Clause.{is_among};
@@ -104,7 +104,9 @@ impl Trail {
     pub(crate) fn is_at_least(&self, variable: u64, place: usize) -> bool
         requires positive { 1 ≤ variable }
         requires among { variable ≤ self.now.variables }
-        ensures { result ≡ is_after self.now.entries place variable }
+        ensures after { result ≡ is_after self.now.entries place variable }
+        ensures small { length self.now.entries < 2 ^ 63 }
+        ensures apart { AreApart self.now.variables self.now.entries }
     {
         match self.marks[variable as usize - 1] {
             Some(mark) => place <= mark.place,
