@@ -6,3 +6,8 @@ pub mod Scanning
 pub mod Sound
 pub mod Chains
 pub mod Marking
+pub mod Resolution
+pub mod Lessons
+pub mod Laws
+pub mod Counting
+pub mod Keeping

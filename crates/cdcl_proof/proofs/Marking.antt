@@ -1,5 +1,5 @@
 -- Marks of variables, and how many entries of a trail they mark.
-use Rattle.std.proofs.Common.{◌≡◌, ◌≢◌, ℕ, zero, suc, ◌+◌, ◌-◌, ◌<◌, ◌≤◌, Bool, true, false, not, ◌&&◌, ◌||◌, cond, List, [], ◌∷◌, ◌++◌, length, get_or, take, drop, set, map, eqb, leb, refl, sym, ◌∙◌, ap, subst, inl, inr, ◌⊎◌, arith}
+use Rattle.std.proofs.Common.{◌≡◌, ◌≢◌, ℕ, zero, suc, ◌+◌, ◌-◌, ◌<◌, ◌≤◌, Bool, true, false, not, ◌&&◌, ◌||◌, cond, List, [], ◌∷◌, ◌++◌, length, get_or, take, drop, set, map, replicate, eqb, leb, refl, sym, ◌∙◌, ap, subst, inl, inr, ◌⊎◌, arith}
 use Rattle.std.specs.List.{list_all, list_any}
 use Rattle.std.proofs.lemmas.List.{take_more, get_or-set_same, get_or-set_other, length-set, get_or-drop, length-drop}
 use Rattle.std.proofs.lemmas.List.Folds.{list_any-append}
@@ -227,3 +227,13 @@ unmark_count variables seen es floor place apart len inside above marked =
     let high = among_high variables (entry_at es place).literal among in
     let high' : variable_at es place ≤ length seen = omega (arith, high, len) in
     count_seen-set_none variables seen (variable_at es place) (drop floor es) low high' marked (within_drop variables floor es tidy.1) (once_drop floor es tidy.0) (after_entry es floor place above inside)
+
+-- with no mark nothing is counted
+pub count_seen-none : (seen : List Bool) (es : List Entry) → ((v : ℕ) → is_seen seen v ≡ false) → count_seen seen es ≡ 0
+count_seen-none seen [] f = refl
+count_seen-none seen (e ∷ es) f = let one : is_seen_entry seen e ≡ false = f e.literal.variable in rw one (ap (λ (n : ℕ). 0 + n) (count_seen-none seen es f))
+
+pub get_or-replicate_false : (n k : ℕ) → get_or (replicate n false) k false ≡ false
+get_or-replicate_false zero k = refl
+get_or-replicate_false (suc n) zero = refl
+get_or-replicate_false (suc n) (suc k) = get_or-replicate_false n k

@@ -1,5 +1,5 @@
 -- Fresh logs: a step's clause has a literal that propagation from the negations of the others does not give.
-use Rattle.std.specs.Prelude.{ℕ, Bool, true, false, ◌≡◌, ◌⊎◌, nat_le, not, cond, ◌||◌, ◌+◌, ◌++◌, List, [], ◌∷◌}
+use Rattle.std.specs.Prelude.{ℕ, Bool, true, false, ◌≡◌, ◌⊎◌, nat_le, not, cond, ◌||◌, ◌&&◌, ◌+◌, ◌++◌, List, [], ◌∷◌}
 use Rattle.std.specs.List.{list_all, list_any}
 use Rattle.cdcl_proof.specs.declared.literal.Literal.{Literal}
 use Rattle.cdcl_proof.specs.declared.log.Step.{Step}
@@ -64,4 +64,4 @@ is_new known c = list_all (λ k. not (is_subset k c)) known
 -- no step's clause, but for the empty one, contains a clause from before it
 abbrev pub is_new_from : List (List Literal) → List Step → Bool
 is_new_from known [] = true
-is_new_from known (s ∷ ss) = cond (is_empty s.clause || is_new known s.clause) (is_new_from (known ++ s.clause ∷ []) ss) false
+is_new_from known (s ∷ ss) = (is_empty s.clause || is_new known s.clause) && is_new_from (known ++ s.clause ∷ []) ss

@@ -124,7 +124,8 @@ impl<'a> Search<'a> {
         )?;
         self.activity.lift_all(lesson.step.clause.as_slice());
         self.trail.cut(lesson.place);
-        self.store.push(lesson.step)
+        self.store.push(lesson.step)?;
+        Ok(())
     }
 
     /// The step that ends a refutation: no decision is left to take back.

@@ -210,7 +210,8 @@ impl Trail {
         seen: &[bool],
     ) -> Result<Vec<Literal>, AllocError>
         requires { length seen.now ≡ self.now.variables }
-        ensures { IfOk result (λ c. c.items ≡ seen_negations seen.now self.now.entries) }
+        ensures negations { IfOk result (λ c. c.items ≡ seen_negations seen.now self.now.entries) }
+        ensures apart { AreApart self.now.variables self.now.entries }
     {
         let mut literals = Vec::new(alloc);
         for entry in &self.entries {
