@@ -1,16 +1,14 @@
 -- Chains of resolutions, hint by hint.
-use Rattle.std.proofs.Common.{◌≡◌, ℕ, zero, suc, ◌+◌, ◌-◌, ◌<◌, ◌≤◌, Bool, true, false, not, ◌&&◌, ◌||◌, cond, List, [], ◌∷◌, ◌++◌, length, get_or, take, drop, map, eqb, leb, refl, sym, ◌∙◌, ap, subst, inl, inr, ◌⊎◌, arith, append_assoc}
-use Rattle.std.specs.List.{list_all, list_any, filter}
-use Rattle.std.proofs.lemmas.List.{take_more, drop_more, drop_all, take_all, map_push}
+use Rattle.std.proofs.Common.{◌≡◌, ℕ, ◌+◌, ◌<◌, Bool, true, false, not, ◌&&◌, ◌||◌, cond, List, [], ◌∷◌, ◌++◌, length, get_or, take, drop, refl, sym, ◌∙◌, ap, append_assoc}
+use Rattle.std.proofs.lemmas.List.{take_more, drop_more, map_push}
 use Rattle.std.proofs.lemmas.List.Folds.{list_all-append}
-use Rattle.std.proofs.lemmas.Bool.{and_parts, and_from, true≢false, false≢true, leb-true, le-leb, lt-leb, cases_lt, eq-eqb, ne_eqb}
+use Rattle.std.proofs.lemmas.Bool.{and_parts, and_from, false≢true}
 use Rattle.cdcl_proof.specs.declared.literal.Literal.{Literal}
 use Rattle.cdcl_proof.specs.declared.log.Hint.{Hint}
 use Rattle.cdcl_proof.specs.declared.log.Step.{Step}
-use Rattle.cdcl_proof.specs.Literal.{negation, same, is_on, holds, mentions, is_once}
-use Rattle.cdcl_proof.specs.Clause.{is_subset, is_same_set, without, resolvent}
-use Rattle.cdcl_proof.specs.Formula.{Formula}
-use Rattle.cdcl_proof.specs.Replay.{learnt, is_number, clause_at, is_clash, fits, resolved, is_chain, chained, survives, covers, chain_of, names_chain, derives, replays_from, replay}
+use Rattle.cdcl_proof.specs.Literal.{is_on, holds}
+use Rattle.cdcl_proof.specs.Clause.{is_subset, without}
+use Rattle.cdcl_proof.specs.Replay.{learnt, is_number, clause_at, fits, resolved, is_chain, chained, survives, covers, chain_of, names_chain, derives, replays_from}
 use Rattle.cdcl_proof.proofs.Sets.{holds-resolvent}
 
 pub and-true : (b : Bool) → (b && true) ≡ b
@@ -37,7 +35,7 @@ names_chain-push known [] h c f = absurd (false≢true c)
 names_chain-push known (g ∷ gs) h c f =
     let parts = and_parts (is_number known g.clause) (is_chain known (clause_at known g.clause) gs) c in
     and_from (is_number known g.clause) (is_chain known (clause_at known g.clause) (gs ++ h ∷ [])) parts.0
-        (is_chain-push known (clause_at known g.clause) gs h ∙ and_from (is_chain known (clause_at known g.clause) gs) (fits known (chained known (clause_at known g.clause) gs) h) parts.1 f)
+    (is_chain-push known (clause_at known g.clause) gs h ∙ and_from (is_chain known (clause_at known g.clause) gs) (fits known (chained known (clause_at known g.clause) gs) h) parts.1 f)
 
 pub chain_of-push : (known : List (List Literal)) (hs : List Hint) (h : Hint) → names_chain known hs ≡ true → chain_of known (hs ++ h ∷ []) ≡ resolved known (chain_of known hs) h
 chain_of-push known [] h c = absurd (false≢true c)
@@ -112,7 +110,7 @@ replay_at given log i d l =
     let s = get_or log i d in
     let more : take (i + 1) log ≡ take i log ++ s ∷ [] = take_more log i d l in
     let next : given ++ learnt (take (i + 1) log) ≡ (given ++ learnt (take i log)) ++ s.clause ∷ [] =
-        ap (λ (ss : List Step). given ++ learnt ss) more ∙ ap (λ (cs : List (List Literal)). given ++ cs) (map_push (λ (t : Step). t.clause) (take i log) s) ∙ sym (append_assoc given (learnt (take i log)) (s.clause ∷ [])) in
+    ap (λ (ss : List Step). given ++ learnt ss) more ∙ ap (λ (cs : List (List Literal)). given ++ cs) (map_push (λ (t : Step). t.clause) (take i log) s) ∙ sym (append_assoc given (learnt (take i log)) (s.clause ∷ [])) in
     let rest : drop i log ≡ s ∷ drop (i + 1) log = drop_more log i d l in
     ap (replays_from (given ++ learnt (take i log))) rest
     ∙ ap (λ (k : List (List Literal)). derives (given ++ learnt (take i log)) s.hints s.clause && replays_from k (drop (i + 1) log)) (sym next)

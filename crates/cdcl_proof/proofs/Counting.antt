@@ -1,18 +1,15 @@
 -- Fresh clauses that are not empty are fewer than three to the power of the variables.
-use Rattle.std.proofs.Common.{◌≡◌, ℕ, zero, suc, ◌+◌, ◌-◌, ◌*◌, ◌^◌, ◌<◌, ◌≤◌, Bool, true, false, not, ◌&&◌, ◌||◌, cond, List, [], ◌∷◌, ◌++◌, length, map, eqb, ltb, leb, refl, sym, ◌∙◌, ap, subst, inl, inr, ◌⊎◌, arith, append_assoc}
+use Rattle.std.proofs.Common.{◌≡◌, ℕ, zero, suc, ◌+◌, ◌*◌, ◌^◌, ◌<◌, ◌≤◌, Bool, true, false, not, ◌||◌, cond, List, [], ◌∷◌, ◌++◌, length, eqb, ltb, refl, sym, ◌∙◌, ap, subst, arith, append_assoc}
 use Rattle.std.proofs.Math.Nat.{pow-suc}
-use Rattle.std.specs.List.{list_all}
-use Rattle.std.proofs.lemmas.List.{length-map}
-use Rattle.std.proofs.lemmas.List.Folds.{list_all-append}
-use Rattle.std.proofs.lemmas.Bool.{and_parts, and_from, or_cases, or_left, or_right, or_parts, or_from, true≢false, false≢true, eqb-true, eqb-false, eq-eqb, ne_eqb, both_ways, not_from_false, not-true, false_from_ne_true, leb-true, lt-ltb, cases_Bool}
+use Rattle.std.proofs.lemmas.Bool.{and_parts, and_from, or_from, true≢false, false≢true, eqb-true, eqb-false, ne_eqb, both_ways, not_from_false, not-true, false_from_ne_true, lt-ltb}
 use Rattle.cdcl_proof.specs.declared.literal.Literal.{Literal}
 use Rattle.cdcl_proof.specs.declared.log.Step.{Step}
-use Rattle.cdcl_proof.specs.Literal.{negation, holds, is_once}
+use Rattle.cdcl_proof.specs.Literal.{holds, is_once}
 use Rattle.cdcl_proof.specs.Clause.{is_among, is_within, is_clause, is_subset}
 use Rattle.cdcl_proof.specs.Formula.{are_clauses}
 use Rattle.cdcl_proof.specs.Replay.{learnt}
 use Rattle.cdcl_proof.specs.Fresh.{is_empty, is_new, is_new_from, has_no_empty}
-use Rattle.cdcl_proof.proofs.Sets.{same-refl, literal_ext, all_at, all_from, once_apart}
+use Rattle.cdcl_proof.proofs.Sets.{literal_ext, all_at, all_from, once_apart}
 use Rattle.cdcl_proof.proofs.Entries.{among_low, among_high}
 use Rattle.cdcl_proof.proofs.Pigeons.{is_member, is_distinct, are_below, pigeonhole}
 
@@ -96,8 +93,10 @@ code_subset n a b clause e = all_from (λ l. holds b l) a each
   where
     once : is_once a ≡ true
     once = (and_parts (is_once a) (is_within n a) clause).0
+
     within : is_within n a ≡ true
     within = (and_parts (is_once a) (is_within n a) clause).1
+
     each : (l : Literal) → holds a l ≡ true → holds b l ≡ true
     each l h =
         let among = all_at (is_among n) a l within h in
@@ -137,8 +136,8 @@ member_differs n k before after (s ∷ ss) clause full new =
     let this : is_new (before ++ k ∷ after) s.clause ≡ true = second (is_empty s.clause) (is_new (before ++ k ∷ after) s.clause) (not-true (is_empty s.clause) fulls.0) news.0 in
     let rest : is_new_from (before ++ k ∷ (after ++ s.clause ∷ [])) ss ≡ true = subst (λ (ks : List (List Literal)). is_new_from ks ss ≡ true) (append_assoc before (k ∷ after) (s.clause ∷ [])) news.1 in
     or_from (eqb (code n s.clause) (code n k)) (is_member (codes n ss) (code n k))
-        (ne_eqb (code n s.clause) (code n k) (λ e. both_ways (is_subset k s.clause) (new_middle k s.clause before after this) (code_subset n k s.clause clause (sym e))))
-        (member_differs n k before (after ++ s.clause ∷ []) ss clause fulls.1 rest)
+    (ne_eqb (code n s.clause) (code n k) (λ e. both_ways (is_subset k s.clause) (new_middle k s.clause before after this) (code_subset n k s.clause clause (sym e))))
+    (member_differs n k before (after ++ s.clause ∷ []) ss clause fulls.1 rest)
   where
     second : (a b : Bool) → a ≡ false → (a || b) ≡ true → b ≡ true
     second true b e h = absurd (true≢false e)
@@ -151,8 +150,8 @@ codes_distinct n known (s ∷ ss) clauses full new =
     let fulls = and_parts (not (is_empty s.clause)) (has_no_empty ss) full in
     let news = and_parts (is_empty s.clause || is_new known s.clause) (is_new_from (known ++ s.clause ∷ []) ss) new in
     and_from (not (is_member (codes n ss) (code n s.clause))) (is_distinct (codes n ss))
-        (not_from_false (is_member (codes n ss) (code n s.clause)) (member_differs n s.clause known [] ss cs.0 fulls.1 news.1))
-        (codes_distinct n (known ++ s.clause ∷ []) ss cs.1 fulls.1 news.1)
+    (not_from_false (is_member (codes n ss) (code n s.clause)) (member_differs n s.clause known [] ss cs.0 fulls.1 news.1))
+    (codes_distinct n (known ++ s.clause ∷ []) ss cs.1 fulls.1 news.1)
 
 -- a clause with a literal does not have the code of the empty one
 code_empty : (n : ℕ) → code n [] ≡ 0
@@ -165,8 +164,8 @@ none_zero n (s ∷ ss) clauses full =
     let cs = and_parts (is_clause n s.clause) (are_clauses n (learnt ss)) clauses in
     let fulls = and_parts (not (is_empty s.clause)) (has_no_empty ss) full in
     or_from (eqb (code n s.clause) 0) (is_member (codes n ss) 0)
-        (ne_eqb (code n s.clause) 0 (λ e. nonempty s.clause (not-true (is_empty s.clause) fulls.0) (code_subset n s.clause [] cs.0 (e ∙ sym (code_empty n)))))
-        (none_zero n ss cs.1 fulls.1)
+    (ne_eqb (code n s.clause) 0 (λ e. nonempty s.clause (not-true (is_empty s.clause) fulls.0) (code_subset n s.clause [] cs.0 (e ∙ sym (code_empty n)))))
+    (none_zero n ss cs.1 fulls.1)
   where
     nonempty : (c : List Literal) → is_empty c ≡ false → is_subset c [] ≡ true → ⊥
     nonempty [] e h = true≢false e

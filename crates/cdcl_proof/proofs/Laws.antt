@@ -1,21 +1,20 @@
 -- The laws of logs: what replays follows from the formula, and what is fresh contains no earlier clause.
-use Rattle.std.proofs.Common.{◌≡◌, ℕ, zero, suc, ◌+◌, ◌-◌, ◌<◌, ◌≤◌, Bool, true, false, not, ◌&&◌, ◌||◌, cond, List, [], ◌∷◌, ◌++◌, length, get_or, take, drop, map, eqb, leb, refl, sym, ◌∙◌, ap, subst, inl, inr, ◌⊎◌, arith, append_assoc, append-nil}
+use Rattle.std.proofs.Common.{◌≡◌, ℕ, zero, suc, ◌+◌, ◌-◌, ◌<◌, ◌≤◌, Bool, true, false, not, ◌&&◌, ◌||◌, cond, List, [], ◌∷◌, ◌++◌, length, get_or, eqb, leb, refl, sym, ◌∙◌, ap, subst, inl, inr, arith, append_assoc, append-nil}
 use Rattle.std.proofs.Math.Bool.{beq}
 use Rattle.std.specs.List.{list_all, list_any}
 use Rattle.std.proofs.lemmas.List.{map-append}
 use Rattle.std.proofs.lemmas.List.Folds.{list_all-append}
-use Rattle.std.proofs.lemmas.Bool.{and_parts, and_from, or_cases, or_left, or_right, or_parts, true≢false, false≢true, eqb-true, eqb-false, eq-eqb, ne_eqb, both_ways, not_from_false, not-true, false_from_ne_true, leb-true, leb-false, le-leb, not_from_true}
+use Rattle.std.proofs.lemmas.Bool.{and_parts, and_from, or_cases, or_left, or_right, false≢true, eqb-true, eqb-false, both_ways, not_from_false, not-true, false_from_ne_true, leb-true}
 use Rattle.cdcl_proof.specs.declared.literal.Literal.{Literal}
 use Rattle.cdcl_proof.specs.declared.log.Hint.{Hint}
 use Rattle.cdcl_proof.specs.declared.log.Step.{Step}
 use Rattle.cdcl_proof.specs.Literal.{negation, same, is_on, holds, mentions, is_once}
-use Rattle.cdcl_proof.specs.Clause.{is_among, is_within, is_clause, is_subset, is_same_set, resolvent}
-use Rattle.cdcl_proof.specs.Formula.{Formula, are_clauses, is_true, makes_true, satisfies}
-use Rattle.cdcl_proof.specs.Replay.{learnt, is_number, clause_at, is_clash, opposes, fits, resolved, is_chain, chained, names_chain, chain_of, derives, replays_from, replay, Follows}
-use Rattle.cdcl_proof.specs.Fresh.{is_free, count_free, is_closed, is_closed_at, is_unit, IsFresh, is_empty, FreshFrom, is_new, is_new_from, has_no_empty}
+use Rattle.cdcl_proof.specs.Clause.{is_within, is_clause, is_subset, is_same_set, resolvent}
+use Rattle.cdcl_proof.specs.Formula.{Formula, are_clauses, is_true, makes_true}
+use Rattle.cdcl_proof.specs.Replay.{learnt, is_number, clause_at, is_clash, opposes, fits, resolved, is_chain, chained, names_chain, derives, replays_from, replay, Follows}
+use Rattle.cdcl_proof.specs.Fresh.{is_free, count_free, is_closed, is_closed_at, IsFresh, is_empty, FreshFrom, is_new, is_new_from}
 use Rattle.cdcl_proof.proofs.Sets.{beq-true, same-true, same-refl, literal_ext, negation-negation, all_at, any_at, any_from, mentions_from, once_apart, holds-resolvent}
 use Rattle.cdcl_proof.proofs.Chains.{and-true, and-assoc}
-use Rattle.cdcl_proof.proofs.Sound.{all_clauses}
 use Rattle.cdcl_proof.proofs.Resolution.{some_free_in}
 
 -- the set does not hold a literal and its negation
@@ -53,19 +52,19 @@ resolvent_apart p a b na nb clash l h n =
     let np = and_parts (not (is_on p (negation l))) (holds a (negation l) || holds b (negation l)) (sym (holds-resolvent p a b (negation l)) ∙ n) in
     let off = not-true (is_on p l) hp.0 in
     elim (or_cases (holds a l) (holds b l) hp.1) as (λ _. ⊥) [
-        inl l_a ↦ elim (or_cases (holds a (negation l)) (holds b (negation l)) np.1) as (λ _. ⊥) [
-            inl n_a ↦ na l l_a n_a
-          | inr n_b ↦
-              let against = all_at (λ m. beq (is_on p m) (holds a (negation m))) b (negation l) opposed n_b in
-              let back : holds a (negation (negation l)) ≡ true = subst (λ (m : Literal). holds a m ≡ true) (sym (negation-negation l)) l_a in
-              both_ways (is_on p l) off (beq-true (is_on p l) (holds a (negation (negation l))) against ∙ back)
-        ]
+      | inl l_a ↦ elim (or_cases (holds a (negation l)) (holds b (negation l)) np.1) as (λ _. ⊥) [
+        | inl n_a ↦ na l l_a n_a
+        | inr n_b ↦
+            let against = all_at (λ m. beq (is_on p m) (holds a (negation m))) b (negation l) opposed n_b in
+            let back : holds a (negation (negation l)) ≡ true = subst (λ (m : Literal). holds a m ≡ true) (sym (negation-negation l)) l_a in
+            both_ways (is_on p l) off (beq-true (is_on p l) (holds a (negation (negation l))) against ∙ back)
+      ]
       | inr l_b ↦ elim (or_cases (holds a (negation l)) (holds b (negation l)) np.1) as (λ _. ⊥) [
-            inl n_a ↦
-              let against = all_at (λ m. beq (is_on p m) (holds a (negation m))) b l opposed l_b in
-              both_ways (is_on p l) off (beq-true (is_on p l) (holds a (negation l)) against ∙ n_a)
-          | inr n_b ↦ nb l l_b n_b
-        ]
+        | inl n_a ↦
+            let against = all_at (λ m. beq (is_on p m) (holds a (negation m))) b l opposed l_b in
+            both_ways (is_on p l) off (beq-true (is_on p l) (holds a (negation l)) against ∙ n_a)
+        | inr n_b ↦ nb l l_b n_b
+      ]
     ]
 
 once_no_clash : (c : List Literal) → is_once c ≡ true → NoClash c
@@ -148,24 +147,26 @@ free_other t (x ∷ xs) v once h =
 not_within : (known : List (List Literal)) (c : List Literal) (f : IsFresh known c) (k : List Literal) → is_once k ≡ true → is_closed_at f.set k ≡ true → is_subset k c ≡ true → ⊥
 not_within known c f k once closed subset =
     elim (or_cases (list_any (holds f.set) k) (leb 2 (count_free f.set k)) closed) as (λ _. ⊥) [
-        inl true_one ↦
-            let l = any_at (holds f.set) k true_one in
-            unit_false l.0 (in_c l.0 l.1) (λ one. both_ways (mentions f.set (f.literal).variable) free (subst (λ (v : ℕ). mentions f.set v ≡ true) (ap (λ (x : Literal). x.variable) one) (mentions_from f.set l.0 l.2)))
-                (λ n. once_apart f.set l.0 f.once l.2 n)
+      | inl true_one ↦
+          let l = any_at (holds f.set) k true_one in
+          unit_false l.0 (in_c l.0 l.1) (λ one. both_ways (mentions f.set (f.literal).variable) free (subst (λ (v : ℕ). mentions f.set v ≡ true) (ap (λ (x : Literal). x.variable) one) (mentions_from f.set l.0 l.2)))
+          (λ n. once_apart f.set l.0 f.once l.2 n)
       | inr two ↦
-            let l = free_other f.set k (f.literal).variable once (leb-true 2 (count_free f.set k) two) in
-            unit_false l.0 (in_c l.0 l.1) (λ one. l.3 (ap (λ (x : Literal). x.variable) one))
-                (λ n. both_ways (mentions f.set (l.0).variable) (not-true (mentions f.set (l.0).variable) l.2) (mentions_from f.set (negation l.0) n))
+          let l = free_other f.set k (f.literal).variable once (leb-true 2 (count_free f.set k) two) in
+          unit_false l.0 (in_c l.0 l.1) (λ one. l.3 (ap (λ (x : Literal). x.variable) one))
+          (λ n. both_ways (mentions f.set (l.0).variable) (not-true (mentions f.set (l.0).variable) l.2) (mentions_from f.set (negation l.0) n))
     ]
   where
     free : mentions f.set (f.literal).variable ≡ false
     free = not-true (mentions f.set (f.literal).variable) f.free
+
     in_c : (l : Literal) → holds k l ≡ true → holds c l ≡ true
     in_c l h = all_at (λ m. holds c m) k l subset h
+
     unit_false : (l : Literal) → holds c l ≡ true → (l ≡ f.literal → ⊥) → (holds f.set (negation l) ≡ true → ⊥) → ⊥
     unit_false l h a b =
         elim (or_cases (same l f.literal) (holds f.set (negation l)) (all_at (λ m. same m f.literal || holds f.set (negation m)) c l f.others h)) as (λ _. ⊥) [
-            inl one ↦ a (same-true l f.literal one)
+          | inl one ↦ a (same-true l f.literal one)
           | inr n ↦ b n
         ]
 

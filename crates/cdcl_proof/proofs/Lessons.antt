@@ -1,23 +1,22 @@
 -- What a conflict teaches: a clause that is fresh, and a trail that stays sound with it.
-use Rattle.std.proofs.Common.{◌≡◌, ℕ, zero, suc, ◌+◌, ◌-◌, ◌<◌, ◌≤◌, Bool, true, false, not, ◌&&◌, ◌||◌, cond, List, [], ◌∷◌, ◌++◌, length, get_or, take, drop, map, eqb, leb, refl, sym, ◌∙◌, ap, subst, inl, inr, ◌⊎◌, arith, Option, Some, None, MatchOption, is_some, IsNone}
+use Rattle.std.proofs.Common.{◌≡◌, ℕ, zero, suc, ◌+◌, ◌-◌, ◌<◌, ◌≤◌, Bool, true, false, not, ◌&&◌, ◌||◌, cond, List, [], ◌∷◌, ◌++◌, length, take, drop, map, eqb, leb, refl, sym, ◌∙◌, ap, subst, inl, inr, ◌⊎◌, arith, Option, Some, None, MatchOption, is_some, IsNone}
 use Rattle.std.proofs.Math.Bool.{beq}
-use Rattle.std.specs.List.{list_all, list_any, filter}
+use Rattle.std.specs.List.{list_any, filter}
 use Rattle.std.proofs.lemmas.List.{get_or-take, length-take, length-take-le, length-drop, get_or-drop, take-take, get_or_append_left, length_push}
 use Rattle.std.proofs.lemmas.List.Folds.{list_all-append}
-use Rattle.std.proofs.lemmas.Bool.{and_parts, and_from, or_cases, or_left, or_right, or_parts, true≢false, false≢true, eqb-true, eqb-false, eq-eqb, ne_eqb, cases_eq, both_ways, not_from_false, not-true, false_from_ne_true, leb-true, leb-false, le-leb}
+use Rattle.std.proofs.lemmas.Bool.{and_parts, and_from, or_cases, or_left, or_right, true≢false, false≢true, both_ways, not_from_false, not-true, false_from_ne_true, leb-true, le-leb}
 use Rattle.cdcl_proof.specs.declared.literal.Literal.{Literal}
 use Rattle.cdcl_proof.specs.declared.log.Hint.{Hint}
-use Rattle.cdcl_proof.specs.declared.log.Step.{Step}
 use Rattle.cdcl_proof.specs.declared.trail.Entry.{Entry}
-use Rattle.cdcl_proof.specs.Literal.{negation, same, is_on, holds, mentions, is_once}
-use Rattle.cdcl_proof.specs.Clause.{is_among, is_within, is_clause, is_subset, is_same_set}
-use Rattle.cdcl_proof.specs.Replay.{is_number, clause_at, names_chain, chain_of, derives}
-use Rattle.cdcl_proof.specs.Fresh.{is_free, count_free, is_closed, is_closed_at, is_unit, IsFresh, is_empty}
-use Rattle.cdcl_proof.specs.Trail.{literals, entry_at, no_entry, AreApart, IsSound, Stands, Implies, Why, NoDecision}
-use Rattle.cdcl_proof.specs.Learning.{is_seen, is_seen_entry, count_seen, seen_negations, Represents}
+use Rattle.cdcl_proof.specs.Literal.{negation, same, holds, mentions, is_once}
+use Rattle.cdcl_proof.specs.Clause.{is_among, is_within, is_subset, is_same_set}
+use Rattle.cdcl_proof.specs.Replay.{clause_at, names_chain, chain_of, derives}
+use Rattle.cdcl_proof.specs.Fresh.{is_free, count_free, is_closed, is_closed_at, IsFresh, is_empty}
+use Rattle.cdcl_proof.specs.Trail.{literals, entry_at, no_entry, AreApart, IsSound, Implies, NoDecision}
+use Rattle.cdcl_proof.specs.Learning.{is_seen, is_seen_entry, count_seen, seen_negations}
 use Rattle.cdcl_proof.specs.Resolving.{IsResolving, IsLesson}
-use Rattle.cdcl_proof.proofs.Sets.{same-true, same-refl, negation-negation, all_at, all_from, mentions_from, holds_from_mentions, once_same}
-use Rattle.cdcl_proof.proofs.Entries.{variable_at, among_low, holds_entry, entry_of_holds, mentions_entry, entry_of_mentions}
+use Rattle.cdcl_proof.proofs.Sets.{same-true, same-refl, negation-negation, all_at, all_from, mentions_from, holds_from_mentions}
+use Rattle.cdcl_proof.proofs.Entries.{variable_at, holds_entry, entry_of_holds, mentions_entry}
 use Rattle.cdcl_proof.proofs.Sound.{sound_take}
 use Rattle.cdcl_proof.proofs.Marking.{apart_once, count_seen-pos}
 use Rattle.cdcl_proof.proofs.Resolution.{holds_take, cases_le}
@@ -42,6 +41,7 @@ holds-seen_negations seen (e ∷ es) l = go (is_seen_entry seen e) refl (same e.
   where
     variable_is : same e.literal (negation l) ≡ true → e.literal.variable ≡ l.variable
     variable_is h = ap (λ (x : Literal). x.variable) (same-true e.literal (negation l) h)
+
     go : (a : Bool) → is_seen_entry seen e ≡ a → (s : Bool) → same e.literal (negation l) ≡ s → holds (seen_negations seen es) l ≡ (is_seen seen l.variable && holds (literals es) (negation l)) → holds (map (λ (x : Entry). negation x.literal) (cond a (e ∷ filter (is_seen_entry seen) es) (filter (is_seen_entry seen) es))) l ≡ (is_seen seen l.variable && (s || holds (literals es) (negation l)))
     go true p true q ih =
         let marked : is_seen seen l.variable ≡ true = subst (λ (v : ℕ). is_seen seen v ≡ true) (variable_is q) p in
@@ -79,11 +79,11 @@ once_take (suc n) (e ∷ es) h =
     let parts = and_parts (not (mentions (literals es) e.literal.variable)) (is_once (literals es)) h in
     let absent = not-true (mentions (literals es) e.literal.variable) parts.0 in
     and_from (not (mentions (literals (take n es)) e.literal.variable)) (is_once (literals (take n es)))
-        (not_from_false (mentions (literals (take n es)) e.literal.variable) (false_from_ne_true (mentions (literals (take n es)) e.literal.variable) (λ m.
-            let l = holds_from_mentions (literals (take n es)) e.literal.variable m in
-            let k = holds_take es n l.0 l.1 in
-            both_ways (mentions (literals es) e.literal.variable) absent (subst (λ (v : ℕ). mentions (literals es) v ≡ true) (ap (λ (x : Literal). x.variable) k.3 ∙ l.2) (mentions_entry es k.0 k.2)))))
-        (once_take n es parts.1)
+    (not_from_false (mentions (literals (take n es)) e.literal.variable) (false_from_ne_true (mentions (literals (take n es)) e.literal.variable) (λ m.
+    let l = holds_from_mentions (literals (take n es)) e.literal.variable m in
+    let k = holds_take es n l.0 l.1 in
+    both_ways (mentions (literals es) e.literal.variable) absent (subst (λ (v : ℕ). mentions (literals es) v ≡ true) (ap (λ (x : Literal). x.variable) k.3 ∙ l.2) (mentions_entry es k.0 k.2)))))
+    (once_take n es parts.1)
 
 -- an entry before a place is held there
 pub holds_before : (es : List Entry) (n k : ℕ) → k < n → k < length es → holds (literals (take n es)) (entry_at es k).literal ≡ true
@@ -135,7 +135,7 @@ one_free : (t xs : List Literal) (a : Literal) → holds xs a ≡ true → is_fr
 one_free t [] a h f = absurd (false≢true h)
 one_free t (x ∷ xs) a h f =
     elim (or_cases (same x a) (holds xs a) h) as (λ _. 1 ≤ cond (is_free t x) 1 0 + count_free t xs) [
-        inl here ↦ let free : is_free t x ≡ true = subst (λ (y : Literal). is_free t y ≡ true) (sym (same-true x a here)) f in rw free (omega arith)
+      | inl here ↦ let free : is_free t x ≡ true = subst (λ (y : Literal). is_free t y ≡ true) (sym (same-true x a here)) f in rw free (omega arith)
       | inr there ↦ let ih = one_free t xs a there f in omega (arith, ih)
     ]
 
@@ -143,19 +143,19 @@ pub two_free : (t xs : List Literal) (a b : Literal) → holds xs a ≡ true →
 two_free t [] a b ha hb d fa fb = absurd (false≢true ha)
 two_free t (x ∷ xs) a b ha hb d fa fb =
     elim (or_cases (same x a) (holds xs a) ha) as (λ _. 2 ≤ cond (is_free t x) 1 0 + count_free t xs) [
-        inl a_here ↦
-            let free : is_free t x ≡ true = subst (λ (y : Literal). is_free t y ≡ true) (sym (same-true x a a_here)) fa in
-            elim (or_cases (same x b) (holds xs b) hb) as (λ _. 2 ≤ cond (is_free t x) 1 0 + count_free t xs) [
-                inl b_here ↦ absurd (d (ap (λ (y : Literal). y.variable) (sym (same-true x a a_here) ∙ same-true x b b_here)))
-              | inr b_there ↦ let one = one_free t xs b b_there fb in rw free (omega (arith, one))
-            ]
+      | inl a_here ↦
+          let free : is_free t x ≡ true = subst (λ (y : Literal). is_free t y ≡ true) (sym (same-true x a a_here)) fa in
+          elim (or_cases (same x b) (holds xs b) hb) as (λ _. 2 ≤ cond (is_free t x) 1 0 + count_free t xs) [
+            | inl b_here ↦ absurd (d (ap (λ (y : Literal). y.variable) (sym (same-true x a a_here) ∙ same-true x b b_here)))
+            | inr b_there ↦ let one = one_free t xs b b_there fb in rw free (omega (arith, one))
+          ]
       | inr a_there ↦ elim (or_cases (same x b) (holds xs b) hb) as (λ _. 2 ≤ cond (is_free t x) 1 0 + count_free t xs) [
-            inl b_here ↦
-                let free : is_free t x ≡ true = subst (λ (y : Literal). is_free t y ≡ true) (sym (same-true x b b_here)) fb in
-                let one = one_free t xs a a_there fa in
-                rw free (omega (arith, one))
-          | inr b_there ↦ let ih = two_free t xs a b a_there b_there d fa fb in omega (arith, ih)
-        ]
+        | inl b_here ↦
+            let free : is_free t x ≡ true = subst (λ (y : Literal). is_free t y ≡ true) (sym (same-true x b b_here)) fb in
+            let one = one_free t xs a a_there fa in
+            rw free (omega (arith, one))
+        | inr b_there ↦ let ih = two_free t xs a b a_there b_there d fa fb in omega (arith, ih)
+      ]
     ]
 
 -- a trail stays sound with one more clause that is closed at its decisions
@@ -166,8 +166,10 @@ sound_more variables known c es sound closed k l =
   where
     x : Literal
     x = (entry_at es k).literal
+
     t : List Literal
     t = literals (take k es)
+
     go : (o : Option ℕ) → (entry_at es k).reason ≡ o → MatchOption o (is_closed t known ≡ true) (λ n. Implies known n t x) → MatchOption o (is_closed t (known ++ c ∷ []) ≡ true) (λ n. Implies (known ++ c ∷ []) n t x)
     go None e h = list_all-append (is_closed_at t) known (c ∷ []) ∙ and_from (is_closed t known) (is_closed_at t c && true) h (and_from (is_closed_at t c) true (closed k l e) refl)
     go (Some n) e h =
@@ -177,9 +179,9 @@ sound_more variables known c es sound closed k l =
         let len = length_push known c in
         let one : clause_at (known ++ c ∷ []) n ≡ clause_at known n = get_or_append_left known (c ∷ []) [] (n - 1) (omega (arith, low, high)) in
         record {
-            number = and_from (leb 1 n) (leb n (length (known ++ c ∷ []))) parts.0 (le-leb n (length (known ++ c ∷ [])) (omega (arith, len, high)));
-            within = rw one h.within;
-            others = rw one h.others
+          number = and_from (leb 1 n) (leb n (length (known ++ c ∷ []))) parts.0 (le-leb n (length (known ++ c ∷ [])) (omega (arith, len, high)));
+          within = rw one h.within;
+          others = rw one h.others;
         }
 
 none_of : (o : Option ℕ) (P : Type 0) (Q : ℕ → Type 0) → o ≡ None → MatchOption o P Q → P
@@ -196,18 +198,18 @@ none_is (Some n) h = absurd (none_false h)
 pub refuted : (known : List (List Literal)) (es : List Entry) (hints : List Hint) (seen : List Bool) → IsResolving known es hints seen → count_seen seen es ≡ 0 → derives known hints [] ≡ true
 refuted known es hints seen resolving none = and_from (names_chain known hints) (is_same_set (chain_of known hints) []) resolving.chain
     (and_from (is_subset (chain_of known hints) []) true
-        (all_from (λ l. holds [] l) (chain_of known hints) (λ l h.
-            let parts = and_parts (is_seen seen l.variable) (holds (literals es) (negation l)) (sym (resolving.marks l) ∙ h) in
-            let k = entry_of_holds es (negation l) parts.1 in
-            absurd (count_zero seen es none k.0 k.1 (subst (λ (v : ℕ). is_seen seen v ≡ true) (sym (ap (λ (x : Literal). x.variable) k.2)) parts.0))))
-        refl)
+    (all_from (λ l. holds [] l) (chain_of known hints) (λ l h.
+    let parts = and_parts (is_seen seen l.variable) (holds (literals es) (negation l)) (sym (resolving.marks l) ∙ h) in
+    let k = entry_of_holds es (negation l) parts.1 in
+    absurd (count_zero seen es none k.0 k.1 (subst (λ (v : ℕ). is_seen seen v ≡ true) (sym (ap (λ (x : Literal). x.variable) k.2)) parts.0))))
+    refl)
 
 module _ (variables : ℕ) (known : List (List Literal)) (es : List Entry) (sound : IsSound variables known es) (apart : AreApart variables es) (hints : List Hint) (seen : List Bool) (resolving : IsResolving known es hints seen) where
   derived : derives known hints (seen_negations seen es) ≡ true
   derived = and_from (names_chain known hints) (is_same_set (chain_of known hints) (seen_negations seen es)) resolving.chain
       (and_from (is_subset (chain_of known hints) (seen_negations seen es)) (is_subset (seen_negations seen es) (chain_of known hints))
-          (all_from (λ l. holds (seen_negations seen es) l) (chain_of known hints) (λ l h. holds-seen_negations seen es l ∙ sym (resolving.marks l) ∙ h))
-          (all_from (λ l. holds (chain_of known hints) l) (seen_negations seen es) (λ l h. resolving.marks l ∙ sym (holds-seen_negations seen es l) ∙ h)))
+      (all_from (λ l. holds (seen_negations seen es) l) (chain_of known hints) (λ l h. holds-seen_negations seen es l ∙ sym (resolving.marks l) ∙ h))
+      (all_from (λ l. holds (chain_of known hints) l) (seen_negations seen es) (λ l h. resolving.marks l ∙ sym (holds-seen_negations seen es l) ∙ h)))
 
   module _ (floor start place : ℕ) (one : count_seen seen (drop floor es) ≡ 1) (floor_in : floor < length es) (low : start ≤ place) (high : place ≤ floor) (above : (k : ℕ) → start ≤ k → k < floor → is_seen_entry seen (entry_at es k) ≡ false) (below : 0 < start → is_seen_entry seen (entry_at es (start - 1)) ≡ true) (decision : (entry_at es place).reason ≡ None) (before : NoDecision es start place) where
     top : OnlySeen seen (drop floor es)
@@ -250,18 +252,18 @@ module _ (variables : ℕ) (known : List (List Literal)) (es : List Entry) (soun
         let x = (entry_at es k).literal in
         holds-seen_negations seen es (negation x)
         ∙ and_from (is_seen seen x.variable) (holds (literals es) (negation (negation x))) marked
-            (subst (λ (l : Literal). holds (literals es) l ≡ true) (sym (negation-negation x)) (holds_entry es k inside))
+        (subst (λ (l : Literal). holds (literals es) l ≡ true) (sym (negation-negation x)) (holds_entry es k inside))
 
     is_fresh : IsFresh known (seen_negations seen es)
     is_fresh = record {
-        set = literals (take place es);
-        literal = negation (entry_at es tip).literal;
-        once = once_take place es (apart_once variables es apart).0;
-        closed = none_of (entry_at es place).reason (is_closed (literals (take place es)) known ≡ true) (λ n. Implies known n (literals (take place es)) (entry_at es place).literal) decision (sound place (omega (arith, high, floor_in))).why;
-        within = negated tip tip_in tip_marked;
-        others = all_from (λ l. same l (negation (entry_at es tip).literal) || holds (literals (take place es)) (negation l)) (seen_negations seen es) each;
-        free = not_from_false (mentions (literals (take place es)) (variable_at es tip)) (free_before variables es place tip apart (let t = tip_above in omega (arith, high, t)) tip_in)
-        }
+      set = literals (take place es);
+      literal = negation (entry_at es tip).literal;
+      once = once_take place es (apart_once variables es apart).0;
+      closed = none_of (entry_at es place).reason (is_closed (literals (take place es)) known ≡ true) (λ n. Implies known n (literals (take place es)) (entry_at es place).literal) decision (sound place (omega (arith, high, floor_in))).why;
+      within = negated tip tip_in tip_marked;
+      others = all_from (λ l. same l (negation (entry_at es tip).literal) || holds (literals (take place es)) (negation l)) (seen_negations seen es) each;
+      free = not_from_false (mentions (literals (take place es)) (variable_at es tip)) (free_before variables es place tip apart (let t = tip_above in omega (arith, high, t)) tip_in);
+    }
       where
         each : (l : Literal) → holds (seen_negations seen es) l ≡ true → (same l (negation (entry_at es tip).literal) || holds (literals (take place es)) (negation l)) ≡ true
         each l h =
@@ -269,17 +271,17 @@ module _ (variables : ℕ) (known : List (List Literal)) (es : List Entry) (soun
             let k = entry_of_holds es (negation l) parts.1 in
             let marked : is_seen_entry seen (entry_at es k.0) ≡ true = subst (λ (v : ℕ). is_seen seen v ≡ true) (sym (ap (λ (x : Literal). x.variable) k.2)) parts.0 in
             elim (cases_le floor k.0) as (λ _. (same l (negation (entry_at es tip).literal) || holds (literals (take place es)) (negation l)) ≡ true) [
-                inl up ↦
-                    let at_tip : k.0 ≡ tip = tip_only k.0 up k.1 marked in
-                    let is_u : negation (entry_at es tip).literal ≡ l = ap (λ (j : ℕ). negation (entry_at es j).literal) (sym at_tip) ∙ ap negation k.2 ∙ negation-negation l in
-                    or_left (same l (negation (entry_at es tip).literal)) (holds (literals (take place es)) (negation l)) (subst (λ (x : Literal). same l x ≡ true) (sym is_u) (same-refl l))
+              | inl up ↦
+                  let at_tip : k.0 ≡ tip = tip_only k.0 up k.1 marked in
+                  let is_u : negation (entry_at es tip).literal ≡ l = ap (λ (j : ℕ). negation (entry_at es j).literal) (sym at_tip) ∙ ap negation k.2 ∙ negation-negation l in
+                  or_left (same l (negation (entry_at es tip).literal)) (holds (literals (take place es)) (negation l)) (subst (λ (x : Literal). same l x ≡ true) (sym is_u) (same-refl l))
               | inr down ↦
-                    elim (cases_le start k.0) as (λ _. (same l (negation (entry_at es tip).literal) || holds (literals (take place es)) (negation l)) ≡ true) [
-                        inl late ↦ absurd (both_ways (is_seen_entry seen (entry_at es k.0)) (above k.0 late down) marked)
-                      | inr early ↦
-                          or_right (same l (negation (entry_at es tip).literal)) (holds (literals (take place es)) (negation l))
-                              (subst (λ (x : Literal). holds (literals (take place es)) x ≡ true) k.2 (holds_before es place k.0 (omega (arith, early, low)) k.1))
-                    ]
+                  elim (cases_le start k.0) as (λ _. (same l (negation (entry_at es tip).literal) || holds (literals (take place es)) (negation l)) ≡ true) [
+                    | inl late ↦ absurd (both_ways (is_seen_entry seen (entry_at es k.0)) (above k.0 late down) marked)
+                    | inr early ↦
+                        or_right (same l (negation (entry_at es tip).literal)) (holds (literals (take place es)) (negation l))
+                        (subst (λ (x : Literal). holds (literals (take place es)) x ≡ true) k.2 (holds_before es place k.0 (omega (arith, early, low)) k.1))
+                  ]
             ]
 
     closed_below : (k : ℕ) → k < place → (entry_at es k).reason ≡ None → is_closed_at (literals (take k es)) (seen_negations seen es) ≡ true
@@ -290,33 +292,35 @@ module _ (variables : ℕ) (known : List (List Literal)) (es : List Entry) (soun
         let t = tip_above in
         let apart_vars : (negation (entry_at es tip).literal).variable ≡ (negation (entry_at es (start - 1)).literal).variable → ⊥ = λ e. (let p : tip ≡ start - 1 = apart.apart tip (start - 1) tip_in m_in e in let q : ⊥ = omega (arith, p, t, low, high, early) in q) in
         let two = two_free (literals (take k es)) (seen_negations seen es) (negation (entry_at es tip).literal) (negation (entry_at es (start - 1)).literal)
-            (negated tip tip_in tip_marked) (negated (start - 1) m_in m_marked) apart_vars
-            (not_from_false (mentions (literals (take k es)) (variable_at es tip)) (free_before variables es k tip apart (omega (arith, t, high, k_below)) tip_in))
-            (not_from_false (mentions (literals (take k es)) (variable_at es (start - 1))) (free_before variables es k (start - 1) apart (omega (arith, early)) m_in)) in
+        (negated tip tip_in tip_marked) (negated (start - 1) m_in m_marked) apart_vars
+        (not_from_false (mentions (literals (take k es)) (variable_at es tip)) (free_before variables es k tip apart (omega (arith, t, high, k_below)) tip_in))
+        (not_from_false (mentions (literals (take k es)) (variable_at es (start - 1))) (free_before variables es k (start - 1) apart (omega (arith, early)) m_in)) in
         or_right (list_any (holds (literals (take k es))) (seen_negations seen es)) (leb 2 (count_free (literals (take k es)) (seen_negations seen es))) (le-leb 2 (count_free (literals (take k es)) (seen_negations seen es)) two)
       where
         some_none : true ≡ false → ⊥
         some_none h = true≢false h
+
         early_one : (start ≤ k) ⊎ (k < start) → k < start
         early_one (inl late) = absurd (true≢false (sym (before k late k_below) ∙ ap is_some none))
         early_one (inr early) = early
 
     pub lesson : IsLesson variables known es (record { clause = seen_negations seen es; hints = hints }) place
     lesson = record {
-        clause = and_from (is_once (seen_negations seen es)) (is_within variables (seen_negations seen es)) (once-seen_negations seen es (apart_once variables es apart).0)
-            (all_from (is_among variables) (seen_negations seen es) (λ l h.
-                let parts = and_parts (is_seen seen l.variable) (holds (literals es) (negation l)) (sym (holds-seen_negations seen es l) ∙ h) in
-                all_at (is_among variables) (literals es) (negation l) (apart_once variables es apart).1 parts.1));
-        derived = derived;
-        fresh = is_fresh;
-        full = full (seen_negations seen es) (negated tip tip_in tip_marked);
-        short = omega (arith, high, floor_in);
-        sound = sound_more variables known (seen_negations seen es) (take place es) (sound_take variables known es place (omega (arith, high, floor_in)) sound) closed_in
-        }
+      clause = and_from (is_once (seen_negations seen es)) (is_within variables (seen_negations seen es)) (once-seen_negations seen es (apart_once variables es apart).0)
+          (all_from (is_among variables) (seen_negations seen es) (λ l h.
+          let parts = and_parts (is_seen seen l.variable) (holds (literals es) (negation l)) (sym (holds-seen_negations seen es l) ∙ h) in
+          all_at (is_among variables) (literals es) (negation l) (apart_once variables es apart).1 parts.1));
+      derived = derived;
+      fresh = is_fresh;
+      full = full (seen_negations seen es) (negated tip tip_in tip_marked);
+      short = omega (arith, high, floor_in);
+      sound = sound_more variables known (seen_negations seen es) (take place es) (sound_take variables known es place (omega (arith, high, floor_in)) sound) closed_in;
+    }
       where
         full : (xs : List Literal) → holds xs (negation (entry_at es tip).literal) ≡ true → is_empty xs ≡ false
         full [] h = absurd (false≢true h)
         full (x ∷ xs) h = refl
+
         closed_in : (k : ℕ) → k < length (take place es) → (entry_at (take place es) k).reason ≡ None → is_closed_at (literals (take k (take place es))) (seen_negations seen es) ≡ true
         closed_in k l none =
             let len = length-take-le place es (omega (arith, high, floor_in)) in

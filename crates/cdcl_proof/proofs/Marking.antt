@@ -1,12 +1,11 @@
 -- Marks of variables, and how many entries of a trail they mark.
-use Rattle.std.proofs.Common.{◌≡◌, ◌≢◌, ℕ, zero, suc, ◌+◌, ◌-◌, ◌<◌, ◌≤◌, Bool, true, false, not, ◌&&◌, ◌||◌, cond, List, [], ◌∷◌, ◌++◌, length, get_or, take, drop, set, map, replicate, eqb, leb, refl, sym, ◌∙◌, ap, subst, inl, inr, ◌⊎◌, arith}
-use Rattle.std.specs.List.{list_all, list_any}
-use Rattle.std.proofs.lemmas.List.{take_more, get_or-set_same, get_or-set_other, length-set, get_or-drop, length-drop}
+use Rattle.std.proofs.Common.{◌≡◌, ◌≢◌, ℕ, zero, suc, ◌+◌, ◌-◌, ◌<◌, ◌≤◌, Bool, true, false, not, ◌&&◌, ◌||◌, cond, List, [], ◌∷◌, length, get_or, take, drop, set, replicate, eqb, refl, sym, ◌∙◌, ap, subst, arith}
+use Rattle.std.proofs.lemmas.List.{take_more, get_or-set_same, get_or-set_other, get_or-drop, length-drop}
 use Rattle.std.proofs.lemmas.List.Folds.{list_any-append}
-use Rattle.std.proofs.lemmas.Bool.{and_parts, and_from, or_cases, or_left, or_right, or_parts, true≢false, false≢true, eqb-true, eqb-false, eq-eqb, ne_eqb, cases_eq, both_ways, not_from_false, not-true, false_from_ne_true, cases_Bool}
+use Rattle.std.proofs.lemmas.Bool.{and_parts, and_from, or_parts, false≢true, eqb-true, eqb-false, ne_eqb, not_from_false, not-true, false_from_ne_true}
 use Rattle.cdcl_proof.specs.declared.literal.Literal.{Literal}
 use Rattle.cdcl_proof.specs.declared.trail.Entry.{Entry}
-use Rattle.cdcl_proof.specs.Literal.{negation, same, is_on, holds, mentions, is_once}
+use Rattle.cdcl_proof.specs.Literal.{is_on, mentions, is_once}
 use Rattle.cdcl_proof.specs.Clause.{is_among, is_within}
 use Rattle.cdcl_proof.specs.Trail.{literals, entry_at, no_entry, AreApart, is_after}
 use Rattle.cdcl_proof.specs.Learning.{is_seen, is_seen_entry, count_seen}
@@ -32,12 +31,13 @@ pub apart_once : (variables : ℕ) (es : List Entry) → AreApart variables es �
 apart_once variables [] h = (refl, refl)
 apart_once variables (e ∷ es) h =
     let tail : AreApart variables es = record {
-        among = λ k l. h.among (suc k) (omega (arith, l));
-        apart = λ j k lj lk t. let up : suc j ≡ suc k = h.apart (suc j) (suc k) (omega (arith, lj)) (omega (arith, lk)) t in omega (arith, up)
-        } in
-    let ih = apart_once variables es tail in
-    (and_from (not (mentions (literals es) e.literal.variable)) (is_once (literals es)) (not_from_false (mentions (literals es) e.literal.variable) (false_from_ne_true (mentions (literals es) e.literal.variable) none)) ih.0,
-     and_from (is_among variables e.literal) (is_within variables (literals es)) (h.among zero (omega arith)) ih.1)
+      among = λ k l. h.among (suc k) (omega (arith, l));
+      apart = λ j k lj lk t. let up : suc j ≡ suc k = h.apart (suc j) (suc k) (omega (arith, lj)) (omega (arith, lk)) t in omega (arith, up);
+    } in
+    let ih = apart_once variables es tail in (
+      and_from (not (mentions (literals es) e.literal.variable)) (is_once (literals es)) (not_from_false (mentions (literals es) e.literal.variable) (false_from_ne_true (mentions (literals es) e.literal.variable) none)) ih.0,
+      and_from (is_among variables e.literal) (is_within variables (literals es)) (h.among zero (omega arith)) ih.1,
+    )
   where
     none : mentions (literals es) e.literal.variable ≡ true → ⊥
     none m =
@@ -162,8 +162,10 @@ adds_other old seen pivot c i d l h e v low = go (eqb v pivot) refl
   where
     x : Literal
     x = get_or c i d
+
     more : mentions (take (i + 1) c) v ≡ (mentions (take i c) v || (is_on v x || false))
     more = ap (λ (ys : List Literal). mentions ys v) (take_more c i d l) ∙ list_any-append (is_on v) (take i c) (x ∷ [])
+
     go : (b : Bool) → eqb v pivot ≡ b → is_seen seen v ≡ (is_seen old v || (not (eqb v pivot) && mentions (take (i + 1) c) v))
     go true at = h v low ∙ (let t : (is_seen old v || (not (eqb v pivot) && mentions (take i c) v)) ≡ (is_seen old v || (not (eqb v pivot) && mentions (take (i + 1) c) v)) = rw at refl in t)
     go false at =
@@ -180,17 +182,22 @@ adds_more old seen pivot c i d l h apart xlow xhigh v low = go (eqb x.variable v
   where
     x : Literal
     x = get_or c i d
+
     more : mentions (take (i + 1) c) v ≡ (mentions (take i c) v || (is_on v x || false))
     more = ap (λ (ys : List Literal). mentions ys v) (take_more c i d l) ∙ list_any-append (is_on v) (take i c) (x ∷ [])
+
     or-on : (b : Bool) → (b || (true || false)) ≡ true
     or-on true = refl
     or-on false = refl
+
     or-none : (b : Bool) → (b || (false || false)) ≡ b
     or-none true = refl
     or-none false = refl
+
     or-true : (b : Bool) → (b || (true && true)) ≡ true
     or-true true = refl
     or-true false = refl
+
     go : (b : Bool) → eqb x.variable v ≡ b → is_seen (set seen (x.variable - 1) true) v ≡ (is_seen old v || (not (eqb v pivot) && mentions (take (i + 1) c) v))
     go true at =
         let var : x.variable ≡ v = eqb-true x.variable v at in
@@ -209,6 +216,7 @@ resolves_from old new pivot c plow phigh h v low = go (eqb v pivot) refl
   where
     none : (b : Bool) → (false || (false && b)) ≡ false
     none b = refl
+
     go : (b : Bool) → eqb v pivot ≡ b → is_seen new v ≡ (not (eqb v pivot) && (is_seen old v || mentions c v))
     go true at =
         let var : v ≡ pivot = eqb-true v pivot at in

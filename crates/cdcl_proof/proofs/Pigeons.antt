@@ -1,6 +1,6 @@
 -- Different numbers below a bound are no more than the bound.
-use Rattle.std.proofs.Common.{◌≡◌, ℕ, zero, suc, ◌+◌, ◌<◌, ◌≤◌, Bool, true, false, not, ◌&&◌, ◌||◌, cond, List, [], ◌∷◌, ◌++◌, length, get_or, eqb, ltb, refl, sym, ◌∙◌, ap, subst, inl, inr, ◌⊎◌, arith}
-use Rattle.std.proofs.lemmas.Bool.{eqb-true, eqb-false, eq-eqb, ne_eqb, and_parts, and_from, or_cases, or_parts, false≢true, true≢false, not-true, both_ways, ltb-true, lt-ltb, false_from_ne_true, not_from_false}
+use Rattle.std.proofs.Common.{◌≡◌, ℕ, zero, suc, ◌<◌, ◌≤◌, Bool, true, false, not, ◌&&◌, ◌||◌, cond, List, [], ◌∷◌, length, get_or, eqb, ltb, refl, sym, ap, subst, inl, inr, arith}
+use Rattle.std.proofs.lemmas.Bool.{eqb-true, eqb-false, and_parts, and_from, or_cases, or_parts, false≢true, not-true, ltb-true, lt-ltb, false_from_ne_true, not_from_false}
 
 -- the number is one of the list
 abbrev pub is_member : List ℕ → ℕ → Bool
@@ -56,6 +56,7 @@ length-rest_of n (x ∷ xs) h =
   where
     parts : (not (is_member xs x) ≡ true) × (is_distinct xs ≡ true)
     parts = and_parts (not (is_member xs x)) (is_distinct xs) h
+
     go : (b : Bool) → eqb x n ≡ b → length xs ≤ suc (length (rest_of n xs)) → suc (length xs) ≤ suc (length (cond b (rest_of n xs) (x ∷ rest_of n xs)))
     go true e ih =
         let same : rest_of n xs ≡ xs = rest_of-none n xs (subst (λ (m : ℕ). is_member xs m ≡ false) (eqb-true x n e) (not-true (is_member xs x) parts.0)) in
@@ -69,6 +70,7 @@ below_rest_of n (x ∷ xs) h =
   where
     parts : (ltb x (suc n) ≡ true) × (are_below (suc n) xs ≡ true)
     parts = and_parts (ltb x (suc n)) (are_below (suc n) xs) h
+
     go : (b : Bool) → eqb x n ≡ b → are_below n (rest_of n xs) ≡ true → are_below n (cond b (rest_of n xs) (x ∷ rest_of n xs)) ≡ true
     go true e ih = ih
     go false e ih =
@@ -93,7 +95,7 @@ pub member_at : (xs : List ℕ) (n : ℕ) → is_member xs n ≡ true → (k : �
 member_at [] n h = absurd (false≢true h)
 member_at (x ∷ xs) n h =
     elim (or_cases (eqb x n) (is_member xs n) h) as (λ _. (k : ℕ) × (k < length (x ∷ xs)) × (get_or (x ∷ xs) k 0 ≡ n)) [
-        inl here ↦ (zero, omega arith, eqb-true x n here)
+      | inl here ↦ (zero, omega arith, eqb-true x n here)
       | inr there ↦ let r = member_at xs n there in (suc r.0, omega (arith, r.1), r.2)
     ]
 
@@ -102,8 +104,8 @@ pub distinct_from : (xs : List ℕ) → ((j k : ℕ) → j < length xs → k < l
 distinct_from [] f = refl
 distinct_from (x ∷ xs) f =
     and_from (not (is_member xs x)) (is_distinct xs)
-        (not_from_false (is_member xs x) (false_from_ne_true (is_member xs x) no_member))
-        (distinct_from xs (λ j k lj lk e. let up : suc j ≡ suc k = f (suc j) (suc k) (omega (arith, lj)) (omega (arith, lk)) e in omega (arith, up)))
+    (not_from_false (is_member xs x) (false_from_ne_true (is_member xs x) no_member))
+    (distinct_from xs (λ j k lj lk e. let up : suc j ≡ suc k = f (suc j) (suc k) (omega (arith, lj)) (omega (arith, lk)) e in omega (arith, up)))
   where
     no_member : is_member xs x ≡ true → ⊥
     no_member h =

@@ -1,8 +1,8 @@
 -- A closed set with a literal of each variable satisfies the formula.
-use Rattle.std.proofs.Common.{◌≡◌, ℕ, zero, suc, ◌+◌, ◌<◌, ◌≤◌, Bool, true, false, not, ◌&&◌, ◌||◌, cond, List, [], ◌∷◌, ◌++◌, length, leb, refl, sym, ◌∙◌, ap, subst, inl, inr, ◌⊎◌, arith}
+use Rattle.std.proofs.Common.{◌≡◌, ℕ, ◌+◌, Bool, true, false, List, [], ◌∷◌, ◌++◌, length, leb, refl, sym, ◌∙◌, ap, inl, inr, arith}
 use Rattle.std.specs.List.{list_all, list_any}
 use Rattle.std.proofs.lemmas.List.Folds.{list_all-append}
-use Rattle.std.proofs.lemmas.Bool.{eq-eqb, and_parts, and_from, or_cases, false≢true, leb-true, both_ways, not_from_true}
+use Rattle.std.proofs.lemmas.Bool.{eq-eqb, and_parts, and_from, or_cases, leb-true, not_from_true}
 use Rattle.cdcl_proof.specs.declared.literal.Literal.{Literal}
 use Rattle.cdcl_proof.specs.Literal.{holds, mentions, is_once}
 use Rattle.cdcl_proof.specs.Clause.{is_among, is_within, is_clause}
@@ -25,7 +25,7 @@ module _ (variables : ℕ) (s : List Literal) (bits : List Bool) (total : IsTota
   made_true : (c : List Literal) → is_clause variables c ≡ true → is_closed_at s c ≡ true → makes_true bits c ≡ true
   made_true c clause closed =
       elim (or_cases (list_any (holds s) c) (leb 2 (count_free s c)) closed) as (λ _. makes_true bits c ≡ true) [
-          inl true_one ↦ let r = any_at (holds s) c true_one in any_from (is_true bits) c r.0 r.1 (agree r.0 r.2)
+        | inl true_one ↦ let r = any_at (holds s) c true_one in any_from (is_true bits) c r.0 r.1 (agree r.0 r.2)
         | inr two_open ↦
             let within = (and_parts (is_once c) (is_within variables c) clause).1 in
             let none = count_free-total variables s c total within in

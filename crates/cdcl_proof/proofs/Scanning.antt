@@ -1,18 +1,15 @@
 -- Reading a clause under a set of literals, one literal after another.
-use Rattle.std.proofs.Common.{◌≡◌, ℕ, zero, suc, ◌+◌, ◌<◌, ◌≤◌, Bool, true, false, not, ◌&&◌, ◌||◌, cond, List, [], ◌∷◌, ◌++◌, length, get_or, take, drop, leb, refl, sym, ◌∙◌, ap, subst, inl, inr, ◌⊎◌, arith, Option, Some, None, is_some}
-use Rattle.std.proofs.Math.Bool.{beq}
+use Rattle.std.proofs.Common.{◌≡◌, ℕ, ◌+◌, ◌<◌, ◌≤◌, Bool, true, false, not, ◌&&◌, ◌||◌, cond, List, [], ◌∷◌, ◌++◌, length, get_or, take, drop, leb, refl, sym, ◌∙◌, ap, subst, inl, inr, ◌⊎◌, arith, Option, Some, None, is_some}
 use Rattle.std.specs.List.{list_all, list_any}
 use Rattle.std.proofs.lemmas.List.{take_more, take_all, take-append-drop}
 use Rattle.std.proofs.lemmas.List.Folds.{list_all-append, list_any_at}
-use Rattle.std.proofs.lemmas.Bool.{eq-eqb, and_parts, and_from, or_cases, or_left, or_right, false≢true, true≢false, leb-true, le-leb, both_ways, not-true, not_from_false, false_from_ne_true, cases_Bool}
+use Rattle.std.proofs.lemmas.Bool.{and_parts, and_from, or_left, or_right, false≢true, true≢false, le-leb, both_ways, not_from_false, false_from_ne_true}
 use Rattle.cdcl_proof.specs.declared.literal.Literal.{Literal}
-use Rattle.cdcl_proof.specs.declared.propagation.State.{State}
-use Rattle.cdcl_proof.specs.declared.propagation.State.TheVariants.{Closed, Open, False}
-use Rattle.cdcl_proof.specs.Literal.{negation, same, holds, mentions, is_once}
-use Rattle.cdcl_proof.specs.Fresh.{is_free, count_free, is_closed, is_closed_at, is_unit}
+use Rattle.cdcl_proof.specs.Literal.{negation, same, holds, mentions}
+use Rattle.cdcl_proof.specs.Fresh.{is_free, count_free, is_closed_at, is_unit}
 use Rattle.cdcl_proof.specs.Trail.{value_of}
 use Rattle.cdcl_proof.specs.Learning.{falsifies}
-use Rattle.cdcl_proof.specs.Propagation.{IsScan, IsState}
+use Rattle.cdcl_proof.specs.Propagation.{IsScan}
 use Rattle.cdcl_proof.proofs.Sets.{same-refl, literal_ext, holds_from_mentions, holds-append}
 
 value_cases : (h n : Bool) (r : Option Bool) → r ≡ cond h (Some true) (cond n (Some false) None) → ((r ≡ Some true) × (h ≡ true)) ⊎ (((r ≡ Some false) × (h ≡ false) × (n ≡ true)) ⊎ ((r ≡ None) × (h ≡ false) × (n ≡ false)))
@@ -29,14 +26,14 @@ some_differ h = cc
 pub value_true : (s : List Literal) (l : Literal) → Some true ≡ value_of s l → holds s l ≡ true
 value_true s l e =
     elim (value_cases (holds s l) (holds s (negation l)) (Some true) e) as (λ _. holds s l ≡ true) [
-        inl a ↦ a.1
+      | inl a ↦ a.1
       | inr r ↦ elim r as (λ _. holds s l ≡ true) [ inl b ↦ absurd (some_differ b.0) | inr n ↦ absurd (none_some true (sym n.0)) ]
     ]
 
 pub value_false : (s : List Literal) (l : Literal) → Some false ≡ value_of s l → holds s (negation l) ≡ true
 value_false s l e =
     elim (value_cases (holds s l) (holds s (negation l)) (Some false) e) as (λ _. holds s (negation l) ≡ true) [
-        inl a ↦ absurd (some_differ (sym a.0))
+      | inl a ↦ absurd (some_differ (sym a.0))
       | inr r ↦ elim r as (λ _. holds s (negation l) ≡ true) [ inl b ↦ b.2 | inr n ↦ absurd (none_some false (sym n.0)) ]
     ]
 
@@ -58,18 +55,18 @@ free_from s l h n = false_from_ne_true (mentions s l.variable) bad
     bad m =
         let r = holds_from_mentions s l.variable m in
         elim (equal_or_opposite r.0 l r.2) as (λ _. ⊥) [
-            inl one ↦ both_ways (holds s l) h (subst (λ (x : Literal). holds s x ≡ true) one r.1)
+          | inl one ↦ both_ways (holds s l) h (subst (λ (x : Literal). holds s x ≡ true) one r.1)
           | inr other ↦ both_ways (holds s (negation l)) n (subst (λ (x : Literal). holds s x ≡ true) other r.1)
         ]
 
 pub value_none : (s : List Literal) (l : Literal) → None ≡ value_of s l → is_free s l ≡ true
 value_none s l e =
     elim (value_cases (holds s l) (holds s (negation l)) None e) as (λ _. is_free s l ≡ true) [
-        inl a ↦ absurd (none_some true a.0)
+      | inl a ↦ absurd (none_some true a.0)
       | inr r ↦ elim r as (λ _. is_free s l ≡ true) [
-          inl b ↦ absurd (none_some false b.0)
+        | inl b ↦ absurd (none_some false b.0)
         | inr n ↦ not_from_false (mentions s l.variable) (free_from s l n.1 n.2)
-        ]
+      ]
     ]
 
 pub count_free-append : (s a b : List Literal) → count_free s (a ++ b) ≡ count_free s a + count_free s b
@@ -87,10 +84,10 @@ scan_false s c i d (Some u) l h f =
     let count = count_free-append s (take i c) (get_or c i d ∷ []) in
     let x = get_or c i d in
     rw more (
-        holds-append (take i c) (x ∷ []) u ∙ or_left (holds (take i c) u) (holds (x ∷ []) u) h.0,
-        h.1,
-        all_push (λ k. same k u || holds s (negation k)) (take i c) x h.2 (or_right (same x u) (holds s (negation x)) f),
-        omega (arith, count, h.3)
+      holds-append (take i c) (x ∷ []) u ∙ or_left (holds (take i c) u) (holds (x ∷ []) u) h.0,
+      h.1,
+      all_push (λ k. same k u || holds s (negation k)) (take i c) x h.2 (or_right (same x u) (holds s (negation x)) f),
+      omega (arith, count, h.3),
     )
 
 -- the first one that is left open
@@ -101,10 +98,10 @@ scan_open s c i d l h f =
     let count = count_free-append s (take i c) (x ∷ []) in
     let one : count_free s (x ∷ []) ≡ 1 = rw f refl in
     rw more (
-        holds-append (take i c) (x ∷ []) x ∙ or_right (holds (take i c) x) (holds (x ∷ []) x) (or_left (same x x) false (same-refl x)),
-        f,
-        all_push (λ k. same k x || holds s (negation k)) (take i c) x (weaken (take i c) h) (or_left (same x x) (holds s (negation x)) (same-refl x)),
-        omega (arith, count, one)
+      holds-append (take i c) (x ∷ []) x ∙ or_right (holds (take i c) x) (holds (x ∷ []) x) (or_left (same x x) false (same-refl x)),
+      f,
+      all_push (λ k. same k x || holds s (negation k)) (take i c) x (weaken (take i c) h) (or_left (same x x) (holds s (negation x)) (same-refl x)),
+      omega (arith, count, one),
     )
   where
     weaken : (xs : List Literal) → falsifies s xs ≡ true → is_unit s (get_or c i d) xs ≡ true

@@ -1,11 +1,11 @@
 -- Literals, and sets of them as lists.
-use Rattle.std.proofs.Common.{◌≡◌, ℕ, suc, ◌+◌, ◌<◌, ◌≤◌, Bool, true, false, not, ◌&&◌, ◌||◌, cond, List, [], ◌∷◌, ◌++◌, length, get_or, eqb, refl, sym, ◌∙◌, ap, subst, inl, inr, ◌⊎◌, arith, rules}
+use Rattle.std.proofs.Common.{◌≡◌, ℕ, Bool, true, false, not, ◌&&◌, ◌||◌, cond, List, [], ◌∷◌, ◌++◌, eqb, refl, sym, ◌∙◌, ap, subst, inl, inr}
 use Rattle.std.proofs.Math.Bool.{beq}
 use Rattle.std.specs.List.{list_all, list_any}
-use Rattle.std.proofs.lemmas.Bool.{eqb-true, eqb-false, eq-eqb, ne_eqb, and_parts, and_from, or_cases, or_left, or_right, or_parts, false≢true, true≢false, cases_Bool, not-true, not-false, both_ways, false_from_ne_true}
+use Rattle.std.proofs.lemmas.Bool.{eqb-true, eq-eqb, and_parts, and_from, or_cases, or_left, or_right, false≢true, true≢false, not-true, both_ways}
 use Rattle.cdcl_proof.specs.declared.literal.Literal.{Literal}
 use Rattle.cdcl_proof.specs.Literal.{negation, same, is_on, holds, mentions, is_once}
-use Rattle.cdcl_proof.specs.Clause.{is_subset, without, resolvent}
+use Rattle.cdcl_proof.specs.Clause.{without, resolvent}
 
 pub beq-true : (a b : Bool) → beq a b ≡ true → a ≡ b
 beq-true true true h = refl
@@ -45,7 +45,7 @@ all_at p [] l h e = absurd (false≢true e)
 all_at p (x ∷ xs) l h e =
     let both = and_parts (p x) (list_all p xs) h in
     elim (or_cases (same x l) (holds xs l) e) as (λ _. p l ≡ true) [
-        inl here ↦ subst (λ (y : Literal). p y ≡ true) (same-true x l here) both.0
+      | inl here ↦ subst (λ (y : Literal). p y ≡ true) (same-true x l here) both.0
       | inr there ↦ all_at p xs l both.1 there
     ]
 
@@ -54,15 +54,15 @@ pub all_from : (p : Literal → Bool) (xs : List Literal) → ((l : Literal) →
 all_from p [] f = refl
 all_from p (x ∷ xs) f =
     and_from (p x) (list_all p xs)
-        (f x (or_left (same x x) (holds xs x) (same-refl x)))
-        (all_from p xs (λ l e. f l (or_right (same x l) (holds xs l) e)))
+    (f x (or_left (same x x) (holds xs x) (same-refl x)))
+    (all_from p xs (λ l e. f l (or_right (same x l) (holds xs l) e)))
 
 -- a test that some literal of the set passes
 pub any_from : (p : Literal → Bool) (xs : List Literal) (l : Literal) → holds xs l ≡ true → p l ≡ true → list_any p xs ≡ true
 any_from p [] l e h = absurd (false≢true e)
 any_from p (x ∷ xs) l e h =
     elim (or_cases (same x l) (holds xs l) e) as (λ _. list_any p (x ∷ xs) ≡ true) [
-        inl here ↦ or_left (p x) (list_any p xs) (subst (λ (y : Literal). p y ≡ true) (sym (same-true x l here)) h)
+      | inl here ↦ or_left (p x) (list_any p xs) (subst (λ (y : Literal). p y ≡ true) (sym (same-true x l here)) h)
       | inr there ↦ or_right (p x) (list_any p xs) (any_from p xs l there h)
     ]
 
@@ -70,7 +70,7 @@ pub any_at : (p : Literal → Bool) (xs : List Literal) → list_any p xs ≡ tr
 any_at p [] h = absurd (false≢true h)
 any_at p (x ∷ xs) h =
     elim (or_cases (p x) (list_any p xs) h) as (λ _. (l : Literal) × (holds (x ∷ xs) l ≡ true) × (p l ≡ true)) [
-        inl here ↦ (x, or_left (same x x) (holds xs x) (same-refl x), here)
+      | inl here ↦ (x, or_left (same x x) (holds xs x) (same-refl x), here)
       | inr there ↦ let r = any_at p xs there in (r.0, or_right (same x r.0) (holds xs r.0) r.1, r.2)
     ]
 
@@ -87,18 +87,18 @@ once_same (x ∷ xs) a b o ha hb e =
     let both = and_parts (not (mentions xs x.variable)) (is_once xs) o in
     let absent = not-true (mentions xs x.variable) both.0 in
     elim (or_cases (same x a) (holds xs a) ha) as (λ _. a ≡ b) [
-        inl a_here ↦ elim (or_cases (same x b) (holds xs b) hb) as (λ _. a ≡ b) [
-            inl b_here ↦ sym (same-true x a a_here) ∙ same-true x b b_here
-          | inr b_there ↦
-              let at : mentions xs x.variable ≡ true = subst (λ (v : ℕ). mentions xs v ≡ true) (sym e ∙ sym (ap (λ (y : Literal). y.variable) (same-true x a a_here))) (mentions_from xs b b_there) in
-              absurd (both_ways (mentions xs x.variable) absent at)
-        ]
+      | inl a_here ↦ elim (or_cases (same x b) (holds xs b) hb) as (λ _. a ≡ b) [
+        | inl b_here ↦ sym (same-true x a a_here) ∙ same-true x b b_here
+        | inr b_there ↦
+            let at : mentions xs x.variable ≡ true = subst (λ (v : ℕ). mentions xs v ≡ true) (sym e ∙ sym (ap (λ (y : Literal). y.variable) (same-true x a a_here))) (mentions_from xs b b_there) in
+            absurd (both_ways (mentions xs x.variable) absent at)
+      ]
       | inr a_there ↦ elim (or_cases (same x b) (holds xs b) hb) as (λ _. a ≡ b) [
-            inl b_here ↦
-              let at : mentions xs x.variable ≡ true = subst (λ (v : ℕ). mentions xs v ≡ true) (e ∙ sym (ap (λ (y : Literal). y.variable) (same-true x b b_here))) (mentions_from xs a a_there) in
-              absurd (both_ways (mentions xs x.variable) absent at)
-          | inr b_there ↦ once_same xs a b both.1 a_there b_there e
-        ]
+        | inl b_here ↦
+            let at : mentions xs x.variable ≡ true = subst (λ (v : ℕ). mentions xs v ≡ true) (e ∙ sym (ap (λ (y : Literal). y.variable) (same-true x b b_here))) (mentions_from xs a a_there) in
+            absurd (both_ways (mentions xs x.variable) absent at)
+        | inr b_there ↦ once_same xs a b both.1 a_there b_there e
+      ]
     ]
 
 -- a set with no variable twice does not hold a literal and its negation
@@ -121,6 +121,7 @@ holds-without p (x ∷ xs) l = go (is_on p x) refl (holds-without p xs l)
   where
     off : (b : Bool) (o h s : Bool) → (s ≡ true → o ≡ true) → h ≡ (not o && s) → h ≡ (not o && s)
     off b o h s f e = e
+
     go : (b : Bool) → is_on p x ≡ b → holds (without p xs) l ≡ (not (is_on p l) && holds xs l) → holds (cond (not b) (x ∷ without p xs) (without p xs)) l ≡ (not (is_on p l) && (same x l || holds xs l))
     go true e ih = ih ∙ step (same x l) refl
       where
@@ -151,5 +152,6 @@ holds-resolvent p a b l = holds-append (without p a) (without p b) l ∙ joined 
     spread : (n x y : Bool) → ((n && x) || (n && y)) ≡ (n && (x || y))
     spread true x y = refl
     spread false x y = refl
+
     joined : holds (without p a) l ≡ (not (is_on p l) && holds a l) → holds (without p b) l ≡ (not (is_on p l) && holds b l) → (holds (without p a) l || holds (without p b) l) ≡ (not (is_on p l) && (holds a l || holds b l))
     joined e f = rw (e, f) (spread (not (is_on p l)) (holds a l) (holds b l))

@@ -1,6 +1,5 @@
 -- What the solver's answers say.
-use Rattle.std.specs.Prelude.{ℕ, Bool, true, ◌≡◌, List}
-use Rattle.cdcl_proof.specs.declared.log.Step.{Step}
+use Rattle.std.specs.Prelude.{ℕ, true, ◌≡◌}
 use Rattle.cdcl_proof.specs.declared.solve.Answer.{Answer}
 use Rattle.cdcl_proof.specs.declared.solve.Answer.TheVariants.{Refuted, Satisfied, Spent}
 use Rattle.cdcl_proof.specs.Formula.{Formula, satisfies}

@@ -1,5 +1,5 @@
 -- Fresh logs: a step's clause has a literal that propagation from the negations of the others does not give.
-use Rattle.std.specs.Prelude.{ℕ, Bool, true, false, ◌≡◌, ◌⊎◌, nat_le, not, cond, ◌||◌, ◌&&◌, ◌+◌, ◌++◌, List, [], ◌∷◌}
+use Rattle.std.specs.Prelude.{ℕ, Bool, true, false, ◌≡◌, nat_le, not, cond, ◌||◌, ◌&&◌, ◌+◌, ◌++◌, List, [], ◌∷◌}
 use Rattle.std.specs.List.{list_all, list_any}
 use Rattle.cdcl_proof.specs.declared.literal.Literal.{Literal}
 use Rattle.cdcl_proof.specs.declared.log.Step.{Step}

@@ -1,5 +1,5 @@
 -- Literals and sets of literals. A set is a list: its order and repetitions say nothing.
-use Rattle.std.specs.Prelude.{ℕ, Bool, true, false, not, ◌==◌, ◌&&◌, List, [], ◌∷◌}
+use Rattle.std.specs.Prelude.{ℕ, Bool, true, not, ◌==◌, ◌&&◌, List, [], ◌∷◌}
 use Rattle.std.proofs.Math.Bool.{beq}
 use Rattle.std.specs.List.{list_any}
 use Rattle.cdcl_proof.specs.declared.literal.Literal.{Literal}

@@ -1,5 +1,5 @@
 -- What a search keeps.
-use Rattle.std.specs.Prelude.{ℕ, true, false, ◌≡◌, ◌<◌, ◌≤◌, Option, Some, None, length}
+use Rattle.std.specs.Prelude.{ℕ, false, ◌≡◌, ◌<◌, ◌≤◌, Option, Some, None, length}
 use Rattle.cdcl_proof.specs.declared.solve.Search.{Search}
 use Rattle.cdcl_proof.specs.Trail.{IsSound, IsTotal, literals}
 use Rattle.cdcl_proof.specs.Literal.{mentions}

@@ -1,6 +1,5 @@
 -- The clauses that a search knows.
-use Rattle.std.specs.Prelude.{ℕ, Bool, true, ◌≡◌, ◌++◌, not, List}
-use Rattle.std.specs.List.{list_all}
+use Rattle.std.specs.Prelude.{true, ◌≡◌, ◌++◌, List}
 use Rattle.cdcl_proof.specs.declared.literal.Literal.{Literal}
 use Rattle.cdcl_proof.specs.declared.log.Step.{Step}
 use Rattle.cdcl_proof.specs.Formula.{Formula, are_clauses}

@@ -1,10 +1,12 @@
 // Formulas in conjunctive normal form.
-ghost use Rattle.std.specs.Prelude.{◌≡◌, ◌↔◌, ◌&&◌, true, IsSome, IfSome};
-ghost use Rattle.cdcl_proof.specs.Literal.{is_once};
-ghost use Rattle.cdcl_proof.specs.Clause.{is_within, is_clause};
-ghost use Rattle.cdcl_proof.specs.Formula.{Formula, are_clauses};
+ghost use Rattle.std.specs.Prelude.{◌≡◌, ◌↔◌, true, IsSome, IfSome};
+ghost use Rattle.cdcl_proof.specs.Clause.{is_clause};
+ghost use Rattle.cdcl_proof.specs.Formula.{Formula, are_clauses, is_true, makes_true, satisfies};
+ghost use Rattle.std.specs.List.{list_all};
 
+use crate::assignment::Assignment;
 use crate::clause::{Clause, is_within_variables};
+use crate::literal::Literal;
 use std::marker::Model;
 
 /// A formula in conjunctive normal form: a number of variables, which are numbered from 1, and a list of clauses
@@ -53,6 +55,34 @@ impl Cnf {
     {
         &self.clauses
     }
+
+    /// Whether the assignment has a value for each variable and makes each clause true.
+    pub fn is_satisfied_by(&self, assignment: &Assignment) -> bool
+        ensures { result ≡ satisfies assignment.now self.now }
+    {
+        let values = assignment.as_slice();
+        values.len() as u64 == self.variables && are_clauses_true(values, &self.clauses)
+    }
+}
+
+/// Whether the assignment makes the literal true.
+fn is_literal_true(values: &[bool], literal: Literal) -> bool
+    ensures { result ≡ is_true values.now literal }
+{
+    let index = literal.variable.saturating_sub(1) as usize;
+    values.get(index).copied().unwrap_or(false) == literal.positive
+}
+
+fn is_clause_true(values: &[bool], clause: &[Literal]) -> bool
+    ensures { result ≡ makes_true values.now clause.now }
+{
+    clause.iter().any(|l| is_literal_true(values, *l))
+}
+
+fn are_clauses_true(values: &[bool], clauses: &[Clause]) -> bool
+    ensures { result ≡ list_all (makes_true values.now) clauses.now }
+{
+    clauses.iter().all(|c| is_clause_true(values, c.as_slice()))
 }
 
 fn are_within_variables(clauses: &[Clause], variables: u64) -> bool

@@ -39,9 +39,7 @@ pub(crate) fn learn(
     requires floor { floor < length trail.now.entries }
     requires decision { IsNone (entry_at trail.now.entries floor).reason }
     requires newest { NoDecision trail.now.entries (floor + 1) (length trail.now.entries) }
-    ensures lesson {
-        IfOk result (λ l. IsLesson trail.now.variables (known store.now) trail.now.entries l.step l.place)
-    }
+    ensures lesson { IfOk result (λ l. IsLesson trail.now.variables (known store.now) trail.now.entries l.step l.place) }
 {
     let hints = resolve_down(alloc, store, trail, seen, conflict, floor, 1)?;
     let literals = trail.marked_negations(alloc, seen)?;
@@ -96,9 +94,7 @@ fn resolve_down(
     requires conflict { IsConflict (known store.now) (literals trail.now.entries) conflict }
     requires implied { NoDecision trail.now.entries (floor + keep) (length trail.now.entries) }
     requires level { IsLevel (known store.now) (literals (take floor trail.now.entries)) keep }
-    ensures resolving {
-        IfOk result (λ h. IsResolving (known store.now) trail.now.entries h.items seen.new)
-    }
+    ensures resolving { IfOk result (λ h. IsResolving (known store.now) trail.now.entries h.items seen.new) }
     ensures count { IfOk result (λ _. count_seen seen.new (drop floor trail.now.entries) ≡ keep) }
     ensures len { IfOk result (λ _. length seen.new ≡ length seen.old) }
 {
@@ -128,9 +124,7 @@ fn mark_conflict(
     requires seen { length seen.old ≡ trail.now.variables }
     ensures count { result ≡ count_seen seen.new (drop floor trail.now.entries) }
     ensures len { length seen.new ≡ length seen.old }
-    ensures marks {
-        (v : ℕ) → 1 ≤ v → is_seen seen.new v ≡ mentions (clause_at (known store.now) conflict) v
-    }
+    ensures marks { (v : ℕ) → 1 ≤ v → is_seen seen.new v ≡ mentions (clause_at (known store.now) conflict) v }
 {
     seen.fill(false);
     mark_clause(trail, seen, store.clause(conflict), 0, floor, 0)
@@ -153,13 +147,9 @@ fn resolve_entry(
     requires implied { NoDecision trail.now.entries (floor + keep) (length trail.now.entries) }
     requires place { place < length trail.now.entries }
     requires floor { floor + keep ≤ place }
-    requires analysis {
-        IsAnalysis trail.now.variables (known store.now) trail.now.entries floor keep (place + 1) count hints.old.items seen.old
-    }
+    requires analysis { IsAnalysis trail.now.variables (known store.now) trail.now.entries floor keep (place + 1) count hints.old.items seen.old }
     requires more { keep < count }
-    ensures analysis {
-        IfOk result (λ n. IsAnalysis trail.now.variables (known store.now) trail.now.entries floor keep place n hints.new.items seen.new)
-    }
+    ensures analysis { IfOk result (λ n. IsAnalysis trail.now.variables (known store.now) trail.now.entries floor keep place n hints.new.items seen.new) }
 {
     let entry = trail.entry(place);
     if !seen[entry.literal.variable as usize - 1] {
@@ -198,9 +188,7 @@ fn resolve_at(
     ensures count { result ≡ count_seen seen.new (drop floor trail.now.entries) }
     ensures fewer { count ≤ result + 1 }
     ensures len { length seen.new ≡ length seen.old }
-    ensures marks {
-        Resolves (entry_at trail.now.entries place).literal.variable (clause_at (known store.now) reason) seen.old seen.new
-    }
+    ensures marks { Resolves (entry_at trail.now.entries place).literal.variable (clause_at (known store.now) reason) seen.old seen.new }
 {
     let pivot = trail.entry(place).literal.variable;
     seen[pivot as usize - 1] = false;

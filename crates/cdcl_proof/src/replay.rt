@@ -1,8 +1,8 @@
 // Replaying a log: each step's chain of resolutions, checked with no memory.
-ghost use Rattle.std.specs.Prelude.{◌≡◌, ◌++◌, true};
+ghost use Rattle.std.specs.Prelude.{◌≡◌, ◌++◌, true, IsTrue};
 ghost use Rattle.cdcl_proof.specs.Literal.{holds, is_once};
 ghost use Rattle.cdcl_proof.specs.Clause.{is_subset};
-ghost use Rattle.cdcl_proof.specs.Replay.{learnt, is_number, clause_at, opposes, fits, is_chain, chained, derives, replay, survives, covers};
+ghost use Rattle.cdcl_proof.specs.Replay.{learnt, is_number, clause_at, opposes, fits, is_chain, chained, derives, replay, Follows, survives, covers};
 
 use crate::clause::{Clause, holds_literal, mentions_variable};
 use crate::cnf::Cnf;
@@ -13,11 +13,19 @@ use crate::log::{Hint, Log, Step};
 /// resolutions that its hints name. It takes no memory.
 pub fn replays(cnf: &Cnf, log: &Log) -> bool
     ensures exact { result ≡ replay cnf.now log.now }
+
+    // Each step's clause is true wherever the formula is.
+    ensures follows { IsTrue result → Follows cnf.now log.now }
 {
     let given = cnf.clauses();
     let steps = log.as_slice();
     for (i, step) in steps.iter().enumerate() {
-        if !is_derived(given, &steps[..i], step.hints.as_slice(), step.clause.as_slice()) {
+        if !is_derived(
+            given,
+            &steps[..i],
+            step.hints.as_slice(),
+            step.clause.as_slice(),
+        ) {
             return false;
         }
     }
@@ -48,11 +56,7 @@ pub(crate) fn is_clause_number(given: &[Clause], steps: &[Step], number: u64) ->
 }
 
 /// The literals of the clause of that number.
-pub(crate) fn clause_of<'a>(
-    given: &'a [Clause],
-    steps: &'a [Step],
-    number: u64,
-) -> &'a [Literal]
+pub(crate) fn clause_of<'a>(given: &'a [Clause], steps: &'a [Step], number: u64) -> &'a [Literal]
     ensures literals { result.now ≡ clause_at (given.now ++ learnt steps.now) number }
     ensures once { is_once result.now ≡ true }
 {
@@ -66,12 +70,7 @@ pub(crate) fn clause_of<'a>(
     }
 }
 
-fn is_resolution_chain(
-    given: &[Clause],
-    steps: &[Step],
-    start: &[Literal],
-    hints: &[Hint],
-) -> bool
+fn is_resolution_chain(given: &[Clause], steps: &[Step], start: &[Literal], hints: &[Hint]) -> bool
     ensures { result ≡ is_chain (given.now ++ learnt steps.now) start.now hints.now }
 {
     for (i, hint) in hints.iter().enumerate() {
@@ -89,10 +88,8 @@ fn is_fitting(
     hints: &[Hint],
     hint: Hint,
 ) -> bool
-    ensures {
-        result
-        ≡ fits (given.now ++ learnt steps.now) (chained (given.now ++ learnt steps.now) start.now hints.now) hint
-    }
+    ensures { result
+        ≡ fits (given.now ++ learnt steps.now) (chained (given.now ++ learnt steps.now) start.now hints.now) hint }
 {
     let clause = clause_of(given, steps, hint.clause);
     is_clause_number(given, steps, hint.clause)
@@ -109,13 +106,10 @@ fn is_opposed(
     clause: &[Literal],
     pivot: u64,
 ) -> bool
-    ensures {
-        result ≡ opposes pivot (chained (given.now ++ learnt steps.now) start.now hints.now) clause.now
-    }
+    ensures { result ≡ opposes pivot (chained (given.now ++ learnt steps.now) start.now hints.now) clause.now }
 {
-    clause
-        .iter()
-        .all(|l| (l.variable == pivot) == chain_holds(given, steps, start, hints, l.negation()))
+    clause.iter().all(|l| (l.variable == pivot)
+        == chain_holds(given, steps, start, hints, l.negation()))
 }
 
 /// Whether the chain gives each literal of the clause.

@@ -110,9 +110,7 @@ impl<'a> Search<'a> {
         requires newest { NoDecision self.old.trail.entries (floor + 1) (length self.old.trail.entries) }
         ensures searching { IfOk result (λ _. IsSearching self.new) }
         ensures formula { IfOk result (λ _. self.new.store.formula ≡ self.old.store.formula) }
-        ensures learnt {
-            IfOk result (λ _. length self.new.store.steps ≡ length self.old.store.steps + 1)
-        }
+        ensures learnt { IfOk result (λ _. length self.new.store.steps ≡ length self.old.store.steps + 1) }
     {
         let lesson = learn(
             alloc,
@@ -137,13 +135,7 @@ impl<'a> Search<'a> {
         ensures empty { IfOk result (λ s. s.clause ≡ []) }
         ensures derived { IfOk result (λ s. derives (known self.old.store) s.hints [] ≡ true) }
     {
-        refute(
-            alloc,
-            &self.store,
-            &self.trail,
-            &mut self.seen,
-            conflict,
-        )
+        refute(alloc, &self.store, &self.trail, &mut self.seen, conflict)
     }
 
     /// Assumes that the variable is false.
@@ -155,9 +147,7 @@ impl<'a> Search<'a> {
         requires closed { is_closed (literals self.old.trail.entries) (known self.old.store) ≡ true }
         ensures searching { IfOk result (λ _. IsSearching self.new) }
         ensures store { IfOk result (λ _. self.new.store ≡ self.old.store) }
-        ensures longer {
-            IfOk result (λ _. length self.new.trail.entries ≡ length self.old.trail.entries + 1)
-        }
+        ensures longer { IfOk result (λ _. length self.new.trail.entries ≡ length self.old.trail.entries + 1) }
         ensures room { IfOk result (λ _. length self.new.trail.entries ≤ self.new.trail.variables) }
     {
         self.trail.push(Entry {
@@ -201,9 +191,7 @@ impl<'a> Search<'a> {
         requires total { IsTotal self.trail.variables (literals self.trail.entries) }
         ensures { IfOk result (IsSatisfied self.entry.store.formula) }
     {
-        Ok(Answer::Satisfied(Assignment::from_vec(
-            self.trail.values(alloc)?,
-        )))
+        Ok(Answer::Satisfied(Assignment::from_vec(self.trail.values(alloc)?)))
     }
 }
 

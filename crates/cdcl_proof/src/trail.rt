@@ -152,9 +152,7 @@ impl Trail {
 
     /// The place of the newest decision.
     pub(crate) fn last_decision(&self) -> Option<usize>
-        ensures decision {
-            IfSome result (λ c. (c < length self.now.entries) × IsNone (entry_at self.now.entries c).reason × NoDecision self.now.entries (c + 1) (length self.now.entries))
-        }
+        ensures decision { IfSome result (λ c. (c < length self.now.entries) × IsNone (entry_at self.now.entries c).reason × NoDecision self.now.entries (c + 1) (length self.now.entries)) }
         ensures none { IfNone result (NoDecision self.now.entries 0 (length self.now.entries)) }
     {
         let mut place = self.entries.len();

@@ -1,4 +1,3 @@
-use Rattle.std.proofs.Common.{◌≡◌, ap, ◌∙◌, sym, subst}
 use Rattle.cdcl_proof.specs.Store.{known}
 use Rattle.cdcl_proof.proofs.Marking.{apart_once}
 use Rattle.cdcl_proof.proofs.Lessons.{lesson, once-seen_negations, none_is}
@@ -11,6 +10,6 @@ from_distinct-requires c =
 pub returns : goal.returns
 returns c =
     let taught = lesson c.args.trail.now.variables (known c.args.store.now) c.args.trail.now.entries c.requires.sound c.in_ok-literals.ensures.apart c.in_ok-hints.hints.items c.resolve_down.new.seen c.in_ok-hints.ensures.resolving
-        c.args.floor c.after_marked-start.result c.decision_from-place.result c.in_ok-hints.ensures.count c.requires.floor c.decision_from-place.ensures.start c.decision_from-place.ensures.last
-        c.after_marked-start.ensures.above c.after_marked-start.ensures.marked (none_is _ c.decision_from-place.ensures.decision) c.decision_from-place.ensures.before in
+    c.args.floor c.after_marked-start.result c.decision_from-place.result c.in_ok-hints.ensures.count c.requires.floor c.decision_from-place.ensures.start c.decision_from-place.ensures.last
+    c.after_marked-start.ensures.above c.after_marked-start.ensures.marked (none_is _ c.decision_from-place.ensures.decision) c.decision_from-place.ensures.before in
     record { lesson = rw (c.from_distinct.ensures, c.in_ok-literals.ensures.negations, c.from_vec.ensures) taught }

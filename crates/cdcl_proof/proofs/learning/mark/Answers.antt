@@ -1,8 +1,5 @@
-use Rattle.std.proofs.Common.{◌≡◌, ◌+◌, ◌-◌, ◌≤◌, true, drop, set, length, ap, ◌∙◌, sym, subst, arith, Fits}
+use Rattle.std.proofs.Common.{◌≡◌, ◌+◌, ◌-◌, ◌≤◌, true, drop, set, length, ap, ◌∙◌, sym, arith}
 use Rattle.std.proofs.lemmas.List.{length-drop}
-use Rattle.cdcl_proof.specs.Literal.{is_once, mentions}
-use Rattle.cdcl_proof.specs.Clause.{is_within}
-use Rattle.cdcl_proof.specs.Trail.{literals}
 use Rattle.cdcl_proof.specs.Learning.{count_seen}
 use Rattle.cdcl_proof.proofs.Marking.{apart_once, once_drop, within_drop, count_seen-set_on, count_seen-set_off, count_seen-le}
 use Rattle.cdcl_proof.proofs.learning.mark.Goals as goal
@@ -13,7 +10,7 @@ one_more c =
     let tidy = apart_once c.args.trail.now.variables es c.is_at_least.ensures.apart in
     let high : c.args.variable ≤ length c.args.seen.now = omega (arith, c.requires.among, c.requires.seen) in
     count_seen-set_on c.args.trail.now.variables c.args.seen.now c.args.variable (drop c.args.floor es) c.requires.positive high c.if-seen-variable.false
-        (within_drop c.args.trail.now.variables c.args.floor es tidy.1) (once_drop c.args.floor es tidy.0) (sym c.if-is_at_least.ensures.after)
+    (within_drop c.args.trail.now.variables c.args.floor es tidy.1) (once_drop c.args.floor es tidy.0) (sym c.if-is_at_least.ensures.after)
     ∙ ap (λ (n : _). n + 1) (sym c.requires.count)
 
 pub overflow_add-result : goal.overflow_add-result

@@ -1,4 +1,4 @@
-use Rattle.std.proofs.Common.{◌≡◌, ◌-◌, List, Bool, false, get_or, ap, ◌∙◌, sym, length}
+use Rattle.std.proofs.Common.{◌-◌, List, Bool, false, get_or, ap, ◌∙◌, sym, length}
 use Rattle.cdcl_proof.proofs.Marking.{count_seen-none, get_or-replicate_false}
 use Rattle.cdcl_proof.proofs.learning.mark_conflict.Goals as goal
 

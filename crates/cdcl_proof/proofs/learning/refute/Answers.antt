@@ -1,4 +1,3 @@
-use Rattle.std.proofs.Common.{◌≡◌, ap, ◌∙◌, sym, subst}
 use Rattle.cdcl_proof.specs.Store.{known}
 use Rattle.cdcl_proof.proofs.Lessons.{refuted}
 use Rattle.cdcl_proof.proofs.learning.refute.Goals as goal

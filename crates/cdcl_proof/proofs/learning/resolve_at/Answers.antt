@@ -1,4 +1,4 @@
-use Rattle.std.proofs.Common.{◌≡◌, ◌+◌, ◌-◌, ◌≤◌, false, drop, set, ap, ◌∙◌, sym, arith}
+use Rattle.std.proofs.Common.{◌≡◌, ◌+◌, ◌-◌, false, drop, set, ◌∙◌, arith}
 use Rattle.std.proofs.lemmas.Bool.{or_left}
 use Rattle.cdcl_proof.specs.Learning.{count_seen}
 use Rattle.cdcl_proof.proofs.Marking.{apart_once, within_drop, count_seen-mono, unmark_count}

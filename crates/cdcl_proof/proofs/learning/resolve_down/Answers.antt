@@ -1,4 +1,4 @@
-use Rattle.std.proofs.Common.{◌≡◌, ap, ◌∙◌, sym, subst, arith}
+use Rattle.std.proofs.Common.{◌∙◌, arith}
 use Rattle.cdcl_proof.specs.Store.{known}
 use Rattle.cdcl_proof.proofs.Resolution.{analysis_start, place_above}
 use Rattle.cdcl_proof.proofs.learning.resolve_down.Goals as goal
@@ -6,7 +6,7 @@ use Rattle.cdcl_proof.proofs.learning.resolve_down.Goals as goal
 pub loop-count-init : goal.loop-count-init
 loop-count-init c =
     let start = analysis_start c.args.trail.now.variables (known c.args.store.now) c.args.trail.now.entries c.requires.sound c.len-place.ensures.apart c.args.conflict c.requires.conflict c.mark_conflict-count.new.seen c.mark_conflict-count.ensures.marks
-        c.args.floor c.args.keep c.mark_conflict-count.result c.requires.level c.mark_conflict-count.ensures.count (c.mark_conflict-count.ensures.len ∙ c.requires.seen) in
+    c.args.floor c.args.keep c.mark_conflict-count.result c.requires.level c.mark_conflict-count.ensures.count (c.mark_conflict-count.ensures.len ∙ c.requires.seen) in
     rw (c.len-place.ensures.len, c.in_ok-push.ensures.items, c.new-hints.ensures.items) start
 
 pub overflow_sub-place : goal.overflow_sub-place

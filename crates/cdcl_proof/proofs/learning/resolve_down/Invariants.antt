@@ -1,4 +1,3 @@
-use Rattle.std.proofs.Common.{◌≡◌}
 use Rattle.cdcl_proof.specs.Store.{known}
 use Rattle.cdcl_proof.specs.Resolving.{IsAnalysis}
 use Rattle.cdcl_proof.proofs.learning.resolve_down.Given as goal

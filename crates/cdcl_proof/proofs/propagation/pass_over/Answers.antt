@@ -1,6 +1,5 @@
-use Rattle.std.proofs.Common.{◌≡◌, ◌<◌, ◌≤◌, ◌+◌, ℕ, true, Bool, length, ap, ◌∙◌, sym, subst, arith}
-use Rattle.cdcl_proof.specs.Literal.{holds}
-use Rattle.cdcl_proof.specs.Clause.{is_among, is_within}
+use Rattle.std.proofs.Common.{◌≡◌, ◌<◌, ◌+◌, ℕ, true, Bool, length, ◌∙◌, sym, subst, arith}
+use Rattle.cdcl_proof.specs.Clause.{is_among}
 use Rattle.cdcl_proof.specs.Formula.{are_clauses}
 use Rattle.cdcl_proof.specs.Trail.{Path}
 use Rattle.cdcl_proof.specs.Store.{known}
@@ -25,9 +24,9 @@ loop-index-preserved c =
     let inside : c.loop-index.index < length (known c.args.store.now) = omega (arith, c.loop-index-test.true, c.len-index-end.ensures) in
     let family : Path → Bool → Type 0 = λ p m. IsPassing (known c.args.store.now) c.args.trail.now p (c.loop-index.index + 1) m in
     elim c.match-state_of.branch as (λ _. family c.match-state_of.trail c.match-state_of.moved) [
-        in-Closed w ↦
-            rw (w.trail-is, w.moved-is) (pass_closed (known c.args.store.now) c.args.trail.now c.loop-index.trail c.loop-index.index c.loop-index.moved inside c.loop-index.invariant (rw c.clause.ensures.literals at w.in-Closed.ensures))
+      | in-Closed w ↦
+          rw (w.trail-is, w.moved-is) (pass_closed (known c.args.store.now) c.args.trail.now c.loop-index.trail c.loop-index.index c.loop-index.moved inside c.loop-index.invariant (rw c.clause.ensures.literals at w.in-Closed.ensures))
       | in-Open+in_ok-push-in-Open w ↦
-            let room = rw w.in_ok-push-in-Open.ensures.ok at w.in_ok-push-in-Open.ensures.room in
-            rw (w.trail-is, w.moved-is, w.in_ok-push-in-Open.ensures.ok) (pass_push (known c.args.store.now) c.args.trail.now c.loop-index.trail c.loop-index.index c.loop-index.moved w.in-Open.literal inside c.loop-index.invariant clauses (rw c.clause.ensures.literals at w.in-Open.ensures) room)
+          let room = rw w.in_ok-push-in-Open.ensures.ok at w.in_ok-push-in-Open.ensures.room in
+          rw (w.trail-is, w.moved-is, w.in_ok-push-in-Open.ensures.ok) (pass_push (known c.args.store.now) c.args.trail.now c.loop-index.trail c.loop-index.index c.loop-index.moved w.in-Open.literal inside c.loop-index.invariant clauses (rw c.clause.ensures.literals at w.in-Open.ensures) room)
     ]

@@ -1,4 +1,4 @@
-use Rattle.std.proofs.Common.{◌≡◌, ◌++◌, ◌&&◌, Bool, ap, ◌∙◌, sym}
+use Rattle.std.proofs.Common.{◌++◌, ◌&&◌, Bool, ap, ◌∙◌, sym}
 use Rattle.cdcl_proof.specs.Replay.{learnt}
 use Rattle.cdcl_proof.proofs.Chains.{is_subset-chained, covers_hints}
 use Rattle.cdcl_proof.proofs.replay.is_covered.Goals as goal

@@ -1,6 +1,5 @@
-use Rattle.std.proofs.Common.{◌≡◌, ◌++◌, ◌+◌, ◌&&◌, Bool, take, drop, get_or, ap, ◌∙◌, sym}
-use Rattle.cdcl_proof.specs.declared.log.Hint.{Hint}
-use Rattle.cdcl_proof.specs.Replay.{learnt, is_chain, chained, fits}
+use Rattle.std.proofs.Common.{◌++◌, ◌+◌, ◌&&◌, Bool, take, drop, ap, ◌∙◌, sym}
+use Rattle.cdcl_proof.specs.Replay.{learnt, is_chain, chained}
 use Rattle.cdcl_proof.proofs.Chains.{chain_at}
 use Rattle.cdcl_proof.proofs.replay.is_resolution_chain.Goals as goal
 

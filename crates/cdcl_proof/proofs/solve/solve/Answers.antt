@@ -1,4 +1,4 @@
-use Rattle.std.proofs.Common.{◌≡◌, ◌≤◌, ◌^◌, ap, ◌∙◌, sym, subst, arith}
+use Rattle.std.proofs.Common.{ap, ◌∙◌, sym, subst, arith}
 use Rattle.cdcl_proof.specs.Formula.{Formula}
 use Rattle.cdcl_proof.specs.Store.{Archive}
 use Rattle.cdcl_proof.specs.Proof.{Exhausts}

@@ -1,5 +1,5 @@
-use Rattle.std.proofs.Common.{◌≡◌, ℕ, true, ap, ◌∙◌, sym, subst}
-use Rattle.cdcl_proof.specs.Formula.{satisfies, are_clauses}
+use Rattle.std.proofs.Common.{◌≡◌, ℕ, true, ◌∙◌, subst}
+use Rattle.cdcl_proof.specs.Formula.{are_clauses}
 use Rattle.cdcl_proof.specs.Replay.{learnt}
 use Rattle.cdcl_proof.specs.Trail.{literals, IsTotal}
 use Rattle.cdcl_proof.specs.Store.{Archive, known}

@@ -1,4 +1,3 @@
-use Rattle.std.proofs.Common.{◌≡◌, ap, ◌∙◌, sym, subst}
 use Rattle.cdcl_proof.proofs.Keeping.{kept_push}
 use Rattle.cdcl_proof.proofs.store.Store.push.Goals as goal
 

@@ -1,4 +1,4 @@
-use Rattle.std.proofs.Common.{◌≡◌, ◌<◌, ◌≤◌, ℕ, length, false}
+use Rattle.std.proofs.Common.{◌≡◌, ◌<◌, ◌≤◌, ℕ, false}
 use Rattle.cdcl_proof.specs.Trail.{entry_at}
 use Rattle.cdcl_proof.specs.Learning.{is_seen_entry}
 use Rattle.cdcl_proof.proofs.trail.Trail.after_marked.Given as goal

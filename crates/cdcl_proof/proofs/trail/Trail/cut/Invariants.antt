@@ -1,4 +1,4 @@
-use Rattle.std.proofs.Common.{◌≡◌, ◌≤◌, ◌-◌, take, length}
+use Rattle.std.proofs.Common.{◌≡◌, ◌≤◌, take, length}
 use Rattle.cdcl_proof.proofs.trail.Trail.cut.Given as goal
 
 abbrev pub invariant-loop-self : goal.invariant-loop-self

@@ -1,4 +1,3 @@
-use Rattle.std.proofs.Common.{◌≡◌, ◌<◌, ◌≤◌, ℕ, length, true}
 use Rattle.cdcl_proof.specs.Trail.{NoDecision}
 use Rattle.cdcl_proof.proofs.trail.Trail.decision_from.Given as goal
 

@@ -1,4 +1,4 @@
-use Rattle.std.proofs.Common.{ap, ◌∙◌, sym}
+use Rattle.std.proofs.Common.{◌∙◌}
 use Rattle.cdcl_proof.proofs.Entries.{mention_by_mark, mark_read}
 use Rattle.cdcl_proof.proofs.trail.Trail.is_assigned.Goals as goal
 

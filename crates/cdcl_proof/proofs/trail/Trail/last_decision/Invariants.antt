@@ -1,4 +1,4 @@
-use Rattle.std.proofs.Common.{◌≡◌, ◌<◌, ◌≤◌, ℕ, length, true}
+use Rattle.std.proofs.Common.{◌≤◌, length}
 use Rattle.cdcl_proof.specs.Trail.{NoDecision}
 use Rattle.cdcl_proof.proofs.trail.Trail.last_decision.Given as goal
 

@@ -1,5 +1,3 @@
-use Rattle.std.proofs.Common.{ap, ◌∙◌, sym, length, subst, List}
-use Rattle.cdcl_proof.specs.Trail.{IsTied}
 use Rattle.cdcl_proof.proofs.Entries.{tied_pop}
 use Rattle.cdcl_proof.proofs.trail.Trail.pop.Goals as goal
 

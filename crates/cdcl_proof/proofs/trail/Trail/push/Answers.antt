@@ -1,7 +1,6 @@
-use Rattle.std.proofs.Common.{◌≡◌, ap, ◌∙◌, sym, length, set, ◌-◌, Some, rules}
+use Rattle.std.proofs.Common.{◌≡◌, length, set, ◌-◌, Some, rules}
 use Rattle.std.proofs.lemmas.Bool.{not-true}
-use Rattle.cdcl_proof.specs.Literal.{mentions}
-use Rattle.cdcl_proof.specs.Trail.{literals, IsTied}
+use Rattle.cdcl_proof.specs.Trail.{IsTied}
 use Rattle.cdcl_proof.proofs.Entries.{tied_push, AreApart_from, length_below}
 use Rattle.cdcl_proof.proofs.trail.Trail.push.Goals as goal
 

@@ -1,4 +1,4 @@
-use Rattle.std.proofs.Common.{ap, ◌∙◌, sym}
+use Rattle.std.proofs.Common.{◌∙◌}
 use Rattle.cdcl_proof.proofs.Entries.{value_by_mark, none_by_mark, among_low, among_high, mark_read}
 use Rattle.cdcl_proof.proofs.trail.Trail.value.Goals as goal
 

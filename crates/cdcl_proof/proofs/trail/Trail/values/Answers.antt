@@ -1,4 +1,4 @@
-use Rattle.std.proofs.Common.{◌≡◌, ap, ◌∙◌, sym, length, map, take, rules, arith}
+use Rattle.std.proofs.Common.{◌≡◌, ap, ◌∙◌, map, take, arith}
 use Rattle.std.proofs.lemmas.List.{take_all}
 use Rattle.cdcl_proof.specs.Trail.{sign_of}
 use Rattle.cdcl_proof.proofs.Entries.{values_agree}
