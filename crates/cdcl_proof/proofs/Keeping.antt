@@ -56,11 +56,11 @@ kept_refutes f steps s k derived empty =
     record {
       proof = record { replays = replays; fresh = fresh; follows = true_all; new = fresh_new_from f.clauses (steps ++ s ∷ []) once more fresh };
       ends = record { earlier = steps; last = s; parts = refl; empty = empty };
-      unsatisfiable = λ bits. false_from_ne_true (satisfies bits f) (λ h.
+      unsatisfiable = λ bits h.
           let all = true_all bits h in
           let last = (and_parts (list_all (makes_true bits) (learnt steps)) (makes_true bits s.clause && true) (sym (list_all-append (makes_true bits) (learnt steps) (s.clause ∷ [])) ∙ sym (ap (list_all (makes_true bits)) (learnt-push steps s)) ∙ all)).1 in
           let this = (and_parts (makes_true bits s.clause) true last).0 in
-          false≢true (sym (ap (makes_true bits) empty) ∙ this));
+          false≢true (sym (ap (makes_true bits) empty) ∙ this);
     }
 
 -- as many steps as the budget

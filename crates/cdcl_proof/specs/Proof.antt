@@ -1,5 +1,5 @@
 -- What a log proves of a formula.
-use Rattle.std.specs.Prelude.{ℕ, Bool, true, false, ◌≡◌, ◌++◌, ◌<◌, ◌^◌, List, [], ◌∷◌, length}
+use Rattle.std.specs.Prelude.{ℕ, Bool, ◌≡◌, ◌++◌, ◌<◌, ◌^◌, List, [], ◌∷◌, length, IsTrue}
 use Rattle.cdcl_proof.specs.declared.log.Step.{Step}
 use Rattle.cdcl_proof.specs.Formula.{Formula, satisfies}
 use Rattle.cdcl_proof.specs.Replay.{replay, Follows}
@@ -14,20 +14,20 @@ pub record EndsEmpty (log : List Step) : Type 0 where
 
 -- the log replays and is fresh
 pub record IsProof (f : Formula) (log : List Step) : Type 0 where
-  pub replays : replay f log ≡ true
+  pub replays : IsTrue (replay f log)
   pub fresh : Fresh f log
   pub follows : Follows f log
-  pub new : is_new_from f.clauses log ≡ true
+  pub new : IsTrue (is_new_from f.clauses log)
 
 -- the log ends in the empty clause, so nothing satisfies the formula
 pub record Refutes (f : Formula) (log : List Step) : Type 0 where
   pub proof : IsProof f log
   pub ends : EndsEmpty log
-  pub unsatisfiable : (bits : List Bool) → satisfies bits f ≡ false
+  pub unsatisfiable : (bits : List Bool) → ¬ IsTrue (satisfies bits f)
 
 -- as many learnt clauses as the budget allows, none empty, which are fewer than three to the power of the variables
 pub record Exhausts (f : Formula) (budget : ℕ) (log : List Step) : Type 0 where
   pub proof : IsProof f log
   pub steps : length log ≡ budget
-  pub none_empty : has_no_empty log ≡ true
+  pub none_empty : IsTrue (has_no_empty log)
   pub below : budget < 3 ^ f.variables

@@ -1,5 +1,5 @@
 -- Logs that replay: each step's clause comes from the clauses before it by a chain of resolutions.
-use Rattle.std.specs.Prelude.{ℕ, Bool, true, false, ◌≡◌, nat_le, not, ◌&&◌, ◌||◌, ◌-◌, ◌++◌, List, [], ◌∷◌, length, slice_index_or, map}
+use Rattle.std.specs.Prelude.{ℕ, Bool, true, false, nat_le, not, ◌&&◌, ◌||◌, ◌-◌, ◌++◌, List, [], ◌∷◌, length, slice_index_or, map, IsTrue}
 use Rattle.std.proofs.Math.Bool.{beq}
 use Rattle.std.specs.List.{list_all}
 use Rattle.cdcl_proof.specs.declared.literal.Literal.{Literal}
@@ -80,4 +80,4 @@ replay f log = replays_from f.clauses log
 
 -- every assignment that satisfies the formula makes each step's clause true
 abbrev pub Follows : Formula → List Step → Type 0
-Follows f log = (bits : List Bool) → satisfies bits f ≡ true → list_all (makes_true bits) (learnt log) ≡ true
+Follows f log = (bits : List Bool) → IsTrue (satisfies bits f) → IsTrue (list_all (makes_true bits) (learnt log))

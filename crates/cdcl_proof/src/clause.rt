@@ -1,5 +1,5 @@
 // Clauses: sets of literals with no variable twice.
-ghost use Rattle.std.specs.Prelude.{◌≡◌, ◌↔◌, List, [], true, IsTrue, IsSome, IfSome, length, OnSome};
+ghost use Rattle.std.specs.Prelude.{◌≡◌, ◌↔◌, List, [], IsTrue, IsSome, IfSome};
 ghost use Rattle.cdcl_proof.specs.Literal.{holds, mentions, is_once};
 ghost use Rattle.cdcl_proof.specs.Clause.{is_within, is_subset};
 
@@ -14,7 +14,7 @@ pub struct Clause {
 }
 
 impl Model for Clause {
-    ghost use Rattle.std.specs.Prelude.{◌≡◌, List, true};
+    ghost use Rattle.std.specs.Prelude.{List, IsTrue};
     ghost use Rattle.cdcl_proof.specs.declared.literal.Literal.{Literal};
     ghost use Rattle.cdcl_proof.specs.Literal.{is_once};
 
@@ -22,7 +22,7 @@ impl Model for Clause {
 
     ghost view = { λ c. c.literals.items };
 
-    ghost invariant = { λ c. is_once c.literals.items ≡ true };
+    ghost invariant = { λ c. IsTrue (is_once c.literals.items) };
 }
 
 impl Clause {
@@ -37,7 +37,7 @@ impl Clause {
 
     /// The clause of these literals, or `None` where two of them are of one variable.
     pub fn new(literals: Vec<Literal>) -> Option<Clause>
-        ensures some { IsSome result ↔ (is_once literals.items ≡ true) }
+        ensures some { IsSome result ↔ IsTrue (is_once literals.items) }
         ensures value { IfSome result (λ c. c ≡ literals.items) }
     {
         if has_no_variable_twice(&literals) {
@@ -49,7 +49,7 @@ impl Clause {
 
     /// The clause of these literals, of which no two are of one variable.
     pub fn from_distinct(literals: Vec<Literal>) -> Clause
-        requires { is_once literals.items ≡ true }
+        requires { IsTrue (is_once literals.items) }
         ensures { result ≡ literals.items }
     {
         Clause { literals }
@@ -58,7 +58,7 @@ impl Clause {
     /// The literals, with no copy.
     pub fn into_vec(self) -> Vec<Literal>
         ensures literals { result.items ≡ self }
-        ensures once { is_once result.items ≡ true }
+        ensures once { IsTrue (is_once result.items) }
     {
         let Clause { literals } = self;
         literals
@@ -67,7 +67,7 @@ impl Clause {
     /// The literals, in their order.
     pub fn as_slice(&self) -> &[Literal]
         ensures literals { result.now ≡ self.now }
-        ensures once { is_once self.now ≡ true }
+        ensures once { IsTrue (is_once self.now) }
     {
         &self.literals
     }
@@ -84,7 +84,7 @@ pub fn mentions_variable(literals: &[Literal], variable: u64) -> bool
 pub fn holds_literal(literals: &[Literal], literal: Literal) -> bool
     ensures { result ≡ holds literals.now literal }
 {
-    literals.iter().any(|k| k.is(literal))
+    literals.iter().any(|k| *k == literal)
 }
 
 /// Whether no variable stands twice.

@@ -1,5 +1,5 @@
 // Formulas in conjunctive normal form.
-ghost use Rattle.std.specs.Prelude.{◌≡◌, ◌↔◌, true, IsSome, IfSome};
+ghost use Rattle.std.specs.Prelude.{◌≡◌, ◌↔◌, IsSome, IfSome, IsTrue};
 ghost use Rattle.cdcl_proof.specs.Clause.{is_clause};
 ghost use Rattle.cdcl_proof.specs.Formula.{Formula, are_clauses, is_true, makes_true, satisfies};
 ghost use Rattle.std.specs.List.{list_all};
@@ -18,20 +18,20 @@ pub struct Cnf {
 }
 
 impl Model for Cnf {
-    ghost use Rattle.std.specs.Prelude.{◌≡◌, true};
+    ghost use Rattle.std.specs.Prelude.{IsTrue};
     ghost use Rattle.cdcl_proof.specs.Formula.{Formula, are_clauses};
 
     ghost Value = { Formula };
 
     ghost view = { λ c. record { variables = c.variables; clauses = c.clauses.items } };
 
-    ghost invariant = { λ c. are_clauses c.variables c.clauses.items ≡ true };
+    ghost invariant = { λ c. IsTrue (are_clauses c.variables c.clauses.items) };
 }
 
 impl Cnf {
     /// The formula of these clauses, or `None` where a literal's variable is 0 or above `variables`.
     pub fn new(variables: u64, clauses: Vec<Clause>) -> Option<Cnf>
-        ensures some { IsSome result ↔ (are_clauses variables clauses.items ≡ true) }
+        ensures some { IsSome result ↔ IsTrue (are_clauses variables clauses.items) }
         ensures value { IfSome result (λ c. c ≡ record { variables = variables; clauses = clauses.items }) }
     {
         if are_within_variables(&clauses, variables) {
@@ -51,7 +51,7 @@ impl Cnf {
     /// The clauses, in their order: clause number 1 comes first.
     pub fn clauses(&self) -> &[Clause]
         ensures clauses { result.now ≡ self.now.clauses }
-        ensures within { are_clauses self.now.variables self.now.clauses ≡ true }
+        ensures within { IsTrue (are_clauses self.now.variables self.now.clauses) }
     {
         &self.clauses
     }

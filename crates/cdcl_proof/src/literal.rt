@@ -1,10 +1,10 @@
 // Literals: a variable or its complement.
 ghost use Rattle.std.specs.Prelude.{◌≡◌};
-ghost use Rattle.cdcl_proof.specs.Literal.{negation, same};
+ghost use Rattle.cdcl_proof.specs.Literal.{negation};
 
 /// A variable (`positive`) or its complement, as in the DIMACS format for formulas in conjunctive normal form.
 /// Variables are numbered from 1.
-#[derive(Clone, Copy, Debug)]
+#[derive(Clone, Copy, Debug, PartialEq, Eq)]
 pub struct Literal {
     pub variable: u64,
     pub positive: bool,
@@ -19,12 +19,5 @@ impl Literal {
             variable: self.variable,
             positive: !self.positive,
         }
-    }
-
-    /// Whether the two literals have the same variable and the same sign.
-    pub fn is(self, other: Literal) -> bool
-        ensures { result ≡ same self other }
-    {
-        self.variable == other.variable && self.positive == other.positive
     }
 }

@@ -8,7 +8,7 @@ use std::marker::Model;
 /// One clause of a chain of resolutions: the number of a clause, and the variable on which it is resolved with
 /// the clause that the chain has given so far. Clauses are numbered from 1, the formula's first and then the
 /// steps'. The first hint of a step begins the chain: its pivot is 0 and is not used.
-#[derive(Clone, Copy, Debug)]
+#[derive(Clone, Copy, Debug, PartialEq, Eq)]
 pub struct Hint {
     pub clause: u64,
     pub pivot: u64,
