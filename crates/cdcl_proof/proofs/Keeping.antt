@@ -1,0 +1,71 @@
+-- What the store keeps, and what its log proves.
+use Rattle.std.proofs.Common.{◌≡◌, ℕ, true, false, not, ◌&&◌, List, [], ◌∷◌, ◌++◌, length, refl, sym, ◌∙◌, ap, arith, append_assoc}
+use Rattle.std.specs.List.{list_all}
+use Rattle.std.proofs.lemmas.List.Folds.{list_all-append}
+use Rattle.std.proofs.lemmas.Bool.{and_parts, and_from, not_from_false, false_from_ne_true, false≢true}
+use Rattle.cdcl_proof.specs.declared.literal.Literal.{Literal}
+use Rattle.cdcl_proof.specs.declared.log.Step.{Step}
+use Rattle.cdcl_proof.specs.Literal.{is_once}
+use Rattle.cdcl_proof.specs.Clause.{is_clause}
+use Rattle.cdcl_proof.specs.Formula.{Formula, are_clauses, makes_true, satisfies}
+use Rattle.cdcl_proof.specs.Replay.{learnt, derives, replay}
+use Rattle.cdcl_proof.specs.Fresh.{IsFresh, is_empty, has_no_empty}
+use Rattle.cdcl_proof.specs.Store.{IsKept}
+use Rattle.cdcl_proof.specs.Proof.{IsProof, Refutes, Exhausts}
+use Rattle.cdcl_proof.proofs.Laws.{clauses_once, follows, fresh_new_from, replays_from-push, fresh_push, learnt-push}
+use Rattle.cdcl_proof.proofs.Counting.{fewer_than}
+
+given_clauses : (f : Formula) (steps : List Step) → IsKept f steps → (are_clauses f.variables f.clauses ≡ true) × (are_clauses f.variables (learnt steps) ≡ true)
+given_clauses f steps k = and_parts (are_clauses f.variables f.clauses) (are_clauses f.variables (learnt steps)) (sym (list_all-append (is_clause f.variables) f.clauses (learnt steps)) ∙ k.clauses)
+
+-- one more learnt clause
+pub kept_push : (f : Formula) (steps : List Step) (s : Step) → IsKept f steps → is_clause f.variables s.clause ≡ true → derives (f.clauses ++ learnt steps) s.hints s.clause ≡ true → IsFresh (f.clauses ++ learnt steps) s.clause → is_empty s.clause ≡ false → IsKept f (steps ++ s ∷ [])
+kept_push f steps s k clause derived fresh full = record {
+  clauses =
+      let parts : f.clauses ++ learnt (steps ++ s ∷ []) ≡ (f.clauses ++ learnt steps) ++ s.clause ∷ [] = ap (λ (cs : List (List Literal)). f.clauses ++ cs) (learnt-push steps s) ∙ sym (append_assoc f.clauses (learnt steps) (s.clause ∷ [])) in
+      ap (are_clauses f.variables) parts ∙ list_all-append (is_clause f.variables) (f.clauses ++ learnt steps) (s.clause ∷ []) ∙ and_from (are_clauses f.variables (f.clauses ++ learnt steps)) (is_clause f.variables s.clause && true) k.clauses (and_from (is_clause f.variables s.clause) true clause refl);
+  replays = replays_from-push f.clauses steps s ∙ and_from (replay f steps) (derives (f.clauses ++ learnt steps) s.hints s.clause) k.replays derived;
+  fresh = fresh_push f.clauses steps s k.fresh (λ e. fresh);
+  none_empty = list_all-append (λ (t : Step). not (is_empty t.clause)) steps (s ∷ []) ∙ and_from (has_no_empty steps) (not (is_empty s.clause) && true) k.none_empty (and_from (not (is_empty s.clause)) true (not_from_false (is_empty s.clause) full) refl);
+}
+
+-- a kept log is a proof
+pub kept_proof : (f : Formula) (steps : List Step) → IsKept f steps → IsProof f steps
+kept_proof f steps k =
+    let given = given_clauses f steps k in
+    let once = clauses_once f.variables f.clauses given.0 in
+    let more = clauses_once f.variables (learnt steps) given.1 in
+    record {
+      replays = k.replays;
+      fresh = k.fresh;
+      follows = follows f steps once more k.replays;
+      new = fresh_new_from f.clauses steps once more k.fresh;
+    }
+
+-- and with the empty clause a refutation
+pub kept_refutes : (f : Formula) (steps : List Step) (s : Step) → IsKept f steps → derives (f.clauses ++ learnt steps) s.hints s.clause ≡ true → s.clause ≡ [] → Refutes f (steps ++ s ∷ [])
+kept_refutes f steps s k derived empty =
+    let given = given_clauses f steps k in
+    let once = clauses_once f.variables f.clauses given.0 in
+    let more : list_all is_once (learnt (steps ++ s ∷ [])) ≡ true =
+    ap (list_all is_once) (learnt-push steps s) ∙ list_all-append is_once (learnt steps) (s.clause ∷ [])
+    ∙ and_from (list_all is_once (learnt steps)) (is_once s.clause && true) (clauses_once f.variables (learnt steps) given.1) (and_from (is_once s.clause) true (ap is_once empty) refl) in
+    let replays : replay f (steps ++ s ∷ []) ≡ true = replays_from-push f.clauses steps s ∙ and_from (replay f steps) (derives (f.clauses ++ learnt steps) s.hints s.clause) k.replays derived in
+    let fresh = fresh_push f.clauses steps s k.fresh (λ e. absurd (false≢true (sym e ∙ ap is_empty empty))) in
+    let true_all = follows f (steps ++ s ∷ []) once more replays in
+    record {
+      proof = record { replays = replays; fresh = fresh; follows = true_all; new = fresh_new_from f.clauses (steps ++ s ∷ []) once more fresh };
+      ends = record { earlier = steps; last = s; parts = refl; empty = empty };
+      unsatisfiable = λ bits h.
+          let all = true_all bits h in
+          let last = (and_parts (list_all (makes_true bits) (learnt steps)) (makes_true bits s.clause && true) (sym (list_all-append (makes_true bits) (learnt steps) (s.clause ∷ [])) ∙ sym (ap (list_all (makes_true bits)) (learnt-push steps s)) ∙ all)).1 in
+          let this = (and_parts (makes_true bits s.clause) true last).0 in
+          false≢true (sym (ap (makes_true bits) empty) ∙ this);
+    }
+
+-- as many steps as the budget
+pub kept_exhausts : (f : Formula) (steps : List Step) (budget : ℕ) → IsKept f steps → length steps ≡ budget → Exhausts f budget steps
+kept_exhausts f steps budget k len =
+    let p = kept_proof f steps k in
+    let few = fewer_than f.variables f.clauses steps (given_clauses f steps k).1 k.none_empty p.new in
+    record { proof = p; steps = len; none_empty = k.none_empty; below = omega (arith, few, len) }

@@ -1,0 +1,13 @@
+pub mod Sets
+pub mod Pigeons
+pub mod Entries
+pub mod Satisfying
+pub mod Scanning
+pub mod Sound
+pub mod Chains
+pub mod Marking
+pub mod Resolution
+pub mod Lessons
+pub mod Laws
+pub mod Counting
+pub mod Keeping

@@ -1,0 +1,25 @@
+use Rattle.std.proofs.Common.{◌∙◌, arith}
+use Rattle.cdcl_proof.specs.Store.{known}
+use Rattle.cdcl_proof.proofs.Resolution.{analysis_start, place_above}
+use Rattle.cdcl_proof.proofs.learning.resolve_down.Goals as goal
+
+pub loop-count-init : goal.loop-count-init
+loop-count-init c =
+    let start = analysis_start c.args.trail.now.variables (known c.args.store.now) c.args.trail.now.entries c.requires.sound c.len-place.ensures.apart c.args.conflict c.requires.conflict c.mark_conflict-count.new.seen c.mark_conflict-count.ensures.marks
+    c.args.floor c.args.keep c.mark_conflict-count.result c.requires.level c.mark_conflict-count.ensures.count (c.mark_conflict-count.ensures.len ∙ c.requires.seen) in
+    rw (c.len-place.ensures.len, c.in_ok-push.ensures.items, c.new-hints.ensures.items) start
+
+pub overflow_sub-place : goal.overflow_sub-place
+overflow_sub-place c =
+    let above = place_above _ _ _ _ _ _ _ _ _ c.loop-count.invariant c.loop-count-test.true in
+    omega (arith, above)
+
+pub resolve_entry-requires-clause-floor : goal.resolve_entry-requires-clause-floor
+resolve_entry-requires-clause-floor c =
+    let above = place_above _ _ _ _ _ _ _ _ _ c.loop-count.invariant c.loop-count-test.true in
+    omega (arith, above)
+
+pub loop-count-smaller : goal.loop-count-smaller
+loop-count-smaller c =
+    let above = place_above _ _ _ _ _ _ _ _ _ c.loop-count.invariant c.loop-count-test.true in
+    omega (arith, above)

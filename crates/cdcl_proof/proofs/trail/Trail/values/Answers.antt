@@ -1,0 +1,11 @@
+use Rattle.std.proofs.Common.{◌≡◌, ap, ◌∙◌, map, take, arith}
+use Rattle.std.proofs.lemmas.List.{take_all}
+use Rattle.cdcl_proof.specs.Trail.{sign_of}
+use Rattle.cdcl_proof.proofs.Entries.{values_agree}
+use Rattle.cdcl_proof.proofs.trail.Trail.values.Goals as goal
+
+pub returns-clause-agree : goal.returns-clause-agree
+returns-clause-agree c =
+    let whole : take c.loop-mark.mark-index c.deref-mark-items.result.now ≡ c.deref-mark-items.result.now = take_all c.loop-mark.mark-index c.deref-mark-items.result.now (omega arith) in
+    let bits = c.loop-mark.invariant ∙ ap (map sign_of) (whole ∙ c.deref-mark-items.ensures.value) in
+    rw (← c.self.view_is) (values_agree c.self.inside.marks.items c.self.inside.entries.items c.self.invariant c.loop-mark.values.items bits)

@@ -1,0 +1,14 @@
+pub mod Literal
+pub mod Clause
+pub mod Formula
+pub mod Replay
+pub mod Fresh
+pub mod Trail
+pub mod Learning
+pub mod Store
+pub mod Propagation
+pub mod Resolving
+pub mod Proof
+pub mod Activity
+pub mod Search
+pub mod Answer

@@ -1,0 +1,242 @@
+// Conflict analysis: the clause that a conflict teaches, by resolution back to the first unique implication point.
+ghost use Rattle.std.specs.Prelude.{ℕ, ◌≡◌, ◌<◌, ◌≤◌, ◌+◌, ◌-◌, true, false, [], length, take, drop, IfOk, Some, IsNone, slice_set};
+ghost use Rattle.cdcl_proof.specs.Clause.{is_within};
+ghost use Rattle.cdcl_proof.specs.Replay.{derives, clause_at};
+ghost use Rattle.cdcl_proof.specs.Literal.{mentions};
+ghost use Rattle.cdcl_proof.specs.Trail.{IsSound, literals, entry_at, NoDecision};
+ghost use Rattle.cdcl_proof.specs.Learning.{is_seen, is_seen_entry, count_seen};
+ghost use Rattle.cdcl_proof.specs.Store.{known};
+ghost use Rattle.cdcl_proof.specs.Propagation.{IsConflict};
+ghost use Rattle.cdcl_proof.specs.Resolving.{AddsMarks, IsResolving, IsAnalysis, IsLesson, IsLevel, Resolves};
+
+use crate::clause::Clause;
+use crate::literal::Literal;
+use crate::log::{Hint, HintList, Step};
+use crate::store::Store;
+use crate::trail::{Entry, Trail};
+use std::alloc::{AllocError, Global};
+
+/// A learnt clause, and the place of the trail to which the search goes back.
+#[derive(Drop)]
+pub(crate) struct Lesson {
+    pub(crate) step: Step,
+    pub(crate) place: usize,
+}
+
+/// The clause that a conflict teaches: it has one literal of the newest level, which begins at `floor`.
+pub(crate) fn learn(
+    alloc: Global,
+    store: &Store,
+    trail: &Trail,
+    seen: &mut [bool],
+    conflict: u64,
+    floor: usize,
+) -> Result<Lesson, AllocError>
+    requires variables { trail.now.variables ≡ store.now.formula.variables }
+    requires seen { length seen.old ≡ trail.now.variables }
+    requires sound { IsSound trail.now.variables (known store.now) trail.now.entries }
+    requires conflict { IsConflict (known store.now) (literals trail.now.entries) conflict }
+    requires floor { floor < length trail.now.entries }
+    requires decision { IsNone (entry_at trail.now.entries floor).reason }
+    requires newest { NoDecision trail.now.entries (floor + 1) (length trail.now.entries) }
+    ensures lesson { IfOk result (λ l. IsLesson trail.now.variables (known store.now) trail.now.entries l.step l.place) }
+{
+    let hints = resolve_down(alloc, store, trail, seen, conflict, floor, 1)?;
+    let literals = trail.marked_negations(alloc, seen)?;
+    let start = trail.after_marked(seen, floor);
+    let place = trail.decision_from(start, floor);
+    Ok(Lesson {
+        step: Step {
+            clause: Clause::from_distinct(literals),
+            hints: HintList::from_vec(hints),
+        },
+        place,
+    })
+}
+
+/// The last step: with no decision on the trail a conflict gives the empty clause.
+pub(crate) fn refute(
+    alloc: Global,
+    store: &Store,
+    trail: &Trail,
+    seen: &mut [bool],
+    conflict: u64,
+) -> Result<Step, AllocError>
+    requires variables { trail.now.variables ≡ store.now.formula.variables }
+    requires seen { length seen.old ≡ trail.now.variables }
+    requires sound { IsSound trail.now.variables (known store.now) trail.now.entries }
+    requires conflict { IsConflict (known store.now) (literals trail.now.entries) conflict }
+    requires decisions { NoDecision trail.now.entries 0 (length trail.now.entries) }
+    ensures empty { IfOk result (λ s. s.clause ≡ []) }
+    ensures derived { IfOk result (λ s. derives (known store.now) s.hints [] ≡ true) }
+{
+    let hints = resolve_down(alloc, store, trail, seen, conflict, 0, 0)?;
+    Ok(Step {
+        clause: Clause::empty(alloc),
+        hints: HintList::from_vec(hints),
+    })
+}
+
+/// Resolves the false clause with the reasons of its literals, newest first, until `keep` literals of entries from
+/// `floor` on are left. The marks then tell the variables of the resolvent.
+fn resolve_down(
+    alloc: Global,
+    store: &Store,
+    trail: &Trail,
+    seen: &mut [bool],
+    conflict: u64,
+    floor: usize,
+    keep: usize,
+) -> Result<Vec<Hint>, AllocError>
+    requires variables { trail.now.variables ≡ store.now.formula.variables }
+    requires seen { length seen.old ≡ trail.now.variables }
+    requires sound { IsSound trail.now.variables (known store.now) trail.now.entries }
+    requires conflict { IsConflict (known store.now) (literals trail.now.entries) conflict }
+    requires implied { NoDecision trail.now.entries (floor + keep) (length trail.now.entries) }
+    requires level { IsLevel (known store.now) (literals (take floor trail.now.entries)) keep }
+    ensures resolving { IfOk result (λ h. IsResolving (known store.now) trail.now.entries h.items seen.new) }
+    ensures count { IfOk result (λ _. count_seen seen.new (drop floor trail.now.entries) ≡ keep) }
+    ensures len { IfOk result (λ _. length seen.new ≡ length seen.old) }
+{
+    let mut hints = Vec::new(alloc);
+    hints.push(Hint {
+        clause: conflict,
+        pivot: 0,
+    })?;
+    let mut count = mark_conflict(store, trail, seen, conflict, floor);
+    let mut place = trail.len();
+    while count > keep {
+        place -= 1;
+        count = resolve_entry(store, trail, seen, &mut hints, place, floor, keep, count)?;
+    }
+    Ok(hints)
+}
+
+/// Marks the variables of the false clause alone.
+fn mark_conflict(
+    store: &Store,
+    trail: &Trail,
+    seen: &mut [bool],
+    conflict: u64,
+    floor: usize,
+) -> usize
+    requires variables { trail.now.variables ≡ store.now.formula.variables }
+    requires seen { length seen.old ≡ trail.now.variables }
+    ensures count { result ≡ count_seen seen.new (drop floor trail.now.entries) }
+    ensures len { length seen.new ≡ length seen.old }
+    ensures marks { (v : ℕ) → 1 ≤ v → is_seen seen.new v ≡ mentions (clause_at (known store.now) conflict) v }
+{
+    seen.fill(false);
+    mark_clause(trail, seen, store.clause(conflict), 0, floor, 0)
+}
+
+/// Resolves with the reason of the entry at the place, if it is marked. The result is how many marked entries from
+/// `floor` on are left.
+fn resolve_entry(
+    store: &Store,
+    trail: &Trail,
+    seen: &mut [bool],
+    hints: &mut Vec<Hint>,
+    place: usize,
+    floor: usize,
+    keep: usize,
+    count: usize,
+) -> Result<usize, AllocError>
+    requires variables { trail.now.variables ≡ store.now.formula.variables }
+    requires sound { IsSound trail.now.variables (known store.now) trail.now.entries }
+    requires implied { NoDecision trail.now.entries (floor + keep) (length trail.now.entries) }
+    requires place { place < length trail.now.entries }
+    requires floor { floor + keep ≤ place }
+    requires analysis { IsAnalysis trail.now.variables (known store.now) trail.now.entries floor keep (place + 1) count hints.old.items seen.old }
+    requires more { keep < count }
+    ensures analysis { IfOk result (λ n. IsAnalysis trail.now.variables (known store.now) trail.now.entries floor keep place n hints.new.items seen.new) }
+{
+    let entry = trail.entry(place);
+    if !seen[entry.literal.variable as usize - 1] {
+        return Ok(count);
+    }
+    match entry.reason {
+        Some(reason) => {
+            hints.push(Hint {
+                clause: reason,
+                pivot: entry.literal.variable,
+            })?;
+            Ok(resolve_at(store, trail, seen, place, reason, floor, count))
+        }
+        None => Ok(count),
+    }
+}
+
+/// Marks what a resolution with the reason of the marked entry at the place gives.
+fn resolve_at(
+    store: &Store,
+    trail: &Trail,
+    seen: &mut [bool],
+    place: usize,
+    reason: u64,
+    floor: usize,
+    count: usize,
+) -> usize
+    requires variables { trail.now.variables ≡ store.now.formula.variables }
+    requires seen { length seen.old ≡ trail.now.variables }
+    requires sound { IsSound trail.now.variables (known store.now) trail.now.entries }
+    requires place { place < length trail.now.entries }
+    requires floor { floor ≤ place }
+    requires reason { (entry_at trail.now.entries place).reason ≡ Some reason }
+    requires marked { is_seen_entry seen.old (entry_at trail.now.entries place) ≡ true }
+    requires count { count ≡ count_seen seen.old (drop floor trail.now.entries) }
+    ensures count { result ≡ count_seen seen.new (drop floor trail.now.entries) }
+    ensures fewer { count ≤ result + 1 }
+    ensures len { length seen.new ≡ length seen.old }
+    ensures marks { Resolves (entry_at trail.now.entries place).literal.variable (clause_at (known store.now) reason) seen.old seen.new }
+{
+    let pivot = trail.entry(place).literal.variable;
+    seen[pivot as usize - 1] = false;
+    mark_clause(trail, seen, store.clause(reason), pivot, floor, count - 1)
+}
+
+/// Marks the variables of the clause but for the pivot. The result is how many entries from `floor` on are marked,
+/// as `count` is before.
+fn mark_clause(
+    trail: &Trail,
+    seen: &mut [bool],
+    clause: &[Literal],
+    pivot: u64,
+    floor: usize,
+    count: usize,
+) -> usize
+    requires seen { length seen.old ≡ trail.now.variables }
+    requires within { is_within trail.now.variables clause.now ≡ true }
+    requires count { count ≡ count_seen seen.old (drop floor trail.now.entries) }
+    ensures count { result ≡ count_seen seen.new (drop floor trail.now.entries) }
+    ensures len { length seen.new ≡ length seen.old }
+    ensures marks { AddsMarks seen.old seen.new pivot clause.now }
+{
+    let mut count = count;
+    for literal in clause {
+        if literal.variable != pivot {
+            count = mark(trail, seen, literal.variable, floor, count);
+        }
+    }
+    count
+}
+
+/// Marks a variable, and counts it where its entry is at `floor` or after it.
+fn mark(trail: &Trail, seen: &mut [bool], variable: u64, floor: usize, count: usize) -> usize
+    requires positive { 1 ≤ variable }
+    requires among { variable ≤ trail.now.variables }
+    requires seen { length seen.old ≡ trail.now.variables }
+    requires count { count ≡ count_seen seen.old (drop floor trail.now.entries) }
+    ensures count { result ≡ count_seen seen.new (drop floor trail.now.entries) }
+    ensures marked { seen.new ≡ slice_set seen.old (variable - 1) true }
+{
+    if seen[variable as usize - 1] {
+        return count;
+    }
+    seen[variable as usize - 1] = true;
+    if trail.is_at_least(variable, floor) {
+        count + 1
+    } else {
+        count
+    }
+}

@@ -1,0 +1,243 @@
+// The trail of a search: the literals assumed or implied so far, oldest first.
+ghost use Rattle.std.specs.Prelude.{ℕ, ◌≡◌, ◌<◌, ◌≤◌, ◌++◌, ◌∷◌, ◌+◌, ◌-◌, ◌^◌, [], true, false, length, take, drop, None, IsNone, IsSome, OnOk, IfOk, IfSome, IfNone, Bool, List};
+ghost use Rattle.cdcl_proof.specs.declared.trail.Entry.{Entry};
+ghost use Rattle.cdcl_proof.specs.Literal.{is_once, holds, mentions, negation};
+ghost use Rattle.cdcl_proof.specs.Clause.{is_among};
+ghost use Rattle.cdcl_proof.specs.Fresh.{is_free};
+ghost use Rattle.cdcl_proof.specs.Formula.{is_true};
+ghost use Rattle.cdcl_proof.specs.declared.literal.Literal.{Literal};
+ghost use Rattle.cdcl_proof.specs.Trail.{Path, literals, entry_at, value_of, is_after, NoDecision, AreApart, sign_of};
+ghost use Rattle.cdcl_proof.specs.Learning.{is_seen, is_seen_entry, seen_negations};
+
+use crate::clause::Clause;
+use crate::literal::Literal;
+use std::alloc::{AllocError, Global};
+use std::marker::Model;
+
+/// A literal of the trail, with the number of the clause that implies it, or with none for a decision.
+#[derive(Clone, Copy)]
+pub(crate) struct Entry {
+    pub(crate) literal: Literal,
+    pub(crate) reason: Option<u64>,
+}
+
+/// The value of an assigned variable and the place of its entry.
+#[derive(Clone, Copy)]
+pub(crate) struct Mark {
+    pub(crate) positive: bool,
+    pub(crate) place: usize,
+}
+
+/// The literals assumed or implied so far, oldest first, no variable twice.
+#[derive(Drop)]
+pub(crate) struct Trail {
+    entries: Vec<Entry>,
+    marks: Vec<Option<Mark>>,
+}
+
+impl Model for Trail {
+    ghost use Rattle.std.specs.Prelude.{length};
+    ghost use Rattle.cdcl_proof.specs.Trail.{Path, IsTied};
+
+    ghost Value = { Path };
+
+    ghost view = { λ t. record { variables = length t.marks.items; entries = t.entries.items } };
+
+    ghost invariant = { λ t. IsTied t.marks.items t.entries.items };
+}
+
+impl Trail {
+    pub(crate) fn new(alloc: Global, variables: u64) -> Result<Trail, AllocError>
+        ensures { IfOk result (λ t. t ≡ record { variables = variables; entries = [] }) }
+    {
+        let unassigned: Option<Mark> = None;
+        let marks = vec![in alloc; unassigned; variables as usize]?;
+        Ok(Trail {
+            entries: Vec::new(alloc),
+            marks,
+        })
+    }
+
+    pub(crate) fn len(&self) -> usize
+        ensures len { result ≡ length self.now.entries }
+        ensures apart { AreApart self.now.variables self.now.entries }
+    {
+        self.entries.len()
+    }
+
+    pub(crate) fn variables(&self) -> u64
+        ensures { result ≡ self.now.variables }
+    {
+        self.marks.len() as u64
+    }
+
+    /// The entry at a place.
+    pub(crate) fn entry(&self, place: usize) -> Entry
+        requires { place < length self.now.entries }
+        ensures entry { result ≡ entry_at self.now.entries place }
+        ensures apart { AreApart self.now.variables self.now.entries }
+    {
+        self.entries[place]
+    }
+
+    /// The literal's value, or `None` where its variable has none.
+    pub(crate) fn value(&self, literal: Literal) -> Option<bool>
+        requires { is_among self.now.variables literal ≡ true }
+        ensures { result ≡ value_of (literals self.now.entries) literal }
+    {
+        match self.marks[literal.variable as usize - 1] {
+            Some(mark) => Some(mark.positive == literal.positive),
+            None => None,
+        }
+    }
+
+    /// Whether the variable has a value.
+    pub(crate) fn is_assigned(&self, variable: u64) -> bool
+        requires positive { 1 ≤ variable }
+        requires among { variable ≤ self.now.variables }
+        ensures { result ≡ mentions (literals self.now.entries) variable }
+    {
+        self.marks[variable as usize - 1].is_some()
+    }
+
+    /// Whether the variable's entry is at the place or after it.
+    pub(crate) fn is_at_least(&self, variable: u64, place: usize) -> bool
+        requires positive { 1 ≤ variable }
+        requires among { variable ≤ self.now.variables }
+        ensures after { result ≡ is_after self.now.entries place variable }
+        ensures small { length self.now.entries < 2 ^ 63 }
+        ensures apart { AreApart self.now.variables self.now.entries }
+    {
+        match self.marks[variable as usize - 1] {
+            Some(mark) => place <= mark.place,
+            None => false,
+        }
+    }
+
+    /// Adds an entry of a variable that has none.
+    pub(crate) fn push(&mut self, entry: Entry) -> Result<(), AllocError>
+        requires among { is_among self.old.variables entry.literal ≡ true }
+        requires free { is_free (literals self.old.entries) entry.literal ≡ true }
+        ensures ok { OnOk result (self.new ≡ record self.old { entries = self.old.entries ++ entry ∷ [] }) }
+        ensures room { OnOk result (length self.new.entries ≤ self.new.variables) }
+    {
+        let place = self.entries.len();
+        self.entries.push(entry)?;
+        self.marks[entry.literal.variable as usize - 1] = Some(Mark {
+            positive: entry.literal.positive,
+            place,
+        });
+        Ok(())
+    }
+
+    /// Takes off the newest entry.
+    fn pop(&mut self)
+        requires { 0 < length self.old.entries }
+        ensures { self.new ≡ record self.old { entries = take (length self.old.entries - 1) self.old.entries } }
+    {
+        if let Some(entry) = self.entries.pop() {
+            self.marks[entry.literal.variable as usize - 1] = None;
+        }
+    }
+
+    /// Takes off the entries from the place on.
+    pub(crate) fn cut(&mut self, place: usize)
+        requires { place ≤ length self.old.entries }
+        ensures { self.new ≡ record self.old { entries = take place self.old.entries } }
+    {
+        while self.len() > place {
+            self.pop();
+        }
+    }
+
+    /// The place of the newest decision.
+    pub(crate) fn last_decision(&self) -> Option<usize>
+        ensures decision { IfSome result (λ c. (c < length self.now.entries) × IsNone (entry_at self.now.entries c).reason × NoDecision self.now.entries (c + 1) (length self.now.entries)) }
+        ensures none { IfNone result (NoDecision self.now.entries 0 (length self.now.entries)) }
+    {
+        let mut place = self.entries.len();
+        while place > 0 {
+            place -= 1;
+            if self.entries[place].reason.is_none() {
+                return Some(place);
+            }
+        }
+        None
+    }
+
+    /// The place of the oldest decision from `start` on, up to the decision at `last`.
+    pub(crate) fn decision_from(&self, start: usize, last: usize) -> usize
+        requires start { start ≤ last }
+        requires last { last < length self.now.entries }
+        requires decision { IsNone (entry_at self.now.entries last).reason }
+        ensures start { start ≤ result }
+        ensures last { result ≤ last }
+        ensures decision { IsNone (entry_at self.now.entries result).reason }
+        ensures before { NoDecision self.now.entries start result }
+    {
+        for place in start..last {
+            if self.entries[place].reason.is_none() {
+                return place;
+            }
+        }
+        last
+    }
+
+    /// The place after the newest marked entry below `last`, or 0 where none is marked.
+    pub(crate) fn after_marked(&self, seen: &[bool], last: usize) -> usize
+        requires last { last ≤ length self.now.entries }
+        requires seen { length seen.now ≡ self.now.variables }
+        ensures last { result ≤ last }
+        ensures above { (k : ℕ) → result ≤ k → k < last → is_seen_entry seen.now (entry_at self.now.entries k) ≡ false }
+        ensures marked { 0 < result → is_seen_entry seen.now (entry_at self.now.entries (result - 1)) ≡ true }
+    {
+        let mut place = last;
+        while place > 0 {
+            if seen[self.entries[place - 1].literal.variable as usize - 1] {
+                return place;
+            }
+            place -= 1;
+        }
+        0
+    }
+
+    /// The negations of the marked entries.
+    pub(crate) fn marked_negations(
+        &self,
+        alloc: Global,
+        seen: &[bool],
+    ) -> Result<Vec<Literal>, AllocError>
+        requires { length seen.now ≡ self.now.variables }
+        ensures negations { IfOk result (λ c. c.items ≡ seen_negations seen.now self.now.entries) }
+        ensures apart { AreApart self.now.variables self.now.entries }
+    {
+        let mut literals = Vec::new(alloc);
+        for entry in &self.entries {
+            if seen[entry.literal.variable as usize - 1] {
+                literals.push(entry.literal.negation())?;
+            }
+        }
+        Ok(literals)
+    }
+
+    /// The values of the variables in order; those that have none are false.
+    pub(crate) fn values(&self, alloc: Global) -> Result<Vec<bool>, AllocError>
+        ensures len { IfOk result (λ v. length v.items ≡ self.now.variables) }
+        ensures agree { IfOk result (λ v. (l : Literal) → holds (literals self.now.entries) l ≡ true → is_true v.items l ≡ true) }
+    {
+        let mut values = Vec::new(alloc);
+        for mark in &self.marks {
+            values.push(sign(*mark))?;
+        }
+        Ok(values)
+    }
+}
+
+fn sign(mark: Option<Mark>) -> bool
+    ensures { result ≡ sign_of mark }
+{
+    match mark {
+        Some(mark) => mark.positive,
+        None => false,
+    }
+}
