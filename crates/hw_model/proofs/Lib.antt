@@ -5,5 +5,6 @@ pub mod Paths
 pub mod Widths
 pub mod NetWidths
 pub mod Finite
+pub mod Depths
 pub mod Evaluation
 mod Samples
