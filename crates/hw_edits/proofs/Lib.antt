@@ -9,3 +9,4 @@ pub mod ChangeInPlace
 pub mod PutIn
 pub mod TakeOut
 pub mod Unused
+pub mod Uses
