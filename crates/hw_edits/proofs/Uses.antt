@@ -1,11 +1,12 @@
--- Uses of the laws: a wire goes, its operand standing for it; a constant is put in. And what such uses share.
-use Rattle.std.proofs.Common.{◌≡◌, ℕ, zero, suc, ◌<◌, ◌≤◌, false, ℤ, List, [], ◌∷◌, length, map, slice_get, Option, Some, None, refl, sym, ap, ap₂, subst, ◌∙◌, inl, arith}
+-- Uses of the laws: a wire goes, its operand standing for it; a constant is put in, or stands for an operation; one of
+-- two operations that do the same goes. And what such uses share.
+use Rattle.std.proofs.Common.{◌≡◌, ℕ, zero, suc, ◌<◌, ◌≤◌, false, ℤ, set, List, [], ◌∷◌, length, map, slice_get, Option, Some, None, refl, sym, ap, ap₂, subst, ◌∙◌, inl, arith}
 use Rattle.wiring.specs.Options.{bind}
 use Rattle.wiring.specs.Wiring.{In, greatest}
 use Rattle.wiring.proofs.Heights.{le-greatest}
 use Rattle.wiring.proofs.Members.{In-map}
-use Rattle.bits_core.specs.Word.{Word}
-use Rattle.hw_model.specs.Types.{HwType}
+use Rattle.bits_core.specs.Word.{Word, bits_of_ℤ}
+use Rattle.hw_model.specs.Types.{HwType, width}
 use Rattle.hw_model.specs.Kinds.{Kind}
 use Rattle.hw_model.specs.Kinds.Kind.{wire, constant}
 use Rattle.hw_model.specs.Design.{Ref, Op, Module, Design, find_module, nowhere_place, result_type}
@@ -13,13 +14,14 @@ use Rattle.hw_model.specs.Design.Ref.{port, result, undefined}
 use Rattle.hw_model.specs.Flat.{net}
 use Rattle.hw_model.specs.Value.{op_value}
 use Rattle.hw_model.specs.Sound.{body_of, type_in, Fits, SoundBody}
-use Rattle.hw_edits.specs.Edit.{is_anchor, made_word}
+use Rattle.hw_edits.specs.Edit.{is_anchor, made_word, word_of, HoldsBut}
 use Rattle.hw_edits.specs.Falls.{LocalHeight}
-use Rattle.hw_edits.specs.Follows.{Valid, Follows}
+use Rattle.hw_edits.specs.Follows.{Wide, Valid, Follows}
 use Rattle.hw_edits.specs.Laws.{IsNotOf, TakenOut, PutIn, take_out, put_in, with_body}
 use Rattle.hw_edits.proofs.Heights.{local_height}
 use Rattle.hw_edits.proofs.TakeOut.{out_follows}
 use Rattle.hw_edits.proofs.PutIn.{in_follows}
+use Rattle.hw_edits.proofs.ChangeInPlace.{plain_word, place_follows}
 
 -- ---- what is shared
 
@@ -100,3 +102,58 @@ pub constant_in : (d : Design) (m : ℕ) (md : Module) (i : ℕ) (z : ℤ) (t : 
     → Follows d (with_body d m md (put_in i (constant_op z t) md.body))
 constant_in d m md i z t valid at_m within =
     in_follows d m md i (constant_op z t) valid at_m (record { within = within; plain = refl; fits = λ k u typed. refl })
+
+-- an operation whose word is always that of a constant becomes the constant
+pub constant_place : (d : Design) (m : ℕ) (md : Module) (i : ℕ) (o : Op) (z : ℤ) (t : HwType) → Valid d → slice_get d m ≡ Some md → slice_get md.body i ≡ Some o
+    → is_anchor o ≡ false → result_type o 0 ≡ Some t → ((k : ℕ) → result_type o (suc k) ≡ None)
+    → ((τ : Ref → Word) → HoldsBut md.body τ (λ j. j ≡ i) → Wide md.ports md.body τ → made_word τ o 0 (Some t) ≡ bits_of_ℤ (width t) z)
+    → Follows d (with_body d m md (set md.body i (constant_op z t)))
+constant_place d m md i o z t valid at_m there plain typed no_more always =
+    place_follows d m md i o (constant_op z t) valid at_m (record {
+      there = there;
+      old_plain = plain;
+      new_plain = refl;
+      same_types = same_types;
+      fits = λ k u is. refl;
+      lower = λ h local k u is r here. absurd here;
+      words = λ τ holds wide k u is. by_number τ holds wide k u is })
+  where
+    same_types : (k : ℕ) → result_type (constant_op z t) k ≡ result_type o k
+    same_types zero = sym typed
+    same_types (suc k) = sym (no_more k)
+    by_number : (τ : Ref → Word) → HoldsBut md.body τ (λ j. j ≡ i) → Wide md.ports md.body τ → (k : ℕ) (u : HwType) → result_type o k ≡ Some u
+        → made_word τ o k (Some u) ≡ made_word τ (constant_op z t) k (Some u)
+    by_number τ holds wide zero u is =
+        let both : Some t ≡ Some u = sym typed ∙ is in
+        let same : t ≡ u = cc in
+        subst (λ v. made_word τ o 0 (Some v) ≡ bits_of_ℤ (width v) z) same (always τ holds wide)
+    by_number τ holds wide (suc k) u is = let clash : None ≡ Some u = sym (no_more k) ∙ is in cc
+
+-- ---- an operation that does what an earlier one does
+
+-- of two operations of one kind, with the same operands, the second goes, and the first's result stands for its result
+pub copy_out : (d : Design) (m : ℕ) (md : Module) (i j : ℕ) (o copy : Op) (t : HwType) → Valid d → slice_get d m ≡ Some md → slice_get md.body i ≡ Some o
+    → slice_get md.body j ≡ Some copy → (i ≡ j → ⊥) → is_anchor o ≡ false → copy.kind ≡ o.kind → copy.types ≡ o.types → copy.operands ≡ o.operands
+    → result_type o 0 ≡ Some t → result_type copy 0 ≡ Some t → ((k : ℕ) → result_type copy (suc k) ≡ None)
+    → Follows d (with_body d m md (take_out j (result i 0) md.body))
+copy_out d m md i j o copy t valid at_m there also other plain kinds types operands typed also_typed no_more =
+    out_follows d m md j copy t (result i 0) valid at_m (record {
+      there = also;
+      plain = also_plain;
+      result_is = also_typed;
+      no_more = no_more;
+      stand_is = ap (λ x. bind x (λ (y : Op). result_type y 0)) there ∙ typed;
+      stand_stays = λ k same. other (cc);
+      lower = λ h local.
+        let first : h (result i 0) ≡ suc (greatest (map h o.operands)) = local.made i 0 o t there plain typed in
+        let second : h (result j 0) ≡ suc (greatest (map h copy.operands)) = local.made j 0 copy t also also_plain also_typed in
+        let equal : greatest (map h copy.operands) ≡ greatest (map h o.operands) = ap (λ rs. greatest (map h rs)) operands in
+        omega arith;
+      words = λ τ holds wide.
+        same_made τ ∙ sym (holds.result_is i 0 (made_word τ o 0 (Some t)) other
+          (ap (word_of τ 0) there ∙ plain_word τ 0 o plain ∙ ap (λ x. Some (made_word τ o 0 x)) typed)) })
+  where
+    also_plain : is_anchor copy ≡ false
+    also_plain = ap (λ k. is_anchor (record copy { kind = k })) kinds ∙ plain
+    same_made : (τ : Ref → Word) → made_word τ copy 0 (Some t) ≡ made_word τ o 0 (Some t)
+    same_made τ = ap (λ k. op_value k copy.types t 0 (map τ copy.operands)) kinds ∙ ap₂ (λ ts rs. op_value o.kind ts t 0 (map τ rs)) types operands
