@@ -7,4 +7,5 @@ pub mod NetWidths
 pub mod Finite
 pub mod Depths
 pub mod Evaluation
-mod Samples
+pub mod Samples
+mod Values

@@ -19,7 +19,7 @@ use Rattle.hw_model.proofs.Finite.{all_nets, nets_within, calls_within, settles_
 use Rattle.hw_model.proofs.Machines.{run_exists}
 use Rattle.hw_model.proofs.Evaluation.{run_value}
 
-abbrev operation : Kind → List Ref → List HwType → List HwType → Op
+abbrev pub operation : Kind → List Ref → List HwType → List HwType → Op
 operation kind operands types results = record {
   kind = kind;
   operands = operands;
@@ -32,16 +32,16 @@ operation kind operands types results = record {
   place = nowhere_place;
 }
 
-abbrev in_port : Name → HwType → Port
+abbrev pub in_port : Name → HwType → Port
 in_port name t = record { name = name; is_output = false; type = t; again = false }
 
-abbrev out_port : Name → HwType → Port
+abbrev pub out_port : Name → HwType → Port
 out_port name t = record { name = name; is_output = true; type = t; again = false }
 
-abbrev module_of : Name → List Port → List Op → Module
+abbrev pub module_of : Name → List Port → List Op → Module
 module_of symbol ports body = record { symbol = symbol; is_private = false; ports = ports; dictionary = []; body = body; place = nowhere_place }
 
-abbrev byte : ℕ → Word
+abbrev pub byte : ℕ → Word
 byte n = bits 8 n
 
 -- a module of one symbol with these ports and operations
@@ -100,6 +100,11 @@ two_registers_run outs run = run_value two_registers (codes "Two") 6 refl (byte 
 
 flattened_run : (outs : List Word) → Run (machine flattened (codes "Two")) (byte 0x05 ++ byte 0x06) four_steps outs → outs ≡ four_outputs
 flattened_run outs run = run_value flattened (codes "Two") 6 refl (byte 0x05 ++ byte 0x06) four_steps outs run
+
+-- where no clock rises a register keeps what it holds
+no_rise_run : (outs : List Word) → Run (machine two_registers (codes "Two")) (byte 0x05 ++ byte 0x06) (step 0 1 1 0x44 ∷ step 0 0 0 0 ∷ []) outs
+    → outs ≡ (byte 0x05 ++ byte 0x06) ∷ (byte 0x05 ++ byte 0x06) ∷ []
+no_rise_run outs run = run_value two_registers (codes "Two") 6 refl (byte 0x05 ++ byte 0x06) (step 0 1 1 0x44 ∷ step 0 0 0 0 ∷ []) outs run
 
 -- there is such a run: the nets have heights
 two_registers_acyclic : HasNoRecursion two_registers
