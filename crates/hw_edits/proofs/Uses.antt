@@ -1,23 +1,22 @@
 -- Uses of the laws: a wire goes, its operand standing for it; a constant is put in, or stands for an operation; one of
 -- two operations that do the same goes. And what such uses share.
-use Rattle.std.proofs.Common.{◌≡◌, ℕ, zero, suc, ◌<◌, ◌≤◌, false, ℤ, set, List, [], ◌∷◌, length, map, slice_get, Option, Some, None, refl, sym, ap, ap₂, subst, ◌∙◌, inl, arith}
+use Rattle.std.proofs.Common.{◌≡◌, ℕ, zero, suc, ◌<◌, ◌≤◌, false, ℤ, set, List, [], ◌∷◌, length, map, slice_get, Some, None, refl, sym, ap, ap₂, subst, ◌∙◌, inl, arith}
 use Rattle.wiring.specs.Options.{bind}
 use Rattle.wiring.specs.Wiring.{In, greatest}
 use Rattle.wiring.proofs.Heights.{le-greatest}
 use Rattle.wiring.proofs.Members.{In-map}
 use Rattle.bits_core.specs.Word.{Word, bits_of_ℤ}
 use Rattle.hw_model.specs.Types.{HwType, width}
-use Rattle.hw_model.specs.Kinds.{Kind}
 use Rattle.hw_model.specs.Kinds.Kind.{wire, constant}
 use Rattle.hw_model.specs.Design.{Ref, Op, Module, Design, find_module, nowhere_place, result_type}
-use Rattle.hw_model.specs.Design.Ref.{port, result, undefined}
+use Rattle.hw_model.specs.Design.Ref.{result}
 use Rattle.hw_model.specs.Flat.{net}
 use Rattle.hw_model.specs.Value.{op_value}
-use Rattle.hw_model.specs.Sound.{body_of, type_in, Fits, SoundBody}
+use Rattle.hw_model.specs.Sound.{body_of, type_in, Fits}
 use Rattle.hw_edits.specs.Edit.{is_anchor, made_word, word_of, HoldsBut}
 use Rattle.hw_edits.specs.Falls.{LocalHeight}
 use Rattle.hw_edits.specs.Follows.{Wide, Valid, Follows}
-use Rattle.hw_edits.specs.Laws.{IsNotOf, TakenOut, PutIn, take_out, put_in, with_body}
+use Rattle.hw_edits.specs.Laws.{IsNotOf, take_out, put_in, with_body}
 use Rattle.hw_edits.proofs.Heights.{local_height}
 use Rattle.hw_edits.proofs.TakeOut.{out_follows}
 use Rattle.hw_edits.proofs.PutIn.{in_follows}
@@ -53,7 +52,7 @@ operand_other d md valid found i o t u there plain typed no_more r here has_type
         absurd (omega arith)
     go (suc k) is =
         let clash : Some u ≡ None =
-          sym has_type ∙ ap (type_in md.ports md.body) is ∙ ap (λ x. bind x (λ (y : Op). result_type y (suc k))) there ∙ no_more k in
+        sym has_type ∙ ap (type_in md.ports md.body) is ∙ ap (λ x. bind x (λ (y : Op). result_type y (suc k))) there ∙ no_more k in
         cc
 
 -- ---- a wire
@@ -70,17 +69,21 @@ wire_out d m md i o t x valid at_m found there is_wire operands typed no_more =
       stand_is = stand_type;
       stand_stays = operand_other d md valid found i o t t there plain typed no_more x named stand_type;
       lower = λ h local. let below : h x < h (result i 0) = operand_lower md.body h local i 0 o t there plain typed x named in omega arith;
-      words = λ τ holds wide. ap₂ (λ kind rs. op_value kind o.types t 0 (map τ rs)) is_wire operands })
+      words = λ τ holds wide. ap₂ (λ kind rs. op_value kind o.types t 0 (map τ rs)) is_wire operands;
+    })
   where
     plain : is_anchor o ≡ false
     plain = rw is_wire refl
+
     named : In x o.operands
     named = subst (In x) (sym operands) (inl refl)
+
     fits : Fits wire o.types (map (type_in md.ports md.body) (x ∷ [])) t 0
     fits =
         subst (λ rs. Fits wire o.types (map (type_in md.ports md.body) rs) t 0) operands
         (subst (λ kind. Fits kind o.types (map (type_in md.ports md.body) o.operands) t 0) is_wire
         ((valid.sound md.symbol md found).ops i o there 0 t typed))
+
     stand_type : type_in md.ports md.body x ≡ Some t
     stand_type = let same : type_in md.ports md.body x ∷ [] ≡ Some t ∷ [] = fits in cc
 
@@ -96,7 +99,8 @@ constant_op z t = record {
   name = [];
   dictionary = [];
   bin = false;
-  place = nowhere_place }
+  place = nowhere_place;
+}
 
 pub constant_in : (d : Design) (m : ℕ) (md : Module) (i : ℕ) (z : ℤ) (t : HwType) → Valid d → slice_get d m ≡ Some md → i ≤ length md.body
     → Follows d (with_body d m md (put_in i (constant_op z t) md.body))
@@ -116,11 +120,13 @@ constant_place d m md i o z t valid at_m there plain typed no_more always =
       same_types = same_types;
       fits = λ k u is. refl;
       lower = λ h local k u is r here. absurd here;
-      words = λ τ holds wide k u is. by_number τ holds wide k u is })
+      words = λ τ holds wide k u is. by_number τ holds wide k u is;
+    })
   where
     same_types : (k : ℕ) → result_type (constant_op z t) k ≡ result_type o k
     same_types zero = sym typed
     same_types (suc k) = sym (no_more k)
+
     by_number : (τ : Ref → Word) → HoldsBut md.body τ (λ j. j ≡ i) → Wide md.ports md.body τ → (k : ℕ) (u : HwType) → result_type o k ≡ Some u
         → made_word τ o k (Some u) ≡ made_word τ (constant_op z t) k (Some u)
     by_number τ holds wide zero u is =
@@ -145,15 +151,17 @@ copy_out d m md i j o copy t valid at_m there also other plain kinds types opera
       stand_is = ap (λ x. bind x (λ (y : Op). result_type y 0)) there ∙ typed;
       stand_stays = λ k same. other (cc);
       lower = λ h local.
-        let first : h (result i 0) ≡ suc (greatest (map h o.operands)) = local.made i 0 o t there plain typed in
-        let second : h (result j 0) ≡ suc (greatest (map h copy.operands)) = local.made j 0 copy t also also_plain also_typed in
-        let equal : greatest (map h copy.operands) ≡ greatest (map h o.operands) = ap (λ rs. greatest (map h rs)) operands in
-        omega arith;
+          let first : h (result i 0) ≡ suc (greatest (map h o.operands)) = local.made i 0 o t there plain typed in
+          let second : h (result j 0) ≡ suc (greatest (map h copy.operands)) = local.made j 0 copy t also also_plain also_typed in
+          let equal : greatest (map h copy.operands) ≡ greatest (map h o.operands) = ap (λ rs. greatest (map h rs)) operands in
+          omega arith;
       words = λ τ holds wide.
-        same_made τ ∙ sym (holds.result_is i 0 (made_word τ o 0 (Some t)) other
-          (ap (word_of τ 0) there ∙ plain_word τ 0 o plain ∙ ap (λ x. Some (made_word τ o 0 x)) typed)) })
+          same_made τ ∙ sym (holds.result_is i 0 (made_word τ o 0 (Some t)) other
+          (ap (word_of τ 0) there ∙ plain_word τ 0 o plain ∙ ap (λ x. Some (made_word τ o 0 x)) typed));
+    })
   where
     also_plain : is_anchor copy ≡ false
     also_plain = ap (λ k. is_anchor (record copy { kind = k })) kinds ∙ plain
+
     same_made : (τ : Ref → Word) → made_word τ copy 0 (Some t) ≡ made_word τ o 0 (Some t)
     same_made τ = ap (λ k. op_value k copy.types t 0 (map τ copy.operands)) kinds ∙ ap₂ (λ ts rs. op_value o.kind ts t 0 (map τ rs)) types operands

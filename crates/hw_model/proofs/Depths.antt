@@ -1,7 +1,7 @@
 -- Heights computed: where each net of a list is found to reach all that it needs in few steps.
-use Rattle.std.proofs.Common.{◌≡◌, ◌⊎◌, ℕ, zero, suc, ◌+◌, ◌<◌, ◌≤◌, Bool, true, false, cond, List, [], ◌∷◌, refl, sym, subst, ◌∙◌, ap, inl, inr, arith}
-use Rattle.wiring.specs.Wiring.{In, IsAcyclic, IsWithin, HasHeights, FallsAlong}
-use Rattle.wiring.proofs.Heights.{heights, IsAcyclic-heights}
+use Rattle.std.proofs.Common.{◌≡◌, ℕ, zero, suc, ◌+◌, ◌<◌, ◌≤◌, Bool, true, false, cond, List, [], ◌∷◌, refl, sym, subst, ◌∙◌, ap, inl, inr, arith}
+use Rattle.wiring.specs.Wiring.{In, IsWithin, HasHeights}
+use Rattle.wiring.proofs.Heights.{heights}
 
 -- whether a test holds of all members
 abbrev pub every : {A : Type 0} → (A → Bool) → List A → Bool
@@ -14,7 +14,6 @@ every_here test x xs all = go (test x) refl all
     go : (b : Bool) → test x ≡ b → cond b (every test xs) false ≡ true → (test x ≡ true) × (every test xs ≡ true)
     go true is rest = (is, rest)
     go false is rest = cc
-
 
 every_In : {A : Type 0} (test : A → Bool) (xs : List A) → every test xs ≡ true → (x : A) → In x xs → test x ≡ true
 every_In test [] all x here = absurd here
@@ -49,6 +48,7 @@ module _ {A : Type 0} (needs : A → List A) where
       below_one : (t : Bool) → misses t ≤ 1
       below_one true = omega arith
       below_one false = omega arith
+
       go : (t : Bool) → ends_within (suc n) a ≡ t → misses (ends_within n b) ≤ misses t
       go true is = let none : misses (ends_within n b) ≡ 0 = ap misses (ends_step n a b is need) in omega arith
       go false is = below_one (ends_within n b)

@@ -1,5 +1,5 @@
 -- The value of each kind of operation computed, and weights.
-use Rattle.std.proofs.Common.{◌≡◌, ℕ, Bool, true, false, pos, negsuc, List, [], ◌∷◌, ◌++◌, map, None, refl}
+use Rattle.std.proofs.Common.{◌≡◌, ℕ, true, false, pos, negsuc, List, [], ◌∷◌, ◌++◌, map, None, refl}
 use Rattle.std.specs.Prelude.{codes}
 use Rattle.bits_core.specs.Word.{Word, bits, flag}
 use Rattle.hw_model.specs.Types.{Name, HwType}
@@ -9,8 +9,7 @@ use Rattle.hw_model.specs.Kinds.{Kind, Predicate}
 use Rattle.hw_model.specs.Kinds.Predicate.{eq, ne, slt, sle, sgt, sge, ult, ule, ugt, uge, ceq, cne, weq, wne}
 use Rattle.hw_model.specs.Kinds.Literal.{leaf, parts}
 use Rattle.hw_model.specs.Kinds.Literals.{no_literals, literal}
-use Rattle.hw_model.specs.Kinds.Reset.{no_reset}
-use Rattle.hw_model.specs.Kinds.Kind.{add, mul, and, or, xor, sub, divu, modu, divs, mods, shl, shru, shrs, icmp, parity, extract, concat, replicate, mux, constant, aggregate_constant, array_create, array_concat, array_get, array_slice, array_inject, struct_create, struct_extract, struct_inject, struct_explode, bitcast, wire, instance, output, compreg}
+use Rattle.hw_model.specs.Kinds.Kind.{add, mul, and, or, xor, sub, divu, modu, divs, mods, shl, shru, shrs, icmp, parity, extract, concat, replicate, mux, constant, aggregate_constant, array_create, array_concat, array_get, array_slice, array_inject, struct_create, struct_extract, struct_inject, struct_explode, bitcast, wire, instance, output}
 use Rattle.hw_model.specs.Design.{Ref, Op, Module, Design}
 use Rattle.hw_model.specs.Design.Ref.{port, result}
 use Rattle.hw_model.specs.Value.{op_value}
@@ -172,18 +171,18 @@ same_value = refl
 
 abbrev inner_of : Name → Ref → Op
 inner_of inner r =
-  operation (instance (record { name = codes "u"; inner_symbol = None; symbol = inner; inputs = codes "a" ∷ []; outputs = codes "b" ∷ [] }))
+    operation (instance (record { name = codes "u"; inner_symbol = None; symbol = inner; inputs = codes "a" ∷ []; outputs = codes "b" ∷ [] }))
     (r ∷ []) (int 1 ∷ int 1 ∷ []) (int 1 ∷ [])
 
 abbrev doubled : Name → Name → Module
 doubled symbol inner =
-  module_of symbol (in_port (codes "a") (int 1) ∷ out_port (codes "b") (int 1) ∷ [])
+    module_of symbol (in_port (codes "a") (int 1) ∷ out_port (codes "b") (int 1) ∷ [])
     (inner_of inner (port 0) ∷ inner_of inner (result 0 0) ∷ operation output (result 1 0 ∷ []) (int 1 ∷ []) [] ∷ [])
 
 abbrev doubling : Design
 doubling =
-  module_of (codes "M0") (in_port (codes "a") (int 1) ∷ out_port (codes "b") (int 1) ∷ []) (operation output (port 0 ∷ []) (int 1 ∷ []) [] ∷ [])
-  ∷ doubled (codes "M1") (codes "M0") ∷ doubled (codes "M2") (codes "M1") ∷ doubled (codes "M3") (codes "M2") ∷ []
+    module_of (codes "M0") (in_port (codes "a") (int 1) ∷ out_port (codes "b") (int 1) ∷ []) (operation output (port 0 ∷ []) (int 1 ∷ []) [] ∷ [])
+    ∷ doubled (codes "M1") (codes "M0") ∷ doubled (codes "M2") (codes "M1") ∷ doubled (codes "M3") (codes "M2") ∷ []
 
 -- 14 * 2 ^ k - 10
 weights : map (weight doubling) (codes "M0" ∷ codes "M1" ∷ codes "M2" ∷ codes "M3" ∷ []) ≡ 4 ∷ 18 ∷ 46 ∷ 102 ∷ []
