@@ -9,3 +9,4 @@ pub mod Depths
 pub mod Evaluation
 pub mod Samples
 mod Values
+pub mod Places
