@@ -10,3 +10,4 @@ pub mod Evaluation
 pub mod Samples
 mod Values
 pub mod Places
+pub mod Weights
