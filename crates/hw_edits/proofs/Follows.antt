@@ -127,7 +127,7 @@ set_cases (x ∷ d) (suc m) old new is named s = go (same_name x.symbol s) (set_
     go false rest = rest
 
 -- what holds of each module and itself, and of the two that differ, holds of all
-set_each : (F : Option Module → Option Module → Type 0) → ((o : Option Module) → F o o)
+pub set_each : (F : Option Module → Option Module → Type 0) → ((o : Option Module) → F o o)
     → (d : Design) (m : ℕ) (old new : Module) → slice_get d m ≡ Some old → new.symbol ≡ old.symbol → F (Some old) (Some new)
     → (s : Name) → F (find_module d s) (find_module (set d m new) s)
 set_each F same d m old new is named changed s = go (set_cases d m old new is named s)

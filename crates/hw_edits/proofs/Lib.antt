@@ -10,3 +10,4 @@ pub mod PutIn
 pub mod TakeOut
 pub mod Unused
 pub mod Uses
+pub mod Weights

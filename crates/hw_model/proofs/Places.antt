@@ -6,19 +6,19 @@ use mathlib.Core.Path.{fun_ext}
 use Rattle.wiring.specs.Options.{bind, omap}
 use Rattle.wiring.specs.Wiring.{Settled as IsSettled}
 use Rattle.bits_core.specs.Word.{Word, first}
-use Rattle.hw_model.specs.Types.{Name, HwType}
+use Rattle.hw_model.specs.Types.{Name}
 use Rattle.hw_model.specs.Kinds.{Instance}
-use Rattle.hw_model.specs.Design.{Ref, Port, Op, Module, Design, op_without_place, module_without_places, without_places, IsSameDesign, same_name, find_module, instance_in, is_instance, is_register, is_output_op, result_type, output_refs, callee}
+use Rattle.hw_model.specs.Design.{Ref, Op, Module, Design, op_without_place, module_without_places, without_places, IsSameDesign, same_name, find_module, instance_in, is_instance, is_register, is_output_op, result_type, output_refs, callee}
 use Rattle.hw_model.specs.Design.Ref.{port, result, undefined}
 use Rattle.hw_model.specs.Value.{joined}
-use Rattle.hw_model.specs.Flat.{Path, Net, net, Source, Slot, instances, before_instance, if_zero, module_at, op_state, body_state, module_state, state, state_before, base, port_ref, input_width, input_of, port_source, copy_of, joined_ref, joined_at, given_ref, held_of, made_of, source, held_width, register_in, op_registers, body_registers, module_registers, registers}
+use Rattle.hw_model.specs.Flat.{Path, Net, net, Source, Slot, instances, before_instance, if_zero, module_at, op_state, body_state, module_state, state, base, port_ref, input_width, input_of, port_source, copy_of, joined_ref, joined_at, given_ref, held_of, made_of, source, held_width, register_in, op_registers, body_registers, module_registers, registers}
 use Rattle.hw_model.specs.Flat.Source.{nowhere}
 use Rattle.hw_model.specs.Machine.{Machine, Same}
-use Rattle.hw_model.specs.Meaning.{needs_of, needs, value_of, HasHeights, loaded, next_content, outputs, outputs_of, machine}
+use Rattle.hw_model.specs.Meaning.{needs_of, value_of, HasHeights, loaded, next_content, outputs, machine}
 use Rattle.hw_model.specs.Sound.{body_of, ports_of}
 use Rattle.hw_model.proofs.Sorts.{Sort, sort_of}
 use Rattle.hw_model.proofs.Sorts.Sort.{a_register, an_instance, an_output, a_made}
-use Rattle.hw_model.proofs.Paths.{module_inside, state_body, before_body, registers_body, outputs_body, input_ports, joined_body, port_of, output_of, op_in, result_in, result_here}
+use Rattle.hw_model.proofs.Paths.{module_inside, state_body, before_body, registers_body, outputs_body, input_ports, joined_body, port_of, output_of, result_in, result_here}
 use Rattle.hw_model.proofs.Machines.{same_self}
 use Rattle.hw_model.proofs.Finite.{settles_with_heights}
 
@@ -65,7 +65,7 @@ before_placeless u (o ∷ os) = go (is_instance o) u (before_placeless u os) (be
     go : (b : Bool) (u : ℕ) → before_instance u (map op_without_place os) ≡ map op_without_place (before_instance u os)
         → before_instance (pred u) (map op_without_place os) ≡ map op_without_place (before_instance (pred u) os)
         → cond b (if_zero u [] (op_without_place o ∷ before_instance (pred u) (map op_without_place os))) (op_without_place o ∷ before_instance u (map op_without_place os))
-          ≡ map op_without_place (cond b (if_zero u [] (o ∷ before_instance (pred u) os)) (o ∷ before_instance u os))
+        ≡ map op_without_place (cond b (if_zero u [] (o ∷ before_instance (pred u) os)) (o ∷ before_instance u os))
     go true zero rest fewer = refl
     go true (suc u) rest fewer = ap (λ xs. op_without_place o ∷ xs) fewer
     go false u rest fewer = ap (λ xs. op_without_place o ∷ xs) rest
@@ -178,16 +178,19 @@ module _ (d : Design) where
       where
         os : List Op
         os = body_of (module_at d top p)
+
         offset_same : base (without_places d) top p + body_state (state (without_places d)) (take j (map op_without_place os)) ≡ base d top p + body_state (state d) (take j os)
         offset_same =
             ap₂ (λ a b. a + b) (base_placeless p)
             (ap (body_state (state (without_places d))) (take_placeless j os)
             ∙ body_state_placeless (state (without_places d)) (take j os)
             ∙ ap (λ inner. body_state inner (take j os)) state_placeless)
+
         count_same : length (instances (take j (map op_without_place os))) ≡ length (instances (take j os))
         count_same =
             ap (λ xs. length (instances xs)) (take_placeless j os) ∙ ap length (instances_placeless (take j os))
             ∙ length-map (instances (take j os)) op_without_place
+
         go : (x : Option Op) → result_in (without_places d) top p (map op_without_place os) j k (omap op_without_place x) ≡ result_in d top p os j k x
         go None = refl
         go (Some o) =
@@ -258,7 +261,8 @@ module _ (d : Design) where
       size = size;
       settled = λ inputs content ρ. IsSettled (λ a. needs_of (from a)) (λ a xs. value_of inputs content (from a) xs) ρ;
       outputs = out;
-      next = next }
+      next = next;
+    }
 
     pub machine_placeless : machine (without_places d) top ≡ machine d top
     machine_placeless =

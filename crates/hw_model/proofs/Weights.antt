@@ -1,5 +1,5 @@
 -- Weights: they do not rise where no module's own does.
-use Rattle.std.proofs.Common.{◌≡◌, ℕ, zero, suc, ◌+◌, ◌≤◌, List, [], ◌∷◌, length, Option, Some, None, sym, subst, arith}
+use Rattle.std.proofs.Common.{◌≡◌, ℕ, zero, suc, ◌≤◌, List, [], ◌∷◌, length, Option, Some, None, sym, subst, arith}
 use Rattle.hw_model.specs.Types.{Name, HwType}
 use Rattle.hw_model.specs.Kinds.{Kind}
 use Rattle.hw_model.specs.Kinds.Kind.{instance}
@@ -32,5 +32,5 @@ weight_not_raised d e size each s = subst (λ n. module_weight (suc n) e s ≤ w
     at_depth (suc n) s =
         let own : weight_of (module_weight n e) (find_module e s) ≤ weight_of (module_weight n e) (find_module d s) = each s (module_weight n e) in
         let inner : weight_of (module_weight n e) (find_module d s) ≤ weight_of (module_weight n d) (find_module d s) =
-          weight_of_le (module_weight n e) (module_weight n d) (at_depth n) (find_module d s) in
+        weight_of_le (module_weight n e) (module_weight n d) (at_depth n) (find_module d s) in
         omega arith

@@ -51,6 +51,10 @@ pub fn same_behaviour()
         → Carries (machine e b) (machine d a) to → Same (machine d a) (machine e b) }
     ensures forth { (d e : Design) (a b : Name) (to : (Net → Word) → Net → Word) → state d a ≡ state e b → HasHeights d a → HasHeights e b
         → Carries (machine d a) (machine e b) to → Same (machine d a) (machine e b) }
+    ensures both_ways { (d e : Design) (a b : Name) (to back : (Net → Word) → Net → Word) → state d a ≡ state e b → HasHeights d a
+        → Carries (machine d a) (machine e b) to → Carries (machine e b) (machine d a) back
+        → ((inputs content : Word) (map_of : Net → Word) → Settled e b inputs content map_of → (n : Net) → to (back map_of) n ≡ map_of n)
+        → Same (machine d a) (machine e b) }
     ensures runs_once { (d : Design) (top : Name) → HasHeights d top → (content : Word) (steps : List Word)
         → (outputs : List Word) × Run (machine d top) content steps outputs
         × ((others : List Word) → Run (machine d top) content steps others → others ≡ outputs) }

@@ -8,5 +8,6 @@
 mod laws;
 
 pub use laws::{
-    heights_are_acyclic, one_map_settles, places_decide_nothing, same_behaviour, weights_follow_bodies, widths_fit_types,
+    heights_are_acyclic, one_map_settles, places_decide_nothing, same_behaviour,
+    weights_follow_bodies, widths_fit_types,
 };
