@@ -11,3 +11,4 @@ pub mod TakeOut
 pub mod Unused
 pub mod Uses
 pub mod Weights
+pub mod Twins

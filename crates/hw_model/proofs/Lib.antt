@@ -11,3 +11,4 @@ pub mod Samples
 mod Values
 pub mod Places
 pub mod Weights
+pub mod Content
