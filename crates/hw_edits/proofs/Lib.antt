@@ -12,3 +12,4 @@ pub mod Unused
 pub mod Uses
 pub mod Weights
 pub mod Twins
+pub mod Registers
