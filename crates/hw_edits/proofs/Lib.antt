@@ -13,3 +13,5 @@ pub mod Uses
 pub mod Weights
 pub mod Twins
 pub mod Registers
+pub mod Loads
+pub mod ReloadFollows

@@ -43,7 +43,7 @@ module _ (d d' : Design) (none : Reregistered None None) (each : (s : Name) → 
       go None = absent refl refl
       go (Some i) = of_symbol i.symbol refl refl
 
-  module_state_same : (n : ℕ) (s : Name) → module_state n d' s ≡ module_state n d s
+  pub module_state_same : (n : ℕ) (s : Name) → module_state n d' s ≡ module_state n d s
   module_state_same zero s = refl
   module_state_same (suc n) s =
       state_body (module_state n d') (find_module d' s)
@@ -85,16 +85,16 @@ module _ (d d' : Design) (none : Reregistered None None) (each : (s : Name) → 
     at : (p : Path) → Reregistered (module_at d top p) (module_at d' top p)
     at p = of_found d d' Reregistered none each (module_at d top p) (module_at d' top p) (found p)
 
-    abbrev old_body : Path → List Op
+    abbrev pub old_body : Path → List Op
     old_body p = body_of (module_at d top p)
 
-    abbrev new_body : Path → List Op
+    abbrev pub new_body : Path → List Op
     new_body p = body_of (module_at d' top p)
 
-    twins_of : (p : Path) → Twins (ports_of (module_at d top p)) (old_body p) 0 (old_body p) (new_body p)
+    pub twins_of : (p : Path) → Twins (ports_of (module_at d top p)) (old_body p) 0 (old_body p) (new_body p)
     twins_of p = (at p).twins
 
-    instances_same : (p : Path) → instances (new_body p) ≡ instances (old_body p)
+    pub instances_same : (p : Path) → instances (new_body p) ≡ instances (old_body p)
     instances_same p = twins_instances (ports_of (module_at d top p)) (old_body p) 0 (old_body p) (new_body p) (twins_of p)
 
     base_same : (p : Path) → base d' top p ≡ base d top p

@@ -23,7 +23,7 @@ pub data Twin (ports : List Port) (os : List Op) (j : ℕ) (o o' : Op) : Type 0 
     → Twin ports os j o o'
 
 -- a register is nothing else
-register_only : (o : Op) → is_register o ≡ true → (instance_in o.kind ≡ None) × (is_output_op o ≡ false)
+pub register_only : (o : Op) → is_register o ≡ true → (instance_in o.kind ≡ None) × (is_output_op o ≡ false)
 register_only o is = go (sort_of o.kind)
   where
     go : Sort o.kind → (instance_in o.kind ≡ None) × (is_output_op o ≡ false)
