@@ -1,32 +1,23 @@
 -- A register takes its next value in another way: nets, content and outputs stay, and what is loaded is the same.
-use Rattle.std.proofs.Common.{◌≡◌, ℕ, zero, suc, ◌+◌, ◌≤◌, ◌<◌, Bool, true, false, cond, List, [], ◌∷◌, ◌++◌, length, map, take, drop, set, slice_get, is_some, Option, Some, None, refl, sym, ap, ap₂, subst, ◌∙◌, arith, zero-add, add_assoc, length-set, length-append}
-use Rattle.std.proofs.lemmas.List.{append-nil}
+use Rattle.std.proofs.Common.{◌≡◌, ℕ, zero, suc, ◌+◌, cond, List, [], ◌∷◌, length, map, take, slice_get, is_some, Option, Some, None, refl, sym, ap, ap₂, ◌∙◌}
 use mathlib.Core.Path.{fun_ext, subst₂}
 use Rattle.wiring.specs.Options.{bind}
-use Rattle.wiring.specs.Wiring.{In, IsHeight, IsAcyclic, Settled as IsSettled, HasHeights as HaveHeights}
-use Rattle.wiring.proofs.Lists.{take-suc_some, slice_get-drop}
-use Rattle.wiring.proofs.Heights.{FallsAlong-height}
-use Rattle.bits_core.specs.Word.{Word, first}
-use Rattle.hw_model.specs.Types.{Name, HwType}
+use Rattle.bits_core.specs.Word.{Word}
+use Rattle.hw_model.specs.Types.{Name}
 use Rattle.hw_model.specs.Kinds.{Instance}
-use Rattle.hw_model.specs.Design.{Ref, Port, Op, Module, Design, find_module, instance_in, register_form, is_instance, is_register, is_output_op, result_type, output_refs, callee}
+use Rattle.hw_model.specs.Design.{Ref, Op, Module, Design, find_module, instance_in, is_instance, is_register, is_output_op, result_type, output_refs, callee}
 use Rattle.hw_model.specs.Design.Ref.{port, result, undefined}
 use Rattle.hw_model.specs.Value.{joined}
-use Rattle.hw_model.specs.Flat.{Path, Net, net, Source, Slot, instances, before_instance, module_at, body_state, op_state, module_state, state, base, port_ref, input_width, input_of, port_source, copy_of, joined_ref, joined_at, given_ref, held_of, held_width, made_of, source, register_in, op_registers, body_registers, module_registers, registers}
+use Rattle.hw_model.specs.Flat.{Path, Net, net, instances, before_instance, module_at, body_state, module_state, state, base, port_ref, input_width, input_of, port_source, copy_of, joined_ref, joined_at, given_ref, held_of, made_of, source}
 use Rattle.hw_model.specs.Flat.Source.{nowhere}
-use Rattle.hw_model.specs.Machine.{Machine, Same}
-use Rattle.hw_model.specs.Meaning.{needs_of, needs, value_of, HasHeights, Settled, loaded, next_content, outputs, machine}
-use Rattle.hw_model.specs.Hierarchy.{called, calls, HasNoRecursion}
+use Rattle.hw_model.specs.Meaning.{outputs}
+use Rattle.hw_model.specs.Hierarchy.{calls}
 use Rattle.hw_model.specs.Sound.{body_of, ports_of}
-use Rattle.hw_model.proofs.Sorts.{Sort, sort_of, instance_found}
-use Rattle.hw_model.proofs.Sorts.Sort.{a_register, an_instance, an_output, a_made}
-use Rattle.hw_model.proofs.Paths.{module_inside, state_body, before_body, registers_body, outputs_body, input_ports, joined_body, port_of, output_of, op_in, result_in, result_here}
-use Rattle.hw_edits.specs.Edit.{Holds}
-use Rattle.hw_edits.specs.Follows.{Wide, Valid, Follows}
-use Rattle.hw_edits.proofs.Edited.{Found, of_found, reads, holds_at}
+use Rattle.hw_model.proofs.Paths.{module_inside, state_body, before_body, outputs_body, input_ports, joined_body, port_of, output_of, op_in, result_in, result_here}
+use Rattle.hw_edits.proofs.Edited.{Found, of_found}
 use Rattle.hw_edits.proofs.Edited.Found.{of_symbol, absent}
 use Rattle.hw_edits.proofs.Twins.Twin.{one, two}
-use Rattle.hw_edits.proofs.Twins.{Twin, Twins, TwinOption, twin_instance, twin_register, twin_types, twin_state, twins_instances, twins_outputs, twins_called, twins_state, twins_take, twins_before, twins_at, twins_type}
+use Rattle.hw_edits.proofs.Twins.{Twin, Twins, TwinOption, twins_instances, twins_outputs, twins_called, twins_state, twins_take, twins_before, twins_at}
 
 -- a module and what it is after registers of it load in another way
 pub record Reregistered (old new : Option Module) : Type 0 where
@@ -77,7 +68,7 @@ module _ (d d' : Design) (none : Reregistered None None) (each : (s : Name) → 
     found (u ∷ p) =
         let here : Reregistered (module_at d top p) (module_at d' top p) = of_found d d' Reregistered none each (module_at d top p) (module_at d' top p) (found p) in
         let lists : instances (body_of (module_at d' top p)) ≡ instances (body_of (module_at d top p)) =
-          twins_instances (ports_of (module_at d top p)) (body_of (module_at d top p)) 0 (body_of (module_at d top p)) (body_of (module_at d' top p)) here.twins in
+        twins_instances (ports_of (module_at d top p)) (body_of (module_at d top p)) 0 (body_of (module_at d top p)) (body_of (module_at d' top p)) here.twins in
         subst₂ (Found d d') (sym (module_inside d u (module_at d top p)))
         (ap (λ xs. bind (slice_get xs u) (callee d')) (sym lists) ∙ sym (module_inside d' u (module_at d' top p)))
         (found_callee (slice_get (instances (body_of (module_at d top p))) u))
@@ -133,27 +124,32 @@ module _ (d d' : Design) (none : Reregistered None None) (each : (s : Name) → 
       where
         cut : Twins (ports_of (module_at d top p)) (old_body p) 0 (take j (old_body p)) (take j (new_body p))
         cut = twins_take (ports_of (module_at d top p)) (old_body p) j 0 (old_body p) (new_body p) (twins_of p)
+
         offset_same : base d' top p + body_state (state d') (take j (new_body p)) ≡ base d top p + body_state (state d) (take j (old_body p))
         offset_same =
             ap₂ (λ a b. a + b) (base_same p)
             (ap (λ inner. body_state inner (take j (new_body p))) state_same
             ∙ twins_state (ports_of (module_at d top p)) (old_body p) (state d) 0 (take j (old_body p)) (take j (new_body p)) cut)
+
         count_same : length (instances (take j (new_body p))) ≡ length (instances (take j (old_body p)))
         count_same = ap length (twins_instances (ports_of (module_at d top p)) (old_body p) 0 (take j (old_body p)) (take j (new_body p)) cut)
+
         given_same : (o : Op) → given_ref d' k o ≡ given_ref d k o
         given_same o =
             output_of (callee d' o) k ∙ ap (λ rs. slice_get rs k) (outputs_callee o) ∙ sym (output_of (callee d o) k)
+
         by_op : (o o' : Op) → Twin (ports_of (module_at d top p)) (old_body p) (0 + j) o o' → op_in d' top p (new_body p) j k o' ≡ op_in d top p (old_body p) j k o
         by_op o o' (one is) =
             ap (op_in d' top p (new_body p) j k) is
             ∙ ap₂ (λ a b. cond (is_register o) (held_of a (result_type o k)) (cond (is_instance o) b (cond (is_output_op o) nowhere (made_of p o k (result_type o k)))))
-              offset_same (ap₂ (λ n y. copy_of (n ∷ p) y) count_same (given_same o))
+            offset_same (ap₂ (λ n y. copy_of (n ∷ p) y) count_same (given_same o))
         by_op o o' (two old new types loads) =
             ap (λ b. cond b (held_of (base d' top p + body_state (state d') (take j (new_body p))) (result_type o' k))
-              (cond (is_instance o') (copy_of (length (instances (take j (new_body p))) ∷ p) (given_ref d' k o')) (cond (is_output_op o') nowhere (made_of p o' k (result_type o' k))))) new
+            (cond (is_instance o') (copy_of (length (instances (take j (new_body p))) ∷ p) (given_ref d' k o')) (cond (is_output_op o') nowhere (made_of p o' k (result_type o' k))))) new
             ∙ ap₂ held_of offset_same (types k)
             ∙ sym (ap (λ b. cond b (held_of (base d top p + body_state (state d) (take j (old_body p))) (result_type o k))
-              (cond (is_instance o) (copy_of (length (instances (take j (old_body p))) ∷ p) (given_ref d k o)) (cond (is_output_op o) nowhere (made_of p o k (result_type o k))))) old)
+            (cond (is_instance o) (copy_of (length (instances (take j (old_body p))) ∷ p) (given_ref d k o)) (cond (is_output_op o) nowhere (made_of p o k (result_type o k))))) old)
+
         go : (x x' : Option Op) → TwinOption (ports_of (module_at d top p)) (old_body p) (0 + j) x x'
             → result_in d' top p (new_body p) j k x' ≡ result_in d top p (old_body p) j k x
         go None None twin = refl

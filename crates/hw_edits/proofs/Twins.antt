@@ -1,10 +1,9 @@
 -- Bodies that differ only in how registers take their next values.
-use Rattle.std.proofs.Common.{◌≡◌, ◌⊎◌, ℕ, zero, suc, pred, ◌+◌, Bool, true, false, cond, List, [], ◌∷◌, ◌++◌, length, map, take, drop, set, slice_get, is_some, Option, Some, None, refl, sym, ap, ap₂, subst, ◌∙◌, add-zero, add-suc, suc-add}
+use Rattle.std.proofs.Common.{◌≡◌, ℕ, zero, suc, pred, ◌+◌, Bool, true, false, cond, List, [], ◌∷◌, ◌++◌, take, set, slice_get, is_some, Option, Some, None, refl, sym, ap, ap₂, subst, ◌∙◌, add-zero, add-suc, suc-add}
 use Rattle.wiring.specs.Options.{bind}
 use Rattle.bits_core.specs.Word.{Word}
-use Rattle.hw_model.specs.Types.{Name, HwType}
-use Rattle.hw_model.specs.Kinds.{Instance}
-use Rattle.hw_model.specs.Design.{Ref, Port, Op, RegisterForm, instance_in, register_form, is_instance, is_register, is_output_op, result_type, output_refs}
+use Rattle.hw_model.specs.Types.{Name}
+use Rattle.hw_model.specs.Design.{Ref, Port, Op, instance_in, is_instance, is_register, is_output_op, result_type, output_refs}
 use Rattle.hw_model.specs.Design.Ref.{port, result, undefined}
 use Rattle.hw_model.specs.Flat.{instances, before_instance, if_zero, body_state, op_state, instance_state, held_width, width_of, register_in}
 use Rattle.hw_model.specs.Meaning.{loaded}
@@ -19,8 +18,8 @@ use Rattle.hw_edits.specs.Follows.{Wide}
 pub data Twin (ports : List Port) (os : List Op) (j : ℕ) (o o' : Op) : Type 0 where
   one : o' ≡ o → Twin ports os j o o'
   two : is_register o ≡ true → is_register o' ≡ true → ((k : ℕ) → result_type o' k ≡ result_type o k)
-    → ((τ : Ref → Word) → Holds os τ → Wide ports os τ → (old : Word) → τ (result j 0) ≡ old → loaded (register_in o') τ old ≡ loaded (register_in o) τ old)
-    → Twin ports os j o o'
+      → ((τ : Ref → Word) → Holds os τ → Wide ports os τ → (old : Word) → τ (result j 0) ≡ old → loaded (register_in o') τ old ≡ loaded (register_in o) τ old)
+      → Twin ports os j o o'
 
 -- a register is nothing else
 pub register_only : (o : Op) → is_register o ≡ true → (instance_in o.kind ≡ None) × (is_output_op o ≡ false)
@@ -114,7 +113,7 @@ module _ (ports : List Port) (whole : List Op) where
       go : (b : Bool) (u : ℕ) → body_state inner (before_instance u os') ≡ body_state inner (before_instance u os)
           → body_state inner (before_instance (pred u) os') ≡ body_state inner (before_instance (pred u) os)
           → body_state inner (cond b (if_zero u [] (o' ∷ before_instance (pred u) os')) (o' ∷ before_instance u os'))
-            ≡ body_state inner (cond b (if_zero u [] (o ∷ before_instance (pred u) os)) (o ∷ before_instance u os))
+          ≡ body_state inner (cond b (if_zero u [] (o ∷ before_instance (pred u) os)) (o ∷ before_instance u os))
       go true zero rest fewer = refl
       go true (suc u) rest fewer = ap₂ (λ a c. a + c) (twin_state inner j o o' twin) fewer
       go false u rest fewer = ap₂ (λ a c. a + c) (twin_state inner j o o' twin) rest

@@ -1,25 +1,29 @@
 -- Uses of the laws: a wire goes, its operand standing for it; a constant is put in, or stands for an operation; one of
--- two operations that do the same goes. And what such uses share.
-use Rattle.std.proofs.Common.{◌≡◌, ℕ, zero, suc, ◌<◌, ◌≤◌, false, ℤ, set, List, [], ◌∷◌, length, map, slice_get, Some, None, refl, sym, ap, ap₂, subst, ◌∙◌, inl, arith}
+-- two operations that do the same goes; a register's enable goes. And what such uses share.
+use Rattle.std.proofs.Common.{◌≡◌, ℕ, zero, suc, ◌<◌, ◌≤◌, false, cond, ℤ, set, List, [], ◌∷◌, length, map, slice_get, Some, None, refl, sym, ap, ap₂, subst, ◌∙◌, inl, arith}
 use Rattle.wiring.specs.Options.{bind}
 use Rattle.wiring.specs.Wiring.{In, greatest}
 use Rattle.wiring.proofs.Heights.{le-greatest}
 use Rattle.wiring.proofs.Members.{In-map}
 use Rattle.bits_core.specs.Word.{Word, bits_of_ℤ}
 use Rattle.hw_model.specs.Types.{HwType, width}
-use Rattle.hw_model.specs.Kinds.Kind.{wire, constant}
+use Rattle.hw_model.specs.Kinds.Reset.{no_reset}
+use Rattle.hw_model.specs.Kinds.Kind.{wire, constant, mux, compreg, compreg_ce}
+use Rattle.hw_model.specs.Types.HwType.{int, clock}
 use Rattle.hw_model.specs.Design.{Ref, Op, Module, Design, find_module, nowhere_place, result_type}
 use Rattle.hw_model.specs.Design.Ref.{result}
-use Rattle.hw_model.specs.Flat.{net}
-use Rattle.hw_model.specs.Value.{op_value}
-use Rattle.hw_model.specs.Sound.{body_of, type_in, Fits}
-use Rattle.hw_edits.specs.Edit.{is_anchor, made_word, word_of, HoldsBut}
+use Rattle.hw_model.specs.Flat.{net, register_in}
+use Rattle.hw_model.specs.Meaning.{loaded}
+use Rattle.hw_model.specs.Value.{op_value, is_high}
+use Rattle.hw_model.specs.Sound.{body_of, type_in, Fits, OpFits}
+use Rattle.hw_edits.specs.Edit.{is_anchor, made_word, word_of, HoldsBut, Holds}
 use Rattle.hw_edits.specs.Falls.{LocalHeight}
 use Rattle.hw_edits.specs.Follows.{Wide, Valid, Follows}
 use Rattle.hw_edits.specs.Laws.{IsNotOf, take_out, put_in, with_body}
 use Rattle.hw_edits.proofs.Heights.{local_height}
 use Rattle.hw_edits.proofs.TakeOut.{out_follows}
 use Rattle.hw_edits.proofs.PutIn.{in_follows}
+use Rattle.hw_edits.proofs.ReloadFollows.{register_follows}
 use Rattle.hw_edits.proofs.ChangeInPlace.{plain_word, place_follows}
 
 -- ---- what is shared
@@ -165,3 +169,53 @@ copy_out d m md i j o copy t valid at_m there also other plain kinds types opera
 
     same_made : (τ : Ref → Word) → made_word τ copy 0 (Some t) ≡ made_word τ o 0 (Some t)
     same_made τ = ap (λ k. op_value k copy.types t 0 (map τ copy.operands)) kinds ∙ ap₂ (λ ts rs. op_value o.kind ts t 0 (map τ rs)) types operands
+
+-- ---- an enable
+
+-- a register with an enable that has a choice of its data and its own value at hand takes that choice in place of both
+pub enable_out : (d : Design) (m : ℕ) (md : Module) (i j : ℕ) (o choice : Op) (t : HwType) (x c e : Ref) → Valid d → slice_get d m ≡ Some md
+    → find_module d md.symbol ≡ Some md → slice_get md.body i ≡ Some o → o.kind ≡ compreg_ce no_reset → o.operands ≡ x ∷ c ∷ e ∷ []
+    → result_type o 0 ≡ Some t → ((k : ℕ) → result_type o (suc k) ≡ None)
+    → slice_get md.body j ≡ Some choice → choice.kind ≡ mux → choice.operands ≡ e ∷ x ∷ result i 0 ∷ [] → result_type choice 0 ≡ Some t
+    → Follows d (with_body d m md (set md.body i (record o { kind = compreg no_reset; operands = result j 0 ∷ c ∷ [] })))
+enable_out d m md i j o choice t x c e valid at_m found there kind operands typed no_more chosen is_mux chosen_from chosen_type =
+    register_follows d m md i o (record o { kind = compreg no_reset; operands = result j 0 ∷ c ∷ [] }) valid at_m (record {
+      there = there;
+      old_register = rw kind refl;
+      new_register = refl;
+      same_types = λ k. refl;
+      fits = fits;
+      loads = loads;
+    })
+  where
+    old_fits : Fits (compreg_ce no_reset) o.types (map (type_in md.ports md.body) (x ∷ c ∷ e ∷ [])) t 0
+    old_fits =
+        subst (λ rs. Fits (compreg_ce no_reset) o.types (map (type_in md.ports md.body) rs) t 0) operands
+        (subst (λ z. Fits z o.types (map (type_in md.ports md.body) o.operands) t 0) kind ((valid.sound md.symbol md found).ops i o there 0 t typed))
+
+    clock_type : type_in md.ports md.body c ≡ Some clock
+    clock_type =
+        let same : type_in md.ports md.body x ∷ type_in md.ports md.body c ∷ type_in md.ports md.body e ∷ [] ≡ Some t ∷ Some clock ∷ Some (int 1) ∷ [] = old_fits in cc
+
+    choice_type : type_in md.ports md.body (result j 0) ≡ Some t
+    choice_type = ap (λ z. bind z (λ (y : Op). result_type y 0)) chosen ∙ chosen_type
+
+    fits : OpFits (type_in md.ports md.body) (record o { kind = compreg no_reset; operands = result j 0 ∷ c ∷ [] })
+    fits zero u is =
+        let both : Some t ≡ Some u = sym typed ∙ is in
+        let same : t ≡ u = cc in
+        ap₂ (λ a b. a ∷ b ∷ []) (choice_type ∙ ap Some same) clock_type
+    fits (suc k) u is = let clash : None ≡ Some u = sym (no_more k) ∙ is in cc
+
+    plain : is_anchor choice ≡ false
+    plain = rw is_mux refl
+
+    loads : (τ : Ref → Word) → Holds md.body τ → Wide md.ports md.body τ → (old : Word) → τ (result i 0) ≡ old
+        → loaded (register_in (record o { kind = compreg no_reset; operands = result j 0 ∷ c ∷ [] })) τ old ≡ loaded (register_in o) τ old
+    loads τ holds wide old is =
+        let says : word_of τ 0 (slice_get md.body j) ≡ Some (cond (is_high (τ e)) (τ x) (τ (result i 0))) =
+        ap (word_of τ 0) chosen ∙ plain_word τ 0 choice plain
+        ∙ ap Some (ap (made_word τ choice 0) chosen_type ∙ ap₂ (λ z rs. op_value z choice.types t 0 (map τ rs)) is_mux chosen_from) in
+        let word : τ (result j 0) ≡ cond (is_high (τ e)) (τ x) (τ (result i 0)) =
+        holds.result_is j 0 (cond (is_high (τ e)) (τ x) (τ (result i 0))) (λ never. never) says in
+        rw (kind, operands) (ap (λ w. cond (is_high (τ c)) w old) (word ∙ ap (λ w. cond (is_high (τ e)) (τ x) w) is))

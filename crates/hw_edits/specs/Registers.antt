@@ -18,4 +18,4 @@ pub record Reloaded (md : Module) (i : ℕ) (o o' : Op) : Type 0 where
   pub same_types : (k : ℕ) → result_type o' k ≡ result_type o k
   pub fits : OpFits (type_in md.ports md.body) o'
   pub loads : (τ : Ref → Word) → Holds md.body τ → Wide md.ports md.body τ → (old : Word) → τ (result i 0) ≡ old
-    → loaded (register_in o') τ old ≡ loaded (register_in o) τ old
+      → loaded (register_in o') τ old ≡ loaded (register_in o) τ old

@@ -6,6 +6,7 @@ ghost use Rattle.hw_model.specs.Design.{Ref, Op, Module, Design, find_module};
 ghost use Rattle.hw_model.specs.Design.Ref.{undefined};
 ghost use Rattle.hw_model.specs.Weight.{kind_weight, body_weight, weight};
 ghost use Rattle.hw_edits.specs.Follows.{SameEdit, ValidEdit, Valid, Follows};
+ghost use Rattle.hw_edits.specs.Registers.{Reloaded};
 ghost use Rattle.hw_edits.specs.Laws.{InPlace, PutIn, TakenOut, IsUnused, take_out, put_in, with_body};
 
 /// Does nothing. Its clauses say that a design follows from a valid one with as many modules where what each symbol finds
@@ -46,6 +47,13 @@ pub fn in_follows()
 pub fn unused_follows()
     ensures { (d : Design) (m : ℕ) (md : Module) (i : ℕ) (o : Op) → Valid d → slice_get d m ≡ Some md → IsUnused md i o
         → Follows d (with_body d m md (take_out i undefined md.body)) }
+{}
+
+/// Does nothing. Its clause says that a design follows from a valid one where a register of a module takes its next value
+/// by other operands or in another form, and loads the same.
+pub fn register_follows()
+    ensures { (d : Design) (m : ℕ) (md : Module) (i : ℕ) (o new : Op) → Valid d → slice_get d m ≡ Some md → Reloaded md i o new
+        → Follows d (with_body d m md (set md.body i new)) }
 {}
 
 /// Does nothing. Its clauses say that no module becomes heavier where a module gets a body that is not heavier, where an

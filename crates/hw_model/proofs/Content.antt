@@ -1,5 +1,5 @@
 -- Where the registers of the flattened module take their content: in order, each where its net takes its value.
-use Rattle.std.proofs.Common.{◌≡◌, ◌⊎◌, ℕ, zero, suc, ◌+◌, ◌-◌, ◌<◌, ◌≤◌, Bool, true, false, cond, List, [], ◌∷◌, ◌++◌, length, map, take, drop, slice_get, Option, Some, None, refl, sym, ap, ap₂, subst, ◌∙◌, inl, inr, arith, zero-add, suc-add, append_assoc}
+use Rattle.std.proofs.Common.{◌≡◌, ℕ, zero, suc, ◌+◌, ◌<◌, ◌≤◌, Bool, cond, List, [], ◌∷◌, ◌++◌, length, map, take, drop, slice_get, Some, refl, sym, ap, ap₂, subst, ◌∙◌, inl, arith, zero-add, suc-add, append_assoc}
 use Rattle.std.proofs.lemmas.List.{length-map}
 use Rattle.wiring.specs.Wiring.{In, HasHeights, IsHeight}
 use Rattle.wiring.proofs.Members.{In-append_left, In-append_right}
@@ -7,8 +7,8 @@ use Rattle.wiring.proofs.Heights.{HasHeights-acyclic, FallsAlong-height, height-
 use Rattle.bits_core.specs.Word.{Word, first}
 use Rattle.hw_model.specs.Types.{Name}
 use Rattle.hw_model.specs.Kinds.{Instance}
-use Rattle.hw_model.specs.Design.{Op, Module, Design, find_module, instance_in, register_form, is_instance}
-use Rattle.hw_model.specs.Flat.{Path, Net, net, Slot, instances, before_instance, if_zero, body_state, op_state, instance_state, module_state, state, held_width, register_in, op_registers, body_registers, module_registers}
+use Rattle.hw_model.specs.Design.{Op, Module, Design, find_module, instance_in, is_instance}
+use Rattle.hw_model.specs.Flat.{Path, Net, net, Slot, instances, before_instance, body_state, op_state, module_state, state, held_width, register_in, op_registers, body_registers, module_registers}
 use Rattle.hw_model.specs.Meaning.{loaded, next_content}
 use Rattle.hw_model.specs.Sound.{body_of}
 use Rattle.hw_model.specs.Hierarchy.{called, called_by, calls, HasNoRecursion}
@@ -41,9 +41,9 @@ module _ (d : Design) (h : Name → ℕ) (height : IsHeight (calls d) h) where
   state_steady (suc m) (suc n) s low also =
       state_body (module_state m d) (find_module d s)
       ∙ body_state_same (module_state m d) (module_state n d) (body_of (find_module d s))
-        (λ t named.
-          let lower : h t < h s = FallsAlong-height (calls d) h height s t named in
-          state_steady m n t (omega arith) (omega arith))
+      (λ t named.
+      let lower : h t < h s = FallsAlong-height (calls d) h height s t named in
+      state_steady m n t (omega arith) (omega arith))
       ∙ sym (state_body (module_state n d) (find_module d s))
 
   -- at a depth that is enough for the module
