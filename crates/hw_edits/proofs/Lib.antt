@@ -15,3 +15,4 @@ pub mod Twins
 pub mod Registers
 pub mod Loads
 pub mod ReloadFollows
+pub mod ModuleGone

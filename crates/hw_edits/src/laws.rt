@@ -1,5 +1,8 @@
 //! The laws of edits, each a clause of a function that does nothing.
 
+ghost use Rattle.hw_model.specs.Machine.{Same};
+ghost use Rattle.hw_model.specs.Meaning.{machine};
+ghost use Rattle.hw_model.specs.Hierarchy.{IsWithout};
 ghost use Rattle.std.specs.Prelude.{◌≡◌, ◌≤◌, ℕ, List, Some, length, set, slice_get};
 ghost use Rattle.hw_model.specs.Types.{Name, HwType};
 ghost use Rattle.hw_model.specs.Design.{Ref, Op, Module, Design, find_module};
@@ -54,6 +57,13 @@ pub fn unused_follows()
 pub fn register_follows()
     ensures { (d : Design) (m : ℕ) (md : Module) (i : ℕ) (o new : Op) → Valid d → slice_get d m ≡ Some md → Reloaded md i o new
         → Follows d (with_body d m md (set md.body i new)) }
+{}
+
+/// Does nothing. Its clauses say that a valid design without a module that nothing instances is valid, and that each other
+/// module does what it did.
+pub fn gone_follows()
+    ensures valid { (d e : Design) (gone : Name) → IsWithout d e gone → Valid d → Valid e }
+    ensures others { (d e : Design) (gone : Name) → IsWithout d e gone → Valid d → (top : Name) → (top ≡ gone → ⊥) → Same (machine d top) (machine e top) }
 {}
 
 /// Does nothing. Its clauses say that no module becomes heavier where a module gets a body that is not heavier, where an

@@ -20,7 +20,7 @@ use Rattle.hw_model.proofs.Finite.{calls_within}
 -- ---- the content of a module does not depend on the depth
 
 -- what a body instances decides how many bits of content it has
-body_state_same : (f g : Name → ℕ) (os : List Op) → ((s : Name) → In s (called os) → f s ≡ g s) → body_state f os ≡ body_state g os
+pub body_state_same : (f g : Name → ℕ) (os : List Op) → ((s : Name) → In s (called os) → f s ≡ g s) → body_state f os ≡ body_state g os
 body_state_same f g [] same = refl
 body_state_same f g (o ∷ os) same =
     ap₂ (λ a b. a + b) (here (sort_of o.kind)) (body_state_same f g os (λ s there. same s (In-append_right s (called_by (instance_in o.kind)) (called os) there)))

@@ -66,7 +66,7 @@ called_instance (y ∷ ys) u o i is inst = go (sort_of y.kind) u is (called_inst
 
 module _ (d : Design) (top : Name) where
   -- a path to a module is a chain of calls
-  path_chain : (p : Path) (m : Module) → module_at d top p ≡ Some m → (s : Name) × Chain (calls d) (length p) top s × (find_module d s ≡ Some m)
+  pub path_chain : (p : Path) (m : Module) → module_at d top p ≡ Some m → (s : Name) × Chain (calls d) (length p) top s × (find_module d s ≡ Some m)
   path_chain [] m is = (top, refl, is)
   path_chain (u ∷ p) m is =
       let outer = bind_some (module_at d top p) (λ (x : Module). bind (slice_get (instances x.body) u) (callee d)) is in

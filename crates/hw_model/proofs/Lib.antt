@@ -12,3 +12,4 @@ mod Values
 pub mod Places
 pub mod Weights
 pub mod Content
+pub mod Gone

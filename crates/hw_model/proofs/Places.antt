@@ -79,6 +79,15 @@ take_placeless (suc n) (o ∷ os) = ap (λ xs. op_without_place o ∷ xs) (take_
 abbrev slot_without_place : Slot → Slot
 slot_without_place s = record { path = s.path; op = op_without_place s.op }
 
+-- a machine by where its nets' values come from
+abbrev pub built : ℕ → (Net → Source) → ((Net → Word) → Word) → ((Net → Word) → Word → Word) → Machine Net
+built size from out next = record {
+  size = size;
+  settled = λ inputs content ρ. IsSettled (λ a. needs_of (from a)) (λ a xs. value_of inputs content (from a) xs) ρ;
+  outputs = out;
+  next = next;
+}
+
 -- ---- designs
 
 module _ (d : Design) where
@@ -255,14 +264,6 @@ module _ (d : Design) where
         ∙ next_along (registers d top) ρ content
 
     -- ---- the machine
-
-    abbrev built : ℕ → (Net → Source) → ((Net → Word) → Word) → ((Net → Word) → Word → Word) → Machine Net
-    built size from out next = record {
-      size = size;
-      settled = λ inputs content ρ. IsSettled (λ a. needs_of (from a)) (λ a xs. value_of inputs content (from a) xs) ρ;
-      outputs = out;
-      next = next;
-    }
 
     pub machine_placeless : machine (without_places d) top ≡ machine d top
     machine_placeless =
