@@ -1,10 +1,15 @@
 //! The laws of edits, each a clause of a function that does nothing.
 
-ghost use Rattle.std.specs.Prelude.{◌≡◌, ℕ, Some, length, set, slice_get};
+ghost use Rattle.hw_model.specs.Machine.{Same};
+ghost use Rattle.hw_model.specs.Meaning.{machine};
+ghost use Rattle.hw_model.specs.Hierarchy.{IsWithout};
+ghost use Rattle.std.specs.Prelude.{◌≡◌, ◌≤◌, ℕ, List, Some, length, set, slice_get};
 ghost use Rattle.hw_model.specs.Types.{Name, HwType};
 ghost use Rattle.hw_model.specs.Design.{Ref, Op, Module, Design, find_module};
 ghost use Rattle.hw_model.specs.Design.Ref.{undefined};
+ghost use Rattle.hw_model.specs.Weight.{kind_weight, body_weight, weight};
 ghost use Rattle.hw_edits.specs.Follows.{SameEdit, ValidEdit, Valid, Follows};
+ghost use Rattle.hw_edits.specs.Registers.{Reloaded};
 ghost use Rattle.hw_edits.specs.Laws.{InPlace, PutIn, TakenOut, IsUnused, take_out, put_in, with_body};
 
 /// Does nothing. Its clauses say that a design follows from a valid one with as many modules where what each symbol finds
@@ -45,4 +50,30 @@ pub fn in_follows()
 pub fn unused_follows()
     ensures { (d : Design) (m : ℕ) (md : Module) (i : ℕ) (o : Op) → Valid d → slice_get d m ≡ Some md → IsUnused md i o
         → Follows d (with_body d m md (take_out i undefined md.body)) }
+{}
+
+/// Does nothing. Its clause says that a design follows from a valid one where a register of a module takes its next value
+/// by other operands or in another form, and loads the same.
+pub fn register_follows()
+    ensures { (d : Design) (m : ℕ) (md : Module) (i : ℕ) (o new : Op) → Valid d → slice_get d m ≡ Some md → Reloaded md i o new
+        → Follows d (with_body d m md (set md.body i new)) }
+{}
+
+/// Does nothing. Its clauses say that a valid design without a module that nothing instances is valid, and that each other
+/// module does what it did.
+pub fn gone_follows()
+    ensures valid { (d e : Design) (gone : Name) → IsWithout d e gone → Valid d → Valid e }
+    ensures others { (d e : Design) (gone : Name) → IsWithout d e gone → Valid d → (top : Name) → (top ≡ gone → ⊥) → Same (machine d top) (machine e top) }
+{}
+
+/// Does nothing. Its clauses say that no module becomes heavier where a module gets a body that is not heavier, where an
+/// operation is taken out, or where one is changed in place to one that is not heavier.
+pub fn edits_are_lighter()
+    ensures body { (d : Design) (m : ℕ) (md : Module) (os : List Op) → slice_get d m ≡ Some md
+        → ((inner : Name → ℕ) → body_weight inner os ≤ body_weight inner md.body) → (s : Name) → weight (with_body d m md os) s ≤ weight d s }
+    ensures out { (d : Design) (m : ℕ) (md : Module) (i : ℕ) (o : Op) (x : Ref) → slice_get d m ≡ Some md → slice_get md.body i ≡ Some o
+        → (s : Name) → weight (with_body d m md (take_out i x md.body)) s ≤ weight d s }
+    ensures place { (d : Design) (m : ℕ) (md : Module) (i : ℕ) (o new : Op) → slice_get d m ≡ Some md → slice_get md.body i ≡ Some o
+        → ((inner : Name → ℕ) → kind_weight inner new.kind new.types (length new.operands) ≤ kind_weight inner o.kind o.types (length o.operands))
+        → (s : Name) → weight (with_body d m md (set md.body i new)) s ≤ weight d s }
 {}

@@ -3,12 +3,14 @@
 //! An edit says where each operation of a body goes and what stands in the new body for a value of the old one
 //! (`specs/Edit.antt`), that it makes no cycle (`specs/Falls.antt`) and keeps types (`specs/Follows.antt`). Where each
 //! value that it changes has the word of what stands for it, each module of the design does what it did, at any depth of
-//! instances. Four edits are there to be used (`specs/Laws.antt`): an operation is changed in place, taken out with a
-//! value in the place of its result, put in, or taken out where nothing names it.
+//! instances. Five edits are there to be used (`specs/Laws.antt`, `specs/Registers.antt`): an operation is changed in
+//! place, taken out with a value in the place of its result, put in, or taken out where nothing names it; and a register
+//! may load in another way. A module that nothing instances may go as well.
 #![tactic(auto)]
 
 mod laws;
 
 pub use laws::{
-    edits_follow, following_composes, in_follows, out_follows, place_follows, unused_follows,
+    edits_are_lighter, edits_follow, following_composes, gone_follows, in_follows, out_follows,
+    place_follows, register_follows, unused_follows,
 };

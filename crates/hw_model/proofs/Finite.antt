@@ -37,7 +37,7 @@ module_found (x ∷ d) s m is = go (same_name x.symbol s) refl is (module_found 
     go true same found rest = inl (sym (same_text x.symbol s (sym same)))
     go false same found rest = inr (rest found)
 
-calls_within : (d : Design) → IsWithin (calls d) (map (λ (m : Module). m.symbol) d)
+pub calls_within : (d : Design) → IsWithin (calls d) (map (λ (m : Module). m.symbol) d)
 calls_within d a b need = go (find_module d a) refl need
   where
     go : (o : Option Module) → find_module d a ≡ o → In b (called (body_of o)) → In a (map (λ (m : Module). m.symbol) d)
@@ -66,7 +66,7 @@ called_instance (y ∷ ys) u o i is inst = go (sort_of y.kind) u is (called_inst
 
 module _ (d : Design) (top : Name) where
   -- a path to a module is a chain of calls
-  path_chain : (p : Path) (m : Module) → module_at d top p ≡ Some m → (s : Name) × Chain (calls d) (length p) top s × (find_module d s ≡ Some m)
+  pub path_chain : (p : Path) (m : Module) → module_at d top p ≡ Some m → (s : Name) × Chain (calls d) (length p) top s × (find_module d s ≡ Some m)
   path_chain [] m is = (top, refl, is)
   path_chain (u ∷ p) m is =
       let outer = bind_some (module_at d top p) (λ (x : Module). bind (slice_get (instances x.body) u) (callee d)) is in

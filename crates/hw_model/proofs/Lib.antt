@@ -5,5 +5,11 @@ pub mod Paths
 pub mod Widths
 pub mod NetWidths
 pub mod Finite
+pub mod Depths
 pub mod Evaluation
-mod Samples
+pub mod Samples
+mod Values
+pub mod Places
+pub mod Weights
+pub mod Content
+pub mod Gone

@@ -7,4 +7,7 @@
 
 mod laws;
 
-pub use laws::{heights_are_acyclic, one_map_settles, same_behaviour, widths_fit_types};
+pub use laws::{
+    heights_are_acyclic, one_map_settles, places_decide_nothing, same_behaviour,
+    weights_follow_bodies, widths_fit_types,
+};
