@@ -8,3 +8,5 @@ pub mod Meaning
 pub mod Weight
 pub mod Sound
 pub mod Hierarchy
+pub mod TypeViews
+pub mod KindViews
