@@ -1,9 +1,7 @@
 -- A body's registers, instances and outputs decide its instances, output values and register content.
-use Rattle.std.proofs.Common.{◌≡◌, ℕ, zero, suc, pred, ◌+◌, true, false, List, [], ◌∷◌, ◌++◌, length, map, take, slice_get, Some, None, refl, sym, ap, ◌∙◌, zero-add}
+use Rattle.std.proofs.Common.{◌≡◌, ℕ, zero, suc, pred, ◌+◌, List, [], ◌∷◌, ◌++◌, map, refl, sym, ap, ◌∙◌, zero-add}
 use Rattle.hw_model.specs.Types.{Name}
-use Rattle.hw_model.specs.Kinds.{Kind, Instance}
-use Rattle.hw_model.specs.Kinds.Kind.{instance, output, compreg, compreg_ce, firreg}
-use Rattle.hw_model.specs.Design.{Ref, Op, RegisterForm, instance_in, register_form, is_output_kind, output_refs}
+use Rattle.hw_model.specs.Design.{Ref, Op, output_refs}
 use Rattle.hw_model.specs.Flat.{Path, Slot, instances, before_instance, body_state, op_state, held_width, body_registers}
 use Rattle.hw_model.proofs.Sorts.{Sort, sort_of}
 use Rattle.hw_model.proofs.Sorts.Sort.{a_register, an_instance, an_output, a_made}

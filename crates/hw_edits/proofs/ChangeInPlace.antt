@@ -1,24 +1,23 @@
 -- An operation is changed in place.
-use Rattle.std.proofs.Common.{◌≡◌, ℕ, zero, suc, ◌<◌, ◌≤◌, true, false, List, [], ◌∷◌, length, map, take, set, slice_get, Option, Some, None, refl, sym, ap, subst, ◌∙◌, arith}
+use Rattle.std.proofs.Common.{◌≡◌, ℕ, ◌<◌, true, false, length, take, set, slice_get, Option, Some, None, refl, sym, ap, subst, ◌∙◌, arith}
 use Rattle.std.proofs.lemmas.Option.{slice_get_within}
-use Rattle.wiring.specs.Options.{bind, omap}
+use Rattle.wiring.specs.Options.{bind}
 use Rattle.wiring.specs.Wiring.{In}
 use Rattle.wiring.proofs.Lists.{slice_get-set_same}
 use Rattle.wiring.proofs.Members.{map_same}
 use Rattle.bits_core.specs.Word.{Word}
 use Rattle.hw_model.specs.Types.{HwType}
-use Rattle.hw_model.specs.Design.{Ref, Port, Op, Module, Design, instance_in, register_form, result_type}
+use Rattle.hw_model.specs.Design.{Ref, Op, Module, Design, result_type}
 use Rattle.hw_model.specs.Design.Ref.{port, result, undefined}
 use Rattle.hw_model.specs.Sound.{HasWidth, type_in, Fits, OpFits}
 use Rattle.hw_model.proofs.Sorts.{Sort, sort_of}
 use Rattle.hw_model.proofs.Sorts.Sort.{a_register, an_instance, an_output, a_made}
-use Rattle.hw_edits.specs.Edit.{retarget, is_anchor, anchors, made_word, word_of, word_of_op, HoldsBut, Holds}
-use Rattle.hw_edits.specs.Falls.{LocalHeight}
+use Rattle.hw_edits.specs.Edit.{is_anchor, anchors, made_word, word_of, word_of_op, HoldsBut, Holds}
 use Rattle.hw_edits.specs.Follows.{Wide, ValidEdit, SameEdit, Valid, Follows}
 use Rattle.hw_edits.specs.Laws.{other_than, with_body, InPlace}
 use Rattle.hw_edits.proofs.Edited.{map_retarget_id, omap_retarget_id}
 use Rattle.hw_edits.proofs.Follows.{follows_set}
-use Rattle.hw_edits.proofs.Positions.{other_some, other_none, other_same, get_other, anchors-set, before-set}
+use Rattle.hw_edits.proofs.Positions.{other_some, other_none, get_other, anchors-set, before-set}
 
 -- the word of an operation that is made of its operands
 pub plain_word : (τ : Ref → Word) (k : ℕ) (o : Op) → is_anchor o ≡ false → word_of_op τ k o ≡ Some (made_word τ o k (result_type o k))
@@ -73,8 +72,11 @@ module _ (md : Module) (i : ℕ) (o o' : Op) (change : InPlace md i o o') where
         kept = λ j j' is. record {
           op = ap (slice_get (set md.body i o')) (sym (other_some i j j' is)) ∙ get_other md.body i j j' o' is ∙ sym (omap_retarget_id (slice_get md.body j));
           before = ap (λ n. anchors (take n (set md.body i o'))) (sym (other_some i j j' is))
-            ∙ before-set md.body i j o o' change.there change.old_plain change.new_plain ∙ sym (map_retarget_id (anchors (take j md.body)));
-          stands = λ k. ap (λ n. result n k) (other_some i j j' is) } } };
+              ∙ before-set md.body i j o o' change.there change.old_plain change.new_plain ∙ sym (map_retarget_id (anchors (take j md.body)));
+          stands = λ k. ap (λ n. result n k) (other_some i j j' is);
+        };
+      };
+    };
     falls = record {
       lift = λ h. h;
       stand_is = λ h local r. omega arith;
@@ -84,14 +86,17 @@ module _ (md : Module) (i : ℕ) (o o' : Op) (change : InPlace md i o o') where
       kept_is = λ h local j' j k is. let same : h (result j' k) ≡ h (result j k) = ap (λ n. h (result n k)) (other_some i j' j is) in omega arith;
       fresh_is = λ j' y new is. ap is_anchor (sym (fresh_op j' y new is)) ∙ change.new_plain;
       fresh_falls = λ h local j' k y t new is typed r here.
-        let same : o' ≡ y = fresh_op j' y new is in
-        let at_i : h (result j' k) ≡ h (result i k) = ap (λ n. h (result n k)) (other_none i j' new) in
-        let lower : h r < h (result i k) =
+          let same : o' ≡ y = fresh_op j' y new is in
+          let at_i : h (result j' k) ≡ h (result i k) = ap (λ n. h (result n k)) (other_none i j' new) in
+          let lower : h r < h (result i k) =
           change.lower h local k t (sym (change.same_types k) ∙ ap (λ z. result_type z k) same ∙ typed) r (subst (λ z. In r z.operands) (sym same) here) in
-        omega arith };
+          omega arith;
+    };
     types = record {
       named = λ j y r is here. types_stay r;
-      fresh = λ j' y new is. subst (OpFits (type_in md.ports (set md.body i o'))) (fresh_op j' y new is) new_fits } }
+      fresh = λ j' y new is. subst (OpFits (type_in md.ports (set md.body i o'))) (fresh_op j' y new is) new_fits;
+    };
+  }
     where
       new_fits : OpFits (type_in md.ports (set md.body i o')) o'
       new_fits k t typed =
@@ -103,29 +108,34 @@ module _ (md : Module) (i : ℕ) (o o' : Op) (change : InPlace md i o o') where
   unfolding in_place_valid
   in_place_same = record {
     valid = in_place_valid;
-    words = λ τ holds wide j k gone. at_place τ holds wide j k (other_none i j gone) }
+    words = λ τ holds wide j k gone. at_place τ holds wide j k (other_none i j gone);
+  }
     where
       rest_holds : (τ : Ref → Word) → Holds (set md.body i o') τ → HoldsBut md.body τ (λ j. j ≡ i)
       rest_holds τ holds = record {
         undefined_is = holds.undefined_is;
-        result_is = λ j k w other says. elsewhere τ holds j k w other says (other_than i j) refl }
+        result_is = λ j k w other says. elsewhere τ holds j k w other says (other_than i j) refl;
+      }
         where
           elsewhere : (τ : Ref → Word) → Holds (set md.body i o') τ → (j k : ℕ) (w : Word) → (j ≡ i → ⊥) → word_of τ k (slice_get md.body j) ≡ Some w
               → (x : Option ℕ) → other_than i j ≡ x → τ (result j k) ≡ w
           elsewhere τ holds j k w other says None here = absurd (other (other_none i j here))
           elsewhere τ holds j k w other says (Some j') there =
               holds.result_is j k w (λ never. never) (ap (word_of τ k) (get_other md.body i j j' o' there) ∙ says)
+
       wide_before : (τ : Ref → Word) → Wide md.ports (set md.body i o') τ → Wide md.ports md.body τ
       wide_before τ wide r = subst (λ x. HasWidth x (τ r)) (types_stay r) (wide r)
+
       same_word : (τ : Ref → Word) → Holds (set md.body i o') τ → Wide md.ports (set md.body i o') τ → (k : ℕ) → (x : Option HwType) → result_type o k ≡ x
           → made_word τ o k x ≡ made_word τ o' k x
       same_word τ holds wide k None typed = refl
       same_word τ holds wide k (Some t) typed = change.words τ (rest_holds τ holds) (wide_before τ wide) k t typed
+
       at_place : (τ : Ref → Word) → Holds (set md.body i o') τ → Wide md.ports (set md.body i o') τ → (j k : ℕ) → j ≡ i
           → word_of τ k (slice_get md.body j) ≡ Some (τ (result j k))
       at_place τ holds wide j k here =
           let new_says : word_of τ k (slice_get (set md.body i o') i) ≡ Some (made_word τ o' k (result_type o' k)) =
-            ap (word_of τ k) new_there ∙ plain_word τ k o' change.new_plain in
+          ap (word_of τ k) new_there ∙ plain_word τ k o' change.new_plain in
           let new_is : τ (result i k) ≡ made_word τ o' k (result_type o' k) = holds.result_is i k (made_word τ o' k (result_type o' k)) (λ never. never) new_says in
           ap (λ n. word_of τ k (slice_get md.body n)) here ∙ ap (word_of τ k) change.there ∙ plain_word τ k o change.old_plain
           ∙ ap Some (same_word τ holds wide k (result_type o k) refl ∙ ap (made_word τ o' k) (sym (change.same_types k)) ∙ sym new_is ∙ ap (λ n. τ (result n k)) (sym here))

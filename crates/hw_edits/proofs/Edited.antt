@@ -5,22 +5,21 @@ use Rattle.std.proofs.lemmas.Option.{slice_get-map}
 use mathlib.Core.Path.{fun_ext, subst₂}
 use Rattle.wiring.specs.Options.{bind, omap}
 use Rattle.wiring.proofs.Lists.{map-map}
-use Rattle.wiring.proofs.Options.{omap-id}
 use Rattle.bits_core.specs.Word.{Word, first}
 use Rattle.hw_model.specs.Types.{Name, HwType, width}
-use Rattle.hw_model.specs.Kinds.{Kind, Instance, Reset}
+use Rattle.hw_model.specs.Kinds.{Instance, Reset}
 use Rattle.hw_model.specs.Kinds.Reset.{no_reset, sync_reset}
-use Rattle.hw_model.specs.Design.{Ref, Port, Op, Module, Design, RegisterForm, find_module, instance_in, register_form, is_instance, is_register, is_output_op, result_type, output_refs, callee}
+use Rattle.hw_model.specs.Design.{Ref, Port, Op, Module, Design, RegisterForm, find_module, instance_in, register_form, result_type, output_refs, callee}
 use Rattle.hw_model.specs.Design.Ref.{port, result, undefined}
 use Rattle.hw_model.specs.Value.{joined}
-use Rattle.hw_model.specs.Flat.{Path, Net, net, Source, Slot, instances, before_instance, module_at, body_state, module_state, state, state_of, state_before, base, port_ref, operand_for, input_count, input_width, input_of, input_source, port_source, copy_of, joined_ref, joined_at, given_ref, held_of, made_of, result_source, result_source_of, source, register_in, register_parts, held_width, body_registers, registers_of, module_registers, registers}
+use Rattle.hw_model.specs.Flat.{Path, Net, net, Source, Slot, instances, before_instance, module_at, body_state, module_state, state, base, port_ref, operand_for, input_count, input_width, input_of, port_source, copy_of, joined_ref, joined_at, given_ref, held_of, made_of, source, register_in, register_parts, held_width, body_registers, module_registers, registers}
 use Rattle.hw_model.specs.Flat.Source.{nowhere, input, held, copy, made}
-use Rattle.hw_model.specs.Meaning.{needs_of, value_of, loaded, next_content, outputs_of, outputs}
+use Rattle.hw_model.specs.Meaning.{needs_of, value_of, loaded, next_content, outputs}
 use Rattle.hw_model.specs.Sound.{body_of, ports_of}
 use Rattle.hw_model.proofs.Sorts.{Sort, sort_of, instance_found}
 use Rattle.hw_model.proofs.Sorts.Sort.{a_register, an_instance, an_output, a_made}
 use Rattle.hw_model.proofs.Paths.{module_inside, state_body, before_body, registers_body, outputs_body, input_ports, joined_body, port_of, output_of, op_in, result_in, result_here}
-use Rattle.hw_edits.specs.Edit.{retarget, anchors, Kept, Edit, EditedModule, made_word, word_of_op, word_of, HoldsBut, Holds}
+use Rattle.hw_edits.specs.Edit.{retarget, anchors, Kept, Edit, EditedModule, made_word, word_of_op, word_of, Holds}
 use Rattle.hw_edits.proofs.Anchors.{instances_follow, output_refs_follow, body_state_follows, before_instance_follows, body_registers-anchors, instances-anchors}
 
 -- ---- other operands
@@ -49,11 +48,13 @@ no_edit os = record {
   anchors_are = sym (map_retarget_id (anchors os));
   place = λ j. Some j;
   kept = λ j j' is.
-    let same : j ≡ j' = cc in
-    subst (λ z. Kept os os (λ r. r) j z) same (record {
-      op = sym (omap_retarget_id (slice_get os j));
-      before = sym (map_retarget_id (anchors (take j os)));
-      stands = λ k. refl }) }
+      let same : j ≡ j' = cc in
+      subst (λ z. Kept os os (λ r. r) j z) same (record {
+        op = sym (omap_retarget_id (slice_get os j));
+        before = sym (map_retarget_id (anchors (take j os)));
+        stands = λ k. refl;
+      });
+}
 
 -- a source in which other nets stand for those that it needs
 abbrev pub map_source : (Net → Net) → Source → Source
@@ -93,6 +94,7 @@ port_ref-map f ps rs j = go (slice_get ps j)
     given : (b : Bool) → cond b None (slice_get (map f rs) (input_count (take j ps))) ≡ omap f (cond b None (slice_get rs (input_count (take j ps))))
     given true = refl
     given false = slice_get-map f rs (input_count (take j ps))
+
     go : (x : Option Port) → operand_for x (map f rs) (input_count (take j ps)) ≡ omap f (operand_for x rs (input_count (take j ps)))
     go None = refl
     go (Some q) = given q.is_output
@@ -108,6 +110,7 @@ loaded-retarget f o τ old = go (register_form o.kind)
     parts_same false sync_reset (d ∷ c ∷ r ∷ v ∷ []) = refl
     parts_same true sync_reset (d ∷ c ∷ e ∷ r ∷ v ∷ []) = refl
     parts_same _ _ _ = refl
+
     go : (x : Option RegisterForm) → loaded (bind x (λ (g : RegisterForm). register_parts g.has_enable g.reset (map f o.operands))) τ old
         ≡ loaded (bind x (λ (g : RegisterForm). register_parts g.has_enable g.reset o.operands)) (λ r. τ (f r)) old
     go None = refl
@@ -144,6 +147,7 @@ word_read d top inputs content ρ p j k w says =
     made_read : (o : Op) (t : Option HwType) → reads inputs content ρ (made_of p o k t) ≡ made_word (λ r. ρ (net p r)) o k t
     made_read o None = refl
     made_read o (Some t) = ap (value_of inputs content (made o.kind o.types t k (map (net p) o.operands))) (map-map ρ (net p) o.operands)
+
     by_sort : (o : Op) → Sort o.kind → word_of_op (λ r. ρ (net p r)) k o ≡ Some w
         → reads inputs content ρ (op_in d top p (body_of (module_at d top p)) j k o) ≡ w
     by_sort o (a_register f r i u) is = let never : None ≡ Some w = simp r at is in cc
@@ -153,6 +157,7 @@ word_read d top inputs content ρ p j k w says =
         let same : Some (made_word (λ r. ρ (net p r)) o k (result_type o k)) ≡ Some w = simp (r, i, u) at is in
         let e : made_word (λ r. ρ (net p r)) o k (result_type o k) ≡ w = cc in
         simp (r, i, u) (made_read o (result_type o k) ∙ e)
+
     go : (x : Option Op) → word_of (λ r. ρ (net p r)) k x ≡ Some w
         → reads inputs content ρ (result_in d top p (body_of (module_at d top p)) j k x) ≡ w
     go None is = cc
@@ -164,7 +169,8 @@ pub holds_at : (d : Design) (top : Name) (inputs content : Word) (ρ : Net → W
     → (p : Path) → Holds (body_of (module_at d top p)) (λ r. ρ (net p r))
 holds_at d top inputs content ρ settled p = record {
   undefined_is = settled (net p undefined);
-  result_is = λ j k w but says. settled (net p (result j k)) ∙ word_read d top inputs content ρ p j k w says }
+  result_is = λ j k w but says. settled (net p (result j k)) ∙ word_read d top inputs content ρ p j k w says;
+}
 
 -- ---- the two designs
 
@@ -246,7 +252,7 @@ module _ (d d' : Design) (F : Option Module → Option Module → Type 0) (shape
 
     registers_along : (inner inner' : Path → Name → List Slot) (p : Path) (os : List Op) (n : ℕ)
         → ((v w : ℕ) (o : Op) (i : Instance) → w ≡ n + v → slice_get (instances os) v ≡ Some o → instance_in o.kind ≡ Some i
-          → inner' (w ∷ p) i.symbol ≡ map edit_slot (inner (w ∷ p) i.symbol))
+        → inner' (w ∷ p) i.symbol ≡ map edit_slot (inner (w ∷ p) i.symbol))
         → body_registers inner' p n (map (retarget (stand_at p)) os) ≡ map edit_slot (body_registers inner p n os)
     registers_along inner inner' p [] n alike = refl
     registers_along inner inner' p (o ∷ os) n alike =
@@ -254,11 +260,11 @@ module _ (d d' : Design) (F : Option Module → Option Module → Type 0) (shape
       where
         go : Sort o.kind
             → (((v w : ℕ) (x : Op) (i : Instance) → w ≡ n + v → slice_get (instances os) v ≡ Some x → instance_in x.kind ≡ Some i
-              → inner' (w ∷ p) i.symbol ≡ map edit_slot (inner (w ∷ p) i.symbol))
-              → body_registers inner' p n (map (retarget (stand_at p)) os) ≡ map edit_slot (body_registers inner p n os))
+            → inner' (w ∷ p) i.symbol ≡ map edit_slot (inner (w ∷ p) i.symbol))
+            → body_registers inner' p n (map (retarget (stand_at p)) os) ≡ map edit_slot (body_registers inner p n os))
             → (((v w : ℕ) (x : Op) (i : Instance) → w ≡ suc n + v → slice_get (instances os) v ≡ Some x → instance_in x.kind ≡ Some i
-              → inner' (w ∷ p) i.symbol ≡ map edit_slot (inner (w ∷ p) i.symbol))
-              → body_registers inner' p (suc n) (map (retarget (stand_at p)) os) ≡ map edit_slot (body_registers inner p (suc n) os))
+            → inner' (w ∷ p) i.symbol ≡ map edit_slot (inner (w ∷ p) i.symbol))
+            → body_registers inner' p (suc n) (map (retarget (stand_at p)) os) ≡ map edit_slot (body_registers inner p (suc n) os))
             → body_registers inner' p n (map (retarget (stand_at p)) (o ∷ os)) ≡ map edit_slot (body_registers inner p n (o ∷ os))
         go (a_register f r i u) rest more =
             simp (r, i) (ap (λ xs. edit_slot (record { path = p; op = o }) ∷ xs)
@@ -288,10 +294,12 @@ module _ (d d' : Design) (F : Option Module → Option Module → Type 0) (shape
       where
         os : List Op
         os = body_of (module_at d top p)
+
         os' : List Op
         os' = body_of (module_at d' top p)
+
         below : ((q : Path) (t : Name) → module_at d top q ≡ find_module d t → module_at d' top q ≡ find_module d' t
-              → module_registers n d' q t ≡ map edit_slot (module_registers n d q t))
+            → module_registers n d' q t ≡ map edit_slot (module_registers n d q t))
             → (v w : ℕ) (o : Op) (i : Instance) → w ≡ 0 + v → slice_get (instances (anchors os)) v ≡ Some o → instance_in o.kind ≡ Some i
             → module_registers n d' (w ∷ p) i.symbol ≡ map edit_slot (module_registers n d (w ∷ p) i.symbol)
         below inner v w o i same at_v inst =
@@ -384,17 +392,21 @@ module _ (d d' : Design) (F : Option Module → Option Module → Type 0) (shape
       where
         os : List Op
         os = body_of (module_at d top p)
+
         os' : List Op
         os' = body_of (module_at d' top p)
+
         count_same : length (instances (take j' os')) ≡ length (instances (take j os))
         count_same =
             ap length (instances_follow (take j os) (take j' os') (stand_at p) stays.before)
             ∙ length_map (retarget (stand_at p)) (instances (take j os))
+
         offset_same : base d' top p + body_state (state d') (take j' os') ≡ base d top p + body_state (state d) (take j os)
         offset_same =
             ap₂ (λ a b. a + b) (base_same same p)
             (ap (λ inner. body_state inner (take j' os')) (state_same same)
             ∙ body_state_follows (take j os) (take j' os') (stand_at p) stays.before (state d))
+
         by_sort : (o : Op) → slice_get os j ≡ Some o → Sort o.kind
             → op_in d' top p os' j' k (retarget (stand_at p) o) ≡ map_source standing (op_in d top p os j k o)
         by_sort o is (a_register f r i u) =
@@ -403,12 +415,13 @@ module _ (d d' : Design) (F : Option Module → Option Module → Type 0) (shape
         by_sort o is (an_instance x r i u) =
             let at_u : slice_get (instances os) (length (instances (take j os))) ≡ Some o = instance_found os j o x is i in
             let from : copy_of (length (instances (take j' os')) ∷ p) (given_ref d' k (retarget (stand_at p) o))
-                ≡ map_source standing (copy_of (length (instances (take j os)) ∷ p) (given_ref d k o)) =
-              ap₂ (λ n y. copy_of (n ∷ p) y) count_same (given_same p (length (instances (take j os))) k o at_u)
-              ∙ copy_same (length (instances (take j os)) ∷ p) (given_ref d k o) in
+            ≡ map_source standing (copy_of (length (instances (take j os)) ∷ p) (given_ref d k o)) =
+            ap₂ (λ n y. copy_of (n ∷ p) y) count_same (given_same p (length (instances (take j os))) k o at_u)
+            ∙ copy_same (length (instances (take j os)) ∷ p) (given_ref d k o) in
             simp (r, i) (simp i at from)
         by_sort o is (an_output r i u) = simp (r, i, u)
         by_sort o is (a_made r i u) = simp (r, i, u) (made_same p o k (result_type o k))
+
         go : (x : Option Op) → slice_get os j ≡ x
             → result_in d' top p os' j' k (omap (retarget (stand_at p)) x) ≡ map_source standing (result_in d top p os j k x)
         go None is = refl
@@ -420,7 +433,7 @@ module _ (d d' : Design) (F : Option Module → Option Module → Type 0) (shape
     pub back_settled : length d' ≡ length d
         → (inputs content : Word) (ρ : Net → Word) → ((a : Net) → ρ a ≡ reads inputs content ρ (source d' top a))
         → ((p : Path) (j k : ℕ) → (shape_at p).edit.place j ≡ None
-          → word_of (λ r. ρ (net p (stand_at p r))) k (slice_get (body_of (module_at d top p)) j) ≡ Some (ρ (net p (stand_at p (result j k)))))
+        → word_of (λ r. ρ (net p (stand_at p r))) k (slice_get (body_of (module_at d top p)) j) ≡ Some (ρ (net p (stand_at p (result j k)))))
         → (a : Net) → ρ (standing a) ≡ reads inputs content (λ b. ρ (standing b)) (source d top a)
     back_settled same inputs content ρ settled changed a = by_ref a.path a.ref
       where
@@ -430,6 +443,7 @@ module _ (d d' : Design) (F : Option Module → Option Module → Type 0) (shape
         stays p r is =
             settled (net p (stand_at p r)) ∙ ap (reads inputs content ρ) is
             ∙ reads-map_source inputs content ρ standing (source d top (net p r))
+
         by_place : (p : Path) (j k : ℕ) (x : Option ℕ) → (shape_at p).edit.place j ≡ x
             → ρ (net p (stand_at p (result j k))) ≡ reads inputs content (λ b. ρ (standing b)) (source d top (net p (result j k)))
         by_place p j k None gone =
@@ -437,6 +451,7 @@ module _ (d d' : Design) (F : Option Module → Option Module → Type 0) (shape
         by_place p j k (Some j') is =
             let there : Kept (body_of (module_at d top p)) (body_of (module_at d' top p)) (stand_at p) j j' = (shape_at p).edit.kept j j' is in
             stays p (result j k) (ap (λ r. source d' top (net p r)) (there.stands k) ∙ kept_same same p j j' k there)
+
         by_ref : (p : Path) (r : Ref) → ρ (net p (stand_at p r)) ≡ reads inputs content (λ b. ρ (standing b)) (source d top (net p r))
         by_ref p (port j) = stays p (port j) (ap (λ r. source d' top (net p r)) ((shape_at p).edit.port_is j) ∙ port_same p j)
         by_ref p undefined = stays p undefined (ap (λ r. source d' top (net p r)) (shape_at p).edit.undefined_is)

@@ -1,21 +1,18 @@
 -- Edits of modules that keep a design valid and what its modules do.
-use Rattle.std.proofs.Common.{◌≡◌, ◌⊎◌, ℕ, zero, suc, ◌<◌, ◌≤◌, Bool, true, false, cond, List, [], ◌∷◌, length, set, slice_get, Option, Some, None, refl, sym, ap, subst, ◌∙◌, inl, inr, arith, length-set}
+use Rattle.std.proofs.Common.{◌≡◌, ◌⊎◌, ℕ, zero, suc, ◌≤◌, Bool, true, false, cond, [], ◌∷◌, length, set, slice_get, Option, Some, None, refl, sym, ap, subst, inl, inr, arith, length-set}
 use mathlib.Core.Path.{subst₂}
 use Rattle.wiring.proofs.Heights.{settles}
-use Rattle.bits_core.specs.Word.{Word}
 use Rattle.hw_model.specs.Types.{Name}
-use Rattle.hw_model.specs.Design.{Ref, Op, Module, Design, find_module, same_name}
-use Rattle.hw_model.specs.Design.Ref.{port, result, undefined}
+use Rattle.hw_model.specs.Design.{Module, Design, find_module, same_name}
+use Rattle.hw_model.specs.Design.Ref.{result}
 use Rattle.hw_model.specs.Flat.{Path, Net, net, module_at, state}
-use Rattle.hw_model.specs.Machine.{Same}
-use Rattle.hw_model.specs.Meaning.{needs, value, Settled, HasHeights, machine}
-use Rattle.hw_model.specs.Sound.{body_of, ports_of, Sound}
-use Rattle.hw_model.proofs.Machines.{AlwaysSettles, Carries, same_back, same_self, same_then}
+use Rattle.hw_model.specs.Meaning.{needs, value, machine}
+use Rattle.hw_model.specs.Sound.{body_of}
+use Rattle.hw_model.proofs.Machines.{AlwaysSettles, same_back, same_self, same_then}
 use Rattle.hw_model.proofs.NetWidths.{net_widths}
-use Rattle.hw_edits.specs.Edit.{retarget, Edit, EditedModule, Holds}
-use Rattle.hw_edits.specs.Falls.{LocalHeight, Falls}
-use Rattle.hw_edits.specs.Follows.{KeepsTypes, ValidEdit, SameEdit, Wide, Valid, Follows}
-use Rattle.hw_edits.proofs.Edited.{no_edit, holds_at, at, shape_at, stand_at, standing, state_same, next_same, outputs_same, back_settled}
+use Rattle.hw_edits.specs.Edit.{EditedModule}
+use Rattle.hw_edits.specs.Follows.{ValidEdit, SameEdit, Valid, Follows}
+use Rattle.hw_edits.proofs.Edited.{no_edit, holds_at, at, standing, state_same, next_same, outputs_same, back_settled}
 use Rattle.hw_edits.proofs.Heights.{heights_after}
 use Rattle.hw_edits.proofs.Types.{sound_after}
 
@@ -33,8 +30,10 @@ no_valid_edit o = record {
     home_is = λ j' j is. sym is;
     kept_is = λ h local j' j k is. let same : j' ≡ j = cc in subst (λ z. h (result z k) ≤ h (result j' k)) same (omega arith);
     fresh_is = λ j' o is. cc;
-    fresh_falls = λ h local j' k o t is. cc };
-  types = record { named = λ j o r is here. refl; fresh = λ j' o is. cc } }
+    fresh_falls = λ h local j' k o t is. cc;
+  };
+  types = record { named = λ j o r is here. refl; fresh = λ j' o is. cc };
+}
 
 pub no_same_edit : (o : Option Module) → SameEdit o o
 unfolding no_edit no_valid_edit
@@ -49,29 +48,36 @@ valid_settles d valid top inputs content = settles (needs d top) (value d top in
 pub valid_after : (d d' : Design) → length d' ≡ length d → ((s : Name) → ValidEdit (find_module d s) (find_module d' s)) → Valid d → Valid d'
 valid_after d d' same each valid = record {
   sound = sound_after d d' each valid.sound;
-  heights = λ top. heights_after d d' ValidEdit (λ o o' x. x.edited) (λ o o' x. x.falls) (no_valid_edit None) each same top (valid.heights top) }
+  heights = λ top. heights_after d d' ValidEdit (λ o o' x. x.edited) (λ o o' x. x.falls) (no_valid_edit None) each same top (valid.heights top);
+}
 
 pub follows_each : (d d' : Design) → length d' ≡ length d → ((s : Name) → SameEdit (find_module d s) (find_module d' s)) → Valid d → Follows d d'
 follows_each d d' same each valid = record {
   valid = valid';
   same = λ top.
-    same_back (machine d top) (machine d' top) (λ ρ a. ρ (standing_at top a)) (ap (λ f. f top) (sym states)) (valid_settles d valid top) (valid_settles d' valid' top)
-    (record {
-      settled = λ inputs content ρ settled.
-        back_settled d d' SameEdit edited (no_same_edit None) each top same inputs content ρ settled
-        (λ p j k gone. (found top p).words (λ r. ρ (net p r)) (holds_at d' top inputs content ρ settled p)
-          (λ r. net_widths d' top valid'.sound inputs content ρ (valid'.heights top) settled (net p r)) j k gone);
-      outputs = λ inputs content ρ settled. sym (outputs_same d d' SameEdit edited (no_same_edit None) each top ρ);
-      next = λ inputs content ρ settled. sym (next_same d d' SameEdit edited (no_same_edit None) each top same ρ content) }) }
+      same_back (machine d top) (machine d' top) (λ ρ a. ρ (standing_at top a)) (ap (λ f. f top) (sym states)) (valid_settles d valid top) (valid_settles d' valid' top)
+      (record {
+        settled = λ inputs content ρ settled.
+            back_settled d d' SameEdit edited (no_same_edit None) each top same inputs content ρ settled
+            (λ p j k gone. (found top p).words (λ r. ρ (net p r)) (holds_at d' top inputs content ρ settled p)
+            (λ r. net_widths d' top valid'.sound inputs content ρ (valid'.heights top) settled (net p r)) j k gone);
+        outputs = λ inputs content ρ settled. sym (outputs_same d d' SameEdit edited (no_same_edit None) each top ρ);
+        next = λ inputs content ρ settled. sym (next_same d d' SameEdit edited (no_same_edit None) each top same ρ content);
+      });
+}
   where
     edited : (o o' : Option Module) → SameEdit o o' → EditedModule o o'
     edited o o' x = x.valid.edited
+
     valid' : Valid d'
     valid' = valid_after d d' same (λ s. (each s).valid) valid
+
     states : state d' ≡ state d
     states = state_same d d' SameEdit edited (no_same_edit None) each same
+
     standing_at : (top : Name) → Net → Net
     standing_at top = standing d d' SameEdit edited (no_same_edit None) each top
+
     found : (top : Name) (p : Path) → SameEdit (module_at d top p) (module_at d' top p)
     found top p = at d d' SameEdit edited (no_same_edit None) each top p
 
@@ -79,7 +85,8 @@ follows_each d d' same each valid = record {
 pub follows_then : (d e f : Design) → Follows d e → Follows e f → Follows d f
 follows_then d e f first second = record {
   valid = second.valid;
-  same = λ top. same_then (machine d top) (machine e top) (machine f top) (first.same top) (second.same top) }
+  same = λ top. same_then (machine d top) (machine e top) (machine f top) (first.same top) (second.same top);
+}
 
 -- a valid design follows from itself
 pub follows_self : (d : Design) → Valid d → Follows d d
@@ -95,7 +102,7 @@ set_cases (x ∷ d) zero old new is named s =
     let same : x ≡ old = cc in
     subst (λ z. ((find_module (z ∷ d) s ≡ Some old) × (find_module (new ∷ d) s ≡ Some new)) ⊎ (find_module (new ∷ d) s ≡ find_module (z ∷ d) s)) (sym same)
     (subst (λ n. ((cond (same_name old.symbol s) (Some old) (find_module d s) ≡ Some old) × (cond (same_name n s) (Some new) (find_module d s) ≡ Some new))
-      ⊎ (cond (same_name n s) (Some new) (find_module d s) ≡ cond (same_name old.symbol s) (Some old) (find_module d s))) (sym named)
+    ⊎ (cond (same_name n s) (Some new) (find_module d s) ≡ cond (same_name old.symbol s) (Some old) (find_module d s))) (sym named)
     (go (same_name old.symbol s)))
   where
     go : (b : Bool) → ((cond b (Some old) (find_module d s) ≡ Some old) × (cond b (Some new) (find_module d s) ≡ Some new))
@@ -106,7 +113,7 @@ set_cases (x ∷ d) (suc m) old new is named s = go (same_name x.symbol s) (set_
   where
     go : (b : Bool) → ((find_module d s ≡ Some old) × (find_module (set d m new) s ≡ Some new)) ⊎ (find_module (set d m new) s ≡ find_module d s)
         → ((cond b (Some x) (find_module d s) ≡ Some old) × (cond b (Some x) (find_module (set d m new) s) ≡ Some new))
-          ⊎ (cond b (Some x) (find_module (set d m new) s) ≡ cond b (Some x) (find_module d s))
+        ⊎ (cond b (Some x) (find_module (set d m new) s) ≡ cond b (Some x) (find_module d s))
     go true rest = inr refl
     go false rest = rest
 

@@ -1,6 +1,6 @@
 -- After an edit that makes no cycle the nets of the design have heights.
-use Rattle.std.proofs.Common.{◌≡◌, ℕ, zero, suc, ◌+◌, ◌<◌, ◌≤◌, Bool, true, false, cond, List, [], ◌∷◌, length, map, slice_get, Option, Some, None, is_some, refl, sym, ap, subst, ◌∙◌, arith}
-use Rattle.wiring.specs.Wiring.{In, greatest, IsHeight, HasHeights as HaveHeights}
+use Rattle.std.proofs.Common.{◌≡◌, ℕ, suc, ◌<◌, ◌≤◌, true, false, [], length, map, slice_get, Option, Some, None, refl, ap, subst, ◌∙◌, arith}
+use Rattle.wiring.specs.Wiring.{In, greatest, IsHeight}
 use Rattle.wiring.proofs.Lists.{map-map}
 use Rattle.wiring.proofs.Members.{from_In-map}
 use Rattle.wiring.proofs.Heights.{heights, FallsAlong-height}
@@ -10,13 +10,13 @@ use Rattle.hw_model.specs.Design.Ref.{port, result, undefined}
 use Rattle.hw_model.specs.Flat.{Path, Net, net, Source, module_at, made_of, source}
 use Rattle.hw_model.specs.Flat.Source.{nowhere, input, held, copy, made}
 use Rattle.hw_model.specs.Meaning.{needs_of, needs, HasHeights}
-use Rattle.hw_model.specs.Sound.{body_of, ports_of}
+use Rattle.hw_model.specs.Sound.{body_of}
 use Rattle.hw_model.proofs.Sorts.{Sort, sort_of}
 use Rattle.hw_model.proofs.Sorts.Sort.{a_register, an_instance, an_output, a_made}
 use Rattle.hw_model.proofs.Paths.{op_in, result_in, result_here}
-use Rattle.hw_edits.specs.Edit.{is_anchor, Edit, EditedModule}
+use Rattle.hw_edits.specs.Edit.{is_anchor, EditedModule}
 use Rattle.hw_edits.specs.Falls.{LocalHeight, Falls}
-use Rattle.hw_edits.proofs.Edited.{map_source, at, shape_at, stand_at, standing, port_same, kept_same}
+use Rattle.hw_edits.proofs.Edited.{map_source, at, shape_at, standing, port_same, kept_same}
 
 -- ---- what a body says of heights
 
@@ -35,13 +35,14 @@ made_needs d top p j k o is plain =
 pub local_height : (d : Design) (top : Name) (h : Net → ℕ) → IsHeight (needs d top) h → (p : Path) → LocalHeight (body_of (module_at d top p)) (λ r. h (net p r))
 local_height d top h height p = record {
   made = λ j k o t is plain typed.
-    height (net p (result j k))
-    ∙ ap (λ ns. suc (greatest (map h ns))) (made_needs d top p j k o is plain ∙ ap (λ x. needs_of (made_of p o k x)) typed)
-    ∙ ap (λ ns. suc (greatest ns)) (map-map h (net p) o.operands);
+      height (net p (result j k))
+      ∙ ap (λ ns. suc (greatest (map h ns))) (made_needs d top p j k o is plain ∙ ap (λ x. needs_of (made_of p o k x)) typed)
+      ∙ ap (λ ns. suc (greatest ns)) (map-map h (net p) o.operands);
   lowest = λ r.
-    let low : h (net p undefined) ≡ 1 = height (net p undefined) in
-    let high : h (net p r) ≡ suc (greatest (map h (needs d top (net p r)))) = height (net p r) in
-    omega arith }
+      let low : h (net p undefined) ≡ 1 = height (net p undefined) in
+      let high : h (net p r) ≡ suc (greatest (map h (needs d top (net p r)))) = height (net p r) in
+      omega arith;
+}
 
 needs_of-map_source : (f : Net → Net) (s : Source) → needs_of (map_source f s) ≡ map f (needs_of s)
 needs_of-map_source f nowhere = refl
@@ -68,11 +69,11 @@ module _ (d d' : Design) (F : Option Module → Option Module → Type 0) (shape
     unfolding lifted
     stays_falls a' a is above b need =
         let here : In b (map (standing d d' F shape none each top) (needs d top a)) =
-          subst (λ ns. In b ns) (ap needs_of is ∙ needs_of-map_source (standing d d' F shape none each top) (source d top a)) need in
+        subst (λ ns. In b ns) (ap needs_of is ∙ needs_of-map_source (standing d d' F shape none each top) (source d top a)) need in
         let from = from_In-map (standing d d' F shape none each top) b (needs d top a) here in
         let c : Net = from.0 in
         let below : lifted (standing d d' F shape none each top c) ≤ h c =
-          (falls_at c.path).stand_is (λ r. h (net c.path r)) (local_height d top h height c.path) c.ref in
+        (falls_at c.path).stand_is (λ r. h (net c.path r)) (local_height d top h height c.path) c.ref in
         let lower : h c < h a = FallsAlong-height (needs d top) h height a c from.1 in
         let equal : lifted b ≡ lifted (standing d d' F shape none each top c) = ap lifted from.2 in
         omega arith
@@ -88,13 +89,14 @@ module _ (d d' : Design) (F : Option Module → Option Module → Type 0) (shape
         by_type o is (Some t) typed here =
             let from = from_In-map (net p) b o.operands here in
             let lower : lifted (net p from.0) < lifted (net p (result j k)) =
-              (falls_at p).fresh_falls (λ r. h (net p r)) (local_height d top h height p) j k o t new is typed from.0 from.1 in
+            (falls_at p).fresh_falls (λ r. h (net p r)) (local_height d top h height p) j k o t new is typed from.0 from.1 in
             let equal : lifted b ≡ lifted (net p from.0) = ap lifted from.2 in
             omega arith
+
         by_op : (x : Option Op) → slice_get (body_of (module_at d' top p)) j ≡ x → lifted b < lifted (net p (result j k))
         by_op None is =
             let empty : needs d' top (net p (result j k)) ≡ [] =
-              ap needs_of (result_here d' top p j k ∙ ap (result_in d' top p (body_of (module_at d' top p)) j k) is) in
+            ap needs_of (result_here d' top p j k ∙ ap (result_in d' top p (body_of (module_at d' top p)) j k) is) in
             absurd (subst (λ ns. In b ns) empty need)
         by_op (Some o) is =
             by_type o is (result_type o k) refl

@@ -1,6 +1,5 @@
 -- Positions, operations and anchors of a body after an operation is put in, taken out or changed in place.
-use Rattle.std.proofs.Common.{◌≡◌, ◌≢◌, ◌⊎◌, ℕ, zero, suc, ◌<◌, ◌≤◌, Bool, true, false, cond, List, [], ◌∷◌, length, map, take, set, insert, remove, slice_get, Option, Some, None, refl, sym, ap, ◌∙◌, inl, inr, arith}
-use Rattle.std.proofs.lemmas.Option.{slice_get-map}
+use Rattle.std.proofs.Common.{◌≡◌, ℕ, zero, suc, ◌≤◌, Bool, true, false, cond, List, [], ◌∷◌, length, map, take, set, insert, remove, slice_get, Some, None, refl, sym, ap, ◌∙◌, arith}
 use Rattle.wiring.specs.Options.{omap}
 use Rattle.wiring.proofs.Options.{omap_some, omap_none}
 use Rattle.hw_model.specs.Design.{Ref, Op}

@@ -1,5 +1,5 @@
 -- An operation is put in.
-use Rattle.std.proofs.Common.{◌≡◌, ℕ, zero, suc, ◌<◌, ◌≤◌, false, List, [], ◌∷◌, length, map, take, insert, slice_get, Option, Some, None, refl, sym, ap, subst, ◌∙◌, arith}
+use Rattle.std.proofs.Common.{◌≡◌, ℕ, suc, ◌≤◌, List, length, map, take, slice_get, Option, Some, None, refl, sym, ap, subst, ◌∙◌, arith}
 use Rattle.std.proofs.lemmas.Option.{slice_get-map}
 use Rattle.wiring.specs.Options.{bind, omap}
 use Rattle.wiring.specs.Wiring.{In, greatest}
@@ -7,17 +7,15 @@ use Rattle.wiring.proofs.Members.{In-map, from_In-map, map_same}
 use Rattle.wiring.proofs.Lists.{map-map}
 use Rattle.wiring.proofs.Edits.{slice_get-insert_at}
 use Rattle.wiring.proofs.Heights.{le-greatest}
-use Rattle.hw_model.specs.Types.{HwType}
-use Rattle.hw_model.specs.Design.{Ref, Port, Op, Module, Design, result_type}
+use Rattle.hw_model.specs.Design.{Ref, Op, Module, Design, result_type}
 use Rattle.hw_model.specs.Design.Ref.{port, result, undefined}
 use Rattle.hw_model.specs.Sound.{type_in, Fits, OpFits}
 use Rattle.hw_edits.specs.Edit.{retarget, is_anchor, anchors}
-use Rattle.hw_edits.specs.Falls.{LocalHeight}
 use Rattle.hw_edits.specs.Follows.{ValidEdit, SameEdit, Valid, Follows}
 use Rattle.hw_edits.specs.Laws.{up, down, up_ref, put_in, with_body, PutIn}
 use Rattle.hw_edits.proofs.Edited.{length_map}
 use Rattle.hw_edits.proofs.Follows.{follows_set}
-use Rattle.hw_edits.proofs.Positions.{down-up, up_from_down, down_none, down_same, get_put, take_map, anchors-retarget, anchors-insert, before-insert}
+use Rattle.hw_edits.proofs.Positions.{down-up, up_from_down, down_none, get_put, take_map, anchors-retarget, anchors-insert, before-insert}
 
 -- the type at a position, where other operands change no type
 pub retarget_type : (f : Ref → Ref) (x : Option Op) (k : ℕ) → bind (omap (retarget f) x) (λ (y : Op). result_type y k) ≡ bind x (λ (y : Op). result_type y k)
@@ -74,13 +72,16 @@ module _ (md : Module) (i : ℕ) (o : Op) (change : PutIn md i o) where
         anchors_are = anchors-insert (map (retarget (up_ref i)) md.body) i (retarget (up_ref i) o) change.plain ∙ anchors-retarget (up_ref i) md.body;
         place = λ j. Some (up i j);
         kept = λ j j' is.
-          let here : up i j ≡ j' = cc in
-          record {
-            op = ap (slice_get (put_in i o md.body)) (sym here) ∙ old_there j;
-            before = ap (λ n. anchors (take n (put_in i o md.body))) (sym here)
-              ∙ before-insert (map (retarget (up_ref i)) md.body) i j (retarget (up_ref i) o) within change.plain
-              ∙ ap anchors (take_map (retarget (up_ref i)) j md.body) ∙ anchors-retarget (up_ref i) (take j md.body);
-            stands = λ k. ap (λ n. result n k) here } } };
+            let here : up i j ≡ j' = cc in
+            record {
+              op = ap (slice_get (put_in i o md.body)) (sym here) ∙ old_there j;
+              before = ap (λ n. anchors (take n (put_in i o md.body))) (sym here)
+                  ∙ before-insert (map (retarget (up_ref i)) md.body) i j (retarget (up_ref i) o) within change.plain
+                  ∙ ap anchors (take_map (retarget (up_ref i)) j md.body) ∙ anchors-retarget (up_ref i) (take j md.body);
+              stands = λ k. ap (λ n. result n k) here;
+            };
+      };
+    };
     falls = record {
       lift = lift_up;
       stand_is = λ h local r. let same : lift_up h (up_ref i r) ≡ h r = lift_up_is h r in omega arith;
@@ -90,21 +91,24 @@ module _ (md : Module) (i : ℕ) (o : Op) (change : PutIn md i o) where
       kept_is = λ h local j' j k is. let same : put_height h (down i j') k ≡ h (result j k) = ap (λ x. put_height h x k) is in omega arith;
       fresh_is = λ j' y new is. ap is_anchor (sym (fresh_op j' y new is)) ∙ change.plain;
       fresh_falls = λ h local j' k y t new is typed r here.
-        let named : In r (map (up_ref i) o.operands) = subst (λ z. In r z.operands) (sym (fresh_op j' y new is)) here in
-        let from = from_In-map (up_ref i) r o.operands named in
-        let low : lift_up h r ≡ h from.0 = ap (lift_up h) from.2 ∙ lift_up_is h from.0 in
-        let below : h from.0 ≤ greatest (map h o.operands) = le-greatest (h from.0) (map h o.operands) (In-map h from.0 o.operands from.1) in
-        let top : lift_up h (result j' k) ≡ suc (greatest (map h o.operands)) = ap (λ x. put_height h x k) new in
-        omega arith };
+          let named : In r (map (up_ref i) o.operands) = subst (λ z. In r z.operands) (sym (fresh_op j' y new is)) here in
+          let from = from_In-map (up_ref i) r o.operands named in
+          let low : lift_up h r ≡ h from.0 = ap (lift_up h) from.2 ∙ lift_up_is h from.0 in
+          let below : h from.0 ≤ greatest (map h o.operands) = le-greatest (h from.0) (map h o.operands) (In-map h from.0 o.operands from.1) in
+          let top : lift_up h (result j' k) ≡ suc (greatest (map h o.operands)) = ap (λ x. put_height h x k) new in
+          omega arith;
+    };
     types = record {
       named = λ j y r is here. types_stay r;
-      fresh = λ j' y new is. subst (OpFits (type_in md.ports (put_in i o md.body))) (fresh_op j' y new is) new_fits } }
+      fresh = λ j' y new is. subst (OpFits (type_in md.ports (put_in i o md.body))) (fresh_op j' y new is) new_fits;
+    };
+  }
     where
       new_fits : OpFits (type_in md.ports (put_in i o md.body)) (retarget (up_ref i) o)
       new_fits k t typed =
           subst (λ xs. Fits o.kind o.types xs t k)
           (sym (map-map (type_in md.ports (put_in i o md.body)) (up_ref i) o.operands
-            ∙ map_same (λ r. type_in md.ports (put_in i o md.body) (up_ref i r)) (type_in md.ports md.body) o.operands (λ r here. types_stay r)))
+          ∙ map_same (λ r. type_in md.ports (put_in i o md.body) (up_ref i r)) (type_in md.ports md.body) o.operands (λ r here. types_stay r)))
           (change.fits k t typed)
 
   pub put_in_same : SameEdit (Some md) (Some (record md { body = put_in i o md.body }))

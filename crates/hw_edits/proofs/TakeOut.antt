@@ -1,23 +1,21 @@
 -- An operation is taken out.
-use Rattle.std.proofs.Common.{◌≡◌, ℕ, zero, suc, ◌<◌, ◌≤◌, true, false, cond, List, [], ◌∷◌, length, map, take, insert, remove, set, slice_get, Option, Some, None, refl, sym, ap, subst, ◌∙◌, arith}
-use Rattle.std.proofs.lemmas.Option.{slice_get-map, slice_get_within}
+use Rattle.std.proofs.Common.{◌≡◌, ℕ, zero, suc, ◌≤◌, false, cond, List, [], map, take, remove, slice_get, Option, Some, None, refl, sym, ap, subst, ◌∙◌, arith}
+use Rattle.std.proofs.lemmas.Option.{slice_get-map}
 use Rattle.wiring.specs.Options.{bind, omap}
-use Rattle.wiring.specs.Wiring.{In, greatest}
-use Rattle.wiring.proofs.Members.{map_same, In-slice_get}
-use Rattle.wiring.proofs.Lists.{map-map, set_some}
-use Rattle.wiring.proofs.Edits.{insert-remove, length-remove_suc}
+use Rattle.wiring.specs.Wiring.{In}
+use Rattle.wiring.proofs.Lists.{map-map}
 use Rattle.bits_core.specs.Word.{Word}
 use Rattle.hw_model.specs.Types.{HwType}
-use Rattle.hw_model.specs.Design.{Ref, Port, Op, Module, Design, is_register, is_instance, is_output_op, result_type}
+use Rattle.hw_model.specs.Design.{Ref, Op, Module, Design, is_register, is_instance, is_output_op, result_type}
 use Rattle.hw_model.specs.Design.Ref.{port, result, undefined}
 use Rattle.hw_model.specs.Value.{op_value}
-use Rattle.hw_model.specs.Sound.{HasWidth, type_in, Fits, OpFits}
+use Rattle.hw_model.specs.Sound.{HasWidth, type_in}
 use Rattle.hw_edits.specs.Edit.{retarget, is_anchor, anchors, made_word, word_of, HoldsBut, Holds}
 use Rattle.hw_edits.specs.Falls.{LocalHeight}
 use Rattle.hw_edits.specs.Follows.{Wide, ValidEdit, SameEdit, Valid, Follows}
 use Rattle.hw_edits.specs.Laws.{up, down, moved, up_ref, without, take_out, with_body, IsNotOf, TakenOut}
 use Rattle.hw_edits.proofs.Follows.{follows_set}
-use Rattle.hw_edits.proofs.Positions.{down-up, up_from_down, down_none, down_same, get_taken, take_map, anchors-retarget, anchors-remove, before-remove}
+use Rattle.hw_edits.proofs.Positions.{down-up, up_from_down, down_none, get_taken, take_map, anchors-retarget, anchors-remove, before-remove}
 use Rattle.hw_edits.proofs.PutIn.{retarget_type}
 use Rattle.hw_edits.proofs.ChangeInPlace.{plain_word}
 
@@ -99,8 +97,11 @@ module _ (md : Module) (i : ℕ) (o : Op) (there : slice_get md.body i ≡ Some 
           kept = λ j j' is. record {
             op = old_there j j' is;
             before = ap anchors (take_map (retarget (without i y)) j' (remove md.body i)) ∙ anchors-retarget (without i y) (take j' (remove md.body i))
-              ∙ ap (map (retarget (without i y))) (before-remove md.body i j j' o there plain is);
-            stands = λ k. ap (λ z. moved z y k) is } } };
+                ∙ ap (map (retarget (without i y))) (before-remove md.body i j j' o there plain is);
+            stands = λ k. ap (λ z. moved z y k) is;
+          };
+        };
+      };
       falls = record {
         lift = λ h r. h (up_ref i r);
         stand_is = stand_lower;
@@ -109,8 +110,10 @@ module _ (md : Module) (i : ℕ) (o : Op) (there : slice_get md.body i ≡ Some 
         home_is = λ j' j is. let at_j : up i j' ≡ j = cc in ap (down i) (sym at_j) ∙ down-up i j';
         kept_is = λ h local j' j k is. let at_j : up i j' ≡ j = cc in let same : h (result (up i j') k) ≡ h (result j k) = ap (λ n. h (result n k)) at_j in omega arith;
         fresh_is = λ j' z new is. cc;
-        fresh_falls = λ h local j' k z t new is. cc };
-      types = record { named = named; fresh = λ j' z new is. cc } }
+        fresh_falls = λ h local j' k z t new is. cc;
+      };
+      types = record { named = named; fresh = λ j' z new is. cc };
+    }
 
 -- ---- with a value that stands for the result
 
@@ -126,6 +129,7 @@ module _ (md : Module) (i : ℕ) (o : Op) (t : HwType) (x : Ref) (change : Taken
     where
       at_i : (k : ℕ) → j ≡ i → type_in md.ports md.body (result j k) ≡ result_type o k
       at_i k here = ap (λ n. type_in md.ports md.body (result n k)) here ∙ ap (λ z. bind z (λ (w : Op). result_type w k)) change.there
+
       go : (z : Option ℕ) (k : ℕ) → down i j ≡ z → type_in md.ports (take_out i x md.body) (moved z (without i undefined x) k) ≡ type_in md.ports md.body (result j k)
       go None zero here =
           ap (type_in md.ports (take_out i x md.body)) (without_same i undefined (without i undefined x) x change.stand_stays)
@@ -146,12 +150,14 @@ module _ (md : Module) (i : ℕ) (o : Op) (t : HwType) (x : Ref) (change : Taken
   unfolding taken_out_valid take_out_valid
   take_out_same = record {
     valid = take_out_valid;
-    words = λ τ holds wide j k gone. at_place τ holds wide j k (down_none i j gone) gone }
+    words = λ τ holds wide j k gone. at_place τ holds wide j k (down_none i j gone) gone;
+  }
     where
       rest_holds : (τ : Ref → Word) → Holds (take_out i x md.body) τ → HoldsBut md.body (λ r. τ (without i (without i undefined x) r)) (λ j. j ≡ i)
       rest_holds τ holds = record {
         undefined_is = holds.undefined_is;
-        result_is = λ j k w other says. elsewhere τ holds j k w other says (down i j) refl }
+        result_is = λ j k w other says. elsewhere τ holds j k w other says (down i j) refl;
+      }
         where
           elsewhere : (τ : Ref → Word) → Holds (take_out i x md.body) τ → (j k : ℕ) (w : Word) → (j ≡ i → ⊥)
               → word_of (λ r. τ (without i (without i undefined x) r)) k (slice_get md.body j) ≡ Some w
@@ -161,8 +167,10 @@ module _ (md : Module) (i : ℕ) (o : Op) (t : HwType) (x : Ref) (change : Taken
               holds.result_is j' k w (λ never. never)
               (ap (word_of τ k) (old_there md i o change.there change.plain (without i undefined x) j j' is)
               ∙ retarget_word (without i (without i undefined x)) τ k (slice_get md.body j) ∙ says)
+
       wide_before : (τ : Ref → Word) → Wide md.ports (take_out i x md.body) τ → Wide md.ports md.body (λ r. τ (without i (without i undefined x) r))
       wide_before τ wide r = subst (λ z. HasWidth z (τ (without i (without i undefined x) r))) (all_types r) (wide (without i (without i undefined x) r))
+
       by_number : (τ : Ref → Word) → Holds (take_out i x md.body) τ → Wide md.ports (take_out i x md.body) τ → (k : ℕ)
           → made_word (λ r. τ (without i (without i undefined x) r)) o k (result_type o k) ≡ τ (moved None (without i undefined x) k)
       by_number τ holds wide zero =
@@ -171,6 +179,7 @@ module _ (md : Module) (i : ℕ) (o : Op) (t : HwType) (x : Ref) (change : Taken
           ∙ ap τ (without_same i (without i undefined x) undefined x change.stand_stays)
       by_number τ holds wide (suc k) =
           ap (made_word (λ r. τ (without i (without i undefined x) r)) o (suc k)) (change.no_more k) ∙ sym holds.undefined_is
+
       at_place : (τ : Ref → Word) → Holds (take_out i x md.body) τ → Wide md.ports (take_out i x md.body) τ → (j k : ℕ) → j ≡ i → down i j ≡ None
           → word_of (λ r. τ (without i (without i undefined x) r)) k (slice_get md.body j) ≡ Some (τ (moved (down i j) (without i undefined x) k))
       at_place τ holds wide j k here gone =

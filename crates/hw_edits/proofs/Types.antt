@@ -1,20 +1,18 @@
 -- Types still fit after an edit that keeps them.
-use Rattle.std.proofs.Common.{◌≡◌, ℕ, zero, suc, Bool, true, false, cond, List, [], ◌∷◌, length, map, slice_get, Option, Some, None, is_some, refl, sym, ap, subst, ◌∙◌}
-use Rattle.wiring.specs.Options.{omap}
+use Rattle.std.proofs.Common.{◌≡◌, ℕ, suc, Bool, true, false, cond, List, [], ◌∷◌, map, slice_get, Option, Some, None, is_some, refl, sym, ap, subst, ◌∙◌}
 use Rattle.wiring.specs.Wiring.{In}
 use Rattle.wiring.proofs.Options.{omap_some}
 use Rattle.wiring.proofs.Members.{map_same}
 use Rattle.wiring.proofs.Lists.{map-map}
 use Rattle.hw_model.specs.Types.{Name, HwType}
 use Rattle.hw_model.specs.Kinds.{Instance}
-use Rattle.hw_model.specs.Design.{Ref, Port, Op, Module, Design, find_module, instance_in, result_type, output_refs, is_output_op}
+use Rattle.hw_model.specs.Design.{Ref, Op, Module, Design, find_module, instance_in, output_refs, is_output_op}
 use Rattle.hw_model.specs.Sound.{body_of, ports_of, input_types, output_types, type_in, Fits, OpFits, InstanceFits, SoundBody, Sound}
 use Rattle.hw_model.proofs.Sorts.{Sort, sort_of}
 use Rattle.hw_model.proofs.Sorts.Sort.{a_register, an_instance, an_output, a_made}
 use Rattle.hw_model.proofs.NetWidths.{sound_found}
-use Rattle.hw_edits.specs.Edit.{retarget, is_anchor, Edit, EditedModule}
-use Rattle.hw_edits.specs.Falls.{Falls}
-use Rattle.hw_edits.specs.Follows.{KeepsTypes, ValidEdit}
+use Rattle.hw_edits.specs.Edit.{retarget, is_anchor}
+use Rattle.hw_edits.specs.Follows.{ValidEdit}
 use Rattle.hw_edits.proofs.Anchors.{output_refs_follow}
 
 -- a value that a body gives to an output is an operand of one of its operations
@@ -50,7 +48,7 @@ module _ (d d' : Design) (each : (s : Name) → ValidEdit (find_module d s) (fin
     operands_keep j y is =
         map-map (type_in (ports_of o) (body_of o')) x.edited.edit.stand y.operands
         ∙ map_same (λ r. type_in (ports_of o) (body_of o') (x.edited.edit.stand r)) (type_in (ports_of o) (body_of o)) y.operands
-          (λ r here. x.types.named j y r is here)
+        (λ r here. x.types.named j y r is here)
 
     fits_kept : (j : ℕ) (y : Op) → slice_get (body_of o) j ≡ Some y → OpFits new_type (retarget x.edited.edit.stand y)
     unfolding old_type new_type
@@ -61,10 +59,12 @@ module _ (d d' : Design) (each : (s : Name) → ValidEdit (find_module d s) (fin
     unfolding old_type new_type
     instance_kept j y is i inst =
         let fits = sound.instances j y is i inst in
-        let there = still_there i.symbol fits.0 fits.1 in
-        (there.0, there.1,
-        operands_keep j y is ∙ fits.2 ∙ ap (λ ps. map (λ (t : HwType). Some t) (input_types ps)) (sym there.2),
-        fits.3 ∙ ap output_types (sym there.2))
+        let there = still_there i.symbol fits.0 fits.1 in (
+          there.0,
+          there.1,
+          operands_keep j y is ∙ fits.2 ∙ ap (λ ps. map (λ (t : HwType). Some t) (input_types ps)) (sym there.2),
+          fits.3 ∙ ap output_types (sym there.2),
+        )
 
     no_anchor_instance : (y : Op) (i : Instance) → is_anchor y ≡ false → instance_in y.kind ≡ Some i → ⊥
     no_anchor_instance y i plain inst = go (sort_of y.kind)
@@ -92,13 +92,14 @@ module _ (d d' : Design) (each : (s : Name) → ValidEdit (find_module d s) (fin
     sound_body = record {
       ops = λ j' z is. by_home (OpFits (type_in (ports_of o) (body_of o'))) fits_kept j' z is (λ new. x.types.fresh j' z new is);
       instances = λ j' z is. by_home (InstanceFits d' (type_in (ports_of o) (body_of o'))) instance_kept j' z is
-        (λ new i inst. absurd (no_anchor_instance z i (x.falls.fresh_is j' z new is) inst));
+          (λ new i inst. absurd (no_anchor_instance z i (x.falls.fresh_is j' z new is) inst));
       outputs =
-        ap (map (type_in (ports_of o) (body_of o'))) (output_refs_follow (body_of o) (body_of o') x.edited.edit.stand x.edited.edit.anchors_are)
-        ∙ map-map (type_in (ports_of o) (body_of o')) x.edited.edit.stand (output_refs (body_of o))
-        ∙ map_same (λ r. type_in (ports_of o) (body_of o') (x.edited.edit.stand r)) (type_in (ports_of o) (body_of o)) (output_refs (body_of o))
+          ap (map (type_in (ports_of o) (body_of o'))) (output_refs_follow (body_of o) (body_of o') x.edited.edit.stand x.edited.edit.anchors_are)
+          ∙ map-map (type_in (ports_of o) (body_of o')) x.edited.edit.stand (output_refs (body_of o))
+          ∙ map_same (λ r. type_in (ports_of o) (body_of o') (x.edited.edit.stand r)) (type_in (ports_of o) (body_of o)) (output_refs (body_of o))
           (λ r here. let named = output_named (body_of o) r here in x.types.named named.0 named.1 r named.2 named.3)
-        ∙ sound.outputs }
+          ∙ sound.outputs;
+    }
 
   pub sound_after : Sound d → Sound d'
   sound_after sound s m is =

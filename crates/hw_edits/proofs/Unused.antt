@@ -1,5 +1,5 @@
 -- An operation that nothing names is taken out: putting it in again gives the design that was.
-use Rattle.std.proofs.Common.{◌≡◌, ℕ, zero, suc, ◌<◌, ◌≤◌, List, [], ◌∷◌, length, map, insert, remove, set, slice_get, Some, refl, sym, ap, ap₂, subst, ◌∙◌, arith}
+use Rattle.std.proofs.Common.{◌≡◌, ℕ, zero, suc, ◌<◌, List, [], ◌∷◌, length, map, insert, remove, set, slice_get, Some, refl, sym, ap, ap₂, subst, ◌∙◌, arith}
 use Rattle.std.proofs.lemmas.List.{map-id}
 use Rattle.std.proofs.lemmas.Option.{slice_get_within}
 use Rattle.wiring.specs.Wiring.{In}
@@ -7,13 +7,13 @@ use Rattle.wiring.proofs.Members.{map_same, position_of_In}
 use Rattle.wiring.proofs.Lists.{map-map, set_some, slice_get-set_same}
 use Rattle.wiring.proofs.Edits.{insert-remove, length-remove_suc, from_In-remove}
 use Rattle.hw_model.specs.Design.{Ref, Op, Module, Design}
-use Rattle.hw_model.specs.Design.Ref.{port, result, undefined}
+use Rattle.hw_model.specs.Design.Ref.{result, undefined}
 use Rattle.hw_model.specs.Machine.{Same}
 use Rattle.hw_model.specs.Meaning.{machine}
-use Rattle.hw_model.specs.Sound.{type_in, Fits, OpFits}
+use Rattle.hw_model.specs.Sound.{type_in, Fits}
 use Rattle.hw_model.proofs.Machines.{same_sym}
 use Rattle.hw_edits.specs.Edit.{retarget}
-use Rattle.hw_edits.specs.Follows.{ValidEdit, Valid, Follows}
+use Rattle.hw_edits.specs.Follows.{Valid, Follows}
 use Rattle.hw_edits.specs.Laws.{up_ref, without, take_out, put_in, with_body, IsNotOf, PutIn, IsUnused}
 use Rattle.hw_edits.proofs.Edited.{length_map}
 use Rattle.hw_edits.proofs.Follows.{valid_settles, valid_set}
@@ -43,7 +43,7 @@ module _ (d : Design) (m : ℕ) (md : Module) (i : ℕ) (o : Op) (valid : Valid 
   valid_without =
       valid_set d m md less there refl
       (taken_out_valid md i o unused.there unused.plain undefined (λ h local. local.lowest (result i 0))
-        (λ j z r is here. types_stay md i o unused.there unused.plain undefined r (unused.unnamed j z r is here)))
+      (λ j z r is here. types_stay md i o unused.there unused.plain undefined r (unused.unnamed j z r is here)))
       valid
 
   restored : (z : Op) → ((r : Ref) → In r z.operands → IsNotOf i r) → retarget (up_ref i) (retarget (without i undefined) z) ≡ z
@@ -64,7 +64,7 @@ module _ (d : Design) (m : ℕ) (md : Module) (i : ℕ) (o : Op) (valid : Valid 
   body_restored =
       ap₂ (λ xs z. insert xs i z)
       (all_restored (remove md.body i) (λ z here r named.
-        let place = position_of_In z md.body (from_In-remove md.body i z here) in unused.unnamed place.0 z r place.1 named))
+      let place = position_of_In z md.body (from_In-remove md.body i z here) in unused.unnamed place.0 z r place.1 named))
       (restored o (λ r named. unused.unnamed i o r unused.there named))
       ∙ insert-remove md.body i o unused.there
 
@@ -77,23 +77,25 @@ module _ (d : Design) (m : ℕ) (md : Module) (i : ℕ) (o : Op) (valid : Valid 
   may_put_in : PutIn less i again
   may_put_in = record {
     within =
-      let long : i < length md.body = slice_get_within md.body i o unused.there in
-      let fewer : suc (length (remove md.body i)) ≡ length md.body = length-remove_suc md.body i long in
-      let mapped : length (take_out i undefined md.body) ≡ length (remove md.body i) = length_map (retarget (without i undefined)) (remove md.body i) in
-      omega arith;
+        let long : i < length md.body = slice_get_within md.body i o unused.there in
+        let fewer : suc (length (remove md.body i)) ≡ length md.body = length-remove_suc md.body i long in
+        let mapped : length (take_out i undefined md.body) ≡ length (remove md.body i) = length_map (retarget (without i undefined)) (remove md.body i) in
+        omega arith;
     plain = unused.plain;
     fits = λ k t typed.
-      subst (λ xs. Fits o.kind o.types xs t k)
-      (sym (map-map (type_in md.ports (take_out i undefined md.body)) (without i undefined) o.operands
-      ∙ map_same (λ r. type_in md.ports (take_out i undefined md.body) (without i undefined r)) (type_in md.ports md.body) o.operands
+        subst (λ xs. Fits o.kind o.types xs t k)
+        (sym (map-map (type_in md.ports (take_out i undefined md.body)) (without i undefined) o.operands
+        ∙ map_same (λ r. type_in md.ports (take_out i undefined md.body) (without i undefined r)) (type_in md.ports md.body) o.operands
         (λ r named. types_stay md i o unused.there unused.plain undefined r (unused.unnamed i o r unused.there named))))
-      (unused.fits k t typed) }
+        (unused.fits k t typed);
+  }
 
   -- an operation that nothing names may go
   pub unused_follows : Follows d (with_body d m md (take_out i undefined md.body))
   unused_follows = record {
     valid = valid_without;
     same = λ top.
-      same_sym (machine without_it top) (machine d top) (valid_settles without_it valid_without top)
-      (subst (λ e. Same (machine without_it top) (machine e top)) design_restored
-      ((in_follows without_it m less i again valid_without (slice_get-set_same d m less (slice_get_within d m md there)) may_put_in).same top)) }
+        same_sym (machine without_it top) (machine d top) (valid_settles without_it valid_without top)
+        (subst (λ e. Same (machine without_it top) (machine e top)) design_restored
+        ((in_follows without_it m less i again valid_without (slice_get-set_same d m less (slice_get_within d m md there)) may_put_in).same top));
+  }

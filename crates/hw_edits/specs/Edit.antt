@@ -1,10 +1,10 @@
 -- Edits of a body: where its operations go, and what stands in the new body for a value of the old one.
-use Rattle.std.specs.Prelude.{◌≡◌, ℕ, zero, suc, Bool, true, false, cond, List, [], ◌∷◌, map, take, Option, Some, None, is_some, slice_get}
+use Rattle.std.specs.Prelude.{◌≡◌, ℕ, Bool, true, cond, List, [], map, take, Option, Some, None, is_some, slice_get}
 use Rattle.std.specs.List.{filter}
 use Rattle.wiring.specs.Options.{omap}
 use Rattle.bits_core.specs.Word.{Word}
 use Rattle.hw_model.specs.Types.{HwType}
-use Rattle.hw_model.specs.Design.{Ref, Port, Op, Module, is_instance, is_register, is_output_op, result_type}
+use Rattle.hw_model.specs.Design.{Ref, Op, Module, is_instance, is_register, is_output_op, result_type}
 use Rattle.hw_model.specs.Value.{op_value}
 use Rattle.hw_model.specs.Sound.{body_of, ports_of}
 use Rattle.hw_model.specs.Design.Ref.{port, result, undefined}
@@ -57,7 +57,7 @@ made_word τ o k (Some t) = op_value o.kind o.types t k (map τ o.operands)
 
 abbrev pub word_of_op : (Ref → Word) → ℕ → Op → Option Word
 word_of_op τ k o =
-  cond (is_register o) None (cond (is_instance o) None (cond (is_output_op o) (Some []) (Some (made_word τ o k (result_type o k)))))
+    cond (is_register o) None (cond (is_instance o) None (cond (is_output_op o) (Some []) (Some (made_word τ o k (result_type o k)))))
 
 -- the word of an operation's result k under a map of the body's values; None where the body alone does not say it, as of
 -- registers and instances

@@ -10,7 +10,7 @@ use Rattle.hw_edits.specs.Edit.{is_anchor, Edit}
 -- the highest of them, and nothing is lower than what is undefined
 pub record LocalHeight (os : List Op) (h : Ref → ℕ) : Type 0 where
   pub made : (j k : ℕ) (o : Op) (t : HwType) → slice_get os j ≡ Some o → is_anchor o ≡ false → result_type o k ≡ Some t
-    → h (result j k) ≡ suc (greatest (map h o.operands))
+      → h (result j k) ≡ suc (greatest (map h o.operands))
   pub lowest : (r : Ref) → h undefined ≤ h r
 
 -- the edit makes no cycle: from heights of the old body's values, `lift` makes numbers for the new one's, which are not
@@ -25,4 +25,4 @@ pub record Falls (os os' : List Op) (e : Edit os os') : Type 0 where
   pub kept_is : (h : Ref → ℕ) → LocalHeight os h → (j' j k : ℕ) → home j' ≡ Some j → h (result j k) ≤ lift h (result j' k)
   pub fresh_is : (j' : ℕ) (o : Op) → home j' ≡ None → slice_get os' j' ≡ Some o → is_anchor o ≡ false
   pub fresh_falls : (h : Ref → ℕ) → LocalHeight os h → (j' k : ℕ) (o : Op) (t : HwType) → home j' ≡ None → slice_get os' j' ≡ Some o
-    → result_type o k ≡ Some t → (r : Ref) → In r o.operands → lift h r < lift h (result j' k)
+      → result_type o k ≡ Some t → (r : Ref) → In r o.operands → lift h r < lift h (result j' k)

@@ -1,6 +1,6 @@
 -- Four edits of one module of a valid design: an operation is changed in place, taken out with another value in the place
 -- of its result, put in, or taken out where nothing names it.
-use Rattle.std.specs.Prelude.{◌≡◌, ℕ, zero, suc, ◌≤◌, ◌<◌, false, List, [], ◌∷◌, map, length, set, Option, Some, None, slice_get}
+use Rattle.std.specs.Prelude.{◌≡◌, ℕ, zero, suc, ◌≤◌, ◌<◌, false, List, map, length, set, Option, Some, None, slice_get}
 use Rattle.std.specs.List.{insert, remove}
 use Rattle.wiring.specs.Options.{omap}
 use Rattle.wiring.specs.Wiring.{In}
@@ -84,7 +84,7 @@ pub record InPlace (md : Module) (i : ℕ) (o o' : Op) : Type 0 where
   pub fits : OpFits (type_in md.ports md.body) o'
   pub lower : (h : Ref → ℕ) → LocalHeight md.body h → (k : ℕ) (t : HwType) → result_type o k ≡ Some t → (r : Ref) → In r o'.operands → h r < h (result i k)
   pub words : (τ : Ref → Word) → HoldsBut md.body τ (λ j. j ≡ i) → Wide md.ports md.body τ → (k : ℕ) (t : HwType) → result_type o k ≡ Some t
-    → made_word τ o k (Some t) ≡ made_word τ o' k (Some t)
+      → made_word τ o k (Some t) ≡ made_word τ o' k (Some t)
 
 -- o at position i, with one result of type t, may go, x standing for its result: x is another value of that type, stands
 -- no higher than the result, and where all other operations hold it has the word of o

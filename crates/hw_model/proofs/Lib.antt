@@ -5,3 +5,5 @@ pub mod Paths
 pub mod Widths
 pub mod NetWidths
 pub mod Finite
+pub mod Evaluation
+mod Samples

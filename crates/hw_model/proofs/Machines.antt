@@ -2,7 +2,7 @@
 use Rattle.std.proofs.Common.{◌≡◌, ℕ, List, [], ◌∷◌, ◌↔◌, refl, sym, ap, ap₂, subst, ◌∙◌}
 use mathlib.Core.Path.{fun_ext}
 use Rattle.bits_core.specs.Word.{Word}
-use Rattle.hw_model.specs.Machine.{Machine, Step, Run, SettlesOnce, Same}
+use Rattle.hw_model.specs.Machine.{Machine, Step, Run, SettlesOnce, Same, Carries}
 
 module _ {A : Type 0} where
   -- a machine settles once for all inputs and content
@@ -38,12 +38,6 @@ module _ {A : Type 0} where
       (m.outputs map_of ∷ rest.0, (m.next map_of content, record { map_of = map_of; settled = (once s content).1; read = refl; taken = refl }, rest.1))
 
 module _ {A B : Type 0} where
-  -- `to` makes of a settled map of m one of n, with the same outputs and next content
-  pub record Carries (m : Machine A) (n : Machine B) (to : (A → Word) → B → Word) : Type 0 where
-    pub settled : (inputs content : Word) (ρ : A → Word) → m.settled inputs content ρ → n.settled inputs content (to ρ)
-    pub outputs : (inputs content : Word) (ρ : A → Word) → m.settled inputs content ρ → n.outputs (to ρ) ≡ m.outputs ρ
-    pub next : (inputs content : Word) (ρ : A → Word) → m.settled inputs content ρ → n.next (to ρ) content ≡ m.next ρ content
-
   -- runs go over
   pub run_carried : (m : Machine A) (n : Machine B) (to : (A → Word) → B → Word) → Carries m n to
       → (content : Word) (steps outputs : List Word) → Run m content steps outputs → Run n content steps outputs

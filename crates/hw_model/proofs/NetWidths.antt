@@ -17,11 +17,11 @@ use Rattle.hw_model.specs.Design.Ref.{port, result, undefined}
 use Rattle.hw_model.specs.Flat.{Path, Net, net, Source, instances, module_at, base, body_state, state, port_ref, operand_for, input_count, input_width, input_of, port_source, copy_of, joined_ref, joined_at, given_ref, held_of, made_of, source}
 use Rattle.hw_model.specs.Flat.Source.{nowhere, input, held, copy, made}
 use Rattle.hw_model.specs.Meaning.{needs_of, needs, value_of, HasHeights, Settled}
-use Rattle.hw_model.specs.Sound.{HasWidth, body_of, ports_of, input_types, output_types, input_type, type_in, OpFits, InstanceFits, SoundBody, Sound, Fits}
+use Rattle.hw_model.specs.Sound.{HasWidth, HaveWidths, body_of, ports_of, input_types, output_types, input_type, type_in, OpFits, InstanceFits, SoundBody, Sound, Fits}
 use Rattle.hw_model.proofs.Sorts.{Sort, sort_of, instance_found}
 use Rattle.hw_model.proofs.Sorts.Sort.{a_register, an_instance, an_output, a_made}
 use Rattle.hw_model.proofs.Paths.{module_inside, joined_body, input_ports, port_of, output_of, op_in, result_in, result_here}
-use Rattle.hw_model.proofs.Widths.{HaveWidths, fits_width}
+use Rattle.hw_model.proofs.Widths.{fits_width}
 
 -- ---- soundness at a path
 
@@ -227,3 +227,9 @@ module _ (d : Design) (top : Name) (sound : Sound d) (inputs content : Word) (ρ
   net_widths heights settled =
       by_heights (needs d top) (λ a. HasWidth (type_at d top a) (ρ a))
       (λ a needed. subst (HasWidth (type_at d top a)) (sym (settled a)) (good_net a.path a.ref needed)) heights
+
+  -- the same by the module at the end of a path
+  pub value_widths : HasHeights d top → Settled d top inputs content ρ → (p : Path) (m : Module) (r : Ref) (t : HwType)
+      → module_at d top p ≡ Some m → type_in m.ports m.body r ≡ Some t → length (ρ (net p r)) ≡ width t
+  value_widths heights settled p m r t is typed =
+      subst (λ x. HasWidth x (ρ (net p r))) (ap (λ o. type_in (ports_of o) (body_of o) r) is ∙ typed) (net_widths heights settled (net p r))

@@ -20,14 +20,7 @@ use Rattle.hw_model.specs.Kinds.Literals.{no_literals, literal}
 use Rattle.hw_model.specs.Kinds.Kind.{add, mul, and, or, xor, sub, divu, modu, divs, mods, shl, shru, shrs, icmp, parity, extract, concat, replicate, mux, constant, aggregate_constant, array_create, array_concat, array_get, array_slice, array_inject, struct_create, struct_extract, struct_inject, struct_explode, bitcast, wire, instance, output, compreg, compreg_ce, firreg}
 use Rattle.hw_model.specs.Design.{instance_in, register_form, same_name}
 use Rattle.hw_model.specs.Value.{joined, is_high, and_all, or_all, xor_all, of_one, of_two, of_three, word_of_literal, word_of_literals, element, elements_from, slice_of, injected_below, injected, field_of, with_field, field_at, fields, written, op_value}
-use Rattle.hw_model.specs.Sound.{HasWidth, field_list, field_type, literal_width, literals_width, AllAre, Fits}
-
--- the words have the widths of their types
-abbrev pub HaveWidths : List (Option HwType) → List Word → Type 0
-HaveWidths [] [] = Unit {0}
-HaveWidths [] (w ∷ ws) = ⊥
-HaveWidths (x ∷ xs) [] = ⊥
-HaveWidths (x ∷ xs) (w ∷ ws) = HasWidth x w × HaveWidths xs ws
+use Rattle.hw_model.specs.Sound.{HasWidth, HaveWidths, field_list, field_type, literal_width, literals_width, AllAre, Fits}
 
 -- ---- operands of one type
 

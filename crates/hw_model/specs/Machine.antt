@@ -37,3 +37,10 @@ pub record Same {A B : Type 0} (m : Machine A) (n : Machine B) : Type 0 where
   pub size : m.size ≡ n.size
   pub once : (inputs content : Word) → SettlesOnce n inputs content
   pub runs : (content : Word) (steps outputs : List Word) → Run m content steps outputs ↔ Run n content steps outputs
+
+module _ {A B : Type 0} where
+  -- `to` makes of a settled map of m one of n, with the same outputs and next content
+  pub record Carries (m : Machine A) (n : Machine B) (to : (A → Word) → B → Word) : Type 0 where
+    pub settled : (inputs content : Word) (ρ : A → Word) → m.settled inputs content ρ → n.settled inputs content (to ρ)
+    pub outputs : (inputs content : Word) (ρ : A → Word) → m.settled inputs content ρ → n.outputs (to ρ) ≡ m.outputs ρ
+    pub next : (inputs content : Word) (ρ : A → Word) → m.settled inputs content ρ → n.next (to ρ) content ≡ m.next ρ content

@@ -52,6 +52,13 @@ abbrev pub HasWidth : Option HwType → Word → Type 0
 HasWidth None w = Unit {0}
 HasWidth (Some t) w = length w ≡ width t
 
+-- the words have the widths of their types
+abbrev pub HaveWidths : List (Option HwType) → List Word → Type 0
+HaveWidths [] [] = Unit {0}
+HaveWidths [] (w ∷ ws) = ⊥
+HaveWidths (x ∷ xs) [] = ⊥
+HaveWidths (x ∷ xs) (w ∷ ws) = HasWidth x w × HaveWidths xs ws
+
 -- ---- aggregates
 
 -- the types of a struct's fields, in order

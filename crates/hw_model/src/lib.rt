@@ -1,5 +1,12 @@
 //! What a design of the hw, comb and seq dialects means.
+//!
+//! `specs/` has the definitions: types, kinds of operations, designs, the value of each operation, the flattened module
+//! and where its nets' values come from, machines, steps and runs, weights, and sound designs. The laws on them are the
+//! clauses of functions that do nothing.
+//!
+//! [`types`] and [`kinds`] are what a program keeps of types and kinds; contracts see them by their views.
 #![tactic(auto)]
-
 pub mod kinds;
+mod laws;
 pub mod types;
+pub use laws::{heights_are_acyclic, one_map_settles, same_behaviour, widths_fit_types};

@@ -1,0 +1,48 @@
+//! The laws of edits, each a clause of a function that does nothing.
+
+ghost use Rattle.std.specs.Prelude.{◌≡◌, ℕ, Some, length, set, slice_get};
+ghost use Rattle.hw_model.specs.Types.{Name, HwType};
+ghost use Rattle.hw_model.specs.Design.{Ref, Op, Module, Design, find_module};
+ghost use Rattle.hw_model.specs.Design.Ref.{undefined};
+ghost use Rattle.hw_edits.specs.Follows.{SameEdit, ValidEdit, Valid, Follows};
+ghost use Rattle.hw_edits.specs.Laws.{InPlace, PutIn, TakenOut, IsUnused, take_out, put_in, with_body};
+
+/// Does nothing. Its clauses say that a design follows from a valid one with as many modules where what each symbol finds
+/// is an edit of what it found that keeps what it does, and that it is valid where the edits keep it valid.
+pub fn edits_follow()
+    ensures valid { (d e : Design) → length e ≡ length d → ((s : Name) → ValidEdit (find_module d s) (find_module e s)) → Valid d → Valid e }
+    ensures follows { (d e : Design) → length e ≡ length d → ((s : Name) → SameEdit (find_module d s) (find_module e s)) → Valid d → Follows d e }
+{}
+
+/// Does nothing. Its clauses say that what follows from what follows follows, and that a valid design follows from itself.
+pub fn following_composes()
+    ensures composes { (d e f : Design) → Follows d e → Follows e f → Follows d f }
+    ensures itself { (d : Design) → Valid d → Follows d d }
+{}
+
+/// Does nothing. Its clause says that a design follows from a valid one where an operation of a module is changed in place
+/// to one with the same words, of results of the same types, whose operands stand lower and which fits them.
+pub fn place_follows()
+    ensures { (d : Design) (m : ℕ) (md : Module) (i : ℕ) (o new : Op) → Valid d → slice_get d m ≡ Some md → InPlace md i o new
+        → Follows d (with_body d m md (set md.body i new)) }
+{}
+
+/// Does nothing. Its clause says that a design follows from a valid one where an operation of a module is taken out, a
+/// value standing for its result that has its word and its type and stands no higher.
+pub fn out_follows()
+    ensures { (d : Design) (m : ℕ) (md : Module) (i : ℕ) (o : Op) (t : HwType) (x : Ref) → Valid d → slice_get d m ≡ Some md → TakenOut md i o t x
+        → Follows d (with_body d m md (take_out i x md.body)) }
+{}
+
+/// Does nothing. Its clause says that a design follows from a valid one where an operation that fits is put in a module.
+pub fn in_follows()
+    ensures { (d : Design) (m : ℕ) (md : Module) (i : ℕ) (o : Op) → Valid d → slice_get d m ≡ Some md → PutIn md i o
+        → Follows d (with_body d m md (put_in i o md.body)) }
+{}
+
+/// Does nothing. Its clause says that a design follows from a valid one where an operation of a module is taken out whose
+/// results nothing names.
+pub fn unused_follows()
+    ensures { (d : Design) (m : ℕ) (md : Module) (i : ℕ) (o : Op) → Valid d → slice_get d m ≡ Some md → IsUnused md i o
+        → Follows d (with_body d m md (take_out i undefined md.body)) }
+{}

@@ -1,0 +1,56 @@
+//! The laws on what a design means, each a clause of a function that does nothing.
+
+ghost use Rattle.std.specs.Prelude.{◌≡◌, ℕ, List, Option, Some, None, length};
+ghost use Rattle.bits_core.specs.Word.{Word};
+ghost use Rattle.hw_model.specs.Types.{Name, HwType, width};
+ghost use Rattle.hw_model.specs.Kinds.{Kind};
+ghost use Rattle.hw_model.specs.Design.{Ref, Module, Design, instance_in, register_form};
+ghost use Rattle.hw_model.specs.Value.{op_value};
+ghost use Rattle.hw_model.specs.Flat.{Path, Net, net, module_at, state};
+ghost use Rattle.hw_model.specs.Machine.{SettlesOnce, Run, Same, Carries};
+ghost use Rattle.hw_model.specs.Meaning.{Settled, HasNoCycle, HasHeights, machine};
+ghost use Rattle.hw_model.specs.Hierarchy.{HasNoRecursion};
+ghost use Rattle.hw_model.specs.Sound.{HaveWidths, type_in, Fits, Sound};
+
+/// Does nothing. Its clauses say when exactly one map of a module's nets is settled, for all inputs and content: where
+/// its nets have heights, or where no module of the design is within itself and no net needs itself.
+pub fn one_map_settles()
+    ensures heights { (d : Design) (top : Name) → HasHeights d top → (inputs content : Word) → SettlesOnce (machine d top) inputs content }
+    ensures acyclic { (d : Design) (top : Name) → HasNoRecursion d → HasNoCycle d top → (inputs content : Word) → SettlesOnce (machine d top) inputs content }
+{}
+
+/// Does nothing. Its clauses say that a module's nets have heights where no module of the design is within itself and no
+/// net needs itself, and that no net needs itself where they have heights.
+pub fn heights_are_acyclic()
+    ensures heights { (d : Design) (top : Name) → HasNoRecursion d → HasNoCycle d top → HasHeights d top }
+    ensures acyclic { (d : Design) (top : Name) → HasHeights d top → HasNoCycle d top }
+{}
+
+/// Does nothing. Its clauses say that each value has as many bits as its type: under a settled map of a module of a sound
+/// design whose nets have heights, at each path of instances; and for each kind of operation that is made of its
+/// operands, where their words have as many bits as theirs.
+pub fn widths_fit_types()
+    ensures nets { (d : Design) (top : Name) (inputs content : Word) (map_of : Net → Word) → Sound d → HasHeights d top
+        → Settled d top inputs content map_of → (p : Path) (m : Module) (r : Ref) (t : HwType)
+        → module_at d top p ≡ Some m → type_in m.ports m.body r ≡ Some t → length (map_of (net p r)) ≡ width t }
+    ensures kinds { (kind : Kind) (ts : List HwType) (xs : List (Option HwType)) (t : HwType) (k : ℕ) (words : List Word)
+        → register_form kind ≡ None → instance_in kind ≡ None → Fits kind ts xs t k → HaveWidths xs words
+        → length (op_value kind ts t k words) ≡ width t }
+{}
+
+/// Does nothing. Its clauses say that behaving the same is an equivalence among modules whose nets have heights, that it
+/// follows from a way to carry settled maps forth or back, and that a run has one list of outputs for each content and
+/// list of steps.
+pub fn same_behaviour()
+    ensures itself { (d : Design) (top : Name) → HasHeights d top → Same (machine d top) (machine d top) }
+    ensures symmetric { (d e : Design) (a b : Name) → HasHeights d a → Same (machine d a) (machine e b) → Same (machine e b) (machine d a) }
+    ensures composes { (d e f : Design) (a b c : Name) → Same (machine d a) (machine e b) → Same (machine e b) (machine f c)
+        → Same (machine d a) (machine f c) }
+    ensures back { (d e : Design) (a b : Name) (to : (Net → Word) → Net → Word) → state d a ≡ state e b → HasHeights d a → HasHeights e b
+        → Carries (machine e b) (machine d a) to → Same (machine d a) (machine e b) }
+    ensures forth { (d e : Design) (a b : Name) (to : (Net → Word) → Net → Word) → state d a ≡ state e b → HasHeights d a → HasHeights e b
+        → Carries (machine d a) (machine e b) to → Same (machine d a) (machine e b) }
+    ensures runs_once { (d : Design) (top : Name) → HasHeights d top → (content : Word) (steps : List Word)
+        → (outputs : List Word) × Run (machine d top) content steps outputs
+          × ((others : List Word) → Run (machine d top) content steps others → others ≡ outputs) }
+{}
