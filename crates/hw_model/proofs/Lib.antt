@@ -7,3 +7,4 @@ pub mod NetWidths
 pub mod Finite
 pub mod Evaluation
 mod Samples
+pub mod FieldSums

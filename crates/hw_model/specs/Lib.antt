@@ -8,5 +8,7 @@ pub mod Meaning
 pub mod Weight
 pub mod Sound
 pub mod Hierarchy
+pub mod Indices
+pub mod SameType
 pub mod TypeViews
 pub mod KindViews

@@ -1,5 +1,11 @@
 //! The types of values.
+ghost use Rattle.std.specs.Prelude.{◌≡◌, min, length, IfOk};
+ghost use Rattle.hw_model.specs.Types.{width, width_of_fields, leaves, leaves_of_fields};
+ghost use Rattle.hw_model.specs.TypeViews.{type_of, field_of, fields_in};
+ghost use Rattle.hw_model.specs.Indices.{IsIndexWidth};
+
 use io_edge::byte_text::Text;
+use std::alloc::{AllocError, Global};
 
 /// The type of a value (CIRCT, HW dialect: types). Contracts see it by `type_of`, as data
 /// without pointers.
@@ -32,4 +38,109 @@ pub struct Field {
 pub struct FieldList {
     /// The fields.
     pub fields: Vec<Field>,
+}
+
+impl Ty {
+    /// The number of bits of a value, or `u64::MAX` where there are more.
+    #[cycle(width)]
+    pub fn width(&self) -> u64
+        ensures { result ≡ min (width (type_of self.now)) u64.MAX }
+    {
+        match self {
+            Ty::Int(width) => u64::from(*width),
+            Ty::Clock => 1,
+            Ty::Array(length, element) => u64::from(*length).saturating_mul(element.width()),
+            Ty::Struct(list) => list.width(),
+        }
+    }
+
+    /// The number of parts that have no parts, or `u64::MAX` where there are more.
+    #[cycle(leaf_count)]
+    pub fn leaf_count(&self) -> u64
+        ensures { result ≡ min (length (leaves (type_of self.now))) u64.MAX }
+    {
+        match self {
+            Ty::Int(_) | Ty::Clock => 1,
+            Ty::Array(length, element) => u64::from(*length).saturating_mul(element.leaf_count()),
+            Ty::Struct(list) => list.leaf_count(),
+        }
+    }
+
+    /// An equal type with memory of its own.
+    #[cycle(copy)]
+    pub fn try_clone(&self, alloc: Global) -> Result<Ty, AllocError>
+        ensures { IfOk result (λ copy. type_of copy ≡ type_of self.now) }
+    {
+        match self {
+            Ty::Int(width) => Ok(Ty::Int(*width)),
+            Ty::Clock => Ok(Ty::Clock),
+            Ty::Array(length, element) => {
+                let element = element.try_clone(alloc)?;
+                Ok(Ty::Array(*length, Box::new(alloc, element)?))
+            }
+            Ty::Struct(list) => Ok(Ty::Struct(list.try_clone(alloc)?)),
+        }
+    }
+}
+
+impl Field {
+    /// An equal field with memory of its own.
+    #[cycle(copy)]
+    pub fn try_clone(&self, alloc: Global) -> Result<Field, AllocError>
+        ensures { IfOk result (λ copy. field_of copy ≡ field_of self.now) }
+    {
+        let name = self.name.try_clone(alloc)?;
+        let ty = self.ty.try_clone(alloc)?;
+        Ok(Field { name, ty })
+    }
+}
+
+impl FieldList {
+    /// The number of bits of all fields, or `u64::MAX` where there are more.
+    #[cycle(width)]
+    pub fn width(&self) -> u64
+        ensures { result ≡ min (width_of_fields (fields_in self.now)) u64.MAX }
+    {
+        let mut sum: u64 = 0;
+        for field in &self.fields {
+            sum = sum.saturating_add(field.ty.width());
+        }
+        sum
+    }
+
+    /// The number of parts without parts of all fields, or `u64::MAX` where there are more.
+    #[cycle(leaf_count)]
+    pub fn leaf_count(&self) -> u64
+        ensures { result ≡ min (length (leaves_of_fields (fields_in self.now))) u64.MAX }
+    {
+        let mut sum: u64 = 0;
+        for field in &self.fields {
+            sum = sum.saturating_add(field.ty.leaf_count());
+        }
+        sum
+    }
+
+    /// Equal fields with memory of their own.
+    #[cycle(copy)]
+    pub fn try_clone(&self, alloc: Global) -> Result<FieldList, AllocError>
+        ensures { IfOk result (λ copy. fields_in copy ≡ fields_in self.now) }
+    {
+        let mut fields = Vec::with_capacity(alloc, self.fields.len())?;
+        for field in &self.fields {
+            fields.push(field.try_clone(alloc)?)?;
+        }
+        Ok(FieldList { fields })
+    }
+}
+
+/// The width of the indices of an array of `length` elements: the least of at least 1 that has a
+/// number for each element.
+pub fn index_width(length: u32) -> u32
+    ensures { IsIndexWidth length result }
+{
+    let mut width: u32 = 1;
+    while width < 32 && (1u64 << width) < u64::from(length) {
+        width += 1;
+    }
+    width
 }
