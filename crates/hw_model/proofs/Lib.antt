@@ -8,3 +8,4 @@ pub mod Finite
 pub mod Evaluation
 mod Samples
 pub mod FieldSums
+pub mod SameFields

@@ -9,6 +9,8 @@ pub mod Weight
 pub mod Sound
 pub mod Hierarchy
 pub mod Indices
+pub mod Equality
 pub mod SameType
+pub mod SameKind
 pub mod TypeViews
 pub mod KindViews

@@ -1,4 +1,8 @@
 //! The kinds of operations, with the attributes that decide what they do.
+ghost use Rattle.std.specs.Prelude.{◌≡◌};
+ghost use Rattle.hw_model.specs.KindViews.{kind_of, predicate_of};
+ghost use Rattle.hw_model.specs.SameKind.{predicate_number, compares_by};
+
 use crate::types::Ty;
 use io_edge::byte_text::Text;
 
@@ -163,4 +167,39 @@ pub enum OpKind {
     CompRegCe(Reset),
     /// `seq.firreg`
     FirReg(Reset),
+}
+
+impl Predicate {
+    // its place in the row of predicates
+    fn number(self) -> u32
+        ensures { result ≡ predicate_number (predicate_of self) }
+    {
+        match self {
+            Predicate::Eq => 0,
+            Predicate::Ne => 1,
+            Predicate::Slt => 2,
+            Predicate::Sle => 3,
+            Predicate::Sgt => 4,
+            Predicate::Sge => 5,
+            Predicate::Ult => 6,
+            Predicate::Ule => 7,
+            Predicate::Ugt => 8,
+            Predicate::Uge => 9,
+            Predicate::Ceq => 10,
+            Predicate::Cne => 11,
+            Predicate::Weq => 12,
+            Predicate::Wne => 13,
+        }
+    }
+}
+
+impl OpKind {
+    fn compares_by(&self, predicate: Predicate) -> bool
+        ensures { result ≡ compares_by (predicate_of predicate) (kind_of self.now) }
+    {
+        match self {
+            OpKind::Icmp(own) => predicate.number() == own.number(),
+            _ => false,
+        }
+    }
 }

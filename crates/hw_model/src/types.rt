@@ -1,7 +1,9 @@
 //! The types of values.
-ghost use Rattle.std.specs.Prelude.{◌≡◌, min, length, IfOk};
+ghost use Rattle.std.specs.Prelude.{◌≡◌, map, min, length, IfOk};
 ghost use Rattle.hw_model.specs.Types.{width, width_of_fields, leaves, leaves_of_fields};
-ghost use Rattle.hw_model.specs.TypeViews.{type_of, field_of, fields_in};
+ghost use Rattle.hw_model.specs.Types.HwType.{int, clock};
+ghost use Rattle.hw_model.specs.TypeViews.{type_of, field_of, fields_of, fields_in};
+ghost use Rattle.hw_model.specs.SameType.{same_type, same_fields};
 ghost use Rattle.hw_model.specs.Indices.{IsIndexWidth};
 
 use io_edge::byte_text::Text;
@@ -83,6 +85,27 @@ impl Ty {
     }
 }
 
+impl Ty {
+    // whether it is the integer type of that width
+    fn is_int(&self, width: u32) -> bool
+        ensures { result ≡ same_type (int width) (type_of self.now) }
+    {
+        match self {
+            Ty::Int(own) => width == *own,
+            Ty::Clock | Ty::Array(..) | Ty::Struct(_) => false,
+        }
+    }
+
+    fn is_clock(&self) -> bool
+        ensures { result ≡ same_type clock (type_of self.now) }
+    {
+        match self {
+            Ty::Clock => true,
+            Ty::Int(_) | Ty::Array(..) | Ty::Struct(_) => false,
+        }
+    }
+}
+
 impl Field {
     /// An equal field with memory of its own.
     #[cycle(copy)]
@@ -143,4 +166,56 @@ pub fn index_width(length: u32) -> u32
         width += 1;
     }
     width
+}
+
+impl PartialEq for Ty {
+    ghost use Rattle.hw_model.specs.SameType.{same_type, same_type_laws};
+    ghost use Rattle.hw_model.specs.TypeViews.{type_of};
+
+    ghost eq = { λ a b. same_type (type_of a) (type_of b) };
+
+    ghost laws = { same_type_laws };
+
+    fn eq(&self, other: &Ty) -> bool {
+        same(self, other)
+    }
+}
+
+impl Eq for Ty {
+    ghost use Rattle.hw_model.specs.SameType.{same_type_equivalence};
+
+    ghost laws = { same_type_equivalence };
+}
+
+#[cycle(same)]
+fn same(a: &Ty, b: &Ty) -> bool
+    ensures { result ≡ same_type (type_of a.now) (type_of b.now) }
+{
+    match a {
+        Ty::Int(width) => b.is_int(*width),
+        Ty::Clock => b.is_clock(),
+        Ty::Array(length, element) => match b {
+            Ty::Array(other_length, other) => length == other_length && same(element, other),
+            Ty::Int(_) | Ty::Clock | Ty::Struct(_) => false,
+        },
+        Ty::Struct(list) => match b {
+            Ty::Struct(other) => same_lists(&list.fields, &other.fields),
+            Ty::Int(_) | Ty::Clock | Ty::Array(..) => false,
+        },
+    }
+}
+
+#[cycle(same)]
+fn same_lists(fs: &[Field], gs: &[Field]) -> bool
+    ensures { result ≡ same_fields (fields_of (map field_of fs.now)) (fields_of (map field_of gs.now)) }
+{
+    if fs.len() != gs.len() {
+        return false;
+    }
+    for (f, g) in fs.iter().zip(gs) {
+        if f.name != g.name || !same(&f.ty, &g.ty) {
+            return false;
+        }
+    }
+    true
 }
