@@ -9,3 +9,4 @@ pub mod Evaluation
 mod Samples
 pub mod FieldSums
 pub mod SameFields
+pub mod Operands

@@ -12,5 +12,6 @@ pub mod Indices
 pub mod Equality
 pub mod SameType
 pub mod SameKind
+pub mod IntegerKinds
 pub mod TypeViews
 pub mod KindViews

@@ -9,4 +9,5 @@
 pub mod kinds;
 mod laws;
 pub mod types;
+pub mod values;
 pub use laws::{heights_are_acyclic, one_map_settles, same_behaviour, widths_fit_types};
