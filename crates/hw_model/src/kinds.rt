@@ -1,10 +1,11 @@
 //! The kinds of operations, with the attributes that decide what they do.
-ghost use Rattle.std.specs.Prelude.{◌≡◌};
-ghost use Rattle.hw_model.specs.KindViews.{kind_of, predicate_of};
-ghost use Rattle.hw_model.specs.SameKind.{predicate_number, compares_by};
+ghost use Rattle.std.specs.Prelude.{◌≡◌, IfOk};
+ghost use Rattle.hw_model.specs.KindViews.{kind_of, predicate_of, integer_of, literal_of, literals_in, instance_of};
+ghost use Rattle.hw_model.specs.SameKind.{predicate_number, plain_number};
 
 use crate::types::Ty;
 use io_edge::byte_text::Text;
+use std::alloc::{AllocError, Global};
 
 /// The predicates of `comb.icmp`.
 #[derive(Clone, Copy, Debug)]
@@ -169,37 +170,110 @@ pub enum OpKind {
     FirReg(Reset),
 }
 
-impl Predicate {
-    // its place in the row of predicates
-    fn number(self) -> u32
-        ensures { result ≡ predicate_number (predicate_of self) }
+impl Literal {
+    /// An equal constant with memory of its own.
+    #[cycle(copy_literal)]
+    pub fn try_clone(&self, alloc: Global) -> Result<Literal, AllocError>
+        ensures { IfOk result (λ copy. literal_of copy ≡ literal_of self.now) }
     {
         match self {
-            Predicate::Eq => 0,
-            Predicate::Ne => 1,
-            Predicate::Slt => 2,
-            Predicate::Sle => 3,
-            Predicate::Sgt => 4,
-            Predicate::Sge => 5,
-            Predicate::Ult => 6,
-            Predicate::Ule => 7,
-            Predicate::Ugt => 8,
-            Predicate::Uge => 9,
-            Predicate::Ceq => 10,
-            Predicate::Cne => 11,
-            Predicate::Weq => 12,
-            Predicate::Wne => 13,
+            Literal::Leaf(value, ty) => Ok(Literal::Leaf(*value, ty.try_clone(alloc)?)),
+            Literal::Parts(list) => Ok(Literal::Parts(list.try_clone(alloc)?)),
         }
     }
 }
 
-impl OpKind {
-    fn compares_by(&self, predicate: Predicate) -> bool
-        ensures { result ≡ compares_by (predicate_of predicate) (kind_of self.now) }
+impl LiteralList {
+    /// Equal constants with memory of their own.
+    #[cycle(copy_literal)]
+    pub fn try_clone(&self, alloc: Global) -> Result<LiteralList, AllocError>
+        ensures { IfOk result (λ copy. literals_in copy ≡ literals_in self.now) }
     {
-        match self {
-            OpKind::Icmp(own) => predicate.number() == own.number(),
-            _ => false,
+        let mut literals = Vec::with_capacity(alloc, self.literals.len())?;
+        for literal in &self.literals {
+            literals.push(literal.try_clone(alloc)?)?;
         }
+        Ok(LiteralList { literals })
+    }
+}
+
+fn copied_texts(alloc: Global, texts: &[Text]) -> Result<Vec<Text>, AllocError>
+    ensures { IfOk result (λ copies. copies.items ≡ texts.now) }
+{
+    let mut copies = Vec::with_capacity(alloc, texts.len())?;
+    for text in texts {
+        copies.push(text.try_clone(alloc)?)?;
+    }
+    Ok(copies)
+}
+
+fn copied_option(alloc: Global, text: &Option<Text>) -> Result<Option<Text>, AllocError>
+    ensures { IfOk result (λ copy. copy ≡ text.now) }
+{
+    match text {
+        None => Ok(None),
+        Some(text) => Ok(Some(text.try_clone(alloc)?)),
+    }
+}
+
+impl Instance {
+    /// An equal instance with memory of its own.
+    pub fn try_clone(&self, alloc: Global) -> Result<Instance, AllocError>
+        ensures { IfOk result (λ copy. instance_of copy ≡ instance_of self.now) }
+    {
+        Ok(Instance {
+            name: self.name.try_clone(alloc)?,
+            inner_symbol: copied_option(alloc, &self.inner_symbol)?,
+            symbol: self.symbol.try_clone(alloc)?,
+            inputs: copied_texts(alloc, &self.inputs)?,
+            outputs: copied_texts(alloc, &self.outputs)?,
+        })
+    }
+}
+
+impl OpKind {
+    /// An equal kind with memory of its own.
+    pub fn try_clone(&self, alloc: Global) -> Result<OpKind, AllocError>
+        ensures { IfOk result (λ copy. kind_of copy ≡ kind_of self.now) }
+    {
+        Ok(match self {
+            OpKind::Add => OpKind::Add,
+            OpKind::Mul => OpKind::Mul,
+            OpKind::And => OpKind::And,
+            OpKind::Or => OpKind::Or,
+            OpKind::Xor => OpKind::Xor,
+            OpKind::Sub => OpKind::Sub,
+            OpKind::Divu => OpKind::Divu,
+            OpKind::Modu => OpKind::Modu,
+            OpKind::Divs => OpKind::Divs,
+            OpKind::Mods => OpKind::Mods,
+            OpKind::Shl => OpKind::Shl,
+            OpKind::Shru => OpKind::Shru,
+            OpKind::Shrs => OpKind::Shrs,
+            OpKind::Parity => OpKind::Parity,
+            OpKind::Concat => OpKind::Concat,
+            OpKind::Replicate => OpKind::Replicate,
+            OpKind::Mux => OpKind::Mux,
+            OpKind::ArrayCreate => OpKind::ArrayCreate,
+            OpKind::ArrayConcat => OpKind::ArrayConcat,
+            OpKind::ArrayGet => OpKind::ArrayGet,
+            OpKind::ArraySlice => OpKind::ArraySlice,
+            OpKind::ArrayInject => OpKind::ArrayInject,
+            OpKind::StructCreate => OpKind::StructCreate,
+            OpKind::StructExplode => OpKind::StructExplode,
+            OpKind::Bitcast => OpKind::Bitcast,
+            OpKind::Wire => OpKind::Wire,
+            OpKind::Output => OpKind::Output,
+            OpKind::Icmp(predicate) => OpKind::Icmp(*predicate),
+            OpKind::Extract(low) => OpKind::Extract(*low),
+            OpKind::Constant(value) => OpKind::Constant(*value),
+            OpKind::AggregateConstant(list) => OpKind::AggregateConstant(list.try_clone(alloc)?),
+            OpKind::StructExtract(name) => OpKind::StructExtract(name.try_clone(alloc)?),
+            OpKind::StructInject(name) => OpKind::StructInject(name.try_clone(alloc)?),
+            OpKind::Instance(instance) => OpKind::Instance(instance.try_clone(alloc)?),
+            OpKind::CompReg(reset) => OpKind::CompReg(*reset),
+            OpKind::CompRegCe(reset) => OpKind::CompRegCe(*reset),
+            OpKind::FirReg(reset) => OpKind::FirReg(*reset),
+        })
     }
 }
