@@ -10,3 +10,4 @@ mod Samples
 pub mod FieldSums
 pub mod SameFields
 pub mod Operands
+pub mod SameLiterals

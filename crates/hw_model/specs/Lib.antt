@@ -15,3 +15,4 @@ pub mod SameKind
 pub mod IntegerKinds
 pub mod TypeViews
 pub mod KindViews
+pub mod KindsApart

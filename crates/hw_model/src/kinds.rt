@@ -1,7 +1,6 @@
 //! The kinds of operations, with the attributes that decide what they do.
 ghost use Rattle.std.specs.Prelude.{◌≡◌, IfOk};
-ghost use Rattle.hw_model.specs.KindViews.{kind_of, predicate_of, integer_of, literal_of, literals_in, instance_of};
-ghost use Rattle.hw_model.specs.SameKind.{predicate_number, plain_number};
+ghost use Rattle.hw_model.specs.KindViews.{kind_of, literal_of, literals_in, instance_of};
 
 use crate::types::Ty;
 use io_edge::byte_text::Text;

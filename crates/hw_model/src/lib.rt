@@ -8,6 +8,7 @@
 #![tactic(auto)]
 pub mod kinds;
 mod laws;
+mod same_kinds;
 pub mod types;
 pub mod values;
 pub use laws::{heights_are_acyclic, one_map_settles, same_behaviour, widths_fit_types};
