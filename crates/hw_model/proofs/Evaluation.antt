@@ -1,8 +1,7 @@
 -- Values computed to a depth of needs: what every settled map gives, and every run, where the nets asked for are reached
 -- within the depth.
-use Rattle.std.proofs.Common.{◌≡◌, ℕ, zero, suc, Bool, true, false, cond, ◌&&◌, List, [], ◌∷◌, ◌++◌, map, drop, Option, Some, None, refl, sym, ap, ap₂, subst, ◌∙◌, inl, inr}
+use Rattle.std.proofs.Common.{◌≡◌, ℕ, zero, suc, Bool, true, false, cond, List, [], ◌∷◌, ◌++◌, map, drop, Option, Some, None, refl, ap, ap₂, subst, ◌∙◌}
 use Rattle.wiring.specs.Options.{bind}
-use Rattle.wiring.specs.Wiring.{In}
 use Rattle.bits_core.specs.Word.{Word, first}
 use Rattle.hw_model.specs.Types.{Name}
 use Rattle.hw_model.specs.Kinds.{Reset}
@@ -11,25 +10,12 @@ use Rattle.hw_model.specs.Design.{Ref, Op, Design, RegisterForm, find_module, re
 use Rattle.hw_model.specs.Value.{joined}
 use Rattle.hw_model.specs.Flat.{Path, Net, net, Slot, register_in, register_parts, held_width, registers}
 use Rattle.hw_model.specs.Machine.{Run}
+use Rattle.hw_model.proofs.Depths.{every, every_here, ends_within}
 use Rattle.hw_model.specs.Meaning.{needs, value, Settled, loaded, next_content, outputs_of, outputs, machine}
 
--- whether a test holds of all members
-abbrev every : {A : Type 0} → (A → Bool) → List A → Bool
-every test [] = true
-every test (x ∷ xs) = cond (test x) (every test xs) false
-
-every_here : {A : Type 0} (test : A → Bool) (x : A) (xs : List A) → every test (x ∷ xs) ≡ true → (test x ≡ true) × (every test xs ≡ true)
-every_here test x xs all = go (test x) refl all
-  where
-    go : (b : Bool) → test x ≡ b → cond b (every test xs) false ≡ true → (test x ≡ true) × (every test xs ≡ true)
-    go true is rest = (is, rest)
-    go false is rest = cc
-
 module _ (d : Design) (top : Name) where
-  -- whether all that a net needs is reached in fewer than n steps
   abbrev pub closed : ℕ → Net → Bool
-  closed zero a = false
-  closed (suc n) a = every (closed n) (needs d top a)
+  closed = ends_within (needs d top)
 
   -- the value of a net, its needs followed for fewer than n steps
   abbrev pub evaluated : Word → Word → ℕ → Net → Word
@@ -62,6 +48,7 @@ module _ (d : Design) (top : Name) where
           each (r ∷ rs) every_one =
               let both = every_here (λ x. closed n (net p x)) r rs every_one in
               ap₂ (λ x xs. x ∷ xs) (same (net p r) both.0) (each rs both.1)
+
       parts : (e : Bool) (r : Reset) (rs : List Ref) → map (λ x. σ (net p x)) rs ≡ map (λ x. τ (net p x)) rs
           → loaded (register_parts e r rs) (λ x. σ (net p x)) old ≡ loaded (register_parts e r rs) (λ x. τ (net p x)) old
       parts false no_reset (x ∷ c ∷ []) is = cc
@@ -69,6 +56,7 @@ module _ (d : Design) (top : Name) where
       parts false sync_reset (x ∷ c ∷ r ∷ v ∷ []) is = cc
       parts true sync_reset (x ∷ c ∷ e ∷ r ∷ v ∷ []) is = cc
       parts _ _ _ is = refl
+
       go : (x : Option RegisterForm) → loaded (bind x (λ (g : RegisterForm). register_parts g.has_enable g.reset o.operands)) (λ r. σ (net p r)) old
           ≡ loaded (bind x (λ (g : RegisterForm). register_parts g.has_enable g.reset o.operands)) (λ r. τ (net p r)) old
       go None = refl
@@ -85,7 +73,7 @@ module _ (d : Design) (top : Name) where
     where
       go : (b : Bool) → every (λ r. closed n (net s.path r)) s.op.operands ≡ b → cond b (slots_closed n ss) false ≡ true
           → (slots_closed n ss ≡ true → ((a : Net) → closed n a ≡ true → σ a ≡ τ a)
-            → next_content ss σ (drop (held_width s.op) content) ≡ next_content ss τ (drop (held_width s.op) content))
+          → next_content ss σ (drop (held_width s.op) content) ≡ next_content ss τ (drop (held_width s.op) content))
           → next_content (s ∷ ss) σ content ≡ next_content (s ∷ ss) τ content
       go true here rest further =
           ap₂ (λ x y. first (held_width s.op) x ++ y)
@@ -110,7 +98,7 @@ module _ (d : Design) (top : Name) where
   abbrev pub run_of : ℕ → Word → List Word → List Word
   run_of n content [] = []
   run_of n content (s ∷ steps) =
-    outputs d top (evaluated s content n) ∷ run_of n (next_content (registers d top) (evaluated s content n) content) steps
+      outputs d top (evaluated s content n) ∷ run_of n (next_content (registers d top) (evaluated s content n) content) steps
 
   -- every run gives these outputs
   pub run_value : (n : ℕ) → shallow n ≡ true → (content : Word) (steps outs : List Word) → Run (machine d top) content steps outs → outs ≡ run_of n content steps
@@ -121,9 +109,9 @@ module _ (d : Design) (top : Name) where
       let parts = both (every (λ r. closed n (net [] r)) (outputs_of (find_module d top))) (slots_closed n (registers d top)) reached in
       let same : (a : Net) → closed n a ≡ true → step.map_of a ≡ evaluated s content n a = settled_value s content step.map_of step.settled n in
       let head : o ≡ outputs d top (evaluated s content n) =
-        step.read ∙ ap joined (outputs_same n (outputs_of (find_module d top)) step.map_of (evaluated s content n) parts.0 same) in
+      step.read ∙ ap joined (outputs_same n (outputs_of (find_module d top)) step.map_of (evaluated s content n) parts.0 same) in
       let taken : after ≡ next_content (registers d top) (evaluated s content n) content =
-        step.taken ∙ next_same n (registers d top) step.map_of (evaluated s content n) content parts.1 same in
+      step.taken ∙ next_same n (registers d top) step.map_of (evaluated s content n) content parts.1 same in
       ap₂ (λ x xs. x ∷ xs) head
       (run_value n reached (next_content (registers d top) (evaluated s content n) content) steps outs (subst (λ c. Run (machine d top) c steps outs) taken rest))
     where

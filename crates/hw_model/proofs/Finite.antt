@@ -1,10 +1,10 @@
 -- Where no module is within itself, the nets that need others stand in a list.
 use Rattle.std.proofs.Common.{◌≡◌, ◌⊎◌, ℕ, zero, suc, ◌+◌, ◌<◌, ◌≤◌, Bool, true, false, cond, List, [], ◌∷◌, ◌++◌, length, map, take, flat_map, slice_get, is_some, Option, Some, None, refl, sym, ap, subst, ◌∙◌, inl, inr, arith}
 use Rattle.std.proofs.lemmas.List.{length-map}
-use Rattle.std.proofs.lemmas.Option.{slice_get-map, slice_get_within}
+use Rattle.std.proofs.lemmas.Option.{slice_get_within}
 use Rattle.std.specs.Cmp.Lexicographic.{same_text}
-use Rattle.wiring.specs.Options.{bind, omap}
-use Rattle.wiring.specs.Wiring.{In, Chain, IsAcyclic, IsWithin}
+use Rattle.wiring.specs.Options.{bind}
+use Rattle.wiring.specs.Wiring.{In, Chain, IsWithin}
 use Rattle.wiring.proofs.Options.{bind_some, omap_some}
 use Rattle.wiring.proofs.Members.{In-append_left, In-append_right, In-map, In-flat_map}
 use Rattle.wiring.proofs.Chains.{Chain-append, Chain-le}
@@ -14,15 +14,15 @@ use Rattle.hw_model.specs.Types.{Name, HwType, width}
 use Rattle.hw_model.specs.Kinds.{Instance}
 use Rattle.hw_model.specs.Design.{Ref, Port, OpResult, Op, Module, Design, same_name, find_module, instance_in, register_form, result_type, output_refs, callee}
 use Rattle.hw_model.specs.Design.Ref.{port, result, undefined}
-use Rattle.hw_model.specs.Flat.{Path, Net, net, Source, instances, module_at, base, body_state, state, input_width, port_ref, operand_for, input_count, input_of, input_source, copy_of, joined_ref, joined_at, given_ref, held_of, made_of, source}
-use Rattle.hw_model.specs.Flat.Source.{nowhere, input, held, copy, made}
+use Rattle.hw_model.specs.Flat.{Path, Net, net, instances, module_at, base, body_state, state, input_width, port_ref, operand_for, input_count, input_of, copy_of, joined_ref, joined_at, given_ref, held_of, made_of}
+use Rattle.hw_model.specs.Flat.Source.{nowhere, input}
 use Rattle.hw_model.specs.Meaning.{needs_of, needs, value, HasNoCycle, HasHeights, machine}
 use Rattle.hw_model.specs.Machine.{SettlesOnce}
 use Rattle.hw_model.specs.Sound.{body_of, ports_of}
 use Rattle.hw_model.specs.Hierarchy.{called, called_by, calls, HasNoRecursion}
 use Rattle.hw_model.proofs.Sorts.{Sort, sort_of}
 use Rattle.hw_model.proofs.Sorts.Sort.{a_register, an_instance, an_output, a_made}
-use Rattle.hw_model.proofs.Paths.{module_inside, joined_body, input_ports, port_of, output_of, op_in, result_in, result_here}
+use Rattle.hw_model.proofs.Paths.{input_ports, output_of, op_in, result_in, result_here}
 use Rattle.hw_model.proofs.NetWidths.{chosen_instance}
 
 -- ---- symbols
@@ -37,7 +37,7 @@ module_found (x ∷ d) s m is = go (same_name x.symbol s) refl is (module_found 
     go true same found rest = inl (sym (same_text x.symbol s (sym same)))
     go false same found rest = inr (rest found)
 
-calls_within : (d : Design) → IsWithin (calls d) (map (λ (m : Module). m.symbol) d)
+pub calls_within : (d : Design) → IsWithin (calls d) (map (λ (m : Module). m.symbol) d)
 calls_within d a b need = go (find_module d a) refl need
   where
     go : (o : Option Module) → find_module d a ≡ o → In b (called (body_of o)) → In a (map (λ (m : Module). m.symbol) d)
@@ -74,9 +74,9 @@ module _ (d : Design) (top : Name) where
       let named = bind_some (instance_in inner.0.kind) (λ (i : Instance). find_module d i.symbol) inner.2 in
       let before = path_chain p outer.0 outer.1 in
       let need : In named.0.symbol (calls d before.0) =
-        subst (λ o. In named.0.symbol (called (body_of o))) (sym before.2) (called_instance outer.0.body u inner.0 named.0 inner.1 named.1) in
+      subst (λ o. In named.0.symbol (called (body_of o))) (sym before.2) (called_instance outer.0.body u inner.0 named.0 inner.1 named.1) in
       let longer : Chain (calls d) (length p + 1) top named.0.symbol =
-        Chain-append (calls d) (length p) 1 top before.0 named.0.symbol before.1 (named.0.symbol, need, refl) in
+      Chain-append (calls d) (length p) 1 top before.0 named.0.symbol before.1 (named.0.symbol, need, refl) in
       let size : length p + 1 ≡ suc (length p) = omega arith in
       (named.0.symbol, subst (λ n. Chain (calls d) n top named.0.symbol) size longer, named.2)
 
@@ -84,7 +84,7 @@ module _ (d : Design) (top : Name) where
   path_short acyclic p m is =
       let chain = path_chain p m is in
       let bound : length p ≤ length (map (λ (x : Module). x.symbol) d) =
-        Chain-le (calls d) (map (λ (x : Module). x.symbol) d) (calls_within d) acyclic (length p) top chain.0 chain.1 in
+      Chain-le (calls d) (map (λ (x : Module). x.symbol) d) (calls_within d) acyclic (length p) top chain.0 chain.1 in
       subst (λ n. length p ≤ n) (length-map d (λ (x : Module). x.symbol)) bound
 
   abbrev upto : ℕ → List ℕ
@@ -119,8 +119,8 @@ module _ (d : Design) (top : Name) where
       let outer = bind_some (module_at d top p) (λ (x : Module). bind (slice_get (instances x.body) u) (callee d)) is in
       let inner = bind_some (slice_get (instances outer.0.body) u) (callee d) outer.2 in
       let below : u < length (instances (body_of (module_at d top p))) =
-        slice_get_within (instances (body_of (module_at d top p))) u inner.0
-        (ap (λ o. slice_get (instances (body_of o)) u) outer.1 ∙ inner.1) in
+      slice_get_within (instances (body_of (module_at d top p))) u inner.0
+      (ap (λ o. slice_get (instances (body_of o)) u) outer.1 ∙ inner.1) in
       In-append_right (u ∷ p) (paths n) (flat_map further (paths n))
       (In-flat_map further p (paths n) (u ∷ p) (In-paths n p outer.0 (omega arith) outer.1)
       (In-map (λ w. w ∷ p) u (upto (length (instances (body_of (module_at d top p))))) (In-upto (length (instances (body_of (module_at d top p)))) u below)))
@@ -182,7 +182,7 @@ module _ (d : Design) (top : Name) where
     port_listed : (p : Path) (j : ℕ) (b : Net) → In b (needs d top (net p (port j))) → In (net p (port j)) all_nets
     port_listed [] j b need =
         let none : needs d top (net [] (port j)) ≡ [] =
-          ap needs_of (input_ports j (find_module d top)) ∙ no_needs_input (slice_get (ports_of (find_module d top)) j) (input_width (take j (ports_of (find_module d top)))) in
+        ap needs_of (input_ports j (find_module d top)) ∙ no_needs_input (slice_get (ports_of (find_module d top)) j) (input_width (take j (ports_of (find_module d top)))) in
         absurd (subst (In b) none need)
     port_listed (u ∷ p) j b need =
         let joins = copied p (bind (module_at d top p) (joined_at d u j)) b need in
@@ -190,8 +190,8 @@ module _ (d : Design) (top : Name) where
         let inner = bind_some (slice_get (instances outer.0.body) u) (joined_ref d j) outer.2 in
         let inside = bind_some (callee d inner.0) (λ (c : Module). port_ref c.ports inner.0.operands j) inner.2 in
         let there : module_at d top (u ∷ p) ≡ Some inside.0 =
-          ap (λ o. bind o (λ (x : Module). bind (slice_get (instances x.body) u) (callee d))) outer.1
-          ∙ ap (λ x. bind x (callee d)) inner.1 ∙ inside.1 in
+        ap (λ o. bind o (λ (x : Module). bind (slice_get (instances x.body) u) (callee d))) outer.1
+        ∙ ap (λ x. bind x (callee d)) inner.1 ∙ inside.1 in
         port_within (u ∷ p) inside.0 j there (within inside.0 inner.0 (slice_get inside.0.ports j) refl inside.2)
       where
         within : (c : Module) (o : Op) (x : Option Port) → slice_get c.ports j ≡ x → {r : Ref} → operand_for x o.operands (input_count (take j c.ports)) ≡ Some r → j < length c.ports
@@ -211,7 +211,7 @@ module _ (d : Design) (top : Name) where
             by_type (Some t) never = absurd never
         by_sort m is os o there (an_instance x r n u) here =
             let need' : In b (needs_of (copy_of (length (instances (take i os)) ∷ p) (given_ref d k o))) =
-              subst (λ s. In b (needs_of s)) (chosen_instance (is_some (register_form o.kind)) (is_some (instance_in o.kind)) _ _ _ (ap is_some r) (ap is_some n)) here in
+            subst (λ s. In b (needs_of s)) (chosen_instance (is_some (register_form o.kind)) (is_some (instance_in o.kind)) _ _ _ (ap is_some r) (ap is_some n)) here in
             let gives = copied (length (instances (take i os)) ∷ p) (given_ref d k o) b need' in
             let given : slice_get (output_refs (body_of (callee d o))) k ≡ Some gives.0 = sym (output_of (callee d o) k) ∙ gives.1 in
             let below : k < length (output_refs (body_of (callee d o))) = slice_get_within (output_refs (body_of (callee d o))) k gives.0 given in
@@ -225,9 +225,11 @@ module _ (d : Design) (top : Name) where
                 let found = omap_some (λ (x : OpResult). x.type) (slice_get o.results k) typed in
                 let below : k < length o.results = slice_get_within o.results k found.0 found.1 in
                 result_within p m i k o is there (omega arith)
+
         by_op : (m : Module) → module_at d top p ≡ Some m → (os : List Op) (x : Option Op) → slice_get m.body i ≡ x → In b (needs_of (result_in d top p os i k x)) → In (net p (result i k)) all_nets
         by_op m is os None there never = absurd never
         by_op m is os (Some o) there here = by_sort m is os o there (sort_of o.kind) here
+
         by_module : (x : Option Module) → module_at d top p ≡ x → In b (needs_of (result_in d top p (body_of (module_at d top p)) i k (slice_get (body_of (module_at d top p)) i)))
             → In (net p (result i k)) all_nets
         by_module None is here = absurd (subst (λ o. In b (needs_of (result_in d top p (body_of o) i k (slice_get (body_of o) i)))) is here)

@@ -1,8 +1,8 @@
 -- Machines that behave the same: from maps that carry settled maps over, and one after another.
-use Rattle.std.proofs.Common.{◌≡◌, ℕ, List, [], ◌∷◌, ◌↔◌, refl, sym, ap, ap₂, subst, ◌∙◌}
+use Rattle.std.proofs.Common.{◌≡◌, List, [], ◌∷◌, refl, sym, ap, ap₂, subst, ◌∙◌}
 use mathlib.Core.Path.{fun_ext}
 use Rattle.bits_core.specs.Word.{Word}
-use Rattle.hw_model.specs.Machine.{Machine, Step, Run, SettlesOnce, Same, Carries}
+use Rattle.hw_model.specs.Machine.{Machine, Run, SettlesOnce, Same, Carries}
 
 module _ {A : Type 0} where
   -- a machine settles once for all inputs and content
@@ -44,13 +44,16 @@ module _ {A B : Type 0} where
   run_carried m n to carries content [] [] run = run
   run_carried m n to carries content [] (o ∷ outputs) run = run
   run_carried m n to carries content (s ∷ steps) [] run = run
-  run_carried m n to carries content (s ∷ steps) (o ∷ outputs) (after, step, rest) =
-      (after, record {
-        map_of = to step.map_of;
-        settled = carries.settled s content step.map_of step.settled;
-        read = step.read ∙ sym (carries.outputs s content step.map_of step.settled);
-        taken = step.taken ∙ sym (carries.next s content step.map_of step.settled) },
-      run_carried m n to carries after steps outputs rest)
+  run_carried m n to carries content (s ∷ steps) (o ∷ outputs) (after, step, rest) = (
+    after,
+    record {
+      map_of = to step.map_of;
+      settled = carries.settled s content step.map_of step.settled;
+      read = step.read ∙ sym (carries.outputs s content step.map_of step.settled);
+      taken = step.taken ∙ sym (carries.next s content step.map_of step.settled);
+    },
+    run_carried m n to carries after steps outputs rest,
+  )
 
 module _ {A B : Type 0} where
   -- where a machine settles once, its runs are those of a machine whose settled maps it carries over, and back
@@ -70,7 +73,9 @@ module _ {A B : Type 0} where
     once = once';
     runs = λ content steps outputs. (
       run_carried m n to carries content steps outputs,
-      same_runs_back m n to once once' carries content steps outputs) }
+      same_runs_back m n to once once' carries content steps outputs,
+    );
+  }
 
   -- or back
   pub same_back : (m : Machine A) (n : Machine B) (back : (B → Word) → A → Word) → m.size ≡ n.size
@@ -80,7 +85,9 @@ module _ {A B : Type 0} where
     once = once';
     runs = λ content steps outputs. (
       run_back content steps outputs,
-      run_carried n m back carries content steps outputs) }
+      run_carried n m back carries content steps outputs,
+    );
+  }
     where
       run_back : (content : Word) (steps outputs : List Word) → Run m content steps outputs → Run n content steps outputs
       run_back content steps outputs run =
@@ -98,22 +105,27 @@ module _ {A B : Type 0} where
     once = once_there;
     runs = λ content steps outputs. (
       run_carried m n to there content steps outputs,
-      run_carried n m back here content steps outputs) }
+      run_carried n m back here content steps outputs,
+    );
+  }
     where
       once_there : (inputs content : Word) → SettlesOnce n inputs content
       once_there inputs content =
-          let mine : A → Word = (once inputs content).0 in
-          (to mine, there.settled inputs content mine (once inputs content).1,
-          λ σ settled b.
-            let same : back σ ≡ mine = fun_ext ((once inputs content).2 (back σ) (here.settled inputs content σ settled)) in
-            sym (round inputs content σ settled b) ∙ ap (λ ρ. to ρ b) same)
+          let mine : A → Word = (once inputs content).0 in (
+            to mine,
+            there.settled inputs content mine (once inputs content).1,
+            λ σ settled b.
+                let same : back σ ≡ mine = fun_ext ((once inputs content).2 (back σ) (here.settled inputs content σ settled)) in
+                sym (round inputs content σ settled b) ∙ ap (λ ρ. to ρ b) same,
+          )
 
   -- the other way round, where the first machine settles once
   pub same_sym : (m : Machine A) (n : Machine B) → AlwaysSettles m → Same m n → Same n m
   same_sym m n once same = record {
     size = sym same.size;
     once = once;
-    runs = λ content steps outputs. ((same.runs content steps outputs).1, (same.runs content steps outputs).0) }
+    runs = λ content steps outputs. ((same.runs content steps outputs).1, (same.runs content steps outputs).0);
+  }
 
 -- a machine behaves as itself, where it settles once
 pub same_self : {A : Type 0} (m : Machine A) → AlwaysSettles m → Same m m
@@ -126,4 +138,6 @@ same_then l m n first second = record {
   once = second.once;
   runs = λ content steps outputs. (
     λ run. (second.runs content steps outputs).0 ((first.runs content steps outputs).0 run),
-    λ run. (first.runs content steps outputs).1 ((second.runs content steps outputs).1 run)) }
+    λ run. (first.runs content steps outputs).1 ((second.runs content steps outputs).1 run),
+  );
+}

@@ -1,26 +1,25 @@
 -- Every net of a sound design whose nets have heights has as many bits as its type.
-use Rattle.std.proofs.Common.{◌≡◌, ℕ, zero, suc, ◌+◌, Bool, true, false, cond, List, [], ◌∷◌, length, map, take, slice_get, is_some, Option, Some, None, refl, sym, ap, ap₂, subst, ◌∙◌, inl, inr, arith}
+use Rattle.std.proofs.Common.{◌≡◌, ℕ, zero, suc, ◌+◌, Bool, true, false, cond, List, [], ◌∷◌, length, map, take, slice_get, is_some, Option, Some, None, refl, sym, ap, subst, ◌∙◌, inl, inr}
 use Rattle.std.proofs.lemmas.Option.{slice_get-map}
 use mathlib.Core.Path.{subst₂}
 use Rattle.wiring.specs.Options.{bind, omap}
 use Rattle.wiring.specs.Wiring.{In}
 use Rattle.wiring.proofs.Options.{omap_some}
 use Rattle.wiring.proofs.Heights.{by_heights}
-use Rattle.wiring.proofs.Lists.{map-map}
-use Rattle.bits_core.specs.Word.{Word, first}
+use Rattle.bits_core.specs.Word.{Word}
 use Rattle.bits_core.proofs.First.{length-first}
 use Rattle.hw_model.specs.Types.{Name, HwType, width}
 use Rattle.hw_model.specs.Kinds.{Kind, Instance}
 use Rattle.hw_model.specs.Kinds.Kind.{output}
 use Rattle.hw_model.specs.Design.{Ref, Port, OpResult, Op, Module, Design, find_module, instance_in, is_output_kind, register_form, result_type, output_refs, callee}
 use Rattle.hw_model.specs.Design.Ref.{port, result, undefined}
-use Rattle.hw_model.specs.Flat.{Path, Net, net, Source, instances, module_at, base, body_state, state, port_ref, operand_for, input_count, input_width, input_of, port_source, copy_of, joined_ref, joined_at, given_ref, held_of, made_of, source}
-use Rattle.hw_model.specs.Flat.Source.{nowhere, input, held, copy, made}
+use Rattle.hw_model.specs.Flat.{Path, Net, net, Source, instances, module_at, base, body_state, state, port_ref, operand_for, input_count, input_width, input_of, copy_of, joined_ref, joined_at, given_ref, held_of, made_of, source}
+use Rattle.hw_model.specs.Flat.Source.{nowhere, input}
 use Rattle.hw_model.specs.Meaning.{needs_of, needs, value_of, HasHeights, Settled}
-use Rattle.hw_model.specs.Sound.{HasWidth, HaveWidths, body_of, ports_of, input_types, output_types, input_type, type_in, OpFits, InstanceFits, SoundBody, Sound, Fits}
+use Rattle.hw_model.specs.Sound.{HasWidth, HaveWidths, body_of, ports_of, input_types, output_types, input_type, type_in, InstanceFits, SoundBody, Sound, Fits}
 use Rattle.hw_model.proofs.Sorts.{Sort, sort_of, instance_found}
 use Rattle.hw_model.proofs.Sorts.Sort.{a_register, an_instance, an_output, a_made}
-use Rattle.hw_model.proofs.Paths.{module_inside, joined_body, input_ports, port_of, output_of, op_in, result_in, result_here}
+use Rattle.hw_model.proofs.Paths.{module_inside, joined_body, input_ports, output_of, op_in, result_in, result_here}
 use Rattle.hw_model.proofs.Widths.{fits_width}
 
 -- ---- soundness at a path
@@ -43,6 +42,7 @@ sound_at d sound top (u ∷ p) =
     by_symbol : (y : Option Instance) → SoundBody d (ports_of (bind y (λ (i : Instance). find_module d i.symbol))) (body_of (bind y (λ (i : Instance). find_module d i.symbol)))
     by_symbol None = no_module_sound d
     by_symbol (Some i) = sound_found d sound i.symbol
+
     go : (x : Option Op) → SoundBody d (ports_of (bind x (callee d))) (body_of (bind x (callee d)))
     go None = no_module_sound d
     go (Some o) = by_symbol (instance_in o.kind)
@@ -56,6 +56,7 @@ instance_position (y ∷ ys) u o is = go (sort_of y.kind) u is (instance_positio
   where
     later : (j : ℕ) × (slice_get ys j ≡ Some o) → (j : ℕ) × (slice_get (y ∷ ys) j ≡ Some o)
     later (j, found) = (suc j, found)
+
     go : Sort y.kind → (u : ℕ) → slice_get (instances (y ∷ ys)) u ≡ Some o
         → ((u : ℕ) (o : Op) → slice_get (instances ys) u ≡ Some o → (j : ℕ) × (slice_get ys j ≡ Some o))
         → (j : ℕ) × (slice_get (y ∷ ys) j ≡ Some o)
@@ -84,7 +85,7 @@ typed_at : (type_of : Ref → Option HwType) (rs : List Ref) (ts : List HwType) 
     → (r : Ref) × (slice_get rs n ≡ Some r) × (type_of r ≡ Some t)
 typed_at type_of rs ts n t same is =
     let e : omap type_of (slice_get rs n) ≡ Some (Some t) =
-      sym (slice_get-map type_of rs n) ∙ ap (λ xs. slice_get xs n) same ∙ slice_get-map (λ (u : HwType). Some u) ts n ∙ ap (omap (λ (u : HwType). Some u)) is in
+    sym (slice_get-map type_of rs n) ∙ ap (λ xs. slice_get xs n) same ∙ slice_get-map (λ (u : HwType). Some u) ts n ∙ ap (omap (λ (u : HwType). Some u)) is in
     omap_some type_of (slice_get rs n) e
 
 no_output : (kind : Kind) (ts : List HwType) (xs : List (Option HwType)) (t : HwType) (k : ℕ) → is_output_kind kind ≡ true → Fits kind ts xs t k → ⊥
@@ -140,6 +141,7 @@ module _ (d : Design) (top : Name) (sound : Sound d) (inputs content : Word) (ρ
     where
       type_of : Ref → Option HwType
       type_of = type_in (ports_of (module_at d top p)) (body_of (module_at d top p))
+
       by_port : (o : Op) (c : Module) → map type_of o.operands ≡ map (λ (t : HwType). Some t) (input_types c.ports)
           → (x : Option Port) → slice_get c.ports j ≡ x → Good (copy_of p (operand_for x o.operands (input_count (take j c.ports)))) (input_type x)
       by_port o c typed None is = λ needed. tt
@@ -150,14 +152,16 @@ module _ (d : Design) (top : Name) (sound : Sound d) (inputs content : Word) (ρ
           by_way false way =
               let found = typed_at type_of o.operands (input_types c.ports) (input_count (take j c.ports)) q.type typed (input_found c.ports j q is way) in
               good_copy p (slice_get o.operands (input_count (take j c.ports))) found.0 q.type found.1 found.2
+
       by_instance : (o : Op) → InstanceFits d type_of o → (y : Option Instance) → instance_in o.kind ≡ y
           → Good (copy_of p (bind (bind y (λ (i : Instance). find_module d i.symbol)) (λ (c : Module). port_ref c.ports o.operands j)))
-            (input_type (slice_get (ports_of (bind y (λ (i : Instance). find_module d i.symbol))) j))
+          (input_type (slice_get (ports_of (bind y (λ (i : Instance). find_module d i.symbol))) j))
       by_instance o fits None is = λ needed. tt
       by_instance o fits (Some i) is =
           let there = fits i is in
           subst (λ m. Good (copy_of p (bind m (λ (c : Module). port_ref c.ports o.operands j))) (input_type (slice_get (ports_of m) j))) (sym there.1)
           (by_port o there.0 there.2 (slice_get there.0.ports j) refl)
+
       go : (x : Option Op) → slice_get (instances (body_of (module_at d top p))) u ≡ x
           → Good (copy_of p (bind x (joined_ref d j))) (input_type (slice_get (ports_of (bind x (callee d))) j))
       go None is = λ needed. tt
@@ -177,8 +181,8 @@ module _ (d : Design) (top : Name) (sound : Sound d) (inputs content : Word) (ρ
       let gives = typed_at (type_in c.ports c.body) (output_refs c.body) (output_types c.ports) k t (sound i.symbol c there.1).outputs listed in
       let called : callee d o ≡ Some c = ap (λ y. bind y (λ (x : Instance). find_module d x.symbol)) inst ∙ there.1 in
       let inside : module_at d top (length (instances (take j (body_of (module_at d top p)))) ∷ p) ≡ Some c =
-        module_inside d (length (instances (take j (body_of (module_at d top p))))) (module_at d top p)
-        ∙ ap (λ x. bind x (callee d)) (instance_found (body_of (module_at d top p)) j o i is inst) ∙ called in
+      module_inside d (length (instances (take j (body_of (module_at d top p))))) (module_at d top p)
+      ∙ ap (λ x. bind x (callee d)) (instance_found (body_of (module_at d top p)) j o i is inst) ∙ called in
       good_copy (length (instances (take j (body_of (module_at d top p)))) ∷ p) (given_ref d k o) gives.0 t
       (output_of (callee d o) k ∙ ap (λ m. slice_get (output_refs (body_of m)) k) called ∙ gives.1)
       (ap (λ m. type_in (ports_of m) (body_of m) gives.0) inside ∙ gives.2)
@@ -210,6 +214,7 @@ module _ (d : Design) (top : Name) (sound : Sound d) (inputs content : Word) (ρ
           (good_given p j k o x is i (result_type o k) refl)
       by_sort o is (an_output r i u) = simp (r, i, u) (good_output p j k o is u (result_type o k) refl)
       by_sort o is (a_made r i u) = simp (r, i, u) (good_made p j k o is r i (result_type o k) refl)
+
       go : (x : Option Op) → slice_get (body_of (module_at d top p)) j ≡ x
           → Good (result_in d top p (body_of (module_at d top p)) j k x) (bind x (λ (o : Op). result_type o k))
       go None is = λ needed. tt

@@ -27,7 +27,7 @@ fold_more value step w more xs i j x all next have e h g a n =
     let k : j ≡ suc i = omega arith in
     let d : drop i xs ≡ x ∷ drop (suc i) xs = drop-cons xs i x h ∙ ap (λ (u : Word). u ∷ drop (suc i) xs) (sym g) in
     n ∙ ap (step x) (a ∙ ap (λ (m : ℕ). value (drop m xs)) k)
-      ∙ more x (drop (suc i) xs) own (All-drop (λ (u : Word). length u ≡ w) (suc i) xs have) ∙ ap value (sym d)
+    ∙ more x (drop (suc i) xs) own (All-drop (λ (u : Word). length u ≡ w) (suc i) xs have) ∙ ap value (sym d)
 
 -- ---- widths
 
@@ -63,13 +63,13 @@ pub sum_folds : (w : ℕ) → FoldsBy (λ xs. bits w (total (map number xs))) su
 unfolding FoldsBy
 sum_folds w x ys own have =
     add_words_comm x (bits w (total (map number ys))) (own ∙ sym (length-bits w (total (map number ys))))
-      ∙ add-bits_left w (total (map number ys)) x ∙ ap (bits w) (add_comm (total (map number ys)) (number x))
+    ∙ add-bits_left w (total (map number ys)) x ∙ ap (bits w) (add_comm (total (map number ys)) (number x))
 
 pub product_folds : (w : ℕ) → FoldsBy (λ xs. bits w (product (map number xs))) product_of w
 unfolding FoldsBy
 product_folds w x ys own have =
     mul_words_comm x (bits w (product (map number ys))) (own ∙ sym (length-bits w (product (map number ys))))
-      ∙ mul-bits_left w (product (map number ys)) x ∙ ap (bits w) (mul_comm (product (map number ys)) (number x))
+    ∙ mul-bits_left w (product (map number ys)) x ∙ ap (bits w) (mul_comm (product (map number ys)) (number x))
 
 -- ---- the integers below 0
 

@@ -1,10 +1,10 @@
 -- What a path of instances leads to, by the body and the ports of the module there.
-use Rattle.std.proofs.Common.{◌≡◌, ℕ, ◌+◌, cond, List, [], ◌∷◌, length, take, slice_get, Option, Some, None, refl}
+use Rattle.std.proofs.Common.{◌≡◌, ℕ, ◌+◌, cond, List, ◌∷◌, length, take, slice_get, Option, Some, None, refl}
 use Rattle.wiring.specs.Options.{bind}
 use Rattle.hw_model.specs.Types.{Name}
 use Rattle.hw_model.specs.Design.{Ref, Op, Module, Design, is_instance, is_register, is_output_op, result_type, output_refs, callee}
-use Rattle.hw_model.specs.Design.Ref.{port, result, undefined}
-use Rattle.hw_model.specs.Flat.{Path, Net, net, Source, Slot, instances, before_instance, module_at, body_state, state, state_of, state_before, base, port_ref, input_width, input_of, input_source, copy_of, joined_ref, joined_at, given_ref, held_of, made_of, result_source, result_source_of, source, body_registers, registers_of}
+use Rattle.hw_model.specs.Design.Ref.{result}
+use Rattle.hw_model.specs.Flat.{Path, net, Source, Slot, instances, before_instance, module_at, body_state, state, state_of, state_before, base, port_ref, input_width, input_of, input_source, copy_of, joined_ref, joined_at, given_ref, held_of, made_of, result_source, result_source_of, source, body_registers, registers_of}
 use Rattle.hw_model.specs.Flat.Source.{nowhere}
 use Rattle.hw_model.specs.Meaning.{outputs_of}
 use Rattle.hw_model.specs.Sound.{body_of, ports_of}
@@ -51,9 +51,9 @@ output_of (Some m) k = refl
 -- where result k of an operation at position j of a body at the end of a path comes from
 abbrev pub op_in : Design → Name → Path → List Op → ℕ → ℕ → Op → Source
 op_in d top p os j k o =
-  cond (is_register o) (held_of (base d top p + body_state (state d) (take j os)) (result_type o k))
+    cond (is_register o) (held_of (base d top p + body_state (state d) (take j os)) (result_type o k))
     (cond (is_instance o) (copy_of (length (instances (take j os)) ∷ p) (given_ref d k o))
-      (cond (is_output_op o) nowhere (made_of p o k (result_type o k))))
+    (cond (is_output_op o) nowhere (made_of p o k (result_type o k))))
 
 abbrev pub result_in : Design → Name → Path → List Op → ℕ → ℕ → Option Op → Source
 result_in d top p os j k None = nowhere
@@ -72,4 +72,3 @@ result_body d top p j k (Some m) = go (slice_get m.body j)
 pub result_here : (d : Design) (top : Name) (p : Path) (j k : ℕ)
     → source d top (net p (result j k)) ≡ result_in d top p (body_of (module_at d top p)) j k (slice_get (body_of (module_at d top p)) j)
 result_here d top p j k = result_body d top p j k (module_at d top p)
-

@@ -16,5 +16,5 @@ differing view [] (y ∷ ys) h = refl
 differing view (x ∷ xs) [] h = refl
 differing view (x ∷ xs) (y ∷ ys) h =
     and_false (same_name (view x).name (view y).name) (same_type (view x).type (view y).type)
-      (same_fields (fields_of (map view xs)) (fields_of (map view ys)))
-      (differing view xs ys (λ e. h (ap suc e)))
+    (same_fields (fields_of (map view xs)) (fields_of (map view ys)))
+    (differing view xs ys (λ e. h (ap suc e)))

@@ -15,4 +15,4 @@ differing view [] (y ∷ ys) h = refl
 differing view (x ∷ xs) [] h = refl
 differing view (x ∷ xs) (y ∷ ys) h =
     and_false (same_literal (view x) (view y)) (same_literals (literals_of (map view xs)) (literals_of (map view ys)))
-      (differing view xs ys (λ e. h (ap suc e)))
+    (differing view xs ys (λ e. h (ap suc e)))

@@ -1,11 +1,11 @@
 -- The value of each kind of operation has as many bits as its type, where its operands' words have as many as theirs.
-use Rattle.std.proofs.Common.{◌≡◌, ℕ, zero, suc, ◌+◌, ◌-◌, ◌*◌, ◌/◌, ◌<◌, ◌≤◌, Bool, true, false, cond, nat_lt, ◌==◌, List, [], ◌∷◌, ◌++◌, length, map, take, drop, slice_get, Option, Some, None, refl, sym, ap, subst, ◌∙◌, inl, inr, arith, length-append, length-drop, length-take, zero-mul, suc-mul, add-mul}
+use Rattle.std.proofs.Common.{◌≡◌, ℕ, zero, suc, ◌+◌, ◌*◌, ◌/◌, ◌<◌, ◌≤◌, Bool, true, false, cond, nat_lt, ◌==◌, List, [], ◌∷◌, ◌++◌, length, map, take, drop, slice_get, Option, Some, None, refl, sym, ap, subst, ◌∙◌, inl, inr, arith, length-append, length-drop, length-take, zero-mul, suc-mul, add-mul}
 use Rattle.std.proofs.Math.ListN.{length-replicate}
 use Rattle.std.proofs.Math.Nat.{mul-div_cancel, mul-le-mul}
 use Rattle.std.proofs.lemmas.Bool.{ltb-true}
 use Rattle.wiring.specs.Lists.{total}
 use Rattle.wiring.specs.Wiring.{In}
-use Rattle.bits_core.specs.Word.{Word, number, bits_of_ℤ, copies, zeros, extract as bits_from, and_words, or_words, xor_words, bitwise, ones, flag}
+use Rattle.bits_core.specs.Word.{Word, number, copies, zeros, extract as bits_from}
 use Rattle.bits_core.proofs.Numbers.{length-bits, length-copies, length-extract}
 use Rattle.bits_core.proofs.Arithmetic.{length-sub, length-quotient, length-rest, length-signed_quotient, length-signed_rest}
 use Rattle.bits_core.proofs.Bitwise.{length-bitwise}

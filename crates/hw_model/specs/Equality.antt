@@ -20,8 +20,8 @@ pub by_view : {A B : Type 0} (view : A → B) (same : B → B → Bool) → Tell
 by_view {A} {B} view same tells = record {
   refl = λ a. tells.self (view a);
   symm = λ a b. same_bools (same (view a) (view b)) (same (view b) (view a))
-    (λ h. ap (same (view b)) (tells.from (view a) (view b) h) ∙ tells.self (view b))
-    (λ h. ap (same (view a)) (tells.from (view b) (view a) h) ∙ tells.self (view a));
+      (λ h. ap (same (view b)) (tells.from (view a) (view b) h) ∙ tells.self (view b))
+      (λ h. ap (same (view a)) (tells.from (view b) (view a) h) ∙ tells.self (view a));
   congr = λ a b c h. ap (λ (u : B). same u (view c)) (tells.from (view a) (view b) h);
 }
 

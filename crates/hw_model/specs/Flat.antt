@@ -168,9 +168,9 @@ made_of p o k (Some t) = made o.kind o.types t k (map (net p) o.operands)
 -- result k of the operation o at position i of the module m at the end of a path
 abbrev pub op_source : Design → Name → Path → Module → ℕ → ℕ → Op → Source
 op_source d top p m i k o =
-  cond (is_register o) (held_of (offset d top p m i) (result_type o k))
+    cond (is_register o) (held_of (offset d top p m i) (result_type o k))
     (cond (is_instance o) (copy_of (length (instances (take i m.body)) ∷ p) (given_ref d k o))
-      (cond (is_output_op o) nowhere (made_of p o k (result_type o k))))
+    (cond (is_output_op o) nowhere (made_of p o k (result_type o k))))
 
 abbrev pub result_source_of : Design → Name → Path → Module → ℕ → ℕ → Option Op → Source
 result_source_of d top p m i k None = nowhere

@@ -122,9 +122,9 @@ names_from (x ∷ xs) (y ∷ ys) h =
 instance_self : (i : Instance) → same_instance i i ≡ true
 instance_self i =
     both (same_name i.name i.name) (same_optional_name i.inner_symbol i.inner_symbol && (same_name i.symbol i.symbol && (pointwise same_name i.inputs i.inputs && pointwise same_name i.outputs i.outputs)))
-      (name_self i.name)
+    (name_self i.name)
     (both (same_optional_name i.inner_symbol i.inner_symbol) (same_name i.symbol i.symbol && (pointwise same_name i.inputs i.inputs && pointwise same_name i.outputs i.outputs))
-      (optional_self i.inner_symbol)
+    (optional_self i.inner_symbol)
     (both (same_name i.symbol i.symbol) (pointwise same_name i.inputs i.inputs && pointwise same_name i.outputs i.outputs) (name_self i.symbol)
     (both (pointwise same_name i.inputs i.inputs) (pointwise same_name i.outputs i.outputs) (names_self i.inputs) (names_self i.outputs))))
 
@@ -139,10 +139,10 @@ instance_from i j h =
     let r = both_of (same_name i.symbol j.symbol) (pointwise same_name i.inputs j.inputs && pointwise same_name i.outputs j.outputs) q.1 in
     let s = both_of (pointwise same_name i.inputs j.inputs) (pointwise same_name i.outputs j.outputs) r.1 in
     ap (λ (x : Name). made x i.inner_symbol i.symbol i.inputs i.outputs) (name_from i.name j.name p.0)
-      ∙ ap (λ (x : Option Name). made j.name x i.symbol i.inputs i.outputs) (optional_from i.inner_symbol j.inner_symbol q.0)
-      ∙ ap (λ (x : Name). made j.name j.inner_symbol x i.inputs i.outputs) (name_from i.symbol j.symbol r.0)
-      ∙ ap (λ (x : List Name). made j.name j.inner_symbol j.symbol x i.outputs) (names_from i.inputs j.inputs s.0)
-      ∙ ap (λ (x : List Name). made j.name j.inner_symbol j.symbol j.inputs x) (names_from i.outputs j.outputs s.1)
+    ∙ ap (λ (x : Option Name). made j.name x i.symbol i.inputs i.outputs) (optional_from i.inner_symbol j.inner_symbol q.0)
+    ∙ ap (λ (x : Name). made j.name j.inner_symbol x i.inputs i.outputs) (name_from i.symbol j.symbol r.0)
+    ∙ ap (λ (x : List Name). made j.name j.inner_symbol j.symbol x i.outputs) (names_from i.inputs j.inputs s.0)
+    ∙ ap (λ (x : List Name). made j.name j.inner_symbol j.symbol j.inputs x) (names_from i.outputs j.outputs s.1)
 
 is_icmp_from : (own : Predicate) (k : Kind) → is_icmp own k ≡ true → icmp own ≡ k
 is_icmp_from own (icmp other) h = ap icmp (predicate_from own other h)
@@ -231,10 +231,12 @@ plain_from : (j k : Kind) → 0 < plain_number j → nat_eq (plain_number j) (pl
 plain_from j k some h =
     let e : plain_number j ≡ plain_number k = number_from (plain_number j) (plain_number k) h in
     elim (kind_back j) as (λ _. j ≡ k) [
-      inl z ↦ absurd (omega (arith, z, some))
-    | inr f ↦ elim (kind_back k) as (λ _. j ≡ k) [
-        inl z ↦ absurd (omega (arith, z, e, some))
-      | inr g ↦ sym f ∙ ap numbered_kind e ∙ g ] ]
+      | inl z ↦ absurd (omega (arith, z, some))
+      | inr f ↦ elim (kind_back k) as (λ _. j ≡ k) [
+        | inl z ↦ absurd (omega (arith, z, e, some))
+        | inr g ↦ sym f ∙ ap numbered_kind e ∙ g
+      ]
+    ]
 
 kind_self : (k : Kind) → same_kind k k ≡ true
 kind_self (icmp p) = predicate_self p

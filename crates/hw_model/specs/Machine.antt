@@ -29,7 +29,7 @@ module _ {A : Type 0} where
   -- exactly one map is settled
   abbrev pub SettlesOnce : Machine A → Word → Word → Type 0
   SettlesOnce m inputs content =
-    (ρ : A → Word) × m.settled inputs content ρ × ((σ : A → Word) → m.settled inputs content σ → (a : A) → σ a ≡ ρ a)
+      (ρ : A → Word) × m.settled inputs content ρ × ((σ : A → Word) → m.settled inputs content σ → (a : A) → σ a ≡ ρ a)
 
 -- two machines behave the same: as many bits of content, exactly one settled map of the second for all inputs and
 -- content, and the same runs

@@ -73,7 +73,7 @@ loaded (Some r) τ old = cond (is_high (τ r.clock)) (reset r.reset τ (enabled 
 abbrev pub next_content : List Slot → (Net → Word) → Word → Word
 next_content [] ρ content = []
 next_content (s ∷ ss) ρ content =
-  first (held_width s.op) (loaded (register_in s.op) (λ r. ρ (net s.path r)) (first (held_width s.op) content))
+    first (held_width s.op) (loaded (register_in s.op) (λ r. ρ (net s.path r)) (first (held_width s.op) content))
     ++ next_content ss ρ (drop (held_width s.op) content)
 
 -- ---- the machine of a module
@@ -92,4 +92,5 @@ machine d top = record {
   size = state d top;
   settled = Settled d top;
   outputs = outputs d top;
-  next = next_content (registers d top) }
+  next = next_content (registers d top);
+}

@@ -59,7 +59,7 @@ same_optional_name _ _ = false
 
 abbrev pub same_instance : Instance → Instance → Bool
 same_instance i j = same_name i.name j.name && (same_optional_name i.inner_symbol j.inner_symbol
-  && (same_name i.symbol j.symbol && (pointwise same_name i.inputs j.inputs && pointwise same_name i.outputs j.outputs)))
+    && (same_name i.symbol j.symbol && (pointwise same_name i.inputs j.inputs && pointwise same_name i.outputs j.outputs)))
 
 -- the kinds without attributes by number, from 1; 0 for those with attributes
 abbrev pub plain_number : Kind → ℕ

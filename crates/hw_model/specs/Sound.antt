@@ -1,7 +1,7 @@
 -- A sound design: the types of each operation's operands and results fit (CIRCT: HW, Comb and Seq dialects: the types
 -- that each operation asks for).
-use Rattle.std.specs.Prelude.{◌≡◌, ℕ, zero, suc, ◌+◌, ◌*◌, ◌<◌, ◌≤◌, Bool, true, false, cond, List, [], ◌∷◌, map, length, Option, Some, None, slice_get}
-use Rattle.wiring.specs.Options.{bind, omap}
+use Rattle.std.specs.Prelude.{◌≡◌, ℕ, ◌+◌, ◌*◌, ◌<◌, ◌≤◌, Bool, true, false, cond, List, [], ◌∷◌, map, length, Option, Some, None, slice_get}
+use Rattle.wiring.specs.Options.{bind}
 use Rattle.wiring.specs.Lists.{total}
 use Rattle.wiring.specs.Wiring.{In}
 use Rattle.bits_core.specs.Word.{Word}
@@ -143,7 +143,7 @@ OpFits type_of o = (k : ℕ) (t : HwType) → result_type o k ≡ Some t → Fit
 -- an instance's module is there, its operands have the types of that module's inputs, its results those of its outputs
 abbrev pub InstanceFits : Design → (Ref → Option HwType) → Op → Type 0
 InstanceFits d type_of o = (i : Instance) → instance_in o.kind ≡ Some i →
-  (c : Module) × (find_module d i.symbol ≡ Some c) × (map type_of o.operands ≡ map (λ (t : HwType). Some t) (input_types c.ports))
+    (c : Module) × (find_module d i.symbol ≡ Some c) × (map type_of o.operands ≡ map (λ (t : HwType). Some t) (input_types c.ports))
     × (map (λ (r : OpResult). r.type) o.results ≡ output_types c.ports)
 
 -- a body whose operations fit, and which gives its outputs values of their types

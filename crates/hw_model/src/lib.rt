@@ -6,9 +6,14 @@
 //!
 //! [`types`] and [`kinds`] are what a program keeps of types and kinds; contracts see them by their views.
 #![tactic(auto)]
+
+pub mod integer_values;
 pub mod kinds;
 mod laws;
 mod same_kinds;
 pub mod types;
-pub mod values;
-pub use laws::{heights_are_acyclic, one_map_settles, same_behaviour, widths_fit_types};
+
+pub use laws::{
+    heights_are_acyclic, one_map_settles, places_decide_nothing, same_behaviour,
+    weights_follow_bodies, widths_fit_types,
+};

@@ -20,4 +20,4 @@ pub Ty::leaf_count-returns-in-Array : goal.Ty::leaf_count-returns-in-Array
 Ty::leaf_count-returns-in-Array t c =
     let e : leaves (type_of c.args.self.now) ≡ repeated c.in-Array.length (leaves (type_of c.deref.result.now)) = search (rules, the_lemmas) in
     rw e (capped_repeated c.in-Array.length (leaves (type_of c.deref.result.now)) c.from.result c.leaf_count.result c.saturating_mul.result 18446744073709551615
-      c.from.ensures c.leaf_count.ensures c.saturating_mul.ensures)
+    c.from.ensures c.leaf_count.ensures c.saturating_mul.ensures)
