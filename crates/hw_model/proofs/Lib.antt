@@ -7,6 +7,10 @@ pub mod NetWidths
 pub mod Finite
 pub mod Depths
 pub mod Evaluation
+pub mod FieldSums
+pub mod SameFields
+pub mod Operands
+pub mod SameLiterals
 pub mod Samples
 mod Values
 pub mod Places
