@@ -1,0 +1,6 @@
+-- The words of this crate's contracts.
+pub mod Place
+pub mod Listed
+pub mod Cause
+pub mod Joined
+pub mod Line

@@ -1,0 +1,6 @@
+//! Refusals: where a text or a design is refused, at which operation, why, and the line that says so.
+#![tactic(auto)]
+
+pub mod cause;
+pub mod listed;
+pub mod refusal;
