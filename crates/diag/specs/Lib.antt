@@ -2,5 +2,4 @@
 pub mod Place
 pub mod Listed
 pub mod Cause
-pub mod Joined
 pub mod Line

@@ -3,7 +3,6 @@ use Rattle.std.specs.Prelude.{ℕ, ◌+◌, ◌≤◌, List, ◌++◌, length, s
 use Rattle.std.specs.Cmp.Lexicographic.{pointwise}
 use Rattle.diag.specs.Listed.{name_of_listed}
 use Rattle.diag.specs.Cause.{code_of, text_of}
-use Rattle.diag.specs.declared.cause.Cause.{Cause}
 use Rattle.diag.specs.declared.refusal.Refusal.{Refusal}
 use Rattle.diag.specs.declared.refusal.OpName.{OpName}
 use Rattle.diag.specs.declared.refusal.OpName.TheVariants as op
@@ -25,12 +24,7 @@ unfoldable pub shown_name : List ℕ → List ℕ
 shown_name name = if pointwise nat_eq name (codes "-") then codes "<stdin>" else name
 
 -- NAME:LINE:COL: error: 'OPERATION' CODE: TEXT, and the end of the line
-abbrev pub line_of : List ℕ → List ℕ → List ℕ → List ℕ → Cause → List ℕ
-line_of name line col operation cause =
-    name ++ codes ":" ++ line ++ codes ":" ++ col ++ codes ": error: '" ++ operation ++ codes "' " ++ code_of cause ++ codes ": " ++ text_of cause
-    ++ codes "\n"
-
--- the line of a refusal in the file of this name, with this source
 abbrev pub refusal_line : List ℕ → List ℕ → Refusal → List ℕ
 refusal_line name source refusal =
-    line_of (shown_name name) (decimal refusal.place.line) (decimal refusal.place.col) (operation_of refusal.op source) refusal.cause
+    (shown_name name ++ (codes ":" ++ decimal refusal.place.line)) ++ ((codes ":" ++ (decimal refusal.place.col ++ codes ": error: '"))
+    ++ ((operation_of refusal.op source ++ (codes "' " ++ code_of refusal.cause)) ++ (codes ": " ++ (text_of refusal.cause ++ codes "\n"))))

@@ -2,5 +2,6 @@
 #![tactic(auto)]
 
 pub mod cause;
+pub mod line;
 pub mod listed;
 pub mod refusal;
