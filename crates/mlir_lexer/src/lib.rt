@@ -1,0 +1,8 @@
+//! The tokens of an MLIR text (MLIR language reference, lexical conventions), which borrow it.
+#![tactic(auto)]
+
+pub mod classes;
+pub mod fronts;
+pub mod strings;
+pub mod token;
+pub mod tokens;
