@@ -6,3 +6,5 @@ pub mod fronts;
 pub mod strings;
 pub mod token;
 pub mod tokens;
+#[cfg(test)]
+mod tests;
