@@ -57,10 +57,16 @@ fn a_refusal_is_one_line(rt: HostRuntime) -> Result<(), Fail> {
             cause,
         };
         let mut sink = MemorySink::new(rt.alloc(), 100)?;
-        assert!(rt; refusal_text(&mut sink, name, source, &refusal).is_ok(), "{name}");
+        assert!(rt;
+            refusal_text(&mut sink, name, source, &refusal).is_ok(),
+            "{name}"
+        );
         assert_eq!(rt; sink.held(), wanted.as_bytes(), "{name}");
         let mut full = MemorySink::new(rt.alloc(), 20)?;
-        assert!(rt; refusal_text(&mut full, name, source, &refusal).is_err(), "{name}");
+        assert!(rt;
+            refusal_text(&mut full, name, source, &refusal).is_err(),
+            "{name}"
+        );
         assert_eq!(rt; full.held(), &wanted.as_bytes()[..20], "{name}");
     }
     Ok(())

@@ -6,3 +6,4 @@ pub mod Fronts
 pub mod Cursor
 pub mod Flat
 pub mod Tokens
+pub mod Contents

@@ -2,6 +2,7 @@
 #![tactic(auto)]
 
 pub mod classes;
+pub mod contents;
 pub mod fronts;
 pub mod strings;
 pub mod token;
