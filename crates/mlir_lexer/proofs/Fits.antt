@@ -1,10 +1,10 @@
 -- A gap and a token stand within one line of the text.
-use Rattle.std.proofs.Common.{add-one, ◌≡◌, ℕ, zero, suc, ◌+◌, ◌≤◌, Bool, true, false, cond, ◌&&◌, List, [], ◌∷◌, take, drop, length, Option, None, Some, refl, sym, ap, ◌∙◌, arith, ◌==◌}
+use Rattle.std.proofs.Common.{add-one, ◌≡◌, ℕ, suc, ◌+◌, ◌≤◌, Bool, true, false, cond, ◌&&◌, List, [], ◌∷◌, take, drop, length, Option, None, Some, refl, sym, ap, ◌∙◌, arith, ◌==◌}
 use Rattle.std.proofs.lemmas.Bool.{eqb-true}
 use Rattle.std.specs.Option.{option_map}
 use Rattle.mlir_lexer.specs.Classes.{is_space, is_digit, is_hex_digit, is_name_start, is_name_byte, is_suffix_byte, is_line_byte}
 use Rattle.mlir_lexer.specs.Runs.{run, begins}
-use Rattle.mlir_lexer.specs.Strings.{reading_after, string_rest, string_length, is_escape_letter}
+use Rattle.mlir_lexer.specs.Strings.{reading_after, string_rest, string_length}
 use Rattle.mlir_lexer.specs.Fronts.{mark_of, mark_front, suffix_length, suffixed, quoted, is_hex_mark, number_front, symbol_front, hash_front, slash_front, minus_front, sign_front, front_of}
 use Rattle.mlir_lexer.specs.Flat.{IsWithinLine}
 use Rattle.mlir_lexer.specs.declared.token.TokenKind.{TokenKind}

@@ -1,8 +1,8 @@
 -- What is left of the tokens once some bytes are read.
-use Rattle.std.proofs.Common.{add-one, ◌≡◌, ℕ, zero, suc, ◌+◌, ◌-◌, ◌≤◌, ◌<◌, List, [], ◌∷◌, ◌++◌, take, drop, length, get_or, Result, Ok, Err, refl, sym, ap, ◌∙◌, arith}
+use Rattle.std.proofs.Common.{◌≡◌, ℕ, zero, suc, ◌+◌, ◌-◌, ◌≤◌, List, [], ◌∷◌, ◌++◌, take, drop, length, get_or, Result, refl, sym, ap, ◌∙◌, arith}
 use Rattle.std.proofs.Math.Seq.{take-add, drop-cons}
-use Rattle.std.proofs.lemmas.List.{drop-drop, length-drop}
-use Rattle.diag.specs.Place.{start_place, next_place, further, place_after, place_of}
+use Rattle.std.proofs.lemmas.List.{drop-drop}
+use Rattle.diag.specs.Place.{start_place, next_place, place_after, place_of}
 use Rattle.diag.specs.declared.refusal.Place.{Place}
 use Rattle.diag.specs.declared.refusal.Refusal.{Refusal}
 use Rattle.mlir_lexer.specs.Tokens.{Lexeme, told, tokens_behind, tokens_left}
@@ -59,7 +59,7 @@ tokens_left-told source at b bs e =
     ap (λ (l : List ℕ). tokens_behind 0 (place_of source at) at l) e
     ∙ (ap (λ p. told (front_of b bs) (place_of source at) at (b ∷ bs) (λ more. tokens_behind more p (at + 1) bs)) (sym (place_of-next source at b bs e))
     ∙ ap (λ (l : List ℕ). told (front_of b bs) (place_of source at) at (b ∷ bs) (λ more. tokens_behind more (place_of source (at + 1)) (at + 1) l))
-        (sym (drop-next source at b bs e)))
+    (sym (drop-next source at b bs e)))
 
 -- what is left behind a gap or a token of so many bytes
 pub behind-left : (source : List ℕ) (at n : ℕ) → 1 ≤ n → at + n ≤ length source → behind source (at + 1) (n - 1) ≡ tokens_left (record { source = source; at = at + n })

@@ -4,3 +4,4 @@ pub mod Lines
 pub mod Left
 pub mod Fits
 pub mod Steps
+pub mod Decoding

@@ -1,5 +1,5 @@
 -- Fronts that hold no end of a line, and the places behind them.
-use Rattle.std.proofs.Common.{add-one, ◌≡◌, ℕ, zero, suc, ◌+◌, ◌-◌, ◌^◌, ◌≤◌, ◌<◌, Bool, true, false, cond, List, [], ◌∷◌, ◌++◌, take, drop, length, min, refl, sym, ap, ◌∙◌, subst, arith, ◌==◌, length-take}
+use Rattle.std.proofs.Common.{add-one, ◌≡◌, ℕ, suc, ◌+◌, ◌-◌, ◌^◌, ◌≤◌, Bool, true, false, cond, List, [], ◌∷◌, take, length, min, refl, sym, ap, ◌∙◌, subst, arith, ◌==◌, length-take}
 use Rattle.std.proofs.lemmas.Bool.{eqb-true}
 use Rattle.diag.specs.Place.{further, next_place, place_after}
 use Rattle.diag.specs.declared.refusal.Place.{Place}

@@ -1,8 +1,8 @@
 -- Where a string ends: one byte at a time, within the text, before the end of the line.
-use Rattle.std.proofs.Common.{add-one, ◌≡◌, ℕ, ◌+◌, ◌<◌, ◌≤◌, zero, suc, Bool, true, false, cond, List, [], ◌∷◌, take, drop, length, get_or, Option, None, Some, refl, sym, ap, ◌∙◌, arith, ◌==◌}
+use Rattle.std.proofs.Common.{add-one, ◌≡◌, ℕ, ◌+◌, ◌<◌, Bool, true, false, List, [], ◌∷◌, drop, length, get_or, Option, None, Some, refl, sym, ap, ◌∙◌, arith}
 use Rattle.std.specs.Option.{option_map}
 use Rattle.std.proofs.Math.Seq.{drop-cons}
-use Rattle.mlir_lexer.specs.Strings.{reading_after, unless_ended, string_rest}
+use Rattle.mlir_lexer.specs.Strings.{reading_after, string_rest}
 use Rattle.mlir_lexer.specs.declared.strings.Reading.{Reading}
 use Rattle.mlir_lexer.specs.declared.strings.Reading.TheVariants.{Plain, Escape, HexPair, Closed, Broken}
 

@@ -1,5 +1,5 @@
 -- Classes of bytes (MLIR language reference, lexical conventions).
-use Rattle.std.specs.Prelude.{ℕ, Bool, true, false, ◌&&◌, ◌||◌, ◌==◌, not, nat_le}
+use Rattle.std.specs.Prelude.{ℕ, Bool, ◌&&◌, ◌||◌, ◌==◌, not, nat_le}
 
 -- space, tab, CR
 abbrev pub is_space : ℕ → Bool

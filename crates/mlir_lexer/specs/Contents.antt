@@ -1,5 +1,5 @@
 -- What names and strings hold. Escapes are `\\`, `\"`, `\n`, `\t`, and a backslash before two hex digits.
-use Rattle.std.specs.Prelude.{ℕ, ◌+◌, ◌-◌, ◌*◌, ◌&&◌, cond, ◌==◌, nat_le, List, [], ◌∷◌, take, drop, length, ◌≡◌, Option, None, Some}
+use Rattle.std.specs.Prelude.{ℕ, ◌+◌, ◌-◌, ◌*◌, ◌&&◌, cond, ◌==◌, nat_le, List, [], ◌∷◌, take, drop, length, ◌≡◌, ◌++◌, Option, None, Some}
 use Rattle.mlir_lexer.specs.Classes.{is_digit, is_hex_digit}
 use Rattle.mlir_lexer.specs.declared.contents.Pending.{Pending}
 use Rattle.mlir_lexer.specs.declared.contents.Pending.TheVariants.{Nothing, Backslash, HighDigit}
@@ -44,3 +44,7 @@ content_of _ text = text
 abbrev pub Turns : Pending → ℕ → Pending → Option ℕ → Type 0
 Turns pending b next None = (bs : List ℕ) → decoded pending (b ∷ bs) ≡ decoded next bs
 Turns pending b next (Some value) = (bs : List ℕ) → decoded pending (b ∷ bs) ≡ value ∷ decoded next bs
+
+-- a text gets a front of these bytes at its end
+abbrev pub GetsFront : List ℕ → List ℕ → List ℕ → Type 0
+GetsFront before after bytes = (front rest : List ℕ) × (bytes ≡ front ++ rest) × (after ≡ before ++ front)

@@ -1,6 +1,6 @@
 -- What the bytes of a text begin with: the end of a line, a gap, a token, or a byte that begins none. A token is the longest that its first
 -- bytes allow.
-use Rattle.std.specs.Prelude.{ℕ, ◌+◌, Bool, true, false, cond, ◌&&◌, ◌==◌, List, [], ◌∷◌, drop, Option, None, Some}
+use Rattle.std.specs.Prelude.{ℕ, ◌+◌, Bool, false, cond, ◌&&◌, ◌==◌, List, [], ◌∷◌, drop, Option, None, Some}
 use Rattle.mlir_lexer.specs.Classes.{is_space, is_digit, is_hex_digit, is_name_start, is_name_byte, is_suffix_byte, is_line_byte}
 use Rattle.mlir_lexer.specs.Runs.{run, begins}
 use Rattle.mlir_lexer.specs.Strings.{string_length}

@@ -1,5 +1,5 @@
 -- Fronts of lists of bytes.
-use Rattle.std.specs.Prelude.{ℕ, ◌+◌, Bool, true, false, cond, List, [], ◌∷◌}
+use Rattle.std.specs.Prelude.{ℕ, ◌+◌, Bool, false, cond, List, [], ◌∷◌}
 
 -- how many bytes at the front meet a test
 abbrev pub run : (ℕ → Bool) → List ℕ → ℕ

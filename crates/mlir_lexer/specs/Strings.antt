@@ -1,7 +1,7 @@
 -- Strings: where one ends, and what it holds. Escapes are `\\`, `\"`, `\n`, `\t`, and a backslash before two hex digits.
-use Rattle.std.specs.Prelude.{ℕ, ◌+◌, ◌-◌, ◌*◌, Bool, true, false, cond, ◌||◌, ◌&&◌, ◌==◌, nat_le, List, [], ◌∷◌, Option, None, Some}
+use Rattle.std.specs.Prelude.{ℕ, ◌+◌, Bool, cond, ◌||◌, ◌==◌, List, [], ◌∷◌, Option, None, Some}
 use Rattle.std.specs.Option.{option_map}
-use Rattle.mlir_lexer.specs.Classes.{is_digit, is_hex_digit}
+use Rattle.mlir_lexer.specs.Classes.{is_hex_digit}
 use Rattle.mlir_lexer.specs.declared.strings.Reading.{Reading}
 use Rattle.mlir_lexer.specs.declared.strings.Reading.TheVariants.{Plain, Escape, HexPair, Closed, Broken}
 

@@ -1,6 +1,6 @@
 //! What names and strings hold.
 ghost use Rattle.std.specs.Prelude.{◌≡◌, ℕ, ◌+◌, ◌<◌, ◌≤◌, List, [], ◌∷◌, ◌++◌, take, drop, length, OnOk, OnErr};
-ghost use Rattle.mlir_lexer.specs.Contents.{hex_value, escaped, decoded, unescaped, body_of, content_of, Turns};
+ghost use Rattle.mlir_lexer.specs.Contents.{hex_value, escaped, decoded, unescaped, body_of, content_of, Turns, GetsFront};
 
 use crate::classes::{Class, Digit, HexDigit};
 use crate::token::{Token, TokenKind};
@@ -24,6 +24,7 @@ impl<'s> Token<'s> {
     /// text has got a front of it.
     pub fn push_content(&self, into: &mut Text) -> Result<(), AllocError>
         ensures ok { OnOk result (into.new ≡ into.old ++ content_of self.now.kind self.now.text.now) }
+        ensures err { OnErr result (GetsFront into.old into.new (content_of self.now.kind self.now.text.now)) }
     {
         match self.kind {
             TokenKind::StringLiteral => push_unescaped(body(self.text, 1), into),
@@ -42,6 +43,7 @@ impl<'s> Token<'s> {
 /// between the quotes. On an error the text has got a front of them.
 pub fn push_unescaped(body: &[u8], into: &mut Text) -> Result<(), AllocError>
     ensures ok { OnOk result (into.new ≡ into.old ++ unescaped body.now) }
+    ensures err { OnErr result (GetsFront into.old into.new (unescaped body.now)) }
 {
     let mut pending = Pending::Nothing;
     for byte in body {
@@ -66,7 +68,10 @@ fn turn(pending: Pending, byte: u8) -> (Pending, Option<u8>)
         Pending::Nothing => (Pending::Nothing, Some(byte)),
         Pending::Backslash if HexDigit::has(byte) => (Pending::HighDigit(byte), None),
         Pending::Backslash => (Pending::Nothing, Some(escaped(byte))),
-        Pending::HighDigit(high) => (Pending::Nothing, Some(hex_value(high) * 16 + hex_value(byte))),
+        Pending::HighDigit(high) => (
+            Pending::Nothing,
+            Some(hex_value(high) * 16 + hex_value(byte)),
+        ),
     }
 }
 

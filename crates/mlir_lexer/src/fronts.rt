@@ -4,7 +4,10 @@ ghost use Rattle.mlir_lexer.specs.Runs.{run, begins};
 ghost use Rattle.mlir_lexer.specs.Strings.{string_length};
 ghost use Rattle.mlir_lexer.specs.Fronts.{mark_of, mark_front, suffix_length, suffixed, quoted, is_hex_mark, number_front, symbol_front, hash_front, slash_front, minus_front, sign_front, front_of};
 
-use crate::classes::{Class, Digit, HexDigit, LineByte, NameByte, Space, SuffixByte, begins_with, is_name_start, run_of};
+use crate::classes::{
+    Class, Digit, HexDigit, LineByte, NameByte, Space, SuffixByte, begins_with, is_name_start,
+    run_of,
+};
 use crate::strings::string_length;
 use crate::token::TokenKind;
 

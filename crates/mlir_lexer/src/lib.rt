@@ -5,7 +5,7 @@ pub mod classes;
 pub mod contents;
 pub mod fronts;
 pub mod strings;
-pub mod token;
-pub mod tokens;
 #[cfg(test)]
 mod tests;
+pub mod token;
+pub mod tokens;

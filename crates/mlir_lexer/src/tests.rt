@@ -1,5 +1,6 @@
 use crate::token::TokenKind;
 use crate::tokens::Tokens;
+use io_edge::byte_text::Text;
 use std::test::Fail;
 
 // A token as a test states it: its kind, line, column, position and bytes.
@@ -8,7 +9,8 @@ struct Wanted(TokenKind, u32, u32, u64, &'static str);
 
 #[test]
 fn a_text_is_its_tokens(rt: HostRuntime) -> Result<(), Fail> {
-    let source = "hw.module @\"a\\22b\" // c\n  %x-1:02 = !seq.clock 0x1Fi8 \"\\n\\09\"\r\n\t->-#3#m<007xi8> @N.k(){}[],_9";
+    let source =
+        "hw.module @\"a\\22b\" // c\n  %x-1:02 = !seq.clock 0x1Fi8 \"\\n\\09\"\r\n\t->-#3#m<007xi8> @N.k(){}[],_9";
     let wanted = [
         Wanted(TokenKind::BareName, 1, 1, 0, "hw.module"),
         Wanted(TokenKind::SymbolString, 1, 11, 10, "@\"a\\22b\""),
@@ -97,6 +99,29 @@ fn a_bad_byte_is_refused_at_its_place_and_again(rt: HostRuntime) -> Result<(), F
                 Ok(found) => assert!(rt; found.is_none() && line == 0, "in {source}"),
             }
         }
+    }
+    Ok(())
+}
+
+#[test]
+fn tokens_hold_names_and_the_content_of_strings(rt: HostRuntime) -> Result<(), Fail> {
+    for (source, content) in [
+        ("\"a\\\\\\22\\n\\t\\\"\\4aZ\"", "a\\\"\n\t\"JZ"),
+        ("\"\"", ""),
+        ("@\"x\\00 y\"", "x\u{0} y"),
+        ("%a-1", "a-1"),
+        ("@N", "N"),
+        ("#12", "12"),
+        ("!hw.array", "hw.array"),
+        ("i8", "i8"),
+        ("->", "->"),
+    ] {
+        let Ok(Some(token)) = Tokens::new(source.as_bytes()).next() else {
+            panic!(rt; "no token in {source}");
+        };
+        let mut text = Text::of(rt.alloc(), b">")?;
+        token.push_content(&mut text)?;
+        assert_eq!(rt; &text.as_bytes()[1..], content.as_bytes(), "of {source}");
     }
     Ok(())
 }

@@ -1,8 +1,7 @@
 //! The tokens of a text, one at a time.
 ghost use Rattle.std.specs.Prelude.{◌≡◌, ℕ, ◌+◌, ◌<◌, ◌≤◌, List, ◌∷◌, take, drop, length};
 ghost use Rattle.diag.specs.Place.{place_of, below, further};
-
-ghost use Rattle.mlir_lexer.specs.Tokens.{tokens_left, Gives, Reads, lexeme_of, bad_byte};
+ghost use Rattle.mlir_lexer.specs.Tokens.{tokens, tokens_left, Gives, Reads, lexeme_of, bad_byte};
 
 use crate::fronts::{Front, front_of};
 use crate::token::{Token, TokenKind};
@@ -34,7 +33,8 @@ impl<'s> Model for Tokens<'s> {
 impl<'s> Tokens<'s> {
     /// The tokens of a text, of which nothing is read.
     pub fn new(source: &'s [u8]) -> Tokens<'s>
-        ensures { result ≡ record { source = source.now; at = 0 } }
+        ensures start { result ≡ record { source = source.now; at = 0 } }
+        ensures left { tokens_left result ≡ tokens source.now }
     {
         Tokens {
             source,

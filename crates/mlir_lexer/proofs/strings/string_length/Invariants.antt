@@ -1,4 +1,4 @@
-use Rattle.std.proofs.Common.{◌≡◌, ◌+◌, drop, true}
+use Rattle.std.proofs.Common.{◌≡◌, drop, true}
 use Rattle.mlir_lexer.specs.Strings.{string_rest, string_length}
 use Rattle.mlir_lexer.proofs.StringEnds.{is_open, further_on}
 use Rattle.mlir_lexer.proofs.strings.string_length.Given as goal
