@@ -1,5 +1,5 @@
 -- Sums over the fields of a struct type, one field at a time, up to a most.
-use Rattle.std.proofs.Common.{◌≡◌, ℕ, zero, suc, ◌+◌, ◌*◌, ◌<◌, ◌≤◌, min, List, [], ◌∷◌, ◌++◌, length, map, take, get_or, arith, rules, refl, sym, ap, ◌∙◌, length-append}
+use Rattle.std.proofs.Common.{◌≡◌, ℕ, zero, suc, ◌+◌, ◌*◌, ◌<◌, ◌≤◌, min, List, [], ◌∷◌, ◌++◌, length, map, take, get_or, arith, rules, sym, length-append}
 use Rattle.std.proofs.lemmas.List.{map_more, take_all}
 use Rattle.hw_model.specs.Types.{HwType, FieldTypes, width, width_of_fields, leaves, leaves_of_fields, repeated}
 use Rattle.hw_model.specs.TypeViews.{NamedType, fields_of, field_of, type_of, fields_in}

@@ -17,3 +17,4 @@ pub mod Places
 pub mod Weights
 pub mod Content
 pub mod Gone
+pub mod WrittenTypes

@@ -1,5 +1,5 @@
 -- Operations with any number of operands, worked from the last operand to the first.
-use Rattle.std.proofs.Common.{◌≡◌, ℕ, zero, suc, ◌+◌, ◌-◌, ◌*◌, ◌^◌, ◌<◌, ◌≤◌, ◌==◌, List, [], ◌∷◌, ◌++◌, length, map, drop, get_or, arith, refl, sym, ap, ◌∙◌, add_comm, Bool, true, false, negsuc, length-append}
+use Rattle.std.proofs.Common.{◌≡◌, ℕ, zero, suc, ◌+◌, ◌-◌, ◌*◌, ◌^◌, ◌<◌, ◌≤◌, List, [], ◌∷◌, length, map, drop, get_or, arith, refl, sym, ap, ◌∙◌, add_comm, Bool, true, negsuc, length-append}
 use Rattle.std.proofs.Math.Nat.{mul_comm}
 use Rattle.std.proofs.Math.Seq.{drop-cons}
 use Rattle.std.proofs.lemmas.List.Elements.{All-drop, All-get_or}
@@ -12,7 +12,7 @@ use Rattle.bits_core.proofs.Bitwise.{length-bitwise}
 use Rattle.bits_core.proofs.Complement.{not-bits}
 use Rattle.bits_core.proofs.Storage.{bits-zero}
 use Rattle.hw_model.specs.IntegerKinds.{AllHave}
-use Rattle.hw_model.specs.Value.{joined, product, and_all, or_all, xor_all}
+use Rattle.hw_model.specs.Value.{joined, product}
 
 -- one more operand in front
 pub FoldsBy : (List Word → Word) → (Word → Word → Word) → ℕ → Type 0

@@ -1,5 +1,5 @@
 -- Structs with different numbers of fields are different types.
-use Rattle.std.proofs.Common.{◌≡◌, ℕ, ◌+◌, suc, Bool, true, false, ◌&&◌, List, [], ◌∷◌, length, map, refl, ap}
+use Rattle.std.proofs.Common.{◌≡◌, suc, Bool, true, false, ◌&&◌, List, [], ◌∷◌, length, map, refl, ap}
 use Rattle.hw_model.specs.Design.{same_name}
 use Rattle.hw_model.specs.TypeViews.{NamedType, fields_of}
 use Rattle.hw_model.specs.SameType.{same_type, same_fields}

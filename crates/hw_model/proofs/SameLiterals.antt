@@ -1,5 +1,5 @@
 -- Constants with different numbers of parts are different.
-use Rattle.std.proofs.Common.{◌≡◌, ℕ, suc, Bool, true, false, ◌&&◌, List, [], ◌∷◌, length, map, refl, ap}
+use Rattle.std.proofs.Common.{◌≡◌, suc, Bool, true, false, ◌&&◌, List, [], ◌∷◌, length, map, refl, ap}
 use Rattle.hw_model.specs.Kinds.{Literal}
 use Rattle.hw_model.specs.KindViews.{literals_of}
 use Rattle.hw_model.specs.SameKind.{same_literal, same_literals}

@@ -1,5 +1,5 @@
 -- A test that tells values apart by their views.
-use Rattle.std.specs.Prelude.{◌≡◌, ℕ, Bool, true, false, ◌&&◌, nat_eq, List, [], ◌∷◌, refl}
+use Rattle.std.specs.Prelude.{◌≡◌, ℕ, Bool, true, false, ◌&&◌, nat_eq, [], ◌∷◌, refl}
 use Rattle.std.proofs.Common.{sym, ap, ◌∙◌, eq-eqb, eqb-true}
 use Rattle.std.specs.Cmp.{IsEquivalence}
 use Rattle.hw_model.specs.Types.{Name}

@@ -1,5 +1,5 @@
 -- Whether two kinds are one.
-use Rattle.std.specs.Prelude.{Bool, true, false, ◌&&◌, nat_eq, ℕ, ℤ, pos, negsuc, List, Option, Some, None}
+use Rattle.std.specs.Prelude.{Bool, true, false, ◌&&◌, nat_eq, ℕ, ℤ, pos, negsuc, Option, Some, None}
 use Rattle.std.specs.Cmp.Lexicographic.{pointwise}
 use Rattle.hw_model.specs.Types.{Name}
 use Rattle.hw_model.specs.Kinds.{Kind, Predicate, Reset, Literal, Literals, Instance}

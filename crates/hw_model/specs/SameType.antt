@@ -6,10 +6,9 @@ use Rattle.hw_model.specs.Types.{HwType, FieldTypes}
 use Rattle.hw_model.specs.Types.HwType.{int, clock, array, struct}
 use Rattle.hw_model.specs.Types.FieldTypes.{no_fields, field}
 use Rattle.hw_model.specs.Design.{same_name}
-use Rattle.hw_model.specs.TypeViews.{type_of, fields_in}
+use Rattle.hw_model.specs.TypeViews.{type_of}
 use Rattle.hw_model.specs.Equality.{TellsApart, by_view, both, both_of, number_self, number_from, name_self, name_from}
 use Rattle.hw_model.specs.declared.types.Ty.{Ty}
-use Rattle.hw_model.specs.declared.types.FieldList.{FieldList}
 
 abbrev mutual
   pub same_type : HwType → HwType → Bool

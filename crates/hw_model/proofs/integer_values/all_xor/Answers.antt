@@ -1,9 +1,9 @@
-use Rattle.std.proofs.Common.{◌≡◌, ◌-◌, ◌<◌, ◌&&◌, ◌||◌, arith, refl, ap, sym, ◌∙◌, length, drop}
+use Rattle.std.proofs.Common.{◌-◌, ◌<◌, arith, refl, ap, sym, ◌∙◌, length}
 use Rattle.std.proofs.lemmas.List.{drop_all, length-replicate}
-use Rattle.bits_core.specs.Word.{xor, bits, ones, zeros}
+use Rattle.bits_core.specs.Word.{xor}
 use Rattle.bits_core.proofs.Storage.{bits-zero}
 use Rattle.hw_model.specs.Value.{xor_all}
-use Rattle.hw_model.proofs.Operands.{alike, width_folded, width_from, bits_of_ones}
+use Rattle.hw_model.proofs.Operands.{alike, width_folded, width_from}
 use Rattle.hw_model.proofs.integer_values.all_xor.Goals as goal
 
 pub loop-left-init : goal.loop-left-init

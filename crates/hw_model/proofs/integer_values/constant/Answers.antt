@@ -1,4 +1,4 @@
-use Rattle.std.proofs.Common.{rules, ◌≡◌, ◌<◌, ◌^◌, arith, ◌∙◌, sym}
+use Rattle.std.proofs.Common.{◌<◌, ◌^◌, arith, ◌∙◌}
 use Rattle.hw_model.proofs.Operands.{bits_below_zero}
 use Rattle.hw_model.proofs.integer_values.constant.Goals as goal
 
