@@ -1,0 +1,9 @@
+//! A plain interpreter of designs: it computes operation values, steps and runs by the definitions of `hw_model`, with
+//! no sharing and no order of its own. Tests of faster parts take their values from it.
+#![tactic(auto)]
+
+pub mod bit_string;
+pub mod refusal;
+#[cfg(test)]
+mod value_tests;
+pub mod values;
