@@ -1,2 +1,3 @@
 -- Lemmas.
 pub mod Pieces
+pub mod Contents

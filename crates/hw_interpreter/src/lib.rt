@@ -3,6 +3,9 @@
 #![tactic(auto)]
 
 pub mod bit_string;
+pub mod design;
+pub mod modules;
+pub mod nets;
 pub mod refusal;
 #[cfg(test)]
 mod value_tests;

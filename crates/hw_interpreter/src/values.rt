@@ -258,8 +258,8 @@ fn leaf_word(alloc: Global, value: Integer, ty: &Ty) -> Result<BitString, Refusa
 
 // ---- parts of words
 
-// the first bits, as many as there are
-fn first_bits(word: &[bool], width: u64) -> &[bool]
+/// The first bits, as many as there are.
+pub fn first_bits(word: &[bool], width: u64) -> &[bool]
     ensures { result.now ≡ take width word.now }
 {
     if width >= word.len() as u64 {
@@ -268,8 +268,8 @@ fn first_bits(word: &[bool], width: u64) -> &[bool]
     word.split_at(width as usize).0
 }
 
-// what stands behind the first bits
-fn behind(word: &[bool], width: u64) -> &[bool]
+/// What stands behind the first bits.
+pub fn behind(word: &[bool], width: u64) -> &[bool]
     ensures { result.now ≡ drop width word.now }
 {
     if width >= word.len() as u64 {
