@@ -1,3 +1,4 @@
 -- Lemmas.
 pub mod Pieces
 pub mod Contents
+pub mod Steps

@@ -16,6 +16,7 @@ use crate::modules::{callee, find_module, first_operations, instance_at, instanc
 use crate::refusal::Refusal;
 use crate::values::{behind, first_bits, exact_width, value_of};
 use hw_model::kinds::OpKind;
+use hw_model::types::Ty;
 use std::alloc::Global;
 
 /// A range of bits.
@@ -115,7 +116,7 @@ fn made_value(alloc: Global, at: &Setting, depth: u32, path: &[u32], operation: 
     if is_output(operation) {
         return Ok(BitString::new(alloc));
     }
-    match operation.results.get(number as usize) {
+    match result_ty(operation, number) {
         None => Ok(BitString::new(alloc)),
         Some(ty) => {
             let words = operand_values(alloc, at, depth, path, operation.operands.as_slice())?;
@@ -192,11 +193,32 @@ fn port_range(ports: &[Port], port: u32) -> Result<Option<Range>, Refusal>
 fn held_range(start: u64, operation: &Operation, number: u32) -> Result<Option<Range>, Refusal>
     ensures { IfOk result (λ range. held_range_source range ≡ held_of start (result_type (op_of operation.now) number)) }
 {
-    match operation.results.get(number as usize) {
+    match result_ty(operation, number) {
         None => Ok(None),
         Some(ty) => {
             let width = exact_width(ty)?;
             Ok(Some(Range { start, width }))
+        }
+    }
+}
+
+// the type of a result
+fn result_ty(operation: &Operation, number: u32) -> Option<&Ty>
+    ensures { option_map (λ t. type_of t.now) result ≡ result_type (op_of operation.now) number }
+{
+    type_at(operation.results.as_slice(), number)
+}
+
+fn type_at(types: &[Ty], number: u32) -> Option<&Ty>
+    ensures { option_map (λ t. type_of t.now) result ≡ slice_get (map type_of types.now) number }
+{
+    match types {
+        [] => None,
+        [first, rest @ ..] => {
+            if number == 0 {
+                return Some(first);
+            }
+            type_at(rest, number - 1)
         }
     }
 }
