@@ -7,6 +7,7 @@ pub mod design;
 pub mod modules;
 pub mod nets;
 pub mod refusal;
+pub mod registers;
 #[cfg(test)]
 mod value_tests;
 pub mod values;

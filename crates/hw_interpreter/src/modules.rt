@@ -195,8 +195,8 @@ pub fn content_of(modules: &[Module], body: &[Operation]) -> Result<u64, Refusal
     body_state(modules, depth, body)
 }
 
-// a depth that no chain of instances exceeds
-fn depth_of(modules: &[Module]) -> Result<u64, Refusal>
+/// A depth that no chain of instances exceeds.
+pub fn depth_of(modules: &[Module]) -> Result<u64, Refusal>
     ensures { IfOk result (λ n. n ≡ depth (map module_of modules.now)) }
 {
     sum_of(modules.len() as u64, 1)

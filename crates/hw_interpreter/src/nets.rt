@@ -126,7 +126,8 @@ fn made_value(alloc: Global, at: &Setting, depth: u32, path: &[u32], operation: 
 }
 
 #[cycle(net)]
-fn operand_values(alloc: Global, at: &Setting, depth: u32, path: &[u32], operands: &[Operand]) -> Result<Vec<BitString>, Refusal>
+/// The values of operands, in order.
+pub fn operand_values(alloc: Global, at: &Setting, depth: u32, path: &[u32], operands: &[Operand]) -> Result<Vec<BitString>, Refusal>
     ensures { IfOk result (λ words. words.items ≡ map (value_within (map module_of at.now.modules.now) at.now.top.now at.now.inputs.now at.now.content.now depth) (map (net path.now) (map ref_of operands.now))) }
 {
     let mut words = Vec::new(alloc);
@@ -144,7 +145,8 @@ fn is_output(operation: &Operation) -> bool
     matches!(operation.kind, OpKind::Output)
 }
 
-fn inner_path(alloc: Global, number: u32, path: &[u32]) -> Result<Vec<u32>, Refusal>
+/// The path of an instance of the module at the end of a path.
+pub fn inner_path(alloc: Global, number: u32, path: &[u32]) -> Result<Vec<u32>, Refusal>
     ensures { IfOk result (λ inner. inner.items ≡ number ∷ path.now) }
 {
     let mut inner = Vec::new(alloc);
@@ -153,8 +155,8 @@ fn inner_path(alloc: Global, number: u32, path: &[u32]) -> Result<Vec<u32>, Refu
     Ok(inner)
 }
 
-// the first `width` bits, with bits of 0 past the end
-fn padded(alloc: Global, bits: &[bool], width: u64) -> Result<BitString, Refusal>
+/// The first bits, with bits of 0 past the end.
+pub fn padded(alloc: Global, bits: &[bool], width: u64) -> Result<BitString, Refusal>
     ensures { IfOk result (λ word. word ≡ first width bits.now) }
 {
     let mut word = BitString::of(alloc, first_bits(bits, width))?;

@@ -195,7 +195,8 @@ fn passed(alloc: Global, operands: &[BitString]) -> Result<BitString, Refusal>
     Ok(word)
 }
 
-fn joined(alloc: Global, operands: &[BitString]) -> Result<BitString, Refusal>
+/// The words joined, the first most significant.
+pub fn joined(alloc: Global, operands: &[BitString]) -> Result<BitString, Refusal>
     ensures { IfOk result (λ word. word ≡ joined operands.now) }
 {
     let mut word = BitString::new(alloc);
@@ -205,7 +206,8 @@ fn joined(alloc: Global, operands: &[BitString]) -> Result<BitString, Refusal>
     Ok(word)
 }
 
-fn is_high(word: &BitString) -> bool
+/// Whether the first bit is 1.
+pub fn is_high(word: &BitString) -> bool
     ensures { result ≡ is_high word.now }
 {
     match word.as_slice() {
