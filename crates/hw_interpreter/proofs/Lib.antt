@@ -2,3 +2,4 @@
 pub mod Pieces
 pub mod Contents
 pub mod Steps
+pub mod Within

@@ -1,5 +1,5 @@
 -- Words that are put together from the front, a piece at a time.
-use Rattle.std.proofs.Common.{◌≡◌, ℕ, zero, suc, ◌+◌, ◌-◌, ◌/◌, ◌%◌, ◌^◌, ◌==◌, ◌<◌, Bool, cond, List, [], ◌∷◌, ◌++◌, refl, ap, sym, ◌∙◌, arith, append_assoc}
+use Rattle.std.proofs.Common.{◌≡◌, ℕ, zero, suc, ◌+◌, ◌-◌, ◌/◌, ◌%◌, ◌^◌, ◌==◌, ◌<◌, Bool, cond, List, [], ◌∷◌, ◌++◌, refl, ap, sym, ◌∙◌, arith, append_assoc, append-nil}
 use Rattle.bits_core.specs.Word.{Word, bits}
 use Rattle.hw_model.specs.Types.{HwType}
 use Rattle.hw_model.specs.Value.{element, injected_below}
@@ -18,3 +18,7 @@ pub injected_top : (n : ℕ) (t : HwType) (a : Word) (i : ℕ) (v : Word) → 0 
     → injected_below n t a i v ≡ cond (n - 1 == i) v (element t a (n - 1)) ++ injected_below (n - 1) t a i v
 injected_top zero t a i v positive = absurd (omega arith)
 injected_top (suc n) t a i v positive = let e : suc n - 1 ≡ n = omega arith in rw e refl
+
+-- where nothing is left the pieces are the whole
+pub piece_last : {A : Type 0} (part rest whole : List A) → rest ≡ [] → part ++ rest ≡ whole → part ≡ whole
+piece_last part rest whole none all = sym (ap (λ z. part ++ z) none ∙ append-nil part) ∙ all

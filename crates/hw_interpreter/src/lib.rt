@@ -4,10 +4,13 @@
 
 pub mod bit_string;
 pub mod design;
+pub mod machine;
 pub mod modules;
 pub mod nets;
 pub mod refusal;
 pub mod registers;
+#[cfg(test)]
+mod run_tests;
 #[cfg(test)]
 mod value_tests;
 pub mod values;
