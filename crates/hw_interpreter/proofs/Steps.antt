@@ -1,5 +1,5 @@
 -- Values within a depth, a step at a time, and words that are padded.
-use Rattle.std.proofs.Common.{◌≡◌, ℕ, zero, suc, ◌-◌, ◌<◌, List, [], ◌∷◌, ◌++◌, Bool, false, Option, Some, None, map, take, length, option_map, slice_get, refl, ap, sym, ◌∙◌, arith}
+use Rattle.std.proofs.Common.{◌≡◌, ℕ, zero, suc, ◌-◌, ◌<◌, List, [], ◌∷◌, ◌++◌, false, Option, Some, None, map, take, length, option_map, slice_get, refl, ap, sym, ◌∙◌, arith}
 use Rattle.std.proofs.lemmas.Option.{slice_get-map}
 use Rattle.wiring.specs.Options.{omap}
 use Rattle.bits_core.specs.Word.{Word, first, zeros}

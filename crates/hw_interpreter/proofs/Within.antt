@@ -1,6 +1,6 @@
 -- Where a depth reaches all that nets need, the values within it are the settled map.
-use Rattle.std.proofs.Common.{◌≡◌, ℕ, zero, suc, ◌<◌, ◌≤◌, List, [], ◌∷◌, map, refl, sym, ap, subst, ◌∙◌, arith}
-use Rattle.wiring.specs.Wiring.{In, IsHeight, greatest}
+use Rattle.std.proofs.Common.{◌≡◌, ℕ, zero, suc, ◌<◌, ◌≤◌, List, [], ◌∷◌, map, refl, sym, ap, subst, arith}
+use Rattle.wiring.specs.Wiring.{IsHeight, greatest}
 use Rattle.wiring.proofs.Members.{map_same}
 use Rattle.wiring.proofs.Heights.{FallsAlong-height}
 use Rattle.bits_core.specs.Word.{Word}

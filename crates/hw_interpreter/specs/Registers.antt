@@ -1,5 +1,5 @@
 -- The registers that the code's registers stand for.
-use Rattle.std.specs.Prelude.{Option, Some, None, option_map}
+use Rattle.std.specs.Prelude.{option_map}
 use Rattle.hw_model.specs.Flat.{Slot, Register, ResetBy}
 use Rattle.hw_interpreter.specs.DesignViews.{ref_of, op_of}
 use Rattle.hw_interpreter.specs.declared.registers.Slot.{Slot as CodeSlot}

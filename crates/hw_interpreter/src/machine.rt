@@ -15,7 +15,7 @@ use crate::design::{Module, Operand, Setting};
 use crate::modules::{find_module, held_width, output_operands};
 use crate::nets::{net_value, operand_values, padded};
 use crate::refusal::Refusal;
-use crate::registers::{register_in, registers, Register, ResetBy, Slot};
+use crate::registers::{Register, ResetBy, Slot, register_in, registers};
 use crate::values::{behind, is_high, joined};
 use std::alloc::Global;
 
@@ -59,7 +59,12 @@ fn top_operands<'a>(at: &Setting<'a>) -> &'a [Operand]
 }
 
 // what the registers hold after the step
-fn content_after(alloc: Global, at: &Setting, depth: u32, slots: &[Slot]) -> Result<BitString, Refusal>
+fn content_after(
+    alloc: Global,
+    at: &Setting,
+    depth: u32,
+    slots: &[Slot],
+) -> Result<BitString, Refusal>
     ensures { IfOk result (λ word. word ≡ next_content (map slot_of slots.now) (value_within (map module_of at.now.modules.now) at.now.top.now at.now.inputs.now at.now.content.now depth) at.now.content.now) }
 {
     let mut word = BitString::new(alloc);
@@ -74,7 +79,14 @@ fn content_after(alloc: Global, at: &Setting, depth: u32, slots: &[Slot]) -> Res
 }
 
 // what a register holds after the step, its content standing first
-fn held_after(alloc: Global, at: &Setting, depth: u32, slot: &Slot, content: &[bool], width: u64) -> Result<BitString, Refusal>
+fn held_after(
+    alloc: Global,
+    at: &Setting,
+    depth: u32,
+    slot: &Slot,
+    content: &[bool],
+    width: u64,
+) -> Result<BitString, Refusal>
     ensures { IfOk result (λ word. word ≡ first width (loaded_word (register_in (op_of slot.now.operation.now))
         (λ r. value_within (map module_of at.now.modules.now) at.now.top.now at.now.inputs.now at.now.content.now depth (net slot.now.path.items r)) (first width content.now))) }
 {
@@ -89,7 +101,14 @@ fn held_after(alloc: Global, at: &Setting, depth: u32, slot: &Slot, content: &[b
 }
 
 // what a register loads
-fn loaded(alloc: Global, at: &Setting, depth: u32, path: &[u32], register: Register, old: BitString) -> Result<BitString, Refusal>
+fn loaded(
+    alloc: Global,
+    at: &Setting,
+    depth: u32,
+    path: &[u32],
+    register: Register,
+    old: BitString,
+) -> Result<BitString, Refusal>
     ensures { IfOk result (λ word. word ≡ loaded_word (Some (register_of register))
         (λ r. value_within (map module_of at.now.modules.now) at.now.top.now at.now.inputs.now at.now.content.now depth (net path.now r)) old) }
 {
@@ -103,7 +122,15 @@ fn loaded(alloc: Global, at: &Setting, depth: u32, path: &[u32], register: Regis
 }
 
 // the next value, or the old one without enable
-fn enabled(alloc: Global, at: &Setting, depth: u32, path: &[u32], enable: Option<Operand>, old: BitString, next: BitString) -> Result<BitString, Refusal>
+fn enabled(
+    alloc: Global,
+    at: &Setting,
+    depth: u32,
+    path: &[u32],
+    enable: Option<Operand>,
+    old: BitString,
+    next: BitString,
+) -> Result<BitString, Refusal>
     ensures { IfOk result (λ word. word ≡ enabled_word (option_map ref_of enable)
         (λ r. value_within (map module_of at.now.modules.now) at.now.top.now at.now.inputs.now at.now.content.now depth (net path.now r)) old next) }
 {
@@ -117,7 +144,14 @@ fn enabled(alloc: Global, at: &Setting, depth: u32, path: &[u32], enable: Option
 }
 
 // the next value, or the reset value with reset
-fn reset(alloc: Global, at: &Setting, depth: u32, path: &[u32], reset: Option<ResetBy>, next: BitString) -> Result<BitString, Refusal>
+fn reset(
+    alloc: Global,
+    at: &Setting,
+    depth: u32,
+    path: &[u32],
+    reset: Option<ResetBy>,
+    next: BitString,
+) -> Result<BitString, Refusal>
     ensures { IfOk result (λ word. word ≡ reset_word (option_map reset_by_of reset)
         (λ r. value_within (map module_of at.now.modules.now) at.now.top.now at.now.inputs.now at.now.content.now depth (net path.now r)) next) }
 {
@@ -135,7 +169,14 @@ fn reset(alloc: Global, at: &Setting, depth: u32, path: &[u32], reset: Option<Re
 
 /// A run of a module: the outputs of a list of steps, each the bits of its inputs, from a content, under the values of
 /// its nets within a depth.
-pub fn run(alloc: Global, modules: &[Module], top: &[u8], content: &[bool], steps: &[BitString], depth: u32) -> Result<Vec<BitString>, Refusal>
+pub fn run(
+    alloc: Global,
+    modules: &[Module],
+    top: &[u8],
+    content: &[bool],
+    steps: &[BitString],
+    depth: u32,
+) -> Result<Vec<BitString>, Refusal>
     ensures outputs { IfOk result (λ outs. outs.items ≡ run_within (map module_of modules.now) top.now depth content.now steps.now) }
     ensures holds { IfOk result (λ outs. Suffices (map module_of modules.now) top.now depth → Run (machine (map module_of modules.now) top.now) content.now steps.now outs.items) }
 {
@@ -149,7 +190,14 @@ pub fn run(alloc: Global, modules: &[Module], top: &[u8], content: &[bool], step
     Ok(outputs)
 }
 
-fn step_of(alloc: Global, modules: &[Module], top: &[u8], inputs: &BitString, content: &BitString, depth: u32) -> Result<Stepped, Refusal>
+fn step_of(
+    alloc: Global,
+    modules: &[Module],
+    top: &[u8],
+    inputs: &BitString,
+    content: &BitString,
+    depth: u32,
+) -> Result<Stepped, Refusal>
     ensures outputs { IfOk result (λ s. s.outputs ≡ outputs (map module_of modules.now) top.now (value_within (map module_of modules.now) top.now inputs.now content.now depth)) }
     ensures content { IfOk result (λ s. s.content ≡ next_content (registers (map module_of modules.now) top.now) (value_within (map module_of modules.now) top.now inputs.now content.now depth) content.now) }
 {

@@ -46,7 +46,10 @@ pub fn is_instance(operation: &Operation) -> bool
 pub fn is_register(operation: &Operation) -> bool
     ensures { result ≡ is_register (op_of operation.now) }
 {
-    matches!(operation.kind, OpKind::CompReg(_) | OpKind::CompRegCe(_) | OpKind::FirReg(_))
+    matches!(
+        operation.kind,
+        OpKind::CompReg(_) | OpKind::CompRegCe(_) | OpKind::FirReg(_)
+    )
 }
 
 /// The module that an operation instances.
@@ -236,7 +239,13 @@ fn content_up_to(modules: &[Module], inside: &Module, position: u32) -> Result<u
 }
 
 /// Where the content of the operation at a position of the module at the end of a path begins.
-pub fn offset(modules: &[Module], top: &[u8], path: &[u32], inside: &Module, position: u32) -> Result<u64, Refusal>
+pub fn offset(
+    modules: &[Module],
+    top: &[u8],
+    path: &[u32],
+    inside: &Module,
+    position: u32,
+) -> Result<u64, Refusal>
     ensures { IfOk result (λ n. n ≡ offset (map module_of modules.now) top.now path.now (module_of inside.now) position) }
 {
     let start = base(modules, top, path)?;

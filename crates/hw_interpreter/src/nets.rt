@@ -12,9 +12,12 @@ ghost use Rattle.hw_interpreter.specs.Ranges.{input_range_source, held_range_sou
 
 use crate::bit_string::BitString;
 use crate::design::{Module, Operand, Operation, Port, Setting};
-use crate::modules::{callee, find_module, first_operations, instance_at, instance_count, is_instance, is_register, module_at, offset, output_operands, sum_of};
+use crate::modules::{
+    callee, find_module, first_operations, instance_at, instance_count, is_instance, is_register,
+    module_at, offset, output_operands, sum_of,
+};
 use crate::refusal::Refusal;
-use crate::values::{behind, first_bits, exact_width, value_of};
+use crate::values::{behind, exact_width, first_bits, value_of};
 use hw_model::kinds::OpKind;
 use hw_model::types::Ty;
 use std::alloc::Global;
@@ -31,7 +34,13 @@ pub struct Range {
 /// The value of a net of a module: the operand of the body at the end of a path of instances, the innermost first, its
 /// needs followed for fewer than `depth` steps.
 #[cycle(net)]
-pub fn net_value(alloc: Global, at: &Setting, depth: u32, path: &[u32], operand: Operand) -> Result<BitString, Refusal>
+pub fn net_value(
+    alloc: Global,
+    at: &Setting,
+    depth: u32,
+    path: &[u32],
+    operand: Operand,
+) -> Result<BitString, Refusal>
     ensures { IfOk result (λ word. word ≡ value_within (map module_of at.now.modules.now) at.now.top.now at.now.inputs.now at.now.content.now depth (net path.now (ref_of operand))) }
 {
     if depth == 0 {
@@ -39,14 +48,27 @@ pub fn net_value(alloc: Global, at: &Setting, depth: u32, path: &[u32], operand:
     }
     match operand {
         Operand::Port(port) => port_value(alloc, at, depth - 1, path, port),
-        Operand::OpResult(position, number) => result_value(alloc, at, depth - 1, path, position, number),
+        Operand::OpResult(position, number) => result_value(
+            alloc,
+            at,
+            depth - 1,
+            path,
+            position,
+            number,
+        ),
         Operand::Undefined => Ok(BitString::new(alloc)),
     }
 }
 
 // the value of a port of the module at the end of a path
 #[cycle(net)]
-fn port_value(alloc: Global, at: &Setting, depth: u32, path: &[u32], port: u32) -> Result<BitString, Refusal>
+fn port_value(
+    alloc: Global,
+    at: &Setting,
+    depth: u32,
+    path: &[u32],
+    port: u32,
+) -> Result<BitString, Refusal>
     ensures { IfOk result (λ word. word ≡ value_from at.now.inputs.now at.now.content.now (value_within (map module_of at.now.modules.now) at.now.top.now at.now.inputs.now at.now.content.now depth)
         (port_source (map module_of at.now.modules.now) at.now.top.now path.now port)) }
 {
@@ -64,7 +86,13 @@ fn port_value(alloc: Global, at: &Setting, depth: u32, path: &[u32], port: u32) 
 
 // the value of the net that a net copies, if there is one
 #[cycle(net)]
-fn copied_value(alloc: Global, at: &Setting, depth: u32, path: &[u32], operand: Option<Operand>) -> Result<BitString, Refusal>
+fn copied_value(
+    alloc: Global,
+    at: &Setting,
+    depth: u32,
+    path: &[u32],
+    operand: Option<Operand>,
+) -> Result<BitString, Refusal>
     ensures { IfOk result (λ word. word ≡ value_from at.now.inputs.now at.now.content.now (value_within (map module_of at.now.modules.now) at.now.top.now at.now.inputs.now at.now.content.now depth)
         (copy_of path.now (option_map ref_of operand))) }
 {
@@ -76,7 +104,14 @@ fn copied_value(alloc: Global, at: &Setting, depth: u32, path: &[u32], operand: 
 
 // the value of a result of an operation of the module at the end of a path
 #[cycle(net)]
-fn result_value(alloc: Global, at: &Setting, depth: u32, path: &[u32], position: u32, number: u32) -> Result<BitString, Refusal>
+fn result_value(
+    alloc: Global,
+    at: &Setting,
+    depth: u32,
+    path: &[u32],
+    position: u32,
+    number: u32,
+) -> Result<BitString, Refusal>
     ensures { IfOk result (λ word. word ≡ value_from at.now.inputs.now at.now.content.now (value_within (map module_of at.now.modules.now) at.now.top.now at.now.inputs.now at.now.content.now depth)
         (result_source (map module_of at.now.modules.now) at.now.top.now path.now position number (module_at (map module_of at.now.modules.now) at.now.top.now path.now))) }
 {
@@ -84,14 +119,25 @@ fn result_value(alloc: Global, at: &Setting, depth: u32, path: &[u32], position:
         None => Ok(BitString::new(alloc)),
         Some(module) => match module.body.get(position as usize) {
             None => Ok(BitString::new(alloc)),
-            Some(operation) => operation_value(alloc, at, depth, path, module, position, number, operation),
+            Some(operation) => operation_value(
+                alloc, at, depth, path, module, position, number, operation,
+            ),
         },
     }
 }
 
 // the value of a result of this operation, at that position of the module at the end of a path
 #[cycle(net)]
-fn operation_value(alloc: Global, at: &Setting, depth: u32, path: &[u32], inside: &Module, position: u32, number: u32, operation: &Operation) -> Result<BitString, Refusal>
+fn operation_value(
+    alloc: Global,
+    at: &Setting,
+    depth: u32,
+    path: &[u32],
+    inside: &Module,
+    position: u32,
+    number: u32,
+    operation: &Operation,
+) -> Result<BitString, Refusal>
     ensures { IfOk result (λ word. word ≡ value_from at.now.inputs.now at.now.content.now (value_within (map module_of at.now.modules.now) at.now.top.now at.now.inputs.now at.now.content.now depth)
         (op_source (map module_of at.now.modules.now) at.now.top.now path.now (module_of inside.now) position number (op_of operation.now))) }
 {
@@ -109,7 +155,14 @@ fn operation_value(alloc: Global, at: &Setting, depth: u32, path: &[u32], inside
 
 // the value of a result that an operation makes of its operands
 #[cycle(net)]
-fn made_value(alloc: Global, at: &Setting, depth: u32, path: &[u32], operation: &Operation, number: u32) -> Result<BitString, Refusal>
+fn made_value(
+    alloc: Global,
+    at: &Setting,
+    depth: u32,
+    path: &[u32],
+    operation: &Operation,
+    number: u32,
+) -> Result<BitString, Refusal>
     ensures { IfOk result (λ word. word ≡ value_from at.now.inputs.now at.now.content.now (value_within (map module_of at.now.modules.now) at.now.top.now at.now.inputs.now at.now.content.now depth)
         (cond (is_output_op (op_of operation.now)) nowhere (made_of path.now (op_of operation.now) number (result_type (op_of operation.now) number)))) }
 {
@@ -120,14 +173,27 @@ fn made_value(alloc: Global, at: &Setting, depth: u32, path: &[u32], operation: 
         None => Ok(BitString::new(alloc)),
         Some(ty) => {
             let words = operand_values(alloc, at, depth, path, operation.operands.as_slice())?;
-            value_of(alloc, &operation.kind, operation.types.as_slice(), ty, number, words.as_slice())
+            value_of(
+                alloc,
+                &operation.kind,
+                operation.types.as_slice(),
+                ty,
+                number,
+                words.as_slice(),
+            )
         }
     }
 }
 
 #[cycle(net)]
 /// The values of operands, in order.
-pub fn operand_values(alloc: Global, at: &Setting, depth: u32, path: &[u32], operands: &[Operand]) -> Result<Vec<BitString>, Refusal>
+pub fn operand_values(
+    alloc: Global,
+    at: &Setting,
+    depth: u32,
+    path: &[u32],
+    operands: &[Operand],
+) -> Result<Vec<BitString>, Refusal>
     ensures { IfOk result (λ words. words.items ≡ map (value_within (map module_of at.now.modules.now) at.now.top.now at.now.inputs.now at.now.content.now depth) (map (net path.now) (map ref_of operands.now))) }
 {
     let mut words = Vec::new(alloc);
@@ -226,7 +292,16 @@ fn type_at(types: &[Ty], number: u32) -> Option<&Ty>
 }
 
 // the value of a register's result
-fn held_value(alloc: Global, at: &Setting, depth: u32, path: &[u32], inside: &Module, position: u32, number: u32, operation: &Operation) -> Result<BitString, Refusal>
+fn held_value(
+    alloc: Global,
+    at: &Setting,
+    depth: u32,
+    path: &[u32],
+    inside: &Module,
+    position: u32,
+    number: u32,
+    operation: &Operation,
+) -> Result<BitString, Refusal>
     ensures { IfOk result (λ word. word ≡ value_from at.now.inputs.now at.now.content.now (value_within (map module_of at.now.modules.now) at.now.top.now at.now.inputs.now at.now.content.now depth)
         (held_of (offset (map module_of at.now.modules.now) at.now.top.now path.now (module_of inside.now) position) (result_type (op_of operation.now) number))) }
 {
@@ -280,7 +355,9 @@ fn given_operand(modules: &[Module], operation: &Operation, number: u32) -> Opti
 {
     match callee(modules, operation) {
         None => None,
-        Some(own) => output_operands(own.body.as_slice()).get(number as usize).copied(),
+        Some(own) => output_operands(own.body.as_slice())
+            .get(number as usize)
+            .copied(),
     }
 }
 

@@ -80,7 +80,13 @@ fn enabled_register(reset: Reset, operands: &[Operand]) -> Option<Register>
             _ => None,
         },
         Reset::Sync => match operands {
-            [next, clock, enable, signal, value] => Some(with_reset(*next, *clock, Some(*enable), *signal, *value)),
+            [next, clock, enable, signal, value] => Some(with_reset(
+                *next,
+                *clock,
+                Some(*enable),
+                *signal,
+                *value,
+            )),
             _ => None,
         },
     }
@@ -97,7 +103,13 @@ fn unreset(next: Operand, clock: Operand, enable: Option<Operand>) -> Register
     }
 }
 
-fn with_reset(next: Operand, clock: Operand, enable: Option<Operand>, signal: Operand, value: Operand) -> Register
+fn with_reset(
+    next: Operand,
+    clock: Operand,
+    enable: Option<Operand>,
+    signal: Operand,
+    value: Operand,
+) -> Register
     ensures { result ≡ record { next = next; clock = clock; enable = enable; reset = Some (record { signal = signal; value = value }) } }
 {
     let reset = Some(ResetBy { signal, value });
@@ -110,7 +122,11 @@ fn with_reset(next: Operand, clock: Operand, enable: Option<Operand>, signal: Op
 }
 
 /// The registers of the module of a symbol, in the order of its content.
-pub fn registers<'a>(alloc: Global, modules: &'a [Module], top: &[u8]) -> Result<Vec<Slot<'a>>, Refusal>
+pub fn registers<'a>(
+    alloc: Global,
+    modules: &'a [Module],
+    top: &[u8],
+) -> Result<Vec<Slot<'a>>, Refusal>
     ensures { IfOk result (λ slots. map slot_of slots.items ≡ registers (map module_of modules.now) top.now) }
 {
     let mut slots = Vec::new(alloc);
@@ -121,7 +137,14 @@ pub fn registers<'a>(alloc: Global, modules: &'a [Module], top: &[u8]) -> Result
 
 // puts behind the registers of the module of a symbol at the end of a path, down to a depth of instances
 #[cycle(registers)]
-fn push_module<'a>(alloc: Global, slots: &mut Vec<Slot<'a>>, modules: &'a [Module], depth: u64, path: &[u32], symbol: &[u8]) -> Result<(), Refusal>
+fn push_module<'a>(
+    alloc: Global,
+    slots: &mut Vec<Slot<'a>>,
+    modules: &'a [Module],
+    depth: u64,
+    path: &[u32],
+    symbol: &[u8],
+) -> Result<(), Refusal>
     ensures { OnOk result (map slot_of slots.new.items ≡ map slot_of slots.old.items ++ module_registers depth (map module_of modules.now) path.now symbol.now) }
 {
     if depth == 0 {
@@ -135,7 +158,14 @@ fn push_module<'a>(alloc: Global, slots: &mut Vec<Slot<'a>>, modules: &'a [Modul
 
 // puts behind the registers of a body
 #[cycle(registers)]
-fn push_body<'a>(alloc: Global, slots: &mut Vec<Slot<'a>>, modules: &'a [Module], depth: u64, path: &[u32], body: &'a [Operation]) -> Result<(), Refusal>
+fn push_body<'a>(
+    alloc: Global,
+    slots: &mut Vec<Slot<'a>>,
+    modules: &'a [Module],
+    depth: u64,
+    path: &[u32],
+    body: &'a [Operation],
+) -> Result<(), Refusal>
     ensures { OnOk result (map slot_of slots.new.items ≡ map slot_of slots.old.items ++ body_registers (module_registers depth (map module_of modules.now)) path.now 0 (map op_of body.now)) }
 {
     let mut number = 0;
@@ -148,7 +178,15 @@ fn push_body<'a>(alloc: Global, slots: &mut Vec<Slot<'a>>, modules: &'a [Module]
 
 // puts behind the registers of an operation that `number` instances stand before
 #[cycle(registers)]
-fn push_operation<'a>(alloc: Global, slots: &mut Vec<Slot<'a>>, modules: &'a [Module], depth: u64, path: &[u32], number: u32, operation: &'a Operation) -> Result<(), Refusal>
+fn push_operation<'a>(
+    alloc: Global,
+    slots: &mut Vec<Slot<'a>>,
+    modules: &'a [Module],
+    depth: u64,
+    path: &[u32],
+    number: u32,
+    operation: &'a Operation,
+) -> Result<(), Refusal>
     ensures { OnOk result (map slot_of slots.new.items ≡ map slot_of slots.old.items ++ op_registers (module_registers depth (map module_of modules.now)) path.now number (op_of operation.now)) }
 {
     if is_register(operation) {
@@ -160,7 +198,14 @@ fn push_operation<'a>(alloc: Global, slots: &mut Vec<Slot<'a>>, modules: &'a [Mo
         None => Ok(()),
         Some(instance) => {
             let inner = inner_path(alloc, number, path)?;
-            push_module(alloc, slots, modules, depth, inner.as_slice(), instance.symbol.as_bytes())
+            push_module(
+                alloc,
+                slots,
+                modules,
+                depth,
+                inner.as_slice(),
+                instance.symbol.as_bytes(),
+            )
         }
     }
 }

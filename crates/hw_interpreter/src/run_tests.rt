@@ -1,6 +1,6 @@
 //! Small designs, run.
 
-use crate::bit_string::{bits_of, BitString};
+use crate::bit_string::{BitString, bits_of};
 use crate::design::{Module, Operand, Operation, Port};
 use crate::machine::run;
 use crate::refusal::Refusal;
@@ -21,7 +21,12 @@ fn port(alloc: Global, name: &[u8], is_output: bool, ty: Ty) -> Result<Port, Ref
 }
 
 // an operation with one result, or with none
-fn operation(alloc: Global, kind: OpKind, operands: &[Operand], ty: Option<Ty>) -> Result<Operation, Refusal> {
+fn operation(
+    alloc: Global,
+    kind: OpKind,
+    operands: &[Operand],
+    ty: Option<Ty>,
+) -> Result<Operation, Refusal> {
     let operands = Vec::from_slice(alloc, operands)?;
     let mut results = Vec::new(alloc);
     if let Some(ty) = ty {
@@ -35,7 +40,12 @@ fn operation(alloc: Global, kind: OpKind, operands: &[Operand], ty: Option<Ty>) 
     })
 }
 
-fn module(alloc: Global, symbol: &[u8], ports: Vec<Port>, body: Vec<Operation>) -> Result<Module, Refusal> {
+fn module(
+    alloc: Global,
+    symbol: &[u8],
+    ports: Vec<Port>,
+    body: Vec<Operation>,
+) -> Result<Module, Refusal> {
     let symbol = Text::of(alloc, symbol)?;
     Ok(Module {
         symbol,
@@ -56,13 +66,29 @@ fn register_ports(alloc: Global) -> Result<Vec<Port>, Refusal> {
 }
 
 fn nine(alloc: Global) -> Result<Operation, Refusal> {
-    operation(alloc, OpKind::Constant(Integer::NonNegative(9)), &[], Some(Ty::Int(8)))
+    operation(
+        alloc,
+        OpKind::Constant(Integer::NonNegative(9)),
+        &[],
+        Some(Ty::Int(8)),
+    )
 }
 
 // a register with enable and reset of the ports, and these data and reset value
 fn register(alloc: Global, next: Operand, value: Operand) -> Result<Operation, Refusal> {
-    let operands = [next, Operand::Port(0), Operand::Port(2), Operand::Port(1), value];
-    operation(alloc, OpKind::CompRegCe(Reset::Sync), &operands, Some(Ty::Int(8)))
+    let operands = [
+        next,
+        Operand::Port(0),
+        Operand::Port(2),
+        Operand::Port(1),
+        value,
+    ];
+    operation(
+        alloc,
+        OpKind::CompRegCe(Reset::Sync),
+        &operands,
+        Some(Ty::Int(8)),
+    )
 }
 
 fn register_module(alloc: Global) -> Result<Module, Refusal> {
@@ -139,7 +165,14 @@ fn words(alloc: Global, width: u32, values: &[u128]) -> Result<Vec<BitString>, R
 }
 
 // whether a run from this content gives these outputs, each step and each output a number
-fn gives(alloc: Global, modules: &[Module], top: &[u8], content: &BitString, steps: &[BitString], expected: &[u128]) -> Result<bool, Refusal> {
+fn gives(
+    alloc: Global,
+    modules: &[Module],
+    top: &[u8],
+    content: &BitString,
+    steps: &[BitString],
+    expected: &[u128],
+) -> Result<bool, Refusal> {
     let outputs = run(alloc, modules, top, content.as_slice(), steps, 8)?;
     if outputs.len() != expected.len() {
         return Ok(false);
@@ -153,7 +186,12 @@ fn gives(alloc: Global, modules: &[Module], top: &[u8], content: &BitString, ste
 }
 
 // clk, rst and en one bit each, then d: a load, no enable, a reset, and no clock
-const STEPS: [u128; 4] = [0b101_0001_0001, 0b100_0010_0010, 0b110_0011_0011, 0b011_0100_0100];
+const STEPS: [u128; 4] = [
+    0b101_0001_0001,
+    0b100_0010_0010,
+    0b110_0011_0011,
+    0b011_0100_0100,
+];
 
 const OUTPUTS: [u128; 4] = [0x0506, 0x1105, 0x1105, 0x0909];
 
@@ -163,7 +201,16 @@ fn two_registers_as_instances(rt: HostRuntime) -> Result<(), Fail> {
     let modules = two_registers(alloc)?;
     let content = word(alloc, 16, 0x0506)?;
     let steps = words(alloc, 11, &STEPS)?;
-    assert!(rt; gives(alloc, modules.as_slice(), b"Two", &content, steps.as_slice(), &OUTPUTS)?);
+    assert!(rt;
+        gives(
+            alloc,
+            modules.as_slice(),
+            b"Two",
+            &content,
+            steps.as_slice(),
+            &OUTPUTS
+        )?
+    );
     Ok(())
 }
 
@@ -173,7 +220,16 @@ fn two_registers_in_one_module(rt: HostRuntime) -> Result<(), Fail> {
     let modules = flattened(alloc)?;
     let content = word(alloc, 16, 0x0506)?;
     let steps = words(alloc, 11, &STEPS)?;
-    assert!(rt; gives(alloc, modules.as_slice(), b"Two", &content, steps.as_slice(), &OUTPUTS)?);
+    assert!(rt;
+        gives(
+            alloc,
+            modules.as_slice(),
+            b"Two",
+            &content,
+            steps.as_slice(),
+            &OUTPUTS
+        )?
+    );
     Ok(())
 }
 
@@ -187,9 +243,19 @@ fn two_clocks(alloc: Global) -> Result<Vec<Module>, Refusal> {
     ports.push(port(alloc, b"b", true, Ty::Int(8))?)?;
     let mut body = Vec::new(alloc);
     let plain = OpKind::CompReg(Reset::No);
-    body.push(operation(alloc, plain, &[Operand::Port(2), Operand::Port(0)], Some(Ty::Int(8)))?)?;
+    body.push(operation(
+        alloc,
+        plain,
+        &[Operand::Port(2), Operand::Port(0)],
+        Some(Ty::Int(8)),
+    )?)?;
     let firm = OpKind::FirReg(Reset::No);
-    body.push(operation(alloc, firm, &[Operand::Port(2), Operand::Port(1)], Some(Ty::Int(8)))?)?;
+    body.push(operation(
+        alloc,
+        firm,
+        &[Operand::Port(2), Operand::Port(1)],
+        Some(Ty::Int(8)),
+    )?)?;
     let given = [Operand::OpResult(0, 0), Operand::OpResult(1, 0)];
     body.push(operation(alloc, OpKind::Output, &given, None)?)?;
     let mut modules = Vec::new(alloc);
@@ -203,6 +269,15 @@ fn one_clock_rises_then_the_other(rt: HostRuntime) -> Result<(), Fail> {
     let modules = two_clocks(alloc)?;
     let content = word(alloc, 16, 0x0102)?;
     let steps = words(alloc, 10, &[0x2aa, 0x1bb, 0x0cc])?;
-    assert!(rt; gives(alloc, modules.as_slice(), b"M", &content, steps.as_slice(), &[0x0102, 0xaa02, 0xaabb])?);
+    assert!(rt;
+        gives(
+            alloc,
+            modules.as_slice(),
+            b"M",
+            &content,
+            steps.as_slice(),
+            &[0x0102, 0xaa02, 0xaabb]
+        )?
+    );
     Ok(())
 }

@@ -9,7 +9,7 @@ ghost use Rattle.hw_model.specs.KindViews.{kind_of, literal_of, literals_in, lit
 ghost use Rattle.hw_model.specs.IntegerKinds.{TakesWords, AllHave, OfOne, OfTwo};
 ghost use Rattle.hw_model.specs.Value.{op_value, joined, of_one, of_two, of_three, is_high, word_of_literal, word_of_literals, element, elements_from, slice_of, injected_below, injected, field_of, with_field, field_at, fields, written};
 
-use crate::bit_string::{bits_of, BitString};
+use crate::bit_string::{BitString, bits_of};
 use crate::refusal::Refusal;
 use bits_core::Bits;
 use hw_model::integer_values::op_value;
@@ -22,21 +22,44 @@ use std::alloc::Global;
 ///
 /// Operations on integers other than concatenations and choices take words of 1 to 128 bits that fit their kind; others
 /// are refused.
-pub fn value_of(alloc: Global, kind: &OpKind, types: &[Ty], ty: &Ty, index: u32, operands: &[BitString]) -> Result<BitString, Refusal>
+pub fn value_of(
+    alloc: Global,
+    kind: &OpKind,
+    types: &[Ty],
+    ty: &Ty,
+    index: u32,
+    operands: &[BitString],
+) -> Result<BitString, Refusal>
     ensures { IfOk result (λ word. word ≡ op_value (kind_of kind.now) (map type_of types.now) (type_of ty.now) index operands.now) }
 {
     match kind {
         OpKind::AggregateConstant(list) => literals_word(alloc, list),
-        OpKind::Concat | OpKind::ArrayCreate | OpKind::ArrayConcat | OpKind::StructCreate => joined(alloc, operands),
+        OpKind::Concat | OpKind::ArrayCreate | OpKind::ArrayConcat | OpKind::StructCreate => joined(
+            alloc, operands,
+        ),
         OpKind::Mux => chosen(alloc, operands),
         OpKind::Bitcast | OpKind::Wire => passed(alloc, operands),
         OpKind::ArrayGet => element_got(alloc, first_type(types)?, operands),
         OpKind::ArraySlice => slice_got(alloc, first_type(types)?, ty, operands),
         OpKind::ArrayInject => element_put(alloc, first_type(types)?, operands),
-        OpKind::StructExtract(name) => field_got(alloc, first_type(types)?, name.as_bytes(), operands),
-        OpKind::StructInject(name) => field_put(alloc, first_type(types)?, name.as_bytes(), operands),
+        OpKind::StructExtract(name) => field_got(
+            alloc,
+            first_type(types)?,
+            name.as_bytes(),
+            operands,
+        ),
+        OpKind::StructInject(name) => field_put(
+            alloc,
+            first_type(types)?,
+            name.as_bytes(),
+            operands,
+        ),
         OpKind::StructExplode => field_numbered(alloc, first_type(types)?, index, operands),
-        OpKind::Instance(_) | OpKind::Output | OpKind::CompReg(_) | OpKind::CompRegCe(_) | OpKind::FirReg(_) => Ok(BitString::new(alloc)),
+        OpKind::Instance(_)
+        | OpKind::Output
+        | OpKind::CompReg(_)
+        | OpKind::CompRegCe(_)
+        | OpKind::FirReg(_) => Ok(BitString::new(alloc)),
         _ => integer_value(alloc, kind, ty, operands),
     }
 }
@@ -44,7 +67,12 @@ pub fn value_of(alloc: Global, kind: &OpKind, types: &[Ty], ty: &Ty, index: u32,
 // ---- integers
 
 // the value of an operation on integers that takes these words
-fn integer_value(alloc: Global, kind: &OpKind, ty: &Ty, operands: &[BitString]) -> Result<BitString, Refusal>
+fn integer_value(
+    alloc: Global,
+    kind: &OpKind,
+    ty: &Ty,
+    operands: &[BitString],
+) -> Result<BitString, Refusal>
     ensures { IfOk result (λ word. TakesWords (kind_of kind.now) (width (type_of ty.now)) operands.now
         × (word ≡ op_value (kind_of kind.now) [] (int (width (type_of ty.now))) 0 operands.now)) }
 {
@@ -83,8 +111,11 @@ fn takes_words(kind: &OpKind, width: u32, words: &[Bits]) -> bool
     ensures { IsTrue result → TakesWords (kind_of kind.now) width words.now }
 {
     match kind {
-        OpKind::Add | OpKind::Mul | OpKind::And | OpKind::Or | OpKind::Xor => all_have(width, words),
-        OpKind::Sub | OpKind::Divu | OpKind::Modu | OpKind::Divs | OpKind::Mods | OpKind::Icmp(_) => are_two_alike(words),
+        OpKind::Add | OpKind::Mul | OpKind::And | OpKind::Or | OpKind::Xor => all_have(
+            width, words,
+        ),
+        OpKind::Sub | OpKind::Divu | OpKind::Modu | OpKind::Divs | OpKind::Mods | OpKind::Icmp(_) =>
+            are_two_alike(words),
         OpKind::Shl | OpKind::Shru | OpKind::Shrs => words.len() == 2,
         OpKind::Parity => words.len() == 1,
         OpKind::Extract(low) => is_one_reaching(u64::from(*low) + u64::from(width), words),
@@ -313,7 +344,13 @@ fn element(alloc: Global, ty: &Ty, word: &[bool], index: u128) -> Result<BitStri
 }
 
 // elements low + count - 1 down to low
-fn elements(alloc: Global, ty: &Ty, word: &[bool], low: u128, count: u32) -> Result<BitString, Refusal>
+fn elements(
+    alloc: Global,
+    ty: &Ty,
+    word: &[bool],
+    low: u128,
+    count: u32,
+) -> Result<BitString, Refusal>
     ensures { IfOk result (λ part. part ≡ elements_from (type_of ty.now) word.now low count) }
 {
     let mut part = BitString::new(alloc);
@@ -330,7 +367,14 @@ fn elements(alloc: Global, ty: &Ty, word: &[bool], low: u128, count: u32) -> Res
 }
 
 // the elements below `count`, from the highest down, with `value` in place of element `index`
-fn elements_with(alloc: Global, ty: &Ty, count: u32, word: &[bool], index: u128, value: &BitString) -> Result<BitString, Refusal>
+fn elements_with(
+    alloc: Global,
+    ty: &Ty,
+    count: u32,
+    word: &[bool],
+    index: u128,
+    value: &BitString,
+) -> Result<BitString, Refusal>
     ensures { IfOk result (λ part. part ≡ injected_below count (type_of ty.now) word.now index value.now) }
 {
     let mut part = BitString::new(alloc);
@@ -344,7 +388,14 @@ fn elements_with(alloc: Global, ty: &Ty, count: u32, word: &[bool], index: u128,
 }
 
 // element `at`, or the value in its place where it is element `index`
-fn element_or(alloc: Global, ty: &Ty, at: u128, word: &[bool], index: u128, value: &BitString) -> Result<BitString, Refusal>
+fn element_or(
+    alloc: Global,
+    ty: &Ty,
+    at: u128,
+    word: &[bool],
+    index: u128,
+    value: &BitString,
+) -> Result<BitString, Refusal>
     ensures { IfOk result (λ part. part ≡ cond (at == index) value.now (element (type_of ty.now) word.now at)) }
 {
     if at == index {
@@ -362,7 +413,12 @@ fn element_got(alloc: Global, ty: &Ty, operands: &[BitString]) -> Result<BitStri
     element(alloc, ty, array.as_slice(), index)
 }
 
-fn slice_got(alloc: Global, ty: &Ty, slice: &Ty, operands: &[BitString]) -> Result<BitString, Refusal>
+fn slice_got(
+    alloc: Global,
+    ty: &Ty,
+    slice: &Ty,
+    operands: &[BitString],
+) -> Result<BitString, Refusal>
     ensures { IfOk result (λ word. word ≡ of_two (λ a i. slice_of (type_of ty.now) a (number i) (type_of slice.now)) operands.now) }
 {
     let (array, index) = two(operands)?;
@@ -428,7 +484,13 @@ fn field_at<'w>(fields: &[Field], number: u32, word: &'w [bool]) -> Result<&'w [
 }
 
 // the struct's word with a value in the place of the field of that name
-fn with_field(alloc: Global, fields: &[Field], name: &[u8], word: &[bool], value: &BitString) -> Result<BitString, Refusal>
+fn with_field(
+    alloc: Global,
+    fields: &[Field],
+    name: &[u8],
+    word: &[bool],
+    value: &BitString,
+) -> Result<BitString, Refusal>
     ensures { IfOk result (λ part. part ≡ with_field (fields_of (map named_type fields.now)) name.now word.now value.now) }
 {
     match fields {
@@ -455,7 +517,12 @@ fn two_parts(alloc: Global, high: &[bool], low: &[bool]) -> Result<BitString, Re
     Ok(word)
 }
 
-fn field_got(alloc: Global, ty: &Ty, name: &[u8], operands: &[BitString]) -> Result<BitString, Refusal>
+fn field_got(
+    alloc: Global,
+    ty: &Ty,
+    name: &[u8],
+    operands: &[BitString],
+) -> Result<BitString, Refusal>
     ensures { IfOk result (λ word. word ≡ of_one (field_of (fields (type_of ty.now)) name.now) operands.now) }
 {
     let word = one(operands)?;
@@ -464,7 +531,12 @@ fn field_got(alloc: Global, ty: &Ty, name: &[u8], operands: &[BitString]) -> Res
     Ok(part)
 }
 
-fn field_put(alloc: Global, ty: &Ty, name: &[u8], operands: &[BitString]) -> Result<BitString, Refusal>
+fn field_put(
+    alloc: Global,
+    ty: &Ty,
+    name: &[u8],
+    operands: &[BitString],
+) -> Result<BitString, Refusal>
     ensures { IfOk result (λ word. word ≡ of_two (with_field (fields (type_of ty.now)) name.now) operands.now) }
 {
     let (word, value) = two(operands)?;
@@ -472,7 +544,12 @@ fn field_put(alloc: Global, ty: &Ty, name: &[u8], operands: &[BitString]) -> Res
     with_field(alloc, fields, name, word.as_slice(), value)
 }
 
-fn field_numbered(alloc: Global, ty: &Ty, number: u32, operands: &[BitString]) -> Result<BitString, Refusal>
+fn field_numbered(
+    alloc: Global,
+    ty: &Ty,
+    number: u32,
+    operands: &[BitString],
+) -> Result<BitString, Refusal>
     ensures { IfOk result (λ word. word ≡ of_one (field_at (fields (type_of ty.now)) number) operands.now) }
 {
     let word = one(operands)?;

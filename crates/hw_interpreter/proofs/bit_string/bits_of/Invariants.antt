@@ -1,4 +1,4 @@
-use Rattle.std.proofs.Common.{◌≡◌, ◌≤◌, ◌+◌, ◌++◌, length, take}
+use Rattle.std.proofs.Common.{◌≡◌, ◌++◌, take}
 use Rattle.hw_interpreter.proofs.bit_string.bits_of.Given as goal
 
 abbrev pub invariant-loop-bit : goal.invariant-loop-bit

@@ -1,5 +1,4 @@
-use Rattle.std.proofs.Common.{map, arith, ◌≡◌, Some, sym}
-use Rattle.hw_model.specs.Design.{find_module}
+use Rattle.std.proofs.Common.{map, arith, sym}
 use Rattle.hw_interpreter.specs.DesignViews.{module_of}
 use Rattle.hw_interpreter.proofs.Contents.{module_state_found}
 use Rattle.hw_interpreter.proofs.modules.+content_width.Goals as goal

@@ -1,4 +1,4 @@
-use Rattle.std.proofs.Common.{◌≡◌, ◌-◌, ◌++◌, refl, ap, sym, ◌∙◌, arith}
+use Rattle.std.proofs.Common.{◌-◌, ◌++◌, refl, ap, sym, ◌∙◌}
 use Rattle.hw_model.specs.TypeViews.{type_of}
 use Rattle.hw_model.specs.Value.{injected_below}
 use Rattle.hw_interpreter.proofs.Pieces.{piece_more, injected_top}

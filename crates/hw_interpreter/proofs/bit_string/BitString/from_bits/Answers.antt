@@ -1,4 +1,4 @@
-use Rattle.std.proofs.Common.{arith, ◌≡◌, ◌-◌, ◌++◌, ◌∷◌, [], ap, sym, ◌∙◌}
+use Rattle.std.proofs.Common.{arith, ◌-◌, ◌++◌, ◌∷◌, [], ap, sym, ◌∙◌}
 use Rattle.bits_core.specs.Word.{bits, number}
 use Rattle.bits_core.proofs.Numbers.{bits-number}
 use Rattle.hw_interpreter.proofs.Pieces.{piece_more, bits_top}

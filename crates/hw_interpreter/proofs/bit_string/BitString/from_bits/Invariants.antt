@@ -1,4 +1,4 @@
-use Rattle.std.proofs.Common.{◌≡◌, ◌≤◌, ◌++◌, length}
+use Rattle.std.proofs.Common.{◌≡◌, ◌≤◌, ◌++◌}
 use Rattle.bits_core.specs.Word.{bits, number}
 use Rattle.hw_interpreter.proofs.bit_string.BitString.from_bits.Given as goal
 
