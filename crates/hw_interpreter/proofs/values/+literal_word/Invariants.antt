@@ -1,0 +1,8 @@
+use Rattle.std.proofs.Common.{◌≡◌, ◌++◌, drop, map}
+use Rattle.hw_model.specs.KindViews.{literal_of, literals_of}
+use Rattle.hw_model.specs.Value.{word_of_literals}
+use Rattle.hw_interpreter.proofs.values.+literal_word.Given as goal
+
+abbrev pub invariant-literals_word-loop-literal : goal.invariant-literals_word-loop-literal
+invariant-literals_word-loop-literal l =
+    l.word ++ word_of_literals (literals_of (map literal_of (drop l.literal-index l.literal-items))) ≡ word_of_literals (literals_of (map literal_of l.literal-items))

@@ -1,0 +1,29 @@
+-- The values of nets, their needs followed to a depth, and the steps and runs of them.
+use Rattle.std.specs.Prelude.{ℕ, zero, suc, ◌≤◌, List, [], ◌∷◌, map}
+use Rattle.wiring.specs.Wiring.{IsHeight}
+use Rattle.bits_core.specs.Word.{Word}
+use Rattle.hw_model.specs.Types.{Name}
+use Rattle.hw_model.specs.Design.{Design}
+use Rattle.hw_model.specs.Flat.{Net, Source, source, registers}
+use Rattle.hw_model.specs.Meaning.{needs_of, needs, value_of, next_content, outputs}
+
+-- the value of a net that comes from a source, `inner` being the map of the nets that it needs
+abbrev pub value_from : Word → Word → (Net → Word) → Source → Word
+value_from inputs content inner s = value_of inputs content s (map inner (needs_of s))
+
+-- the value of a net, needs followed for fewer than `depth` steps; the empty word where none is left
+abbrev pub value_within : Design → Name → Word → Word → ℕ → Net → Word
+value_within d top inputs content zero n = []
+value_within d top inputs content (suc depth) n =
+    value_from inputs content (value_within d top inputs content depth) (source d top n)
+
+-- the outputs of a list of steps, under the values within a depth
+abbrev pub run_within : Design → Name → ℕ → Word → List Word → List Word
+run_within d top depth content [] = []
+run_within d top depth content (s ∷ steps) =
+    outputs d top (value_within d top s content depth)
+    ∷ run_within d top depth (next_content (registers d top) (value_within d top s content depth) content) steps
+
+-- the depth reaches all that nets need: the nets have heights, and none is above it
+abbrev pub Suffices : Design → Name → ℕ → Type 0
+Suffices d top depth = (height : Net → ℕ) × IsHeight (needs d top) height × ((n : Net) → height n ≤ depth)

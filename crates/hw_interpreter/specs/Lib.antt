@@ -1,0 +1,4 @@
+pub mod Depth
+pub mod DesignViews
+pub mod Ranges
+pub mod Registers

@@ -1,0 +1,16 @@
+//! A plain interpreter of designs: it computes operation values, steps and runs by the definitions of `hw_model`, with
+//! no sharing and no order of its own. Tests of faster parts take their values from it.
+#![tactic(auto)]
+
+pub mod bit_string;
+pub mod design;
+pub mod machine;
+pub mod modules;
+pub mod nets;
+pub mod refusal;
+pub mod registers;
+#[cfg(test)]
+mod run_tests;
+#[cfg(test)]
+mod value_tests;
+pub mod values;

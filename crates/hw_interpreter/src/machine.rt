@@ -1,0 +1,211 @@
+//! Steps and runs of a module.
+ghost use Rattle.std.specs.Prelude.{ℕ, ◌≡◌, ◌+◌, ◌-◌, ◌∷◌, [], ◌++◌, ◌≤◌, ◌<◌, length, take, drop, map, cond, IfOk, MatchOption, Option, Some, None, option_map};
+ghost use Rattle.bits_core.specs.Word.{first};
+ghost use Rattle.hw_model.specs.KindViews.{kind_of};
+ghost use Rattle.hw_model.specs.Design.{find_module, register_form};
+ghost use Rattle.hw_model.specs.Flat.{net, module_registers, body_registers, op_registers, registers, register_in, register_parts, depth};
+ghost use Rattle.hw_model.specs.Meaning.{enabled as enabled_word, reset as reset_word, loaded as loaded_word, next_content, outputs_of, outputs, machine};
+ghost use Rattle.hw_model.specs.Machine.{Step, Run};
+ghost use Rattle.hw_interpreter.specs.DesignViews.{ref_of, op_of, module_of};
+ghost use Rattle.hw_interpreter.specs.Depth.{value_within, run_within, Suffices};
+ghost use Rattle.hw_interpreter.specs.Registers.{slot_of, register_of, reset_by_of};
+
+use crate::bit_string::BitString;
+use crate::design::{Module, Operand, Setting};
+use crate::modules::{find_module, held_width, output_operands};
+use crate::nets::{net_value, operand_values, padded};
+use crate::refusal::Refusal;
+use crate::registers::{Register, ResetBy, Slot, register_in, registers};
+use crate::values::{behind, is_high, joined};
+use std::alloc::Global;
+
+/// What a step gives.
+#[derive(Debug, Drop)]
+pub struct Stepped {
+    /// The bits of the outputs, in port order.
+    pub outputs: BitString,
+    /// The bits of the registers after the step.
+    pub content: BitString,
+}
+
+/// One step of a module: its outputs, and its content after it, under the values of its nets within a depth.
+pub fn step(alloc: Global, at: &Setting, depth: u32) -> Result<Stepped, Refusal>
+    ensures outputs { IfOk result (λ s. s.outputs ≡ outputs (map module_of at.now.modules.now) at.now.top.now (value_within (map module_of at.now.modules.now) at.now.top.now at.now.inputs.now at.now.content.now depth)) }
+    ensures content { IfOk result (λ s. s.content ≡ next_content (registers (map module_of at.now.modules.now) at.now.top.now) (value_within (map module_of at.now.modules.now) at.now.top.now at.now.inputs.now at.now.content.now depth) at.now.content.now) }
+    ensures holds { IfOk result (λ s. Suffices (map module_of at.now.modules.now) at.now.top.now depth → Step (machine (map module_of at.now.modules.now) at.now.top.now) at.now.inputs.now at.now.content.now s.outputs s.content) }
+{
+    let outputs = output_word(alloc, at, depth)?;
+    let slots = registers(alloc, at.modules, at.top)?;
+    let content = content_after(alloc, at, depth, slots.as_slice())?;
+    Ok(Stepped { outputs, content })
+}
+
+// the outputs, in port order
+fn output_word(alloc: Global, at: &Setting, depth: u32) -> Result<BitString, Refusal>
+    ensures { IfOk result (λ word. word ≡ outputs (map module_of at.now.modules.now) at.now.top.now (value_within (map module_of at.now.modules.now) at.now.top.now at.now.inputs.now at.now.content.now depth)) }
+{
+    let words = operand_values(alloc, at, depth, &[], top_operands(at))?;
+    joined(alloc, words.as_slice())
+}
+
+// what the module gives to its outputs
+fn top_operands<'a>(at: &Setting<'a>) -> &'a [Operand]
+    ensures { map ref_of result.now ≡ outputs_of (find_module (map module_of at.now.modules.now) at.now.top.now) }
+{
+    match find_module(at.modules, at.top) {
+        None => &[],
+        Some(own) => output_operands(own.body.as_slice()),
+    }
+}
+
+// what the registers hold after the step
+fn content_after(
+    alloc: Global,
+    at: &Setting,
+    depth: u32,
+    slots: &[Slot],
+) -> Result<BitString, Refusal>
+    ensures { IfOk result (λ word. word ≡ next_content (map slot_of slots.now) (value_within (map module_of at.now.modules.now) at.now.top.now at.now.inputs.now at.now.content.now depth) at.now.content.now) }
+{
+    let mut word = BitString::new(alloc);
+    let mut rest = at.content;
+    for slot in slots {
+        let width = held_width(slot.operation)?;
+        let next = held_after(alloc, at, depth, slot, rest, width)?;
+        word.push_bits(next.as_slice())?;
+        rest = behind(rest, width);
+    }
+    Ok(word)
+}
+
+// what a register holds after the step, its content standing first
+fn held_after(
+    alloc: Global,
+    at: &Setting,
+    depth: u32,
+    slot: &Slot,
+    content: &[bool],
+    width: u64,
+) -> Result<BitString, Refusal>
+    ensures { IfOk result (λ word. word ≡ first width (loaded_word (register_in (op_of slot.now.operation.now))
+        (λ r. value_within (map module_of at.now.modules.now) at.now.top.now at.now.inputs.now at.now.content.now depth (net slot.now.path.items r)) (first width content.now))) }
+{
+    let old = padded(alloc, content, width)?;
+    match register_in(slot.operation) {
+        None => padded(alloc, old.as_slice(), width),
+        Some(register) => {
+            let next = loaded(alloc, at, depth, slot.path.as_slice(), register, old)?;
+            padded(alloc, next.as_slice(), width)
+        }
+    }
+}
+
+// what a register loads
+fn loaded(
+    alloc: Global,
+    at: &Setting,
+    depth: u32,
+    path: &[u32],
+    register: Register,
+    old: BitString,
+) -> Result<BitString, Refusal>
+    ensures { IfOk result (λ word. word ≡ loaded_word (Some (register_of register))
+        (λ r. value_within (map module_of at.now.modules.now) at.now.top.now at.now.inputs.now at.now.content.now depth (net path.now r)) old) }
+{
+    let clock = net_value(alloc, at, depth, path, register.clock)?;
+    if !is_high(&clock) {
+        return Ok(old);
+    }
+    let next = net_value(alloc, at, depth, path, register.next)?;
+    let next = enabled(alloc, at, depth, path, register.enable, old, next)?;
+    reset(alloc, at, depth, path, register.reset, next)
+}
+
+// the next value, or the old one without enable
+fn enabled(
+    alloc: Global,
+    at: &Setting,
+    depth: u32,
+    path: &[u32],
+    enable: Option<Operand>,
+    old: BitString,
+    next: BitString,
+) -> Result<BitString, Refusal>
+    ensures { IfOk result (λ word. word ≡ enabled_word (option_map ref_of enable)
+        (λ r. value_within (map module_of at.now.modules.now) at.now.top.now at.now.inputs.now at.now.content.now depth (net path.now r)) old next) }
+{
+    match enable {
+        None => Ok(next),
+        Some(operand) => {
+            let signal = net_value(alloc, at, depth, path, operand)?;
+            Ok(if is_high(&signal) { next } else { old })
+        }
+    }
+}
+
+// the next value, or the reset value with reset
+fn reset(
+    alloc: Global,
+    at: &Setting,
+    depth: u32,
+    path: &[u32],
+    reset: Option<ResetBy>,
+    next: BitString,
+) -> Result<BitString, Refusal>
+    ensures { IfOk result (λ word. word ≡ reset_word (option_map reset_by_of reset)
+        (λ r. value_within (map module_of at.now.modules.now) at.now.top.now at.now.inputs.now at.now.content.now depth (net path.now r)) next) }
+{
+    match reset {
+        None => Ok(next),
+        Some(by) => {
+            let signal = net_value(alloc, at, depth, path, by.signal)?;
+            if !is_high(&signal) {
+                return Ok(next);
+            }
+            net_value(alloc, at, depth, path, by.value)
+        }
+    }
+}
+
+/// A run of a module: the outputs of a list of steps, each the bits of its inputs, from a content, under the values of
+/// its nets within a depth.
+pub fn run(
+    alloc: Global,
+    modules: &[Module],
+    top: &[u8],
+    content: &[bool],
+    steps: &[BitString],
+    depth: u32,
+) -> Result<Vec<BitString>, Refusal>
+    ensures outputs { IfOk result (λ outs. outs.items ≡ run_within (map module_of modules.now) top.now depth content.now steps.now) }
+    ensures holds { IfOk result (λ outs. Suffices (map module_of modules.now) top.now depth → Run (machine (map module_of modules.now) top.now) content.now steps.now outs.items) }
+{
+    let mut outputs = Vec::new(alloc);
+    let mut held = BitString::of(alloc, content)?;
+    for inputs in steps {
+        let stepped = step_of(alloc, modules, top, inputs, &held, depth)?;
+        outputs.push(stepped.outputs)?;
+        held = stepped.content;
+    }
+    Ok(outputs)
+}
+
+fn step_of(
+    alloc: Global,
+    modules: &[Module],
+    top: &[u8],
+    inputs: &BitString,
+    content: &BitString,
+    depth: u32,
+) -> Result<Stepped, Refusal>
+    ensures outputs { IfOk result (λ s. s.outputs ≡ outputs (map module_of modules.now) top.now (value_within (map module_of modules.now) top.now inputs.now content.now depth)) }
+    ensures content { IfOk result (λ s. s.content ≡ next_content (registers (map module_of modules.now) top.now) (value_within (map module_of modules.now) top.now inputs.now content.now depth) content.now) }
+{
+    let at = Setting {
+        modules,
+        top,
+        inputs: inputs.as_slice(),
+        content: content.as_slice(),
+    };
+    step(alloc, &at, depth)
+}

@@ -1,0 +1,404 @@
+//! The values of nets, their needs followed to a depth.
+ghost use Rattle.std.specs.Prelude.{ℕ, ◌≡◌, ◌+◌, ◌-◌, ◌∷◌, [], ◌≤◌, ◌<◌, length, take, drop, map, cond, IfOk, MatchOption, Option, Some, None, option_map, slice_get};
+ghost use Rattle.bits_core.specs.Word.{first};
+ghost use Rattle.wiring.specs.Options.{bind};
+ghost use Rattle.hw_model.specs.TypeViews.{type_of};
+ghost use Rattle.hw_model.specs.Design.{find_module, result_type, is_output_op};
+ghost use Rattle.hw_model.specs.Flat.{net, input_count, input_width, port_ref, input_of, input_source, port_source, result_source, op_source, copy_of, joined_ref, joined_at, given_ref, held_of, made_of, module_at, offset};
+ghost use Rattle.hw_model.specs.Flat.Source.{nowhere};
+ghost use Rattle.hw_interpreter.specs.DesignViews.{ref_of, op_of, port_of, module_of};
+ghost use Rattle.hw_interpreter.specs.Depth.{value_from, value_within};
+ghost use Rattle.hw_interpreter.specs.Ranges.{input_range_source, held_range_source};
+
+use crate::bit_string::BitString;
+use crate::design::{Module, Operand, Operation, Port, Setting};
+use crate::modules::{
+    callee, find_module, first_operations, instance_at, instance_count, is_instance, is_register,
+    module_at, offset, output_operands, sum_of,
+};
+use crate::refusal::Refusal;
+use crate::values::{behind, exact_width, first_bits, value_of};
+use hw_model::kinds::OpKind;
+use hw_model::types::Ty;
+use std::alloc::Global;
+
+/// A range of bits.
+#[derive(Clone, Copy, Debug)]
+pub struct Range {
+    /// Where it begins.
+    pub start: u64,
+    /// How many bits it has.
+    pub width: u64,
+}
+
+/// The value of a net of a module: the operand of the body at the end of a path of instances, the innermost first, its
+/// needs followed for fewer than `depth` steps.
+#[cycle(net)]
+pub fn net_value(
+    alloc: Global,
+    at: &Setting,
+    depth: u32,
+    path: &[u32],
+    operand: Operand,
+) -> Result<BitString, Refusal>
+    ensures { IfOk result (λ word. word ≡ value_within (map module_of at.now.modules.now) at.now.top.now at.now.inputs.now at.now.content.now depth (net path.now (ref_of operand))) }
+{
+    if depth == 0 {
+        return Ok(BitString::new(alloc));
+    }
+    match operand {
+        Operand::Port(port) => port_value(alloc, at, depth - 1, path, port),
+        Operand::OpResult(position, number) => result_value(
+            alloc,
+            at,
+            depth - 1,
+            path,
+            position,
+            number,
+        ),
+        Operand::Undefined => Ok(BitString::new(alloc)),
+    }
+}
+
+// the value of a port of the module at the end of a path
+#[cycle(net)]
+fn port_value(
+    alloc: Global,
+    at: &Setting,
+    depth: u32,
+    path: &[u32],
+    port: u32,
+) -> Result<BitString, Refusal>
+    ensures { IfOk result (λ word. word ≡ value_from at.now.inputs.now at.now.content.now (value_within (map module_of at.now.modules.now) at.now.top.now at.now.inputs.now at.now.content.now depth)
+        (port_source (map module_of at.now.modules.now) at.now.top.now path.now port)) }
+{
+    match path {
+        [] => match input_range(at, port)? {
+            None => Ok(BitString::new(alloc)),
+            Some(range) => padded(alloc, behind(at.inputs, range.start), range.width),
+        },
+        [number, outer @ ..] => {
+            let operand = joined_operand(at, outer, *number, port);
+            copied_value(alloc, at, depth, outer, operand)
+        }
+    }
+}
+
+// the value of the net that a net copies, if there is one
+#[cycle(net)]
+fn copied_value(
+    alloc: Global,
+    at: &Setting,
+    depth: u32,
+    path: &[u32],
+    operand: Option<Operand>,
+) -> Result<BitString, Refusal>
+    ensures { IfOk result (λ word. word ≡ value_from at.now.inputs.now at.now.content.now (value_within (map module_of at.now.modules.now) at.now.top.now at.now.inputs.now at.now.content.now depth)
+        (copy_of path.now (option_map ref_of operand))) }
+{
+    match operand {
+        None => Ok(BitString::new(alloc)),
+        Some(operand) => net_value(alloc, at, depth, path, operand),
+    }
+}
+
+// the value of a result of an operation of the module at the end of a path
+#[cycle(net)]
+fn result_value(
+    alloc: Global,
+    at: &Setting,
+    depth: u32,
+    path: &[u32],
+    position: u32,
+    number: u32,
+) -> Result<BitString, Refusal>
+    ensures { IfOk result (λ word. word ≡ value_from at.now.inputs.now at.now.content.now (value_within (map module_of at.now.modules.now) at.now.top.now at.now.inputs.now at.now.content.now depth)
+        (result_source (map module_of at.now.modules.now) at.now.top.now path.now position number (module_at (map module_of at.now.modules.now) at.now.top.now path.now))) }
+{
+    match module_at(at.modules, at.top, path) {
+        None => Ok(BitString::new(alloc)),
+        Some(module) => match module.body.get(position as usize) {
+            None => Ok(BitString::new(alloc)),
+            Some(operation) => operation_value(
+                alloc, at, depth, path, module, position, number, operation,
+            ),
+        },
+    }
+}
+
+// the value of a result of this operation, at that position of the module at the end of a path
+#[cycle(net)]
+fn operation_value(
+    alloc: Global,
+    at: &Setting,
+    depth: u32,
+    path: &[u32],
+    inside: &Module,
+    position: u32,
+    number: u32,
+    operation: &Operation,
+) -> Result<BitString, Refusal>
+    ensures { IfOk result (λ word. word ≡ value_from at.now.inputs.now at.now.content.now (value_within (map module_of at.now.modules.now) at.now.top.now at.now.inputs.now at.now.content.now depth)
+        (op_source (map module_of at.now.modules.now) at.now.top.now path.now (module_of inside.now) position number (op_of operation.now))) }
+{
+    if is_register(operation) {
+        return held_value(alloc, at, depth, path, inside, position, number, operation);
+    }
+    if is_instance(operation) {
+        let count = instance_count(first_operations(inside.body.as_slice(), position))?;
+        let operand = given_operand(at.modules, operation, number);
+        let inner = inner_path(alloc, count, path)?;
+        return copied_value(alloc, at, depth, inner.as_slice(), operand);
+    }
+    made_value(alloc, at, depth, path, operation, number)
+}
+
+// the value of a result that an operation makes of its operands
+#[cycle(net)]
+fn made_value(
+    alloc: Global,
+    at: &Setting,
+    depth: u32,
+    path: &[u32],
+    operation: &Operation,
+    number: u32,
+) -> Result<BitString, Refusal>
+    ensures { IfOk result (λ word. word ≡ value_from at.now.inputs.now at.now.content.now (value_within (map module_of at.now.modules.now) at.now.top.now at.now.inputs.now at.now.content.now depth)
+        (cond (is_output_op (op_of operation.now)) nowhere (made_of path.now (op_of operation.now) number (result_type (op_of operation.now) number)))) }
+{
+    if is_output(operation) {
+        return Ok(BitString::new(alloc));
+    }
+    match result_ty(operation, number) {
+        None => Ok(BitString::new(alloc)),
+        Some(ty) => {
+            let words = operand_values(alloc, at, depth, path, operation.operands.as_slice())?;
+            value_of(
+                alloc,
+                &operation.kind,
+                operation.types.as_slice(),
+                ty,
+                number,
+                words.as_slice(),
+            )
+        }
+    }
+}
+
+#[cycle(net)]
+/// The values of operands, in order.
+pub fn operand_values(
+    alloc: Global,
+    at: &Setting,
+    depth: u32,
+    path: &[u32],
+    operands: &[Operand],
+) -> Result<Vec<BitString>, Refusal>
+    ensures { IfOk result (λ words. words.items ≡ map (value_within (map module_of at.now.modules.now) at.now.top.now at.now.inputs.now at.now.content.now depth) (map (net path.now) (map ref_of operands.now))) }
+{
+    let mut words = Vec::new(alloc);
+    for operand in operands {
+        let word = net_value(alloc, at, depth, path, *operand)?;
+        words.push(word)?;
+    }
+    Ok(words)
+}
+
+// whether an operation is a module's output
+fn is_output(operation: &Operation) -> bool
+    ensures { result ≡ is_output_op (op_of operation.now) }
+{
+    matches!(operation.kind, OpKind::Output)
+}
+
+/// The path of an instance of the module at the end of a path.
+pub fn inner_path(alloc: Global, number: u32, path: &[u32]) -> Result<Vec<u32>, Refusal>
+    ensures { IfOk result (λ inner. inner.items ≡ number ∷ path.now) }
+{
+    let mut inner = Vec::new(alloc);
+    inner.push(number)?;
+    inner.extend_from_slice(path)?;
+    Ok(inner)
+}
+
+/// The first bits, with bits of 0 past the end.
+pub fn padded(alloc: Global, bits: &[bool], width: u64) -> Result<BitString, Refusal>
+    ensures { IfOk result (λ word. word ≡ first width bits.now) }
+{
+    let mut word = BitString::of(alloc, first_bits(bits, width))?;
+    let more = BitString::zeros(alloc, width - word.as_slice().len() as u64)?;
+    word.push_bits(more.as_slice())?;
+    Ok(word)
+}
+
+// the bits of the inputs that an input port of the module has
+fn input_range(at: &Setting, port: u32) -> Result<Option<Range>, Refusal>
+    ensures { IfOk result (λ range. input_range_source range ≡ input_source port (find_module (map module_of at.now.modules.now) at.now.top.now)) }
+{
+    match find_module(at.modules, at.top) {
+        None => Ok(None),
+        Some(own) => port_range(own.ports.as_slice(), port),
+    }
+}
+
+fn port_range(ports: &[Port], port: u32) -> Result<Option<Range>, Refusal>
+    ensures { IfOk result (λ range. input_range_source range ≡ input_of (slice_get (map port_of ports.now) port) (input_width (take port (map port_of ports.now)))) }
+{
+    match ports.get(port as usize) {
+        None => Ok(None),
+        Some(own) => {
+            if own.is_output {
+                return Ok(None);
+            }
+            let start = input_width(first_ports(ports, port))?;
+            let width = exact_width(&own.ty)?;
+            Ok(Some(Range { start, width }))
+        }
+    }
+}
+
+// the bits of the content that a register's result has
+fn held_range(start: u64, operation: &Operation, number: u32) -> Result<Option<Range>, Refusal>
+    ensures { IfOk result (λ range. held_range_source range ≡ held_of start (result_type (op_of operation.now) number)) }
+{
+    match result_ty(operation, number) {
+        None => Ok(None),
+        Some(ty) => {
+            let width = exact_width(ty)?;
+            Ok(Some(Range { start, width }))
+        }
+    }
+}
+
+// the type of a result
+fn result_ty(operation: &Operation, number: u32) -> Option<&Ty>
+    ensures { option_map (λ t. type_of t.now) result ≡ result_type (op_of operation.now) number }
+{
+    type_at(operation.results.as_slice(), number)
+}
+
+fn type_at(types: &[Ty], number: u32) -> Option<&Ty>
+    ensures { option_map (λ t. type_of t.now) result ≡ slice_get (map type_of types.now) number }
+{
+    match types {
+        [] => None,
+        [first, rest @ ..] => {
+            if number == 0 {
+                return Some(first);
+            }
+            type_at(rest, number - 1)
+        }
+    }
+}
+
+// the value of a register's result
+fn held_value(
+    alloc: Global,
+    at: &Setting,
+    depth: u32,
+    path: &[u32],
+    inside: &Module,
+    position: u32,
+    number: u32,
+    operation: &Operation,
+) -> Result<BitString, Refusal>
+    ensures { IfOk result (λ word. word ≡ value_from at.now.inputs.now at.now.content.now (value_within (map module_of at.now.modules.now) at.now.top.now at.now.inputs.now at.now.content.now depth)
+        (held_of (offset (map module_of at.now.modules.now) at.now.top.now path.now (module_of inside.now) position) (result_type (op_of operation.now) number))) }
+{
+    let start = offset(at.modules, at.top, path, inside, position)?;
+    match held_range(start, operation, number)? {
+        None => Ok(BitString::new(alloc)),
+        Some(range) => padded(alloc, behind(at.content, range.start), range.width),
+    }
+}
+
+// what an instance of the module at the end of a path joins to a port of its module
+fn joined_operand(at: &Setting, path: &[u32], number: u32, port: u32) -> Option<Operand>
+    ensures { option_map ref_of result ≡ bind (module_at (map module_of at.now.modules.now) at.now.top.now path.now) (joined_at (map module_of at.now.modules.now) number port) }
+{
+    match module_at(at.modules, at.top, path) {
+        None => None,
+        Some(inside) => match instance_at(inside.body.as_slice(), number) {
+            None => None,
+            Some(operation) => joined_to(at.modules, operation, port),
+        },
+    }
+}
+
+fn joined_to(modules: &[Module], operation: &Operation, port: u32) -> Option<Operand>
+    ensures { option_map ref_of result ≡ joined_ref (map module_of modules.now) port (op_of operation.now) }
+{
+    match callee(modules, operation) {
+        None => None,
+        Some(own) => port_operand(own.ports.as_slice(), operation.operands.as_slice(), port),
+    }
+}
+
+// the operand that stands for an input port
+fn port_operand(ports: &[Port], operands: &[Operand], port: u32) -> Option<Operand>
+    ensures { option_map ref_of result ≡ port_ref (map port_of ports.now) (map ref_of operands.now) port }
+{
+    match ports.get(port as usize) {
+        None => None,
+        Some(own) => {
+            if own.is_output {
+                return None;
+            }
+            operands.get(input_count(first_ports(ports, port))).copied()
+        }
+    }
+}
+
+// what the module that an operation instances gives to its output of that number
+fn given_operand(modules: &[Module], operation: &Operation, number: u32) -> Option<Operand>
+    ensures { option_map ref_of result ≡ given_ref (map module_of modules.now) number (op_of operation.now) }
+{
+    match callee(modules, operation) {
+        None => None,
+        Some(own) => output_operands(own.body.as_slice())
+            .get(number as usize)
+            .copied(),
+    }
+}
+
+// how many bits the inputs among the ports have
+fn input_width(ports: &[Port]) -> Result<u64, Refusal>
+    ensures { IfOk result (λ n. n ≡ input_width (map port_of ports.now)) }
+{
+    match ports {
+        [] => Ok(0),
+        [first, rest @ ..] => {
+            let others = input_width(rest)?;
+            if first.is_output {
+                return Ok(others);
+            }
+            sum_of(exact_width(&first.ty)?, others)
+        }
+    }
+}
+
+// how many of the ports are inputs
+fn input_count(ports: &[Port]) -> usize
+    ensures value { result ≡ input_count (map port_of ports.now) }
+    ensures within { result ≤ length ports.now }
+{
+    match ports {
+        [] => 0,
+        [first, rest @ ..] => {
+            if first.is_output {
+                return input_count(rest);
+            }
+            1 + input_count(rest)
+        }
+    }
+}
+
+// the first ports, as many as there are
+fn first_ports(ports: &[Port], count: u32) -> &[Port]
+    ensures { map port_of result.now ≡ take count (map port_of ports.now) }
+{
+    if count as usize >= ports.len() {
+        return ports;
+    }
+    ports.split_at(count as usize).0
+}

@@ -1,0 +1,224 @@
+//! The registers of a module, through its instances.
+ghost use Rattle.std.specs.Prelude.{ℕ, ◌≡◌, ◌+◌, ◌-◌, ◌∷◌, [], ◌++◌, ◌≤◌, ◌<◌, length, take, drop, map, cond, IfOk, OnOk, suc, true, false, MatchOption, Option, Some, None, option_map};
+ghost use Rattle.hw_model.specs.KindViews.{kind_of, reset_of};
+ghost use Rattle.hw_model.specs.Design.{find_module, register_form, is_instance};
+ghost use Rattle.hw_model.specs.Flat.{net, module_registers, body_registers, op_registers, registers, register_in, register_parts, depth};
+ghost use Rattle.hw_interpreter.specs.DesignViews.{ref_of, op_of, module_of};
+ghost use Rattle.hw_interpreter.specs.Registers.{slot_of, register_of};
+
+use crate::design::{Module, Operand, Operation};
+use crate::modules::{depth_of, find_module, instance_in, is_instance, is_register};
+use crate::nets::inner_path;
+use crate::refusal::Refusal;
+use hw_model::kinds::{OpKind, Reset};
+use std::alloc::Global;
+
+/// A register of a module: the path of instances to it, the innermost first, and its operation.
+#[derive(Debug, Drop)]
+pub struct Slot<'a> {
+    /// The path.
+    pub path: Vec<u32>,
+    /// The operation.
+    pub operation: &'a Operation,
+}
+
+/// What resets a register, and to what.
+#[derive(Clone, Copy, Debug)]
+pub struct ResetBy {
+    /// The signal.
+    pub signal: Operand,
+    /// The value.
+    pub value: Operand,
+}
+
+/// A register's operands.
+#[derive(Clone, Copy, Debug)]
+pub struct Register {
+    /// The data.
+    pub next: Operand,
+    /// The clock.
+    pub clock: Operand,
+    /// The enable, where it has one.
+    pub enable: Option<Operand>,
+    /// The reset, where it has one.
+    pub reset: Option<ResetBy>,
+}
+
+/// The register that an operation is.
+pub fn register_in(operation: &Operation) -> Option<Register>
+    ensures { option_map register_of result ≡ register_in (op_of operation.now) }
+{
+    let operands = operation.operands.as_slice();
+    match operation.kind {
+        OpKind::CompReg(reset) | OpKind::FirReg(reset) => plain_register(reset, operands),
+        OpKind::CompRegCe(reset) => enabled_register(reset, operands),
+        _ => None,
+    }
+}
+
+fn plain_register(reset: Reset, operands: &[Operand]) -> Option<Register>
+    ensures { option_map register_of result ≡ register_parts false (reset_of reset) (map ref_of operands.now) }
+{
+    match reset {
+        Reset::No => match operands {
+            [next, clock] => Some(unreset(*next, *clock, None)),
+            _ => None,
+        },
+        Reset::Sync => match operands {
+            [next, clock, signal, value] => Some(with_reset(*next, *clock, None, *signal, *value)),
+            _ => None,
+        },
+    }
+}
+
+fn enabled_register(reset: Reset, operands: &[Operand]) -> Option<Register>
+    ensures { option_map register_of result ≡ register_parts true (reset_of reset) (map ref_of operands.now) }
+{
+    match reset {
+        Reset::No => match operands {
+            [next, clock, enable] => Some(unreset(*next, *clock, Some(*enable))),
+            _ => None,
+        },
+        Reset::Sync => match operands {
+            [next, clock, enable, signal, value] => Some(with_reset(
+                *next,
+                *clock,
+                Some(*enable),
+                *signal,
+                *value,
+            )),
+            _ => None,
+        },
+    }
+}
+
+fn unreset(next: Operand, clock: Operand, enable: Option<Operand>) -> Register
+    ensures { result ≡ record { next = next; clock = clock; enable = enable; reset = None } }
+{
+    Register {
+        next,
+        clock,
+        enable,
+        reset: None,
+    }
+}
+
+fn with_reset(
+    next: Operand,
+    clock: Operand,
+    enable: Option<Operand>,
+    signal: Operand,
+    value: Operand,
+) -> Register
+    ensures { result ≡ record { next = next; clock = clock; enable = enable; reset = Some (record { signal = signal; value = value }) } }
+{
+    let reset = Some(ResetBy { signal, value });
+    Register {
+        next,
+        clock,
+        enable,
+        reset,
+    }
+}
+
+/// The registers of the module of a symbol, in the order of its content.
+pub fn registers<'a>(
+    alloc: Global,
+    modules: &'a [Module],
+    top: &[u8],
+) -> Result<Vec<Slot<'a>>, Refusal>
+    ensures { IfOk result (λ slots. map slot_of slots.items ≡ registers (map module_of modules.now) top.now) }
+{
+    let mut slots = Vec::new(alloc);
+    let depth = depth_of(modules)?;
+    push_module(alloc, &mut slots, modules, depth, &[], top)?;
+    Ok(slots)
+}
+
+// puts behind the registers of the module of a symbol at the end of a path, down to a depth of instances
+#[cycle(registers)]
+fn push_module<'a>(
+    alloc: Global,
+    slots: &mut Vec<Slot<'a>>,
+    modules: &'a [Module],
+    depth: u64,
+    path: &[u32],
+    symbol: &[u8],
+) -> Result<(), Refusal>
+    ensures { OnOk result (map slot_of slots.new.items ≡ map slot_of slots.old.items ++ module_registers depth (map module_of modules.now) path.now symbol.now) }
+{
+    if depth == 0 {
+        return Ok(());
+    }
+    match find_module(modules, symbol) {
+        None => Ok(()),
+        Some(own) => push_body(alloc, slots, modules, depth - 1, path, own.body.as_slice()),
+    }
+}
+
+// puts behind the registers of a body
+#[cycle(registers)]
+fn push_body<'a>(
+    alloc: Global,
+    slots: &mut Vec<Slot<'a>>,
+    modules: &'a [Module],
+    depth: u64,
+    path: &[u32],
+    body: &'a [Operation],
+) -> Result<(), Refusal>
+    ensures { OnOk result (map slot_of slots.new.items ≡ map slot_of slots.old.items ++ body_registers (module_registers depth (map module_of modules.now)) path.now 0 (map op_of body.now)) }
+{
+    let mut number = 0;
+    for operation in body {
+        push_operation(alloc, slots, modules, depth, path, number, operation)?;
+        number = next_number(number, operation)?;
+    }
+    Ok(())
+}
+
+// puts behind the registers of an operation that `number` instances stand before
+#[cycle(registers)]
+fn push_operation<'a>(
+    alloc: Global,
+    slots: &mut Vec<Slot<'a>>,
+    modules: &'a [Module],
+    depth: u64,
+    path: &[u32],
+    number: u32,
+    operation: &'a Operation,
+) -> Result<(), Refusal>
+    ensures { OnOk result (map slot_of slots.new.items ≡ map slot_of slots.old.items ++ op_registers (module_registers depth (map module_of modules.now)) path.now number (op_of operation.now)) }
+{
+    if is_register(operation) {
+        let path = Vec::from_slice(alloc, path)?;
+        slots.push(Slot { path, operation })?;
+        return Ok(());
+    }
+    match instance_in(operation) {
+        None => Ok(()),
+        Some(instance) => {
+            let inner = inner_path(alloc, number, path)?;
+            push_module(
+                alloc,
+                slots,
+                modules,
+                depth,
+                inner.as_slice(),
+                instance.symbol.as_bytes(),
+            )
+        }
+    }
+}
+
+// the number of instances with this operation
+fn next_number(number: u32, operation: &Operation) -> Result<u32, Refusal>
+    ensures { IfOk result (λ n. n ≡ cond (is_instance (op_of operation.now)) (suc number) number) }
+{
+    if !is_instance(operation) {
+        return Ok(number);
+    }
+    match number.checked_add(1) {
+        Some(next) => Ok(next),
+        None => Err(Refusal::NotFitting),
+    }
+}
