@@ -1,17 +1,20 @@
 -- Edits of modules that keep a design valid and what its modules do.
 use Rattle.std.proofs.Common.{◌≡◌, ◌⊎◌, ℕ, zero, suc, ◌≤◌, Bool, true, false, cond, [], ◌∷◌, length, set, slice_get, Option, Some, None, refl, sym, ap, subst, inl, inr, arith, length-set}
-use mathlib.Core.Path.{subst₂}
+use mathlib.Core.Path.{subst₂, fun_ext}
+use Rattle.wiring.specs.Wiring.{IsAcyclic}
 use Rattle.wiring.proofs.Heights.{settles}
 use Rattle.hw_model.specs.Types.{Name}
 use Rattle.hw_model.specs.Design.{Module, Design, find_module, same_name}
 use Rattle.hw_model.specs.Design.Ref.{result}
 use Rattle.hw_model.specs.Flat.{Path, Net, net, module_at, state}
+use Rattle.hw_model.specs.Hierarchy.{calls}
 use Rattle.hw_model.specs.Meaning.{needs, value, machine}
 use Rattle.hw_model.specs.Sound.{body_of}
 use Rattle.hw_model.proofs.Machines.{AlwaysSettles, same_back, same_self, same_then}
 use Rattle.hw_model.proofs.NetWidths.{net_widths}
 use Rattle.hw_edits.specs.Edit.{EditedModule}
 use Rattle.hw_edits.specs.Follows.{ValidEdit, SameEdit, Valid, Follows}
+use Rattle.hw_edits.proofs.Anchors.{called_follow}
 use Rattle.hw_edits.proofs.Edited.{no_edit, holds_at, at, standing, state_same, next_same, outputs_same, back_settled}
 use Rattle.hw_edits.proofs.Heights.{heights_after}
 use Rattle.hw_edits.proofs.Types.{sound_after}
@@ -45,9 +48,15 @@ no_same_edit o = record { valid = no_valid_edit o; words = λ τ holds wide j k 
 pub valid_settles : (d : Design) → Valid d → (top : Name) → AlwaysSettles (machine d top)
 valid_settles d valid top inputs content = settles (needs d top) (value d top inputs content) (valid.heights top)
 
+-- each module instances what it did
+pub calls_same : (d d' : Design) → ((s : Name) → ValidEdit (find_module d s) (find_module d' s)) → (s : Name) → calls d' s ≡ calls d s
+calls_same d d' each s =
+    called_follow (body_of (find_module d s)) (body_of (find_module d' s)) (each s).edited.edit.stand (each s).edited.edit.anchors_are
+
 pub valid_after : (d d' : Design) → length d' ≡ length d → ((s : Name) → ValidEdit (find_module d s) (find_module d' s)) → Valid d → Valid d'
 valid_after d d' same each valid = record {
   sound = sound_after d d' each valid.sound;
+  finite = subst (λ f. IsAcyclic f) (sym (fun_ext (calls_same d d' each))) valid.finite;
   heights = λ top. heights_after d d' ValidEdit (λ o o' x. x.edited) (λ o o' x. x.falls) (no_valid_edit None) each same top (valid.heights top);
 }
 
@@ -118,7 +127,7 @@ set_cases (x ∷ d) (suc m) old new is named s = go (same_name x.symbol s) (set_
     go false rest = rest
 
 -- what holds of each module and itself, and of the two that differ, holds of all
-set_each : (F : Option Module → Option Module → Type 0) → ((o : Option Module) → F o o)
+pub set_each : (F : Option Module → Option Module → Type 0) → ((o : Option Module) → F o o)
     → (d : Design) (m : ℕ) (old new : Module) → slice_get d m ≡ Some old → new.symbol ≡ old.symbol → F (Some old) (Some new)
     → (s : Name) → F (find_module d s) (find_module (set d m new) s)
 set_each F same d m old new is named changed s = go (set_cases d m old new is named s)

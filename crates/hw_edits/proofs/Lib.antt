@@ -9,3 +9,9 @@ pub mod ChangeInPlace
 pub mod PutIn
 pub mod TakeOut
 pub mod Unused
+pub mod Uses
+pub mod Weights
+pub mod Twins
+pub mod Registers
+pub mod Loads
+pub mod ReloadFollows

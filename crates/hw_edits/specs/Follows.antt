@@ -6,6 +6,7 @@ use Rattle.hw_model.specs.Types.{Name}
 use Rattle.hw_model.specs.Design.{Ref, Port, Op, Module, Design}
 use Rattle.hw_model.specs.Design.Ref.{result}
 use Rattle.hw_model.specs.Machine.{Same}
+use Rattle.hw_model.specs.Hierarchy.{HasNoRecursion}
 use Rattle.hw_model.specs.Meaning.{HasHeights, machine}
 use Rattle.hw_model.specs.Sound.{HasWidth, body_of, ports_of, type_in, OpFits, Sound}
 use Rattle.hw_edits.specs.Edit.{Edit, EditedModule, Holds, word_of}
@@ -35,9 +36,10 @@ pub record SameEdit (old new : Option Module) : Type 0 where
 
 -- ---- designs
 
--- a valid design: its types fit, and in no module a value needs itself
+-- a valid design: its types fit, no module is within itself, and in no module a value needs itself
 pub record Valid (d : Design) : Type 0 where
   pub sound : Sound d
+  pub finite : HasNoRecursion d
   pub heights : (top : Name) → HasHeights d top
 
 -- a valid design in which the module of each symbol does what it did

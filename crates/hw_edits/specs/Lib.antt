@@ -2,3 +2,4 @@ pub mod Edit
 pub mod Falls
 pub mod Follows
 pub mod Laws
+pub mod Registers

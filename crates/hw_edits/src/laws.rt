@@ -1,9 +1,10 @@
 //! The laws of edits, each a clause of a function that does nothing.
 
-ghost use Rattle.std.specs.Prelude.{◌≡◌, ℕ, Some, length, set, slice_get};
+ghost use Rattle.std.specs.Prelude.{◌≡◌, ◌≤◌, ℕ, List, Some, length, set, slice_get};
 ghost use Rattle.hw_model.specs.Types.{Name, HwType};
 ghost use Rattle.hw_model.specs.Design.{Ref, Op, Module, Design, find_module};
 ghost use Rattle.hw_model.specs.Design.Ref.{undefined};
+ghost use Rattle.hw_model.specs.Weight.{kind_weight, body_weight, weight};
 ghost use Rattle.hw_edits.specs.Follows.{SameEdit, ValidEdit, Valid, Follows};
 ghost use Rattle.hw_edits.specs.Laws.{InPlace, PutIn, TakenOut, IsUnused, take_out, put_in, with_body};
 
@@ -45,4 +46,16 @@ pub fn in_follows()
 pub fn unused_follows()
     ensures { (d : Design) (m : ℕ) (md : Module) (i : ℕ) (o : Op) → Valid d → slice_get d m ≡ Some md → IsUnused md i o
         → Follows d (with_body d m md (take_out i undefined md.body)) }
+{}
+
+/// Does nothing. Its clauses say that no module becomes heavier where a module gets a body that is not heavier, where an
+/// operation is taken out, or where one is changed in place to one that is not heavier.
+pub fn edits_are_lighter()
+    ensures body { (d : Design) (m : ℕ) (md : Module) (os : List Op) → slice_get d m ≡ Some md
+        → ((inner : Name → ℕ) → body_weight inner os ≤ body_weight inner md.body) → (s : Name) → weight (with_body d m md os) s ≤ weight d s }
+    ensures out { (d : Design) (m : ℕ) (md : Module) (i : ℕ) (o : Op) (x : Ref) → slice_get d m ≡ Some md → slice_get md.body i ≡ Some o
+        → (s : Name) → weight (with_body d m md (take_out i x md.body)) s ≤ weight d s }
+    ensures place { (d : Design) (m : ℕ) (md : Module) (i : ℕ) (o new : Op) → slice_get d m ≡ Some md → slice_get md.body i ≡ Some o
+        → ((inner : Name → ℕ) → kind_weight inner new.kind new.types (length new.operands) ≤ kind_weight inner o.kind o.types (length o.operands))
+        → (s : Name) → weight (with_body d m md (set md.body i new)) s ≤ weight d s }
 {}

@@ -10,25 +10,12 @@ use Rattle.hw_model.specs.Design.{Ref, Op, Design, RegisterForm, find_module, re
 use Rattle.hw_model.specs.Value.{joined}
 use Rattle.hw_model.specs.Flat.{Path, Net, net, Slot, register_in, register_parts, held_width, registers}
 use Rattle.hw_model.specs.Machine.{Run}
+use Rattle.hw_model.proofs.Depths.{every, every_here, ends_within}
 use Rattle.hw_model.specs.Meaning.{needs, value, Settled, loaded, next_content, outputs_of, outputs, machine}
 
--- whether a test holds of all members
-abbrev every : {A : Type 0} → (A → Bool) → List A → Bool
-every test [] = true
-every test (x ∷ xs) = cond (test x) (every test xs) false
-
-every_here : {A : Type 0} (test : A → Bool) (x : A) (xs : List A) → every test (x ∷ xs) ≡ true → (test x ≡ true) × (every test xs ≡ true)
-every_here test x xs all = go (test x) refl all
-  where
-    go : (b : Bool) → test x ≡ b → cond b (every test xs) false ≡ true → (test x ≡ true) × (every test xs ≡ true)
-    go true is rest = (is, rest)
-    go false is rest = cc
-
 module _ (d : Design) (top : Name) where
-  -- whether all that a net needs is reached in fewer than n steps
   abbrev pub closed : ℕ → Net → Bool
-  closed zero a = false
-  closed (suc n) a = every (closed n) (needs d top a)
+  closed = ends_within (needs d top)
 
   -- the value of a net, its needs followed for fewer than n steps
   abbrev pub evaluated : Word → Word → ℕ → Net → Word

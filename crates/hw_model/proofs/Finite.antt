@@ -37,7 +37,7 @@ module_found (x ∷ d) s m is = go (same_name x.symbol s) refl is (module_found 
     go true same found rest = inl (sym (same_text x.symbol s (sym same)))
     go false same found rest = inr (rest found)
 
-calls_within : (d : Design) → IsWithin (calls d) (map (λ (m : Module). m.symbol) d)
+pub calls_within : (d : Design) → IsWithin (calls d) (map (λ (m : Module). m.symbol) d)
 calls_within d a b need = go (find_module d a) refl need
   where
     go : (o : Option Module) → find_module d a ≡ o → In b (called (body_of o)) → In a (map (λ (m : Module). m.symbol) d)

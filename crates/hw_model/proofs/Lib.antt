@@ -5,5 +5,14 @@ pub mod Paths
 pub mod Widths
 pub mod NetWidths
 pub mod Finite
+pub mod Depths
 pub mod Evaluation
-mod Samples
+pub mod FieldSums
+pub mod SameFields
+pub mod Operands
+pub mod SameLiterals
+pub mod Samples
+mod Values
+pub mod Places
+pub mod Weights
+pub mod Content

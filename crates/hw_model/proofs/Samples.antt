@@ -1,5 +1,5 @@
 -- Small designs, and what every run of them gives.
-use Rattle.std.proofs.Common.{◌≡◌, ℕ, true, false, ◌-◌, ◌^◌, pos, negsuc, List, [], ◌∷◌, ◌++◌, map, length, None, refl}
+use Rattle.std.proofs.Common.{◌≡◌, ℕ, true, false, ◌-◌, ◌^◌, pos, negsuc, List, [], ◌∷◌, ◌++◌, map, length, None, refl, subst}
 use Rattle.std.specs.Prelude.{codes}
 use Rattle.bits_core.specs.Word.{Word, bits}
 use Rattle.hw_model.specs.Types.{Name, HwType}
@@ -11,10 +11,15 @@ use Rattle.hw_model.specs.Kinds.Kind.{add, xor, divs, shl, shru, shrs, constant,
 use Rattle.hw_model.specs.Design.{Ref, Port, Op, Module, Design, nowhere_place}
 use Rattle.hw_model.specs.Design.Ref.{port, result}
 use Rattle.hw_model.specs.Machine.{Run}
-use Rattle.hw_model.specs.Meaning.{machine}
+use Rattle.wiring.proofs.Heights.{IsAcyclic-heights}
+use Rattle.hw_model.specs.Hierarchy.{calls, HasNoRecursion}
+use Rattle.hw_model.specs.Meaning.{needs, HasHeights, machine}
+use Rattle.hw_model.proofs.Depths.{heights_computed}
+use Rattle.hw_model.proofs.Finite.{all_nets, nets_within, calls_within, settles_with_heights}
+use Rattle.hw_model.proofs.Machines.{run_exists}
 use Rattle.hw_model.proofs.Evaluation.{run_value}
 
-abbrev operation : Kind → List Ref → List HwType → List HwType → Op
+abbrev pub operation : Kind → List Ref → List HwType → List HwType → Op
 operation kind operands types results = record {
   kind = kind;
   operands = operands;
@@ -27,16 +32,16 @@ operation kind operands types results = record {
   place = nowhere_place;
 }
 
-abbrev in_port : Name → HwType → Port
+abbrev pub in_port : Name → HwType → Port
 in_port name t = record { name = name; is_output = false; type = t; again = false }
 
-abbrev out_port : Name → HwType → Port
+abbrev pub out_port : Name → HwType → Port
 out_port name t = record { name = name; is_output = true; type = t; again = false }
 
-abbrev module_of : Name → List Port → List Op → Module
+abbrev pub module_of : Name → List Port → List Op → Module
 module_of symbol ports body = record { symbol = symbol; is_private = false; ports = ports; dictionary = []; body = body; place = nowhere_place }
 
-abbrev byte : ℕ → Word
+abbrev pub byte : ℕ → Word
 byte n = bits 8 n
 
 -- a module of one symbol with these ports and operations
@@ -95,6 +100,27 @@ two_registers_run outs run = run_value two_registers (codes "Two") 6 refl (byte 
 
 flattened_run : (outs : List Word) → Run (machine flattened (codes "Two")) (byte 0x05 ++ byte 0x06) four_steps outs → outs ≡ four_outputs
 flattened_run outs run = run_value flattened (codes "Two") 6 refl (byte 0x05 ++ byte 0x06) four_steps outs run
+
+-- where no clock rises a register keeps what it holds
+no_rise_run : (outs : List Word) → Run (machine two_registers (codes "Two")) (byte 0x05 ++ byte 0x06) (step 0 1 1 0x44 ∷ step 0 0 0 0 ∷ []) outs
+    → outs ≡ (byte 0x05 ++ byte 0x06) ∷ (byte 0x05 ++ byte 0x06) ∷ []
+no_rise_run outs run = run_value two_registers (codes "Two") 6 refl (byte 0x05 ++ byte 0x06) (step 0 1 1 0x44 ∷ step 0 0 0 0 ∷ []) outs run
+
+-- there is such a run: the nets have heights
+two_registers_acyclic : HasNoRecursion two_registers
+two_registers_acyclic =
+    IsAcyclic-heights (calls two_registers)
+    (heights_computed (calls two_registers) 1 (map (λ (m : Module). m.symbol) two_registers) (calls_within two_registers) refl)
+
+two_registers_heights : HasHeights two_registers (codes "Two")
+two_registers_heights =
+    heights_computed (needs two_registers (codes "Two")) 5 (all_nets two_registers (codes "Two"))
+    (nets_within two_registers (codes "Two") two_registers_acyclic) refl
+
+two_registers_runs : Run (machine two_registers (codes "Two")) (byte 0x05 ++ byte 0x06) four_steps four_outputs
+two_registers_runs =
+    let one = run_exists (machine two_registers (codes "Two")) (settles_with_heights two_registers (codes "Two") two_registers_heights) (byte 0x05 ++ byte 0x06) four_steps in
+    subst (Run (machine two_registers (codes "Two")) (byte 0x05 ++ byte 0x06) four_steps) (two_registers_run one.0 one.1) one.1
 
 two_registers_size : (machine two_registers (codes "Two")).size ≡ 16
 two_registers_size = refl

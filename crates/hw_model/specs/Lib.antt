@@ -8,3 +8,11 @@ pub mod Meaning
 pub mod Weight
 pub mod Sound
 pub mod Hierarchy
+pub mod Indices
+pub mod Equality
+pub mod SameType
+pub mod SameKind
+pub mod IntegerKinds
+pub mod TypeViews
+pub mod KindViews
+pub mod KindsApart

@@ -1,14 +1,15 @@
 //! The laws on what a design means, each a clause of a function that does nothing.
 
-ghost use Rattle.std.specs.Prelude.{◌≡◌, ℕ, List, Option, Some, None, length};
+ghost use Rattle.std.specs.Prelude.{◌≡◌, ℕ, List, Option, Some, None, length, ◌≤◌};
 ghost use Rattle.bits_core.specs.Word.{Word};
 ghost use Rattle.hw_model.specs.Types.{Name, HwType, width};
 ghost use Rattle.hw_model.specs.Kinds.{Kind};
-ghost use Rattle.hw_model.specs.Design.{Ref, Module, Design, instance_in, register_form};
+ghost use Rattle.hw_model.specs.Design.{Ref, Module, Design, IsSameDesign, find_module, instance_in, register_form};
 ghost use Rattle.hw_model.specs.Value.{op_value};
 ghost use Rattle.hw_model.specs.Flat.{Path, Net, net, module_at, state};
 ghost use Rattle.hw_model.specs.Machine.{SettlesOnce, Run, Same, Carries};
 ghost use Rattle.hw_model.specs.Meaning.{Settled, HasNoCycle, HasHeights, machine};
+ghost use Rattle.hw_model.specs.Weight.{weight_of, weight};
 ghost use Rattle.hw_model.specs.Hierarchy.{HasNoRecursion};
 ghost use Rattle.hw_model.specs.Sound.{HaveWidths, type_in, Fits, Sound};
 
@@ -50,7 +51,25 @@ pub fn same_behaviour()
         → Carries (machine e b) (machine d a) to → Same (machine d a) (machine e b) }
     ensures forth { (d e : Design) (a b : Name) (to : (Net → Word) → Net → Word) → state d a ≡ state e b → HasHeights d a → HasHeights e b
         → Carries (machine d a) (machine e b) to → Same (machine d a) (machine e b) }
+    ensures both_ways { (d e : Design) (a b : Name) (to back : (Net → Word) → Net → Word) → state d a ≡ state e b → HasHeights d a
+        → Carries (machine d a) (machine e b) to → Carries (machine e b) (machine d a) back
+        → ((inputs content : Word) (map_of : Net → Word) → Settled e b inputs content map_of → (n : Net) → to (back map_of) n ≡ map_of n)
+        → Same (machine d a) (machine e b) }
     ensures runs_once { (d : Design) (top : Name) → HasHeights d top → (content : Word) (steps : List Word)
         → (outputs : List Word) × Run (machine d top) content steps outputs
         × ((others : List Word) → Run (machine d top) content steps others → others ≡ outputs) }
+{}
+
+/// Does nothing. Its clause says that two designs that differ in nothing but the places of their modules and operations do
+/// the same.
+pub fn places_decide_nothing()
+    ensures { (d e : Design) → IsSameDesign d e → (top : Name) → HasHeights d top → Same (machine d top) (machine e top) }
+{}
+
+/// Does nothing. Its clause says that no module is heavier in a design with as many modules where none is with the same
+/// weights of what it instances.
+pub fn weights_follow_bodies()
+    ensures { (d e : Design) → length e ≡ length d
+        → ((s : Name) (inner : Name → ℕ) → weight_of inner (find_module e s) ≤ weight_of inner (find_module d s))
+        → (s : Name) → weight e s ≤ weight d s }
 {}

@@ -2,9 +2,18 @@
 //!
 //! `specs/` has the definitions: types, kinds of operations, designs, the value of each operation, the flattened module
 //! and where its nets' values come from, machines, steps and runs, weights, and sound designs. The laws on them are the
-//! clauses of the functions below, which do nothing.
+//! clauses of functions that do nothing.
+//!
+//! [`types`] and [`kinds`] are what a program keeps of types and kinds; contracts see them by their views.
 #![tactic(auto)]
 
+pub mod integer_values;
+pub mod kinds;
 mod laws;
+mod same_kinds;
+pub mod types;
 
-pub use laws::{heights_are_acyclic, one_map_settles, same_behaviour, widths_fit_types};
+pub use laws::{
+    heights_are_acyclic, one_map_settles, places_decide_nothing, same_behaviour,
+    weights_follow_bodies, widths_fit_types,
+};

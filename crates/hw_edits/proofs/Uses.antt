@@ -1,0 +1,167 @@
+-- Uses of the laws: a wire goes, its operand standing for it; a constant is put in, or stands for an operation; one of
+-- two operations that do the same goes. And what such uses share.
+use Rattle.std.proofs.Common.{◌≡◌, ℕ, zero, suc, ◌<◌, ◌≤◌, false, ℤ, set, List, [], ◌∷◌, length, map, slice_get, Some, None, refl, sym, ap, ap₂, subst, ◌∙◌, inl, arith}
+use Rattle.wiring.specs.Options.{bind}
+use Rattle.wiring.specs.Wiring.{In, greatest}
+use Rattle.wiring.proofs.Heights.{le-greatest}
+use Rattle.wiring.proofs.Members.{In-map}
+use Rattle.bits_core.specs.Word.{Word, bits_of_ℤ}
+use Rattle.hw_model.specs.Types.{HwType, width}
+use Rattle.hw_model.specs.Kinds.Kind.{wire, constant}
+use Rattle.hw_model.specs.Design.{Ref, Op, Module, Design, find_module, nowhere_place, result_type}
+use Rattle.hw_model.specs.Design.Ref.{result}
+use Rattle.hw_model.specs.Flat.{net}
+use Rattle.hw_model.specs.Value.{op_value}
+use Rattle.hw_model.specs.Sound.{body_of, type_in, Fits}
+use Rattle.hw_edits.specs.Edit.{is_anchor, made_word, word_of, HoldsBut}
+use Rattle.hw_edits.specs.Falls.{LocalHeight}
+use Rattle.hw_edits.specs.Follows.{Wide, Valid, Follows}
+use Rattle.hw_edits.specs.Laws.{IsNotOf, take_out, put_in, with_body}
+use Rattle.hw_edits.proofs.Heights.{local_height}
+use Rattle.hw_edits.proofs.TakeOut.{out_follows}
+use Rattle.hw_edits.proofs.PutIn.{in_follows}
+use Rattle.hw_edits.proofs.ChangeInPlace.{plain_word, place_follows}
+
+-- ---- what is shared
+
+-- the values of a module of a valid design have heights
+pub own_height : (d : Design) (md : Module) → Valid d → find_module d md.symbol ≡ Some md → (h : Ref → ℕ) × LocalHeight md.body h
+own_height d md valid found =
+    let high = valid.heights md.symbol in
+    ((λ r. high.0 (net [] r)), subst (λ o. LocalHeight (body_of o) (λ r. high.0 (net [] r))) found (local_height d md.symbol high.0 high.1 []))
+
+-- an operand stands lower than the result
+pub operand_lower : (os : List Op) (h : Ref → ℕ) → LocalHeight os h → (i k : ℕ) (o : Op) (t : HwType) → slice_get os i ≡ Some o → is_anchor o ≡ false
+    → result_type o k ≡ Some t → (r : Ref) → In r o.operands → h r < h (result i k)
+operand_lower os h local i k o t there plain typed r here =
+    let top : h (result i k) ≡ suc (greatest (map h o.operands)) = local.made i k o t there plain typed in
+    let below : h r ≤ greatest (map h o.operands) = le-greatest (h r) (map h o.operands) (In-map h r o.operands here) in
+    omega arith
+
+-- an operand with a type is no result of its own operation, where that has one result
+pub operand_other : (d : Design) (md : Module) → Valid d → find_module d md.symbol ≡ Some md → (i : ℕ) (o : Op) (t u : HwType) → slice_get md.body i ≡ Some o
+    → is_anchor o ≡ false → result_type o 0 ≡ Some t → ((k : ℕ) → result_type o (suc k) ≡ None)
+    → (r : Ref) → In r o.operands → type_in md.ports md.body r ≡ Some u → IsNotOf i r
+operand_other d md valid found i o t u there plain typed no_more r here has_type k same = go k same
+  where
+    go : (k : ℕ) → r ≡ result i k → ⊥
+    go zero is =
+        let high = own_height d md valid found in
+        let lower : high.0 r < high.0 (result i 0) = operand_lower md.body high.0 high.1 i 0 o t there plain typed r here in
+        let equal : high.0 r ≡ high.0 (result i 0) = ap high.0 is in
+        absurd (omega arith)
+    go (suc k) is =
+        let clash : Some u ≡ None =
+        sym has_type ∙ ap (type_in md.ports md.body) is ∙ ap (λ x. bind x (λ (y : Op). result_type y (suc k))) there ∙ no_more k in
+        cc
+
+-- ---- a wire
+
+pub wire_out : (d : Design) (m : ℕ) (md : Module) (i : ℕ) (o : Op) (t : HwType) (x : Ref) → Valid d → slice_get d m ≡ Some md → find_module d md.symbol ≡ Some md
+    → slice_get md.body i ≡ Some o → o.kind ≡ wire → o.operands ≡ x ∷ [] → result_type o 0 ≡ Some t → ((k : ℕ) → result_type o (suc k) ≡ None)
+    → Follows d (with_body d m md (take_out i x md.body))
+wire_out d m md i o t x valid at_m found there is_wire operands typed no_more =
+    out_follows d m md i o t x valid at_m (record {
+      there = there;
+      plain = plain;
+      result_is = typed;
+      no_more = no_more;
+      stand_is = stand_type;
+      stand_stays = operand_other d md valid found i o t t there plain typed no_more x named stand_type;
+      lower = λ h local. let below : h x < h (result i 0) = operand_lower md.body h local i 0 o t there plain typed x named in omega arith;
+      words = λ τ holds wide. ap₂ (λ kind rs. op_value kind o.types t 0 (map τ rs)) is_wire operands;
+    })
+  where
+    plain : is_anchor o ≡ false
+    plain = rw is_wire refl
+
+    named : In x o.operands
+    named = subst (In x) (sym operands) (inl refl)
+
+    fits : Fits wire o.types (map (type_in md.ports md.body) (x ∷ [])) t 0
+    fits =
+        subst (λ rs. Fits wire o.types (map (type_in md.ports md.body) rs) t 0) operands
+        (subst (λ kind. Fits kind o.types (map (type_in md.ports md.body) o.operands) t 0) is_wire
+        ((valid.sound md.symbol md found).ops i o there 0 t typed))
+
+    stand_type : type_in md.ports md.body x ≡ Some t
+    stand_type = let same : type_in md.ports md.body x ∷ [] ≡ Some t ∷ [] = fits in cc
+
+-- ---- a constant
+
+abbrev pub constant_op : ℤ → HwType → Op
+constant_op z t = record {
+  kind = constant z;
+  operands = [];
+  types = t ∷ [];
+  results = record { type = t; again = false } ∷ [];
+  named = 1;
+  name = [];
+  dictionary = [];
+  bin = false;
+  place = nowhere_place;
+}
+
+pub constant_in : (d : Design) (m : ℕ) (md : Module) (i : ℕ) (z : ℤ) (t : HwType) → Valid d → slice_get d m ≡ Some md → i ≤ length md.body
+    → Follows d (with_body d m md (put_in i (constant_op z t) md.body))
+constant_in d m md i z t valid at_m within =
+    in_follows d m md i (constant_op z t) valid at_m (record { within = within; plain = refl; fits = λ k u typed. refl })
+
+-- an operation whose word is always that of a constant becomes the constant
+pub constant_place : (d : Design) (m : ℕ) (md : Module) (i : ℕ) (o : Op) (z : ℤ) (t : HwType) → Valid d → slice_get d m ≡ Some md → slice_get md.body i ≡ Some o
+    → is_anchor o ≡ false → result_type o 0 ≡ Some t → ((k : ℕ) → result_type o (suc k) ≡ None)
+    → ((τ : Ref → Word) → HoldsBut md.body τ (λ j. j ≡ i) → Wide md.ports md.body τ → made_word τ o 0 (Some t) ≡ bits_of_ℤ (width t) z)
+    → Follows d (with_body d m md (set md.body i (constant_op z t)))
+constant_place d m md i o z t valid at_m there plain typed no_more always =
+    place_follows d m md i o (constant_op z t) valid at_m (record {
+      there = there;
+      old_plain = plain;
+      new_plain = refl;
+      same_types = same_types;
+      fits = λ k u is. refl;
+      lower = λ h local k u is r here. absurd here;
+      words = λ τ holds wide k u is. by_number τ holds wide k u is;
+    })
+  where
+    same_types : (k : ℕ) → result_type (constant_op z t) k ≡ result_type o k
+    same_types zero = sym typed
+    same_types (suc k) = sym (no_more k)
+
+    by_number : (τ : Ref → Word) → HoldsBut md.body τ (λ j. j ≡ i) → Wide md.ports md.body τ → (k : ℕ) (u : HwType) → result_type o k ≡ Some u
+        → made_word τ o k (Some u) ≡ made_word τ (constant_op z t) k (Some u)
+    by_number τ holds wide zero u is =
+        let both : Some t ≡ Some u = sym typed ∙ is in
+        let same : t ≡ u = cc in
+        subst (λ v. made_word τ o 0 (Some v) ≡ bits_of_ℤ (width v) z) same (always τ holds wide)
+    by_number τ holds wide (suc k) u is = let clash : None ≡ Some u = sym (no_more k) ∙ is in cc
+
+-- ---- an operation that does what an earlier one does
+
+-- of two operations of one kind, with the same operands, the second goes, and the first's result stands for its result
+pub copy_out : (d : Design) (m : ℕ) (md : Module) (i j : ℕ) (o copy : Op) (t : HwType) → Valid d → slice_get d m ≡ Some md → slice_get md.body i ≡ Some o
+    → slice_get md.body j ≡ Some copy → (i ≡ j → ⊥) → is_anchor o ≡ false → copy.kind ≡ o.kind → copy.types ≡ o.types → copy.operands ≡ o.operands
+    → result_type o 0 ≡ Some t → result_type copy 0 ≡ Some t → ((k : ℕ) → result_type copy (suc k) ≡ None)
+    → Follows d (with_body d m md (take_out j (result i 0) md.body))
+copy_out d m md i j o copy t valid at_m there also other plain kinds types operands typed also_typed no_more =
+    out_follows d m md j copy t (result i 0) valid at_m (record {
+      there = also;
+      plain = also_plain;
+      result_is = also_typed;
+      no_more = no_more;
+      stand_is = ap (λ x. bind x (λ (y : Op). result_type y 0)) there ∙ typed;
+      stand_stays = λ k same. other (cc);
+      lower = λ h local.
+          let first : h (result i 0) ≡ suc (greatest (map h o.operands)) = local.made i 0 o t there plain typed in
+          let second : h (result j 0) ≡ suc (greatest (map h copy.operands)) = local.made j 0 copy t also also_plain also_typed in
+          let equal : greatest (map h copy.operands) ≡ greatest (map h o.operands) = ap (λ rs. greatest (map h rs)) operands in
+          omega arith;
+      words = λ τ holds wide.
+          same_made τ ∙ sym (holds.result_is i 0 (made_word τ o 0 (Some t)) other
+          (ap (word_of τ 0) there ∙ plain_word τ 0 o plain ∙ ap (λ x. Some (made_word τ o 0 x)) typed));
+    })
+  where
+    also_plain : is_anchor copy ≡ false
+    also_plain = ap (λ k. is_anchor (record copy { kind = k })) kinds ∙ plain
+
+    same_made : (τ : Ref → Word) → made_word τ copy 0 (Some t) ≡ made_word τ o 0 (Some t)
+    same_made τ = ap (λ k. op_value k copy.types t 0 (map τ copy.operands)) kinds ∙ ap₂ (λ ts rs. op_value o.kind ts t 0 (map τ rs)) types operands
