@@ -1,0 +1,5 @@
+-- The words of this crate's contracts.
+pub mod Place
+pub mod Listed
+pub mod Cause
+pub mod Line

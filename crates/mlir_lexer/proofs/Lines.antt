@@ -1,0 +1,67 @@
+-- Fronts that hold no end of a line, and the places behind them.
+use Rattle.std.proofs.Common.{add-one, ◌≡◌, ℕ, zero, suc, ◌+◌, ◌-◌, ◌^◌, ◌≤◌, ◌<◌, Bool, true, false, cond, List, [], ◌∷◌, ◌++◌, take, drop, length, min, refl, sym, ap, ◌∙◌, subst, arith, ◌==◌, length-take}
+use Rattle.std.proofs.lemmas.Bool.{eqb-true}
+use Rattle.diag.specs.Place.{further, next_place, place_after}
+use Rattle.diag.specs.declared.refusal.Place.{Place}
+use Rattle.mlir_lexer.specs.Runs.{run}
+use Rattle.mlir_lexer.specs.Flat.{IsWithinLine}
+
+-- none of these bytes ends a line
+abbrev pub NoLineEnd : List ℕ → Type 0
+NoLineEnd [] = Unit {0}
+NoLineEnd (b ∷ bs) = ((b == 10) ≡ false) × NoLineEnd bs
+
+further-twice : (place : Place) (m n : ℕ) → further (further place m) n ≡ further place (m + n)
+further-twice place m n =
+    let col : min (min (place.col + m) (2 ^ 32 - 1) + n) (2 ^ 32 - 1) ≡ min (place.col + (m + n)) (2 ^ 32 - 1) = omega arith
+    in ap (λ (c : ℕ). let p : Place = record { line = place.line; col = c } in p) col
+
+-- behind bytes of one line the column is so much greater
+place_after-line : (place : Place) (k : ℕ) (bytes : List ℕ) → NoLineEnd bytes → place_after (further place k) bytes ≡ further place (k + length bytes)
+place_after-line place k [] h = let e : k ≡ k + 0 = omega arith in ap (further place) e
+place_after-line place k (b ∷ bs) h =
+    let step : next_place (further place k) b ≡ further place (k + 1) = rw h.0 (further-twice place k 1)
+    in
+    let count : k + 1 + length bs ≡ k + suc (length bs) = omega arith
+    in ap (λ q. place_after q bs) step ∙ (place_after-line place (k + 1) bs h.1 ∙ ap (further place) count)
+
+-- a byte that ends no line, and so many of those behind it
+pub IsWithinLine-cons : (b : ℕ) (bs : List ℕ) (n total : ℕ) → total ≡ n + 1 → (b == 10) ≡ false → n ≤ length bs → NoLineEnd (take n bs)
+    → IsWithinLine total (b ∷ bs)
+IsWithinLine-cons b bs n total e h within flat =
+    let P : ℕ → Type 0 = λ t. IsWithinLine t (b ∷ bs)
+    in
+    subst P (sym (e ∙ add-one n)) (record {
+      some = omega arith;
+      within = omega (arith, within);
+      along = λ place.
+          let step : next_place place b ≡ further place 1 = rw h refl
+          in
+          let count : 1 + length (take n bs) ≡ suc n = rw (length-take n bs) (omega (arith, within))
+          in ap (λ q. place_after q (take n bs)) step ∙ (place_after-line place 1 (take n bs) flat ∙ ap (further place) count);
+    })
+
+pub run-within : (test : ℕ → Bool) (bytes : List ℕ) → run test bytes ≤ length bytes
+run-within test [] = omega arith
+run-within test (b ∷ bs) = go (test b) (run-within test bs)
+  where
+    go : (t : Bool) → run test bs ≤ length bs → cond t (run test bs + 1) 0 ≤ suc (length bs)
+    go true h = omega arith
+    go false h = omega arith
+
+-- a byte of a class without LF is not LF
+not_line_end : (test : ℕ → Bool) (b : ℕ) → test 10 ≡ false → test b ≡ true → (b == 10) ≡ false
+not_line_end test b h t = go (b == 10) refl
+  where
+    go : (e : Bool) → (b == 10) ≡ e → e ≡ false
+    go false e = refl
+    go true e = let same : b ≡ 10 = eqb-true b 10 e in cc (ap test same)
+
+-- a run of a class without LF holds no end of a line
+pub run-NoLineEnd : (test : ℕ → Bool) (bytes : List ℕ) → test 10 ≡ false → NoLineEnd (take (run test bytes) bytes)
+run-NoLineEnd test [] h = tt
+run-NoLineEnd test (b ∷ bs) h = go (test b) refl (run-NoLineEnd test bs h)
+  where
+    go : (t : Bool) → test b ≡ t → NoLineEnd (take (run test bs) bs) → NoLineEnd (take (cond t (run test bs + 1) 0) (b ∷ bs))
+    go true t later = rw (add-one (run test bs)) (not_line_end test b h t, later)
+    go false t later = tt

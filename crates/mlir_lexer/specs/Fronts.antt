@@ -1,0 +1,87 @@
+-- What the bytes of a text begin with: the end of a line, a gap, a token, or a byte that begins none. A token is the longest that its first
+-- bytes allow.
+use Rattle.std.specs.Prelude.{ℕ, ◌+◌, Bool, true, false, cond, ◌&&◌, ◌==◌, List, [], ◌∷◌, drop, Option, None, Some}
+use Rattle.mlir_lexer.specs.Classes.{is_space, is_digit, is_hex_digit, is_name_start, is_name_byte, is_suffix_byte, is_line_byte}
+use Rattle.mlir_lexer.specs.Runs.{run, begins}
+use Rattle.mlir_lexer.specs.Strings.{string_length}
+use Rattle.mlir_lexer.specs.declared.token.TokenKind.{TokenKind}
+use Rattle.mlir_lexer.specs.declared.token.TokenKind.TheVariants as kind
+use Rattle.mlir_lexer.specs.declared.fronts.Front.{Front}
+use Rattle.mlir_lexer.specs.declared.fronts.Front.TheVariants.{LineEnd, Gap, Token, Bad}
+
+-- the tokens of one byte
+unfoldable pub mark_of : ℕ → Option TokenKind
+mark_of b =
+    cond (b == 44) (Some kind.Comma)
+    (cond (b == 58) (Some kind.Colon)
+    (cond (b == 61) (Some kind.Equals)
+    (cond (b == 40) (Some kind.LeftParenthesis)
+    (cond (b == 41) (Some kind.RightParenthesis)
+    (cond (b == 91) (Some kind.LeftBracket)
+    (cond (b == 93) (Some kind.RightBracket)
+    (cond (b == 60) (Some kind.Less)
+    (cond (b == 62) (Some kind.Greater)
+    (cond (b == 123) (Some kind.LeftBrace)
+    (cond (b == 125) (Some kind.RightBrace) None))))))))))
+
+-- a token of one byte, or a byte that begins none
+abbrev pub mark_front : Option TokenKind → Front
+mark_front None = Bad 0
+mark_front (Some mark) = Token mark 1
+
+-- a suffix: a run of digits, or a run of letters, digits, `$`, `.`, `_` and `-` that begins with no digit
+abbrev pub suffix_length : List ℕ → ℕ
+suffix_length bytes = cond (begins is_digit bytes) (run is_digit bytes) (run is_suffix_byte bytes)
+
+-- a token of one byte and a suffix; without one the byte begins no token
+abbrev pub suffixed : TokenKind → List ℕ → Front
+suffixed kind bs = cond (suffix_length bs == 0) (Bad 0) (Token kind (suffix_length bs + 1))
+
+-- a token that ends with a string, of which `before` bytes stand before the opening quote: that quote is refused where the string is bad
+abbrev pub quoted : TokenKind → ℕ → Option ℕ → Front
+quoted kind before None = Bad before
+quoted kind before (Some n) = Token kind (before + 1 + n)
+
+-- whether the bytes begin with `x` and a hex digit
+abbrev pub is_hex_mark : List ℕ → Bool
+is_hex_mark [] = false
+is_hex_mark (b ∷ bs) = b == 120 && begins is_hex_digit bs
+
+-- a number is decimal, or `0x` before a hex digit
+abbrev pub number_front : ℕ → List ℕ → Front
+number_front b bs = cond (b == 48 && is_hex_mark bs) (Token kind.Integer (run is_hex_digit (drop 1 bs) + 2)) (Token kind.Integer (run is_digit bs + 1))
+
+-- behind `@`: a string or a suffix
+abbrev pub symbol_front : List ℕ → Front
+symbol_front bs = cond (begins (λ b. b == 34) bs) (quoted kind.SymbolString 1 (string_length (drop 1 bs))) (suffixed kind.SymbolName bs)
+
+-- behind `#`: a number or a name
+abbrev pub hash_front : List ℕ → Front
+hash_front bs = cond (begins is_digit bs) (suffixed kind.ResultNumber bs) (suffixed kind.AttributeAlias bs)
+
+-- behind `/`: a second one begins a comment, which the line's end ends
+abbrev pub slash_front : List ℕ → Front
+slash_front bs = cond (begins (λ b. b == 47) bs) (Gap (run is_line_byte bs + 1)) (Bad 0)
+
+-- behind `-`: `>` makes an arrow
+abbrev pub minus_front : List ℕ → Front
+minus_front bs = cond (begins (λ b. b == 62) bs) (Token kind.Arrow 2) (Token kind.Minus 1)
+
+-- behind a byte that is no letter, digit or blank
+unfoldable pub sign_front : ℕ → List ℕ → Front
+sign_front b bs =
+    cond (b == 37) (suffixed kind.ValueName bs)
+    (cond (b == 64) (symbol_front bs)
+    (cond (b == 35) (hash_front bs)
+    (cond (b == 33) (suffixed kind.TypeName bs)
+    (cond (b == 34) (quoted kind.StringLiteral 0 (string_length bs))
+    (cond (b == 45) (minus_front bs)
+    (cond (b == 47) (slash_front bs) (mark_front (mark_of b))))))))
+
+-- what a byte and those behind it begin with
+unfoldable pub front_of : ℕ → List ℕ → Front
+front_of b bs =
+    cond (b == 10) LineEnd
+    (cond (is_space b) (Gap (run is_space bs + 1))
+    (cond (is_name_start b) (Token kind.BareName (run is_name_byte bs + 1))
+    (cond (is_digit b) (number_front b bs) (sign_front b bs))))

@@ -1,0 +1,181 @@
+//! What the bytes of a text begin with.
+ghost use Rattle.std.specs.Prelude.{◌≡◌, ℕ, ◌≤◌, length};
+ghost use Rattle.mlir_lexer.specs.Runs.{run, begins};
+ghost use Rattle.mlir_lexer.specs.Strings.{string_length};
+ghost use Rattle.mlir_lexer.specs.Fronts.{mark_of, mark_front, suffix_length, suffixed, quoted, is_hex_mark, number_front, symbol_front, hash_front, slash_front, minus_front, sign_front, front_of};
+
+use crate::classes::{Class, Digit, HexDigit, LineByte, NameByte, Space, SuffixByte, begins_with, is_name_start, run_of};
+use crate::strings::string_length;
+use crate::token::TokenKind;
+
+/// What some bytes begin with.
+#[derive(Clone, Copy, Debug, PartialEq, Eq)]
+pub enum Front {
+    /// The end of a line.
+    LineEnd,
+    /// So many bytes of blanks or of a comment.
+    Gap(usize),
+    /// A token of this kind that has so many bytes.
+    Token(TokenKind, usize),
+    /// No token: the byte is refused before which so many stand.
+    Bad(usize),
+}
+
+/// What a byte and those behind it begin with.
+#[tactic(auto, unfolding(crate::specs::Fronts::front_of))]
+pub fn front_of(first: u8, behind: &[u8]) -> Front
+    ensures { result ≡ front_of first behind.now }
+{
+    if first == b'\n' {
+        Front::LineEnd
+    } else if Space::has(first) {
+        Front::Gap(run_of::<Space>(behind) + 1)
+    } else if is_name_start(first) {
+        Front::Token(TokenKind::BareName, run_of::<NameByte>(behind) + 1)
+    } else if Digit::has(first) {
+        number_front(first, behind)
+    } else {
+        sign_front(first, behind)
+    }
+}
+
+// A number.
+fn number_front(first: u8, behind: &[u8]) -> Front
+    ensures { result ≡ number_front first behind.now }
+{
+    if first == b'0' && is_hex_mark(behind) {
+        Front::Token(TokenKind::Integer, run_of::<HexDigit>(&behind[1..]) + 2)
+    } else {
+        Front::Token(TokenKind::Integer, run_of::<Digit>(behind) + 1)
+    }
+}
+
+// Whether the bytes begin with `x` and a hex digit.
+fn is_hex_mark(bytes: &[u8]) -> bool
+    ensures mark { result ≡ is_hex_mark bytes.now }
+{
+    match bytes {
+        [b'x', digit, ..] => HexDigit::has(*digit),
+        _ => false,
+    }
+}
+
+// A token that begins with a sign.
+#[tactic(auto, unfolding(crate::specs::Fronts::sign_front))]
+fn sign_front(first: u8, behind: &[u8]) -> Front
+    ensures { result ≡ sign_front first behind.now }
+{
+    if first == b'%' {
+        suffixed(TokenKind::ValueName, behind)
+    } else if first == b'@' {
+        symbol_front(behind)
+    } else if first == b'#' {
+        hash_front(behind)
+    } else if first == b'!' {
+        suffixed(TokenKind::TypeName, behind)
+    } else if first == b'"' {
+        quoted(TokenKind::StringLiteral, 0, behind)
+    } else if first == b'-' {
+        minus_front(behind)
+    } else if first == b'/' {
+        slash_front(behind)
+    } else {
+        mark_front(first)
+    }
+}
+
+// A token of one byte.
+#[tactic(auto, unfolding(crate::specs::Fronts::mark_of))]
+fn mark_front(byte: u8) -> Front
+    ensures { result ≡ mark_front (mark_of byte) }
+{
+    let kind = match byte {
+        b',' => TokenKind::Comma,
+        b':' => TokenKind::Colon,
+        b'=' => TokenKind::Equals,
+        b'(' => TokenKind::LeftParenthesis,
+        b')' => TokenKind::RightParenthesis,
+        b'[' => TokenKind::LeftBracket,
+        b']' => TokenKind::RightBracket,
+        b'<' => TokenKind::Less,
+        b'>' => TokenKind::Greater,
+        b'{' => TokenKind::LeftBrace,
+        b'}' => TokenKind::RightBrace,
+        _ => return Front::Bad(0),
+    };
+    Front::Token(kind, 1)
+}
+
+// How many bytes of a suffix stand at the front.
+fn suffix_length(bytes: &[u8]) -> usize
+    ensures exact { result ≡ suffix_length bytes.now }
+    ensures within { result ≤ length bytes.now }
+{
+    if begins_with::<Digit>(bytes) {
+        run_of::<Digit>(bytes)
+    } else {
+        run_of::<SuffixByte>(bytes)
+    }
+}
+
+// A token of a sign and a suffix.
+fn suffixed(kind: TokenKind, behind: &[u8]) -> Front
+    ensures { result ≡ suffixed kind behind.now }
+{
+    match suffix_length(behind) {
+        0 => Front::Bad(0),
+        length => Front::Token(kind, length + 1),
+    }
+}
+
+// A token that ends with the string of which `behind` follows the opening quote.
+fn quoted(kind: TokenKind, before: usize, behind: &[u8]) -> Front
+    requires { before ≤ 1 }
+    ensures { result ≡ quoted kind before (string_length behind.now) }
+{
+    match string_length(behind) {
+        None => Front::Bad(before),
+        Some(length) => Front::Token(kind, before + 1 + length),
+    }
+}
+
+// A symbol.
+fn symbol_front(behind: &[u8]) -> Front
+    ensures { result ≡ symbol_front behind.now }
+{
+    match behind {
+        [b'"', body @ ..] => quoted(TokenKind::SymbolString, 1, body),
+        _ => suffixed(TokenKind::SymbolName, behind),
+    }
+}
+
+// The number of a result, or an alias.
+fn hash_front(behind: &[u8]) -> Front
+    ensures { result ≡ hash_front behind.now }
+{
+    if begins_with::<Digit>(behind) {
+        suffixed(TokenKind::ResultNumber, behind)
+    } else {
+        suffixed(TokenKind::AttributeAlias, behind)
+    }
+}
+
+// A comment.
+fn slash_front(behind: &[u8]) -> Front
+    ensures { result ≡ slash_front behind.now }
+{
+    match behind {
+        [b'/', ..] => Front::Gap(run_of::<LineByte>(behind) + 1),
+        _ => Front::Bad(0),
+    }
+}
+
+// An arrow or a minus.
+fn minus_front(behind: &[u8]) -> Front
+    ensures { result ≡ minus_front behind.now }
+{
+    match behind {
+        [b'>', ..] => Front::Token(TokenKind::Arrow, 2),
+        _ => Front::Token(TokenKind::Minus, 1),
+    }
+}

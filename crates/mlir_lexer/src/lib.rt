@@ -1,0 +1,11 @@
+//! The tokens of an MLIR text (MLIR language reference, lexical conventions), which borrow it.
+#![tactic(auto)]
+
+pub mod classes;
+pub mod contents;
+pub mod fronts;
+pub mod strings;
+pub mod token;
+pub mod tokens;
+#[cfg(test)]
+mod tests;
