@@ -1,0 +1,3 @@
+-- Lemmas.
+pub mod BodyLemmas
+pub mod Cutting

@@ -1,0 +1,5 @@
+pub mod Bodies
+pub mod BodyOps
+pub mod DictionaryViews
+pub mod OperandLists
+pub mod OperationViews
