@@ -6,6 +6,7 @@
 #![tactic(auto)]
 
 pub mod body;
+pub mod design;
 pub mod dictionary;
 mod operands;
 pub mod operation;
