@@ -10,7 +10,6 @@ use Rattle.hw_model.specs.Design.{same_name}
 use Rattle.ir_store.specs.declared.design.Module.{Module}
 use Rattle.ir_store.specs.declared.body.Body.{Body}
 use Rattle.ir_store.specs.Bodies.{ops_of}
-use Rattle.ir_store.specs.BodyOps.{BodyOp}
 use Rattle.ir_store.specs.Symbols.{symbol_place, first_of}
 use Rattle.ir_store.specs.Designs.{StoredModule, module_of, with_ops}
 

@@ -1,5 +1,5 @@
 -- The operations of a body, each with its id, in text order.
-use Rattle.std.specs.Prelude.{ℕ, suc, ◌<◌, length, IfSome, Bool, true, false, cond, nat_eq, List, [], ◌∷◌, ◌++◌, Option, Some, None, map, find, slice_index_or}
+use Rattle.std.specs.Prelude.{ℕ, suc, ◌<◌, length, IfSome, false, cond, nat_eq, List, [], ◌∷◌, ◌++◌, Option, Some, None, map, find, slice_index_or}
 use Rattle.hw_model.specs.Kinds.Kind.{output}
 use Rattle.ir_store.specs.declared.operation.OpId.{OpId}
 use Rattle.ir_store.specs.declared.operation.Value.{Value}

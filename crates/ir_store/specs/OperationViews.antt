@@ -1,5 +1,5 @@
 -- What values of the parts of an operation stand for.
-use Rattle.std.specs.Prelude.{ℕ, Bool, List, [], ◌∷◌, map}
+use Rattle.std.specs.Prelude.{ℕ, Bool, List, map}
 use Rattle.hw_model.specs.Types.{Name, HwType}
 use Rattle.hw_model.specs.Kinds.{Kind}
 use Rattle.hw_model.specs.TypeViews.{type_of}

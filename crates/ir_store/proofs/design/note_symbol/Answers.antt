@@ -1,7 +1,5 @@
-use Rattle.std.proofs.Common.{◌≡◌, nat_eq, ap, sym, ◌∙◌, rules}
-use Rattle.std.specs.Prelude.{Option, Some, None}
+use Rattle.std.proofs.Common.{nat_eq, sym, ◌∙◌}
 use Rattle.std.specs.Cmp.Lexicographic.{pointwise}
-use Rattle.indexmap.specs.IndexMap.{get_by}
 use Rattle.ir_store.proofs.DesignLemmas.{none_copied, insert_absent, lookup_push}
 use Rattle.ir_store.proofs.design.note_symbol.Goals as goal
 

@@ -1,4 +1,3 @@
-use Rattle.std.proofs.Common.{rules}
 use Rattle.ir_store.proofs.Cutting.{start_le_end, end_le}
 use Rattle.ir_store.proofs.operands.range_of.Goals as goal
 

@@ -1,4 +1,4 @@
-use Rattle.std.proofs.Common.{map, rules, ◌≡◌, ◌<◌, length, ap, sym, ◌∙◌}
+use Rattle.std.proofs.Common.{map, rules, ◌<◌, length}
 use Rattle.ir_store.specs.OperationViews.{parts_of}
 use Rattle.ir_store.specs.BodyOps.{no_parts}
 use Rattle.ir_store.proofs.BodyLemmas.{op_found, map_read}

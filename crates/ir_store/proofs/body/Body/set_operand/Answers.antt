@@ -1,4 +1,4 @@
-use Rattle.std.proofs.Common.{map, rules, ◌≡◌, ◌<◌, length}
+use Rattle.std.proofs.Common.{map, rules, ◌<◌, length}
 use Rattle.std.specs.Prelude.{slice_set}
 use Rattle.ir_store.specs.OperationViews.{parts_of}
 use Rattle.ir_store.proofs.BodyLemmas.{op_found, operands_set}

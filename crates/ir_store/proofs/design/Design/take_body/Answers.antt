@@ -1,4 +1,3 @@
-use Rattle.std.proofs.Common.{ap, sym, ◌∙◌}
 use Rattle.ir_store.proofs.DesignLemmas.{ops_seen}
 use Rattle.ir_store.proofs.design.Design.take_body.Goals as goal
 

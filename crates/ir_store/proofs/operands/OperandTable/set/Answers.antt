@@ -1,5 +1,5 @@
-use Rattle.std.proofs.Common.{◌≡◌, ◌<◌, ◌-◌, length, get_or, [], ap}
-use Rattle.ir_store.specs.OperandLists.{OperandLists, cut, start_of}
+use Rattle.std.proofs.Common.{◌<◌, ◌-◌, length, get_or, ap}
+use Rattle.ir_store.specs.OperandLists.{OperandLists, start_of}
 use Rattle.ir_store.proofs.Cutting.{in_table, in_list, list_set}
 use Rattle.ir_store.proofs.operands.OperandTable.set.Goals as goal
 
