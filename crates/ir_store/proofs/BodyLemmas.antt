@@ -9,7 +9,7 @@ use Rattle.std.proofs.lemmas.Bool.{eqb-true, eqb-false}
 use Rattle.ir_store.specs.declared.operation.OpId.{OpId}
 use Rattle.ir_store.specs.declared.operation.Value.{Value}
 use Rattle.ir_store.specs.OperationViews.{OpParts}
-use Rattle.ir_store.specs.BodyOps.{no_parts, stored, op_at, put_before, place_before, operands_at}
+use Rattle.ir_store.specs.BodyOps.{no_parts, stored, op_at, put_before, place_before, operands_at, ids_in}
 
 -- an id is below a bound where each of the ids is
 pub contained_below : (ids : List ℕ) (id n : ℕ) → ((k : ℕ) → k < length ids → get_or ids k 0 < n) → Contains ids id → id < n
@@ -113,3 +113,11 @@ op_put ps qs ls ms before p l ids js id place b x y z e f g h = rw (e, f, g, h) 
 pub below_put : (ids js : List ℕ) (place id : ℕ) → ((k : ℕ) → k < length ids → get_or ids k 0 < length ids) → place ≤ length ids → id ≡ length ids → js ≡ insert ids place id →
     (k : ℕ) → k < length js → get_or js k 0 < length js
 below_put ids js place id b h e g = rw g (below_insert ids place id b h e)
+
+-- the ids of operations that stand by ids
+pub ids_seen : (ps : List OpParts) (ls : List (List Value)) (ids : List ℕ) → ids_in (map (stored ps ls) ids) ≡ ids
+ids_seen ps ls [] = refl
+ids_seen ps ls (i ∷ ids) = ap (λ js. i ∷ js) (ids_seen ps ls ids)
+
+pub length_ids : (ps : List OpParts) (ls : List (List Value)) (ids : List ℕ) → length (ids_in (map (stored ps ls) ids)) ≡ length ids
+length_ids ps ls ids = ap length (ids_seen ps ls ids)

@@ -1,8 +1,8 @@
 -- The operations of a body by positions: what each change of the body does to them.
 use Rattle.std.proofs.Common.{◌≡◌, ℕ, suc, ◌<◌, Bool, true, false, cond, nat_eq, List, [], ◌∷◌, ◌++◌, map, length, refl, ap, arith}
 use Rattle.ir_store.specs.declared.operation.Value.{Value}
-use Rattle.ir_store.specs.BodyOps.{BodyOp, operands_at}
-use Rattle.ir_store.specs.Numbered.{position_of, op_by, ids_in, numbered}
+use Rattle.ir_store.specs.BodyOps.{BodyOp, operands_at, ids_in}
+use Rattle.ir_store.specs.Numbered.{position_of, op_by, numbered}
 
 -- a change of operands leaves the ids
 pub ids_stay : (id : ℕ) (f : List Value → List Value) (ops : List BodyOp) → ids_in (operands_at id f ops) ≡ ids_in ops

@@ -8,15 +8,15 @@ use Rattle.ir_store.specs.declared.body.Op.{Op}
 use Rattle.ir_store.specs.declared.body.Ops.{Ops}
 use Rattle.ir_store.specs.DictionaryViews.{entries_in}
 use Rattle.ir_store.specs.OperationViews.{OpParts, parts_of, types_in, results_in, place_of}
-use Rattle.ir_store.specs.BodyOps.{BodyOp, stored}
-
--- the ids of the operations, in text order
-abbrev pub ids_of : Body → List ℕ
-ids_of b = b.order.items
+use Rattle.ir_store.specs.BodyOps.{BodyOp, stored, ids_in}
 
 -- the operations, each with its id, in text order
 abbrev pub ops_of : Body → List BodyOp
 ops_of b = map (stored (map parts_of b.parts.items) b.operands.lists) b.order.items
+
+-- the ids of the operations, in text order
+abbrev pub ids_of : Body → List ℕ
+ids_of b = ids_in (ops_of b)
 
 -- how many more operations, and how many more operands, have room
 abbrev pub spare_ops : Body → ℕ

@@ -33,6 +33,10 @@ stored parts lists id = record { id = id; parts = slice_index_or parts id no_par
 abbrev pub as_new : OpId → NewOp → BodyOp
 as_new id o = record { id = id.index; parts = new_parts o; operands = o.operands.items }
 
+-- the ids of operations
+abbrev pub ids_in : List BodyOp → List ℕ
+ids_in ops = map (λ (o : BodyOp). o.id) ops
+
 -- the operation of an id
 abbrev pub op_at : List BodyOp → ℕ → Option BodyOp
 op_at ops id = find (λ (o : BodyOp). nat_eq o.id id) ops

@@ -4,7 +4,7 @@ use Rattle.hw_model.specs.Design.{Op, Ref}
 use Rattle.hw_model.specs.Design.Ref.{port, result, undefined}
 use Rattle.ir_store.specs.declared.operation.Value.{Value}
 use Rattle.ir_store.specs.declared.operation.Value.TheVariants.{Port, Result, Undefined}
-use Rattle.ir_store.specs.BodyOps.{BodyOp}
+use Rattle.ir_store.specs.BodyOps.{BodyOp, ids_in}
 
 -- the position of an id among ids; of one that is not there, their number
 abbrev pub position_of : List ℕ → ℕ → ℕ
@@ -30,10 +30,6 @@ op_by position o = record {
   bin = o.parts.bin;
   place = o.parts.place;
 }
-
--- the ids of operations
-abbrev pub ids_in : List BodyOp → List ℕ
-ids_in ops = map (λ (o : BodyOp). o.id) ops
 
 -- the operations by positions
 abbrev pub numbered : List BodyOp → List Op

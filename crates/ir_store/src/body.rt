@@ -130,6 +130,7 @@ impl Body {
 
     /// Puts `op` before the operation `before`, or at the end, and gives its id. On an error the
     /// operations stay.
+    #[tactic(auto, using(crate::proofs::BodyLemmas::length_ids))]
     pub fn add_op(&mut self, before: Option<OpId>, op: NewOp) -> Result<OpId, AllocError>
         requires room { length (ids_of self.old) + 1 < 2 ^ 32 }
         requires live { IfSome before (λ b. Contains (ids_of self.old) b.index) }
@@ -180,9 +181,9 @@ impl Body {
 
     /// Where the parts and the operands of a live operation stand.
     fn index_of(&self, id: OpId) -> usize
-        requires { Contains (ids_of self.now) id.index }
+        requires { Contains self.now.order.items id.index }
         ensures value { result ≡ id.index }
-        ensures within { result < length (ids_of self.now) }
+        ensures within { result < length self.now.order.items }
     {
         id.index as usize
     }

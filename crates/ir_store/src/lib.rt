@@ -10,3 +10,5 @@ pub mod design;
 pub mod dictionary;
 mod operands;
 pub mod operation;
+#[cfg(test)]
+mod tests;

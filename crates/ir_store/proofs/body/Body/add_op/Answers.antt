@@ -2,7 +2,7 @@ use Rattle.std.proofs.Common.{◌≡◌, ◌≤◌, ◌∷◌, [], ◌++◌, len
 use Rattle.std.proofs.lemmas.List.{length-map}
 use Rattle.std.specs.Prelude.{insert}
 use Rattle.ir_store.specs.OperationViews.{parts_of, new_parts}
-use Rattle.ir_store.proofs.BodyLemmas.{op_put, map_push, below_put, number_is_fresh}
+use Rattle.ir_store.proofs.BodyLemmas.{op_put, map_push, below_put, number_is_fresh, ids_seen}
 use Rattle.ir_store.proofs.body.Body.add_op.Goals as goal
 
 pub invariant_of-self-2-clause-below : goal.invariant_of-self-2-clause-below
@@ -30,4 +30,4 @@ returns-clause-ok c =
 pub returns-clause-fresh : goal.returns-clause-fresh
 returns-clause-fresh c =
     let n : c.len-id.result ≡ length c.args.self.now.order.items = search rules in
-    number_is_fresh c.args.self.now.order.items c.len-id.result c.args.self.now.below n
+    λ h. number_is_fresh c.args.self.now.order.items c.len-id.result c.args.self.now.below n (rw (ids_seen (map parts_of c.args.self.now.parts.items) c.args.self.now.operands.lists c.args.self.now.order.items) at h)

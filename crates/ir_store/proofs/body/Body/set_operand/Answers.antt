@@ -1,13 +1,16 @@
 use Rattle.std.proofs.Common.{map, rules, ◌<◌, length}
 use Rattle.std.specs.Prelude.{slice_set}
 use Rattle.ir_store.specs.OperationViews.{parts_of}
-use Rattle.ir_store.proofs.BodyLemmas.{op_found, operands_set}
+use Rattle.ir_store.proofs.BodyLemmas.{op_found, operands_set, ids_seen}
 use Rattle.ir_store.proofs.body.Body.set_operand.Goals as goal
+
+pub index_of-index-requires : goal.index_of-index-requires
+index_of-index-requires c = rw (ids_seen (map parts_of c.args.self.now.parts.items) c.args.self.now.operands.lists c.args.self.now.order.items) at c.requires.live
 
 pub set-requires-clause-place : goal.set-requires-clause-place
 set-requires-clause-place c =
     rw c.index_of-index.ensures.value
-    (rw (op_found (map parts_of c.args.self.now.parts.items) c.args.self.now.operands.lists c.args.self.now.order.items c.args.op.index c.requires.live) at c.requires.place)
+    (rw (op_found (map parts_of c.args.self.now.parts.items) c.args.self.now.operands.lists c.args.self.now.order.items c.args.op.index (rw (ids_seen (map parts_of c.args.self.now.parts.items) c.args.self.now.operands.lists c.args.self.now.order.items) at c.requires.live)) at c.requires.place)
 
 pub returns-clause-ops : goal.returns-clause-ops
 returns-clause-ops c =
