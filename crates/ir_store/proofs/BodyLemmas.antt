@@ -9,7 +9,7 @@ use Rattle.std.proofs.lemmas.Bool.{eqb-true, eqb-false}
 use Rattle.ir_store.specs.declared.operation.OpId.{OpId}
 use Rattle.ir_store.specs.declared.operation.Value.{Value}
 use Rattle.ir_store.specs.OperationViews.{OpParts}
-use Rattle.ir_store.specs.BodyOps.{no_parts, stored, op_at, put_before, place_before, operands_at, ids_in}
+use Rattle.ir_store.specs.BodyOps.{BodyOp, no_parts, stored, op_at, put_before, place_before, operands_at, ids_in}
 
 -- an id is below a bound where each of the ids is
 pub contained_below : (ids : List ℕ) (id n : ℕ) → ((k : ℕ) → k < length ids → get_or ids k 0 < n) → Contains ids id → id < n
@@ -121,3 +121,14 @@ ids_seen ps ls (i ∷ ids) = ap (λ js. i ∷ js) (ids_seen ps ls ids)
 
 pub length_ids : (ps : List OpParts) (ls : List (List Value)) (ids : List ℕ) → length (ids_in (map (stored ps ls) ids)) ≡ length ids
 length_ids ps ls ids = ap length (ids_seen ps ls ids)
+
+-- a change of each operand of each list changes the operands of each operation
+pub operands_replaced : (ps : List OpParts) (ls : List (List Value)) (f : Value → Value) (ids : List ℕ) →
+    map (stored ps (map (map f) ls)) ids ≡ map (λ (o : BodyOp). record o { operands = map f o.operands }) (map (stored ps ls) ids)
+operands_replaced ps ls f [] = refl
+operands_replaced ps ls f (i ∷ ids) = rw (get_map ls i) (ap (λ os. record (stored ps ls i) { operands = map f (get_or ls i []) } ∷ os) (operands_replaced ps ls f ids))
+  where
+    get_map : (ls : List (List Value)) (i : ℕ) → get_or (map (map f) ls) i [] ≡ map f (get_or ls i [])
+    get_map [] i = refl
+    get_map (l ∷ ls) zero = refl
+    get_map (l ∷ ls) (suc i) = get_map ls i

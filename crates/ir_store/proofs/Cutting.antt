@@ -1,5 +1,5 @@
 -- Lists that lie in one list.
-use Rattle.std.proofs.Common.{◌≡◌, ℕ, zero, suc, ◌+◌, ◌-◌, ◌<◌, ◌≤◌, List, [], ◌∷◌, ◌++◌, length, take, drop, get_or, set, refl, ap, sym, ◌∙◌, arith, length-append, length-take, length-drop}
+use Rattle.std.proofs.Common.{map, ◌≡◌, ℕ, zero, suc, ◌+◌, ◌-◌, ◌<◌, ◌≤◌, List, [], ◌∷◌, ◌++◌, length, take, drop, get_or, set, refl, ap, sym, ◌∙◌, arith, length-append, length-take, length-drop}
 use Rattle.std.proofs.lemmas.List.{take-set-le, drop-set-lt, drop-set-add, drop-drop, take-append-le, drop-append-le, take_all}
 use Rattle.ir_store.specs.OperandLists.{cut, AreEnds, start_of}
 
@@ -140,3 +140,36 @@ module _ {A : Type 0} where
       let m : length (get_or ls i []) ≡ length (take (get_or es i 0 - start_of 0 es i) (drop (start_of 0 es i) xs)) =
       ap (λ (v : List (List A)). length (get_or v i [])) (sym e) ∙ ap length (list_at es xs i a l) in
       omega (arith, k, m, length-take (get_or es i 0 - start_of 0 es i) (drop (start_of 0 es i) xs))
+
+module _ {A B : Type 0} (f : A → B) where
+  map_take : (n : ℕ) (xs : List A) → map f (take n xs) ≡ take n (map f xs)
+  map_take zero xs = refl
+  map_take (suc n) [] = refl
+  map_take (suc n) (x ∷ xs) = ap (λ ys. f x ∷ ys) (map_take n xs)
+
+  map_drop : (n : ℕ) (xs : List A) → map f (drop n xs) ≡ drop n (map f xs)
+  map_drop zero xs = refl
+  map_drop (suc n) [] = refl
+  map_drop (suc n) (x ∷ xs) = map_drop n xs
+
+  -- a change of each element of the whole changes each element of each list
+  pub cut_map : (from : ℕ) (es : List ℕ) (xs : List A) → cut from es (map f xs) ≡ map (map f) (cut from es xs)
+  cut_map from [] xs = refl
+  cut_map from (e ∷ es) xs = rw (← map_take (e - from) xs, ← map_drop (e - from) xs) (ap (λ ls. map f (take (e - from) xs) ∷ ls) (cut_map e es (drop (e - from) xs)))
+
+-- one more element of a list changed
+pub change_more : {A : Type 0} (f : A → A) (vs ws : List A) (i : ℕ) (d y : A) → i < length vs → y ≡ f (get_or vs i d) →
+    (take i vs ≡ map f (take i ws)) → (drop i vs ≡ drop i ws) →
+    (take (suc i) (set vs i y) ≡ map f (take (suc i) ws)) × (drop (suc i) (set vs i y) ≡ drop (suc i) ws)
+change_more f [] ws i d y h e s t = absurd (omega arith)
+change_more f (v ∷ vs) [] zero d y h e s t = cc
+change_more f (v ∷ vs) (w ∷ ws) zero d y h e s t =
+    let a : v ≡ w = cc in
+    let b : vs ≡ ws = cc in
+    (ap (λ z. z ∷ []) (e ∙ ap f a), b)
+change_more f (v ∷ vs) [] (suc i) d y h e s t = cc
+change_more f (v ∷ vs) (w ∷ ws) (suc i) d y h e s t =
+    let a : v ≡ f w = cc in
+    let b : take i vs ≡ map f (take i ws) = cc in
+    let r = change_more f vs ws i d y (omega arith) e b t in
+    (rw a (ap (λ zs. f w ∷ zs) r.0), r.1)

@@ -1,8 +1,9 @@
 -- The operations of a body, each with its id, in text order.
-use Rattle.std.specs.Prelude.{ℕ, suc, ◌<◌, length, IfSome, false, cond, nat_eq, List, [], ◌∷◌, ◌++◌, Option, Some, None, map, find, slice_index_or}
+use Rattle.std.specs.Prelude.{Bool, true, ℕ, suc, ◌<◌, length, IfSome, false, cond, ◌&&◌, nat_eq, List, [], ◌∷◌, ◌++◌, Option, Some, None, map, find, slice_index_or}
 use Rattle.hw_model.specs.Kinds.Kind.{output}
 use Rattle.ir_store.specs.declared.operation.OpId.{OpId}
 use Rattle.ir_store.specs.declared.operation.Value.{Value}
+use Rattle.ir_store.specs.declared.operation.Value.TheVariants.{Port, Result, Undefined}
 use Rattle.ir_store.specs.declared.operation.NewOp.{NewOp}
 use Rattle.ir_store.specs.OperationViews.{OpParts, new_parts}
 
@@ -60,3 +61,18 @@ operands_at id f ops = map (λ (o : BodyOp). cond (nat_eq o.id id) (record o { o
 -- the operation of an id has so many operands, and more
 abbrev pub HasOperand : List BodyOp → ℕ → ℕ → Type 0
 HasOperand ops id k = IfSome (op_at ops id) (λ o. k < length o.operands)
+
+-- whether two operands are the same
+abbrev pub same_value : Value → Value → Bool
+same_value (Port m) (Port n) = nat_eq m n
+same_value (Result i m) (Result j n) = nat_eq i.index j.index && nat_eq m n
+same_value Undefined Undefined = true
+same_value _ _ = false
+
+-- an operand, where one value stands for another
+abbrev pub replaced : Value → Value → Value → Value
+replaced from to v = cond (same_value from v) to v
+
+-- the operations with one value in the place of another
+abbrev pub all_replaced : Value → Value → List BodyOp → List BodyOp
+all_replaced from to ops = map (λ (o : BodyOp). record o { operands = map (replaced from to) o.operands }) ops

@@ -5,7 +5,7 @@ ghost use Rattle.ir_store.specs.BodyOps.{place_before};
 
 use crate::dictionary::Dictionary;
 use crate::operands::OperandTable;
-use crate::operation::{NewOp, NewResultList, OpId, Parts, TyList, Value};
+use crate::operation::{NewOp, NewResultList, OpId, Parts, TyList, Value, copied_parts};
 use diag::refusal::Place;
 use hw_model::kinds::OpKind;
 use io_edge::byte_text::Text;
@@ -70,7 +70,7 @@ impl<'b> Iterator for Ops<'b> {
 
 impl Body {
     ghost use Rattle.std.specs.Prelude.{◌≡◌, ℕ, ◌+◌, ◌<◌, ◌≤◌, ◌^◌, [], ◌∷◌, Some, None, map, min, length, Contains, IfOk, IfSome, IsOk, OnOk, OnErr, slice_set};
-    ghost use Rattle.ir_store.specs.BodyOps.{op_at, put_before, place_before, as_new, operands_at, HasOperand};
+    ghost use Rattle.ir_store.specs.BodyOps.{op_at, put_before, place_before, as_new, operands_at, HasOperand, all_replaced};
     ghost use Rattle.ir_store.specs.Bodies.{ids_of, ops_of, spare_ops, spare_uses, read_op, read_parts, op_id, ids_left};
     ghost use Rattle.ir_store.specs.OperationViews.{parts_of};
 
@@ -159,6 +159,28 @@ impl Body {
     {
         let index = self.index_of(op);
         self.operands.set(index, at as usize, value);
+    }
+
+    /// Puts `to` in the place of each operand that is `from`.
+    pub fn replace_all_uses(&mut self, from: Value, to: Value)
+        ensures ops { ops_of self.new ≡ all_replaced from to (ops_of self.old) }
+        ensures spare { (spare_ops self.new ≡ spare_ops self.old) × (spare_uses self.new ≡ spare_uses self.old) }
+    {
+        self.operands.replace(from, to);
+    }
+
+    /// An equal body with memory of its own.
+    pub fn try_clone(&self, alloc: Global) -> Result<Body, AllocError>
+        ensures { IfOk result (λ copy. ops_of copy ≡ ops_of self.now) }
+    {
+        let order = Vec::from_slice(alloc, self.order.as_slice())?;
+        let parts = copied_parts(alloc, self.parts.as_slice())?;
+        let operands = self.operands.try_clone(alloc)?;
+        Ok(Body {
+            order,
+            parts,
+            operands,
+        })
     }
 
     /// The operation of these parts.

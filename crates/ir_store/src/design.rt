@@ -1,5 +1,5 @@
 //! Designs: modules in order, found by their symbols.
-ghost use Rattle.std.specs.Prelude.{◌≡◌, ℕ, ◌<◌, ◌+◌, List, length, map, nat_eq, cond, Some, None, OnOk, OnErr};
+ghost use Rattle.std.specs.Prelude.{◌≡◌, ℕ, ◌<◌, ◌+◌, ◌^◌, List, length, map, nat_eq, cond, Some, None, OnOk, OnErr};
 ghost use Rattle.std.specs.Cmp.Lexicographic.{pointwise};
 ghost use Rattle.indexmap.specs.IndexMap.{get_by};
 ghost use Rattle.ir_store.specs.Symbols.{symbol_place, first_of};
@@ -55,6 +55,7 @@ pub struct Module {
 pub struct Design {
     modules: Vec<Module>,
     symbols: IndexMap<Vec<u8>, u32>,
+    ghost small: { length modules.items < 2 ^ 32 },
     ghost found: { (q : List ℕ) → get_by (λ (k : _). pointwise nat_eq q k.items) symbols ≡ symbol_place q (map (λ (m : _). m.symbol) modules.items) },
 }
 
@@ -99,12 +100,32 @@ impl Module {
     /// Gives a module another body, and gives the one that it had.
     fn swap_body(modules: &mut Vec<Module>, m: usize, body: Body) -> Body
         requires { m < length modules.old.items }
+        ensures count { length modules.new.items ≡ length modules.old.items }
         ensures symbols { map (λ (m : _). m.symbol) modules.new.items ≡ map (λ (m : _). m.symbol) modules.old.items }
         ensures modules { map module_of modules.new.items ≡ with_ops m (ops_of body) (map module_of modules.old.items) }
         ensures taken { Some (ops_of result) ≡ slice_get (map (λ (m : _). ops_of m.body) modules.old.items) m }
     {
         let one = &mut modules[m];
         mem::replace(&mut one.body, body)
+    }
+}
+
+impl Module {
+    ghost use Rattle.std.specs.Prelude.{IfOk};
+    ghost use Rattle.ir_store.specs.Designs.{module_of};
+
+    /// An equal module with memory of its own.
+    pub fn try_clone(&self, alloc: Global) -> Result<Module, AllocError>
+        ensures { IfOk result (λ copy. module_of copy ≡ module_of self.now) }
+    {
+        Ok(Module {
+            symbol: self.symbol.try_clone(alloc)?,
+            private: self.private,
+            ports: self.ports.try_clone(alloc)?,
+            dictionary: self.dictionary.try_clone(alloc)?,
+            body: self.body.try_clone(alloc)?,
+            place: self.place,
+        })
     }
 }
 
@@ -122,6 +143,17 @@ impl Design {
             modules: Vec::new(alloc),
             symbols: IndexMap::new(alloc),
         }
+    }
+
+    /// An equal design with memory of its own.
+    pub fn try_clone(&self, alloc: Global) -> Result<Design, AllocError>
+        ensures { IfOk result (λ copy. modules_of copy ≡ modules_of self.now) }
+    {
+        let mut copy = Design::new(alloc);
+        for one in &self.modules {
+            let _ = copy.add_module(one.try_clone(alloc)?)?;
+        }
+        Ok(copy)
     }
 
     /// Puts a module at the end, and gives its number. On an error the modules stay, and the new
@@ -142,7 +174,6 @@ impl Design {
 
     /// How many modules there are.
     pub fn module_count(&self) -> u32
-        requires { length (modules_of self.now) < 2 ^ 32 }
         ensures { result ≡ length (modules_of self.now) }
     {
         self.modules.len() as u32

@@ -1,5 +1,6 @@
 //! The operands of all operations of a body, in one list.
-ghost use Rattle.std.specs.Prelude.{◌≡◌, ℕ, ◌+◌, ◌-◌, ◌<◌, ◌≤◌, [], ◌∷◌, ◌++◌, List, length, IsOk, OnOk, OnErr, slice_index, slice_index_or, slice_set};
+ghost use Rattle.std.specs.Prelude.{◌≡◌, ℕ, ◌+◌, ◌-◌, ◌<◌, ◌≤◌, [], ◌∷◌, ◌++◌, List, length, IfOk, IsOk, OnOk, OnErr, slice_index, map, slice_index_or, slice_set};
+ghost use Rattle.ir_store.specs.BodyOps.{same_value, replaced};
 ghost use Rattle.ir_store.specs.OperandLists.{start_of, cut, AreEnds};
 
 use crate::operation::Value;
@@ -69,6 +70,42 @@ fn place_in(ends: &[usize], whole: usize, i: usize, at: usize) -> usize
     begin + at
 }
 
+/// Whether two operands are the same.
+fn is_same(a: Value, b: Value) -> bool
+    ensures { result ≡ same_value a b }
+{
+    match a {
+        Value::Port(m) => match b {
+            Value::Port(n) => m == n,
+            Value::Result(..) | Value::Undefined => false,
+        },
+        Value::Result(id, m) => match b {
+            Value::Result(other, n) => id.index == other.index && m == n,
+            Value::Port(_) | Value::Undefined => false,
+        },
+        Value::Undefined => match b {
+            Value::Undefined => true,
+            Value::Port(_) | Value::Result(..) => false,
+        },
+    }
+}
+
+/// The value, or `to` where it is `from`.
+fn replacement(value: Value, from: Value, to: Value) -> Value
+    ensures { result ≡ replaced from to value }
+{
+    if is_same(from, value) { to } else { value }
+}
+
+/// Puts `to` in the place of each `from`.
+fn replace(values: &mut [Value], from: Value, to: Value)
+    ensures { values.new ≡ map (replaced from to) values.old }
+{
+    for value in values.iter_mut() {
+        *value = replacement(*value, from, to);
+    }
+}
+
 impl OperandTable {
     /// No lists. It takes no memory.
     pub fn new(alloc: Global) -> OperandTable
@@ -78,6 +115,15 @@ impl OperandTable {
             ends: Vec::new(alloc),
             values: Vec::new(alloc),
         }
+    }
+
+    /// Equal lists with memory of their own.
+    pub fn try_clone(&self, alloc: Global) -> Result<OperandTable, AllocError>
+        ensures { IfOk result (λ copy. copy.lists ≡ self.now.lists) }
+    {
+        let ends = Vec::from_slice(alloc, self.ends.as_slice())?;
+        let values = Vec::from_slice(alloc, self.values.as_slice())?;
+        Ok(OperandTable { ends, values })
     }
 
     /// For how many more lists there is room.
@@ -127,6 +173,14 @@ impl OperandTable {
         ensures { result.now ≡ slice_index_or self.now.lists i [] }
     {
         list_in(self.ends.as_slice(), self.values.as_slice(), i)
+    }
+
+    /// Puts `to` in the place of each `from`.
+    pub fn replace(&mut self, from: Value, to: Value)
+        ensures lists { self.new.lists ≡ map (map (replaced from to)) self.old.lists }
+        ensures room { (self.new.list_room ≡ self.old.list_room) × (self.new.room ≡ self.old.room) }
+    {
+        replace(&mut self.values, from, to);
     }
 
     /// Puts `value` in the place `at` of list `i`.

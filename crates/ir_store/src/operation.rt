@@ -1,5 +1,5 @@
 //! The parts of an operation.
-ghost use Rattle.std.specs.Prelude.{◌≡◌, [], map, IfOk};
+ghost use Rattle.std.specs.Prelude.{◌≡◌, [], map, length, IfOk};
 ghost use Rattle.ir_store.specs.OperationViews.{types_in, result_of, results_in, parts_of, new_parts};
 
 use crate::dictionary::Dictionary;
@@ -197,4 +197,16 @@ impl Parts {
             place: self.place,
         })
     }
+}
+
+/// Equal parts, one by one, with memory of their own.
+pub(crate) fn copied_parts(alloc: Global, parts: &[Parts]) -> Result<Vec<Parts>, AllocError>
+    ensures parts { IfOk result (λ copies. map parts_of copies.items ≡ map parts_of parts.now) }
+    ensures count { IfOk result (λ copies. length copies.items ≡ length parts.now) }
+{
+    let mut copies = Vec::with_capacity(alloc, parts.len())?;
+    for one in parts {
+        copies.push(one.try_clone(alloc)?)?;
+    }
+    Ok(copies)
 }
