@@ -1,0 +1,81 @@
+-- Modules in a list, and their numbers by symbol.
+use Rattle.std.proofs.Common.{◌≡◌, ℕ, zero, suc, ◌<◌, Bool, true, false, cond, List, [], ◌∷◌, ◌++◌, map, length, get_or, set, refl, ap, sym, ◌∙◌, arith}
+use Rattle.std.specs.Prelude.{Option, Some, None, option_map, is_some, slice_get}
+use Rattle.std.specs.Option.{option_copied}
+use Rattle.std.specs.Borrow.{Bor}
+use Rattle.std.specs.Map.{lookup}
+use Rattle.indexmap.specs.IndexMap.{insert_entry}
+use Rattle.hw_model.specs.Types.{Name}
+use Rattle.hw_model.specs.Design.{same_name}
+use Rattle.ir_store.specs.declared.design.Module.{Module}
+use Rattle.ir_store.specs.declared.body.Body.{Body}
+use Rattle.ir_store.specs.Bodies.{ops_of}
+use Rattle.ir_store.specs.Symbols.{symbol_place, first_of}
+use Rattle.ir_store.specs.Designs.{StoredModule, module_of, with_ops}
+
+-- ---- lists of modules
+
+pub map_set_same : {X Y : Type 0} (f : X → Y) (xs : List X) (i : ℕ) (x y : X) → i < length xs → x ≡ get_or xs i x → f y ≡ f x → map f (set xs i y) ≡ map f xs
+map_set_same f [] i x y h e g = refl
+map_set_same f (z ∷ xs) zero x y h e g = ap (λ v. v ∷ map f xs) (g ∙ ap f e)
+map_set_same f (z ∷ xs) (suc i) x y h e g = ap (λ vs. f z ∷ vs) (map_set_same f xs i x y (omega arith) e g)
+
+pub read_get : {X Y : Type 0} (f : X → Y) (xs : List X) (i : ℕ) (x : X) → i < length xs → x ≡ get_or xs i x → Some (f x) ≡ slice_get (map f xs) i
+read_get f [] i x h e = absurd (omega arith)
+read_get f (y ∷ xs) zero x h e = ap (λ v. Some (f v)) e
+read_get f (y ∷ xs) (suc i) x h e = read_get f xs i x (omega arith) e
+
+pub body_set : (ms : List Module) (m : ℕ) (x : Module) (b : Body) → m < length ms → x ≡ get_or ms m x →
+    map module_of (set ms m (record x { body = b })) ≡ with_ops m (ops_of b) (map module_of ms)
+body_set [] m x b h e = refl
+body_set (y ∷ ms) zero x b h e = ap (λ v. module_of (record v { body = b }) ∷ map module_of ms) e
+body_set (y ∷ ms) (suc m) x b h e = ap (λ vs. module_of y ∷ vs) (body_set ms m x b (omega arith) e)
+
+pub symbols_seen : (ms : List Module) → map (λ (m : StoredModule). m.symbol) (map module_of ms) ≡ map (λ (m : Module). m.symbol) ms
+symbols_seen [] = refl
+symbols_seen (m ∷ ms) = ap (λ vs. m.symbol ∷ vs) (symbols_seen ms)
+
+pub ops_seen : (ms : List Module) → map (λ (m : StoredModule). m.ops) (map module_of ms) ≡ map (λ (m : Module). ops_of m.body) ms
+ops_seen [] = refl
+ops_seen (m ∷ ms) = ap (λ vs. ops_of m.body ∷ vs) (ops_seen ms)
+
+-- ---- symbols
+
+shifted : (p : Option ℕ) (b : Bool) (n : ℕ) → option_map suc (first_of p (cond b (Some n) None)) ≡ first_of (option_map suc p) (cond b (Some (suc n)) None)
+shifted (Some m) b n = refl
+shifted None true n = refl
+shifted None false n = refl
+
+-- a symbol at the end is found where none before it is the same
+pub place_push : (q s : Name) (symbols : List Name) → symbol_place q (symbols ++ s ∷ []) ≡ first_of (symbol_place q symbols) (cond (same_name q s) (Some (length symbols)) None)
+place_push q s [] = refl
+place_push q s (t ∷ symbols) = go (same_name q t) (place_push q s symbols)
+  where
+    go : (b : Bool) → symbol_place q (symbols ++ s ∷ []) ≡ first_of (symbol_place q symbols) (cond (same_name q s) (Some (length symbols)) None) →
+        cond b (Some 0) (option_map suc (symbol_place q (symbols ++ s ∷ [])))
+        ≡ first_of (cond b (Some 0) (option_map suc (symbol_place q symbols))) (cond (same_name q s) (Some (suc (length symbols))) None)
+    go true r = refl
+    go false r = ap (option_map suc) r ∙ shifted (symbol_place q symbols) (same_name q s) (length symbols)
+
+pub none_copied : (r : Option (Bor ℕ)) (o : Option ℕ) → option_copied r ≡ o → is_some r ≡ false → o ≡ None
+none_copied None o e f = sym e
+none_copied (Some x) o e f = cc
+
+module _ {K : Type 0} where
+  pub insert_absent : (eq : K → K → Bool) (es : List (K × ℕ)) (k : K) (v : ℕ) → lookup (eq k) es ≡ None → insert_entry eq es k v ≡ es ++ (k, v) ∷ []
+  insert_absent eq [] k v h = refl
+  insert_absent eq (e ∷ es) k v h = go (eq k e.0) h (insert_absent eq es k v)
+    where
+      go : (b : Bool) → cond b (Some e.1) (lookup (eq k) es) ≡ None → (lookup (eq k) es ≡ None → insert_entry eq es k v ≡ es ++ (k, v) ∷ []) →
+          cond b ((e.0, v) ∷ es) (e ∷ insert_entry eq es k v) ≡ e ∷ (es ++ (k, v) ∷ [])
+      go true h r = cc
+      go false h r = ap (λ rest. e ∷ rest) (r h)
+
+  pub lookup_push : (test : K → Bool) (es : List (K × ℕ)) (k : K) (v : ℕ) → lookup test (es ++ (k, v) ∷ []) ≡ first_of (lookup test es) (cond (test k) (Some v) None)
+  lookup_push test [] k v = refl
+  lookup_push test (e ∷ es) k v = go (test e.0) (lookup_push test es k v)
+    where
+      go : (b : Bool) → lookup test (es ++ (k, v) ∷ []) ≡ first_of (lookup test es) (cond (test k) (Some v) None) →
+          cond b (Some e.1) (lookup test (es ++ (k, v) ∷ [])) ≡ first_of (cond b (Some e.1) (lookup test es)) (cond (test k) (Some v) None)
+      go true r = refl
+      go false r = r

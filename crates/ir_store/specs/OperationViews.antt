@@ -1,0 +1,67 @@
+-- What values of the parts of an operation stand for.
+use Rattle.std.specs.Prelude.{ℕ, Bool, List, map}
+use Rattle.hw_model.specs.Types.{Name, HwType}
+use Rattle.hw_model.specs.Kinds.{Kind}
+use Rattle.hw_model.specs.TypeViews.{type_of}
+use Rattle.hw_model.specs.KindViews.{kind_of}
+use Rattle.hw_model.specs.Design.{OpResult, Entry as HwEntry, Place as HwPlace}
+use Rattle.diag.specs.declared.refusal.Place.{Place}
+use Rattle.ir_store.specs.declared.operation.NewResult.{NewResult}
+use Rattle.ir_store.specs.declared.operation.TyList.{TyList}
+use Rattle.ir_store.specs.declared.operation.NewResultList.{NewResultList}
+use Rattle.ir_store.specs.declared.operation.NewOp.{NewOp}
+use Rattle.ir_store.specs.declared.operation.Parts.{Parts}
+use Rattle.ir_store.specs.DictionaryViews.{entries_in}
+
+-- a place in the source
+abbrev pub place_of : Place → HwPlace
+place_of p = record { line = p.line; col = p.col }
+
+-- the types of a list
+abbrev pub types_in : TyList → List HwType
+types_in l = map type_of l.types.items
+
+-- a result
+abbrev pub result_of : NewResult → OpResult
+result_of r = record { type = type_of r.ty; again = r.again }
+
+-- the results of a list
+abbrev pub results_in : NewResultList → List OpResult
+results_in l = map result_of l.results.items
+
+-- an operation but for its operands
+pub record OpParts : Type 0 where
+  pub kind : Kind
+  pub types : List HwType
+  pub results : List OpResult
+  pub named : ℕ
+  pub name : Name
+  pub dictionary : List HwEntry
+  pub bin : Bool
+  pub place : HwPlace
+
+-- the parts that a body keeps
+abbrev pub parts_of : Parts → OpParts
+parts_of p = record {
+  kind = kind_of p.kind;
+  types = types_in p.types;
+  results = results_in p.results;
+  named = p.named;
+  name = p.name;
+  dictionary = entries_in p.dictionary;
+  bin = p.bin;
+  place = place_of p.place;
+}
+
+-- the parts of an operation that is to be put into a body
+abbrev pub new_parts : NewOp → OpParts
+new_parts o = record {
+  kind = kind_of o.kind;
+  types = types_in o.types;
+  results = results_in o.results;
+  named = o.named;
+  name = o.name;
+  dictionary = entries_in o.dictionary;
+  bin = o.bin;
+  place = place_of o.place;
+}

@@ -1,0 +1,255 @@
+//! The body of a module: its operations in text order.
+ghost use Rattle.std.specs.Prelude.{◌≡◌, ℕ, ◌<◌, ◌≤◌, length, min, slice_index, Some, ◌+◌, insert};
+ghost use Rattle.std.specs.Vec.{vec_len, vec_capacity};
+ghost use Rattle.ir_store.specs.BodyOps.{place_before};
+
+use crate::dictionary::Dictionary;
+use crate::operands::OperandTable;
+use crate::operation::{NewOp, NewResultList, OpId, Parts, TyList, Value, copied_parts};
+use diag::refusal::Place;
+use hw_model::kinds::OpKind;
+use io_edge::byte_text::Text;
+use std::alloc::{AllocError, Global};
+
+/// The operations of a module in text order, each with an id that stays while the body changes.
+/// Contracts see them by `ops_of`.
+#[derive(Drop)]
+pub struct Body {
+    order: Vec<u32>,
+    parts: Vec<Parts>,
+    operands: OperandTable,
+    ghost parts_fit: { length parts.items ≡ length order.items },
+    ghost lists_fit: { length operands.lists ≡ length order.items },
+    ghost below: { (k : ℕ) → k < length order.items → slice_index order.items k < length order.items },
+}
+
+/// An operation of a body, its parts by reference.
+pub struct Op<'b> {
+    /// Its kind.
+    pub kind: &'b OpKind,
+    /// Its operands.
+    pub operands: &'b [Value],
+    /// The types that are written, in text order.
+    pub types: &'b TyList,
+    /// Its results.
+    pub results: &'b NewResultList,
+    /// How many of its results are named.
+    pub named: u32,
+    /// The own name of a register or a wire, empty where there is none.
+    pub name: &'b Text,
+    /// Its dictionary.
+    pub dictionary: &'b Dictionary,
+    /// Whether it has the mark `bin`.
+    pub bin: bool,
+    /// Its place in the source.
+    pub place: Place,
+}
+
+/// The ids of a body's operations in text order.
+#[derive(Drop)]
+pub struct Ops<'b> {
+    rest: &'b [u32],
+}
+
+impl<'b> Iterator for Ops<'b> {
+    ghost use Rattle.std.specs.Iterator.{YieldsFirst, item_count};
+    ghost use Rattle.ir_store.specs.Bodies.{ids_left};
+
+    type Item = OpId;
+
+    ghost next_gives = { YieldsFirst ids_left };
+
+    ghost remaining = { item_count ids_left };
+
+    fn next(&mut self) -> Option<OpId> {
+        let (first, others) = self.rest.split_first()?;
+        self.rest = others;
+        Some(OpId { index: *first })
+    }
+}
+
+impl Body {
+    ghost use Rattle.std.specs.Prelude.{◌≡◌, ℕ, ◌+◌, ◌<◌, ◌≤◌, ◌^◌, [], ◌∷◌, Some, None, map, min, length, Contains, IfOk, IfSome, IsOk, OnOk, OnErr, slice_set};
+    ghost use Rattle.ir_store.specs.BodyOps.{op_at, put_before, place_before, as_new, operands_at, HasOperand, all_replaced};
+    ghost use Rattle.ir_store.specs.Bodies.{ids_of, ops_of, spare_ops, spare_uses, read_op, read_parts, op_id, ids_left};
+    ghost use Rattle.ir_store.specs.OperationViews.{parts_of};
+
+    /// The body without operations. It takes no memory.
+    pub fn new(alloc: Global) -> Body
+        ensures { ops_of result ≡ [] }
+    {
+        Body {
+            order: Vec::new(alloc),
+            parts: Vec::new(alloc),
+            operands: OperandTable::new(alloc),
+        }
+    }
+
+    /// Makes room for at least `ops` more operations and `uses` more operands. The operations stay.
+    pub fn reserve(&mut self, ops: u32, uses: u32) -> Result<(), AllocError>
+        ensures stay { ops_of self.new ≡ ops_of self.old }
+        ensures ok { OnOk result ((ops ≤ spare_ops self.new) × (uses ≤ spare_uses self.new)) }
+        ensures spare { (spare_ops self.old ≤ spare_ops self.new) × (spare_uses self.old ≤ spare_uses self.new) }
+    {
+        self.order.reserve(ops as usize)?;
+        self.parts.reserve(ops as usize)?;
+        self.operands.reserve(ops as usize, uses as usize)
+    }
+
+    /// How many more operations, and how many more operands, can be added without memory; where
+    /// there are more than a u32 can say, the greatest.
+    pub fn spare(&self) -> (u32, u32)
+        ensures ops { result.0 ≡ min (spare_ops self.now) u32.MAX }
+        ensures uses { result.1 ≡ min (spare_uses self.now) u32.MAX }
+    {
+        let order_room = self.order.capacity() - self.order.len();
+        let parts_room = self.parts.capacity() - self.parts.len();
+        let room = order_room.min(parts_room.min(self.operands.list_room()));
+        (saturated(room), saturated(self.operands.room()))
+    }
+
+    /// The ids of the operations in text order.
+    pub fn ops(&self) -> Ops<'_>
+        ensures { ids_left result ≡ map op_id (ids_of self.now) }
+    {
+        Ops {
+            rest: self.order.as_slice(),
+        }
+    }
+
+    /// The operation `id`.
+    pub fn op(&self, id: OpId) -> Op<'_>
+        requires { Contains (ids_of self.now) id.index }
+        ensures { op_at (ops_of self.now) id.index ≡ Some (read_op id result) }
+    {
+        let index = self.index_of(id);
+        let parts = &self.parts[index];
+        let operands = self.operands.get(index);
+        Body::read(parts, operands)
+    }
+
+    /// Puts `op` before the operation `before`, or at the end, and gives its id. On an error the
+    /// operations stay.
+    #[tactic(auto, using(crate::proofs::BodyLemmas::length_ids))]
+    pub fn add_op(&mut self, before: Option<OpId>, op: NewOp) -> Result<OpId, AllocError>
+        requires room { length (ids_of self.old) + 1 < 2 ^ 32 }
+        requires live { IfSome before (λ b. Contains (ids_of self.old) b.index) }
+        ensures ok { IfOk result (λ id. ops_of self.new ≡ put_before before (as_new id op) (ops_of self.old)) }
+        ensures fresh { IfOk result (λ id. ¬ Contains (ids_of self.old) id.index) }
+        ensures err { OnErr result (ops_of self.new ≡ ops_of self.old) }
+        ensures succeeds { 1 ≤ spare_ops self.old → length op.operands.items ≤ spare_uses self.old → IsOk result }
+        ensures spare { (spare_ops self.old ≤ spare_ops self.new + 1) × (spare_uses self.old ≤ spare_uses self.new + length op.operands.items) }
+    {
+        let place = place_of(self.order.as_slice(), before);
+        self.order.reserve(1)?;
+        self.parts.reserve(1)?;
+        self.operands.add(op.operands.as_slice())?;
+        let id = self.parts.len() as u32;
+        self.parts.push_reserved(op.into_parts());
+        insert_reserved(&mut self.order, place, id);
+        Ok(OpId { index: id })
+    }
+
+    /// Puts `value` in the place `at` of the operands of `op`.
+    pub fn set_operand(&mut self, op: OpId, at: u32, value: Value)
+        requires live { Contains (ids_of self.old) op.index }
+        requires place { HasOperand (ops_of self.old) op.index at }
+        ensures ops { ops_of self.new ≡ operands_at op.index (λ operands. slice_set operands at value) (ops_of self.old) }
+        ensures spare { (spare_ops self.new ≡ spare_ops self.old) × (spare_uses self.new ≡ spare_uses self.old) }
+    {
+        let index = self.index_of(op);
+        self.operands.set(index, at as usize, value);
+    }
+
+    /// Puts `to` in the place of each operand that is `from`.
+    pub fn replace_all_uses(&mut self, from: Value, to: Value)
+        ensures ops { ops_of self.new ≡ all_replaced from to (ops_of self.old) }
+        ensures spare { (spare_ops self.new ≡ spare_ops self.old) × (spare_uses self.new ≡ spare_uses self.old) }
+    {
+        self.operands.replace(from, to);
+    }
+
+    /// An equal body with memory of its own.
+    pub fn try_clone(&self, alloc: Global) -> Result<Body, AllocError>
+        ensures { IfOk result (λ copy. ops_of copy ≡ ops_of self.now) }
+    {
+        let order = Vec::from_slice(alloc, self.order.as_slice())?;
+        let parts = copied_parts(alloc, self.parts.as_slice())?;
+        let operands = self.operands.try_clone(alloc)?;
+        Ok(Body {
+            order,
+            parts,
+            operands,
+        })
+    }
+
+    /// The operation of these parts.
+    fn read<'b>(parts: &'b Parts, operands: &'b [Value]) -> Op<'b>
+        ensures parts { read_parts result ≡ parts_of parts.now }
+        ensures operands { result.operands.now ≡ operands.now }
+    {
+        Op {
+            kind: &parts.kind,
+            operands,
+            types: &parts.types,
+            results: &parts.results,
+            named: parts.named,
+            name: &parts.name,
+            dictionary: &parts.dictionary,
+            bin: parts.bin,
+            place: parts.place,
+        }
+    }
+
+    /// Where the parts and the operands of a live operation stand.
+    fn index_of(&self, id: OpId) -> usize
+        requires { Contains self.now.order.items id.index }
+        ensures value { result ≡ id.index }
+        ensures within { result < length self.now.order.items }
+    {
+        id.index as usize
+    }
+}
+
+/// Where an operation goes that is put before `before`, or at the end.
+fn place_of(order: &[u32], before: Option<OpId>) -> usize
+    ensures place { result ≡ place_before before order.now }
+    ensures within { result ≤ length order.now }
+{
+    match before {
+        None => order.len(),
+        Some(id) => place_of_id(order, id),
+    }
+}
+
+fn place_of_id(order: &[u32], id: OpId) -> usize
+    ensures place { result ≡ place_before (Some id) order.now }
+    ensures within { result ≤ length order.now }
+{
+    for (place, other) in order.iter().enumerate() {
+        if *other == id.index {
+            return place;
+        }
+    }
+    order.len()
+}
+
+/// Puts `id` in before `place`, where there is room for it.
+fn insert_reserved(order: &mut Vec<u32>, place: usize, id: u32)
+    requires place { place ≤ length order.old.items }
+    requires room { vec_len order.old < vec_capacity order.old }
+    ensures items { order.new.items ≡ insert order.old.items place id }
+    ensures len { vec_len order.new ≡ vec_len order.old + 1 }
+    ensures capacity { vec_capacity order.old ≤ vec_capacity order.new }
+{
+    match order.insert(place, id) {
+        Ok(()) => {}
+        Err(_) => unreachable!(),
+    }
+}
+
+fn saturated(count: usize) -> u32
+    ensures { result ≡ min count u32.MAX }
+{
+    u32::try_from(count).unwrap_or(u32::MAX)
+}

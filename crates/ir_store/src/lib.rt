@@ -1,0 +1,14 @@
+//! Designs and the bodies of their modules, as a program keeps and changes them.
+//!
+//! A body is a list of operations in text order. Each has an id that stays while the body changes; contracts see a body
+//! by `ops_of`, the list of its operations with their ids, and by `numbered`, the list that definitions speak of, in
+//! which an operand names an operation by its position.
+#![tactic(auto)]
+
+pub mod body;
+pub mod design;
+pub mod dictionary;
+mod operands;
+pub mod operation;
+#[cfg(test)]
+mod tests;

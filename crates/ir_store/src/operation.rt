@@ -1,0 +1,212 @@
+//! The parts of an operation.
+ghost use Rattle.std.specs.Prelude.{◌≡◌, [], map, length, IfOk};
+ghost use Rattle.ir_store.specs.OperationViews.{types_in, result_of, results_in, parts_of, new_parts};
+
+use crate::dictionary::Dictionary;
+use diag::refusal::Place;
+use hw_model::kinds::OpKind;
+use hw_model::types::Ty;
+use io_edge::byte_text::Text;
+use smallvec::SmallVec;
+use std::alloc::{AllocError, Global};
+
+/// What names an operation of a body while the body has it.
+#[derive(Clone, Copy, Debug, PartialEq, Eq)]
+pub struct OpId {
+    pub(crate) index: u32,
+}
+
+/// An operand.
+#[derive(Clone, Copy, Debug, Default, PartialEq, Eq)]
+pub enum Value {
+    /// A port of the module, by its position.
+    Port(u32),
+    /// A result of an operation, by its number.
+    Result(OpId, u32),
+    /// What nothing defines.
+    #[default]
+    Undefined,
+}
+
+/// A place in a body where a value is used.
+#[derive(Clone, Copy, Debug, PartialEq, Eq)]
+pub struct UsePlace {
+    /// The operation that uses the value.
+    pub op: OpId,
+    /// Which of its operands it is.
+    pub at: u32,
+}
+
+/// A result of an operation.
+#[derive(Debug, Drop)]
+pub struct NewResult {
+    /// Its type.
+    pub ty: Ty,
+    /// Whether its value name was defined earlier.
+    pub again: bool,
+}
+
+/// Types in order.
+#[derive(Debug, Drop)]
+pub struct TyList {
+    /// The types.
+    pub types: Vec<Ty>,
+}
+
+/// Results in order.
+#[derive(Debug, Drop)]
+pub struct NewResultList {
+    /// The results.
+    pub results: Vec<NewResult>,
+}
+
+/// An operation that is to be put into a body.
+#[derive(Drop)]
+pub struct NewOp {
+    /// Its kind.
+    pub kind: OpKind,
+    /// Its operands.
+    pub operands: SmallVec<Value, 4, Global>,
+    /// The types that are written, in text order.
+    pub types: TyList,
+    /// Its results.
+    pub results: NewResultList,
+    /// How many of its results are named.
+    pub named: u32,
+    /// The own name of a register or a wire, empty where there is none.
+    pub name: Text,
+    /// Its dictionary.
+    pub dictionary: Dictionary,
+    /// Whether it has the mark `bin`.
+    pub bin: bool,
+    /// Its place in the source.
+    pub place: Place,
+}
+
+/// What a body keeps of an operation besides its operands.
+#[derive(Drop)]
+pub struct Parts {
+    pub(crate) kind: OpKind,
+    pub(crate) types: TyList,
+    pub(crate) results: NewResultList,
+    pub(crate) named: u32,
+    pub(crate) name: Text,
+    pub(crate) dictionary: Dictionary,
+    pub(crate) bin: bool,
+    pub(crate) place: Place,
+}
+
+impl NewOp {
+    /// The parts besides the operands. It takes no memory.
+    pub(crate) fn into_parts(self) -> Parts
+        ensures { parts_of result ≡ new_parts self }
+    {
+        let NewOp {
+            kind,
+            operands: _,
+            types,
+            results,
+            named,
+            name,
+            dictionary,
+            bin,
+            place,
+        } = self;
+        Parts {
+            kind,
+            types,
+            results,
+            named,
+            name,
+            dictionary,
+            bin,
+            place,
+        }
+    }
+}
+
+impl NewResult {
+    /// An equal result with memory of its own.
+    pub fn try_clone(&self, alloc: Global) -> Result<NewResult, AllocError>
+        ensures { IfOk result (λ copy. result_of copy ≡ result_of self.now) }
+    {
+        Ok(NewResult {
+            ty: self.ty.try_clone(alloc)?,
+            again: self.again,
+        })
+    }
+}
+
+impl TyList {
+    /// No types. It takes no memory.
+    pub fn new(alloc: Global) -> TyList
+        ensures { types_in result ≡ [] }
+    {
+        TyList {
+            types: Vec::new(alloc),
+        }
+    }
+
+    /// Equal types with memory of their own.
+    pub fn try_clone(&self, alloc: Global) -> Result<TyList, AllocError>
+        ensures { IfOk result (λ copy. types_in copy ≡ types_in self.now) }
+    {
+        let mut types = Vec::with_capacity(alloc, self.types.len())?;
+        for ty in &self.types {
+            types.push(ty.try_clone(alloc)?)?;
+        }
+        Ok(TyList { types })
+    }
+}
+
+impl NewResultList {
+    /// No results. It takes no memory.
+    pub fn new(alloc: Global) -> NewResultList
+        ensures { results_in result ≡ [] }
+    {
+        NewResultList {
+            results: Vec::new(alloc),
+        }
+    }
+
+    /// Equal results with memory of their own.
+    pub fn try_clone(&self, alloc: Global) -> Result<NewResultList, AllocError>
+        ensures { IfOk result (λ copy. results_in copy ≡ results_in self.now) }
+    {
+        let mut results = Vec::with_capacity(alloc, self.results.len())?;
+        for one in &self.results {
+            results.push(one.try_clone(alloc)?)?;
+        }
+        Ok(NewResultList { results })
+    }
+}
+
+impl Parts {
+    /// Equal parts with memory of their own.
+    pub(crate) fn try_clone(&self, alloc: Global) -> Result<Parts, AllocError>
+        ensures { IfOk result (λ copy. parts_of copy ≡ parts_of self.now) }
+    {
+        Ok(Parts {
+            kind: self.kind.try_clone(alloc)?,
+            types: self.types.try_clone(alloc)?,
+            results: self.results.try_clone(alloc)?,
+            named: self.named,
+            name: self.name.try_clone(alloc)?,
+            dictionary: self.dictionary.try_clone(alloc)?,
+            bin: self.bin,
+            place: self.place,
+        })
+    }
+}
+
+/// Equal parts, one by one, with memory of their own.
+pub(crate) fn copied_parts(alloc: Global, parts: &[Parts]) -> Result<Vec<Parts>, AllocError>
+    ensures parts { IfOk result (λ copies. map parts_of copies.items ≡ map parts_of parts.now) }
+    ensures count { IfOk result (λ copies. length copies.items ≡ length parts.now) }
+{
+    let mut copies = Vec::with_capacity(alloc, parts.len())?;
+    for one in parts {
+        copies.push(one.try_clone(alloc)?)?;
+    }
+    Ok(copies)
+}
