@@ -14,3 +14,5 @@ mod run_tests;
 #[cfg(test)]
 mod value_tests;
 pub mod values;
+#[cfg(test)]
+mod worked_tests;
