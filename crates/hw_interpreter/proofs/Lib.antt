@@ -1,5 +1,8 @@
 -- Lemmas.
 pub mod Pieces
 pub mod Contents
+pub mod Counts
+pub mod Samples
 pub mod Steps
+pub mod Suiting
 pub mod Within

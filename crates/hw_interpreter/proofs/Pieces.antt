@@ -1,8 +1,8 @@
 -- Words that are put together from the front, a piece at a time.
-use Rattle.std.proofs.Common.{◌≡◌, ℕ, zero, suc, ◌-◌, ◌/◌, ◌%◌, ◌^◌, ◌==◌, ◌<◌, cond, List, [], ◌∷◌, ◌++◌, refl, ap, sym, ◌∙◌, arith, append_assoc, append-nil}
+use Rattle.std.proofs.Common.{◌≡◌, ℕ, zero, suc, ◌+◌, ◌-◌, ◌/◌, ◌%◌, ◌^◌, ◌==◌, ◌<◌, cond, List, [], ◌∷◌, ◌++◌, refl, ap, sym, ◌∙◌, arith, append_assoc, append-nil}
 use Rattle.bits_core.specs.Word.{Word, bits}
 use Rattle.hw_model.specs.Types.{HwType}
-use Rattle.hw_model.specs.Value.{element, injected_below}
+use Rattle.hw_model.specs.Value.{element, elements_from, injected_below}
 
 -- a piece more of a word that is built from the front
 pub piece_more : (part piece rest new whole : Word) → part ++ (piece ++ rest) ≡ whole → new ≡ part ++ piece → new ++ rest ≡ whole
@@ -18,6 +18,12 @@ pub injected_top : (n : ℕ) (t : HwType) (a : Word) (i : ℕ) (v : Word) → 0 
     → injected_below n t a i v ≡ cond (n - 1 == i) v (element t a (n - 1)) ++ injected_below (n - 1) t a i v
 injected_top zero t a i v positive = absurd (omega arith)
 injected_top (suc n) t a i v positive = let e : suc n - 1 ≡ n = omega arith in rw e refl
+
+-- the elements from one on, the highest of them first
+pub elements_top : (n : ℕ) (t : HwType) (a : Word) (i : ℕ) → 0 < n
+    → elements_from t a i n ≡ element t a (i + (n - 1)) ++ elements_from t a i (n - 1)
+elements_top zero t a i positive = absurd (omega arith)
+elements_top (suc n) t a i positive = let e : suc n - 1 ≡ n = omega arith in rw e refl
 
 -- where nothing is left the pieces are the whole
 pub piece_last : {A : Type 0} (part rest whole : List A) → rest ≡ [] → part ++ rest ≡ whole → part ≡ whole

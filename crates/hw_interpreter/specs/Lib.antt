@@ -2,3 +2,5 @@ pub mod Depth
 pub mod DesignViews
 pub mod Ranges
 pub mod Registers
+pub mod Suits
+pub mod SuitsWithin

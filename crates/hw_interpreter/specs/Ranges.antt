@@ -1,13 +1,9 @@
--- Where a net that takes bits of the inputs or of the content takes them.
+-- Where a net that takes bits of the inputs takes them.
 use Rattle.std.specs.Prelude.{Option, Some, None}
 use Rattle.hw_model.specs.Flat.{Source}
-use Rattle.hw_model.specs.Flat.Source.{nowhere, input, held}
+use Rattle.hw_model.specs.Flat.Source.{nowhere, input}
 use Rattle.hw_interpreter.specs.declared.nets.Range.{Range}
 
 abbrev pub input_range_source : Option Range → Source
 input_range_source None = nowhere
 input_range_source (Some r) = input r.start r.width
-
-abbrev pub held_range_source : Option Range → Source
-held_range_source None = nowhere
-held_range_source (Some r) = held r.start r.width

@@ -1,6 +1,7 @@
 //! Words of any number of bits.
-ghost use Rattle.std.specs.Prelude.{◌≡◌, ◌+◌, ◌-◌, ◌++◌, ◌≤◌, ◌<◌, [], length, take, drop, map, min, IfOk, OnOk, MatchOption, IfSome};
+ghost use Rattle.std.specs.Prelude.{◌≡◌, ◌+◌, ◌-◌, ◌++◌, ◌≤◌, ◌<◌, [], length, take, drop, map, min, IfOk, OnOk, OnErr, MatchOption, IfSome};
 ghost use Rattle.bits_core.specs.Word.{number, zeros, extract, first};
+ghost use Rattle.hw_interpreter.specs.Suits.{IsInteger};
 
 use crate::refusal::Refusal;
 use bits_core::Bits;
@@ -84,7 +85,9 @@ impl BitString {
 
 /// The integer's word of these bits, or a refusal where there are none or more than 128.
 pub fn bits_of(bits: &[bool]) -> Result<Bits, Refusal>
-    ensures { IfOk result (λ word. word ≡ bits.now) }
+    ensures value { IfOk result (λ word. word ≡ bits.now) }
+    ensures suits { OnOk result (IsInteger bits.now) }
+    ensures refuses { OnErr result (¬ IsInteger bits.now) }
 {
     if bits.is_empty() || bits.len() > 128 {
         return Err(Refusal::NotFitting);

@@ -1,13 +1,18 @@
 //! Steps and runs of a module.
-ghost use Rattle.std.specs.Prelude.{ℕ, ◌≡◌, ◌+◌, ◌-◌, ◌∷◌, [], ◌++◌, ◌≤◌, ◌<◌, length, take, drop, map, cond, IfOk, MatchOption, Option, Some, None, option_map};
-ghost use Rattle.bits_core.specs.Word.{first};
+ghost use Rattle.std.specs.Prelude.{ℕ, ◌≡◌, ◌+◌, ◌-◌, ◌∷◌, [], ◌++◌, ◌≤◌, ◌<◌, length, take, drop, map, cond, IfOk, IsErrOf, MatchOption, Option, Some, None, option_map};
+ghost use Rattle.bits_core.specs.Word.{Word, first};
+ghost use Rattle.wiring.specs.Wiring.{In};
+ghost use Rattle.hw_model.specs.Flat.{Slot as FlatSlot};
 ghost use Rattle.hw_model.specs.KindViews.{kind_of};
 ghost use Rattle.hw_model.specs.Design.{find_module, register_form};
-ghost use Rattle.hw_model.specs.Flat.{net, module_registers, body_registers, op_registers, registers, register_in, register_parts, depth};
-ghost use Rattle.hw_model.specs.Meaning.{enabled as enabled_word, reset as reset_word, loaded as loaded_word, next_content, outputs_of, outputs, machine};
+ghost use Rattle.hw_model.specs.Flat.{Net, held_width, net, module_registers, body_registers, op_registers, registers, register_in, register_parts, depth};
+ghost use Rattle.hw_model.specs.Meaning.{enabled as enabled_word, reset as reset_word, loaded as loaded_word, next_content, outputs_of, outputs, Settled, machine};
 ghost use Rattle.hw_model.specs.Machine.{Step, Run};
 ghost use Rattle.hw_interpreter.specs.DesignViews.{ref_of, op_of, module_of};
 ghost use Rattle.hw_interpreter.specs.Depth.{value_within, run_within, Suffices};
+ghost use Rattle.hw_interpreter.specs.Suits.{IsCounted};
+ghost use Rattle.hw_interpreter.specs.SuitsWithin.{SuitsWithin, SuitsUnder, AlwaysSuits, IsCountedDesign, TakesStep, TakesRun};
+ghost use Rattle.hw_interpreter.specs.declared.refusal.Refusal.TheVariants.{NotFitting};
 ghost use Rattle.hw_interpreter.specs.Registers.{slot_of, register_of, reset_by_of};
 
 use crate::bit_string::BitString;
@@ -29,10 +34,18 @@ pub struct Stepped {
 }
 
 /// One step of a module: its outputs, and its content after it, under the values of its nets within a depth.
+///
+/// A refusal that is not for want of memory comes only where an operation does not take the words of its operands, or a
+/// number of bits or of instances is too large to count. Where the depth suffices, the words are those of the settled
+/// map.
 pub fn step(alloc: Global, at: &Setting, depth: u32) -> Result<Stepped, Refusal>
     ensures outputs { IfOk result (λ s. s.outputs ≡ outputs (map module_of at.now.modules.now) at.now.top.now (value_within (map module_of at.now.modules.now) at.now.top.now at.now.inputs.now at.now.content.now depth)) }
     ensures content { IfOk result (λ s. s.content ≡ next_content (registers (map module_of at.now.modules.now) at.now.top.now) (value_within (map module_of at.now.modules.now) at.now.top.now at.now.inputs.now at.now.content.now depth) at.now.content.now) }
     ensures holds { IfOk result (λ s. Suffices (map module_of at.now.modules.now) at.now.top.now depth → Step (machine (map module_of at.now.modules.now) at.now.top.now) at.now.inputs.now at.now.content.now s.outputs s.content) }
+    ensures refuses { IsErrOf result NotFitting → ¬ TakesStep (map module_of at.now.modules.now) at.now.top.now at.now.inputs.now at.now.content.now depth }
+    ensures settles { IsErrOf result NotFitting → Suffices (map module_of at.now.modules.now) at.now.top.now depth
+        → (ρ : Net → Word) → Settled (map module_of at.now.modules.now) at.now.top.now at.now.inputs.now at.now.content.now ρ → SuitsUnder (map module_of at.now.modules.now) at.now.top.now ρ
+        → ¬ IsCountedDesign (map module_of at.now.modules.now) at.now.top.now }
 {
     let outputs = output_word(alloc, at, depth)?;
     let slots = registers(alloc, at.modules, at.top)?;
@@ -42,10 +55,12 @@ pub fn step(alloc: Global, at: &Setting, depth: u32) -> Result<Stepped, Refusal>
 
 // the outputs, in port order
 fn output_word(alloc: Global, at: &Setting, depth: u32) -> Result<BitString, Refusal>
-    ensures { IfOk result (λ word. word ≡ outputs (map module_of at.now.modules.now) at.now.top.now (value_within (map module_of at.now.modules.now) at.now.top.now at.now.inputs.now at.now.content.now depth)) }
+    ensures value { IfOk result (λ word. word ≡ outputs (map module_of at.now.modules.now) at.now.top.now (value_within (map module_of at.now.modules.now) at.now.top.now at.now.inputs.now at.now.content.now depth)) }
+    ensures refuses { IsErrOf result NotFitting → ¬ ((n : Net) → SuitsWithin (map module_of at.now.modules.now) at.now.top.now at.now.inputs.now at.now.content.now depth n) }
 {
     let words = operand_values(alloc, at, depth, &[], top_operands(at))?;
-    joined(alloc, words.as_slice())
+    let word = joined(alloc, words.as_slice())?;
+    Ok(word)
 }
 
 // what the module gives to its outputs
@@ -65,7 +80,8 @@ fn content_after(
     depth: u32,
     slots: &[Slot],
 ) -> Result<BitString, Refusal>
-    ensures { IfOk result (λ word. word ≡ next_content (map slot_of slots.now) (value_within (map module_of at.now.modules.now) at.now.top.now at.now.inputs.now at.now.content.now depth) at.now.content.now) }
+    ensures value { IfOk result (λ word. word ≡ next_content (map slot_of slots.now) (value_within (map module_of at.now.modules.now) at.now.top.now at.now.inputs.now at.now.content.now depth) at.now.content.now) }
+    ensures refuses { IsErrOf result NotFitting → ((s : FlatSlot) → In s (map slot_of slots.now) → IsCounted (held_width s.op)) → ¬ ((n : Net) → SuitsWithin (map module_of at.now.modules.now) at.now.top.now at.now.inputs.now at.now.content.now depth n) }
 {
     let mut word = BitString::new(alloc);
     let mut rest = at.content;
@@ -87,17 +103,17 @@ fn held_after(
     content: &[bool],
     width: u64,
 ) -> Result<BitString, Refusal>
-    ensures { IfOk result (λ word. word ≡ first width (loaded_word (register_in (op_of slot.now.operation.now))
+    ensures value { IfOk result (λ word. word ≡ first width (loaded_word (register_in (op_of slot.now.operation.now))
         (λ r. value_within (map module_of at.now.modules.now) at.now.top.now at.now.inputs.now at.now.content.now depth (net slot.now.path.items r)) (first width content.now))) }
+    ensures refuses { IsErrOf result NotFitting → ¬ ((n : Net) → SuitsWithin (map module_of at.now.modules.now) at.now.top.now at.now.inputs.now at.now.content.now depth n) }
 {
     let old = padded(alloc, content, width)?;
-    match register_in(slot.operation) {
-        None => padded(alloc, old.as_slice(), width),
-        Some(register) => {
-            let next = loaded(alloc, at, depth, slot.path.as_slice(), register, old)?;
-            padded(alloc, next.as_slice(), width)
-        }
-    }
+    let next = match register_in(slot.operation) {
+        None => old,
+        Some(register) => loaded(alloc, at, depth, slot.path.as_slice(), register, old)?,
+    };
+    let word = padded(alloc, next.as_slice(), width)?;
+    Ok(word)
 }
 
 // what a register loads
@@ -109,8 +125,9 @@ fn loaded(
     register: Register,
     old: BitString,
 ) -> Result<BitString, Refusal>
-    ensures { IfOk result (λ word. word ≡ loaded_word (Some (register_of register))
+    ensures value { IfOk result (λ word. word ≡ loaded_word (Some (register_of register))
         (λ r. value_within (map module_of at.now.modules.now) at.now.top.now at.now.inputs.now at.now.content.now depth (net path.now r)) old) }
+    ensures refuses { IsErrOf result NotFitting → ¬ ((n : Net) → SuitsWithin (map module_of at.now.modules.now) at.now.top.now at.now.inputs.now at.now.content.now depth n) }
 {
     let clock = net_value(alloc, at, depth, path, register.clock)?;
     if !is_high(&clock) {
@@ -131,8 +148,9 @@ fn enabled(
     old: BitString,
     next: BitString,
 ) -> Result<BitString, Refusal>
-    ensures { IfOk result (λ word. word ≡ enabled_word (option_map ref_of enable)
+    ensures value { IfOk result (λ word. word ≡ enabled_word (option_map ref_of enable)
         (λ r. value_within (map module_of at.now.modules.now) at.now.top.now at.now.inputs.now at.now.content.now depth (net path.now r)) old next) }
+    ensures refuses { IsErrOf result NotFitting → ¬ ((n : Net) → SuitsWithin (map module_of at.now.modules.now) at.now.top.now at.now.inputs.now at.now.content.now depth n) }
 {
     match enable {
         None => Ok(next),
@@ -152,8 +170,9 @@ fn reset(
     reset: Option<ResetBy>,
     next: BitString,
 ) -> Result<BitString, Refusal>
-    ensures { IfOk result (λ word. word ≡ reset_word (option_map reset_by_of reset)
+    ensures value { IfOk result (λ word. word ≡ reset_word (option_map reset_by_of reset)
         (λ r. value_within (map module_of at.now.modules.now) at.now.top.now at.now.inputs.now at.now.content.now depth (net path.now r)) next) }
+    ensures refuses { IsErrOf result NotFitting → ¬ ((n : Net) → SuitsWithin (map module_of at.now.modules.now) at.now.top.now at.now.inputs.now at.now.content.now depth n) }
 {
     match reset {
         None => Ok(next),
@@ -169,6 +188,8 @@ fn reset(
 
 /// A run of a module: the outputs of a list of steps, each the bits of its inputs, from a content, under the values of
 /// its nets within a depth.
+///
+/// A refusal that is not for want of memory comes only where one comes for a step.
 pub fn run(
     alloc: Global,
     modules: &[Module],
@@ -179,6 +200,9 @@ pub fn run(
 ) -> Result<Vec<BitString>, Refusal>
     ensures outputs { IfOk result (λ outs. outs.items ≡ run_within (map module_of modules.now) top.now depth content.now steps.now) }
     ensures holds { IfOk result (λ outs. Suffices (map module_of modules.now) top.now depth → Run (machine (map module_of modules.now) top.now) content.now steps.now outs.items) }
+    ensures refuses { IsErrOf result NotFitting → ¬ TakesRun (map module_of modules.now) top.now depth content.now steps.now }
+    ensures settles { IsErrOf result NotFitting → Suffices (map module_of modules.now) top.now depth → AlwaysSuits (map module_of modules.now) top.now
+        → ¬ IsCountedDesign (map module_of modules.now) top.now }
 {
     let mut outputs = Vec::new(alloc);
     let mut held = BitString::of(alloc, content)?;
@@ -200,6 +224,7 @@ fn step_of(
 ) -> Result<Stepped, Refusal>
     ensures outputs { IfOk result (λ s. s.outputs ≡ outputs (map module_of modules.now) top.now (value_within (map module_of modules.now) top.now inputs.now content.now depth)) }
     ensures content { IfOk result (λ s. s.content ≡ next_content (registers (map module_of modules.now) top.now) (value_within (map module_of modules.now) top.now inputs.now content.now depth) content.now) }
+    ensures refuses { IsErrOf result NotFitting → ¬ TakesStep (map module_of modules.now) top.now inputs.now content.now depth }
 {
     let at = Setting {
         modules,

@@ -1,5 +1,5 @@
 //! Modules by symbol and by path, and the bits of content of modules.
-ghost use Rattle.std.specs.Prelude.{ℕ, ◌≡◌, ◌+◌, ◌∷◌, [], ◌≤◌, ◌<◌, length, take, drop, map, cond, IfOk, IsTrue, MatchOption, Option, Some, None, option_map, slice_get, is_some};
+ghost use Rattle.std.specs.Prelude.{ℕ, ◌≡◌, ◌+◌, ◌∷◌, [], ◌≤◌, ◌<◌, length, take, drop, map, cond, IfOk, OnErr, IsTrue, MatchOption, ◌^◌, Option, Some, None, option_map, slice_get, is_some};
 ghost use Rattle.hw_model.specs.TypeViews.{type_of};
 ghost use Rattle.hw_model.specs.KindViews.{kind_of, instance_of};
 ghost use Rattle.hw_model.specs.Types.{width};
@@ -7,6 +7,7 @@ ghost use Rattle.hw_model.specs.Design.{find_module, instance_in, is_instance, i
 ghost use Rattle.hw_model.specs.Flat.{instances, before_instance, module_at, op_state, body_state, module_state, state, state_before, base, held_width, depth, offset};
 ghost use Rattle.wiring.specs.Options.{bind};
 ghost use Rattle.hw_interpreter.specs.DesignViews.{ref_of, op_of, module_of};
+ghost use Rattle.hw_interpreter.specs.Suits.{IsCounted};
 
 use crate::design::{Module, Operand, Operation};
 use crate::refusal::Refusal;
@@ -132,7 +133,8 @@ fn called_at<'a>(modules: &'a [Module], inside: &'a Module, number: u32) -> Opti
 
 /// How many bits a register holds.
 pub fn held_width(operation: &Operation) -> Result<u64, Refusal>
-    ensures { IfOk result (λ w. w ≡ held_width (op_of operation.now)) }
+    ensures value { IfOk result (λ w. w ≡ held_width (op_of operation.now)) }
+    ensures refuses { OnErr result (¬ IsCounted (held_width (op_of operation.now))) }
 {
     match operation.results.as_slice() {
         [] => Ok(0),
@@ -142,8 +144,9 @@ pub fn held_width(operation: &Operation) -> Result<u64, Refusal>
 
 /// How many bits of content the module of a symbol has, down to a depth of instances.
 #[cycle(content_width)]
-pub fn module_state(modules: &[Module], depth: u64, symbol: &[u8]) -> Result<u64, Refusal>
-    ensures { IfOk result (λ n. n ≡ module_state depth (map module_of modules.now) symbol.now) }
+pub fn module_state(modules: &[Module], depth: u128, symbol: &[u8]) -> Result<u64, Refusal>
+    ensures value { IfOk result (λ n. n ≡ module_state depth (map module_of modules.now) symbol.now) }
+    ensures refuses { OnErr result (¬ IsCounted (module_state depth (map module_of modules.now) symbol.now)) }
 {
     if depth == 0 {
         return Ok(0);
@@ -156,8 +159,9 @@ pub fn module_state(modules: &[Module], depth: u64, symbol: &[u8]) -> Result<u64
 
 /// How many bits of content operations have, down to a depth of instances.
 #[cycle(content_width)]
-pub fn body_state(modules: &[Module], depth: u64, body: &[Operation]) -> Result<u64, Refusal>
-    ensures { IfOk result (λ n. n ≡ body_state (module_state depth (map module_of modules.now)) (map op_of body.now)) }
+pub fn body_state(modules: &[Module], depth: u128, body: &[Operation]) -> Result<u64, Refusal>
+    ensures value { IfOk result (λ n. n ≡ body_state (module_state depth (map module_of modules.now)) (map op_of body.now)) }
+    ensures refuses { OnErr result (¬ IsCounted (body_state (module_state depth (map module_of modules.now)) (map op_of body.now))) }
 {
     let mut sum = 0;
     for operation in body {
@@ -168,8 +172,9 @@ pub fn body_state(modules: &[Module], depth: u64, body: &[Operation]) -> Result<
 }
 
 #[cycle(content_width)]
-fn op_state(modules: &[Module], depth: u64, operation: &Operation) -> Result<u64, Refusal>
-    ensures { IfOk result (λ n. n ≡ op_state (module_state depth (map module_of modules.now)) (op_of operation.now)) }
+fn op_state(modules: &[Module], depth: u128, operation: &Operation) -> Result<u64, Refusal>
+    ensures value { IfOk result (λ n. n ≡ op_state (module_state depth (map module_of modules.now)) (op_of operation.now)) }
+    ensures refuses { OnErr result (¬ IsCounted (op_state (module_state depth (map module_of modules.now)) (op_of operation.now))) }
 {
     if is_register(operation) {
         return held_width(operation);
@@ -182,7 +187,8 @@ fn op_state(modules: &[Module], depth: u64, operation: &Operation) -> Result<u64
 
 /// The sum, or a refusal where it is too large to count.
 pub fn sum_of(a: u64, b: u64) -> Result<u64, Refusal>
-    ensures { IfOk result (λ n. n ≡ a + b) }
+    ensures value { IfOk result (λ n. n ≡ a + b) }
+    ensures refuses { OnErr result (2 ^ 64 ≤ a + b) }
 {
     match a.checked_add(b) {
         Some(sum) => Ok(sum),
@@ -192,29 +198,31 @@ pub fn sum_of(a: u64, b: u64) -> Result<u64, Refusal>
 
 /// How many bits of content operations of a design have.
 pub fn content_of(modules: &[Module], body: &[Operation]) -> Result<u64, Refusal>
-    ensures { IfOk result (λ n. n ≡ body_state (state (map module_of modules.now)) (map op_of body.now)) }
+    ensures value { IfOk result (λ n. n ≡ body_state (state (map module_of modules.now)) (map op_of body.now)) }
+    ensures refuses { OnErr result (¬ IsCounted (body_state (state (map module_of modules.now)) (map op_of body.now))) }
 {
-    let depth = depth_of(modules)?;
-    body_state(modules, depth, body)
+    body_state(modules, depth_of(modules), body)
 }
 
 /// A depth that no chain of instances exceeds.
-pub fn depth_of(modules: &[Module]) -> Result<u64, Refusal>
-    ensures { IfOk result (λ n. n ≡ depth (map module_of modules.now)) }
+pub fn depth_of(modules: &[Module]) -> u128
+    ensures { result ≡ depth (map module_of modules.now) }
 {
-    sum_of(modules.len() as u64, 1)
+    modules.len() as u128 + 1
 }
 
 // how many bits of content stand before the instance of that number
 fn content_before(modules: &[Module], inside: &Module, number: u32) -> Result<u64, Refusal>
-    ensures { IfOk result (λ n. n ≡ state_before (map module_of modules.now) number (Some (module_of inside.now))) }
+    ensures value { IfOk result (λ n. n ≡ state_before (map module_of modules.now) number (Some (module_of inside.now))) }
+    ensures refuses { OnErr result (¬ IsCounted (state_before (map module_of modules.now) number (Some (module_of inside.now)))) }
 {
     content_of(modules, before_instance(inside.body.as_slice(), number))
 }
 
 /// Where the content of the module at the end of a path begins.
 pub fn base(modules: &[Module], top: &[u8], path: &[u32]) -> Result<u64, Refusal>
-    ensures { IfOk result (λ n. n ≡ base (map module_of modules.now) top.now path.now) }
+    ensures value { IfOk result (λ n. n ≡ base (map module_of modules.now) top.now path.now) }
+    ensures refuses { OnErr result (¬ IsCounted (base (map module_of modules.now) top.now path.now)) }
 {
     match path {
         [] => Ok(0),
@@ -233,7 +241,8 @@ pub fn base(modules: &[Module], top: &[u8], path: &[u32]) -> Result<u64, Refusal
 
 // how many bits of content stand before a position of a module
 fn content_up_to(modules: &[Module], inside: &Module, position: u32) -> Result<u64, Refusal>
-    ensures { IfOk result (λ n. n ≡ body_state (state (map module_of modules.now)) (take position (module_of inside.now).body)) }
+    ensures value { IfOk result (λ n. n ≡ body_state (state (map module_of modules.now)) (take position (module_of inside.now).body)) }
+    ensures refuses { OnErr result (¬ IsCounted (body_state (state (map module_of modules.now)) (take position (module_of inside.now).body))) }
 {
     content_of(modules, first_operations(inside.body.as_slice(), position))
 }
@@ -246,7 +255,8 @@ pub fn offset(
     inside: &Module,
     position: u32,
 ) -> Result<u64, Refusal>
-    ensures { IfOk result (λ n. n ≡ offset (map module_of modules.now) top.now path.now (module_of inside.now) position) }
+    ensures value { IfOk result (λ n. n ≡ offset (map module_of modules.now) top.now path.now (module_of inside.now) position) }
+    ensures refuses { OnErr result (¬ IsCounted (offset (map module_of modules.now) top.now path.now (module_of inside.now) position)) }
 {
     let start = base(modules, top, path)?;
     let before = content_up_to(modules, inside, position)?;
@@ -265,7 +275,8 @@ pub fn first_operations(body: &[Operation], count: u32) -> &[Operation]
 
 /// The number of instances among operations.
 pub fn instance_count(body: &[Operation]) -> Result<u32, Refusal>
-    ensures { IfOk result (λ n. n ≡ length (instances (map op_of body.now))) }
+    ensures value { IfOk result (λ n. n ≡ length (instances (map op_of body.now))) }
+    ensures refuses { OnErr result (2 ^ 32 ≤ length (instances (map op_of body.now))) }
 {
     match body {
         [] => Ok(0),

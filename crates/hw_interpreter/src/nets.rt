@@ -1,14 +1,18 @@
 //! The values of nets, their needs followed to a depth.
-ghost use Rattle.std.specs.Prelude.{ℕ, ◌≡◌, ◌+◌, ◌-◌, ◌∷◌, [], ◌≤◌, ◌<◌, length, take, drop, map, cond, IfOk, MatchOption, Option, Some, None, option_map, slice_get};
-ghost use Rattle.bits_core.specs.Word.{first};
+ghost use Rattle.std.specs.Prelude.{ℕ, ◌≡◌, ◌+◌, ◌-◌, ◌∷◌, [], ◌≤◌, ◌<◌, length, take, drop, map, cond, IfOk, OnErr, IsErrOf, ◌^◌, MatchOption, Option, Some, None, option_map, slice_get};
+ghost use Rattle.bits_core.specs.Word.{Word, first};
 ghost use Rattle.wiring.specs.Options.{bind};
 ghost use Rattle.hw_model.specs.TypeViews.{type_of};
 ghost use Rattle.hw_model.specs.Design.{find_module, result_type, is_output_op};
-ghost use Rattle.hw_model.specs.Flat.{net, input_count, input_width, port_ref, input_of, input_source, port_source, result_source, op_source, copy_of, joined_ref, joined_at, given_ref, held_of, made_of, module_at, offset};
+ghost use Rattle.hw_model.specs.Flat.{Net, instances, net, input_count, input_width, port_ref, input_of, input_source, port_source, result_source, op_source, copy_of, joined_ref, joined_at, given_ref, held_of, made_of, module_at, offset};
 ghost use Rattle.hw_model.specs.Flat.Source.{nowhere};
 ghost use Rattle.hw_interpreter.specs.DesignViews.{ref_of, op_of, port_of, module_of};
 ghost use Rattle.hw_interpreter.specs.Depth.{value_from, value_within};
-ghost use Rattle.hw_interpreter.specs.Ranges.{input_range_source, held_range_source};
+ghost use Rattle.hw_interpreter.specs.Suits.{IsCounted};
+ghost use Rattle.hw_interpreter.specs.SuitsWithin.{SuitsFrom, SuitsWithin, SuitsSource};
+ghost use Rattle.hw_interpreter.specs.declared.refusal.Refusal.TheVariants.{NotFitting};
+ghost use Rattle.wiring.specs.Wiring.{In};
+ghost use Rattle.hw_interpreter.specs.Ranges.{input_range_source};
 
 use crate::bit_string::BitString;
 use crate::design::{Module, Operand, Operation, Port, Setting};
@@ -20,7 +24,7 @@ use crate::refusal::Refusal;
 use crate::values::{behind, exact_width, first_bits, value_of};
 use hw_model::kinds::OpKind;
 use hw_model::types::Ty;
-use std::alloc::Global;
+use std::alloc::{AllocError, Global};
 
 /// A range of bits.
 #[derive(Clone, Copy, Debug)]
@@ -41,7 +45,8 @@ pub fn net_value(
     path: &[u32],
     operand: Operand,
 ) -> Result<BitString, Refusal>
-    ensures { IfOk result (λ word. word ≡ value_within (map module_of at.now.modules.now) at.now.top.now at.now.inputs.now at.now.content.now depth (net path.now (ref_of operand))) }
+    ensures value { IfOk result (λ word. word ≡ value_within (map module_of at.now.modules.now) at.now.top.now at.now.inputs.now at.now.content.now depth (net path.now (ref_of operand))) }
+    ensures refuses { IsErrOf result NotFitting → ¬ SuitsWithin (map module_of at.now.modules.now) at.now.top.now at.now.inputs.now at.now.content.now depth (net path.now (ref_of operand)) }
 {
     if depth == 0 {
         return Ok(BitString::new(alloc));
@@ -69,13 +74,18 @@ fn port_value(
     path: &[u32],
     port: u32,
 ) -> Result<BitString, Refusal>
-    ensures { IfOk result (λ word. word ≡ value_from at.now.inputs.now at.now.content.now (value_within (map module_of at.now.modules.now) at.now.top.now at.now.inputs.now at.now.content.now depth)
+    ensures value { IfOk result (λ word. word ≡ value_from at.now.inputs.now at.now.content.now (value_within (map module_of at.now.modules.now) at.now.top.now at.now.inputs.now at.now.content.now depth)
         (port_source (map module_of at.now.modules.now) at.now.top.now path.now port)) }
+    ensures refuses { IsErrOf result NotFitting → ¬ SuitsFrom (value_within (map module_of at.now.modules.now) at.now.top.now at.now.inputs.now at.now.content.now depth) (SuitsWithin (map module_of at.now.modules.now) at.now.top.now at.now.inputs.now at.now.content.now depth)
+        (port_source (map module_of at.now.modules.now) at.now.top.now path.now port) }
 {
     match path {
         [] => match input_range(at, port)? {
             None => Ok(BitString::new(alloc)),
-            Some(range) => padded(alloc, behind(at.inputs, range.start), range.width),
+            Some(range) => {
+                let word = padded(alloc, behind(at.inputs, range.start), range.width)?;
+                Ok(word)
+            }
         },
         [number, outer @ ..] => {
             let operand = joined_operand(at, outer, *number, port);
@@ -93,8 +103,10 @@ fn copied_value(
     path: &[u32],
     operand: Option<Operand>,
 ) -> Result<BitString, Refusal>
-    ensures { IfOk result (λ word. word ≡ value_from at.now.inputs.now at.now.content.now (value_within (map module_of at.now.modules.now) at.now.top.now at.now.inputs.now at.now.content.now depth)
+    ensures value { IfOk result (λ word. word ≡ value_from at.now.inputs.now at.now.content.now (value_within (map module_of at.now.modules.now) at.now.top.now at.now.inputs.now at.now.content.now depth)
         (copy_of path.now (option_map ref_of operand))) }
+    ensures refuses { IsErrOf result NotFitting → ¬ SuitsFrom (value_within (map module_of at.now.modules.now) at.now.top.now at.now.inputs.now at.now.content.now depth) (SuitsWithin (map module_of at.now.modules.now) at.now.top.now at.now.inputs.now at.now.content.now depth)
+        (copy_of path.now (option_map ref_of operand)) }
 {
     match operand {
         None => Ok(BitString::new(alloc)),
@@ -112,8 +124,10 @@ fn result_value(
     position: u32,
     number: u32,
 ) -> Result<BitString, Refusal>
-    ensures { IfOk result (λ word. word ≡ value_from at.now.inputs.now at.now.content.now (value_within (map module_of at.now.modules.now) at.now.top.now at.now.inputs.now at.now.content.now depth)
+    ensures value { IfOk result (λ word. word ≡ value_from at.now.inputs.now at.now.content.now (value_within (map module_of at.now.modules.now) at.now.top.now at.now.inputs.now at.now.content.now depth)
         (result_source (map module_of at.now.modules.now) at.now.top.now path.now position number (module_at (map module_of at.now.modules.now) at.now.top.now path.now))) }
+    ensures refuses { IsErrOf result NotFitting → ¬ SuitsFrom (value_within (map module_of at.now.modules.now) at.now.top.now at.now.inputs.now at.now.content.now depth) (SuitsWithin (map module_of at.now.modules.now) at.now.top.now at.now.inputs.now at.now.content.now depth)
+        (result_source (map module_of at.now.modules.now) at.now.top.now path.now position number (module_at (map module_of at.now.modules.now) at.now.top.now path.now)) }
 {
     match module_at(at.modules, at.top, path) {
         None => Ok(BitString::new(alloc)),
@@ -138,19 +152,45 @@ fn operation_value(
     number: u32,
     operation: &Operation,
 ) -> Result<BitString, Refusal>
-    ensures { IfOk result (λ word. word ≡ value_from at.now.inputs.now at.now.content.now (value_within (map module_of at.now.modules.now) at.now.top.now at.now.inputs.now at.now.content.now depth)
+    ensures value { IfOk result (λ word. word ≡ value_from at.now.inputs.now at.now.content.now (value_within (map module_of at.now.modules.now) at.now.top.now at.now.inputs.now at.now.content.now depth)
         (op_source (map module_of at.now.modules.now) at.now.top.now path.now (module_of inside.now) position number (op_of operation.now))) }
+    ensures refuses { IsErrOf result NotFitting → ¬ SuitsFrom (value_within (map module_of at.now.modules.now) at.now.top.now at.now.inputs.now at.now.content.now depth) (SuitsWithin (map module_of at.now.modules.now) at.now.top.now at.now.inputs.now at.now.content.now depth)
+        (op_source (map module_of at.now.modules.now) at.now.top.now path.now (module_of inside.now) position number (op_of operation.now)) }
 {
     if is_register(operation) {
         return held_value(alloc, at, depth, path, inside, position, number, operation);
     }
     if is_instance(operation) {
-        let count = instance_count(first_operations(inside.body.as_slice(), position))?;
         let operand = given_operand(at.modules, operation, number);
-        let inner = inner_path(alloc, count, path)?;
-        return copied_value(alloc, at, depth, inner.as_slice(), operand);
+        return given_value(alloc, at, depth, path, inside, position, operand);
     }
     made_value(alloc, at, depth, path, operation, number)
+}
+
+// the value of the net that the module of an instance gives, if there is one
+#[cycle(net)]
+fn given_value(
+    alloc: Global,
+    at: &Setting,
+    depth: u32,
+    path: &[u32],
+    inside: &Module,
+    position: u32,
+    operand: Option<Operand>,
+) -> Result<BitString, Refusal>
+    ensures value { IfOk result (λ word. word ≡ value_from at.now.inputs.now at.now.content.now (value_within (map module_of at.now.modules.now) at.now.top.now at.now.inputs.now at.now.content.now depth)
+        (copy_of (length (instances (take position (module_of inside.now).body)) ∷ path.now) (option_map ref_of operand))) }
+    ensures refuses { IsErrOf result NotFitting → ¬ SuitsFrom (value_within (map module_of at.now.modules.now) at.now.top.now at.now.inputs.now at.now.content.now depth) (SuitsWithin (map module_of at.now.modules.now) at.now.top.now at.now.inputs.now at.now.content.now depth)
+        (copy_of (length (instances (take position (module_of inside.now).body)) ∷ path.now) (option_map ref_of operand)) }
+{
+    match operand {
+        None => Ok(BitString::new(alloc)),
+        Some(operand) => {
+            let count = instance_count(first_operations(inside.body.as_slice(), position))?;
+            let inner = inner_path(alloc, count, path)?;
+            net_value(alloc, at, depth, inner.as_slice(), operand)
+        }
+    }
 }
 
 // the value of a result that an operation makes of its operands
@@ -163,8 +203,10 @@ fn made_value(
     operation: &Operation,
     number: u32,
 ) -> Result<BitString, Refusal>
-    ensures { IfOk result (λ word. word ≡ value_from at.now.inputs.now at.now.content.now (value_within (map module_of at.now.modules.now) at.now.top.now at.now.inputs.now at.now.content.now depth)
+    ensures value { IfOk result (λ word. word ≡ value_from at.now.inputs.now at.now.content.now (value_within (map module_of at.now.modules.now) at.now.top.now at.now.inputs.now at.now.content.now depth)
         (cond (is_output_op (op_of operation.now)) nowhere (made_of path.now (op_of operation.now) number (result_type (op_of operation.now) number)))) }
+    ensures refuses { IsErrOf result NotFitting → ¬ SuitsFrom (value_within (map module_of at.now.modules.now) at.now.top.now at.now.inputs.now at.now.content.now depth) (SuitsWithin (map module_of at.now.modules.now) at.now.top.now at.now.inputs.now at.now.content.now depth)
+        (cond (is_output_op (op_of operation.now)) nowhere (made_of path.now (op_of operation.now) number (result_type (op_of operation.now) number))) }
 {
     if is_output(operation) {
         return Ok(BitString::new(alloc));
@@ -194,7 +236,8 @@ pub fn operand_values(
     path: &[u32],
     operands: &[Operand],
 ) -> Result<Vec<BitString>, Refusal>
-    ensures { IfOk result (λ words. words.items ≡ map (value_within (map module_of at.now.modules.now) at.now.top.now at.now.inputs.now at.now.content.now depth) (map (net path.now) (map ref_of operands.now))) }
+    ensures value { IfOk result (λ words. words.items ≡ map (value_within (map module_of at.now.modules.now) at.now.top.now at.now.inputs.now at.now.content.now depth) (map (net path.now) (map ref_of operands.now))) }
+    ensures refuses { IsErrOf result NotFitting → ¬ ((n : Net) → In n (map (net path.now) (map ref_of operands.now)) → SuitsWithin (map module_of at.now.modules.now) at.now.top.now at.now.inputs.now at.now.content.now depth n) }
 {
     let mut words = Vec::new(alloc);
     for operand in operands {
@@ -212,7 +255,7 @@ fn is_output(operation: &Operation) -> bool
 }
 
 /// The path of an instance of the module at the end of a path.
-pub fn inner_path(alloc: Global, number: u32, path: &[u32]) -> Result<Vec<u32>, Refusal>
+pub fn inner_path(alloc: Global, number: u32, path: &[u32]) -> Result<Vec<u32>, AllocError>
     ensures { IfOk result (λ inner. inner.items ≡ number ∷ path.now) }
 {
     let mut inner = Vec::new(alloc);
@@ -222,7 +265,7 @@ pub fn inner_path(alloc: Global, number: u32, path: &[u32]) -> Result<Vec<u32>, 
 }
 
 /// The first bits, with bits of 0 past the end.
-pub fn padded(alloc: Global, bits: &[bool], width: u64) -> Result<BitString, Refusal>
+pub fn padded(alloc: Global, bits: &[bool], width: u64) -> Result<BitString, AllocError>
     ensures { IfOk result (λ word. word ≡ first width bits.now) }
 {
     let mut word = BitString::of(alloc, first_bits(bits, width))?;
@@ -233,7 +276,8 @@ pub fn padded(alloc: Global, bits: &[bool], width: u64) -> Result<BitString, Ref
 
 // the bits of the inputs that an input port of the module has
 fn input_range(at: &Setting, port: u32) -> Result<Option<Range>, Refusal>
-    ensures { IfOk result (λ range. input_range_source range ≡ input_source port (find_module (map module_of at.now.modules.now) at.now.top.now)) }
+    ensures value { IfOk result (λ range. input_range_source range ≡ input_source port (find_module (map module_of at.now.modules.now) at.now.top.now)) }
+    ensures refuses { OnErr result ((ρ : Net → Word) → ¬ SuitsSource ρ (input_source port (find_module (map module_of at.now.modules.now) at.now.top.now))) }
 {
     match find_module(at.modules, at.top) {
         None => Ok(None),
@@ -242,7 +286,8 @@ fn input_range(at: &Setting, port: u32) -> Result<Option<Range>, Refusal>
 }
 
 fn port_range(ports: &[Port], port: u32) -> Result<Option<Range>, Refusal>
-    ensures { IfOk result (λ range. input_range_source range ≡ input_of (slice_get (map port_of ports.now) port) (input_width (take port (map port_of ports.now)))) }
+    ensures value { IfOk result (λ range. input_range_source range ≡ input_of (slice_get (map port_of ports.now) port) (input_width (take port (map port_of ports.now)))) }
+    ensures refuses { OnErr result ((ρ : Net → Word) → ¬ SuitsSource ρ (input_of (slice_get (map port_of ports.now) port) (input_width (take port (map port_of ports.now))))) }
 {
     match ports.get(port as usize) {
         None => Ok(None),
@@ -252,19 +297,6 @@ fn port_range(ports: &[Port], port: u32) -> Result<Option<Range>, Refusal>
             }
             let start = input_width(first_ports(ports, port))?;
             let width = exact_width(&own.ty)?;
-            Ok(Some(Range { start, width }))
-        }
-    }
-}
-
-// the bits of the content that a register's result has
-fn held_range(start: u64, operation: &Operation, number: u32) -> Result<Option<Range>, Refusal>
-    ensures { IfOk result (λ range. held_range_source range ≡ held_of start (result_type (op_of operation.now) number)) }
-{
-    match result_ty(operation, number) {
-        None => Ok(None),
-        Some(ty) => {
-            let width = exact_width(ty)?;
             Ok(Some(Range { start, width }))
         }
     }
@@ -302,13 +334,19 @@ fn held_value(
     number: u32,
     operation: &Operation,
 ) -> Result<BitString, Refusal>
-    ensures { IfOk result (λ word. word ≡ value_from at.now.inputs.now at.now.content.now (value_within (map module_of at.now.modules.now) at.now.top.now at.now.inputs.now at.now.content.now depth)
+    ensures value { IfOk result (λ word. word ≡ value_from at.now.inputs.now at.now.content.now (value_within (map module_of at.now.modules.now) at.now.top.now at.now.inputs.now at.now.content.now depth)
         (held_of (offset (map module_of at.now.modules.now) at.now.top.now path.now (module_of inside.now) position) (result_type (op_of operation.now) number))) }
+    ensures refuses { IsErrOf result NotFitting → ¬ SuitsFrom (value_within (map module_of at.now.modules.now) at.now.top.now at.now.inputs.now at.now.content.now depth) (SuitsWithin (map module_of at.now.modules.now) at.now.top.now at.now.inputs.now at.now.content.now depth)
+        (held_of (offset (map module_of at.now.modules.now) at.now.top.now path.now (module_of inside.now) position) (result_type (op_of operation.now) number)) }
 {
-    let start = offset(at.modules, at.top, path, inside, position)?;
-    match held_range(start, operation, number)? {
+    match result_ty(operation, number) {
         None => Ok(BitString::new(alloc)),
-        Some(range) => padded(alloc, behind(at.content, range.start), range.width),
+        Some(ty) => {
+            let width = exact_width(ty)?;
+            let start = offset(at.modules, at.top, path, inside, position)?;
+            let word = padded(alloc, behind(at.content, start), width)?;
+            Ok(word)
+        }
     }
 }
 
@@ -363,7 +401,8 @@ fn given_operand(modules: &[Module], operation: &Operation, number: u32) -> Opti
 
 // how many bits the inputs among the ports have
 fn input_width(ports: &[Port]) -> Result<u64, Refusal>
-    ensures { IfOk result (λ n. n ≡ input_width (map port_of ports.now)) }
+    ensures value { IfOk result (λ n. n ≡ input_width (map port_of ports.now)) }
+    ensures refuses { OnErr result (¬ IsCounted (input_width (map port_of ports.now))) }
 {
     match ports {
         [] => Ok(0),

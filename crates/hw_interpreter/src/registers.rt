@@ -1,10 +1,12 @@
 //! The registers of a module, through its instances.
-ghost use Rattle.std.specs.Prelude.{ℕ, ◌≡◌, ◌+◌, ◌-◌, ◌∷◌, [], ◌++◌, ◌≤◌, ◌<◌, length, take, drop, map, cond, IfOk, OnOk, suc, true, false, MatchOption, Option, Some, None, option_map};
+ghost use Rattle.std.specs.Prelude.{ℕ, ◌≡◌, ◌+◌, ◌-◌, ◌∷◌, [], ◌++◌, ◌≤◌, ◌<◌, length, take, drop, map, cond, IfOk, OnOk, OnErr, IsErrOf, ◌^◌, suc, true, false, MatchOption, Option, Some, None, option_map};
 ghost use Rattle.hw_model.specs.KindViews.{kind_of, reset_of};
 ghost use Rattle.hw_model.specs.Design.{find_module, register_form, is_instance};
-ghost use Rattle.hw_model.specs.Flat.{net, module_registers, body_registers, op_registers, registers, register_in, register_parts, depth};
+ghost use Rattle.hw_model.specs.Flat.{instances, net, module_registers, body_registers, op_registers, registers, register_in, register_parts, depth};
 ghost use Rattle.hw_interpreter.specs.DesignViews.{ref_of, op_of, module_of};
 ghost use Rattle.hw_interpreter.specs.Registers.{slot_of, register_of};
+ghost use Rattle.hw_interpreter.specs.SuitsWithin.{HasFewInstances};
+ghost use Rattle.hw_interpreter.specs.declared.refusal.Refusal.TheVariants.{NotFitting};
 
 use crate::design::{Module, Operand, Operation};
 use crate::modules::{depth_of, find_module, instance_in, is_instance, is_register};
@@ -127,11 +129,11 @@ pub fn registers<'a>(
     modules: &'a [Module],
     top: &[u8],
 ) -> Result<Vec<Slot<'a>>, Refusal>
-    ensures { IfOk result (λ slots. map slot_of slots.items ≡ registers (map module_of modules.now) top.now) }
+    ensures value { IfOk result (λ slots. map slot_of slots.items ≡ registers (map module_of modules.now) top.now) }
+    ensures refuses { IsErrOf result NotFitting → ¬ HasFewInstances (map module_of modules.now) }
 {
     let mut slots = Vec::new(alloc);
-    let depth = depth_of(modules)?;
-    push_module(alloc, &mut slots, modules, depth, &[], top)?;
+    push_module(alloc, &mut slots, modules, depth_of(modules), &[], top)?;
     Ok(slots)
 }
 
@@ -141,11 +143,12 @@ fn push_module<'a>(
     alloc: Global,
     slots: &mut Vec<Slot<'a>>,
     modules: &'a [Module],
-    depth: u64,
+    depth: u128,
     path: &[u32],
     symbol: &[u8],
 ) -> Result<(), Refusal>
-    ensures { OnOk result (map slot_of slots.new.items ≡ map slot_of slots.old.items ++ module_registers depth (map module_of modules.now) path.now symbol.now) }
+    ensures value { OnOk result (map slot_of slots.new.items ≡ map slot_of slots.old.items ++ module_registers depth (map module_of modules.now) path.now symbol.now) }
+    ensures refuses { IsErrOf result NotFitting → ¬ HasFewInstances (map module_of modules.now) }
 {
     if depth == 0 {
         return Ok(());
@@ -162,11 +165,12 @@ fn push_body<'a>(
     alloc: Global,
     slots: &mut Vec<Slot<'a>>,
     modules: &'a [Module],
-    depth: u64,
+    depth: u128,
     path: &[u32],
     body: &'a [Operation],
 ) -> Result<(), Refusal>
-    ensures { OnOk result (map slot_of slots.new.items ≡ map slot_of slots.old.items ++ body_registers (module_registers depth (map module_of modules.now)) path.now 0 (map op_of body.now)) }
+    ensures value { OnOk result (map slot_of slots.new.items ≡ map slot_of slots.old.items ++ body_registers (module_registers depth (map module_of modules.now)) path.now 0 (map op_of body.now)) }
+    ensures refuses { IsErrOf result NotFitting → length (instances (map op_of body.now)) < 2 ^ 32 → ¬ HasFewInstances (map module_of modules.now) }
 {
     let mut number = 0;
     for operation in body {
@@ -182,12 +186,13 @@ fn push_operation<'a>(
     alloc: Global,
     slots: &mut Vec<Slot<'a>>,
     modules: &'a [Module],
-    depth: u64,
+    depth: u128,
     path: &[u32],
     number: u32,
     operation: &'a Operation,
 ) -> Result<(), Refusal>
-    ensures { OnOk result (map slot_of slots.new.items ≡ map slot_of slots.old.items ++ op_registers (module_registers depth (map module_of modules.now)) path.now number (op_of operation.now)) }
+    ensures value { OnOk result (map slot_of slots.new.items ≡ map slot_of slots.old.items ++ op_registers (module_registers depth (map module_of modules.now)) path.now number (op_of operation.now)) }
+    ensures refuses { IsErrOf result NotFitting → ¬ HasFewInstances (map module_of modules.now) }
 {
     if is_register(operation) {
         let path = Vec::from_slice(alloc, path)?;
@@ -212,7 +217,8 @@ fn push_operation<'a>(
 
 // the number of instances with this operation
 fn next_number(number: u32, operation: &Operation) -> Result<u32, Refusal>
-    ensures { IfOk result (λ n. n ≡ cond (is_instance (op_of operation.now)) (suc number) number) }
+    ensures value { IfOk result (λ n. n ≡ cond (is_instance (op_of operation.now)) (suc number) number) }
+    ensures refuses { OnErr result ((number ≡ 2 ^ 32 - 1) × (is_instance (op_of operation.now) ≡ true)) }
 {
     if !is_instance(operation) {
         return Ok(number);

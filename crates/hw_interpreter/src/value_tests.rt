@@ -303,3 +303,68 @@ fn passed_words(rt: HostRuntime) -> Result<(), Fail> {
     assert_eq!(rt; integer(alloc, kind, 12, &[])?, 0xabf);
     Ok(())
 }
+
+// whether an operation that writes these types refuses these words, each a width and a number
+fn is_refused(
+    alloc: Global,
+    kind: &OpKind,
+    types: &[Ty],
+    ty: &Ty,
+    operands: &[(u32, u128)],
+) -> Result<bool, Refusal> {
+    let mut words = Vec::new(alloc);
+    for (width, value) in operands {
+        words.push(word(alloc, *width, *value)?)?;
+    }
+    match value_of(alloc, kind, types, ty, 0, words.as_slice()) {
+        Ok(_) => Ok(false),
+        Err(Refusal::NotFitting) => Ok(true),
+        Err(Refusal::NoMemory) => Err(Refusal::NoMemory),
+    }
+}
+
+#[test]
+fn integers_that_do_not_suit(rt: HostRuntime) -> Result<(), Fail> {
+    let alloc = rt.alloc();
+    let cases: [(OpKind, u32, &[(u32, u128)], bool); 12] = [
+        (OpKind::Add, 8, &[(8, 1), (8, 1), (8, 1)], false),
+        (OpKind::Add, 8, &[(8, 1), (4, 1)], true),
+        (OpKind::Add, 128, &[], false),
+        (OpKind::Add, 129, &[], true),
+        (OpKind::Add, 0, &[], true),
+        (OpKind::Sub, 8, &[(8, 1), (8, 1), (8, 1)], true),
+        (OpKind::Shl, 8, &[(8, 1)], true),
+        (OpKind::Extract(4), 4, &[(8, 1)], false),
+        (OpKind::Extract(4), 5, &[(8, 1)], true),
+        (OpKind::Replicate, 12, &[(5, 1)], true),
+        (OpKind::Mux, 8, &[(1, 1), (8, 1)], true),
+        (OpKind::Concat, 200, &[], false),
+    ];
+    for (kind, width, operands, expected) in &cases {
+        let refused = is_refused(alloc, kind, &[], &Ty::Int(*width), operands)?;
+        assert_eq!(rt; refused, *expected);
+    }
+    Ok(())
+}
+
+#[test]
+fn parts_that_do_not_suit(rt: HostRuntime) -> Result<(), Fail> {
+    let alloc = rt.alloc();
+    let byte = Ty::Int(8);
+    let (bytes, record) = ([array(alloc, 3)?], [pair(alloc)?]);
+    let (one, two) = (array(alloc, 1)?, array(alloc, 2)?);
+    let last = [(24, 0x30_2010), (128, u128::MAX)];
+    let get = OpKind::ArrayGet;
+    assert!(rt; !is_refused(alloc, &get, &bytes, &byte, &last)?);
+    assert!(rt; is_refused(alloc, &get, &[], &byte, &last)?);
+    assert!(rt; is_refused(alloc, &get, &record, &byte, &last)?);
+    assert!(rt; is_refused(alloc, &get, &bytes, &byte, &last[..1])?);
+    let slice = OpKind::ArraySlice;
+    assert!(rt; !is_refused(alloc, &slice, &bytes, &one, &last)?);
+    assert!(rt; is_refused(alloc, &slice, &bytes, &two, &last)?);
+    assert!(rt; is_refused(alloc, &slice, &bytes, &byte, &last)?);
+    let explode = OpKind::StructExplode;
+    assert!(rt; !is_refused(alloc, &explode, &record, &byte, &[(12, 0xabc)])?);
+    assert!(rt; is_refused(alloc, &explode, &bytes, &byte, &[(12, 0xabc)])?);
+    Ok(())
+}

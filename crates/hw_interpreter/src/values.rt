@@ -1,5 +1,5 @@
 //! The value of each operation.
-ghost use Rattle.std.specs.Prelude.{ℕ, ◌≡◌, ◌+◌, ◌*◌, ◌++◌, ◌∷◌, [], ◌≤◌, ◌<◌, ◌%◌, ◌==◌, length, take, drop, map, cond, IfOk, IsTrue, MatchOption};
+ghost use Rattle.std.specs.Prelude.{ℕ, ◌≡◌, ◌+◌, ◌*◌, ◌++◌, ◌∷◌, [], ◌≤◌, ◌<◌, ◌%◌, ◌==◌, length, take, drop, map, cond, IfOk, IsTrue, ◌↔◌, All, ◌^◌, MatchOption, OnOk, OnErr, IsErrOf};
 ghost use Rattle.bits_core.specs.Word.{number, zeros, bits_of_ℤ};
 ghost use Rattle.bits_core.specs.Word.{extract as bits_from};
 ghost use Rattle.hw_model.specs.Types.{width};
@@ -8,6 +8,8 @@ ghost use Rattle.hw_model.specs.TypeViews.{type_of, field_of as named_type, fiel
 ghost use Rattle.hw_model.specs.KindViews.{kind_of, literal_of, literals_in, literals_of, integer_of};
 ghost use Rattle.hw_model.specs.IntegerKinds.{TakesWords, AllHave, OfOne, OfTwo};
 ghost use Rattle.hw_model.specs.Value.{op_value, joined, of_one, of_two, of_three, is_high, word_of_literal, word_of_literals, element, elements_from, slice_of, injected_below, injected, field_of, with_field, field_at, fields, written};
+ghost use Rattle.hw_interpreter.specs.Suits.{IsIntegerWidth, IsInteger, IsCounted, HasIntegers, HaveIntegers, OfThree, OnFirst, IsArray, IsStruct, ReachesFrom, IsOnIntegers, SuitIntegers, Suits};
+ghost use Rattle.hw_interpreter.specs.declared.refusal.Refusal.TheVariants.{NotFitting};
 
 use crate::bit_string::{BitString, bits_of};
 use crate::refusal::Refusal;
@@ -15,13 +17,14 @@ use bits_core::Bits;
 use hw_model::integer_values::op_value;
 use hw_model::kinds::{Integer, Literal, LiteralList, OpKind};
 use hw_model::types::{Field, Ty};
-use std::alloc::Global;
+use std::alloc::{AllocError, Global};
 
 /// The value of the result number `index`, of type `ty`, of an operation of this kind that writes `types`, from the
 /// words of its operands, in order. Registers, instances and outputs have the empty word.
 ///
-/// Operations on integers other than concatenations and choices take words of 1 to 128 bits that fit their kind; others
-/// are refused.
+/// A refusal that is not for want of memory comes exactly where the operation does not take the words: operations on
+/// integers other than concatenations and choices take words of 1 to 128 bits that fit their kind, the others as many
+/// words as they have operands, with the types of arrays and structs that they write.
 pub fn value_of(
     alloc: Global,
     kind: &OpKind,
@@ -30,31 +33,24 @@ pub fn value_of(
     index: u32,
     operands: &[BitString],
 ) -> Result<BitString, Refusal>
-    ensures { IfOk result (λ word. word ≡ op_value (kind_of kind.now) (map type_of types.now) (type_of ty.now) index operands.now) }
+    ensures value { IfOk result (λ word. word ≡ op_value (kind_of kind.now) (map type_of types.now) (type_of ty.now) index operands.now) }
+    ensures suits { OnOk result (Suits (kind_of kind.now) (map type_of types.now) (type_of ty.now) operands.now) }
+    ensures refuses { IsErrOf result NotFitting → ¬ Suits (kind_of kind.now) (map type_of types.now) (type_of ty.now) operands.now }
 {
     match kind {
         OpKind::AggregateConstant(list) => literals_word(alloc, list),
-        OpKind::Concat | OpKind::ArrayCreate | OpKind::ArrayConcat | OpKind::StructCreate => joined(
-            alloc, operands,
-        ),
+        OpKind::Concat | OpKind::ArrayCreate | OpKind::ArrayConcat | OpKind::StructCreate => {
+            let word = joined(alloc, operands)?;
+            Ok(word)
+        }
         OpKind::Mux => chosen(alloc, operands),
         OpKind::Bitcast | OpKind::Wire => passed(alloc, operands),
-        OpKind::ArrayGet => element_got(alloc, first_type(types)?, operands),
-        OpKind::ArraySlice => slice_got(alloc, first_type(types)?, ty, operands),
-        OpKind::ArrayInject => element_put(alloc, first_type(types)?, operands),
-        OpKind::StructExtract(name) => field_got(
-            alloc,
-            first_type(types)?,
-            name.as_bytes(),
-            operands,
-        ),
-        OpKind::StructInject(name) => field_put(
-            alloc,
-            first_type(types)?,
-            name.as_bytes(),
-            operands,
-        ),
-        OpKind::StructExplode => field_numbered(alloc, first_type(types)?, index, operands),
+        OpKind::ArrayGet => element_got(alloc, types, operands),
+        OpKind::ArraySlice => slice_got(alloc, types, ty, operands),
+        OpKind::ArrayInject => element_put(alloc, types, operands),
+        OpKind::StructExtract(name) => field_got(alloc, types, name.as_bytes(), operands),
+        OpKind::StructInject(name) => field_put(alloc, types, name.as_bytes(), operands),
+        OpKind::StructExplode => field_numbered(alloc, types, index, operands),
         OpKind::Instance(_)
         | OpKind::Output
         | OpKind::CompReg(_)
@@ -73,8 +69,10 @@ fn integer_value(
     ty: &Ty,
     operands: &[BitString],
 ) -> Result<BitString, Refusal>
-    ensures { IfOk result (λ word. TakesWords (kind_of kind.now) (width (type_of ty.now)) operands.now
+    ensures value { IfOk result (λ word. TakesWords (kind_of kind.now) (width (type_of ty.now)) operands.now
         × (word ≡ op_value (kind_of kind.now) [] (int (width (type_of ty.now))) 0 operands.now)) }
+    ensures suits { OnOk result (SuitIntegers (kind_of kind.now) (width (type_of ty.now)) operands.now) }
+    ensures refuses { IsErrOf result NotFitting → IsOnIntegers (kind_of kind.now) → ¬ SuitIntegers (kind_of kind.now) (width (type_of ty.now)) operands.now }
 {
     let width = integer_width(ty)?;
     let words = integer_words(alloc, operands)?;
@@ -87,7 +85,8 @@ fn integer_value(
 
 // how many bits a value of the type has, where they are 1 to 128
 fn integer_width(ty: &Ty) -> Result<u32, Refusal>
-    ensures { IfOk result (λ w. (w ≡ width (type_of ty.now)) × (1 ≤ w) × (w ≤ 128)) }
+    ensures value { IfOk result (λ w. (w ≡ width (type_of ty.now)) × (1 ≤ w) × (w ≤ 128)) }
+    ensures refuses { OnErr result (¬ IsIntegerWidth (width (type_of ty.now))) }
 {
     let width = ty.width();
     if width == 0 || width > 128 {
@@ -97,7 +96,9 @@ fn integer_width(ty: &Ty) -> Result<u32, Refusal>
 }
 
 fn integer_words(alloc: Global, operands: &[BitString]) -> Result<Vec<Bits>, Refusal>
-    ensures { IfOk result (λ words. words.items ≡ operands.now) }
+    ensures value { IfOk result (λ words. words.items ≡ operands.now) }
+    ensures suits { OnOk result (All IsInteger operands.now) }
+    ensures refuses { IsErrOf result NotFitting → ¬ All IsInteger operands.now }
 {
     let mut words = Vec::with_capacity(alloc, operands.len())?;
     for operand in operands {
@@ -108,7 +109,8 @@ fn integer_words(alloc: Global, operands: &[BitString]) -> Result<Vec<Bits>, Ref
 
 // whether the kind is one of integers that takes these words
 fn takes_words(kind: &OpKind, width: u32, words: &[Bits]) -> bool
-    ensures { IsTrue result → TakesWords (kind_of kind.now) width words.now }
+    ensures only { IsTrue result → TakesWords (kind_of kind.now) width words.now }
+    ensures every { IsOnIntegers (kind_of kind.now) → TakesWords (kind_of kind.now) width words.now → IsTrue result }
 {
     match kind {
         OpKind::Add | OpKind::Mul | OpKind::And | OpKind::Or | OpKind::Xor => all_have(
@@ -126,13 +128,13 @@ fn takes_words(kind: &OpKind, width: u32, words: &[Bits]) -> bool
 }
 
 fn all_have(width: u32, words: &[Bits]) -> bool
-    ensures { IsTrue result → AllHave width words.now }
+    ensures { IsTrue result ↔ AllHave width words.now }
 {
     words.iter().all(|word| word.width() == width)
 }
 
 fn are_two_alike(words: &[Bits]) -> bool
-    ensures { IsTrue result → OfTwo (λ x y. length x ≡ length y) words.now }
+    ensures { IsTrue result ↔ OfTwo (λ x y. length x ≡ length y) words.now }
 {
     match words {
         [a, b] => a.width() == b.width(),
@@ -142,7 +144,7 @@ fn are_two_alike(words: &[Bits]) -> bool
 
 // whether there is one word, of at least `reach` bits
 fn is_one_reaching(reach: u64, words: &[Bits]) -> bool
-    ensures { IsTrue result → OfOne (λ x. reach ≤ length x) words.now }
+    ensures { IsTrue result ↔ OfOne (λ x. reach ≤ length x) words.now }
 {
     match words {
         [word] => reach <= u64::from(word.width()),
@@ -151,7 +153,7 @@ fn is_one_reaching(reach: u64, words: &[Bits]) -> bool
 }
 
 fn is_one_dividing(width: u32, words: &[Bits]) -> bool
-    ensures { IsTrue result → OfOne (λ x. width % length x ≡ 0) words.now }
+    ensures { IsTrue result ↔ OfOne (λ x. width % length x ≡ 0) words.now }
 {
     match words {
         [word] => width % word.width() == 0,
@@ -162,7 +164,8 @@ fn is_one_dividing(width: u32, words: &[Bits]) -> bool
 // ---- operands and types
 
 fn one(operands: &[BitString]) -> Result<&BitString, Refusal>
-    ensures { IfOk result (λ a. operands.now ≡ a.now ∷ []) }
+    ensures value { IfOk result (λ a. operands.now ≡ a.now ∷ []) }
+    ensures refuses { OnErr result (¬ (length operands.now ≡ 1)) }
 {
     match operands {
         [a] => Ok(a),
@@ -171,7 +174,8 @@ fn one(operands: &[BitString]) -> Result<&BitString, Refusal>
 }
 
 fn two(operands: &[BitString]) -> Result<(&BitString, &BitString), Refusal>
-    ensures { IfOk result (λ p. operands.now ≡ p.0.now ∷ p.1.now ∷ []) }
+    ensures value { IfOk result (λ p. operands.now ≡ p.0.now ∷ p.1.now ∷ []) }
+    ensures refuses { OnErr result (¬ (length operands.now ≡ 2)) }
 {
     match operands {
         [a, b] => Ok((a, b)),
@@ -180,7 +184,8 @@ fn two(operands: &[BitString]) -> Result<(&BitString, &BitString), Refusal>
 }
 
 fn three(operands: &[BitString]) -> Result<(&BitString, &BitString, &BitString), Refusal>
-    ensures { IfOk result (λ p. operands.now ≡ p.0.now ∷ p.1.now ∷ p.2.now ∷ []) }
+    ensures value { IfOk result (λ p. operands.now ≡ p.0.now ∷ p.1.now ∷ p.2.now ∷ []) }
+    ensures refuses { OnErr result (¬ (length operands.now ≡ 3)) }
 {
     match operands {
         [a, b, c] => Ok((a, b, c)),
@@ -188,18 +193,48 @@ fn three(operands: &[BitString]) -> Result<(&BitString, &BitString, &BitString),
     }
 }
 
-fn first_type(types: &[Ty]) -> Result<&Ty, Refusal>
-    ensures { IfOk result (λ t. written (map type_of types.now) 0 ≡ type_of t.now) }
+// the first of the types that an operation writes, where it is an array whose elements' bits are counted
+fn written_array(types: &[Ty]) -> Result<&Ty, Refusal>
+    ensures value { IfOk result (λ t. written (map type_of types.now) 0 ≡ type_of t.now) }
+    ensures suits { OnOk result (OnFirst IsArray (map type_of types.now)) }
+    ensures refuses { OnErr result (¬ OnFirst IsArray (map type_of types.now)) }
 {
     match types {
-        [first, ..] => Ok(first),
+        [first, ..] => counted_array(first),
+        [] => Err(Refusal::NotFitting),
+    }
+}
+
+// the type, where it is an array whose elements' bits are counted
+fn counted_array(ty: &Ty) -> Result<&Ty, Refusal>
+    ensures value { IfOk result (λ t. type_of t.now ≡ type_of ty.now) }
+    ensures suits { OnOk result (IsArray (type_of ty.now)) }
+    ensures refuses { OnErr result (¬ IsArray (type_of ty.now)) }
+{
+    let Ty::Array(_, element) = ty else {
+        return Err(Refusal::NotFitting);
+    };
+    exact_width(element)?;
+    Ok(ty)
+}
+
+// the fields of the first of the types that an operation writes, where it is a struct
+fn written_fields(types: &[Ty]) -> Result<&[Field], Refusal>
+    ensures value { IfOk result (λ fs. fields (written (map type_of types.now) 0) ≡ fields_of (map named_type fs.now)) }
+    ensures suits { OnOk result (OnFirst IsStruct (map type_of types.now)) }
+    ensures refuses { OnErr result (¬ OnFirst IsStruct (map type_of types.now)) }
+{
+    match types {
+        [first, ..] => struct_fields(first),
         [] => Err(Refusal::NotFitting),
     }
 }
 
 /// How many bits a value of the type has, or a refusal where they are too many to count.
 pub fn exact_width(ty: &Ty) -> Result<u64, Refusal>
-    ensures { IfOk result (λ w. w ≡ width (type_of ty.now)) }
+    ensures value { IfOk result (λ w. w ≡ width (type_of ty.now)) }
+    ensures counted { OnOk result (IsCounted (width (type_of ty.now))) }
+    ensures refuses { OnErr result (¬ IsCounted (width (type_of ty.now))) }
 {
     let width = ty.width();
     if width == u64::MAX {
@@ -210,7 +245,9 @@ pub fn exact_width(ty: &Ty) -> Result<u64, Refusal>
 
 // the number that a word of 1 to 128 bits stands for
 fn number_of(word: &BitString) -> Result<u128, Refusal>
-    ensures { IfOk result (λ n. n ≡ number word.now) }
+    ensures value { IfOk result (λ n. n ≡ number word.now) }
+    ensures suits { OnOk result (IsInteger word.now) }
+    ensures refuses { OnErr result (¬ IsInteger word.now) }
 {
     let word = bits_of(word.as_slice())?;
     Ok(word.value())
@@ -219,7 +256,9 @@ fn number_of(word: &BitString) -> Result<u128, Refusal>
 // ---- words as they are
 
 fn passed(alloc: Global, operands: &[BitString]) -> Result<BitString, Refusal>
-    ensures { IfOk result (λ word. word ≡ of_one (λ x. x) operands.now) }
+    ensures value { IfOk result (λ word. word ≡ of_one (λ x. x) operands.now) }
+    ensures suits { OnOk result (length operands.now ≡ 1) }
+    ensures refuses { IsErrOf result NotFitting → ¬ (length operands.now ≡ 1) }
 {
     let word = one(operands)?;
     let word = word.try_clone(alloc)?;
@@ -227,7 +266,7 @@ fn passed(alloc: Global, operands: &[BitString]) -> Result<BitString, Refusal>
 }
 
 /// The words joined, the first most significant.
-pub fn joined(alloc: Global, operands: &[BitString]) -> Result<BitString, Refusal>
+pub fn joined(alloc: Global, operands: &[BitString]) -> Result<BitString, AllocError>
     ensures { IfOk result (λ word. word ≡ joined operands.now) }
 {
     let mut word = BitString::new(alloc);
@@ -248,7 +287,9 @@ pub fn is_high(word: &BitString) -> bool
 }
 
 fn chosen(alloc: Global, operands: &[BitString]) -> Result<BitString, Refusal>
-    ensures { IfOk result (λ word. word ≡ of_three (λ c x y. cond (is_high c) x y) operands.now) }
+    ensures value { IfOk result (λ word. word ≡ of_three (λ c x y. cond (is_high c) x y) operands.now) }
+    ensures suits { OnOk result (length operands.now ≡ 3) }
+    ensures refuses { IsErrOf result NotFitting → ¬ (length operands.now ≡ 3) }
 {
     let (condition, a, b) = three(operands)?;
     let word = if is_high(condition) { a } else { b };
@@ -260,7 +301,9 @@ fn chosen(alloc: Global, operands: &[BitString]) -> Result<BitString, Refusal>
 
 #[cycle(literal_word)]
 fn literal_word(alloc: Global, literal: &Literal) -> Result<BitString, Refusal>
-    ensures { IfOk result (λ word. word ≡ word_of_literal (literal_of literal.now)) }
+    ensures value { IfOk result (λ word. word ≡ word_of_literal (literal_of literal.now)) }
+    ensures suits { OnOk result (HasIntegers (literal_of literal.now)) }
+    ensures refuses { IsErrOf result NotFitting → ¬ HasIntegers (literal_of literal.now) }
 {
     match literal {
         Literal::Leaf(value, ty) => leaf_word(alloc, *value, ty),
@@ -270,7 +313,9 @@ fn literal_word(alloc: Global, literal: &Literal) -> Result<BitString, Refusal>
 
 #[cycle(literal_word)]
 fn literals_word(alloc: Global, list: &LiteralList) -> Result<BitString, Refusal>
-    ensures { IfOk result (λ word. word ≡ word_of_literals (literals_in list.now)) }
+    ensures value { IfOk result (λ word. word ≡ word_of_literals (literals_in list.now)) }
+    ensures suits { OnOk result (HaveIntegers (literals_in list.now)) }
+    ensures refuses { IsErrOf result NotFitting → ¬ HaveIntegers (literals_in list.now) }
 {
     let mut word = BitString::new(alloc);
     for literal in &list.literals {
@@ -281,7 +326,9 @@ fn literals_word(alloc: Global, list: &LiteralList) -> Result<BitString, Refusal
 }
 
 fn leaf_word(alloc: Global, value: Integer, ty: &Ty) -> Result<BitString, Refusal>
-    ensures { IfOk result (λ word. word ≡ bits_of_ℤ (width (type_of ty.now)) (integer_of value)) }
+    ensures value { IfOk result (λ word. word ≡ bits_of_ℤ (width (type_of ty.now)) (integer_of value)) }
+    ensures suits { OnOk result (IsIntegerWidth (width (type_of ty.now))) }
+    ensures refuses { IsErrOf result NotFitting → ¬ IsIntegerWidth (width (type_of ty.now)) }
 {
     let width = integer_width(ty)?;
     let word = op_value(&OpKind::Constant(value), width, &[]);
@@ -311,22 +358,44 @@ pub fn behind(word: &[bool], width: u64) -> &[bool]
     word.split_at(width as usize).1
 }
 
-// the bits low to low + width - 1
-fn part_of(word: &[bool], low: u128, width: u64) -> Result<&[bool], Refusal>
-    ensures { IfOk result (λ part. part.now ≡ bits_from low width word.now) }
+// the first bits, as many as a value of the type has
+fn front<'w>(word: &'w [bool], ty: &Ty) -> &'w [bool]
+    ensures { result.now ≡ take (width (type_of ty.now)) word.now }
 {
-    let Some(end) = low.checked_add(u128::from(width)) else {
-        return Err(Refusal::NotFitting);
-    };
+    let width = ty.width();
+    if width >= word.len() as u64 {
+        return word;
+    }
+    word.split_at(width as usize).0
+}
+
+// what stands behind as many bits as a value of the type has
+fn past<'w>(word: &'w [bool], ty: &Ty) -> &'w [bool]
+    ensures { result.now ≡ drop (width (type_of ty.now)) word.now }
+{
+    let width = ty.width();
+    if width >= word.len() as u64 {
+        return &[];
+    }
+    word.split_at(width as usize).1
+}
+
+// the bits low to low + width - 1
+fn part_of(word: &[bool], low: u128, width: u64) -> &[bool]
+    requires { low + width < 2 ^ 128 }
+    ensures { result.now ≡ bits_from low width word.now }
+{
+    let end = low + u128::from(width);
     let start = (word.len() as u128).saturating_sub(end) as usize;
-    Ok(first_bits(word.split_at(start).1, width))
+    first_bits(word.split_at(start).1, width)
 }
 
 // ---- arrays
 
 // element `index` of an array's word, zero past the end
 fn element(alloc: Global, ty: &Ty, word: &[bool], index: u128) -> Result<BitString, Refusal>
-    ensures { IfOk result (λ part. part ≡ element (type_of ty.now) word.now index) }
+    ensures value { IfOk result (λ part. part ≡ element (type_of ty.now) word.now index) }
+    ensures refuses { IsErrOf result NotFitting → ¬ IsArray (type_of ty.now) }
 {
     let Ty::Array(length, element) = ty else {
         return Err(Refusal::NotFitting);
@@ -336,10 +405,8 @@ fn element(alloc: Global, ty: &Ty, word: &[bool], index: u128) -> Result<BitStri
         let part = BitString::zeros(alloc, width)?;
         return Ok(part);
     }
-    let Some(low) = index.checked_mul(u128::from(width)) else {
-        return Err(Refusal::NotFitting);
-    };
-    let part = BitString::of(alloc, part_of(word, low, width)?)?;
+    let low = index * u128::from(width);
+    let part = BitString::of(alloc, part_of(word, low, width))?;
     Ok(part)
 }
 
@@ -351,16 +418,15 @@ fn elements(
     low: u128,
     count: u32,
 ) -> Result<BitString, Refusal>
-    ensures { IfOk result (λ part. part ≡ elements_from (type_of ty.now) word.now low count) }
+    requires { low + count ≤ 2 ^ 128 }
+    ensures value { IfOk result (λ part. part ≡ elements_from (type_of ty.now) word.now low count) }
+    ensures refuses { IsErrOf result NotFitting → ¬ IsArray (type_of ty.now) }
 {
     let mut part = BitString::new(alloc);
     let mut left = count;
     while left > 0 {
         left -= 1;
-        let Some(index) = low.checked_add(u128::from(left)) else {
-            return Err(Refusal::NotFitting);
-        };
-        let next = element(alloc, ty, word, index)?;
+        let next = element(alloc, ty, word, low + u128::from(left))?;
         part.push_bits(next.as_slice())?;
     }
     Ok(part)
@@ -375,7 +441,8 @@ fn elements_with(
     index: u128,
     value: &BitString,
 ) -> Result<BitString, Refusal>
-    ensures { IfOk result (λ part. part ≡ injected_below count (type_of ty.now) word.now index value.now) }
+    ensures value { IfOk result (λ part. part ≡ injected_below count (type_of ty.now) word.now index value.now) }
+    ensures refuses { IsErrOf result NotFitting → ¬ IsArray (type_of ty.now) }
 {
     let mut part = BitString::new(alloc);
     let mut left = count;
@@ -396,7 +463,8 @@ fn element_or(
     index: u128,
     value: &BitString,
 ) -> Result<BitString, Refusal>
-    ensures { IfOk result (λ part. part ≡ cond (at == index) value.now (element (type_of ty.now) word.now at)) }
+    ensures value { IfOk result (λ part. part ≡ cond (at == index) value.now (element (type_of ty.now) word.now at)) }
+    ensures refuses { IsErrOf result NotFitting → ¬ IsArray (type_of ty.now) }
 {
     if at == index {
         let part = value.try_clone(alloc)?;
@@ -405,80 +473,130 @@ fn element_or(
     element(alloc, ty, word, at)
 }
 
-fn element_got(alloc: Global, ty: &Ty, operands: &[BitString]) -> Result<BitString, Refusal>
-    ensures { IfOk result (λ word. word ≡ of_two (λ a i. element (type_of ty.now) a (number i)) operands.now) }
+fn element_got(alloc: Global, types: &[Ty], operands: &[BitString]) -> Result<BitString, Refusal>
+    ensures value { IfOk result (λ word. word ≡ of_two (λ a i. element (written (map type_of types.now) 0) a (number i)) operands.now) }
+    ensures suits { OnOk result (OnFirst IsArray (map type_of types.now) × OfTwo (λ a i. IsInteger i) operands.now) }
+    ensures refuses { IsErrOf result NotFitting → ¬ (OnFirst IsArray (map type_of types.now) × OfTwo (λ a i. IsInteger i) operands.now) }
 {
+    let ty = written_array(types)?;
     let (array, index) = two(operands)?;
     let index = number_of(index)?;
     element(alloc, ty, array.as_slice(), index)
 }
 
+// whether the index of each of so many elements from an index on has 128 bits
+fn reaches(low: u128, count: u32) -> bool
+    ensures { IsTrue result ↔ low + count ≤ 2 ^ 128 }
+{
+    count == 0 || u128::from(count - 1) <= u128::MAX - low
+}
+
 fn slice_got(
     alloc: Global,
-    ty: &Ty,
+    types: &[Ty],
     slice: &Ty,
     operands: &[BitString],
 ) -> Result<BitString, Refusal>
-    ensures { IfOk result (λ word. word ≡ of_two (λ a i. slice_of (type_of ty.now) a (number i) (type_of slice.now)) operands.now) }
+    ensures value { IfOk result (λ word. word ≡ of_two (λ a i. slice_of (written (map type_of types.now) 0) a (number i) (type_of slice.now)) operands.now) }
+    ensures suits { OnOk result (OnFirst IsArray (map type_of types.now) × OfTwo (λ a i. IsInteger i × ReachesFrom (number i) (type_of slice.now)) operands.now) }
+    ensures refuses { IsErrOf result NotFitting → ¬ (OnFirst IsArray (map type_of types.now) × OfTwo (λ a i. IsInteger i × ReachesFrom (number i) (type_of slice.now)) operands.now) }
 {
+    let ty = written_array(types)?;
     let (array, index) = two(operands)?;
     let index = number_of(index)?;
-    let Ty::Array(count, _) = slice else {
-        return Err(Refusal::NotFitting);
-    };
-    elements(alloc, ty, array.as_slice(), index, *count)
+    slice_at(alloc, ty, slice, array.as_slice(), index)
 }
 
-fn element_put(alloc: Global, ty: &Ty, operands: &[BitString]) -> Result<BitString, Refusal>
-    ensures { IfOk result (λ word. word ≡ of_three (λ a i v. injected (type_of ty.now) a (number i) v) operands.now) }
+// the elements of a slice, the first at that index
+fn slice_at(
+    alloc: Global,
+    ty: &Ty,
+    slice: &Ty,
+    word: &[bool],
+    index: u128,
+) -> Result<BitString, Refusal>
+    ensures value { IfOk result (λ part. part ≡ slice_of (type_of ty.now) word.now index (type_of slice.now)) }
+    ensures suits { OnOk result (ReachesFrom index (type_of slice.now)) }
+    ensures refuses { IsErrOf result NotFitting → ¬ (IsArray (type_of ty.now) × ReachesFrom index (type_of slice.now)) }
 {
+    match slice {
+        Ty::Array(count, _) => {
+            if !reaches(index, *count) {
+                return Err(Refusal::NotFitting);
+            }
+            elements(alloc, ty, word, index, *count)
+        }
+        _ => Err(Refusal::NotFitting),
+    }
+}
+
+fn element_put(alloc: Global, types: &[Ty], operands: &[BitString]) -> Result<BitString, Refusal>
+    ensures value { IfOk result (λ word. word ≡ of_three (λ a i v. injected (written (map type_of types.now) 0) a (number i) v) operands.now) }
+    ensures suits { OnOk result (OnFirst IsArray (map type_of types.now) × OfThree (λ a i v. IsInteger i) operands.now) }
+    ensures refuses { IsErrOf result NotFitting → ¬ (OnFirst IsArray (map type_of types.now) × OfThree (λ a i v. IsInteger i) operands.now) }
+{
+    let ty = written_array(types)?;
     let (array, index, value) = three(operands)?;
     let index = number_of(index)?;
-    let Ty::Array(count, _) = ty else {
-        return Err(Refusal::NotFitting);
-    };
-    elements_with(alloc, ty, *count, array.as_slice(), index, value)
+    injected(alloc, ty, array.as_slice(), index, value)
+}
+
+// the array's word with a value in place of element `index`
+fn injected(
+    alloc: Global,
+    ty: &Ty,
+    word: &[bool],
+    index: u128,
+    value: &BitString,
+) -> Result<BitString, Refusal>
+    ensures value { IfOk result (λ part. part ≡ injected (type_of ty.now) word.now index value.now) }
+    ensures refuses { IsErrOf result NotFitting → ¬ IsArray (type_of ty.now) }
+{
+    match ty {
+        Ty::Array(count, _) => elements_with(alloc, ty, *count, word, index, value),
+        _ => Err(Refusal::NotFitting),
+    }
 }
 
 // ---- structs
 
 fn struct_fields(ty: &Ty) -> Result<&[Field], Refusal>
-    ensures { IfOk result (λ fs. fields (type_of ty.now) ≡ fields_of (map named_type fs.now)) }
+    ensures value { IfOk result (λ fs. fields (type_of ty.now) ≡ fields_of (map named_type fs.now)) }
+    ensures suits { OnOk result (IsStruct (type_of ty.now)) }
+    ensures refuses { OnErr result (¬ IsStruct (type_of ty.now)) }
 {
-    let Ty::Struct(list) = ty else {
-        return Err(Refusal::NotFitting);
-    };
-    Ok(list.fields.as_slice())
+    match ty {
+        Ty::Struct(list) => Ok(list.fields.as_slice()),
+        Ty::Int(_) | Ty::Clock | Ty::Array(_, _) => Err(Refusal::NotFitting),
+    }
 }
 
 // the part of a struct's word that is the field of that name
-fn field_named<'w>(fields: &[Field], name: &[u8], word: &'w [bool]) -> Result<&'w [bool], Refusal>
-    ensures { IfOk result (λ part. part.now ≡ field_of (fields_of (map named_type fields.now)) name.now word.now) }
+fn field_named<'w>(fields: &[Field], name: &[u8], word: &'w [bool]) -> &'w [bool]
+    ensures { result.now ≡ field_of (fields_of (map named_type fields.now)) name.now word.now }
 {
     match fields {
-        [] => Ok(&[]),
+        [] => &[],
         [field, rest @ ..] => {
-            let width = exact_width(&field.ty)?;
             if field.name.as_bytes() == name {
-                return Ok(first_bits(word, width));
+                return front(word, &field.ty);
             }
-            field_named(rest, name, behind(word, width))
+            field_named(rest, name, past(word, &field.ty))
         }
     }
 }
 
 // the part of a struct's word that is the field of that number
-fn field_at<'w>(fields: &[Field], number: u32, word: &'w [bool]) -> Result<&'w [bool], Refusal>
-    ensures { IfOk result (λ part. part.now ≡ field_at (fields_of (map named_type fields.now)) number word.now) }
+fn field_at<'w>(fields: &[Field], number: u32, word: &'w [bool]) -> &'w [bool]
+    ensures { result.now ≡ field_at (fields_of (map named_type fields.now)) number word.now }
 {
     match fields {
-        [] => Ok(&[]),
+        [] => &[],
         [field, rest @ ..] => {
-            let width = exact_width(&field.ty)?;
             if number == 0 {
-                return Ok(first_bits(word, width));
+                return front(word, &field.ty);
             }
-            field_at(rest, number - 1, behind(word, width))
+            field_at(rest, number - 1, past(word, &field.ty))
         }
     }
 }
@@ -490,26 +608,22 @@ fn with_field(
     name: &[u8],
     word: &[bool],
     value: &BitString,
-) -> Result<BitString, Refusal>
+) -> Result<BitString, AllocError>
     ensures { IfOk result (λ part. part ≡ with_field (fields_of (map named_type fields.now)) name.now word.now value.now) }
 {
     match fields {
-        [] => {
-            let part = BitString::of(alloc, word)?;
-            Ok(part)
-        }
+        [] => BitString::of(alloc, word),
         [field, rest @ ..] => {
-            let width = exact_width(&field.ty)?;
             if field.name.as_bytes() == name {
-                return two_parts(alloc, value.as_slice(), behind(word, width));
+                return two_parts(alloc, value.as_slice(), past(word, &field.ty));
             }
-            let low = with_field(alloc, rest, name, behind(word, width), value)?;
-            two_parts(alloc, first_bits(word, width), low.as_slice())
+            let low = with_field(alloc, rest, name, past(word, &field.ty), value)?;
+            two_parts(alloc, front(word, &field.ty), low.as_slice())
         }
     }
 }
 
-fn two_parts(alloc: Global, high: &[bool], low: &[bool]) -> Result<BitString, Refusal>
+fn two_parts(alloc: Global, high: &[bool], low: &[bool]) -> Result<BitString, AllocError>
     ensures { IfOk result (λ word. word ≡ high.now ++ low.now) }
 {
     let mut word = BitString::of(alloc, high)?;
@@ -519,41 +633,48 @@ fn two_parts(alloc: Global, high: &[bool], low: &[bool]) -> Result<BitString, Re
 
 fn field_got(
     alloc: Global,
-    ty: &Ty,
+    types: &[Ty],
     name: &[u8],
     operands: &[BitString],
 ) -> Result<BitString, Refusal>
-    ensures { IfOk result (λ word. word ≡ of_one (field_of (fields (type_of ty.now)) name.now) operands.now) }
+    ensures value { IfOk result (λ word. word ≡ of_one (field_of (fields (written (map type_of types.now) 0)) name.now) operands.now) }
+    ensures suits { OnOk result (OnFirst IsStruct (map type_of types.now) × (length operands.now ≡ 1)) }
+    ensures refuses { IsErrOf result NotFitting → ¬ (OnFirst IsStruct (map type_of types.now) × (length operands.now ≡ 1)) }
 {
     let word = one(operands)?;
-    let fields = struct_fields(ty)?;
-    let part = BitString::of(alloc, field_named(fields, name, word.as_slice())?)?;
+    let fields = written_fields(types)?;
+    let part = BitString::of(alloc, field_named(fields, name, word.as_slice()))?;
     Ok(part)
 }
 
 fn field_put(
     alloc: Global,
-    ty: &Ty,
+    types: &[Ty],
     name: &[u8],
     operands: &[BitString],
 ) -> Result<BitString, Refusal>
-    ensures { IfOk result (λ word. word ≡ of_two (with_field (fields (type_of ty.now)) name.now) operands.now) }
+    ensures value { IfOk result (λ word. word ≡ of_two (with_field (fields (written (map type_of types.now) 0)) name.now) operands.now) }
+    ensures suits { OnOk result (OnFirst IsStruct (map type_of types.now) × (length operands.now ≡ 2)) }
+    ensures refuses { IsErrOf result NotFitting → ¬ (OnFirst IsStruct (map type_of types.now) × (length operands.now ≡ 2)) }
 {
     let (word, value) = two(operands)?;
-    let fields = struct_fields(ty)?;
-    with_field(alloc, fields, name, word.as_slice(), value)
+    let fields = written_fields(types)?;
+    let part = with_field(alloc, fields, name, word.as_slice(), value)?;
+    Ok(part)
 }
 
 fn field_numbered(
     alloc: Global,
-    ty: &Ty,
+    types: &[Ty],
     number: u32,
     operands: &[BitString],
 ) -> Result<BitString, Refusal>
-    ensures { IfOk result (λ word. word ≡ of_one (field_at (fields (type_of ty.now)) number) operands.now) }
+    ensures value { IfOk result (λ word. word ≡ of_one (field_at (fields (written (map type_of types.now) 0)) number) operands.now) }
+    ensures suits { OnOk result (OnFirst IsStruct (map type_of types.now) × (length operands.now ≡ 1)) }
+    ensures refuses { IsErrOf result NotFitting → ¬ (OnFirst IsStruct (map type_of types.now) × (length operands.now ≡ 1)) }
 {
     let word = one(operands)?;
-    let fields = struct_fields(ty)?;
-    let part = BitString::of(alloc, field_at(fields, number, word.as_slice())?)?;
+    let fields = written_fields(types)?;
+    let part = BitString::of(alloc, field_at(fields, number, word.as_slice()))?;
     Ok(part)
 }

@@ -1,8 +1,11 @@
-use Rattle.std.proofs.Common.{map, arith, length, drop, ◌≡◌, ◌≤◌, [], ap}
+use Rattle.std.proofs.Common.{map, arith, rules, length, drop, ◌≡◌, ◌≤◌, ◌∷◌, [], ap, subst}
 use Rattle.std.proofs.lemmas.List.{drop_all}
 use Rattle.hw_interpreter.specs.DesignViews.{module_of}
 use Rattle.hw_interpreter.specs.Depth.{run_within}
+use Rattle.hw_interpreter.specs.SuitsWithin.{TakesRun}
+use Rattle.hw_interpreter.proofs.Counts.{from_position}
 use Rattle.hw_interpreter.proofs.Pieces.{piece_last}
+use Rattle.hw_interpreter.proofs.Suiting.{run_taken}
 use Rattle.hw_interpreter.proofs.Within.{run_holds_of}
 use Rattle.hw_interpreter.proofs.machine.run.Goals as goal
 
@@ -12,4 +15,15 @@ returns-clause-holds c reaches =
     let none : run_within (map module_of c.args.modules.now) c.args.top.now c.args.depth c.loop-inputs.held (drop c.loop-inputs.inputs-index c.args.steps.now) ≡ []
     = ap (run_within (map module_of c.args.modules.now) c.args.top.now c.args.depth c.loop-inputs.held) (drop_all c.loop-inputs.inputs-index c.args.steps.now past) in
     run_holds_of (map module_of c.args.modules.now) c.args.top.now c.args.depth c.args.content.now c.args.steps.now c.loop-inputs.outputs.items
-    (piece_last c.loop-inputs.outputs.items _ _ none c.loop-inputs.invariant) reaches
+    (piece_last c.loop-inputs.outputs.items _ _ none c.loop-inputs.invariant.outputs) reaches
+
+pub returns-in_err-stepped-clause-refuses : goal.returns-in_err-stepped-clause-refuses
+returns-in_err-stepped-clause-refuses c is takes =
+    let here = from_position c.args.steps.now c.loop-inputs.inputs-index c.inputs-item.result (omega (arith, c.loop-inputs-test.true)) c.inputs-item.is in
+    let rest = subst (TakesRun (map module_of c.args.modules.now) c.args.top.now c.args.depth c.loop-inputs.held) here (c.loop-inputs.invariant.takes takes) in
+    c.in_err-stepped.ensures.refuses (search rules) rest.0
+
+pub returns-in_err-stepped-clause-settles : goal.returns-in_err-stepped-clause-settles
+returns-in_err-stepped-clause-settles c is reaches always numbers =
+    c.in_err-stepped.ensures.refuses (search rules)
+    (run_taken (map module_of c.args.modules.now) c.args.top.now c.args.depth reaches numbers always c.loop-inputs.held (c.inputs-item.result ∷ [])).0

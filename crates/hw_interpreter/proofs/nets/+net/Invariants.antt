@@ -10,6 +10,9 @@ decreases-net_value l = 6 * l.depth
 abbrev pub decreases-copied_value : goal.decreases-copied_value
 decreases-copied_value l = 6 * l.depth + 1
 
+abbrev pub decreases-given_value : goal.decreases-given_value
+decreases-given_value l = 6 * l.depth + 1
+
 abbrev pub decreases-operand_values : goal.decreases-operand_values
 decreases-operand_values l = 6 * l.depth + 1
 

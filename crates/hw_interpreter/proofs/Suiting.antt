@@ -1,0 +1,99 @@
+-- What suits within a depth, from a settled map, and by the parts of sources.
+use Rattle.std.proofs.Common.{◌≡◌, ℕ, zero, suc, ◌+◌, ◌-◌, ◌<◌, ◌≤◌, List, [], ◌∷◌, map, length, take, get_or, All, inl, inr, sym, ap, subst, ◌∙◌, arith}
+use Rattle.wiring.specs.Wiring.{In, IsHeight, greatest}
+use Rattle.std.proofs.lemmas.List.Elements.{All-append}
+use Rattle.wiring.proofs.Members.{map_same, In-map, All-from_members}
+use Rattle.wiring.proofs.Heights.{FallsAlong-height}
+use Rattle.bits_core.specs.Word.{Word}
+use Rattle.hw_model.specs.Types.{Name}
+use Rattle.hw_model.specs.Design.{Design}
+use Rattle.hw_model.specs.Flat.{Net, Path, Source, net, source, registers}
+use Rattle.hw_model.specs.Flat.Source.{nowhere, input, held, copy, made}
+use Rattle.hw_model.specs.Meaning.{needs_of, needs, value, Settled, next_content}
+use Rattle.hw_interpreter.specs.declared.design.Operand.{Operand}
+use Rattle.hw_interpreter.specs.DesignViews.{ref_of}
+use Rattle.hw_interpreter.specs.Suits.{IsInteger, Suits}
+use Rattle.hw_interpreter.specs.SuitsWithin.{SuitsSource, SuitsFrom, SuitsWithin, SuitsUnder, AlwaysSuits, IsCountedDesign, TakesStep, TakesRun}
+use Rattle.hw_interpreter.specs.Depth.{value_within, Suffices}
+use Rattle.hw_interpreter.proofs.Counts.{member_of, take_more}
+use Rattle.hw_interpreter.proofs.Within.{within_settled}
+
+-- a source suits under each map that says the same of the nets that it needs
+pub suits_same : (f g : Net → Word) (s : Source) → ((n : Net) → In n (needs_of s) → f n ≡ g n) → SuitsSource f s → SuitsSource g s
+suits_same f g nowhere same suit = tt
+suits_same f g (input start w) same suit = suit
+suits_same f g (held start w) same suit = suit
+suits_same f g (copy n) same suit = suit
+suits_same f g (made kind types t k ns) same suit = subst (Suits kind types t) (map_same f g ns same) suit
+
+module _ (d : Design) (top : Name) (inputs content : Word) (height : Net → ℕ) (is : IsHeight (needs d top) height) (ρ : Net → Word) (settled : Settled d top inputs content ρ) where
+  -- at and above a net's height its value is the settled one
+  pub within_is : (m : ℕ) (a : Net) → height a ≤ m → value_within d top inputs content m a ≡ ρ a
+  within_is zero a low =
+      let e : height a ≡ suc (greatest (map height (needs d top a))) = is a in absurd (omega arith)
+  within_is (suc m) a low =
+      ap (value d top inputs content a) (map_same (value_within d top inputs content m) ρ (needs d top a)
+      (λ b need.
+      let lower : height b < height a = FallsAlong-height (needs d top) height is a b need in
+      within_is m b (omega arith))) ∙ sym (settled a)
+
+  -- where all sources suit under it, all suits within a depth at and above a net's height
+  pub suits_settled : ((n : Net) → SuitsSource ρ (source d top n)) → (m : ℕ) (a : Net) → height a ≤ m → SuitsWithin d top inputs content m a
+  suits_settled all zero a low = tt
+  suits_settled all (suc m) a low = (
+    suits_same ρ (value_within d top inputs content m) (source d top a)
+        (λ b need.
+        let lower : height b < height a = FallsAlong-height (needs d top) height is a b need in
+        sym (within_is m b (omega arith)))
+        (all a),
+    λ b need.
+        let lower : height b < height a = FallsAlong-height (needs d top) height is a b need in
+        suits_settled all m b (omega arith),
+  )
+
+-- where a depth reaches all that nets need, all suits within it
+pub suits_reached : (d : Design) (top : Name) (depth : ℕ) → Suffices d top depth → (inputs content : Word) (ρ : Net → Word)
+    → Settled d top inputs content ρ → ((n : Net) → SuitsSource ρ (source d top n)) → (n : Net) → SuitsWithin d top inputs content depth n
+suits_reached d top depth (height, is, low) inputs content ρ settled all n = suits_settled d top inputs content height is ρ settled all depth n (low n)
+
+-- a net's source suits within a depth where the net does within one more
+pub suits_more : (d : Design) (top : Name) (inputs content : Word) (depth : ℕ) (n : Net) → 0 < depth
+    → SuitsWithin d top inputs content depth n
+    → SuitsFrom (value_within d top inputs content (depth - 1)) (SuitsWithin d top inputs content (depth - 1)) (source d top n)
+suits_more d top inputs content zero n positive suit = absurd (omega arith)
+suits_more d top inputs content (suc depth) n positive suit =
+    let e : suc depth - 1 ≡ depth = omega arith in
+    subst (λ k. SuitsFrom (value_within d top inputs content k) (SuitsWithin d top inputs content k) (source d top n)) (sym e) suit
+
+-- a step is computed within a depth that reaches, where all sources suit under its settled map
+pub step_taken : (d : Design) (top : Name) (depth : ℕ) → Suffices d top depth → IsCountedDesign d top → (inputs content : Word) (ρ : Net → Word)
+    → Settled d top inputs content ρ → SuitsUnder d top ρ → TakesStep d top inputs content depth
+step_taken d top depth reaches counted inputs content ρ settled all =
+    record { numbers = counted; nets = suits_reached d top depth reaches inputs content ρ settled all }
+
+-- and a run, where they do under each settled map
+pub run_taken : (d : Design) (top : Name) (depth : ℕ) → Suffices d top depth → IsCountedDesign d top → AlwaysSuits d top
+    → (content : Word) (steps : List Word) → TakesRun d top depth content steps
+run_taken d top depth reaches counted always content [] = tt
+run_taken d top depth reaches counted always content (s ∷ steps) =
+    let ρ = value_within d top s content depth in
+    let settled = within_settled d top depth reaches s content in (
+      step_taken d top depth reaches counted s content ρ settled (always s content ρ settled),
+      run_taken d top depth reaches counted always (next_content (registers d top) ρ content) steps,
+    )
+
+-- an operand's net is among those of the operands
+pub operand_in : (p : Path) (os : List Operand) (i : ℕ) (d : Operand) → i < length os → In (net p (ref_of (get_or os i d))) (map (net p) (map ref_of os))
+operand_in p os i d within = In-map (net p) (ref_of (get_or os i d)) (map ref_of os) (In-map ref_of (get_or os i d) os (member_of os i d within))
+
+all_one : (x : Word) → IsInteger x → All IsInteger (x ∷ [])
+all_one x is = All-from_members IsInteger (x ∷ []) member
+  where
+    member : (y : Word) → In y (x ∷ []) → IsInteger y
+    member y (inl same) = subst IsInteger (sym same) is
+    member y (inr none) = absurd none
+
+-- one integer more
+pub integers_more : (xs : List Word) (i : ℕ) (x : Word) → i < length xs → x ≡ get_or xs i x → All IsInteger (take i xs) → IsInteger x → All IsInteger (take (i + 1) xs)
+integers_more xs i x within is before next =
+    subst (All IsInteger) (sym (take_more xs i x within is)) (All-append IsInteger (take i xs) (x ∷ []) before (all_one x next))

@@ -1,0 +1,58 @@
+-- Where nets, steps and runs are computed within a depth: what is needed suits, and numbers are counted.
+use Rattle.std.specs.Prelude.{◌≡◌, ℕ, zero, suc, ◌+◌, ◌^◌, ◌<◌, List, [], ◌∷◌, map, length, All, Some, ⊤}
+use Rattle.wiring.specs.Wiring.{In}
+use Rattle.bits_core.specs.Word.{Word}
+use Rattle.hw_model.specs.Types.{Name}
+use Rattle.hw_model.specs.Design.{Module, Design, find_module}
+use Rattle.hw_model.specs.Flat.{Net, Source, source, instances, registers, state}
+use Rattle.hw_model.specs.Flat.Source.{nowhere, input, held, copy, made}
+use Rattle.hw_model.specs.Meaning.{needs_of, Settled, next_content}
+use Rattle.hw_interpreter.specs.Suits.{IsCounted, Suits}
+use Rattle.hw_interpreter.specs.Depth.{value_within}
+
+-- the operation takes the words of the nets that it needs, bits of inputs and content end at a number that is counted,
+-- and the instances on a path are numbered by 32 bits
+abbrev pub SuitsSource : (Net → Word) → Source → Type 0
+SuitsSource inner nowhere = ⊤
+SuitsSource inner (input start w) = IsCounted (start + w)
+SuitsSource inner (held start w) = IsCounted (start + w)
+SuitsSource inner (copy n) = All (λ u. u < 2 ^ 32) n.path
+SuitsSource inner (made kind types t k ns) = Suits kind types t (map inner ns)
+
+-- so is the source, and each net that it needs is as `Suit` says
+abbrev pub SuitsFrom : (Net → Word) → (Net → Type 0) → Source → Type 0
+SuitsFrom inner Suit s = SuitsSource inner s × ((n : Net) → In n (needs_of s) → Suit n)
+
+-- a net's source is so, and those of all that it needs, followed for fewer than `depth` steps
+abbrev pub SuitsWithin : Design → Name → Word → Word → ℕ → Net → Type 0
+SuitsWithin d top inputs content zero n = ⊤
+SuitsWithin d top inputs content (suc depth) n =
+    SuitsFrom (value_within d top inputs content depth) (SuitsWithin d top inputs content depth) (source d top n)
+
+-- each net's source is so under a map
+abbrev pub SuitsUnder : Design → Name → (Net → Word) → Type 0
+SuitsUnder d top ρ = (n : Net) → SuitsSource ρ (source d top n)
+
+-- and under each settled map
+abbrev pub AlwaysSuits : Design → Name → Type 0
+AlwaysSuits d top = (inputs content : Word) (ρ : Net → Word) → Settled d top inputs content ρ → SuitsUnder d top ρ
+
+-- each module that a symbol finds has fewer than 2^32 instances
+abbrev pub HasFewInstances : Design → Type 0
+HasFewInstances d = (symbol : Name) (m : Module) → find_module d symbol ≡ Some m → length (instances m.body) < 2 ^ 32
+
+-- the numbers of a design are counted: those of the instances of its modules, and the bits of the content of one
+pub record IsCountedDesign (d : Design) (top : Name) : Type 0 where
+  pub instances : HasFewInstances d
+  pub content : IsCounted (state d top)
+
+-- a step from a content under inputs is computed within a depth
+pub record TakesStep (d : Design) (top : Name) (inputs content : Word) (depth : ℕ) : Type 0 where
+  pub numbers : IsCountedDesign d top
+  pub nets : (n : Net) → SuitsWithin d top inputs content depth n
+
+-- and each step of a run
+abbrev pub TakesRun : Design → Name → ℕ → Word → List Word → Type 0
+TakesRun d top depth content [] = ⊤
+TakesRun d top depth content (s ∷ steps) =
+    TakesStep d top s content depth × TakesRun d top depth (next_content (registers d top) (value_within d top s content depth) content) steps
