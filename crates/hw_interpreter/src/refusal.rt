@@ -6,8 +6,8 @@ use std::alloc::{AllocError, AllocFailed};
 pub enum Refusal {
     /// There is not enough memory.
     NoMemory,
-    /// A word is not one that the operation takes, an integer is not of 1 to 128 bits, or a number of bits is too large
-    /// to count.
+    /// A word is not one that the operation takes, an integer is not of 1 to 128 bits, or a number of bits or of instances
+    /// is too large to count.
     NotFitting,
 }
 
