@@ -14,7 +14,7 @@ use Rattle.hw_model.specs.Flat.{Net, Path, net, module_at, source}
 use Rattle.hw_model.specs.Flat.Source.{nowhere, input, copy}
 use Rattle.hw_model.proofs.Samples.{operation, module_of, out_port}
 use Rattle.hw_interpreter.specs.Suits.{IsCounted, Suits}
-use Rattle.hw_interpreter.specs.SuitsWithin.{SuitsSource, SuitsFrom, SuitsWithin, AlwaysSuits, IsCountedDesign, TakesStep, TakesRun}
+use Rattle.hw_interpreter.specs.SuitsWithin.{SuitsSource, SuitsFrom, SuitsWithin, AlwaysSuits, IsCountedDesign, register_refs, TakesStep, TakesRun}
 
 -- a constant of 128 bits has no operand; one of 129 bits is no integer here
 suits_constant : Suits (constant (pos 5)) [] (int 128) []
@@ -115,11 +115,24 @@ counted_none = record { instances = λ symbol m same. absurd (found_none m same)
 always_none : AlwaysSuits [] (codes "M")
 always_none inputs content ρ settled n = subst (SuitsSource ρ) (sym (no_source n.path n.ref)) tt
 
+within_none : (n : Net) → SuitsWithin [] (codes "M") [] [] 1 n
+within_none n = subst (SuitsFrom (λ a. []) (λ a. ⊤)) (sym (no_source n.path n.ref)) (tt, λ a none. absurd none)
+
 step_none : TakesStep [] (codes "M") [] [] 1
 step_none = record {
   numbers = counted_none;
-  nets = λ n. subst (SuitsFrom (λ a. []) (λ a. ⊤)) (sym (no_source n.path n.ref)) (tt, λ a none. absurd none);
+  output_nets = λ r here. within_none (net [] r);
+  register_nets = λ s here r read. within_none (net s.path r);
 }
 
 run_none : TakesRun [] (codes "M") 1 [] ([] ∷ [])
 run_none = (step_none, tt)
+
+-- ---- what a register reads
+
+read_by_register : register_refs (Some (record { next = port 0; clock = port 1; enable = Some (port 2); reset = Some (record { signal = port 3; value = port 4 }) }))
+    ≡ port 1 ∷ port 0 ∷ port 2 ∷ port 3 ∷ port 4 ∷ []
+read_by_register = refl
+
+read_by_none : register_refs None ≡ []
+read_by_none = refl

@@ -2,18 +2,18 @@
 use Rattle.std.proofs.Common.{◌≡◌, ℕ, zero, suc, ◌+◌, ◌-◌, ◌<◌, ◌≤◌, List, [], ◌∷◌, map, length, take, get_or, All, inl, inr, sym, ap, subst, ◌∙◌, arith}
 use Rattle.wiring.specs.Wiring.{In, IsHeight, greatest}
 use Rattle.std.proofs.lemmas.List.Elements.{All-append}
-use Rattle.wiring.proofs.Members.{map_same, In-map, All-from_members}
+use Rattle.wiring.proofs.Members.{map_same, In-map, from_In-map, All-from_members}
 use Rattle.wiring.proofs.Heights.{FallsAlong-height}
 use Rattle.bits_core.specs.Word.{Word}
 use Rattle.hw_model.specs.Types.{Name}
-use Rattle.hw_model.specs.Design.{Design}
+use Rattle.hw_model.specs.Design.{Ref, Design}
 use Rattle.hw_model.specs.Flat.{Net, Path, Source, net, source, registers}
 use Rattle.hw_model.specs.Flat.Source.{nowhere, input, held, copy, made}
 use Rattle.hw_model.specs.Meaning.{needs_of, needs, value, Settled, next_content}
 use Rattle.hw_interpreter.specs.declared.design.Operand.{Operand}
 use Rattle.hw_interpreter.specs.DesignViews.{ref_of}
 use Rattle.hw_interpreter.specs.Suits.{IsInteger, Suits}
-use Rattle.hw_interpreter.specs.SuitsWithin.{SuitsSource, SuitsFrom, SuitsWithin, SuitsUnder, AlwaysSuits, IsCountedDesign, TakesStep, TakesRun}
+use Rattle.hw_interpreter.specs.SuitsWithin.{SuitsSource, SuitsFrom, SuitsWithin, SuitsUnder, AlwaysSuits, IsCountedDesign, TakesRefs, TakesStep, TakesRun}
 use Rattle.hw_interpreter.specs.Depth.{value_within, Suffices}
 use Rattle.hw_interpreter.proofs.Counts.{member_of, take_more}
 use Rattle.hw_interpreter.proofs.Within.{within_settled}
@@ -69,7 +69,11 @@ suits_more d top inputs content (suc depth) n positive suit =
 pub step_taken : (d : Design) (top : Name) (depth : ℕ) → Suffices d top depth → IsCountedDesign d top → (inputs content : Word) (ρ : Net → Word)
     → Settled d top inputs content ρ → SuitsUnder d top ρ → TakesStep d top inputs content depth
 step_taken d top depth reaches counted inputs content ρ settled all =
-    record { numbers = counted; nets = suits_reached d top depth reaches inputs content ρ settled all }
+    record {
+      numbers = counted;
+      output_nets = λ r here. suits_reached d top depth reaches inputs content ρ settled all (net [] r);
+      register_nets = λ s here r read. suits_reached d top depth reaches inputs content ρ settled all (net s.path r);
+    }
 
 -- and a run, where they do under each settled map
 pub run_taken : (d : Design) (top : Name) (depth : ℕ) → Suffices d top depth → IsCountedDesign d top → AlwaysSuits d top
@@ -97,3 +101,9 @@ all_one x is = All-from_members IsInteger (x ∷ []) member
 pub integers_more : (xs : List Word) (i : ℕ) (x : Word) → i < length xs → x ≡ get_or xs i x → All IsInteger (take i xs) → IsInteger x → All IsInteger (take (i + 1) xs)
 integers_more xs i x within is before next =
     subst (All IsInteger) (sym (take_more xs i x within is)) (All-append IsInteger (take i xs) (x ∷ []) before (all_one x next))
+
+-- the nets of values that are computed within a depth
+pub nets_taken : (d : Design) (top : Name) (inputs content : Word) (depth : ℕ) (p : Path) (rs : List Ref) → TakesRefs d top inputs content depth p rs
+    → (n : Net) → In n (map (net p) rs) → SuitsWithin d top inputs content depth n
+nets_taken d top inputs content depth p rs all n here =
+    let found = from_In-map (net p) n rs here in subst (SuitsWithin d top inputs content depth) (sym found.2) (all found.0 found.1)

@@ -55,7 +55,7 @@ abbrev pub ReachesFrom : ℕ → HwType → Type 0
 ReachesFrom i (array m e) = i + m ≤ 2 ^ 128
 ReachesFrom i _ = ⊥
 
--- the kind makes integers of integers, and of no other words
+-- any kind but concatenations and choices, which take words of any number of bits
 abbrev pub IsOnIntegers : Kind → Type 0
 IsOnIntegers concat = ⊥
 IsOnIntegers mux = ⊥

@@ -1,12 +1,12 @@
 -- Where nets, steps and runs are computed within a depth: what is needed suits, and numbers are counted.
-use Rattle.std.specs.Prelude.{◌≡◌, ℕ, zero, suc, ◌+◌, ◌^◌, ◌<◌, List, [], ◌∷◌, map, length, All, Some, ⊤}
+use Rattle.std.specs.Prelude.{◌≡◌, ℕ, zero, suc, ◌+◌, ◌^◌, ◌<◌, List, [], ◌∷◌, ◌++◌, map, length, All, Option, Some, None, option_to_list, ⊤}
 use Rattle.wiring.specs.Wiring.{In}
 use Rattle.bits_core.specs.Word.{Word}
 use Rattle.hw_model.specs.Types.{Name}
-use Rattle.hw_model.specs.Design.{Module, Design, find_module}
-use Rattle.hw_model.specs.Flat.{Net, Source, source, instances, registers, state}
+use Rattle.hw_model.specs.Design.{Ref, Module, Design, find_module}
+use Rattle.hw_model.specs.Flat.{Net, Path, Source, Slot, Register, ResetBy, net, source, instances, register_in, registers, state}
 use Rattle.hw_model.specs.Flat.Source.{nowhere, input, held, copy, made}
-use Rattle.hw_model.specs.Meaning.{needs_of, Settled, next_content}
+use Rattle.hw_model.specs.Meaning.{needs_of, Settled, outputs_of, next_content}
 use Rattle.hw_interpreter.specs.Suits.{IsCounted, Suits}
 use Rattle.hw_interpreter.specs.Depth.{value_within}
 
@@ -46,10 +46,25 @@ pub record IsCountedDesign (d : Design) (top : Name) : Type 0 where
   pub instances : HasFewInstances d
   pub content : IsCounted (state d top)
 
--- a step from a content under inputs is computed within a depth
+-- what resets a register, and to what
+abbrev pub reset_refs : Option ResetBy → List Ref
+reset_refs None = []
+reset_refs (Some r) = r.signal ∷ r.value ∷ []
+
+-- all that a register reads
+abbrev pub register_refs : Option Register → List Ref
+register_refs None = []
+register_refs (Some r) = r.clock ∷ r.next ∷ (option_to_list r.enable ++ reset_refs r.reset)
+
+-- these values of the module at the end of a path are computed within a depth
+abbrev pub TakesRefs : Design → Name → Word → Word → ℕ → Path → List Ref → Type 0
+TakesRefs d top inputs content depth p rs = (r : Ref) → In r rs → SuitsWithin d top inputs content depth (net p r)
+
+-- a step from a content under inputs is computed within a depth: what the outputs and the registers read is
 pub record TakesStep (d : Design) (top : Name) (inputs content : Word) (depth : ℕ) : Type 0 where
   pub numbers : IsCountedDesign d top
-  pub nets : (n : Net) → SuitsWithin d top inputs content depth n
+  pub output_nets : TakesRefs d top inputs content depth [] (outputs_of (find_module d top))
+  pub register_nets : (s : Slot) → In s (registers d top) → TakesRefs d top inputs content depth s.path (register_refs (register_in s.op))
 
 -- and each step of a run
 abbrev pub TakesRun : Design → Name → ℕ → Word → List Word → Type 0

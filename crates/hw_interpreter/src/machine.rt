@@ -1,5 +1,5 @@
 //! Steps and runs of a module.
-ghost use Rattle.std.specs.Prelude.{ℕ, ◌≡◌, ◌+◌, ◌-◌, ◌∷◌, [], ◌++◌, ◌≤◌, ◌<◌, length, take, drop, map, cond, IfOk, IsErrOf, MatchOption, Option, Some, None, option_map};
+ghost use Rattle.std.specs.Prelude.{ℕ, ◌≡◌, ◌+◌, ◌-◌, ◌∷◌, [], ◌++◌, ◌≤◌, ◌<◌, length, take, drop, map, cond, IfOk, IsErrOf, option_to_list, MatchOption, Option, Some, None, option_map};
 ghost use Rattle.bits_core.specs.Word.{Word, first};
 ghost use Rattle.wiring.specs.Wiring.{In};
 ghost use Rattle.hw_model.specs.Flat.{Slot as FlatSlot};
@@ -11,7 +11,7 @@ ghost use Rattle.hw_model.specs.Machine.{Step, Run};
 ghost use Rattle.hw_interpreter.specs.DesignViews.{ref_of, op_of, module_of};
 ghost use Rattle.hw_interpreter.specs.Depth.{value_within, run_within, Suffices};
 ghost use Rattle.hw_interpreter.specs.Suits.{IsCounted};
-ghost use Rattle.hw_interpreter.specs.SuitsWithin.{SuitsWithin, SuitsUnder, AlwaysSuits, IsCountedDesign, TakesStep, TakesRun};
+ghost use Rattle.hw_interpreter.specs.SuitsWithin.{SuitsUnder, AlwaysSuits, TakesRefs, register_refs, reset_refs, IsCountedDesign, TakesStep, TakesRun};
 ghost use Rattle.hw_interpreter.specs.declared.refusal.Refusal.TheVariants.{NotFitting};
 ghost use Rattle.hw_interpreter.specs.Registers.{slot_of, register_of, reset_by_of};
 
@@ -35,9 +35,9 @@ pub struct Stepped {
 
 /// One step of a module: its outputs, and its content after it, under the values of its nets within a depth.
 ///
-/// A refusal that is not for want of memory comes only where an operation does not take the words of its operands, or a
-/// number of bits or of instances is too large to count. Where the depth suffices, the words are those of the settled
-/// map.
+/// A refusal that is not for want of memory comes only where an operation that the outputs or the registers need does
+/// not take the words of its operands, or a number of bits or of instances is too large to count. Where the depth
+/// suffices, the words are those of the settled map.
 pub fn step(alloc: Global, at: &Setting, depth: u32) -> Result<Stepped, Refusal>
     ensures outputs { IfOk result (λ s. s.outputs ≡ outputs (map module_of at.now.modules.now) at.now.top.now (value_within (map module_of at.now.modules.now) at.now.top.now at.now.inputs.now at.now.content.now depth)) }
     ensures content { IfOk result (λ s. s.content ≡ next_content (registers (map module_of at.now.modules.now) at.now.top.now) (value_within (map module_of at.now.modules.now) at.now.top.now at.now.inputs.now at.now.content.now depth) at.now.content.now) }
@@ -56,7 +56,7 @@ pub fn step(alloc: Global, at: &Setting, depth: u32) -> Result<Stepped, Refusal>
 // the outputs, in port order
 fn output_word(alloc: Global, at: &Setting, depth: u32) -> Result<BitString, Refusal>
     ensures value { IfOk result (λ word. word ≡ outputs (map module_of at.now.modules.now) at.now.top.now (value_within (map module_of at.now.modules.now) at.now.top.now at.now.inputs.now at.now.content.now depth)) }
-    ensures refuses { IsErrOf result NotFitting → ¬ ((n : Net) → SuitsWithin (map module_of at.now.modules.now) at.now.top.now at.now.inputs.now at.now.content.now depth n) }
+    ensures refuses { IsErrOf result NotFitting → ¬ TakesRefs (map module_of at.now.modules.now) at.now.top.now at.now.inputs.now at.now.content.now depth [] (outputs_of (find_module (map module_of at.now.modules.now) at.now.top.now)) }
 {
     let words = operand_values(alloc, at, depth, &[], top_operands(at))?;
     let word = joined(alloc, words.as_slice())?;
@@ -81,7 +81,7 @@ fn content_after(
     slots: &[Slot],
 ) -> Result<BitString, Refusal>
     ensures value { IfOk result (λ word. word ≡ next_content (map slot_of slots.now) (value_within (map module_of at.now.modules.now) at.now.top.now at.now.inputs.now at.now.content.now depth) at.now.content.now) }
-    ensures refuses { IsErrOf result NotFitting → ((s : FlatSlot) → In s (map slot_of slots.now) → IsCounted (held_width s.op)) → ¬ ((n : Net) → SuitsWithin (map module_of at.now.modules.now) at.now.top.now at.now.inputs.now at.now.content.now depth n) }
+    ensures refuses { IsErrOf result NotFitting → ((s : FlatSlot) → In s (map slot_of slots.now) → IsCounted (held_width s.op)) → ¬ ((s : FlatSlot) → In s (map slot_of slots.now) → TakesRefs (map module_of at.now.modules.now) at.now.top.now at.now.inputs.now at.now.content.now depth s.path (register_refs (register_in s.op))) }
 {
     let mut word = BitString::new(alloc);
     let mut rest = at.content;
@@ -105,7 +105,7 @@ fn held_after(
 ) -> Result<BitString, Refusal>
     ensures value { IfOk result (λ word. word ≡ first width (loaded_word (register_in (op_of slot.now.operation.now))
         (λ r. value_within (map module_of at.now.modules.now) at.now.top.now at.now.inputs.now at.now.content.now depth (net slot.now.path.items r)) (first width content.now))) }
-    ensures refuses { IsErrOf result NotFitting → ¬ ((n : Net) → SuitsWithin (map module_of at.now.modules.now) at.now.top.now at.now.inputs.now at.now.content.now depth n) }
+    ensures refuses { IsErrOf result NotFitting → ¬ TakesRefs (map module_of at.now.modules.now) at.now.top.now at.now.inputs.now at.now.content.now depth slot.now.path.items (register_refs (register_in (op_of slot.now.operation.now))) }
 {
     let old = padded(alloc, content, width)?;
     let next = match register_in(slot.operation) {
@@ -127,7 +127,7 @@ fn loaded(
 ) -> Result<BitString, Refusal>
     ensures value { IfOk result (λ word. word ≡ loaded_word (Some (register_of register))
         (λ r. value_within (map module_of at.now.modules.now) at.now.top.now at.now.inputs.now at.now.content.now depth (net path.now r)) old) }
-    ensures refuses { IsErrOf result NotFitting → ¬ ((n : Net) → SuitsWithin (map module_of at.now.modules.now) at.now.top.now at.now.inputs.now at.now.content.now depth n) }
+    ensures refuses { IsErrOf result NotFitting → ¬ TakesRefs (map module_of at.now.modules.now) at.now.top.now at.now.inputs.now at.now.content.now depth path.now (register_refs (Some (register_of register))) }
 {
     let clock = net_value(alloc, at, depth, path, register.clock)?;
     if !is_high(&clock) {
@@ -150,7 +150,7 @@ fn enabled(
 ) -> Result<BitString, Refusal>
     ensures value { IfOk result (λ word. word ≡ enabled_word (option_map ref_of enable)
         (λ r. value_within (map module_of at.now.modules.now) at.now.top.now at.now.inputs.now at.now.content.now depth (net path.now r)) old next) }
-    ensures refuses { IsErrOf result NotFitting → ¬ ((n : Net) → SuitsWithin (map module_of at.now.modules.now) at.now.top.now at.now.inputs.now at.now.content.now depth n) }
+    ensures refuses { IsErrOf result NotFitting → ¬ TakesRefs (map module_of at.now.modules.now) at.now.top.now at.now.inputs.now at.now.content.now depth path.now (option_to_list (option_map ref_of enable)) }
 {
     match enable {
         None => Ok(next),
@@ -172,7 +172,7 @@ fn reset(
 ) -> Result<BitString, Refusal>
     ensures value { IfOk result (λ word. word ≡ reset_word (option_map reset_by_of reset)
         (λ r. value_within (map module_of at.now.modules.now) at.now.top.now at.now.inputs.now at.now.content.now depth (net path.now r)) next) }
-    ensures refuses { IsErrOf result NotFitting → ¬ ((n : Net) → SuitsWithin (map module_of at.now.modules.now) at.now.top.now at.now.inputs.now at.now.content.now depth n) }
+    ensures refuses { IsErrOf result NotFitting → ¬ TakesRefs (map module_of at.now.modules.now) at.now.top.now at.now.inputs.now at.now.content.now depth path.now (reset_refs (option_map reset_by_of reset)) }
 {
     match reset {
         None => Ok(next),

@@ -1,4 +1,4 @@
-use Rattle.std.proofs.Common.{arith}
+use Rattle.std.proofs.Common.{arith, rules}
 use Rattle.wiring.proofs.Members.{In-map}
 use Rattle.hw_interpreter.specs.Registers.{slot_of}
 use Rattle.hw_interpreter.proofs.Counts.{member_at}
@@ -9,3 +9,9 @@ returns-in_err-width-clause-refuses c is counted all =
     let item = c.slot-item.result in
     let within = member_at c.args.slots.now c.loop-slot.slot-index item (omega (arith, c.loop-slot-test.true)) c.slot-item.is in
     c.in_err-width.ensures.refuses (counted (slot_of item) (In-map slot_of item c.args.slots.now within))
+
+pub returns-in_err-next-clause-refuses : goal.returns-in_err-next-clause-refuses
+returns-in_err-next-clause-refuses c is counted all =
+    let item = c.slot-item.result in
+    let within = member_at c.args.slots.now c.loop-slot.slot-index item (omega (arith, c.loop-slot-test.true)) c.slot-item.is in
+    c.in_err-next.ensures.refuses (search rules) (all (slot_of item) (In-map slot_of item c.args.slots.now within))

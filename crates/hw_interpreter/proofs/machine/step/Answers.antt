@@ -15,11 +15,11 @@ pub returns-in_err-content-clause-refuses : goal.returns-in_err-content-clause-r
 returns-in_err-content-clause-refuses c is takes =
     c.in_err-content.ensures.refuses (search rules)
     (λ s here. register_counted (map module_of c.args.at.now.modules.now) c.args.at.now.top.now takes.numbers.content s (rw (← c.in_ok-slots.ensures.value, ← c.as_slice.ensures.value) here))
-    takes.nets
+    (λ s here. takes.register_nets s (rw (← c.in_ok-slots.ensures.value, ← c.as_slice.ensures.value) here))
 
 pub returns-in_err-outputs-clause-settles : goal.returns-in_err-outputs-clause-settles
 returns-in_err-outputs-clause-settles c is reaches ρ settled all numbers =
-    c.in_err-outputs.ensures.refuses (search rules) (step_taken (map module_of c.args.at.now.modules.now) c.args.at.now.top.now c.args.depth reaches numbers c.args.at.now.inputs.now c.args.at.now.content.now ρ settled all).nets
+    c.in_err-outputs.ensures.refuses (search rules) (step_taken (map module_of c.args.at.now.modules.now) c.args.at.now.top.now c.args.depth reaches numbers c.args.at.now.inputs.now c.args.at.now.content.now ρ settled all).output_nets
 
 pub returns-in_err-slots-clause-settles : goal.returns-in_err-slots-clause-settles
 returns-in_err-slots-clause-settles c is reaches ρ settled all numbers = c.in_err-slots.ensures.refuses (search rules) numbers.instances
@@ -28,4 +28,4 @@ pub returns-in_err-content-clause-settles : goal.returns-in_err-content-clause-s
 returns-in_err-content-clause-settles c is reaches ρ settled all numbers =
     c.in_err-content.ensures.refuses (search rules)
     (λ s here. register_counted (map module_of c.args.at.now.modules.now) c.args.at.now.top.now numbers.content s (rw (← c.in_ok-slots.ensures.value, ← c.as_slice.ensures.value) here))
-    (step_taken (map module_of c.args.at.now.modules.now) c.args.at.now.top.now c.args.depth reaches numbers c.args.at.now.inputs.now c.args.at.now.content.now ρ settled all).nets
+    (λ s here. (step_taken (map module_of c.args.at.now.modules.now) c.args.at.now.top.now c.args.depth reaches numbers c.args.at.now.inputs.now c.args.at.now.content.now ρ settled all).register_nets s (rw (← c.in_ok-slots.ensures.value, ← c.as_slice.ensures.value) here))
