@@ -4,5 +4,6 @@ pub mod Cutting
 pub mod DesignLemmas
 pub mod IdLemmas
 pub mod Joining
+pub mod Living
 pub mod Numbering
 pub mod UseLemmas
