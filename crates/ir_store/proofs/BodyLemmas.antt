@@ -99,6 +99,15 @@ place_within (i ∷ ids) b h = go (nat_eq i b.index) refl h (place_within ids b)
     go false t (zero, l, e) r = absurd (eqb-false i b.index t e)
     go false t (suc k, l, e) r = omega (arith, r (k, omega arith, e))
 
+-- an id that has a place is there
+pub place_there : (ids : List ℕ) (b : OpId) → place_before (Some b) ids < length ids → Contains ids b.index
+place_there [] b h = absurd (omega arith)
+place_there (i ∷ ids) b h = go (nat_eq i b.index) refl h (place_there ids b)
+  where
+    go : (t : Bool) → nat_eq i b.index ≡ t → cond t 0 (suc (place_before (Some b) ids)) < suc (length ids) → (place_before (Some b) ids < length ids → Contains ids b.index) → Contains (i ∷ ids) b.index
+    go true t h r = (0, omega arith, eqb-true i b.index t)
+    go false t h r = let q = r (omega (arith, h)) in (suc q.0, omega (arith, q.1), q.2)
+
 -- without its first place an id stands there once less
 times-gone : (ids : List ℕ) (b : OpId) → Contains ids b.index → times b.index (remove ids (place_before (Some b) ids)) + 1 ≡ times b.index ids
 times-gone [] b (k, l, e) = absurd (omega arith)

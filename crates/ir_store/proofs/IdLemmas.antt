@@ -170,3 +170,9 @@ below_unless zero zero h f = absurd (f refl)
 below_unless zero (suc n) h f = omega arith
 below_unless (suc i) zero h f = absurd (omega arith)
 below_unless (suc i) (suc n) h f = omega (arith, below_unless i n (omega arith) (λ e. f (ap suc e)))
+
+-- an id that is put in is there
+pub insert_there : (xs : List ℕ) (p x : ℕ) → Contains (insert xs p x) x
+insert_there xs zero x = (0, omega arith, refl)
+insert_there [] (suc p) x = (0, omega arith, refl)
+insert_there (y ∷ ys) (suc p) x = let q = insert_there ys p x in (suc q.0, omega (arith, q.1), q.2)

@@ -100,3 +100,12 @@ operand_count id (o ∷ ops) = cond (nat_eq o.id id) (length o.operands) (operan
 -- the operation of an id has a place for one more operand before operand `k`, or behind the last
 abbrev pub HasPlace : List BodyOp → ℕ → ℕ → Type 0
 HasPlace ops id k = IfSome (op_at ops id) (λ o. k ≤ length o.operands)
+
+-- whether some operand is a result of the operation of an id
+abbrev pub names_in : ℕ → List Value → Bool
+names_in id [] = false
+names_in id (x ∷ xs) = cond (is_of id x) true (names_in id xs)
+
+abbrev pub is_named : ℕ → List BodyOp → Bool
+is_named id [] = false
+is_named id (o ∷ ops) = cond (names_in id o.operands) true (is_named id ops)

@@ -2,7 +2,7 @@
 ghost use Rattle.std.specs.Prelude.{◌≡◌, ℕ, ◌<◌, ◌≤◌, length, min, Some};
 ghost use Rattle.std.specs.Vec.{vec_len, vec_capacity};
 ghost use Rattle.ir_store.specs.Ids.{put_at};
-ghost use Rattle.ir_store.specs.BodyOps.{place_before};
+ghost use Rattle.ir_store.specs.BodyOps.{place_before, is_of, names_in};
 
 use crate::dictionary::Dictionary;
 use crate::operands::OperandTable;
@@ -71,8 +71,8 @@ impl<'b> Iterator for Ops<'b> {
 }
 
 impl Body {
-    ghost use Rattle.std.specs.Prelude.{◌≡◌, ℕ, ◌+◌, ◌<◌, ◌≤◌, ◌^◌, [], ◌∷◌, Some, None, map, min, length, Contains, IfOk, IfSome, IsOk, OnOk, OnErr, slice_set, insert, remove};
-    ghost use Rattle.ir_store.specs.BodyOps.{op_at, put_before, place_before, as_new, operands_at, operand_count, HasOperand, HasPlace, IsUnused, all_replaced, taken_out};
+    ghost use Rattle.std.specs.Prelude.{◌≡◌, ℕ, ◌+◌, ◌<◌, ◌≤◌, ◌^◌, [], ◌∷◌, Some, None, map, min, length, Contains, IfOk, IfSome, IsOk, IsTrue, ◌↔◌, OnOk, OnErr, slice_set, insert, remove};
+    ghost use Rattle.ir_store.specs.BodyOps.{op_at, put_before, place_before, as_new, operands_at, operand_count, HasOperand, HasPlace, IsUnused, is_named, all_replaced, taken_out};
     ghost use Rattle.ir_store.specs.Bodies.{ids_of, ops_of, spare_ops, spare_uses, read_op, read_parts, op_id, ids_left};
     ghost use Rattle.ir_store.specs.OperationViews.{parts_of};
     ghost use Rattle.ir_store.specs.Orders.{live_ids};
@@ -125,6 +125,27 @@ impl Body {
         }
     }
 
+    /// How many operations there are.
+    pub fn op_count(&self) -> usize
+        ensures { result ≡ length (ids_of self.now) }
+    {
+        self.order.count()
+    }
+
+    /// Whether an operation of the body has this id.
+    pub fn contains(&self, id: OpId) -> bool
+        ensures { IsTrue result ↔ Contains (ids_of self.now) id.index }
+    {
+        place_of_id(self.order.live(), id) < self.order.count()
+    }
+
+    /// Whether no operand is a result of the operation `op`.
+    pub fn is_unused(&self, op: OpId) -> bool
+        ensures { IsTrue result ↔ IsUnused op.index (ops_of self.now) }
+    {
+        !self.is_named(op)
+    }
+
     /// The operation `id`.
     pub fn op(&self, id: OpId) -> Op<'_>
         requires { Contains (ids_of self.now) id.index }
@@ -150,6 +171,7 @@ impl Body {
         requires live { IfSome before (λ b. Contains (ids_of self.old) b.index) }
         ensures ok { IfOk result (λ id. ops_of self.new ≡ put_before before (as_new id op) (ops_of self.old)) }
         ensures fresh { IfOk result (λ id. ¬ Contains (ids_of self.old) id.index) }
+        ensures there { IfOk result (λ id. Contains (ids_of self.new) id.index) }
         ensures err { OnErr result (ops_of self.new ≡ ops_of self.old) }
         ensures succeeds { 1 ≤ spare_ops self.old → length op.operands.items ≤ spare_uses self.old → IsOk result }
         ensures spare { (spare_ops self.old ≤ spare_ops self.new + 1) × (spare_uses self.old ≤ spare_uses self.new + length op.operands.items) }
@@ -258,6 +280,18 @@ impl Body {
         }
     }
 
+    /// Whether some operand is a result of the operation `op`.
+    fn is_named(&self, op: OpId) -> bool
+        ensures { result ≡ is_named op.index (ops_of self.now) }
+    {
+        for id in self.order.live() {
+            if names(self.operands.get(*id as usize), op) {
+                return true;
+            }
+        }
+        false
+    }
+
     /// Where the parts and the operands of a live operation stand.
     fn index_of(&self, id: OpId) -> usize
         requires { Contains (live_ids self.now.order) id.index }
@@ -302,6 +336,28 @@ fn put_parts(parts: &mut Vec<Parts>, i: usize, one: Parts)
         parts.push_reserved(one);
     } else {
         parts[i] = one;
+    }
+}
+
+/// Whether some operand is a result of the operation `op`.
+fn names(operands: &[Value], op: OpId) -> bool
+    ensures { result ≡ names_in op.index operands.now }
+{
+    for value in operands {
+        if is_result_of(*value, op) {
+            return true;
+        }
+    }
+    false
+}
+
+/// Whether the value is a result of the operation `op`.
+fn is_result_of(value: Value, op: OpId) -> bool
+    ensures { result ≡ is_of op.index value }
+{
+    match value {
+        Value::Result(id, _) => id.index == op.index,
+        Value::Port(_) | Value::Undefined => false,
     }
 }
 

@@ -4,7 +4,7 @@ use Rattle.std.specs.Prelude.{insert}
 use Rattle.ir_store.specs.Ids.{put_at}
 use Rattle.ir_store.specs.OperationViews.{parts_of, new_parts}
 use Rattle.ir_store.specs.Orders.{live_ids}
-use Rattle.ir_store.proofs.IdLemmas.{map-put_at, not_contained}
+use Rattle.ir_store.proofs.IdLemmas.{map-put_at, not_contained, insert_there}
 use Rattle.ir_store.proofs.BodyLemmas.{op_put, ids_seen}
 use Rattle.ir_store.proofs.body.Body.add_op.Goals as goal
 
@@ -23,6 +23,13 @@ returns-clause-ok c =
     c.args.before (new_parts c.args.op) c.args.op.operands.items (live_ids c.args.self.now.order) (live_ids c.add-id.new.self) c.add-id.result c.place_of-place.result
     (omega (arith, within, length-map c.args.self.now.parts.items parts_of, c.args.self.now.parts_fit)) (omega (arith, within, c.args.self.now.lists_fit))
     fresh parts lists ids place
+
+pub returns-clause-there : goal.returns-clause-there
+returns-clause-there c =
+    let live : live_ids c.reserve.new.self ≡ live_ids c.args.self.now.order = rw (c.reserve.ensures.ids, c.reserve.ensures.live) in
+    let ids = rw live at c.add-id.ensures.ids in
+    rw (ids_seen (map parts_of c.put_parts.new.parts.items) c.put.new.self.lists (live_ids c.add-id.new.self), ids)
+    (insert_there (live_ids c.args.self.now.order) c.place_of-place.result c.add-id.result)
 
 pub returns-clause-fresh : goal.returns-clause-fresh
 returns-clause-fresh c =
