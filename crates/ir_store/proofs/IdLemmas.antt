@@ -1,5 +1,5 @@
 -- Ids in a list: how often each stands in it after an edit, and what a list has at a place that is written.
-use Rattle.std.proofs.Common.{◌≡◌, ℕ, zero, suc, ◌+◌, ◌<◌, ◌≤◌, Bool, true, false, cond, nat_eq, List, [], ◌∷◌, ◌++◌, map, length, get_or, set, take, drop, refl, ap, sym, ◌∙◌, arith}
+use Rattle.std.proofs.Common.{◌≡◌, ℕ, zero, suc, ◌+◌, ◌<◌, ◌≤◌, Bool, true, false, cond, nat_eq, List, [], ◌∷◌, ◌++◌, map, length, get_or, set, take, drop, refl, ap, sym, arith}
 use Rattle.std.specs.Prelude.{insert, remove, max, Contains}
 use Rattle.std.proofs.lemmas.List.{take-append-drop, take-append-le, set_split, length_push}
 use Rattle.std.proofs.lemmas.List.Edits.{length-insert, length-remove}

@@ -6,4 +6,5 @@ pub mod IdLemmas
 pub mod Joining
 pub mod Living
 pub mod Numbering
+pub mod Samples
 pub mod UseLemmas

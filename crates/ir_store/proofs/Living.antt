@@ -7,7 +7,7 @@ use Rattle.ir_store.specs.declared.operation.Value.{Value}
 use Rattle.ir_store.specs.declared.operation.Value.TheVariants.{Port, Result, Undefined}
 use Rattle.ir_store.specs.Ids.{times}
 use Rattle.ir_store.specs.BodyOps.{BodyOp, ids_in, put_before, taken_out, operands_at, all_replaced, replaced, same_value, is_of, IsUnused}
-use Rattle.ir_store.specs.Live.{IsLive, HasLive, AreLive, AreDistinct}
+use Rattle.ir_store.specs.Live.{IsLive, HasLive, AreLive}
 use Rattle.ir_store.proofs.IdLemmas.{contained_times, times-append}
 
 -- ---- all elements

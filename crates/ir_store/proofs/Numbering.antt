@@ -1,10 +1,10 @@
 -- The operations of a body by positions: what each change of the body does to them.
-use Rattle.std.proofs.Common.{◌≡◌, ℕ, zero, suc, ◌+◌, ◌<◌, ◌≤◌, Bool, true, false, cond, nat_eq, ◌&&◌, List, [], ◌∷◌, ◌++◌, map, length, refl, ap, sym, ◌∙◌, arith}
-use Rattle.std.specs.Prelude.{Option, Some, None, option_map, All, Contains, insert, remove, slice_set}
+use Rattle.std.proofs.Common.{◌≡◌, ℕ, zero, suc, ◌≤◌, Bool, true, false, cond, nat_eq, ◌&&◌, List, [], ◌∷◌, ◌++◌, map, refl, ap, sym, ◌∙◌, arith}
+use Rattle.std.specs.Prelude.{Some, None, All, Contains, insert, remove, slice_set}
 use Rattle.std.proofs.lemmas.List.{map-append, map-set}
 use Rattle.std.proofs.lemmas.Bool.{eqb-true, eqb-false}
-use Rattle.hw_model.specs.Design.{Op, Ref}
-use Rattle.hw_model.specs.Design.Ref.{port, result, undefined}
+use Rattle.hw_model.specs.Design.{Ref}
+use Rattle.hw_model.specs.Design.Ref.{result}
 use Rattle.ir_store.specs.declared.operation.OpId.{OpId}
 use Rattle.ir_store.specs.declared.operation.Value.{Value}
 use Rattle.ir_store.specs.declared.operation.Value.TheVariants.{Port, Result, Undefined}
@@ -13,7 +13,7 @@ use Rattle.ir_store.specs.BodyOps.{BodyOp, operands_at, ids_in, put_before, take
 use Rattle.ir_store.specs.Live.{IsLive, HasLive, AreLive, AreDistinct}
 use Rattle.ir_store.specs.Numbered.{position_of, ref_by, op_by, numbered}
 use Rattle.ir_store.specs.Positions.{retargeted, pushed, pulled, pushed_ref, result_at, pulled_ref, with_op, without_op, with_operands, same_ref, replaced_ref}
-use Rattle.ir_store.proofs.Living.{ids_stay, first_of_all, rest_of_all, same_map, unused_left, ids-all_replaced}
+use Rattle.ir_store.proofs.Living.{ids_stay, same_map, unused_left, ids-all_replaced}
 
 -- ---- an operation put in
 

@@ -1,8 +1,7 @@
 -- The places where a value is used, one after another.
-use Rattle.std.proofs.Common.{◌≡◌, ℕ, zero, suc, ◌+◌, ◌<◌, ◌≤◌, Bool, true, false, not, cond, List, [], ◌∷◌, ◌++◌, map, length, get_or, drop, refl, ap, sym, ◌∙◌, arith, add-one}
+use Rattle.std.proofs.Common.{◌≡◌, ℕ, ◌+◌, ◌<◌, ◌≤◌, Bool, true, false, not, cond, List, [], ◌∷◌, ◌++◌, map, length, get_or, drop, refl, ap, add-one}
 use Rattle.std.specs.Prelude.{All}
 use Rattle.std.proofs.lemmas.List.{drop_more, drop_all}
-use Rattle.ir_store.specs.declared.operation.UsePlace.{UsePlace}
 use Rattle.ir_store.specs.declared.operation.Value.{Value}
 use Rattle.ir_store.specs.OperationViews.{OpParts}
 use Rattle.ir_store.specs.BodyOps.{BodyOp, stored, same_value, is_of, names_in, is_named, IsUnused}

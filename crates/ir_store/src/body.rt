@@ -26,6 +26,7 @@ pub struct Body {
 }
 
 /// An operation of a body, its parts by reference.
+#[derive(Drop)]
 pub struct Op<'b> {
     /// Its kind.
     pub kind: &'b OpKind,

@@ -1,6 +1,4 @@
-use Rattle.std.proofs.Common.{◌≡◌, ◌+◌, get_or}
-use Rattle.std.proofs.Common.{arith, ap, sym, ◌∙◌}
-use Rattle.std.specs.Prelude.{slice_set}
+use Rattle.std.proofs.Common.{◌+◌}
 use Rattle.ir_store.proofs.Joining.{changed_more, changed_read}
 use Rattle.ir_store.proofs.operands.raise.Goals as goal
 

@@ -1,4 +1,4 @@
-use Rattle.std.proofs.Common.{◌≡◌, ◌<◌, ◌≤◌, ◌+◌, length, arith, ap, sym, ◌∙◌}
+use Rattle.std.proofs.Common.{◌<◌, ◌+◌, length, arith, ap, sym, ◌∙◌}
 use Rattle.std.specs.Prelude.{remove}
 use Rattle.ir_store.proofs.Joining.{cut_out_more, cut_out_none}
 use Rattle.ir_store.proofs.operands.remove_all.Goals as goal

@@ -1,6 +1,5 @@
-use Rattle.std.proofs.Common.{◌≡◌, ◌≤◌, map, length, ap, sym, ◌∙◌, arith, rules}
+use Rattle.std.proofs.Common.{◌≡◌, ◌≤◌, map, length, arith}
 use Rattle.std.proofs.lemmas.List.{length-map}
-use Rattle.std.specs.Prelude.{insert}
 use Rattle.ir_store.specs.Ids.{put_at}
 use Rattle.ir_store.specs.OperationViews.{parts_of, new_parts}
 use Rattle.ir_store.specs.Orders.{live_ids}

@@ -1,7 +1,5 @@
-use Rattle.std.proofs.Common.{map, take, ◌≡◌, ◌<◌, length, arith, length-take}
+use Rattle.std.proofs.Common.{map, ◌≡◌, length, arith, length-take}
 use Rattle.std.proofs.lemmas.Bool.{ltb-true, lt-ltb}
-use Rattle.ir_store.specs.BodyOps.{place_before}
-use Rattle.std.specs.Prelude.{Some}
 use Rattle.ir_store.specs.OperationViews.{parts_of}
 use Rattle.ir_store.specs.Orders.{live_ids}
 use Rattle.ir_store.proofs.BodyLemmas.{place_within, place_there, ids_seen}

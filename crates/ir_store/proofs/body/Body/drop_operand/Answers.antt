@@ -1,4 +1,4 @@
-use Rattle.std.proofs.Common.{◌<◌, ◌≤◌, ◌+◌, [], map, length, get_or, arith, rules}
+use Rattle.std.proofs.Common.{◌<◌, [], map, length, get_or, arith, rules}
 use Rattle.std.specs.Prelude.{remove}
 use Rattle.ir_store.specs.OperationViews.{parts_of}
 use Rattle.ir_store.specs.Orders.{live_ids}

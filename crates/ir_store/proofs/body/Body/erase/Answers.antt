@@ -1,4 +1,4 @@
-use Rattle.std.proofs.Common.{◌≡◌, ◌<◌, ◌≤◌, ◌+◌, [], map, length, set, refl, arith, length-take}
+use Rattle.std.proofs.Common.{◌≡◌, ◌≤◌, [], map, length, set, refl, arith, length-take}
 use Rattle.std.proofs.lemmas.List.{map-set, length-set}
 use Rattle.ir_store.specs.Ids.{times}
 use Rattle.ir_store.specs.OperationViews.{parts_of}

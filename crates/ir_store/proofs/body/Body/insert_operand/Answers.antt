@@ -1,4 +1,4 @@
-use Rattle.std.proofs.Common.{◌<◌, ◌≤◌, [], ◌∷◌, map, length, arith, rules}
+use Rattle.std.proofs.Common.{◌<◌, map, length, rules}
 use Rattle.std.specs.Prelude.{insert}
 use Rattle.ir_store.specs.OperationViews.{parts_of}
 use Rattle.ir_store.specs.Orders.{live_ids}

@@ -1,4 +1,4 @@
-use Rattle.std.proofs.Common.{◌≡◌, ◌<◌, ◌≤◌, length, get_or, [], ap, sym, arith, rules}
+use Rattle.std.proofs.Common.{◌<◌, ◌≤◌, length, get_or, [], ap, sym, arith, rules}
 use Rattle.std.proofs.lemmas.List.{get_or_past}
 use Rattle.ir_store.proofs.Cutting.{length_cut}
 use Rattle.ir_store.specs.OperandLists.{cut}

@@ -1,4 +1,4 @@
-use Rattle.std.proofs.Common.{◌≡◌, ◌<◌, ◌≤◌, ◌+◌, length, ap, arith, rules}
+use Rattle.std.proofs.Common.{◌≡◌, ◌≤◌, ◌+◌, length, ap, arith, rules}
 use Rattle.std.proofs.lemmas.List.{with_items_is, get_or_default}
 use Rattle.ir_store.specs.OperandLists.{OperandLists, start_of}
 use Rattle.ir_store.proofs.Cutting.{in_table}

@@ -1,5 +1,4 @@
-use Rattle.std.proofs.Common.{arith, ap, ◌≡◌, length}
-use Rattle.ir_store.specs.OperandLists.{OperandLists}
+use Rattle.std.proofs.Common.{arith}
 use Rattle.ir_store.proofs.Cutting.{length_cut}
 use Rattle.ir_store.proofs.operands.OperandTable.list_capacity.Goals as goal
 

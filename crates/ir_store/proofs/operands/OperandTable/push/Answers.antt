@@ -1,4 +1,4 @@
-use Rattle.std.proofs.Common.{◌≡◌, ◌<◌, ◌≤◌, ◌+◌, ◌++◌, length, ap, arith, length-append, ◌∙◌}
+use Rattle.std.proofs.Common.{◌≡◌, ◌+◌, length, ap, arith, length-append, ◌∙◌}
 use Rattle.ir_store.proofs.Cutting.{list_push, ends_push}
 use Rattle.ir_store.proofs.Joining.{put_in_end}
 use Rattle.ir_store.proofs.operands.OperandTable.push.Goals as goal

@@ -1,6 +1,5 @@
-use Rattle.std.proofs.Common.{◌≡◌, ◌<◌, length, ap, arith, sym, ◌∙◌, rules}
+use Rattle.std.proofs.Common.{◌≡◌, length, arith, sym, ◌∙◌}
 use Rattle.std.proofs.lemmas.List.{length-set}
-use Rattle.ir_store.specs.OperandLists.{OperandLists}
 use Rattle.ir_store.proofs.Cutting.{length_cut}
 use Rattle.ir_store.proofs.IdLemmas.{put_at_end, below_unless}
 use Rattle.ir_store.proofs.Joining.{put_cleared}

@@ -1,8 +1,8 @@
-use Rattle.std.proofs.Common.{◌≡◌, ◌<◌, ◌≤◌, ◌+◌, ◌-◌, length, ap, arith, rules}
+use Rattle.std.proofs.Common.{◌≡◌, ◌≤◌, ◌+◌, ◌-◌, length, ap, arith, rules}
 use Rattle.std.proofs.lemmas.List.{with_items_is, get_or_default}
 use Rattle.ir_store.specs.OperandLists.{OperandLists, start_of}
 use Rattle.ir_store.proofs.Cutting.{in_table}
-use Rattle.ir_store.proofs.Joining.{within_whole, list_cut_out, are_ends_cut_out, ends_enough, length-changed_from, length-cut_out, part_within}
+use Rattle.ir_store.proofs.Joining.{list_cut_out, are_ends_cut_out, ends_enough, length-changed_from, length-cut_out, part_within}
 use Rattle.ir_store.proofs.operands.OperandTable.remove.Goals as goal
 
 pub range_of-begin-requires-clause-list : goal.range_of-begin-requires-clause-list

@@ -1,5 +1,4 @@
-use Rattle.std.proofs.Common.{◌≡◌, ◌≤◌, suc, ◌+◌, length, take, arith, add-one, rules}
-use Rattle.std.specs.Prelude.{insert}
+use Rattle.std.proofs.Common.{◌≤◌, length, arith, add-one}
 use Rattle.std.proofs.lemmas.List.Edits.{length-insert}
 use Rattle.ir_store.proofs.IdLemmas.{once_insert, below_insert, take-insert, fresh_front}
 use Rattle.ir_store.proofs.order.Order.add.Goals as goal

@@ -1,5 +1,4 @@
-use Rattle.std.proofs.Common.{◌≡◌, ◌<◌, ◌≤◌, ◌-◌, suc, ◌+◌, ◌++◌, ◌∷◌, [], length, take, arith, sym, ◌∙◌, ap}
-use Rattle.std.specs.Prelude.{remove}
+use Rattle.std.proofs.Common.{◌≡◌, ◌<◌, ◌≤◌, ◌-◌, suc, length, arith}
 use Rattle.ir_store.proofs.IdLemmas.{once_moved, below_moved, length_moved, take-remove}
 use Rattle.ir_store.proofs.order.Order.remove.Goals as goal
 
