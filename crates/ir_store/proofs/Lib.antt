@@ -2,4 +2,9 @@
 pub mod BodyLemmas
 pub mod Cutting
 pub mod DesignLemmas
+pub mod IdLemmas
+pub mod Joining
+pub mod Living
 pub mod Numbering
+pub mod Samples
+pub mod UseLemmas

@@ -2,7 +2,7 @@
 use crate::body::Body;
 use crate::design::{Design, Module, PortList};
 use crate::dictionary::Dictionary;
-use crate::operation::{NewOp, NewResultList, OpId, TyList, Value};
+use crate::operation::{NewOp, NewResultList, OpId, TyList, UsePlace, Value};
 use diag::refusal::Place;
 use hw_model::kinds::OpKind;
 use io_edge::byte_text::Text;
@@ -72,5 +72,212 @@ fn modules_are_found_by_symbol(rt: HostRuntime) -> Result<(), Fail> {
     assert_eq!(rt; (first, second), (0, 1));
     assert_eq!(rt; design.find(b"B".as_slice()), Some(1));
     assert_eq!(rt; design.find(b"C".as_slice()), None);
+    Ok(())
+}
+
+// each of these calls the body where the call may be made, and says whether it was
+
+fn put(
+    alloc: Global,
+    body: &mut Body,
+    before: Option<OpId>,
+    kind: OpKind,
+    operands: &[Value],
+) -> Result<Option<OpId>, AllocError> {
+    if body.op_count() >= 1000 {
+        return Ok(None);
+    }
+    if let Some(other) = before {
+        if !body.contains(other) {
+            return Ok(None);
+        }
+    }
+    let id = body.add_op(before, operation(alloc, kind, operands)?)?;
+    Ok(Some(id))
+}
+
+fn erased(body: &mut Body, op: OpId) -> bool {
+    let may = body.contains(op) && body.is_unused(op);
+    if may {
+        body.erase(op);
+    }
+    may
+}
+
+fn inserted(body: &mut Body, op: OpId, at: u32, value: Value) -> Result<bool, AllocError> {
+    let may = body.contains(op) && at as usize <= body.op(op).operands.len();
+    if may {
+        body.insert_operand(op, at, value)?;
+    }
+    Ok(may)
+}
+
+fn written(body: &mut Body, op: OpId, at: u32, value: Value) -> bool {
+    let may = body.contains(op) && (at as usize) < body.op(op).operands.len();
+    if may {
+        body.set_operand(op, at, value);
+    }
+    may
+}
+
+fn dropped(body: &mut Body, op: OpId, at: u32) -> bool {
+    let may = body.contains(op) && (at as usize) < body.op(op).operands.len();
+    if may {
+        body.drop_operand(op, at);
+    }
+    may
+}
+
+fn has(body: &Body, op: OpId, operands: &[Value]) -> bool {
+    body.contains(op) && body.op(op).operands == operands
+}
+
+// whether the body has these operations in this order
+fn is_order(body: &Body, ids: &[OpId]) -> bool {
+    let mut left = body.ops();
+    for id in ids {
+        if left.next() != Some(*id) {
+            return false;
+        }
+    }
+    left.next().is_none()
+}
+
+// whether the value is used at these places, in this order
+fn is_used_at(body: &Body, value: Value, places: &[UsePlace]) -> bool {
+    let mut left = body.uses(value);
+    for place in places {
+        if left.next() != Some(*place) {
+            return false;
+        }
+    }
+    left.next().is_none()
+}
+
+#[test]
+fn an_operation_is_put_before_another(rt: HostRuntime) -> Result<(), Fail> {
+    let alloc = rt.alloc();
+    let mut body = Body::new(alloc);
+    let last = put(alloc, &mut body, None, OpKind::Output, &[])?;
+    let first = put(alloc, &mut body, last, OpKind::Add, &[Value::Port(0)])?;
+    match (first, last) {
+        (Some(first), Some(last)) => {
+            assert!(rt; is_order(&body, &[first, last]));
+            assert!(rt; has(&body, first, &[Value::Port(0)]));
+        }
+        _ => assert!(rt; false),
+    }
+    Ok(())
+}
+
+#[test]
+fn operands_change_where_they_are_named(rt: HostRuntime) -> Result<(), Fail> {
+    let alloc = rt.alloc();
+    let (a, b) = (Value::Port(0), Value::Port(1));
+    let mut body = Body::new(alloc);
+    let Some(add) = put(alloc, &mut body, None, OpKind::Add, &[a, b])? else {
+        return Ok(());
+    };
+    let sum = Value::Result(add, 0);
+    let Some(out) = put(alloc, &mut body, None, OpKind::Output, &[sum, a])? else {
+        return Ok(());
+    };
+    assert!(rt; inserted(&mut body, add, 1, sum)?);
+    assert!(rt; has(&body, add, &[a, sum, b]));
+    assert!(rt; inserted(&mut body, out, 2, b)?);
+    assert!(rt; !inserted(&mut body, out, 4, b)?);
+    assert!(rt; has(&body, out, &[sum, a, b]));
+    assert!(rt;
+        is_used_at(
+            &body,
+            sum,
+            &[UsePlace { op: add, at: 1 }, UsePlace { op: out, at: 0 }]
+        )
+    );
+    assert!(rt;
+        is_used_at(
+            &body,
+            b,
+            &[UsePlace { op: add, at: 2 }, UsePlace { op: out, at: 2 }]
+        )
+    );
+    assert!(rt; is_used_at(&body, Value::Undefined, &[]));
+    body.replace_all_uses(a, sum);
+    assert!(rt; has(&body, add, &[sum, sum, b]));
+    assert!(rt; has(&body, out, &[sum, sum, b]));
+    assert!(rt; dropped(&mut body, add, 0));
+    assert!(rt; written(&mut body, add, 0, a));
+    assert!(rt; !written(&mut body, add, 2, a));
+    assert!(rt; has(&body, add, &[a, b]));
+    assert!(rt; has(&body, out, &[sum, sum, b]));
+    Ok(())
+}
+
+#[test]
+fn ids_are_used_again(rt: HostRuntime) -> Result<(), Fail> {
+    let alloc = rt.alloc();
+    let mut body = Body::new(alloc);
+    body.reserve(3, 4)?;
+    let Some(add) = put(
+        alloc,
+        &mut body,
+        None,
+        OpKind::Add,
+        &[Value::Port(0), Value::Port(1)],
+    )?
+    else {
+        return Ok(());
+    };
+    let sum = Value::Result(add, 0);
+    let Some(out) = put(alloc, &mut body, None, OpKind::Output, &[sum])? else {
+        return Ok(());
+    };
+    // a result that is used keeps its operation
+    assert!(rt; !erased(&mut body, add));
+    assert!(rt; written(&mut body, out, 0, Value::Port(1)));
+    let before = body.spare();
+    assert!(rt; erased(&mut body, add));
+    let after = body.spare();
+    assert!(rt; after.0.saturating_sub(before.0) >= 1 && after.1.saturating_sub(before.1) >= 2);
+    assert!(rt; !body.contains(add));
+    assert!(rt; is_order(&body, &[out]));
+    let again = put(alloc, &mut body, Some(out), OpKind::Sub, &[Value::Port(1)])?;
+    assert_eq!(rt; again, Some(add));
+    assert!(rt; is_order(&body, &[add, out]));
+    assert!(rt; has(&body, add, &[Value::Port(1)]));
+    assert!(rt; has(&body, out, &[Value::Port(1)]));
+    let copy = body.try_clone(alloc)?;
+    assert!(rt; is_order(&copy, &[add, out]));
+    assert!(rt; has(&copy, add, &[Value::Port(1)]));
+    Ok(())
+}
+
+// adds and erases 1,000 operations ten times over
+#[test]
+fn room_that_was_reserved_lasts(rt: HostRuntime) -> Result<(), Fail> {
+    let alloc = rt.alloc();
+    let mut body = Body::new(alloc);
+    body.reserve(1000, 2000)?;
+    for _ in 0..10 {
+        for _ in 0..1000 {
+            let room = body.spare();
+            assert!(rt; room.0 >= 1 && room.1 >= 2);
+            let added = put(
+                alloc,
+                &mut body,
+                None,
+                OpKind::Add,
+                &[Value::Port(0), Value::Port(1)],
+            )?;
+            assert!(rt; added.is_some());
+        }
+        for _ in 0..1000 {
+            let first = body.ops().next();
+            if let Some(op) = first {
+                assert!(rt; erased(&mut body, op));
+            }
+        }
+        assert_eq!(rt; body.op_count(), 0);
+    }
     Ok(())
 }
