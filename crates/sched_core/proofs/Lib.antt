@@ -1,0 +1,9 @@
+pub mod SumLemmas
+pub mod Puts
+pub mod LeafNumbers
+pub mod Moves
+pub mod Edges
+pub mod Draws
+pub mod Reports
+pub mod Keeping
+pub mod RunLemmas

@@ -1,0 +1,5 @@
+pub mod Sums
+pub mod State
+pub mod Happenings
+pub mod Sound
+pub mod Runs
