@@ -7,3 +7,7 @@ pub mod Draws
 pub mod Reports
 pub mod Keeping
 pub mod RunLemmas
+pub mod EdgeSums
+pub mod Busy
+pub mod Untold
+pub mod Reading

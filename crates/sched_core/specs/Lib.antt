@@ -3,3 +3,5 @@ pub mod State
 pub mod Happenings
 pub mod Sound
 pub mod Runs
+pub mod Counts
+pub mod Table
