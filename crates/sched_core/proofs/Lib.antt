@@ -11,3 +11,4 @@ pub mod EdgeSums
 pub mod Busy
 pub mod Untold
 pub mod Reading
+pub mod Tested

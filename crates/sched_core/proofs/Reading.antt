@@ -23,3 +23,9 @@ module _ {A B : Type 0} where
   pub parts-set : (part : A → B) (d : A) (xs : List A) (i : ℕ) (x : A) → i < length xs
       → (λ (k : ℕ). part (get_or (set xs i x) k d)) ≡ put i (part x) (λ j. part (get_or xs j d))
   parts-set part d xs i x within = fun_ext (part-set part d xs i x within)
+
+-- past the end of a list stands the default
+pub get_or-past : {A : Type 0} (xs : List A) (k : ℕ) (d : A) → length xs ≤ k → get_or xs k d ≡ d
+get_or-past [] k d past = refl
+get_or-past (x ∷ xs) zero d past = absurd (omega arith)
+get_or-past (x ∷ xs) (suc k) d past = get_or-past xs k d (omega arith)

@@ -5,3 +5,4 @@ pub mod Sound
 pub mod Runs
 pub mod Counts
 pub mod Table
+pub mod Views

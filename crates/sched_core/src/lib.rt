@@ -9,7 +9,9 @@
 mod event;
 mod laws;
 mod parts;
+mod sched;
 
 pub use event::Event;
 pub use laws::every_run_is_sound;
 pub use parts::{Edge, Fill, Stage, Worker};
+pub use sched::Sched;
