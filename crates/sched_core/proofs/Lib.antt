@@ -12,3 +12,8 @@ pub mod Busy
 pub mod Untold
 pub mod Reading
 pub mod Tested
+pub mod Shapes
+pub mod StageWrites
+pub mod EdgeWrites
+pub mod WorkerWrites
+pub mod Openings

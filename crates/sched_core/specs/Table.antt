@@ -1,5 +1,5 @@
 -- The tables that a scheduler keeps, the state that they tell, and what holds of them.
-use Rattle.std.specs.Prelude.{◌≡◌, ℕ, ◌+◌, ◌^◌, ◌<◌, false, List, [], length, slice_index_or}
+use Rattle.std.specs.Prelude.{◌≡◌, ℕ, ◌+◌, ◌^◌, ◌<◌, false, cond, ◌==◌, List, [], length, slice_index_or}
 use Rattle.sched_core.specs.declared.parts.Stage.{Stage}
 use Rattle.sched_core.specs.declared.parts.Stage.TheVariants.{Waiting, Owed, Taken, Done}
 use Rattle.sched_core.specs.declared.parts.Edge.{Edge}
@@ -36,12 +36,16 @@ pub record Table : Type 0 where
   -- how many edges each worker is still to report
   pub untold : List ℕ
 
--- the stage with the doer's heir for the doer
+-- the stage with the doer's heir for the doer; 64 is no worker
 abbrev pub inherited : List ℕ → Stage → Stage
 inherited heirs Waiting = Waiting
 inherited heirs (Owed w) = Owed w
 inherited heirs (Taken w) = Taken w
-inherited heirs (Done w) = Done (slice_index_or heirs w 0)
+inherited heirs (Done w) = Done (slice_index_or heirs w 64)
+
+-- an heir after a worker has gone and another has kept what it did
+abbrev pub heir_after : ℕ → ℕ → ℕ → ℕ
+heir_after kept gone heir = cond (heir == gone) kept heir
 
 -- the state that the tables tell
 abbrev pub state_of : Table → State
@@ -80,7 +84,7 @@ pub record IsKept (t : Table) : Type 0 where
   pub leaf_modules : t.leaf_modules ≡ leaves t.callees
   pub uses : (m : ℕ) → m < length t.callees → slice_index_or t.uses m 0 ≡ uses_of t.callees m
   -- a worker that has not gone is its own heir
-  pub own : (w : ℕ) → w < 64 → (w < t.splits + 1 → (slice_index_or t.workers w no_worker).gone ≡ false) → slice_index_or t.heirs w 0 ≡ w
+  pub own : (w : ℕ) → w < 64 → (w < t.splits + 1 → (slice_index_or t.workers w no_worker).gone ≡ false) → slice_index_or t.heirs w 64 ≡ w
   -- the counts of the workers are those of the state
   pub busy : (w : ℕ) → w < 64 → slice_index_or t.busy w 0 ≡ busy_of (state_of t) w
   pub untold : (w : ℕ) → w < 64 → slice_index_or t.untold w 0 ≡ untold_of (state_of t) w

@@ -1,13 +1,13 @@
 //! The scheduler.
 
-ghost use Rattle.std.specs.Prelude.{◌≡◌, ◌≢◌, ◌↔◌, ℕ, ◌+◌, ◌-◌, ◌<◌, ◌≤◌, [], true, false, IsTrue, length, slice_index_or};
+ghost use Rattle.std.specs.Prelude.{◌≡◌, ◌≢◌, ◌↔◌, ℕ, ◌+◌, ◌-◌, ◌<◌, ◌≤◌, [], true, false, IsTrue, Some, None, length, map, slice_get, slice_index_or};
 ghost use Rattle.std.specs.List.{list_all};
 ghost use Rattle.sched_core.specs.declared.parts.Stage.TheVariants.{Owed, Taken, Done};
 ghost use Rattle.sched_core.specs.declared.parts.Fill.TheVariants.{Emptied};
 ghost use Rattle.sched_core.specs.declared.event.Event.TheVariants.{Claim, Take, TakeEdge, PutDone, PutEdge, Report, Split, Join};
-ghost use Rattle.sched_core.specs.State.{State, IsEdge, callee, IsThere, IsFree, HasReported, is_emptied};
+ghost use Rattle.sched_core.specs.State.{State, IsEdge, callee, leaves, IsThere, IsFree, HasReported, is_emptied};
 ghost use Rattle.sched_core.specs.Happenings.{May, step};
-ghost use Rattle.sched_core.specs.Table.{state_of};
+ghost use Rattle.sched_core.specs.Table.{state_of, heir_after};
 
 use crate::event::Event;
 use crate::parts::{Edge, Fill, Stage, Worker};
@@ -43,6 +43,22 @@ impl Model for Sched {
     ghost invariant = { λ s. IsKept (table_of s) };
 }
 
+// the heir after a worker has gone and another has kept what it did
+fn heir_after(heir: u32, kept: u32, gone: u32) -> u32
+    ensures { result ≡ heir_after kept gone heir }
+{
+    if heir == gone { kept } else { heir }
+}
+
+// the one worker is the heir wherever the other was
+fn pass_on(heirs: &mut [u32], kept: u32, gone: u32)
+    ensures { heirs.new ≡ map (heir_after kept gone) heirs.old }
+{
+    for i in 0..heirs.len() {
+        heirs[i] = heir_after(heirs[i], kept, gone);
+    }
+}
+
 // whether each copy was taken
 fn all_emptied(row: &[Edge]) -> bool
     ensures { result ≡ list_all (λ e. is_emptied e.fill) row.now }
@@ -67,7 +83,7 @@ impl Sched {
             Stage::Waiting => Stage::Waiting,
             Stage::Owed(w) => Stage::Owed(w),
             Stage::Taken(w) => Stage::Taken(w),
-            Stage::Done(w) => Stage::Done(self.heirs.get(w as usize).copied().unwrap_or(0)),
+            Stage::Done(w) => Stage::Done(self.heirs.get(w as usize).copied().unwrap_or(64)),
         }
     }
 
@@ -240,6 +256,175 @@ impl Sched {
             Event::Report { w, c, i } => self.may_report(w, c, i),
             Event::Split => self.may_split(),
             Event::Join { kept, gone } => self.may_join(kept, gone),
+        }
+    }
+
+    // the leaf m, whose turn it is, is owed to the worker
+    fn draw(&mut self, w: u32, m: u32)
+        requires may { May (state_of self.old) (Claim w) }
+        requires turn { slice_get (leaves self.old.callees) self.old.leaf ≡ Some m }
+        ensures { state_of self.new ≡ step (state_of self.old) (Claim w) }
+    {
+        self.stages[m as usize] = Stage::Owed(w);
+        self.busy[w as usize] += 1;
+        self.leaf += 1;
+    }
+
+    // the worker draws past the leaves
+    fn pass(&mut self, w: u32)
+        requires may { May (state_of self.old) (Claim w) }
+        requires past { slice_get (leaves self.old.callees) self.old.leaf ≡ None }
+        ensures { state_of self.new ≡ step (state_of self.old) (Claim w) }
+    {
+        let worker = self.worker(w);
+        self.workers[w as usize] = Worker {
+            passed: true,
+            gone: worker.gone,
+        };
+        self.leaf += 1;
+    }
+
+    fn next_leaf(&self) -> Option<u32>
+        ensures { result ≡ slice_get (leaves self.now.callees) self.now.leaf }
+    {
+        self.leaves.get(self.leaf as usize).copied()
+    }
+
+    fn claim(&mut self, w: u32)
+        requires { May (state_of self.old) (Claim w) }
+        ensures { state_of self.new ≡ step (state_of self.old) (Claim w) }
+    {
+        match self.next_leaf() {
+            Some(m) => self.draw(w, m),
+            None => self.pass(w),
+        }
+    }
+
+    fn take(&mut self, w: u32, m: u32)
+        requires { May (state_of self.old) (Take w m) }
+        ensures { state_of self.new ≡ step (state_of self.old) (Take w m) }
+    {
+        self.stages[m as usize] = Stage::Taken(w);
+    }
+
+    fn take_edge(&mut self, w: u32, c: u32, i: u32)
+        requires { May (state_of self.old) (TakeEdge w c i) }
+        ensures { state_of self.new ≡ step (state_of self.old) (TakeEdge w c i) }
+    {
+        let edge = self.edge(c, i);
+        self.edges[c as usize][i as usize] = Edge {
+            fill: Fill::Emptied,
+            reported: edge.reported,
+        };
+    }
+
+    fn put_done(&mut self, w: u32, m: u32)
+        requires { May (state_of self.old) (PutDone w m) }
+        ensures { state_of self.new ≡ step (state_of self.old) (PutDone w m) }
+    {
+        self.stages[m as usize] = Stage::Done(w);
+        self.busy[w as usize] -= 1;
+        self.untold[w as usize] += self.uses[m as usize];
+    }
+
+    fn put_edge(&mut self, w: u32, c: u32, i: u32)
+        requires { May (state_of self.old) (PutEdge w c i) }
+        ensures { state_of self.new ≡ step (state_of self.old) (PutEdge w c i) }
+    {
+        let edge = self.edge(c, i);
+        self.edges[c as usize][i as usize] = Edge {
+            fill: Fill::Full,
+            reported: edge.reported,
+        };
+    }
+
+    // a report after which the caller has pending edges
+    fn report_more(&mut self, w: u32, c: u32, i: u32)
+        requires may { May (state_of self.old) (Report w c i) }
+        requires more { (state_of self.old).pending c ≢ 1 }
+        ensures { state_of self.new ≡ step (state_of self.old) (Report w c i) }
+    {
+        let edge = self.edge(c, i);
+        self.edges[c as usize][i as usize] = Edge {
+            fill: edge.fill,
+            reported: true,
+        };
+        self.pending[c as usize] -= 1;
+        self.untold[w as usize] -= 1;
+    }
+
+    // the last report of the caller's edges
+    fn report_last(&mut self, w: u32, c: u32, i: u32)
+        requires may { May (state_of self.old) (Report w c i) }
+        requires last { (state_of self.old).pending c ≡ 1 }
+        ensures { state_of self.new ≡ step (state_of self.old) (Report w c i) }
+    {
+        let edge = self.edge(c, i);
+        self.edges[c as usize][i as usize] = Edge {
+            fill: edge.fill,
+            reported: true,
+        };
+        self.pending[c as usize] -= 1;
+        self.untold[w as usize] -= 1;
+        self.stages[c as usize] = Stage::Owed(w);
+        self.busy[w as usize] += 1;
+    }
+
+    // how many edges of the caller are not reported
+    fn pending(&self, c: u32) -> u32
+        ensures { result ≡ (state_of self.now).pending c }
+    {
+        self.pending.get(c as usize).copied().unwrap_or(0)
+    }
+
+    fn report(&mut self, w: u32, c: u32, i: u32)
+        requires { May (state_of self.old) (Report w c i) }
+        ensures { state_of self.new ≡ step (state_of self.old) (Report w c i) }
+    {
+        if self.pending(c) == 1 {
+            self.report_last(w, c, i);
+        } else {
+            self.report_more(w, c, i);
+        }
+    }
+
+    fn split(&mut self)
+        requires { May (state_of self.old) Split }
+        ensures { state_of self.new ≡ step (state_of self.old) Split }
+    {
+        self.splits += 1;
+        self.workers[self.splits as usize] = Worker {
+            passed: false,
+            gone: false,
+        };
+    }
+
+    fn join(&mut self, kept: u32, gone: u32)
+        requires { May (state_of self.old) (Join kept gone) }
+        ensures { state_of self.new ≡ step (state_of self.old) (Join kept gone) }
+    {
+        let worker = self.worker(gone);
+        self.workers[gone as usize] = Worker {
+            passed: worker.passed,
+            gone: true,
+        };
+        pass_on(&mut self.heirs, kept, gone);
+    }
+
+    /// Lets the event come.
+    pub fn step(&mut self, event: Event)
+        requires { May (state_of self.old) event }
+        ensures { state_of self.new ≡ step (state_of self.old) event }
+    {
+        match event {
+            Event::Claim { w } => self.claim(w),
+            Event::Take { w, m } => self.take(w, m),
+            Event::TakeEdge { w, c, i } => self.take_edge(w, c, i),
+            Event::PutDone { w, m } => self.put_done(w, m),
+            Event::PutEdge { w, c, i } => self.put_edge(w, c, i),
+            Event::Report { w, c, i } => self.report(w, c, i),
+            Event::Split => self.split(),
+            Event::Join { kept, gone } => self.join(kept, gone),
         }
     }
 }
