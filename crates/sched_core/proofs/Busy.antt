@@ -1,10 +1,10 @@
 -- How many modules each worker owes or has taken, after each event.
-use Rattle.std.proofs.Common.{◌≡◌, ◌≢◌, ℕ, zero, suc, ◌+◌, ◌-◌, ◌<◌, ◌≤◌, Bool, true, false, cond, List, length, refl, sym, ap, ◌∙◌, arith}
+use Rattle.std.proofs.Common.{◌≡◌, ℕ, ◌+◌, ◌<◌, ◌≤◌, true, false, length, refl, sym, ap, ◌∙◌, arith}
 use Rattle.std.specs.Prelude.{◌==◌}
 use Rattle.std.proofs.lemmas.Bool.{false≢true}
 use Rattle.sched_core.specs.declared.parts.Stage.{Stage}
 use Rattle.sched_core.specs.declared.parts.Stage.TheVariants.{Waiting, Owed, Taken, Done}
-use Rattle.sched_core.specs.Sums.{sum_below, one_if, put}
+use Rattle.sched_core.specs.Sums.{one_if, put}
 use Rattle.sched_core.specs.State.{State, is_waiting, is_busy_with, IsFree}
 use Rattle.sched_core.specs.Happenings.{passed_on}
 use Rattle.sched_core.specs.Counts.{busy_of}

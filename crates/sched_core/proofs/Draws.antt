@@ -1,16 +1,16 @@
 -- Events that keep a state sound: a leaf is drawn, or a worker draws past the leaves; a worker comes. The first state.
-use Rattle.std.proofs.Common.{◌≡◌, ◌≢◌, ℕ, zero, suc, ◌+◌, ◌-◌, ◌<◌, ◌≤◌, ◌⊎◌, Bool, true, false, not, List, [], length, Option, Some, None, slice_get, refl, sym, ap, subst, ◌∙◌, inl, inr, arith}
-use Rattle.std.specs.Prelude.{◌==◌, nat_lt, nat_le}
-use Rattle.std.proofs.lemmas.Bool.{true≢false, false≢true, eqb-true, eq-eqb, ne_eqb, ltb-true, lt-ltb, le-ltb, leb-true, le-leb, lt-leb, cases_eq}
+use Rattle.std.proofs.Common.{◌≡◌, ◌≢◌, ℕ, zero, suc, ◌+◌, ◌-◌, ◌<◌, ◌≤◌, ◌⊎◌, true, false, not, List, [], length, Option, Some, None, slice_get, refl, sym, ap, subst, ◌∙◌, inl, inr, arith}
+use Rattle.std.specs.Prelude.{◌==◌, nat_le}
+use Rattle.std.proofs.lemmas.Bool.{false≢true, eqb-true, ne_eqb, lt-ltb, le-leb, lt-leb, cases_eq}
 use Rattle.sched_core.specs.declared.parts.Stage.{Stage}
 use Rattle.sched_core.specs.declared.parts.Stage.TheVariants.{Waiting, Owed, Taken, Done}
 use Rattle.sched_core.specs.declared.parts.Worker.{Worker}
 use Rattle.sched_core.specs.declared.event.Event.TheVariants.{Claim, Split}
 use Rattle.sched_core.specs.Sums.{sum_below, one_if, put}
-use Rattle.sched_core.specs.State.{State, callees_of, callee, IsEdge, leaves, is_waiting, is_begun, is_done, is_held_by, is_emptied, IsThere, new_worker, no_worker, first}
+use Rattle.sched_core.specs.State.{State, callees_of, callee, leaves, is_waiting, is_begun, is_done, is_held_by, IsThere, new_worker, first}
 use Rattle.sched_core.specs.Happenings.{May, step, claimed}
-use Rattle.sched_core.specs.Sound.{Sound, holders, passed_workers, unreported_edges}
-use Rattle.sched_core.proofs.SumLemmas.{sum_below-same, sum_below-changed, sum_below-none, sum_below-one, sum_below-past}
+use Rattle.sched_core.specs.Sound.{Sound, holders, passed_workers}
+use Rattle.sched_core.proofs.SumLemmas.{sum_below-same, sum_below-changed, sum_below-one, sum_below-past}
 use Rattle.sched_core.proofs.Puts.{put-here, put-other, put_cases, put_keeps}
 use Rattle.sched_core.proofs.LeafNumbers.{within_some, past_none, leaf-callees, leaf_number}
 

@@ -1,6 +1,5 @@
 -- Sums over all edges.
-use Rattle.std.proofs.Common.{◌≡◌, ◌≢◌, ℕ, zero, suc, ◌+◌, ◌*◌, ◌<◌, ◌≤◌, ◌⊎◌, List, [], ◌∷◌, length, refl, sym, ap, ◌∙◌, inl, inr, arith, suc-mul}
-use Rattle.std.proofs.lemmas.Bool.{cases_eq}
+use Rattle.std.proofs.Common.{◌≡◌, ◌≢◌, ℕ, zero, suc, ◌+◌, ◌*◌, ◌<◌, ◌≤◌, ◌⊎◌, List, [], ◌∷◌, length, ◌∙◌, inl, inr, arith, suc-mul}
 use Rattle.sched_core.specs.Sums.{sum_below}
 use Rattle.sched_core.specs.State.{callees_of, IsEdge}
 use Rattle.sched_core.specs.Counts.{sum_edges}

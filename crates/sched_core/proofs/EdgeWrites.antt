@@ -1,28 +1,26 @@
 -- The writes by which an edge is emptied, filled or reported.
-use Rattle.std.proofs.Common.{◌≡◌, ◌≢◌, ℕ, zero, suc, ◌+◌, ◌-◌, ◌<◌, ◌≤◌, ◌⊎◌, Bool, true, false, cond, List, [], ◌∷◌, length, set, get_or, refl, sym, ap, subst, ◌∙◌, inl, inr, arith}
-use Rattle.std.specs.Prelude.{◌==◌, ◌&&◌, not}
+use Rattle.std.proofs.Common.{◌≡◌, ℕ, suc, ◌+◌, ◌-◌, ◌<◌, ◌≤◌, true, List, [], length, set, get_or, refl, sym, ap, subst, ◌∙◌, arith}
+use Rattle.std.specs.Prelude.{◌==◌}
 use Rattle.std.proofs.lemmas.Bool.{eq-eqb, ne_eqb}
 use Rattle.std.proofs.lemmas.List.{length-set}
-use Rattle.sched_core.specs.declared.parts.Stage.{Stage}
-use Rattle.sched_core.specs.declared.parts.Stage.TheVariants.{Waiting, Owed, Taken, Done}
-use Rattle.sched_core.specs.declared.parts.Fill.TheVariants.{Empty, Full, Emptied}
+use Rattle.sched_core.specs.declared.parts.Stage.TheVariants.{Owed}
+use Rattle.sched_core.specs.declared.parts.Fill.TheVariants.{Full, Emptied}
 use Rattle.sched_core.specs.declared.parts.Edge.{Edge}
-use Rattle.sched_core.specs.declared.event.Event.{Event}
 use Rattle.sched_core.specs.declared.event.Event.TheVariants.{TakeEdge, PutEdge, Report}
 use Rattle.sched_core.specs.Sums.{one_if, put}
-use Rattle.sched_core.specs.State.{State, callees_of, callee, IsEdge, is_waiting, is_done, is_held_by, IsThere, new_edge}
+use Rattle.sched_core.specs.State.{State, callees_of, callee, IsEdge, is_waiting, new_edge}
 use Rattle.sched_core.specs.Happenings.{May, step, with_edge, called}
 use Rattle.sched_core.specs.Counts.{busy_of, untold_of}
 use Rattle.sched_core.specs.Table.{Table, state_of, HasPlaces, IsKept}
 use Rattle.sched_core.proofs.Puts.{put_keeps}
 use Rattle.sched_core.proofs.Draws.{not_done}
-use Rattle.sched_core.proofs.Reports.{pending-positive, unreported-waits, doer_there}
+use Rattle.sched_core.proofs.Reports.{unreported-waits, doer_there}
 use Rattle.sched_core.proofs.EdgeSums.{edge_within}
 use Rattle.sched_core.proofs.Busy.{busy-owed}
 use Rattle.sched_core.proofs.Untold.{untold-edge, untold-told, untold-put}
 use Rattle.sched_core.proofs.Reading.{part-set, parts-set}
 use Rattle.sched_core.proofs.Tested.{there-lt}
-use Rattle.sched_core.proofs.Shapes.{Writes, Counted, counted, count-set, state-stage}
+use Rattle.sched_core.proofs.Shapes.{Writes, counted, count-set, state-stage}
 use Rattle.sched_core.proofs.StageWrites.{places-stage, places-busy, places-untold}
 
 -- the rows with another edge

@@ -1,18 +1,15 @@
 -- Events that keep a state sound: an edge is emptied or filled.
-use Rattle.std.proofs.Common.{◌≡◌, ◌≢◌, ℕ, zero, suc, ◌+◌, ◌-◌, ◌<◌, ◌≤◌, ◌⊎◌, Bool, true, false, not, List, length, refl, sym, ap, subst, ◌∙◌, inl, inr, arith}
-use Rattle.std.specs.Prelude.{nat_lt}
-use Rattle.std.proofs.lemmas.Bool.{true≢false, false≢true, ltb-false, lt-ltb, cases_Bool}
-use Rattle.sched_core.specs.declared.parts.Stage.{Stage}
-use Rattle.sched_core.specs.declared.parts.Stage.TheVariants.{Waiting, Owed, Taken, Done}
-use Rattle.sched_core.specs.declared.parts.Fill.TheVariants.{Empty, Full, Emptied}
+use Rattle.std.proofs.Common.{◌≡◌, ℕ, ◌<◌, ◌≤◌, Bool, true, false, not, length, refl, sym, ap, subst, ◌∙◌, arith}
+use Rattle.std.proofs.lemmas.Bool.{true≢false, false≢true, ltb-false}
+use Rattle.sched_core.specs.declared.parts.Fill.TheVariants.{Full, Emptied}
 use Rattle.sched_core.specs.declared.parts.Edge.{Edge}
 use Rattle.sched_core.specs.declared.event.Event.TheVariants.{TakeEdge, PutEdge}
-use Rattle.sched_core.specs.Sums.{sum_below, one_if, put}
+use Rattle.sched_core.specs.Sums.{one_if, put}
 use Rattle.sched_core.specs.State.{State, callees_of, callee, IsEdge, is_waiting, is_begun, is_done, is_empty, is_full, is_emptied}
 use Rattle.sched_core.specs.Happenings.{May, step, with_edge}
 use Rattle.sched_core.specs.Sound.{Sound, unreported_edges}
 use Rattle.sched_core.proofs.SumLemmas.{sum_below-same, none_of_sum, one_if-zero}
-use Rattle.sched_core.proofs.Puts.{put_cases, put_keeps}
+use Rattle.sched_core.proofs.Puts.{put_cases}
 
 -- the map of edges with e at (c, i)
 abbrev pub put_edge : ℕ → ℕ → Edge → (ℕ → ℕ → Edge) → ℕ → ℕ → Edge

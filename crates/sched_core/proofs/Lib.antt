@@ -17,3 +17,5 @@ pub mod StageWrites
 pub mod EdgeWrites
 pub mod WorkerWrites
 pub mod Openings
+pub mod Counting
+pub mod FirstTable

@@ -1,15 +1,14 @@
 -- Events that keep a state sound: a module is taken or done, a worker goes.
-use Rattle.std.proofs.Common.{◌≡◌, ◌≢◌, ℕ, zero, suc, ◌+◌, ◌-◌, ◌<◌, ◌≤◌, ◌⊎◌, Bool, true, false, not, cond, List, [], ◌∷◌, length, refl, sym, ap, subst, ◌∙◌, inl, inr, arith}
-use Rattle.std.specs.Prelude.{◌==◌, nat_lt, nat_le}
-use Rattle.std.proofs.lemmas.Bool.{true≢false, false≢true, eqb-true, eqb-false, cond_both, cases_eq}
+use Rattle.std.proofs.Common.{◌≡◌, ◌≢◌, ℕ, ◌<◌, ◌⊎◌, Bool, true, false, not, refl, sym, ap, subst, ◌∙◌, inl, inr}
+use Rattle.std.specs.Prelude.{◌==◌}
+use Rattle.std.proofs.lemmas.Bool.{true≢false, false≢true, eqb-true, eqb-false, cond_both}
 use Rattle.sched_core.specs.declared.parts.Stage.{Stage}
 use Rattle.sched_core.specs.declared.parts.Stage.TheVariants.{Waiting, Owed, Taken, Done}
-use Rattle.sched_core.specs.declared.parts.Fill.TheVariants.{Emptied}
 use Rattle.sched_core.specs.declared.event.Event.TheVariants.{Take, PutDone, Join}
 use Rattle.sched_core.specs.Sums.{sum_below, one_if, put}
-use Rattle.sched_core.specs.State.{State, callees_of, callee, IsEdge, is_waiting, is_begun, is_done, is_held_by, is_busy_with, is_done_by, is_empty, is_full, is_emptied, IsThere, IsFree, HasReported}
+use Rattle.sched_core.specs.State.{State, callee, IsEdge, is_waiting, is_begun, is_done, is_held_by, is_busy_with, is_emptied, IsThere}
 use Rattle.sched_core.specs.Happenings.{May, step, passed_on}
-use Rattle.sched_core.specs.Sound.{Sound, unreported_edges, holders, passed_workers}
+use Rattle.sched_core.specs.Sound.{Sound, holders}
 use Rattle.sched_core.proofs.SumLemmas.{sum_below-same, sum_below-one}
 use Rattle.sched_core.proofs.Puts.{put_cases, put_keeps}
 

@@ -1,15 +1,15 @@
 -- From the tables that a scheduler holds to what its contract says.
-use Rattle.std.proofs.Common.{◌≡◌, ◌≢◌, ℕ, zero, suc, ◌+◌, ◌-◌, ◌*◌, ◌^◌, ◌<◌, ◌≤◌, List, [], ◌∷◌, length, set, get_or, map, true, Option, slice_get, refl, sym, ap, subst, ◌∙◌, arith}
+use Rattle.std.proofs.Common.{◌≡◌, ◌≢◌, ℕ, zero, suc, ◌+◌, ◌-◌, ◌*◌, ◌^◌, ◌<◌, ◌≤◌, List, [], length, set, get_or, map, true, Option, slice_get, refl, sym, ap, subst, ◌∙◌, arith}
 use Rattle.std.proofs.Math.Nat.{mul-le-mul_right}
-use Rattle.std.proofs.lemmas.List.{length-map, map-set, get_or-map, get_or_read}
-use Rattle.sched_core.specs.declared.parts.Stage.TheVariants.{Owed, Taken, Done}
+use Rattle.std.proofs.lemmas.List.{length-map, map-set, get_or-map}
+use Rattle.sched_core.specs.declared.parts.Stage.TheVariants.{Owed}
 use Rattle.sched_core.specs.declared.parts.Edge.{Edge}
 use Rattle.sched_core.specs.declared.event.Event.{Event}
-use Rattle.sched_core.specs.declared.event.Event.TheVariants.{Claim, Report, PutDone}
-use Rattle.sched_core.specs.State.{State, IsEdge, leaves, is_done}
+use Rattle.sched_core.specs.declared.event.Event.TheVariants.{Report, PutDone}
+use Rattle.sched_core.specs.State.{leaves, is_done}
 use Rattle.sched_core.specs.Happenings.{May, step}
 use Rattle.sched_core.specs.Counts.{uses_of, untold_of}
-use Rattle.sched_core.specs.Table.{Table, state_of, HasPlaces, IsKept}
+use Rattle.sched_core.specs.Table.{Table, state_of, IsKept}
 use Rattle.sched_core.proofs.Reports.{pending-positive}
 use Rattle.sched_core.proofs.Shapes.{Writes}
 use Rattle.sched_core.proofs.StageWrites.{untold-uses-le}

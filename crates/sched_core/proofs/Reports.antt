@@ -1,18 +1,17 @@
 -- An event that keeps a state sound: an edge is reported to its caller.
-use Rattle.std.proofs.Common.{◌≡◌, ◌≢◌, ℕ, zero, suc, ◌+◌, ◌-◌, ◌<◌, ◌≤◌, ◌⊎◌, Bool, true, false, not, List, [], length, Some, slice_get, refl, sym, ap, subst, ◌∙◌, inl, inr, arith}
-use Rattle.std.specs.Prelude.{◌==◌, nat_lt, nat_le}
-use Rattle.std.proofs.lemmas.Bool.{true≢false, false≢true, lt-ltb, cases_eq, eq-eqb}
+use Rattle.std.proofs.Common.{◌≡◌, ◌≢◌, ℕ, zero, suc, ◌+◌, ◌-◌, ◌<◌, ◌≤◌, ◌⊎◌, true, false, not, [], length, Some, slice_get, refl, sym, ap, subst, ◌∙◌, inl, inr, arith}
+use Rattle.std.specs.Prelude.{nat_lt}
+use Rattle.std.proofs.lemmas.Bool.{true≢false, lt-ltb, cases_eq, eq-eqb}
 use Rattle.sched_core.specs.declared.parts.Stage.{Stage}
-use Rattle.sched_core.specs.declared.parts.Stage.TheVariants.{Waiting, Owed, Taken, Done}
-use Rattle.sched_core.specs.declared.parts.Fill.TheVariants.{Empty, Full, Emptied}
+use Rattle.sched_core.specs.declared.parts.Stage.TheVariants.{Owed, Done}
 use Rattle.sched_core.specs.declared.parts.Edge.{Edge}
 use Rattle.sched_core.specs.declared.event.Event.TheVariants.{Report}
 use Rattle.sched_core.specs.Sums.{sum_below, one_if, put}
 use Rattle.sched_core.specs.State.{State, callees_of, callee, IsEdge, leaves, is_waiting, is_begun, is_done, is_held_by, is_empty, is_full, is_emptied, IsThere}
-use Rattle.sched_core.specs.Happenings.{May, step, with_edge, called}
+use Rattle.sched_core.specs.Happenings.{May, step, called}
 use Rattle.sched_core.specs.Sound.{Sound, holders, unreported_edges}
 use Rattle.sched_core.proofs.SumLemmas.{sum_below-same, sum_below-changed, le-sum_below}
-use Rattle.sched_core.proofs.Puts.{put-here, put-other, put_cases, put_keeps}
+use Rattle.sched_core.proofs.Puts.{put-here, put-other, put_keeps}
 use Rattle.sched_core.proofs.LeafNumbers.{leaf-callees}
 use Rattle.sched_core.proofs.Edges.{put_edge, put_edge_cases, put_edge_keeps}
 use Rattle.sched_core.proofs.Draws.{not_begun, not_done, owed_there, owed_once}

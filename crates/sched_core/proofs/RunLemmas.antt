@@ -1,19 +1,19 @@
 -- Runs of events: what holds after each list of events that may come.
-use Rattle.std.proofs.Common.{◌≡◌, ◌≢◌, ℕ, zero, suc, ◌+◌, ◌-◌, ◌<◌, ◌≤◌, ◌⊎◌, Bool, true, false, not, cond, List, [], ◌∷◌, ◌++◌, length, get_or, Option, Some, None, slice_get, refl, sym, ap, subst, ◌∙◌, inl, inr, arith}
-use Rattle.std.specs.Prelude.{◌==◌, nat_lt, nat_le}
-use Rattle.std.proofs.lemmas.Bool.{true≢false, false≢true, eq-eqb, ne_eqb, lt-leb, cases_eq}
-use Rattle.wiring.specs.Wiring.{In, IsAcyclic, IsWithin}
+use Rattle.std.proofs.Common.{◌≡◌, ◌≢◌, ℕ, zero, suc, ◌+◌, ◌-◌, ◌<◌, ◌≤◌, ◌⊎◌, true, false, not, List, [], ◌∷◌, ◌++◌, length, get_or, Option, Some, None, slice_get, refl, sym, ap, subst, ◌∙◌, inl, inr, arith}
+use Rattle.std.specs.Prelude.{◌==◌, nat_lt}
+use Rattle.std.proofs.lemmas.Bool.{true≢false, eq-eqb, ne_eqb, lt-leb, cases_eq}
+use Rattle.wiring.specs.Wiring.{In}
 use Rattle.wiring.proofs.Settled.{by_needs}
 use Rattle.sched_core.specs.declared.parts.Stage.{Stage}
 use Rattle.sched_core.specs.declared.parts.Stage.TheVariants.{Waiting, Owed, Taken, Done}
 use Rattle.sched_core.specs.declared.event.Event.{Event}
 use Rattle.sched_core.specs.declared.event.Event.TheVariants.{Claim, Take, TakeEdge, PutDone, PutEdge, Report, Split, Join}
-use Rattle.sched_core.specs.Sums.{sum_below, one_if, put}
+use Rattle.sched_core.specs.Sums.{one_if, put}
 use Rattle.sched_core.specs.State.{State, callees_of, callee, IsEdge, leaves, is_waiting, is_done, is_busy_with, first}
 use Rattle.sched_core.specs.Happenings.{May, step, claimed, called, passed_on}
 use Rattle.sched_core.specs.Sound.{Sound, unreported_edges}
 use Rattle.sched_core.specs.Runs.{AreCallees, Allowed, after, completes, times_done, IsSettled}
-use Rattle.sched_core.proofs.SumLemmas.{sum_below-none, one_if-le, one_if-one}
+use Rattle.sched_core.proofs.SumLemmas.{sum_below-none, one_if-le}
 use Rattle.sched_core.proofs.Puts.{put-here, put-other, put_keeps}
 use Rattle.sched_core.proofs.LeafNumbers.{within_some, leaf_has_number, HasNumber}
 use Rattle.sched_core.proofs.Moves.{is_done-passed_on}
@@ -139,7 +139,7 @@ in_numbers (suc n) k below = go (cases_eq k n) (λ lower. in_numbers n k lower)
     go (inl last) rest = inl last
     go (inr earlier) rest = inr (rest (omega arith))
 
-in_entry : (xs : List ℕ) (i : ℕ) → i < length xs → In (get_or xs i 0) xs
+pub in_entry : (xs : List ℕ) (i : ℕ) → i < length xs → In (get_or xs i 0) xs
 in_entry [] i within = absurd (omega arith)
 in_entry (x ∷ xs) zero within = inl refl
 in_entry (x ∷ xs) (suc i) within = inr (in_entry xs i (omega arith))

@@ -1,13 +1,12 @@
 -- Tables after a write: they have the same places, and are kept where their state is the event's.
-use Rattle.std.proofs.Common.{◌≡◌, ◌≢◌, ℕ, zero, suc, ◌+◌, ◌-◌, ◌*◌, ◌^◌, ◌<◌, ◌≤◌, ◌⊎◌, Bool, true, false, cond, List, [], ◌∷◌, length, set, get_or, refl, sym, ap, subst, ◌∙◌, inl, inr, arith}
-use Rattle.std.specs.Prelude.{◌==◌}
+use Rattle.std.proofs.Common.{◌≡◌, ◌≢◌, ℕ, ◌+◌, ◌-◌, ◌<◌, ◌≤◌, ◌⊎◌, true, false, List, [], ◌∷◌, length, set, get_or, sym, ap, subst, ◌∙◌, inl, inr, arith}
 use Rattle.std.proofs.lemmas.Bool.{true≢false, cases_lt, cases_eq}
 use Rattle.std.proofs.lemmas.List.{get_or-set_same, get_or-set_other}
 use Rattle.sched_core.specs.declared.parts.Stage.{Stage}
-use Rattle.sched_core.specs.declared.parts.Stage.TheVariants.{Waiting, Owed, Taken, Done}
+use Rattle.sched_core.specs.declared.parts.Stage.TheVariants.{Waiting}
 use Rattle.sched_core.specs.declared.event.Event.{Event}
-use Rattle.sched_core.specs.Sums.{sum_below, one_if, put}
-use Rattle.sched_core.specs.State.{State, callees_of, leaves, leaves_from, is_waiting, is_held_by, IsThere, no_worker}
+use Rattle.sched_core.specs.Sums.{one_if, put}
+use Rattle.sched_core.specs.State.{leaves, leaves_from, is_waiting, is_held_by, no_worker}
 use Rattle.sched_core.specs.Happenings.{May, step}
 use Rattle.sched_core.specs.Sound.{Sound, passed_workers}
 use Rattle.sched_core.specs.Counts.{uses_of, busy_of, untold_of}

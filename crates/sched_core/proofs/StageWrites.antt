@@ -1,24 +1,23 @@
 -- The writes by which a module is owed, taken or done.
-use Rattle.std.proofs.Common.{◌≡◌, ◌≢◌, ℕ, zero, suc, ◌+◌, ◌-◌, ◌*◌, ◌^◌, ◌<◌, ◌≤◌, ◌⊎◌, Bool, true, false, cond, List, [], ◌∷◌, length, set, get_or, Option, Some, None, slice_get, refl, sym, ap, subst, ◌∙◌, inl, inr, arith}
+use Rattle.std.proofs.Common.{◌≡◌, ℕ, ◌+◌, ◌-◌, ◌*◌, ◌^◌, ◌<◌, ◌≤◌, Bool, true, false, cond, length, set, get_or, Some, slice_get, refl, sym, ap, ◌∙◌, arith}
 use Rattle.std.specs.Prelude.{◌==◌, ◌&&◌, not}
-use Rattle.std.proofs.lemmas.Bool.{true≢false, eq-eqb, ne_eqb, eqb-true, cond-true, cond-false, cases_eq}
+use Rattle.std.proofs.lemmas.Bool.{true≢false, eq-eqb, ne_eqb, eqb-true, cond-true, cond-false}
 use Rattle.std.proofs.lemmas.List.{length-set}
 use Rattle.sched_core.specs.declared.parts.Stage.{Stage}
-use Rattle.sched_core.specs.declared.parts.Stage.TheVariants.{Waiting, Owed, Taken, Done}
+use Rattle.sched_core.specs.declared.parts.Stage.TheVariants.{Owed, Taken, Done}
 use Rattle.sched_core.specs.declared.event.Event.TheVariants.{Claim, Take, PutDone}
 use Rattle.sched_core.specs.Sums.{sum_below, one_if, put}
-use Rattle.sched_core.specs.State.{State, callees_of, callee, leaves, is_waiting, is_done, is_done_by, is_held_by, is_busy_with, IsThere}
+use Rattle.sched_core.specs.State.{State, callees_of, callee, leaves, is_waiting, is_done, is_done_by, is_held_by, IsThere}
 use Rattle.sched_core.specs.Happenings.{May, step, claimed}
-use Rattle.sched_core.specs.Sound.{Sound}
 use Rattle.sched_core.specs.Counts.{sum_edges, uses_of, busy_of, untold_of, is_untold}
-use Rattle.sched_core.specs.Table.{Table, state_of, inherited, HasPlaces, IsKept}
+use Rattle.sched_core.specs.Table.{Table, state_of, HasPlaces, IsKept}
 use Rattle.sched_core.proofs.SumLemmas.{sum_below-le}
 use Rattle.sched_core.proofs.LeafNumbers.{leaf-lt}
 use Rattle.sched_core.proofs.Draws.{next_leaf-waits, not_done}
-use Rattle.sched_core.proofs.EdgeSums.{sum_edges-add, sum_edges-same, sum_below-le_each}
+use Rattle.sched_core.proofs.EdgeSums.{sum_edges-add, sum_below-le_each}
 use Rattle.sched_core.proofs.Busy.{busy-owed, busy-taken, busy-done, busy-le}
 use Rattle.sched_core.proofs.Untold.{untold-put, untold-done, not_done_by}
-use Rattle.sched_core.proofs.Shapes.{Writes, Counted, counted, count-set, state-stage, stage-within, holder-lt}
+use Rattle.sched_core.proofs.Shapes.{Writes, counted, count-set, state-stage, stage-within, holder-lt}
 
 -- the tables with another stage of a module have the same places
 pub places-stage : (t : Table) (m : ℕ) (x : Stage) → HasPlaces t → HasPlaces (record t { stages = set t.stages m x })

@@ -2,12 +2,12 @@
 use Rattle.std.proofs.Common.{◌≡◌, ℕ, zero, suc, ◌+◌, ◌<◌, ◌≤◌, ◌⊎◌, ◌↔◌, Bool, true, false, List, [], ◌∷◌, length, get_or, IsTrue, refl, sym, ap, subst, ◌∙◌, inl, inr, arith}
 use Rattle.std.specs.Prelude.{◌==◌}
 use Rattle.std.specs.List.{list_all}
-use Rattle.std.proofs.lemmas.Bool.{eqb-true, eq-eqb, cases_lt, false≢true, and_parts, and_from}
+use Rattle.std.proofs.lemmas.Bool.{eqb-true, cases_lt, false≢true, and_parts, and_from}
 use Rattle.sched_core.specs.declared.parts.Stage.TheVariants.{Waiting}
 use Rattle.sched_core.specs.declared.parts.Edge.{Edge}
 use Rattle.sched_core.specs.declared.parts.Fill.{Fill}
 use Rattle.sched_core.specs.declared.parts.Fill.TheVariants.{Empty, Full, Emptied}
-use Rattle.sched_core.specs.State.{State, callees_of, IsEdge, is_busy_with, is_emptied, IsThere, IsFree, HasReported, new_edge}
+use Rattle.sched_core.specs.State.{callees_of, IsEdge, is_busy_with, is_emptied, IsThere, IsFree, HasReported, new_edge}
 use Rattle.sched_core.specs.Counts.{busy_of, untold_of}
 use Rattle.sched_core.specs.Table.{Table, state_of, inherited, IsKept}
 use Rattle.sched_core.proofs.Reading.{get_or-past}

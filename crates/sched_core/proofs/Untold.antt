@@ -1,16 +1,15 @@
 -- How many edges each worker is still to report, after each event.
-use Rattle.std.proofs.Common.{◌≡◌, ◌≢◌, ℕ, zero, suc, ◌+◌, ◌-◌, ◌*◌, ◌<◌, ◌≤◌, ◌⊎◌, Bool, true, false, not, cond, ◌&&◌, List, length, refl, sym, ap, subst, ◌∙◌, inl, inr, arith}
+use Rattle.std.proofs.Common.{◌≡◌, ◌≢◌, ℕ, ◌+◌, ◌⊎◌, Bool, true, false, not, cond, ◌&&◌, refl, sym, ap, ◌∙◌, inl, inr, arith}
 use Rattle.std.specs.Prelude.{◌==◌}
-use Rattle.std.proofs.lemmas.Bool.{true≢false, false≢true, eq-eqb, ne_eqb, eqb-true, and_parts, and_from, and_left, cases_eq, cases_Bool, cond-true, cond-false}
+use Rattle.std.proofs.lemmas.Bool.{true≢false, eq-eqb, ne_eqb, cases_eq, cond-false}
 use Rattle.sched_core.specs.declared.parts.Stage.{Stage}
 use Rattle.sched_core.specs.declared.parts.Stage.TheVariants.{Waiting, Owed, Taken, Done}
 use Rattle.sched_core.specs.declared.parts.Edge.{Edge}
-use Rattle.sched_core.specs.Sums.{sum_below, one_if, put}
-use Rattle.sched_core.specs.State.{State, callees_of, callee, IsEdge, is_waiting, is_done, is_done_by, HasReported}
+use Rattle.sched_core.specs.Sums.{one_if, put}
+use Rattle.sched_core.specs.State.{State, callee, IsEdge, is_done, is_done_by, HasReported}
 use Rattle.sched_core.specs.Happenings.{passed_on, with_edge}
 use Rattle.sched_core.specs.Sound.{Sound}
 use Rattle.sched_core.specs.Counts.{sum_edges, uses_of, is_untold, untold_of}
-use Rattle.sched_core.proofs.SumLemmas.{one_if-le, one_if-zero}
 use Rattle.sched_core.proofs.EdgeSums.{sum_edges-same, sum_edges-changed, sum_edges-add, sum_edges-none, none_of_edges}
 use Rattle.sched_core.proofs.Puts.{put-here, put-other, put_keeps}
 use Rattle.sched_core.proofs.Edges.{put_edge, put_edge_cases, put_edge_keeps}

@@ -1,24 +1,24 @@
 -- The writes by which a worker draws past the leaves, comes or goes.
-use Rattle.std.proofs.Common.{◌≡◌, ◌≢◌, ℕ, zero, suc, ◌+◌, ◌-◌, ◌<◌, ◌≤◌, ◌⊎◌, Bool, true, false, cond, List, [], ◌∷◌, length, set, get_or, map, Option, Some, None, slice_get, refl, sym, ap, subst, ◌∙◌, inl, inr, arith}
+use Rattle.std.proofs.Common.{◌≡◌, ◌≢◌, ℕ, ◌+◌, ◌<◌, ◌≤◌, ◌⊎◌, true, false, List, length, set, get_or, map, None, slice_get, refl, sym, ap, subst, ◌∙◌, inl, inr, arith}
 use Rattle.std.specs.Prelude.{◌==◌}
-use Rattle.std.proofs.lemmas.Bool.{true≢false, false≢true, eq-eqb, ne_eqb, cond-true, cond-false, cases_eq, cases_lt}
+use Rattle.std.proofs.lemmas.Bool.{true≢false, ne_eqb, cond-false, cases_lt}
 use Rattle.std.proofs.lemmas.List.{length-set, length-map, get_or-map, get_or-set_same, get_or-set_other}
 use mathlib.Core.Path.{fun_ext}
 use Rattle.sched_core.specs.declared.parts.Stage.{Stage}
 use Rattle.sched_core.specs.declared.parts.Stage.TheVariants.{Waiting, Owed, Taken, Done}
 use Rattle.sched_core.specs.declared.parts.Worker.{Worker}
 use Rattle.sched_core.specs.declared.event.Event.TheVariants.{Claim, Split, Join}
-use Rattle.sched_core.specs.Sums.{one_if, put}
-use Rattle.sched_core.specs.State.{State, leaves, IsThere, new_worker, no_worker}
+use Rattle.sched_core.specs.Sums.{put}
+use Rattle.sched_core.specs.State.{State, leaves, new_worker, no_worker}
 use Rattle.sched_core.specs.Happenings.{May, step, claimed, passed_on}
 use Rattle.sched_core.specs.Counts.{busy_of, untold_of}
 use Rattle.sched_core.specs.Table.{Table, state_of, inherited, heir_after, HasPlaces, IsKept}
-use Rattle.sched_core.proofs.Puts.{put-here, put-other, put_keeps}
+use Rattle.sched_core.proofs.Puts.{put_keeps}
 use Rattle.sched_core.proofs.Busy.{busy-passed_on}
 use Rattle.sched_core.proofs.Untold.{untold-passed_on}
 use Rattle.sched_core.proofs.Reading.{get_or-past, part-set, parts-set}
 use Rattle.sched_core.proofs.Tested.{there-lt}
-use Rattle.sched_core.proofs.Shapes.{Writes, Counted, counted}
+use Rattle.sched_core.proofs.Shapes.{Writes, counted}
 
 -- the state after another worker
 pub state-worker : (t : Table) (w : ℕ) (x : Worker) → w < length t.workers → state_of (record t { workers = set t.workers w x }) ≡ record (state_of t) { worker = put w x (state_of t).worker }

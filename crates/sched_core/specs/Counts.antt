@@ -1,11 +1,15 @@
 -- Counts over the modules and the edges of a schedule.
-use Rattle.std.specs.Prelude.{ℕ, ◌+◌, Bool, not, ◌&&◌, ◌==◌, List, length}
+use Rattle.std.specs.Prelude.{ℕ, Bool, not, ◌&&◌, ◌==◌, List, length, slice_index_or}
 use Rattle.sched_core.specs.Sums.{sum_below, one_if}
 use Rattle.sched_core.specs.State.{State, callees_of, callee, is_busy_with, is_done_by}
 
 -- the sum of f c i over the edges (c, i)
 abbrev pub sum_edges : List (List ℕ) → (ℕ → ℕ → ℕ) → ℕ
 sum_edges callees f = sum_below (length callees) (λ c. sum_below (length (callees_of callees c)) (f c))
+
+-- how many entries of a list are this number
+abbrev pub times_in : List ℕ → ℕ → ℕ
+times_in row m = sum_below (length row) (λ i. one_if (slice_index_or row i 0 == m))
 
 -- how many edges there are from this callee
 abbrev pub uses_of : List (List ℕ) → ℕ → ℕ

@@ -1,10 +1,9 @@
 -- The events of a schedule: when each may come, and what it changes. What an event's row does not name stays.
-use Rattle.std.specs.Prelude.{◌≡◌, ◌≢◌, ℕ, zero, suc, ◌+◌, ◌-◌, ◌<◌, Bool, true, false, cond, ◌==◌, List, Option, Some, None, slice_get}
+use Rattle.std.specs.Prelude.{◌≡◌, ◌≢◌, ℕ, zero, suc, ◌+◌, ◌-◌, ◌<◌, true, false, cond, ◌==◌, Option, Some, None, slice_get}
 use Rattle.sched_core.specs.declared.event.Event.{Event}
 use Rattle.sched_core.specs.declared.event.Event.TheVariants.{Claim, Take, TakeEdge, PutDone, PutEdge, Report, Split, Join}
 use Rattle.sched_core.specs.declared.parts.Stage.{Stage}
 use Rattle.sched_core.specs.declared.parts.Stage.TheVariants.{Waiting, Owed, Taken, Done}
-use Rattle.sched_core.specs.declared.parts.Fill.{Fill}
 use Rattle.sched_core.specs.declared.parts.Fill.TheVariants.{Empty, Full, Emptied}
 use Rattle.sched_core.specs.declared.parts.Edge.{Edge}
 use Rattle.sched_core.specs.Sums.{put}

@@ -1,10 +1,10 @@
 -- Runs: lists of events, each of which may come where it does.
-use Rattle.std.specs.Prelude.{◌≡◌, ℕ, ◌+◌, ◌^◌, ◌<◌, ◌≤◌, true, false, ◌==◌, List, [], ◌∷◌, ◌++◌, length}
+use Rattle.std.specs.Prelude.{◌≡◌, ℕ, ◌+◌, ◌^◌, ◌<◌, true, ◌==◌, List, [], ◌∷◌, length}
 use Rattle.wiring.specs.Wiring.{In, IsAcyclic}
 use Rattle.sched_core.specs.declared.event.Event.{Event}
 use Rattle.sched_core.specs.declared.event.Event.TheVariants.{Claim, Take, TakeEdge, PutDone, PutEdge, Report, Split, Join}
 use Rattle.sched_core.specs.Sums.{one_if}
-use Rattle.sched_core.specs.State.{State, callees_of, callee, IsEdge, leaves, is_done, is_done_by, IsFree, first}
+use Rattle.sched_core.specs.State.{State, callees_of, callee, IsEdge, is_done, IsFree}
 use Rattle.sched_core.specs.Happenings.{May, step}
 
 -- the lists of callees of a schedule: no module is its own callee, directly or through others, the callees are modules

@@ -1,6 +1,5 @@
 -- The tables of a scheduler in code.
-use Rattle.std.specs.Prelude.{ℕ, List, map}
-use Rattle.std.specs.declared.vec.Vec.{Vec}
+use Rattle.std.specs.Prelude.{map}
 use Rattle.sched_core.specs.declared.sched.Sched.TheInside.{Inside}
 use Rattle.sched_core.specs.Table.{Table}
 

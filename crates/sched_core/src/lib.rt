@@ -8,6 +8,7 @@
 
 mod event;
 mod laws;
+mod making;
 mod parts;
 mod sched;
 

@@ -1,16 +1,19 @@
 //! The scheduler.
 
-ghost use Rattle.std.specs.Prelude.{◌≡◌, ◌≢◌, ◌↔◌, ℕ, ◌+◌, ◌-◌, ◌<◌, ◌≤◌, [], true, false, IsTrue, Some, None, length, map, slice_get, slice_index_or};
+ghost use Rattle.std.specs.Prelude.{◌≡◌, ◌≢◌, ◌↔◌, ℕ, ◌+◌, ◌-◌, ◌<◌, ◌≤◌, [], true, false, IsTrue, Some, None, length, map, slice_get, slice_index_or, IfOk};
 ghost use Rattle.std.specs.List.{list_all};
 ghost use Rattle.sched_core.specs.declared.parts.Stage.TheVariants.{Owed, Taken, Done};
 ghost use Rattle.sched_core.specs.declared.parts.Fill.TheVariants.{Emptied};
 ghost use Rattle.sched_core.specs.declared.event.Event.TheVariants.{Claim, Take, TakeEdge, PutDone, PutEdge, Report, Split, Join};
-ghost use Rattle.sched_core.specs.State.{State, IsEdge, callee, leaves, IsThere, IsFree, HasReported, is_emptied};
+ghost use Rattle.sched_core.specs.State.{State, IsEdge, callee, leaves, IsThere, IsFree, HasReported, is_emptied, first};
+ghost use Rattle.sched_core.specs.Runs.{AreCallees};
 ghost use Rattle.sched_core.specs.Happenings.{May, step};
 ghost use Rattle.sched_core.specs.Table.{state_of, heir_after};
 
 use crate::event::Event;
+use crate::making;
 use crate::parts::{Edge, Fill, Stage, Worker};
+use std::alloc::{AllocError, Global};
 use std::marker::Model;
 
 /// A scheduler: who owes, has taken or has done each module, what stands on each edge, and who is there. Contracts see
@@ -22,7 +25,7 @@ pub struct Sched {
     uses: Vec<u64>,
     stages: Vec<Stage>,
     edges: Vec<Vec<Edge>>,
-    pending: Vec<u32>,
+    pending: Vec<usize>,
     leaf: u64,
     splits: u32,
     workers: Vec<Worker>,
@@ -70,6 +73,28 @@ fn all_emptied(row: &[Edge]) -> bool
 }
 
 impl Sched {
+    /// A scheduler of modules with these callees: all modules wait, all edges are empty, and the first worker is there.
+    /// The room for 64 workers is made here.
+    pub fn new(alloc: Global, callees: &[Vec<u32>]) -> Result<Sched, AllocError>
+        requires { AreCallees (map (λ row. row.items) callees.now) }
+        ensures { IfOk result (λ s. state_of s ≡ first (map (λ row. row.items) callees.now)) }
+    {
+        Ok(Sched {
+            callees: making::copied(alloc, callees)?,
+            leaves: making::leaf_modules(alloc, callees)?,
+            uses: making::uses(alloc, callees)?,
+            stages: making::waiting(alloc, callees.len())?,
+            edges: making::new_edges(alloc, callees)?,
+            pending: making::lengths(alloc, callees)?,
+            leaf: 0,
+            splits: 0,
+            workers: making::first_worker(alloc)?,
+            heirs: making::worker_numbers(alloc)?,
+            busy: making::no_modules(alloc)?,
+            untold: making::no_edges(alloc)?,
+        })
+    }
+
     // where the module stands; a module that there is not waits
     fn stage(&self, m: u32) -> Stage
         ensures { result ≡ (state_of self.now).stage m }
@@ -371,7 +396,7 @@ impl Sched {
     }
 
     // how many edges of the caller are not reported
-    fn pending(&self, c: u32) -> u32
+    fn pending(&self, c: u32) -> usize
         ensures { result ≡ (state_of self.now).pending c }
     {
         self.pending.get(c as usize).copied().unwrap_or(0)

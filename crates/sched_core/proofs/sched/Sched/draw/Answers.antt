@@ -1,7 +1,7 @@
-use Rattle.std.proofs.Common.{◌≡◌, ℕ, ◌+◌, ◌<◌, ◌≤◌, ◌^◌, length, get_or, sym, ap, ◌∙◌, arith}
+use Rattle.std.proofs.Common.{◌≡◌, get_or, arith}
 use Rattle.std.proofs.lemmas.List.{get_or_read}
 use Rattle.sched_core.specs.declared.event.Event.TheVariants.{Claim}
-use Rattle.sched_core.specs.Table.{Table, state_of}
+use Rattle.sched_core.specs.Table.{state_of}
 use Rattle.sched_core.specs.Views.{table_of}
 use Rattle.sched_core.proofs.LeafNumbers.{leaf-lt}
 use Rattle.sched_core.proofs.Draws.{next_leaf-waits}

@@ -1,4 +1,4 @@
-use Rattle.std.proofs.Common.{◌≡◌, ℕ, ◌+◌, ◌<◌, ◌≤◌, ◌^◌, length, sym, ap, ◌∙◌, arith}
+use Rattle.std.proofs.Common.{sym, ap, ◌∙◌, arith}
 use Rattle.sched_core.specs.Table.{Table, state_of}
 use Rattle.sched_core.specs.Views.{table_of}
 use Rattle.sched_core.proofs.Shapes.{leaf-le}

@@ -1,10 +1,7 @@
-use Rattle.std.proofs.Common.{◌≡◌, ℕ, ◌+◌, ◌<◌, ◌≤◌, ◌^◌, length, get_or, sym, ap, ◌∙◌, arith}
+use Rattle.std.proofs.Common.{◌≡◌, get_or, arith}
 use Rattle.std.proofs.lemmas.List.{get_or_read}
-use Rattle.std.proofs.lemmas.Bool.{eq-eqb}
 use Rattle.sched_core.specs.declared.event.Event.TheVariants.{PutDone}
-use Rattle.sched_core.specs.State.{is_held_by, is_waiting}
-use Rattle.sched_core.specs.Counts.{uses_of, busy_of, untold_of}
-use Rattle.sched_core.specs.Table.{Table, state_of}
+use Rattle.sched_core.specs.Table.{state_of}
 use Rattle.sched_core.specs.Views.{table_of}
 use Rattle.sched_core.proofs.StageWrites.{put_done-writes, busy-positive, worker-lt, module-lt}
 use Rattle.sched_core.proofs.Openings.{through, may_by, untold-fits}

@@ -1,12 +1,11 @@
-use Rattle.std.proofs.Common.{◌≡◌, ℕ, ◌+◌, ◌-◌, ◌<◌, ◌≤◌, ◌^◌, length, get_or, set, map, true, sym, ap, subst, refl, ◌∙◌, arith}
+use Rattle.std.proofs.Common.{◌≡◌, ◌+◌, ◌-◌, get_or, set, true, sym, ap, subst, refl, ◌∙◌, arith}
 use Rattle.std.specs.Vec.{with_item}
 use Rattle.std.proofs.lemmas.List.{get_or_read}
 use Rattle.sched_core.specs.declared.parts.Stage.TheVariants.{Owed}
 use Rattle.sched_core.specs.declared.event.Event.TheVariants.{Report}
-use Rattle.sched_core.specs.Counts.{busy_of, untold_of}
 use Rattle.sched_core.specs.Table.{Table, state_of}
 use Rattle.sched_core.specs.Views.{table_of}
-use Rattle.sched_core.proofs.Reports.{pending-positive, unreported-waits}
+use Rattle.sched_core.proofs.Reports.{unreported-waits}
 use Rattle.sched_core.proofs.EdgeSums.{edge_within}
 use Rattle.sched_core.proofs.Shapes.{Writes}
 use Rattle.sched_core.proofs.StageWrites.{busy-room}

@@ -1,15 +1,12 @@
-use Rattle.std.proofs.Common.{◌≡◌, ℕ, ◌+◌, ◌-◌, ◌<◌, ◌≤◌, ◌^◌, length, get_or, set, map, true, sym, ap, subst, refl, ◌∙◌, arith}
+use Rattle.std.proofs.Common.{◌≡◌, ◌-◌, get_or, set, true, sym, ap, subst, refl, ◌∙◌, arith}
 use Rattle.std.specs.Vec.{with_item}
 use Rattle.std.proofs.lemmas.List.{get_or_read}
-use Rattle.sched_core.specs.declared.parts.Stage.TheVariants.{Owed}
 use Rattle.sched_core.specs.declared.event.Event.TheVariants.{Report}
-use Rattle.sched_core.specs.Counts.{busy_of, untold_of}
 use Rattle.sched_core.specs.Table.{Table, state_of}
 use Rattle.sched_core.specs.Views.{table_of}
-use Rattle.sched_core.proofs.Reports.{pending-positive, unreported-waits}
+use Rattle.sched_core.proofs.Reports.{pending-positive}
 use Rattle.sched_core.proofs.EdgeSums.{edge_within}
 use Rattle.sched_core.proofs.Shapes.{Writes}
-use Rattle.sched_core.proofs.StageWrites.{busy-room}
 use Rattle.sched_core.proofs.EdgeWrites.{caller-within, reporter-lt, untold-positive}
 use Rattle.sched_core.proofs.Openings.{through, may_by, rows-set, report_more-read}
 use Rattle.sched_core.proofs.sched.Sched.report_more.Goals as goal
