@@ -19,3 +19,5 @@ pub mod WorkerWrites
 pub mod Openings
 pub mod Counting
 pub mod FirstTable
+pub mod Falling
+pub mod Samples

@@ -52,6 +52,16 @@ allowed-append s (e ∷ es) others allowed =
     let rest = allowed-append (step s e) es others allowed.1 in
     ((allowed.0, rest.0), rest.1)
 
+-- a list of events goes on from where another has led
+pub after-append : (s : State) (es others : List Event) → after s (es ++ others) ≡ after (after s es) others
+after-append s [] others = refl
+after-append s (e ∷ es) others = after-append (step s e) es others
+
+-- one more event that may come after a list of events
+pub allowed-then : (s : State) (es : List Event) (e : Event) → Allowed s es → May (after s es) e → Allowed s (es ++ e ∷ [])
+allowed-then s [] e allowed may = (may, tt)
+allowed-then s (first_event ∷ es) e allowed may = (allowed.0, allowed-then (step s first_event) es e allowed.1 may)
+
 -- where no module comes to be done
 none_done : (s : State) (stage : ℕ → Stage) (m : ℕ) → is_done (stage m) ≡ is_done (s.stage m) → one_if (is_done (stage m)) ≡ 0 + one_if (is_done (s.stage m))
 none_done s stage m same = let e : one_if (is_done (stage m)) ≡ one_if (is_done (s.stage m)) = ap one_if same in omega arith
@@ -145,7 +155,7 @@ in_entry (x ∷ xs) zero within = inl refl
 in_entry (x ∷ xs) (suc i) within = inr (in_entry xs i (omega arith))
 
 -- only modules have callees
-has_callees : (callees : List (List ℕ)) (m k : ℕ) → In k (callees_of callees m) → m < length callees
+pub has_callees : (callees : List (List ℕ)) (m k : ℕ) → In k (callees_of callees m) → m < length callees
 has_callees [] m k is = absurd is
 has_callees (row ∷ rest) zero k is = omega arith
 has_callees (row ∷ rest) (suc m) k is = let below : m < length rest = has_callees rest m k is in omega arith

@@ -1,12 +1,22 @@
 //! The laws on runs of events, each a clause of a function that does nothing.
 
-ghost use Rattle.std.specs.Prelude.{◌≡◌, ℕ, ◌<◌, ◌≤◌, true, List, ◌∷◌, ◌++◌, length};
+ghost use Rattle.std.specs.Prelude.{◌≡◌, ℕ, ◌<◌, ◌≤◌, true, List, [], ◌∷◌, ◌++◌, length};
 ghost use Rattle.sched_core.specs.declared.event.Event.{Event};
 ghost use Rattle.sched_core.specs.declared.event.Event.TheVariants.{Take};
 ghost use Rattle.sched_core.specs.Sums.{one_if};
-ghost use Rattle.sched_core.specs.State.{IsEdge, callee, leaves, is_done, first};
+ghost use Rattle.sched_core.specs.State.{State, IsEdge, callee, leaves, is_done, first};
+ghost use Rattle.sched_core.specs.Happenings.{May, step};
 ghost use Rattle.sched_core.specs.Sound.{Sound};
 ghost use Rattle.sched_core.specs.Runs.{AreCallees, Allowed, after, times_done, IsSettled};
+
+/// Does nothing. Its clauses say that the first state is sound, that each event that may come keeps a state sound, and
+/// that a list of events goes on by one that may come after it.
+pub fn each_event_keeps_soundness()
+    ensures first { (callees : List (List ℕ)) → Sound (first callees) }
+    ensures each { (s : State) (e : Event) → Sound s → May s e → Sound (step s e) }
+    ensures further { (s : State) (es : List Event) (e : Event) → Allowed s es → May (after s es) e
+        → Allowed s (es ++ e ∷ []) × (after s (es ++ e ∷ []) ≡ step (after s es) e) }
+{}
 
 /// Does nothing. Its clauses speak of every list of events each of which may come where it does, from the first state of
 /// any lists of callees. The state after it is sound. A module is done at most once, so by one worker, and a state says
