@@ -8,6 +8,7 @@ ghost use Rattle.sched_core.specs.declared.event.Event.TheVariants.{Claim, Take,
 ghost use Rattle.sched_core.specs.State.{State, IsEdge, callee, leaves, IsThere, IsFree, HasReported, is_emptied, first};
 ghost use Rattle.sched_core.specs.Runs.{AreCallees};
 ghost use Rattle.sched_core.specs.Happenings.{May, step};
+ghost use Rattle.sched_core.specs.Sound.{Sound};
 ghost use Rattle.sched_core.specs.Table.{state_of, heir_after};
 
 use crate::event::Event;
@@ -268,10 +269,12 @@ impl Sched {
                 && (self.is_there(gone) && (self.is_free(gone) && self.has_reported(gone))))
     }
 
-    /// Whether the event may come.
+    /// Whether the event may come. The state is sound.
     pub fn may(&self, event: Event) -> bool
-        ensures { IsTrue result ↔ May (state_of self.now) event }
+        ensures may { IsTrue result ↔ May (state_of self.now) event }
+        ensures sound { Sound (state_of self.now) }
     {
+        let _ = &self.leaf;
         match event {
             Event::Claim { w } => self.may_claim(w),
             Event::Take { w, m } => self.is_owed(w, m),
