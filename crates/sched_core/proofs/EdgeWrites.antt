@@ -1,0 +1,220 @@
+-- The writes by which an edge is emptied, filled or reported.
+use Rattle.std.proofs.Common.{◌≡◌, ℕ, suc, ◌+◌, ◌-◌, ◌<◌, ◌≤◌, true, List, [], length, set, get_or, refl, sym, ap, subst, ◌∙◌, arith}
+use Rattle.std.specs.Prelude.{◌==◌}
+use Rattle.std.proofs.lemmas.Bool.{eq-eqb, ne_eqb}
+use Rattle.std.proofs.lemmas.List.{length-set}
+use Rattle.sched_core.specs.declared.parts.Stage.TheVariants.{Owed}
+use Rattle.sched_core.specs.declared.parts.Fill.TheVariants.{Full, Emptied}
+use Rattle.sched_core.specs.declared.parts.Edge.{Edge}
+use Rattle.sched_core.specs.declared.event.Event.TheVariants.{TakeEdge, PutEdge, Report}
+use Rattle.sched_core.specs.Sums.{one_if, put}
+use Rattle.sched_core.specs.State.{State, callees_of, callee, IsEdge, is_waiting, new_edge}
+use Rattle.sched_core.specs.Happenings.{May, step, with_edge, called}
+use Rattle.sched_core.specs.Counts.{busy_of, untold_of}
+use Rattle.sched_core.specs.Table.{Table, state_of, HasPlaces, IsKept}
+use Rattle.sched_core.proofs.Puts.{put_keeps}
+use Rattle.sched_core.proofs.Draws.{not_done}
+use Rattle.sched_core.proofs.Reports.{unreported-waits, doer_there}
+use Rattle.sched_core.proofs.EdgeSums.{edge_within}
+use Rattle.sched_core.proofs.Busy.{busy-owed}
+use Rattle.sched_core.proofs.Untold.{untold-edge, untold-told, untold-put}
+use Rattle.sched_core.proofs.Reading.{part-set, parts-set}
+use Rattle.sched_core.proofs.Tested.{there-lt}
+use Rattle.sched_core.proofs.Shapes.{Writes, counted, count-set, state-stage}
+use Rattle.sched_core.proofs.StageWrites.{places-stage, places-busy, places-untold}
+
+-- the rows with another edge
+abbrev pub with_row : List (List Edge) → ℕ → ℕ → Edge → List (List Edge)
+with_row edges c i e = set edges c (set (get_or edges c []) i e)
+
+pub caller-within : (t : Table) (c i : ℕ) → HasPlaces t → IsEdge t.callees c i → c < length t.edges
+caller-within t c i places edge =
+    let within : c < length t.callees = edge_within t.callees c i edge in
+    let size : length t.edges ≡ length t.callees = places.edges in
+    omega arith
+
+pub place-within : (t : Table) (c i : ℕ) → HasPlaces t → IsEdge t.callees c i → i < length (get_or t.edges c [])
+place-within t c i places edge = let size : length (get_or t.edges c []) ≡ length (callees_of t.callees c) = places.rows c in omega arith
+
+-- the state after another edge
+pub state-edge : (t : Table) (c i : ℕ) (e : Edge) → HasPlaces t → IsEdge t.callees c i
+    → state_of (record t { edges = with_row t.edges c i e }) ≡ with_edge (state_of t) c i e
+state-edge t c i e places edge =
+    let row : List Edge = get_or t.edges c [] in
+    let edges : ℕ → ℕ → Edge = (state_of t).edge in
+    let outer : (λ (a : ℕ). λ (b : ℕ). get_or (get_or (with_row t.edges c i e) a []) b new_edge) ≡ put c (λ b. get_or (set row i e) b new_edge) edges =
+    parts-set (λ xs. λ (b : ℕ). get_or xs b new_edge) [] t.edges c (set row i e) (caller-within t c i places edge) in
+    let inner : (λ (b : ℕ). get_or (set row i e) b new_edge) ≡ put i e (edges c) =
+    parts-set (λ x. x) new_edge row i e (place-within t c i places edge) in
+    ap (λ f. record (state_of t) { edge = f }) (outer ∙ ap (λ f. put c f edges) inner)
+
+pub places-edge : (t : Table) (c i : ℕ) (e : Edge) → HasPlaces t → IsEdge t.callees c i → HasPlaces (record t { edges = with_row t.edges c i e })
+places-edge t c i e places edge = record {
+  stages = places.stages;
+  edges = length-set t.edges c (set (get_or t.edges c []) i e) ∙ places.edges;
+  rows = λ a. part-set length [] t.edges c (set (get_or t.edges c []) i e) (caller-within t c i places edge) a
+      ∙ put_keeps (λ n. n) c (length (set (get_or t.edges c []) i e)) (λ j. length (get_or t.edges j [])) (length-set (get_or t.edges c []) i e) a
+      ∙ places.rows a;
+  pending = places.pending;
+  uses = places.uses;
+  workers = places.workers;
+  heirs = places.heirs;
+  busy = places.busy;
+  untold = places.untold;
+  modules = places.modules;
+  entries = places.entries;
+}
+
+pub take_edge-writes : (t : Table) (w c i : ℕ) (old : Edge) → IsKept t → May (state_of t) (TakeEdge w c i) → old ≡ (state_of t).edge c i
+    → Writes t (record t { edges = with_row t.edges c i (record old { fill = Emptied }) }) (TakeEdge w c i)
+take_edge-writes t w c i old kept may is = subst (λ x. Writes t (record t { edges = with_row t.edges c i (record x { fill = Emptied }) }) (TakeEdge w c i)) (sym is)
+    (counted t (record t { edges = with_row t.edges c i (record ((state_of t).edge c i) { fill = Emptied }) }) (TakeEdge w c i) kept may (record {
+      places = places-edge t c i (record ((state_of t).edge c i) { fill = Emptied }) kept.places may.0;
+      state = state-edge t c i (record ((state_of t).edge c i) { fill = Emptied }) kept.places may.0;
+      leaf_modules = kept.leaf_modules;
+      uses = kept.uses;
+      own = kept.own;
+      busy = kept.busy;
+      untold = λ v below. kept.untold v below ∙ sym (untold-edge (state_of t) c i v (record ((state_of t).edge c i) { fill = Emptied }) refl);
+    }))
+
+pub put_edge-writes : (t : Table) (w c i : ℕ) (old : Edge) → IsKept t → May (state_of t) (PutEdge w c i) → old ≡ (state_of t).edge c i
+    → Writes t (record t { edges = with_row t.edges c i (record old { fill = Full }) }) (PutEdge w c i)
+put_edge-writes t w c i old kept may is = subst (λ x. Writes t (record t { edges = with_row t.edges c i (record x { fill = Full }) }) (PutEdge w c i)) (sym is)
+    (counted t (record t { edges = with_row t.edges c i (record ((state_of t).edge c i) { fill = Full }) }) (PutEdge w c i) kept may (record {
+      places = places-edge t c i (record ((state_of t).edge c i) { fill = Full }) kept.places may.0;
+      state = state-edge t c i (record ((state_of t).edge c i) { fill = Full }) kept.places may.0;
+      leaf_modules = kept.leaf_modules;
+      uses = kept.uses;
+      own = kept.own;
+      busy = kept.busy;
+      untold = λ v below. kept.untold v below ∙ sym (untold-edge (state_of t) c i v (record ((state_of t).edge c i) { fill = Full }) refl);
+    }))
+
+-- the state after another number of pending edges
+pub state-pending : (t : Table) (c p : ℕ) → c < length t.pending → state_of (record t { pending = set t.pending c p }) ≡ record (state_of t) { pending = put c p (state_of t).pending }
+state-pending t c p within = ap (λ f. record (state_of t) { pending = f }) (parts-set (λ n. n) 0 t.pending c p within)
+
+pub places-pending : (t : Table) (c p : ℕ) → HasPlaces t → HasPlaces (record t { pending = set t.pending c p })
+places-pending t c p places = record {
+  stages = places.stages;
+  edges = places.edges;
+  rows = places.rows;
+  pending = length-set t.pending c p ∙ places.pending;
+  uses = places.uses;
+  workers = places.workers;
+  heirs = places.heirs;
+  busy = places.busy;
+  untold = places.untold;
+  modules = places.modules;
+  entries = places.entries;
+}
+
+-- the edge that is reported
+abbrev pub told_edge : State → ℕ → ℕ → Edge
+told_edge s c i = record (s.edge c i) { reported = true }
+
+-- the tables after a report that leaves a pending edge
+abbrev pub told_table : Table → ℕ → ℕ → ℕ → ℕ → Table
+told_table t w c i u = record t { edges = with_row t.edges c i (told_edge (state_of t) c i); pending = set t.pending c ((state_of t).pending c - 1); untold = set t.untold w (u - 1) }
+
+-- the state that they tell
+abbrev pub told_state : State → ℕ → ℕ → State
+told_state s c i = record (with_edge s c i (told_edge s c i)) { pending = put c (s.pending c - 1) s.pending }
+
+told-state : (t : Table) (w c i u : ℕ) → HasPlaces t → IsEdge t.callees c i → state_of (told_table t w c i u) ≡ told_state (state_of t) c i
+told-state t w c i u places edge =
+    let within : c < length t.callees = edge_within t.callees c i edge in
+    let size : length t.pending ≡ length t.callees = places.pending in
+    state-pending (record t { edges = with_row t.edges c i (told_edge (state_of t) c i) }) c ((state_of t).pending c - 1) (omega arith)
+    ∙ ap (λ (s : State). record s { pending = put c ((state_of t).pending c - 1) (state_of t).pending }) (state-edge t c i (told_edge (state_of t) c i) places edge)
+
+told-places : (t : Table) (w c i u : ℕ) → HasPlaces t → IsEdge t.callees c i → HasPlaces (told_table t w c i u)
+told-places t w c i u places edge =
+    let with_edges : HasPlaces (record t { edges = with_row t.edges c i (told_edge (state_of t) c i) }) = places-edge t c i (told_edge (state_of t) c i) places edge in
+    places-untold (record t { edges = with_row t.edges c i (told_edge (state_of t) c i); pending = set t.pending c ((state_of t).pending c - 1) }) w (u - 1)
+    (places-pending (record t { edges = with_row t.edges c i (told_edge (state_of t) c i) }) c ((state_of t).pending c - 1) with_edges)
+
+-- the doer's count of edges to report is at least one
+pub untold-positive : (s : State) (w c i : ℕ) → May s (Report w c i) → 1 ≤ untold_of s w
+untold-positive s w c i (edge, done, full, open_) =
+    let change : untold_of (with_edge s c i (told_edge s c i)) w + one_if (w == w) ≡ untold_of s w = untold-told s w c i w edge done open_ in
+    let one : one_if (w == w) ≡ 1 = ap one_if (eq-eqb w w refl) in
+    omega arith
+
+-- the counts of edges to report afterwards
+told-untold : (t : Table) (w c i u : ℕ) → IsKept t → May (state_of t) (Report w c i) → u ≡ get_or t.untold w 0 → w < 64
+    → (v : ℕ) → v < 64 → get_or (set t.untold w (u - 1)) v 0 ≡ untold_of (with_edge (state_of t) c i (told_edge (state_of t) c i)) v
+told-untold t w c i u kept (edge, done, full, open_) is few =
+    let s : State = state_of t in
+    count-set t.untold w (u - 1) (untold_of s) (untold_of (with_edge s c i (told_edge s c i))) kept.places.untold few kept.untold
+    (let change : untold_of (with_edge s c i (told_edge s c i)) w + one_if (w == w) ≡ untold_of s w = untold-told s w c i w edge done open_ in
+    let one : one_if (w == w) ≡ 1 = ap one_if (eq-eqb w w refl) in
+    let old : u ≡ untold_of s w = is ∙ kept.untold w few in
+    omega arith)
+    (λ v other. let change : untold_of (with_edge s c i (told_edge s c i)) v + one_if (v == w) ≡ untold_of s v = untold-told s w c i v edge done open_ in
+    let none : one_if (v == w) ≡ 0 = ap one_if (ne_eqb v w other) in
+    omega arith)
+
+-- who reports is one of 64
+pub reporter-lt : (t : Table) (w c i : ℕ) → IsKept t → May (state_of t) (Report w c i) → w < 64
+reporter-lt t w c i kept may = there-lt t w kept (doer_there (state_of t) w (callee t.callees c i) kept.sound may.1)
+
+-- a report that is not the caller's last
+pub report_more-writes : (t : Table) (w c i u left : ℕ) → IsKept t → May (state_of t) (Report w c i) → u ≡ get_or t.untold w 0 → (state_of t).pending c - 1 ≡ suc left
+    → Writes t (told_table t w c i u) (Report w c i)
+report_more-writes t w c i u left kept may is more = counted t (told_table t w c i u) (Report w c i) kept may (record {
+  places = told-places t w c i u kept.places may.0;
+  state = told-state t w c i u kept.places may.0 ∙ is_report;
+  leaf_modules = kept.leaf_modules;
+  uses = kept.uses;
+  own = kept.own;
+  busy = λ v below. kept.busy v below ∙ ap (λ s. busy_of s v) is_report;
+  untold = λ v below. told-untold t w c i u kept may is (reporter-lt t w c i kept may) v below ∙ ap (λ s. untold_of s v) is_report;
+})
+  where
+    is_report : told_state (state_of t) c i ≡ step (state_of t) (Report w c i)
+    is_report = ap (λ n. record (told_state (state_of t) c i) { stage = called n w c (state_of t).stage }) (sym more)
+
+-- the caller's last report
+pub report_last-writes : (t : Table) (w c i u b : ℕ) → IsKept t → May (state_of t) (Report w c i) → u ≡ get_or t.untold w 0 → b ≡ get_or t.busy w 0 → (state_of t).pending c - 1 ≡ 0
+    → Writes t (record (told_table t w c i u) { stages = set t.stages c (Owed w); busy = set t.busy w (b + 1) }) (Report w c i)
+report_last-writes t w c i u b kept may is is_busy last =
+    counted t (record (told_table t w c i u) { stages = set t.stages c (Owed w); busy = set t.busy w (b + 1) }) (Report w c i) kept may (record {
+      places = places-busy (record (told_table t w c i u) { stages = set t.stages c (Owed w) }) w (b + 1)
+          (places-stage (told_table t w c i u) c (Owed w) (told-places t w c i u kept.places may.0));
+      state = state-stage (told_table t w c i u) c (Owed w) within
+          ∙ ap (λ (s : State). record s { stage = put c (Owed w) (state_of t).stage }) (told-state t w c i u kept.places may.0) ∙ is_report;
+      leaf_modules = kept.leaf_modules;
+      uses = kept.uses;
+      own = kept.own;
+      busy = λ v below. counts v below ∙ ap (λ s. busy_of s v) is_report;
+      untold = λ v below. told-untold t w c i u kept may is few v below
+          ∙ sym (untold-put (with_edge (state_of t) c i (told_edge (state_of t) c i)) c v (Owed w) (not_done ((state_of t).stage c) waits) refl)
+          ∙ ap (λ s. untold_of s v) is_report;
+    })
+  where
+    few : w < 64
+    few = reporter-lt t w c i kept may
+
+    waits : is_waiting ((state_of t).stage c) ≡ true
+    waits = unreported-waits (state_of t) c i kept.sound may.0 may.3
+
+    is_module : c < length t.callees
+    is_module = edge_within t.callees c i may.0
+
+    within : c < length t.stages
+    within = let size : length t.stages ≡ length t.callees = kept.places.stages in omega (arith, is_module)
+
+    is_report : record (told_state (state_of t) c i) { stage = put c (Owed w) (state_of t).stage } ≡ step (state_of t) (Report w c i)
+    is_report = ap (λ n. record (told_state (state_of t) c i) { stage = called n w c (state_of t).stage }) (sym last)
+
+    counts : (v : ℕ) → v < 64 → get_or (set t.busy w (b + 1)) v 0 ≡ busy_of (record (state_of t) { stage = put c (Owed w) (state_of t).stage }) v
+    counts = count-set t.busy w (b + 1) (busy_of (state_of t)) (busy_of (record (state_of t) { stage = put c (Owed w) (state_of t).stage })) kept.places.busy few kept.busy
+        (let change : busy_of (record (state_of t) { stage = put c (Owed w) (state_of t).stage }) w ≡ busy_of (state_of t) w + one_if (w == w) = busy-owed (state_of t) c w w is_module waits in
+        let one : one_if (w == w) ≡ 1 = ap one_if (eq-eqb w w refl) in
+        let old : b ≡ busy_of (state_of t) w = is_busy ∙ kept.busy w few in
+        omega arith)
+        (λ v other. let change : busy_of (record (state_of t) { stage = put c (Owed w) (state_of t).stage }) v ≡ busy_of (state_of t) v + one_if (v == w) = busy-owed (state_of t) c w v is_module waits in
+        let none : one_if (v == w) ≡ 0 = ap one_if (ne_eqb v w other) in
+        omega arith)
