@@ -6,3 +6,4 @@ pub mod Numbered
 pub mod OperandLists
 pub mod OperationViews
 pub mod Symbols
+pub mod ResultTypes

@@ -1,0 +1,6 @@
+//! MLIR text to a design, or the first thing in it that is refused.
+#![tactic(auto)]
+
+pub mod fail;
+pub mod pieces;
+pub mod syntax;
