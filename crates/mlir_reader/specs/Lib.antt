@@ -13,3 +13,4 @@ pub mod ModuleText
 pub mod Resolving
 pub mod Reading
 pub mod Views
+pub mod Heads

@@ -2,5 +2,7 @@
 #![tactic(auto)]
 
 pub mod fail;
+pub mod head;
 pub mod pieces;
+pub mod reader;
 pub mod syntax;
