@@ -1,5 +1,5 @@
 -- Numbers in a text (MLIR language reference, "Common syntax": integer literals).
-use Rattle.std.specs.Prelude.{ℕ, ◌+◌, ◌-◌, ◌*◌, ◌^◌, cond, ◌==◌, nat_lt, List, [], ◌∷◌, Ok, Err, ℤ, pos, negsuc}
+use Rattle.std.specs.Prelude.{ℕ, ◌+◌, ◌-◌, ◌*◌, ◌^◌, cond, ◌==◌, nat_lt, List, [], ◌∷◌, Option, Some, None, Ok, Err, ℤ, pos, negsuc}
 use Rattle.diag.specs.declared.refusal.OpName.{OpName}
 use Rattle.diag.specs.declared.cause.Cause.TheVariants.{NumberTooLarge}
 use Rattle.mlir_lexer.specs.Contents.{hex_value}
@@ -25,6 +25,10 @@ count_limit = 2 ^ 32
 -- the limit of all numbers
 abbrev pub number_limit : ℕ
 number_limit = 2 ^ 128
+
+-- a number where it is below a limit
+abbrev pub below : ℕ → ℕ → Option ℕ
+below limit n = cond (nat_lt n limit) (Some n) None
 
 -- a number that is below a limit, or the refusal of its token
 unfoldable pub limited : ℕ → OpName → List Symbol → ℕ → List Symbol → Read ℕ
