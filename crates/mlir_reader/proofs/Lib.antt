@@ -1,2 +1,5 @@
--- Lemmas of this crate's proofs.
+-- Lemmas that several proofs of this crate share.
 mod Digits
+pub mod Lists
+pub mod Types
+pub mod Chains

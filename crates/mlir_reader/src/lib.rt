@@ -7,3 +7,4 @@ pub mod numerals;
 pub mod pieces;
 pub mod reader;
 pub mod syntax;
+pub mod type_text;
