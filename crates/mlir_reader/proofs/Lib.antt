@@ -3,3 +3,4 @@ mod Digits
 pub mod Lists
 pub mod Types
 pub mod Chains
+pub mod Operands

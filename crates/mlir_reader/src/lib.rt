@@ -4,6 +4,7 @@
 pub mod fail;
 pub mod head;
 pub mod numerals;
+pub mod operand_text;
 pub mod pieces;
 pub mod reader;
 pub mod syntax;
