@@ -4,3 +4,7 @@ pub mod Lists
 pub mod Types
 pub mod Chains
 pub mod Operands
+pub mod Stored
+pub mod Attributes
+pub mod Keys
+pub mod Entries

@@ -1,6 +1,7 @@
 //! MLIR text to a design, or the first thing in it that is refused.
 #![tactic(auto)]
 
+pub mod attribute_text;
 pub mod fail;
 pub mod head;
 pub mod numerals;
