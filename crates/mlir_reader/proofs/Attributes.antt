@@ -1,11 +1,11 @@
 -- What an attribute is, by what its first token begins and by whether one more list may be opened.
-use Rattle.std.proofs.Common.{◌≡◌, ℕ, zero, suc, ◌-◌, ◌<◌, Bool, List, [], Ok, Err, refl, sym, arith}
+use Rattle.std.proofs.Common.{◌≡◌, ℕ, zero, suc, ◌-◌, ◌<◌, Bool, List, Ok, Err, refl, sym, arith}
 use Rattle.diag.specs.declared.refusal.OpName.{OpName}
 use Rattle.diag.specs.declared.cause.Cause.TheVariants.{OutsideProfile, TooDeep}
 use Rattle.hw_model.specs.Design.Attribute.{text_value, symbol_value, truth_value}
 use Rattle.mlir_reader.specs.Stream.{Symbol, first, after, refused, unexpected}
 use Rattle.mlir_reader.specs.TypeText.{too_deep}
-use Rattle.mlir_reader.specs.AttributeText.{attribute_text, attribute_with, attribute_head, AttributeHead, typed_integer, list_text}
+use Rattle.mlir_reader.specs.AttributeText.{attribute_text, attribute_with, attribute_head, typed_integer, list_text}
 use Rattle.mlir_reader.specs.AttributeText.AttributeHead.{text_head, symbol_head, truth_head, number_head, list_head, alias_head, no_head}
 use Rattle.mlir_reader.proofs.Lists.{IsItem}
 

@@ -1,5 +1,5 @@
 -- The entries of a dictionary, which are read one by one while their keys are noted.
-use Rattle.std.proofs.Common.{◌≡◌, ℕ, zero, suc, ◌-◌, ◌≤◌, ◌<◌, Bool, true, false, cond, List, [], ◌∷◌, ◌++◌, map, length, Result, Ok, Err, refl, sym, ap, ◌∙◌, arith}
+use Rattle.std.proofs.Common.{◌≡◌, ℕ, zero, suc, ◌-◌, ◌≤◌, ◌<◌, Bool, true, false, cond, List, [], ◌∷◌, ◌++◌, map, length, Ok, Err, refl, sym, ap, ◌∙◌, arith}
 use Rattle.std.proofs.lemmas.List.{map_push}
 use Rattle.diag.specs.declared.refusal.OpName.{OpName}
 use Rattle.hw_model.specs.Types.{Name}
@@ -9,7 +9,7 @@ use Rattle.indexmap.specs.IndexSet.{insert_key}
 use Rattle.ir_store.specs.DictionaryViews.{entry_of}
 use Rattle.ir_store.specs.declared.dictionary.Entry.{Entry}
 use Rattle.mlir_lexer.specs.declared.token.TokenKind.TheVariants as kind
-use Rattle.mlir_reader.specs.Stream.{Symbol, is_next, after, unexpected}
+use Rattle.mlir_reader.specs.Stream.{Symbol, is_next, after}
 use Rattle.mlir_reader.specs.Reads.{Read, Reads, on}
 use Rattle.mlir_reader.specs.TypeText.{name_text}
 use Rattle.mlir_reader.specs.AttributeText.{entries, entry_text, new_key, is_among}

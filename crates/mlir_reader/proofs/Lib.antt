@@ -8,3 +8,4 @@ pub mod Stored
 pub mod Attributes
 pub mod Keys
 pub mod Entries
+pub mod Literals

@@ -16,3 +16,4 @@ pub mod Views
 pub mod Heads
 pub mod TypeHeads
 pub mod AttributeHeads
+pub mod LiteralHeads

@@ -4,6 +4,7 @@
 pub mod attribute_text;
 pub mod fail;
 pub mod head;
+pub mod literal_text;
 pub mod numerals;
 pub mod operand_text;
 pub mod pieces;
