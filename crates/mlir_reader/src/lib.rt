@@ -10,4 +10,6 @@ pub mod operand_text;
 pub mod pieces;
 pub mod reader;
 pub mod syntax;
+#[cfg(test)]
+mod tests;
 pub mod type_text;
