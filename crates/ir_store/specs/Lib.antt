@@ -12,3 +12,4 @@ pub mod Positions
 pub mod Symbols
 pub mod Uses
 pub mod UsesLeft
+pub mod ResultTypes

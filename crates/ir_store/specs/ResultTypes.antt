@@ -1,0 +1,103 @@
+-- The types of an operation's results, by its kind and the types that it writes (CIRCT: operation references of HW, Comb and Seq).
+use Rattle.std.specs.Prelude.{ℕ, ◌+◌, List, [], ◌∷◌, map, drop, length, Option, Some, None}
+use Rattle.hw_model.specs.Types.{Name, HwType, FieldTypes}
+use Rattle.hw_model.specs.Types.HwType.{int, clock, array, struct}
+use Rattle.hw_model.specs.Types.FieldTypes.{no_fields, field}
+use Rattle.hw_model.specs.Kinds.{Kind, Instance}
+use Rattle.hw_model.specs.Kinds.Kind.{add, mul, and, or, xor, sub, divu, modu, divs, mods, shl, shru, shrs, icmp, parity, extract, concat, replicate, mux, constant, aggregate_constant, array_create, array_concat, array_get, array_slice, array_inject, struct_create, struct_extract, struct_inject, struct_explode, bitcast, wire, instance, output, compreg, compreg_ce, firreg}
+use Rattle.hw_model.specs.Sound.{field_list, field_type}
+
+-- the first of the types, the second
+abbrev pub first_type : List HwType → Option HwType
+first_type [] = None
+first_type (t ∷ ts) = Some t
+
+abbrev pub second_type : List HwType → Option HwType
+second_type [] = None
+second_type (t ∷ ts) = first_type ts
+
+-- the joined integers of some widths: a type that is no integer settles nothing
+abbrev pub with_width : HwType → Option ℕ → Option ℕ
+with_width (int w) (Some n) = Some (w + n)
+with_width _ _ = None
+
+abbrev pub joined_width : List HwType → Option ℕ
+joined_width [] = Some 0
+joined_width (t ∷ ts) = with_width t (joined_width ts)
+
+abbrev pub as_int : Option ℕ → Option HwType
+as_int None = None
+as_int (Some w) = Some (int w)
+
+-- an array of so many elements
+abbrev pub as_array : ℕ → Option HwType → Option HwType
+as_array n None = None
+as_array n (Some t) = Some (array n t)
+
+-- the element's type of an array
+abbrev pub element_of : Option HwType → Option HwType
+element_of (Some (array n t)) = Some t
+element_of _ = None
+
+-- how many elements the arrays have together
+abbrev pub with_length : HwType → Option ℕ → Option ℕ
+with_length (array n t) (Some m) = Some (n + m)
+with_length _ _ = None
+
+abbrev pub joined_length : List HwType → Option ℕ
+joined_length [] = Some 0
+joined_length (t ∷ ts) = with_length t (joined_length ts)
+
+abbrev pub array_of : Option ℕ → Option HwType → Option HwType
+array_of (Some n) (Some t) = Some (array n t)
+array_of _ _ = None
+
+-- the type of a field of a struct
+abbrev pub field_of : Option HwType → Name → Option HwType
+field_of (Some (struct fs)) name = field_type fs name
+field_of _ name = None
+
+-- the types of a struct's fields; of what is no struct none
+abbrev pub fields_of : Option HwType → List (Option HwType)
+fields_of (Some (struct fs)) = map (λ (t : HwType). Some t) (field_list fs)
+fields_of _ = []
+
+-- the types of an operation's results, one for each: None where the operation does not settle it
+unfoldable pub result_types : Kind → List HwType → ℕ → List (Option HwType)
+result_types add ts n = first_type ts ∷ []
+result_types mul ts n = first_type ts ∷ []
+result_types and ts n = first_type ts ∷ []
+result_types or ts n = first_type ts ∷ []
+result_types xor ts n = first_type ts ∷ []
+result_types sub ts n = first_type ts ∷ []
+result_types divu ts n = first_type ts ∷ []
+result_types modu ts n = first_type ts ∷ []
+result_types divs ts n = first_type ts ∷ []
+result_types mods ts n = first_type ts ∷ []
+result_types shl ts n = first_type ts ∷ []
+result_types shru ts n = first_type ts ∷ []
+result_types shrs ts n = first_type ts ∷ []
+result_types (icmp p) ts n = Some (int 1) ∷ []
+result_types parity ts n = Some (int 1) ∷ []
+result_types (extract low) ts n = second_type ts ∷ []
+result_types concat ts n = as_int (joined_width ts) ∷ []
+result_types replicate ts n = second_type ts ∷ []
+result_types mux ts n = first_type ts ∷ []
+result_types (constant z) ts n = first_type ts ∷ []
+result_types (aggregate_constant ls) ts n = first_type ts ∷ []
+result_types array_create ts n = as_array n (first_type ts) ∷ []
+result_types array_concat ts n = array_of (joined_length ts) (element_of (first_type ts)) ∷ []
+result_types array_get ts n = element_of (first_type ts) ∷ []
+result_types array_slice ts n = second_type ts ∷ []
+result_types array_inject ts n = first_type ts ∷ []
+result_types struct_create ts n = first_type ts ∷ []
+result_types (struct_extract name) ts n = field_of (first_type ts) name ∷ []
+result_types (struct_inject name) ts n = first_type ts ∷ []
+result_types struct_explode ts n = fields_of (first_type ts)
+result_types bitcast ts n = second_type ts ∷ []
+result_types wire ts n = first_type ts ∷ []
+result_types (instance i) ts n = map (λ (t : HwType). Some t) (drop (length i.inputs) ts)
+result_types output ts n = []
+result_types (compreg r) ts n = first_type ts ∷ []
+result_types (compreg_ce r) ts n = first_type ts ∷ []
+result_types (firreg r) ts n = first_type ts ∷ []

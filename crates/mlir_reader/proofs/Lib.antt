@@ -1,0 +1,11 @@
+-- Lemmas that several proofs of this crate share.
+mod Digits
+pub mod Lists
+pub mod Types
+pub mod Chains
+pub mod Operands
+pub mod Stored
+pub mod Attributes
+pub mod Keys
+pub mod Entries
+pub mod Literals

@@ -1,0 +1,14 @@
+//! What stands first of what is left of a text.
+use diag::refusal::Place;
+use mlir_lexer::token::Token;
+
+/// What stands first of what is left of a text.
+#[derive(Clone, Copy, Debug)]
+pub enum Head<'s> {
+    /// A token.
+    Token(Token<'s>),
+    /// A byte that begins no token.
+    Bad(Place),
+    /// The end of the text.
+    End(Place),
+}
