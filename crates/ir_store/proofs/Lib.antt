@@ -2,4 +2,5 @@
 pub mod BodyLemmas
 pub mod Cutting
 pub mod DesignLemmas
+mod FieldTypes
 pub mod Numbering

@@ -10,5 +10,6 @@ pub mod design;
 pub mod dictionary;
 mod operands;
 pub mod operation;
+pub mod result_types;
 #[cfg(test)]
 mod tests;
