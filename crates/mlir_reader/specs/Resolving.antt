@@ -23,17 +23,21 @@ use Rattle.ir_store.specs.ResultTypes.{result_types}
 use Rattle.mlir_reader.specs.AttributeText.{is_among}
 use Rattle.mlir_reader.specs.OperandText.{OperandName, ResultNames, named_count}
 use Rattle.mlir_reader.specs.OperandText.ResultNames.{no_names, names, pack}
-use Rattle.mlir_reader.specs.PieceText.{Extra, Gathered}
+use Rattle.mlir_reader.specs.PieceText.{Extra}
 use Rattle.mlir_reader.specs.PieceText.Extra.{with_reset, predicate, position, number, literals, field_name, child}
 use Rattle.mlir_reader.specs.OperationText.{OperationText, is_last}
 use Rattle.mlir_reader.specs.ModuleText.{PortText, ModuleText}
 
 -- ---- constants
 
+-- whether a constant -1 - n is in the range of an integer type that values have, of 1 to 128 bits
+abbrev pub has_negative : ℕ → ℕ → Bool
+has_negative w n = nat_lt 0 w && (nat_lt w 129 && nat_lt n (2 ^ (w - 1)))
+
 -- a constant of an integer type stands for its bits where it is in range: it is kept as the number that they are
 abbrev pub kept_number : ℕ → ℤ → ℤ
 kept_number w (pos n) = pos n
-kept_number w (negsuc n) = cond (nat_lt n (2 ^ (w - 1))) (pos (2 ^ w - 1 - n)) (negsuc n)
+kept_number w (negsuc n) = cond (has_negative w n) (pos (2 ^ w - 1 - n)) (negsuc n)
 
 abbrev pub kept_integer : HwType → ℤ → ℤ
 kept_integer (int w) z = kept_number w z
@@ -85,45 +89,45 @@ said_reset with_reset = sync_reset
 said_reset _ = no_reset
 
 -- the kind of an operation of a name
-unfoldable pub kind_named : Listed → Gathered → Kind
-kind_named listed.HwModule g = output
-kind_named listed.CombAdd g = add
-kind_named listed.CombMul g = mul
-kind_named listed.CombAnd g = and
-kind_named listed.CombOr g = or
-kind_named listed.CombXor g = xor
-kind_named listed.CombSub g = sub
-kind_named listed.CombDivu g = divu
-kind_named listed.CombModu g = modu
-kind_named listed.CombDivs g = divs
-kind_named listed.CombMods g = mods
-kind_named listed.CombShl g = shl
-kind_named listed.CombShru g = shru
-kind_named listed.CombShrs g = shrs
-kind_named listed.CombIcmp g = icmp (said_predicate g.extra)
-kind_named listed.CombParity g = parity
-kind_named listed.CombExtract g = extract (said_position g.extra)
-kind_named listed.CombConcat g = concat
-kind_named listed.CombReplicate g = replicate
-kind_named listed.CombMux g = mux
-kind_named listed.HwConstant g = constant (kept_by_first g.types (said_number g.extra))
-kind_named listed.HwAggregateConstant g = aggregate_constant (kept_literals (said_literals g.extra))
-kind_named listed.HwArrayCreate g = array_create
-kind_named listed.HwArrayConcat g = array_concat
-kind_named listed.HwArrayGet g = array_get
-kind_named listed.HwArraySlice g = array_slice
-kind_named listed.HwArrayInject g = array_inject
-kind_named listed.HwStructCreate g = struct_create
-kind_named listed.HwStructExtract g = struct_extract (said_field g.extra)
-kind_named listed.HwStructInject g = struct_inject (said_field g.extra)
-kind_named listed.HwStructExplode g = struct_explode
-kind_named listed.HwBitcast g = bitcast
-kind_named listed.HwWire g = wire
-kind_named listed.HwInstance g = instance (said_instance g.extra)
-kind_named listed.HwOutput g = output
-kind_named listed.SeqCompreg g = compreg (said_reset g.extra)
-kind_named listed.SeqCompregCe g = compreg_ce (said_reset g.extra)
-kind_named listed.SeqFirreg g = firreg (said_reset g.extra)
+unfoldable pub kind_named : Listed → Extra → List HwType → Kind
+kind_named listed.HwModule e ts = output
+kind_named listed.CombAdd e ts = add
+kind_named listed.CombMul e ts = mul
+kind_named listed.CombAnd e ts = and
+kind_named listed.CombOr e ts = or
+kind_named listed.CombXor e ts = xor
+kind_named listed.CombSub e ts = sub
+kind_named listed.CombDivu e ts = divu
+kind_named listed.CombModu e ts = modu
+kind_named listed.CombDivs e ts = divs
+kind_named listed.CombMods e ts = mods
+kind_named listed.CombShl e ts = shl
+kind_named listed.CombShru e ts = shru
+kind_named listed.CombShrs e ts = shrs
+kind_named listed.CombIcmp e ts = icmp (said_predicate e)
+kind_named listed.CombParity e ts = parity
+kind_named listed.CombExtract e ts = extract (said_position e)
+kind_named listed.CombConcat e ts = concat
+kind_named listed.CombReplicate e ts = replicate
+kind_named listed.CombMux e ts = mux
+kind_named listed.HwConstant e ts = constant (kept_by_first ts (said_number e))
+kind_named listed.HwAggregateConstant e ts = aggregate_constant (kept_literals (said_literals e))
+kind_named listed.HwArrayCreate e ts = array_create
+kind_named listed.HwArrayConcat e ts = array_concat
+kind_named listed.HwArrayGet e ts = array_get
+kind_named listed.HwArraySlice e ts = array_slice
+kind_named listed.HwArrayInject e ts = array_inject
+kind_named listed.HwStructCreate e ts = struct_create
+kind_named listed.HwStructExtract e ts = struct_extract (said_field e)
+kind_named listed.HwStructInject e ts = struct_inject (said_field e)
+kind_named listed.HwStructExplode e ts = struct_explode
+kind_named listed.HwBitcast e ts = bitcast
+kind_named listed.HwWire e ts = wire
+kind_named listed.HwInstance e ts = instance (said_instance e)
+kind_named listed.HwOutput e ts = output
+kind_named listed.SeqCompreg e ts = compreg (said_reset e)
+kind_named listed.SeqCompregCe e ts = compreg_ce (said_reset e)
+kind_named listed.SeqFirreg e ts = firreg (said_reset e)
 
 -- ---- dictionaries and names
 
@@ -219,7 +223,7 @@ port_definitions j (p ∷ ps) = port_and j p.value (port_definitions (j + 1) ps)
 
 -- the results that an operation has of its own
 abbrev pub own_types : OperationText → List (Option HwType)
-own_types o = result_types (kind_named o.name o.gathered) o.gathered.types (length o.gathered.operands)
+own_types o = result_types (kind_named o.name o.gathered.extra o.gathered.types) o.gathered.types (length o.gathered.operands)
 
 -- names one by one, from a result of an operation on
 abbrev pub names_from : ℕ → ℕ → List Name → List Definition
@@ -282,7 +286,7 @@ marked_results (t ∷ ts) (m ∷ ms) = record { type = type_or_none t; again = m
 -- an operation at a position of a body with these definitions, where some names are defined earlier
 abbrev pub operation_at : List Definition → List Name → ℕ → OperationText → Op
 operation_at ds earlier i o = record {
-  kind = kind_named o.name o.gathered;
+  kind = kind_named o.name o.gathered.extra o.gathered.types;
   operands = map (resolved ds) o.gathered.operands;
   types = o.gathered.types;
   results = marked_results (own_types o) (marks earlier (operation_definitions i o));
