@@ -1,17 +1,18 @@
 -- Modules in a list, and their numbers by symbol.
 use Rattle.std.proofs.Common.{◌≡◌, ℕ, zero, suc, ◌<◌, Bool, true, false, cond, List, [], ◌∷◌, ◌++◌, map, length, get_or, set, refl, ap, sym, ◌∙◌, arith}
-use Rattle.std.specs.Prelude.{Option, Some, None, option_map, is_some, slice_get}
+use Rattle.std.specs.Prelude.{Option, Some, None, option_map, option_and_then, is_some, slice_get, nat_eq}
 use Rattle.std.specs.Option.{option_copied}
 use Rattle.std.specs.Borrow.{Bor}
 use Rattle.std.specs.Map.{lookup}
+use Rattle.std.proofs.lemmas.Bool.{eqb-true, eqb-false}
 use Rattle.indexmap.specs.IndexMap.{insert_entry}
 use Rattle.hw_model.specs.Types.{Name}
-use Rattle.hw_model.specs.Design.{same_name}
+use Rattle.hw_model.specs.Design.{same_name, find_module}
 use Rattle.ir_store.specs.declared.design.Module.{Module}
 use Rattle.ir_store.specs.declared.body.Body.{Body}
 use Rattle.ir_store.specs.Bodies.{ops_of}
 use Rattle.ir_store.specs.Symbols.{symbol_place, first_of}
-use Rattle.ir_store.specs.Designs.{StoredModule, module_of, with_ops}
+use Rattle.ir_store.specs.Designs.{StoredModule, module_of, numbered_module, with_ops}
 
 -- ---- lists of modules
 
@@ -79,3 +80,50 @@ module _ {K : Type 0} where
           cond b (Some e.1) (lookup test (es ++ (k, v) ∷ [])) ≡ first_of (cond b (Some e.1) (lookup test es)) (cond (test k) (Some v) None)
       go true r = refl
       go false r = r
+
+-- ---- a symbol's place, and the module that it names
+
+same_name_back : (a b : Name) → same_name a b ≡ same_name b a
+same_name_back [] [] = refl
+same_name_back [] (y ∷ b) = refl
+same_name_back (x ∷ a) [] = refl
+same_name_back (x ∷ a) (y ∷ b) = rw (eqb_back x y, same_name_back a b) refl
+  where
+    eqb_back : (x y : ℕ) → nat_eq x y ≡ nat_eq y x
+    eqb_back x y = go (nat_eq x y) refl (nat_eq y x) refl
+      where
+        go : (b : Bool) → nat_eq x y ≡ b → (c : Bool) → nat_eq y x ≡ c → nat_eq x y ≡ nat_eq y x
+        go true s true t = s ∙ sym t
+        go true s false t = absurd (eqb-false y x t (sym (eqb-true x y s)))
+        go false s true t = absurd (eqb-false x y s (sym (eqb-true y x t)))
+        go false s false t = s ∙ sym t
+
+-- the module at a symbol's place is the one that is found
+pub module-symbol_place : (q : Name) (ms : List StoredModule) →
+    option_and_then (slice_get (map numbered_module ms)) (symbol_place q (map (λ (m : StoredModule). m.symbol) ms)) ≡ find_module (map numbered_module ms) q
+module-symbol_place q [] = refl
+module-symbol_place q (m ∷ ms) = rw (same_name_back m.symbol q) (go (same_name q m.symbol) (module-symbol_place q ms))
+  where
+    behind : (p : Option ℕ) → option_and_then (slice_get (numbered_module m ∷ map numbered_module ms)) (option_map suc p) ≡ option_and_then (slice_get (map numbered_module ms)) p
+    behind None = refl
+    behind (Some n) = refl
+
+    go : (b : Bool) → option_and_then (slice_get (map numbered_module ms)) (symbol_place q (map (λ (m : StoredModule). m.symbol) ms)) ≡ find_module (map numbered_module ms) q →
+        option_and_then (slice_get (numbered_module m ∷ map numbered_module ms)) (cond b (Some 0) (option_map suc (symbol_place q (map (λ (m : StoredModule). m.symbol) ms))))
+        ≡ cond b (Some (numbered_module m)) (find_module (map numbered_module ms) q)
+    go true r = refl
+    go false r = behind (symbol_place q (map (λ (m : StoredModule). m.symbol) ms)) ∙ r
+
+-- there is a place exactly where there is a module
+pub some-symbol_place : (q : Name) (ms : List StoredModule) → is_some (symbol_place q (map (λ (m : StoredModule). m.symbol) ms)) ≡ is_some (find_module (map numbered_module ms) q)
+some-symbol_place q [] = refl
+some-symbol_place q (m ∷ ms) = rw (same_name_back m.symbol q) (go (same_name q m.symbol) (some-symbol_place q ms))
+  where
+    behind : (p : Option ℕ) → is_some (option_map suc p) ≡ is_some p
+    behind None = refl
+    behind (Some n) = refl
+
+    go : (b : Bool) → is_some (symbol_place q (map (λ (m : StoredModule). m.symbol) ms)) ≡ is_some (find_module (map numbered_module ms) q) →
+        is_some (cond b (Some 0) (option_map suc (symbol_place q (map (λ (m : StoredModule). m.symbol) ms)))) ≡ is_some (cond b (Some (numbered_module m)) (find_module (map numbered_module ms) q))
+    go true r = refl
+    go false r = behind (symbol_place q (map (λ (m : StoredModule). m.symbol) ms)) ∙ r

@@ -3,4 +3,8 @@ pub mod BodyLemmas
 pub mod Cutting
 pub mod DesignLemmas
 mod FieldTypes
+pub mod IdLemmas
+pub mod Joining
+pub mod Living
 pub mod Numbering
+pub mod UseLemmas

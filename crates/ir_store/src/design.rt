@@ -130,10 +130,11 @@ impl Module {
 }
 
 impl Design {
-    ghost use Rattle.std.specs.Prelude.{◌≡◌, ◌+◌, ◌<◌, ◌^◌, [], ◌∷◌, ◌++◌, map, length, IfOk, OnErr, slice_get, slice_set, Some};
+    ghost use Rattle.std.specs.Prelude.{◌≡◌, ◌+◌, ◌<◌, ◌^◌, [], ◌∷◌, ◌++◌, map, length, IfOk, OnErr, is_some, option_and_then, slice_get, slice_set, Some};
+    ghost use Rattle.hw_model.specs.Design.{find_module};
     ghost use Rattle.ir_store.specs.Symbols.{symbol_place};
     ghost use Rattle.ir_store.specs.Bodies.{ops_of};
-    ghost use Rattle.ir_store.specs.Designs.{modules_of, module_of, with_ops};
+    ghost use Rattle.ir_store.specs.Designs.{design_of, modules_of, module_of, with_ops};
 
     /// The design without modules. It takes no memory.
     pub fn new(alloc: Global) -> Design
@@ -187,9 +188,11 @@ impl Design {
         &self.modules[m as usize]
     }
 
-    /// The first module of a symbol: none exactly where no module has it.
+    /// The number of the first module of a symbol: none exactly where no module has it.
     pub fn find(&self, symbol: &[u8]) -> Option<u32>
-        ensures { result ≡ symbol_place symbol.now (map (λ m. m.symbol) (modules_of self.now)) }
+        ensures place { result ≡ symbol_place symbol.now (map (λ m. m.symbol) (modules_of self.now)) }
+        ensures module { option_and_then (slice_get (design_of self.now)) result ≡ find_module (design_of self.now) symbol.now }
+        ensures some { is_some result ≡ is_some (find_module (design_of self.now) symbol.now) }
     {
         self.symbols.get(symbol).copied()
     }

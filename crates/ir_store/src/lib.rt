@@ -8,8 +8,17 @@
 pub mod body;
 pub mod design;
 pub mod dictionary;
+pub mod ids;
+mod laws;
 mod operands;
 pub mod operation;
+mod order;
 pub mod result_types;
 #[cfg(test)]
 mod tests;
+pub mod uses;
+
+pub use laws::{
+    additions_by_position, erasures_by_position, ids_are_distinct, operands_by_position,
+    replacements_by_position,
+};
