@@ -112,3 +112,15 @@ result_types output ts n = []
 result_types struct_explode ts n = fields_of (first_type ts)
 result_types (instance i) ts n = map (λ (t : HwType). Some t) (drop (length i.inputs) ts)
 result_types kind ts n = result_type kind ts n ∷ []
+
+-- how many fields a struct has; what is no struct has none
+abbrev pub field_count : Option HwType → ℕ
+field_count (Some (struct fs)) = length (field_list fs)
+field_count _ = 0
+
+-- how many results an operation has
+unfoldable pub result_count : Kind → List HwType → ℕ
+result_count output ts = 0
+result_count struct_explode ts = field_count (first_type ts)
+result_count (instance i) ts = length ts - length i.inputs
+result_count kind ts = 1
