@@ -2,6 +2,7 @@
 pub mod BodyLemmas
 pub mod Cutting
 pub mod DesignLemmas
+mod FieldTypes
 pub mod IdLemmas
 pub mod Joining
 pub mod Living

@@ -8,7 +8,7 @@ use Rattle.ir_store.specs.declared.body.Op.{Op}
 use Rattle.ir_store.specs.declared.body.Ops.{Ops}
 use Rattle.ir_store.specs.DictionaryViews.{entries_in}
 use Rattle.ir_store.specs.OperationViews.{OpParts, parts_of, types_in, results_in, place_of}
-use Rattle.ir_store.specs.Orders.{live_ids}
+use Rattle.ir_store.specs.Orders.{live_ids, free_ids}
 use Rattle.ir_store.specs.BodyOps.{BodyOp, stored, ids_in}
 
 -- the operations, each with its id, in text order
@@ -25,6 +25,10 @@ spare_ops b = min (vec_capacity b.order.ids) (min (vec_capacity b.parts) (length
 
 abbrev pub spare_uses : Body → ℕ
 spare_uses b = b.operands.room
+
+-- how many ids were freed and are not used again
+abbrev pub gaps : Body → ℕ
+gaps b = free_ids b.order
 
 -- the parts of an operation that is read
 abbrev pub read_parts : Op → OpParts

@@ -1,5 +1,5 @@
 -- The types of an operation's results, by its kind and the types that it writes (CIRCT: operation references of HW, Comb and Seq).
-use Rattle.std.specs.Prelude.{ℕ, ◌+◌, List, [], ◌∷◌, map, drop, length, Option, Some, None}
+use Rattle.std.specs.Prelude.{ℕ, ◌+◌, ◌-◌, ◌^◌, min, List, [], ◌∷◌, map, drop, length, Option, Some, None}
 use Rattle.hw_model.specs.Types.{Name, HwType, FieldTypes}
 use Rattle.hw_model.specs.Types.HwType.{int, clock, array, struct}
 use Rattle.hw_model.specs.Types.FieldTypes.{no_fields, field}
@@ -25,14 +25,18 @@ abbrev pub joined_width : List HwType → Option ℕ
 joined_width [] = Some 0
 joined_width (t ∷ ts) = with_width t (joined_width ts)
 
+-- a width or a length as a type keeps it: the greatest that it keeps is 2^32 - 1, and stands for all above it
+abbrev pub kept_size : ℕ → ℕ
+kept_size n = min n (2 ^ 32 - 1)
+
 abbrev pub as_int : Option ℕ → Option HwType
 as_int None = None
-as_int (Some w) = Some (int w)
+as_int (Some w) = Some (int (kept_size w))
 
 -- an array of so many elements
 abbrev pub as_array : ℕ → Option HwType → Option HwType
 as_array n None = None
-as_array n (Some t) = Some (array n t)
+as_array n (Some t) = Some (array (kept_size n) t)
 
 -- the element's type of an array
 abbrev pub element_of : Option HwType → Option HwType
@@ -49,7 +53,7 @@ joined_length [] = Some 0
 joined_length (t ∷ ts) = with_length t (joined_length ts)
 
 abbrev pub array_of : Option ℕ → Option HwType → Option HwType
-array_of (Some n) (Some t) = Some (array n t)
+array_of (Some n) (Some t) = Some (array (kept_size n) t)
 array_of _ _ = None
 
 -- the type of a field of a struct
@@ -62,42 +66,61 @@ abbrev pub fields_of : Option HwType → List (Option HwType)
 fields_of (Some (struct fs)) = map (λ (t : HwType). Some t) (field_list fs)
 fields_of _ = []
 
--- the types of an operation's results, one for each: None where the operation does not settle it
+-- the type of the result of an operation that has one: None where the operation does not settle it
+unfoldable pub result_type : Kind → List HwType → ℕ → Option HwType
+result_type add ts n = first_type ts
+result_type mul ts n = first_type ts
+result_type and ts n = first_type ts
+result_type or ts n = first_type ts
+result_type xor ts n = first_type ts
+result_type sub ts n = first_type ts
+result_type divu ts n = first_type ts
+result_type modu ts n = first_type ts
+result_type divs ts n = first_type ts
+result_type mods ts n = first_type ts
+result_type shl ts n = first_type ts
+result_type shru ts n = first_type ts
+result_type shrs ts n = first_type ts
+result_type (icmp p) ts n = Some (int 1)
+result_type parity ts n = Some (int 1)
+result_type (extract low) ts n = second_type ts
+result_type concat ts n = as_int (joined_width ts)
+result_type replicate ts n = second_type ts
+result_type mux ts n = first_type ts
+result_type (constant z) ts n = first_type ts
+result_type (aggregate_constant ls) ts n = first_type ts
+result_type array_create ts n = as_array n (first_type ts)
+result_type array_concat ts n = array_of (joined_length ts) (element_of (first_type ts))
+result_type array_get ts n = element_of (first_type ts)
+result_type array_slice ts n = second_type ts
+result_type array_inject ts n = first_type ts
+result_type struct_create ts n = first_type ts
+result_type (struct_extract name) ts n = field_of (first_type ts) name
+result_type (struct_inject name) ts n = first_type ts
+result_type struct_explode ts n = None
+result_type bitcast ts n = second_type ts
+result_type wire ts n = first_type ts
+result_type (instance i) ts n = None
+result_type output ts n = None
+result_type (compreg r) ts n = first_type ts
+result_type (compreg_ce r) ts n = first_type ts
+result_type (firreg r) ts n = first_type ts
+
+-- the types of an operation's results, one for each
 unfoldable pub result_types : Kind → List HwType → ℕ → List (Option HwType)
-result_types add ts n = first_type ts ∷ []
-result_types mul ts n = first_type ts ∷ []
-result_types and ts n = first_type ts ∷ []
-result_types or ts n = first_type ts ∷ []
-result_types xor ts n = first_type ts ∷ []
-result_types sub ts n = first_type ts ∷ []
-result_types divu ts n = first_type ts ∷ []
-result_types modu ts n = first_type ts ∷ []
-result_types divs ts n = first_type ts ∷ []
-result_types mods ts n = first_type ts ∷ []
-result_types shl ts n = first_type ts ∷ []
-result_types shru ts n = first_type ts ∷ []
-result_types shrs ts n = first_type ts ∷ []
-result_types (icmp p) ts n = Some (int 1) ∷ []
-result_types parity ts n = Some (int 1) ∷ []
-result_types (extract low) ts n = second_type ts ∷ []
-result_types concat ts n = as_int (joined_width ts) ∷ []
-result_types replicate ts n = second_type ts ∷ []
-result_types mux ts n = first_type ts ∷ []
-result_types (constant z) ts n = first_type ts ∷ []
-result_types (aggregate_constant ls) ts n = first_type ts ∷ []
-result_types array_create ts n = as_array n (first_type ts) ∷ []
-result_types array_concat ts n = array_of (joined_length ts) (element_of (first_type ts)) ∷ []
-result_types array_get ts n = element_of (first_type ts) ∷ []
-result_types array_slice ts n = second_type ts ∷ []
-result_types array_inject ts n = first_type ts ∷ []
-result_types struct_create ts n = first_type ts ∷ []
-result_types (struct_extract name) ts n = field_of (first_type ts) name ∷ []
-result_types (struct_inject name) ts n = first_type ts ∷ []
-result_types struct_explode ts n = fields_of (first_type ts)
-result_types bitcast ts n = second_type ts ∷ []
-result_types wire ts n = first_type ts ∷ []
-result_types (instance i) ts n = map (λ (t : HwType). Some t) (drop (length i.inputs) ts)
 result_types output ts n = []
-result_types (compreg r) ts n = first_type ts ∷ []
-result_types (compreg_ce r) ts n = first_type ts ∷ []
-result_types (firreg r) ts n = first_type ts ∷ []
+result_types struct_explode ts n = fields_of (first_type ts)
+result_types (instance i) ts n = map (λ (t : HwType). Some t) (drop (length i.inputs) ts)
+result_types kind ts n = result_type kind ts n ∷ []
+
+-- how many fields a struct has; what is no struct has none
+abbrev pub field_count : Option HwType → ℕ
+field_count (Some (struct fs)) = length (field_list fs)
+field_count _ = 0
+
+-- how many results an operation has
+unfoldable pub result_count : Kind → List HwType → ℕ
+result_count output ts = 0
+result_count struct_explode ts = field_count (first_type ts)
+result_count (instance i) ts = length ts - length i.inputs
+result_count kind ts = 1

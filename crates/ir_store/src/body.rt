@@ -74,7 +74,7 @@ impl<'b> Iterator for Ops<'b> {
 impl Body {
     ghost use Rattle.std.specs.Prelude.{◌≡◌, ℕ, ◌+◌, ◌<◌, ◌≤◌, ◌^◌, [], ◌∷◌, Some, None, map, min, length, Contains, IfOk, IfSome, IsOk, IsTrue, ◌↔◌, OnOk, OnErr, slice_set, insert, remove};
     ghost use Rattle.ir_store.specs.BodyOps.{op_at, put_before, place_before, as_new, operands_at, operand_count, HasOperand, HasPlace, IsUnused, is_named, all_replaced, taken_out};
-    ghost use Rattle.ir_store.specs.Bodies.{ids_of, ops_of, spare_ops, spare_uses, read_op, read_parts, op_id, ids_left};
+    ghost use Rattle.ir_store.specs.Bodies.{ids_of, ops_of, gaps, spare_ops, spare_uses, read_op, read_parts, op_id, ids_left};
     ghost use Rattle.ir_store.specs.OperationViews.{parts_of};
     ghost use Rattle.ir_store.specs.Orders.{live_ids};
     ghost use Rattle.ir_store.specs.Uses.{uses_in};
@@ -82,7 +82,8 @@ impl Body {
 
     /// The body without operations. It takes no memory.
     pub fn new(alloc: Global) -> Body
-        ensures { ops_of result ≡ [] }
+        ensures ops { ops_of result ≡ [] }
+        ensures gaps { gaps result ≡ 0 }
     {
         Body {
             order: Order::new(alloc),
@@ -94,6 +95,7 @@ impl Body {
     /// Makes room for at least `ops` more operations and `uses` more operands. The operations stay.
     pub fn reserve(&mut self, ops: u32, uses: u32) -> Result<(), AllocError>
         ensures stay { ops_of self.new ≡ ops_of self.old }
+        ensures gaps { gaps self.new ≡ gaps self.old }
         ensures ok { OnOk result ((ops ≤ spare_ops self.new) × (uses ≤ spare_uses self.new)) }
         ensures spare { (spare_ops self.old ≤ spare_ops self.new) × (spare_uses self.old ≤ spare_uses self.new) }
     {
@@ -173,6 +175,8 @@ impl Body {
         ensures ok { IfOk result (λ id. ops_of self.new ≡ put_before before (as_new id op) (ops_of self.old)) }
         ensures fresh { IfOk result (λ id. ¬ Contains (ids_of self.old) id.index) }
         ensures there { IfOk result (λ id. Contains (ids_of self.new) id.index) }
+        ensures next { gaps self.old ≡ 0 → IfOk result (λ id. id.index ≡ length (ids_of self.old)) }
+        ensures gaps { gaps self.old ≡ 0 → OnOk result (gaps self.new ≡ 0) }
         ensures err { OnErr result (ops_of self.new ≡ ops_of self.old) }
         ensures succeeds { 1 ≤ spare_ops self.old → length op.operands.items ≤ spare_uses self.old → IsOk result }
         ensures spare { (spare_ops self.old ≤ spare_ops self.new + 1) × (spare_uses self.old ≤ spare_uses self.new + length op.operands.items) }

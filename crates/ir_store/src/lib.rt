@@ -8,10 +8,12 @@
 pub mod body;
 pub mod design;
 pub mod dictionary;
+pub mod ids;
 mod laws;
 mod operands;
 pub mod operation;
 mod order;
+pub mod result_types;
 #[cfg(test)]
 mod tests;
 pub mod uses;

@@ -92,6 +92,7 @@ impl Order {
         ensures ids { live_ids self.new ≡ insert (live_ids self.old) place result }
         ensures live { self.new.live ≡ self.old.live + 1 }
         ensures fresh { times result (live_ids self.old) ≡ 0 }
+        ensures next { free_ids self.old ≡ 0 → result ≡ self.old.live }
         ensures within { result ≤ length self.old.ids.items }
         ensures count { length self.new.ids.items ≡ max (length self.old.ids.items) (result + 1) }
         ensures known { 0 < free_ids self.old → result < length self.old.ids.items }
@@ -131,6 +132,7 @@ fn take_id(ids: &mut Vec<u32>, live: usize) -> u32
     ensures count { length ids.new.items + 1 ≡ max (length ids.old.items) (result + 1) }
     ensures known { live < length ids.old.items → result < length ids.old.items }
     ensures new_one { result ≤ length ids.old.items }
+    ensures next { length ids.old.items ≡ live → result ≡ live }
     ensures capacity { vec_capacity ids.new ≡ vec_capacity ids.old }
 {
     if ids.len() == live {

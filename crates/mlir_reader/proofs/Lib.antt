@@ -9,3 +9,12 @@ pub mod Attributes
 pub mod Keys
 pub mod Entries
 pub mod Literals
+mod BodySteps
+mod Constants
+mod Defining
+mod KeyOrder
+mod Modules
+mod Moving
+mod Positions
+mod Sorting
+mod Tables

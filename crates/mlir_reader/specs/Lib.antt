@@ -17,3 +17,4 @@ pub mod Heads
 pub mod TypeHeads
 pub mod AttributeHeads
 pub mod LiteralHeads
+pub mod Meanings

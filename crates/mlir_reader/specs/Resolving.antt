@@ -1,6 +1,6 @@
 -- From what a text says to the design: kinds, dictionaries, and the values that names stand for.
 use Rattle.std.specs.Prelude.{ℕ, ◌+◌, ◌-◌, ◌^◌, Bool, true, false, cond, ◌&&◌, ◌==◌, nat_lt, not, min, List, [], ◌∷◌, ◌++◌, length, map, Option, Some, None, is_some, codes, ℤ, pos, negsuc}
-use Rattle.std.specs.Ordering.{nat_cmp, is_le}
+use Rattle.std.specs.Ordering.{nat_cmp, is_lt}
 use Rattle.std.specs.Cmp.Lexicographic.{slice_cmp}
 use Rattle.diag.specs.declared.refusal.Place as code
 use Rattle.diag.specs.declared.listed.Listed.{Listed}
@@ -19,21 +19,24 @@ use Rattle.hw_model.specs.Design.Ref.{port, result, undefined}
 use Rattle.mlir_lexer.specs.Classes.{is_digit}
 use Rattle.mlir_lexer.specs.Runs.{run}
 use Rattle.ir_store.specs.OperationViews.{place_of}
-use Rattle.ir_store.specs.ResultTypes.{result_types}
-use Rattle.mlir_reader.specs.AttributeText.{is_among}
+use Rattle.ir_store.specs.ResultTypes.{result_types, result_count}
 use Rattle.mlir_reader.specs.OperandText.{OperandName, ResultNames, named_count}
 use Rattle.mlir_reader.specs.OperandText.ResultNames.{no_names, names, pack}
-use Rattle.mlir_reader.specs.PieceText.{Extra, Gathered}
+use Rattle.mlir_reader.specs.PieceText.{Extra}
 use Rattle.mlir_reader.specs.PieceText.Extra.{with_reset, predicate, position, number, literals, field_name, child}
 use Rattle.mlir_reader.specs.OperationText.{OperationText, is_last}
 use Rattle.mlir_reader.specs.ModuleText.{PortText, ModuleText}
 
 -- ---- constants
 
+-- whether a constant -1 - n is in the range of an integer type that values have, of 1 to 128 bits
+abbrev pub has_negative : ℕ → ℕ → Bool
+has_negative w n = nat_lt 0 w && (nat_lt w 129 && nat_lt n (2 ^ (w - 1)))
+
 -- a constant of an integer type stands for its bits where it is in range: it is kept as the number that they are
 abbrev pub kept_number : ℕ → ℤ → ℤ
 kept_number w (pos n) = pos n
-kept_number w (negsuc n) = cond (nat_lt n (2 ^ (w - 1))) (pos (2 ^ w - 1 - n)) (negsuc n)
+kept_number w (negsuc n) = cond (has_negative w n) (pos (2 ^ w - 1 - n)) (negsuc n)
 
 abbrev pub kept_integer : HwType → ℤ → ℤ
 kept_integer (int w) z = kept_number w z
@@ -84,53 +87,66 @@ abbrev pub said_reset : Extra → Reset
 said_reset with_reset = sync_reset
 said_reset _ = no_reset
 
--- the kind of an operation of a name
-unfoldable pub kind_named : Listed → Gathered → Kind
-kind_named listed.HwModule g = output
-kind_named listed.CombAdd g = add
-kind_named listed.CombMul g = mul
-kind_named listed.CombAnd g = and
-kind_named listed.CombOr g = or
-kind_named listed.CombXor g = xor
-kind_named listed.CombSub g = sub
-kind_named listed.CombDivu g = divu
-kind_named listed.CombModu g = modu
-kind_named listed.CombDivs g = divs
-kind_named listed.CombMods g = mods
-kind_named listed.CombShl g = shl
-kind_named listed.CombShru g = shru
-kind_named listed.CombShrs g = shrs
-kind_named listed.CombIcmp g = icmp (said_predicate g.extra)
-kind_named listed.CombParity g = parity
-kind_named listed.CombExtract g = extract (said_position g.extra)
-kind_named listed.CombConcat g = concat
-kind_named listed.CombReplicate g = replicate
-kind_named listed.CombMux g = mux
-kind_named listed.HwConstant g = constant (kept_by_first g.types (said_number g.extra))
-kind_named listed.HwAggregateConstant g = aggregate_constant (kept_literals (said_literals g.extra))
-kind_named listed.HwArrayCreate g = array_create
-kind_named listed.HwArrayConcat g = array_concat
-kind_named listed.HwArrayGet g = array_get
-kind_named listed.HwArraySlice g = array_slice
-kind_named listed.HwArrayInject g = array_inject
-kind_named listed.HwStructCreate g = struct_create
-kind_named listed.HwStructExtract g = struct_extract (said_field g.extra)
-kind_named listed.HwStructInject g = struct_inject (said_field g.extra)
-kind_named listed.HwStructExplode g = struct_explode
-kind_named listed.HwBitcast g = bitcast
-kind_named listed.HwWire g = wire
-kind_named listed.HwInstance g = instance (said_instance g.extra)
-kind_named listed.HwOutput g = output
-kind_named listed.SeqCompreg g = compreg (said_reset g.extra)
-kind_named listed.SeqCompregCe g = compreg_ce (said_reset g.extra)
-kind_named listed.SeqFirreg g = firreg (said_reset g.extra)
+-- the kind of an operation that its name alone tells
+unfoldable pub plain_kind : Listed → Option Kind
+plain_kind listed.HwModule = Some output
+plain_kind listed.CombAdd = Some add
+plain_kind listed.CombMul = Some mul
+plain_kind listed.CombAnd = Some and
+plain_kind listed.CombOr = Some or
+plain_kind listed.CombXor = Some xor
+plain_kind listed.CombSub = Some sub
+plain_kind listed.CombDivu = Some divu
+plain_kind listed.CombModu = Some modu
+plain_kind listed.CombDivs = Some divs
+plain_kind listed.CombMods = Some mods
+plain_kind listed.CombShl = Some shl
+plain_kind listed.CombShru = Some shru
+plain_kind listed.CombShrs = Some shrs
+plain_kind listed.CombParity = Some parity
+plain_kind listed.CombConcat = Some concat
+plain_kind listed.CombReplicate = Some replicate
+plain_kind listed.CombMux = Some mux
+plain_kind listed.HwArrayCreate = Some array_create
+plain_kind listed.HwArrayConcat = Some array_concat
+plain_kind listed.HwArrayGet = Some array_get
+plain_kind listed.HwArraySlice = Some array_slice
+plain_kind listed.HwArrayInject = Some array_inject
+plain_kind listed.HwStructCreate = Some struct_create
+plain_kind listed.HwStructExplode = Some struct_explode
+plain_kind listed.HwBitcast = Some bitcast
+plain_kind listed.HwWire = Some wire
+plain_kind listed.HwOutput = Some output
+plain_kind _ = None
+
+-- the kind of an operation that its name and the rest of its text tell
+unfoldable pub said_kind : Listed → Extra → List HwType → Kind
+said_kind listed.CombIcmp e ts = icmp (said_predicate e)
+said_kind listed.CombExtract e ts = extract (said_position e)
+said_kind listed.HwConstant e ts = constant (kept_by_first ts (said_number e))
+said_kind listed.HwAggregateConstant e ts = aggregate_constant (kept_literals (said_literals e))
+said_kind listed.HwStructExtract e ts = struct_extract (said_field e)
+said_kind listed.HwStructInject e ts = struct_inject (said_field e)
+said_kind listed.HwInstance e ts = instance (said_instance e)
+said_kind listed.SeqCompreg e ts = compreg (said_reset e)
+said_kind listed.SeqCompregCe e ts = compreg_ce (said_reset e)
+said_kind listed.SeqFirreg e ts = firreg (said_reset e)
+said_kind _ e ts = output
+
+abbrev pub kind_or : Option Kind → Kind → Kind
+kind_or None k = k
+kind_or (Some k) other = k
+
+-- the kind of an operation
+abbrev pub kind_named : Listed → Extra → List HwType → Kind
+kind_named o e ts = kind_or (plain_kind o) (said_kind o e ts)
 
 -- ---- dictionaries and names
 
--- an entry put among others by the bytes of its key
+-- an entry put among others by the bytes of its key, behind those whose key is less
 abbrev pub put_entry : Entry → List Entry → List Entry
 put_entry e [] = e ∷ []
-put_entry e (x ∷ xs) = cond (is_le (slice_cmp nat_cmp e.key x.key)) (e ∷ x ∷ xs) (x ∷ put_entry e xs)
+put_entry e (x ∷ xs) = cond (is_lt (slice_cmp nat_cmp x.key e.key)) (x ∷ put_entry e xs) (e ∷ x ∷ xs)
 
 -- entries by the bytes of their keys
 abbrev pub sorted : List Entry → List Entry
@@ -161,13 +177,17 @@ has_name _ = false
 abbrev pub is_name_entry : Entry → Bool
 is_name_entry e = same_name (codes "name") e.key
 
+-- whether an operation's entry is not kept: an empty hint, and the name of what has one of its own
+abbrev pub is_dropped : Listed → Entry → Bool
+is_dropped o e = cond (is_empty_hint e) true (has_name o && is_name_entry e)
+
 -- the entries that are kept of an operation
 abbrev pub kept_entries : Listed → List Entry → List Entry
-kept_entries o es = sorted (without (λ e. cond (is_empty_hint e) true (has_name o && is_name_entry e)) es)
+kept_entries o es = sorted (without (is_dropped o) es)
 
--- the entries that are kept of a module
+-- the entries that are kept of a module, which has no name of its own
 abbrev pub kept_module_entries : List Entry → List Entry
-kept_module_entries es = sorted (without is_empty_hint es)
+kept_module_entries es = kept_entries listed.HwModule es
 
 -- the text of an attribute that is one
 abbrev pub text_in : Attribute → Name
@@ -193,8 +213,11 @@ name_or (Some name) other = name
 name_or None other = other
 
 -- the own name of a register or a wire; other operations have none
+abbrev pub own_name_of : Listed → ResultNames → List Entry → Name
+own_name_of o rs es = cond (has_name o) (name_or (given_name es) (first_name rs)) []
+
 abbrev pub own_name : OperationText → Name
-own_name o = cond (has_name o.name) (name_or (given_name o.dictionary) (first_name o.results)) []
+own_name o = own_name_of o.name o.results o.dictionary
 
 -- ---- definitions
 
@@ -207,19 +230,23 @@ pub record Definition : Type 0 where
   pub name : Name
   pub defined : Defined
 
--- a port with a value name in front of further definitions
-abbrev pub port_and : ℕ → Option Name → List Definition → List Definition
-port_and j None more = more
-port_and j (Some name) more = record { name = name; defined = is_port j } ∷ more
+-- the definition that a port's value name makes
+abbrev pub port_definition : ℕ → Option Name → List Definition
+port_definition j None = []
+port_definition j (Some name) = record { name = name; defined = is_port j } ∷ []
 
 -- the names that ports define, from a position on
 abbrev pub port_definitions : ℕ → List PortText → List Definition
 port_definitions j [] = []
-port_definitions j (p ∷ ps) = port_and j p.value (port_definitions (j + 1) ps)
+port_definitions j (p ∷ ps) = port_definition j p.value ++ port_definitions (j + 1) ps
 
 -- the results that an operation has of its own
 abbrev pub own_types : OperationText → List (Option HwType)
-own_types o = result_types (kind_named o.name o.gathered) o.gathered.types (length o.gathered.operands)
+own_types o = result_types (kind_named o.name o.gathered.extra o.gathered.types) o.gathered.types (length o.gathered.operands)
+
+-- how many they are
+abbrev pub own_count : OperationText → ℕ
+own_count o = result_count (kind_named o.name o.gathered.extra o.gathered.types) o.gathered.types
 
 -- names one by one, from a result of an operation on
 abbrev pub names_from : ℕ → ℕ → List Name → List Definition
@@ -233,17 +260,34 @@ names_defined i own (names n ns) = names_from i 0 (n ∷ ns)
 names_defined i own (pack n k) = cond (k == 0) [] (record { name = n; defined = are_results i 0 (min k own) } ∷ [])
 
 abbrev pub operation_definitions : ℕ → OperationText → List Definition
-operation_definitions i o = names_defined i (length (own_types o)) o.results
+operation_definitions i o = names_defined i (own_count o) o.results
 
 -- the names that operations define, from a position on
 abbrev pub body_definitions : ℕ → List OperationText → List Definition
 body_definitions i [] = []
 body_definitions i (o ∷ os) = operation_definitions i o ++ body_definitions (i + 1) os
 
--- the first definition of a name
-abbrev pub definition_of : List Definition → Name → Option Defined
-definition_of [] name = None
-definition_of (d ∷ ds) name = cond (same_name d.name name) (Some d.defined) (definition_of ds name)
+-- what names stand for
+abbrev pub Meanings : Type 0
+Meanings = Name → Option Defined
+
+-- before any definition a name stands for nothing
+abbrev pub no_meaning : Meanings
+no_meaning name = None
+
+-- what is known, or else what is new
+abbrev pub known_or : Option Defined → Option Defined → Option Defined
+known_or None new = new
+known_or (Some d) new = Some d
+
+-- with one more definition: a name that stands for something already keeps it
+abbrev pub with_definition : Meanings → Definition → Meanings
+with_definition means d name = known_or (means name) (cond (same_name name d.name) (Some d.defined) None)
+
+-- with further definitions, in order
+abbrev pub with_definitions : Meanings → List Definition → Meanings
+with_definitions means [] = means
+with_definitions means (d ∷ ds) = with_definitions (with_definition means d) ds
 
 -- what a number of a pack stands for
 abbrev pub ref_in : Option Defined → ℕ → Ref
@@ -252,18 +296,15 @@ ref_in (Some (is_port j)) n = cond (n == 0) (port j) undefined
 ref_in (Some (are_results i k count)) n = cond (nat_lt n count) (result i (k + n)) undefined
 
 -- the value that an operand names
-abbrev pub resolved : List Definition → OperandName → Ref
-resolved ds o = ref_in (definition_of ds o.name) o.number
+abbrev pub resolved : Meanings → OperandName → Ref
+resolved means o = ref_in (means o.name) o.number
 
 -- ---- marks of names that were defined earlier
 
-abbrev pub names_of : List Definition → List Name
-names_of ds = map (λ (d : Definition). d.name) ds
-
--- of each definition, whether its name stands among earlier ones
-abbrev pub marks : List Name → List Definition → List Bool
+-- of each definition, whether its name stands for something earlier
+abbrev pub marks : Meanings → List Definition → List Bool
 marks earlier [] = []
-marks earlier (d ∷ ds) = is_among d.name earlier ∷ marks (earlier ++ d.name ∷ []) ds
+marks earlier (d ∷ ds) = is_some (earlier d.name) ∷ marks (with_definition earlier d) ds
 
 -- a result's type that its operation does not settle
 abbrev pub type_or_none : Option HwType → HwType
@@ -279,11 +320,11 @@ marked_results (t ∷ ts) (m ∷ ms) = record { type = type_or_none t; again = m
 
 -- ---- operations
 
--- an operation at a position of a body with these definitions, where some names are defined earlier
-abbrev pub operation_at : List Definition → List Name → ℕ → OperationText → Op
-operation_at ds earlier i o = record {
-  kind = kind_named o.name o.gathered;
-  operands = map (resolved ds) o.gathered.operands;
+-- an operation at a position of a body, where names stand for this, and some for something earlier
+abbrev pub operation_at : Meanings → Meanings → ℕ → OperationText → Op
+operation_at means earlier i o = record {
+  kind = kind_named o.name o.gathered.extra o.gathered.types;
+  operands = map (resolved means) o.gathered.operands;
   types = o.gathered.types;
   results = marked_results (own_types o) (marks earlier (operation_definitions i o));
   named = named_count o.results;
@@ -294,28 +335,24 @@ operation_at ds earlier i o = record {
 }
 
 -- the operations of a body, from a position on
-abbrev pub operations_from : List Definition → List Name → ℕ → List OperationText → List Op
-operations_from ds earlier i [] = []
-operations_from ds earlier i (o ∷ os) =
-    operation_at ds earlier i o ∷ operations_from ds (earlier ++ names_of (operation_definitions i o)) (i + 1) os
+abbrev pub operations_from : Meanings → Meanings → ℕ → List OperationText → List Op
+operations_from means earlier i [] = []
+operations_from means earlier i (o ∷ os) =
+    operation_at means earlier i o ∷ operations_from means (with_definitions earlier (operation_definitions i o)) (i + 1) os
 
 -- ---- modules
 
--- a port that defines its value's name, or none
-abbrev pub is_marked : List Name → Option Name → Bool
+-- whether a port's value name stands for something earlier
+abbrev pub is_marked : Meanings → Option Name → Bool
 is_marked earlier None = false
-is_marked earlier (Some name) = is_among name earlier
+is_marked earlier (Some name) = is_some (earlier name)
 
-abbrev pub with_value : List Name → Option Name → List Name
-with_value earlier None = earlier
-with_value earlier (Some name) = earlier ++ name ∷ []
-
--- the ports, where some names are defined earlier
-abbrev pub ports_from : List Name → List PortText → List Port
-ports_from earlier [] = []
-ports_from earlier (p ∷ ps) =
+-- the ports, from a position on, where some names stand for something earlier
+abbrev pub ports_from : Meanings → ℕ → List PortText → List Port
+ports_from earlier j [] = []
+ports_from earlier j (p ∷ ps) =
     record { name = p.name; is_output = not (is_some p.value); type = p.type; again = is_marked earlier p.value }
-    ∷ ports_from (with_value earlier p.value) ps
+    ∷ ports_from (with_definitions earlier (port_definition j p.value)) (j + 1) ps
 
 -- whether a port is an output
 abbrev pub has_outputs : List PortText → Bool
@@ -344,18 +381,22 @@ left_out_output place = record {
 abbrev pub completed : ModuleText → List Op → List Op
 completed m os = cond (ends_with_output m.operations) os (cond (has_outputs m.ports) os (os ++ left_out_output m.close ∷ []))
 
--- the definitions of a module
-abbrev pub definitions : ModuleText → List Definition
-definitions m = port_definitions 0 m.ports ++ body_definitions 0 m.operations
+-- what the names of its ports stand for
+abbrev pub port_meanings : List PortText → Meanings
+port_meanings ps = with_definitions no_meaning (port_definitions 0 ps)
+
+-- what the names of a module stand for
+abbrev pub meanings : ModuleText → Meanings
+meanings m = with_definitions (port_meanings m.ports) (body_definitions 0 m.operations)
 
 -- the module that a text says
 abbrev pub module_of : ModuleText → Module
 module_of m = record {
   symbol = m.symbol;
   is_private = m.is_private;
-  ports = ports_from [] m.ports;
+  ports = ports_from no_meaning 0 m.ports;
   dictionary = kept_module_entries m.dictionary;
-  body = completed m (operations_from (definitions m) (names_of (port_definitions 0 m.ports)) 0 m.operations);
+  body = completed m (operations_from (meanings m) (port_meanings m.ports) 0 m.operations);
   place = place_of m.place;
 }
 

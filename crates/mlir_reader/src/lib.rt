@@ -7,8 +7,15 @@ pub mod head;
 pub mod literal_text;
 pub mod numerals;
 pub mod operand_text;
+pub mod definitions;
+pub mod dictionaries;
+pub mod kinds;
+pub mod names;
+pub mod own_names;
 pub mod pieces;
 pub mod reader;
+pub mod resolving;
+pub mod results;
 pub mod syntax;
 #[cfg(test)]
 mod tests;

@@ -1,0 +1,193 @@
+//! The types of an operation's results, by its kind and the types that it writes (CIRCT: operation references of HW, Comb
+//! and Seq).
+ghost use Rattle.std.specs.Prelude.{◌≡◌, ◌∷◌, [], map, min, drop, length, IfOk, Some};
+ghost use Rattle.std.specs.Option.{option_map};
+ghost use Rattle.hw_model.specs.Types.HwType.{struct};
+ghost use Rattle.hw_model.specs.TypeViews.{type_of, field_of, fields_of};
+ghost use Rattle.hw_model.specs.KindViews.{kind_of};
+ghost use Rattle.hw_model.specs.Sound.{field_type, field_list};
+ghost use Rattle.ir_store.specs.ResultTypes.{result_type, result_types, first_type, second_type, joined_width, joined_length, as_int, as_array, array_of, element_of, field_of as field_in, fields_of as fields_in, kept_size};
+
+use hw_model::kinds::OpKind;
+use hw_model::types::{Field, Ty};
+use io_edge::byte_text::Text;
+use std::alloc::{AllocError, Global};
+
+/// The types of an operation's results, one for each: None where the operation does not settle it. `types` are those that
+/// it writes, and `operands` says how many operands it has. A width or a length of 2^32 or more is kept as 2^32 - 1.
+#[tactic(auto, unfolding(crate::specs::ResultTypes::result_types))]
+pub fn result_types(
+    alloc: Global,
+    kind: &OpKind,
+    types: &[Ty],
+    operands: usize,
+) -> Result<Vec<Option<Ty>>, AllocError>
+    ensures { IfOk result (λ ts. map (option_map type_of) ts.items ≡ result_types (kind_of kind.now) (map type_of types.now) operands) }
+{
+    match kind {
+        OpKind::Output => Ok(Vec::new(alloc)),
+        OpKind::StructExplode => field_types(alloc, types.first()),
+        OpKind::Instance(instance) => types_behind(alloc, types, instance.inputs.len()),
+        _ => {
+            let ty = result_type(alloc, kind, types, operands)?;
+            let mut one = Vec::with_capacity(alloc, 1)?;
+            one.push(ty)?;
+            Ok(one)
+        }
+    }
+}
+
+/// The type of the result of an operation that has one.
+#[tactic(auto, unfolding(crate::specs::ResultTypes::result_type))]
+fn result_type(
+    alloc: Global,
+    kind: &OpKind,
+    types: &[Ty],
+    operands: usize,
+) -> Result<Option<Ty>, AllocError>
+    ensures { IfOk result (λ ty. option_map type_of ty ≡ result_type (kind_of kind.now) (map type_of types.now) operands) }
+{
+    match kind {
+        OpKind::Icmp(_) | OpKind::Parity => Ok(Some(Ty::Int(1))),
+        OpKind::Extract(_) | OpKind::Replicate | OpKind::ArraySlice | OpKind::Bitcast => {
+            copied(alloc, types.get(1))
+        }
+        OpKind::Concat => Ok(joined_width(types).map(Ty::Int)),
+        OpKind::ArrayCreate => array(alloc, Some(size(operands)), types.first()),
+        OpKind::ArrayConcat => array(alloc, joined_length(types), element(types.first())),
+        OpKind::ArrayGet => copied(alloc, element(types.first())),
+        OpKind::StructExtract(name) => copied(alloc, field(types.first(), name)),
+        OpKind::StructExplode | OpKind::Instance(_) | OpKind::Output => Ok(None),
+        _ => copied(alloc, types.first()),
+    }
+}
+
+/// An equal type with memory of its own, where there is one.
+fn copied(alloc: Global, ty: Option<&Ty>) -> Result<Option<Ty>, AllocError>
+    ensures { IfOk result (λ copy. option_map type_of copy ≡ option_map (λ t. type_of t.now) ty.entry) }
+{
+    match ty {
+        Some(ty) => Ok(Some(ty.try_clone(alloc)?)),
+        None => Ok(None),
+    }
+}
+
+/// A length as a type keeps it.
+fn size(count: usize) -> u32
+    ensures { result ≡ kept_size count }
+{
+    u32::try_from(count).unwrap_or(u32::MAX)
+}
+
+/// The width of joined integers; None where a type is none.
+fn joined_width(types: &[Ty]) -> Option<u32>
+    ensures { result ≡ option_map kept_size (joined_width (map type_of types.now)) }
+{
+    let mut width: u32 = 0;
+    for ty in types {
+        match ty {
+            Ty::Int(more) => width = width.saturating_add(*more),
+            Ty::Clock | Ty::Array(..) | Ty::Struct(_) => return None,
+        }
+    }
+    Some(width)
+}
+
+/// The length of joined arrays; None where a type is none.
+fn joined_length(types: &[Ty]) -> Option<u32>
+    ensures { result ≡ option_map kept_size (joined_length (map type_of types.now)) }
+{
+    let mut length: u32 = 0;
+    for ty in types {
+        match ty {
+            Ty::Array(more, _) => length = length.saturating_add(*more),
+            Ty::Clock | Ty::Int(_) | Ty::Struct(_) => return None,
+        }
+    }
+    Some(length)
+}
+
+/// An array of so many elements of a type.
+fn array(alloc: Global, length: Option<u32>, element: Option<&Ty>) -> Result<Option<Ty>, AllocError>
+    ensures { IfOk result (λ ty. option_map type_of ty ≡ array_of length (option_map (λ t. type_of t.now) element.entry)) }
+{
+    match (length, element) {
+        (Some(length), Some(element)) => {
+            let element = element.try_clone(alloc)?;
+            Ok(Some(Ty::Array(length, Box::new(alloc, element)?)))
+        }
+        (None, _) | (_, None) => Ok(None),
+    }
+}
+
+/// The type of the elements of an array.
+fn element<'t>(ty: Option<&'t Ty>) -> Option<&'t Ty>
+    ensures { option_map (λ t. type_of t.now) result ≡ element_of (option_map (λ t. type_of t.now) ty.entry) }
+{
+    match ty {
+        Some(Ty::Array(_, element)) => Some(element),
+        Some(Ty::Clock | Ty::Int(_) | Ty::Struct(_)) | None => None,
+    }
+}
+
+/// The type of a field of a struct.
+fn field<'t>(ty: Option<&'t Ty>, name: &Text) -> Option<&'t Ty>
+    ensures { option_map (λ t. type_of t.now) result ≡ field_in (option_map (λ t. type_of t.now) ty.entry) name.now }
+{
+    match ty {
+        Some(Ty::Struct(list)) => field_among(&list.fields, name),
+        Some(Ty::Clock | Ty::Int(_) | Ty::Array(..)) | None => None,
+    }
+}
+
+/// The type of the first field of a name.
+fn field_among<'t>(fields: &'t [Field], name: &Text) -> Option<&'t Ty>
+    ensures { option_map (λ t. type_of t.now) result ≡ field_type (fields_of (map field_of fields.now)) name.now }
+{
+    for field in fields {
+        if field.name == *name {
+            return Some(&field.ty);
+        }
+    }
+    None
+}
+
+/// The types of the fields of a struct.
+fn field_types(alloc: Global, ty: Option<&Ty>) -> Result<Vec<Option<Ty>>, AllocError>
+    ensures { IfOk result (λ ts. map (option_map type_of) ts.items ≡ fields_in (option_map (λ t. type_of t.now) ty.entry)) }
+{
+    match ty {
+        Some(Ty::Struct(list)) => types_of_fields(alloc, &list.fields),
+        Some(Ty::Clock | Ty::Int(_) | Ty::Array(..)) | None => Ok(Vec::new(alloc)),
+    }
+}
+
+/// The types of fields.
+fn types_of_fields(alloc: Global, fields: &[Field]) -> Result<Vec<Option<Ty>>, AllocError>
+    ensures { IfOk result (λ ts. map (option_map type_of) ts.items ≡ map Some (field_list (fields_of (map field_of fields.now)))) }
+{
+    let mut types = Vec::with_capacity(alloc, fields.len())?;
+    for field in fields {
+        types.push(Some(field.ty.try_clone(alloc)?))?;
+    }
+    Ok(types)
+}
+
+/// The types behind so many.
+fn types_behind(alloc: Global, types: &[Ty], count: usize) -> Result<Vec<Option<Ty>>, AllocError>
+    ensures { IfOk result (λ ts. map (option_map type_of) ts.items ≡ map Some (drop count (map type_of types.now))) }
+{
+    let (_, behind) = types.split_at(count.min(types.len()));
+    each_of(alloc, behind)
+}
+
+/// Equal types with memory of their own.
+fn each_of(alloc: Global, types: &[Ty]) -> Result<Vec<Option<Ty>>, AllocError>
+    ensures { IfOk result (λ ts. map (option_map type_of) ts.items ≡ map Some (map type_of types.now)) }
+{
+    let mut copies = Vec::with_capacity(alloc, types.len())?;
+    for ty in types {
+        copies.push(Some(ty.try_clone(alloc)?))?;
+    }
+    Ok(copies)
+}

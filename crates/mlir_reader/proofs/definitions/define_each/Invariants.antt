@@ -1,0 +1,12 @@
+use Rattle.std.proofs.Common.{◌≡◌, ◌+◌, ◌∷◌, ◌++◌, map, drop}
+use Rattle.mlir_reader.specs.Resolving.{with_definitions, names_from, marks}
+use Rattle.mlir_reader.specs.Meanings.{meanings_of}
+use Rattle.mlir_reader.proofs.definitions.define_each.Given as goal
+
+abbrev pub invariant-loop-place : goal.invariant-loop-place
+invariant-loop-place l = record {
+  means : with_definitions (meanings_of l.names) (names_from l.position (l.place + 1) (map (λ n. n.now) (drop l.place l.others)))
+      ≡ with_definitions (meanings_of l.fn.names) (names_from l.position 0 (l.first ∷ map (λ n. n.now) l.others));
+  marks : l.marks.items ++ marks (meanings_of l.names) (names_from l.position (l.place + 1) (map (λ n. n.now) (drop l.place l.others)))
+      ≡ marks (meanings_of l.fn.names) (names_from l.position 0 (l.first ∷ map (λ n. n.now) l.others));
+}

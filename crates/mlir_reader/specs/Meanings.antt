@@ -1,0 +1,59 @@
+-- What the code's tables of names stand for.
+use Rattle.std.specs.Prelude.{ℕ, zero, suc, ◌+◌, ◌<◌, ◌^◌, nat_eq, List, [], ◌∷◌, map, Option, option_map}
+use Rattle.std.specs.Cmp.Lexicographic.{pointwise}
+use Rattle.indexmap.specs.IndexMap.{get_by}
+use Rattle.hw_model.specs.Types.{Name}
+use Rattle.hw_model.specs.KindViews.{kind_of}
+use Rattle.hw_model.specs.Design.{Op}
+use Rattle.ir_store.specs.declared.operation.NewOp.{NewOp}
+use Rattle.ir_store.specs.DictionaryViews.{entries_in}
+use Rattle.ir_store.specs.OperationViews.{types_in, results_in, place_of}
+use Rattle.ir_store.specs.Numbered.{ref_by}
+use Rattle.mlir_reader.specs.OperandText.{named_count}
+use Rattle.mlir_reader.specs.Views.{names_of}
+use Rattle.mlir_reader.specs.declared.syntax.OperationText.{OperationText}
+use Rattle.mlir_reader.specs.Resolving.{Defined, Definition, Meanings}
+use Rattle.mlir_reader.specs.Resolving.Defined.{is_port, are_results}
+use Rattle.mlir_reader.specs.declared.names.Defined as code
+use Rattle.mlir_reader.specs.declared.names.Defined.TheVariants.{Port, Result, Pack}
+use Rattle.mlir_reader.specs.declared.names.Names.{Names}
+
+-- what a name stands for
+abbrev pub defined_of : code.Defined → Defined
+defined_of (Port j) = is_port j
+defined_of (Result i k) = are_results i k 1
+defined_of (Pack i count) = are_results i 0 count
+
+-- a definition of a name
+abbrev pub definition : Name → code.Defined → Definition
+definition name d = record { name = name; defined = defined_of d }
+
+-- what each name of a table stands for
+unfoldable pub meanings_of : Names → Meanings
+meanings_of t name = option_map defined_of (get_by (λ (k : _). pointwise nat_eq name k.now) t.first)
+
+-- fewer than 2^32 results are named
+abbrev pub HasFewNames : OperationText → Type 0
+HasFewNames o = named_count (names_of o.results) < 2 ^ 32
+
+-- an operation that is to be put into a body in which ids are positions
+abbrev pub op_of : NewOp → Op
+op_of o = record {
+  kind = kind_of o.kind;
+  operands = map (ref_by (λ i. i)) o.operands.items;
+  types = types_in o.types;
+  results = results_in o.results;
+  named = o.named;
+  name = o.name;
+  dictionary = entries_in o.dictionary;
+  bin = o.bin;
+  place = place_of o.place;
+}
+
+-- the numbers below a bound, in order
+abbrev pub numbers_from : ℕ → ℕ → List ℕ
+numbers_from first zero = []
+numbers_from first (suc n) = first ∷ numbers_from (first + 1) n
+
+abbrev pub numbers_below : ℕ → List ℕ
+numbers_below n = numbers_from 0 n

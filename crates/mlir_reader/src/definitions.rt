@@ -1,0 +1,185 @@
+//! The names that a module's text defines, in order.
+ghost use Rattle.std.specs.Prelude.{◌≡◌, ◌<◌, ◌+◌, ◌^◌, ◌∷◌, length, map, IfOk, OnOk, All};
+ghost use Rattle.std.specs.Option.{option_map};
+ghost use Rattle.hw_model.specs.TypeViews.{type_of, field_of, fields_of};
+ghost use Rattle.hw_model.specs.Sound.{field_list};
+ghost use Rattle.ir_store.specs.ResultTypes.{first_type, field_count, result_count};
+ghost use Rattle.mlir_reader.specs.OperandText.{named_count};
+ghost use Rattle.mlir_reader.specs.OperandText.ResultNames.{pack};
+ghost use Rattle.mlir_reader.specs.Resolving.{kind_named, said_instance, names_from, with_definitions, port_definition, port_definitions, names_defined, operation_definitions, body_definitions, marks, is_marked};
+ghost use Rattle.mlir_reader.specs.Views.{names_of, extra_of, operation_of, port_text_of};
+ghost use Rattle.mlir_reader.specs.Meanings.{meanings_of, HasFewNames};
+
+use crate::names::{Defined, Names};
+use crate::syntax::{Extra, OperationText, PortText, ResultNames};
+use diag::listed::Listed;
+use hw_model::types::{Field, Ty};
+use smallvec::SmallVec;
+use std::alloc::{AllocError, Global};
+
+/// Defines the value name of a port, where it has one, and says whether it stands for something already.
+pub fn define_port<'s>(
+    names: &mut Names<'s>,
+    position: u32,
+    value: Option<&'s [u8]>,
+) -> Result<bool, AllocError>
+    ensures again { IfOk result (λ again. again ≡ is_marked (meanings_of names.old) (option_map (λ v. v.now) value.entry)) }
+    ensures means { OnOk result (meanings_of names.new ≡ with_definitions (meanings_of names.old) (port_definition position (option_map (λ v. v.now) value.entry))) }
+{
+    match value {
+        Some(name) => names.define(name, Defined::Port(position)),
+        None => Ok(false),
+    }
+}
+
+/// Defines the value names of ports.
+pub fn define_ports<'s>(names: &mut Names<'s>, ports: &[PortText<'s>]) -> Result<(), AllocError>
+    requires { length ports.now < 2 ^ 32 }
+    ensures { OnOk result (meanings_of names.new ≡ with_definitions (meanings_of names.old) (port_definitions 0 (map port_text_of ports.now))) }
+{
+    for (position, port) in ports.iter().enumerate() {
+        match define_port(names, position as u32, port.value) {
+            Ok(_) => {}
+            Err(fail) => return Err(fail),
+        }
+    }
+    Ok(())
+}
+
+/// Defines the names of the results of an operation at a position, and says of each whether it stands for something
+/// already.
+pub fn define_operation<'s>(
+    alloc: Global,
+    names: &mut Names<'s>,
+    position: u32,
+    operation: &OperationText<'s>,
+) -> Result<SmallVec<bool, 4, Global>, AllocError>
+    requires { HasFewNames operation.now }
+    ensures marks { IfOk result (λ found. found.items ≡ marks (meanings_of names.old) (operation_definitions position (operation_of operation.now))) }
+    ensures means { OnOk result (meanings_of names.new ≡ with_definitions (meanings_of names.old) (operation_definitions position (operation_of operation.now))) }
+{
+    let types = operation.gathered.types.types.as_slice();
+    let own = result_count(operation.name, &operation.gathered.extra, types);
+    define_results(alloc, names, position, own, &operation.results)
+}
+
+/// Defines the names of the results of operations.
+pub fn define_operations<'s>(
+    alloc: Global,
+    names: &mut Names<'s>,
+    operations: &[OperationText<'s>],
+) -> Result<(), AllocError>
+    requires count { length operations.now < 2 ^ 32 }
+    requires few { All HasFewNames operations.now }
+    ensures { OnOk result (meanings_of names.new ≡ with_definitions (meanings_of names.old) (body_definitions 0 (map operation_of operations.now))) }
+{
+    for (position, operation) in operations.iter().enumerate() {
+        match define_operation(alloc, names, position as u32, operation) {
+            Ok(_) => {}
+            Err(fail) => return Err(fail),
+        }
+    }
+    Ok(())
+}
+
+// How many results an operation has of its own.
+#[tactic(auto, unfolding(crate::specs::Resolving::plain_kind, crate::specs::Resolving::said_kind, ir_store::specs::ResultTypes::result_count))]
+fn result_count(name: Listed, extra: &Extra, types: &[Ty]) -> usize
+    ensures { result ≡ result_count (kind_named name (extra_of extra.now) (map type_of types.now)) (map type_of types.now) }
+{
+    match name {
+        Listed::HwModule | Listed::HwOutput => 0,
+        Listed::HwStructExplode => field_count(types.first()),
+        Listed::HwInstance => types.len().saturating_sub(input_count(extra)),
+        _ => 1,
+    }
+}
+
+// How many fields a struct has; what is no struct has none.
+fn field_count(ty: Option<&Ty>) -> usize
+    ensures { result ≡ field_count (option_map (λ t. type_of t.now) ty.entry) }
+{
+    match ty {
+        Some(Ty::Struct(list)) => counted(&list.fields),
+        Some(Ty::Int(_) | Ty::Clock | Ty::Array(..)) | None => 0,
+    }
+}
+
+// How many fields there are.
+fn counted(fields: &[Field]) -> usize
+    ensures { result ≡ length (field_list (fields_of (map field_of fields.now))) }
+{
+    fields.len()
+}
+
+// How many inputs an instance names.
+fn input_count(extra: &Extra) -> usize
+    ensures { result ≡ length (said_instance (extra_of extra.now)).inputs }
+{
+    match extra {
+        Extra::Child(instance) => instance.inputs.len(),
+        _ => 0,
+    }
+}
+
+// Defines the names of results, of which an operation at a position has so many of its own.
+fn define_results<'s>(
+    alloc: Global,
+    names: &mut Names<'s>,
+    position: u32,
+    own: usize,
+    results: &ResultNames<'s>,
+) -> Result<SmallVec<bool, 4, Global>, AllocError>
+    requires { named_count (names_of results.now) < 2 ^ 32 }
+    ensures marks { IfOk result (λ found. found.items ≡ marks (meanings_of names.old) (names_defined position own (names_of results.now))) }
+    ensures means { OnOk result (meanings_of names.new ≡ with_definitions (meanings_of names.old) (names_defined position own (names_of results.now))) }
+{
+    match results {
+        ResultNames::Unnamed => Ok(SmallVec::new(alloc)),
+        ResultNames::Names(first, others) => define_each(alloc, names, position, first, others),
+        ResultNames::Pack(name, count) => { define_pack(alloc, names, position, own, name, *count) }
+    }
+}
+
+// Defines names of results one by one.
+fn define_each<'s>(
+    alloc: Global,
+    names: &mut Names<'s>,
+    position: u32,
+    first: &'s [u8],
+    others: &[&'s [u8]],
+) -> Result<SmallVec<bool, 4, Global>, AllocError>
+    requires { length others.now + 1 < 2 ^ 32 }
+    ensures marks { IfOk result (λ found. found.items ≡ marks (meanings_of names.old) (names_from position 0 (first.now ∷ map (λ n. n.now) others.now))) }
+    ensures means { OnOk result (meanings_of names.new ≡ with_definitions (meanings_of names.old) (names_from position 0 (first.now ∷ map (λ n. n.now) others.now))) }
+{
+    let mut marks = SmallVec::new(alloc);
+    let again = names.define(first, Defined::Result(position, 0))?;
+    marks.push(again)?;
+    for (place, name) in others.iter().enumerate() {
+        let again = names.define(name, Defined::Result(position, place as u32 + 1))?;
+        marks.push(again)?;
+    }
+    Ok(marks)
+}
+
+// Defines the name of a pack of so many results.
+fn define_pack<'s>(
+    alloc: Global,
+    names: &mut Names<'s>,
+    position: u32,
+    own: usize,
+    name: &'s [u8],
+    count: u32,
+) -> Result<SmallVec<bool, 4, Global>, AllocError>
+    ensures marks { IfOk result (λ found. found.items ≡ marks (meanings_of names.old) (names_defined position own (pack name.now count))) }
+    ensures means { OnOk result (meanings_of names.new ≡ with_definitions (meanings_of names.old) (names_defined position own (pack name.now count))) }
+{
+    let mut marks = SmallVec::new(alloc);
+    if count != 0 {
+        let own = u32::try_from(own).unwrap_or(u32::MAX);
+        let again = names.define(name, Defined::Pack(position, count.min(own)))?;
+        marks.push(again)?;
+    }
+    Ok(marks)
+}

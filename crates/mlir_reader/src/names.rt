@@ -1,0 +1,58 @@
+//! What the names of a module stand for.
+ghost use Rattle.std.specs.Prelude.{◌≡◌, is_some, IfOk, OnOk};
+ghost use Rattle.std.specs.Option.{option_map};
+ghost use Rattle.mlir_reader.specs.Resolving.{no_meaning, with_definition};
+ghost use Rattle.mlir_reader.specs.Meanings.{defined_of, meanings_of, definition};
+
+use indexmap::IndexMap;
+use std::alloc::{AllocError, Global};
+
+/// What a name stands for.
+#[derive(Clone, Copy, Debug)]
+pub enum Defined {
+    /// A port, by its position.
+    Port(u32),
+    /// A result of the operation at a position, by its number.
+    Result(u32, u32),
+    /// The first so many results of the operation at a position.
+    Pack(u32, u32),
+}
+
+/// Names, each with what it stood for first. Contracts see them by `meanings_of`.
+#[derive(Drop)]
+pub struct Names<'s> {
+    pub(crate) first: IndexMap<&'s [u8], Defined>,
+}
+
+impl<'s> Names<'s> {
+    /// No names. It takes no memory.
+    #[tactic(auto, unfolding(crate::specs::Meanings::meanings_of))]
+    pub fn new(alloc: Global) -> Names<'s>
+        ensures { meanings_of result ≡ no_meaning }
+    {
+        Names {
+            first: IndexMap::new(alloc),
+        }
+    }
+
+    /// What a name stands for.
+    #[tactic(auto, unfolding(crate::specs::Meanings::meanings_of))]
+    pub fn find(&self, name: &[u8]) -> Option<Defined>
+        ensures { option_map defined_of result ≡ meanings_of self.now name.now }
+    {
+        self.first.get(name).copied()
+    }
+
+    /// Defines a name, which keeps what it stands for already, and says whether it stands for something.
+    #[tactic(auto, unfolding(crate::specs::Meanings::meanings_of))]
+    pub fn define(&mut self, name: &'s [u8], defined: Defined) -> Result<bool, AllocError>
+        ensures again { IfOk result (λ again. again ≡ is_some (meanings_of self.old name.now)) }
+        ensures means { OnOk result (meanings_of self.new ≡ with_definition (meanings_of self.old) (definition name.now defined)) }
+    {
+        if self.first.get(name).is_some() {
+            return Ok(true);
+        }
+        self.first.insert(name, defined)?;
+        Ok(false)
+    }
+}
