@@ -2,15 +2,15 @@
 #![tactic(auto)]
 
 pub mod attribute_text;
-pub mod fail;
-pub mod head;
-pub mod literal_text;
-pub mod numerals;
-pub mod operand_text;
 pub mod definitions;
 pub mod dictionaries;
+pub mod fail;
+pub mod head;
 pub mod kinds;
+pub mod literal_text;
 pub mod names;
+pub mod numerals;
+pub mod operand_text;
 pub mod own_names;
 pub mod pieces;
 pub mod reader;
