@@ -4,3 +4,4 @@ pub mod Lists
 pub mod Types
 pub mod Chains
 pub mod Operands
+pub mod Classes

@@ -15,3 +15,4 @@ pub mod Reading
 pub mod Views
 pub mod Heads
 pub mod TypeHeads
+pub mod NameClasses

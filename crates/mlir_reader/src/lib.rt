@@ -3,9 +3,12 @@
 
 pub mod fail;
 pub mod head;
+pub mod operation_names;
 pub mod numerals;
 pub mod operand_text;
 pub mod pieces;
 pub mod reader;
+pub mod shapes;
 pub mod syntax;
 pub mod type_text;
+pub mod word_text;
