@@ -18,3 +18,4 @@ mod Moving
 mod Positions
 mod Sorting
 mod Tables
+pub mod Classes

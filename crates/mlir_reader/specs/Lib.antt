@@ -18,3 +18,4 @@ pub mod TypeHeads
 pub mod AttributeHeads
 pub mod LiteralHeads
 pub mod Meanings
+pub mod NameClasses

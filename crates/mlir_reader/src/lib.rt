@@ -9,6 +9,7 @@ pub mod head;
 pub mod kinds;
 pub mod literal_text;
 pub mod names;
+pub mod operation_names;
 pub mod numerals;
 pub mod operand_text;
 pub mod own_names;
@@ -16,7 +17,9 @@ pub mod pieces;
 pub mod reader;
 pub mod resolving;
 pub mod results;
+pub mod shapes;
 pub mod syntax;
 #[cfg(test)]
 mod tests;
 pub mod type_text;
+pub mod word_text;

@@ -10,7 +10,7 @@ use smallvec::SmallVec;
 use std::alloc::Global;
 
 /// A value as the text names it.
-#[derive(Clone, Copy, Debug)]
+#[derive(Clone, Copy, Debug, Default)]
 pub struct OperandName<'s> {
     /// Its name, without the sign.
     pub name: &'s [u8],
