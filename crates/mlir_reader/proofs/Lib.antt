@@ -5,3 +5,9 @@ pub mod Types
 pub mod Chains
 pub mod Operands
 pub mod Classes
+pub mod Stored
+pub mod Attributes
+pub mod Keys
+pub mod Entries
+pub mod Literals
+pub mod Joining

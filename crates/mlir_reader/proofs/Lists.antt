@@ -25,11 +25,11 @@ pub record Gathering {A B : Type 0} (view : B → A) (op : OpName) (item : Reads
   pub shorter : length left ≤ length start
   pub same : items op item (length start) start ≡ with_front (map view got) (items op item n left)
 
-with_front-nothing : {A : Type 0} (read : Read (List A)) → with_front [] read ≡ read
+pub with_front-nothing : {A : Type 0} (read : Read (List A)) → with_front [] read ≡ read
 with_front-nothing (Err e) = refl
 with_front-nothing (Ok p) = refl
 
-with_front-more : {A : Type 0} (front : List A) (x : A) (read : Read (List A))
+pub with_front-more : {A : Type 0} (front : List A) (x : A) (read : Read (List A))
     → with_front front (on read (λ xs behind. Ok (x ∷ xs, behind))) ≡ with_front (front ++ x ∷ []) read
 with_front-more front x (Err e) = refl
 with_front-more front x (Ok p) = ap (λ l. Ok (l, p.1)) (sym (append_assoc front (x ∷ []) p.0))

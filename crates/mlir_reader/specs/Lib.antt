@@ -16,3 +16,6 @@ pub mod Views
 pub mod Heads
 pub mod TypeHeads
 pub mod NameClasses
+pub mod AttributeHeads
+pub mod LiteralHeads
+pub mod PieceHeads

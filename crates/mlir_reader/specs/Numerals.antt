@@ -1,5 +1,5 @@
 -- Numbers in a text (MLIR language reference, "Common syntax": integer literals).
-use Rattle.std.specs.Prelude.{ℕ, ◌+◌, ◌-◌, ◌*◌, ◌^◌, cond, ◌==◌, nat_lt, List, [], ◌∷◌, Option, Some, None, Ok, Err, ℤ, pos, negsuc}
+use Rattle.std.specs.Prelude.{ℕ, Bool, ◌+◌, ◌-◌, ◌*◌, ◌^◌, cond, ◌==◌, nat_lt, List, [], ◌∷◌, Option, Some, None, Ok, Err, ℤ, pos, negsuc}
 use Rattle.diag.specs.declared.refusal.OpName.{OpName}
 use Rattle.diag.specs.declared.cause.Cause.TheVariants.{NumberTooLarge}
 use Rattle.mlir_lexer.specs.Contents.{hex_value}
@@ -41,6 +41,10 @@ number_below limit op s = on (want op kind.Integer s) (λ t left. limited limit 
 -- the integer with a sign in front
 abbrev pub negative : ℕ → ℤ
 negative n = cond (n == 0) (pos 0) (negsuc (n - 1))
+
+-- an integer by its distance from 0, with a minus in front or not
+abbrev pub signed : Bool → ℕ → ℤ
+signed minus n = cond minus (negative n) (pos n)
 
 -- an integer whose distance from 0 is below 2^128, with its sign
 unfoldable pub integer : OpName → Reads ℤ

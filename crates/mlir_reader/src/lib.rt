@@ -1,11 +1,15 @@
 //! MLIR text to a design, or the first thing in it that is refused.
 #![tactic(auto)]
 
+pub mod attribute_text;
 pub mod fail;
 pub mod head;
-pub mod operation_names;
+pub mod instance_text;
+pub mod literal_text;
 pub mod numerals;
 pub mod operand_text;
+pub mod operation_names;
+pub mod piece_text;
 pub mod pieces;
 pub mod reader;
 pub mod shapes;

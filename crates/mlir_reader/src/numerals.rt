@@ -2,7 +2,7 @@
 ghost use Rattle.std.specs.Prelude.{◌≡◌, ℕ, ◌+◌, ◌*◌, ◌≤◌, length, OnOk};
 ghost use Rattle.hw_model.specs.KindViews.{integer_of};
 ghost use Rattle.mlir_lexer.specs.Contents.{hex_value};
-ghost use Rattle.mlir_reader.specs.Numerals.{number_in, number_of, count_limit, number_limit, below, number_below, negative, integer};
+ghost use Rattle.mlir_reader.specs.Numerals.{number_in, number_of, count_limit, number_limit, below, number_below, negative, signed, integer};
 ghost use Rattle.mlir_reader.specs.Views.{ReadsAs};
 
 use crate::fail::ReadFail;
@@ -137,5 +137,16 @@ fn negative(distance: u128) -> Integer
         Integer::NonNegative(0)
     } else {
         Integer::Negative(distance - 1)
+    }
+}
+
+/// An integer by its distance from 0, with a minus in front or not.
+pub fn signed(minus: bool, distance: u128) -> Integer
+    ensures { integer_of result ≡ signed minus distance }
+{
+    if minus {
+        negative(distance)
+    } else {
+        Integer::NonNegative(distance)
     }
 }
