@@ -11,3 +11,4 @@ pub mod Keys
 pub mod Entries
 pub mod Literals
 pub mod Joining
+pub mod Bodies

@@ -9,6 +9,7 @@ pub mod literal_text;
 pub mod numerals;
 pub mod operand_text;
 pub mod operation_names;
+pub mod operation_text;
 pub mod piece_text;
 pub mod pieces;
 pub mod reader;
