@@ -1,5 +1,5 @@
 -- The class of a name, by the listed operation that has it.
-use Rattle.std.proofs.Common.{◌≡◌, ◌≢◌, ℕ, Bool, true, false, cond, not, ◌&&◌, ◌==◌, length, List, [], ◌∷◌, Option, Some, None, refl, ap, sym, ◌∙◌, nat_eq}
+use Rattle.std.proofs.Common.{◌≡◌, ◌≢◌, ℕ, Bool, true, false, cond, not, ◌&&◌, ◌==◌, length, List, [], ◌∷◌, Option, Some, None, refl, ap, sym, ◌∙◌, nat_eq, ne_eqb}
 use Rattle.mlir_lexer.specs.Runs.{run}
 use Rattle.mlir_reader.specs.AttributeText.{is_among}
 use Rattle.std.specs.Cmp.Lexicographic.{pointwise, bytes_decides}
@@ -66,7 +66,7 @@ pub unknown : (name : List ℕ) → ((o : Listed) → name_of_listed o ≢ name)
 unknown name none = ap (class_by name) (none_of name (listed.HwModule ∷ operations) none)
 
 -- a name that has a dot is foreign where its dialect is none of those known
-pub foreign_at : (name : List ℕ) (n : ℕ) (r : Bool) → n ≡ run (λ b. not (b == 46)) name → not (n == length name) ≡ true
+pub foreign_at : (name : List ℕ) (n : ℕ) (r : Bool) → n ≡ run (λ b. not (b == 46)) name → (n ≡ length name → ⊥)
     → r ≡ is_among (dialect name) known_dialects → not r ≡ is_foreign name
 foreign_at name n r e some known =
-    ap not known ∙ ap (λ b. b && not (is_among (dialect name) known_dialects)) (sym (ap (λ m. not (m == length name)) (sym e) ∙ some))
+    ap not known ∙ ap (λ b. b && not (is_among (dialect name) known_dialects)) (sym (ap (λ m. not (m == length name)) (sym e) ∙ ap not (ne_eqb n (length name) some)))

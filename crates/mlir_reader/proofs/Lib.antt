@@ -4,6 +4,7 @@ pub mod Lists
 pub mod Types
 pub mod Chains
 pub mod Operands
+pub mod Classes
 pub mod Stored
 pub mod Attributes
 pub mod Keys
@@ -18,4 +19,5 @@ mod Moving
 mod Positions
 mod Sorting
 mod Tables
-pub mod Classes
+pub mod Joining
+pub mod Bodies

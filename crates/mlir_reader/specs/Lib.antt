@@ -19,3 +19,4 @@ pub mod AttributeHeads
 pub mod LiteralHeads
 pub mod Meanings
 pub mod NameClasses
+pub mod PieceHeads

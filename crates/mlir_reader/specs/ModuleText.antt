@@ -12,7 +12,7 @@ use Rattle.mlir_lexer.specs.Tokens.{Lexeme}
 use Rattle.mlir_lexer.specs.declared.token.TokenKind.TheVariants as kind
 use Rattle.mlir_reader.specs.Stream.{Symbol, token, bad, end, is_first, is_next, is_kind, is_word, after, refused, unexpected}
 use Rattle.mlir_reader.specs.Reads.{Reads, Read, on, want, items_until}
-use Rattle.mlir_reader.specs.TypeText.{type_text, name_text, most_open}
+use Rattle.mlir_reader.specs.TypeText.{any_type, name_text}
 use Rattle.mlir_reader.specs.AttributeText.{dictionary_text, is_symbol}
 use Rattle.mlir_reader.specs.OperandText.{value_name}
 use Rattle.mlir_reader.specs.PieceText.{symbol_text, module_symbol}
@@ -37,7 +37,7 @@ port_name value s =
 
 -- `: T`
 unfoldable pub port_type : Reads HwType
-port_type s = on (want header kind.Colon s) (λ _ left. type_text most_open header left)
+port_type s = on (want header kind.Colon s) (λ _ left. any_type header left)
 
 -- `%v ["name"] : T` behind `in`
 unfoldable pub input_port : Reads PortText

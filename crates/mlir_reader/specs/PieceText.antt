@@ -15,7 +15,7 @@ use Rattle.mlir_lexer.specs.declared.token.TokenKind.TheVariants as kind
 use Rattle.mlir_reader.specs.Stream.{Symbol, token, bad, end, first, is_first, is_next, is_kind, is_word, after, refused, unexpected}
 use Rattle.mlir_reader.specs.Reads.{Reads, Read, on, want, want_word, some_items, items_until}
 use Rattle.mlir_reader.specs.Numerals.{number_below, count_limit, integer}
-use Rattle.mlir_reader.specs.TypeText.{type_text, name_text, field_text, most_open}
+use Rattle.mlir_reader.specs.TypeText.{type_text, any_type, name_text, field_text, most_open}
 use Rattle.mlir_reader.specs.AttributeText.{is_symbol}
 use Rattle.mlir_reader.specs.LiteralText.{aggregate_text}
 use Rattle.mlir_reader.specs.OperandText.{OperandName, operand_text}
@@ -120,12 +120,12 @@ group_text op s = on (want op kind.LeftParenthesis s) (λ _ s1. items_until op k
 unfoldable pub further_types : OpName → ℕ → Reads (List HwType)
 further_types op zero s = Ok ([], s)
 further_types op (suc n) s =
-    on (want op kind.Comma s) (λ _ s1. on (type_text most_open op s1) (λ t s2. on (further_types op n s2) (λ ts s3. Ok (t ∷ ts, s3))))
+    on (want op kind.Comma s) (λ _ s1. on (any_type op s1) (λ t s2. on (further_types op n s2) (λ ts s3. Ok (t ∷ ts, s3))))
 
 -- so many types with commas between them
 unfoldable pub types_text : OpName → ℕ → Reads (List HwType)
 types_text op zero s = Ok ([], s)
-types_text op (suc n) s = on (type_text most_open op s) (λ t s1. on (further_types op n s1) (λ ts s2. Ok (t ∷ ts, s2)))
+types_text op (suc n) s = on (any_type op s) (λ t s1. on (further_types op n s1) (λ ts s2. Ok (t ∷ ts, s2)))
 
 -- ---- resets
 
@@ -160,7 +160,7 @@ pub record Joined : Type 0 where
 unfoldable pub input_text : OpName → Reads Joined
 input_text op s =
     on (name_text op s) (λ port s1. on (want op kind.Colon s1) (λ _ s2. on (operand_text op s2) (λ o s3. on (want op kind.Colon s3) (λ _ s4.
-    on (type_text most_open op s4) (λ t s5. Ok (record { port = port; operand = o; type = t }, s5))))))
+    on (any_type op s4) (λ t s5. Ok (record { port = port; operand = o; type = t }, s5))))))
 
 -- `q: T`
 unfoldable pub output_text : OpName → Reads NamedType
@@ -225,7 +225,7 @@ piece_text op piece.Field g s = on (string_text op s) (λ name left. Ok (with_ex
 piece_text op piece.Instance g s = instance_text op g s
 piece_text op piece.Reset g s = reset_text op g s
 piece_text op piece.SyncReset g s = sync_reset_text op g s
-piece_text op piece.Type g s = on (type_text most_open op s) (λ t left. Ok (with_types g (t ∷ []), left))
+piece_text op piece.Type g s = on (any_type op s) (λ t left. Ok (with_types g (t ∷ []), left))
 piece_text op piece.Types g s = on (types_text op (length g.operands) s) (λ ts left. Ok (with_types g ts, left))
 
 -- pieces, one after another

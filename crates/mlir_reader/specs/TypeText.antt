@@ -121,3 +121,7 @@ too_deep op s = Err (refused TooDeep op s)
 abbrev pub type_text : ℕ → OpName → Reads HwType
 type_text zero op s = type_with (too_deep op) (too_deep op) op s (type_head (first s))
 type_text (suc room) op s = type_with (array_text (type_text room op) op) (struct_text (type_text room op) op) op s (type_head (first s))
+
+-- a type, where nothing is open
+unfoldable pub any_type : OpName → Reads HwType
+any_type op s = type_text most_open op s

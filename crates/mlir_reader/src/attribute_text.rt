@@ -217,8 +217,8 @@ impl<'s> Reader<'s> {
         }
     }
 
-    // What a token's bytes hold as a string.
-    fn string(&self, token: Token<'s>) -> Result<Text, AllocError>
+    /// What a token's bytes hold as a string.
+    pub fn string(&self, token: Token<'s>) -> Result<Text, AllocError>
         ensures { IfOk result (λ text. text ≡ content_of kind.StringLiteral token.entry.text.now) }
     {
         self.content(Token {
@@ -398,8 +398,8 @@ fn attribute_head<'s>(token: Token<'s>) -> AttributeHead<'s>
     }
 }
 
-// Whether a token is a symbol.
-fn is_symbol(token: Token) -> bool
+/// Whether a token is a symbol.
+pub fn is_symbol(token: Token) -> bool
     ensures { result ≡ is_symbol (lexeme_of token.entry) }
 {
     is_kind(token.kind, TokenKind::SymbolName) || is_kind(token.kind, TokenKind::SymbolString)

@@ -47,7 +47,7 @@ const LEFT_OUT: [&str; 14] = [
 ];
 
 // The dialects of which an unknown name is no operation.
-const KNOWN_DIALECTS: [&str; 4] = ["hw", "com", "seq", "builtin"];
+const KNOWN_DIALECTS: [&str; 4] = ["hw", "comb", "seq", "builtin"];
 
 /// The bytes in front of a dot.
 pub enum NoDot {}

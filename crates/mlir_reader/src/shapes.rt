@@ -11,20 +11,33 @@ use diag::listed::Listed;
 use mlir_lexer::token::{Token, TokenKind};
 
 const COMMA: Piece = Piece::Mark(TokenKind::Comma);
+
 const COLON: Piece = Piece::Mark(TokenKind::Colon);
+
 const OPEN: Piece = Piece::Mark(TokenKind::LeftBracket);
+
 const CLOSE: Piece = Piece::Mark(TokenKind::RightBracket);
 
 const OPERANDS: [Piece; 1] = [Piece::Operands];
+
 const BINARY: [Piece; 3] = [Piece::Operand, COMMA, Piece::Operand];
+
 const COMPARISON: [Piece; 4] = [Piece::Predicate, Piece::Operand, COMMA, Piece::Operand];
+
 const UNARY: [Piece; 1] = [Piece::Operand];
+
 const EXTRACTION: [Piece; 3] = [Piece::Operand, Piece::Word(Keyword::From), Piece::Number];
+
 const CHOICE: [Piece; 5] = [Piece::Operand, COMMA, Piece::Operand, COMMA, Piece::Operand];
+
 const TRUTH: [Piece; 1] = [Piece::Truth];
+
 const INTEGER: [Piece; 1] = [Piece::Integer];
+
 const LITERALS: [Piece; 1] = [Piece::Literals];
+
 const ELEMENT: [Piece; 4] = [Piece::Operand, OPEN, Piece::Operand, CLOSE];
+
 const ELEMENT_CHANGE: [Piece; 6] = [
     Piece::Operand,
     OPEN,
@@ -33,8 +46,11 @@ const ELEMENT_CHANGE: [Piece; 6] = [
     COMMA,
     Piece::Operand,
 ];
+
 const GROUP: [Piece; 1] = [Piece::Group];
+
 const FIELD: [Piece; 4] = [Piece::Operand, OPEN, Piece::Field, CLOSE];
+
 const FIELD_CHANGE: [Piece; 6] = [
     Piece::Operand,
     OPEN,
@@ -43,8 +59,11 @@ const FIELD_CHANGE: [Piece; 6] = [
     COMMA,
     Piece::Operand,
 ];
+
 const INSTANCE: [Piece; 1] = [Piece::Instance];
+
 const REGISTER: [Piece; 4] = [Piece::Operand, COMMA, Piece::Operand, Piece::Reset];
+
 const ENABLED_REGISTER: [Piece; 6] = [
     Piece::Operand,
     COMMA,
@@ -53,6 +72,7 @@ const ENABLED_REGISTER: [Piece; 6] = [
     Piece::Operand,
     Piece::Reset,
 ];
+
 const CLOCKED_REGISTER: [Piece; 4] = [
     Piece::Operand,
     Piece::Word(Keyword::Clock),
@@ -61,8 +81,11 @@ const CLOCKED_REGISTER: [Piece; 4] = [
 ];
 
 const ONE_TYPE: [Piece; 2] = [COLON, Piece::Type];
+
 const TWO_TYPES: [Piece; 4] = [COLON, Piece::Type, COMMA, Piece::Type];
+
 const TYPES: [Piece; 2] = [COLON, Piece::Types];
+
 const FUNCTION_TYPE: [Piece; 6] = [
     COLON,
     Piece::Mark(TokenKind::LeftParenthesis),

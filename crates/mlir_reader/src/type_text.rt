@@ -8,7 +8,7 @@ ghost use Rattle.mlir_lexer.specs.Tokens.{lexeme_of};
 ghost use Rattle.mlir_lexer.specs.declared.token.TokenKind.TheVariants as kind;
 ghost use Rattle.mlir_reader.specs.Stream.{first};
 ghost use Rattle.mlir_reader.specs.Reads.{some_items, items_until};
-ghost use Rattle.mlir_reader.specs.TypeText.{type_text, array_text, element_type, element_after, glued_element, width_type, width_digits, behind_x, x_rest, named_type, bare_type, type_head, is_name, name_text, field_text, struct_text};
+ghost use Rattle.mlir_reader.specs.TypeText.{type_text, any_type, array_text, element_type, element_after, glued_element, width_type, width_digits, behind_x, x_rest, named_type, bare_type, type_head, is_name, name_text, field_text, struct_text};
 ghost use Rattle.mlir_reader.specs.TypeHeads.{head_of};
 ghost use Rattle.mlir_reader.specs.Views.{ReadsAs};
 
@@ -66,6 +66,16 @@ impl<'s> Reader<'s> {
             TypeHead::Foreign => Err(ReadFail::Refused(self.refused(Cause::OutsideProfile, op))),
             TypeHead::Nothing => Err(ReadFail::Refused(self.unexpected(op))),
         }
+    }
+
+    /// A type, where nothing is open.
+    ///
+    /// Refuses as `type_text` does.
+    pub fn any_type(&mut self, op: OpName) -> Result<Ty, ReadFail>
+        ensures gives { ReadsAs type_of result self.new (any_type op self.old) }
+        ensures shorter { OnOk result (length self.new ≤ length self.old) }
+    {
+        self.type_text(op, MOST_OPEN)
     }
 
     // What the first token begins a type as.
@@ -166,9 +176,11 @@ impl<'s> Reader<'s> {
         Ok(fields)
     }
 
-    // One field or more.
+    /// One field or more, with commas between them.
+    ///
+    /// Refuses as a type does, and what is no field.
     #[cycle(types)]
-    fn some_fields(&mut self, op: OpName, room: u32) -> Result<Vec<Field>, ReadFail>
+    pub fn some_fields(&mut self, op: OpName, room: u32) -> Result<Vec<Field>, ReadFail>
         ensures gives { ReadsAs (λ fields. map field_of fields.items) result self.new (some_items op (field_text (type_text room op) op) self.old) }
         ensures shorter { OnOk result (length self.new ≤ length self.old) }
     {

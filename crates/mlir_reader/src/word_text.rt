@@ -1,17 +1,15 @@
 //! Words, strings and symbols in a text (CIRCT, Comb dialect: ICmpPredicate; MLIR language reference:
 //! "Identifiers and keywords").
-ghost use Rattle.std.specs.Prelude.{◌≡◌, ◌≤◌, length, cond, OnOk, Some, IfOk};
+ghost use Rattle.std.specs.Prelude.{◌≡◌, ◌≤◌, length, cond, OnOk, Some};
 ghost use Rattle.std.specs.Option.{option_map};
 ghost use Rattle.wiring.specs.Options.{bind};
 ghost use Rattle.hw_model.specs.KindViews.{predicate_of};
-ghost use Rattle.mlir_lexer.specs.Contents.{content_of};
 ghost use Rattle.mlir_lexer.specs.Tokens.{lexeme_of};
-ghost use Rattle.mlir_lexer.specs.declared.token.TokenKind.TheVariants as kind;
-ghost use Rattle.mlir_reader.specs.AttributeText.{is_symbol};
 ghost use Rattle.mlir_reader.specs.Stream.{first, is_first, is_word, after};
 ghost use Rattle.mlir_reader.specs.PieceText.{predicate_named, predicate_text, truth_named, truth_text, string_text, symbol_text, bare_text, module_symbol, inner_symbol};
 ghost use Rattle.mlir_reader.specs.Views.{ReadsAs};
 
+use crate::attribute_text::is_symbol;
 use crate::fail::ReadFail;
 use crate::reader::{Reader, is_kind};
 use diag::cause::Cause;
@@ -19,7 +17,6 @@ use diag::refusal::OpName;
 use hw_model::kinds::Predicate;
 use io_edge::byte_text::Text;
 use mlir_lexer::token::{Token, TokenKind};
-use std::alloc::AllocError;
 
 impl<'s> Reader<'s> {
     /// Passes the first token where it is this word, and says whether it is.
@@ -98,20 +95,8 @@ impl<'s> Reader<'s> {
         ensures shorter { OnOk result (length self.new ≤ length self.old) }
     {
         let token = self.want(op, TokenKind::StringLiteral)?;
-        let text = self.string_content(token)?;
+        let text = self.string(token)?;
         Ok(text)
-    }
-
-    // What a token's bytes hold as a string.
-    fn string_content(&self, token: Token<'s>) -> Result<Text, AllocError>
-        ensures { IfOk result (λ text. text ≡ content_of kind.StringLiteral token.entry.text.now) }
-    {
-        self.content(Token {
-            kind: TokenKind::StringLiteral,
-            place: token.place,
-            at: token.at,
-            text: token.text,
-        })
     }
 
     /// A symbol's name.
@@ -236,11 +221,4 @@ fn truth_named(name: &[u8]) -> Option<bool>
     } else {
         None
     }
-}
-
-// Whether a token is a symbol.
-fn is_symbol(token: Token) -> bool
-    ensures { result ≡ is_symbol (lexeme_of token.entry) }
-{
-    is_kind(token.kind, TokenKind::SymbolName) || is_kind(token.kind, TokenKind::SymbolString)
 }

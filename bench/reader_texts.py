@@ -1,0 +1,56 @@
+#!/usr/bin/env python3
+"""Writes a large text for measures of the reader to standard output.
+
+    reader_texts.py operations [MEGABYTES]   one module of operations, 60 MB by default
+    reader_texts.py modules [COUNT]          modules of eight operations each, 10,000 by default
+"""
+import sys
+
+KINDS = ["add", "mul", "and", "or", "xor", "sub"]
+
+
+def operation(number):
+    """An operation over the two results before it."""
+    kind = KINDS[number % len(KINDS)]
+    before = number - 1
+    earlier = max(number - 7, 0)
+    return f"  %{number} = comb.{kind} %{before}, %{earlier} : i32\n"
+
+
+def one_module(limit, write):
+    """One module whose text is about so many bytes long."""
+    size = write("hw.module @M(in %0 : i32, out o : i32) {\n")
+    number = 1
+    while size < limit:
+        size += write(operation(number))
+        number += 1
+    write(f"  hw.output %{number - 1} : i32\n}}\n")
+
+
+def many_modules(count, write):
+    """So many modules of eight operations."""
+    for index in range(count):
+        write(f"hw.module @M{index}(in %clk : !seq.clock, in %a : i32, in %b : i32, out o : i32) {{\n")
+        write("  %0 = comb.add %a, %b : i32\n")
+        write("  %1 = comb.extract %0 from 3 : (i32) -> i8\n")
+        write("  %2 = comb.replicate %1 : (i8) -> i32\n")
+        write("  %k = hw.constant -7 : i32\n")
+        write('  %3 = comb.icmp ult %2, %k {sv.namehint = "less"} : i32\n')
+        write("  %4 = comb.mux %3, %0, %2 : i32\n")
+        write("  %r = seq.compreg %4, %clk : i32\n")
+        write("  hw.output %r : i32\n}\n")
+
+
+def main():
+    """Writes the text that the words name."""
+    write = sys.stdout.write
+    if len(sys.argv) > 1 and sys.argv[1] == "modules":
+        many_modules(int(sys.argv[2]) if len(sys.argv) > 2 else 10000, write)
+    elif len(sys.argv) > 1 and sys.argv[1] == "operations":
+        one_module((int(sys.argv[2]) if len(sys.argv) > 2 else 60) * 1000000, write)
+    else:
+        sys.exit(__doc__)
+
+
+if __name__ == "__main__":
+    main()
