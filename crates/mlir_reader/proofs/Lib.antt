@@ -21,3 +21,4 @@ mod Sorting
 mod Tables
 pub mod Joining
 pub mod Bodies
+pub mod Files

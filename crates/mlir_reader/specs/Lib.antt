@@ -20,3 +20,5 @@ pub mod LiteralHeads
 pub mod Meanings
 pub mod NameClasses
 pub mod PieceHeads
+pub mod ModuleViews
+pub mod EndViews

@@ -4,6 +4,7 @@ ghost use Rattle.std.specs.Option.{option_map};
 ghost use Rattle.mlir_lexer.specs.Tokens.{lexeme_of};
 ghost use Rattle.mlir_reader.specs.Stream.{stream_of, tag, is_kind, is_word, first, is_next, is_first, after, refused, unexpected, refusal, cause_of_first};
 ghost use Rattle.mlir_reader.specs.Heads.{stream_left, symbols};
+ghost use Rattle.mlir_reader.specs.ModuleText.{is_end};
 ghost use Rattle.mlir_reader.specs.Reads.{want, want_word};
 ghost use Rattle.mlir_reader.specs.Views.{ReadsAs};
 
@@ -81,6 +82,17 @@ impl<'s> Reader<'s> {
         match self.head {
             Head::Token(token) => is_word(token, word),
             Head::Bad(_) | Head::End(_) => false,
+        }
+    }
+
+    /// Whether the text ends here.
+    pub fn is_end(&self) -> bool
+        ensures { result ≡ is_end self.now }
+    {
+        match self.head {
+            Head::Token(_) => false,
+            Head::Bad(_) => false,
+            Head::End(_) => true,
         }
     }
 

@@ -1,0 +1,97 @@
+-- Ports in a list, and modules of a file, one after another.
+use Rattle.std.proofs.Common.{◌≡◌, ℕ, zero, suc, ◌-◌, ◌≤◌, ◌<◌, Bool, true, false, cond, List, [], ◌∷◌, ◌++◌, map, length, Ok, Err, refl, sym, ap, ◌∙◌, arith, append_assoc}
+use Rattle.std.proofs.lemmas.List.{append-nil}
+use Rattle.hw_model.specs.Design.{Design, Module}
+use Rattle.mlir_lexer.specs.declared.token.TokenKind.TheVariants as kind
+use Rattle.mlir_reader.specs.Stream.{Symbol, token, bad, end, is_next}
+use Rattle.mlir_reader.specs.Reads.{Read, Reads, on}
+use Rattle.mlir_reader.specs.OperationText.{no_operation}
+use Rattle.mlir_reader.specs.ModuleText.{ModuleText, header, port_text, module_text, modules_text, is_end}
+use Rattle.mlir_reader.specs.ModuleViews.{designs_behind}
+use Rattle.mlir_reader.specs.EndViews.{ends_of}
+use Rattle.mlir_reader.specs.Resolving.{module_of}
+use Rattle.mlir_reader.specs.Views.{ReadsAs}
+use Rattle.mlir_reader.specs.declared.fail.ReadFail.{ReadFail}
+use Rattle.mlir_reader.specs.declared.fail.ReadFail.TheVariants.{Refused, NoMemory}
+use Rattle.mlir_reader.specs.declared.file_text.Ends.{Ends}
+use Rattle.mlir_reader.specs.declared.file_text.Ends.TheVariants.{Brace, Text}
+use Rattle.mlir_reader.proofs.Lists.{IsItem}
+
+pub is_port : IsItem header port_text
+unfolding port_text
+is_port = refl
+
+-- a module, and further ones behind it
+abbrev then_modules : Ends → ℕ → ModuleText → Reads (List ModuleText)
+then_modules e n m left = on (modules_text (ends_of e) n left) (λ ms behind. Ok (m ∷ ms, behind))
+
+-- some modules are read from the start on, and what is left gives the rest
+pub record Filling (e : Ends) (front : Design) (start : List Symbol) (got : Design) (left : List Symbol) : Type 0 where
+  pub n : ℕ
+  pub enough : length left ≤ n
+  pub shorter : length left ≤ length start
+  pub same : designs_behind front (modules_text (ends_of e) (length start) start) ≡ designs_behind got (modules_text (ends_of e) n left)
+
+pub fills : (e : Ends) (front : Design) (start : List Symbol) → Filling e front start front start
+fills e front start = record { n = length start; enough = omega arith; shorter = omega arith; same = refl }
+
+-- where modules end, something is left
+ends-some : (e : Ends) (s : List Symbol) → ends_of e s ≡ true → 0 < length s
+ends-some Brace [] h = cc
+ends-some Text [] h = cc
+ends-some e (x ∷ xs) h = omega arith
+
+modules_at : (e : Ends) (n : ℕ) (left : List Symbol) → length left ≤ n → ends_of e left ≡ false
+    → modules_text (ends_of e) n left ≡ on (module_text left) (then_modules e (n - 1))
+unfolding modules_text module_text no_operation
+modules_at e zero [] enough more_left = refl
+modules_at e zero (s ∷ ss) enough more_left = absurd (omega (arith, enough))
+modules_at e (suc n) left enough more_left = let p : suc n - 1 ≡ n = omega arith in rw (p, more_left) refl
+
+ends_at : (e : Ends) (n : ℕ) (left : List Symbol) → length left ≤ n → ends_of e left ≡ true → modules_text (ends_of e) n left ≡ Ok ([], left)
+unfolding modules_text
+ends_at e zero left enough close = let some = ends-some e left close in absurd (omega (arith, enough, some))
+ends_at e (suc n) left enough close = rw close refl
+
+behind-more : (front : Design) (m : ModuleText) (read : Read (List ModuleText))
+    → designs_behind front (on read (λ ms behind. Ok (m ∷ ms, behind))) ≡ designs_behind (front ++ module_of m ∷ []) read
+behind-more front m (Err r) = refl
+behind-more front m (Ok p) = ap (λ l. Ok (l, p.1)) (sym (append_assoc front (module_of m ∷ []) (map module_of p.0)))
+
+-- what is read, where a module is read next
+same_at : {e : Ends} {front : Design} {start : List Symbol} {got : Design} {left : List Symbol} (read : Read ModuleText)
+    → (g : Filling e front start got left) → ends_of e left ≡ false → module_text left ≡ read
+    → designs_behind front (modules_text (ends_of e) (length start) start) ≡ designs_behind got (on read (then_modules e (g.n - 1)))
+same_at {e = e} {got = got} {left = left} read g more_left is =
+    g.same ∙ ap (designs_behind got) (modules_at e g.n left g.enough more_left ∙ ap (λ (r : Read _). on r (then_modules e (g.n - 1))) is)
+
+-- a module that is refused
+pub refused_at : {C : Type 0} {e : Ends} {front : Design} {start : List Symbol} {got : Design} {left : List Symbol} {B : Type 0} (view : B → ModuleText)
+    (whole : C → Design) (fail : ReadFail) (past left_over : List Symbol)
+    → Filling e front start got left → ends_of e left ≡ false → ReadsAs view (Err fail) past (module_text left)
+    → ReadsAs whole (Err fail) left_over (designs_behind front (modules_text (ends_of e) (length start) start))
+refused_at view whole (Refused r) past left_over g more_left read = same_at (Err r) g more_left read
+refused_at view whole NoMemory past left_over g more_left read = tt
+
+-- the end of the modules
+pub closes_at : {e : Ends} {front : Design} {start : List Symbol} {got : Design} {left : List Symbol}
+    → Filling e front start got left → ends_of e left ≡ true
+    → designs_behind front (modules_text (ends_of e) (length start) start) ≡ Ok (got, left)
+closes_at {e = e} {got = got} {left = left} g close =
+    g.same ∙ ap (designs_behind got) (ends_at e g.n left g.enough close) ∙ ap (λ l. Ok (l, left)) (append-nil got)
+
+pub goes_on_at : {e : Ends} {front : Design} {start : List Symbol} {got : Design} {left : List Symbol} (m : ModuleText) (next : Design) (past : List Symbol)
+    → Filling e front start got left → ends_of e left ≡ false → module_text left ≡ Ok (m, past) → next ≡ got ++ module_of m ∷ []
+    → length past < length left → Filling e front start next past
+goes_on_at {e = e} {got = got} m next past g more_left read put shorter =
+    let most = g.enough in
+    let before = g.shorter in
+    record {
+      n = g.n - 1;
+      enough = omega (arith, most, shorter);
+      shorter = omega (arith, before, shorter);
+      same =
+          same_at (Ok (m, past)) g more_left read
+          ∙ behind-more got m (modules_text (ends_of e) (g.n - 1) past)
+          ∙ ap (λ d. designs_behind d (modules_text (ends_of e) (g.n - 1) past)) (sym put);
+    }
