@@ -1,12 +1,14 @@
 -- Ports in a list, and modules of a file, one after another.
-use Rattle.std.proofs.Common.{◌≡◌, ℕ, zero, suc, ◌-◌, ◌≤◌, ◌<◌, Bool, true, false, cond, List, [], ◌∷◌, ◌++◌, map, length, Ok, Err, refl, sym, ap, ◌∙◌, arith, append_assoc}
+use Rattle.std.proofs.Common.{◌≡◌, Result, ℕ, zero, suc, ◌-◌, ◌≤◌, ◌<◌, Bool, true, false, cond, List, [], ◌∷◌, ◌++◌, map, length, Ok, Err, refl, sym, ap, ◌∙◌, arith, append_assoc}
 use Rattle.std.proofs.lemmas.List.{append-nil}
 use Rattle.hw_model.specs.Design.{Design, Module}
 use Rattle.mlir_lexer.specs.declared.token.TokenKind.TheVariants as kind
-use Rattle.mlir_reader.specs.Stream.{Symbol, token, bad, end, is_next}
-use Rattle.mlir_reader.specs.Reads.{Read, Reads, on}
+use Rattle.diag.specs.declared.refusal.OpName.TheVariants as op
+use Rattle.mlir_lexer.specs.Tokens.{Lexeme}
+use Rattle.mlir_reader.specs.Stream.{Symbol, token, bad, end, is_next, unexpected}
+use Rattle.mlir_reader.specs.Reads.{Read, Reads, on, want}
 use Rattle.mlir_reader.specs.OperationText.{no_operation}
-use Rattle.mlir_reader.specs.ModuleText.{ModuleText, header, port_text, module_text, modules_text, is_end}
+use Rattle.mlir_reader.specs.ModuleText.{ModuleText, header, port_text, module_text, modules_text, is_end, want_end}
 use Rattle.mlir_reader.specs.ModuleViews.{designs_behind}
 use Rattle.mlir_reader.specs.EndViews.{ends_of}
 use Rattle.mlir_reader.specs.Resolving.{module_of}
@@ -95,3 +97,50 @@ goes_on_at {e = e} {got = got} m next past g more_left read put shorter =
           ∙ behind-more got m (modules_text (ends_of e) (g.n - 1) past)
           ∙ ap (λ d. designs_behind d (modules_text (ends_of e) (g.n - 1) past)) (sym put);
     }
+
+-- ---- the closing brace and the end
+
+-- behind modules, which are put into a design
+abbrev braced : Read (List ModuleText) → Read (List ModuleText)
+braced modules = on modules (λ ms s4. on (want op.File kind.RightBrace s4) (λ _ s5. want_end ms s5))
+
+abbrev done : Unit {0}
+done = tt
+
+abbrev closing : List Symbol → Read (Unit {0})
+closing s = on (want op.File kind.RightBrace s) (λ _ left. want_end done left)
+
+ends_alike : (front : Design) (ms : List ModuleText) (s : List Symbol)
+    → designs_behind front (want_end ms s) ≡ on (want_end done s) (λ _ left. Ok (front ++ map module_of ms, left))
+unfolding want_end
+ends_alike front ms s = go (is_end s)
+  where
+    go : (b : Bool) → designs_behind front (cond b (Ok (ms, s)) (Err (unexpected op.File s)))
+        ≡ on (cond b (Ok (done, s)) (Err (unexpected op.File s))) (λ (_ : Unit {0}) left. Ok (front ++ map module_of ms, left))
+    go true = refl
+    go false = refl
+
+closes_alike : (front : Design) (ms : List ModuleText) (s : List Symbol) (read : Read Lexeme)
+    → designs_behind front (on read (λ _ s5. want_end ms s5)) ≡ on (on read (λ _ s5. want_end done s5)) (λ _ left. Ok (front ++ map module_of ms, left))
+closes_alike front ms s (Err e) = refl
+closes_alike front ms s (Ok p) = ends_alike front ms p.1
+
+braced_alike : (front : Design) (modules : Read (List ModuleText))
+    → designs_behind front (braced modules) ≡ on (designs_behind front modules) (λ d s. on (closing s) (λ _ left. Ok (d, left)))
+braced_alike front (Err e) = refl
+braced_alike front (Ok p) = closes_alike front p.0 p.1 (want op.File kind.RightBrace p.1)
+
+-- the answer on what closes a file is that of the whole
+pub closed_at : (front got : Design) (modules : Read (List ModuleText)) (left : List Symbol) (answer : Result (Unit {0}) ReadFail) (new : List Symbol)
+    → designs_behind front modules ≡ Ok (got, left) → ReadsAs (λ u. u) answer new (closing left)
+    → ReadsAs (λ (_ : Unit {0}). got) answer new (designs_behind front (braced modules))
+closed_at front got modules left (Ok u) new read closed = braced_alike front modules ∙ rw (read, closed) refl
+closed_at front got modules left (Err (Refused r)) new read closed = braced_alike front modules ∙ rw (read, closed) refl
+closed_at front got modules left (Err NoMemory) new read closed = tt
+
+-- a refusal of the modules is that of the whole
+pub unclosed_at : (front : Design) (modules : Read (List ModuleText)) (fail : ReadFail) (past left_over : List Symbol)
+    → ReadsAs (λ (_ : Unit {0}). front) (Err fail) past (designs_behind front modules)
+    → ReadsAs (λ (_ : Unit {0}). front) (Err fail) left_over (designs_behind front (braced modules))
+unclosed_at front modules (Refused r) past left_over read = braced_alike front modules ∙ rw read refl
+unclosed_at front modules NoMemory past left_over read = tt

@@ -4,7 +4,7 @@ ghost use Rattle.ir_store.specs.Designs.{design_of};
 ghost use Rattle.mlir_reader.specs.AttributeText.{is_symbol};
 ghost use Rattle.mlir_reader.specs.EndViews.{ends_of};
 ghost use Rattle.mlir_reader.specs.ModuleText.{is_file_name, modules_text, file_symbol, want_end, wrapped_text, file_text};
-ghost use Rattle.mlir_reader.specs.ModuleViews.{designs_behind};
+ghost use Rattle.mlir_reader.specs.ModuleViews.{designs_behind, braced_text, closing_text};
 ghost use Rattle.mlir_reader.specs.Stream.{is_first};
 ghost use Rattle.mlir_reader.specs.Views.{ReadsAs};
 
@@ -54,14 +54,32 @@ impl<'s> Reader<'s> {
     }
 
     // `[@N] [attributes {..}] { MODULES }` and the end, behind the name of a file's module.
-    #[tactic(auto, unfolding(crate::specs::ModuleText::wrapped_text))]
+    #[tactic(auto, unfolding(crate::specs::ModuleText::wrapped_text, crate::specs::ModuleViews::braced_text))]
     fn wrapped_text(&mut self, design: &mut Design) -> Result<(), ReadFail>
         ensures { ReadsAs (λ (_ : Unit {0}). design_of design.new) result self.new (designs_behind (design_of design.old) (wrapped_text self.old)) }
     {
         self.file_symbol()?;
         self.header_attributes(OpName::File)?;
         self.want(OpName::File, TokenKind::LeftBrace)?;
-        self.modules_text(Ends::Brace, design)?;
+        self.braced_text(design)
+    }
+
+    // `MODULES }` and the end.
+    #[tactic(auto, unfolding(crate::specs::ModuleViews::braced_text))]
+    fn braced_text(&mut self, design: &mut Design) -> Result<(), ReadFail>
+        ensures { ReadsAs (λ (_ : Unit {0}). design_of design.new) result self.new (designs_behind (design_of design.old) (braced_text self.old)) }
+    {
+        match self.modules_text(Ends::Brace, design) {
+            Ok(()) => self.closing_text(),
+            Err(fail) => Err(fail),
+        }
+    }
+
+    // `}` and the end.
+    #[tactic(auto, unfolding(crate::specs::ModuleViews::closing_text))]
+    fn closing_text(&mut self) -> Result<(), ReadFail>
+        ensures { ReadsAs (λ u. u) result self.new (closing_text self.old) }
+    {
         self.want(OpName::File, TokenKind::RightBrace)?;
         self.see_end()
     }
