@@ -1,23 +1,14 @@
 -- Operations that stand by ids: what a change of the ids, the parts or the operands does to their list.
-use Rattle.std.proofs.Common.{◌≡◌, ℕ, zero, suc, ◌<◌, ◌≤◌, Bool, true, false, cond, nat_eq, List, [], ◌∷◌, ◌++◌, map, length, get_or, set, refl, ap, sym, ◌∙◌, arith}
-use Rattle.std.specs.Prelude.{Option, Some, None, insert, Contains}
-use Rattle.std.proofs.lemmas.List.{get_or-set_same, get_or-set_other, get_or_append_left, get_or_push, get_or_default, map-append}
-use Rattle.std.proofs.lemmas.List.Elements.{All-cons, All-from_get_or}
-use Rattle.std.proofs.lemmas.List.Sorted.{All-permutation, IsPermutation-insert}
-use Rattle.std.proofs.lemmas.List.Edits.{length-insert}
+use Rattle.std.proofs.Common.{◌≡◌, ℕ, zero, suc, ◌+◌, ◌<◌, ◌≤◌, Bool, true, false, cond, nat_eq, List, [], ◌∷◌, ◌++◌, map, length, get_or, set, refl, ap, sym, ◌∙◌, arith}
+use Rattle.std.specs.Prelude.{Option, Some, None, insert, remove, Contains}
+use Rattle.std.proofs.lemmas.List.{get_or-set_same, get_or-set_other}
 use Rattle.std.proofs.lemmas.Bool.{eqb-true, eqb-false}
 use Rattle.ir_store.specs.declared.operation.OpId.{OpId}
 use Rattle.ir_store.specs.declared.operation.Value.{Value}
 use Rattle.ir_store.specs.OperationViews.{OpParts}
-use Rattle.ir_store.specs.BodyOps.{BodyOp, no_parts, stored, op_at, put_before, place_before, operands_at, ids_in}
-
--- an id is below a bound where each of the ids is
-pub contained_below : (ids : List ℕ) (id n : ℕ) → ((k : ℕ) → k < length ids → get_or ids k 0 < n) → Contains ids id → id < n
-contained_below ids id n b (k, l, e) = omega (arith, b k l, get_or_default ids k id 0 l, e)
-
--- no id that is there is their number
-pub number_is_fresh : (ids : List ℕ) (n : ℕ) → ((k : ℕ) → k < length ids → get_or ids k 0 < length ids) → n ≡ length ids → Contains ids n → ⊥
-number_is_fresh ids n b e h = omega (arith, contained_below ids n (length ids) b h, e)
+use Rattle.ir_store.specs.BodyOps.{BodyOp, no_parts, stored, op_at, put_before, place_before, operands_at, ids_in, taken_out, operand_count}
+use Rattle.ir_store.specs.Ids.{times, put_at}
+use Rattle.ir_store.proofs.IdLemmas.{get_or-put_at_same, get_or-put_at_other}
 
 module _ (ps : List OpParts) (ls : List (List Value)) where
   -- the operation of an id is found
@@ -49,16 +40,16 @@ module _ (ps : List OpParts) (ls : List (List Value)) where
           let s : get_or (set ls i (f (get_or ls i []))) j [] ≡ get_or ls j [] = get_or-set_other ls i j (f (get_or ls i [])) [] (eqb-false j i t) in
           rw (s, r) refl
 
-  -- one more of each changes nothing of the ids below their number
-  more_same : (p : OpParts) (l : List Value) (ids : List ℕ) → ((k : ℕ) → k < length ids → get_or ids k 0 < length ps) → length ls ≡ length ps →
-      map (stored (ps ++ p ∷ []) (ls ++ l ∷ [])) ids ≡ map (stored ps ls) ids
-  more_same p l [] b e = refl
-  more_same p l (i ∷ ids) b e =
-      let h : i < length ps = b 0 (omega arith) in
-      let k : i < length ls = omega arith in
-      let q : get_or (ps ++ p ∷ []) i no_parts ≡ get_or ps i no_parts = get_or_append_left ps (p ∷ []) no_parts i h in
-      let r : get_or (ls ++ l ∷ []) i [] ≡ get_or ls i [] = get_or_append_left ls (l ∷ []) [] i k in
-      rw (q, r) (ap (λ os. stored ps ls i ∷ os) (more_same p l ids (λ m n. b (suc m) (omega arith)) e))
+-- what stands under other ids does not count
+stored_same : (ps qs : List OpParts) (ls ms : List (List Value)) (id : ℕ) → ((j : ℕ) → (j ≡ id → ⊥) → get_or qs j no_parts ≡ get_or ps j no_parts) →
+    ((j : ℕ) → (j ≡ id → ⊥) → get_or ms j [] ≡ get_or ls j []) → (ids : List ℕ) → times id ids ≡ 0 → map (stored qs ms) ids ≡ map (stored ps ls) ids
+stored_same ps qs ls ms id f g [] e = refl
+stored_same ps qs ls ms id f g (i ∷ ids) e = go (nat_eq i id) refl e (stored_same ps qs ls ms id f g ids)
+  where
+    go : (b : Bool) → nat_eq i id ≡ b → cond b (suc (times id ids)) (times id ids) ≡ 0 → (times id ids ≡ 0 → map (stored qs ms) ids ≡ map (stored ps ls) ids) →
+        stored qs ms i ∷ map (stored qs ms) ids ≡ stored ps ls i ∷ map (stored ps ls) ids
+    go true t e r = absurd (omega (arith, e))
+    go false t e r = rw (f i (eqb-false i id t), g i (eqb-false i id t)) (ap (λ os. stored ps ls i ∷ os) (r e))
 
 -- an id put into the ids puts its operation into the operations
 put_in : (ps : List OpParts) (ls : List (List Value)) (before : Option OpId) (id : ℕ) (ids : List ℕ) →
@@ -74,45 +65,80 @@ put_in ps ls (Some b) id (i ∷ ids) = go (nat_eq i b.index) (put_in ps ls (Some
     go true r = refl
     go false r = ap (λ os. stored ps ls i ∷ os) r
 
--- an operation added under a new id
-pub op_added : (ps : List OpParts) (ls : List (List Value)) (before : Option OpId) (p : OpParts) (l : List Value) (ids : List ℕ) (id : ℕ) →
-    ((k : ℕ) → k < length ids → get_or ids k 0 < length ids) → length ps ≡ length ids → length ls ≡ length ids → id ≡ length ids →
-    map (stored (ps ++ p ∷ []) (ls ++ l ∷ [])) (insert ids (place_before before ids) id) ≡ put_before before (record { id = id; parts = p; operands = l }) (map (stored ps ls) ids)
-op_added ps ls before p l ids id b x y z =
-    let q : get_or (ps ++ p ∷ []) id no_parts ≡ p = get_or_push ps p no_parts id (x ∙ sym z) in
-    let r : get_or (ls ++ l ∷ []) id [] ≡ l = get_or_push ls l [] id (y ∙ sym z) in
-    let s : map (stored (ps ++ p ∷ []) (ls ++ l ∷ [])) ids ≡ map (stored ps ls) ids = more_same ps ls p l ids (λ k n. rw x (b k n)) (y ∙ sym x) in
-    let t = put_in (ps ++ p ∷ []) (ls ++ l ∷ []) before id ids in
-    rw (s, q, r) at t
-
--- the ids with one more stay below their number
-pub below_insert : (ids : List ℕ) (place id : ℕ) → ((k : ℕ) → k < length ids → get_or ids k 0 < length ids) → place ≤ length ids → id ≡ length ids →
-    (k : ℕ) → k < length (insert ids place id) → get_or (insert ids place id) k 0 < length (insert ids place id)
-below_insert ids place id b h e k l =
-    let a = All-cons (λ (n : ℕ). n < suc (length ids)) id ids (omega arith) (All-from_get_or (λ (n : ℕ). n < suc (length ids)) ids 0 (λ i m. omega (arith, b i m))) in
-    let q : get_or (insert ids place id) k 0 < suc (length ids) = All-permutation (λ (n : ℕ). n < suc (length ids)) (id ∷ ids) (insert ids place id) (IsPermutation-insert ids place id) a k 0 l in
-    omega (arith, q, length-insert ids place id h)
-
 -- what a read at a place gives, in a list of what is seen
 pub map_read : {X Y : Type 0} (f : X → Y) (xs : List X) (i : ℕ) (x : X) (d : Y) → i < length xs → x ≡ get_or xs i x → get_or (map f xs) i d ≡ f x
 map_read f [] i x d h e = absurd (omega arith)
 map_read f (y ∷ xs) zero x d h e = ap f (sym e)
 map_read f (y ∷ xs) (suc i) x d h e = map_read f xs i x d (omega arith) e
 
--- one more element, seen
-pub map_push : {X Y : Type 0} (f : X → Y) (xs ys zs : List X) (x : X) (y : Y) → ys ≡ zs ++ x ∷ [] → zs ≡ xs → f x ≡ y → map f ys ≡ map f xs ++ y ∷ []
-map_push f xs ys zs x y e g h = rw (e, g, map-append, h) refl
-
--- an operation added, by what each list is afterwards
+-- an operation put in under an id that is not among the ids, by what each list is afterwards
 pub op_put : (ps qs : List OpParts) (ls ms : List (List Value)) (before : Option OpId) (p : OpParts) (l : List Value) (ids js : List ℕ) (id place : ℕ) →
-    ((k : ℕ) → k < length ids → get_or ids k 0 < length ids) → length ps ≡ length ids → length ls ≡ length ids → id ≡ length ids →
-    qs ≡ ps ++ p ∷ [] → ms ≡ ls ++ l ∷ [] → js ≡ insert ids place id → place ≡ place_before before ids →
+    id ≤ length ps → id ≤ length ls → times id ids ≡ 0 → qs ≡ put_at id p ps → ms ≡ put_at id l ls → js ≡ insert ids place id → place ≡ place_before before ids →
     map (stored qs ms) js ≡ put_before before (record { id = id; parts = p; operands = l }) (map (stored ps ls) ids)
-op_put ps qs ls ms before p l ids js id place b x y z e f g h = rw (e, f, g, h) (op_added ps ls before p l ids id b x y z)
+op_put ps qs ls ms before p l ids js id place x y z e f g h =
+    let q : get_or (put_at id p ps) id no_parts ≡ p = get_or-put_at_same id p no_parts ps x in
+    let r : get_or (put_at id l ls) id [] ≡ l = get_or-put_at_same id l [] ls y in
+    let s = stored_same ps (put_at id p ps) ls (put_at id l ls) id (λ j n. get_or-put_at_other id j p no_parts ps x n) (λ j n. get_or-put_at_other id j l [] ls y n) ids z in
+    let t = put_in (put_at id p ps) (put_at id l ls) before id ids in
+    rw (e, f, g, h) (rw (s, q, r) at t)
 
-pub below_put : (ids js : List ℕ) (place id : ℕ) → ((k : ℕ) → k < length ids → get_or ids k 0 < length ids) → place ≤ length ids → id ≡ length ids → js ≡ insert ids place id →
-    (k : ℕ) → k < length js → get_or js k 0 < length js
-below_put ids js place id b h e g = rw g (below_insert ids place id b h e)
+-- ---- an operation taken out
+
+-- an id that is there has its place
+pub place_within : (ids : List ℕ) (b : OpId) → Contains ids b.index → place_before (Some b) ids < length ids
+place_within [] b (k, l, e) = absurd (omega arith)
+place_within (i ∷ ids) b h = go (nat_eq i b.index) refl h (place_within ids b)
+  where
+    go : (t : Bool) → nat_eq i b.index ≡ t → Contains (i ∷ ids) b.index → (Contains ids b.index → place_before (Some b) ids < length ids) →
+        cond t 0 (suc (place_before (Some b) ids)) < suc (length ids)
+    go true t h r = omega arith
+    go false t (zero, l, e) r = absurd (eqb-false i b.index t e)
+    go false t (suc k, l, e) r = omega (arith, r (k, omega arith, e))
+
+-- without its first place an id stands there once less
+times-gone : (ids : List ℕ) (b : OpId) → Contains ids b.index → times b.index (remove ids (place_before (Some b) ids)) + 1 ≡ times b.index ids
+times-gone [] b (k, l, e) = absurd (omega arith)
+times-gone (i ∷ ids) b h = go (nat_eq i b.index) refl h (times-gone ids b)
+  where
+    go : (t : Bool) → nat_eq i b.index ≡ t → Contains (i ∷ ids) b.index → (Contains ids b.index → times b.index (remove ids (place_before (Some b) ids)) + 1 ≡ times b.index ids) →
+        times b.index (remove (i ∷ ids) (cond t 0 (suc (place_before (Some b) ids)))) + 1 ≡ cond t (suc (times b.index ids)) (times b.index ids)
+    go true t h r = omega arith
+    go false t (zero, l, e) r = absurd (eqb-false i b.index t e)
+    go false t (suc k, l, e) r =
+        rw t (r (k, omega arith, e))
+
+-- the operations of the ids that are left
+taken_ids : (ps : List OpParts) (ls : List (List Value)) (b : OpId) (ids : List ℕ) →
+    map (stored ps ls) (remove ids (place_before (Some b) ids)) ≡ taken_out b.index (map (stored ps ls) ids)
+taken_ids ps ls b [] = refl
+taken_ids ps ls b (i ∷ ids) = go (nat_eq i b.index) (taken_ids ps ls b ids)
+  where
+    go : (t : Bool) → map (stored ps ls) (remove ids (place_before (Some b) ids)) ≡ taken_out b.index (map (stored ps ls) ids) →
+        map (stored ps ls) (remove (i ∷ ids) (cond t 0 (suc (place_before (Some b) ids))))
+        ≡ cond t (map (stored ps ls) ids) (stored ps ls i ∷ taken_out b.index (map (stored ps ls) ids))
+    go true r = refl
+    go false r = ap (λ os. stored ps ls i ∷ os) r
+
+-- an operation taken out, by what each list is afterwards
+pub op_gone : (ps qs : List OpParts) (ls ms : List (List Value)) (b : OpId) (p : OpParts) (l : List Value) (ids js : List ℕ) (place : ℕ) →
+    Contains ids b.index → times b.index ids ≤ 1 → qs ≡ set ps b.index p → ms ≡ set ls b.index l → js ≡ remove ids place → place ≡ place_before (Some b) ids →
+    map (stored qs ms) js ≡ taken_out b.index (map (stored ps ls) ids)
+op_gone ps qs ls ms b p l ids js place h n e f g k =
+    let z : times b.index (remove ids (place_before (Some b) ids)) ≡ 0 = omega (arith, n, times-gone ids b h) in
+    let s = stored_same ps (set ps b.index p) ls (set ls b.index l) b.index (λ j o. get_or-set_other ps b.index j p no_parts o) (λ j o. get_or-set_other ls b.index j l [] o)
+    (remove ids (place_before (Some b) ids)) z in
+    rw (e, f, g, k) (s ∙ taken_ids ps ls b ids)
+
+-- how many operands an operation has that is there
+pub count_found : (ps : List OpParts) (ls : List (List Value)) (ids : List ℕ) (id : ℕ) → Contains ids id → operand_count id (map (stored ps ls) ids) ≡ length (get_or ls id [])
+count_found ps ls [] id (k, l, e) = absurd (omega arith)
+count_found ps ls (i ∷ ids) id h = go (nat_eq i id) refl h (count_found ps ls ids id)
+  where
+    go : (b : Bool) → nat_eq i id ≡ b → Contains (i ∷ ids) id → (Contains ids id → operand_count id (map (stored ps ls) ids) ≡ length (get_or ls id [])) →
+        cond b (length (get_or ls i [])) (operand_count id (map (stored ps ls) ids)) ≡ length (get_or ls id [])
+    go true t h r = ap (λ n. length (get_or ls n [])) (eqb-true i id t)
+    go false t (zero, l, e) r = absurd (eqb-false i id t e)
+    go false t (suc k, l, e) r = r (k, omega arith, e)
 
 -- the ids of operations that stand by ids
 pub ids_seen : (ps : List OpParts) (ls : List (List Value)) (ids : List ℕ) → ids_in (map (stored ps ls) ids) ≡ ids

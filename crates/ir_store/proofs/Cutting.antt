@@ -45,7 +45,7 @@ module _ {A : Type 0} where
   length_cut from [] xs = refl
   length_cut from (e ∷ es) xs = ap suc (length_cut e es (drop (e - from) xs))
 
-  rest_ends : (from e : ℕ) (es : List ℕ) (xs : List A) → AreEnds from (e ∷ es) (from + length xs) → AreEnds e es (e + length (drop (e - from) xs))
+  pub rest_ends : (from e : ℕ) (es : List ℕ) (xs : List A) → AreEnds from (e ∷ es) (from + length xs) → AreEnds e es (e + length (drop (e - from) xs))
   rest_ends from e es xs a =
       let q : from + length xs ≡ e + length (drop (e - from) xs) = omega (arith, a.0, ends_le e es (from + length xs) a.1, length-drop (e - from) xs) in
       rw q at a.1

@@ -1,6 +1,6 @@
 -- What a body stands for.
-use Rattle.std.specs.Prelude.{ℕ, ◌-◌, List, map, min}
-use Rattle.std.specs.Vec.{vec_len, vec_capacity}
+use Rattle.std.specs.Prelude.{ℕ, ◌+◌, ◌-◌, List, length, map, min}
+use Rattle.std.specs.Vec.{vec_capacity}
 use Rattle.hw_model.specs.KindViews.{kind_of}
 use Rattle.ir_store.specs.declared.operation.OpId.{OpId}
 use Rattle.ir_store.specs.declared.body.Body.{Body}
@@ -8,11 +8,12 @@ use Rattle.ir_store.specs.declared.body.Op.{Op}
 use Rattle.ir_store.specs.declared.body.Ops.{Ops}
 use Rattle.ir_store.specs.DictionaryViews.{entries_in}
 use Rattle.ir_store.specs.OperationViews.{OpParts, parts_of, types_in, results_in, place_of}
+use Rattle.ir_store.specs.Orders.{live_ids}
 use Rattle.ir_store.specs.BodyOps.{BodyOp, stored, ids_in}
 
 -- the operations, each with its id, in text order
 abbrev pub ops_of : Body → List BodyOp
-ops_of b = map (stored (map parts_of b.parts.items) b.operands.lists) b.order.items
+ops_of b = map (stored (map parts_of b.parts.items) b.operands.lists) (live_ids b.order)
 
 -- the ids of the operations, in text order
 abbrev pub ids_of : Body → List ℕ
@@ -20,7 +21,7 @@ ids_of b = ids_in (ops_of b)
 
 -- how many more operations, and how many more operands, have room
 abbrev pub spare_ops : Body → ℕ
-spare_ops b = min (vec_capacity b.order - vec_len b.order) (min (vec_capacity b.parts - vec_len b.parts) b.operands.list_room)
+spare_ops b = min (vec_capacity b.order.ids) (min (vec_capacity b.parts) (length b.operands.lists + b.operands.list_room)) - b.order.live
 
 abbrev pub spare_uses : Body → ℕ
 spare_uses b = b.operands.room

@@ -1,5 +1,5 @@
 -- The operations of a body, each with its id, in text order.
-use Rattle.std.specs.Prelude.{Bool, true, ℕ, suc, ◌<◌, length, IfSome, false, cond, ◌&&◌, nat_eq, List, [], ◌∷◌, ◌++◌, Option, Some, None, map, find, slice_index_or}
+use Rattle.std.specs.Prelude.{◌≡◌, All, Bool, true, ℕ, suc, ◌<◌, length, IfSome, false, cond, ◌&&◌, nat_eq, List, [], ◌∷◌, ◌++◌, Option, Some, None, map, find, ◌≤◌, slice_index_or}
 use Rattle.hw_model.specs.Kinds.Kind.{output}
 use Rattle.ir_store.specs.declared.operation.OpId.{OpId}
 use Rattle.ir_store.specs.declared.operation.Value.{Value}
@@ -76,3 +76,27 @@ replaced from to v = cond (same_value from v) to v
 -- the operations with one value in the place of another
 abbrev pub all_replaced : Value → Value → List BodyOp → List BodyOp
 all_replaced from to ops = map (λ (o : BodyOp). record o { operands = map (replaced from to) o.operands }) ops
+
+-- the operations without that of an id
+abbrev pub taken_out : ℕ → List BodyOp → List BodyOp
+taken_out id [] = []
+taken_out id (o ∷ ops) = cond (nat_eq o.id id) ops (o ∷ taken_out id ops)
+
+-- whether an operand is a result of the operation of an id
+abbrev pub is_of : ℕ → Value → Bool
+is_of id (Port n) = false
+is_of id (Result i k) = nat_eq i.index id
+is_of id Undefined = false
+
+-- no operand is a result of the operation of an id
+abbrev pub IsUnused : ℕ → List BodyOp → Type 0
+IsUnused id ops = All (λ (o : BodyOp). All (λ v. is_of id v ≡ false) o.operands) ops
+
+-- how many operands the operation of an id has
+abbrev pub operand_count : ℕ → List BodyOp → ℕ
+operand_count id [] = 0
+operand_count id (o ∷ ops) = cond (nat_eq o.id id) (length o.operands) (operand_count id ops)
+
+-- the operation of an id has a place for one more operand before operand `k`, or behind the last
+abbrev pub HasPlace : List BodyOp → ℕ → ℕ → Type 0
+HasPlace ops id k = IfSome (op_at ops id) (λ o. k ≤ length o.operands)

@@ -2,8 +2,12 @@ pub mod Bodies
 pub mod BodyOps
 pub mod Designs
 pub mod DictionaryViews
+pub mod Ids
 pub mod Numbered
 pub mod OperandLists
 pub mod OperationViews
+pub mod Orders
 pub mod Symbols
 pub mod ResultTypes
+pub mod Uses
+pub mod UsesLeft

@@ -1,5 +1,5 @@
 -- Lists that lie in one list, one after another.
-use Rattle.std.specs.Prelude.{◌≡◌, ℕ, zero, suc, ◌-◌, ◌≤◌, List, [], ◌∷◌, take, drop}
+use Rattle.std.specs.Prelude.{◌≡◌, ℕ, zero, suc, ◌+◌, ◌-◌, ◌<◌, ◌≤◌, ◌^◌, List, [], ◌∷◌, ◌++◌, length, map, take, drop, min}
 use Rattle.ir_store.specs.declared.operation.Value.{Value}
 
 -- the lists of operands, and for how many more lists and operands there is room
@@ -23,3 +23,15 @@ abbrev pub start_of : ℕ → List ℕ → ℕ → ℕ
 start_of from ends zero = from
 start_of from [] (suc i) = from
 start_of from (e ∷ ends) (suc i) = start_of e ends i
+
+-- the numbers from a place on, each changed
+abbrev pub changed_from : ℕ → (ℕ → ℕ) → List ℕ → List ℕ
+changed_from i f xs = take i xs ++ map f (drop i xs)
+
+-- a list with others put in at a place
+abbrev pub put_in : {A : Type 0} → ℕ → List A → List A → List A
+put_in at ys xs = take at xs ++ (ys ++ drop at xs)
+
+-- a list with so many elements at a place taken out
+abbrev pub cut_out : {A : Type 0} → ℕ → ℕ → List A → List A
+cut_out at n xs = take at xs ++ drop (at + n) xs

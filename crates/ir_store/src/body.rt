@@ -1,11 +1,14 @@
 //! The body of a module: its operations in text order.
-ghost use Rattle.std.specs.Prelude.{◌≡◌, ℕ, ◌<◌, ◌≤◌, length, min, slice_index, Some, ◌+◌, insert};
+ghost use Rattle.std.specs.Prelude.{◌≡◌, ℕ, ◌<◌, ◌≤◌, length, min, Some};
 ghost use Rattle.std.specs.Vec.{vec_len, vec_capacity};
+ghost use Rattle.ir_store.specs.Ids.{put_at};
 ghost use Rattle.ir_store.specs.BodyOps.{place_before};
 
 use crate::dictionary::Dictionary;
 use crate::operands::OperandTable;
 use crate::operation::{NewOp, NewResultList, OpId, Parts, TyList, Value, copied_parts};
+use crate::order::Order;
+use crate::uses::Uses;
 use diag::refusal::Place;
 use hw_model::kinds::OpKind;
 use io_edge::byte_text::Text;
@@ -15,12 +18,11 @@ use std::alloc::{AllocError, Global};
 /// Contracts see them by `ops_of`.
 #[derive(Drop)]
 pub struct Body {
-    order: Vec<u32>,
+    order: Order,
     parts: Vec<Parts>,
     operands: OperandTable,
-    ghost parts_fit: { length parts.items ≡ length order.items },
-    ghost lists_fit: { length operands.lists ≡ length order.items },
-    ghost below: { (k : ℕ) → k < length order.items → slice_index order.items k < length order.items },
+    ghost parts_fit: { length parts.items ≡ length order.ids.items },
+    ghost lists_fit: { length operands.lists ≡ length order.ids.items },
 }
 
 /// An operation of a body, its parts by reference.
@@ -69,17 +71,20 @@ impl<'b> Iterator for Ops<'b> {
 }
 
 impl Body {
-    ghost use Rattle.std.specs.Prelude.{◌≡◌, ℕ, ◌+◌, ◌<◌, ◌≤◌, ◌^◌, [], ◌∷◌, Some, None, map, min, length, Contains, IfOk, IfSome, IsOk, OnOk, OnErr, slice_set};
-    ghost use Rattle.ir_store.specs.BodyOps.{op_at, put_before, place_before, as_new, operands_at, HasOperand, all_replaced};
+    ghost use Rattle.std.specs.Prelude.{◌≡◌, ℕ, ◌+◌, ◌<◌, ◌≤◌, ◌^◌, [], ◌∷◌, Some, None, map, min, length, Contains, IfOk, IfSome, IsOk, OnOk, OnErr, slice_set, insert, remove};
+    ghost use Rattle.ir_store.specs.BodyOps.{op_at, put_before, place_before, as_new, operands_at, operand_count, HasOperand, HasPlace, IsUnused, all_replaced, taken_out};
     ghost use Rattle.ir_store.specs.Bodies.{ids_of, ops_of, spare_ops, spare_uses, read_op, read_parts, op_id, ids_left};
     ghost use Rattle.ir_store.specs.OperationViews.{parts_of};
+    ghost use Rattle.ir_store.specs.Orders.{live_ids};
+    ghost use Rattle.ir_store.specs.Uses.{uses_in};
+    ghost use Rattle.ir_store.specs.UsesLeft.{uses_left};
 
     /// The body without operations. It takes no memory.
     pub fn new(alloc: Global) -> Body
         ensures { ops_of result ≡ [] }
     {
         Body {
-            order: Vec::new(alloc),
+            order: Order::new(alloc),
             parts: Vec::new(alloc),
             operands: OperandTable::new(alloc),
         }
@@ -91,9 +96,10 @@ impl Body {
         ensures ok { OnOk result ((ops ≤ spare_ops self.new) × (uses ≤ spare_uses self.new)) }
         ensures spare { (spare_ops self.old ≤ spare_ops self.new) × (spare_uses self.old ≤ spare_uses self.new) }
     {
+        let wanted = (ops as usize).saturating_sub(self.order.free());
         self.order.reserve(ops as usize)?;
-        self.parts.reserve(ops as usize)?;
-        self.operands.reserve(ops as usize, uses as usize)
+        self.parts.reserve(wanted)?;
+        self.operands.reserve(wanted, uses as usize)
     }
 
     /// How many more operations, and how many more operands, can be added without memory; where
@@ -102,10 +108,12 @@ impl Body {
         ensures ops { result.0 ≡ min (spare_ops self.now) u32.MAX }
         ensures uses { result.1 ≡ min (spare_uses self.now) u32.MAX }
     {
-        let order_room = self.order.capacity() - self.order.len();
-        let parts_room = self.parts.capacity() - self.parts.len();
-        let room = order_room.min(parts_room.min(self.operands.list_room()));
-        (saturated(room), saturated(self.operands.room()))
+        let lists = self.operands.list_capacity();
+        let ops = self.order.capacity().min(self.parts.capacity().min(lists));
+        (
+            saturated(ops.saturating_sub(self.order.count())),
+            saturated(self.operands.room()),
+        )
     }
 
     /// The ids of the operations in text order.
@@ -113,7 +121,7 @@ impl Body {
         ensures { ids_left result ≡ map op_id (ids_of self.now) }
     {
         Ops {
-            rest: self.order.as_slice(),
+            rest: self.order.live(),
         }
     }
 
@@ -128,9 +136,15 @@ impl Body {
         Body::read(parts, operands)
     }
 
+    /// The places that name `value`, in text order.
+    pub fn uses(&self, value: Value) -> Uses<'_>
+        ensures { uses_left result ≡ uses_in value (ops_of self.now) }
+    {
+        Uses::among(value, &self.operands, self.order.live())
+    }
+
     /// Puts `op` before the operation `before`, or at the end, and gives its id. On an error the
     /// operations stay.
-    #[tactic(auto, using(crate::proofs::BodyLemmas::length_ids))]
     pub fn add_op(&mut self, before: Option<OpId>, op: NewOp) -> Result<OpId, AllocError>
         requires room { length (ids_of self.old) + 1 < 2 ^ 32 }
         requires live { IfSome before (λ b. Contains (ids_of self.old) b.index) }
@@ -140,14 +154,46 @@ impl Body {
         ensures succeeds { 1 ≤ spare_ops self.old → length op.operands.items ≤ spare_uses self.old → IsOk result }
         ensures spare { (spare_ops self.old ≤ spare_ops self.new + 1) × (spare_uses self.old ≤ spare_uses self.new + length op.operands.items) }
     {
-        let place = place_of(self.order.as_slice(), before);
+        let place = place_of(self.order.live(), before);
+        let wanted = 1usize.saturating_sub(self.order.free());
         self.order.reserve(1)?;
-        self.parts.reserve(1)?;
-        self.operands.add(op.operands.as_slice())?;
-        let id = self.parts.len() as u32;
-        self.parts.push_reserved(op.into_parts());
-        insert_reserved(&mut self.order, place, id);
+        self.parts.reserve(wanted)?;
+        self.operands.reserve(wanted, op.operands.len())?;
+        let id = self.order.add(place);
+        self.operands.put(id as usize, op.operands.as_slice());
+        put_parts(&mut self.parts, id as usize, op.into_parts());
         Ok(OpId { index: id })
+    }
+
+    /// Takes an operation out. No operand may name one of its results.
+    pub fn erase(&mut self, op: OpId)
+        requires live { Contains (ids_of self.old) op.index }
+        requires unused { IsUnused op.index (ops_of self.old) }
+        ensures ops { ops_of self.new ≡ taken_out op.index (ops_of self.old) }
+        ensures spare { (spare_ops self.old + 1 ≤ spare_ops self.new) × (spare_uses self.old + operand_count op.index (ops_of self.old) ≤ spare_uses self.new) }
+    {
+        let alloc = *self.parts.allocator();
+        let index = self.index_of(op);
+        let place = place_of_id(self.order.live(), op);
+        self.order.remove(place);
+        self.operands.clear(index);
+        self.parts[index] = Parts::empty(alloc);
+    }
+
+    /// Puts `value` in before operand `at` of `op`, or behind the last. On an error the operations
+    /// stay.
+    pub fn insert_operand(&mut self, op: OpId, at: u32, value: Value) -> Result<(), AllocError>
+        requires live { Contains (ids_of self.old) op.index }
+        requires place { HasPlace (ops_of self.old) op.index at }
+        ensures ok { OnOk result (ops_of self.new ≡ operands_at op.index (λ operands. insert operands at value) (ops_of self.old)) }
+        ensures err { OnErr result (ops_of self.new ≡ ops_of self.old) }
+        ensures succeeds { 1 ≤ spare_uses self.old → IsOk result }
+        ensures spare { (spare_ops self.new ≡ spare_ops self.old) × (spare_uses self.old ≤ spare_uses self.new + 1) }
+    {
+        let index = self.index_of(op);
+        self.operands.reserve_operands(1)?;
+        self.operands.insert(index, at as usize, &[value]);
+        Ok(())
     }
 
     /// Puts `value` in the place `at` of the operands of `op`.
@@ -159,6 +205,17 @@ impl Body {
     {
         let index = self.index_of(op);
         self.operands.set(index, at as usize, value);
+    }
+
+    /// Takes operand `at` of `op` out.
+    pub fn drop_operand(&mut self, op: OpId, at: u32)
+        requires live { Contains (ids_of self.old) op.index }
+        requires place { HasOperand (ops_of self.old) op.index at }
+        ensures ops { ops_of self.new ≡ operands_at op.index (λ operands. remove operands at) (ops_of self.old) }
+        ensures spare { (spare_ops self.new ≡ spare_ops self.old) × (spare_uses self.new ≡ spare_uses self.old + 1) }
+    {
+        let index = self.index_of(op);
+        self.operands.remove(index, at as usize, 1);
     }
 
     /// Puts `to` in the place of each operand that is `from`.
@@ -173,7 +230,7 @@ impl Body {
     pub fn try_clone(&self, alloc: Global) -> Result<Body, AllocError>
         ensures { IfOk result (λ copy. ops_of copy ≡ ops_of self.now) }
     {
-        let order = Vec::from_slice(alloc, self.order.as_slice())?;
+        let order = self.order.try_clone(alloc)?;
         let parts = copied_parts(alloc, self.parts.as_slice())?;
         let operands = self.operands.try_clone(alloc)?;
         Ok(Body {
@@ -203,9 +260,9 @@ impl Body {
 
     /// Where the parts and the operands of a live operation stand.
     fn index_of(&self, id: OpId) -> usize
-        requires { Contains self.now.order.items id.index }
+        requires { Contains (live_ids self.now.order) id.index }
         ensures value { result ≡ id.index }
-        ensures within { result < length self.now.order.items }
+        ensures within { result < length self.now.order.ids.items }
     {
         id.index as usize
     }
@@ -234,17 +291,17 @@ fn place_of_id(order: &[u32], id: OpId) -> usize
     order.len()
 }
 
-/// Puts `id` in before `place`, where there is room for it.
-fn insert_reserved(order: &mut Vec<u32>, place: usize, id: u32)
-    requires place { place ≤ length order.old.items }
-    requires room { vec_len order.old < vec_capacity order.old }
-    ensures items { order.new.items ≡ insert order.old.items place id }
-    ensures len { vec_len order.new ≡ vec_len order.old + 1 }
-    ensures capacity { vec_capacity order.old ≤ vec_capacity order.new }
+/// Puts `one` in the place of the parts `i`, or behind the others, where there is room for it.
+fn put_parts(parts: &mut Vec<Parts>, i: usize, one: Parts)
+    requires place { i ≤ length parts.old.items }
+    requires room { length parts.old.items ≤ i → vec_len parts.old < vec_capacity parts.old }
+    ensures items { parts.new.items ≡ put_at i one parts.old.items }
+    ensures capacity { vec_capacity parts.new ≡ vec_capacity parts.old }
 {
-    match order.insert(place, id) {
-        Ok(()) => {}
-        Err(_) => unreachable!(),
+    if i == parts.len() {
+        parts.push_reserved(one);
+    } else {
+        parts[i] = one;
     }
 }
 

@@ -10,5 +10,7 @@ pub mod design;
 pub mod dictionary;
 mod operands;
 pub mod operation;
+mod order;
 #[cfg(test)]
 mod tests;
+pub mod uses;

@@ -182,6 +182,20 @@ impl NewResultList {
 }
 
 impl Parts {
+    /// The parts of no operation. They take no memory.
+    pub(crate) fn empty(alloc: Global) -> Parts {
+        Parts {
+            kind: OpKind::Output,
+            types: TyList::new(alloc),
+            results: NewResultList::new(alloc),
+            named: 0,
+            name: Text::new(alloc),
+            dictionary: Dictionary::new(alloc),
+            bin: false,
+            place: Place::start(),
+        }
+    }
+
     /// Equal parts with memory of their own.
     pub(crate) fn try_clone(&self, alloc: Global) -> Result<Parts, AllocError>
         ensures { IfOk result (λ copy. parts_of copy ≡ parts_of self.now) }

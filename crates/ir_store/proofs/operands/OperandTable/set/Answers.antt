@@ -11,13 +11,13 @@ place_in-place-requires-clause-list c =
 pub place_in-place-requires-clause-place : goal.place_in-place-requires-clause-place
 place_in-place-requires-clause-place c =
     rw c.as_slice.ensures.value
-    (in_list c.self.inside.ends.items c.self.inside.values.items c.args.self.now.lists c.args.i c.args.at c.self.invariant (ap (λ (t : OperandLists). t.lists) c.self.view_is) c.requires.list c.requires.place)
+    (in_list c.self.inside.ends.items c.self.inside.values.items c.args.self.now.lists c.args.i c.args.at c.self.invariant.0 (ap (λ (t : OperandLists). t.lists) c.self.view_is) c.requires.list c.requires.place)
 
 pub returns-clause-lists : goal.returns-clause-lists
 returns-clause-lists c =
     let here = ap (λ (t : OperandLists). t.lists) c.self.view_is in
     let i_in : c.args.i < length c.self.inside.ends.items = in_table c.self.inside.ends.items c.self.inside.values.items c.args.self.now.lists c.args.i here c.requires.list in
     let at_in : c.args.at < get_or c.self.inside.ends.items c.args.i 0 - start_of 0 c.self.inside.ends.items c.args.i =
-    in_list c.self.inside.ends.items c.self.inside.values.items c.args.self.now.lists c.args.i c.args.at c.self.invariant here c.requires.list c.requires.place in
+    in_list c.self.inside.ends.items c.self.inside.values.items c.args.self.now.lists c.args.i c.args.at c.self.invariant.0 here c.requires.list c.requires.place in
     rw (c.place_in-place.ensures.value, c.as_slice.ensures.value, ← c.self.view_is)
-    (list_set c.self.inside.ends.items c.self.inside.values.items c.args.i c.args.at c.args.value c.self.invariant i_in at_in)
+    (list_set c.self.inside.ends.items c.self.inside.values.items c.args.i c.args.at c.args.value c.self.invariant.0 i_in at_in)
