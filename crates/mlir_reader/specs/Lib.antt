@@ -14,3 +14,4 @@ pub mod Resolving
 pub mod Reading
 pub mod Views
 pub mod Heads
+pub mod Spelling
