@@ -1,2 +1,11 @@
 -- Lemmas of this crate's proofs.
 mod Digits
+mod Sound
+mod SoundAttributes
+mod SoundLiterals
+mod SoundModules
+mod SoundOperands
+mod SoundOperations
+mod SoundPieces
+mod SoundTokens
+mod SoundTypes

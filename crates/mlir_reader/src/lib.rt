@@ -3,6 +3,7 @@
 
 pub mod fail;
 pub mod head;
+pub mod laws;
 pub mod numerals;
 pub mod pieces;
 pub mod reader;
