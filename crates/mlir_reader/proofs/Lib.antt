@@ -1,5 +1,8 @@
 -- Lemmas of this crate's proofs.
 mod Digits
+mod Local
+mod LocalModules
+mod LocalParts
 mod Sound
 mod SoundAttributes
 mod SoundLiterals

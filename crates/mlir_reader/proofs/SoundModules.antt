@@ -137,7 +137,7 @@ module_ok (token t ∷ ts) left x h =
 module_ok (bad p ∷ ts) left x h = absurd cc
 module_ok (end p ∷ ts) left x h = absurd cc
 
-sound_module : Sound module_text (ModulePhrase IsPlaceOf)
+pub sound_module : Sound module_text (ModulePhrase IsPlaceOf)
 sound_module = record { said = module_ok }
 
 sound_modules : (ends : List Symbol → Bool) (n : ℕ) → Sound (modules_text ends n) (ModulesPhrase IsPlaceOf)

@@ -130,7 +130,7 @@ behind_ok results (token t ∷ ts) left x h =
 behind_ok results (bad p ∷ ts) left x h = absurd cc
 behind_ok results (end p ∷ ts) left x h = absurd cc
 
-sound_operation : Sound operation_text (OperationPhrase IsPlaceOf)
+pub sound_operation : Sound operation_text (OperationPhrase IsPlaceOf)
 unfolding operation_text
 sound_operation = sound_on (sound_maybe_results (op.Listed listed.HwModule)) (λ r. record { said = behind_ok r })
 

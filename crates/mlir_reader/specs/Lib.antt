@@ -15,3 +15,4 @@ pub mod Reading
 pub mod Views
 pub mod Heads
 pub mod Spelling
+pub mod Locality
