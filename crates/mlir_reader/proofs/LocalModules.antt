@@ -250,8 +250,9 @@ longer (t ∷ a) s left some e = let h = front_short a left in let l = ap length
 takes_operation : (s left : List Symbol) (x : OperationText) → operation_text s ≡ Ok (x, left) → length left < length s
 takes_operation s left x h =
     let (a, e, p) = sound_operation.said s left x h in
-    let q = p.4 in
-    longer a s left (λ none. none_of p.0 q.1 q.3.0 (none ∙ p.2 ∙ ap (λ y. p.0 ++ y) (q.2 ∙ ap (λ y. y ++ q.1) q.3.1))) e
+    let r = p.1 in
+    let q = r.4 in
+    longer a s left (λ none. none_of r.0 q.1 q.3.0 (none ∙ r.2 ∙ ap (λ y. r.0 ++ y) (q.2 ∙ ap (λ y. y ++ q.1) q.3.1))) e
 
 takes_module : (s left : List Symbol) (x : ModuleText) → module_text s ≡ Ok (x, left) → length left < length s
 takes_module s left x h =

@@ -20,7 +20,7 @@ use Rattle.mlir_reader.specs.OperandText.{ResultNames}
 use Rattle.mlir_reader.specs.Shapes.{shape_of, front_pieces, type_pieces}
 use Rattle.mlir_reader.specs.PieceText.{gathered_nothing}
 use Rattle.mlir_reader.specs.OperationText.{operations, file_names, left_out, is_foreign, NameClass, operation, module_name, file_name, locations, outside, unknown, class_of_listed, class_of_other, class_by, class_of, takes_bin, bin_text, string_keys, OperationText, given_entries, late_dictionary, Tail, form_text, named_operation, classed_operation, operation_behind, operation_text, is_last, operations_text}
-use Rattle.mlir_reader.specs.Spelling.{Phrase, MaybeDictionary, IsOneOf, FormPhrase, BinPhrase, MayHaveShape, OperationPhrase, OperationsPhrase, ResultsPhrase, IsPlaceOf}
+use Rattle.mlir_reader.specs.Spelling.{Phrase, MaybeDictionary, IsOneOf, FormPhrase, BinPhrase, MayHaveShape, OperationPhrase, OperationsPhrase, ResultsPhrase, StandsInBody, IsPlaceOf}
 use Rattle.mlir_reader.specs.declared.pieces.Shape.{Shape}
 use Rattle.mlir_reader.proofs.Sound.{Said, Sound, Behind, one_more, sound_on, sound_last, sound_give, sound_refused, sound_if, sound_past}
 use Rattle.mlir_reader.proofs.SoundTokens.{pair, kind_is, said_word}
@@ -32,7 +32,7 @@ use Rattle.mlir_reader.proofs.SoundPieces.{sound_pieces}
 
 -- what a class says of a name
 abbrev pub ClassSays : Name → NameClass → Type 0
-ClassSays name (operation o) = name_of_listed o ≡ name
+ClassSays name (operation o) = (name_of_listed o ≡ name) × StandsInBody o
 ClassSays name module_name = name_of_listed listed.HwModule ≡ name
 ClassSays name file_name = Unit {0}
 ClassSays name locations = Unit {0}
@@ -41,7 +41,7 @@ ClassSays name unknown = Unit {0}
 
 listed_says : (name : Name) (o : Listed) → name_of_listed o ≡ name → ClassSays name (class_of_listed o)
 listed_says name listed.HwModule h = h
-listed_says name _ h = h
+listed_says name _ h = (h, tt)
 
 other_says : (name : Name) → ClassSays name (class_of_other name)
 unfolding class_of_other
@@ -95,7 +95,7 @@ sound_shaped o = record {
 -- what is behind a name, where the name and the names of results stand in front
 abbrev BehindName : ResultNames → Listed → Place → OperationText → Phrase
 BehindName results o place y ts =
-    (t : Lexeme) → t.kind ≡ kind.BareName → t.text ≡ name_of_listed o → t.place ≡ place → (a : List Lexeme) → ResultsPhrase results a
+    (t : Lexeme) → StandsInBody o → t.kind ≡ kind.BareName → t.text ≡ name_of_listed o → t.place ≡ place → (a : List Lexeme) → ResultsPhrase results a
     → OperationPhrase IsPlaceOf y (a ++ (t ∷ ts))
 
 sound_named : (results : ResultNames) (o : Listed) (place : Place) → Sound (named_operation results o place) (BehindName results o place)
@@ -103,7 +103,8 @@ unfolding named_operation
 sound_named results o place =
     sound_on (sound_bin o) (λ bin. sound_last
     (λ t. record { results = results; name = o; bin = bin; gathered = t.gathered; dictionary = t.dictionary; place = place }) (sound_shaped o)
-    (λ x c pc b pb t k w i a pa. pair a (t ∷ (b ++ c)) pa (pair (t ∷ []) (b ++ c) (t, refl, (k, w, i)) (pair b c pb pc))))
+    (λ x c pc b pb t stands k w i a pa.
+    (stands, pair a (t ∷ (b ++ c)) pa (pair (t ∷ []) (b ++ c) (t, refl, (k, w, i)) (pair b c pb pc)))))
 
 -- ---- operations
 
@@ -112,7 +113,7 @@ classed_ok : (results : ResultNames) (t : Lexeme) (ts left : List Symbol) (x : O
 unfolding classed_operation
 classed_ok results t ts left x (operation o) k says h =
     one_more t ts left (Behind (ResultsPhrase results) (OperationPhrase IsPlaceOf x))
-    (let (a, ea, p) = (sound_named results o t.place).said ts left x h in (a, ea, λ f pf. p t k (sym says) refl f pf))
+    (let (a, ea, p) = (sound_named results o t.place).said ts left x h in (a, ea, λ f pf. p t says.1 k (sym says.0) refl f pf))
 classed_ok results t ts left x module_name k says h = absurd cc
 classed_ok results t ts left x file_name k says h = absurd cc
 classed_ok results t ts left x locations k says h = absurd cc

@@ -332,12 +332,17 @@ TailPhrase o ts = (shape : Shape) × MayHaveShape o.name shape × FormPhrase (st
 abbrev pub Stands : Type 1
 Stands = Lexeme → Place → Type 0
 
+-- an operation that may stand in a body: each but the module itself
+abbrev pub StandsInBody : Listed → Type 0
+StandsInBody listed.HwModule = ⊥
+StandsInBody _ = Unit {0}
+
 -- an operation, at the place of its name
 abbrev pub OperationPhrase : Stands → OperationText → Phrase
 OperationPhrase At o =
-    Then (ResultsPhrase o.results)
+    Where (StandsInBody o.name) (Then (ResultsPhrase o.results)
     (Then (One (λ (t : Lexeme). (t.kind ≡ kind.BareName) × (t.text ≡ name_of_listed o.name) × At t o.place))
-    (Then (BinPhrase o.name o.bin) (TailPhrase o)))
+    (Then (BinPhrase o.name o.bin) (TailPhrase o))))
 
 -- operations one after another; an output is the last
 abbrev pub OperationsPhrase : Stands → List OperationText → Phrase
