@@ -1,5 +1,6 @@
 -- Lemmas of this crate's proofs.
 mod Digits
+mod Examples
 mod Local
 mod LocalModules
 mod LocalParts
