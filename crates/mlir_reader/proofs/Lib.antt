@@ -22,3 +22,16 @@ mod Tables
 pub mod Joining
 pub mod Bodies
 pub mod Files
+mod Examples
+mod Local
+mod LocalModules
+mod LocalParts
+mod Sound
+mod SoundAttributes
+mod SoundLiterals
+mod SoundModules
+mod SoundOperands
+mod SoundOperations
+mod SoundPieces
+mod SoundTokens
+mod SoundTypes

@@ -22,3 +22,5 @@ pub mod NameClasses
 pub mod PieceHeads
 pub mod ModuleViews
 pub mod EndViews
+pub mod Spelling
+pub mod Locality

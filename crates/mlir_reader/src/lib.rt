@@ -12,6 +12,7 @@ pub mod literal_text;
 pub mod module_text;
 pub mod names;
 pub mod operation_names;
+pub mod laws;
 pub mod numerals;
 pub mod operand_text;
 pub mod own_names;

@@ -1,0 +1,430 @@
+-- The readers of pieces, operations, modules and files look no further than one symbol, so a refusal is of its symbol.
+use Rattle.std.proofs.Common.{◌≡◌, ℕ, zero, suc, ◌≤◌, ◌<◌, Bool, true, false, ◌&&◌, cond, nat_lt, List, [], ◌∷◌, ◌++◌, length, map, Option, Some, None, Result, Ok, Err, refl, sym, ◌∙◌, ap, subst, arith}
+use Rattle.std.specs.Prelude.{codes}
+use Rattle.std.proofs.lemmas.Bool.{ltb-true, cond-false}
+use Rattle.wiring.specs.Options.{bind}
+use Rattle.diag.specs.declared.refusal.Place.{Place}
+use Rattle.diag.specs.declared.refusal.Refusal.{Refusal}
+use Rattle.diag.specs.declared.refusal.OpName.{OpName}
+use Rattle.diag.specs.declared.refusal.OpName.TheVariants as op
+use Rattle.diag.specs.declared.cause.Cause.{Cause}
+use Rattle.diag.specs.declared.cause.Cause.TheVariants.{OutsideProfile, Unexpected, UnknownOperation}
+use Rattle.diag.specs.declared.listed.Listed.{Listed}
+use Rattle.diag.specs.declared.listed.Listed.TheVariants as listed
+use Rattle.hw_model.specs.Types.{Name}
+use Rattle.hw_model.specs.Types.HwType.{int}
+use Rattle.hw_model.specs.Design.{Entry}
+use Rattle.mlir_lexer.specs.Contents.{content_of}
+use Rattle.mlir_lexer.specs.Tokens.{Lexeme, tokens}
+use Rattle.mlir_lexer.specs.declared.token.TokenKind.TheVariants as kind
+use Rattle.mlir_reader.specs.Stream.{Symbol, token, bad, end, stream, stream_of, first, is_first, is_next, is_kind, is_word, refusal, cause_of_first}
+use Rattle.mlir_reader.specs.Reads.{Read, Reads}
+use Rattle.mlir_reader.specs.Numerals.{count_limit}
+use Rattle.mlir_reader.specs.TypeText.{most_open}
+use Rattle.mlir_reader.specs.AttributeText.{is_symbol}
+use Rattle.mlir_reader.specs.OperandText.{ResultNames}
+use Rattle.mlir_reader.specs.Shapes.{text_of_keyword, shape_of, front_pieces, type_pieces}
+use Rattle.mlir_reader.specs.PieceText.{Gathered, gathered_nothing, with_operands, with_types, with_extra, predicate_named, bare_text, as_known, predicate_text, truth_named, truth_text, truth_number, string_text, group_text, further_types, types_text, reset_operands, reset_text, want_sync, sync_reset_text, input_text, output_text, inner_symbol, module_symbol, inputs_text, outputs_text, instance_with, with_instance, instance_text, piece_text, pieces_text}
+use Rattle.mlir_reader.specs.PieceText.Extra.{with_reset, predicate, position, number, literals, field_name}
+use Rattle.mlir_reader.specs.OperationText.{NameClass, operation, module_name, file_name, locations, outside, unknown, class_of, misplaced, is_outside, no_operation, takes_bin, bin_text, string_keys, OperationText, given_entries, late_dictionary, form_text, named_operation, classed_operation, operation_behind, operation_text, is_last, operations_text}
+use Rattle.mlir_reader.specs.ModuleText.{header, port_name, port_type, input_port, output_port, port_text, ports_text, ModuleText, module_keys, attributes_text, private_text, body_text, module_behind, classed_module, module_text, is_end, modules_text, file_symbol, want_end, wrapped_text, is_file_name, file_text}
+use Rattle.mlir_reader.specs.Reading.{text_limit, design_read, read}
+use Rattle.mlir_reader.specs.Locality.{symbol_place, IsOfItsSymbol}
+use Rattle.mlir_reader.specs.declared.pieces.Piece.{Piece}
+use Rattle.mlir_reader.specs.declared.pieces.Piece.TheVariants as piece
+use Rattle.mlir_reader.specs.declared.pieces.Shape.{Shape}
+use Rattle.mlir_reader.proofs.SoundOperations.{sound_operation}
+use Rattle.mlir_reader.proofs.SoundModules.{sound_module}
+use Rattle.mlir_reader.proofs.Local.{Whole, Same, place_first, whole_behind, same_of, same_is_first, Given, Near, Loc, Local, loc_same, loc_on, loc_on_less, loc_if, loc_next, loc_cond, loc_first, loc_after, loc_give, loc_err, loc_refused, loc_unexpected, loc_zero, loc_step, local_all}
+use Rattle.mlir_reader.proofs.LocalParts.{local_want, local_word, local_name, local_symbol, local_number, local_integer, local_some, local_until, local_type, local_field, local_dictionary, local_maybe, local_aggregate, local_value_name, local_operand, local_maybe_results}
+
+-- ---- pieces
+
+local_as_known : {A : Type 0} (op : OpName) (o : Option A) → Local (λ s. as_known op s o)
+local_as_known op None c n = loc_unexpected op
+local_as_known op (Some x) c n = loc_after (loc_give {y = x})
+
+local_known : {A : Type 0} (op : OpName) (f : List ℕ → Option A) → Local (λ s. as_known op s (bind (bare_text (first s)) f))
+local_known op f c n = loc_first (λ o _ s. as_known op s (bind (bare_text o) f)) (λ o. local_as_known op (bind (bare_text o) f) c n)
+
+local_string : (op : OpName) → Local (string_text op)
+unfolding string_text
+local_string op c n = loc_on (local_want op kind.StringLiteral c n) (λ t. loc_give {y = content_of kind.StringLiteral t.text})
+
+local_group : (op : OpName) → Local (group_text op)
+unfolding group_text
+local_group op c n = loc_on (local_want op kind.LeftParenthesis c n) (λ _. local_until op kind.RightParenthesis (local_operand op) c n)
+
+local_further : (op : OpName) (m : ℕ) → Local (further_types op m)
+unfolding further_types
+local_further op zero c n = loc_give {y = []}
+local_further op (suc m) c n =
+    loc_on (local_want op kind.Comma c n) (λ _. loc_on (local_type most_open op c n) (λ t. loc_on (local_further op m c n) (λ ts. loc_give {y = t ∷ ts})))
+
+local_types : (op : OpName) (m : ℕ) → Local (types_text op m)
+unfolding types_text
+local_types op zero c n = loc_give {y = []}
+local_types op (suc m) c n = loc_on (local_type most_open op c n) (λ t. loc_on (local_further op m c n) (λ ts. loc_give {y = t ∷ ts}))
+
+local_reset_operands : (op : OpName) (g : Gathered) → Local (reset_operands op g)
+unfolding reset_operands
+local_reset_operands op g c n =
+    loc_on (local_operand op c n) (λ r. loc_on (local_want op kind.Comma c n) (λ _. loc_on (local_operand op c n) (λ v.
+    loc_give {y = with_extra (with_operands g (r ∷ v ∷ [])) with_reset})))
+
+local_reset : (op : OpName) (g : Gathered) → Local (reset_text op g)
+unfolding reset_text
+local_reset op g c n = loc_next (is_word (codes "reset")) (loc_after (local_reset_operands op g c n)) (loc_give {y = g})
+
+local_sync : (op : OpName) → Local (want_sync op)
+unfolding want_sync
+local_sync op c n = loc_next (is_word (codes "async")) (loc_refused OutsideProfile op) (local_word op (codes "sync") c n)
+
+local_sync_reset : (op : OpName) (g : Gathered) → Local (sync_reset_text op g)
+unfolding sync_reset_text
+local_sync_reset op g c n =
+    loc_next (is_word (codes "reset")) (loc_on (loc_after (local_sync op c n)) (λ _. local_reset_operands op g c n)) (loc_give {y = g})
+
+local_input : (op : OpName) → Local (input_text op)
+unfolding input_text
+local_input op c n =
+    loc_on (local_name op c n) (λ port. loc_on (local_want op kind.Colon c n) (λ _. loc_on (local_operand op c n) (λ o. loc_on (local_want op kind.Colon c n) (λ _.
+    loc_on (local_type most_open op c n) (λ t. loc_give {y = record { port = port; operand = o; type = t }})))))
+
+local_output : (op : OpName) → Local (output_text op)
+unfolding output_text
+local_output op = local_field op (local_type most_open op)
+
+local_inner : (op : OpName) → Local (inner_symbol op)
+unfolding inner_symbol
+local_inner op c n =
+    loc_next (is_word (codes "sym")) (loc_on (loc_after (local_symbol op c n)) (λ name. loc_give {y = Some name})) (loc_give {y = None})
+
+local_module_symbol : (op : OpName) → Local (module_symbol op)
+unfolding module_symbol
+local_module_symbol op c n =
+    loc_on (local_symbol op c n) (λ name. loc_next (λ t. is_kind t.kind kind.Less) (loc_refused OutsideProfile op) (loc_give {y = name}))
+
+local_inputs : (op : OpName) → Local (inputs_text op)
+unfolding inputs_text
+local_inputs op c n = loc_on (local_want op kind.LeftParenthesis c n) (λ _. local_until op kind.RightParenthesis (local_input op) c n)
+
+local_outputs : (op : OpName) → Local (outputs_text op)
+unfolding outputs_text
+local_outputs op c n =
+    loc_on (local_want op kind.Arrow c n) (λ _. loc_on (local_want op kind.LeftParenthesis c n) (λ _. local_until op kind.RightParenthesis (local_output op) c n))
+
+local_instance : (op : OpName) (g : Gathered) → Local (instance_text op g)
+unfolding instance_text
+local_instance op g c n =
+    loc_on (local_string op c n) (λ name. loc_on (local_inner op c n) (λ inner. loc_on (local_module_symbol op c n) (λ symbol. loc_on (local_inputs op c n) (λ ins.
+    loc_on (local_outputs op c n) (λ outs. loc_give {y = with_instance g (instance_with name inner symbol ins outs) ins outs})))))
+
+local_piece : (op : OpName) (p : Piece) (g : Gathered) → Local (piece_text op p g)
+unfolding piece_text predicate_text truth_text
+local_piece op (piece.Mark k) g c n = loc_on (local_want op k c n) (λ _. loc_give {y = g})
+local_piece op (piece.Word w) g c n = loc_on (local_word op (text_of_keyword w) c n) (λ _. loc_give {y = g})
+local_piece op piece.Operand g c n = loc_on (local_operand op c n) (λ o. loc_give {y = with_operands g (o ∷ [])})
+local_piece op piece.Operands g c n = loc_on (local_some op (local_operand op) c n) (λ os. loc_give {y = with_operands g os})
+local_piece op piece.Group g c n = loc_on (local_group op c n) (λ os. loc_give {y = with_operands g os})
+local_piece op piece.Predicate g c n = loc_on (local_known op predicate_named c n) (λ p. loc_give {y = with_extra g (predicate p)})
+local_piece op piece.Number g c n = loc_on (local_number count_limit op c n) (λ x. loc_give {y = with_extra g (position x)})
+local_piece op piece.Truth g c n =
+    loc_on (local_known op truth_named c n) (λ b. loc_give {y = with_extra (with_types g (int 1 ∷ [])) (number (truth_number b))})
+local_piece op piece.Integer g c n = loc_on (local_integer op c n) (λ z. loc_give {y = with_extra g (number z)})
+local_piece op piece.Literals g c n = loc_on (local_aggregate op c n) (λ ls. loc_give {y = with_extra g (literals ls)})
+local_piece op piece.Field g c n = loc_on (local_string op c n) (λ name. loc_give {y = with_extra g (field_name name)})
+local_piece op piece.Instance g c n = local_instance op g c n
+local_piece op piece.Reset g c n = local_reset op g c n
+local_piece op piece.SyncReset g c n = local_sync_reset op g c n
+local_piece op piece.Type g c n = loc_on (local_type most_open op c n) (λ t. loc_give {y = with_types g (t ∷ [])})
+local_piece op piece.Types g c n = loc_on (local_types op (length g.operands) c n) (λ ts. loc_give {y = with_types g ts})
+
+local_pieces : (op : OpName) (ps : List Piece) (g : Gathered) → Local (pieces_text op ps g)
+local_pieces op [] g c n = loc_give {y = g}
+local_pieces op (p ∷ ps) g c n = loc_on (local_piece op p g c n) (λ h. local_pieces op ps h c n)
+
+-- ---- operations
+
+local_bin : (o : Listed) → Local (bin_text o)
+unfolding bin_text
+local_bin o c n =
+    loc_if (λ s. takes_bin o && is_first (is_word (codes "bin")) s) (λ x y h. ap (λ b. takes_bin o && b) (same_is_first (is_word (codes "bin")) x y h))
+    (loc_after (loc_give {y = true})) (loc_give {y = false})
+
+local_late : (op : OpName) (keys : List Name) (early : Option (List Entry)) → Local (late_dictionary op keys early)
+unfolding late_dictionary
+local_late op keys (Some es) c n = loc_give {y = es}
+local_late op keys None c n = loc_on (local_maybe op keys c n) (λ es. loc_give {y = given_entries es})
+
+local_form : (op : OpName) (keys : List Name) (shape : Shape) → Local (form_text op keys shape)
+unfolding form_text
+local_form op keys shape c n =
+    loc_on (local_pieces op (front_pieces shape) gathered_nothing c n) (λ g. loc_on (local_maybe op keys c n) (λ es.
+    loc_on (local_pieces op (type_pieces shape) g c n) (λ h. loc_on (local_late op keys es c n) (λ all. loc_give {y = record { gathered = h; dictionary = all }}))))
+
+local_named : (results : ResultNames) (o : Listed) (place : Place) → Local (named_operation results o place)
+unfolding named_operation
+local_named results o place c n =
+    loc_on (local_bin o c n) (λ bin.
+    loc_on (loc_first (λ next _ s. form_text (op.Listed o) (string_keys o) (shape_of o next) s) (λ next. local_form (op.Listed o) (string_keys o) (shape_of o next) c n))
+    (λ t. loc_give {y = record { results = results; name = o; bin = bin; gathered = t.gathered; dictionary = t.dictionary; place = place }}))
+
+alike_no_operation : (around : OpName) (y : Symbol) (a b : List Symbol) → no_operation around (y ∷ a) ≡ no_operation around (y ∷ b)
+unfolding no_operation
+alike_no_operation around (token t) a b = refl
+alike_no_operation around (bad p) a b = refl
+alike_no_operation around (end p) a b = refl
+
+place_of_either : (b : Bool) (p : Place) (o : OpName) (x y : Cause) → p ≡ Refusal.place (cond b (refusal p o x) (refusal p o y))
+place_of_either true p o x y = refl
+place_of_either false p o x y = refl
+
+place_no_operation : (around : OpName) (u : List Symbol) → Whole u → place_first u ≡ (no_operation around u).place
+unfolding no_operation
+place_no_operation around [] w = refl
+place_no_operation around (token t ∷ u) w = place_of_either (is_outside t) t.place around OutsideProfile (cause_of_first t)
+place_no_operation around (bad p ∷ u) w = refl
+place_no_operation around (end p ∷ u) w = refl
+
+loc_no_operation : {A : Type 0} {c n : ℕ} (around : OpName) → Loc {A = A} c n (λ _ s. Err (no_operation around s))
+loc_no_operation around = loc_err (no_operation around) (same_of (no_operation around) (alike_no_operation around)) (place_no_operation around)
+
+loc_misplaced : {A : Type 0} {c n : ℕ} (around : OpName) (t : Lexeme) (class : NameClass) → Loc {A = A} c n (λ _ s. Err (misplaced around s t class))
+unfolding misplaced
+loc_misplaced around t (operation o) = loc_refused Unexpected (op.Listed o)
+loc_misplaced around t module_name = loc_refused Unexpected (op.Listed listed.HwModule)
+loc_misplaced around t file_name = loc_refused Unexpected op.File
+loc_misplaced around t locations = loc_refused OutsideProfile around
+loc_misplaced around t outside = loc_refused OutsideProfile (op.Other t.at (length t.text))
+loc_misplaced around t unknown = loc_refused UnknownOperation (op.Other t.at (length t.text))
+
+local_classed : (results : ResultNames) (t : Lexeme) (class : NameClass) → Local (λ s. classed_operation results s t class)
+unfolding classed_operation
+local_classed results t (operation o) c n = loc_after (local_named results o t.place c n)
+local_classed results t module_name c n = loc_misplaced (op.Listed listed.HwModule) t module_name
+local_classed results t file_name c n = loc_misplaced (op.Listed listed.HwModule) t file_name
+local_classed results t locations c n = loc_misplaced (op.Listed listed.HwModule) t locations
+local_classed results t outside c n = loc_misplaced (op.Listed listed.HwModule) t outside
+local_classed results t unknown c n = loc_misplaced (op.Listed listed.HwModule) t unknown
+
+-- what stands behind the names of results, by its first token
+abbrev OperationAt : ResultNames → Option Lexeme → ℕ → Reads OperationText
+OperationAt results None k s = Err (no_operation (op.Listed listed.HwModule) s)
+OperationAt results (Some t) k s =
+    cond (is_kind t.kind kind.BareName) (classed_operation results s t (class_of t.text)) (Err (no_operation (op.Listed listed.HwModule) s))
+
+operation_same : (results : ResultNames) (k : ℕ) (s : List Symbol) → operation_behind results s ≡ OperationAt results (first s) k s
+unfolding operation_behind
+operation_same results k [] = refl
+operation_same results k (token t ∷ ts) = refl
+operation_same results k (bad p ∷ ts) = refl
+operation_same results k (end p ∷ ts) = refl
+
+loc_operation_at : {c n : ℕ} (results : ResultNames) (o : Option Lexeme) → Loc c n (OperationAt results o)
+loc_operation_at results None = loc_no_operation (op.Listed listed.HwModule)
+loc_operation_at {c} {n} results (Some t) =
+    loc_cond (is_kind t.kind kind.BareName) (local_classed results t (class_of t.text) c n) (loc_no_operation (op.Listed listed.HwModule))
+
+local_behind : (results : ResultNames) → Local (operation_behind results)
+local_behind results c n = loc_same (operation_same results) (loc_first (OperationAt results) (loc_operation_at results))
+
+local_operation : Local operation_text
+unfolding operation_text
+local_operation c n = loc_on (local_maybe_results (op.Listed listed.HwModule) c n) (λ r. local_behind r c n)
+
+-- ---- what is read of an operation or a module is some token at least
+
+none_of : (b f : List Lexeme) (t : Lexeme) → [] ≡ b ++ (t ∷ f) → ⊥
+none_of [] f t h = absurd cc
+none_of (x ∷ b) f t h = absurd cc
+
+longer : (a : List Lexeme) (s left : List Symbol) → ([] ≡ a → ⊥) → s ≡ map token a ++ left → length left < length s
+longer [] s left some e = absurd (some refl)
+longer (t ∷ a) s left some e = let h = front_short a left in let l = ap length e in omega (arith, h, l)
+  where
+    front_short : (a : List Lexeme) (w : List Symbol) → length w ≤ length (map token a ++ w)
+    front_short [] w = omega arith
+    front_short (t ∷ a) w = let h = front_short a w in omega (arith, h)
+
+takes_operation : (s left : List Symbol) (x : OperationText) → operation_text s ≡ Ok (x, left) → length left < length s
+takes_operation s left x h =
+    let (a, e, p) = sound_operation.said s left x h in
+    let r = p.1 in
+    let q = r.4 in
+    longer a s left (λ none. none_of r.0 q.1 q.3.0 (none ∙ r.2 ∙ ap (λ y. r.0 ++ y) (q.2 ∙ ap (λ y. y ++ q.1) q.3.1))) e
+
+takes_module : (s left : List Symbol) (x : ModuleText) → module_text s ≡ Ok (x, left) → length left < length s
+takes_module s left x h =
+    let (a, e, p) = sound_module.said s left x h in
+    longer a s left (λ none. none_of [] p.1 p.3.0 (none ∙ p.2 ∙ ap (λ y. y ++ p.1) p.3.1)) e
+
+-- ---- bodies
+
+loc_operations : (n : ℕ) → Loc 0 n operations_text
+unfolding operations_text
+loc_operations zero = loc_zero
+loc_operations (suc n) =
+    loc_step (λ k s. refl) (loc_next (λ t. is_kind t.kind kind.RightBrace) (loc_give {y = []})
+    (loc_on_less takes_operation (local_operation 1 n) (λ o. loc_cond (is_last o.name)
+    (loc_next (λ t. is_kind t.kind kind.RightBrace) (loc_give {y = o ∷ []}) (loc_unexpected (op.Listed listed.HwModule)))
+    (loc_on (loc_operations n) (λ os. loc_give {y = o ∷ os})))))
+
+-- ---- ports
+
+local_port_name : (v : Name) → Local (port_name v)
+unfolding port_name
+local_port_name v c n =
+    loc_next (λ t. is_kind t.kind kind.StringLiteral)
+    (loc_on (local_want header kind.StringLiteral c n) (λ t. loc_give {y = content_of kind.StringLiteral t.text})) (loc_give {y = v})
+
+local_port_type : Local port_type
+unfolding port_type
+local_port_type c n = loc_on (local_want header kind.Colon c n) (λ _. local_type most_open header c n)
+
+local_port : Local port_text
+unfolding port_text input_port output_port
+local_port c n =
+    loc_next (is_word (codes "in"))
+    (loc_after (loc_on (local_value_name header c n) (λ v. loc_on (local_port_name v c n) (λ x. loc_on (local_port_type c n) (λ t.
+    loc_give {y = record { value = Some v; name = x; type = t }})))))
+    (loc_next (is_word (codes "out"))
+    (loc_after (loc_on (local_name header c n) (λ x. loc_on (local_port_type c n) (λ t. loc_give {y = record { value = None; name = x; type = t }}))))
+    (loc_unexpected header))
+
+local_ports : Local ports_text
+unfolding ports_text
+local_ports c n =
+    loc_on (local_want header kind.LeftParenthesis c n) (λ _. loc_next (λ t. is_kind t.kind kind.ValueName) (loc_refused OutsideProfile header)
+    (local_until header kind.RightParenthesis local_port c n))
+
+-- ---- modules
+
+local_attributes : (op : OpName) → Local (attributes_text op)
+unfolding attributes_text
+local_attributes op c n = loc_next (is_word (codes "attributes")) (loc_after (local_dictionary op module_keys c n)) (loc_give {y = []})
+
+local_private : Local private_text
+unfolding private_text
+local_private c n = loc_next (is_word (codes "private")) (loc_after (loc_give {y = true})) (loc_give {y = false})
+
+local_body : Local body_text
+unfolding body_text
+local_body c n =
+    loc_on (local_attributes header c n) (λ es. loc_on (local_want header kind.LeftBrace c n) (λ _.
+    loc_on (local_all {R = operations_text} loc_operations c n) (λ os. loc_on (local_want header kind.RightBrace c n) (λ t.
+    loc_give {y = record { dictionary = es; operations = os; close = t.place }}))))
+
+local_module_behind : (place : Place) → Local (module_behind place)
+unfolding module_behind
+local_module_behind place c n =
+    loc_on (local_private c n) (λ p. loc_on (local_module_symbol header c n) (λ x. loc_on (local_ports c n) (λ ports. loc_on (local_body c n) (λ b.
+    loc_give {y = record { symbol = x; is_private = p; ports = ports; dictionary = b.dictionary; operations = b.operations; place = place; close = b.close }}))))
+
+local_classed_module : (t : Lexeme) (class : NameClass) → Local (λ s. classed_module s t class)
+unfolding classed_module
+local_classed_module t (operation o) c n = loc_misplaced op.File t (operation o)
+local_classed_module t module_name c n = loc_after (local_module_behind t.place c n)
+local_classed_module t file_name c n = loc_misplaced op.File t file_name
+local_classed_module t locations c n = loc_misplaced op.File t locations
+local_classed_module t outside c n = loc_misplaced op.File t outside
+local_classed_module t unknown c n = loc_misplaced op.File t unknown
+
+-- a module, by its first token
+abbrev ModuleAt : Option Lexeme → ℕ → Reads ModuleText
+ModuleAt None k s = Err (no_operation op.File s)
+ModuleAt (Some t) k s = cond (is_kind t.kind kind.BareName) (classed_module s t (class_of t.text)) (Err (no_operation op.File s))
+
+module_same : (k : ℕ) (s : List Symbol) → module_text s ≡ ModuleAt (first s) k s
+unfolding module_text
+module_same k [] = refl
+module_same k (token t ∷ ts) = refl
+module_same k (bad p ∷ ts) = refl
+module_same k (end p ∷ ts) = refl
+
+loc_module_at : {c n : ℕ} (o : Option Lexeme) → Loc c n (ModuleAt o)
+loc_module_at None = loc_no_operation op.File
+loc_module_at {c} {n} (Some t) = loc_cond (is_kind t.kind kind.BareName) (local_classed_module t (class_of t.text) c n) (loc_no_operation op.File)
+
+local_module : Local module_text
+local_module c n = loc_same module_same (loc_first ModuleAt loc_module_at)
+
+loc_modules : (ends : List Symbol → Bool) → ((x y : List Symbol) → Same x y → ends x ≡ ends y) → (n : ℕ) → Loc 0 n (modules_text ends)
+unfolding modules_text
+loc_modules ends agree zero = loc_zero
+loc_modules ends agree (suc n) =
+    loc_step (λ k s. refl) (loc_if ends agree (loc_give {y = []})
+    (loc_on_less takes_module (local_module 1 n) (λ m. loc_on (loc_modules ends agree n) (λ ms. loc_give {y = m ∷ ms}))))
+
+-- ---- files
+
+alike_end : (y : Symbol) (a b : List Symbol) → is_end (y ∷ a) ≡ is_end (y ∷ b)
+alike_end (token t) a b = refl
+alike_end (bad p) a b = refl
+alike_end (end p) a b = refl
+
+local_file_symbol : Local file_symbol
+unfolding file_symbol
+local_file_symbol c n = loc_next is_symbol (loc_on (local_symbol op.File c n) (λ _. loc_give {y = tt})) (loc_give {y = tt})
+
+local_wrapped : Local wrapped_text
+unfolding wrapped_text want_end
+local_wrapped c n =
+    loc_on (local_file_symbol c n) (λ _. loc_on (local_attributes op.File c n) (λ _. loc_on (local_want op.File kind.LeftBrace c n) (λ _.
+    loc_on (local_all {R = modules_text (is_next kind.RightBrace)} (loc_modules (is_next kind.RightBrace) (same_is_first (λ t. is_kind t.kind kind.RightBrace))) c n) (λ ms.
+    loc_on (local_want op.File kind.RightBrace c n) (λ _. loc_if is_end (same_of is_end alike_end) (loc_give {y = ms}) (loc_unexpected op.File))))))
+
+local_file : Local file_text
+unfolding file_text
+local_file c n =
+    loc_next is_file_name (loc_after (local_wrapped c n)) (local_all {R = modules_text is_end} (loc_modules is_end (same_of is_end alike_end)) c n)
+
+-- ---- texts
+
+whole_stream : (place : Place) (rs : List (Result Lexeme Refusal)) → Whole (stream place rs)
+whole_stream place [] = tt
+whole_stream place (Ok t ∷ rs) = whole_stream place rs
+whole_stream place (Err r ∷ rs) = tt
+
+fits : (source : List ℕ) → length source ≤ text_limit → nat_lt text_limit (length source) ≡ false
+fits source le = go (nat_lt text_limit (length source)) refl
+  where
+    go : (b : Bool) → nat_lt text_limit (length source) ≡ b → b ≡ false
+    go true e = let h = ltb-true text_limit (length source) e in absurd (omega (arith, h, le))
+    go false e = refl
+
+read_is : (source : List ℕ) → length source ≤ text_limit → read source ≡ design_read (file_text (stream_of source))
+read_is source le = cond-false (nat_lt text_limit (length source)) _ (design_read (file_text (stream_of source))) (fits source le)
+
+refused_at : (source : List ℕ) (r : Refusal) (front : List Lexeme) (u : List Symbol) → stream_of source ≡ map token front ++ u → place_first u ≡ r.place
+    → ((v : List Symbol) → Whole v → Same u v → Given 0 (λ _. file_text) (map token front ++ v) (Err r)) → IsOfItsSymbol source r
+refused_at source r front [] e place f = absurd (whole_behind front [] (subst Whole e (whole_stream _ (tokens source))))
+refused_at source r front (symbol ∷ rest) e place f = (
+  front,
+  symbol,
+  rest,
+  e,
+  first_place symbol rest ∙ place,
+  λ other behind le same.
+      read_is other le ∙ ap (λ s. design_read (file_text s)) same
+      ∙ ap design_read (f (symbol ∷ behind) (whole_behind front (symbol ∷ behind) (subst Whole same (whole_stream _ (tokens other)))) refl
+      (length (map token front ++ (symbol ∷ behind))) (omega arith)),
+)
+  where
+    first_place : (x : Symbol) (rest : List Symbol) → symbol_place x ≡ place_first (x ∷ rest)
+    first_place (token t) rest = refl
+    first_place (bad p) rest = refl
+    first_place (end p) rest = refl
+
+refusal_ok : (source : List ℕ) (r : Refusal) (m : Read (List ModuleText)) → Near (Given 0 (λ _. file_text)) (stream_of source) m → design_read m ≡ Err r
+    → IsOfItsSymbol source r
+refusal_ok source r (Ok p) near h = absurd cc
+refusal_ok source r (Err e) near h =
+    let same : e ≡ r = cc in
+    subst (IsOfItsSymbol source) same (refused_at source e near.0 near.1 near.2 near.3 near.4)
+
+-- a refusal is of its symbol, whatever follows it
+pub refusal_is_local : (source : List ℕ) (r : Refusal) → length source ≤ text_limit → read source ≡ Err r → IsOfItsSymbol source r
+refusal_is_local source r le h =
+    refusal_ok source r (file_text (stream_of source))
+    ((local_file 0 (length (stream_of source))).near (stream_of source) (whole_stream _ (tokens source)) (omega arith)) (sym (read_is source le) ∙ h)

@@ -1,0 +1,247 @@
+-- What is read of modules and of a file is said by their tokens.
+use Rattle.std.proofs.Common.{◌≡◌, ◌⊎◌, ℕ, zero, suc, Bool, true, false, cond, List, [], ◌∷◌, ◌++◌, length, map, Option, Some, None, Result, Ok, Err, refl, sym, ◌∙◌, ap, ap₂, subst, inl, inr}
+use Rattle.std.specs.Prelude.{codes}
+use Rattle.std.proofs.lemmas.Bool.{cond_both}
+use Rattle.std.proofs.lemmas.List.{append-nil}
+use Rattle.diag.specs.declared.refusal.Place.{Place}
+use Rattle.diag.specs.declared.refusal.Refusal.{Refusal}
+use Rattle.diag.specs.declared.refusal.OpName.{OpName}
+use Rattle.diag.specs.declared.refusal.OpName.TheVariants as op
+use Rattle.diag.specs.declared.listed.Listed.TheVariants as listed
+use Rattle.diag.specs.Listed.{name_of_listed}
+use Rattle.hw_model.specs.Types.{Name}
+use Rattle.hw_model.specs.Design.{Design}
+use Rattle.mlir_lexer.specs.Contents.{content_of}
+use Rattle.mlir_lexer.specs.Tokens.{Lexeme, tokens}
+use Rattle.mlir_lexer.specs.declared.token.TokenKind.TheVariants as kind
+use Rattle.mlir_reader.specs.Stream.{Symbol, token, bad, end, stream, stream_of, is_first, is_next, is_kind, is_word, after, unexpected}
+use Rattle.mlir_reader.specs.Reads.{Read, Reads, on, give, want}
+use Rattle.mlir_reader.specs.TypeText.{most_open}
+use Rattle.mlir_reader.specs.AttributeText.{dictionary_text, is_symbol}
+use Rattle.mlir_reader.specs.OperationText.{NameClass, operation, module_name, file_name, locations, outside, unknown, class_of}
+use Rattle.mlir_reader.specs.ModuleText.{header, PortText, port_name, port_type, input_port, output_port, port_text, ports_text, ModuleText, module_keys, attributes_text, private_text, BodyText, body_text, module_behind, classed_module, module_text, is_end, modules_text, file_symbol, want_end, wrapped_text, is_file_name, file_text}
+use Rattle.mlir_reader.specs.Reading.{text_limit, design_read, read}
+use Rattle.mlir_reader.specs.Spelling.{Phrase, One, Mark, Holding, Then, Either, Where, Nothing, Commas, Between, NamePhrase, SymbolPhrase, TypePhrase, ValueName, PortPhrase, AttributesPhrase, PrivatePhrase, OperationsPhrase, ModulePhrase, ModulesPhrase, FileWord, FilePhrase, token_of, IsPlaceOf, Spells}
+use Rattle.mlir_reader.proofs.Sound.{Said, Sound, Past, ok_of, same_ok, one_more, sound_on, sound_last, sound_as, sound_give, sound_refused, sound_if, sound_past}
+use Rattle.mlir_reader.proofs.SoundTokens.{pair, mark, kind_is, kept_ok, said_word, sound_want, sound_name, sound_symbol, sound_until}
+use Rattle.mlir_reader.proofs.SoundTypes.{sound_type}
+use Rattle.mlir_reader.proofs.SoundAttributes.{sound_dictionary}
+use Rattle.mlir_reader.proofs.SoundOperands.{sound_value_name}
+use Rattle.mlir_reader.proofs.SoundPieces.{sound_module_symbol}
+use Rattle.mlir_reader.proofs.SoundOperations.{ClassSays, class_says, all_operations}
+
+-- ---- ports
+
+-- `"name"`, or nothing, which means the name of the value
+abbrev PortName : Name → Name → Phrase
+PortName v n = Either (Holding kind.StringLiteral n) (Where (n ≡ v) Nothing)
+
+sound_port_name : (v : Name) → Sound (port_name v) (PortName v)
+unfolding port_name
+sound_port_name v =
+    sound_if (is_next kind.StringLiteral)
+    (sound_last (λ t. content_of kind.StringLiteral t.text) (sound_want header kind.StringLiteral) (λ t a p. inl (t, p.0, (p.1, refl))))
+    (sound_give {y = v} (inr (refl, refl)))
+
+sound_port_type : Sound port_type (λ t. Then (Mark kind.Colon) (TypePhrase most_open t))
+unfolding port_type
+sound_port_type = sound_on (sound_want header kind.Colon) (λ _. sound_as (sound_type most_open header) (λ t b pb a pa. pair a b (mark pa) pb))
+
+-- what stands behind `in` and behind `out`
+abbrev InputPort : PortText → Phrase
+InputPort p ts =
+    (v : Name) × (p.value ≡ Some v) × Then (ValueName v) (Then (PortName v p.name) (Then (Mark kind.Colon) (TypePhrase most_open p.type))) ts
+
+abbrev OutputPort : PortText → Phrase
+OutputPort p = Where (p.value ≡ None) (Then (NamePhrase p.name) (Then (Mark kind.Colon) (TypePhrase most_open p.type)))
+
+sound_input_port : Sound input_port InputPort
+unfolding input_port
+sound_input_port =
+    sound_on (sound_value_name header) (λ v. sound_on (sound_port_name v) (λ n. sound_last (λ t. record { value = Some v; name = n; type = t }) sound_port_type
+    (λ t c pc b pb a pa. (v, refl, pair a (b ++ c) pa (pair b c pb pc)))))
+
+sound_output_port : Sound output_port OutputPort
+unfolding output_port
+sound_output_port =
+    sound_on (sound_name header) (λ n. sound_last (λ t. record { value = None; name = n; type = t }) sound_port_type (λ t b pb a pa. (refl, pair a b pa pb)))
+
+sound_port : Sound port_text PortPhrase
+unfolding port_text
+sound_port =
+    sound_past {r = input_port} (λ t h. sound_as sound_input_port (λ p a q. inl (q.0, q.1, pair (t ∷ []) a (said_word h) q.2)))
+    (sound_past {r = output_port} (λ t h. sound_as sound_output_port (λ p a q. inr (q.0, pair (t ∷ []) a (said_word h) q.1))) sound_refused)
+
+sound_ports : Sound ports_text (λ ps. Between kind.LeftParenthesis kind.RightParenthesis (Commas PortPhrase ps))
+unfolding ports_text
+sound_ports =
+    sound_on (sound_want header kind.LeftParenthesis) (λ _. sound_if (is_next kind.ValueName) sound_refused
+    (sound_as (sound_until header kind.RightParenthesis sound_port) (λ ps b pb a pa. pair a b (mark pa) pb)))
+
+-- ---- modules
+
+sound_attributes : (op : OpName) → Sound (attributes_text op) AttributesPhrase
+unfolding attributes_text
+sound_attributes op =
+    sound_past {r = dictionary_text op module_keys} (λ t h. sound_as (sound_dictionary op module_keys) (λ es a p. inl (pair (t ∷ []) a (said_word h) p)))
+    (sound_give {y = []} (inr (refl, refl)))
+
+sound_private : Sound private_text PrivatePhrase
+unfolding private_text
+sound_private = sound_past {r = give true} (λ t h. sound_give {y = true} (said_word h)) (sound_give {y = false} refl)
+
+-- what stands behind the ports
+abbrev BodyPhrase : BodyText → Phrase
+BodyPhrase b =
+    Then (AttributesPhrase b.dictionary) (Then (Mark kind.LeftBrace) (Then (OperationsPhrase IsPlaceOf b.operations)
+    (One (λ (t : Lexeme). (t.kind ≡ kind.RightBrace) × (t.place ≡ b.close)))))
+
+sound_body : Sound body_text BodyPhrase
+unfolding body_text
+sound_body =
+    sound_on (sound_attributes header) (λ es. sound_on (sound_want header kind.LeftBrace) (λ _. sound_on all_operations (λ os.
+    sound_last (λ t. record { dictionary = es; operations = os; close = t.place }) (sound_want header kind.RightBrace) (λ t d pd c pc b pb a pa.
+    pair a (b ++ (c ++ d)) pa (pair b (c ++ d) (mark pb) (pair c d pc (t, pd.0, (pd.1, refl))))))))
+
+-- what is behind a module's name
+abbrev BehindName : Place → ModuleText → Phrase
+BehindName place y ts =
+    (t : Lexeme) → t.kind ≡ kind.BareName → t.text ≡ name_of_listed listed.HwModule → t.place ≡ place → ModulePhrase IsPlaceOf y (t ∷ ts)
+
+sound_behind : (place : Place) → Sound (module_behind place) (BehindName place)
+unfolding module_behind
+sound_behind place =
+    sound_on sound_private (λ p. sound_on (sound_module_symbol header) (λ n. sound_on sound_ports (λ ports. sound_last
+    (λ b. record { symbol = n; is_private = p; ports = ports; dictionary = b.dictionary; operations = b.operations; place = place; close = b.close }) sound_body
+    (λ body e pe d pd c pc a pa t k w i.
+    pair (t ∷ []) (a ++ (c ++ (d ++ e))) (t, refl, (k, w, i)) (pair a (c ++ (d ++ e)) pa (pair c (d ++ e) pc (pair d e pd pe)))))))
+
+classed_ok : (t : Lexeme) (ts left : List Symbol) (x : ModuleText) (class : NameClass) → t.kind ≡ kind.BareName → ClassSays t.text class
+    → classed_module (token t ∷ ts) t class ≡ Ok (x, left) → Said (ModulePhrase IsPlaceOf x) (token t ∷ ts) left
+unfolding classed_module
+classed_ok t ts left x (operation o) k says h = absurd cc
+classed_ok t ts left x module_name k says h =
+    one_more t ts left (ModulePhrase IsPlaceOf x) (let (a, ea, p) = (sound_behind t.place).said ts left x h in (a, ea, p t k (sym says) refl))
+classed_ok t ts left x file_name k says h = absurd cc
+classed_ok t ts left x locations k says h = absurd cc
+classed_ok t ts left x outside k says h = absurd cc
+classed_ok t ts left x unknown k says h = absurd cc
+
+module_ok : (s left : List Symbol) (x : ModuleText) → module_text s ≡ Ok (x, left) → Said (ModulePhrase IsPlaceOf x) s left
+unfolding module_text
+module_ok [] left x h = absurd cc
+module_ok (token t ∷ ts) left x h =
+    cond_both (is_kind t.kind kind.BareName) (classed_module (token t ∷ ts) t (class_of t.text)) _
+    (λ m. m ≡ Ok (x, left) → Said (ModulePhrase IsPlaceOf x) (token t ∷ ts) left)
+    (λ c g. classed_ok t ts left x (class_of t.text) (kind_is t.kind kind.BareName c) (class_says t.text) g) (λ _ g. absurd cc) h
+module_ok (bad p ∷ ts) left x h = absurd cc
+module_ok (end p ∷ ts) left x h = absurd cc
+
+pub sound_module : Sound module_text (ModulePhrase IsPlaceOf)
+sound_module = record { said = module_ok }
+
+sound_modules : (ends : List Symbol → Bool) (n : ℕ) → Sound (modules_text ends n) (ModulesPhrase IsPlaceOf)
+unfolding modules_text
+sound_modules ends zero = record { said = λ s left x h. absurd cc }
+sound_modules ends (suc n) =
+    sound_if ends (sound_give {y = []} refl) (sound_on sound_module (λ m. sound_last (λ ms. m ∷ ms) (sound_modules ends n) (λ ms b pb a pa. pair a b pa pb)))
+
+all_modules : (ends : List Symbol → Bool) → Sound (λ s. modules_text ends (length s) s) (ModulesPhrase IsPlaceOf)
+all_modules ends = record { said = λ s left x h. (sound_modules ends (length s)).said s left x h }
+
+-- ---- files
+
+sound_file_symbol : Sound file_symbol (λ _. Either (λ (a : List Lexeme). (name : Name) × SymbolPhrase name a) Nothing)
+unfolding file_symbol
+sound_file_symbol =
+    sound_if (is_first is_symbol) (sound_last (λ _. tt) (sound_symbol op.File) (λ name a p. inl (name, p))) (sound_give {y = tt} (inr refl))
+
+sound_wrapped : (t : Lexeme) → FileWord (t ∷ []) → Sound wrapped_text (λ ms. Past t (FilePhrase IsPlaceOf ms))
+unfolding wrapped_text want_end
+sound_wrapped t word =
+    sound_on sound_file_symbol (λ _. sound_on (sound_attributes op.File) (λ es. sound_on (sound_want op.File kind.LeftBrace) (λ _.
+    sound_on (all_modules (is_next kind.RightBrace)) (λ ms. sound_on (sound_want op.File kind.RightBrace) (λ u.
+    sound_if is_end (sound_give {y = ms} (λ e pe d pd c pc b pb a pa.
+    inr (
+      es,
+      pair (t ∷ []) (a ++ (b ++ (c ++ (d ++ (e ++ []))))) word (pair a (b ++ (c ++ (d ++ (e ++ [])))) pa (pair b (c ++ (d ++ (e ++ []))) pb
+          (pair c (d ++ (e ++ [])) (mark pc) (pair d (e ++ []) pd (u, append-nil e ∙ pe.0, pe.1))))),
+    )))
+    sound_refused)))))
+
+file_word : (t : Lexeme) → is_file_name t ≡ true → FileWord (t ∷ [])
+file_word t h = go (is_word (codes "module") t) refl h
+  where
+    go : (b : Bool) → is_word (codes "module") t ≡ b → cond b true (is_word (codes "builtin.module") t) ≡ true → FileWord (t ∷ [])
+    go true e h = inl (said_word e)
+    go false e h = inr (said_word h)
+
+sound_file : Sound file_text (FilePhrase IsPlaceOf)
+unfolding file_text
+sound_file =
+    sound_past {r = wrapped_text} (λ t h. sound_wrapped t (file_word t h)) (sound_as (all_modules is_end) (λ ms a p. inl p))
+
+-- ---- a text that is read is read to its end
+
+pub record Ends {A : Type 0} (r : Reads A) : Type 0 where
+  pub ends : (s left : List Symbol) (x : A) → r s ≡ Ok (x, left) → is_end left ≡ true
+
+ends_on : {A B : Type 0} (r : Reads A) (f : A → Reads B) → ((x : A) → Ends (f x)) → Ends (λ s. on (r s) f)
+ends_on r f rest = record { ends = λ s left y h. let (x, m, e, g) = ok_of (r s) f y left h in (rest x).ends m left y g }
+
+ends_want : {A : Type 0} (x : A) → Ends (want_end x)
+unfolding want_end
+ends_want x = record { ends = λ s left y h. kept_ok (λ _ l. is_end l ≡ true) (is_end s) x y s left (unexpected op.File s) (λ e. e) h }
+
+ends_wrapped : Ends wrapped_text
+unfolding wrapped_text
+ends_wrapped =
+    ends_on file_symbol _ (λ _. ends_on (attributes_text op.File) _ (λ _. ends_on (want op.File kind.LeftBrace) _ (λ _.
+    ends_on (λ s. modules_text (is_next kind.RightBrace) (length s) s) _ (λ ms. ends_on (want op.File kind.RightBrace) _ (λ _. ends_want ms)))))
+
+modules_end : (n : ℕ) (s left : List Symbol) (ms : List ModuleText) → modules_text is_end n s ≡ Ok (ms, left) → is_end left ≡ true
+unfolding modules_text
+modules_end zero s left ms h = absurd cc
+modules_end (suc n) s left ms h = go (is_end s) refl h (modules_end n)
+  where
+    go : (b : Bool) → is_end s ≡ b
+        → cond {A = Read (List ModuleText)} b (Ok ([], s)) (on (module_text s) (λ m left. on (modules_text is_end n left) (λ ms behind. Ok (m ∷ ms, behind)))) ≡ Ok (ms, left)
+        → ((s left : List Symbol) (ms : List ModuleText) → modules_text is_end n s ≡ Ok (ms, left) → is_end left ≡ true) → is_end left ≡ true
+    go true e h more = same_ok [] ms s left (λ _ l. is_end l ≡ true) h e
+    go false e h more =
+        let (m, s1, e1, h1) = ok_of (module_text s) (λ m left. on (modules_text is_end n left) (λ ms behind. Ok (m ∷ ms, behind))) ms left h in
+        let (others, s2, e2, h2) = ok_of (modules_text is_end n s1) (λ ms behind. Ok (m ∷ ms, behind)) ms left h1 in
+        same_ok (m ∷ others) ms s2 left (λ _ l. is_end l ≡ true) h2 (more s1 s2 others e2)
+
+file_ends : (s left : List Symbol) (ms : List ModuleText) → file_text s ≡ Ok (ms, left) → is_end left ≡ true
+unfolding file_text
+file_ends s left ms h =
+    cond_both (is_first is_file_name s) (wrapped_text (after s)) (modules_text is_end (length s) s) (λ m. m ≡ Ok (ms, left) → is_end left ≡ true)
+    (λ _ g. ends_wrapped.ends (after s) left ms g) (λ _ g. modules_end (length s) s left ms g) h
+
+-- the tokens of a text are those that are passed, where the text ends behind them
+whole : (place : Place) (rs : List (Result Lexeme Refusal)) (ts : List Lexeme) (left : List Symbol) → stream place rs ≡ map token ts ++ left → is_end left ≡ true
+    → rs ≡ map token_of ts
+whole place [] [] left h e = refl
+whole place [] (t ∷ ts) left h e = absurd cc
+whole place (Ok u ∷ rs) [] left h e = let f : is_end (token u ∷ stream place rs) ≡ true = ap is_end h ∙ e in absurd cc
+whole place (Ok u ∷ rs) (t ∷ ts) left h e =
+    let same : u ≡ t = cc in
+    let others : stream place rs ≡ map token ts ++ left = cc in
+    ap₂ (λ x xs. Ok x ∷ xs) same (whole place rs ts left others e)
+whole place (Err r ∷ rs) [] left h e = let f : is_end (bad r.place ∷ []) ≡ true = ap is_end h ∙ e in absurd cc
+whole place (Err r ∷ rs) (t ∷ ts) left h e = absurd cc
+
+-- ---- texts
+
+design_ok : (source : List ℕ) (d : Design) (m : Read (List ModuleText)) → file_text (stream_of source) ≡ m → design_read m ≡ Ok d → Spells source d
+design_ok source d (Err e) f h = absurd cc
+design_ok source d (Ok p) f h =
+    let (ts, same, said) = sound_file.said (stream_of source) p.1 p.0 f in
+    (p.0, ts, whole _ (tokens source) ts p.1 same (file_ends (stream_of source) p.1 p.0 f), said, cc)
+
+-- what is read of a text is spelled by it
+pub read_is_spelled : (source : List ℕ) (d : Design) → read source ≡ Ok d → Spells source d
+read_is_spelled source d h =
+    cond_both (Rattle.std.proofs.Common.nat_lt text_limit (length source)) _ (design_read (file_text (stream_of source))) (λ m. m ≡ Ok d → Spells source d)
+    (λ _ g. absurd cc) (λ _ g. design_ok source d (file_text (stream_of source)) refl g) h

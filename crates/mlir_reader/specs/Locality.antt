@@ -1,0 +1,19 @@
+-- A refusal is of one symbol of a text, whatever follows it.
+use Rattle.std.specs.Prelude.{◌≡◌, ℕ, ◌≤◌, List, ◌∷◌, ◌++◌, length, map, Err}
+use Rattle.diag.specs.declared.refusal.Place.{Place}
+use Rattle.diag.specs.declared.refusal.Refusal.{Refusal}
+use Rattle.mlir_lexer.specs.Tokens.{Lexeme}
+use Rattle.mlir_reader.specs.Stream.{Symbol, token, bad, end, stream_of}
+use Rattle.mlir_reader.specs.Reading.{text_limit, read}
+
+-- where a symbol stands
+abbrev pub symbol_place : Symbol → Place
+symbol_place (token t) = t.place
+symbol_place (bad p) = p
+symbol_place (end p) = p
+
+-- the refused symbol stands behind some tokens, and each text that begins with these tokens and this symbol is refused alike
+abbrev pub IsOfItsSymbol : List ℕ → Refusal → Type 0
+IsOfItsSymbol source r =
+    (front : List Lexeme) × (symbol : Symbol) × (rest : List Symbol) × (stream_of source ≡ map token front ++ (symbol ∷ rest)) × (symbol_place symbol ≡ r.place)
+    × ((other : List ℕ) (behind : List Symbol) → length other ≤ text_limit → stream_of other ≡ map token front ++ (symbol ∷ behind) → read other ≡ Err r)

@@ -1,0 +1,19 @@
+//! The laws of reading, each a clause of a function that does nothing.
+
+ghost use Rattle.std.specs.Prelude.{◌≡◌, ℕ, ◌≤◌, List, length, Ok, Err};
+ghost use Rattle.diag.specs.declared.refusal.Refusal.{Refusal};
+ghost use Rattle.hw_model.specs.Design.{Design};
+ghost use Rattle.mlir_reader.specs.Reading.{text_limit, read};
+ghost use Rattle.mlir_reader.specs.Locality.{IsOfItsSymbol};
+ghost use Rattle.mlir_reader.specs.Spelling.{Spells};
+
+/// Does nothing. Its clause says that what is read of a text is spelled by it.
+pub fn what_is_read_is_spelled()
+    ensures { (source : List ℕ) (d : Design) → read source ≡ Ok d → Spells source d }
+{}
+
+/// Does nothing. Its clause says that a refusal of a text that is not too long is of one of its symbols, whatever follows it:
+/// each text that begins with the same tokens and the same symbol behind them is refused alike.
+pub fn a_refusal_is_of_its_symbol()
+    ensures { (source : List ℕ) (r : Refusal) → length source ≤ text_limit → read source ≡ Err r → IsOfItsSymbol source r }
+{}
