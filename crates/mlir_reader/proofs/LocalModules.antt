@@ -20,7 +20,7 @@ use Rattle.mlir_lexer.specs.declared.token.TokenKind.TheVariants as kind
 use Rattle.mlir_reader.specs.Stream.{Symbol, token, bad, end, stream, stream_of, first, is_first, is_next, is_kind, is_word, refusal, cause_of_first}
 use Rattle.mlir_reader.specs.Reads.{Read, Reads}
 use Rattle.mlir_reader.specs.Numerals.{count_limit}
-use Rattle.mlir_reader.specs.TypeText.{most_open}
+use Rattle.mlir_reader.specs.TypeText.{any_type, most_open}
 use Rattle.mlir_reader.specs.AttributeText.{is_symbol}
 use Rattle.mlir_reader.specs.OperandText.{ResultNames}
 use Rattle.mlir_reader.specs.Shapes.{text_of_keyword, shape_of, front_pieces, type_pieces}
@@ -56,13 +56,13 @@ unfolding group_text
 local_group op c n = loc_on (local_want op kind.LeftParenthesis c n) (λ _. local_until op kind.RightParenthesis (local_operand op) c n)
 
 local_further : (op : OpName) (m : ℕ) → Local (further_types op m)
-unfolding further_types
+unfolding further_types any_type
 local_further op zero c n = loc_give {y = []}
 local_further op (suc m) c n =
     loc_on (local_want op kind.Comma c n) (λ _. loc_on (local_type most_open op c n) (λ t. loc_on (local_further op m c n) (λ ts. loc_give {y = t ∷ ts})))
 
 local_types : (op : OpName) (m : ℕ) → Local (types_text op m)
-unfolding types_text
+unfolding types_text any_type
 local_types op zero c n = loc_give {y = []}
 local_types op (suc m) c n = loc_on (local_type most_open op c n) (λ t. loc_on (local_further op m c n) (λ ts. loc_give {y = t ∷ ts}))
 
@@ -86,7 +86,7 @@ local_sync_reset op g c n =
     loc_next (is_word (codes "reset")) (loc_on (loc_after (local_sync op c n)) (λ _. local_reset_operands op g c n)) (loc_give {y = g})
 
 local_input : (op : OpName) → Local (input_text op)
-unfolding input_text
+unfolding input_text any_type
 local_input op c n =
     loc_on (local_name op c n) (λ port. loc_on (local_want op kind.Colon c n) (λ _. loc_on (local_operand op c n) (λ o. loc_on (local_want op kind.Colon c n) (λ _.
     loc_on (local_type most_open op c n) (λ t. loc_give {y = record { port = port; operand = o; type = t }})))))
@@ -121,7 +121,7 @@ local_instance op g c n =
     loc_on (local_outputs op c n) (λ outs. loc_give {y = with_instance g (instance_with name inner symbol ins outs) ins outs})))))
 
 local_piece : (op : OpName) (p : Piece) (g : Gathered) → Local (piece_text op p g)
-unfolding piece_text predicate_text truth_text
+unfolding piece_text predicate_text truth_text any_type
 local_piece op (piece.Mark k) g c n = loc_on (local_want op k c n) (λ _. loc_give {y = g})
 local_piece op (piece.Word w) g c n = loc_on (local_word op (text_of_keyword w) c n) (λ _. loc_give {y = g})
 local_piece op piece.Operand g c n = loc_on (local_operand op c n) (λ o. loc_give {y = with_operands g (o ∷ [])})
@@ -279,7 +279,7 @@ local_port_name v c n =
     (loc_on (local_want header kind.StringLiteral c n) (λ t. loc_give {y = content_of kind.StringLiteral t.text})) (loc_give {y = v})
 
 local_port_type : Local port_type
-unfolding port_type
+unfolding port_type any_type
 local_port_type c n = loc_on (local_want header kind.Colon c n) (λ _. local_type most_open header c n)
 
 local_port : Local port_text

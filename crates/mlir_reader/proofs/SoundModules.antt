@@ -16,7 +16,7 @@ use Rattle.mlir_lexer.specs.Tokens.{Lexeme, tokens}
 use Rattle.mlir_lexer.specs.declared.token.TokenKind.TheVariants as kind
 use Rattle.mlir_reader.specs.Stream.{Symbol, token, bad, end, stream, stream_of, is_first, is_next, is_kind, is_word, after, unexpected}
 use Rattle.mlir_reader.specs.Reads.{Read, Reads, on, give, want}
-use Rattle.mlir_reader.specs.TypeText.{most_open}
+use Rattle.mlir_reader.specs.TypeText.{any_type, most_open}
 use Rattle.mlir_reader.specs.AttributeText.{dictionary_text, is_symbol}
 use Rattle.mlir_reader.specs.OperationText.{NameClass, operation, module_name, file_name, locations, outside, unknown, class_of}
 use Rattle.mlir_reader.specs.ModuleText.{header, PortText, port_name, port_type, input_port, output_port, port_text, ports_text, ModuleText, module_keys, attributes_text, private_text, BodyText, body_text, module_behind, classed_module, module_text, is_end, modules_text, file_symbol, want_end, wrapped_text, is_file_name, file_text}
@@ -44,7 +44,7 @@ sound_port_name v =
     (sound_give {y = v} (inr (refl, refl)))
 
 sound_port_type : Sound port_type (λ t. Then (Mark kind.Colon) (TypePhrase most_open t))
-unfolding port_type
+unfolding port_type any_type
 sound_port_type = sound_on (sound_want header kind.Colon) (λ _. sound_as (sound_type most_open header) (λ t b pb a pa. pair a b (mark pa) pb))
 
 -- what stands behind `in` and behind `out`

@@ -14,7 +14,7 @@ use Rattle.mlir_lexer.specs.Tokens.{Lexeme}
 use Rattle.mlir_lexer.specs.declared.token.TokenKind.TheVariants as kind
 use Rattle.mlir_reader.specs.Stream.{Symbol, token, bad, end, first, is_first, is_next, is_kind, is_word}
 use Rattle.mlir_reader.specs.Numerals.{count_limit}
-use Rattle.mlir_reader.specs.TypeText.{most_open}
+use Rattle.mlir_reader.specs.TypeText.{any_type, most_open}
 use Rattle.mlir_reader.specs.OperandText.{OperandName}
 use Rattle.mlir_reader.specs.Shapes.{text_of_keyword}
 use Rattle.mlir_reader.specs.PieceText.{Gathered, with_operands, with_types, with_extra, predicate_named, bare_text, as_known, predicate_text, truth_named, truth_text, truth_number, string_text, group_text, further_types, types_text, reset_operands, reset_text, want_sync, sync_reset_text, input_text, output_text, inner_symbol, module_symbol, inputs_text, outputs_text, instance_with, with_instance, instance_text, piece_text, pieces_text}
@@ -86,14 +86,14 @@ abbrev GoOn : ℕ → List HwType → Phrase
 GoOn n l ts = (length l ≡ n) × ((x : HwType) (a : List Lexeme) → TypePhrase most_open x a → Commas (TypePhrase most_open) (x ∷ l) (a ++ ts))
 
 sound_further : (op : OpName) (n : ℕ) → Sound (further_types op n) (GoOn n)
-unfolding further_types
+unfolding further_types any_type
 sound_further op zero = sound_give {y = []} (refl, λ x a p. subst (TypePhrase most_open x) (sym (append-nil a)) p)
 sound_further op (suc n) =
     sound_on (sound_want op kind.Comma) (λ _. sound_on (sound_type most_open op) (λ t. sound_last (λ l. t ∷ l) (sound_further op n) (λ l c pc b pb a pa.
     (ap suc pc.0, λ x d pd. pair d (a ++ (b ++ c)) pd (pair a (b ++ c) (mark pa) (pc.1 t b pb))))))
 
 sound_types : (op : OpName) (n : ℕ) → Sound (types_text op n) (λ l ts. (length l ≡ n) × Commas (TypePhrase most_open) l ts)
-unfolding types_text
+unfolding types_text any_type
 sound_types op zero = sound_give {y = []} (refl, refl)
 sound_types op (suc n) =
     sound_on (sound_type most_open op) (λ t. sound_last (λ l. t ∷ l) (sound_further op n) (λ l b pb a pa. (ap suc pb.0, pb.1 t a pa)))
@@ -134,7 +134,7 @@ sound_sync_reset op g =
 -- ---- instances
 
 sound_input : (op : OpName) → Sound (input_text op) InputPhrase
-unfolding input_text
+unfolding input_text any_type
 sound_input op =
     sound_on (sound_name op) (λ port. sound_on (sound_want op kind.Colon) (λ _. sound_on (sound_operand op) (λ o. sound_on (sound_want op kind.Colon) (λ _.
     sound_last (λ t. record { port = port; operand = o; type = t }) (sound_type most_open op) (λ t e pe d pd c pc b pb a pa.
@@ -181,7 +181,7 @@ operands_said g [] a p = absurd p
 operands_said g (o ∷ os) a p = (o, os, refl, p)
 
 sound_piece : (op : OpName) (p : Piece) (g : Gathered) → Sound (piece_text op p g) (PiecePhrase p g)
-unfolding piece_text
+unfolding piece_text any_type
 sound_piece op (piece.Mark k) g = sound_last (λ _. g) (sound_want op k) (λ t a p. (refl, mark p))
 sound_piece op (piece.Word w) g = sound_last (λ _. g) (sound_word op (text_of_keyword w)) (λ _ a p. (refl, p))
 sound_piece op piece.Operand g = sound_last (λ o. with_operands g (o ∷ [])) (sound_operand op) (λ o a p. (o, refl, p))
