@@ -11,4 +11,11 @@ impl OpId {
     {
         OpId { index: number }
     }
+
+    /// Its number: while nothing is taken out of a body, how many operations were put into it before.
+    pub fn number(self) -> u32
+        ensures { result ≡ self.index }
+    {
+        self.index
+    }
 }
