@@ -1,0 +1,2 @@
+//! Cycles and sizes of designs.
+#![tactic(auto)]
