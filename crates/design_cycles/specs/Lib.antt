@@ -1,2 +1,4 @@
 pub mod Asked
+pub mod Graphs
 pub mod Local
+pub mod Marks

@@ -1,2 +1,6 @@
-//! Cycles and sizes of designs.
+//! Three questions about a design, each answered from one summary of each module, without expanding an instance: which
+//! instance is the first on a cycle of modules, which module is the first that is too large, and which operation is the
+//! first on a combinational cycle.
 #![tactic(auto)]
+
+mod graph;
