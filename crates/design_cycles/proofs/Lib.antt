@@ -1,3 +1,4 @@
 pub mod Inside
 pub mod Locals
 pub mod Marking
+pub mod Placing

@@ -27,7 +27,3 @@ pub record IsOrder (lists : List (List ℕ)) (placed : List Bool) (nodes : List 
   pub listed : (v : ℕ) → marked placed v ≡ true → In v nodes
   pub placed_all : (v : ℕ) → In v nodes → marked placed v ≡ true
   pub behind : (i v t : ℕ) → slice_get nodes i ≡ Some v → In t (edges lists v) → t < length lists → In t (take i nodes)
-
--- each node without a mark needs one without
-abbrev pub IsStuck : List (List ℕ) → List Bool → Type 0
-IsStuck lists placed = (v : ℕ) → v < length lists → marked placed v ≡ false → (t : ℕ) × In t (edges lists v) × (t < length lists) × (marked placed t ≡ false)
