@@ -1,4 +1,7 @@
 pub mod Asked
+pub mod Calls
 pub mod Graphs
 pub mod Local
 pub mod Marks
+pub mod Reading
+pub mod Sorts

@@ -3,5 +3,7 @@
 //! first on a combinational cycle.
 #![tactic(auto)]
 
+mod calls;
 mod graph;
+mod ops;
 mod order;
