@@ -2,4 +2,6 @@ pub mod Inside
 pub mod Locals
 pub mod Marking
 pub mod Placing
+pub mod Callees
 pub mod ReadOps
+pub mod Returning

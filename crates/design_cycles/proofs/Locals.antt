@@ -228,10 +228,14 @@ module _ (d : Design) (top : Name) where
             let enter : In (net (place j ∷ []) feeds.given) (needs d top (net [] (result j k))) =
             subst (In (net (place j ∷ []) feeds.given)) (sym (source ∙ ap (λ z. needs_of (copy_of (place j ∷ []) z)) given)) (inl refl) in
             let through = chain_lifts d top (place j) i.symbol (stands j o i there inst) feeds.steps (net [] feeds.given) (net [] (port feeds.place)) feeds.chain in
-            let out : In (net [] b) (needs d top (net (place j ∷ []) (port feeds.place))) = port_joined j o i there inst feeds.place found.0 b feeds.takes found.2 in
-            (feeds.steps + 1,
-             (net (place j ∷ []) feeds.given, enter,
-              Chain-append (needs d top) feeds.steps 1 (net (place j ∷ []) feeds.given) (net (place j ∷ []) (port feeds.place)) (net [] b) through (net [] b, out, refl)))
+            let out : In (net [] b) (needs d top (net (place j ∷ []) (port feeds.place))) = port_joined j o i there inst feeds.place found.0 b feeds.takes found.2 in (
+              feeds.steps + 1,
+              (
+                net (place j ∷ []) feeds.given,
+                enter,
+                Chain-append (needs d top) feeds.steps 1 (net (place j ∷ []) feeds.given) (net (place j ∷ []) (port feeds.place)) (net [] b) through (net [] b, out, refl),
+              ),
+            )
           where
             by_sort : (o : Op) (i : Instance) → is_register o ≡ false → instance_in o.kind ≡ Some i
                 → needs_of (op_in d top [] os j k o) ≡ needs_of (copy_of (place j ∷ []) (given_ref d k o))

@@ -92,10 +92,10 @@ module _ (xs : List ℕ) (x : ℕ) (old new : List Bool) (waited waiting : List 
     waits = λ b here. In-append_left b waiting (x ∷ []) (marks.waits b here);
     comes = λ b here. comes b (In-append_cases b waiting (x ∷ []) here);
     size =
-      let fewer : suc (open_count (set new x true)) ≡ open_count new = open_fewer new x below is in
-      let longer : length (waiting ++ x ∷ []) ≡ length waiting + 1 = length-append waiting (x ∷ []) in
-      let same : open_count new + length waiting ≡ open_count old + length waited = marks.size in
-      omega arith;
+        let fewer : suc (open_count (set new x true)) ≡ open_count new = open_fewer new x below is in
+        let longer : length (waiting ++ x ∷ []) ≡ length waiting + 1 = length-append waiting (x ∷ []) in
+        let same : open_count new + length waiting ≡ open_count old + length waited = marks.size in
+        omega arith;
   }
     where
       from : (b : ℕ) → (b ≡ x) ⊎ (marked new b ≡ true) → (marked old b ≡ true) ⊎ (In b (xs ++ x ∷ []) × In b (waiting ++ x ∷ []))

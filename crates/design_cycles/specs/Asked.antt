@@ -1,6 +1,6 @@
 -- What is asked of a design before it is taken: the first instance on a cycle of modules, the first module that is too
 -- large, the first operation on a combinational cycle.
-use Rattle.std.specs.Prelude.{◌≡◌, ℕ, ◌<◌, ◌≤◌, ◌^◌, ◌⊎◌, [], Some, slice_get}
+use Rattle.std.specs.Prelude.{◌≡◌, ℕ, ◌<◌, ◌^◌, ◌⊎◌, [], Some, slice_get}
 use Rattle.wiring.specs.Wiring.{Depends as IsReached}
 use Rattle.hw_model.specs.Types.{Name}
 use Rattle.hw_model.specs.Kinds.{Instance}
@@ -14,18 +14,6 @@ use Rattle.hw_model.specs.Weight.{weight}
 -- no two modules have one symbol
 abbrev pub HasDistinctSymbols : Design → Type 0
 HasDistinctSymbols d = (i j : ℕ) (m n : Module) → slice_get d i ≡ Some m → slice_get d j ≡ Some n → m.symbol ≡ n.symbol → i ≡ j
-
--- ---- places: a module's number, and an operation's position in its body
-
--- a place in text order holds, and none before it
-pub record IsFirstPlace (P : ℕ → ℕ → Type 0) (i j : ℕ) : Type 0 where
-  pub holds : P i j
-  pub first : (k l : ℕ) → P k l → (i < k) ⊎ ((i ≡ k) × (j ≤ l))
-
--- a number holds, and none below it
-pub record IsFirstNumber (P : ℕ → Type 0) (i : ℕ) : Type 0 where
-  pub holds : P i
-  pub first : (k : ℕ) → P k → i ≤ k
 
 -- ---- the three questions
 

@@ -1,5 +1,5 @@
 -- Graphs: for each node, by its number, the nodes that it needs.
-use Rattle.std.specs.Prelude.{◌≡◌, ℕ, ◌<◌, Bool, true, false, List, [], map, length, take, slice_get, slice_index_or, Some}
+use Rattle.std.specs.Prelude.{◌≡◌, ℕ, ◌<◌, Bool, true, false, List, [], map, length, take, slice_get, slice_index_or, Option, Some}
 use Rattle.wiring.specs.Wiring.{In, Chain}
 use Rattle.design_cycles.specs.declared.graph.NodeList.{NodeList}
 
@@ -27,3 +27,7 @@ pub record IsOrder (lists : List (List ℕ)) (placed : List Bool) (nodes : List 
   pub listed : (v : ℕ) → marked placed v ≡ true → In v nodes
   pub placed_all : (v : ℕ) → In v nodes → marked placed v ≡ true
   pub behind : (i v t : ℕ) → slice_get nodes i ≡ Some v → In t (edges lists v) → t < length lists → In t (take i nodes)
+
+-- from a node, where there is one, a chain leads to v
+abbrev pub LeadsTo : List (List ℕ) → Option ℕ → ℕ → Type 0
+LeadsTo lists from v = (a : ℕ) × (from ≡ Some a) × ((k : ℕ) × Chain (edges lists) k a v)

@@ -24,17 +24,17 @@ pub(crate) fn reached_from(
     let mut waiting = Vec::new(alloc);
     mark_all(starts, &mut marks, &mut waiting)?;
     while let Some(node) = waiting.pop() {
-        mark_all(graph[node as usize].nodes.as_slice(), &mut marks, &mut waiting)?;
+        mark_all(
+            graph[node as usize].nodes.as_slice(),
+            &mut marks,
+            &mut waiting,
+        )?;
     }
     Ok(marks)
 }
 
 /// Marks `nodes`, and lets those wait that had no mark. What is not there gets none.
-fn mark_all(
-    nodes: &[u32],
-    marks: &mut [bool],
-    waiting: &mut Vec<u32>,
-) -> Result<(), AllocError>
+fn mark_all(nodes: &[u32], marks: &mut [bool], waiting: &mut Vec<u32>) -> Result<(), AllocError>
     ensures { IfOk result (λ _. MarksAll nodes.now marks.old marks.new waiting.old.items waiting.new.items) }
 {
     for node in nodes {

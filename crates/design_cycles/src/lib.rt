@@ -7,3 +7,8 @@ mod calls;
 mod graph;
 mod ops;
 mod order;
+mod place;
+mod recursion;
+
+pub use place::OpPlace;
+pub use recursion::first_recursive;

@@ -27,7 +27,13 @@ pub(crate) fn callees_first(alloc: Global, graph: &[NodeList]) -> Result<Order, 
     let all = all_numbers(alloc, graph.len() as u32)?;
     let mut placed = vec![in alloc; false; graph.len()]?;
     let mut nodes = Vec::new(alloc);
-    place_all(graph, guess.as_slice(), all.as_slice(), &mut placed, &mut nodes)?;
+    place_all(
+        graph,
+        guess.as_slice(),
+        all.as_slice(),
+        &mut placed,
+        &mut nodes,
+    )?;
     Ok(Order { nodes, placed })
 }
 
@@ -173,11 +179,7 @@ fn free_nodes(alloc: Global, missing: &[usize]) -> Result<Vec<u32>, AllocError> 
 }
 
 /// Takes one from what each of `users` misses, and appends those that then miss nothing.
-fn release(
-    users: &[u32],
-    missing: &mut [usize],
-    order: &mut Vec<u32>,
-) -> Result<(), AllocError> {
+fn release(users: &[u32], missing: &mut [usize], order: &mut Vec<u32>) -> Result<(), AllocError> {
     for user in users {
         if let Some(count) = missing.get_mut(*user as usize) {
             *count = count.saturating_sub(1);
