@@ -5,4 +5,5 @@ pub mod Local
 pub mod Marks
 pub mod Places
 pub mod Reading
+pub mod Sizes
 pub mod Sorts

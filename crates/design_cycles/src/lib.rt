@@ -9,6 +9,7 @@ mod ops;
 mod order;
 mod place;
 mod recursion;
+mod weights;
 
 pub use place::OpPlace;
 pub use recursion::first_recursive;
