@@ -58,7 +58,7 @@ leaves_written (t ∷ ts) (suc n) = leaves_written ts n
 
 -- ---- sums over types
 
-leaf_count-push : (ts : List HwType) (t : HwType) → leaf_count (ts ++ t ∷ []) ≡ leaf_count ts + length (leaves t)
+pub leaf_count-push : (ts : List HwType) (t : HwType) → leaf_count (ts ++ t ∷ []) ≡ leaf_count ts + length (leaves t)
 leaf_count-push [] t = omega arith
 leaf_count-push (x ∷ ts) t = let rest : leaf_count (ts ++ t ∷ []) ≡ leaf_count ts + length (leaves t) = leaf_count-push ts t in omega arith
 

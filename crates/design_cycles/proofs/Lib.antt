@@ -6,3 +6,4 @@ pub mod Callees
 pub mod Capped
 pub mod ReadOps
 pub mod Returning
+pub mod Sizing

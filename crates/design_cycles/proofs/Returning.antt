@@ -169,7 +169,7 @@ none_leads lists v leads = let e : None ≡ Some leads.0 = leads.1 in cc
 pub stored_at : (modules : List StoredModule) (i : ℕ) (m : StoredModule) → Some m ≡ slice_get modules i → slice_get (map numbered_module modules) i ≡ Some (numbered_module m)
 stored_at modules i m at = slice_get-map numbered_module modules i ∙ ap (option_map numbered_module) (sym at)
 
-symbols_stored : (modules : List StoredModule) → map (λ (x : StoredModule). x.symbol) modules ≡ symbols_in (map numbered_module modules)
+pub symbols_stored : (modules : List StoredModule) → map (λ (x : StoredModule). x.symbol) modules ≡ symbols_in (map numbered_module modules)
 symbols_stored modules = sym (map-map (λ (x : Module). x.symbol) numbered_module modules)
 
 module _ (modules : List StoredModule) (distinct : HasDistinctSymbols (map numbered_module modules)) (i : ℕ) (m : StoredModule) (at : Some m ≡ slice_get modules i) (j : ℕ) (n : Option ℕ)

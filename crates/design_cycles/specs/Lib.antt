@@ -7,3 +7,4 @@ pub mod Places
 pub mod Reading
 pub mod Sizes
 pub mod Sorts
+pub mod Weighing

@@ -34,3 +34,13 @@ pub record IsFirst (modules : List StoredModule) (P : ℕ → ℕ → Type 0) (p
 abbrev pub Finds : List StoredModule → (ℕ → ℕ → Type 0) → Option OpPlace → Type 0
 Finds modules P None = (i j : ℕ) → P i j → ⊥
 Finds modules P (Some place) = IsFirst modules P place
+
+-- it holds of a number, and of none below it
+pub record IsFirstNumber (P : ℕ → Type 0) (i : ℕ) : Type 0 where
+  pub holds : P i
+  pub first : (k : ℕ) → P k → i ≤ k
+
+-- it holds of no number; or the number is the first of which it holds
+abbrev pub FindsNumber : (ℕ → Type 0) → Option ℕ → Type 0
+FindsNumber P None = (i : ℕ) → P i → ⊥
+FindsNumber P (Some i) = IsFirstNumber P i

@@ -9,7 +9,9 @@ mod ops;
 mod order;
 mod place;
 mod recursion;
+mod size;
 mod weights;
 
 pub use place::OpPlace;
 pub use recursion::first_recursive;
+pub use size::first_too_large;

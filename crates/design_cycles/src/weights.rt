@@ -58,7 +58,9 @@ fn injection(types: &[Ty]) -> u64
 {
     let length = array_length(type_at(types, 0));
     let parts = length.saturating_mul(element_leaf_count(type_at(types, 0)));
-    length.saturating_mul(4).saturating_add(parts.saturating_mul(4))
+    length
+        .saturating_mul(4)
+        .saturating_add(parts.saturating_mul(4))
 }
 
 /// The weight of a register, so much for each leaf, and more with a reset.
