@@ -1,5 +1,6 @@
 -- Instances that lie on a cycle of modules, by numbers.
-use Rattle.std.proofs.Common.{◌≡◌, ◌⊎◌, ◌↔◌, IsTrue, ℕ, zero, suc, ◌+◌, ◌<◌, ◌≤◌, Bool, true, false, List, [], ◌∷◌, ◌++◌, length, map, take, get_or, slice_get, MatchBool, Option, Some, None, option_map, refl, sym, ap, subst, ◌∙◌, inl, inr, arith}
+use Rattle.std.proofs.Common.{◌≡◌, ◌⊎◌, ◌↔◌, IsTrue, ℕ, zero, suc, ◌+◌, ◌<◌, ◌≤◌, Bool, true, false, List, [], ◌∷◌, ◌++◌, length, map, take, get_or, slice_get, MatchBool, Option, Some, None, option_map, refl, sym, ap, subst, ◌∙◌, inl, inr, arith, eqb, eq-eqb}
+use Rattle.std.proofs.lemmas.Bool.{eqb-true, false≢true}
 use Rattle.std.proofs.lemmas.Option.{slice_get-map, slice_get_within, slice_get-get_or}
 use Rattle.std.proofs.lemmas.List.{length-map}
 use Rattle.wiring.specs.Wiring.{In, Chain, Depends}
@@ -19,7 +20,7 @@ use Rattle.ir_store.specs.Numbered.{numbered}
 use Rattle.ir_store.specs.Designs.{StoredModule, numbered_module}
 use Rattle.design_cycles.specs.Places.{IsFirstOp, IsFirst, ids_at, ids_of_module}
 use Rattle.design_cycles.specs.Asked.{HasDistinctSymbols, Returns, IsRecursiveAt}
-use Rattle.design_cycles.specs.Calls.{symbols_in, numbers_of, call_lists, callee_number, IsCalleeAt}
+use Rattle.design_cycles.specs.Calls.{symbols_in, numbers_of, call_lists, callee_number, IsCalleeAt, IsFoundAt}
 use Rattle.design_cycles.specs.Graphs.{edges, marked, AreReached, LeadsTo, IsOrder}
 use Rattle.design_cycles.proofs.Callees.{number, call_edges, place_found, number_found, In-numbers, chain_numbers, found_at, chain_symbols}
 use Rattle.design_cycles.proofs.Placing.{placed_no_cycle}
@@ -271,3 +272,61 @@ placed_none modules distinct lists are placed nodes order i below answer says de
         let size''' : length (map numbered_module modules) ≡ length modules = length-map modules numbered_module in
         let said : answer ≡ true = says.1 (omega arith, is) in
         cc
+
+-- ---- symbols that differ
+
+module _ (modules : List StoredModule) where
+  stored_back : (i : ℕ) (m : Module) → slice_get (map numbered_module modules) i ≡ Some m → (s : StoredModule) × (slice_get modules i ≡ Some s) × (m ≡ numbered_module s)
+  stored_back i m at = go (slice_get modules i) refl
+    where
+      go : (o : Option StoredModule) → slice_get modules i ≡ o → (s : StoredModule) × (slice_get modules i ≡ Some s) × (m ≡ numbered_module s)
+      go None none = let e : None ≡ Some m = sym (ap (option_map numbered_module) none) ∙ sym (slice_get-map numbered_module modules i) ∙ at in cc
+      go (Some s) is = let e : Some (numbered_module s) ≡ Some m = sym (ap (option_map numbered_module) is) ∙ sym (slice_get-map numbered_module modules i) ∙ at in (s, is, cc)
+
+  pub distinct_found : ((i : ℕ) → i < length modules → IsFoundAt modules i) → HasDistinctSymbols (map numbered_module modules)
+  distinct_found each i j m n at to same =
+      let first = stored_back i m at in
+      let second = stored_back j n to in
+      let one : symbol_place m.symbol (map (λ (x : StoredModule). x.symbol) modules) ≡ Some i =
+      ap (λ (x : Module). symbol_place x.symbol (map (λ (y : StoredModule). y.symbol) modules)) first.2 ∙ each i (slice_get_within modules i first.0 first.1) first.0 first.1 in
+      let two : symbol_place n.symbol (map (λ (x : StoredModule). x.symbol) modules) ≡ Some j =
+      ap (λ (x : Module). symbol_place x.symbol (map (λ (y : StoredModule). y.symbol) modules)) second.2 ∙ each j (slice_get_within modules j second.0 second.1) second.0 second.1 in
+      let both : Some i ≡ Some j = sym one ∙ ap (λ z. symbol_place z (map (λ (x : StoredModule). x.symbol) modules)) same ∙ two in
+      cc
+
+  pub found_distinct : HasDistinctSymbols (map numbered_module modules) → (i : ℕ) → IsFoundAt modules i
+  found_distinct distinct i m at =
+      ap (symbol_place m.symbol) (symbols_stored modules)
+      ∙ (found_at (map numbered_module modules) distinct i (numbered_module m) (stored_at modules i m (sym at))).0
+
+module _ (modules : List StoredModule) (i : ℕ) (s : StoredModule) (at : Some s ≡ slice_get modules i) (text : Name) (is : text ≡ s.symbol) where
+  abbrev symbols : List Name
+  symbols = map (λ (x : StoredModule). x.symbol) modules
+
+  found_place : IsFoundAt modules i → symbol_place text symbols ≡ Some i
+  found_place found = ap (λ z. symbol_place z symbols) is ∙ found s (sym at)
+
+  place_is_found : symbol_place text symbols ≡ Some i → IsFoundAt modules i
+  place_is_found place m there =
+      let same : Some s ≡ Some m = at ∙ there in
+      let e : s ≡ m = cc in
+      ap (λ (x : StoredModule). symbol_place x.symbol symbols) (sym e) ∙ ap (λ z. symbol_place z symbols) (sym is) ∙ place
+
+  pub found_some : (first : ℕ) → Some first ≡ symbol_place text symbols → IsTrue (eqb first i) ↔ IsFoundAt modules i
+  found_some first place = (
+    λ same. place_is_found (sym place ∙ ap Some (eqb-true first i same)),
+    λ found. (let e : Some first ≡ Some i = place ∙ found_place found in eq-eqb first i cc),
+  )
+
+  pub found_none : None ≡ symbol_place text symbols → IsTrue false ↔ IsFoundAt modules i
+  found_none place = (λ never. absurd (false≢true never), λ found. (let e : None ≡ Some i = place ∙ found_place found in absurd (none_some e)))
+    where
+      none_some : None ≡ Some i → ⊥
+      none_some e = cc
+
+pub not_all_found : (modules : List StoredModule) (i : ℕ) (answer : Bool) → answer ≡ false → (IsTrue answer ↔ IsFoundAt modules i) → IsTrue false ↔ HasDistinctSymbols (map numbered_module modules)
+not_all_found modules i answer denied says =
+    (λ never. absurd (false≢true never), λ distinct. absurd (false≢true (sym denied ∙ says.1 (found_distinct modules distinct i))))
+
+pub all_found : (modules : List StoredModule) (n : ℕ) → length modules ≤ n → ((i : ℕ) → i < n → IsFoundAt modules i) → IsTrue true ↔ HasDistinctSymbols (map numbered_module modules)
+all_found modules n whole each = (λ said. distinct_found modules (λ i below. each i (omega arith)), λ distinct. refl)

@@ -5,6 +5,7 @@ use Rattle.hw_model.specs.Kinds.{Instance}
 use Rattle.hw_model.specs.Design.{Op, Module, Design, instance_in}
 use Rattle.hw_model.specs.Hierarchy.{called}
 use Rattle.ir_store.specs.Symbols.{symbol_place}
+use Rattle.ir_store.specs.Designs.{StoredModule}
 
 -- the symbols of the modules, in order
 abbrev pub symbols_in : Design → List Name
@@ -29,3 +30,7 @@ pub record IsCalleeAt (symbols : List Name) (os : List Op) (j : ℕ) (number : O
   pub op_there : Op
   pub has_op : slice_get os j ≡ Some op_there
   pub number_is : number ≡ callee_number symbols (instance_in op_there.kind)
+
+-- the first module of the symbol of module i is module i
+abbrev pub IsFoundAt : List StoredModule → ℕ → Type 0
+IsFoundAt modules i = (m : StoredModule) → slice_get modules i ≡ Some m → symbol_place m.symbol (map (λ (x : StoredModule). x.symbol) modules) ≡ Some i

@@ -10,8 +10,12 @@ mod order;
 mod place;
 mod recursion;
 mod size;
+mod symbols;
+#[cfg(test)]
+mod tests;
 mod weights;
 
 pub use place::OpPlace;
 pub use recursion::first_recursive;
 pub use size::first_too_large;
+pub use symbols::has_distinct_symbols;
