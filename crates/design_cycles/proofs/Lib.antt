@@ -1,6 +1,9 @@
 pub mod Inside
 pub mod Locals
 pub mod Marking
+pub mod NodeNumbers
+pub mod NodeValues
+pub mod NodeLists
 pub mod Placing
 pub mod Callees
 pub mod Capped

@@ -3,6 +3,7 @@ pub mod Calls
 pub mod Graphs
 pub mod Local
 pub mod Marks
+pub mod Nodes
 pub mod Places
 pub mod Reading
 pub mod Sizes

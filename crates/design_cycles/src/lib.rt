@@ -4,7 +4,9 @@
 #![tactic(auto)]
 
 mod calls;
+mod cycles;
 mod graph;
+mod layout;
 mod ops;
 mod order;
 mod place;
@@ -14,7 +16,9 @@ mod symbols;
 #[cfg(test)]
 mod tests;
 mod weights;
+mod wires;
 
+pub use cycles::first_cycle;
 pub use place::OpPlace;
 pub use recursion::first_recursive;
 pub use size::first_too_large;

@@ -1,7 +1,7 @@
 //! The worked examples, built by hand, and each call once with ample memory.
-use crate::{OpPlace, first_recursive, first_too_large, has_distinct_symbols};
+use crate::{OpPlace, first_cycle, first_recursive, first_too_large, has_distinct_symbols};
 use diag::refusal::Place;
-use hw_model::kinds::{Instance, OpKind};
+use hw_model::kinds::{Instance, OpKind, Reset};
 use hw_model::types::Ty;
 use io_edge::byte_text::Text;
 use ir_store::body::Body;
@@ -59,6 +59,7 @@ fn instance(
     alloc: Global,
     symbol: &[u8],
     operands: &[Value],
+    types: usize,
     results: usize,
 ) -> Result<NewOp, AllocError> {
     let kind = OpKind::Instance(Instance {
@@ -68,22 +69,22 @@ fn instance(
         inputs: Vec::new(alloc),
         outputs: Vec::new(alloc),
     });
-    op(alloc, kind, operands, operands.len() + results, results)
+    op(alloc, kind, operands, types, results)
 }
 
 // a module with ports of one bit, the inputs first
 fn bit_module(
     alloc: Global,
     symbol: &[u8],
-    inputs: usize,
-    outputs: usize,
+    inputs: u8,
+    outputs: u8,
     ops: Vec<NewOp>,
 ) -> Result<Module, AllocError> {
     let mut ports = Vec::new(alloc);
-    for number in 0..inputs + outputs {
+    for number in 0..u16::from(inputs) + u16::from(outputs) {
         ports.push(Port {
             name: Text::new(alloc),
-            out: number >= inputs,
+            out: number >= u16::from(inputs),
             ty: Ty::Int(1),
             again: false,
         })?;
@@ -115,25 +116,75 @@ fn place(module: u32, op: u32) -> Option<OpPlace> {
     })
 }
 
-// the answers; a question that may not be asked has none
+// the three answers; a question that may not be asked has none
 #[derive(Debug, Drop, PartialEq, Eq)]
 struct Answers {
     recursive: Option<OpPlace>,
     too_large: Option<u32>,
+    cyclic: Option<OpPlace>,
 }
 
 fn asked(alloc: Global, design: &Design) -> Result<Answers, AllocError> {
     let mut answers = Answers {
         recursive: None,
         too_large: None,
+        cyclic: None,
     };
     if has_distinct_symbols(design) {
-        match first_recursive(alloc, design)? {
+        let recursive = first_recursive(alloc, design)?;
+        match recursive {
             Some(place) => answers.recursive = Some(place),
-            None => answers.too_large = first_too_large(alloc, design)?,
+            None => {
+                answers.too_large = first_too_large(alloc, design)?;
+                answers.cyclic = first_cycle(alloc, design)?;
+            }
         }
     }
     Ok(answers)
+}
+
+// a register or a wire in a module, and an instance of it that takes its own result
+fn loop_through_instance(alloc: Global, inner: OpKind) -> Result<Design, AllocError> {
+    let mut design = Design::new(alloc);
+    let held = op(alloc, inner, &[Value::Port(1), Value::Port(0)], 1, 1)?;
+    let given = op(alloc, OpKind::Output, &[result(0)], 1, 0)?;
+    let ops = vec![in alloc; held, given]?;
+    let _ = design.add_module(bit_module(alloc, b"D".as_slice(), 2, 1, ops)?)?;
+    let user = instance(alloc, b"D".as_slice(), &[Value::Port(0), result(0)], 3, 1)?;
+    let given = op(alloc, OpKind::Output, &[result(0)], 1, 0)?;
+    let ops = vec![in alloc; user, given]?;
+    let _ = design.add_module(bit_module(alloc, b"P".as_slice(), 1, 1, ops)?)?;
+    Ok(design)
+}
+
+#[test]
+fn a_register_breaks_the_loop(rt: HostRuntime) -> Result<(), Fail> {
+    let alloc = rt.alloc();
+    let design = loop_through_instance(alloc, OpKind::CompReg(Reset::No))?;
+    assert_eq!(rt;
+        asked(alloc, &design)?,
+        Answers {
+            recursive: None,
+            too_large: None,
+            cyclic: None
+        }
+    );
+    Ok(())
+}
+
+#[test]
+fn a_wire_closes_the_loop(rt: HostRuntime) -> Result<(), Fail> {
+    let alloc = rt.alloc();
+    let design = loop_through_instance(alloc, OpKind::Wire)?;
+    assert_eq!(rt;
+        asked(alloc, &design)?,
+        Answers {
+            recursive: None,
+            too_large: None,
+            cyclic: place(1, 0)
+        }
+    );
+    Ok(())
 }
 
 // two modules that instance each other, behind one that instances the first
@@ -141,20 +192,21 @@ fn asked(alloc: Global, design: &Design) -> Result<Answers, AllocError> {
 fn modules_within_each_other(rt: HostRuntime) -> Result<(), Fail> {
     let alloc = rt.alloc();
     let mut design = Design::new(alloc);
-    let ops = vec![in alloc; instance(alloc, b"A".as_slice(), &[], 0)?]?;
+    let ops = vec![in alloc; instance(alloc, b"A".as_slice(), &[], 0, 0)?]?;
     let _ = design.add_module(bit_module(alloc, b"T".as_slice(), 0, 0, ops)?)?;
     let ops = vec![in alloc;
         op(alloc, OpKind::Output, &[], 0, 0)?,
-        instance(alloc, b"B".as_slice(), &[], 0)?,
+        instance(alloc, b"B".as_slice(), &[], 0, 0)?,
     ]?;
     let _ = design.add_module(bit_module(alloc, b"A".as_slice(), 0, 0, ops)?)?;
-    let ops = vec![in alloc; instance(alloc, b"A".as_slice(), &[], 0)?]?;
+    let ops = vec![in alloc; instance(alloc, b"A".as_slice(), &[], 0, 0)?]?;
     let _ = design.add_module(bit_module(alloc, b"B".as_slice(), 0, 0, ops)?)?;
     assert_eq!(rt;
         asked(alloc, &design)?,
         Answers {
             recursive: place(1, 1),
-            too_large: None
+            too_large: None,
+            cyclic: None
         }
     );
     Ok(())
@@ -168,8 +220,8 @@ fn doubling(alloc: Global, count: u8) -> Result<Design, AllocError> {
     let _ = design.add_module(bit_module(alloc, &[0u8], 1, 1, ops)?)?;
     for number in 1..count {
         let inner = [number - 1];
-        let first = instance(alloc, inner.as_slice(), &[Value::Port(0)], 1)?;
-        let second = instance(alloc, inner.as_slice(), &[result(0)], 1)?;
+        let first = instance(alloc, inner.as_slice(), &[Value::Port(0)], 2, 1)?;
+        let second = instance(alloc, inner.as_slice(), &[result(0)], 2, 1)?;
         let given = op(alloc, OpKind::Output, &[result(1)], 1, 0)?;
         let ops = vec![in alloc; first, second, given]?;
         if design.module_count() < 1000 {
@@ -187,7 +239,8 @@ fn doubled_weights(rt: HostRuntime) -> Result<(), Fail> {
         asked(alloc, &small)?,
         Answers {
             recursive: None,
-            too_large: None
+            too_large: None,
+            cyclic: None
         }
     );
     let large = doubling(alloc, 31)?;
@@ -195,7 +248,8 @@ fn doubled_weights(rt: HostRuntime) -> Result<(), Fail> {
         asked(alloc, &large)?,
         Answers {
             recursive: None,
-            too_large: Some(25)
+            too_large: Some(25),
+            cyclic: None
         }
     );
     Ok(())

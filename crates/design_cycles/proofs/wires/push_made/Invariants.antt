@@ -1,0 +1,7 @@
+use Rattle.std.proofs.Common.{◌≡◌, ◌++◌}
+use Rattle.design_cycles.specs.Graphs.{lists_of}
+use Rattle.design_cycles.specs.Nodes.{value_nodes, times_over}
+use Rattle.design_cycles.proofs.wires.push_made.Given as goal
+
+abbrev pub invariant-loop : goal.invariant-loop
+invariant-loop l = lists_of l.graph.items ≡ lists_of l.fn.graph.items ++ times_over l.counter (value_nodes l.layout l.operands)

@@ -1,0 +1,141 @@
+-- The nodes of a body's values: first the ports, then the results of each operation in order.
+use Rattle.std.specs.Prelude.{◌≡◌, ℕ, zero, suc, ◌+◌, ◌<◌, cond, nat_lt, List, [], ◌∷◌, ◌++◌, map, length, Option, Some, None, slice_get, option_to_list}
+use Rattle.hw_model.specs.Types.{Name}
+use Rattle.hw_model.specs.Kinds.{Instance}
+use Rattle.hw_model.specs.Design.{Ref, Op, instance_in, is_register, is_output_op}
+use Rattle.hw_model.specs.Design.Ref.{port, result, undefined}
+use Rattle.ir_store.specs.declared.operation.Value.{Value}
+use Rattle.ir_store.specs.declared.operation.Value.TheVariants.{Port, Result, Undefined}
+use Rattle.wiring.specs.Options.{bind}
+use Rattle.ir_store.specs.Symbols.{symbol_place}
+use Rattle.design_cycles.specs.declared.layout.Span.{Span}
+use Rattle.design_cycles.specs.declared.layout.Summary.{Summary}
+use Rattle.design_cycles.specs.declared.layout.Layout.{Layout}
+use Rattle.design_cycles.specs.Graphs.{lists_of, edges}
+use Rattle.design_cycles.specs.Local.{wires}
+
+-- the lists of a summary; of a module without one there are none
+abbrev pub rows_of : Option Summary → List (List ℕ)
+rows_of None = []
+rows_of (Some s) = lists_of s.outputs.items
+
+abbrev pub rows_at : List Summary → Option ℕ → List (List ℕ)
+rows_at summaries None = []
+rows_at summaries (Some i) = rows_of (slice_get summaries i)
+
+-- the lists of the module of a symbol
+abbrev pub rows_by : List Name → List Summary → Name → List (List ℕ)
+rows_by symbols summaries s = rows_at summaries (symbol_place s symbols)
+
+-- how many results of an operation need others
+abbrev pub size_by : (Name → List (List ℕ)) → Op → Option Instance → ℕ
+size_by rows o (Some i) = length (rows i.symbol)
+size_by rows o None = cond (is_output_op o) 0 (length o.results)
+
+abbrev pub size_in : (Name → List (List ℕ)) → Op → ℕ
+size_in rows o = cond (is_register o) 0 (size_by rows o (instance_in o.kind))
+
+-- the operation at a position has so many
+pub record HasSize (rows : Name → List (List ℕ)) (os : List Op) (j n : ℕ) : Type 0 where
+  pub op_there : Op
+  pub has_op : slice_get os j ≡ Some op_there
+  pub size_is : n ≡ size_in rows op_there
+
+abbrev pub sizes_in : (Name → List (List ℕ)) → List Op → List ℕ
+sizes_in rows os = map (size_in rows) os
+
+-- the nodes of the results, from a node on
+abbrev pub AreSpans : ℕ → List ℕ → List Span → Type 0
+AreSpans start [] [] = Unit {0}
+AreSpans start [] (s ∷ ss) = ⊥
+AreSpans start (n ∷ ns) [] = ⊥
+AreSpans start (n ∷ ns) (s ∷ ss) = (s.start ≡ start) × (s.size ≡ n) × AreSpans (start + n) ns ss
+
+abbrev pub node_at : ℕ → List ℕ → ℕ → ℕ → Option ℕ
+node_at start [] j k = None
+node_at start (n ∷ ns) zero k = cond (nat_lt k n) (Some (start + k)) None
+node_at start (n ∷ ns) (suc j) k = node_at (start + n) ns j k
+
+-- the node of a value, where it has one
+abbrev pub node_ref : ℕ → List ℕ → Ref → Option ℕ
+node_ref ports sizes (port p) = cond (nat_lt p ports) (Some p) None
+node_ref ports sizes (result j k) = node_at ports sizes j k
+node_ref ports sizes undefined = None
+
+-- the nodes of values, where they have any
+abbrev pub nodes_in : (Ref → Option ℕ) → List Ref → List ℕ
+nodes_in node [] = []
+nodes_in node (r ∷ rs) = option_to_list (node r) ++ nodes_in node rs
+
+-- the values that have nodes, in order
+abbrev pub port_refs : ℕ → ℕ → List Ref
+port_refs p zero = []
+port_refs p (suc n) = port p ∷ port_refs (suc p) n
+
+abbrev pub op_refs : ℕ → ℕ → ℕ → List Ref
+op_refs j k zero = []
+op_refs j k (suc n) = result j k ∷ op_refs j (suc k) n
+
+abbrev pub result_refs : ℕ → List ℕ → List Ref
+result_refs j [] = []
+result_refs j (n ∷ ns) = op_refs j 0 n ++ result_refs (suc j) ns
+
+abbrev pub body_refs : ℕ → List ℕ → List Ref
+body_refs ports sizes = port_refs 0 ports ++ result_refs 0 sizes
+
+-- what the outputs of a symbol's module depend on
+abbrev pub table_by : (Name → List (List ℕ)) → Name → ℕ → List ℕ
+table_by rows s k = edges (rows s) k
+
+-- what the node of a value needs
+abbrev pub node_needs : ℕ → (Name → List (List ℕ)) → List Op → Ref → List ℕ
+node_needs ports rows os r = nodes_in (node_ref ports (sizes_in rows os)) (wires (table_by rows) os r)
+
+-- what each node of a body needs
+abbrev pub body_lists : ℕ → (Name → List (List ℕ)) → List Op → List (List ℕ)
+body_lists ports rows os = map (node_needs ports rows os) (body_refs ports (sizes_in rows os))
+
+-- the positions are those of the ids
+pub record ArePositions (ids positions : List ℕ) : Type 0 where
+  pub known : (j q : ℕ) → slice_get ids j ≡ Some q → slice_get positions q ≡ Some j
+  pub real : (q j : ℕ) → slice_get positions q ≡ Some j → j < length ids → slice_get ids j ≡ Some q
+
+-- the layout is that of a body with so many ports, sizes and ids
+pub record IsLayout (ports : ℕ) (sizes ids : List ℕ) (layout : Layout) : Type 0 where
+  pub count : layout.ports ≡ ports
+  pub spans : AreSpans ports sizes layout.spans.items
+  pub positions : ArePositions ids layout.positions.items
+
+-- ---- nodes as code tells them
+
+abbrev pub span_node : Option Span → ℕ → Option ℕ
+span_node None k = None
+span_node (Some s) k = cond (nat_lt k s.size) (Some (s.start + k)) None
+
+abbrev pub value_node : Layout → Value → Option ℕ
+value_node l (Port p) = cond (nat_lt p l.ports) (Some p) None
+value_node l (Result id k) = span_node (bind (slice_get l.positions.items id.index) (slice_get l.spans.items)) k
+value_node l Undefined = None
+
+-- the nodes of values, where they have any
+abbrev pub value_nodes : Layout → List Value → List ℕ
+value_nodes l [] = []
+value_nodes l (x ∷ xs) = option_to_list (value_node l x) ++ value_nodes l xs
+
+-- the nodes of the values of these numbers
+abbrev pub picked_values : Layout → List Value → List ℕ → List ℕ
+picked_values l values [] = []
+picked_values l values (n ∷ ns) = option_to_list (bind (slice_get values n) (value_node l)) ++ picked_values l values ns
+
+-- a list n times over
+abbrev pub times_over : ℕ → List ℕ → List (List ℕ)
+times_over zero xs = []
+times_over (suc n) xs = xs ∷ times_over n xs
+
+-- what the results of an operation need
+abbrev pub op_lists_by : Layout → (Name → List (List ℕ)) → Op → List Value → Option Instance → List (List ℕ)
+op_lists_by l rows o values (Some i) = map (picked_values l values) (rows i.symbol)
+op_lists_by l rows o values None = cond (is_output_op o) [] (times_over (length o.results) (value_nodes l values))
+
+abbrev pub op_lists : Layout → (Name → List (List ℕ)) → Op → List Value → List (List ℕ)
+op_lists l rows o values = cond (is_register o) [] (op_lists_by l rows o values (instance_in o.kind))

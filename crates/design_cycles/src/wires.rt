@@ -1,0 +1,282 @@
+//! The graph of a body's values: what each needs, without a register between, each instance standing for what its module's
+//! outputs depend on.
+ghost use Rattle.std.specs.Prelude.{◌≡◌, ◌<◌, ◌+◌, ◌^◌, ◌++◌, length, map, IfOk};
+ghost use Rattle.std.specs.Option.{option_map};
+ghost use Rattle.wiring.specs.Options.{bind};
+ghost use Rattle.ir_store.specs.Bodies.{ids_of, ops_of, op_id};
+ghost use Rattle.ir_store.specs.Designs.{modules_of};
+ghost use Rattle.ir_store.specs.Numbered.{numbered};
+ghost use Rattle.std.specs.Prelude.{slice_get};
+ghost use Rattle.ir_store.specs.Live.{AreDistinct};
+ghost use Rattle.design_cycles.specs.Graphs.{lists_of};
+ghost use Rattle.design_cycles.specs.Nodes.{rows_at as rows_kept, rows_by, HasSize, sizes_in, AreSpans, ArePositions, IsLayout, span_node, value_node, value_nodes, picked_values, times_over};
+
+use crate::graph::NodeList;
+use crate::layout::{Layout, Span, Summary};
+use crate::ops::{Sort, op_at, sort_of};
+use ir_store::body::Body;
+use ir_store::design::Design;
+use ir_store::operation::{OpId, Value};
+use std::alloc::{AllocError, Global};
+
+/// The node of a value, where it has one.
+pub(crate) fn node_of(layout: &Layout, value: Value) -> Option<u32>
+    ensures { result ≡ value_node layout.now value }
+{
+    match value {
+        Value::Port(port) => (port < layout.ports).then_some(port),
+        Value::Result(id, number) => match layout.positions.get(id.number() as usize) {
+            Some(position) => node_in(layout.spans.get(*position as usize), number),
+            None => None,
+        },
+        Value::Undefined => None,
+    }
+}
+
+/// The node of a result of an operation with these nodes.
+fn node_in(span: Option<&Span>, number: u32) -> Option<u32>
+    ensures { result ≡ span_node (option_map (λ s. s.now) span.entry) number }
+{
+    match span {
+        Some(span) if number < span.size => Some(span.start + number),
+        _ => None,
+    }
+}
+
+/// The position of each id by its number.
+pub(crate) fn positions_of(alloc: Global, ids: &[OpId]) -> Result<Vec<u32>, AllocError>
+    requires small { length ids.now < 2 ^ 32 }
+    requires distinct { AreDistinct (map (λ (i : OpId). i.index) ids.now) }
+    ensures { IfOk result (λ ps. ArePositions (map (λ (i : OpId). i.index) ids.now) ps.items) }
+{
+    let count = u32::try_from(ids.len()).unwrap_or(u32::MAX);
+    let mut positions = vec![in alloc; count; size_for(ids)]?;
+    for (position, id) in ids.iter().enumerate() {
+        if let Some(place) = positions.get_mut(id.number() as usize) {
+            *place = u32::try_from(position).unwrap_or(u32::MAX);
+        }
+    }
+    Ok(positions)
+}
+
+/// One more than the greatest number of an id.
+fn size_for(ids: &[OpId]) -> usize {
+    let mut size: usize = 0;
+    for id in ids {
+        size = size.max((id.number() as usize).saturating_add(1));
+    }
+    size
+}
+
+/// How many results of the operation at a position need others.
+fn size_at(
+    design: &Design,
+    body: &Body,
+    ids: &[OpId],
+    position: usize,
+    summaries: &[Summary],
+) -> usize
+    requires all { ids.now ≡ map op_id (ids_of body.now) }
+    requires within { position < length ids.now }
+    ensures { HasSize (rows_by (map (λ m. m.symbol) (modules_of design.now)) summaries.now) (numbered (ops_of body.now)) position result }
+{
+    let op = op_at(body, ids, position);
+    match sort_of(op.kind) {
+        Sort::Register | Sort::Gives => 0,
+        Sort::Made => op.results.results.len(),
+        Sort::Calls(instance) => {
+            rows_at(summaries, design.find(instance.symbol.as_bytes())).len()
+        }
+    }
+}
+
+/// The lists of a module's summary, where there is one.
+fn rows_at(summaries: &[Summary], number: Option<u32>) -> &[NodeList]
+    ensures { lists_of result.now ≡ rows_kept summaries.now number }
+{
+    match number {
+        Some(number) => match summaries.get(number as usize) {
+            Some(summary) => summary.outputs.as_slice(),
+            None => &[],
+        },
+        None => &[],
+    }
+}
+
+/// The nodes of each operation's results, in order, behind those of the ports.
+fn spans_of(
+    alloc: Global,
+    design: &Design,
+    body: &Body,
+    ids: &[OpId],
+    ports: u32,
+    summaries: &[Summary],
+) -> Result<Vec<Span>, AllocError>
+    requires { ids.now ≡ map op_id (ids_of body.now) }
+    ensures { IfOk result (λ spans. AreSpans ports (sizes_in (rows_by (map (λ m. m.symbol) (modules_of design.now)) summaries.now) (numbered (ops_of body.now))) spans.items) }
+{
+    let mut spans = Vec::with_capacity(alloc, ids.len())?;
+    let mut start = ports;
+    for position in 0..ids.len() {
+        let count = size_at(design, body, ids, position, summaries);
+        let Ok(size) = u32::try_from(count) else {
+            return Err(AllocError);
+        };
+        let Some(next) = start.checked_add(size) else {
+            return Err(AllocError);
+        };
+        spans.push(Span { start, size })?;
+        start = next;
+    }
+    Ok(spans)
+}
+
+/// Which values of a body have nodes. A body with 2^32 values or more wants more memory than there is.
+pub(crate) fn layout_of(
+    alloc: Global,
+    design: &Design,
+    body: &Body,
+    ids: &[OpId],
+    ports: usize,
+    summaries: &[Summary],
+) -> Result<Layout, AllocError>
+    requires { ids.now ≡ map op_id (ids_of body.now) }
+{
+    let Ok(ports) = u32::try_from(ports) else {
+        return Err(AllocError);
+    };
+    let spans = spans_of(alloc, design, body, ids, ports, summaries)?;
+    let positions = positions_of(alloc, ids)?;
+    Ok(Layout {
+        ports,
+        spans,
+        positions,
+    })
+}
+
+/// What each node needs.
+pub(crate) fn graph_of(
+    alloc: Global,
+    design: &Design,
+    body: &Body,
+    ids: &[OpId],
+    layout: &Layout,
+    summaries: &[Summary],
+) -> Result<Vec<NodeList>, AllocError>
+    requires { ids.now ≡ map op_id (ids_of body.now) }
+{
+    let mut graph = Vec::new(alloc);
+    for _ in 0..layout.ports {
+        graph.push(NodeList {
+            nodes: Vec::new(alloc),
+        })?;
+    }
+    for position in 0..ids.len() {
+        push_op(
+            alloc, design, body, ids, position, layout, summaries, &mut graph,
+        )?;
+    }
+    Ok(graph)
+}
+
+/// Appends what each result of the operation at a position needs.
+fn push_op(
+    alloc: Global,
+    design: &Design,
+    body: &Body,
+    ids: &[OpId],
+    position: usize,
+    layout: &Layout,
+    summaries: &[Summary],
+    graph: &mut Vec<NodeList>,
+) -> Result<(), AllocError>
+    requires all { ids.now ≡ map op_id (ids_of body.now) }
+    requires within { position < length ids.now }
+{
+    let op = op_at(body, ids, position);
+    match sort_of(op.kind) {
+        Sort::Register | Sort::Gives => Ok(()),
+        Sort::Made => push_made(alloc, layout, op.operands, op.results.results.len(), graph),
+        Sort::Calls(instance) => {
+            let rows = rows_at(summaries, design.find(instance.symbol.as_bytes()));
+            push_instance(alloc, layout, op.operands, rows, graph)
+        }
+    }
+}
+
+/// Appends the operands of an operation, once for each of its results.
+fn push_made(
+    alloc: Global,
+    layout: &Layout,
+    operands: &[Value],
+    count: usize,
+    graph: &mut Vec<NodeList>,
+) -> Result<(), AllocError>
+    ensures { IfOk result (λ _. lists_of graph.new.items ≡ lists_of graph.old.items ++ times_over count (value_nodes layout.now operands.now)) }
+{
+    for _ in 0..count {
+        graph.push(NodeList {
+            nodes: nodes_of(alloc, layout, operands)?,
+        })?;
+    }
+    Ok(())
+}
+
+/// Appends the operands of an instance that each output depends on.
+fn push_instance(
+    alloc: Global,
+    layout: &Layout,
+    operands: &[Value],
+    outputs: &[NodeList],
+    graph: &mut Vec<NodeList>,
+) -> Result<(), AllocError>
+    ensures { IfOk result (λ _. lists_of graph.new.items ≡ lists_of graph.old.items ++ map (picked_values layout.now operands.now) (lists_of outputs.now)) }
+{
+    for output in outputs {
+        graph.push(NodeList {
+            nodes: picked_nodes(alloc, layout, operands, output.nodes.as_slice())?,
+        })?;
+    }
+    Ok(())
+}
+
+/// The nodes of values, where they have any.
+fn nodes_of(alloc: Global, layout: &Layout, values: &[Value]) -> Result<Vec<u32>, AllocError>
+    ensures { IfOk result (λ nodes. nodes.items ≡ value_nodes layout.now values.now) }
+{
+    let mut nodes = Vec::new(alloc);
+    for value in values {
+        if let Some(node) = node_of(layout, *value) {
+            nodes.push(node)?;
+        }
+    }
+    Ok(nodes)
+}
+
+/// The nodes of the operands of these numbers, where they have any.
+fn picked_nodes(
+    alloc: Global,
+    layout: &Layout,
+    operands: &[Value],
+    numbers: &[u32],
+) -> Result<Vec<u32>, AllocError>
+    ensures { IfOk result (λ nodes. nodes.items ≡ picked_values layout.now operands.now numbers.now) }
+{
+    let mut nodes = Vec::new(alloc);
+    for number in numbers {
+        if let Some(node) = picked_node(layout, operands, *number) {
+            nodes.push(node)?;
+        }
+    }
+    Ok(nodes)
+}
+
+/// The node of the operand of a number, where it has one.
+fn picked_node(layout: &Layout, operands: &[Value], number: u32) -> Option<u32>
+    ensures { result ≡ bind (slice_get operands.now number) (value_node layout.now) }
+{
+    match operands.get(number as usize) {
+        Some(value) => node_of(layout, *value),
+        None => None,
+    }
+}
