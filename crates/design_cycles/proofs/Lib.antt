@@ -3,6 +3,7 @@ pub mod Locals
 pub mod Marking
 pub mod NodeNumbers
 pub mod NodeValues
+pub mod Tables
 pub mod NodeLists
 pub mod Placing
 pub mod Callees

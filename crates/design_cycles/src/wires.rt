@@ -1,6 +1,6 @@
 //! The graph of a body's values: what each needs, without a register between, each instance standing for what its module's
 //! outputs depend on.
-ghost use Rattle.std.specs.Prelude.{◌≡◌, ◌<◌, ◌+◌, ◌^◌, ◌++◌, length, map, IfOk};
+ghost use Rattle.std.specs.Prelude.{◌≡◌, ◌<◌, ◌+◌, ◌^◌, ◌++◌, ℕ, length, map, IfOk, Some};
 ghost use Rattle.std.specs.Option.{option_map};
 ghost use Rattle.wiring.specs.Options.{bind};
 ghost use Rattle.ir_store.specs.Bodies.{ids_of, ops_of, op_id};
@@ -49,18 +49,17 @@ pub(crate) fn positions_of(alloc: Global, ids: &[OpId]) -> Result<Vec<u32>, Allo
     requires distinct { AreDistinct (map (λ (i : OpId). i.index) ids.now) }
     ensures { IfOk result (λ ps. ArePositions (map (λ (i : OpId). i.index) ids.now) ps.items) }
 {
-    let count = u32::try_from(ids.len()).unwrap_or(u32::MAX);
-    let mut positions = vec![in alloc; count; size_for(ids)]?;
-    for (position, id) in ids.iter().enumerate() {
-        if let Some(place) = positions.get_mut(id.number() as usize) {
-            *place = u32::try_from(position).unwrap_or(u32::MAX);
-        }
+    let mut positions = vec![in alloc; ids.len() as u32; size_for(ids)]?;
+    for position in 0..ids.len() {
+        positions[ids[position].number() as usize] = position as u32;
     }
     Ok(positions)
 }
 
 /// One more than the greatest number of an id.
-fn size_for(ids: &[OpId]) -> usize {
+fn size_for(ids: &[OpId]) -> usize
+    ensures { (j q : ℕ) → slice_get (map (λ (i : OpId). i.index) ids.now) j ≡ Some q → q < result }
+{
     let mut size: usize = 0;
     for id in ids {
         size = size.max((id.number() as usize).saturating_add(1));
