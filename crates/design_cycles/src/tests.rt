@@ -59,6 +59,7 @@ fn instance(
     alloc: Global,
     symbol: &[u8],
     operands: &[Value],
+    types: usize,
     results: usize,
 ) -> Result<NewOp, AllocError> {
     let kind = OpKind::Instance(Instance {
@@ -68,22 +69,22 @@ fn instance(
         inputs: Vec::new(alloc),
         outputs: Vec::new(alloc),
     });
-    op(alloc, kind, operands, operands.len() + results, results)
+    op(alloc, kind, operands, types, results)
 }
 
 // a module with ports of one bit, the inputs first
 fn bit_module(
     alloc: Global,
     symbol: &[u8],
-    inputs: usize,
-    outputs: usize,
+    inputs: u8,
+    outputs: u8,
     ops: Vec<NewOp>,
 ) -> Result<Module, AllocError> {
     let mut ports = Vec::new(alloc);
-    for number in 0..inputs + outputs {
+    for number in 0..u16::from(inputs) + u16::from(outputs) {
         ports.push(Port {
             name: Text::new(alloc),
-            out: number >= inputs,
+            out: number >= u16::from(inputs),
             ty: Ty::Int(1),
             again: false,
         })?;
@@ -128,7 +129,8 @@ fn asked(alloc: Global, design: &Design) -> Result<Answers, AllocError> {
         too_large: None,
     };
     if has_distinct_symbols(design) {
-        match first_recursive(alloc, design)? {
+        let recursive = first_recursive(alloc, design)?;
+        match recursive {
             Some(place) => answers.recursive = Some(place),
             None => answers.too_large = first_too_large(alloc, design)?,
         }
@@ -141,14 +143,14 @@ fn asked(alloc: Global, design: &Design) -> Result<Answers, AllocError> {
 fn modules_within_each_other(rt: HostRuntime) -> Result<(), Fail> {
     let alloc = rt.alloc();
     let mut design = Design::new(alloc);
-    let ops = vec![in alloc; instance(alloc, b"A".as_slice(), &[], 0)?]?;
+    let ops = vec![in alloc; instance(alloc, b"A".as_slice(), &[], 0, 0)?]?;
     let _ = design.add_module(bit_module(alloc, b"T".as_slice(), 0, 0, ops)?)?;
     let ops = vec![in alloc;
         op(alloc, OpKind::Output, &[], 0, 0)?,
-        instance(alloc, b"B".as_slice(), &[], 0)?,
+        instance(alloc, b"B".as_slice(), &[], 0, 0)?,
     ]?;
     let _ = design.add_module(bit_module(alloc, b"A".as_slice(), 0, 0, ops)?)?;
-    let ops = vec![in alloc; instance(alloc, b"A".as_slice(), &[], 0)?]?;
+    let ops = vec![in alloc; instance(alloc, b"A".as_slice(), &[], 0, 0)?]?;
     let _ = design.add_module(bit_module(alloc, b"B".as_slice(), 0, 0, ops)?)?;
     assert_eq!(rt;
         asked(alloc, &design)?,
@@ -168,8 +170,8 @@ fn doubling(alloc: Global, count: u8) -> Result<Design, AllocError> {
     let _ = design.add_module(bit_module(alloc, &[0u8], 1, 1, ops)?)?;
     for number in 1..count {
         let inner = [number - 1];
-        let first = instance(alloc, inner.as_slice(), &[Value::Port(0)], 1)?;
-        let second = instance(alloc, inner.as_slice(), &[result(0)], 1)?;
+        let first = instance(alloc, inner.as_slice(), &[Value::Port(0)], 2, 1)?;
+        let second = instance(alloc, inner.as_slice(), &[result(0)], 2, 1)?;
         let given = op(alloc, OpKind::Output, &[result(1)], 1, 0)?;
         let ops = vec![in alloc; first, second, given]?;
         if design.module_count() < 1000 {
