@@ -1,12 +1,12 @@
 -- Calls by numbers: how their lists grow, and that they lead where calls by symbols lead.
-use Rattle.std.proofs.Common.{◌≡◌, ◌⊎◌, ℕ, zero, suc, ◌+◌, ◌<◌, ◌≤◌, Bool, true, false, cond, List, [], ◌∷◌, ◌++◌, length, map, get_or, take, slice_get, Option, Some, None, option_map, refl, sym, ap, ap₂, subst, ◌∙◌, inl, inr, arith, append_assoc}
+use Rattle.std.proofs.Common.{◌≡◌, ◌⊎◌, ℕ, zero, suc, ◌+◌, ◌≤◌, Bool, true, false, cond, List, [], ◌∷◌, ◌++◌, length, map, take, slice_get, Option, Some, None, option_map, refl, sym, ap, ap₂, subst, ◌∙◌, inl, inr, arith, append_assoc}
 use Rattle.std.specs.Option.{option_to_list}
-use Rattle.std.proofs.lemmas.List.{length-map, append-nil, take_all}
-use Rattle.std.proofs.lemmas.Option.{slice_get-map, slice_get_within, get_or_from_slice_get, slice_get-get_or}
+use Rattle.std.proofs.lemmas.List.{append-nil, take_all}
+use Rattle.std.proofs.lemmas.Option.{slice_get-map, get_or_from_slice_get}
 use Rattle.std.specs.Cmp.Lexicographic.{same_text, other_text}
-use Rattle.wiring.specs.Wiring.{In, Chain, Depends, IsAcyclic}
-use Rattle.wiring.proofs.Lists.{take-suc_some, map-map, slice_get_some}
-use Rattle.wiring.proofs.Members.{In-append_left, In-append_right, In-append_cases, In-slice_get}
+use Rattle.wiring.specs.Wiring.{In, Chain, IsAcyclic}
+use Rattle.wiring.proofs.Lists.{take-suc_some, map-map}
+use Rattle.wiring.proofs.Members.{In-append_left, In-append_right, In-append_cases}
 use Rattle.hw_model.specs.Types.{Name}
 use Rattle.hw_model.specs.Kinds.{Instance}
 use Rattle.hw_model.specs.Design.{Op, Module, Design, same_name, find_module, instance_in}
@@ -15,7 +15,7 @@ use Rattle.hw_model.specs.Hierarchy.{called, called_by, calls, HasNoRecursion}
 use Rattle.ir_store.specs.Symbols.{symbol_place}
 use Rattle.ir_store.specs.Numbered.{numbered}
 use Rattle.ir_store.specs.Designs.{StoredModule, numbered_module}
-use Rattle.design_cycles.specs.Asked.{HasDistinctSymbols, Returns}
+use Rattle.design_cycles.specs.Asked.{HasDistinctSymbols}
 use Rattle.design_cycles.specs.Calls.{symbols_in, numbers_of, call_lists, callee_number, IsCalleeAt}
 use Rattle.design_cycles.specs.Graphs.{edges}
 

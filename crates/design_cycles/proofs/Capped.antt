@@ -1,12 +1,10 @@
 -- Sums and products up to a most.
-use Rattle.std.proofs.Common.{◌≡◌, ℕ, zero, suc, ◌+◌, ◌*◌, ◌<◌, ◌≤◌, min, List, [], ◌∷◌, ◌++◌, length, map, take, get_or, slice_get, Option, Some, None, refl, sym, ap, ◌∙◌, arith, rules}
+use Rattle.std.proofs.Common.{◌≡◌, ℕ, zero, suc, ◌+◌, ◌*◌, ◌<◌, ◌≤◌, min, List, [], ◌∷◌, ◌++◌, length, map, take, get_or, slice_get, refl, sym, ap, ◌∙◌, arith, rules}
 use Rattle.std.proofs.lemmas.List.{map_more, take_all}
 use Rattle.std.proofs.Math.Nat.{mul_comm}
-use Rattle.wiring.specs.Lists.{total}
-use Rattle.wiring.proofs.Totals.{total-append}
 use Rattle.hw_model.specs.Types.{HwType, leaves}
 use Rattle.hw_model.specs.TypeViews.{type_of}
-use Rattle.hw_model.specs.Kinds.{Literal as HwLiteral, Literals}
+use Rattle.hw_model.specs.Kinds.{Literal as HwLiteral}
 use Rattle.hw_model.specs.KindViews.{literals_of, literal_of, literals_in}
 use Rattle.hw_model.specs.Value.{written}
 use Rattle.hw_model.specs.Weight.{leaf_count, literal_leaves, literals_leaves, element_count, element_leaves, choice_weight}

@@ -1,8 +1,7 @@
 -- The part of a flattened module that stands within one of its instances is the flattened module of that instance.
-use Rattle.std.proofs.Common.{◌≡◌, ◌⊎◌, ℕ, zero, suc, ◌+◌, ◌<◌, ◌≤◌, Bool, true, false, cond, List, [], ◌∷◌, ◌++◌, length, map, take, slice_get, is_some, Option, Some, None, refl, sym, ap, ap₂, subst, ◌∙◌, inl, inr, arith, zero-add, suc-add}
+use Rattle.std.proofs.Common.{◌≡◌, ℕ, zero, suc, ◌+◌, Bool, true, false, cond, List, [], ◌∷◌, ◌++◌, length, map, take, slice_get, Option, Some, None, refl, sym, ap, ap₂, subst, ◌∙◌, inl, inr, arith}
 use Rattle.wiring.specs.Options.{bind}
-use Rattle.wiring.specs.Wiring.{In, Chain, Depends as IsReached, HasHeights as HaveHeights}
-use Rattle.wiring.proofs.Options.{bind_some}
+use Rattle.wiring.specs.Wiring.{In, Chain, Depends as IsReached}
 use Rattle.wiring.proofs.Members.{In-map, from_In-map, In-slice_get}
 use Rattle.wiring.proofs.Lists.{map-map}
 use Rattle.wiring.proofs.Chains.{Chain-append}
@@ -11,11 +10,11 @@ use Rattle.hw_model.specs.Types.{Name, HwType, width}
 use Rattle.hw_model.specs.Kinds.{Instance}
 use Rattle.hw_model.specs.Design.{Ref, Port, Op, Module, Design, find_module, instance_in, is_instance, callee, result_type}
 use Rattle.hw_model.specs.Design.Ref.{port, result, undefined}
-use Rattle.hw_model.specs.Flat.{Path, Net, net, Source, instances, module_at, base, body_state, state, input_of, input_width, copy_of, joined_ref, joined_at, given_ref, held_of, made_of, port_ref}
+use Rattle.hw_model.specs.Flat.{Path, Net, net, instances, module_at, base, body_state, state, input_of, input_width, copy_of, joined_ref, joined_at, given_ref, held_of, made_of, port_ref}
 use Rattle.hw_model.specs.Flat.Source.{nowhere, input}
 use Rattle.hw_model.specs.Meaning.{needs_of, needs, HasNoCycle}
 use Rattle.hw_model.specs.Sound.{body_of, ports_of}
-use Rattle.hw_model.specs.Hierarchy.{called, calls, HasNoRecursion}
+use Rattle.hw_model.specs.Hierarchy.{calls, HasNoRecursion}
 use Rattle.hw_model.proofs.Sorts.{Sort, sort_of}
 use Rattle.hw_model.proofs.Sorts.Sort.{a_register, an_instance, an_output, a_made}
 use Rattle.hw_model.proofs.Paths.{module_inside, input_ports, joined_body, op_in, result_in, result_here}

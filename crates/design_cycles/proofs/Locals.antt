@@ -1,9 +1,8 @@
 -- Within one body the wires of the table lead where chains of the flattened module lead.
-use Rattle.std.proofs.Common.{◌≡◌, ◌⊎◌, ℕ, zero, suc, ◌+◌, ◌<◌, ◌≤◌, Bool, true, false, cond, List, [], ◌∷◌, ◌++◌, length, map, take, slice_get, Option, Some, None, refl, sym, ap, subst, ◌∙◌, inl, inr, arith}
+use Rattle.std.proofs.Common.{◌≡◌, ◌⊎◌, ℕ, zero, suc, ◌+◌, ◌<◌, ◌≤◌, Bool, true, false, cond, List, [], ◌∷◌, length, map, take, slice_get, Option, Some, None, refl, sym, ap, subst, ◌∙◌, inl, inr, arith}
 use Rattle.std.specs.Option.{option_to_list}
 use Rattle.wiring.specs.Options.{bind}
 use Rattle.wiring.specs.Wiring.{In, Chain, Depends as IsReached}
-use Rattle.wiring.proofs.Options.{bind_some}
 use Rattle.wiring.proofs.Members.{In-map, from_In-map, In-append_left, In-append_right, In-append_cases}
 use Rattle.wiring.proofs.Chains.{Chain-append}
 use Rattle.hw_model.specs.Types.{Name, HwType}
@@ -13,14 +12,14 @@ use Rattle.hw_model.specs.Design.Ref.{port, result, undefined}
 use Rattle.hw_model.specs.Flat.{Net, net, instances, module_at, base, body_state, state, input_count, operand_for, port_ref, copy_of, joined_ref, joined_at, given_ref, held_of, made_of}
 use Rattle.hw_model.specs.Meaning.{needs_of, needs}
 use Rattle.hw_model.specs.Sound.{body_of, ports_of}
-use Rattle.hw_model.specs.Hierarchy.{called, calls}
+use Rattle.hw_model.specs.Hierarchy.{calls}
 use Rattle.hw_model.proofs.Sorts.{Sort, sort_of, instance_found}
 use Rattle.hw_model.proofs.Sorts.Sort.{a_register, an_instance, an_output, a_made}
 use Rattle.hw_model.proofs.Paths.{module_inside, joined_body, port_of, output_of, op_in, result_in, result_here}
 use Rattle.hw_model.proofs.Gone.{called_In}
 use Rattle.wiring.proofs.Members.{In-slice_get}
 use Rattle.design_cycles.specs.Local.{IsInput, Feeds, IsSummary, picked, where_typed, op_wires, result_wires, wires}
-use Rattle.design_cycles.proofs.Inside.{lift, lift_away, copied, no_needs_port, Leaves, chain_leaves, chain_lifts}
+use Rattle.design_cycles.proofs.Inside.{lift_away, copied, no_needs_port, Leaves, chain_leaves, chain_lifts}
 use Rattle.design_cycles.proofs.Inside.Leaves.{stays, leaves}
 
 -- ---- operands by number

@@ -1,15 +1,15 @@
 -- Placing nodes behind what they need, pass by pass; and what an order says of cycles.
-use Rattle.std.proofs.Common.{◌≡◌, ◌⊎◌, ◌↔◌, ℕ, zero, suc, ◌+◌, ◌<◌, ◌≤◌, Bool, true, false, List, [], ◌∷◌, ◌++◌, length, get_or, set, take, slice_get, drop, replicate, IsTrue, MatchBool, Some, None, refl, sym, ap, subst, ◌∙◌, inl, inr, arith, length-set, length-append}
+use Rattle.std.proofs.Common.{◌≡◌, ◌⊎◌, ◌↔◌, ℕ, zero, suc, ◌+◌, ◌<◌, ◌≤◌, Bool, true, false, List, [], ◌∷◌, ◌++◌, length, get_or, set, take, slice_get, drop, replicate, IsTrue, MatchBool, Some, refl, sym, ap, subst, ◌∙◌, inl, inr, arith, length-set, length-append}
 use Rattle.std.proofs.lemmas.List.{take_more, take-append-le}
 use Rattle.std.proofs.lemmas.Option.{slice_get_within}
 use Rattle.wiring.specs.Wiring.{In, Chain, Depends, IsAcyclic, IsWithin}
-use Rattle.wiring.proofs.Members.{In-append_left, In-append_right, In-append_cases, position_of_In, from_In-take}
-use Rattle.wiring.proofs.Lists.{slice_get-append_left, slice_get-append_at, slice_get-append_past, slice_get-take}
+use Rattle.wiring.proofs.Members.{In-append_left, In-append_right, In-append_cases, position_of_In}
+use Rattle.wiring.proofs.Lists.{slice_get-append_left, slice_get-append_at}
 use Rattle.wiring.proofs.Chains.{Chain-append, Chain-le}
 use Rattle.design_cycles.specs.declared.graph.NodeList.{NodeList}
 use Rattle.design_cycles.specs.Graphs.{lists_of, edges, marked, IsOrder}
-use Rattle.design_cycles.specs.Marks.{open_count, AreMarked, HasOpen, CanBePlaced, MustWait, Placed}
-use Rattle.design_cycles.proofs.Marking.{marked_within, marked_same, marked_kept, marked_cases, open_fewer, edges_within, none_marked, written_back, lists_at, length-lists}
+use Rattle.design_cycles.specs.Marks.{open_count, AreMarked, CanBePlaced, MustWait, Placed}
+use Rattle.design_cycles.proofs.Marking.{marked_same, marked_kept, marked_cases, open_fewer, edges_within, none_marked, written_back, length-lists}
 
 -- ---- whether all have their marks
 

@@ -1,14 +1,10 @@
 -- What is read of a body by positions.
-use Rattle.std.proofs.Common.{◌≡◌, ℕ, zero, suc, ◌+◌, ◌<◌, ◌≤◌, Bool, true, false, cond, nat_eq, List, [], ◌∷◌, length, map, get_or, slice_get, is_some, Option, Some, None, option_map, refl, sym, ap, subst, ◌∙◌, inl, inr, arith, eq-eqb}
+use Rattle.std.proofs.Common.{◌≡◌, ℕ, zero, suc, ◌<◌, ◌≤◌, Bool, true, false, cond, nat_eq, List, [], ◌∷◌, length, map, get_or, slice_get, Some, option_map, refl, sym, ap, subst, ◌∙◌, arith, eq-eqb}
 use Rattle.std.specs.Prelude.{Contains}
 use Rattle.std.proofs.lemmas.Bool.{eqb-true, eqb-false}
 use Rattle.std.proofs.lemmas.Option.{slice_get-map, get_or_from_slice_get}
 use Rattle.std.proofs.lemmas.List.{length-map}
 use Rattle.wiring.proofs.Lists.{slice_get_some}
-use Rattle.hw_model.specs.Design.{instance_in, register_form, is_output_kind}
-use Rattle.hw_model.specs.KindViews.{kind_of}
-use Rattle.hw_model.specs.declared.kinds.OpKind.{OpKind}
-use Rattle.hw_model.specs.declared.kinds.OpKind.TheVariants as kinds
 use Rattle.ir_store.specs.declared.body.Body.{Body}
 use Rattle.ir_store.specs.declared.body.Op.{Op}
 use Rattle.ir_store.specs.declared.operation.OpId.{OpId}

@@ -1,9 +1,9 @@
 -- Instances that lie on a cycle of modules, by numbers.
-use Rattle.std.proofs.Common.{◌≡◌, ◌⊎◌, ◌↔◌, IsTrue, ℕ, zero, suc, ◌+◌, ◌<◌, ◌≤◌, Bool, true, false, List, [], ◌∷◌, ◌++◌, length, map, take, get_or, slice_get, MatchBool, Option, Some, None, option_map, refl, sym, ap, subst, ◌∙◌, inl, inr, arith, eqb, eq-eqb}
+use Rattle.std.proofs.Common.{◌≡◌, ◌⊎◌, ◌↔◌, IsTrue, ℕ, zero, suc, ◌+◌, ◌<◌, ◌≤◌, Bool, true, false, List, [], ◌∷◌, length, map, get_or, slice_get, MatchBool, Option, Some, None, option_map, refl, sym, ap, subst, ◌∙◌, inl, inr, arith, eqb, eq-eqb}
 use Rattle.std.proofs.lemmas.Bool.{eqb-true, false≢true}
 use Rattle.std.proofs.lemmas.Option.{slice_get-map, slice_get_within, slice_get-get_or}
 use Rattle.std.proofs.lemmas.List.{length-map}
-use Rattle.wiring.specs.Wiring.{In, Chain, Depends}
+use Rattle.wiring.specs.Wiring.{In, Chain}
 use Rattle.wiring.proofs.Lists.{map-map}
 use Rattle.wiring.proofs.Members.{In-append_cases, In-slice_get}
 use Rattle.hw_model.specs.Types.{Name}
@@ -20,7 +20,7 @@ use Rattle.ir_store.specs.Numbered.{numbered}
 use Rattle.ir_store.specs.Designs.{StoredModule, numbered_module}
 use Rattle.design_cycles.specs.Places.{IsFirstOp, IsFirst, ids_at, ids_of_module}
 use Rattle.design_cycles.specs.Asked.{HasDistinctSymbols, Returns, IsRecursiveAt}
-use Rattle.design_cycles.specs.Calls.{symbols_in, numbers_of, call_lists, callee_number, IsCalleeAt, IsFoundAt}
+use Rattle.design_cycles.specs.Calls.{symbols_in, call_lists, callee_number, IsCalleeAt, IsFoundAt}
 use Rattle.design_cycles.specs.Graphs.{edges, marked, AreReached, LeadsTo, IsOrder}
 use Rattle.design_cycles.proofs.Callees.{number, call_edges, place_found, number_found, In-numbers, chain_numbers, found_at, chain_symbols}
 use Rattle.design_cycles.proofs.Placing.{placed_no_cycle}

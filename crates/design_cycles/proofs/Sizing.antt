@@ -1,15 +1,15 @@
 -- Weights of modules: what is kept, up to a most, is the weight, where each module is weighed behind those that it instances.
-use Rattle.std.proofs.Common.{◌≡◌, ◌⊎◌, ℕ, zero, suc, ◌+◌, ◌<◌, ◌≤◌, ◌^◌, ◌≢◌, Bool, true, false, min, eqb, List, [], ◌∷◌, ◌++◌, length, map, take, get_or, set, slice_get, slice_index, Option, Some, None, option_map, refl, sym, ap, ap₂, subst, ◌∙◌, inl, inr, arith, length-set}
+use Rattle.std.proofs.Common.{◌≡◌, ◌⊎◌, ℕ, zero, suc, ◌+◌, ◌<◌, ◌≤◌, ◌^◌, ◌≢◌, Bool, true, false, min, eqb, List, [], ◌∷◌, ◌++◌, length, map, take, get_or, set, slice_get, slice_index, Option, Some, None, refl, sym, ap, ap₂, subst, ◌∙◌, inl, inr, arith, length-set}
 use Rattle.std.proofs.lemmas.List.{map_more, take_all, take_more, length-map, get_or-set_same, get_or-set_other}
 use Rattle.std.proofs.lemmas.Bool.{eqb-true, eqb-false}
-use Rattle.std.proofs.lemmas.Option.{slice_get_within, get_or_from_slice_get, slice_get-get_or}
+use Rattle.std.proofs.lemmas.Option.{slice_get_within, slice_get-get_or}
 use Rattle.wiring.specs.Wiring.{In, IsHeight}
 use Rattle.wiring.proofs.Lists.{take-suc_some, slice_get_some}
 use Rattle.wiring.proofs.Members.{In-append_left, In-append_right, In-append_cases}
 use Rattle.wiring.proofs.Heights.{FallsAlong-height, height-le}
 use Rattle.hw_model.specs.Types.{Name, HwType, leaves}
 use Rattle.hw_model.specs.TypeViews.{type_of}
-use Rattle.hw_model.specs.Kinds.{Kind, Instance}
+use Rattle.hw_model.specs.Kinds.{Kind}
 use Rattle.hw_model.specs.Kinds.Kind.{instance}
 use Rattle.hw_model.specs.Design.{Op, Module, Design, Port, find_module, instance_in}
 use Rattle.hw_model.specs.Sound.{body_of}
@@ -24,7 +24,7 @@ use Rattle.ir_store.specs.declared.design.Port.{Port as CodePort}
 use Rattle.design_cycles.specs.Asked.{HasDistinctSymbols, IsTooLargeAt}
 use Rattle.design_cycles.specs.Calls.{symbols_in, numbers_of, call_lists}
 use Rattle.design_cycles.specs.Graphs.{edges, marked, IsOrder}
-use Rattle.design_cycles.specs.Places.{FindsNumber, IsFirstNumber}
+use Rattle.design_cycles.specs.Places.{FindsNumber}
 use Rattle.design_cycles.specs.Weighing.{kept_weight, weight_by, WeighsAt, Weighs, IsWhole}
 use Rattle.design_cycles.proofs.Callees.{call_edges, place_found, number_found, In-numbers, found_at, acyclic_numbers}
 use Rattle.design_cycles.specs.Marks.{MustWait}

@@ -4,7 +4,7 @@ use Rattle.std.specs.Prelude.{◌≡◌, ℕ, ◌<◌, ◌^◌, ◌⊎◌, [], S
 use Rattle.wiring.specs.Wiring.{Depends as IsReached}
 use Rattle.hw_model.specs.Types.{Name}
 use Rattle.hw_model.specs.Kinds.{Instance}
-use Rattle.hw_model.specs.Design.{Ref, Op, Module, Design, instance_in}
+use Rattle.hw_model.specs.Design.{Op, Module, Design, instance_in}
 use Rattle.hw_model.specs.Design.Ref.{result}
 use Rattle.hw_model.specs.Flat.{net}
 use Rattle.hw_model.specs.Hierarchy.{calls}

@@ -1,5 +1,5 @@
 -- What depends on what within one body, each instance standing for what its module's outputs depend on.
-use Rattle.std.specs.Prelude.{◌≡◌, ℕ, Bool, true, false, cond, List, [], ◌∷◌, ◌++◌, take, Option, Some, None, slice_get, option_to_list}
+use Rattle.std.specs.Prelude.{◌≡◌, ℕ, false, cond, List, [], ◌∷◌, ◌++◌, take, Option, Some, None, slice_get, option_to_list}
 use Rattle.wiring.specs.Wiring.{In, Chain}
 use Rattle.hw_model.specs.Types.{Name, HwType}
 use Rattle.hw_model.specs.Kinds.{Instance}

@@ -1,5 +1,5 @@
 -- Marks of nodes, and what a pass over nodes does to them.
-use Rattle.std.specs.Prelude.{◌≡◌, ℕ, suc, ◌+◌, ◌<◌, ◌≤◌, ◌⊎◌, Bool, true, false, cond, List, [], ◌∷◌, length, MatchBool}
+use Rattle.std.specs.Prelude.{◌≡◌, ℕ, suc, ◌+◌, ◌<◌, ◌⊎◌, Bool, true, false, cond, List, [], ◌∷◌, length, MatchBool}
 use Rattle.wiring.specs.Wiring.{In}
 use Rattle.design_cycles.specs.Graphs.{edges, marked}
 

@@ -1,5 +1,4 @@
 -- An operation that is read from a body, as definitions speak of it.
-use Rattle.std.specs.Prelude.{ℕ}
 use Rattle.hw_model.specs.Design as hw
 use Rattle.ir_store.specs.declared.body.Body.{Body}
 use Rattle.ir_store.specs.declared.body.Op.{Op}

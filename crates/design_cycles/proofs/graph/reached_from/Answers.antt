@@ -1,4 +1,4 @@
-use Rattle.std.proofs.Common.{◌<◌, ◌∷◌, length, arith, sym, ◌∙◌, subst, inl, refl, []}
+use Rattle.std.proofs.Common.{◌<◌, ◌∷◌, length, arith, subst, inl, refl, []}
 use Rattle.wiring.proofs.Members.{In-append_right}
 use Rattle.design_cycles.specs.Graphs.{lists_of}
 use Rattle.design_cycles.proofs.Marking.{IsSearching, searching_begins, searching_goes, search_ends, length-lists, no_items}

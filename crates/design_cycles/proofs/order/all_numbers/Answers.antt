@@ -1,4 +1,4 @@
-use Rattle.std.proofs.Common.{ℕ, ◌<◌, ◌+◌, sym, subst}
+use Rattle.std.proofs.Common.{sym, subst}
 use Rattle.wiring.specs.Wiring.{In}
 use Rattle.design_cycles.proofs.Placing.{numbers_more}
 use Rattle.design_cycles.proofs.order.all_numbers.Goals as goal

@@ -1,5 +1,5 @@
 use Rattle.std.proofs.Common.{get_or, arith}
-use Rattle.design_cycles.proofs.Placing.{marked_more, In-at, none_needed}
+use Rattle.design_cycles.proofs.Placing.{marked_more, In-at}
 use Rattle.design_cycles.proofs.order.are_marked.Goals as goal
 
 pub returns-then-is_open : goal.returns-then-is_open

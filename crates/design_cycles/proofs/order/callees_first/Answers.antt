@@ -1,4 +1,4 @@
-use Rattle.std.proofs.Common.{length, arith, subst, sym, ◌≡◌}
+use Rattle.std.proofs.Common.{length, arith, subst, sym}
 use Rattle.wiring.specs.Wiring.{In}
 use Rattle.design_cycles.proofs.Placing.{placing_begins, placing_ends, waiting_ends}
 use Rattle.design_cycles.proofs.order.callees_first.Goals as goal

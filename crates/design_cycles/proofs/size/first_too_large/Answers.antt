@@ -1,4 +1,4 @@
-use Rattle.std.proofs.Common.{length, arith, ap, ◌∙◌, sym}
+use Rattle.std.proofs.Common.{length, arith, ap, ◌∙◌}
 use Rattle.ir_store.specs.Designs.{modules_of}
 use Rattle.design_cycles.specs.Graphs.{lists_of}
 use Rattle.design_cycles.proofs.Marking.{length-lists}
