@@ -10,6 +10,12 @@ pub mod Attributes
 pub mod Keys
 pub mod Entries
 pub mod Literals
+mod Again
+mod AgainAttributes
+mod AgainLiterals
+mod AgainOperands
+mod AgainTokens
+mod AgainTypes
 mod BodySteps
 mod Constants
 mod Defining
