@@ -14,6 +14,7 @@ mod Again
 mod AgainAttributes
 mod AgainLiterals
 mod AgainOperands
+mod AgainPieces
 mod AgainTokens
 mod AgainTypes
 mod BodySteps
