@@ -272,17 +272,22 @@ again_dictionary op strings = record { gives = λ es s left h _. dictionary_at o
 abbrev pub NoBrace : List Symbol → Type 0
 NoBrace s = is_next kind.LeftBrace s ≡ false
 
+pub some_dictionary_at : (op : OpName) (strings : List Name) (es : List Entry) {s left : List Symbol} → At (DictionaryPhrase strings es) s left
+    → maybe_dictionary op strings s ≡ Ok (Some es, left)
+unfolding maybe_dictionary
+some_dictionary_at op strings es h =
+    let (once, p) = at_where h in
+    let (m, a, b) = at_then p in
+    let (next, behind) = next_at a in
+    if_true _ next (on_ok _ (dictionary_at op strings es h) refl)
+
 maybe_at : (op : OpName) (strings : List Name) (es : Option (List Entry)) {s left : List Symbol} → NoBrace left → At (MaybeDictionary strings es) s left
     → maybe_dictionary op strings s ≡ Ok (es, left)
 unfolding maybe_dictionary
 maybe_at op strings None clear h =
     let same = at_nothing h in
     if_false _ (ap (is_next kind.LeftBrace) same ∙ clear) (ap (λ y. Ok (None, y)) same)
-maybe_at op strings (Some es) {s} {left} clear h =
-    let (once, p) = at_where h in
-    let (m, a, b) = at_then p in
-    let (next, behind) = next_at a in
-    if_true _ next (on_ok _ (dictionary_at op strings es h) refl)
+maybe_at op strings (Some es) clear h = some_dictionary_at op strings es h
 
 pub again_maybe : (op : OpName) (strings : List Name) → Again NoBrace (maybe_dictionary op strings) (MaybeDictionary strings)
 again_maybe op strings = record { gives = λ es s left h clear. maybe_at op strings es clear h }

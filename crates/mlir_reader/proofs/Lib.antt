@@ -12,6 +12,7 @@ pub mod Entries
 pub mod Literals
 mod Again
 mod AgainAttributes
+mod AgainForms
 mod AgainLiterals
 mod AgainOperands
 mod AgainPieces
