@@ -5,7 +5,9 @@ use Rattle.diag.specs.declared.refusal.OpName.{OpName}
 use Rattle.diag.specs.declared.listed.Listed.{Listed}
 use Rattle.diag.specs.declared.listed.Listed.TheVariants as listed
 use Rattle.hw_model.specs.Types.{Name}
+use Rattle.hw_model.specs.Kinds.{Predicate}
 use Rattle.hw_model.specs.Design.{Entry, same_name}
+use Rattle.std.specs.Cmp.Lexicographic.{bytes_decides}
 use Rattle.mlir_lexer.specs.Tokens.{Lexeme}
 use Rattle.mlir_lexer.specs.declared.token.TokenKind.{TokenKind}
 use Rattle.mlir_lexer.specs.declared.token.TokenKind.TheVariants as kind
@@ -15,7 +17,7 @@ use Rattle.mlir_reader.specs.AttributeText.{maybe_dictionary}
 use Rattle.mlir_reader.specs.Shapes.{is_of, shape_of, front_pieces, type_pieces}
 use Rattle.mlir_reader.specs.PieceText.{Gathered, gathered_nothing, predicate_named, pieces_text}
 use Rattle.mlir_reader.specs.OperationText.{Tail, given_entries, late_dictionary, form_text, is_last}
-use Rattle.mlir_reader.specs.Spelling.{Phrase, Mark, Word, Then, Where, Nothing, PiecePhrase, PiecesPhrase, MaybeDictionary, IsOneOf, FormPhrase}
+use Rattle.mlir_reader.specs.Spelling.{Phrase, Mark, Word, Holding, TruthWord, OperandPhrase, Then, Where, Nothing, PiecePhrase, PiecesPhrase, MaybeDictionary, IsOneOf, FormPhrase}
 use Rattle.mlir_reader.specs.declared.pieces.Keyword.{Keyword}
 use Rattle.mlir_reader.specs.declared.pieces.Keyword.TheVariants.{From, Clock}
 use Rattle.mlir_reader.specs.declared.pieces.Piece.{Piece}
@@ -23,7 +25,7 @@ use Rattle.mlir_reader.specs.declared.pieces.Piece.TheVariants as piece
 use Rattle.mlir_reader.specs.declared.pieces.Shape.{Shape}
 use Rattle.mlir_reader.specs.declared.pieces.Shape.TheVariants as shape
 use Rattle.mlir_reader.proofs.Again.{At, at_then, at_one, at_where, at_nothing, at_either, by_either, on_ok, if_true, if_false, Starts, Leads, leads_one, leads_then, leads_where, leads_either, starts, starts_test}
-use Rattle.mlir_reader.proofs.AgainTokens.{is_kind_of, unlike, Unlike, no_word, other_word, no_next, leads_holding, leads_commas, BeginsInteger, integer_begins}
+use Rattle.mlir_reader.proofs.AgainTokens.{is_kind_of, unlike, Unlike, no_word, other_word, no_next, leads_holding, leads_commas, leads_integer}
 use Rattle.mlir_reader.proofs.AgainAttributes.{NoBrace, some_dictionary_at, again_maybe}
 use Rattle.mlir_reader.proofs.AgainLiterals.{leads_aggregate}
 use Rattle.mlir_reader.proofs.AgainOperands.{NoNumber, NoValue, leads_operand}
@@ -288,3 +290,133 @@ form_at op keys shape h es last a =
     let (i, x, y) = at_then e in
     on_ok _ (pieces_at op (front_pieces shape) gathered_nothing g (front_ends shape (front_end keys (type_pieces shape) g h early late (types_form shape) last c)) b)
     (rest_at op keys (type_pieces shape) g h es early late last (types_form shape) (type_ends shape i) one d x y)
+
+-- ---- what a form begins with
+
+-- the first token, by its kind
+pub of_first : (k : TokenKind) (s : List Symbol) → is_of k (first s) ≡ is_next k s
+of_first k [] = refl
+of_first k (token t ∷ s) = refl
+of_first k (bad p ∷ s) = refl
+of_first k (end p ∷ s) = refl
+
+-- a token is not the mark `bin`
+abbrev NoBin : Lexeme → Type 0
+NoBin t = is_word (codes "bin") t ≡ false
+
+-- pieces that do not begin with `bin`
+abbrev IsFront : Piece → Type 0
+IsFront (piece.Mark k) = ⊥
+IsFront (piece.Word w) = ⊥
+IsFront piece.Number = ⊥
+IsFront piece.Field = ⊥
+IsFront piece.Reset = ⊥
+IsFront piece.SyncReset = ⊥
+IsFront piece.Type = ⊥
+IsFront piece.Types = ⊥
+IsFront _ = Unit {0}
+
+-- a predicate is no `bin`
+no_predicate : (name : Name) (p : Predicate) → predicate_named name ≡ Some p → same_name name (codes "bin") ≡ false
+unfolding predicate_named
+no_predicate name p e = go (same_name name (codes "bin")) refl
+  where
+    go : (b : Bool) → same_name name (codes "bin") ≡ b → b ≡ false
+    go true h = let known : Some p ≡ None = sym e ∙ ap predicate_named ((bytes_decides name (codes "bin")).0 h) in absurd cc
+    go false h = refl
+
+leads_truth : (b : Bool) → Leads NoBin (TruthWord b)
+leads_truth true = leads_one (λ t w. other_word (codes "bin") (codes "true") refl t w.1)
+leads_truth false = leads_one (λ t w. other_word (codes "bin") (codes "false") refl t w.1)
+
+leads_front : (p : Piece) (g h : Gathered) → IsFront p → Leads NoBin (PiecePhrase p g h)
+leads_front (piece.Mark k) g h f = absurd f
+leads_front (piece.Word w) g h f = absurd f
+leads_front piece.Number g h f = absurd f
+leads_front piece.Field g h f = absurd f
+leads_front piece.Reset g h f = absurd f
+leads_front piece.SyncReset g h f = absurd f
+leads_front piece.Type g h f = absurd f
+leads_front piece.Types g h f = absurd f
+leads_front piece.Operand g h f = record { lead = λ ts p. (leads_operand p.0 (no_word (codes "bin") kind.ValueName refl)).lead ts p.2 }
+leads_front piece.Operands g h f = record {
+  lead = λ ts p. (leads_commas OperandPhrase p.0 p.1 (leads_operand p.0 (no_word (codes "bin") kind.ValueName refl))).lead ts p.3;
+}
+leads_front piece.Group g h f = record {
+  lead = λ ts p. (leads_then {P = Mark kind.LeftParenthesis} (leads_one (no_word (codes "bin") kind.LeftParenthesis refl))).lead ts p.2;
+}
+leads_front piece.Predicate g h f = record {
+  lead = λ ts p. (leads_one {U = NoBin} (λ t w. other_word (codes "bin") p.1 (no_predicate p.1 p.0 p.3) t w.1)).lead ts p.4;
+}
+leads_front piece.Truth g h f = record { lead = λ ts p. (leads_truth p.0).lead ts p.2 }
+leads_front piece.Integer g h f = record {
+  lead = λ ts p. (leads_integer (no_word (codes "bin") kind.Integer refl) (no_word (codes "bin") kind.Minus refl)).lead ts p.2;
+}
+leads_front piece.Literals g h f = record { lead = λ ts p. (leads_aggregate p.0 (no_word (codes "bin") kind.LeftBracket refl)).lead ts p.2 }
+leads_front piece.Instance g h f = record {
+  lead = λ ts p. (leads_then {P = Holding kind.StringLiteral p.0} (leads_holding (no_word (codes "bin") kind.StringLiteral refl))).lead ts p.6;
+}
+
+-- the first piece of a form does not begin with `bin`
+abbrev FrontFirst : List Piece → Type 0
+FrontFirst [] = Unit {0}
+FrontFirst (p ∷ ps) = IsFront p
+
+front_first : (shape : Shape) → FrontFirst (front_pieces shape)
+unfolding front_pieces
+front_first shape.Variadic = tt
+front_first _ = tt
+
+no_bin_front : (ps : List Piece) (g h : Gathered) {s m : List Symbol} → FrontFirst ps → is_first (is_word (codes "bin")) m ≡ false → At (PiecesPhrase ps g h) s m
+    → is_first (is_word (codes "bin")) s ≡ false
+no_bin_front [] g h first last a = ap (is_first (is_word (codes "bin"))) (no_pieces a).1 ∙ last
+no_bin_front (p ∷ ps) g h first last a = starts_test (is_word (codes "bin")) false (λ t e. e) (starts (leads_pieces p ps g h (λ m. leads_front p g m first)) a)
+
+-- a form does not begin with `bin`
+pub no_bin : (keys : List Name) (shape : Shape) (h : Gathered) (es : List Entry) {s left : List Symbol} → OperationEnd left → At (FormPhrase keys shape h es) s left
+    → is_first (is_word (codes "bin")) s ≡ false
+no_bin keys shape h es last a =
+    let (g, early, late, one, m, b, c) = front_of keys shape h es a in
+    no_bin_front (front_pieces shape) gathered_nothing g (front_first shape)
+    (behind_front (is_word (codes "bin")) keys (type_pieces shape) g h early late (types_form shape) (no_word (codes "bin") kind.LeftBrace refl)
+    (no_word (codes "bin") kind.Colon refl) last.no_bin c) b
+
+-- ---- the form of an operation is told by the token that it begins with
+
+first_kind : (k : TokenKind) (b : Bool) {P : Phrase} {s left : List Symbol} → Leads (λ t. is_kind t.kind k ≡ b) P → At P s left → is_of k (first s) ≡ b
+first_kind k b {s = s} leads a = of_first k s ∙ starts_test (λ t. is_kind t.kind k) b (λ t e. e) (starts leads a)
+
+constant_at : (keys : List Name) (b : Bool) (h : Gathered) (es : List Entry) {s left : List Symbol} → At (FormPhrase keys (cond b shape.Truth shape.Integer) h es) s left
+    → is_of kind.BareName (first s) ≡ b
+unfolding front_pieces
+constant_at keys true h es a =
+    let (g, early, late, one, m, b, c) = front_of keys shape.Truth h es a in
+    first_kind kind.BareName true (leads_pieces piece.Truth [] gathered_nothing g (λ i. record {
+      lead = λ ts p. (leads_one {U = λ t. is_kind t.kind kind.BareName ≡ true} (λ t w. is_kind_of w.0)).lead ts p.2;
+    })) b
+constant_at keys false h es a =
+    let (g, early, late, one, m, b, c) = front_of keys shape.Integer h es a in
+    first_kind kind.BareName false (leads_pieces piece.Integer [] gathered_nothing g (λ i. record {
+      lead = λ ts p. (leads_integer (unlike kind.BareName kind.Integer refl) (unlike kind.BareName kind.Minus refl)).lead ts p.2;
+    })) b
+
+output_at : (keys : List Name) (b : Bool) (h : Gathered) (es : List Entry) {s left : List Symbol} → NoValue left
+    → At (FormPhrase keys (cond b shape.Joined shape.Nothing) h es) s left → is_of kind.ValueName (first s) ≡ b
+unfolding front_pieces
+output_at keys true h es last a =
+    let (g, early, late, one, m, b, c) = front_of keys shape.Joined h es a in
+    first_kind kind.ValueName true (leads_pieces piece.Operands [] gathered_nothing g (λ i. record {
+      lead = λ ts p. (leads_commas OperandPhrase p.0 p.1 (leads_operand {T = λ t. is_kind t.kind kind.ValueName ≡ true} p.0 (λ t e. is_kind_of e))).lead ts p.3;
+    })) b
+output_at keys false h es {s} last a =
+    let (g, early, late, one, m, b, c) = front_of keys shape.Nothing h es a in
+    of_first kind.ValueName s ∙ ap (is_next kind.ValueName) (no_pieces b).1
+    ∙ behind_front (λ t. is_kind t.kind kind.ValueName) keys (type_pieces shape.Nothing) g h early late (types_form shape.Nothing) (unlike kind.ValueName kind.LeftBrace refl)
+    (unlike kind.ValueName kind.Colon refl) last c
+
+pub shape_at : (o : Listed) (next : Option Lexeme) (keys : List Name) (h : Gathered) (es : List Entry) {s left : List Symbol} → (is_last o ≡ true → NoValue left)
+    → At (FormPhrase keys (shape_of o next) h es) s left → shape_of o (first s) ≡ shape_of o next
+unfolding shape_of
+shape_at listed.HwConstant next keys h es last a = ap (λ b. cond b shape.Truth shape.Integer) (constant_at keys (is_of kind.BareName next) h es a)
+shape_at listed.HwOutput next keys h es last a = ap (λ b. cond b shape.Joined shape.Nothing) (output_at keys (is_of kind.ValueName next) h es (last refl) a)
+shape_at _ next keys h es last a = refl

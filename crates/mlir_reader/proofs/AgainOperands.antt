@@ -64,7 +64,7 @@ no_number k other h = no_next kind.ResultNumber (leads_one (unlike kind.ResultNu
 abbrev pub NoValue : List Symbol → Type 0
 NoValue s = is_next kind.ValueName s ≡ false
 
-leads_value : {T : Lexeme → Type 0} (name : Name) → ((t : Lexeme) → t.kind ≡ kind.ValueName → T t) → Leads T (ValueName name)
+pub leads_value : {T : Lexeme → Type 0} (name : Name) → ((t : Lexeme) → t.kind ≡ kind.ValueName → T t) → Leads T (ValueName name)
 leads_value name to = leads_holding to
 
 is_value : {P : Phrase} {s left : List Symbol} → Leads (λ t. t.kind ≡ kind.ValueName) P → At P s left → is_next kind.ValueName s ≡ true

@@ -14,7 +14,9 @@ mod Again
 mod AgainAttributes
 mod AgainForms
 mod AgainLiterals
+mod AgainModules
 mod AgainOperands
+mod AgainOperations
 mod AgainPieces
 mod AgainTokens
 mod AgainTypes
