@@ -18,6 +18,7 @@ mod AgainModules
 mod AgainOperands
 mod AgainOperations
 mod AgainPieces
+mod AgainTexts
 mod AgainTokens
 mod AgainTypes
 mod BodySteps
