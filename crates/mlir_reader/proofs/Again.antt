@@ -1,11 +1,9 @@
 -- Readers that give what the tokens of a phrase say.
-use Rattle.std.proofs.Common.{◌≡◌, ◌⊎◌, ℕ, zero, suc, ◌+◌, ◌<◌, ◌≤◌, Bool, true, false, cond, List, [], ◌∷◌, ◌++◌, length, map, Ok, Err, refl, sym, ◌∙◌, ap, subst, inl, inr, arith}
+use Rattle.std.proofs.Common.{◌≡◌, ◌⊎◌, ◌<◌, ◌≤◌, Bool, true, false, cond, List, [], ◌∷◌, ◌++◌, length, map, Ok, refl, ◌∙◌, ap, inl, inr, arith}
 use Rattle.std.proofs.lemmas.Bool.{cond-true, cond-false}
 use Rattle.std.proofs.lemmas.List.{append_assoc, map-append}
-use Rattle.diag.specs.declared.refusal.Refusal.{Refusal}
 use Rattle.mlir_lexer.specs.Tokens.{Lexeme}
-use Rattle.mlir_lexer.specs.declared.token.TokenKind.{TokenKind}
-use Rattle.mlir_reader.specs.Stream.{Symbol, token, bad, end, is_first, after}
+use Rattle.mlir_reader.specs.Stream.{Symbol, token, is_first}
 use Rattle.mlir_reader.specs.Reads.{Read, Reads, on}
 use Rattle.mlir_reader.specs.Spelling.{Phrase, One, Nothing, Then, Either, Where}
 

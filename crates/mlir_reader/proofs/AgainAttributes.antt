@@ -1,23 +1,20 @@
 -- What the tokens of attributes and dictionaries say is read of them.
-use Rattle.std.proofs.Common.{◌≡◌, ◌⊎◌, ℕ, zero, suc, ◌<◌, ◌≤◌, Bool, true, false, cond, List, [], ◌∷◌, ◌++◌, length, map, Option, Some, None, Ok, refl, sym, ◌∙◌, ap, inl, inr, ℤ, arith}
-use Rattle.std.specs.Prelude.{codes}
+use Rattle.std.proofs.Common.{◌≡◌, ◌⊎◌, ℕ, zero, suc, ◌≤◌, Bool, true, false, List, [], ◌∷◌, ◌++◌, length, Option, Some, None, Ok, refl, sym, ◌∙◌, ap, inl, inr, ℤ, arith}
 use Rattle.diag.specs.declared.refusal.OpName.{OpName}
 use Rattle.hw_model.specs.Types.{Name, HwType}
 use Rattle.hw_model.specs.Types.HwType.{int}
 use Rattle.hw_model.specs.Design.{Attribute, Entry}
 use Rattle.hw_model.specs.Design.Attribute.{unit_value, text_value, symbol_value, truth_value, integer_value, list_value}
-use Rattle.mlir_lexer.specs.Contents.{content_of}
 use Rattle.mlir_lexer.specs.Tokens.{Lexeme}
 use Rattle.mlir_lexer.specs.declared.token.TokenKind.{TokenKind}
 use Rattle.mlir_lexer.specs.declared.token.TokenKind.TheVariants as kind
 use Rattle.mlir_reader.specs.Stream.{Symbol, token, first, is_next, is_kind, after}
-use Rattle.mlir_reader.specs.Reads.{Reads, want, items_until}
-use Rattle.mlir_reader.specs.Numerals.{integer}
-use Rattle.mlir_reader.specs.TypeText.{type_text, too_deep, name_text, most_open}
-use Rattle.mlir_reader.specs.AttributeText.{AttributeHead, text_head, symbol_head, truth_head, number_head, list_head, attribute_head, is_stored, stored_integer, integer_type, typed_integer, in_order, list_text, attribute_with, attribute_text, is_among, new_key, string_value, value_of_key, entry_value, entry_text, entries, dictionary_text, maybe_dictionary}
-use Rattle.mlir_reader.specs.Spelling.{Phrase, Nothing, TypePhrase, Mark, Holding, Then, Where, Commas, Between, NamePhrase, SymbolPhrase, IntegerPhrase, TruthWord, IntegerType, AttributeWith, AttributePhrase, ValuePhrase, EntryPhrase, AreOnce, DictionaryPhrase, MaybeDictionary}
-use Rattle.mlir_reader.proofs.Again.{At, at_then, at_one, at_where, at_nothing, at_as, at_either, by_either, on_ok, if_true, if_false, Leads, leads_one, leads_then, leads_where, leads_either, starts, shorter, Again, Any}
-use Rattle.mlir_reader.proofs.AgainTokens.{is_kind_of, unlike, Unlike, mark_at, holding_at, next_at, no_next, again_name, again_symbol, again_integer, leads_holding, leads_name, leads_symbol, leads_integer, BeginsInteger, integer_begins, leads_commas, MayComma, until_at}
+use Rattle.mlir_reader.specs.Reads.{Reads, items_until}
+use Rattle.mlir_reader.specs.TypeText.{type_text, too_deep, most_open}
+use Rattle.mlir_reader.specs.AttributeText.{text_head, symbol_head, truth_head, number_head, list_head, attribute_head, is_stored, stored_integer, integer_type, typed_integer, in_order, list_text, attribute_with, attribute_text, is_among, new_key, string_value, value_of_key, entry_value, entry_text, entries, dictionary_text, maybe_dictionary}
+use Rattle.mlir_reader.specs.Spelling.{Phrase, Nothing, TypePhrase, Mark, Holding, Then, Where, Commas, Between, NamePhrase, IntegerPhrase, TruthWord, AttributeWith, AttributePhrase, ValuePhrase, EntryPhrase, AreOnce, DictionaryPhrase, MaybeDictionary}
+use Rattle.mlir_reader.proofs.Again.{At, at_then, at_one, at_where, at_nothing, at_either, on_ok, if_true, if_false, Leads, leads_one, leads_then, leads_where, leads_either, starts, shorter, Again, Any}
+use Rattle.mlir_reader.proofs.AgainTokens.{unlike, Unlike, mark_at, holding_at, next_at, no_next, again_name, again_integer, leads_holding, leads_name, leads_symbol, leads_integer, BeginsInteger, integer_begins, leads_commas, until_at}
 use Rattle.mlir_reader.proofs.AgainTypes.{again_type}
 
 -- ---- tokens retold
@@ -150,12 +147,11 @@ list_at room op value (list_value inner) {s} {left} h =
     let (l, same, p) = h.says in
     let inside : At (Between kind.LeftBracket kind.RightBracket (Commas (AttributePhrase room) l)) s left = record { passed = h.passed; same = h.same; says = p } in
     let (m, a, b) = at_then inside in
-    let (t, e, k) = at_one a in
-    (
+    let (t, e, k) = at_one a in (
       ap (λ y. attribute_head (first y)) e ∙ of_kind (λ t. attribute_head (Some t)) t k,
       on_ok _ (ap (λ y. items_until op kind.RightBracket (attribute_text room op) (after y)) e
-      ∙ until_at op kind.RightBracket value (leads_attribute room) (no_colon kind.Comma refl) (no_colon kind.RightBracket refl) refl l b)
-      (ap (λ x. Ok (list_value x, left)) (sym same)),
+          ∙ until_at op kind.RightBracket value (leads_attribute room) (no_colon kind.Comma refl) (no_colon kind.RightBracket refl) refl l b)
+          (ap (λ x. Ok (list_value x, left)) (sym same)),
     )
 
 pub again_attribute : (room : ℕ) (op : OpName) → Again NoColon (attribute_text room op) (AttributePhrase room)

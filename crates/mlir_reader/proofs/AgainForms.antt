@@ -1,5 +1,5 @@
 -- What the tokens of the forms of operations say is read of them.
-use Rattle.std.proofs.Common.{◌≡◌, ◌⊎◌, ℕ, Bool, true, false, ◌&&◌, cond, List, [], ◌∷◌, ◌++◌, Option, Some, None, Ok, refl, sym, ◌∙◌, ap, ap₂, subst, inl, inr}
+use Rattle.std.proofs.Common.{◌≡◌, Bool, true, false, cond, List, [], ◌∷◌, Option, Some, None, Ok, refl, sym, ◌∙◌, ap, ap₂, subst}
 use Rattle.std.specs.Prelude.{codes}
 use Rattle.diag.specs.declared.refusal.OpName.{OpName}
 use Rattle.diag.specs.declared.listed.Listed.{Listed}
@@ -17,19 +17,19 @@ use Rattle.mlir_reader.specs.AttributeText.{maybe_dictionary}
 use Rattle.mlir_reader.specs.Shapes.{is_of, shape_of, front_pieces, type_pieces}
 use Rattle.mlir_reader.specs.PieceText.{Gathered, gathered_nothing, predicate_named, pieces_text}
 use Rattle.mlir_reader.specs.OperationText.{Tail, given_entries, late_dictionary, form_text, is_last}
-use Rattle.mlir_reader.specs.Spelling.{Phrase, Mark, Word, Holding, TruthWord, OperandPhrase, Then, Where, Nothing, PiecePhrase, PiecesPhrase, MaybeDictionary, IsOneOf, FormPhrase}
+use Rattle.mlir_reader.specs.Spelling.{Phrase, Mark, Word, Holding, TruthWord, OperandPhrase, Then, PiecePhrase, PiecesPhrase, MaybeDictionary, IsOneOf, FormPhrase}
 use Rattle.mlir_reader.specs.declared.pieces.Keyword.{Keyword}
 use Rattle.mlir_reader.specs.declared.pieces.Keyword.TheVariants.{From, Clock}
 use Rattle.mlir_reader.specs.declared.pieces.Piece.{Piece}
 use Rattle.mlir_reader.specs.declared.pieces.Piece.TheVariants as piece
 use Rattle.mlir_reader.specs.declared.pieces.Shape.{Shape}
 use Rattle.mlir_reader.specs.declared.pieces.Shape.TheVariants as shape
-use Rattle.mlir_reader.proofs.Again.{At, at_then, at_one, at_where, at_nothing, at_either, by_either, on_ok, if_true, if_false, Starts, Leads, leads_one, leads_then, leads_where, leads_either, starts, starts_test}
-use Rattle.mlir_reader.proofs.AgainTokens.{is_kind_of, unlike, Unlike, no_word, other_word, no_next, leads_holding, leads_commas, leads_integer}
+use Rattle.mlir_reader.proofs.Again.{At, at_then, at_where, at_nothing, at_either, by_either, on_ok, Leads, leads_one, leads_then, leads_where, starts, starts_test}
+use Rattle.mlir_reader.proofs.AgainTokens.{is_kind_of, unlike, no_word, other_word, no_next, leads_holding, leads_commas, leads_integer}
 use Rattle.mlir_reader.proofs.AgainAttributes.{NoBrace, some_dictionary_at, again_maybe}
 use Rattle.mlir_reader.proofs.AgainLiterals.{leads_aggregate}
 use Rattle.mlir_reader.proofs.AgainOperands.{NoNumber, NoValue, leads_operand}
-use Rattle.mlir_reader.proofs.AgainPieces.{NoReset, EndOf, Ends, pieces_at}
+use Rattle.mlir_reader.proofs.AgainPieces.{NoReset, Ends, pieces_at}
 
 -- ---- what stands behind a form
 
@@ -163,9 +163,10 @@ sync_ends last =
     (behind_sync last, (λ m x y a. (operand_last last m x y a, ap (λ z. is_first (is_word (codes "reset")) z) (no_pieces a).1 ∙ last.no_reset), tt))
 
 word_ends : {left : List Symbol} (w : Keyword) (ps : List Piece) → Ends ps left → Ends (piece.Operand ∷ piece.Word w ∷ ps) left
-word_ends w ps rest =
-    (λ m x y a. no_next kind.ResultNumber (leads_pieces (piece.Word w) ps x y (λ g. leads_where (leads_one (λ t p. unlike kind.ResultNumber kind.BareName refl t p.0)))) a,
-    (λ m x y a. tt, rest))
+word_ends w ps rest = (
+  λ m x y a. no_next kind.ResultNumber (leads_pieces (piece.Word w) ps x y (λ g. leads_where (leads_one (λ t p. unlike kind.ResultNumber kind.BareName refl t p.0)))) a,
+  (λ m x y a. tt, rest),
+)
 
 front_ends : (shape : Shape) {left : List Symbol} → FrontEnd left → Ends (front_pieces shape) left
 unfolding front_pieces
@@ -277,7 +278,7 @@ front_of : (keys : List Name) (shape : Shape) (h : Gathered) (es : List Entry) {
 front_of keys shape h es {s} {left} a =
     let (g, early, late, one, p) = a.says in
     let inside : At (Then (PiecesPhrase (front_pieces shape) gathered_nothing g) (Then (MaybeDictionary keys early)
-        (Then (PiecesPhrase (type_pieces shape) g h) (MaybeDictionary keys late)))) s left = record { passed = a.passed; same = a.same; says = p } in
+    (Then (PiecesPhrase (type_pieces shape) g h) (MaybeDictionary keys late)))) s left = record { passed = a.passed; same = a.same; says = p } in
     let (m, b, c) = at_then inside in
     (g, early, late, one, m, b, c)
 

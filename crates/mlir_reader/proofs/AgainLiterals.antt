@@ -1,18 +1,17 @@
 -- What the tokens of constants of aggregates say is read of them.
-use Rattle.std.proofs.Common.{◌≡◌, ◌⊎◌, ℕ, zero, suc, Bool, true, false, List, [], ◌∷◌, ◌++◌, map, Option, Some, None, Ok, refl, sym, ◌∙◌, ap, inl, inr, ℤ}
-use Rattle.std.specs.Prelude.{codes}
+use Rattle.std.proofs.Common.{◌≡◌, ◌⊎◌, ℕ, zero, suc, Bool, true, false, List, Some, Ok, refl, sym, ◌∙◌, ap, inl, inr, ℤ}
 use Rattle.diag.specs.declared.refusal.OpName.{OpName}
 use Rattle.hw_model.specs.Types.{HwType}
 use Rattle.hw_model.specs.Kinds.{Literal, Literals}
 use Rattle.hw_model.specs.Kinds.Literal.{leaf, parts}
 use Rattle.mlir_lexer.specs.Tokens.{Lexeme}
 use Rattle.mlir_lexer.specs.declared.token.TokenKind.TheVariants as kind
-use Rattle.mlir_reader.specs.Stream.{Symbol, token, first}
+use Rattle.mlir_reader.specs.Stream.{Symbol, first}
 use Rattle.mlir_reader.specs.Reads.{Reads}
 use Rattle.mlir_reader.specs.TypeText.{too_deep}
-use Rattle.mlir_reader.specs.LiteralText.{LiteralHead, truth_literal, number_literal, list_literal, literal_head, number_leaf, literals_in_order, truth_leaf, parts_text, list_part, literal_with, literal_text, aggregate_text}
+use Rattle.mlir_reader.specs.LiteralText.{truth_literal, number_literal, list_literal, literal_head, number_leaf, truth_leaf, parts_text, list_part, literal_with, literal_text, aggregate_text}
 use Rattle.mlir_reader.specs.Spelling.{Phrase, Mark, Then, Commas, Between, IntegerPhrase, TruthWord, TypePhrase, LiteralWith, PartsPhrase, LiteralPhrase, AggregatePhrase}
-use Rattle.mlir_reader.proofs.Again.{At, at_then, at_one, at_either, by_either, on_ok, Leads, leads_one, leads_then, leads_either, starts, Again, Any}
+use Rattle.mlir_reader.proofs.Again.{At, at_then, at_one, at_either, on_ok, Leads, leads_one, leads_then, leads_either, starts, Again, Any}
 use Rattle.mlir_reader.proofs.AgainTokens.{unlike, Unlike, mark_at, again_integer, leads_integer, BeginsInteger, integer_begins, until_at}
 use Rattle.mlir_reader.proofs.AgainTypes.{again_type}
 use Rattle.mlir_reader.proofs.AgainAttributes.{of_kind, of_text, seen}
@@ -73,8 +72,7 @@ parts_at op room part ls {s} {left} h =
     let inside : At (Between kind.LeftBracket kind.RightBracket (Commas (LiteralPhrase room) l)) s left = record { passed = h.passed; same = h.same; says = p } in
     let (m, a, b) = at_then inside in
     let (t, e, k) = at_one a in
-    let (u, eu) = mark_at op a in
-    (
+    let (u, eu) = mark_at op a in (
       ap (λ y. literal_head (first y)) e ∙ of_kind (λ t. literal_head (Some t)) t k,
       on_ok _ eu (on_ok _ (until_at op kind.RightBracket part (leads_literal room) (λ _ _ _. tt) (λ _ _ _. tt) refl l b) (ap (λ y. Ok (y, left)) (sym same))),
     )

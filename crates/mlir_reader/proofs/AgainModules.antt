@@ -1,28 +1,25 @@
 -- What the tokens of modules and of a file say is read of them.
-use Rattle.std.proofs.Common.{◌≡◌, ◌⊎◌, ℕ, zero, suc, ◌<◌, ◌≤◌, Bool, true, false, cond, List, [], ◌∷◌, ◌++◌, length, map, Option, Some, None, Result, Ok, Err, refl, sym, ◌∙◌, ap, ap₂, subst, inl, inr, arith}
+use Rattle.std.proofs.Common.{◌≡◌, ◌⊎◌, ℕ, zero, suc, ◌<◌, ◌≤◌, Bool, true, false, cond, List, [], ◌∷◌, ◌++◌, length, map, Some, None, Ok, refl, sym, ◌∙◌, ap, inl, inr, arith}
 use Rattle.std.specs.Prelude.{codes}
 use Rattle.diag.specs.Place.{place_of}
 use Rattle.diag.specs.declared.refusal.Place.{Place}
-use Rattle.diag.specs.declared.refusal.Refusal.{Refusal}
 use Rattle.diag.specs.declared.refusal.OpName.{OpName}
 use Rattle.diag.specs.declared.refusal.OpName.TheVariants as op
 use Rattle.diag.specs.declared.listed.Listed.TheVariants as listed
 use Rattle.diag.specs.Listed.{name_of_listed}
 use Rattle.hw_model.specs.Types.{Name, HwType}
-use Rattle.hw_model.specs.Design.{Entry, Design}
+use Rattle.hw_model.specs.Design.{Entry}
 use Rattle.mlir_lexer.specs.Tokens.{Lexeme, tokens}
 use Rattle.mlir_lexer.specs.declared.token.TokenKind.{TokenKind}
 use Rattle.mlir_lexer.specs.declared.token.TokenKind.TheVariants as kind
-use Rattle.mlir_reader.specs.Stream.{Symbol, token, bad, end, stream, stream_of, is_first, is_next, is_kind, is_word, after}
-use Rattle.mlir_reader.specs.Reads.{on, want, items_until}
-use Rattle.mlir_reader.specs.TypeText.{any_type, most_open}
+use Rattle.mlir_reader.specs.Stream.{Symbol, token, end, stream, stream_of, is_first, is_next, is_kind, is_word, after}
+use Rattle.mlir_reader.specs.TypeText.{most_open}
 use Rattle.mlir_reader.specs.AttributeText.{dictionary_text, is_symbol}
-use Rattle.mlir_reader.specs.PieceText.{symbol_text}
-use Rattle.mlir_reader.specs.OperationText.{OperationText, module_name, class_of, operations_text}
-use Rattle.mlir_reader.specs.ModuleText.{header, PortText, port_name, port_type, input_port, output_port, port_text, ports_text, ModuleText, module_keys, attributes_text, private_text, BodyText, body_text, module_behind, classed_module, module_text, is_end, modules_text, file_symbol, want_end, wrapped_text, is_file_name, file_text}
+use Rattle.mlir_reader.specs.OperationText.{module_name, class_of}
+use Rattle.mlir_reader.specs.ModuleText.{header, PortText, port_name, port_type, input_port, output_port, port_text, ports_text, ModuleText, module_keys, attributes_text, private_text, body_text, module_behind, classed_module, module_text, is_end, modules_text, file_symbol, want_end, wrapped_text, is_file_name, file_text}
 use Rattle.mlir_reader.specs.Spelling.{Phrase, One, Mark, Word, Holding, Then, Either, Where, Nothing, Commas, Between, NamePhrase, SymbolPhrase, TypePhrase, ValueName, DictionaryPhrase, OperationsPhrase, PortPhrase, AttributesPhrase, PrivatePhrase, ModulePhrase, ModulesPhrase, FileWord, WrappedPhrase, FilePhrase, IsPlaceOf, token_of}
-use Rattle.mlir_reader.proofs.Again.{At, at_then, at_one, at_where, at_nothing, at_as, at_either, by_either, on_ok, if_true, if_false, Starts, Leads, leads_one, leads_then, leads_where, leads_either, starts, starts_test, shorter, Again, Any}
-use Rattle.mlir_reader.proofs.AgainTokens.{is_kind_of, unlike, Unlike, is_word_of, no_word, other_word, want_at, mark_at, holding_at, next_at, no_next, again_name, again_symbol, leads_holding, leads_symbol, leads_commas, until_at}
+use Rattle.mlir_reader.proofs.Again.{At, at_then, at_one, at_where, at_nothing, at_as, at_either, on_ok, if_true, if_false, Leads, leads_one, leads_then, leads_where, leads_either, starts, starts_test, shorter, Again, Any}
+use Rattle.mlir_reader.proofs.AgainTokens.{is_kind_of, unlike, is_word_of, no_word, other_word, want_at, mark_at, holding_at, next_at, no_next, again_name, again_symbol, leads_holding, leads_symbol, leads_commas, until_at}
 use Rattle.mlir_reader.proofs.AgainTypes.{again_any_type}
 use Rattle.mlir_reader.proofs.AgainAttributes.{again_dictionary}
 use Rattle.mlir_reader.proofs.AgainOperands.{again_value_name}
@@ -305,5 +302,5 @@ pub file_read : (source : List ℕ) (ms : List ModuleText) (ts : List Lexeme) �
 file_read source ms ts same said =
     let place = place_of source (length source) in
     let inside : At (FilePhrase IsPlaceOf ms) (stream_of source) (End place) =
-        record { passed = ts; same = ap (stream place) same ∙ whole_text place ts; says = said } in
+    record { passed = ts; same = ap (stream place) same ∙ whole_text place ts; says = said } in
     file_at ms place (at_either inside)

@@ -1,5 +1,5 @@
 -- What the tokens of operands and of the names of results say is read of them.
-use Rattle.std.proofs.Common.{◌≡◌, ◌⊎◌, ℕ, ◌<◌, true, false, cond, List, [], ◌∷◌, Ok, refl, sym, ◌∙◌, ap, inl, inr}
+use Rattle.std.proofs.Common.{◌≡◌, ◌⊎◌, ℕ, ◌<◌, true, false, List, [], ◌∷◌, Ok, refl, sym, ◌∙◌, ap, inl, inr}
 use Rattle.diag.specs.declared.refusal.OpName.{OpName}
 use Rattle.hw_model.specs.Types.{Name}
 use Rattle.mlir_lexer.specs.Contents.{content_of}
@@ -11,9 +11,9 @@ use Rattle.mlir_reader.specs.Reads.{some_items}
 use Rattle.mlir_reader.specs.Numerals.{number_in, number_below, count_limit}
 use Rattle.mlir_reader.specs.OperandText.{OperandName, ResultNames, value_name, pack_number, operand_text, names_behind, results_text, maybe_results}
 use Rattle.mlir_reader.specs.OperandText.ResultNames.{no_names, names, pack}
-use Rattle.mlir_reader.specs.Spelling.{Phrase, One, Nothing, Mark, Then, Either, Where, Commas, NumberPhrase, ValueName, OperandPhrase, ResultsPhrase}
-use Rattle.mlir_reader.proofs.Again.{At, at_then, at_one, at_where, at_nothing, at_either, by_either, on_ok, if_true, if_false, Leads, leads_one, leads_then, starts, starts_test, Again, Any}
-use Rattle.mlir_reader.proofs.AgainTokens.{is_kind_of, unlike, Unlike, want_at, mark_at, holding_at, next_at, no_next, limited_is, again_number, leads_holding, MayComma, again_some}
+use Rattle.mlir_reader.specs.Spelling.{Phrase, One, Nothing, Mark, Where, ValueName, OperandPhrase, ResultsPhrase}
+use Rattle.mlir_reader.proofs.Again.{At, at_then, at_where, at_nothing, at_either, on_ok, if_true, if_false, Leads, leads_one, leads_then, starts, starts_test, Again, Any}
+use Rattle.mlir_reader.proofs.AgainTokens.{is_kind_of, unlike, want_at, mark_at, holding_at, next_at, no_next, limited_is, again_number, leads_holding, again_some}
 
 pub again_value_name : (op : OpName) → Again Any (value_name op) ValueName
 unfolding value_name

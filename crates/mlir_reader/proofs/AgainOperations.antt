@@ -1,23 +1,22 @@
 -- What the tokens of operations say is read of them.
-use Rattle.std.proofs.Common.{◌≡◌, ◌⊎◌, ℕ, zero, suc, ◌≤◌, Bool, true, false, ◌&&◌, cond, List, [], ◌∷◌, ◌++◌, length, Option, Some, None, Ok, Err, refl, sym, ◌∙◌, ap, ap₂, subst, inl, inr, arith}
+use Rattle.std.proofs.Common.{◌≡◌, ◌⊎◌, ℕ, zero, suc, ◌≤◌, Bool, true, false, ◌&&◌, cond, List, [], ◌∷◌, ◌++◌, length, Ok, Err, refl, sym, ◌∙◌, ap, ap₂, subst, inl, inr, arith}
 use Rattle.std.specs.Prelude.{codes}
 use Rattle.diag.specs.declared.refusal.OpName.TheVariants as op
 use Rattle.diag.specs.declared.listed.Listed.{Listed}
 use Rattle.diag.specs.declared.listed.Listed.TheVariants as listed
-use Rattle.diag.specs.Listed.{name_of_listed, first_named}
+use Rattle.diag.specs.Listed.{name_of_listed}
 use Rattle.hw_model.specs.Design.{same_name}
 use Rattle.mlir_lexer.specs.Tokens.{Lexeme}
 use Rattle.mlir_lexer.specs.declared.token.TokenKind.{TokenKind}
 use Rattle.mlir_lexer.specs.declared.token.TokenKind.TheVariants as kind
-use Rattle.mlir_reader.specs.Stream.{Symbol, token, first, is_first, is_next, is_kind, is_word, unexpected}
+use Rattle.mlir_reader.specs.Stream.{Symbol, token, is_first, is_next, is_kind, is_word, unexpected}
 use Rattle.mlir_reader.specs.Reads.{on}
 use Rattle.mlir_reader.specs.OperandText.{ResultNames}
 use Rattle.mlir_reader.specs.OperandText.ResultNames.{no_names, names, pack}
 use Rattle.mlir_reader.specs.Shapes.{shape_of}
 use Rattle.mlir_reader.specs.OperationText.{OperationText, operation, class_of, takes_bin, bin_text, string_keys, form_text, named_operation, classed_operation, operation_behind, operation_text, is_last, operations_text}
-use Rattle.mlir_reader.specs.Spelling.{Phrase, One, Mark, Then, Where, Nothing, ValueName, ResultsPhrase, BinPhrase, MayHaveShape, FormPhrase, TailPhrase, StandsInBody, OperationPhrase, OperationsPhrase, IsPlaceOf}
-use Rattle.mlir_reader.specs.declared.pieces.Shape.{Shape}
-use Rattle.mlir_reader.proofs.Again.{At, at_then, at_one, at_where, at_nothing, on_ok, if_true, if_false, Starts, Leads, leads_one, leads_then, leads_where, starts, starts_test, shorter}
+use Rattle.mlir_reader.specs.Spelling.{Phrase, Mark, Then, ValueName, ResultsPhrase, BinPhrase, FormPhrase, TailPhrase, StandsInBody, OperationPhrase, OperationsPhrase, IsPlaceOf}
+use Rattle.mlir_reader.proofs.Again.{At, at_then, at_one, at_where, at_nothing, on_ok, if_true, if_false, Leads, leads_one, leads_then, leads_where, starts, starts_test, shorter}
 use Rattle.mlir_reader.proofs.AgainTokens.{is_kind_of, unlike, no_word, other_word, next_at, no_next, leads_commas}
 use Rattle.mlir_reader.proofs.AgainOperands.{NoValue, again_results, leads_value}
 use Rattle.mlir_reader.proofs.AgainPieces.{word_first}
@@ -97,7 +96,7 @@ named_at o {s} {left} last out a =
     let (next, is) = has in
     let inside : At (FormPhrase (string_keys o.name) shape o.gathered o.dictionary) m left = record { passed = c.passed; same = c.same; says = p } in
     let shaped : At (FormPhrase (string_keys o.name) (shape_of o.name next) o.gathered o.dictionary) m left =
-        subst (λ x. At (FormPhrase (string_keys o.name) x o.gathered o.dictionary) m left) is inside in
+    subst (λ x. At (FormPhrase (string_keys o.name) x o.gathered o.dictionary) m left) is inside in
     let same = shape_at o.name next (string_keys o.name) o.gathered o.dictionary out shaped in
     on_ok _ (bin_at o.name o.bin (no_bin (string_keys o.name) shape o.gathered o.dictionary last inside) b)
     (on_ok _ (ap (λ x. form_text (op.Listed o.name) (string_keys o.name) x m) same

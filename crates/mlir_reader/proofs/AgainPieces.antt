@@ -8,16 +8,16 @@ use Rattle.hw_model.specs.TypeViews.{NamedType}
 use Rattle.mlir_lexer.specs.Tokens.{Lexeme}
 use Rattle.mlir_lexer.specs.declared.token.TokenKind.TheVariants as kind
 use Rattle.mlir_reader.specs.Stream.{Symbol, token, first, is_first, is_next, is_word, after}
-use Rattle.mlir_reader.specs.Reads.{Read, on, want_word}
+use Rattle.mlir_reader.specs.Reads.{Read, on}
 use Rattle.mlir_reader.specs.TypeText.{any_type, most_open}
-use Rattle.mlir_reader.specs.OperandText.{OperandName, operand_text}
+use Rattle.mlir_reader.specs.OperandText.{OperandName}
 use Rattle.mlir_reader.specs.PieceText.{Gathered, with_operands, with_extra, bare_text, as_known, predicate_named, predicate_text, truth_named, truth_text, string_text, symbol_text, group_text, further_types, types_text, reset_operands, reset_text, want_sync, sync_reset_text, Joined, input_text, output_text, inner_symbol, module_symbol, inputs_text, outputs_text, instance_text, piece_text, pieces_text}
 use Rattle.mlir_reader.specs.PieceText.Extra.{with_reset}
-use Rattle.mlir_reader.specs.Spelling.{Phrase, Mark, Word, Holding, Then, Either, Where, Commas, Between, Nothing, NamePhrase, SymbolPhrase, TruthWord, TypePhrase, OperandPhrase, ResetPhrase, InputPhrase, OutputPhrase, InnerSymbol, InstancePhrase, PiecePhrase, PiecesPhrase}
+use Rattle.mlir_reader.specs.Spelling.{Phrase, Mark, Word, Holding, Then, Where, Commas, Between, Nothing, SymbolPhrase, TruthWord, TypePhrase, OperandPhrase, ResetPhrase, InputPhrase, OutputPhrase, InnerSymbol, InstancePhrase, PiecePhrase, PiecesPhrase}
 use Rattle.mlir_reader.specs.declared.pieces.Piece.{Piece}
 use Rattle.mlir_reader.specs.declared.pieces.Piece.TheVariants as piece
-use Rattle.mlir_reader.proofs.Again.{At, at_then, at_one, at_where, at_nothing, at_either, by_either, on_ok, if_true, if_false, Leads, leads_one, leads_then, starts, starts_test, Again, Any, No}
-use Rattle.mlir_reader.proofs.AgainTokens.{is_kind_of, unlike, Unlike, is_word_of, no_word, other_word, mark_at, word_at, holding_at, next_at, no_next, again_name, again_symbol, again_number, again_integer, leads_name, leads_symbol, MayComma, again_some, until_at}
+use Rattle.mlir_reader.proofs.Again.{At, at_then, at_one, at_where, at_nothing, at_either, on_ok, if_true, if_false, Leads, leads_one, leads_then, starts, starts_test, Again, Any}
+use Rattle.mlir_reader.proofs.AgainTokens.{is_kind_of, unlike, is_word_of, no_word, other_word, mark_at, word_at, holding_at, no_next, again_name, again_symbol, again_number, again_integer, leads_name, leads_symbol, again_some, until_at}
 use Rattle.mlir_reader.proofs.AgainTypes.{again_type, again_any_type, again_field, leads_field}
 use Rattle.mlir_reader.proofs.AgainLiterals.{again_aggregate}
 use Rattle.mlir_reader.proofs.AgainOperands.{NoNumber, no_number, again_operand, leads_operand}
@@ -130,7 +130,7 @@ unfolding sync_reset_text
 sync_reset_at op g h {s} {left} clear other (inl a) =
     let (r, v, same, p) = a.says in
     let inside : At (Then (Then (Word (codes "reset")) (Word (codes "sync"))) (Then (OperandPhrase r) (Then (Mark kind.Comma) (OperandPhrase v)))) s left =
-        record { passed = a.passed; same = a.same; says = p } in
+    record { passed = a.passed; same = a.same; says = p } in
     let (m, b, c) = at_then inside in
     let (k, x, y) = at_then b in
     let (next, behind) = word_first x in
@@ -205,9 +205,9 @@ unfolding instance_text
 instance_at op g h {s} {left} a =
     let (name, symbol, inner, ins, outs, same, p) = a.says in
     let inside : At (Then (Holding kind.StringLiteral name) (Then (InnerSymbol inner) (Then (SymbolPhrase symbol)
-        (Then (Between kind.LeftParenthesis kind.RightParenthesis (Commas InputPhrase ins))
-        (Then (Mark kind.Arrow) (Between kind.LeftParenthesis kind.RightParenthesis (Commas OutputPhrase outs))))))) s left =
-        record { passed = a.passed; same = a.same; says = p } in
+    (Then (Between kind.LeftParenthesis kind.RightParenthesis (Commas InputPhrase ins))
+    (Then (Mark kind.Arrow) (Between kind.LeftParenthesis kind.RightParenthesis (Commas OutputPhrase outs))))))) s left =
+    record { passed = a.passed; same = a.same; says = p } in
     let (m1, p1, q1) = at_then inside in
     let (m2, p2, q2) = at_then q1 in
     let (m3, p3, q3) = at_then q2 in

@@ -1,5 +1,5 @@
 -- What single tokens, numbers and lists say is read of them.
-use Rattle.std.proofs.Common.{◌≡◌, ◌⊎◌, ℕ, zero, suc, ◌<◌, ◌≤◌, Bool, true, false, ◌&&◌, cond, nat_lt, List, [], ◌∷◌, ◌++◌, length, map, Ok, Err, refl, sym, ◌∙◌, ap, subst, inl, inr, pos, ℤ, arith}
+use Rattle.std.proofs.Common.{◌≡◌, ◌⊎◌, ℕ, zero, suc, ◌<◌, ◌≤◌, Bool, true, false, ◌&&◌, cond, nat_lt, List, [], ◌∷◌, ◌++◌, length, map, Ok, refl, sym, ◌∙◌, ap, inl, inr, pos, ℤ, arith}
 use Rattle.std.proofs.lemmas.Bool.{eq-eqb, lt-ltb}
 use Rattle.std.specs.Cmp.Lexicographic.{bytes_decides}
 use Rattle.diag.specs.declared.refusal.OpName.{OpName}
@@ -9,14 +9,13 @@ use Rattle.mlir_lexer.specs.Contents.{content_of}
 use Rattle.mlir_lexer.specs.Tokens.{Lexeme}
 use Rattle.mlir_lexer.specs.declared.token.TokenKind.{TokenKind}
 use Rattle.mlir_lexer.specs.declared.token.TokenKind.TheVariants as kind
-use Rattle.mlir_reader.specs.Stream.{Symbol, token, bad, end, tag, is_kind, is_word, is_first, is_next, after}
-use Rattle.mlir_reader.specs.Reads.{Read, Reads, want, want_word, items, some_items, items_until}
+use Rattle.mlir_reader.specs.Stream.{Symbol, token, tag, is_kind, is_word, is_first, is_next, after}
+use Rattle.mlir_reader.specs.Reads.{Reads, want, want_word, items, some_items, items_until}
 use Rattle.mlir_reader.specs.Numerals.{number_of, number_limit, limited, number_below, negative, integer}
-use Rattle.mlir_reader.specs.TypeText.{is_name, name_text}
-use Rattle.mlir_reader.specs.AttributeText.{is_symbol}
+use Rattle.mlir_reader.specs.TypeText.{name_text}
 use Rattle.mlir_reader.specs.PieceText.{symbol_text}
 use Rattle.mlir_reader.specs.Spelling.{Phrase, One, Mark, Word, Holding, Then, Commas, NamePhrase, SymbolPhrase, NumberPhrase, IntegerPhrase}
-use Rattle.mlir_reader.proofs.Again.{At, at_then, at_one, at_where, at_nothing, at_as, at_either, by_either, on_ok, if_true, if_false, Starts, Leads, leads_one, leads_then, leads_where, leads_either, starts, shorter, starts_test, Again, Any, No}
+use Rattle.mlir_reader.proofs.Again.{At, at_then, at_one, at_where, at_nothing, at_either, by_either, on_ok, if_true, if_false, Leads, leads_one, leads_then, leads_where, leads_either, starts, shorter, starts_test, Again, Any}
 
 -- ---- tests
 

@@ -1,24 +1,24 @@
 -- What the tokens of types say is read of them.
-use Rattle.std.proofs.Common.{◌≡◌, ◌⊎◌, ℕ, zero, suc, ◌<◌, true, ◌&&◌, ◌==◌, cond, List, [], ◌∷◌, ◌++◌, length, map, Option, Some, None, Ok, refl, sym, ◌∙◌, ap, inl, inr, arith}
+use Rattle.std.proofs.Common.{◌≡◌, ℕ, zero, suc, List, [], ◌∷◌, length, Some, Ok, refl, sym, ◌∙◌, ap, arith}
 use Rattle.std.specs.Prelude.{codes}
 use Rattle.std.proofs.lemmas.Bool.{eq-eqb}
 use Rattle.diag.specs.declared.refusal.OpName.{OpName}
-use Rattle.hw_model.specs.Types.{HwType, FieldTypes}
+use Rattle.hw_model.specs.Types.{HwType}
 use Rattle.hw_model.specs.Types.HwType.{int, clock, array, struct}
-use Rattle.hw_model.specs.TypeViews.{NamedType, fields_of}
+use Rattle.hw_model.specs.TypeViews.{NamedType}
 use Rattle.mlir_lexer.specs.Classes.{is_digit}
 use Rattle.mlir_lexer.specs.Runs.{run}
 use Rattle.mlir_lexer.specs.Contents.{content_of}
 use Rattle.mlir_lexer.specs.Tokens.{Lexeme}
 use Rattle.mlir_lexer.specs.declared.token.TokenKind.TheVariants as kind
 use Rattle.mlir_reader.specs.Stream.{Symbol, token, first, after}
-use Rattle.mlir_reader.specs.Reads.{Reads, want, items_until}
+use Rattle.mlir_reader.specs.Reads.{Reads, want}
 use Rattle.mlir_reader.specs.Numerals.{number_in, count_limit}
-use Rattle.mlir_reader.specs.TypeText.{TypeHead, width_digits, behind_x, bare_type, named_type, type_head, width_type, type_with, glued_element, x_rest, element_after, element_type, array_text, field_text, struct_text, too_deep, type_text, any_type, most_open}
-use Rattle.mlir_reader.specs.TypeText.TypeHead.{integer_type, clock_type, array_type, struct_type}
-use Rattle.mlir_reader.specs.Spelling.{Phrase, Mark, Word, Then, Between, Commas, AreDigits, WidthPhrase, TypeWord, NumberPhrase, GluedPhrase, ElementPhrase, FieldPhrase, FieldsPhrase, PlainType, TypeWith, TypePhrase}
+use Rattle.mlir_reader.specs.TypeText.{width_digits, behind_x, bare_type, named_type, type_head, width_type, type_with, glued_element, x_rest, element_after, element_type, array_text, field_text, struct_text, too_deep, type_text, any_type, most_open}
+use Rattle.mlir_reader.specs.TypeText.TypeHead.{integer_type, array_type, struct_type}
+use Rattle.mlir_reader.specs.Spelling.{Phrase, Word, Then, Between, Commas, AreDigits, WidthPhrase, TypeWord, GluedPhrase, ElementPhrase, FieldPhrase, FieldsPhrase, PlainType, TypeWith, TypePhrase}
 use Rattle.mlir_reader.proofs.Again.{At, at_then, at_one, at_either, by_either, on_ok, if_true, if_false, Leads, leads_then, Again, Any}
-use Rattle.mlir_reader.proofs.AgainTokens.{is_kind_of, unlike, Unlike, mark_at, again_name, again_number, limited_is, leads_name, until_at}
+use Rattle.mlir_reader.proofs.AgainTokens.{is_kind_of, unlike, mark_at, again_name, again_number, limited_is, leads_name, until_at}
 
 -- ---- integer types
 
