@@ -4,6 +4,7 @@ ghost use Rattle.std.specs.Box.{box_value};
 ghost use Rattle.hw_model.specs.TypeViews.{type_of};
 ghost use Rattle.hw_model.specs.KindViews.{kind_of, integer_of, predicate_of, reset_of, literal_of, literals_in, instance_of};
 ghost use Rattle.mlir_reader.specs.Resolving.{has_negative, kept_number, kept_integer, kept_by_first, kept_literal, kept_literals, kind_named, plain_kind, said_kind, said_predicate, said_position, said_number, said_literals, said_field, said_instance, said_reset};
+ghost use Rattle.mlir_reader.specs.PieceText.Extra.{nothing};
 ghost use Rattle.mlir_reader.specs.Views.{extra_of};
 
 use crate::syntax::Extra;
@@ -146,16 +147,20 @@ fn said_instance(alloc: Global, extra: Extra) -> Result<Box<Instance>, AllocErro
 {
     match extra {
         Extra::Child(instance) => Ok(instance),
-        _ => Box::new(
-            alloc,
-            Instance {
-                name: Text::new(alloc),
-                inner_symbol: None,
-                symbol: Text::new(alloc),
-                inputs: Vec::new(alloc),
-                outputs: Vec::new(alloc),
-            },
-        ),
+        _ => Ok(Box::new(alloc, nameless_instance(alloc))?),
+    }
+}
+
+// An instance without names, of a module without a name.
+fn nameless_instance(alloc: Global) -> Instance
+    ensures { instance_of result ≡ said_instance nothing }
+{
+    Instance {
+        name: Text::new(alloc),
+        inner_symbol: None,
+        symbol: Text::new(alloc),
+        inputs: Vec::new(alloc),
+        outputs: Vec::new(alloc),
     }
 }
 
