@@ -1,11 +1,11 @@
 -- Readers that give what the tokens of a phrase say.
-use Rattle.std.proofs.Common.{◌≡◌, ◌⊎◌, ◌<◌, ◌≤◌, Bool, true, false, cond, List, [], ◌∷◌, ◌++◌, length, map, Ok, refl, ◌∙◌, ap, inl, inr, arith}
+use Rattle.std.proofs.Common.{◌≡◌, ◌⊎◌, ◌<◌, Bool, true, false, cond, List, [], ◌∷◌, ◌++◌, length, map, Ok, refl, ◌∙◌, ap, inl, inr, arith}
 use Rattle.std.proofs.lemmas.Bool.{cond-true, cond-false}
-use Rattle.std.proofs.lemmas.List.{append_assoc, map-append}
 use Rattle.mlir_lexer.specs.Tokens.{Lexeme}
 use Rattle.mlir_reader.specs.Stream.{Symbol, token, is_first}
 use Rattle.mlir_reader.specs.Reads.{Read, Reads, on}
 use Rattle.mlir_reader.specs.Spelling.{Phrase, One, Nothing, Then, Either, Where}
+use Rattle.mlir_reader.proofs.Local.{map_joined, behind_short}
 
 -- ---- where phrases stand
 
@@ -14,9 +14,6 @@ pub record At (P : Phrase) (s left : List Symbol) : Type 0 where
   pub passed : List Lexeme
   pub same : s ≡ map token passed ++ left
   pub says : P passed
-
-map_joined : (a b : List Lexeme) (v : List Symbol) → map token (a ++ b) ++ v ≡ map token a ++ (map token b ++ v)
-map_joined a b v = ap (λ x. x ++ v) (map-append token a b) ∙ append_assoc (map token a) (map token b) v
 
 -- the two parts of a phrase, and the place between them
 pub at_then : {P Q : Phrase} {s left : List Symbol} → At (Then P Q) s left → (m : List Symbol) × At P s m × At Q m left
@@ -92,10 +89,6 @@ starts {left} leads h =
     let (t, a, e, p) = leads.lead h.passed h.says in
     record { first = t; behind = map token a ++ left; same = h.same ∙ ap (λ x. map token x ++ left) e; says = p }
 
-behind_short : (a : List Lexeme) (w : List Symbol) → length w ≤ length (map token a ++ w)
-behind_short [] w = omega arith
-behind_short (t ∷ a) w = let h = behind_short a w in omega (arith, h)
-
 -- a phrase with a first token passes one at least
 pub shorter : {T : Lexeme → Type 0} {P : Phrase} {s left : List Symbol} → Leads T P → At P s left → length left < length s
 shorter {s} {left} leads h =
@@ -117,7 +110,3 @@ pub record Again {A : Type 0} (F : List Symbol → Type 0) (r : Reads A) (P : A 
 -- whatever stands behind
 abbrev pub Any : List Symbol → Type 0
 Any s = Unit {0}
-
--- what stands first is not so
-abbrev pub No : (Lexeme → Bool) → List Symbol → Type 0
-No test s = is_first test s ≡ false

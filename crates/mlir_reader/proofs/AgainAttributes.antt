@@ -14,7 +14,7 @@ use Rattle.mlir_reader.specs.TypeText.{type_text, too_deep, most_open}
 use Rattle.mlir_reader.specs.AttributeText.{text_head, symbol_head, truth_head, number_head, list_head, attribute_head, is_stored, stored_integer, integer_type, typed_integer, in_order, list_text, attribute_with, attribute_text, is_among, new_key, string_value, value_of_key, entry_value, entry_text, entries, dictionary_text, maybe_dictionary}
 use Rattle.mlir_reader.specs.Spelling.{Phrase, Nothing, TypePhrase, Mark, Holding, Then, Where, Commas, Between, NamePhrase, IntegerPhrase, TruthWord, AttributeWith, AttributePhrase, ValuePhrase, EntryPhrase, AreOnce, DictionaryPhrase, MaybeDictionary}
 use Rattle.mlir_reader.proofs.Again.{At, at_then, at_one, at_where, at_nothing, at_either, on_ok, if_true, if_false, Leads, leads_one, leads_then, leads_where, leads_either, starts, shorter, Again, Any}
-use Rattle.mlir_reader.proofs.AgainTokens.{unlike, Unlike, mark_at, holding_at, next_at, no_next, again_name, again_integer, leads_holding, leads_name, leads_symbol, leads_integer, BeginsInteger, integer_begins, leads_commas, until_at}
+use Rattle.mlir_reader.proofs.AgainTokens.{unlike, Unlike, mark_at, holding_at, next_at, no_next, again_name, again_integer, leads_holding, leads_name, leads_symbol, leads_integer, BeginsInteger, integer_begins, leads_commas, until_at, no_mark, name_unlike}
 use Rattle.mlir_reader.proofs.AgainTypes.{again_type}
 
 -- ---- tokens retold
@@ -132,7 +132,7 @@ attribute_at lists Lists room op listed (list_value inner) {s} {left} clear h =
     ap (attribute_with lists room op s) head ∙ e
 
 no_colon : (k : TokenKind) → is_kind k kind.Colon ≡ false → (s left : List Symbol) → At (Mark k) s left → NoColon s
-no_colon k other s left h = no_next kind.Colon (leads_one (unlike kind.Colon k other)) h
+no_colon k other s left h = no_mark kind.Colon other h
 
 list_at : (room : ℕ) (op : OpName) → Again NoColon (attribute_text room op) (AttributePhrase room) → (a : Attribute) {s left : List Symbol}
     → At (ListPhrase (λ l. Between kind.LeftBracket kind.RightBracket (Commas (AttributePhrase room) l)) a) s left
@@ -179,7 +179,7 @@ abbrev EntryEnd : List Symbol → Type 0
 EntryEnd s = (is_next kind.Colon s ≡ false) × (is_next kind.Equals s ≡ false)
 
 entry_end : (k : TokenKind) {s left : List Symbol} → is_kind k kind.Colon ≡ false → is_kind k kind.Equals ≡ false → At (Mark k) s left → EntryEnd s
-entry_end k clear other h = (no_colon k clear _ _ h, no_next kind.Equals (leads_one (unlike kind.Equals k other)) h)
+entry_end k clear other h = (no_colon k clear _ _ h, no_mark kind.Equals other h)
 
 key_at : (op : OpName) (keys : List Name) (key : Name) {s left : List Symbol} → is_among key keys ≡ false → At (NamePhrase key) s left → new_key op keys s ≡ Ok (key, left)
 unfolding new_key
@@ -215,12 +215,11 @@ entry_at op strings keys e {s} {left} new clear (inr h) =
     let (is, p) = at_where h in
     on_ok _ (key_at op keys e.key new p) (on_ok _ (if_false _ clear.1 (if_false _ is.0 (ap (λ x. Ok (x, left)) (sym is.1)))) refl)
 
-leads_entry : {T : Lexeme → Type 0} (strings : List Name) (e : Entry) → ((t : Lexeme) → t.kind ≡ kind.BareName → T t) → ((t : Lexeme) → t.kind ≡ kind.StringLiteral → T t)
-    → Leads T (EntryPhrase strings e)
-leads_entry strings e bare quoted = leads_either (leads_then (leads_name bare quoted)) (leads_where (leads_name bare quoted))
+leads_entry : {T : Lexeme → Type 0} (strings : List Name) (e : Entry) → Leads T (NamePhrase e.key) → Leads T (EntryPhrase strings e)
+leads_entry strings e name = leads_either (leads_then name) (leads_where name)
 
 any_entry : (strings : List Name) (e : Entry) → Leads (λ _. Unit {0}) (EntryPhrase strings e)
-any_entry strings e = leads_entry strings e (λ t k. tt) (λ t k. tt)
+any_entry strings e = leads_entry strings e (leads_name (λ t k. tt) (λ t k. tt))
 
 entries_at : (op : OpName) (strings keys : List Name) (n : ℕ) (e : Entry) (es : List Entry) (s left : List Symbol) → AreOnce keys (e ∷ es)
     → At (Commas (EntryPhrase strings) (e ∷ es)) s left → EntryEnd left → is_next kind.Comma left ≡ false → length s ≤ n
@@ -257,8 +256,8 @@ dictionary_at op strings (f ∷ fs) {s} {left} h =
     let (k, c, d) = at_then b in
     let (t, e) = mark_at op a in
     let (u, eu) = mark_at op d in
-    on_ok _ e (if_false _ (no_next kind.RightBrace (leads_commas (EntryPhrase strings) f fs (leads_entry strings f (unlike kind.RightBrace kind.BareName refl) (unlike kind.RightBrace kind.StringLiteral refl))) c)
-    (on_ok _ (entries_at op strings [] (length m) f fs m k once c (entry_end kind.RightBrace refl refl d) (no_next kind.Comma (leads_one (unlike kind.Comma kind.RightBrace refl)) d) (omega arith))
+    on_ok _ e (if_false _ (no_next kind.RightBrace (leads_commas (EntryPhrase strings) f fs (leads_entry strings f (name_unlike kind.RightBrace refl refl))) c)
+    (on_ok _ (entries_at op strings [] (length m) f fs m k once c (entry_end kind.RightBrace refl refl d) (no_mark kind.Comma refl d) (omega arith))
     (on_ok _ eu refl)))
 
 pub again_dictionary : (op : OpName) (strings : List Name) → Again Any (dictionary_text op strings) (DictionaryPhrase strings)

@@ -1,5 +1,5 @@
 -- What the tokens of the forms of operations say is read of them.
-use Rattle.std.proofs.Common.{◌≡◌, Bool, true, false, cond, List, [], ◌∷◌, Option, Some, None, Ok, refl, sym, ◌∙◌, ap, ap₂, subst}
+use Rattle.std.proofs.Common.{◌≡◌, Bool, true, false, cond, List, [], ◌∷◌, Option, Some, None, Ok, refl, sym, ◌∙◌, ap, ap₂, subst, ℕ, ◌⊎◌, inl, inr}
 use Rattle.std.specs.Prelude.{codes}
 use Rattle.diag.specs.declared.refusal.OpName.{OpName}
 use Rattle.diag.specs.declared.listed.Listed.{Listed}
@@ -14,18 +14,18 @@ use Rattle.mlir_lexer.specs.declared.token.TokenKind.TheVariants as kind
 use Rattle.mlir_reader.specs.Stream.{Symbol, token, bad, end, first, is_first, is_next, is_kind, is_word}
 use Rattle.mlir_reader.specs.Reads.{Read, on}
 use Rattle.mlir_reader.specs.AttributeText.{maybe_dictionary}
-use Rattle.mlir_reader.specs.Shapes.{is_of, shape_of, front_pieces, type_pieces}
+use Rattle.mlir_reader.specs.Shapes.{is_of, shape_of, comma, front_pieces, type_pieces}
 use Rattle.mlir_reader.specs.PieceText.{Gathered, gathered_nothing, predicate_named, pieces_text}
 use Rattle.mlir_reader.specs.OperationText.{Tail, given_entries, late_dictionary, form_text, is_last}
-use Rattle.mlir_reader.specs.Spelling.{Phrase, Mark, Word, Holding, TruthWord, OperandPhrase, Then, PiecePhrase, PiecesPhrase, MaybeDictionary, IsOneOf, FormPhrase}
+use Rattle.mlir_reader.specs.Spelling.{Phrase, ResetPhrase, Mark, Word, Holding, TruthWord, OperandPhrase, Then, PiecePhrase, PiecesPhrase, MaybeDictionary, IsOneOf, FormPhrase, Where, Nothing}
 use Rattle.mlir_reader.specs.declared.pieces.Keyword.{Keyword}
 use Rattle.mlir_reader.specs.declared.pieces.Keyword.TheVariants.{From, Clock}
 use Rattle.mlir_reader.specs.declared.pieces.Piece.{Piece}
 use Rattle.mlir_reader.specs.declared.pieces.Piece.TheVariants as piece
 use Rattle.mlir_reader.specs.declared.pieces.Shape.{Shape}
 use Rattle.mlir_reader.specs.declared.pieces.Shape.TheVariants as shape
-use Rattle.mlir_reader.proofs.Again.{At, at_then, at_where, at_nothing, at_either, by_either, on_ok, Leads, leads_one, leads_then, leads_where, starts, starts_test}
-use Rattle.mlir_reader.proofs.AgainTokens.{is_kind_of, unlike, no_word, other_word, no_next, leads_holding, leads_commas, leads_integer}
+use Rattle.mlir_reader.proofs.Again.{At, at_then, at_where, at_nothing, at_either, on_ok, Leads, leads_one, leads_then, leads_where, starts, starts_test}
+use Rattle.mlir_reader.proofs.AgainTokens.{Unlike, is_kind_of, unlike, no_word, other_word, no_next, leads_holding, leads_commas, leads_integer}
 use Rattle.mlir_reader.proofs.AgainAttributes.{NoBrace, some_dictionary_at, again_maybe}
 use Rattle.mlir_reader.proofs.AgainLiterals.{leads_aggregate}
 use Rattle.mlir_reader.proofs.AgainOperands.{NoNumber, NoValue, leads_operand}
@@ -126,6 +126,10 @@ mark_ends k ps rest = (λ m x y a. tt, rest)
 operand_mark_ends : {left : List Symbol} (k : TokenKind) (ps : List Piece) → is_kind k kind.ResultNumber ≡ false → Ends ps left → Ends (piece.Operand ∷ piece.Mark k ∷ ps) left
 operand_mark_ends {left} k ps other rest = (behind_mark k ps left other, mark_ends k ps rest)
 
+-- `%a,` and more
+comma_ends : {left : List Symbol} (ps : List Piece) → Ends ps left → Ends (piece.Operand ∷ comma ∷ ps) left
+comma_ends ps rest = operand_mark_ends kind.Comma ps refl rest
+
 -- `%a[%i]` and more
 indexed_ends : {left : List Symbol} (ps : List Piece) → Ends ps left
     → Ends (piece.Operand ∷ piece.Mark kind.LeftBracket ∷ piece.Operand ∷ piece.Mark kind.RightBracket ∷ ps) left
@@ -136,61 +140,66 @@ field_ends : {left : List Symbol} (ps : List Piece) → Ends ps left
     → Ends (piece.Operand ∷ piece.Mark kind.LeftBracket ∷ piece.Field ∷ piece.Mark kind.RightBracket ∷ ps) left
 field_ends ps rest = operand_mark_ends kind.LeftBracket (piece.Field ∷ piece.Mark kind.RightBracket ∷ ps) refl (λ m x y a. tt, mark_ends kind.RightBracket ps rest)
 
+-- a reset that may be left out begins with no number within a pack
+optional_reset : (Reset : Phrase) (x g y : Gathered) {m k left : List Symbol} → FrontEnd left → Leads (Unlike kind.ResultNumber) Reset
+    → At (ResetPhrase Reset x g) m k ⊎ At (Where (g ≡ x) Nothing) m k → At (PiecesPhrase [] g y) k left → NoNumber m
+optional_reset Reset x g y last leads (inl a) b = no_next kind.ResultNumber (record { lead = λ ts p. (leads_then {P = Reset} leads).lead ts p.3 }) a
+optional_reset Reset x g y {k = k} last leads (inr a) b = ap (is_next kind.ResultNumber) (at_nothing (at_where a).1) ∙ operand_last last k g y b
+
+word_unlike : {word : List ℕ} → Leads (Unlike kind.ResultNumber) (Word word)
+word_unlike = leads_one (λ t w. unlike kind.ResultNumber kind.BareName refl t w.0)
+
 behind_reset : {left : List Symbol} → FrontEnd left → (m : List Symbol) (x y : Gathered) → At (PiecesPhrase (piece.Reset ∷ []) x y) m left → NoNumber m
 behind_reset {left} last m x y a =
     let (g, q) = a.says in
     let inside : At (Then (PiecePhrase piece.Reset x g) (PiecesPhrase [] g y)) m left = record { passed = a.passed; same = a.same; says = q } in
     let (k, b, c) = at_then inside in
-    by_either
-    (λ r. no_next kind.ResultNumber (record { lead = λ ts p. (leads_then {P = Word (codes "reset")} (leads_one (λ t w. unlike kind.ResultNumber kind.BareName refl t w.0))).lead ts p.3 }) r)
-    (λ w. ap (is_next kind.ResultNumber) (at_nothing (at_where w).1) ∙ operand_last last k g y c) (at_either b)
+    optional_reset (Word (codes "reset")) x g y last word_unlike (at_either b) c
 
 behind_sync : {left : List Symbol} → FrontEnd left → (m : List Symbol) (x y : Gathered) → At (PiecesPhrase (piece.SyncReset ∷ []) x y) m left → NoNumber m
 behind_sync {left} last m x y a =
     let (g, q) = a.says in
     let inside : At (Then (PiecePhrase piece.SyncReset x g) (PiecesPhrase [] g y)) m left = record { passed = a.passed; same = a.same; says = q } in
     let (k, b, c) = at_then inside in
-    by_either
-    (λ r. no_next kind.ResultNumber (record { lead = λ ts p. (leads_then {P = Then (Word (codes "reset")) (Word (codes "sync"))} (leads_then (leads_one (λ t w. unlike kind.ResultNumber kind.BareName refl t w.0)))).lead ts p.3 }) r)
-    (λ w. ap (is_next kind.ResultNumber) (at_nothing (at_where w).1) ∙ operand_last last k g y c) (at_either b)
+    optional_reset (Then (Word (codes "reset")) (Word (codes "sync"))) x g y last (leads_then word_unlike) (at_either b) c
 
 reset_ends : {left : List Symbol} → FrontEnd left → Ends (piece.Operand ∷ piece.Reset ∷ []) left
 reset_ends last =
-    (behind_reset last, (λ m x y a. (operand_last last m x y a, ap (λ z. is_first (is_word (codes "reset")) z) (no_pieces a).1 ∙ last.no_reset), tt))
+    (behind_reset last, (λ m x y a. (operand_last last m x y a, ap (is_first (is_word (codes "reset"))) (no_pieces a).1 ∙ last.no_reset), tt))
 
 sync_ends : {left : List Symbol} → FrontEnd left → Ends (piece.Operand ∷ piece.SyncReset ∷ []) left
 sync_ends last =
-    (behind_sync last, (λ m x y a. (operand_last last m x y a, ap (λ z. is_first (is_word (codes "reset")) z) (no_pieces a).1 ∙ last.no_reset), tt))
+    (behind_sync last, (λ m x y a. (operand_last last m x y a, ap (is_first (is_word (codes "reset"))) (no_pieces a).1 ∙ last.no_reset), tt))
 
 word_ends : {left : List Symbol} (w : Keyword) (ps : List Piece) → Ends ps left → Ends (piece.Operand ∷ piece.Word w ∷ ps) left
 word_ends w ps rest = (
-  λ m x y a. no_next kind.ResultNumber (leads_pieces (piece.Word w) ps x y (λ g. leads_where (leads_one (λ t p. unlike kind.ResultNumber kind.BareName refl t p.0)))) a,
+  λ m x y a. no_next kind.ResultNumber (leads_pieces (piece.Word w) ps x y (λ g. leads_where word_unlike)) a,
   (λ m x y a. tt, rest),
 )
 
 front_ends : (shape : Shape) {left : List Symbol} → FrontEnd left → Ends (front_pieces shape) left
 unfolding front_pieces
 front_ends shape.Variadic last = operands_end last
-front_ends shape.Binary last = operand_mark_ends kind.Comma (piece.Operand ∷ []) refl (operand_ends last)
-front_ends shape.Comparison last = (λ m x y a. tt, operand_mark_ends kind.Comma (piece.Operand ∷ []) refl (operand_ends last))
+front_ends shape.Binary last = comma_ends (piece.Operand ∷ []) (operand_ends last)
+front_ends shape.Comparison last = (λ m x y a. tt, comma_ends (piece.Operand ∷ []) (operand_ends last))
 front_ends shape.Unary last = operand_ends last
 front_ends shape.Extraction last = word_ends From (piece.Number ∷ []) (λ m x y a. tt, tt)
 front_ends shape.Joined last = operands_end last
 front_ends shape.Conversion last = operand_ends last
-front_ends shape.Choice last = operand_mark_ends kind.Comma (piece.Operand ∷ piece.Mark kind.Comma ∷ piece.Operand ∷ []) refl (operand_mark_ends kind.Comma (piece.Operand ∷ []) refl (operand_ends last))
+front_ends shape.Choice last = comma_ends (piece.Operand ∷ comma ∷ piece.Operand ∷ []) (comma_ends (piece.Operand ∷ []) (operand_ends last))
 front_ends shape.Truth last = (λ m x y a. tt, tt)
 front_ends shape.Integer last = (λ m x y a. tt, tt)
 front_ends shape.Aggregate last = (λ m x y a. tt, tt)
 front_ends shape.Element last = indexed_ends [] tt
 front_ends shape.Slice last = indexed_ends [] tt
-front_ends shape.ElementChange last = indexed_ends (piece.Mark kind.Comma ∷ piece.Operand ∷ []) (mark_ends kind.Comma (piece.Operand ∷ []) (operand_ends last))
+front_ends shape.ElementChange last = indexed_ends (comma ∷ piece.Operand ∷ []) (mark_ends kind.Comma (piece.Operand ∷ []) (operand_ends last))
 front_ends shape.Struct last = (λ m x y a. tt, tt)
 front_ends shape.Field last = field_ends [] tt
-front_ends shape.FieldChange last = field_ends (piece.Mark kind.Comma ∷ piece.Operand ∷ []) (mark_ends kind.Comma (piece.Operand ∷ []) (operand_ends last))
+front_ends shape.FieldChange last = field_ends (comma ∷ piece.Operand ∷ []) (mark_ends kind.Comma (piece.Operand ∷ []) (operand_ends last))
 front_ends shape.Instance last = (λ m x y a. tt, tt)
 front_ends shape.Nothing last = tt
-front_ends shape.Register last = operand_mark_ends kind.Comma (piece.Operand ∷ piece.Reset ∷ []) refl (reset_ends last)
-front_ends shape.EnabledRegister last = operand_mark_ends kind.Comma (piece.Operand ∷ piece.Mark kind.Comma ∷ piece.Operand ∷ piece.Reset ∷ []) refl (operand_mark_ends kind.Comma (piece.Operand ∷ piece.Reset ∷ []) refl (reset_ends last))
+front_ends shape.Register last = comma_ends (piece.Operand ∷ piece.Reset ∷ []) (reset_ends last)
+front_ends shape.EnabledRegister last = comma_ends (piece.Operand ∷ comma ∷ piece.Operand ∷ piece.Reset ∷ []) (comma_ends (piece.Operand ∷ piece.Reset ∷ []) (reset_ends last))
 front_ends shape.ClockedRegister last = word_ends Clock (piece.Operand ∷ piece.SyncReset ∷ []) (sync_ends last)
 
 one_type_ends : {left : List Symbol} → Ends (piece.Mark kind.Colon ∷ piece.Type ∷ []) left

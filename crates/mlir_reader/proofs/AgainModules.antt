@@ -19,7 +19,7 @@ use Rattle.mlir_reader.specs.OperationText.{module_name, class_of}
 use Rattle.mlir_reader.specs.ModuleText.{header, PortText, port_name, port_type, input_port, output_port, port_text, ports_text, ModuleText, module_keys, attributes_text, private_text, body_text, module_behind, classed_module, module_text, is_end, modules_text, file_symbol, want_end, wrapped_text, is_file_name, file_text}
 use Rattle.mlir_reader.specs.Spelling.{Phrase, One, Mark, Word, Holding, Then, Either, Where, Nothing, Commas, Between, NamePhrase, SymbolPhrase, TypePhrase, ValueName, DictionaryPhrase, OperationsPhrase, PortPhrase, AttributesPhrase, PrivatePhrase, ModulePhrase, ModulesPhrase, FileWord, WrappedPhrase, FilePhrase, IsPlaceOf, token_of}
 use Rattle.mlir_reader.proofs.Again.{At, at_then, at_one, at_where, at_nothing, at_as, at_either, on_ok, if_true, if_false, Leads, leads_one, leads_then, leads_where, leads_either, starts, starts_test, shorter, Again, Any}
-use Rattle.mlir_reader.proofs.AgainTokens.{is_kind_of, unlike, is_word_of, no_word, other_word, want_at, mark_at, holding_at, next_at, no_next, again_name, again_symbol, leads_holding, leads_symbol, leads_commas, until_at}
+use Rattle.mlir_reader.proofs.AgainTokens.{is_kind_of, unlike, is_word_of, no_word, other_word, want_at, mark_at, holding_at, next_at, no_next, again_name, again_symbol, leads_holding, leads_symbol, leads_commas, until_at, no_mark}
 use Rattle.mlir_reader.proofs.AgainTypes.{again_any_type}
 use Rattle.mlir_reader.proofs.AgainAttributes.{again_dictionary}
 use Rattle.mlir_reader.proofs.AgainOperands.{again_value_name}
@@ -58,7 +58,7 @@ input_at p v {s} {left} same a =
     let (k, d, e) = at_then c in
     let (i, colon, x) = at_then e in
     on_ok _ ((again_value_name header).gives v s m b tt)
-    (on_ok _ (port_name_at v p.name (no_next kind.StringLiteral (leads_one (unlike kind.StringLiteral kind.Colon refl)) colon) (at_either d))
+    (on_ok _ (port_name_at v p.name (no_mark kind.StringLiteral refl colon) (at_either d))
     (on_ok _ (port_type_at p.type e) (ap (λ o. Ok (record { value = o; name = p.name; type = p.type }, left)) (sym same))))
 
 output_at : (p : PortText) {s left : List Symbol} → p.value ≡ None → At (Then (NamePhrase p.name) (Then (Mark kind.Colon) (TypePhrase most_open p.type))) s left
@@ -98,7 +98,7 @@ leads_port p to =
 no_value : (ports : List PortText) {s left : List Symbol} → At (Then (Commas PortPhrase ports) (Mark kind.RightParenthesis)) s left → is_next kind.ValueName s ≡ false
 no_value [] a =
     let (m, b, c) = at_then a in
-    ap (is_next kind.ValueName) (at_nothing b) ∙ no_next kind.ValueName (leads_one (unlike kind.ValueName kind.RightParenthesis refl)) c
+    ap (is_next kind.ValueName) (at_nothing b) ∙ no_mark kind.ValueName refl c
 no_value (p ∷ ps) a =
     let (m, b, c) = at_then a in
     no_next kind.ValueName (leads_commas PortPhrase p ps (leads_port p (unlike kind.ValueName kind.BareName refl))) b
@@ -167,7 +167,7 @@ module_behind_at m {s} {left} a =
     let (k, x, y) = at_then e in
     let (l, f, g) = at_then x in
     on_ok _ (private_at m.is_private (symbol_first (codes "private") m.symbol d) b)
-    (on_ok _ (module_symbol_at header m.symbol (no_next kind.Less (leads_one (unlike kind.Less kind.LeftParenthesis refl)) f) d)
+    (on_ok _ (module_symbol_at header m.symbol (no_mark kind.Less refl f) d)
     (on_ok _ (ports_at m.ports x) (on_ok _ (body_text_at m y) refl)))
 
 module_class : class_of (name_of_listed listed.HwModule) ≡ module_name

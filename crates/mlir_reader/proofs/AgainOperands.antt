@@ -13,7 +13,7 @@ use Rattle.mlir_reader.specs.OperandText.{OperandName, ResultNames, value_name, 
 use Rattle.mlir_reader.specs.OperandText.ResultNames.{no_names, names, pack}
 use Rattle.mlir_reader.specs.Spelling.{Phrase, One, Nothing, Mark, Where, ValueName, OperandPhrase, ResultsPhrase}
 use Rattle.mlir_reader.proofs.Again.{At, at_then, at_where, at_nothing, at_either, on_ok, if_true, if_false, Leads, leads_one, leads_then, starts, starts_test, Again, Any}
-use Rattle.mlir_reader.proofs.AgainTokens.{is_kind_of, unlike, want_at, mark_at, holding_at, next_at, no_next, limited_is, again_number, leads_holding, again_some}
+use Rattle.mlir_reader.proofs.AgainTokens.{is_kind_of, want_at, mark_at, holding_at, next_at, limited_is, again_number, leads_holding, again_some, no_mark}
 
 pub again_value_name : (op : OpName) → Again Any (value_name op) ValueName
 unfolding value_name
@@ -56,7 +56,7 @@ pub leads_operand : {T : Lexeme → Type 0} (o : OperandName) → ((t : Lexeme) 
 leads_operand o to = leads_then (leads_holding to)
 
 pub no_number : (k : TokenKind) {s left : List Symbol} → is_kind k kind.ResultNumber ≡ false → At (Mark k) s left → NoNumber s
-no_number k other h = no_next kind.ResultNumber (leads_one (unlike kind.ResultNumber k other)) h
+no_number k other h = no_mark kind.ResultNumber other h
 
 -- ---- names of results
 
@@ -82,7 +82,7 @@ results_at op (names n []) {s} {left} clear h =
     let (t, e) = mark_at op b in
     if_true _ (is_value (leads_value n (λ t k. k)) a)
     (on_ok _ ((again_value_name op).gives n s m a tt)
-    (on_ok _ (if_false _ (no_next kind.Colon (leads_one (unlike kind.Colon kind.Equals refl)) b) (if_false _ (no_next kind.Comma (leads_one (unlike kind.Comma kind.Equals refl)) b) refl)) (on_ok _ e refl)))
+    (on_ok _ (if_false _ (no_mark kind.Colon refl b) (if_false _ (no_mark kind.Comma refl b) refl)) (on_ok _ e refl)))
 results_at op (names n (o ∷ os)) {s} {left} clear h =
     let (m, a, b) = at_then h in
     let (t, e) = mark_at op b in
@@ -91,9 +91,9 @@ results_at op (names n (o ∷ os)) {s} {left} clear h =
     let (next, behind) = next_at x in
     if_true _ (is_value (leads_value n (λ t k. k)) c)
     (on_ok _ ((again_value_name op).gives n s k c tt)
-    (on_ok _ (if_false _ (no_next kind.Colon (leads_one (unlike kind.Colon kind.Comma refl)) x) (if_true _ next
+    (on_ok _ (if_false _ (no_mark kind.Colon refl x) (if_true _ next
     (on_ok _ (ap (some_items op (value_name op)) behind
-    ∙ again_some op (again_value_name op) (λ v. leads_value {T = λ _. Unit {0}} v (λ t k. tt)) (λ _ _ _. tt) o os i m y tt (no_next kind.Comma (leads_one (unlike kind.Comma kind.Equals refl)) b)) refl)))
+    ∙ again_some op (again_value_name op) (λ v. leads_value {T = λ _. Unit {0}} v (λ t k. tt)) (λ _ _ _. tt) o os i m y tt (no_mark kind.Comma refl b)) refl)))
     (on_ok _ e refl)))
 results_at op (pack n k) {s} {left} clear h =
     let (m, a, b) = at_then h in

@@ -1,5 +1,5 @@
 -- What the tokens of operations say is read of them.
-use Rattle.std.proofs.Common.{◌≡◌, ◌⊎◌, ℕ, zero, suc, ◌≤◌, Bool, true, false, ◌&&◌, cond, List, [], ◌∷◌, ◌++◌, length, Ok, Err, refl, sym, ◌∙◌, ap, ap₂, subst, inl, inr, arith}
+use Rattle.std.proofs.Common.{◌≡◌, ◌⊎◌, ℕ, zero, suc, ◌≤◌, Bool, true, false, cond, List, [], ◌∷◌, ◌++◌, length, Ok, Err, refl, sym, ◌∙◌, ap, ap₂, subst, inl, inr, arith}
 use Rattle.std.specs.Prelude.{codes}
 use Rattle.diag.specs.declared.refusal.OpName.TheVariants as op
 use Rattle.diag.specs.declared.listed.Listed.{Listed}
@@ -17,7 +17,7 @@ use Rattle.mlir_reader.specs.Shapes.{shape_of}
 use Rattle.mlir_reader.specs.OperationText.{OperationText, operation, class_of, takes_bin, bin_text, string_keys, form_text, named_operation, classed_operation, operation_behind, operation_text, is_last, operations_text}
 use Rattle.mlir_reader.specs.Spelling.{Phrase, Mark, Then, ValueName, ResultsPhrase, BinPhrase, FormPhrase, TailPhrase, StandsInBody, OperationPhrase, OperationsPhrase, IsPlaceOf}
 use Rattle.mlir_reader.proofs.Again.{At, at_then, at_one, at_where, at_nothing, on_ok, if_true, if_false, Leads, leads_one, leads_then, leads_where, starts, starts_test, shorter}
-use Rattle.mlir_reader.proofs.AgainTokens.{is_kind_of, unlike, no_word, other_word, next_at, no_next, leads_commas}
+use Rattle.mlir_reader.proofs.AgainTokens.{is_kind_of, unlike, no_word, other_word, next_at, no_next, leads_commas, no_mark, both_true, false_too}
 use Rattle.mlir_reader.proofs.AgainOperands.{NoValue, again_results, leads_value}
 use Rattle.mlir_reader.proofs.AgainPieces.{word_first}
 use Rattle.mlir_reader.proofs.AgainForms.{OperationEnd, form_at, no_bin, shape_at}
@@ -72,19 +72,11 @@ bin_at : (o : Listed) (b : Bool) {s left : List Symbol} → is_first (is_word (c
 unfolding bin_text
 bin_at o false clear a =
     let same = at_nothing a in
-    if_false _ (no_mark (takes_bin o) _ (ap (is_first (is_word (codes "bin"))) same ∙ clear)) (ap (λ y. Ok (false, y)) same)
-  where
-    no_mark : (a b : Bool) → b ≡ false → (a && b) ≡ false
-    no_mark true b h = h
-    no_mark false b h = refl
+    if_false _ (false_too (takes_bin o) _ (ap (is_first (is_word (codes "bin"))) same ∙ clear)) (ap (λ y. Ok (false, y)) same)
 bin_at o true clear a =
     let (takes, p) = at_where a in
     let (next, behind) = word_first p in
-    if_true _ (both (takes_bin o) _ takes next) (ap (λ y. Ok (true, y)) behind)
-  where
-    both : (a b : Bool) → a ≡ true → b ≡ true → (a && b) ≡ true
-    both true b h g = g
-    both false b h g = absurd cc
+    if_true _ (both_true (takes_bin o) _ takes next) (ap (λ y. Ok (true, y)) behind)
 
 -- what is behind an operation's name
 named_at : (o : OperationText) {s left : List Symbol} → OperationEnd left → (is_last o.name ≡ true → NoValue left)
@@ -120,11 +112,11 @@ operation_at o {s} {left} last out a =
 
 brace_end : {s left : List Symbol} → At (Mark kind.RightBrace) s left → OperationEnd s
 brace_end a = record {
-  no_number = no_next kind.ResultNumber (leads_one (unlike kind.ResultNumber kind.RightBrace refl)) a;
-  no_comma = no_next kind.Comma (leads_one (unlike kind.Comma kind.RightBrace refl)) a;
+  no_number = no_mark kind.ResultNumber refl a;
+  no_comma = no_mark kind.Comma refl a;
   no_reset = starts_test (is_word (codes "reset")) false (no_word (codes "reset") kind.RightBrace refl) (starts (leads_one (λ t k. k)) a);
   no_bin = starts_test (is_word (codes "bin")) false (no_word (codes "bin") kind.RightBrace refl) (starts (leads_one (λ t k. k)) a);
-  no_brace = no_next kind.LeftBrace (leads_one (unlike kind.LeftBrace kind.RightBrace refl)) a;
+  no_brace = no_mark kind.LeftBrace refl a;
 }
 
 no_kind : (o : OperationText) (k : TokenKind) → is_kind kind.ValueName k ≡ false → is_kind kind.BareName k ≡ false → (s left : List Symbol) → At (OperationPhrase IsPlaceOf o) s left
@@ -154,7 +146,7 @@ output_last os {s} {m} none close a =
     let nothing : At (OperationsPhrase IsPlaceOf []) s m = subst (λ x. At (OperationsPhrase IsPlaceOf x) s m) none a in
     let same : s ≡ m = at_nothing nothing in
     let (next, behind) = next_at close in
-    (same, ap (is_next kind.ValueName) same ∙ no_next kind.ValueName (leads_one (unlike kind.ValueName kind.RightBrace refl)) close, ap (is_next kind.RightBrace) same ∙ next)
+    (same, ap (is_next kind.ValueName) same ∙ no_mark kind.ValueName refl close, ap (is_next kind.RightBrace) same ∙ next)
 
 -- an operation is the last, or further ones stand behind it
 last_or_more : (n : ℕ) (o : OperationText) (os : List OperationText) {k m left : List Symbol} (b : Bool) → (b ≡ true → os ≡ []) → At (Mark kind.RightBrace) m left

@@ -17,7 +17,7 @@ use Rattle.mlir_reader.specs.Spelling.{Phrase, Mark, Word, Holding, Then, Where,
 use Rattle.mlir_reader.specs.declared.pieces.Piece.{Piece}
 use Rattle.mlir_reader.specs.declared.pieces.Piece.TheVariants as piece
 use Rattle.mlir_reader.proofs.Again.{At, at_then, at_one, at_where, at_nothing, at_either, on_ok, if_true, if_false, Leads, leads_one, leads_then, starts, starts_test, Again, Any}
-use Rattle.mlir_reader.proofs.AgainTokens.{is_kind_of, unlike, is_word_of, no_word, other_word, mark_at, word_at, holding_at, no_next, again_name, again_symbol, again_number, again_integer, leads_name, leads_symbol, again_some, until_at}
+use Rattle.mlir_reader.proofs.AgainTokens.{is_kind_of, unlike, is_word_of, no_word, other_word, mark_at, word_at, holding_at, again_name, again_symbol, again_number, again_integer, leads_symbol, again_some, until_at, no_mark, name_unlike}
 use Rattle.mlir_reader.proofs.AgainTypes.{again_type, again_any_type, again_field, leads_field}
 use Rattle.mlir_reader.proofs.AgainLiterals.{again_aggregate}
 use Rattle.mlir_reader.proofs.AgainOperands.{NoNumber, no_number, again_operand, leads_operand}
@@ -185,7 +185,7 @@ inputs_at op ins h =
     let (m, a, b) = at_then h in
     let (t, e) = mark_at op a in
     on_ok _ e (until_at op kind.RightParenthesis (again_input op)
-    (λ j. leads_then (leads_name (unlike kind.RightParenthesis kind.BareName refl) (unlike kind.RightParenthesis kind.StringLiteral refl)))
+    (λ j. leads_then (name_unlike kind.RightParenthesis refl refl))
     (λ _ _ _. tt) (λ _ _ _. tt) refl ins b)
 
 outputs_at : (op : OpName) (outs : List NamedType) {s left : List Symbol}
@@ -197,7 +197,7 @@ outputs_at op outs h =
     let (t, e) = mark_at op a in
     let (u, f) = mark_at op c in
     on_ok _ e (on_ok _ f (until_at op kind.RightParenthesis (again_output op)
-    (λ q. leads_field (TypePhrase most_open) q (unlike kind.RightParenthesis kind.BareName refl) (unlike kind.RightParenthesis kind.StringLiteral refl))
+    (λ q. leads_field (TypePhrase most_open) q (name_unlike kind.RightParenthesis refl refl))
     (λ _ _ _. tt) (λ _ _ _. tt) refl outs d))
 
 instance_at : (op : OpName) (g h : Gathered) {s left : List Symbol} → At (InstancePhrase g h) s left → instance_text op g s ≡ Ok (h, left)
@@ -214,7 +214,7 @@ instance_at op g h {s} {left} a =
     let (m4, p4, q4) = at_then q3 in
     let (m5, left_mark, q5) = at_then p4 in
     on_ok _ ((again_string op).gives name s m1 p1 tt) (on_ok _ (inner_at op inner (symbol_first (codes "sym") symbol p3) p2)
-    (on_ok _ (module_symbol_at op symbol (no_next kind.Less (leads_one (unlike kind.Less kind.LeftParenthesis refl)) left_mark) p3)
+    (on_ok _ (module_symbol_at op symbol (no_mark kind.Less refl left_mark) p3)
     (on_ok _ (inputs_at op ins p4) (on_ok _ (outputs_at op outs q4) (ap (λ x. Ok (x, left)) (sym same))))))
 
 -- ---- pieces

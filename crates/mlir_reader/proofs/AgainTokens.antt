@@ -30,7 +30,7 @@ Unlike k t = is_kind t.kind k ≡ false
 pub unlike : (k j : TokenKind) → is_kind j k ≡ false → (t : Lexeme) → t.kind ≡ j → Unlike k t
 unlike k j h t e = ap (λ i. is_kind i k) e ∙ h
 
-both_true : (a b : Bool) → a ≡ true → b ≡ true → (a && b) ≡ true
+pub both_true : (a b : Bool) → a ≡ true → b ≡ true → (a && b) ≡ true
 both_true true b h g = g
 both_true false b h g = absurd cc
 
@@ -38,7 +38,7 @@ false_of : (a b : Bool) → a ≡ false → (a && b) ≡ false
 false_of true b h = absurd cc
 false_of false b h = refl
 
-false_too : (a b : Bool) → b ≡ false → (a && b) ≡ false
+pub false_too : (a b : Bool) → b ≡ false → (a && b) ≡ false
 false_too true b h = h
 false_too false b h = refl
 
@@ -80,6 +80,9 @@ next_at h = let (t, e, p) = at_one h in (ap (is_first (λ t. is_kind t.kind _)) 
 pub no_next : (k : TokenKind) {P : Phrase} {s left : List Symbol} → Leads (Unlike k) P → At P s left → is_next k s ≡ false
 no_next k leads h = starts_test (λ t. is_kind t.kind k) false (λ t p. p) (starts leads h)
 
+pub no_mark : (k : TokenKind) {j : TokenKind} {s left : List Symbol} → is_kind j k ≡ false → At (Mark j) s left → is_next k s ≡ false
+no_mark k {j} other h = no_next k (leads_one (unlike k j other)) h
+
 either_kind : (j k : TokenKind) (t : Lexeme) (content : List ℕ) → ((t.kind ≡ j) × (content_of j t.text ≡ content)) ⊎ ((t.kind ≡ k) × (content_of k t.text ≡ content))
     → (cond (is_kind t.kind j) true (is_kind t.kind k) ≡ true) × (content_of t.kind t.text ≡ content)
 either_kind j k t content (inl p) = (if_true _ (is_kind_of p.0) refl, ap (λ i. content_of i t.text) p.0 ∙ p.1)
@@ -118,6 +121,10 @@ leads_holding to = leads_one (λ t p. to t p.0)
 pub leads_name : {T : Lexeme → Type 0} {name : Name} → ((t : Lexeme) → t.kind ≡ kind.BareName → T t) → ((t : Lexeme) → t.kind ≡ kind.StringLiteral → T t)
     → Leads T (NamePhrase name)
 leads_name bare quoted = leads_either (leads_holding bare) (leads_holding quoted)
+
+-- a name is no such token
+pub name_unlike : (k : TokenKind) {name : Name} → is_kind kind.BareName k ≡ false → is_kind kind.StringLiteral k ≡ false → Leads (Unlike k) (NamePhrase name)
+name_unlike k bare quoted = leads_name (unlike k kind.BareName bare) (unlike k kind.StringLiteral quoted)
 
 pub leads_symbol : {T : Lexeme → Type 0} {name : Name} → ((t : Lexeme) → t.kind ≡ kind.SymbolName → T t) → ((t : Lexeme) → t.kind ≡ kind.SymbolString → T t)
     → Leads T (SymbolPhrase name)
@@ -224,4 +231,4 @@ until_at {P = P} op close one lead comma closing other (x ∷ xs) {s} {left} h =
     let (m, a, b) = at_then h in
     let (t, e) = mark_at op b in
     if_false _ (no_next close (leads_commas P x xs (lead x)) a)
-    (on_ok _ (again_some op one lead comma x xs s m a (closing m left b) (no_next kind.Comma (leads_one (unlike kind.Comma close other)) b)) (on_ok _ e refl))
+    (on_ok _ (again_some op one lead comma x xs s m a (closing m left b) (no_mark kind.Comma other b)) (on_ok _ e refl))

@@ -16,9 +16,9 @@ use Rattle.mlir_reader.specs.Reads.{Reads, want}
 use Rattle.mlir_reader.specs.Numerals.{number_in, count_limit}
 use Rattle.mlir_reader.specs.TypeText.{width_digits, behind_x, bare_type, named_type, type_head, width_type, type_with, glued_element, x_rest, element_after, element_type, array_text, field_text, struct_text, too_deep, type_text, any_type, most_open}
 use Rattle.mlir_reader.specs.TypeText.TypeHead.{integer_type, array_type, struct_type}
-use Rattle.mlir_reader.specs.Spelling.{Phrase, Word, Then, Between, Commas, AreDigits, WidthPhrase, TypeWord, GluedPhrase, ElementPhrase, FieldPhrase, FieldsPhrase, PlainType, TypeWith, TypePhrase}
+use Rattle.mlir_reader.specs.Spelling.{Phrase, NamePhrase, Word, Then, Between, Commas, AreDigits, WidthPhrase, TypeWord, GluedPhrase, ElementPhrase, FieldPhrase, FieldsPhrase, PlainType, TypeWith, TypePhrase}
 use Rattle.mlir_reader.proofs.Again.{At, at_then, at_one, at_either, by_either, on_ok, if_true, if_false, Leads, leads_then, Again, Any}
-use Rattle.mlir_reader.proofs.AgainTokens.{is_kind_of, unlike, mark_at, again_name, again_number, limited_is, leads_name, until_at}
+use Rattle.mlir_reader.proofs.AgainTokens.{is_kind_of, unlike, mark_at, again_name, again_number, limited_is, until_at, name_unlike}
 
 -- ---- integer types
 
@@ -101,9 +101,8 @@ again_field op inner = record {
       on_ok _ ((again_name op).gives f.name s m a tt) (on_ok _ eu (on_ok _ (inner.gives f.type k left d tt) refl));
 }
 
-pub leads_field : {T : Lexeme → Type 0} (Inner : HwType → Phrase) (f : NamedType) → ((t : Lexeme) → t.kind ≡ kind.BareName → T t) → ((t : Lexeme) → t.kind ≡ kind.StringLiteral → T t)
-    → Leads T (FieldPhrase Inner f)
-leads_field Inner f bare quoted = leads_then (leads_name bare quoted)
+pub leads_field : {T : Lexeme → Type 0} (Inner : HwType → Phrase) (f : NamedType) → Leads T (NamePhrase f.name) → Leads T (FieldPhrase Inner f)
+leads_field Inner f name = leads_then name
 
 fields_at : (element : Reads HwType) (op : OpName) {Inner : HwType → Phrase} → Again Any element Inner → (x : HwType) {s left : List Symbol}
     → At (Then (TypeWord (codes "hw.struct")) (FieldsPhrase Inner x)) s left → struct_text element op s ≡ Ok (x, left)
@@ -116,7 +115,7 @@ fields_at element op {Inner} inner x {s} {left} h =
     let (m1, less, c) = at_then inside in
     let (u, eu) = mark_at op less in
     on_ok _ (ap (λ y. want op kind.Less (after y)) e ∙ eu)
-    (on_ok _ (until_at op kind.Greater (again_field op inner) (λ f. leads_field Inner f (unlike kind.Greater kind.BareName refl) (unlike kind.Greater kind.StringLiteral refl)) (λ _ _ _. tt) (λ _ _ _. tt) refl fs c)
+    (on_ok _ (until_at op kind.Greater (again_field op inner) (λ f. leads_field Inner f (name_unlike kind.Greater refl refl)) (λ _ _ _. tt) (λ _ _ _. tt) refl fs c)
     (ap (λ y. Ok (y, left)) (sym same)))
 
 -- ---- types

@@ -24,8 +24,8 @@ pub fn what_is_spelled_is_read()
     ensures { (source : List ℕ) (d : Design) → Spells source d → length source ≤ text_limit → read source ≡ Ok d }
 {}
 
-/// Does nothing. Its clause says that a refusal of a text that is not too long is of a symbol at which no spelled text can go on so:
-/// no text that begins with the same tokens and the same symbol behind them spells a design.
+/// Does nothing. Its clause says that where a text that is not too long is refused, no text that begins with the same tokens and the same
+/// symbol behind them spells a design, however long it is.
 pub fn a_refused_front_is_not_spelled()
     ensures { (source : List ℕ) (r : Refusal) → length source ≤ text_limit → read source ≡ Err r → IsUnspelledFront source r }
 {}
