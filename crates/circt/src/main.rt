@@ -1,9 +1,10 @@
 //! The command line program: the system's files and streams for [`run_circt`].
 #![tactic(auto)]
 
-use circt_top::report::report;
+use circt_top::report::stopped;
 use circt_top::run::run_circt;
-use circt_top::status::{Status, UsageKind};
+use circt_top::status::Status;
+use command_line::usage::UsageKind;
 use io_edge::real_files::RealFiles;
 use io_edge::real_sink::RealSink;
 use std::env;
@@ -17,7 +18,7 @@ fn main(rt: HostRuntime) -> ExitCode {
     let words = match words(&rt) {
         Ok(words) => words,
         Err(status) => {
-            report(&mut err, &status);
+            let status = stopped(&mut err, status);
             return ExitCode::from(status.code());
         }
     };

@@ -1,9 +1,10 @@
 //! The line on what is wrong.
-ghost use Rattle.std.specs.Prelude.{◌≡◌, codes, ◌++◌, Err, Ok, OnOk, OnErr, option_map};
+ghost use Rattle.std.specs.Prelude.{◌≡◌, codes, ◌++◌, [], Err, Ok, OnOk, OnErr, option_map};
 ghost use Rattle.io_edge.specs.Bytes.{Appends, AppendsFront};
 ghost use Rattle.io_edge.specs.Faults.{HasCause};
 ghost use Rattle.diag.specs.Line.{IsWithin, shown_name};
 ghost use Rattle.command_line.specs.Invocations.{paths_of};
+ghost use Rattle.circt_top.specs.Runs.{IsStop};
 ghost use Rattle.circt_top.specs.Answer.{line_of, shown_output, OnRefused, Reports};
 
 use crate::status::Status;
@@ -18,6 +19,20 @@ pub fn report<E: Sink>(err: &mut E, paths: &Paths<'_>, source: &[u8], status: &S
     ensures { Reports E.told E.faults err.old err.new (line_of (paths_of paths.now) source.now status.now) }
 {
     let _ = put_line(err, paths, source, status);
+}
+
+/// An end before any file is read, with its line.
+pub fn stopped<E: Sink>(err: &mut E, status: Status) -> Status
+    requires { IsStop status }
+    ensures status { result ≡ status }
+    ensures report { (paths : _) → Reports E.told E.faults err.old err.new (line_of paths [] status) }
+{
+    let paths = Paths {
+        input: "-",
+        output: None,
+    };
+    report(err, &paths, b"", &status);
+    status
 }
 
 // The line, up to the first fault of the sink.
@@ -62,7 +77,7 @@ fn shown_input(name: &[u8]) -> &[u8]
 
 // The output's name, as the line has it.
 fn shown_output<'a>(name: Option<&'a str>) -> &'a [u8]
-    ensures { result.now ≡ shown_output (option_map (λ s. s.now) name) }
+    ensures { result.now ≡ shown_output (option_map (λ s. s.now) name.entry) }
 {
     match name {
         Some(name) => name.as_bytes(),

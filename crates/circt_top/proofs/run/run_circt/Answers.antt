@@ -1,22 +1,12 @@
--- What is left where nothing failed, by cases on the end.
-use Rattle.std.proofs.Common.{map, string_bytes}
+-- From the files of the command to the words; and what is left where nothing failed.
+use Rattle.std.proofs.Common.{◌≡◌, refl, sym, ap, ◌∙◌, map, List, ℕ, Some, None, Ok, Err, tt}
+use Rattle.std.specs.Prelude.{string_bytes, option_map}
 use Rattle.io_edge.specs.Faults.{HasRisen}
-use Rattle.circt_top.specs.Answer.{told_input, standard_input, Prints, PrintsFront}
-use Rattle.circt_top.proofs.Completed.{complete, refusing}
+use Rattle.command_line.specs.Line.{if_normal, parsed}
+use Rattle.command_line.specs.Normal.{normal}
+use Rattle.command_line.specs.Invocations.{paths_of}
+use Rattle.circt_top.specs.Words.{said, answered, fault_of}
+use Rattle.circt_top.specs.Delivery.{HasOutputFault}
+use Rattle.circt_top.specs.Answer.{told_at, IsRefusalOf, IsMadeOf, Delivers, DeliversFront}
+use Rattle.circt_top.proofs.Completed.{refused_for, read_fault_for, write_fault_for, done_for, no_usage, complete, refusing}
 use Rattle.circt_top.proofs.run.run_circt.Goals as goal
-
-pub returns-clause-complete : goal.returns-clause-complete
-returns-clause-complete g c = λ command bytes told d accepted no_read no_write.
-    complete (map string_bytes c.args.words.now) (told_input (g.F.Files.files c.args.files.now))
-    (HasRisen (g.F.Files.read_faults c.args.files.now standard_input) (g.F.Files.read_faults c.answer-status.new.files standard_input))
-    (HasRisen (g.O.Sink.faults c.args.out.now) (g.O.Sink.faults c.answer-status.new.out)) (Unit {0}) (Unit {0}) command bytes told c.answer-status.result
-    c.answer-status.ensures.usage c.answer-status.ensures.refused c.answer-status.ensures.read_fault c.answer-status.ensures.write_fault d accepted no_read no_write
-
-pub returns-clause-refusing : goal.returns-clause-refusing
-returns-clause-refusing g c = λ command bytes told outside no_read.
-    refusing (map string_bytes c.args.words.now) (told_input (g.F.Files.files c.args.files.now))
-    (HasRisen (g.F.Files.read_faults c.args.files.now standard_input) (g.F.Files.read_faults c.answer-status.new.files standard_input)) (Unit {0})
-    (Prints g.O.Sink.puts g.O.Sink.told c.args.out.now c.answer-status.new.out (told_input (g.F.Files.files c.args.files.now)))
-    (PrintsFront g.O.Sink.puts g.O.Sink.told c.args.out.now c.answer-status.new.out (told_input (g.F.Files.files c.args.files.now))) command bytes told c.answer-status.result
-    c.answer-status.ensures.usage c.answer-status.ensures.read_fault c.answer-status.ensures.done c.answer-status.ensures.front
-    (λ p. (p.text, p.translated bytes told)) (λ p. (p.text, p.translated bytes told)) outside no_read
