@@ -1,6 +1,5 @@
 -- The texts of operations that are still to come.
-use Rattle.std.specs.Prelude.{List}
-use Rattle.std.specs.List.{reverse}
+use Rattle.std.specs.Prelude.{List, reverse}
 use Rattle.mlir_reader.specs.declared.syntax.OperationText.{OperationText}
 use Rattle.mlir_reader.specs.declared.waiting.Waiting.{Waiting}
 

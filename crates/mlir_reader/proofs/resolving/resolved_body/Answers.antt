@@ -11,14 +11,14 @@ use Rattle.mlir_reader.proofs.resolving.resolved_body.Goals as goal
 
 pub add_op-requires-clause-room : goal.add_op-requires-clause-room
 add_op-requires-clause-room c =
-    let n = ap length c.in-Some.ensures.steps.0 in
+    let n = ap length c.in-Some.ensures.steps in
     let k = count_is (ids_of c.loop-text.body) c.loop-text.position c.loop-text.invariant.ids in
     omega (arith, n, k, c.loop-text.invariant.count, c.requires.count)
 
 pub loop-text-preserved : goal.loop-text-preserved
 loop-text-preserved c =
     let l = c.loop-text in
-    let steps = c.in-Some.ensures.steps.0 in
+    let steps = c.in-Some.ensures.steps in
     let added = c.in_ok-add_op.ensures.ok in
     record {
       ops = ops_step (ops_of l.body) (ops_of c.add_op.new.self) c.in_ok-add_op.field-0 c.in_ok-operation.operation (meanings_of c.args.names.now) (meanings_of l.seen)
