@@ -1,4 +1,4 @@
-use Rattle.std.proofs.Common.{◌≡◌, ◌+◌, ◌<◌, length, ap, arith, map, subst, rules}
+use Rattle.std.proofs.Common.{length, ap, arith, map, subst}
 use Rattle.std.specs.Prelude.{All}
 use Rattle.std.proofs.lemmas.List.Elements.{All-tail}
 use Rattle.ir_store.specs.Bodies.{ops_of, ids_of}
