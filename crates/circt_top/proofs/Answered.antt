@@ -1,12 +1,10 @@
 -- What is known of the told input from what was read of it: at most one byte more than a text may have.
-use Rattle.std.proofs.Common.{◌≡◌, ℕ, ◌^◌, ◌<◌, ◌≤◌, min, List, [], ◌∷◌, length, take, Option, Some, None, Result, Ok, Err, refl, sym, ◌∙◌, ap, subst, arith, length-take, take_all, option_map}
+use Rattle.std.proofs.Common.{◌≡◌, ℕ, ◌^◌, ◌≤◌, min, List, length, take, Option, Some, None, Ok, Err, refl, sym, ◌∙◌, ap, subst, arith, length-take, take_all, option_map}
 use Rattle.hw_model.specs.Types.{Name}
-use Rattle.hw_model.specs.Design.{Design}
 use Rattle.io_edge.specs.Reading.{file_at}
 use Rattle.diag.specs.declared.refusal.Refusal.{Refusal}
-use Rattle.circt_top.specs.Form.{Adder, IsForm}
-use Rattle.circt_top.specs.Translation.{Accepted, IsTranslation, IsAnswered}
-use Rattle.circt_top.specs.Outcome.{IsOutcome, IsOutside, outside_profile}
+use Rattle.circt_top.specs.Translation.{Accepted, IsTranslation}
+use Rattle.circt_top.specs.Outcome.{IsOutcome, IsOutside}
 use Rattle.circt_top.specs.Answer.{told_at, IsMadeOf, IsRefusalOf, IsReadOf}
 
 -- so many bytes are read at most

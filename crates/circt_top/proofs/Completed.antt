@@ -1,16 +1,23 @@
 -- From a run on the files of a command to a run for its words; and the ends that are left where nothing failed.
-use Rattle.std.proofs.Common.{◌≡◌, ℕ, List, Option, Some, None, Result, Ok, Err, refl, sym, ◌∙◌, ap, subst}
+use Rattle.std.proofs.Common.{◌≡◌, ℕ, List, [], Option, Some, None, Ok, Err, sym, ◌∙◌, ap, subst}
 use Rattle.hw_model.specs.Types.{Name}
 use Rattle.hw_model.specs.Design.{Design}
 use Rattle.diag.specs.declared.refusal.Refusal.{Refusal}
-use Rattle.command_line.specs.Line.{Paths}
+use Rattle.command_line.specs.Normal.{normal}
+use Rattle.command_line.specs.Line.{Paths, parsed, if_normal}
+use Rattle.command_line.specs.declared.usage.UsageKind.TheVariants.{Words}
 use Rattle.command_line.specs.declared.usage.UsageKind.{UsageKind}
-use Rattle.circt_top.specs.Words.{said, fault_of, fault_in}
-use Rattle.circt_top.specs.Outcome.{IsOutcome, IsOutside}
-use Rattle.circt_top.specs.Translation.{Accepted, IsTranslation}
-use Rattle.circt_top.specs.Answer.{usage_of, ForPaths, OnRefused, OnReadFault, OnWriteFault, OnDone, IsRefusalOf, IsMadeOf, IsUsage, IsDoneOrNoMemory, IsRefusedOrNoMemory}
+use Rattle.circt_top.specs.Words.{said, answered, fault_of, fault_in}
+use Rattle.circt_top.specs.Runs.{IsStop}
+use Rattle.circt_top.specs.Outcome.{IsOutside}
+use Rattle.circt_top.specs.Translation.{Accepted}
+use Rattle.circt_top.specs.Answer.{Told, told_at, OnFile, IsReadOf, line_of, Reports, ReportsEnd, usage_of, ForPaths, OnRefused, OnReadFault, OnWriteFault, OnDone, IsRefusalOf, IsMadeOf, IsUsage, IsDoneOrNoMemory, IsRefusedOrNoMemory}
 use Rattle.circt_top.specs.declared.status.Status.{Status}
 use Rattle.circt_top.specs.declared.status.Status.TheVariants.{Done, Refused, Usage, ReadFault, WriteFault, NoMemory}
+
+-- the files of an end that names none
+nameless : Paths
+nameless = record { input = []; output = None }
 
 -- the words name one pair of files
 same_paths : (words : List Name) {p q : Paths} → said words ≡ Ok p → said words ≡ Ok q → p ≡ q
@@ -18,6 +25,44 @@ same_paths words {p} {q} h k = let e : Ok p ≡ Ok q = sym h ∙ k in cc
 
 pub for_paths : (words : List Name) (p : Paths) (P : Paths → Type 0) → said words ≡ Ok p → P p → ForPaths words P
 for_paths words p P h x = λ q k. subst P (same_paths words h k) x
+
+-- what regular words say, the words say
+pub said_is : (words regular : List Name) (p : Paths) → normal words ≡ Some regular → answered (parsed regular) ≡ Ok p → said words ≡ Ok p
+said_is words regular p e h = ap (λ o. answered (if_normal o)) e ∙ h
+
+pub usage_is : (words regular : List Name) (kind : UsageKind) → normal words ≡ Some regular → answered (parsed regular) ≡ Err kind → fault_of words ≡ Some kind
+usage_is words regular kind e h = ap fault_in (ap (λ o. answered (if_normal o)) e ∙ h)
+
+pub reserved_is : (words : List Name) → normal words ≡ None → fault_of words ≡ Some Words
+reserved_is words e = ap (λ o. fault_in (answered (if_normal o))) e
+
+-- an end before any file is read is reported
+pub stopped_ends : {S : Type 0} (told : S → Option (List ℕ)) (faults : S → ℕ) (words : List Name) (files : Told) (status : Status) (before after : S) → IsStop status
+    → ((paths : Paths) → Reports told faults before after (line_of paths [] status)) → ReportsEnd told faults words files status before after
+stopped_ends told faults words files Done before after stop reports = absurd stop
+stopped_ends told faults words files (Refused refusal) before after stop reports = absurd stop
+stopped_ends told faults words files ReadFault before after stop reports = absurd stop
+stopped_ends told faults words files WriteFault before after stop reports = absurd stop
+stopped_ends told faults words files (Usage kind) before after stop reports =
+    record { paths = nameless; source = []; named = tt; read = tt; reports = reports nameless }
+stopped_ends told faults words files NoMemory before after stop reports =
+    record { paths = nameless; source = []; named = tt; read = tt; reports = reports nameless }
+
+named_on : (words : List Name) (p : Paths) (status : Status) → said words ≡ Ok p → OnFile status ((others : Paths) → said words ≡ Ok others → p ≡ others)
+named_on words p Done h = tt
+named_on words p (Refused refusal) h = λ others k. same_paths words h k
+named_on words p (Usage kind) h = tt
+named_on words p ReadFault h = λ others k. same_paths words h k
+named_on words p WriteFault h = λ others k. same_paths words h k
+named_on words p NoMemory h = tt
+
+-- the end of a run on the files of a command is reported
+pub run_ends : {S : Type 0} (told : S → Option (List ℕ)) (faults : S → ℕ) (words : List Name) (files : Told) (status : Status) (before after : S) (p : Paths)
+    → said words ≡ Ok p
+    → (source : List ℕ) × OnRefused status (λ r. IsReadOf (told_at p.input files) source) × Reports told faults before after (line_of p source status)
+    → ReportsEnd told faults words files status before after
+run_ends told faults words files status before after p h x =
+    record { paths = p; source = x.0; named = named_on words p status h; read = x.1; reports = x.2 }
 
 -- facts that hold of the files hold of the words
 pub refused_for : (words : List Name) (p : Paths) (P : Paths → Refusal → Type 0) (status : Status) → said words ≡ Ok p → OnRefused status (P p)
@@ -86,3 +131,7 @@ module _ (words : List Name) (p : Paths) (input : Option (List ℕ)) (R W : Type
   refusing ReadFault usage read done front outside no_read = no_read read
   refusing WriteFault usage read done front outside no_read = let t = front.2 bytes told in outside t.design t.accepted
   refusing NoMemory usage read done front outside no_read = tt
+
+-- the words name one pair of files, so what holds of those that are named holds of these
+pub one_pair : (words : List Name) (p q : Paths) (P : Paths → Type 0) → said words ≡ Ok p → said words ≡ Ok q → P q → P p
+one_pair words p q P h k x = subst P (sym (same_paths words h k)) x

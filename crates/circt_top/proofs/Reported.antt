@@ -1,5 +1,5 @@
 -- A line that was sent, up to the first fault.
-use Rattle.std.proofs.Common.{◌≡◌, ℕ, ◌≤◌, List, take, length, Option, Some, Result, Ok, Err, refl, arith}
+use Rattle.std.proofs.Common.{ℕ, List, length, Option, Result, Ok, Err, arith}
 use Rattle.std.specs.Prelude.{OnOk, OnErr}
 use Rattle.std.proofs.lemmas.List.{take_all}
 use Rattle.io_edge.specs.Bytes.{Appends, AppendsFront}

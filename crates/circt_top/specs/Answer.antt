@@ -1,7 +1,6 @@
 -- What the program answers, for its words, the files that are told, and what its sinks take.
-use Rattle.std.specs.Prelude.{◌≡◌, ℕ, ◌≤◌, Bool, true, false, List, [], ◌∷◌, ◌++◌, Option, Some, None, Result, Ok, Err, codes, take, length, ◌⊎◌}
+use Rattle.std.specs.Prelude.{◌≡◌, ℕ, ◌≤◌, Bool, true, false, List, [], ◌++◌, Option, Some, None, Ok, Err, codes, take, length, ◌⊎◌}
 use Rattle.hw_model.specs.Types.{Name}
-use Rattle.hw_model.specs.Design.{Design}
 use Rattle.io_edge.specs.Faults.{HasRisen}
 use Rattle.io_edge.specs.Reading.{file_at}
 use Rattle.io_edge.specs.Writing.{with_file}
@@ -142,10 +141,17 @@ IsRefusedOrNoMemory _ = ⊥
 abbrev pub IsReadOf : Option (List ℕ) → List ℕ → Type 0
 IsReadOf input source = (bytes : List ℕ) → input ≡ Some bytes → source ≡ take 67108865 bytes
 
+-- a fact for the ends whose line names a file
+abbrev pub OnFile : Status → Type 0 → Type 0
+OnFile (Refused refusal) P = P
+OnFile ReadFault P = P
+OnFile WriteFault P = P
+OnFile _ P = Unit {0}
+
 -- the line that a sink takes: of files that the words name, and, where the input is refused, of what is read of it
 pub record ReportsEnd {S : Type 0} (told : S → Option (List ℕ)) (faults : S → ℕ) (words : List Name) (files : Told) (status : Status) (before after : S) : Type 0 where
   pub paths : Paths
   pub source : List ℕ
-  pub named : (others : Paths) → said words ≡ Ok others → paths ≡ others
+  pub named : OnFile status ((others : Paths) → said words ≡ Ok others → paths ≡ others)
   pub read : OnRefused status (λ refusal. IsReadOf (told_at paths.input files) source)
   pub reports : Reports told faults before after (line_of paths source status)

@@ -1,5 +1,5 @@
 -- The parts of a run.
-use Rattle.std.specs.Prelude.{◌≡◌, List, Result, Ok, Err}
+use Rattle.std.specs.Prelude.{◌≡◌, Result, Ok, Err}
 use Rattle.io_edge.specs.declared.file_access.FileFail.{FileFail}
 use Rattle.io_edge.specs.declared.file_access.FileFail.TheVariants as file
 use Rattle.command_line.specs.Line as line
@@ -9,7 +9,7 @@ use Rattle.command_line.specs.declared.invocation.LineFail.{LineFail}
 use Rattle.command_line.specs.declared.invocation.LineFail.TheVariants as fail
 use Rattle.command_line.specs.declared.usage.UsageKind.{UsageKind}
 use Rattle.circt_top.specs.declared.status.Status.{Status}
-use Rattle.circt_top.specs.declared.status.Status.TheVariants.{Done, Refused, Usage, ReadFault, WriteFault, NoMemory}
+use Rattle.circt_top.specs.declared.status.Status.TheVariants.{Usage, ReadFault, NoMemory}
 
 -- an answer is what the words say, or want of memory
 abbrev pub SaysPaths : Result line.Paths UsageKind → Result Paths LineFail → Type 0

@@ -1,5 +1,4 @@
 -- The line that was sent is reported, whatever the sink met.
-use Rattle.diag.specs.Line.{refusal_line}
 use Rattle.command_line.specs.Invocations.{paths_of}
 use Rattle.circt_top.specs.Answer.{line_of}
 use Rattle.circt_top.proofs.Reported.{reported}
