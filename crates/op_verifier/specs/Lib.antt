@@ -1,0 +1,10 @@
+pub mod Answers
+pub mod BodyViews
+pub mod Entries
+pub mod Faults
+pub mod Headers
+pub mod OpChecks
+pub mod OwnChecks
+pub mod Tables
+pub mod TypeChecks
+pub mod Verdict
