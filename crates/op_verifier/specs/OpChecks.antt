@@ -4,7 +4,7 @@ use Rattle.std.specs.Prelude.{ℕ, ℤ, pos, negsuc, Bool, true, false, cond, no
 use Rattle.std.specs.Cmp.Lexicographic.{pointwise}
 use Rattle.wiring.specs.Options.{bind}
 use Rattle.diag.specs.declared.cause.Cause.{Cause}
-use Rattle.diag.specs.declared.cause.Cause.TheVariants.{Redefined, Undefined, TypeMismatch, OutputMismatch, UnknownModule, InstancePorts, MissingOutput}
+use Rattle.diag.specs.declared.cause.Cause.TheVariants.{Redefined, Undefined, OutputMismatch, UnknownModule, InstancePorts, MissingOutput}
 use Rattle.hw_model.specs.Types.{Name, HwType}
 use Rattle.hw_model.specs.Kinds.{Kind, Instance}
 use Rattle.hw_model.specs.Kinds.Kind.{constant}
@@ -37,16 +37,6 @@ abbrev pub settled_type : List Port → List Op → Ref → Option HwType
 settled_type ports os (port j) = input_type (slice_get ports j)
 settled_type ports os (result j k) = bind (slice_get os j) (λ (o : Op). slice_index_or (settled_by o) k None)
 settled_type ports os undefined = None
-
--- whether some result has another type than its operation settles for it
-abbrev pub is_other : HwType → Option HwType → Bool
-is_other t None = false
-is_other t (Some u) = not (same_type t u)
-
-abbrev pub has_other_type : List OpResult → List (Option HwType) → Bool
-has_other_type [] ts = false
-has_other_type (r ∷ rs) [] = false
-has_other_type (r ∷ rs) (t ∷ ts) = cond (is_other r.type t) true (has_other_type rs ts)
 
 -- ---- divisors
 
@@ -108,9 +98,7 @@ instance_cause d ts (Some i) = call_cause i ts (find_module d i.symbol)
 -- what the values of an operation are refused for, in a body with these ports
 abbrev pub value_cause : List Port → List Op → Op → Option Cause
 value_cause ports os o =
-    or_else (when (has_again o.results) Redefined)
-    (or_else (when (has_undefined ports os o.operands) Undefined)
-    (when (has_other_type o.results (settled_by o)) TypeMismatch))
+    or_else (when (has_again o.results) Redefined) (when (has_undefined ports os o.operands) Undefined)
 
 -- what it is refused for by itself
 abbrev pub alone_cause : List Port → List Op → Op → Option Cause

@@ -1,23 +1,21 @@
 //! Why an operation of a body is refused.
-ghost use Rattle.std.specs.Prelude.{◌≡◌, map, option_map, IfOk};
-ghost use Rattle.hw_model.specs.TypeViews.{type_of};
+ghost use Rattle.std.specs.Prelude.{◌≡◌, map, IfOk};
 ghost use Rattle.ir_store.specs.Designs.{design_of};
 ghost use Rattle.ir_store.specs.OperationViews.{result_of};
-ghost use Rattle.op_verifier.specs.OpChecks.{has_again, has_other_type, is_other};
+ghost use Rattle.op_verifier.specs.OpChecks.{has_again};
 
 use crate::body_view::BodyView;
 use crate::entries::Entry;
 use crate::outer_checks::{are_types, instance_cause, is_output};
 use crate::own_checks::own_cause;
 use diag::cause::Cause;
-use hw_model::types::Ty;
 use ir_store::design::Design;
 use ir_store::operation::NewResult;
 use std::alloc::{AllocError, Global};
 
 impl<'b> BodyView<'b> {
     ghost use Rattle.op_verifier.specs.BodyViews.{ports_viewed, body_viewed, op_viewed};
-    ghost use Rattle.op_verifier.specs.Entries.{AreSettled, op_in, types_beside, settled_for};
+    ghost use Rattle.op_verifier.specs.Entries.{AreSettled, op_in};
     ghost use Rattle.op_verifier.specs.OpChecks.{value_cause, alone_cause, outer_cause, op_cause};
 
     /// Why the operation of an entry is refused, `last` saying whether it is the last of its body.
@@ -28,8 +26,7 @@ impl<'b> BodyView<'b> {
         entry: &Entry<'_>,
         last: bool,
     ) -> Result<Option<Cause>, AllocError>
-        requires all { AreSettled self.now.entries.items }
-        requires own { types_beside entry.now ≡ settled_for (op_in entry.now) }
+        requires { AreSettled self.now.entries.items }
         ensures { IfOk result (λ cause. cause ≡ op_cause (design_of design.now) (ports_viewed self.now) (body_viewed self.now) last (op_viewed self.now (op_in entry.now))) }
     {
         if let Some(cause) = self.value_cause(entry) {
@@ -43,7 +40,6 @@ impl<'b> BodyView<'b> {
 
     /// What the values of an operation are refused for.
     fn value_cause(&self, entry: &Entry<'_>) -> Option<Cause>
-        requires { types_beside entry.now ≡ settled_for (op_in entry.now) }
         ensures { result ≡ value_cause (ports_viewed self.now) (body_viewed self.now) (op_viewed self.now (op_in entry.now)) }
     {
         let results = &entry.op.results.results;
@@ -51,8 +47,6 @@ impl<'b> BodyView<'b> {
             Some(Cause::Redefined)
         } else if self.has_undefined(entry.op.operands) {
             Some(Cause::Undefined)
-        } else if has_other_type(results, &entry.settled) {
-            Some(Cause::TypeMismatch)
         } else {
             None
         }
@@ -97,28 +91,4 @@ fn has_again(results: &[NewResult]) -> bool
         }
     }
     false
-}
-
-/// Whether some result has another type than its operation settles for it.
-fn has_other_type(results: &[NewResult], settled: &[Option<Ty>]) -> bool
-    ensures { result ≡ has_other_type (map result_of results.now) (map (option_map type_of) settled.now) }
-{
-    let mut rest = settled;
-    for one in results {
-        match rest.split_first() {
-            Some((ty, _)) if is_other(&one.ty, ty) => return true,
-            Some((_, others)) => rest = others,
-            None => return false,
-        }
-    }
-    false
-}
-
-fn is_other(own: &Ty, settled: &Option<Ty>) -> bool
-    ensures { result ≡ is_other (type_of own.now) (option_map type_of settled.now) }
-{
-    match settled {
-        Some(ty) => own != ty,
-        None => false,
-    }
 }
