@@ -1,0 +1,12 @@
+//! Whether designs are valid.
+#![tactic(auto)]
+
+mod count_checks;
+mod limit_checks;
+mod literal_checks;
+mod operand_checks;
+mod own_checks;
+mod result_checks;
+mod type_checks;
+mod type_lists;
+mod type_parts;
