@@ -2,11 +2,18 @@
 #![tactic(auto)]
 
 mod body_view;
+mod count_checks;
 mod entries;
 mod faults;
 mod headers;
+mod limit_checks;
+mod literal_checks;
+mod operand_checks;
 mod operations;
 mod outer_checks;
 mod own_checks;
+mod result_checks;
 mod type_checks;
+mod type_lists;
+mod type_parts;
 mod values;
