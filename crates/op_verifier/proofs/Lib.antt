@@ -1,2 +1,7 @@
 -- Lemmas.
+pub mod Found
+pub mod Lists
+pub mod Names
+pub mod Positions
+pub mod Symbols
 pub mod Walks

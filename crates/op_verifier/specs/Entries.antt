@@ -20,4 +20,4 @@ settled_for o = result_types o.parts.kind o.parts.types (length o.operands)
 
 -- beside each operation stand the types that it settles
 abbrev pub AreSettled : List Entry → Type 0
-AreSettled es = map types_beside es ≡ map (λ (e : Entry). settled_for (op_in e)) es
+AreSettled es = map types_beside es ≡ map settled_for (map op_in es)

@@ -1,5 +1,5 @@
 -- Why the header of a module is refused (CIRCT: `hw.module`).
-use Rattle.std.specs.Prelude.{ℕ, Bool, true, false, cond, not, ◌||◌, ◌&&◌, List, [], ◌∷◌, map, take, Option, is_some}
+use Rattle.std.specs.Prelude.{ℕ, Bool, true, false, cond, not, ◌||◌, ◌&&◌, List, [], ◌∷◌, ◌++◌, map, take, Option, is_some}
 use Rattle.diag.specs.declared.cause.Cause.{Cause}
 use Rattle.diag.specs.declared.cause.Cause.TheVariants.{Redefined, WidthLimit, Field, ClockOperand, DuplicateSymbol, DuplicatePort, MissingOutput}
 use Rattle.hw_model.specs.Types.{Name, HwType}
@@ -24,7 +24,7 @@ is_among name (n ∷ ns) = cond (same_name name n) true (is_among name ns)
 -- whether one of the names stands among those seen, or earlier among these
 abbrev pub has_seen : List Name → List Name → Bool
 has_seen seen [] = false
-has_seen seen (n ∷ ns) = cond (is_among n seen) true (has_seen (n ∷ seen) ns)
+has_seen seen (n ∷ ns) = cond (is_among n seen) true (has_seen (seen ++ n ∷ []) ns)
 
 abbrev pub has_twice : List Name → Bool
 has_twice names = has_seen [] names

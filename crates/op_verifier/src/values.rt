@@ -1,11 +1,11 @@
 //! The values of a body: what an operand is, the type that is settled for it, and whether it is a constant.
-ghost use Rattle.std.specs.Prelude.{◌≡◌, is_some, map, option_map, option_copied, slice_get, slice_index_or, IfOk, None};
+ghost use Rattle.std.specs.Prelude.{◌≡◌, is_some, map, option_map, option_copied, slice_get, slice_index_or, IfOk, Some, None};
 ghost use Rattle.hw_model.specs.TypeViews.{type_of};
 ghost use Rattle.hw_model.specs.KindViews.{kind_of, integer_of};
 ghost use Rattle.hw_model.specs.Sound.{input_type, type_in};
 ghost use Rattle.ir_store.specs.Designs.{port_of};
 ghost use Rattle.op_verifier.specs.Entries.{AreSettled};
-ghost use Rattle.op_verifier.specs.OpChecks.{has_undefined, settled_type, is_nonzero, is_nonzero_kind, divides_by_constant};
+ghost use Rattle.op_verifier.specs.OpChecks.{has_undefined, settled_type, is_nonzero, is_nonzero_kind, is_nonzero_ref, divides_by_constant};
 
 use crate::body_view::BodyView;
 use crate::entries::Entry;
@@ -35,7 +35,10 @@ impl<'b> BodyView<'b> {
         match value {
             Value::Port(j) => input_type(self.ports.get(j as usize)).is_some(),
             Value::Result(id, k) => match self.find(id) {
-                Some(entry) => (k as usize) < entry.op.results.results.len(),
+                Some(entry) => {
+                    let results = entry.op.results.results.as_slice();
+                    (k as usize) < results.len()
+                }
                 None => false,
             },
             Value::Undefined => false,
@@ -90,11 +93,21 @@ impl<'b> BodyView<'b> {
         ensures { result ≡ divides_by_constant (body_viewed self.now) (map (ref_viewed self.now) operands.now) }
     {
         match operands.get(1) {
-            Some(Value::Result(id, _)) => match self.find(*id) {
+            Some(value) => self.is_nonzero(*value),
+            None => false,
+        }
+    }
+
+    /// Whether a value is the result of a constant other than zero.
+    fn is_nonzero(&self, value: Value) -> bool
+        ensures { result ≡ is_nonzero_ref (body_viewed self.now) (Some (ref_viewed self.now value)) }
+    {
+        match value {
+            Value::Result(id, _) => match self.find(id) {
                 Some(entry) => is_nonzero_kind(entry.op.kind),
                 None => false,
             },
-            Some(Value::Port(_) | Value::Undefined) | None => false,
+            Value::Port(_) | Value::Undefined => false,
         }
     }
 }

@@ -1,16 +1,16 @@
-use Rattle.std.proofs.Common.{rules, ◌≡◌, is_some, map, option_map, option_copied, slice_get, slice_index_or, None, Some, ℕ, ◌+◌, ◌-◌, ◌*◌, ◌<◌, ◌≤◌, length, Bool, true, false, nat_eq, nat_lt, List, [], ◌∷◌, ◌++◌, Bor, take, drop, cond}
-use Rattle.hw_model.specs.TypeViews.{type_of}
-use Rattle.hw_model.specs.KindViews.{kind_of, integer_of}
-use Rattle.hw_model.specs.Sound.{input_type, type_in}
-use Rattle.hw_model.specs.Design.{find_module}
-use Rattle.ir_store.specs.Designs.{port_of, design_of}
-use Rattle.op_verifier.specs.Entries.{AreSettled, op_in, types_beside, settled_for}
-use Rattle.op_verifier.specs.OpChecks.{has_undefined, settled_type, is_nonzero, is_nonzero_kind, divides_by_constant}
-use Rattle.op_verifier.specs.BodyViews.{ports_viewed, body_viewed, ref_viewed, position_viewed}
+use Rattle.std.proofs.Common.{sym, arith}
+use Rattle.op_verifier.specs.BodyViews.{ports_viewed, position_viewed}
+use Rattle.op_verifier.proofs.Found.{copied_some, copied_none, value_there, value_gone}
 use Rattle.op_verifier.proofs.body_view.BodyView.is_value.Goals as goal
 
 pub returns-in-Some : goal.returns-in-Some
-returns-in-Some c = ?
+returns-in-Some c =
+    let v = c.args.self.now in
+    let found = copied_some c.find.result _ c.in-Some.entry c.find.ensures c.in-Some.is in
+    rw (c.in-Result.is, c.len.ensures, c.as_slice-results.ensures.value) (sym (value_there (ports_viewed v) (position_viewed v) v.entries.items (position_viewed v c.in-Result.id.index) c.in-Result.k c.in-Some.entry.now found))
 
 pub returns-in-None : goal.returns-in-None
-returns-in-None c = ?
+returns-in-None c =
+    let v = c.args.self.now in
+    let gone = copied_none c.find.result _ c.find.ensures c.in-None.is in
+    rw c.in-Result.is (sym (value_gone (ports_viewed v) (position_viewed v) v.entries.items (position_viewed v c.in-Result.id.index) c.in-Result.k gone))
