@@ -1,21 +1,19 @@
 -- What stands at a position of a body.
-use Rattle.std.proofs.Common.{◌≡◌, ℕ, zero, suc, ◌<◌, ◌≤◌, Bool, true, false, cond, is_some, map, option_map, option_copied, slice_get, slice_index_or, nat_lt, nat_eq, List, [], ◌∷◌, length, Option, Some, None, Bor, refl, sym, ◌∙◌, ap, arith, drop, get_or}
+use Rattle.std.proofs.Common.{◌≡◌, ℕ, zero, suc, false, is_some, map, option_map, option_copied, slice_get, slice_index_or, nat_lt, List, [], ◌∷◌, length, Option, Some, None, Bor, refl, sym, ◌∙◌, ap, arith}
 use Prim.Native.Nat.compare
 use Rattle.std.proofs.lemmas.Bool.{lt-ltb}
 use Rattle.std.proofs.lemmas.Option.{slice_get-map}
 use Rattle.std.proofs.lemmas.List.{length-map}
-use Rattle.wiring.specs.Options.{bind, omap}
-use Rattle.hw_model.specs.Types.{Name, HwType}
+use Rattle.wiring.specs.Options.{omap}
 use Rattle.hw_model.specs.KindViews.{kind_of}
-use Rattle.hw_model.specs.Design.{Ref, Port, OpResult, Op}
-use Rattle.hw_model.specs.Design.Ref.{port, result, undefined}
+use Rattle.hw_model.specs.Design.{Port, OpResult}
+use Rattle.hw_model.specs.Design.Ref.{result}
 use Rattle.hw_model.specs.Sound.{type_in}
-use Rattle.ir_store.specs.Numbered.{op_by, ref_by, position_of}
-use Rattle.ir_store.specs.BodyOps.{BodyOp, ids_in}
+use Rattle.ir_store.specs.Numbered.{op_by, ref_by}
 use Rattle.ir_store.specs.OperationViews.{result_of}
 use Rattle.op_verifier.specs.declared.entries.Entry.{Entry}
 use Rattle.op_verifier.specs.Entries.{op_in, types_beside, settled_for, AreSettled}
-use Rattle.op_verifier.specs.OpChecks.{settled_by, settled_type, is_nonzero_kind, is_nonzero_ref}
+use Rattle.op_verifier.specs.OpChecks.{settled_type, is_nonzero_kind, is_nonzero_ref}
 
 pub copied_some : {A : Type 0} (r : Option (Bor A)) (o : Option A) (b : Bor A) → option_copied r ≡ o → r ≡ Some b → o ≡ Some b.now
 copied_some r o b e is = sym e ∙ ap option_copied is

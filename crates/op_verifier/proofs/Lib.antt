@@ -1,4 +1,5 @@
 -- Lemmas.
+pub mod FaultSteps
 pub mod Found
 pub mod Lists
 pub mod Names

@@ -39,7 +39,7 @@ pub seen_again : (ports : List Port) (i : ℕ) (p : Port) (ks : List (Bor (List 
 seen_again ports i p ks name less is named found so_far =
     sym (so_far ∙ ap (has_seen (map shown ks)) (next_name ports i p less is)
     ∙ ap (λ (b : Bool). cond b true (has_seen (map shown ks ++ p.name ∷ []) (names_of (drop (i + 1) ports))))
-      (ap (λ (n : Name). is_among n (map shown ks)) (sym named) ∙ among_keys name ks ∙ found))
+    (ap (λ (n : Name). is_among n (map shown ks)) (sym named) ∙ among_keys name ks ∙ found))
 
 -- a name that is not
 pub seen_first : (ports : List Port) (i : ℕ) (p : Port) (ks new : List (Bor (List ℕ))) (name : Name) (k : Bor (List ℕ))
@@ -50,10 +50,10 @@ pub seen_first : (ports : List Port) (i : ℕ) (p : Port) (ks new : List (Bor (L
     → has_seen [] (names_of ports) ≡ has_seen (map shown new) (names_of (drop (i + 1) ports))
 seen_first ports i p ks new name k less is named key absent put so_far =
     let none : list_any (λ (j : Bor (List ℕ)). same_name k.now j.now) ks ≡ false =
-      ap (λ (n : Name). list_any (λ (j : Bor (List ℕ)). same_name n j.now) ks) (key ∙ sym named) ∙ absent in
+    ap (λ (n : Name). list_any (λ (j : Bor (List ℕ)). same_name n j.now) ks) (key ∙ sym named) ∙ absent in
     let added : map shown new ≡ map shown ks ++ p.name ∷ [] =
-      ap (map shown) (put ∙ ap (λ (b : Bool). cond b ks (ks ++ k ∷ [])) none) ∙ map_push shown ks k ∙ ap (λ (n : Name). map shown ks ++ n ∷ []) key in
+    ap (map shown) (put ∙ ap (λ (b : Bool). cond b ks (ks ++ k ∷ [])) none) ∙ map_push shown ks k ∙ ap (λ (n : Name). map shown ks ++ n ∷ []) key in
     so_far ∙ ap (has_seen (map shown ks)) (next_name ports i p less is)
     ∙ ap (λ (b : Bool). cond b true (has_seen (map shown ks ++ p.name ∷ []) (names_of (drop (i + 1) ports))))
-      (ap (λ (n : Name). is_among n (map shown ks)) (sym named) ∙ among_keys name ks ∙ absent)
+    (ap (λ (n : Name). is_among n (map shown ks)) (sym named) ∙ among_keys name ks ∙ absent)
     ∙ ap (λ (seen : List Name). has_seen seen (names_of (drop (i + 1) ports))) (sym added)

@@ -1,5 +1,5 @@
 -- A table of positions, filled from the last id to the first.
-use Rattle.std.proofs.Common.{◌≡◌, ℕ, zero, suc, ◌+◌, ◌-◌, ◌<◌, ◌≤◌, Bool, true, false, cond, nat_eq, List, [], ◌∷◌, map, length, drop, get_or, refl, sym, ◌∙◌, ap, arith, drop-cons}
+use Rattle.std.proofs.Common.{◌≡◌, ℕ, zero, suc, ◌+◌, ◌-◌, ◌<◌, ◌≤◌, Bool, true, false, cond, nat_eq, List, map, length, drop, get_or, sym, ◌∙◌, ap, arith, drop-cons}
 use Rattle.std.proofs.lemmas.List.{length-map}
 use Rattle.ir_store.specs.BodyOps.{BodyOp, ids_in}
 use Rattle.ir_store.specs.Numbered.{position_of}

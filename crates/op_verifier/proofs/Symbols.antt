@@ -3,7 +3,7 @@ use Rattle.std.proofs.Common.{◌≡◌, ℕ, zero, suc, Bool, true, false, cond
 use Prim.Native.Nat.compare
 use Rattle.hw_model.specs.Types.{Name}
 use Rattle.hw_model.specs.Design.{same_name, find_module}
-use Rattle.hw_model.specs.Equality.{name_self, name_from}
+use Rattle.hw_model.specs.Equality.{name_from}
 use Rattle.ir_store.specs.Symbols.{symbol_place}
 use Rattle.ir_store.specs.Designs.{StoredModule, numbered_module}
 

@@ -1,5 +1,5 @@
 -- The operations of a body, each with the types that it settles.
-use Rattle.std.specs.Prelude.{◌≡◌, ℕ, List, length, map, Option, option_map}
+use Rattle.std.specs.Prelude.{◌≡◌, List, length, map, Option, option_map}
 use Rattle.hw_model.specs.Types.{HwType}
 use Rattle.hw_model.specs.TypeViews.{type_of}
 use Rattle.ir_store.specs.BodyOps.{BodyOp}

@@ -1,10 +1,9 @@
 -- The first refusal of a design, but for those that look at the design as a whole: headers and operations in text order,
 -- each header before its body, and at each the first cause.
-use Rattle.std.specs.Prelude.{ℕ, suc, Bool, true, false, List, [], ◌∷◌, Option, Some, None, option_map}
+use Rattle.std.specs.Prelude.{ℕ, suc, Bool, true, false, List, [], ◌∷◌, Option, None, option_map}
 use Rattle.diag.specs.declared.cause.Cause.{Cause}
 use Rattle.diag.specs.declared.listed.Listed.{Listed}
 use Rattle.diag.specs.declared.listed.Listed.TheVariants as listed
-use Rattle.diag.specs.declared.refusal.Place as code
 use Rattle.diag.specs.declared.refusal.OpName.TheVariants as name
 use Rattle.diag.specs.declared.refusal.Refusal.{Refusal}
 use Rattle.hw_model.specs.Kinds.{Kind}

@@ -2,7 +2,7 @@
 use Rattle.std.specs.Prelude.{ℕ, Bool, true, false, cond, not, ◌||◌, ◌&&◌, List, [], ◌∷◌, ◌++◌, map, take, Option, is_some}
 use Rattle.diag.specs.declared.cause.Cause.{Cause}
 use Rattle.diag.specs.declared.cause.Cause.TheVariants.{Redefined, WidthLimit, Field, ClockOperand, DuplicateSymbol, DuplicatePort, MissingOutput}
-use Rattle.hw_model.specs.Types.{Name, HwType}
+use Rattle.hw_model.specs.Types.{Name}
 use Rattle.hw_model.specs.Design.{Port, Op, Module, Design, same_name, find_module, is_output_op}
 use Rattle.op_verifier.specs.Answers.{when, or_else}
 use Rattle.op_verifier.specs.TypeChecks.{is_outside, has_bad_field, has_clock_part, is_clock}

@@ -1,6 +1,6 @@
 -- Why an operation of a module's body is refused, by itself and by what stands around it (CIRCT: HW dialect, `hw.output`
 -- and `hw.instance`; MLIR language reference: SSA values in graph regions).
-use Rattle.std.specs.Prelude.{ℕ, ℤ, pos, negsuc, Bool, true, false, cond, not, ◌&&◌, nat_eq, List, [], ◌∷◌, map, take, drop, length, Option, Some, None, is_some, slice_get, slice_index_or}
+use Rattle.std.specs.Prelude.{ℤ, pos, negsuc, Bool, true, false, cond, not, ◌&&◌, nat_eq, List, [], ◌∷◌, map, take, drop, length, Option, Some, None, is_some, slice_get, slice_index_or}
 use Rattle.std.specs.Cmp.Lexicographic.{pointwise}
 use Rattle.wiring.specs.Options.{bind}
 use Rattle.diag.specs.declared.cause.Cause.{Cause}

@@ -1,4 +1,4 @@
-use Rattle.std.proofs.Common.{◌≡◌, ◌<◌, ◌≤◌, ◌-◌, length, map, sym, ap, ◌∙◌, arith}
+use Rattle.std.proofs.Common.{◌<◌, ◌≤◌, ◌-◌, length, map, sym, ap, ◌∙◌, arith}
 use Rattle.op_verifier.specs.declared.entries.Entry.{Entry}
 use Rattle.ir_store.specs.BodyOps.{ids_in}
 use Rattle.op_verifier.specs.Entries.{op_in}

@@ -1,4 +1,4 @@
-use Rattle.std.proofs.Common.{sym, ap, ◌∙◌, ◌≡◌, Some, None}
+use Rattle.std.proofs.Common.{sym, ap, ◌∙◌}
 use Rattle.ir_store.specs.Designs.{modules_of}
 use Rattle.op_verifier.proofs.Symbols.{is_before, named_before}
 use Rattle.op_verifier.proofs.headers.is_defined_before.Goals as goal

@@ -1,4 +1,4 @@
-use Rattle.std.proofs.Common.{sym, ◌∙◌}
+use Rattle.std.proofs.Common.{sym}
 use Rattle.op_verifier.specs.BodyViews.{ports_viewed, position_viewed}
 use Rattle.op_verifier.proofs.Found.{copied_some, copied_none, settled_there, settled_gone}
 use Rattle.op_verifier.proofs.body_view.BodyView.settled_type.Goals as goal

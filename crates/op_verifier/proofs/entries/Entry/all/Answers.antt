@@ -1,12 +1,10 @@
-use Rattle.std.proofs.Common.{◌≡◌, ◌++◌, map, subst, sym, ◌∙◌, ap, refl, List, All, Contains}
+use Rattle.std.proofs.Common.{◌≡◌, map, subst, sym, ◌∙◌, ap, refl, List, All, Contains}
 use Rattle.std.proofs.lemmas.List.Elements.{All-head, All-tail, All-contains_itself}
 use Rattle.ir_store.specs.declared.operation.OpId.{OpId}
-use Rattle.ir_store.specs.declared.body.Ops.{Ops}
 use Rattle.ir_store.specs.Bodies.{ops_of, ids_of, ids_left, op_id, read_op}
 use Rattle.ir_store.proofs.BodyLemmas.{ids_once}
 use Rattle.ir_store.proofs.Living.{all_mapped}
-use Rattle.op_verifier.specs.Entries.{op_in, types_beside, settled_for}
-use Rattle.op_verifier.proofs.Walks.{ops_at, through_all, walk_step, settled_step}
+use Rattle.op_verifier.proofs.Walks.{through_all, walk_step, settled_step}
 use Rattle.op_verifier.proofs.entries.Entry.all.Goals as goal
 
 pub op-requires : goal.op-requires
