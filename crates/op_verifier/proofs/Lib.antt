@@ -4,5 +4,7 @@ pub mod Found
 pub mod Lists
 pub mod Names
 pub mod Positions
+pub mod SoundDesigns
 pub mod Symbols
+pub mod Unrefused
 pub mod Walks
