@@ -1,2 +1,3 @@
 -- Lemmas.
 pub mod Lists
+pub mod Widths

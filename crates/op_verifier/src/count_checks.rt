@@ -11,6 +11,7 @@ use hw_model::kinds::{Instance, LiteralList, OpKind, Reset};
 use hw_model::types::Ty;
 
 /// Whether an operation has too few or too many operands, or written types.
+#[tactic(auto, unfolding(crate::specs::CountChecks::has_wrong_operands))]
 pub(crate) fn has_wrong_operands(kind: &OpKind, types: &[Ty], operands: usize) -> bool
     ensures { result ≡ has_wrong_operands (kind_of kind.now) (map type_of types.now) operands }
 {
@@ -55,6 +56,7 @@ fn reset_operands(reset: Reset) -> usize
 }
 
 /// How many fields a struct has; what is no struct has none.
+#[tactic(auto, using(crate::proofs::Lists::fields_counted))]
 fn field_count(ty: Option<&Ty>) -> usize
     ensures { result ≡ field_count (option_map (λ t. type_of t.now) ty.entry) }
 {
@@ -93,6 +95,7 @@ fn has_port_types(instance: &Instance, types: &[Ty]) -> bool
 }
 
 /// Whether an operation has too few or too many results, or names too few or too many.
+#[tactic(auto, unfolding(crate::specs::CountChecks::has_wrong_results))]
 pub(crate) fn has_wrong_results(kind: &OpKind, types: &[Ty], results: usize, named: u32) -> bool
     ensures { result ≡ has_wrong_results (kind_of kind.now) (map type_of types.now) results named }
 {
@@ -114,6 +117,7 @@ fn result_count(kind: &OpKind, types: &[Ty]) -> usize
 }
 
 /// Whether an aggregate constant, or a list in it, is shorter or longer than its type.
+#[tactic(auto, unfolding(crate::specs::CountChecks::has_miscounted_parts))]
 pub(crate) fn has_miscounted_parts(kind: &OpKind, types: &[Ty]) -> bool
     ensures { result ≡ has_miscounted_parts (kind_of kind.now) (map type_of types.now) }
 {

@@ -117,6 +117,7 @@ fn is_miscounted(literal: &Literal, ty: &Ty) -> bool
 
 /// Whether a list of constants is shorter or longer than the array or the struct that it stands for.
 #[cycle(is_miscounted)]
+#[tactic(auto, using(crate::proofs::Lists::literals_counted, crate::proofs::Lists::all_fields_counted))]
 pub(crate) fn are_parts_miscounted(list: &LiteralList, ty: &Ty) -> bool
     ensures { result ≡ is_miscounted (parts (literals_in list.now)) (type_of ty.now) }
 {

@@ -110,6 +110,7 @@ fn parts_differ(list: &LiteralList, ty: Option<&Ty>) -> bool
 }
 
 /// Whether operands and the fields of a struct differ in type.
+#[tactic(auto, using(crate::proofs::Lists::none_differ))]
 fn differ_from_struct(operands: &[Option<&Ty>], ty: Option<&Ty>) -> bool
     ensures { result ≡ differ (map (option_map (λ t. type_of t.now)) operands.now) (fields_in (option_map (λ t. type_of t.now) ty.entry)) }
 {

@@ -15,7 +15,7 @@ use ir_store::operation::NewResult;
 
 /// Whether a result has another type than the operation gives it, where it gives one. `operands` says how many operands
 /// the operation has.
-#[tactic(auto, unfolding(ir_store::specs::ResultTypes::result_types), using(crate::proofs::Lists::none_differ))]
+#[tactic(auto, unfolding(ir_store::specs::ResultTypes::result_types, crate::specs::OperandChecks::has_other_result), using(crate::proofs::Lists::none_differ, crate::proofs::Lists::one_differs))]
 pub(crate) fn has_other_result(
     kind: &OpKind,
     types: &[Ty],
@@ -81,6 +81,7 @@ fn is_no_array_of(own: &Ty, length: Option<u32>, element: Option<&Ty>) -> bool
 }
 
 /// Whether results and the fields of a struct differ in type.
+#[tactic(auto, using(crate::proofs::Lists::none_differ))]
 fn differ_from_struct(results: &[NewResult], ty: Option<&Ty>) -> bool
     ensures { result ≡ differ (settled (map (λ r. type_of r.ty) results.now)) (fields_in (option_map (λ t. type_of t.now) ty.entry)) }
 {
