@@ -1,3 +1,4 @@
 -- Lemmas.
 pub mod Lists
+pub mod Mismatch
 pub mod Widths

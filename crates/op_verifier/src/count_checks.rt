@@ -7,6 +7,7 @@ ghost use Rattle.ir_store.specs.ResultTypes.{field_count, result_count};
 ghost use Rattle.op_verifier.specs.CountChecks.{reset_operands, operand_count, type_count, parts_miscounted, has_miscounted_parts, has_wrong_operands, has_wrong_results};
 
 use crate::literal_checks::are_parts_miscounted;
+use crate::type_parts::field_count;
 use hw_model::kinds::{Instance, LiteralList, OpKind, Reset};
 use hw_model::types::Ty;
 
@@ -36,7 +37,7 @@ fn operand_count(kind: &OpKind, types: &[Ty], operands: usize) -> usize
         | OpKind::Bitcast
         | OpKind::Wire => 1,
         OpKind::Mux | OpKind::ArrayInject => 3,
-        OpKind::StructCreate => field_count(types.first()),
+        OpKind::StructCreate => struct_size(types.first()),
         OpKind::Instance(instance) => instance.inputs.len(),
         OpKind::Output => types.len(),
         OpKind::CompReg(reset) | OpKind::FirReg(reset) => 2 + reset_operands(*reset),
@@ -56,12 +57,11 @@ fn reset_operands(reset: Reset) -> usize
 }
 
 /// How many fields a struct has; what is no struct has none.
-#[tactic(auto, using(crate::proofs::Lists::fields_counted))]
-fn field_count(ty: Option<&Ty>) -> usize
+fn struct_size(ty: Option<&Ty>) -> usize
     ensures { result ≡ field_count (option_map (λ t. type_of t.now) ty.entry) }
 {
     match ty {
-        Some(Ty::Struct(list)) => list.fields.len(),
+        Some(Ty::Struct(list)) => field_count(&list.fields),
         Some(Ty::Clock | Ty::Int(_) | Ty::Array(..)) | None => 0,
     }
 }
@@ -110,7 +110,7 @@ fn result_count(kind: &OpKind, types: &[Ty]) -> usize
 {
     match kind {
         OpKind::Output => 0,
-        OpKind::StructExplode => field_count(types.first()),
+        OpKind::StructExplode => struct_size(types.first()),
         OpKind::Instance(instance) => types.len().saturating_sub(instance.inputs.len()),
         _ => 1,
     }

@@ -159,7 +159,7 @@ fn is_no_index(array: Option<&Ty>, index: Option<&Ty>) -> bool
 }
 
 /// Whether a width is that of the indices of an array of `length` elements.
-#[tactic(auto, unfolding(crate::specs::LimitChecks::is_width_of_index))]
+#[tactic(auto, using(crate::proofs::Widths::index_width_told))]
 fn is_width_of_index(length: u32, width: u32) -> bool
     ensures { result ≡ is_width_of_index length width }
 {

@@ -1,7 +1,7 @@
 //! Tests of one type: the limits on widths and leaves, names of fields, clocks.
 ghost use Rattle.std.specs.Prelude.{◌≡◌, map};
 ghost use Rattle.hw_model.specs.TypeViews.{type_of, field_of, fields_of};
-ghost use Rattle.op_verifier.specs.TypeChecks.{has_bad_part, has_bad_part_among, is_outside, has_name, has_name_twice, has_bad_field, has_bad_field_among, is_clock, has_clock, has_clock_among, has_clock_part, is_int};
+ghost use Rattle.op_verifier.specs.TypeChecks.{is_without_fields, has_bad_part, has_bad_part_among, is_outside, has_name, has_name_twice, has_bad_field, has_bad_field_among, is_clock, has_clock, has_clock_among, has_clock_part, is_int};
 
 use hw_model::types::{Field, Ty};
 use io_edge::byte_text::Text;
@@ -26,7 +26,6 @@ pub(crate) fn is_outside(ty: &Ty) -> bool
 
 /// Whether the type or a type within it is none that a value can have.
 #[cycle(bad_part)]
-#[tactic(auto, using(crate::proofs::Lists::without_fields))]
 fn has_bad_part(ty: &Ty) -> bool
     ensures { result ≡ has_bad_part (type_of ty.now) }
 {
@@ -34,7 +33,7 @@ fn has_bad_part(ty: &Ty) -> bool
         Ty::Int(width) => *width == 0 || *width > MOST_INTEGER_BITS,
         Ty::Clock => false,
         Ty::Array(length, element) => *length == 0 || has_bad_part(element),
-        Ty::Struct(list) => list.fields.is_empty() || has_bad_part_among(&list.fields),
+        Ty::Struct(list) => is_without_fields(&list.fields) || has_bad_part_among(&list.fields),
     }
 }
 
@@ -48,6 +47,13 @@ fn has_bad_part_among(fields: &[Field]) -> bool
         }
     }
     false
+}
+
+/// Whether there are no fields.
+fn is_without_fields(fields: &[Field]) -> bool
+    ensures { result ≡ is_without_fields (fields_of (map field_of fields.now)) }
+{
+    fields.is_empty()
 }
 
 /// Whether the type or a type within it is a struct that has a name of a field twice. It takes the square of the number of
