@@ -6,6 +6,8 @@ mod limit_checks;
 mod literal_checks;
 mod operand_checks;
 mod own_checks;
+#[cfg(test)]
+mod own_tests;
 mod result_checks;
 mod type_checks;
 mod type_lists;
