@@ -2,9 +2,11 @@
 pub mod FaultSteps
 pub mod Found
 pub mod Lists
+pub mod Mismatch
 pub mod Names
 pub mod Positions
 pub mod SoundDesigns
 pub mod Symbols
 pub mod Unrefused
 pub mod Walks
+pub mod Widths

@@ -63,18 +63,18 @@ abbrev pub parts_miscounted : Literals → Option HwType → Bool
 parts_miscounted ls None = false
 parts_miscounted ls (Some t) = is_miscounted (parts ls) t
 
-abbrev pub has_miscounted_parts : Kind → List HwType → Bool
+unfoldable pub has_miscounted_parts : Kind → List HwType → Bool
 has_miscounted_parts (aggregate_constant ls) ts = parts_miscounted ls (first_type ts)
 has_miscounted_parts kind ts = false
 
 -- whether the operands or the types are too few or too many
-abbrev pub has_wrong_operands : Kind → List HwType → ℕ → Bool
+unfoldable pub has_wrong_operands : Kind → List HwType → ℕ → Bool
 has_wrong_operands kind ts n = not (nat_eq n (operand_count kind ts n)) || not (nat_eq (length ts) (type_count kind n))
 
 -- whether the results are, or those that are named
-abbrev pub has_wrong_results : Kind → List HwType → ℕ → ℕ → Bool
+unfoldable pub has_wrong_results : Kind → List HwType → ℕ → ℕ → Bool
 has_wrong_results kind ts count named = not (nat_eq named (result_count kind ts)) || not (nat_eq count (result_count kind ts))
 
 -- whether an operation has a wrong number of values
-abbrev pub has_wrong_count : Kind → List HwType → List HwType → ℕ → List (Option HwType) → Bool
+unfoldable pub has_wrong_count : Kind → List HwType → List HwType → ℕ → List (Option HwType) → Bool
 has_wrong_count kind ts rs named xs = has_wrong_operands kind ts (length xs) || (has_wrong_results kind ts (length rs) named || has_miscounted_parts kind ts)

@@ -2,12 +2,11 @@
 use Rattle.std.specs.Prelude.{ℕ, ◌+◌, ◌-◌, ◌^◌, ◌%◌, Bool, true, false, not, ◌&&◌, ◌||◌, ◌==◌, nat_eq, nat_lt, nat_le, List, [], ◌∷◌, length, drop, Option, Some, None, is_none}
 use Rattle.std.specs.List.{list_any}
 use Rattle.hw_model.specs.Types.{HwType, width}
-use Rattle.hw_model.specs.Types.HwType.{int, clock, array, struct}
 use Rattle.hw_model.specs.Kinds.{Kind}
 use Rattle.hw_model.specs.Kinds.Kind.{add, mul, and, or, xor, sub, divu, modu, divs, mods, shl, shru, shrs, icmp, parity, extract, concat, replicate, mux, constant, aggregate_constant, array_create, array_concat, array_get, array_slice, array_inject, struct_create, struct_extract, struct_inject, struct_explode, bitcast, wire, instance, output, compreg, compreg_ce, firreg}
 use Rattle.ir_store.specs.ResultTypes.{first_type, second_type, field_of, joined_width}
 use Rattle.op_verifier.specs.TypeChecks.{is_outside, has_bad_field, has_clock_part, is_clock}
-use Rattle.op_verifier.specs.TypeLists.{settled_at}
+use Rattle.op_verifier.specs.TypeLists.{int_width, array_length, settled_at}
 use Rattle.op_verifier.specs.LiteralChecks.{is_outside_type, any_failing_leaf}
 use Rattle.op_verifier.specs.declared.literal_checks.LeafTest.TheVariants as leaf_test
 
@@ -16,10 +15,10 @@ abbrev pub of_type : (HwType → Bool) → Option HwType → Bool
 of_type p None = false
 of_type p (Some t) = p t
 
--- a fact of two types that are there
-abbrev pub of_types : (HwType → HwType → Bool) → Option HwType → Option HwType → Bool
-of_types p (Some t) (Some u) = p t u
-of_types p _ _ = false
+-- a fact of two numbers that are there
+abbrev pub of_both : (ℕ → ℕ → Bool) → Option ℕ → Option ℕ → Bool
+of_both p (Some m) (Some n) = p m n
+of_both p _ _ = false
 
 -- whether the array that an operation makes of its parts is outside the limits: every other result's type is a written
 -- type, i1 or a part of one, but that of comb.concat, which has a limit of its own
@@ -34,31 +33,29 @@ has_outside_leaf (aggregate_constant ls) = any_failing_leaf leaf_test.Width ls
 has_outside_leaf kind = false
 
 -- whether a written type or a result's is outside the limits
-abbrev pub has_type_outside : Kind → List HwType → List HwType → Bool
+unfoldable pub has_type_outside : Kind → List HwType → List HwType → Bool
 has_type_outside kind ts rs = list_any is_outside ts || (has_outside_leaf kind || has_outside_array kind rs)
 
 -- whether a constant is out of the range of its type
-abbrev pub has_constant_outside : Kind → List HwType → Bool
+unfoldable pub has_constant_outside : Kind → List HwType → Bool
 has_constant_outside (constant z) ts = of_type (is_outside_type z) (first_type ts)
 has_constant_outside (aggregate_constant ls) ts = any_failing_leaf leaf_test.Range ls
 has_constant_outside kind ts = false
 
--- whether bits from one on are not within the operand's
-abbrev pub reaches_past : ℕ → HwType → HwType → Bool
-reaches_past low (int w) (int v) = nat_lt w (low + v)
-reaches_past low _ _ = false
+-- whether v bits from one on are not within w
+abbrev pub reaches_past : ℕ → ℕ → ℕ → Bool
+reaches_past low w v = nat_lt w (low + v)
 
-abbrev pub has_extract_outside : Kind → List HwType → Bool
-has_extract_outside (extract low) ts = of_types (reaches_past low) (first_type ts) (second_type ts)
+unfoldable pub has_extract_outside : Kind → List HwType → Bool
+has_extract_outside (extract low) ts = of_both (reaches_past low) (int_width (first_type ts)) (int_width (second_type ts))
 has_extract_outside kind ts = false
 
--- whether one width is no positive multiple of another
-abbrev pub is_no_multiple : HwType → HwType → Bool
-is_no_multiple (int w) (int v) = (w == 0) || ((v == 0) || not (v % w == 0))
-is_no_multiple _ _ = false
+-- whether a width v is no positive multiple of w
+abbrev pub is_no_multiple : ℕ → ℕ → Bool
+is_no_multiple w v = (w == 0) || ((v == 0) || not (v % w == 0))
 
-abbrev pub has_broken_copy : Kind → List HwType → Bool
-has_broken_copy replicate ts = of_types is_no_multiple (first_type ts) (second_type ts)
+unfoldable pub has_broken_copy : Kind → List HwType → Bool
+has_broken_copy replicate ts = of_both is_no_multiple (int_width (first_type ts)) (int_width (second_type ts))
 has_broken_copy kind ts = false
 
 -- whether joined integers have more than 128 bits
@@ -66,12 +63,12 @@ abbrev pub is_too_wide : Option ℕ → Bool
 is_too_wide None = false
 is_too_wide (Some w) = nat_lt 128 w
 
-abbrev pub has_wide_concat : Kind → List HwType → Bool
+unfoldable pub has_wide_concat : Kind → List HwType → Bool
 has_wide_concat concat ts = is_too_wide (joined_width ts)
 has_wide_concat kind ts = false
 
 -- whether a division's divisor is not known to be a nonzero constant
-abbrev pub has_unknown_divisor : Kind → Bool → Bool
+unfoldable pub has_unknown_divisor : Kind → Bool → Bool
 has_unknown_divisor divu is_known = not is_known
 has_unknown_divisor modu is_known = not is_known
 has_unknown_divisor divs is_known = not is_known
@@ -82,21 +79,19 @@ has_unknown_divisor kind is_known = false
 unfoldable pub is_width_of_index : ℕ → ℕ → Bool
 is_width_of_index n k = nat_le 1 k && (nat_le n (2 ^ k) && (nat_le k 1 || nat_lt (2 ^ (k - 1)) n))
 
--- whether an integer is no index of an array
-abbrev pub is_no_index : HwType → HwType → Bool
-is_no_index (array n t) (int k) = not (is_width_of_index n k)
-is_no_index _ _ = false
+-- whether an index has another width than its array asks for
+abbrev pub is_no_index : Option HwType → Option HwType → Bool
+is_no_index a i = of_both (λ n k. not (is_width_of_index n k)) (array_length a) (int_width i)
 
--- whether an array is longer than another
-abbrev pub is_longer : HwType → HwType → Bool
-is_longer (array n t) (array m u) = nat_lt n m
-is_longer _ _ = false
+-- whether the second array is longer than the first
+abbrev pub is_longer : Option HwType → Option HwType → Bool
+is_longer a b = of_both nat_lt (array_length a) (array_length b)
 
 -- whether an index has another width than its array asks for, or a slice is longer than its array
-abbrev pub has_wrong_index : Kind → List HwType → List (Option HwType) → Bool
-has_wrong_index array_get ts xs = of_types is_no_index (first_type ts) (second_type ts)
-has_wrong_index array_slice ts xs = of_types is_no_index (first_type ts) (settled_at xs 1) || of_types is_longer (first_type ts) (second_type ts)
-has_wrong_index array_inject ts xs = of_types is_no_index (first_type ts) (second_type ts)
+unfoldable pub has_wrong_index : Kind → List HwType → List (Option HwType) → Bool
+has_wrong_index array_get ts xs = is_no_index (first_type ts) (second_type ts)
+has_wrong_index array_slice ts xs = is_no_index (first_type ts) (settled_at xs 1) || is_longer (first_type ts) (second_type ts)
+has_wrong_index array_inject ts xs = is_no_index (first_type ts) (second_type ts)
 has_wrong_index kind ts xs = false
 
 -- whether an operation's field is not in its struct
@@ -107,15 +102,16 @@ has_unknown_field kind ts = false
 
 -- whether a field is unknown, or its name stands twice in a written type; the parts of a result's type are those of
 -- written ones
-abbrev pub has_wrong_field : Kind → List HwType → Bool
+unfoldable pub has_wrong_field : Kind → List HwType → Bool
 has_wrong_field kind ts = list_any has_bad_field ts || has_unknown_field kind ts
 
--- whether types have different widths
-abbrev pub are_unequal : HwType → HwType → Bool
-are_unequal t u = not (nat_eq (width t) (width u))
+-- whether two types that are there have different widths
+abbrev pub are_unequal : Option HwType → Option HwType → Bool
+are_unequal (Some t) (Some u) = not (nat_eq (width t) (width u))
+are_unequal _ _ = false
 
-abbrev pub has_unequal_widths : Kind → List HwType → Bool
-has_unequal_widths bitcast ts = of_types are_unequal (first_type ts) (second_type ts)
+unfoldable pub has_unequal_widths : Kind → List HwType → Bool
+has_unequal_widths bitcast ts = are_unequal (first_type ts) (second_type ts)
 has_unequal_widths kind ts = false
 
 -- the written types that may not be the clock's: all but those of an instance's operands
@@ -126,5 +122,5 @@ value_types kind ts = ts
 -- whether a clock stands where a value is wanted: as an operand other than a register's clock or an instance's, as a
 -- result, as the type of a register, or within an aggregate. A result of clock type has a written one, or is a part of
 -- one.
-abbrev pub has_clock_value : Kind → List HwType → Bool
+unfoldable pub has_clock_value : Kind → List HwType → Bool
 has_clock_value kind ts = list_any has_clock_part ts || list_any is_clock (value_types kind ts)

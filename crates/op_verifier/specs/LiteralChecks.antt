@@ -1,6 +1,6 @@
 -- A constant of an aggregate type against that type: a list of constants where there are parts, an integer of the
 -- leaf's type where there are none (CIRCT, HW dialect: `hw.aggregate_constant`).
-use Rattle.std.specs.Prelude.{ℕ, zero, suc, ℤ, pos, negsuc, ◌-◌, ◌^◌, Bool, true, false, not, ◌||◌, nat_eq, nat_le}
+use Rattle.std.specs.Prelude.{ℕ, zero, suc, ℤ, pos, negsuc, ◌-◌, ◌^◌, Bool, true, false, not, ◌||◌, nat_eq, nat_le, length}
 use Rattle.hw_model.specs.Types.{HwType, FieldTypes}
 use Rattle.hw_model.specs.Types.HwType.{int, clock, array, struct}
 use Rattle.hw_model.specs.Types.FieldTypes.{no_fields, field}
@@ -8,6 +8,7 @@ use Rattle.hw_model.specs.Kinds.{Literal, Literals}
 use Rattle.hw_model.specs.Kinds.Literal.{leaf, parts}
 use Rattle.hw_model.specs.Kinds.Literals.{no_literals, literal}
 use Rattle.hw_model.specs.SameType.{same_type}
+use Rattle.hw_model.specs.Sound.{field_list}
 use Rattle.op_verifier.specs.TypeChecks.{is_outside, is_int}
 use Rattle.op_verifier.specs.declared.literal_checks.LeafTest.{LeafTest}
 use Rattle.op_verifier.specs.declared.literal_checks.LeafTest.TheVariants.{Kind, Width, Range}
@@ -51,17 +52,12 @@ abbrev mutual
   literals_differ (literal l ls) no_fields = false
   literals_differ (literal l ls) (field name t fs) = literal_differs l t || literals_differ ls fs
 
--- the number of fields
-abbrev pub field_count : FieldTypes → ℕ
-field_count no_fields = zero
-field_count (field name t fs) = suc (field_count fs)
-
 abbrev mutual
   -- whether an aggregate has another number of parts than its type
   pub is_miscounted : Literal → HwType → Bool
   is_miscounted (leaf z u) t = false
   is_miscounted (parts ls) (array n t) = not (nat_eq (literal_count ls) n) || any_miscounted ls t
-  is_miscounted (parts ls) (struct fs) = not (nat_eq (literal_count ls) (field_count fs)) || are_miscounted ls fs
+  is_miscounted (parts ls) (struct fs) = not (nat_eq (literal_count ls) (length (field_list fs))) || are_miscounted ls fs
   is_miscounted (parts ls) _ = false
 
   pub any_miscounted : Literals → HwType → Bool

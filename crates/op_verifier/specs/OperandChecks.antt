@@ -84,9 +84,9 @@ has_other_operand (firreg r) ts xs = register_differs false r (first_type ts) xs
 has_other_operand kind ts xs = any_differs xs (first_type ts)
 
 -- whether a result has another type than the operation gives it, where it gives one: never in a text that is read
-abbrev pub has_other_result : Kind → List HwType → List HwType → ℕ → Bool
+unfoldable pub has_other_result : Kind → List HwType → List HwType → ℕ → Bool
 has_other_result kind ts rs n = differ (settled rs) (result_types kind ts n)
 
 -- whether types do not match
-abbrev pub has_mismatch : Kind → List HwType → List HwType → List (Option HwType) → Bool
+unfoldable pub has_mismatch : Kind → List HwType → List HwType → List (Option HwType) → Bool
 has_mismatch kind ts rs xs = has_other_form kind ts || (has_other_operand kind ts xs || has_other_result kind ts rs (length xs))

@@ -33,17 +33,22 @@ abbrev pub has_name : Name → FieldTypes → Bool
 has_name name no_fields = false
 has_name name (field f t fs) = same_name f name || has_name name fs
 
+-- whether two fields have one name
+abbrev pub has_name_twice : FieldTypes → Bool
+has_name_twice no_fields = false
+has_name_twice (field f t fs) = has_name f fs || has_name_twice fs
+
 abbrev mutual
   -- whether a struct, the type itself or one within it, has a name of a field twice
   pub has_bad_field : HwType → Bool
   has_bad_field (int w) = false
   has_bad_field clock = false
   has_bad_field (array n t) = has_bad_field t
-  has_bad_field (struct fs) = has_bad_field_among fs
+  has_bad_field (struct fs) = has_name_twice fs || has_bad_field_among fs
 
   pub has_bad_field_among : FieldTypes → Bool
   has_bad_field_among no_fields = false
-  has_bad_field_among (field f t fs) = has_name f fs || (has_bad_field t || has_bad_field_among fs)
+  has_bad_field_among (field f t fs) = has_bad_field t || has_bad_field_among fs
 
 -- whether a type is the clock's
 abbrev pub is_clock : HwType → Bool

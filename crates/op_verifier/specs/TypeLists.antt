@@ -24,6 +24,15 @@ is_no_struct None = false
 is_no_struct (Some (struct fs)) = false
 is_no_struct (Some _) = true
 
+-- the width of an integer's type, the length of an array's
+abbrev pub int_width : Option HwType → Option ℕ
+int_width (Some (int w)) = Some w
+int_width _ = None
+
+abbrev pub array_length : Option HwType → Option ℕ
+array_length (Some (array n t)) = Some n
+array_length _ = None
+
 -- whether two types are both there and differ: a type that is not settled is compared with nothing
 abbrev pub differs : Option HwType → Option HwType → Bool
 differs None y = false

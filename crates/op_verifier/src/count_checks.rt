@@ -7,10 +7,12 @@ ghost use Rattle.ir_store.specs.ResultTypes.{field_count, result_count};
 ghost use Rattle.op_verifier.specs.CountChecks.{reset_operands, operand_count, type_count, parts_miscounted, has_miscounted_parts, has_wrong_operands, has_wrong_results};
 
 use crate::literal_checks::are_parts_miscounted;
+use crate::type_parts::field_count;
 use hw_model::kinds::{Instance, LiteralList, OpKind, Reset};
 use hw_model::types::Ty;
 
 /// Whether an operation has too few or too many operands, or written types.
+#[tactic(auto, unfolding(crate::specs::CountChecks::has_wrong_operands))]
 pub(crate) fn has_wrong_operands(kind: &OpKind, types: &[Ty], operands: usize) -> bool
     ensures { result ≡ has_wrong_operands (kind_of kind.now) (map type_of types.now) operands }
 {
@@ -35,7 +37,7 @@ fn operand_count(kind: &OpKind, types: &[Ty], operands: usize) -> usize
         | OpKind::Bitcast
         | OpKind::Wire => 1,
         OpKind::Mux | OpKind::ArrayInject => 3,
-        OpKind::StructCreate => field_count(types.first()),
+        OpKind::StructCreate => struct_size(types.first()),
         OpKind::Instance(instance) => instance.inputs.len(),
         OpKind::Output => types.len(),
         OpKind::CompReg(reset) | OpKind::FirReg(reset) => 2 + reset_operands(*reset),
@@ -55,11 +57,11 @@ fn reset_operands(reset: Reset) -> usize
 }
 
 /// How many fields a struct has; what is no struct has none.
-fn field_count(ty: Option<&Ty>) -> usize
+fn struct_size(ty: Option<&Ty>) -> usize
     ensures { result ≡ field_count (option_map (λ t. type_of t.now) ty.entry) }
 {
     match ty {
-        Some(Ty::Struct(list)) => list.fields.len(),
+        Some(Ty::Struct(list)) => field_count(&list.fields),
         Some(Ty::Clock | Ty::Int(_) | Ty::Array(..)) | None => 0,
     }
 }
@@ -93,6 +95,7 @@ fn has_port_types(instance: &Instance, types: &[Ty]) -> bool
 }
 
 /// Whether an operation has too few or too many results, or names too few or too many.
+#[tactic(auto, unfolding(crate::specs::CountChecks::has_wrong_results))]
 pub(crate) fn has_wrong_results(kind: &OpKind, types: &[Ty], results: usize, named: u32) -> bool
     ensures { result ≡ has_wrong_results (kind_of kind.now) (map type_of types.now) results named }
 {
@@ -107,13 +110,14 @@ fn result_count(kind: &OpKind, types: &[Ty]) -> usize
 {
     match kind {
         OpKind::Output => 0,
-        OpKind::StructExplode => field_count(types.first()),
+        OpKind::StructExplode => struct_size(types.first()),
         OpKind::Instance(instance) => types.len().saturating_sub(instance.inputs.len()),
         _ => 1,
     }
 }
 
 /// Whether an aggregate constant, or a list in it, is shorter or longer than its type.
+#[tactic(auto, unfolding(crate::specs::CountChecks::has_miscounted_parts))]
 pub(crate) fn has_miscounted_parts(kind: &OpKind, types: &[Ty]) -> bool
     ensures { result ≡ has_miscounted_parts (kind_of kind.now) (map type_of types.now) }
 {

@@ -12,6 +12,8 @@ mod operand_checks;
 mod operations;
 mod outer_checks;
 mod own_checks;
+#[cfg(test)]
+mod own_tests;
 mod result_checks;
 mod type_checks;
 mod type_lists;

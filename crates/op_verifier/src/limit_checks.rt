@@ -6,17 +6,21 @@ ghost use Rattle.hw_model.specs.TypeViews.{type_of};
 ghost use Rattle.hw_model.specs.KindViews.{kind_of, integer_of};
 ghost use Rattle.op_verifier.specs.LiteralChecks.{is_outside_type};
 ghost use Rattle.op_verifier.specs.TypeChecks.{is_outside};
-ghost use Rattle.op_verifier.specs.LimitChecks.{of_type, of_types, has_outside_array, has_outside_leaf, has_type_outside, has_constant_outside, reaches_past, has_extract_outside, is_no_multiple, has_broken_copy, has_wide_concat, has_unknown_divisor, is_width_of_index, is_no_index, is_longer, has_wrong_index, has_unknown_field, has_wrong_field, are_unequal, has_unequal_widths, value_types, has_clock_value};
+ghost use Rattle.op_verifier.specs.TypeLists.{int_width, array_length};
+ghost use Rattle.op_verifier.specs.LimitChecks.{of_type, of_both, has_outside_array, has_outside_leaf, has_type_outside, has_constant_outside, reaches_past, has_extract_outside, is_no_multiple, has_broken_copy, has_wide_concat, has_unknown_divisor, is_width_of_index, is_no_index, is_longer, has_wrong_index, has_unknown_field, has_wrong_field, are_unequal, has_unequal_widths, value_types, has_clock_value};
 
 use crate::literal_checks::{LeafTest, any_failing_leaf, is_outside_type};
 use crate::type_checks::is_outside;
-use crate::type_lists::{any_bad_field, any_clock, any_clock_part, any_outside, settled_at};
+use crate::type_lists::{
+    any_bad_field, any_clock, any_clock_part, any_outside, array_length, int_width, settled_at,
+};
 use crate::type_parts::{field_of, joined_width};
 use hw_model::kinds::{Integer, OpKind};
 use hw_model::types::{Ty, index_width};
 use ir_store::operation::NewResult;
 
 /// Whether a written type or a result's is outside the limits; the result of `comb.concat` is not asked.
+#[tactic(auto, unfolding(crate::specs::LimitChecks::has_type_outside))]
 pub(crate) fn has_type_outside(kind: &OpKind, types: &[Ty], results: &[NewResult]) -> bool
     ensures { result ≡ has_type_outside (kind_of kind.now) (map type_of types.now) (map (λ r. type_of r.ty) results.now) }
 {
@@ -45,6 +49,7 @@ fn has_outside_array(kind: &OpKind, results: &[NewResult]) -> bool
 }
 
 /// Whether a constant is out of the range of its type.
+#[tactic(auto, unfolding(crate::specs::LimitChecks::has_constant_outside))]
 pub(crate) fn has_constant_outside(kind: &OpKind, types: &[Ty]) -> bool
     ensures { result ≡ has_constant_outside (kind_of kind.now) (map type_of types.now) }
 {
@@ -65,6 +70,7 @@ fn is_outside_first(value: Integer, ty: Option<&Ty>) -> bool
 }
 
 /// Whether an extract reaches past its operand.
+#[tactic(auto, unfolding(crate::specs::LimitChecks::has_extract_outside))]
 pub(crate) fn has_extract_outside(kind: &OpKind, types: &[Ty]) -> bool
     ensures { result ≡ has_extract_outside (kind_of kind.now) (map type_of types.now) }
 {
@@ -75,17 +81,16 @@ pub(crate) fn has_extract_outside(kind: &OpKind, types: &[Ty]) -> bool
 }
 
 fn reaches_past(low: u32, from: Option<&Ty>, to: Option<&Ty>) -> bool
-    ensures { result ≡ of_types (reaches_past low) (option_map (λ t. type_of t.now) from.entry) (option_map (λ t. type_of t.now) to.entry) }
+    ensures { result ≡ of_both (reaches_past low) (int_width (option_map (λ t. type_of t.now) from.entry)) (int_width (option_map (λ t. type_of t.now) to.entry)) }
 {
-    match (from, to) {
-        (Some(Ty::Int(width)), Some(Ty::Int(taken))) => {
-            u64::from(*width) < u64::from(low) + u64::from(*taken)
-        }
-        _ => false,
+    match (int_width(from), int_width(to)) {
+        (Some(width), Some(taken)) => u64::from(width) < u64::from(low) + u64::from(taken),
+        (None, _) | (_, None) => false,
     }
 }
 
 /// Whether a replicate's width is no positive multiple of its operand's.
+#[tactic(auto, unfolding(crate::specs::LimitChecks::has_broken_copy))]
 pub(crate) fn has_broken_copy(kind: &OpKind, types: &[Ty]) -> bool
     ensures { result ≡ has_broken_copy (kind_of kind.now) (map type_of types.now) }
 {
@@ -96,17 +101,16 @@ pub(crate) fn has_broken_copy(kind: &OpKind, types: &[Ty]) -> bool
 }
 
 fn is_no_multiple(from: Option<&Ty>, to: Option<&Ty>) -> bool
-    ensures { result ≡ of_types is_no_multiple (option_map (λ t. type_of t.now) from.entry) (option_map (λ t. type_of t.now) to.entry) }
+    ensures { result ≡ of_both is_no_multiple (int_width (option_map (λ t. type_of t.now) from.entry)) (int_width (option_map (λ t. type_of t.now) to.entry)) }
 {
-    match (from, to) {
-        (Some(Ty::Int(width)), Some(Ty::Int(wide))) => {
-            *width == 0 || (*wide == 0 || *wide % *width != 0)
-        }
-        _ => false,
+    match (int_width(from), int_width(to)) {
+        (Some(width), Some(wide)) => width == 0 || (wide == 0 || wide % width != 0),
+        (None, _) | (_, None) => false,
     }
 }
 
 /// Whether a concat is wider than 128 bits.
+#[tactic(auto, unfolding(crate::specs::LimitChecks::has_wide_concat))]
 pub(crate) fn has_wide_concat(kind: &OpKind, types: &[Ty]) -> bool
     ensures { result ≡ has_wide_concat (kind_of kind.now) (map type_of types.now) }
 {
@@ -120,6 +124,7 @@ pub(crate) fn has_wide_concat(kind: &OpKind, types: &[Ty]) -> bool
 }
 
 /// Whether a division's divisor is not known to be a nonzero constant.
+#[tactic(auto, unfolding(crate::specs::LimitChecks::has_unknown_divisor))]
 pub(crate) fn has_unknown_divisor(kind: &OpKind, divides_by_constant: bool) -> bool
     ensures { result ≡ has_unknown_divisor (kind_of kind.now) divides_by_constant }
 {
@@ -130,6 +135,7 @@ pub(crate) fn has_unknown_divisor(kind: &OpKind, divides_by_constant: bool) -> b
 }
 
 /// Whether an index has another width than its array asks for, or a slice is longer than its array.
+#[tactic(auto, unfolding(crate::specs::LimitChecks::has_wrong_index))]
 pub(crate) fn has_wrong_index(kind: &OpKind, types: &[Ty], operands: &[Option<&Ty>]) -> bool
     ensures { result ≡ has_wrong_index (kind_of kind.now) (map type_of types.now) (map (option_map (λ t. type_of t.now)) operands.now) }
 {
@@ -144,16 +150,16 @@ pub(crate) fn has_wrong_index(kind: &OpKind, types: &[Ty], operands: &[Option<&T
 }
 
 fn is_no_index(array: Option<&Ty>, index: Option<&Ty>) -> bool
-    ensures { result ≡ of_types is_no_index (option_map (λ t. type_of t.now) array.entry) (option_map (λ t. type_of t.now) index.entry) }
+    ensures { result ≡ is_no_index (option_map (λ t. type_of t.now) array.entry) (option_map (λ t. type_of t.now) index.entry) }
 {
-    match (array, index) {
-        (Some(Ty::Array(length, _)), Some(Ty::Int(width))) => !is_width_of_index(*length, *width),
-        _ => false,
+    match (array_length(array), int_width(index)) {
+        (Some(length), Some(width)) => !is_width_of_index(length, width),
+        (None, _) | (_, None) => false,
     }
 }
 
 /// Whether a width is that of the indices of an array of `length` elements.
-#[tactic(auto, unfolding(crate::specs::LimitChecks::is_width_of_index))]
+#[tactic(auto, using(crate::proofs::Widths::index_width_told))]
 fn is_width_of_index(length: u32, width: u32) -> bool
     ensures { result ≡ is_width_of_index length width }
 {
@@ -161,15 +167,16 @@ fn is_width_of_index(length: u32, width: u32) -> bool
 }
 
 fn is_longer(array: Option<&Ty>, slice: Option<&Ty>) -> bool
-    ensures { result ≡ of_types is_longer (option_map (λ t. type_of t.now) array.entry) (option_map (λ t. type_of t.now) slice.entry) }
+    ensures { result ≡ is_longer (option_map (λ t. type_of t.now) array.entry) (option_map (λ t. type_of t.now) slice.entry) }
 {
-    match (array, slice) {
-        (Some(Ty::Array(length, _)), Some(Ty::Array(taken, _))) => length < taken,
-        _ => false,
+    match (array_length(array), array_length(slice)) {
+        (Some(length), Some(taken)) => length < taken,
+        (None, _) | (_, None) => false,
     }
 }
 
 /// Whether a field is unknown, or its name stands twice in a written type.
+#[tactic(auto, unfolding(crate::specs::LimitChecks::has_wrong_field))]
 pub(crate) fn has_wrong_field(kind: &OpKind, types: &[Ty]) -> bool
     ensures { result ≡ has_wrong_field (kind_of kind.now) (map type_of types.now) }
 {
@@ -188,6 +195,7 @@ fn has_unknown_field(kind: &OpKind, types: &[Ty]) -> bool
 }
 
 /// Whether a bitcast's types, which are within the limits, differ in width.
+#[tactic(auto, unfolding(crate::specs::LimitChecks::has_unequal_widths))]
 pub(crate) fn has_unequal_widths(kind: &OpKind, types: &[Ty]) -> bool
     requires { list_any is_outside (map type_of types.now) ≡ false }
     ensures { result ≡ has_unequal_widths (kind_of kind.now) (map type_of types.now) }
@@ -198,18 +206,20 @@ pub(crate) fn has_unequal_widths(kind: &OpKind, types: &[Ty]) -> bool
     }
 }
 
+#[tactic(auto, using(crate::proofs::Widths::unequal))]
 fn are_unequal(from: Option<&Ty>, to: Option<&Ty>) -> bool
     requires from { of_type is_outside (option_map (λ t. type_of t.now) from) ≡ false }
     requires to { of_type is_outside (option_map (λ t. type_of t.now) to) ≡ false }
-    ensures { result ≡ of_types are_unequal (option_map (λ t. type_of t.now) from.entry) (option_map (λ t. type_of t.now) to.entry) }
+    ensures { result ≡ are_unequal (option_map (λ t. type_of t.now) from.entry) (option_map (λ t. type_of t.now) to.entry) }
 {
     match (from, to) {
         (Some(from), Some(to)) => from.width() != to.width(),
-        _ => false,
+        (None, _) | (_, None) => false,
     }
 }
 
 /// Whether a clock stands where a value is wanted.
+#[tactic(auto, unfolding(crate::specs::LimitChecks::has_clock_value))]
 pub(crate) fn has_clock_value(kind: &OpKind, types: &[Ty]) -> bool
     ensures { result ≡ has_clock_value (kind_of kind.now) (map type_of types.now) }
 {

@@ -3,9 +3,10 @@ ghost use Rattle.std.specs.Prelude.{◌≡◌, ◌^◌, map, nat_le};
 ghost use Rattle.hw_model.specs.Kinds.Literal.{parts};
 ghost use Rattle.hw_model.specs.TypeViews.{type_of, field_of, fields_of};
 ghost use Rattle.hw_model.specs.KindViews.{integer_of, literal_of, literals_of, literals_in};
-ghost use Rattle.op_verifier.specs.LiteralChecks.{is_out_of_range, is_outside_type, leaf_differs, leaf_fails, literal_differs, any_literal_differs, literals_differ, is_miscounted, any_miscounted, are_miscounted, has_failing_leaf, any_failing_leaf};
+ghost use Rattle.op_verifier.specs.LiteralChecks.{is_out_of_range, is_outside_type, leaf_differs, leaf_fails, literal_count, literal_differs, any_literal_differs, literals_differ, is_miscounted, any_miscounted, are_miscounted, has_failing_leaf, any_failing_leaf};
 
 use crate::type_checks::{is_int, is_outside};
+use crate::type_parts::field_count;
 use hw_model::kinds::{Integer, Literal, LiteralList};
 use hw_model::types::{Field, Ty};
 
@@ -115,21 +116,29 @@ fn is_miscounted(literal: &Literal, ty: &Ty) -> bool
     }
 }
 
-/// Whether a list of constants is shorter or longer than the array or the struct that it stands for.
+/// Whether a list of constants, or one within it, is shorter or longer than the array or the struct that it stands for.
 #[cycle(is_miscounted)]
 pub(crate) fn are_parts_miscounted(list: &LiteralList, ty: &Ty) -> bool
     ensures { result ≡ is_miscounted (parts (literals_in list.now)) (type_of ty.now) }
 {
-    let literals = list.literals.as_slice();
     match ty {
         Ty::Array(length, element) => {
-            literals.len() != *length as usize || any_miscounted(literals, element)
+            literal_count(&list.literals) != *length as usize
+                || any_miscounted(&list.literals, element)
         }
-        Ty::Struct(list) => {
-            literals.len() != list.fields.len() || are_miscounted(literals, &list.fields)
+        Ty::Struct(fields) => {
+            literal_count(&list.literals) != field_count(&fields.fields)
+                || are_miscounted(&list.literals, &fields.fields)
         }
         Ty::Int(_) | Ty::Clock => false,
     }
+}
+
+/// How many constants there are.
+fn literal_count(literals: &[Literal]) -> usize
+    ensures { result ≡ literal_count (literals_of (map literal_of literals.now)) }
+{
+    literals.len()
 }
 
 #[cycle(is_miscounted)]

@@ -4,8 +4,6 @@ ghost use Rattle.std.specs.Option.{option_map};
 ghost use Rattle.std.specs.List.{list_any};
 ghost use Rattle.hw_model.specs.TypeViews.{type_of};
 ghost use Rattle.hw_model.specs.KindViews.{kind_of, reset_of, literals_in};
-ghost use Rattle.ir_store.specs.ResultTypes.{fields_of as fields_in};
-ghost use Rattle.op_verifier.specs.TypeLists.{differ};
 ghost use Rattle.op_verifier.specs.OperandChecks.{is_no_array_of, has_other_array, has_other_form, enable_differs, reset_differs, register_differs, parts_differ, has_other_operand};
 
 use crate::literal_checks::{LeafTest, any_failing_leaf, parts_differ as list_differs};
@@ -13,7 +11,7 @@ use crate::type_lists::{
     any_differs, any_other_than_int, differ_from_fields, differ_from_types, differ_in_three,
     differ_in_two, differs, is_no_array, is_no_int, is_no_struct, settled_at,
 };
-use crate::type_parts::{element_of, field_of};
+use crate::type_parts::{element_of, field_of, fields_in};
 use hw_model::kinds::{LiteralList, OpKind, Reset};
 use hw_model::types::Ty;
 
@@ -89,7 +87,7 @@ pub(crate) fn has_other_operand(kind: &OpKind, types: &[Ty], operands: &[Option<
             differs(settled_at(operands, 0), first) || is_no_int(settled_at(operands, 1))
         }
         OpKind::ArrayInject => differ_in_three(operands, first, types.get(1), element_of(first)),
-        OpKind::StructCreate => differ_from_struct(operands, first),
+        OpKind::StructCreate => differ_from_fields(operands, fields_in(first)),
         OpKind::StructInject(name) => differ_in_two(operands, first, field_of(first, name)),
         OpKind::CompReg(reset) | OpKind::FirReg(reset) => {
             register_differs(false, *reset, first, operands)
@@ -106,16 +104,6 @@ fn parts_differ(list: &LiteralList, ty: Option<&Ty>) -> bool
     match ty {
         Some(ty) => list_differs(list, ty),
         None => false,
-    }
-}
-
-/// Whether operands and the fields of a struct differ in type.
-fn differ_from_struct(operands: &[Option<&Ty>], ty: Option<&Ty>) -> bool
-    ensures { result ≡ differ (map (option_map (λ t. type_of t.now)) operands.now) (fields_in (option_map (λ t. type_of t.now) ty.entry)) }
-{
-    match ty {
-        Some(Ty::Struct(list)) => differ_from_fields(operands, &list.fields),
-        Some(Ty::Clock | Ty::Int(_) | Ty::Array(..)) | None => false,
     }
 }
 

@@ -23,7 +23,7 @@ use ir_store::body::Op;
 /// The lowest cause of those that the operation has by itself, from a mismatch of types to a wrong number of values.
 /// `operands` has the types of its operands: None for one that is not settled, which is compared with nothing.
 /// `divides_by_constant` says whether its divisor is the result of a nonzero `hw.constant`.
-#[tactic(auto, unfolding(crate::specs::OwnChecks::own_cause))]
+#[tactic(auto, unfolding(crate::specs::OwnChecks::own_cause), using(crate::proofs::Lists::result_types_seen, crate::proofs::Widths::types_within))]
 pub(crate) fn own_cause(
     op: &Op<'_>,
     operands: &[Option<&Ty>],
@@ -74,6 +74,7 @@ pub(crate) fn own_cause(
 }
 
 /// Whether the types of an operation do not match.
+#[tactic(auto, unfolding(crate::specs::OperandChecks::has_mismatch))]
 fn has_mismatch(op: &Op<'_>, operands: &[Option<&Ty>]) -> bool
     ensures { result ≡ has_mismatch (kind_of op.now.kind.now) (types_in op.now.types.now) (result_types_in op.now.results.now) (map (option_map (λ t. type_of t.now)) operands.now) }
 {
@@ -89,6 +90,7 @@ fn has_mismatch(op: &Op<'_>, operands: &[Option<&Ty>]) -> bool
 }
 
 /// Whether an operation has a wrong number of values.
+#[tactic(auto, unfolding(crate::specs::CountChecks::has_wrong_count), using(crate::proofs::Lists::result_types_seen))]
 fn has_wrong_count(op: &Op<'_>, operands: &[Option<&Ty>]) -> bool
     ensures { result ≡ has_wrong_count (kind_of op.now.kind.now) (types_in op.now.types.now) (result_types_in op.now.results.now) op.now.named (map (option_map (λ t. type_of t.now)) operands.now) }
 {

@@ -3,19 +3,19 @@ ghost use Rattle.std.specs.Prelude.{◌≡◌, ◌∷◌, [], map, drop, length,
 ghost use Rattle.std.specs.Option.{option_map};
 ghost use Rattle.hw_model.specs.TypeViews.{type_of};
 ghost use Rattle.hw_model.specs.KindViews.{kind_of};
-ghost use Rattle.ir_store.specs.ResultTypes.{result_type, result_types, as_int, array_of, fields_of as fields_in, kept_size};
+ghost use Rattle.ir_store.specs.ResultTypes.{result_type, result_types, as_int, array_of, kept_size};
 ghost use Rattle.op_verifier.specs.TypeLists.{settled, differs, differ};
 ghost use Rattle.op_verifier.specs.OperandChecks.{has_other_result};
 
 use crate::type_lists::{differs, results_differ_from_fields, results_differ_from_types};
-use crate::type_parts::{element_of, field_of, joined_length, joined_width, kept_size};
+use crate::type_parts::{element_of, field_of, fields_in, joined_length, joined_width, kept_size};
 use hw_model::kinds::OpKind;
 use hw_model::types::Ty;
 use ir_store::operation::NewResult;
 
 /// Whether a result has another type than the operation gives it, where it gives one. `operands` says how many operands
 /// the operation has.
-#[tactic(auto, unfolding(ir_store::specs::ResultTypes::result_types), using(crate::proofs::Lists::none_differ))]
+#[tactic(auto, unfolding(ir_store::specs::ResultTypes::result_types, crate::specs::OperandChecks::has_other_result), using(crate::proofs::Lists::none_differ))]
 pub(crate) fn has_other_result(
     kind: &OpKind,
     types: &[Ty],
@@ -26,12 +26,19 @@ pub(crate) fn has_other_result(
 {
     match kind {
         OpKind::Output => false,
-        OpKind::StructExplode => differ_from_struct(results, types.first()),
+        OpKind::StructExplode => results_differ_from_fields(results, fields_in(types.first())),
         OpKind::Instance(instance) => differ_behind(results, types, instance.inputs.len()),
-        _ => match results.first() {
-            Some(first) => has_other_type(kind, types, &first.ty, operands),
-            None => false,
-        },
+        _ => single_differs(kind, types, results, operands),
+    }
+}
+
+/// Whether the first result of an operation that has one has another type than it gives.
+fn single_differs(kind: &OpKind, types: &[Ty], results: &[NewResult], operands: usize) -> bool
+    ensures { result ≡ differ (settled (map (λ r. type_of r.ty) results.now)) (result_type (kind_of kind.now) (map type_of types.now) operands ∷ []) }
+{
+    match results.first() {
+        Some(first) => has_other_type(kind, types, &first.ty, operands),
+        None => false,
     }
 }
 
@@ -77,16 +84,6 @@ fn is_no_array_of(own: &Ty, length: Option<u32>, element: Option<&Ty>) -> bool
             Ty::Int(_) | Ty::Clock | Ty::Struct(_) => true,
         },
         (None, _) | (_, None) => false,
-    }
-}
-
-/// Whether results and the fields of a struct differ in type.
-fn differ_from_struct(results: &[NewResult], ty: Option<&Ty>) -> bool
-    ensures { result ≡ differ (settled (map (λ r. type_of r.ty) results.now)) (fields_in (option_map (λ t. type_of t.now) ty.entry)) }
-{
-    match ty {
-        Some(Ty::Struct(list)) => results_differ_from_fields(results, &list.fields),
-        Some(Ty::Clock | Ty::Int(_) | Ty::Array(..)) | None => false,
     }
 }
 

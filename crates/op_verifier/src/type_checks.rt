@@ -1,7 +1,7 @@
 //! Tests of one type: the limits on widths and leaves, names of fields, clocks.
 ghost use Rattle.std.specs.Prelude.{◌≡◌, map};
 ghost use Rattle.hw_model.specs.TypeViews.{type_of, field_of, fields_of};
-ghost use Rattle.op_verifier.specs.TypeChecks.{has_bad_part, has_bad_part_among, is_outside, has_name, has_bad_field, has_bad_field_among, is_clock, has_clock, has_clock_among, has_clock_part, is_int};
+ghost use Rattle.op_verifier.specs.TypeChecks.{is_without_fields, has_bad_part, has_bad_part_among, is_outside, has_name, has_name_twice, has_bad_field, has_bad_field_among, is_clock, has_clock, has_clock_among, has_clock_part, is_int};
 
 use hw_model::types::{Field, Ty};
 use io_edge::byte_text::Text;
@@ -33,7 +33,7 @@ fn has_bad_part(ty: &Ty) -> bool
         Ty::Int(width) => *width == 0 || *width > MOST_INTEGER_BITS,
         Ty::Clock => false,
         Ty::Array(length, element) => *length == 0 || has_bad_part(element),
-        Ty::Struct(list) => list.fields.is_empty() || has_bad_part_among(&list.fields),
+        Ty::Struct(list) => is_without_fields(&list.fields) || has_bad_part_among(&list.fields),
     }
 }
 
@@ -49,6 +49,13 @@ fn has_bad_part_among(fields: &[Field]) -> bool
     false
 }
 
+/// Whether there are no fields.
+fn is_without_fields(fields: &[Field]) -> bool
+    ensures { result ≡ is_without_fields (fields_of (map field_of fields.now)) }
+{
+    fields.is_empty()
+}
+
 /// Whether the type or a type within it is a struct that has a name of a field twice. It takes the square of the number of
 /// fields: a caller asks [`is_outside`] first, which leaves at most 1,024.
 #[cycle(bad_field)]
@@ -58,7 +65,7 @@ pub(crate) fn has_bad_field(ty: &Ty) -> bool
     match ty {
         Ty::Int(_) | Ty::Clock => false,
         Ty::Array(_, element) => has_bad_field(element),
-        Ty::Struct(list) => has_bad_field_among(&list.fields),
+        Ty::Struct(list) => has_name_twice(&list.fields) || has_bad_field_among(&list.fields),
     }
 }
 
@@ -66,9 +73,21 @@ pub(crate) fn has_bad_field(ty: &Ty) -> bool
 fn has_bad_field_among(fields: &[Field]) -> bool
     ensures { result ≡ has_bad_field_among (fields_of (map field_of fields.now)) }
 {
+    for field in fields {
+        if has_bad_field(&field.ty) {
+            return true;
+        }
+    }
+    false
+}
+
+/// Whether two fields have one name.
+fn has_name_twice(fields: &[Field]) -> bool
+    ensures { result ≡ has_name_twice (fields_of (map field_of fields.now)) }
+{
     let mut rest = fields;
     while let Some((first, others)) = rest.split_first() {
-        if has_name(&first.name, others) || has_bad_field(&first.ty) {
+        if has_name(&first.name, others) {
             return true;
         }
         rest = others;

@@ -5,7 +5,7 @@ ghost use Rattle.std.specs.Option.{option_map};
 ghost use Rattle.hw_model.specs.TypeViews.{type_of, field_of, fields_of};
 ghost use Rattle.hw_model.specs.Sound.{field_list};
 ghost use Rattle.op_verifier.specs.TypeChecks.{is_outside, has_bad_field, has_clock_part, is_clock, is_int};
-ghost use Rattle.op_verifier.specs.TypeLists.{settled, is_no_int, is_no_array, is_no_struct, differs, any_differs, differ, settled_at, differ_in_two, differ_in_three};
+ghost use Rattle.op_verifier.specs.TypeLists.{settled, is_no_int, is_no_array, is_no_struct, int_width, array_length, differs, any_differs, differ, settled_at, differ_in_two, differ_in_three};
 
 use crate::type_checks::{has_bad_field, has_clock_part, is_clock, is_int, is_outside};
 use hw_model::types::{Field, Ty};
@@ -98,6 +98,26 @@ pub(crate) fn is_no_struct(ty: Option<&Ty>) -> bool
     match ty {
         Some(Ty::Struct(_)) | None => false,
         Some(Ty::Clock | Ty::Int(_) | Ty::Array(..)) => true,
+    }
+}
+
+/// The width of an integer's type.
+pub(crate) fn int_width(ty: Option<&Ty>) -> Option<u32>
+    ensures { result ≡ int_width (option_map (λ t. type_of t.now) ty.entry) }
+{
+    match ty {
+        Some(Ty::Int(width)) => Some(*width),
+        Some(Ty::Clock | Ty::Array(..) | Ty::Struct(_)) | None => None,
+    }
+}
+
+/// The length of an array's type.
+pub(crate) fn array_length(ty: Option<&Ty>) -> Option<u32>
+    ensures { result ≡ array_length (option_map (λ t. type_of t.now) ty.entry) }
+{
+    match ty {
+        Some(Ty::Array(length, _)) => Some(*length),
+        Some(Ty::Clock | Ty::Int(_) | Ty::Struct(_)) | None => None,
     }
 }
 

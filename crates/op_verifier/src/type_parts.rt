@@ -1,9 +1,9 @@
 //! Parts of types, and what types come to together.
-ghost use Rattle.std.specs.Prelude.{◌≡◌, map, Some};
+ghost use Rattle.std.specs.Prelude.{◌≡◌, map, length, Some};
 ghost use Rattle.std.specs.Option.{option_map};
 ghost use Rattle.hw_model.specs.TypeViews.{type_of, field_of, fields_of};
-ghost use Rattle.hw_model.specs.Sound.{field_type};
-ghost use Rattle.ir_store.specs.ResultTypes.{joined_width, joined_length, element_of, field_of as field_in, kept_size};
+ghost use Rattle.hw_model.specs.Sound.{field_type, field_list};
+ghost use Rattle.ir_store.specs.ResultTypes.{joined_width, joined_length, element_of, field_of as field_in, fields_of as fields_in, kept_size};
 
 use hw_model::types::{Field, Ty};
 use io_edge::byte_text::Text;
@@ -61,6 +61,23 @@ pub(crate) fn field_of<'t>(ty: Option<&'t Ty>, name: &Text) -> Option<&'t Ty>
         Some(Ty::Struct(list)) => field_among(&list.fields, name),
         Some(Ty::Clock | Ty::Int(_) | Ty::Array(..)) | None => None,
     }
+}
+
+/// The fields of a struct; of what is no struct none.
+pub(crate) fn fields_in<'t>(ty: Option<&'t Ty>) -> &'t [Field]
+    ensures { map Some (field_list (fields_of (map field_of result.now))) ≡ fields_in (option_map (λ t. type_of t.now) ty.entry) }
+{
+    match ty {
+        Some(Ty::Struct(list)) => &list.fields,
+        Some(Ty::Clock | Ty::Int(_) | Ty::Array(..)) | None => &[],
+    }
+}
+
+/// How many fields there are.
+pub(crate) fn field_count(fields: &[Field]) -> usize
+    ensures { result ≡ length (field_list (fields_of (map field_of fields.now))) }
+{
+    fields.len()
 }
 
 /// The type of the first field of a name.
