@@ -5,6 +5,7 @@ pub mod Lists
 pub mod Mismatch
 pub mod Names
 pub mod Positions
+pub mod Settled
 pub mod SoundDesigns
 pub mod Symbols
 pub mod Unrefused

@@ -6,6 +6,7 @@ mod count_checks;
 mod entries;
 mod faults;
 mod headers;
+mod laws;
 mod limit_checks;
 mod literal_checks;
 mod operand_checks;
@@ -19,3 +20,6 @@ mod type_checks;
 mod type_lists;
 mod type_parts;
 mod values;
+
+pub use faults::first_fault;
+pub use laws::results_are_settled;

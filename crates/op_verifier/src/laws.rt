@@ -1,0 +1,13 @@
+//! The laws on designs of which nothing is refused, each a clause of a function that does nothing.
+ghost use Rattle.std.specs.Prelude.{◌≡◌, ℕ, Bool, List, Option, None, length};
+ghost use Rattle.hw_model.specs.Types.{HwType};
+ghost use Rattle.hw_model.specs.Kinds.{Kind};
+ghost use Rattle.ir_store.specs.ResultTypes.{result_types};
+ghost use Rattle.op_verifier.specs.TypeLists.{settled};
+ghost use Rattle.op_verifier.specs.OwnChecks.{own_cause};
+
+/// Does nothing. Its clause says that an operation that is not refused by itself has results of the types that it settles.
+pub fn results_are_settled()
+    ensures { (kind : Kind) (ts rs : List HwType) (named : ℕ) (xs : List (Option HwType)) (is_known : Bool)
+        → own_cause kind ts rs named xs is_known ≡ None → result_types kind ts (length xs) ≡ settled rs }
+{}
