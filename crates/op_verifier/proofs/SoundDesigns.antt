@@ -186,12 +186,12 @@ instance_fits laws d ports os all o h i is = go (find_module d i.symbol) refl ca
 
     results : drop (length i.inputs) o.types ≡ types_of o.results
     results = known_from (drop (length i.inputs) o.types) (types_of o.results)
-      (ap (λ (k : Kind). result_types k o.types (length (known x.us))) (sym kind)
-      ∙ laws.settles o.kind o.types (types_of o.results) o.named (known x.us) (divides_by_constant os o.operands) x.none)
+        (ap (λ (k : Kind). result_types k o.types (length (known x.us))) (sym kind)
+        ∙ laws.settles o.kind o.types (types_of o.results) o.named (known x.us) (divides_by_constant os o.operands) x.none)
 
     operands : x.us ≡ take (length i.inputs) o.types
     operands = laws.inputs i o.types (types_of o.results) o.named x.us (divides_by_constant os o.operands)
-      (ap (λ (k : Kind). own_cause k o.types (types_of o.results) o.named (known x.us) (divides_by_constant os o.operands)) (sym kind) ∙ x.none)
+        (ap (λ (k : Kind). own_cause k o.types (types_of o.results) o.named (known x.us) (divides_by_constant os o.operands)) (sym kind) ∙ x.none)
 
     go : (m : Option Module) → find_module d i.symbol ≡ m → call_cause i o.types m ≡ None
         → (c : Module) × (find_module d i.symbol ≡ Some c) × (map (type_in ports os) o.operands ≡ known (input_types c.ports)) × (types_of o.results ≡ output_types c.ports)
@@ -231,9 +231,9 @@ outputs_fit laws d ports os all there =
     let a = or_none (when (has_other_outputs ports o) OutputMismatch) _ outer.1 in
     let others : has_other_outputs ports o ≡ false = when_none (has_other_outputs ports o) OutputMismatch a.0 in
     let types : o.types ≡ output_types ports = same_types o.types (output_types ports)
-      (not_false (pointwise same_type o.types (output_types ports)) (ap (λ (b : Bool). b && not (pointwise same_type o.types (output_types ports))) (sym got.3) ∙ others)) in
+    (not_false (pointwise same_type o.types (output_types ports)) (ap (λ (b : Bool). b && not (pointwise same_type o.types (output_types ports))) (sym got.3) ∙ others)) in
     let operands : x.us ≡ o.types = laws.outputs o.types (types_of o.results) o.named x.us (divides_by_constant os o.operands)
-      (ap (λ (k : Kind). own_cause k o.types (types_of o.results) o.named (known x.us) (divides_by_constant os o.operands)) (sym kind) ∙ x.none) in
+    (ap (λ (k : Kind). own_cause k o.types (types_of o.results) o.named (known x.us) (divides_by_constant os o.operands)) (sym kind) ∙ x.none) in
     ap (map (type_in ports os)) got.4 ∙ x.operands ∙ ap known (operands ∙ types)
 
 -- ---- designs

@@ -4,6 +4,8 @@
 mod body_view;
 mod count_checks;
 mod entries;
+#[cfg(test)]
+mod fault_tests;
 mod faults;
 mod headers;
 mod laws;
