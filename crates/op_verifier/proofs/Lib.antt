@@ -1,6 +1,8 @@
 -- Lemmas.
 pub mod Agreeing
+pub mod FitArrays
 pub mod FitIntegers
+pub mod FitStructs
 pub mod Fitting
 pub mod Lists
 pub mod Mismatch
