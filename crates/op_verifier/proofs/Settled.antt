@@ -16,20 +16,10 @@ use Rattle.op_verifier.specs.OperandChecks.{is_no_array_of, has_other_array, has
 use Rattle.op_verifier.specs.LimitChecks.{has_type_outside, has_constant_outside, has_extract_outside, has_broken_copy, has_wide_concat, has_unknown_divisor, has_wrong_index, has_unknown_field, has_wrong_field, has_unequal_widths, has_clock_value}
 use Rattle.op_verifier.specs.CountChecks.{operand_count, type_count, has_wrong_operands, has_wrong_results, has_miscounted_parts, has_wrong_count}
 use Rattle.op_verifier.specs.OwnChecks.{caused, own_cause}
+use Rattle.op_verifier.proofs.Widths.{neither}
+use Rattle.op_verifier.proofs.Agreeing.{not_false, same_number, pairwise_agreed}
 
 -- ---- what no cause says
-
-neither : (p q : Bool) → (p || q) ≡ false → (p ≡ false) × (q ≡ false)
-neither false false h = (refl, refl)
-neither false true h = cc
-neither true q h = cc
-
-not_false : (b : Bool) → not b ≡ false → b ≡ true
-not_false true h = refl
-not_false false h = cc
-
-same_number : (m n : ℕ) → not (nat_eq m n) ≡ false → m ≡ n
-same_number m n h = eqb-true m n (not_false (nat_eq m n) h)
 
 uncaused : (b : Bool) (c : Cause) (rest : Option Cause) → caused b c rest ≡ None → (b ≡ false) × (rest ≡ None)
 uncaused false c rest h = (refl, h)
@@ -204,23 +194,13 @@ settles_all (instance i) ts n form field operands types =
     record { us = drop (length i.inputs) ts; same = refl; number = length-drop (length i.inputs) ts }
 settles_all output ts n form field operands types = record { us = []; same = refl; number = refl }
 
--- lists of types that differ nowhere
-same_lists : (ts us : List HwType) → length ts ≡ length us → differ (settled ts) (settled us) ≡ false → ts ≡ us
-same_lists [] [] n h = refl
-same_lists [] (u ∷ us) n h = absurd (omega arith)
-same_lists (t ∷ ts) [] n h = absurd (omega arith)
-same_lists (t ∷ ts) (u ∷ us) n h =
-    let p = neither (differs (Some t) (Some u)) (differ (settled ts) (settled us)) h in
-    let e : t ≡ u = type_from t u (not_false (same_type t u) p.0) in
-    let f : ts ≡ us = same_lists ts us (omega arith) p.1 in cc
-
 -- an operation that is not refused by itself has results of the types that it settles
 pub settles : (kind : Kind) (ts rs : List HwType) (named : ℕ) (xs : List (Option HwType)) (b : Bool) → own_cause kind ts rs named xs b ≡ None
     → result_types kind ts (length xs) ≡ settled rs
 settles kind ts rs named xs b h =
     let a = accepted kind ts rs named xs b h in
     let s = settles_all kind ts (length xs) a.form a.field a.operands a.types in
-    s.same ∙ ap settled (sym (same_lists rs s.us (a.results ∙ sym s.number) (ap (differ (settled rs)) (sym s.same) ∙ a.result)))
+    s.same ∙ ap settled (sym (pairwise_agreed rs s.us (a.results ∙ sym s.number) (ap (differ (settled rs)) (sym s.same) ∙ a.result)))
 
 -- the first of some types, which differ nowhere from others
 first_types : (us ts : List HwType) → length us ≤ length ts → differ (settled us) (settled ts) ≡ false → us ≡ take (length us) ts
@@ -248,4 +228,4 @@ unfolding has_other_operand operand_count type_count
 output_operands ts rs named us b h =
     let a = accepted output ts rs named (settled us) b h in
     let n : length (settled us) ≡ length us = length-map us (λ (t : HwType). Some t) in
-    same_lists us ts (sym n ∙ a.operands) a.operand
+    pairwise_agreed us ts (sym n ∙ a.operands) a.operand

@@ -2,12 +2,20 @@
 ghost use Rattle.std.specs.Prelude.{◌≡◌, ℕ, Bool, List, Option, None, length};
 ghost use Rattle.hw_model.specs.Types.{HwType};
 ghost use Rattle.hw_model.specs.Kinds.{Kind};
+ghost use Rattle.hw_model.specs.Design.{Design};
+ghost use Rattle.hw_model.specs.Sound.{Sound};
 ghost use Rattle.ir_store.specs.ResultTypes.{result_types};
 ghost use Rattle.op_verifier.specs.TypeLists.{settled};
 ghost use Rattle.op_verifier.specs.OwnChecks.{own_cause};
+ghost use Rattle.op_verifier.specs.Faults.{first_fault};
 
 /// Does nothing. Its clause says that an operation that is not refused by itself has results of the types that it settles.
 pub fn results_are_settled()
     ensures { (kind : Kind) (ts rs : List HwType) (named : ℕ) (xs : List (Option HwType)) (is_known : Bool)
         → own_cause kind ts rs named xs is_known ≡ None → result_types kind ts (length xs) ≡ settled rs }
+{}
+
+/// Does nothing. Its clause says that a design of which no header and no operation is refused is sound.
+pub fn unrefused_designs_are_sound()
+    ensures { (d : Design) → first_fault d ≡ None → Sound d }
 {}

@@ -15,6 +15,7 @@ mod operand_checks;
 mod operations;
 mod outer_checks;
 mod own_checks;
+mod own_laws;
 #[cfg(test)]
 mod own_tests;
 mod result_checks;
@@ -24,4 +25,5 @@ mod type_parts;
 mod values;
 
 pub use faults::first_fault;
-pub use laws::results_are_settled;
+pub use laws::{results_are_settled, unrefused_designs_are_sound};
+pub use own_laws::operations_fit;
