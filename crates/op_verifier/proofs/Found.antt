@@ -13,7 +13,7 @@ use Rattle.ir_store.specs.Numbered.{op_by, ref_by}
 use Rattle.ir_store.specs.OperationViews.{result_of}
 use Rattle.op_verifier.specs.declared.entries.Entry.{Entry}
 use Rattle.op_verifier.specs.Entries.{op_in, types_beside, settled_for, AreSettled}
-use Rattle.op_verifier.specs.OpChecks.{settled_type, is_nonzero_kind, is_nonzero_ref}
+use Rattle.op_verifier.specs.OpChecks.{settled_type, is_nonzero_kind, is_nonzero_op}
 
 pub copied_some : {A : Type 0} (r : Option (Bor A)) (o : Option A) (b : Bor A) → option_copied r ≡ o → r ≡ Some b → o ≡ Some b.now
 copied_some r o b e is = sym e ∙ ap option_copied is
@@ -71,10 +71,10 @@ pub settled_gone : (ports : List Port) (p : ℕ → ℕ) (es : List Entry) (i k 
     → settled_type ports (map (op_by p) (map op_in es)) (result i k) ≡ None
 settled_gone ports p es i k found = rw (op_there p es i None found) refl
 
-pub nonzero_there : (p : ℕ → ℕ) (es : List Entry) (i k : ℕ) (e : Entry) → slice_get es i ≡ Some e
-    → is_nonzero_ref (map (op_by p) (map op_in es)) (Some (result i k)) ≡ is_nonzero_kind (kind_of e.op.kind.now)
-nonzero_there p es i k e found = rw (op_there p es i (Some e) found) refl
+pub nonzero_there : (p : ℕ → ℕ) (es : List Entry) (i : ℕ) (e : Entry) → slice_get es i ≡ Some e
+    → is_nonzero_op (slice_get (map (op_by p) (map op_in es)) i) ≡ is_nonzero_kind (kind_of e.op.kind.now)
+nonzero_there p es i e found = ap is_nonzero_op (op_there p es i (Some e) found)
 
-pub nonzero_gone : (p : ℕ → ℕ) (es : List Entry) (i k : ℕ) → slice_get es i ≡ None
-    → is_nonzero_ref (map (op_by p) (map op_in es)) (Some (result i k)) ≡ false
-nonzero_gone p es i k found = rw (op_there p es i None found) refl
+pub nonzero_gone : (p : ℕ → ℕ) (es : List Entry) (i : ℕ) → slice_get es i ≡ None
+    → is_nonzero_op (slice_get (map (op_by p) (map op_in es)) i) ≡ false
+nonzero_gone p es i found = ap is_nonzero_op (op_there p es i None found)

@@ -1,5 +1,6 @@
 -- Lemmas.
 pub mod Agreeing
+pub mod Distinct
 pub mod FaultSteps
 pub mod FitArrays
 pub mod FitIntegers

@@ -55,7 +55,7 @@ is_nonzero_op (Some o) = is_nonzero_kind o.kind
 
 -- whether an operand is the result of such a constant
 abbrev pub is_nonzero_ref : List Op → Option Ref → Bool
-is_nonzero_ref os (Some (result j k)) = is_nonzero_op (slice_get os j)
+is_nonzero_ref os (Some (result j k)) = nat_eq k 0 && is_nonzero_op (slice_get os j)
 is_nonzero_ref os _ = false
 
 -- whether an operation's second operand is one

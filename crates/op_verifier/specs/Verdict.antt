@@ -1,5 +1,5 @@
 -- The verdict on a design: its first refusal, in the order that is stated, or none.
-use Rattle.std.specs.Prelude.{◌≡◌, ℕ, ◌<◌, ◌^◌, ◌⊎◌, [], Option, Some, None, slice_get}
+use Rattle.std.specs.Prelude.{◌≡◌, Bool, false, is_some, ℕ, ◌<◌, ◌^◌, ◌⊎◌, [], Option, Some, None, slice_get}
 use Rattle.diag.specs.declared.cause.Cause.TheVariants.{RecursiveInstance, TooLarge, CombinationalCycle}
 use Rattle.diag.specs.declared.refusal.Refusal.{Refusal}
 use Rattle.wiring.specs.Wiring.{Depends as IsReached}
@@ -58,29 +58,24 @@ IsOnCycle d m j o = (k : ℕ) × Depends d m.symbol (net [] (result j k)) (net [
 
 -- ---- the verdict
 
--- a refusal by the design as a whole: the first recursive instance; else the first module that is too large; else the first
--- operation on a cycle
-pub data IsWholeRefusal (d : Design) : Refusal → Type 0 where
-  recursive : (n j : ℕ) (m : Module) (o : Op) → FirstOp d (IsRecursive d) n j m o → IsWholeRefusal d (op_refusal o RecursiveInstance)
-  too_large : (n : ℕ) (m : Module) → NoOp d (IsRecursive d) → FirstModule d (IsTooLarge d) n m → IsWholeRefusal d (header_refusal m TooLarge)
-  cyclic : (n j : ℕ) (m : Module) (o : Op) → NoOp d (IsRecursive d) → NoModule d (IsTooLarge d) → FirstOp d (IsOnCycle d) n j m o → IsWholeRefusal d (op_refusal o CombinationalCycle)
-
--- nothing is refused by the design as a whole
-pub record IsWholeSound (d : Design) : Type 0 where
+-- nothing is refused: no header and no operation, no instance that is recursive, no module that is too large, no operation
+-- on a cycle
+pub record IsAccepted (d : Design) : Type 0 where
+  pub unrefused : is_some (first_fault d) ≡ false
   pub no_recursion : NoOp d (IsRecursive d)
   pub light : NoModule d (IsTooLarge d)
   pub no_cycle : NoOp d (IsOnCycle d)
 
--- what is answered where no header and no operation is refused
-abbrev pub IsWholeVerdict : Design → Option Refusal → Type 0
-IsWholeVerdict d None = IsWholeSound d
-IsWholeVerdict d (Some r) = IsWholeRefusal d r
-
--- the verdict by the first fault, which comes before all that looks at the design as a whole
-abbrev pub IsVerdictBehind : Design → Option Refusal → Option Refusal → Type 0
-IsVerdictBehind d (Some fault) verdict = verdict ≡ Some fault
-IsVerdictBehind d None verdict = IsWholeVerdict d verdict
+-- the first refusal: of a header or an operation; else of the first recursive instance; else of the first module that is
+-- too large; else of the first operation on a cycle
+pub data IsRefusal (d : Design) : Refusal → Type 0 where
+  unfit : (r : Refusal) → first_fault d ≡ Some r → IsRefusal d r
+  recursive : (n j : ℕ) (m : Module) (o : Op) → first_fault d ≡ None → FirstOp d (IsRecursive d) n j m o → IsRefusal d (op_refusal o RecursiveInstance)
+  too_large : (n : ℕ) (m : Module) → first_fault d ≡ None → NoOp d (IsRecursive d) → FirstModule d (IsTooLarge d) n m → IsRefusal d (header_refusal m TooLarge)
+  cyclic : (n j : ℕ) (m : Module) (o : Op) → first_fault d ≡ None → NoOp d (IsRecursive d) → NoModule d (IsTooLarge d) → FirstOp d (IsOnCycle d) n j m o
+      → IsRefusal d (op_refusal o CombinationalCycle)
 
 -- the first refusal of a design, or none: then it is accepted
 abbrev pub IsVerdict : Design → Option Refusal → Type 0
-IsVerdict d verdict = IsVerdictBehind d (first_fault d) verdict
+IsVerdict d None = IsAccepted d
+IsVerdict d (Some r) = IsRefusal d r

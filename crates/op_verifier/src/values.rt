@@ -5,7 +5,7 @@ ghost use Rattle.hw_model.specs.KindViews.{kind_of, integer_of};
 ghost use Rattle.hw_model.specs.Sound.{input_type, type_in};
 ghost use Rattle.ir_store.specs.Designs.{port_of};
 ghost use Rattle.op_verifier.specs.Entries.{AreSettled};
-ghost use Rattle.op_verifier.specs.OpChecks.{has_undefined, settled_type, is_nonzero, is_nonzero_kind, is_nonzero_ref, divides_by_constant};
+ghost use Rattle.op_verifier.specs.OpChecks.{has_undefined, settled_type, is_nonzero, is_nonzero_kind, is_nonzero_op, is_nonzero_ref, divides_by_constant};
 
 use crate::body_view::BodyView;
 use crate::entries::Entry;
@@ -103,11 +103,18 @@ impl<'b> BodyView<'b> {
         ensures { result ≡ is_nonzero_ref (body_viewed self.now) (Some (ref_viewed self.now value)) }
     {
         match value {
-            Value::Result(id, _) => match self.find(id) {
-                Some(entry) => is_nonzero_kind(entry.op.kind),
-                None => false,
-            },
+            Value::Result(id, number) => number == 0 && self.is_constant(id),
             Value::Port(_) | Value::Undefined => false,
+        }
+    }
+
+    /// Whether the operation of an id is a constant other than zero.
+    fn is_constant(&self, id: OpId) -> bool
+        ensures { result ≡ is_nonzero_op (slice_get (body_viewed self.now) (position_viewed self.now id.index)) }
+    {
+        match self.find(id) {
+            Some(entry) => is_nonzero_kind(entry.op.kind),
+            None => false,
         }
     }
 }
