@@ -1,10 +1,10 @@
 -- Symbols of modules of which nothing is refused.
-use Rattle.std.proofs.Common.{◌≡◌, ℕ, zero, suc, ◌+◌, ◌<◌, Bool, true, false, cond, is_some, List, [], ◌∷◌, take, slice_get, Option, Some, None, option_map, refl, sym, ap, ◌∙◌, arith, ◌⊎◌, inl, inr}
+use Rattle.std.proofs.Common.{◌≡◌, ℕ, zero, suc, ◌+◌, ◌<◌, Bool, true, false, cond, is_some, List, [], ◌∷◌, take, slice_get, Some, None, option_map, refl, sym, ap, ◌∙◌, arith, ◌⊎◌, inl, inr}
 use Rattle.diag.specs.declared.cause.Cause.TheVariants.{DuplicateSymbol}
 use Rattle.hw_model.specs.Types.{Name}
 use Rattle.hw_model.specs.Design.{Module, Design, same_name, find_module}
 use Rattle.hw_model.specs.Equality.{name_self}
-use Rattle.op_verifier.specs.Answers.{when, or_else}
+use Rattle.op_verifier.specs.Answers.{when}
 use Rattle.op_verifier.specs.Headers.{ports_cause, names_cause, header_cause}
 use Rattle.op_verifier.specs.Faults.{header_refusal, body_fault, module_fault, faults_from, first_fault}
 use Rattle.op_verifier.proofs.Unrefused.{or_none, map_none, when_none}

@@ -1,9 +1,9 @@
 -- The types that an operation settles for its results, where nothing is refused of it by itself: they are those of its results.
-use Rattle.std.proofs.Common.{◌≡◌, ℕ, zero, suc, ◌+◌, ◌-◌, ◌≤◌, max, Bool, true, false, cond, not, ◌||◌, List, [], ◌∷◌, map, take, drop, length, nat_eq, is_none, Option, Some, None, refl, sym, ap, ◌∙◌, arith, eqb-true}
+use Rattle.std.proofs.Common.{◌≡◌, ℕ, ◌+◌, ◌≤◌, max, Bool, true, false, not, List, [], ◌∷◌, take, drop, length, nat_eq, is_none, Option, Some, None, refl, sym, ap, ◌∙◌, arith}
 use Rattle.std.specs.List.{list_any}
 use Rattle.std.proofs.lemmas.List.{length-map, length-drop}
 use Rattle.diag.specs.declared.cause.Cause.{Cause}
-use Rattle.hw_model.specs.Types.{Name, HwType, FieldTypes}
+use Rattle.hw_model.specs.Types.{HwType}
 use Rattle.hw_model.specs.Types.HwType.{int, clock, array, struct}
 use Rattle.hw_model.specs.Kinds.{Kind, Instance}
 use Rattle.hw_model.specs.Kinds.Kind.{add, mul, and, or, xor, sub, divu, modu, divs, mods, shl, shru, shrs, icmp, parity, extract, concat, replicate, mux, constant, aggregate_constant, array_create, array_concat, array_get, array_slice, array_inject, struct_create, struct_extract, struct_inject, struct_explode, bitcast, wire, instance, output, compreg, compreg_ce, firreg}
@@ -14,7 +14,7 @@ use Rattle.op_verifier.specs.TypeChecks.{is_int}
 use Rattle.op_verifier.specs.TypeLists.{settled, is_no_int, is_no_array, differs, differ}
 use Rattle.op_verifier.specs.OperandChecks.{is_no_array_of, has_other_array, has_other_form, has_other_operand, has_other_result, has_mismatch}
 use Rattle.op_verifier.specs.LimitChecks.{has_type_outside, has_constant_outside, has_extract_outside, has_broken_copy, has_wide_concat, has_unknown_divisor, has_wrong_index, has_unknown_field, has_wrong_field, has_unequal_widths, has_clock_value}
-use Rattle.op_verifier.specs.CountChecks.{operand_count, type_count, has_wrong_operands, has_wrong_results, has_miscounted_parts, has_wrong_count}
+use Rattle.op_verifier.specs.CountChecks.{operand_count, type_count, has_wrong_operands, has_wrong_results, has_wrong_count}
 use Rattle.op_verifier.specs.OwnChecks.{caused, own_cause}
 use Rattle.op_verifier.proofs.Widths.{neither}
 use Rattle.op_verifier.proofs.Agreeing.{not_false, same_number, pairwise_agreed}

@@ -1,22 +1,21 @@
 -- A design of which nothing is refused is sound, where what is said of one operation by itself holds.
-use Rattle.std.proofs.Common.{◌≡◌, ℕ, zero, suc, Bool, true, false, cond, not, ◌&&◌, is_some, List, [], ◌∷◌, map, take, drop, length, slice_get, slice_index_or, Option, Some, None, option_map, refl, sym, ap, ◌∙◌, subst}
+use Rattle.std.proofs.Common.{◌≡◌, ℕ, zero, suc, Bool, true, false, cond, not, ◌&&◌, is_some, List, [], ◌∷◌, map, take, drop, length, slice_get, slice_index_or, Option, Some, None, refl, sym, ap, ◌∙◌, subst}
 use Rattle.std.specs.Cmp.Lexicographic.{pointwise}
 use Rattle.std.proofs.lemmas.List.{length-map}
 use Rattle.std.proofs.lemmas.Option.{slice_get-map}
-use Rattle.wiring.specs.Options.{bind, omap}
-use Rattle.diag.specs.declared.cause.Cause.{Cause}
-use Rattle.diag.specs.declared.cause.Cause.TheVariants.{Redefined, Undefined, OutputMismatch, InstancePorts, MissingOutput, DuplicateSymbol, DuplicatePort, UnknownModule}
-use Rattle.hw_model.specs.Types.{Name, HwType}
+use Rattle.wiring.specs.Options.{bind}
+use Rattle.diag.specs.declared.cause.Cause.TheVariants.{Redefined, Undefined, OutputMismatch, InstancePorts, MissingOutput, DuplicateSymbol, DuplicatePort}
+use Rattle.hw_model.specs.Types.{HwType}
 use Rattle.hw_model.specs.Kinds.{Kind, Instance}
 use Rattle.hw_model.specs.Kinds.Kind.{instance, output}
 use Rattle.hw_model.specs.Design.{Ref, Port, OpResult, Op, Module, Design, find_module, instance_in, is_output_op, is_output_kind, result_type, output_refs}
 use Rattle.hw_model.specs.Design.Ref.{port, result, undefined}
-use Rattle.hw_model.specs.Sound.{input_types, output_types, type_in, Fits, OpFits, InstanceFits, SoundBody, Sound}
+use Rattle.hw_model.specs.Sound.{input_types, output_types, type_in, Fits, OpFits, InstanceFits, Sound}
 use Rattle.hw_model.specs.SameType.{same_type, type_from}
 use Rattle.ir_store.specs.ResultTypes.{result_types}
 use Rattle.op_verifier.specs.Answers.{when, or_else}
 use Rattle.op_verifier.specs.OwnChecks.{own_cause}
-use Rattle.op_verifier.specs.OpChecks.{has_again, has_undefined, settled_by, settled_type, divides_by_constant, has_other_outputs, port_types, names_ports, call_cause, instance_cause, value_cause, alone_cause, outer_cause, op_cause}
+use Rattle.op_verifier.specs.OpChecks.{has_again, has_undefined, settled_by, settled_type, divides_by_constant, has_other_outputs, names_ports, call_cause, instance_cause, value_cause, alone_cause, outer_cause}
 use Rattle.op_verifier.specs.Headers.{has_output, has_twice, ports_cause, names_cause}
 use Rattle.op_verifier.specs.Faults.{first_fault}
 use Rattle.op_verifier.proofs.Unrefused.{or_none, when_none, not_false, IsUnrefused, ops_unrefused, IsUnrefusedModule, module_unrefused}

@@ -1,5 +1,5 @@
 -- The verdict on a design: its first refusal, in the order that is stated, or none.
-use Rattle.std.specs.Prelude.{◌≡◌, Bool, false, is_some, ℕ, ◌<◌, ◌^◌, ◌⊎◌, [], Option, Some, None, slice_get}
+use Rattle.std.specs.Prelude.{◌≡◌, false, is_some, ℕ, ◌<◌, ◌^◌, ◌⊎◌, [], Option, Some, None, slice_get}
 use Rattle.diag.specs.declared.cause.Cause.TheVariants.{RecursiveInstance, TooLarge, CombinationalCycle}
 use Rattle.diag.specs.declared.refusal.Refusal.{Refusal}
 use Rattle.wiring.specs.Wiring.{Depends as IsReached}
