@@ -13,4 +13,5 @@ mod result_checks;
 mod type_checks;
 mod type_lists;
 mod type_parts;
+
 pub use own_laws::operations_fit;
