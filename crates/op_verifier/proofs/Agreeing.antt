@@ -1,7 +1,9 @@
 -- What tests that do not hold say of lists of types.
-use Rattle.std.proofs.Common.{◌≡◌, ℕ, zero, suc, Bool, true, false, not, List, [], ◌∷◌, length, refl, ap, ◌∙◌, arith, inl, inr}
-use Rattle.std.specs.Prelude.{Option, Some, slice_get, nat_eq}
+use Rattle.std.proofs.Common.{◌≡◌, ℕ, zero, suc, ◌+◌, ◌*◌, ◌<◌, ◌≤◌, Bool, true, false, not, ◌||◌, List, [], ◌∷◌, map, length, take, refl, sym, ap, ◌∙◌, arith, ◌⊎◌, inl, inr}
+use Rattle.std.specs.Prelude.{Option, Some, None, is_some, slice_get, nat_eq}
+use Rattle.std.specs.List.{list_all}
 use Rattle.std.proofs.lemmas.Bool.{eqb-true}
+use Rattle.wiring.specs.Wiring.{In}
 use Rattle.hw_model.specs.Types.{HwType}
 use Rattle.hw_model.specs.SameType.{same_type, type_from}
 use Rattle.hw_model.specs.Sound.{AllAre}
@@ -60,3 +62,18 @@ single (r ∷ []) u t zero n h e =
     let g : r ≡ t = some_from r t e in cc
 single (r ∷ []) u t (suc k) n h e = cc
 single (r ∷ s ∷ rs) u t k n h e = absurd (omega arith)
+
+-- a list that differs at no place from the beginning of another
+pub prefix_agreed : (us ts : List HwType) → length us ≤ length ts → differ (settled us) (settled ts) ≡ false → us ≡ take (length us) ts
+prefix_agreed [] ts n h = refl
+prefix_agreed (u ∷ us) [] n h = absurd (omega arith)
+prefix_agreed (u ∷ us) (t ∷ ts) n h =
+    let p = neither (differs (Some u) (Some t)) (differ (settled us) (settled ts)) h in
+    let e : u ≡ t = agreed u t p.0 in
+    let f : us ≡ take (length us) ts = prefix_agreed us ts (omega arith) p.1 in cc
+
+-- types that are all settled
+pub settled_from : (xs : List (Option HwType)) → list_all is_some xs ≡ true → (us : List HwType) × (xs ≡ settled us)
+settled_from [] h = ([], refl)
+settled_from (Some u ∷ xs) h = let r = settled_from xs h in (u ∷ r.0, ap (λ (ys : List (Option HwType)). Some u ∷ ys) r.1)
+settled_from (None ∷ xs) h = cc

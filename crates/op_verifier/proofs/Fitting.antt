@@ -1,8 +1,8 @@
 -- Operations without a cause fit.
-use Rattle.std.proofs.Common.{◌≡◌, ℕ, ◌≤◌, max, Bool, false, List, length, arith}
+use Rattle.std.proofs.Common.{◌≡◌, ℕ, ◌+◌, ◌≤◌, max, Bool, false, List, length, take, drop, length-drop, sym, ap, ◌∙◌, arith}
 use Rattle.std.specs.Prelude.{Option, Some, None, slice_get}
 use Rattle.hw_model.specs.Types.{HwType, width}
-use Rattle.hw_model.specs.Kinds.{Kind}
+use Rattle.hw_model.specs.Kinds.{Kind, Instance}
 use Rattle.hw_model.specs.Kinds.Kind.{add, mul, and, or, xor, sub, divu, modu, divs, mods, shl, shru, shrs, icmp, parity, extract, concat, replicate, mux, constant, aggregate_constant, array_create, array_concat, array_get, array_slice, array_inject, struct_create, struct_extract, struct_inject, struct_explode, bitcast, wire, instance, output, compreg, compreg_ce, firreg}
 use Rattle.hw_model.specs.Sound.{Fits}
 use Rattle.ir_store.specs.ResultTypes.{first_type, second_type, result_type, result_types, result_count}
@@ -14,7 +14,7 @@ use Rattle.op_verifier.specs.OwnChecks.{own_cause}
 use Rattle.op_verifier.specs.TypeChecks.{is_outside, has_bad_field}
 use Rattle.std.specs.List.{list_any}
 use Rattle.op_verifier.proofs.Widths.{neither}
-use Rattle.op_verifier.proofs.Agreeing.{same_number}
+use Rattle.op_verifier.proofs.Agreeing.{same_number, pairwise_agreed, prefix_agreed}
 use Rattle.op_verifier.proofs.FitArrays.{creation, joining, element, slicing, injection}
 use Rattle.op_verifier.proofs.NoCause.{NoCause, no_cause}
 use Rattle.op_verifier.proofs.FitStructs.{aggregate, construction, selection, exchange, explosion, plain_register, enabled_register, without_results}
@@ -88,3 +88,27 @@ fits_by (firreg r) ts rs us h k t e = plain_register r ts rs us k t h.types h.op
 pub fits : (kind : Kind) (ts rs : List HwType) (named : ℕ) (us : List HwType) (is_known : Bool) → own_cause kind ts rs named (settled us) is_known ≡ None
     → (k : ℕ) (t : HwType) → slice_get rs k ≡ Some t → Fits kind ts (settled us) t k
 fits kind ts rs named us is_known h = fits_by kind ts rs us (no_cause kind ts rs us named is_known h)
+
+-- an instance's operands and results have its written types
+instance_by : (i : Instance) (ts rs us : List HwType) → NoCause (instance i) ts rs us → (us ≡ take (length i.inputs) ts) × (rs ≡ drop (length i.inputs) ts)
+unfolding has_other_operand operand_count type_count result_types result_count
+instance_by i ts rs us h =
+    let n : length us ≡ length i.inputs = h.operands in
+    let l : length us ≤ length ts = at_most (length us) (length i.inputs) (length i.outputs) (length ts) n h.types in
+    let m : length rs ≡ length (drop (length i.inputs) ts) = h.results ∙ sym (length-drop (length i.inputs) ts) in
+    (prefix_agreed us ts l h.operand ∙ ap (λ (c : ℕ). take c ts) n, pairwise_agreed rs (drop (length i.inputs) ts) m h.result)
+  where
+    at_most : (a b c d : ℕ) → a ≡ b → d ≡ b + c → a ≤ d
+    at_most a b c d e f = omega arith
+
+pub instance_types : (i : Instance) (ts rs : List HwType) (named : ℕ) (us : List HwType) (is_known : Bool)
+    → own_cause (instance i) ts rs named (settled us) is_known ≡ None → (us ≡ take (length i.inputs) ts) × (rs ≡ drop (length i.inputs) ts)
+instance_types i ts rs named us is_known h = instance_by i ts rs us (no_cause (instance i) ts rs us named is_known h)
+
+-- an output's operands have its written types
+output_by : (ts rs us : List HwType) → NoCause output ts rs us → us ≡ ts
+unfolding has_other_operand operand_count
+output_by ts rs us h = pairwise_agreed us ts h.operands h.operand
+
+pub output_types : (ts rs : List HwType) (named : ℕ) (us : List HwType) (is_known : Bool) → own_cause output ts rs named (settled us) is_known ≡ None → us ≡ ts
+output_types ts rs named us is_known h = output_by ts rs us (no_cause output ts rs us named is_known h)

@@ -75,6 +75,18 @@ no_cause kind ts rs us named b h =
     let m = mismatches kind ts rs us p3.0 in
     let n = counts kind ts rs us named p14.0 in
     record {
-      form = m.0; operand = m.1; result = m.2; limit = p4.0; extract = p6.0; copy = p7.0; wide = p8.0; index = p10.0; field = p11.0; widths = p12.0;
-      operands = n.0; types = n.1; results = n.2; parts = n.3
+      form = m.0;
+      operand = m.1;
+      result = m.2;
+      limit = p4.0;
+      extract = p6.0;
+      copy = p7.0;
+      wide = p8.0;
+      index = p10.0;
+      field = p11.0;
+      widths = p12.0;
+      operands = n.0;
+      types = n.1;
+      results = n.2;
+      parts = n.3;
     }

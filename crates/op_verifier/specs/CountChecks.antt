@@ -63,6 +63,7 @@ abbrev pub parts_miscounted : Literals → Option HwType → Bool
 parts_miscounted ls None = false
 parts_miscounted ls (Some t) = is_miscounted (parts ls) t
 
+-- whether an aggregate constant has
 unfoldable pub has_miscounted_parts : Kind → List HwType → Bool
 has_miscounted_parts (aggregate_constant ls) ts = parts_miscounted ls (first_type ts)
 has_miscounted_parts kind ts = false

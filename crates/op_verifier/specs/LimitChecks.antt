@@ -27,7 +27,7 @@ has_outside_array array_create rs = of_type is_outside (first_type rs)
 has_outside_array array_concat rs = of_type is_outside (first_type rs)
 has_outside_array kind rs = false
 
--- the types that leaves write
+-- whether a leaf of an aggregate constant writes a type outside the limits
 abbrev pub has_outside_leaf : Kind → Bool
 has_outside_leaf (aggregate_constant ls) = any_failing_leaf leaf_test.Width ls
 has_outside_leaf kind = false
@@ -46,6 +46,7 @@ has_constant_outside kind ts = false
 abbrev pub reaches_past : ℕ → ℕ → ℕ → Bool
 reaches_past low w v = nat_lt w (low + v)
 
+-- whether an extract reaches past its operand
 unfoldable pub has_extract_outside : Kind → List HwType → Bool
 has_extract_outside (extract low) ts = of_both (reaches_past low) (int_width (first_type ts)) (int_width (second_type ts))
 has_extract_outside kind ts = false
@@ -54,6 +55,7 @@ has_extract_outside kind ts = false
 abbrev pub is_no_multiple : ℕ → ℕ → Bool
 is_no_multiple w v = (w == 0) || ((v == 0) || not (v % w == 0))
 
+-- whether a replicate is no whole number of copies
 unfoldable pub has_broken_copy : Kind → List HwType → Bool
 has_broken_copy replicate ts = of_both is_no_multiple (int_width (first_type ts)) (int_width (second_type ts))
 has_broken_copy kind ts = false
@@ -63,6 +65,7 @@ abbrev pub is_too_wide : Option ℕ → Bool
 is_too_wide None = false
 is_too_wide (Some w) = nat_lt 128 w
 
+-- whether a concat is wider than an integer may be
 unfoldable pub has_wide_concat : Kind → List HwType → Bool
 has_wide_concat concat ts = is_too_wide (joined_width ts)
 has_wide_concat kind ts = false
@@ -110,6 +113,7 @@ abbrev pub are_unequal : Option HwType → Option HwType → Bool
 are_unequal (Some t) (Some u) = not (nat_eq (width t) (width u))
 are_unequal _ _ = false
 
+-- whether a bitcast's types have different widths
 unfoldable pub has_unequal_widths : Kind → List HwType → Bool
 has_unequal_widths bitcast ts = are_unequal (first_type ts) (second_type ts)
 has_unequal_widths kind ts = false

@@ -60,10 +60,12 @@ abbrev mutual
   is_miscounted (parts ls) (struct fs) = not (nat_eq (literal_count ls) (length (field_list fs))) || are_miscounted ls fs
   is_miscounted (parts ls) _ = false
 
+  -- whether one of the parts of an array has
   pub any_miscounted : Literals → HwType → Bool
   any_miscounted no_literals t = false
   any_miscounted (literal l ls) t = is_miscounted l t || any_miscounted ls t
 
+  -- whether one of the parts of a struct has
   pub are_miscounted : Literals → FieldTypes → Bool
   are_miscounted no_literals fs = false
   are_miscounted (literal l ls) no_fields = false
@@ -81,6 +83,7 @@ abbrev mutual
   has_failing_leaf test (leaf z t) = leaf_fails test z t
   has_failing_leaf test (parts ls) = any_failing_leaf test ls
 
+  -- whether one of the leaves of constants does
   pub any_failing_leaf : LeafTest → Literals → Bool
   any_failing_leaf test no_literals = false
   any_failing_leaf test (literal l ls) = has_failing_leaf test l || any_failing_leaf test ls

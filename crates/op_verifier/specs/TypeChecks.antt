@@ -19,6 +19,7 @@ abbrev mutual
   has_bad_part (array n t) = (n == 0) || has_bad_part t
   has_bad_part (struct fs) = is_without_fields fs || has_bad_part_among fs
 
+  -- whether one of the fields is or has one
   pub has_bad_part_among : FieldTypes → Bool
   has_bad_part_among no_fields = false
   has_bad_part_among (field name t fs) = has_bad_part t || has_bad_part_among fs
@@ -46,6 +47,7 @@ abbrev mutual
   has_bad_field (array n t) = has_bad_field t
   has_bad_field (struct fs) = has_name_twice fs || has_bad_field_among fs
 
+  -- whether one of the fields has
   pub has_bad_field_among : FieldTypes → Bool
   has_bad_field_among no_fields = false
   has_bad_field_among (field f t fs) = has_bad_field t || has_bad_field_among fs
@@ -63,6 +65,7 @@ abbrev mutual
   has_clock (array n t) = has_clock t
   has_clock (struct fs) = has_clock_among fs
 
+  -- whether one of the fields is or has one
   pub has_clock_among : FieldTypes → Bool
   has_clock_among no_fields = false
   has_clock_among (field name t fs) = has_clock t || has_clock_among fs

@@ -9,26 +9,29 @@ use Rattle.op_verifier.specs.TypeChecks.{is_int}
 abbrev pub settled : List HwType → List (Option HwType)
 settled ts = map (λ (t : HwType). Some t) ts
 
--- whether a type is there and is no integer, no array, no struct
+-- whether a type is there and is no integer
 abbrev pub is_no_int : Option HwType → Bool
 is_no_int None = false
 is_no_int (Some t) = not (is_int t)
 
+-- whether a type is there and is no array
 abbrev pub is_no_array : Option HwType → Bool
 is_no_array None = false
 is_no_array (Some (array n t)) = false
 is_no_array (Some _) = true
 
+-- whether a type is there and is no struct
 abbrev pub is_no_struct : Option HwType → Bool
 is_no_struct None = false
 is_no_struct (Some (struct fs)) = false
 is_no_struct (Some _) = true
 
--- the width of an integer's type, the length of an array's
+-- the width of an integer's type
 abbrev pub int_width : Option HwType → Option ℕ
 int_width (Some (int w)) = Some w
 int_width _ = None
 
+-- the length of an array's type
 abbrev pub array_length : Option HwType → Option ℕ
 array_length (Some (array n t)) = Some n
 array_length _ = None
@@ -56,9 +59,10 @@ settled_at [] n = None
 settled_at (x ∷ xs) zero = x
 settled_at (x ∷ xs) (suc n) = settled_at xs n
 
--- whether two of the types, or three, differ from what they are to be
+-- whether one of the first two types differs from what it is to be
 abbrev pub differ_in_two : List (Option HwType) → Option HwType → Option HwType → Bool
 differ_in_two xs y z = differs (settled_at xs 0) y || differs (settled_at xs 1) z
 
+-- whether one of the first three does
 abbrev pub differ_in_three : List (Option HwType) → Option HwType → Option HwType → Option HwType → Bool
 differ_in_three xs x y z = differs (settled_at xs 0) x || (differs (settled_at xs 1) y || differs (settled_at xs 2) z)
