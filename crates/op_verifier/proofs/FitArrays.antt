@@ -1,6 +1,6 @@
 -- Operations on arrays without a cause fit.
-use Rattle.std.proofs.Common.{◌≡◌, ℕ, zero, suc, ◌+◌, ◌-◌, ◌*◌, ◌^◌, ◌<◌, ◌≤◌, ◌==◌, min, max, Bool, true, false, not, ◌||◌, List, [], ◌∷◌, map, length, refl, sym, ap, subst, ◌∙◌, arith}
-use Rattle.std.specs.Prelude.{Option, Some, None, slice_get, nat_lt}
+use Rattle.std.proofs.Common.{◌≡◌, ℕ, zero, suc, ◌*◌, ◌≤◌, ◌==◌, false, ◌||◌, List, [], ◌∷◌, map, length, refl, sym, ap, subst, ◌∙◌, arith}
+use Rattle.std.specs.Prelude.{Option, Some, slice_get, nat_lt}
 use Rattle.std.specs.List.{list_any}
 use Rattle.std.proofs.lemmas.Bool.Decides.{nat_tests}
 use Rattle.std.proofs.lemmas.List.{length-map}
@@ -11,12 +11,12 @@ use Rattle.hw_model.specs.Types.FieldTypes.{no_fields, field}
 use Rattle.hw_model.specs.Sound.{AllAre}
 use Rattle.hw_model.specs.Value.{written}
 use Rattle.ir_store.specs.ResultTypes.{first_type, second_type, joined_length, as_array, array_of, element_of, kept_size}
-use Rattle.op_verifier.specs.TypeChecks.{has_bad_part, has_bad_part_among, is_without_fields, is_outside, is_int}
+use Rattle.op_verifier.specs.TypeChecks.{has_bad_part, has_bad_part_among, is_without_fields, is_outside}
 use Rattle.op_verifier.specs.TypeLists.{settled, is_no_array, is_no_int, differs, any_differs, differ, differ_in_three, settled_at}
 use Rattle.op_verifier.specs.OperandChecks.{is_no_array_of, has_other_array}
 use Rattle.op_verifier.specs.LimitChecks.{of_type}
 use Rattle.op_verifier.proofs.Widths.{neither, bits_within}
-use Rattle.op_verifier.proofs.Agreeing.{agreed, all_agreed, one_agreed, pairwise_agreed, single}
+use Rattle.op_verifier.proofs.Agreeing.{agreed, all_agreed, pairwise_agreed, single}
 use Rattle.op_verifier.proofs.FitIntegers.{apart, three_agreed}
 
 product_of_ones : (a b : ℕ) → 1 ≤ a → 1 ≤ b → 1 ≤ a * b

@@ -1,12 +1,12 @@
 -- Operations on integers without a cause fit.
-use Rattle.std.proofs.Common.{◌≡◌, ℕ, zero, suc, ◌+◌, ◌-◌, ◌*◌, ◌/◌, ◌%◌, ◌^◌, ◌<◌, ◌≤◌, ◌==◌, min, Bool, true, false, not, ◌||◌, List, [], ◌∷◌, map, length, refl, sym, ap, subst, ◌∙◌, arith}
-use Rattle.std.specs.Prelude.{Option, Some, None, slice_get, nat_lt}
+use Rattle.std.proofs.Common.{◌≡◌, ℕ, ◌+◌, ◌*◌, ◌/◌, ◌%◌, ◌<◌, ◌≤◌, ◌==◌, true, false, not, ◌||◌, List, [], ◌∷◌, map, length, refl, sym, ap, subst, ◌∙◌, arith}
+use Rattle.std.specs.Prelude.{Some, slice_get}
 use Rattle.std.specs.List.{list_any}
-use Rattle.std.proofs.lemmas.Bool.{ltb-false, eqb-true, eqb-false}
+use Rattle.std.proofs.lemmas.Bool.{ltb-false, eqb-true}
 use Rattle.std.proofs.lemmas.Bool.Decides.{nat_tests}
 use Rattle.wiring.specs.Lists.{total}
 use Rattle.hw_model.specs.Types.{HwType, width}
-use Rattle.hw_model.specs.Types.HwType.{int, clock, array, struct}
+use Rattle.hw_model.specs.Types.HwType.{int}
 use Rattle.hw_model.specs.Sound.{AllAre}
 use Rattle.ir_store.specs.ResultTypes.{first_type, second_type, joined_width, as_int, kept_size}
 use Rattle.op_verifier.specs.TypeChecks.{is_int}

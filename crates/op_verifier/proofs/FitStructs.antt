@@ -1,7 +1,6 @@
 -- Operations on structs, aggregate constants and registers without a cause fit.
-use Rattle.std.proofs.Common.{◌≡◌, ℕ, zero, suc, ◌+◌, ◌*◌, ◌≤◌, Bool, true, false, not, ◌||◌, List, [], ◌∷◌, map, length, refl, sym, ap, subst, ◌∙◌, arith}
+use Rattle.std.proofs.Common.{◌≡◌, ℕ, suc, ◌+◌, ◌*◌, true, false, not, List, [], ◌∷◌, map, length, refl, sym, ap, ◌∙◌, arith}
 use Rattle.std.specs.Prelude.{Option, Some, None, slice_get, nat_eq, is_none}
-use Rattle.std.proofs.lemmas.List.{length-map}
 use Rattle.hw_model.specs.Types.{Name, HwType, FieldTypes, width, width_of_fields}
 use Rattle.hw_model.specs.Types.HwType.{int, clock, array, struct}
 use Rattle.hw_model.specs.Types.FieldTypes.{no_fields, field}
@@ -13,9 +12,9 @@ use Rattle.hw_model.specs.SameType.{same_type, type_from}
 use Rattle.hw_model.specs.Sound.{field_list, field_type, literal_width, literals_width, register_types}
 use Rattle.hw_model.specs.Value.{written}
 use Rattle.ir_store.specs.ResultTypes.{first_type, field_of, fields_of, field_count}
-use Rattle.op_verifier.specs.TypeLists.{settled, is_no_struct, differs, any_differs, differ, differ_in_two, settled_at}
+use Rattle.op_verifier.specs.TypeLists.{settled, is_no_struct, differs, any_differs, differ, differ_in_two}
 use Rattle.op_verifier.specs.LiteralChecks.{literal_count, literal_differs, any_literal_differs, literals_differ, is_miscounted, any_miscounted, are_miscounted}
-use Rattle.op_verifier.specs.OperandChecks.{parts_differ, enable_differs, reset_differs, register_differs}
+use Rattle.op_verifier.specs.OperandChecks.{parts_differ, register_differs}
 use Rattle.op_verifier.specs.CountChecks.{reset_operands, parts_miscounted}
 use Rattle.op_verifier.proofs.Widths.{neither}
 use Rattle.op_verifier.proofs.Agreeing.{not_false, same_number, agreed, all_agreed, one_agreed, pairwise_agreed, single}

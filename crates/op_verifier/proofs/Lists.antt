@@ -1,8 +1,8 @@
 -- Lists of types, of fields and of constants.
-use Rattle.std.proofs.Common.{◌≡◌, ℕ, zero, suc, ◌+◌, Bool, true, false, ◌||◌, List, [], ◌∷◌, map, length, refl, ap, sym, ◌∙◌, ◌==◌, arith, ◌⊎◌, inl, inr, ◌<◌, ◌≤◌, get_or}
+use Rattle.std.proofs.Common.{◌≡◌, ℕ, zero, suc, Bool, true, false, ◌||◌, List, [], ◌∷◌, map, length, refl, ap, sym, ◌∙◌, ◌==◌, arith, ◌⊎◌, inl, inr, ◌<◌, ◌≤◌, get_or}
 use Rattle.std.specs.Prelude.{Option, Some, None, slice_get}
 use Rattle.std.proofs.lemmas.Bool.Decides.{nat_tests}
-use Rattle.hw_model.specs.Types.{HwType, FieldTypes}
+use Rattle.hw_model.specs.Types.{HwType}
 use Rattle.hw_model.specs.Types.FieldTypes.{no_fields}
 use Rattle.hw_model.specs.Kinds.{Literal as HwLiteral, Literals}
 use Rattle.hw_model.specs.Kinds.Literals.{no_literals, literal}

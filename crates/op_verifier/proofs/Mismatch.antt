@@ -1,5 +1,5 @@
 -- A mismatch that is left to the results.
-use Rattle.std.proofs.Common.{◌≡◌, ℕ, Bool, false, List, map, length, sym, ap, ◌∙◌}
+use Rattle.std.proofs.Common.{◌≡◌, Bool, false, List, map, length}
 use Rattle.std.specs.Prelude.{Option}
 use Rattle.std.proofs.lemmas.List.{length-map}
 use Rattle.hw_model.specs.Types.{HwType}

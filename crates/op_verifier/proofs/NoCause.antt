@@ -1,6 +1,6 @@
 -- An operation without a cause: none of the tests holds.
-use Rattle.std.proofs.Common.{◌≡◌, ℕ, Bool, true, false, ◌||◌, List, [], ◌∷◌, length, refl, ◌∙◌}
-use Rattle.std.specs.Prelude.{Option, Some, None, cond, nat_eq}
+use Rattle.std.proofs.Common.{◌≡◌, ℕ, Bool, true, false, List, length, refl}
+use Rattle.std.specs.Prelude.{Option, Some, None}
 use Rattle.std.proofs.lemmas.List.{length-map}
 use Rattle.diag.specs.declared.cause.Cause.{Cause}
 use Rattle.hw_model.specs.Types.{HwType}

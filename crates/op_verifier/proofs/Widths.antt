@@ -1,10 +1,10 @@
 -- Widths and numbers of bits.
-use Rattle.std.proofs.Common.{◌≡◌, ℕ, zero, suc, ◌+◌, ◌-◌, ◌^◌, ◌<◌, ◌≤◌, min, Bool, true, false, not, ◌&&◌, ◌||◌, refl, sym, ap, ◌∙◌, arith, ◌⊎◌, inl, inr}
-use Rattle.std.specs.Prelude.{nat_eq, nat_lt, nat_le, Option, Some, None}
-use Rattle.std.proofs.lemmas.Bool.{ltb-false, le-leb, lt-leb, le-ltb, lt-ltb}
+use Rattle.std.proofs.Common.{◌≡◌, ℕ, ◌-◌, ◌^◌, ◌<◌, ◌≤◌, min, Bool, true, false, not, ◌&&◌, ◌||◌, refl, arith}
+use Rattle.std.specs.Prelude.{nat_eq, nat_lt, nat_le}
+use Rattle.std.proofs.lemmas.Bool.{ltb-false, lt-leb}
 use Rattle.std.proofs.lemmas.Bool.Decides.{nat_tests}
 use Rattle.std.proofs.Math.Pow.{pow_mono}
-use Rattle.hw_model.specs.Types.{HwType, width, leaves}
+use Rattle.hw_model.specs.Types.{HwType, width}
 use Rattle.hw_model.specs.Indices.{IsIndexWidth}
 use Rattle.op_verifier.specs.TypeChecks.{has_bad_part, is_outside}
 use Rattle.op_verifier.specs.LimitChecks.{is_width_of_index, has_type_outside}

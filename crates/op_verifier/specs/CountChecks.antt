@@ -1,12 +1,12 @@
 -- How many operands, types and results an operation has (CIRCT: operation references of the HW, Comb and Seq dialects).
 -- In a text that is read only the results named, the fields of hw.struct_create and the elements of
 -- hw.aggregate_constant can be too few or too many.
-use Rattle.std.specs.Prelude.{ℕ, zero, suc, ◌+◌, max, Bool, true, false, not, ◌||◌, ◌==◌, nat_eq, List, length, Option, Some, None}
+use Rattle.std.specs.Prelude.{ℕ, ◌+◌, max, Bool, false, not, ◌||◌, nat_eq, List, length, Option, Some, None}
 use Rattle.hw_model.specs.Types.{HwType}
 use Rattle.hw_model.specs.Kinds.{Kind, Reset, Literals}
 use Rattle.hw_model.specs.Kinds.Reset.{no_reset, sync_reset}
 use Rattle.hw_model.specs.Kinds.Literal.{parts}
-use Rattle.hw_model.specs.Kinds.Kind.{add, mul, and, or, xor, sub, divu, modu, divs, mods, shl, shru, shrs, icmp, parity, extract, concat, replicate, mux, constant, aggregate_constant, array_create, array_concat, array_get, array_slice, array_inject, struct_create, struct_extract, struct_inject, struct_explode, bitcast, wire, instance, output, compreg, compreg_ce, firreg}
+use Rattle.hw_model.specs.Kinds.Kind.{add, mul, and, or, xor, parity, extract, concat, replicate, mux, constant, aggregate_constant, array_create, array_concat, array_get, array_slice, array_inject, struct_create, struct_extract, struct_explode, bitcast, wire, instance, output, compreg, compreg_ce, firreg}
 use Rattle.ir_store.specs.ResultTypes.{first_type, field_count, result_count}
 use Rattle.op_verifier.specs.LiteralChecks.{is_miscounted}
 

@@ -1,9 +1,9 @@
 -- The limits that an operation's types and attributes keep (CIRCT: operation references of the HW and Comb dialects).
-use Rattle.std.specs.Prelude.{ℕ, ◌+◌, ◌-◌, ◌^◌, ◌%◌, Bool, true, false, not, ◌&&◌, ◌||◌, ◌==◌, nat_eq, nat_lt, nat_le, List, [], ◌∷◌, length, drop, Option, Some, None, is_none}
+use Rattle.std.specs.Prelude.{ℕ, ◌+◌, ◌-◌, ◌^◌, ◌%◌, Bool, false, not, ◌&&◌, ◌||◌, ◌==◌, nat_eq, nat_lt, nat_le, List, length, drop, Option, Some, None, is_none}
 use Rattle.std.specs.List.{list_any}
 use Rattle.hw_model.specs.Types.{HwType, width}
 use Rattle.hw_model.specs.Kinds.{Kind}
-use Rattle.hw_model.specs.Kinds.Kind.{add, mul, and, or, xor, sub, divu, modu, divs, mods, shl, shru, shrs, icmp, parity, extract, concat, replicate, mux, constant, aggregate_constant, array_create, array_concat, array_get, array_slice, array_inject, struct_create, struct_extract, struct_inject, struct_explode, bitcast, wire, instance, output, compreg, compreg_ce, firreg}
+use Rattle.hw_model.specs.Kinds.Kind.{divu, modu, divs, mods, extract, concat, replicate, constant, aggregate_constant, array_create, array_concat, array_get, array_slice, array_inject, struct_extract, struct_inject, bitcast, instance}
 use Rattle.ir_store.specs.ResultTypes.{first_type, second_type, field_of, joined_width}
 use Rattle.op_verifier.specs.TypeChecks.{is_outside, has_bad_field, has_clock_part, is_clock}
 use Rattle.op_verifier.specs.TypeLists.{int_width, array_length, settled_at}

@@ -2,7 +2,7 @@
 -- leaf's type where there are none (CIRCT, HW dialect: `hw.aggregate_constant`).
 use Rattle.std.specs.Prelude.{ℕ, zero, suc, ℤ, pos, negsuc, ◌-◌, ◌^◌, Bool, true, false, not, ◌||◌, nat_eq, nat_le, length}
 use Rattle.hw_model.specs.Types.{HwType, FieldTypes}
-use Rattle.hw_model.specs.Types.HwType.{int, clock, array, struct}
+use Rattle.hw_model.specs.Types.HwType.{int, array, struct}
 use Rattle.hw_model.specs.Types.FieldTypes.{no_fields, field}
 use Rattle.hw_model.specs.Kinds.{Literal, Literals}
 use Rattle.hw_model.specs.Kinds.Literal.{leaf, parts}

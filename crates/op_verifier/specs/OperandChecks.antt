@@ -7,7 +7,7 @@ use Rattle.hw_model.specs.Types.HwType.{int, clock}
 use Rattle.hw_model.specs.Kinds.{Kind, Reset, Literals}
 use Rattle.hw_model.specs.Kinds.Reset.{no_reset, sync_reset}
 use Rattle.hw_model.specs.Kinds.Literal.{parts}
-use Rattle.hw_model.specs.Kinds.Kind.{add, mul, and, or, xor, sub, divu, modu, divs, mods, shl, shru, shrs, icmp, parity, extract, concat, replicate, mux, constant, aggregate_constant, array_create, array_concat, array_get, array_slice, array_inject, struct_create, struct_extract, struct_inject, struct_explode, bitcast, wire, instance, output, compreg, compreg_ce, firreg}
+use Rattle.hw_model.specs.Kinds.Kind.{concat, mux, aggregate_constant, array_create, array_concat, array_get, array_slice, array_inject, struct_create, struct_extract, struct_inject, struct_explode, bitcast, wire, instance, output, compreg, compreg_ce, firreg}
 use Rattle.ir_store.specs.ResultTypes.{first_type, second_type, element_of, field_of, fields_of, result_types}
 use Rattle.op_verifier.specs.TypeChecks.{is_int}
 use Rattle.op_verifier.specs.TypeLists.{settled, is_no_int, is_no_array, is_no_struct, differs, any_differs, differ, differ_in_two, differ_in_three, settled_at}

@@ -1,5 +1,5 @@
 -- Tests of one type: the limits on widths and leaves, names of fields, clocks (CIRCT: HW and Seq dialects: types).
-use Rattle.std.specs.Prelude.{ℕ, Bool, true, false, ◌||◌, ◌==◌, nat_lt, length}
+use Rattle.std.specs.Prelude.{Bool, true, false, ◌||◌, ◌==◌, nat_lt, length}
 use Rattle.hw_model.specs.Types.{Name, HwType, FieldTypes, width, leaves}
 use Rattle.hw_model.specs.Types.HwType.{int, clock, array, struct}
 use Rattle.hw_model.specs.Types.FieldTypes.{no_fields, field}

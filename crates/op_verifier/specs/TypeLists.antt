@@ -1,7 +1,7 @@
 -- Tests of the types that an operation writes, gives and takes.
 use Rattle.std.specs.Prelude.{ℕ, zero, suc, Bool, true, false, not, ◌||◌, List, [], ◌∷◌, map, Option, Some, None}
-use Rattle.hw_model.specs.Types.{HwType, FieldTypes}
-use Rattle.hw_model.specs.Types.HwType.{int, clock, array, struct}
+use Rattle.hw_model.specs.Types.{HwType}
+use Rattle.hw_model.specs.Types.HwType.{int, array, struct}
 use Rattle.hw_model.specs.SameType.{same_type}
 use Rattle.op_verifier.specs.TypeChecks.{is_int}
 

@@ -1,4 +1,4 @@
-use Rattle.std.proofs.Common.{◌≡◌, false, List, map, refl, ap}
+use Rattle.std.proofs.Common.{map, refl}
 use Rattle.hw_model.specs.TypeViews.{field_of, fields_of}
 use Rattle.hw_model.specs.KindViews.{literal_of, literals_of}
 use Rattle.op_verifier.specs.LiteralChecks.{are_miscounted}

@@ -1,10 +1,9 @@
-use Rattle.std.proofs.Common.{ap}
 use Rattle.std.specs.Option.{option_map}
 use Rattle.hw_model.specs.TypeViews.{type_of}
 use Rattle.hw_model.specs.KindViews.{kind_of}
 use Rattle.ir_store.specs.OperationViews.{types_in}
 use Rattle.op_verifier.specs.OwnViews.{result_types_in}
-use Rattle.op_verifier.proofs.Lists.{result_types_seen, types_of_items, results_of_items}
+use Rattle.op_verifier.proofs.Lists.{types_of_items, results_of_items}
 use Rattle.op_verifier.proofs.Mismatch.{mismatch_by_results}
 use Rattle.op_verifier.proofs.own_checks.has_mismatch.Goals as goal
 

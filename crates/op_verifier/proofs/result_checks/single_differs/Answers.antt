@@ -1,4 +1,4 @@
-use Rattle.std.proofs.Common.{◌≡◌, map, ap, sym, ◌∙◌}
+use Rattle.std.proofs.Common.{map, ap, sym, ◌∙◌}
 use Rattle.hw_model.specs.TypeViews.{type_of}
 use Rattle.hw_model.specs.KindViews.{kind_of}
 use Rattle.ir_store.specs.ResultTypes.{result_type}

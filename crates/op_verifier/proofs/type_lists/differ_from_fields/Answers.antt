@@ -1,4 +1,4 @@
-use Rattle.std.proofs.Common.{◌≡◌, false, List, map, refl, ap}
+use Rattle.std.proofs.Common.{map, refl}
 use Rattle.std.specs.Option.{option_map}
 use Rattle.hw_model.specs.TypeViews.{type_of, field_of, fields_of}
 use Rattle.hw_model.specs.Sound.{field_list}

@@ -1,4 +1,4 @@
-use Rattle.std.proofs.Common.{◌≡◌, false, List, map, refl, ap}
+use Rattle.std.proofs.Common.{map, refl}
 use Rattle.hw_model.specs.TypeViews.{type_of}
 use Rattle.op_verifier.specs.TypeLists.{settled, differ}
 use Rattle.std.proofs.lemmas.Slice.Zip.{either_empty_from_Zip}

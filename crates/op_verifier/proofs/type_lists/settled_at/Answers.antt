@@ -1,4 +1,3 @@
-use Rattle.std.proofs.Common.{sym}
 use Rattle.std.specs.Option.{option_map}
 use Rattle.hw_model.specs.TypeViews.{type_of}
 use Rattle.op_verifier.proofs.Lists.{settled_index, settled_past}
