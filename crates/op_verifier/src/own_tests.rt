@@ -2,7 +2,7 @@
 use crate::own_checks::own_cause;
 use diag::cause::Cause;
 use diag::refusal::Place;
-use hw_model::kinds::{Instance, Integer, Literal, LiteralList, OpKind, Predicate, Reset};
+use hw_model::kinds::{Integer, Literal, LiteralList, OpKind, Predicate, Reset};
 use hw_model::types::{Field, FieldList, Ty};
 use io_edge::byte_text::Text;
 use ir_store::body::Op;
@@ -27,31 +27,35 @@ fn one(alloc: Global, ty: Ty) -> Result<Vec<Ty>, AllocError> {
     Ok(types)
 }
 
-// two types
-fn two(alloc: Global, first: Ty, second: Ty) -> Result<Vec<Ty>, AllocError> {
-    let mut types = Vec::with_capacity(alloc, 2)?;
-    types.push(first)?;
-    types.push(second)?;
+// an array of integers, and an integer behind it where there is one
+fn array(
+    alloc: Global,
+    length: u32,
+    width: u32,
+    index: Option<u32>,
+) -> Result<Vec<Ty>, AllocError> {
+    let element = Box::new(alloc, Ty::Int(width))?;
+    let mut types = one(alloc, Ty::Array(length, element))?;
+    if let Some(index) = index {
+        types.push(Ty::Int(index))?;
+    }
     Ok(types)
 }
 
-// an array of so many
-fn array(alloc: Global, length: u32, element: Ty) -> Result<Ty, AllocError> {
-    Ok(Ty::Array(length, Box::new(alloc, element)?))
+// a field of 8 bits
+fn byte(alloc: Global, name: &[u8]) -> Result<Field, AllocError> {
+    Ok(Field {
+        name: Text::of(alloc, name)?,
+        ty: Ty::Int(8),
+    })
 }
 
 // a struct of two fields of 8 bits
-fn pair(alloc: Global, first: &[u8], second: &[u8]) -> Result<Ty, AllocError> {
+fn pair(alloc: Global, first: &[u8], second: &[u8]) -> Result<Vec<Ty>, AllocError> {
     let mut fields = Vec::with_capacity(alloc, 2)?;
-    fields.push(Field {
-        name: Text::of(alloc, first)?,
-        ty: Ty::Int(8),
-    })?;
-    fields.push(Field {
-        name: Text::of(alloc, second)?,
-        ty: Ty::Int(8),
-    })?;
-    Ok(Ty::Struct(FieldList { fields }))
+    fields.push(byte(alloc, first)?)?;
+    fields.push(byte(alloc, second)?)?;
+    one(alloc, Ty::Struct(FieldList { fields }))
 }
 
 // a list of leaves of 8 bits
@@ -63,30 +67,41 @@ fn leaves(alloc: Global, values: &[u128]) -> Result<LiteralList, AllocError> {
     Ok(LiteralList { literals })
 }
 
-// the cause of an operation with these written types, results and operands
-fn cause(
-    alloc: Global,
-    kind: &OpKind,
-    types: Vec<Ty>,
-    results: Vec<Ty>,
-    operands: &[Ty],
-) -> Result<Option<Cause>, AllocError> {
-    let mut settled = Vec::with_capacity(alloc, operands.len())?;
-    for ty in operands {
+// references to types, as settled ones
+fn settled<'t>(alloc: Global, types: &'t [Ty]) -> Result<Vec<Option<&'t Ty>>, AllocError> {
+    let mut settled = Vec::with_capacity(alloc, types.len())?;
+    for ty in types {
         settled.push(Some(ty))?;
     }
-    let mut given = Vec::with_capacity(alloc, results.len())?;
-    for ty in &results {
-        given.push(NewResult {
+    Ok(settled)
+}
+
+// results of these types
+fn given(alloc: Global, types: &[Ty]) -> Result<NewResultList, AllocError> {
+    let mut results = Vec::with_capacity(alloc, types.len())?;
+    for ty in types {
+        results.push(NewResult {
             ty: ty.try_clone(alloc)?,
             again: false,
         })?;
     }
+    Ok(NewResultList { results })
+}
+
+// the cause of an operation with these written types, results and operands, all results named
+fn cause(
+    alloc: Global,
+    kind: &OpKind,
+    types: Vec<Ty>,
+    results: &[Ty],
+    operands: &[Ty],
+) -> Result<Option<Cause>, AllocError> {
+    let operands = settled(alloc, operands)?;
     let named = u32::try_from(results.len()).unwrap_or(0);
+    let results = given(alloc, results)?;
+    let types = TyList { types };
     let name = Text::new(alloc);
     let dictionary = Dictionary::new(alloc);
-    let types = TyList { types };
-    let results = NewResultList { results: given };
     let op = Op {
         kind,
         operands: &[],
@@ -98,10 +113,24 @@ fn cause(
         bin: false,
         place: Place::start(),
     };
-    Ok(own_cause(&op, settled.as_slice(), false))
+    Ok(own_cause(&op, operands.as_slice(), false))
 }
 
-// the cause of an operation on integers with a result
+// the cause of an operation on integers with results
+fn integers(
+    alloc: Global,
+    kind: OpKind,
+    written: &[u32],
+    given: &[u32],
+    taken: &[u32],
+) -> Result<Option<Cause>, AllocError> {
+    let results = ints(alloc, given)?;
+    let operands = ints(alloc, taken)?;
+    let types = ints(alloc, written)?;
+    cause(alloc, &kind, types, results.as_slice(), operands.as_slice())
+}
+
+// the cause of one with one result
 fn plain(
     alloc: Global,
     kind: OpKind,
@@ -109,10 +138,73 @@ fn plain(
     given: u32,
     taken: &[u32],
 ) -> Result<Option<Cause>, AllocError> {
-    let types = ints(alloc, written)?;
+    integers(alloc, kind, written, &[given], taken)
+}
+
+// of `hw.array_get` of an array of bytes
+fn indexed(alloc: Global, length: u32, index: u32) -> Result<Option<Cause>, AllocError> {
+    let operands = array(alloc, length, 8, Some(index))?;
+    let results = ints(alloc, &[8])?;
+    let types = array(alloc, length, 8, Some(index))?;
+    cause(
+        alloc,
+        &OpKind::ArrayGet,
+        types,
+        results.as_slice(),
+        operands.as_slice(),
+    )
+}
+
+// of `hw.wire` of an array
+fn wired(alloc: Global, length: u32, width: u32) -> Result<Option<Cause>, AllocError> {
+    let operands = array(alloc, length, width, None)?;
+    let types = array(alloc, length, width, None)?;
+    cause(
+        alloc,
+        &OpKind::Wire,
+        types,
+        operands.as_slice(),
+        operands.as_slice(),
+    )
+}
+
+// of `hw.struct_extract` of the field `b` of a struct of two
+fn selected(
+    alloc: Global,
+    first: &[u8],
+    second: &[u8],
+    given: u32,
+) -> Result<Option<Cause>, AllocError> {
+    let kind = OpKind::StructExtract(Text::of(alloc, b"b".as_slice())?);
+    let operands = pair(alloc, first, second)?;
     let results = ints(alloc, &[given])?;
-    let operands = ints(alloc, taken)?;
-    cause(alloc, &kind, types, results, operands.as_slice())
+    let types = pair(alloc, first, second)?;
+    cause(alloc, &kind, types, results.as_slice(), operands.as_slice())
+}
+
+// of an operation on a clock that gives a clock
+fn clocked(alloc: Global, kind: &OpKind) -> Result<Option<Cause>, AllocError> {
+    let operands = one(alloc, Ty::Clock)?;
+    let types = one(alloc, Ty::Clock)?;
+    cause(alloc, kind, types, operands.as_slice(), operands.as_slice())
+}
+
+// of a register of bytes, clocked by a clock
+fn register(alloc: Global) -> Result<Option<Cause>, AllocError> {
+    let mut operands = ints(alloc, &[8])?;
+    operands.push(Ty::Clock)?;
+    let results = ints(alloc, &[8])?;
+    let types = ints(alloc, &[8])?;
+    let kind = OpKind::CompReg(Reset::No);
+    cause(alloc, &kind, types, results.as_slice(), operands.as_slice())
+}
+
+// of `hw.aggregate_constant` of an array of two bytes
+fn constants(alloc: Global, values: &[u128]) -> Result<Option<Cause>, AllocError> {
+    let kind = OpKind::AggregateConstant(leaves(alloc, values)?);
+    let results = array(alloc, 2, 8, None)?;
+    let types = array(alloc, 2, 8, None)?;
+    cause(alloc, &kind, types, results.as_slice(), &[])
 }
 
 #[test]
@@ -217,194 +309,64 @@ fn divisors_are_constants(rt: HostRuntime) -> Result<(), Fail> {
 #[test]
 fn indices_have_their_arrays_width(rt: HostRuntime) -> Result<(), Fail> {
     let alloc = rt.alloc();
-    let types = two(alloc, array(alloc, 5, Ty::Int(8))?, Ty::Int(3))?;
-    let operands = two(alloc, array(alloc, 5, Ty::Int(8))?, Ty::Int(3))?;
-    let results = ints(alloc, &[8])?;
-    assert_eq!(rt;
-        cause(
-            alloc,
-            &OpKind::ArrayGet,
-            types,
-            results,
-            operands.as_slice()
-        )?,
-        None
-    );
-    let types = two(alloc, array(alloc, 4, Ty::Int(8))?, Ty::Int(3))?;
-    let operands = two(alloc, array(alloc, 4, Ty::Int(8))?, Ty::Int(3))?;
-    let results = ints(alloc, &[8])?;
-    let found = cause(
-        alloc,
-        &OpKind::ArrayGet,
-        types,
-        results,
-        operands.as_slice(),
-    )?;
-    assert_eq!(rt; found, Some(Cause::IndexWidth));
+    assert_eq!(rt; indexed(alloc, 5, 3)?, None);
+    assert_eq!(rt; indexed(alloc, 4, 3)?, Some(Cause::IndexWidth));
+    assert_eq!(rt; indexed(alloc, 1, 1)?, None);
     Ok(())
 }
 
 #[test]
 fn fields_are_known_once(rt: HostRuntime) -> Result<(), Fail> {
     let alloc = rt.alloc();
-    let kind = OpKind::StructExtract(Text::of(alloc, b"b".as_slice())?);
-    let types = one(alloc, pair(alloc, b"a".as_slice(), b"b".as_slice())?)?;
-    let operands = one(alloc, pair(alloc, b"a".as_slice(), b"b".as_slice())?)?;
-    assert_eq!(rt;
-        cause(alloc, &kind, types, ints(alloc, &[8])?, operands.as_slice())?,
-        None
-    );
-    let types = one(alloc, pair(alloc, b"a".as_slice(), b"c".as_slice())?)?;
-    let operands = one(alloc, pair(alloc, b"a".as_slice(), b"c".as_slice())?)?;
-    let found = cause(alloc, &kind, types, ints(alloc, &[0])?, operands.as_slice())?;
-    assert_eq!(rt; found, Some(Cause::Field));
-    let types = one(alloc, pair(alloc, b"b".as_slice(), b"b".as_slice())?)?;
-    let operands = one(alloc, pair(alloc, b"b".as_slice(), b"b".as_slice())?)?;
-    let found = cause(alloc, &kind, types, ints(alloc, &[8])?, operands.as_slice())?;
-    assert_eq!(rt; found, Some(Cause::Field));
+    let (a, b, c) = (b"a".as_slice(), b"b".as_slice(), b"c".as_slice());
+    assert_eq!(rt; selected(alloc, a, b, 8)?, None);
+    assert_eq!(rt; selected(alloc, a, c, 0)?, Some(Cause::Field));
+    assert_eq!(rt; selected(alloc, b, b, 8)?, Some(Cause::Field));
     Ok(())
 }
 
 #[test]
-fn bitcasts_keep_widths_and_no_clocks(rt: HostRuntime) -> Result<(), Fail> {
+fn bitcasts_keep_widths(rt: HostRuntime) -> Result<(), Fail> {
     let alloc = rt.alloc();
-    let kind = OpKind::Bitcast;
+    assert_eq!(rt; plain(alloc, OpKind::Bitcast, &[8, 8], 8, &[8])?, None);
     assert_eq!(rt;
         plain(alloc, OpKind::Bitcast, &[8, 9], 9, &[8])?,
         Some(Cause::BitcastWidth)
     );
-    let types = two(alloc, Ty::Int(1), Ty::Clock)?;
-    let found = cause(
-        alloc,
-        &kind,
-        types,
-        one(alloc, Ty::Clock)?,
-        ints(alloc, &[1])?.as_slice(),
-    )?;
-    assert_eq!(rt; found, Some(Cause::ClockOperand));
-    let types = two(alloc, array(alloc, 2, Ty::Int(4))?, Ty::Int(8))?;
-    let operands = one(alloc, array(alloc, 2, Ty::Int(4))?)?;
-    assert_eq!(rt;
-        cause(alloc, &kind, types, ints(alloc, &[8])?, operands.as_slice())?,
-        None
-    );
     Ok(())
 }
 
 #[test]
-fn clocks_are_for_registers_and_instances(rt: HostRuntime) -> Result<(), Fail> {
+fn clocks_are_for_registers(rt: HostRuntime) -> Result<(), Fail> {
     let alloc = rt.alloc();
-    let register = OpKind::CompReg(Reset::No);
-    let operands = two(alloc, Ty::Int(8), Ty::Clock)?;
-    let found = cause(
-        alloc,
-        &register,
-        ints(alloc, &[8])?,
-        ints(alloc, &[8])?,
-        operands.as_slice(),
-    )?;
-    assert_eq!(rt; found, None);
-    assert_eq!(rt;
-        plain(alloc, OpKind::CompReg(Reset::No), &[8], 8, &[8, 8])?,
-        Some(Cause::TypeMismatch)
-    );
-    let clocks = one(alloc, Ty::Clock)?;
-    let found = cause(
-        alloc,
-        &OpKind::Wire,
-        one(alloc, Ty::Clock)?,
-        one(alloc, Ty::Clock)?,
-        clocks.as_slice(),
-    )?;
-    assert_eq!(rt; found, Some(Cause::ClockOperand));
-    let found = cause(
-        alloc,
-        &OpKind::Add,
-        one(alloc, Ty::Clock)?,
-        one(alloc, Ty::Clock)?,
-        clocks.as_slice(),
-    )?;
-    assert_eq!(rt; found, Some(Cause::TypeMismatch));
-    let mut inputs = Vec::new(alloc);
-    inputs.push(Text::of(alloc, b"clk".as_slice())?)?;
-    let instance = OpKind::Instance(Instance {
-        name: Text::of(alloc, b"u".as_slice())?,
-        inner_symbol: None,
-        symbol: Text::of(alloc, b"N".as_slice())?,
-        inputs,
-        outputs: Vec::new(alloc),
-    });
-    let found = cause(
-        alloc,
-        &instance,
-        one(alloc, Ty::Clock)?,
-        Vec::new(alloc),
-        clocks.as_slice(),
-    )?;
-    assert_eq!(rt; found, None);
+    assert_eq!(rt; register(alloc)?, None);
+    assert_eq!(rt; clocked(alloc, &OpKind::Wire)?, Some(Cause::ClockOperand));
+    assert_eq!(rt; clocked(alloc, &OpKind::Add)?, Some(Cause::TypeMismatch));
     Ok(())
 }
 
 #[test]
 fn results_and_elements_are_counted(rt: HostRuntime) -> Result<(), Fail> {
     let alloc = rt.alloc();
-    let operands = ints(alloc, &[8, 8])?;
-    let found = cause(
-        alloc,
-        &OpKind::Add,
-        ints(alloc, &[8])?,
-        ints(alloc, &[8, 0])?,
-        operands.as_slice(),
-    )?;
-    assert_eq!(rt; found, Some(Cause::Arity));
-    let found = cause(
-        alloc,
-        &OpKind::Add,
-        ints(alloc, &[8])?,
-        Vec::new(alloc),
-        operands.as_slice(),
-    )?;
-    assert_eq!(rt; found, Some(Cause::Arity));
-    let full = OpKind::AggregateConstant(leaves(alloc, &[1, 2])?);
-    let types = one(alloc, array(alloc, 2, Ty::Int(8))?)?;
-    let results = one(alloc, array(alloc, 2, Ty::Int(8))?)?;
-    assert_eq!(rt; cause(alloc, &full, types, results, &[])?, None);
-    let short = OpKind::AggregateConstant(leaves(alloc, &[1])?);
-    let types = one(alloc, array(alloc, 2, Ty::Int(8))?)?;
-    let results = one(alloc, array(alloc, 2, Ty::Int(8))?)?;
     assert_eq!(rt;
-        cause(alloc, &short, types, results, &[])?,
+        integers(alloc, OpKind::Add, &[8], &[8, 0], &[8, 8])?,
         Some(Cause::Arity)
     );
-    let wide = OpKind::AggregateConstant(leaves(alloc, &[1, 256])?);
-    let types = one(alloc, array(alloc, 2, Ty::Int(8))?)?;
-    let results = one(alloc, array(alloc, 2, Ty::Int(8))?)?;
     assert_eq!(rt;
-        cause(alloc, &wide, types, results, &[])?,
-        Some(Cause::ConstantRange)
+        integers(alloc, OpKind::Add, &[8], &[], &[8, 8])?,
+        Some(Cause::Arity)
     );
+    assert_eq!(rt; constants(alloc, &[1, 2])?, None);
+    assert_eq!(rt; constants(alloc, &[1])?, Some(Cause::Arity));
+    assert_eq!(rt; constants(alloc, &[1, 256])?, Some(Cause::ConstantRange));
     Ok(())
 }
 
 #[test]
 fn aggregates_have_limits(rt: HostRuntime) -> Result<(), Fail> {
     let alloc = rt.alloc();
-    let types = one(alloc, array(alloc, 1024, Ty::Int(4))?)?;
-    let operands = one(alloc, array(alloc, 1024, Ty::Int(4))?)?;
-    let results = one(alloc, array(alloc, 1024, Ty::Int(4))?)?;
-    assert_eq!(rt;
-        cause(alloc, &OpKind::Wire, types, results, operands.as_slice())?,
-        None
-    );
-    let types = one(alloc, array(alloc, 1025, Ty::Int(1))?)?;
-    let operands = one(alloc, array(alloc, 1025, Ty::Int(1))?)?;
-    let results = one(alloc, array(alloc, 1025, Ty::Int(1))?)?;
-    let found = cause(alloc, &OpKind::Wire, types, results, operands.as_slice())?;
-    assert_eq!(rt; found, Some(Cause::WidthLimit));
-    let types = one(alloc, array(alloc, 1024, Ty::Int(5))?)?;
-    let operands = one(alloc, array(alloc, 1024, Ty::Int(5))?)?;
-    let results = one(alloc, array(alloc, 1024, Ty::Int(5))?)?;
-    let found = cause(alloc, &OpKind::Wire, types, results, operands.as_slice())?;
-    assert_eq!(rt; found, Some(Cause::WidthLimit));
+    assert_eq!(rt; wired(alloc, 1024, 4)?, None);
+    assert_eq!(rt; wired(alloc, 1025, 1)?, Some(Cause::WidthLimit));
+    assert_eq!(rt; wired(alloc, 1024, 5)?, Some(Cause::WidthLimit));
     Ok(())
 }
