@@ -177,13 +177,14 @@ fn instance(alloc: Global, line: u32, symbol: &[u8], second: &[u8]) -> Result<Ne
     inputs.push(Text::of(alloc, second)?)?;
     let mut outputs = Vec::with_capacity(alloc, 1)?;
     outputs.push(Text::of(alloc, b"o".as_slice())?)?;
-    let kind = OpKind::Instance(Instance {
+    let instance = Instance {
         name: Text::of(alloc, b"u".as_slice())?,
         inner_symbol: None,
         symbol: Text::of(alloc, symbol)?,
         inputs,
         outputs,
-    });
+    };
+    let kind = OpKind::Instance(Box::new(alloc, instance)?);
     operation(alloc, line, kind, &[A, B], &[8, 8, 8], &[8])
 }
 
