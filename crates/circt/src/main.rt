@@ -1,6 +1,9 @@
 //! The command line program: the system's files and streams for [`run_circt`].
 #![tactic(auto)]
 
+ghost use Rattle.std.specs.Prelude.{IfErr};
+ghost use Rattle.circt_top.specs.Runs.{IsStop};
+
 use circt_top::report::stopped;
 use circt_top::run::run_circt;
 use circt_top::status::Status;
@@ -36,7 +39,9 @@ fn main(rt: HostRuntime) -> ExitCode {
 }
 
 // The words after the program's name.
-fn words(rt: &HostRuntime) -> Result<Vec<String>, Status> {
+fn words(rt: &HostRuntime) -> Result<Vec<String>, Status>
+    ensures { IfErr result IsStop }
+{
     let mut words = match env::args(rt) {
         Ok(args) => args,
         Err(error) if error.kind() == ErrorKind::OutOfMemory => return Err(Status::NoMemory),
