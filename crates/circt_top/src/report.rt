@@ -2,14 +2,14 @@
 ghost use Rattle.std.specs.Prelude.{◌≡◌, codes, ◌++◌, [], Err, Ok, OnOk, OnErr, option_map};
 ghost use Rattle.io_edge.specs.Bytes.{Appends, AppendsFront};
 ghost use Rattle.io_edge.specs.Faults.{HasCause};
-ghost use Rattle.diag.specs.Line.{IsWithin, shown_name};
+ghost use Rattle.diag.specs.Line.{IsWithin};
 ghost use Rattle.command_line.specs.Invocations.{paths_of};
 ghost use Rattle.circt_top.specs.Runs.{IsStop};
 ghost use Rattle.circt_top.specs.Answer.{line_of, shown_output, OnRefused, Reports};
 
 use crate::status::Status;
 use command_line::invocation::Paths;
-use diag::line::{put_three, refusal_text};
+use diag::line::{put_three, refusal_text, shown};
 use io_edge::sinks::{Failed, Sink, put_all};
 
 /// Sends the line on what is wrong, if anything is. A fault of the sink is let go. `source` is the
@@ -52,7 +52,7 @@ fn put_line<E: Sink>(
         Status::Refused(refusal) => refusal_text(err, paths.input, source, refusal),
         Status::Usage(kind) => put_three(err, b"circt: usage: ", kind.text(), b"\n"),
         Status::ReadFault => {
-            let name = shown_input(paths.input.as_bytes());
+            let name = shown(paths.input.as_bytes());
             put_three(err, b"circt: cannot read ", name, b"\n")
         }
         Status::WriteFault => {
@@ -60,18 +60,6 @@ fn put_line<E: Sink>(
             put_three(err, b"circt: cannot write ", name, b"\n")
         }
         Status::NoMemory => put_all(err, b"circt: out of memory\n"),
-    }
-}
-
-// The input's name, as the line has it.
-#[tactic(auto, unfolding(diag::specs::Line::shown_name))]
-fn shown_input(name: &[u8]) -> &[u8]
-    ensures { result.now ≡ shown_name name.now }
-{
-    if name == b"-".as_slice() {
-        b"<stdin>"
-    } else {
-        name
     }
 }
 

@@ -42,9 +42,9 @@ pub fn refusal_text<S: Sink>(
     put_three(sink, b": ", r.cause.text(), b"\n")
 }
 
-// The file's name, as the line has it.
+/// A file's name, as a line has it: `<stdin>` for `-`. It takes no memory.
 #[tactic(auto, unfolding(crate::specs::Line::shown_name))]
-fn shown(name: &[u8]) -> &[u8]
+pub fn shown(name: &[u8]) -> &[u8]
     ensures { result.now ≡ shown_name name.now }
 {
     if name == b"-".as_slice() {

@@ -14,10 +14,10 @@ use crate::type_checks::is_outside;
 use crate::type_lists::{
     any_bad_field, any_clock, any_clock_part, any_outside, array_length, int_width, settled_at,
 };
-use crate::type_parts::{field_of, joined_width};
 use hw_model::kinds::{Integer, OpKind};
 use hw_model::types::{Ty, index_width};
 use ir_store::operation::NewResult;
+use ir_store::result_types::{field_of, joined_width};
 
 /// Whether a written type or a result's is outside the limits; the result of `comb.concat` is not asked.
 #[tactic(auto, unfolding(crate::specs::LimitChecks::has_type_outside))]

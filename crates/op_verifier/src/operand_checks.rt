@@ -11,9 +11,10 @@ use crate::type_lists::{
     any_differs, any_other_than_int, differ_from_fields, differ_from_types, differ_in_three,
     differ_in_two, differs, is_no_array, is_no_int, is_no_struct, settled_at,
 };
-use crate::type_parts::{element_of, field_of, fields_in};
+use crate::type_parts::fields_in;
 use hw_model::kinds::{LiteralList, OpKind, Reset};
 use hw_model::types::Ty;
+use ir_store::result_types::{element_of, field_of};
 
 /// Whether a written type is of a kind that the form does not take.
 #[tactic(auto, unfolding(crate::specs::OperandChecks::has_other_form))]

@@ -8,10 +8,11 @@ ghost use Rattle.op_verifier.specs.TypeLists.{settled, differs, differ};
 ghost use Rattle.op_verifier.specs.OperandChecks.{has_other_result};
 
 use crate::type_lists::{differs, results_differ_from_fields, results_differ_from_types};
-use crate::type_parts::{element_of, field_of, fields_in, joined_length, joined_width, kept_size};
+use crate::type_parts::fields_in;
 use hw_model::kinds::OpKind;
 use hw_model::types::Ty;
 use ir_store::operation::NewResult;
+use ir_store::result_types::{element_of, field_of, joined_length, joined_width, kept_size};
 
 /// Whether a result has another type than the operation gives it, where it gives one. `operands` says how many operands
 /// the operation has.
