@@ -1,6 +1,5 @@
-//! Three questions about a design, each answered from one summary of each module, without expanding an instance: which
-//! instance is the first on a cycle of modules, which module is the first that is too large, and which operation is the
-//! first on a combinational cycle.
+//! Questions about a design that are answered module by module, without expanding an instance: which instance is the first
+//! on a cycle of modules, and which module is the first that is too large.
 #![tactic(auto)]
 
 mod calls;

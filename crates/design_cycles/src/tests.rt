@@ -62,13 +62,14 @@ fn instance(
     types: usize,
     results: usize,
 ) -> Result<NewOp, AllocError> {
-    let kind = OpKind::Instance(Instance {
+    let instance = Instance {
         name: Text::new(alloc),
         inner_symbol: None,
         symbol: Text::of(alloc, symbol)?,
         inputs: Vec::new(alloc),
         outputs: Vec::new(alloc),
-    });
+    };
+    let kind = OpKind::Instance(Box::new(alloc, instance)?);
     op(alloc, kind, operands, types, results)
 }
 

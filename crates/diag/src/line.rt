@@ -42,9 +42,9 @@ pub fn refusal_text<S: Sink>(
     put_three(sink, b": ", r.cause.text(), b"\n")
 }
 
-// The file's name, as the line has it.
+/// A file's name, as a line has it: `<stdin>` for `-`. It takes no memory.
 #[tactic(auto, unfolding(crate::specs::Line::shown_name))]
-fn shown(name: &[u8]) -> &[u8]
+pub fn shown(name: &[u8]) -> &[u8]
     ensures { result.now ≡ shown_name name.now }
 {
     if name == b"-".as_slice() {
@@ -66,8 +66,13 @@ fn operation(op: OpName, source: &[u8]) -> &[u8]
     }
 }
 
-// Sends three pieces one behind the other, up to the first that fails.
-fn put_three<S: Sink>(sink: &mut S, first: &[u8], second: &[u8], third: &[u8]) -> Result<(), Failed>
+/// Sends three texts one behind the other, up to the first that fails. It takes no memory.
+pub fn put_three<S: Sink>(
+    sink: &mut S,
+    first: &[u8],
+    second: &[u8],
+    third: &[u8],
+) -> Result<(), Failed>
     ensures ok { OnOk result (Appends (S.told sink.old) (S.told sink.new) (first.now ++ (second.now ++ third.now))) }
     ensures err { OnErr result (AppendsFront (S.told sink.old) (S.told sink.new) (first.now ++ (second.now ++ third.now))) }
     ensures cause { HasCause (S.faults sink.old) (S.faults sink.new) result }

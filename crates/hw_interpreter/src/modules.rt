@@ -31,7 +31,7 @@ pub fn instance_in(operation: &Operation) -> Option<&Instance>
     ensures { option_map (λ i. instance_of i.now) result ≡ instance_in (kind_of operation.now.kind) }
 {
     match &operation.kind {
-        OpKind::Instance(instance) => Some(instance),
+        OpKind::Instance(instance) => Some(&**instance),
         _ => None,
     }
 }

@@ -102,13 +102,14 @@ fn register_module(alloc: Global) -> Result<Module, Refusal> {
 }
 
 fn instance(alloc: Global, name: &[u8], next: Operand) -> Result<Operation, Refusal> {
-    let kind = OpKind::Instance(Instance {
+    let instance = Instance {
         name: Text::of(alloc, name)?,
         inner_symbol: None,
         symbol: Text::of(alloc, b"Reg")?,
         inputs: Vec::new(alloc),
         outputs: Vec::new(alloc),
-    });
+    };
+    let kind = OpKind::Instance(Box::new(alloc, instance)?);
     let operands = [Operand::Port(0), Operand::Port(1), Operand::Port(2), next];
     operation(alloc, kind, &operands, Some(Ty::Int(8)))
 }

@@ -1,5 +1,6 @@
 -- The kinds that values of `OpKind` stand for.
 use Rattle.std.specs.Prelude.{ℤ, pos, negsuc, List, [], ◌∷◌}
+use Rattle.std.specs.Box.{box_value}
 use Rattle.hw_model.specs.TypeViews.{type_of}
 use Rattle.hw_model.specs.Kinds.{Kind as HwKind, Predicate as HwPredicate, Reset as HwReset, Literal as HwLiteral, Literals, Instance as HwInstance}
 use Rattle.hw_model.specs.declared.kinds.Predicate.{Predicate}
@@ -95,7 +96,7 @@ kind_of (kinds.StructInject name) = HwKind.struct_inject name
 kind_of kinds.StructExplode = HwKind.struct_explode
 kind_of kinds.Bitcast = HwKind.bitcast
 kind_of kinds.Wire = HwKind.wire
-kind_of (kinds.Instance i) = HwKind.instance (instance_of i)
+kind_of (kinds.Instance i) = HwKind.instance (instance_of (box_value i))
 kind_of kinds.Output = HwKind.output
 kind_of (kinds.CompReg r) = HwKind.compreg (reset_of r)
 kind_of (kinds.CompRegCe r) = HwKind.compreg_ce (reset_of r)

@@ -158,7 +158,7 @@ pub enum OpKind {
     /// `hw.wire`
     Wire,
     /// `hw.instance`
-    Instance(Instance),
+    Instance(Box<Instance>),
     /// `hw.output`
     Output,
     /// `seq.compreg`
@@ -269,7 +269,9 @@ impl OpKind {
             OpKind::AggregateConstant(list) => OpKind::AggregateConstant(list.try_clone(alloc)?),
             OpKind::StructExtract(name) => OpKind::StructExtract(name.try_clone(alloc)?),
             OpKind::StructInject(name) => OpKind::StructInject(name.try_clone(alloc)?),
-            OpKind::Instance(instance) => OpKind::Instance(instance.try_clone(alloc)?),
+            OpKind::Instance(instance) => {
+                OpKind::Instance(Box::new(alloc, instance.try_clone(alloc)?)?)
+            }
             OpKind::CompReg(reset) => OpKind::CompReg(*reset),
             OpKind::CompRegCe(reset) => OpKind::CompRegCe(*reset),
             OpKind::FirReg(reset) => OpKind::FirReg(*reset),

@@ -1,22 +1,35 @@
--- Files in memory: what they are, and what a read answers and leaves.
-use Rattle.std.specs.Prelude.{◌≡◌, ℕ, List, [], take, Option, None, Some, IsSome, Result, Ok, Err, is_some, ◌==◌, if◌then◌else◌}
+-- Files in memory: what they are, and what a read or a write answers and leaves.
+use Rattle.std.specs.Prelude.{◌≡◌, ℕ, Bool, true, false, List, [], take, Option, None, Some, IsSome, Result, Ok, Err, is_some, ◌==◌, if◌then◌else◌}
 use Rattle.std.specs.Option.{option_map}
 use Rattle.std.specs.List.{list_any}
 use Rattle.io_edge.specs.Faults.{counted}
 use Rattle.io_edge.specs.Reading.{file_at}
+use Rattle.io_edge.specs.Writing.{with_file}
 use Rattle.io_edge.specs.declared.file_access.FileFail.{FileFail}
 use Rattle.io_edge.specs.declared.file_access.FileFail.TheVariants.{Failed, NoMemory}
 
--- `failing` are the reads that are to fail, by their places from 0 on, and `reads` is the place of the next read
+-- `failing` are the reads that are to fail, by their places from 0 on, and `reads` is the place of the next read; so too
+-- for writes
 pub record FilesState : Type 0 where
   pub files : List (List ℕ × List ℕ)
   pub failing : List ℕ
   pub reads : ℕ
   pub read_faults : ℕ
+  pub failing_writes : List ℕ
+  pub writes : ℕ
+  pub write_faults : ℕ
 
--- these files, of which no read is to fail
+-- these files, of which no read and no write is to fail
 abbrev pub untouched : List (List ℕ × List ℕ) → FilesState
-untouched files = record { files = files; failing = []; reads = 0; read_faults = 0 }
+untouched files = record {
+  files = files;
+  failing = [];
+  reads = 0;
+  read_faults = 0;
+  failing_writes = [];
+  writes = 0;
+  write_faults = 0;
+}
 
 -- what the next read is to answer; None is a fault, at a read that is to fail and at an unknown name
 abbrev pub wanted : FilesState → List ℕ → ℕ → Option (List ℕ)
@@ -36,3 +49,19 @@ abbrev pub IsAnswer : Option (List ℕ) → Result (List ℕ) FileFail → Type 
 IsAnswer wanted (Ok text) = wanted ≡ Some text
 IsAnswer wanted (Err Failed) = wanted ≡ None
 IsAnswer wanted (Err NoMemory) = IsSome wanted
+
+-- whether the next write is to fail
+abbrev pub fails_next : FilesState → Bool
+fails_next state = list_any (λ place. place == state.writes) state.failing_writes
+
+-- the files after a write that answered so
+abbrev pub after_write : {T : Type 0} → FilesState → List ℕ → List ℕ → Result T FileFail → FilesState
+after_write state name bytes (Ok value) = record state { files = with_file name bytes state.files; writes = counted state.writes }
+after_write state name bytes (Err Failed) = record state { writes = counted state.writes; write_faults = counted state.write_faults }
+after_write state name bytes (Err NoMemory) = record state { writes = counted state.writes }
+
+-- a write answers with a fault exactly where one is to come, want of memory coming only in the place of success
+abbrev pub IsWriteAnswer : {T : Type 0} → Bool → Result T FileFail → Type 0
+IsWriteAnswer fails (Ok value) = fails ≡ false
+IsWriteAnswer fails (Err Failed) = fails ≡ true
+IsWriteAnswer fails (Err NoMemory) = fails ≡ false

@@ -5,6 +5,7 @@ pub mod Pieces
 pub mod SinkState
 pub mod RealState
 pub mod Reading
+pub mod Writing
 pub mod FilesState
 pub mod Listed
 pub mod Source

@@ -1,19 +1,20 @@
-//! Files, which are read by name.
+//! Files, which are read and written by name.
 ghost use Rattle.std.specs.Prelude.{◌≡◌, ℕ, ◌≤◌, List, Option, length, IfOk};
 ghost use Rattle.io_edge.specs.Reading.{Reads, HasNamedCause};
+ghost use Rattle.io_edge.specs.Writing.{Writes};
 
 use crate::byte_text::Text;
 use std::alloc::{AllocError, Global};
 use std::fmt::Debug;
 use thiserror::Error;
 
-/// Why a file was not read.
+/// Why a file was not read or not written.
 #[derive(Clone, Copy, Debug, PartialEq, Eq, Error)]
 pub enum FileFail {
-    /// The file could not be read. The count of faults of its name rose.
-    #[error("cannot be read")]
+    /// The file could not be read, or not be written. The count of such faults of its name rose.
+    #[error("cannot be read or written")]
     Failed,
-    /// There was no memory for the text.
+    /// There was no memory for it.
     #[error("out of memory")]
     NoMemory,
 }
@@ -50,4 +51,12 @@ pub trait Files {
         ensures unchanged { files self.new ≡ files self.old }
         ensures cause { HasNamedCause name.now (read_faults self.old) (read_faults self.new) result }
         ensures writes { write_faults self.new ≡ write_faults self.old };
+
+    /// Gives the file of this name these bytes; a name that no file has gets one. It fails with
+    /// `Failed` where the file cannot be written, which then is as it was or has a front of the
+    /// bytes, and with `NoMemory` for want of memory, which changes nothing. No other file changes.
+    fn write(&mut self, alloc: Global, name: &str, bytes: &[u8]) -> Result<(), FileFail>
+        ensures files { Writes (files self.old) (files self.new) name.now bytes.now result }
+        ensures cause { HasNamedCause name.now (write_faults self.old) (write_faults self.new) result }
+        ensures reads { read_faults self.new ≡ read_faults self.old };
 }

@@ -1,7 +1,8 @@
 //! Files in memory.
-ghost use Rattle.std.specs.Prelude.{◌≡◌, ◌≤◌, Some, take, length, option_copied, IfOk};
+ghost use Rattle.std.specs.Prelude.{◌≡◌, ◌≤◌, Some, take, length, option_copied, IfOk, OnOk, OnErr};
 ghost use Rattle.io_edge.specs.Reading.{Reads, HasNamedCause, file_at};
-ghost use Rattle.io_edge.specs.FilesState.{untouched, wanted, after_read, IsAnswer};
+ghost use Rattle.io_edge.specs.Writing.{Writes, with_file, place_in};
+ghost use Rattle.io_edge.specs.FilesState.{untouched, wanted, after_read, IsAnswer, fails_next, after_write, IsWriteAnswer};
 ghost use Rattle.io_edge.specs.Listed.{listed};
 
 use crate::byte_text::Text;
@@ -29,13 +30,16 @@ impl MemoryFile {
     }
 }
 
-/// Stated files, of which stated reads fail. They are told.
+/// Stated files, of which stated reads and writes fail. They are told.
 #[derive(Debug, Drop)]
 pub struct MemoryFiles {
     files: Vec<MemoryFile>,
     failing: Vec<u64>,
     reads: u64,
     read_faults: u64,
+    failing_writes: Vec<u64>,
+    writes: u64,
+    write_faults: u64,
 }
 
 impl Model for MemoryFiles {
@@ -49,12 +53,15 @@ impl Model for MemoryFiles {
       failing = s.failing.items;
       reads = s.reads;
       read_faults = s.read_faults;
+      failing_writes = s.failing_writes.items;
+      writes = s.writes;
+      write_faults = s.write_faults;
     } };
 }
 
 impl MemoryFiles {
-    /// These files, of which no read is to fail; `alloc` gives no memory here. The first of a name
-    /// counts, and the file named `-` is standard input.
+    /// These files, of which no read and no write is to fail; `alloc` gives no memory here. The first
+    /// of a name counts, and the file named `-` is standard input.
     pub fn new(alloc: Global, files: Vec<MemoryFile>) -> MemoryFiles
         ensures { result ≡ untouched (listed files.items) }
     {
@@ -63,6 +70,9 @@ impl MemoryFiles {
             failing: Vec::new(alloc),
             reads: 0,
             read_faults: 0,
+            failing_writes: Vec::new(alloc),
+            writes: 0,
+            write_faults: 0,
         }
     }
 
@@ -76,11 +86,35 @@ impl MemoryFiles {
         files
     }
 
+    /// The same files, of which the writes at these places are to fail. Places are counted from 0,
+    /// over the writes of all names.
+    pub fn failing_writes_at(self, places: Vec<u64>) -> MemoryFiles
+        ensures { result ≡ record self { failing_writes = places.items } }
+    {
+        let mut files = self;
+        files.failing_writes = places;
+        files
+    }
+
     /// How many reads failed. The count stands still at its type's end.
     pub fn read_faults(&self) -> u64
         ensures { result ≡ self.now.read_faults }
     {
         self.read_faults
+    }
+
+    /// How many writes failed. The count stands still at its type's end.
+    pub fn write_faults(&self) -> u64
+        ensures { result ≡ self.now.write_faults }
+    {
+        self.write_faults
+    }
+
+    /// The bytes of the first file of this name, where there is one.
+    pub fn held(&self, name: &str) -> Option<&[u8]>
+        ensures { option_copied result ≡ file_at name.now self.now.files }
+    {
+        bytes_of(&self.files, name.as_bytes())
     }
 }
 
@@ -89,7 +123,7 @@ impl Files for MemoryFiles {
 
     ghost read_faults = { λ state name. state.read_faults };
 
-    ghost write_faults = { λ state name. 0 };
+    ghost write_faults = { λ state name. state.write_faults };
 
     /// Fails with `Failed` exactly at a read that is to fail and at an unknown name.
     fn read(&mut self, alloc: Global, name: &str, limit: u64) -> Result<Text, FileFail>
@@ -113,6 +147,53 @@ impl Files for MemoryFiles {
             Some(bytes) => Ok(Text::of(alloc, front(bytes, limit))?),
         }
     }
+
+    /// Fails with `Failed` exactly at a write that is to fail, which changes no file.
+    fn write(&mut self, alloc: Global, name: &str, bytes: &[u8]) -> Result<(), FileFail>
+        ensures files { Writes (Some self.old.files) (Some self.new.files) name.now bytes.now result }
+        ensures cause { HasNamedCause name.now (λ _. self.old.write_faults) (λ _. self.new.write_faults) result }
+        ensures answer { IsWriteAnswer (fails_next self.old) result }
+        ensures after { self.new ≡ after_write self.old name.now bytes.now result }
+    {
+        let is_to_fail = self.failing_writes.contains(&self.writes);
+        self.writes = self.writes.saturating_add(1);
+        if is_to_fail {
+            self.write_faults = self.write_faults.saturating_add(1);
+            return Err(FileFail::Failed);
+        }
+        let file = MemoryFile::of(alloc, name, bytes)?;
+        put_file(&mut self.files, file)?;
+        Ok(())
+    }
+}
+
+// Puts the file in the place of the first of its name, or at the end.
+#[tactic(auto, using(crate::proofs::Written::listed_last, crate::proofs::Written::listed_there))]
+fn put_file(files: &mut Vec<MemoryFile>, file: MemoryFile) -> Result<(), AllocError>
+    ensures ok { OnOk result (listed files.new.items ≡ with_file file.name file.bytes (listed files.old.items)) }
+    ensures err { OnErr result (files.new.items ≡ files.old.items) }
+{
+    let place = place_of(files, file.name.as_bytes());
+    if place == files.len() {
+        files.reserve(1)?;
+        files.push_reserved(file);
+    } else {
+        files[place] = file;
+    }
+    Ok(())
+}
+
+// The place of the first file of this name, or the place after the last.
+fn place_of(files: &[MemoryFile], name: &[u8]) -> usize
+    ensures place { result ≡ place_in name.now (listed files.now) }
+    ensures within { result ≤ length files.now }
+{
+    for (place, one) in files.iter().enumerate() {
+        if one.name.as_bytes() == name {
+            return place;
+        }
+    }
+    files.len()
 }
 
 // The bytes of the first file of this name.

@@ -1,25 +1,28 @@
 //! The system's files and standard input.
-ghost use Rattle.std.specs.Prelude.{◌≡◌, ◌≤◌, ◌<◌, length, None, IfOk, false};
-ghost use Rattle.io_edge.specs.Bytes.{Loses};
+ghost use Rattle.std.specs.Prelude.{◌≡◌, ◌≤◌, ◌<◌, length, None, IfOk, OnOk, OnErr, false};
+ghost use Rattle.io_edge.specs.Bytes.{Appends, AppendsFront, Loses};
 ghost use Rattle.io_edge.specs.Source.{IsFront, Moves};
 ghost use Rattle.io_edge.specs.Faults.{HasRisen};
 ghost use Rattle.io_edge.specs.Reading.{HasFileCause};
 
 use crate::byte_text::Text;
 use crate::file_access::{FileFail, Files};
+use crate::real_sink::write_out;
 use std::alloc::Global;
-use std::io::{ErrorKind, Read};
+use std::io::{ErrorKind, Read, Write};
 use std::marker::Model;
 use std::{fs, rt};
 
 // How many bytes one read asks for at most.
 const WINDOW: usize = 65_536;
 
-/// The system's files and standard input. Nothing of them is told but how many reads failed.
+/// The system's files and standard input. Nothing of them is told but how many reads and how many
+/// writes failed.
 #[derive(Drop)]
 pub struct RealFiles<'a, R: rt::Files + Input> {
     rt: &'a R,
     read_faults: u64,
+    write_faults: u64,
 }
 
 impl<'a, R: rt::Files + Input> Model for RealFiles<'a, R> {
@@ -27,7 +30,7 @@ impl<'a, R: rt::Files + Input> Model for RealFiles<'a, R> {
 
     ghost Value = { FaultCounts };
 
-    ghost view = { λ s. record { reads = s.read_faults; writes = 0 } };
+    ghost view = { λ s. record { reads = s.read_faults; writes = s.write_faults } };
 }
 
 impl<'a, R: rt::Files + Input> RealFiles<'a, R> {
@@ -35,7 +38,11 @@ impl<'a, R: rt::Files + Input> RealFiles<'a, R> {
     pub fn new(rt: &'a R) -> RealFiles<'a, R>
         ensures { result ≡ record { reads = 0; writes = 0 } }
     {
-        RealFiles { rt, read_faults: 0 }
+        RealFiles {
+            rt,
+            read_faults: 0,
+            write_faults: 0,
+        }
     }
 
     /// How many reads failed. The count stands still at its type's end.
@@ -43,6 +50,13 @@ impl<'a, R: rt::Files + Input> RealFiles<'a, R> {
         ensures { result ≡ self.now.reads }
     {
         self.read_faults
+    }
+
+    /// How many writes failed or took nothing. The count stands still at its type's end.
+    pub fn write_faults(&self) -> u64
+        ensures { result ≡ self.now.writes }
+    {
+        self.write_faults
     }
 }
 
@@ -63,6 +77,19 @@ impl<'a, R: rt::Files + Input> Files for RealFiles<'a, R> {
             Ok(mut file) => read_text(&mut file, alloc, limit, &mut self.read_faults),
             Err(_) => {
                 self.read_faults = self.read_faults.saturating_add(1);
+                Err(FileFail::Failed)
+            }
+        }
+    }
+
+    /// Makes the file new, or empties it, and writes until all bytes are taken. A file that cannot be
+    /// made is a fault, and so is a write that fails or takes nothing; after an interrupted one,
+    /// which counts too, the next is tried.
+    fn write(&mut self, _alloc: Global, name: &str, bytes: &[u8]) -> Result<(), FileFail> {
+        match fs::create(self.rt, name) {
+            Ok(mut file) => write_text(&mut file, bytes, &mut self.write_faults),
+            Err(_) => {
+                self.write_faults = self.write_faults.saturating_add(1);
                 Err(FileFail::Failed)
             }
         }
@@ -126,6 +153,18 @@ fn read_some<S: Read>(
                 Err(FileFail::Failed)
             }
         }
+    }
+}
+
+// Writes all bytes, and counts each fault.
+fn write_text<W: Write>(writer: &mut W, bytes: &[u8], faults: &mut u64) -> Result<(), FileFail>
+    ensures ok { OnOk result (Appends (W.contents writer.old) (W.contents writer.new) bytes.now) }
+    ensures err { OnErr result (AppendsFront (W.contents writer.old) (W.contents writer.new) bytes.now) }
+    ensures cause { HasFileCause faults.old faults.new result }
+{
+    match write_out(writer, bytes, faults) {
+        Ok(()) => Ok(()),
+        Err(_) => Err(FileFail::Failed),
     }
 }
 
@@ -199,6 +238,23 @@ mod tests {
             Some(FileFail::Failed)
         );
         assert_eq!(rt; files.read_faults(), 1);
+        Ok(())
+    }
+
+    #[test]
+    fn writes_a_file_of_the_system(rt: HostRuntime) -> Result<(), Fail> {
+        let name = "io_edge_write_test.v";
+        let mut files = RealFiles::new(&rt);
+        for text in ["module M;", "endmodule", ""] {
+            assert!(rt; files.write(rt.alloc(), name, text.as_bytes()).is_ok());
+            let held = files.read(rt.alloc(), name, 100)?;
+            assert_eq!(rt; held.as_bytes(), text.as_bytes());
+        }
+        fs::remove_file(&rt, name)?;
+        assert_eq!(rt; files.write_faults(), 0);
+        let answer = files.write(rt.alloc(), "no_such_folder/a.v", b"x");
+        assert_eq!(rt; answer.err(), Some(FileFail::Failed));
+        assert_eq!(rt; files.write_faults(), 1);
         Ok(())
     }
 }

@@ -56,7 +56,11 @@ impl<W: Write + Drop> Sink for RealSink<W> {
 }
 
 // Writes all bytes, and counts each fault.
-fn write_out<W: Write>(writer: &mut W, bytes: &[u8], faults: &mut u64) -> Result<(), Failed>
+pub(crate) fn write_out<W: Write>(
+    writer: &mut W,
+    bytes: &[u8],
+    faults: &mut u64,
+) -> Result<(), Failed>
     ensures ok { OnOk result (Appends (W.contents writer.old) (W.contents writer.new) bytes.now) }
     ensures err { OnErr result (AppendsFront (W.contents writer.old) (W.contents writer.new) bytes.now) }
     ensures cause { HasCause faults.old faults.new result }

@@ -71,3 +71,28 @@ fn files_in_memory_are_read_by_name(rt: HostRuntime) -> Result<(), Fail> {
     assert_eq!(rt; files.read_faults(), 2);
     Ok(())
 }
+
+#[test]
+fn files_in_memory_are_written_by_name(rt: HostRuntime) -> Result<(), Fail> {
+    let alloc = rt.alloc();
+    let mut files = vec![in alloc]?;
+    files.push(MemoryFile::of(alloc, "a.v", b"old")?)?;
+    let mut files = MemoryFiles::new(alloc, files).failing_writes_at(vec![in alloc; 1]?);
+    for (name, bytes, held) in [
+        ("a.v", b"new text".as_slice(), Some(b"new text".as_slice())),
+        ("a.v", b"lost".as_slice(), None),
+        ("b.v", b"".as_slice(), Some(b"".as_slice())),
+        ("a.v", b"x".as_slice(), Some(b"x".as_slice())),
+    ] {
+        let answer = files.write(alloc, name, bytes);
+        assert_eq!(rt; answer.is_ok(), held.is_some(), "of {name}");
+        if held.is_some() {
+            assert_eq!(rt; files.held(name), held, "of {name}");
+        }
+    }
+    assert_eq!(rt; files.held("b.v"), Some(b"".as_slice()));
+    assert_eq!(rt; files.held("c.v"), None);
+    assert_eq!(rt; files.write_faults(), 1);
+    assert_eq!(rt; files.read_faults(), 0);
+    Ok(())
+}

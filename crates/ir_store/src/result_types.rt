@@ -3,7 +3,7 @@
 ghost use Rattle.std.specs.Prelude.{◌≡◌, ◌∷◌, [], map, min, drop, length, IfOk, Some};
 ghost use Rattle.std.specs.Option.{option_map};
 ghost use Rattle.hw_model.specs.Types.HwType.{struct};
-ghost use Rattle.hw_model.specs.TypeViews.{type_of, field_of, fields_of};
+ghost use Rattle.hw_model.specs.TypeViews.{type_of, field_of as field_view, fields_of};
 ghost use Rattle.hw_model.specs.KindViews.{kind_of};
 ghost use Rattle.hw_model.specs.Sound.{field_type, field_list};
 ghost use Rattle.ir_store.specs.ResultTypes.{result_type, result_types, first_type, second_type, joined_width, joined_length, as_int, as_array, array_of, element_of, field_of as field_in, fields_of as fields_in, kept_size};
@@ -53,10 +53,10 @@ fn result_type(
             copied(alloc, types.get(1))
         }
         OpKind::Concat => Ok(joined_width(types).map(Ty::Int)),
-        OpKind::ArrayCreate => array(alloc, Some(size(operands)), types.first()),
-        OpKind::ArrayConcat => array(alloc, joined_length(types), element(types.first())),
-        OpKind::ArrayGet => copied(alloc, element(types.first())),
-        OpKind::StructExtract(name) => copied(alloc, field(types.first(), name)),
+        OpKind::ArrayCreate => array(alloc, Some(kept_size(operands)), types.first()),
+        OpKind::ArrayConcat => array(alloc, joined_length(types), element_of(types.first())),
+        OpKind::ArrayGet => copied(alloc, element_of(types.first())),
+        OpKind::StructExtract(name) => copied(alloc, field_of(types.first(), name)),
         OpKind::StructExplode | OpKind::Instance(_) | OpKind::Output => Ok(None),
         _ => copied(alloc, types.first()),
     }
@@ -72,15 +72,15 @@ fn copied(alloc: Global, ty: Option<&Ty>) -> Result<Option<Ty>, AllocError>
     }
 }
 
-/// A length as a type keeps it.
-fn size(count: usize) -> u32
+/// A length as a type keeps it: at most 2^32 - 1.
+pub fn kept_size(count: usize) -> u32
     ensures { result ≡ kept_size count }
 {
     u32::try_from(count).unwrap_or(u32::MAX)
 }
 
-/// The width of joined integers; None where a type is none.
-fn joined_width(types: &[Ty]) -> Option<u32>
+/// The width of joined integers, at most 2^32 - 1; None where a type is none.
+pub fn joined_width(types: &[Ty]) -> Option<u32>
     ensures { result ≡ option_map kept_size (joined_width (map type_of types.now)) }
 {
     let mut width: u32 = 0;
@@ -93,8 +93,8 @@ fn joined_width(types: &[Ty]) -> Option<u32>
     Some(width)
 }
 
-/// The length of joined arrays; None where a type is none.
-fn joined_length(types: &[Ty]) -> Option<u32>
+/// The length of joined arrays, at most 2^32 - 1; None where a type is none.
+pub fn joined_length(types: &[Ty]) -> Option<u32>
     ensures { result ≡ option_map kept_size (joined_length (map type_of types.now)) }
 {
     let mut length: u32 = 0;
@@ -121,7 +121,7 @@ fn array(alloc: Global, length: Option<u32>, element: Option<&Ty>) -> Result<Opt
 }
 
 /// The type of the elements of an array.
-fn element<'t>(ty: Option<&'t Ty>) -> Option<&'t Ty>
+pub fn element_of<'t>(ty: Option<&'t Ty>) -> Option<&'t Ty>
     ensures { option_map (λ t. type_of t.now) result ≡ element_of (option_map (λ t. type_of t.now) ty.entry) }
 {
     match ty {
@@ -130,8 +130,8 @@ fn element<'t>(ty: Option<&'t Ty>) -> Option<&'t Ty>
     }
 }
 
-/// The type of a field of a struct.
-fn field<'t>(ty: Option<&'t Ty>, name: &Text) -> Option<&'t Ty>
+/// The type of a field of a struct: the first of that name.
+pub fn field_of<'t>(ty: Option<&'t Ty>, name: &Text) -> Option<&'t Ty>
     ensures { option_map (λ t. type_of t.now) result ≡ field_in (option_map (λ t. type_of t.now) ty.entry) name.now }
 {
     match ty {
@@ -142,7 +142,7 @@ fn field<'t>(ty: Option<&'t Ty>, name: &Text) -> Option<&'t Ty>
 
 /// The type of the first field of a name.
 fn field_among<'t>(fields: &'t [Field], name: &Text) -> Option<&'t Ty>
-    ensures { option_map (λ t. type_of t.now) result ≡ field_type (fields_of (map field_of fields.now)) name.now }
+    ensures { option_map (λ t. type_of t.now) result ≡ field_type (fields_of (map field_view fields.now)) name.now }
 {
     for field in fields {
         if field.name == *name {
@@ -164,7 +164,7 @@ fn field_types(alloc: Global, ty: Option<&Ty>) -> Result<Vec<Option<Ty>>, AllocE
 
 /// The types of fields.
 fn types_of_fields(alloc: Global, fields: &[Field]) -> Result<Vec<Option<Ty>>, AllocError>
-    ensures { IfOk result (λ ts. map (option_map type_of) ts.items ≡ map Some (field_list (fields_of (map field_of fields.now)))) }
+    ensures { IfOk result (λ ts. map (option_map type_of) ts.items ≡ map Some (field_list (fields_of (map field_view fields.now)))) }
 {
     let mut types = Vec::with_capacity(alloc, fields.len())?;
     for field in fields {

@@ -10,6 +10,17 @@ pub mod Attributes
 pub mod Keys
 pub mod Entries
 pub mod Literals
+mod Again
+mod AgainAttributes
+mod AgainForms
+mod AgainLiterals
+mod AgainModules
+mod AgainOperands
+mod AgainOperations
+mod AgainPieces
+mod AgainTexts
+mod AgainTokens
+mod AgainTypes
 mod BodySteps
 mod Constants
 mod Defining

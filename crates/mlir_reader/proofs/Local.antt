@@ -76,11 +76,11 @@ same_first = same_of first go
     go (bad p) a b = refl
     go (end p) a b = refl
 
-behind_short : (a : List Lexeme) (w : List Symbol) → length w ≤ length (map token a ++ w)
+pub behind_short : (a : List Lexeme) (w : List Symbol) → length w ≤ length (map token a ++ w)
 behind_short [] w = omega arith
 behind_short (t ∷ a) w = let h = behind_short a w in omega (arith, h)
 
-map_joined : (a b : List Lexeme) (v : List Symbol) → map token (a ++ b) ++ v ≡ map token a ++ (map token b ++ v)
+pub map_joined : (a b : List Lexeme) (v : List Symbol) → map token (a ++ b) ++ v ≡ map token a ++ (map token b ++ v)
 map_joined a b v = ap (λ x. x ++ v) (map-append token a b) ∙ append_assoc (map token a) (map token b) v
 
 -- ---- readers

@@ -374,14 +374,14 @@ local_wrapped c n =
     loc_on (local_all {R = modules_text (is_next kind.RightBrace)} (loc_modules (is_next kind.RightBrace) (same_is_first (λ t. is_kind t.kind kind.RightBrace))) c n) (λ ms.
     loc_on (local_want op.File kind.RightBrace c n) (λ _. loc_if is_end (same_of is_end alike_end) (loc_give {y = ms}) (loc_unexpected op.File))))))
 
-local_file : Local file_text
+pub local_file : Local file_text
 unfolding file_text
 local_file c n =
     loc_next is_file_name (loc_after (local_wrapped c n)) (local_all {R = modules_text is_end} (loc_modules is_end (same_of is_end alike_end)) c n)
 
 -- ---- texts
 
-whole_stream : (place : Place) (rs : List (Result Lexeme Refusal)) → Whole (stream place rs)
+pub whole_stream : (place : Place) (rs : List (Result Lexeme Refusal)) → Whole (stream place rs)
 whole_stream place [] = tt
 whole_stream place (Ok t ∷ rs) = whole_stream place rs
 whole_stream place (Err r ∷ rs) = tt
@@ -393,7 +393,7 @@ fits source le = go (nat_lt text_limit (length source)) refl
     go true e = let h = ltb-true text_limit (length source) e in absurd (omega (arith, h, le))
     go false e = refl
 
-read_is : (source : List ℕ) → length source ≤ text_limit → read source ≡ design_read (file_text (stream_of source))
+pub read_is : (source : List ℕ) → length source ≤ text_limit → read source ≡ design_read (file_text (stream_of source))
 read_is source le = cond-false (nat_lt text_limit (length source)) _ (design_read (file_text (stream_of source))) (fits source le)
 
 refused_at : (source : List ℕ) (r : Refusal) (front : List Lexeme) (u : List Symbol) → stream_of source ≡ map token front ++ u → place_first u ≡ r.place

@@ -1,5 +1,6 @@
 -- What values of a text's parts stand for, and what a reader of the code gives.
 use Rattle.std.specs.Prelude.{◌≡◌, List, map, Result, Ok, Err, option_map}
+use Rattle.std.specs.Box.{box_value}
 use Rattle.hw_model.specs.TypeViews.{type_of}
 use Rattle.hw_model.specs.KindViews.{predicate_of, integer_of, literals_in, instance_of}
 use Rattle.ir_store.specs.OperationViews.{types_in}
@@ -44,7 +45,7 @@ extra_of (extra.Position n) = piece.Extra.position n
 extra_of (extra.Number z) = piece.Extra.number (integer_of z)
 extra_of (extra.Literals ls) = piece.Extra.literals (literals_in ls)
 extra_of (extra.FieldName name) = piece.Extra.field_name name
-extra_of (extra.Child i) = piece.Extra.child (instance_of i)
+extra_of (extra.Child i) = piece.Extra.child (instance_of (box_value i))
 
 abbrev pub gathered_of : Gathered → piece.Gathered
 gathered_of g = record { operands = map operand_of g.operands.items; types = types_in g.types; extra = extra_of g.extra }

@@ -54,13 +54,14 @@ impl<'s> Reader<'s> {
         let alloc = self.alloc();
         let inputs = join_inputs(alloc, operands, gathered)?;
         let outputs = join_outputs(alloc, results, gathered)?;
-        gathered.extra = Extra::Child(Instance {
+        let instance = Instance {
             name,
             inner_symbol,
             symbol,
             inputs,
             outputs,
-        });
+        };
+        gathered.extra = Extra::Child(Box::new(alloc, instance)?);
         Ok(())
     }
 

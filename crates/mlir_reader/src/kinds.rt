@@ -1,8 +1,10 @@
 //! The kinds of operations, from what their texts say.
 ghost use Rattle.std.specs.Prelude.{◌≡◌, ◌-◌, ◌^◌, true, map, option_map, IfOk};
+ghost use Rattle.std.specs.Box.{box_value};
 ghost use Rattle.hw_model.specs.TypeViews.{type_of};
 ghost use Rattle.hw_model.specs.KindViews.{kind_of, integer_of, predicate_of, reset_of, literal_of, literals_in, instance_of};
 ghost use Rattle.mlir_reader.specs.Resolving.{has_negative, kept_number, kept_integer, kept_by_first, kept_literal, kept_literals, kind_named, plain_kind, said_kind, said_predicate, said_position, said_number, said_literals, said_field, said_instance, said_reset};
+ghost use Rattle.mlir_reader.specs.PieceText.Extra.{nothing};
 ghost use Rattle.mlir_reader.specs.Views.{extra_of};
 
 use crate::syntax::Extra;
@@ -79,7 +81,7 @@ fn said_kind(alloc: Global, name: Listed, extra: Extra, types: &[Ty]) -> Result<
         }
         Listed::HwStructExtract => Ok(OpKind::StructExtract(said_field(alloc, extra))),
         Listed::HwStructInject => Ok(OpKind::StructInject(said_field(alloc, extra))),
-        Listed::HwInstance => Ok(OpKind::Instance(said_instance(alloc, extra))),
+        Listed::HwInstance => Ok(OpKind::Instance(said_instance(alloc, extra)?)),
         Listed::SeqCompreg => Ok(OpKind::CompReg(said_reset(extra))),
         Listed::SeqCompregCe => Ok(OpKind::CompRegCe(said_reset(extra))),
         Listed::SeqFirreg => Ok(OpKind::FirReg(said_reset(extra))),
@@ -140,18 +142,25 @@ fn said_field(alloc: Global, extra: Extra) -> Text
 }
 
 // The instance that is said.
-fn said_instance(alloc: Global, extra: Extra) -> Instance
-    ensures { instance_of result ≡ said_instance (extra_of extra) }
+fn said_instance(alloc: Global, extra: Extra) -> Result<Box<Instance>, AllocError>
+    ensures { IfOk result (λ i. instance_of (box_value i) ≡ said_instance (extra_of extra)) }
 {
     match extra {
-        Extra::Child(instance) => instance,
-        _ => Instance {
-            name: Text::new(alloc),
-            inner_symbol: None,
-            symbol: Text::new(alloc),
-            inputs: Vec::new(alloc),
-            outputs: Vec::new(alloc),
-        },
+        Extra::Child(instance) => Ok(instance),
+        _ => Ok(Box::new(alloc, nameless_instance(alloc))?),
+    }
+}
+
+// An instance without names, of a module without a name.
+fn nameless_instance(alloc: Global) -> Instance
+    ensures { instance_of result ≡ said_instance nothing }
+{
+    Instance {
+        name: Text::new(alloc),
+        inner_symbol: None,
+        symbol: Text::new(alloc),
+        inputs: Vec::new(alloc),
+        outputs: Vec::new(alloc),
     }
 }
 

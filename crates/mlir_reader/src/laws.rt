@@ -4,7 +4,7 @@ ghost use Rattle.std.specs.Prelude.{◌≡◌, ℕ, ◌≤◌, List, length, Ok,
 ghost use Rattle.diag.specs.declared.refusal.Refusal.{Refusal};
 ghost use Rattle.hw_model.specs.Design.{Design};
 ghost use Rattle.mlir_reader.specs.Reading.{text_limit, read};
-ghost use Rattle.mlir_reader.specs.Locality.{IsOfItsSymbol};
+ghost use Rattle.mlir_reader.specs.Locality.{IsOfItsSymbol, IsUnspelledFront};
 ghost use Rattle.mlir_reader.specs.Spelling.{Spells};
 
 /// Does nothing. Its clause says that what is read of a text is spelled by it.
@@ -16,4 +16,16 @@ pub fn what_is_read_is_spelled()
 /// each text that begins with the same tokens and the same symbol behind them is refused alike.
 pub fn a_refusal_is_of_its_symbol()
     ensures { (source : List ℕ) (r : Refusal) → length source ≤ text_limit → read source ≡ Err r → IsOfItsSymbol source r }
+{}
+
+/// Does nothing. Its clause says that what a text spells is read of it, where the text is not too long. So a text that is not too long is
+/// read exactly where it spells a design, and then as the only design that it spells.
+pub fn what_is_spelled_is_read()
+    ensures { (source : List ℕ) (d : Design) → Spells source d → length source ≤ text_limit → read source ≡ Ok d }
+{}
+
+/// Does nothing. Its clause says that where a text that is not too long is refused, no text that begins with the same tokens and the same
+/// symbol behind them spells a design, however long it is.
+pub fn a_refused_front_is_not_spelled()
+    ensures { (source : List ℕ) (r : Refusal) → length source ≤ text_limit → read source ≡ Err r → IsUnspelledFront source r }
 {}

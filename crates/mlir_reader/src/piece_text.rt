@@ -126,7 +126,7 @@ impl<'s> Reader<'s> {
     fn some_operands(
         &mut self,
         op: OpName,
-        operands: &mut SmallVec<OperandName<'s>, 4, Global>,
+        operands: &mut SmallVec<OperandName<'s>, 2, Global>,
     ) -> Result<(), ReadFail>
         ensures gives { ReadsAs (λ (_ : Unit {0}). map operand_of operands.new.items) result self.new (on (some_items op (operand_text op) self.old) (λ os left. Ok (map operand_of operands.old.items ++ os, left))) }
         ensures shorter { OnOk result (length self.new ≤ length self.old) }
@@ -186,6 +186,7 @@ impl<'s> Reader<'s> {
         ensures shorter { OnOk result (length self.new ≤ length self.old) }
     {
         let truth = self.truth_text(op)?;
+        gathered.types.types.reserve_exact(1)?;
         gathered.types.types.push(Ty::Int(1))?;
         gathered.extra = Extra::Number(Integer::NonNegative(u128::from(truth)));
         Ok(())
@@ -286,6 +287,7 @@ impl<'s> Reader<'s> {
         ensures shorter { OnOk result (length self.new ≤ length self.old) }
     {
         let ty = self.any_type(op)?;
+        gathered.types.types.reserve_exact(1)?;
         gathered.types.types.push(ty)?;
         Ok(())
     }
@@ -310,6 +312,7 @@ impl<'s> Reader<'s> {
             return Ok(());
         }
         let ty = self.any_type(op)?;
+        types.types.reserve_exact(count)?;
         types.types.push(ty)?;
         self.further_types(op, count - 1, types)
     }

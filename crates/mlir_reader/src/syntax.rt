@@ -47,14 +47,14 @@ pub enum Extra {
     /// The name of a field.
     FieldName(Text),
     /// An instance.
-    Child(Instance),
+    Child(Box<Instance>),
 }
 
 /// What is read of an operation behind its name.
 #[derive(Drop)]
 pub struct Gathered<'s> {
     /// Its operands.
-    pub operands: SmallVec<OperandName<'s>, 4, Global>,
+    pub operands: SmallVec<OperandName<'s>, 2, Global>,
     /// The types that are written, in text order.
     pub types: TyList,
     /// The rest.

@@ -1,0 +1,39 @@
+-- The commands and their arguments, as `clap` reads them.
+use Rattle.std.specs.Prelude.{true, Some, codes}
+use Rattle.clap.specs.Words.{App, Rule, new_app, new_rule, with_rule, with_subcommand}
+use Rattle.clap.specs.declared.builder.ArgAction.TheVariants.{SetTrue}
+
+-- FILE
+abbrev pub file_rule : Rule
+file_rule = new_rule (codes "file")
+
+-- `-o FILE`
+abbrev pub output_rule : Rule
+output_rule = record (new_rule (codes "output")) { short = Some 111 }
+
+-- `--export-verilog`
+abbrev pub export_rule : Rule
+export_rule = record (new_rule (codes "export-verilog")) { long = Some (codes "export-verilog"); action = Some SetTrue }
+
+-- `opt [FILE] [-o FILE]`
+abbrev pub opt_app : App
+opt_app = with_rule (with_rule (new_app (codes "opt")) file_rule) output_rule
+
+-- `translate [FILE] --export-verilog [-o FILE]`
+abbrev pub translate_app : App
+translate_app = with_rule (with_rule (with_rule (new_app (codes "translate")) file_rule) output_rule) export_rule
+
+-- a command without help and version, of which a subcommand is wanted; its words are those after the program's name
+abbrev pub bare : App → App
+bare a = record a {
+  top = record a.top {
+    no_binary_name = true;
+    disable_help_flag = true;
+    disable_help_subcommand = true;
+    subcommand_required = true;
+  };
+}
+
+-- the program
+abbrev pub circt_app : App
+circt_app = with_subcommand (with_subcommand (bare (new_app (codes "circt"))) opt_app.top) translate_app.top

@@ -1,0 +1,7 @@
+-- The words of this crate's contracts.
+pub mod Usage
+pub mod Normal
+pub mod Commands
+pub mod Line
+pub mod Making
+pub mod Invocations

@@ -1,0 +1,67 @@
+//! The commands and their arguments.
+ghost use Rattle.std.specs.Prelude.{◌≡◌, IfOk, false, codes};
+ghost use Rattle.clap.specs.Words.{App, app_of, new_app, with_rule};
+ghost use Rattle.command_line.specs.Commands.{file_rule, output_rule, export_rule, opt_app, translate_app, circt_app, bare};
+ghost use Rattle.command_line.specs.Making.{Grows, IsMade};
+
+use clap::{Arg, ArgAction, Command};
+use std::alloc::{AllocError, Global};
+
+/// The program's command, of which a subcommand is wanted.
+pub(crate) fn circt_command<'a>(alloc: Global) -> Result<Command<'a>, AllocError>
+    ensures { IfOk result (IsMade circt_app) }
+{
+    let opt = opt_command(alloc)?;
+    let translate = translate_command(alloc)?;
+    let command = bare_command(alloc).subcommand(opt)?;
+    command.subcommand(translate)
+}
+
+fn bare_command<'a>(alloc: Global) -> Command<'a>
+    ensures { IsMade (bare (new_app (codes "circt"))) result }
+{
+    Command::new(alloc, "circt")
+        .no_binary_name(true)
+        .disable_help_flag(true)
+        .disable_help_subcommand(true)
+        .subcommand_required(true)
+}
+
+fn opt_command<'a>(alloc: Global) -> Result<Command<'a>, AllocError>
+    ensures { IfOk result (IsMade opt_app) }
+{
+    let command = Command::new(alloc, "opt");
+    let command = file(alloc, command)?;
+    output(alloc, command)
+}
+
+fn translate_command<'a>(alloc: Global) -> Result<Command<'a>, AllocError>
+    ensures { IfOk result (IsMade translate_app) }
+{
+    let command = Command::new(alloc, "translate");
+    let command = file(alloc, command)?;
+    let command = output(alloc, command)?;
+    export(alloc, command)
+}
+
+/// The command with FILE.
+fn file<'a>(alloc: Global, command: Command<'a>) -> Result<Command<'a>, AllocError>
+    ensures { IfOk result (Grows command.entry file_rule) }
+{
+    command.arg(Arg::new(alloc, "file"))
+}
+
+/// The command with `-o FILE`.
+fn output<'a>(alloc: Global, command: Command<'a>) -> Result<Command<'a>, AllocError>
+    ensures { IfOk result (Grows command.entry output_rule) }
+{
+    command.arg(Arg::new(alloc, "output").short('o'))
+}
+
+/// The command with `--export-verilog`.
+fn export<'a>(alloc: Global, command: Command<'a>) -> Result<Command<'a>, AllocError>
+    ensures { IfOk result (Grows command.entry export_rule) }
+{
+    let flag = Arg::new(alloc, "export-verilog").long("export-verilog");
+    command.arg(flag.action(ArgAction::SetTrue))
+}

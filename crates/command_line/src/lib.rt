@@ -1,0 +1,9 @@
+//! The words of the command line: made regular, read by `clap`, and answered as an invocation.
+#![tactic(auto)]
+
+mod commands;
+pub mod invocation;
+pub mod normalise;
+#[cfg(test)]
+mod tests;
+pub mod usage;
