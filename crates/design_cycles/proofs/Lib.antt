@@ -5,6 +5,12 @@ pub mod NodeNumbers
 pub mod NodeValues
 pub mod Tables
 pub mod NodeLists
+pub mod Graphing
+pub mod Inputs
+pub mod Summed
+pub mod Pushing
+pub mod Known
+pub mod Cyclic
 pub mod Placing
 pub mod Callees
 pub mod Capped

@@ -5,7 +5,7 @@ use Rattle.std.proofs.lemmas.Bool.{eqb-true, eqb-false}
 use Rattle.wiring.specs.Wiring.{In, Chain}
 use Rattle.wiring.proofs.Members.{In-append_left, In-append_right, In-append_cases}
 use Rattle.wiring.proofs.Chains.{Chain-append}
-use Rattle.design_cycles.specs.Graphs.{lists_of, edges, marked, AreReached}
+use Rattle.design_cycles.specs.Graphs.{lists_of, edges, marked, AreReached, AreCalled}
 use Rattle.design_cycles.specs.declared.graph.NodeList.{NodeList}
 use Rattle.design_cycles.specs.Marks.{open_count, MarksAll}
 
@@ -284,3 +284,31 @@ module _ (graph : List NodeList) (starts : List ℕ) (old new : List Bool) (n : 
       rw (written_back n new old size same)
       (search_goes (lists_of graph) starts old new rest waiting v (subst (IsSearching (lists_of graph) starts old) popped search)
       (subst (λ ns. MarksAll ns old new rest waiting) (are ∙ sym (lists_at graph v x below)) (subst (λ ms. MarksAll nodes ms new rest waiting) is all)))
+
+-- the marks of what some list of a graph in code names
+module _ (graph : List NodeList) (old new : List Bool) (n : ℕ) (size : n ≡ length old) (same : length new ≡ length old) where
+  pub calls_more : (i : ℕ) (x : NodeList) (nodes : List ℕ) (lent : List Bool) (waited waiting : List ℕ) → i < length graph → x ≡ get_or graph i x → nodes ≡ x.nodes.items → lent ≡ old
+      → (length old ≡ length graph) × ((k v : ℕ) → k < i → In v (edges (lists_of graph) k) → v < length (lists_of graph) → marked old v ≡ true) → MarksAll nodes lent new waited waiting
+      → (length (take n (new ++ drop (length new) old)) ≡ length graph)
+      × ((k v : ℕ) → k < i + 1 → In v (edges (lists_of graph) k) → v < length (lists_of graph) → marked (take n (new ++ drop (length new) old)) v ≡ true)
+  calls_more i x nodes lent waited waiting below is are lent_is before all =
+      rw (written_back n new old size same) (same ∙ before.0, λ k v lower here within. go k v (grind arith) here within)
+    where
+      all' : MarksAll nodes old new waited waiting
+      all' = subst (λ ms. MarksAll nodes ms new waited waiting) lent_is all
+
+      nodes_are : nodes ≡ edges (lists_of graph) i
+      nodes_are = are ∙ ap (λ (y : NodeList). y.nodes.items) is ∙ sym (lists_at graph i x below)
+
+      go : (k v : ℕ) → (k < i) ⊎ (k ≡ i) → In v (edges (lists_of graph) k) → v < length (lists_of graph) → marked new v ≡ true
+      go k v (inl lower) here within = all'.kept v (before.1 k v lower here within)
+      go k v (inr equal) here within =
+          all'.all v (subst (In v) (sym nodes_are) (subst (λ m. In v (edges (lists_of graph) m)) equal here))
+          (let count : length old ≡ length graph = before.0 in let whole : length (lists_of graph) ≡ length graph = length-lists graph in omega arith)
+
+pub calls_end : (graph : List NodeList) (marks : List Bool) (i : ℕ) → length graph ≤ i
+    → (length marks ≡ length graph) × ((k v : ℕ) → k < i → In v (edges (lists_of graph) k) → v < length (lists_of graph) → marked marks v ≡ true) → AreCalled (lists_of graph) marks
+calls_end graph marks i all each = record {
+  count = each.0 ∙ sym (length-lists graph);
+  all = λ k v here within. each.1 k v (let below : k < length (lists_of graph) = edges_within (lists_of graph) k v here in let whole : length (lists_of graph) ≡ length graph = length-lists graph in omega arith) here within;
+}

@@ -81,3 +81,7 @@ spans_more rows os j ports n start next spans new s at are from first many follo
 pub row_more : (graph old : List NodeList) (n : NodeList) (base done : List (List ℕ)) (row : List ℕ) → graph ≡ old ++ n ∷ [] → lists_of old ≡ base ++ done → n.nodes.items ≡ row → lists_of graph ≡ base ++ (done ++ row ∷ [])
 row_more graph old n base done row grown before is =
     ap lists_of grown ∙ map-append (λ (x : NodeList). x.nodes.items) old (n ∷ []) ∙ ap₂ (λ xs y. xs ++ y ∷ []) before is ∙ append_assoc base done (row ∷ [])
+
+pub one_more_empty : (graph old : List NodeList) (n : NodeList) (k : ℕ) → lists_of old ≡ times_over k [] → graph ≡ old ++ n ∷ [] → n.nodes.items ≡ [] → lists_of graph ≡ times_over (k + 1) []
+one_more_empty graph old n k before grown is =
+    ap lists_of grown ∙ map-append (λ (x : NodeList). x.nodes.items) old (n ∷ []) ∙ ap₂ (λ xs y. xs ++ y ∷ []) before is ∙ sym (times_more k [])

@@ -77,14 +77,14 @@ positions_give ids positions q xs are size = go (slice_get positions q) refl
             past j far ∙ sym (absent (λ k at. (let same : Some j ≡ Some k = sym some ∙ are.known k q at in
             let e : j ≡ k = cc in let bound : k < length ids = slice_get_within ids k q at in absurd (omega arith))))
 
-spans_give : (start : ℕ) (ns : List ℕ) (ss : List Span) (j k : ℕ) → AreSpans start ns ss → span_node (slice_get ss j) k ≡ node_at start ns j k
+pub spans_give : (start : ℕ) (ns : List ℕ) (ss : List Span) (j k : ℕ) → AreSpans start ns ss → span_node (slice_get ss j) k ≡ node_at start ns j k
 spans_give start [] [] j k are = refl
 spans_give start [] (s ∷ ss) j k are = absurd are
 spans_give start (n ∷ ns) [] j k are = absurd are
 spans_give start (n ∷ ns) (s ∷ ss) zero k are = ap₂ (λ a b. cond (nat_lt k b) (Some (a + k)) None) are.0 are.1
 spans_give start (n ∷ ns) (s ∷ ss) (suc j) k are = spans_give (start + n) ns ss j k are.2
 
-span_count : (start : ℕ) (ns : List ℕ) (ss : List Span) → AreSpans start ns ss → length ss ≡ length ns
+pub span_count : (start : ℕ) (ns : List ℕ) (ss : List Span) → AreSpans start ns ss → length ss ≡ length ns
 span_count start [] [] are = refl
 span_count start [] (s ∷ ss) are = absurd are
 span_count start (n ∷ ns) [] are = absurd are

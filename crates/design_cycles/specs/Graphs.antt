@@ -1,6 +1,6 @@
 -- Graphs: for each node, by its number, the nodes that it needs.
-use Rattle.std.specs.Prelude.{◌≡◌, ℕ, ◌<◌, Bool, true, false, List, [], map, length, take, slice_get, slice_index_or, Option, Some}
-use Rattle.wiring.specs.Wiring.{In, Chain}
+use Rattle.std.specs.Prelude.{◌≡◌, ℕ, ◌+◌, ◌<◌, ◌≤◌, Bool, true, false, List, [], map, length, take, slice_get, slice_index_or, Option, Some}
+use Rattle.wiring.specs.Wiring.{In, Chain, Depends}
 use Rattle.design_cycles.specs.declared.graph.NodeList.{NodeList}
 
 -- the lists of the nodes
@@ -31,3 +31,12 @@ pub record IsOrder (lists : List (List ℕ)) (placed : List Bool) (nodes : List 
 -- from a node, where there is one, a chain leads to v
 abbrev pub LeadsTo : List (List ℕ) → Option ℕ → ℕ → Type 0
 LeadsTo lists from v = (a : ℕ) × (from ≡ Some a) × ((k : ℕ) × Chain (edges lists) k a v)
+
+-- what some node needs and is there has its mark
+pub record AreCalled (lists : List (List ℕ)) (marks : List Bool) : Type 0 where
+  pub count : length marks ≡ length lists
+  pub all : (i v : ℕ) → In v (edges lists i) → v < length lists → marked marks v ≡ true
+
+-- one of so many nodes from one on depends on itself
+abbrev pub ReturnsWithin : List (List ℕ) → ℕ → ℕ → Type 0
+ReturnsWithin lists start size = (v : ℕ) × (start ≤ v) × (v < start + size) × Depends (edges lists) v v

@@ -8,4 +8,5 @@ pub mod Places
 pub mod Reading
 pub mod Sizes
 pub mod Sorts
+pub mod Summing
 pub mod Weighing

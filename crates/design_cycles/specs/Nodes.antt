@@ -95,6 +95,14 @@ node_needs ports rows os r = nodes_in (node_ref ports (sizes_in rows os)) (wires
 abbrev pub body_lists : ℕ → (Name → List (List ℕ)) → List Op → List (List ℕ)
 body_lists ports rows os = map (node_needs ports rows os) (body_refs ports (sizes_in rows os))
 
+-- what the nodes of the results of an operation need
+abbrev pub lists_of_op : ℕ → (Name → List (List ℕ)) → List Op → ℕ → Option Op → List (List ℕ)
+lists_of_op ports rows os j None = []
+lists_of_op ports rows os j (Some o) = map (node_needs ports rows os) (op_refs j 0 (size_in rows o))
+
+abbrev pub lists_at : ℕ → (Name → List (List ℕ)) → List Op → ℕ → List (List ℕ)
+lists_at ports rows os j = lists_of_op ports rows os j (slice_get os j)
+
 -- the positions are those of the ids
 pub record ArePositions (ids positions : List ℕ) : Type 0 where
   pub known : (j q : ℕ) → slice_get ids j ≡ Some q → slice_get positions q ≡ Some j
@@ -131,11 +139,3 @@ picked_values l values (n ∷ ns) = option_to_list (bind (slice_get values n) (v
 abbrev pub times_over : ℕ → List ℕ → List (List ℕ)
 times_over zero xs = []
 times_over (suc n) xs = xs ∷ times_over n xs
-
--- what the results of an operation need
-abbrev pub op_lists_by : Layout → (Name → List (List ℕ)) → Op → List Value → Option Instance → List (List ℕ)
-op_lists_by l rows o values (Some i) = map (picked_values l values) (rows i.symbol)
-op_lists_by l rows o values None = cond (is_output_op o) [] (times_over (length o.results) (value_nodes l values))
-
-abbrev pub op_lists : Layout → (Name → List (List ℕ)) → Op → List Value → List (List ℕ)
-op_lists l rows o values = cond (is_register o) [] (op_lists_by l rows o values (instance_in o.kind))

@@ -1,5 +1,6 @@
 -- Places in code: a module's number and the id of one of its operations.
 use Rattle.std.specs.Prelude.{◌≡◌, ℕ, ◌≤◌, List, [], Option, Some, None, slice_get}
+use Rattle.hw_model.specs.Types.{Name}
 use Rattle.ir_store.specs.declared.operation.OpId.{OpId}
 use Rattle.ir_store.specs.BodyOps.{ids_in}
 use Rattle.ir_store.specs.Designs.{StoredModule}
@@ -16,6 +17,14 @@ pub record IsFirstOp (P : ℕ → Type 0) (ids : List ℕ) (op : OpId) : Type 0 
 abbrev pub FindsOp : (ℕ → Type 0) → List ℕ → Option OpId → Type 0
 FindsOp P ids None = (j : ℕ) → P j → ⊥
 FindsOp P ids (Some op) = IsFirstOp P ids op
+
+-- the symbol of a module
+abbrev pub symbol_of : Option StoredModule → Name
+symbol_of None = []
+symbol_of (Some m) = m.symbol
+
+abbrev pub symbol_at : List StoredModule → ℕ → Name
+symbol_at modules i = symbol_of (slice_get modules i)
 
 -- the ids of a module's operations
 abbrev pub ids_of_module : Option StoredModule → List ℕ

@@ -4,10 +4,10 @@ ghost use Rattle.hw_model.specs.Hierarchy.{called};
 ghost use Rattle.ir_store.specs.Bodies.{ids_of, ops_of, op_id};
 ghost use Rattle.ir_store.specs.Numbered.{numbered};
 ghost use Rattle.ir_store.specs.Designs.{design_of, modules_of};
-ghost use Rattle.design_cycles.specs.Graphs.{lists_of};
+ghost use Rattle.design_cycles.specs.Graphs.{lists_of, AreCalled};
 ghost use Rattle.design_cycles.specs.Calls.{numbers_of, call_lists, IsCalleeAt};
 
-use crate::graph::NodeList;
+use crate::graph::{NodeList, mark_all};
 use crate::ops::{Sort, ids_in, op_at, sort_of};
 use ir_store::body::Body;
 use ir_store::design::Design;
@@ -23,6 +23,18 @@ pub(crate) fn call_graph(alloc: Global, design: &Design) -> Result<Vec<NodeList>
         graph.push(calls_of(alloc, design, &design.module(number).body)?)?;
     }
     Ok(graph)
+}
+
+/// Of each module whether one instances it.
+pub(crate) fn called_modules(alloc: Global, calls: &[NodeList]) -> Result<Vec<bool>, AllocError>
+    ensures { IfOk result (λ marks. AreCalled (lists_of calls.now) marks.items) }
+{
+    let mut marks = vec![in alloc; false; calls.len()]?;
+    let mut waiting = Vec::new(alloc);
+    for list in calls {
+        mark_all(list.nodes.as_slice(), &mut marks, &mut waiting)?;
+    }
+    Ok(marks)
 }
 
 /// The numbers of the modules that a body instances.

@@ -34,7 +34,11 @@ pub(crate) fn reached_from(
 }
 
 /// Marks `nodes`, and lets those wait that had no mark. What is not there gets none.
-fn mark_all(nodes: &[u32], marks: &mut [bool], waiting: &mut Vec<u32>) -> Result<(), AllocError>
+pub(crate) fn mark_all(
+    nodes: &[u32],
+    marks: &mut [bool],
+    waiting: &mut Vec<u32>,
+) -> Result<(), AllocError>
     ensures { IfOk result (λ _. MarksAll nodes.now marks.old marks.new waiting.old.items waiting.new.items) }
 {
     for node in nodes {
@@ -44,6 +48,16 @@ fn mark_all(nodes: &[u32], marks: &mut [bool], waiting: &mut Vec<u32>) -> Result
         }
     }
     Ok(())
+}
+
+/// Whether the node has its mark.
+pub(crate) fn is_marked(marks: &[bool], node: u32) -> bool
+    ensures { result ≡ marked marks.now node }
+{
+    match marks.get(node as usize) {
+        Some(mark) => *mark,
+        None => false,
+    }
 }
 
 /// Whether the node is there and has no mark.

@@ -1,5 +1,6 @@
 //! Questions about a design that are answered module by module, without expanding an instance: which instance is the first
-//! on a cycle of modules, and which module is the first that is too large.
+//! on a cycle of modules, which module is the first that is too large, and which operation is the first on a
+//! combinational cycle.
 #![tactic(auto)]
 
 mod calls;
@@ -11,10 +12,12 @@ mod order;
 mod place;
 mod recursion;
 mod size;
+mod summaries;
 mod symbols;
 #[cfg(test)]
 mod tests;
 mod weights;
+mod wired;
 mod wires;
 
 pub use cycles::first_cycle;

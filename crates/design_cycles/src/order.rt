@@ -1,7 +1,8 @@
 //! Orders of a graph's nodes in which each stands behind all that it needs.
-ghost use Rattle.std.specs.Prelude.{◌≡◌, ◌<◌, ◌^◌, ℕ, length, IfOk, MatchBool};
+ghost use Rattle.std.specs.Prelude.{◌≡◌, ◌<◌, ◌^◌, ℕ, [], length, IfOk, MatchBool};
 ghost use Rattle.wiring.specs.Wiring.{In};
 ghost use Rattle.design_cycles.specs.Graphs.{lists_of, IsOrder};
+ghost use Rattle.design_cycles.specs.Nodes.{times_over};
 ghost use Rattle.design_cycles.specs.Marks.{AreMarked, HasOpen, CanBePlaced, MustWait, Placed};
 
 use crate::graph::{NodeList, is_open};
@@ -148,7 +149,9 @@ fn note_user(user: u32, nodes: &[u32], users: &mut Vec<NodeList>) -> Result<(), 
 }
 
 /// So many empty lists.
-fn empty_lists(alloc: Global, count: usize) -> Result<Vec<NodeList>, AllocError> {
+pub(crate) fn empty_lists(alloc: Global, count: usize) -> Result<Vec<NodeList>, AllocError>
+    ensures { IfOk result (λ lists. lists_of lists.items ≡ times_over count []) }
+{
     let mut lists = Vec::with_capacity(alloc, count)?;
     for _ in 0..count {
         lists.push(NodeList {

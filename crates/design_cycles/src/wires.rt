@@ -1,6 +1,6 @@
 //! The graph of a body's values: what each needs, without a register between, each instance standing for what its module's
 //! outputs depend on.
-ghost use Rattle.std.specs.Prelude.{◌≡◌, ◌<◌, ◌+◌, ◌^◌, ◌++◌, ℕ, length, map, IfOk, Some};
+ghost use Rattle.std.specs.Prelude.{◌≡◌, ◌<◌, ◌+◌, ◌^◌, ◌++◌, ℕ, length, map, IfOk, OnOk, Some};
 ghost use Rattle.std.specs.Option.{option_map};
 ghost use Rattle.wiring.specs.Options.{bind};
 ghost use Rattle.ir_store.specs.Bodies.{ids_of, ops_of, op_id};
@@ -9,11 +9,12 @@ ghost use Rattle.ir_store.specs.Numbered.{numbered};
 ghost use Rattle.std.specs.Prelude.{slice_get};
 ghost use Rattle.ir_store.specs.Live.{AreDistinct};
 ghost use Rattle.design_cycles.specs.Graphs.{lists_of};
-ghost use Rattle.design_cycles.specs.Nodes.{rows_at as rows_kept, rows_by, HasSize, sizes_in, AreSpans, ArePositions, IsLayout, span_node, value_node, value_nodes, picked_values, times_over};
+ghost use Rattle.design_cycles.specs.Nodes.{rows_at as rows_kept, rows_by, HasSize, sizes_in, AreSpans, ArePositions, IsLayout, span_node, value_node, value_nodes, picked_values, times_over, body_lists, lists_at};
 
 use crate::graph::NodeList;
 use crate::layout::{Layout, Span, Summary};
 use crate::ops::{Sort, op_at, sort_of};
+use crate::order::empty_lists;
 use ir_store::body::Body;
 use ir_store::design::Design;
 use ir_store::operation::{OpId, Value};
@@ -45,11 +46,13 @@ fn node_in(span: Option<&Span>, number: u32) -> Option<u32>
 
 /// The position of each id by its number.
 pub(crate) fn positions_of(alloc: Global, ids: &[OpId]) -> Result<Vec<u32>, AllocError>
-    requires small { length ids.now < 2 ^ 32 }
-    requires distinct { AreDistinct (map (λ (i : OpId). i.index) ids.now) }
+    requires { AreDistinct (map (λ (i : OpId). i.index) ids.now) }
     ensures { IfOk result (λ ps. ArePositions (map (λ (i : OpId). i.index) ids.now) ps.items) }
 {
-    let mut positions = vec![in alloc; ids.len() as u32; size_for(ids)]?;
+    let Ok(count) = u32::try_from(ids.len()) else {
+        return Err(AllocError);
+    };
+    let mut positions = vec![in alloc; count; size_for(ids)]?;
     for position in 0..ids.len() {
         positions[ids[position].number() as usize] = position as u32;
     }
@@ -140,6 +143,8 @@ pub(crate) fn layout_of(
     summaries: &[Summary],
 ) -> Result<Layout, AllocError>
     requires { ids.now ≡ map op_id (ids_of body.now) }
+    ensures layout { IfOk result (IsLayout ports (sizes_in (rows_by (map (λ m. m.symbol) (modules_of design.now)) summaries.now) (numbered (ops_of body.now))) (ids_of body.now)) }
+    ensures small { OnOk result (ports < 2 ^ 32) }
 {
     let Ok(ports) = u32::try_from(ports) else {
         return Err(AllocError);
@@ -159,20 +164,18 @@ pub(crate) fn graph_of(
     design: &Design,
     body: &Body,
     ids: &[OpId],
+    ports: usize,
     layout: &Layout,
     summaries: &[Summary],
 ) -> Result<Vec<NodeList>, AllocError>
-    requires { ids.now ≡ map op_id (ids_of body.now) }
+    requires all { ids.now ≡ map op_id (ids_of body.now) }
+    requires layout { IsLayout ports (sizes_in (rows_by (map (λ m. m.symbol) (modules_of design.now)) summaries.now) (numbered (ops_of body.now))) (ids_of body.now) layout.now }
+    ensures { IfOk result (λ graph. lists_of graph.items ≡ body_lists ports (rows_by (map (λ m. m.symbol) (modules_of design.now)) summaries.now) (numbered (ops_of body.now))) }
 {
-    let mut graph = Vec::new(alloc);
-    for _ in 0..layout.ports {
-        graph.push(NodeList {
-            nodes: Vec::new(alloc),
-        })?;
-    }
+    let mut graph = empty_lists(alloc, ports)?;
     for position in 0..ids.len() {
         push_op(
-            alloc, design, body, ids, position, layout, summaries, &mut graph,
+            alloc, design, body, ids, ports, position, layout, summaries, &mut graph,
         )?;
     }
     Ok(graph)
@@ -184,6 +187,7 @@ fn push_op(
     design: &Design,
     body: &Body,
     ids: &[OpId],
+    ports: usize,
     position: usize,
     layout: &Layout,
     summaries: &[Summary],
@@ -191,6 +195,8 @@ fn push_op(
 ) -> Result<(), AllocError>
     requires all { ids.now ≡ map op_id (ids_of body.now) }
     requires within { position < length ids.now }
+    requires layout { IsLayout ports (sizes_in (rows_by (map (λ m. m.symbol) (modules_of design.now)) summaries.now) (numbered (ops_of body.now))) (ids_of body.now) layout.now }
+    ensures { IfOk result (λ _. lists_of graph.new.items ≡ lists_of graph.old.items ++ lists_at ports (rows_by (map (λ m. m.symbol) (modules_of design.now)) summaries.now) (numbered (ops_of body.now)) position) }
 {
     let op = op_at(body, ids, position);
     match sort_of(op.kind) {

@@ -13,7 +13,7 @@ index_mut-requires c =
 
 pub loop-position-preserved : goal.loop-position-preserved
 loop-position-preserved c =
-    table_more (indices c.args.ids.now) c.loop-position.position c.number.result c.loop-position.positions.items c.requires.distinct
+    table_more (indices c.args.ids.now) c.loop-position.position c.number.result c.loop-position.positions.items c.requires
     (index_at c.args.ids.now c.loop-position.position (op_id 0) c.loop-position-test.true ∙ ap Some (sym c.number.ensures)) c.loop-position.invariant
 
 pub returns : goal.returns

@@ -1,0 +1,54 @@
+//! The graph of a module's values, with what tells its nodes.
+ghost use Rattle.std.specs.Prelude.{◌≡◌, ◌<◌, ◌^◌, length, map, IfOk, OnOk};
+ghost use Rattle.ir_store.specs.Bodies.{ids_of, ops_of, op_id};
+ghost use Rattle.ir_store.specs.Numbered.{numbered};
+ghost use Rattle.ir_store.specs.Designs.{modules_of};
+ghost use Rattle.design_cycles.specs.Graphs.{lists_of};
+ghost use Rattle.design_cycles.specs.Nodes.{rows_by, sizes_in, body_lists, IsLayout};
+
+use crate::graph::NodeList;
+use crate::layout::{Layout, Summary};
+use crate::ops::ids_in;
+use crate::wires::{graph_of, layout_of};
+use ir_store::design::{Design, Module};
+use ir_store::operation::OpId;
+use std::alloc::{AllocError, Global};
+
+/// A module's operations, where their values stand, and what each value needs.
+#[derive(Drop)]
+pub(crate) struct Wired {
+    /// The ids of the operations in text order.
+    pub(crate) ids: Vec<OpId>,
+    /// Where the values stand.
+    pub(crate) layout: Layout,
+    /// What each node needs.
+    pub(crate) graph: Vec<NodeList>,
+}
+
+/// The graph of a module, where the summaries of those that it instances are known.
+pub(crate) fn wires_of(
+    alloc: Global,
+    design: &Design,
+    one: &Module,
+    summaries: &[Summary],
+) -> Result<Wired, AllocError>
+    ensures ids { IfOk result (λ w. w.ids.items ≡ map op_id (ids_of one.now.body)) }
+    ensures layout { IfOk result (λ w. IsLayout (length one.now.ports.ports.items) (sizes_in (rows_by (map (λ m. m.symbol) (modules_of design.now)) summaries.now) (numbered (ops_of one.now.body))) (ids_of one.now.body) w.layout) }
+    ensures graph { IfOk result (λ w. lists_of w.graph.items ≡ body_lists (length one.now.ports.ports.items) (rows_by (map (λ m. m.symbol) (modules_of design.now)) summaries.now) (numbered (ops_of one.now.body))) }
+    ensures small { OnOk result (length one.now.ports.ports.items < 2 ^ 32) }
+{
+    let body = &one.body;
+    let ids = ids_in(alloc, body)?;
+    let ports = one.ports.ports.len();
+    let layout = layout_of(alloc, design, body, ids.as_slice(), ports, summaries)?;
+    let graph = graph_of(
+        alloc,
+        design,
+        body,
+        ids.as_slice(),
+        ports,
+        &layout,
+        summaries,
+    )?;
+    Ok(Wired { ids, layout, graph })
+}
