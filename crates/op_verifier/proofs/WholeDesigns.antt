@@ -206,8 +206,8 @@ cyclic_refusal d place r none no_recursion light found is =
     let f = found_first (modules_of d) (IsCyclicAt (design_of d)) (IsOnCycle (design_of d)) place (apart d) (cyclic_forms (design_of d)) found in
     subst (IsRefusal (design_of d)) (sym (f.refusal CombinationalCycle r is))
     (cyclic place.module f.position f.module_found f.op_found none
-      (found_none (modules_of d) (IsRecursiveAt (design_of d)) (IsRecursive (design_of d)) (recursive_forms (design_of d)) no_recursion)
-      (found_no_module (modules_of d) light) f.first)
+    (found_none (modules_of d) (IsRecursiveAt (design_of d)) (IsRecursive (design_of d)) (recursive_forms (design_of d)) no_recursion)
+    (found_no_module (modules_of d) light) f.first)
 
 pub nothing_refused : (d : code_design.Design) → first_fault (design_of d) ≡ None → Finds (modules_of d) (IsRecursiveAt (design_of d)) None
     → FindsNumber (IsTooLargeAt (design_of d)) None → Finds (modules_of d) (IsCyclicAt (design_of d)) None → IsAccepted (design_of d)

@@ -5,8 +5,8 @@ ghost use Rattle.design_cycles.specs.Places.{ids_at};
 ghost use Rattle.op_verifier.specs.Verdict.{IsVerdict};
 ghost use Rattle.op_verifier.specs.Answered.{modules_verified, Explains, IsRefusedModule, IsRefusedOp};
 
-use crate::faults::{first_fault, listed_of, refused_at};
 use crate::accepted::Verified;
+use crate::faults::{first_fault, listed_of, refused_at};
 use crate::verify_fail::VerifyFail;
 use design_cycles::{OpPlace, first_cycle, first_recursive, first_too_large};
 use diag::cause::Cause;
