@@ -17,4 +17,5 @@ pub mod SoundDesigns
 pub mod Symbols
 pub mod Unrefused
 pub mod Walks
+pub mod WholeDesigns
 pub mod Widths

@@ -1,5 +1,5 @@
 -- A walk over the ids of a body.
-use Rattle.std.proofs.Common.{◌≡◌, ℕ, suc, ◌≤◌, Bool, true, false, cond, nat_eq, List, [], ◌∷◌, ◌++◌, map, Option, Some, None, refl, sym, ap, ◌∙◌, arith, append_assoc, eq-eqb, ne_eqb}
+use Rattle.std.proofs.Common.{slice_get, subst, zero, ◌≡◌, ℕ, suc, ◌≤◌, Bool, true, false, cond, nat_eq, List, [], ◌∷◌, ◌++◌, map, Option, Some, None, refl, sym, ap, ◌∙◌, arith, append_assoc, eq-eqb, ne_eqb}
 use Rattle.std.proofs.lemmas.Bool.{eqb-false}
 use Rattle.std.proofs.lemmas.List.{map_push}
 use Rattle.hw_model.specs.Types.{HwType}
@@ -79,3 +79,12 @@ settled_step olds news e o pushed is beside so_far =
     ∙ ap (λ (ts : List (List (Option HwType))). ts ++ types_beside e ∷ []) so_far
     ∙ ap (λ (t : List (Option HwType)). map settled_for (map op_in olds) ++ t ∷ []) (beside ∙ ap settled_for (sym is))
     ∙ sym (ap (λ (es : List Entry). map settled_for (map op_in es)) pushed ∙ ap (map settled_for) (map_push op_in olds e) ∙ map_push settled_for (map op_in olds) (op_in e))
+
+-- an operation is found by its id
+pub found_by_id : (ops : List BodyOp) → AreDistinct (ids_in ops) → (j : ℕ) (o : BodyOp) → slice_get ops j ≡ Some o → op_at ops o.id ≡ Some o
+found_by_id ops once j o there = among ops j there (found_all ops once)
+  where
+    among : (os : List BodyOp) (k : ℕ) → slice_get os k ≡ Some o → AreFound ops os → op_at ops o.id ≡ Some o
+    among [] k e h = cc
+    among (p ∷ os) zero e h = let same : p ≡ o = cc in subst (λ (x : BodyOp). op_at ops x.id ≡ Some x) same h.0
+    among (p ∷ os) (suc k) e h = among os k e h.1

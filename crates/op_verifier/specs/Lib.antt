@@ -1,3 +1,4 @@
+pub mod Answered
 pub mod Answers
 pub mod BodyViews
 pub mod CountChecks

@@ -1,6 +1,7 @@
 //! Which designs are accepted: the first refusal of a design, in the order of its text, or none.
 #![tactic(auto)]
 
+mod accepted;
 mod body_view;
 mod count_checks;
 mod entries;
@@ -23,7 +24,12 @@ mod type_checks;
 mod type_lists;
 mod type_parts;
 mod values;
+mod verdicts;
+mod verify_fail;
 
+pub use accepted::Verified;
 pub use faults::first_fault;
 pub use laws::{results_are_settled, unrefused_designs_are_sound};
 pub use own_laws::operations_fit;
+pub use verdicts::verify;
+pub use verify_fail::VerifyFail;

@@ -1,0 +1,26 @@
+//! Designs of which nothing is refused.
+ghost use Rattle.std.proofs.Props.{props};
+ghost use Rattle.ir_store.specs.Designs.{design_of};
+ghost use Rattle.op_verifier.specs.Verdict.{IsAccepted};
+
+use ir_store::design::Design;
+
+/// A design of which nothing is refused.
+#[derive(Drop)]
+pub struct Verified {
+    pub(crate) design: Design,
+    ghost accepted: { IsAccepted (design_of design) } by { Prim.hlevel props },
+}
+
+impl Verified {
+    ghost use Rattle.std.specs.Prelude.{◌≡◌};
+    ghost use Rattle.ir_store.specs.Designs.{modules_of};
+    ghost use Rattle.op_verifier.specs.Answered.{modules_verified};
+
+    /// The design.
+    pub fn design(&self) -> &Design
+        ensures { modules_of result.now ≡ modules_verified self.now }
+    {
+        &self.design
+    }
+}

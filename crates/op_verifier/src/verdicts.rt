@@ -1,0 +1,65 @@
+//! The verdict on a design.
+ghost use Rattle.std.specs.Prelude.{◌≡◌, ◌<◌, length, Contains, IfOk, IfErr};
+ghost use Rattle.ir_store.specs.Designs.{design_of, modules_of};
+ghost use Rattle.design_cycles.specs.Places.{ids_at};
+ghost use Rattle.op_verifier.specs.Verdict.{IsVerdict};
+ghost use Rattle.op_verifier.specs.Answered.{modules_verified, Explains, IsRefusedModule, IsRefusedOp};
+
+use crate::accepted::Verified;
+use crate::faults::{first_fault, listed_of, refused_at};
+use crate::verify_fail::VerifyFail;
+use design_cycles::{OpPlace, first_cycle, first_recursive, first_too_large};
+use diag::cause::Cause;
+use diag::listed::Listed;
+use diag::refusal::Refusal;
+use ir_store::design::Design;
+use std::alloc::{AllocError, Global};
+
+/// Takes a design of which nothing is refused. It is dropped where something is, and where memory is wanting.
+pub fn verify(alloc: Global, design: Design) -> Result<Verified, VerifyFail>
+    ensures ok { IfOk result (λ v. modules_verified v ≡ modules_of design) }
+    ensures err { IfErr result (Explains (design_of design)) }
+{
+    match verdict(alloc, &design) {
+        Ok(Some(refusal)) => Err(VerifyFail::Refused(refusal)),
+        Ok(None) => Ok(Verified { design }),
+        Err(_) => Err(VerifyFail::NoMemory),
+    }
+}
+
+/// The first refusal of a design: by its headers and operations; by instances that are recursive; by weights; by cycles.
+fn verdict(alloc: Global, design: &Design) -> Result<Option<Refusal>, AllocError>
+    ensures { IfOk result (IsVerdict (design_of design.now)) }
+{
+    if let Some(refusal) = first_fault(alloc, design)? {
+        return Ok(Some(refusal));
+    }
+    if let Some(place) = first_recursive(alloc, design)? {
+        return Ok(Some(refused_op(design, place, Cause::RecursiveInstance)));
+    }
+    if let Some(number) = first_too_large(alloc, design)? {
+        return Ok(Some(refused_module(design, number, Cause::TooLarge)));
+    }
+    if let Some(place) = first_cycle(alloc, design)? {
+        return Ok(Some(refused_op(design, place, Cause::CombinationalCycle)));
+    }
+    Ok(None)
+}
+
+/// The refusal of a module's header.
+fn refused_module(design: &Design, number: u32, cause: Cause) -> Refusal
+    requires { number < length (modules_of design.now) }
+    ensures { IsRefusedModule (modules_of design.now) number cause result }
+{
+    refused_at(design.module(number).place, Listed::HwModule, cause)
+}
+
+/// The refusal of an operation.
+fn refused_op(design: &Design, at: OpPlace, cause: Cause) -> Refusal
+    requires within { at.module < length (modules_of design.now) }
+    requires live { Contains (ids_at (modules_of design.now) at.module) at.op.index }
+    ensures { IsRefusedOp (modules_of design.now) at cause result }
+{
+    let op = design.module(at.module).body.op(at.op);
+    refused_at(op.place, listed_of(op.kind), cause)
+}
