@@ -1,4 +1,5 @@
 -- Lemmas.
+pub mod AcceptedDesigns
 pub mod Agreeing
 pub mod Distinct
 pub mod FaultSteps
@@ -11,6 +12,8 @@ pub mod Lists
 pub mod Mismatch
 pub mod Names
 pub mod NoCause
+pub mod Placeless
+pub mod PlacelessFaults
 pub mod Positions
 pub mod Settled
 pub mod SoundDesigns

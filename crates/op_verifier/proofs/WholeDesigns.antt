@@ -31,7 +31,7 @@ some_from {a = a} h = ap (λ (o : Option _). value a o) h
     value d (Some x) = x
 
 -- what a changed list has at a place, the list has too
-unmapped : {A B : Type 0} (f : A → B) (xs : List A) (i : ℕ) (y : B) → slice_get (map f xs) i ≡ Some y → (x : A) × (slice_get xs i ≡ Some x) × (f x ≡ y)
+pub unmapped : {A B : Type 0} (f : A → B) (xs : List A) (i : ℕ) (y : B) → slice_get (map f xs) i ≡ Some y → (x : A) × (slice_get xs i ≡ Some x) × (f x ≡ y)
 unmapped f xs i y h = go (slice_get xs i) refl (sym (slice_get-map f xs i) ∙ h)
   where
     go : (o : Option _) → slice_get xs i ≡ o → option_map f o ≡ Some y → (x : _) × (slice_get xs i ≡ Some x) × (f x ≡ y)

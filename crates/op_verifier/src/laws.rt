@@ -1,13 +1,17 @@
 //! The laws on designs of which nothing is refused, each a clause of a function that does nothing.
 ghost use Rattle.std.specs.Prelude.{◌≡◌, ℕ, Bool, List, Option, Some, None, length, slice_get};
-ghost use Rattle.hw_model.specs.Types.{HwType};
+ghost use Rattle.hw_model.specs.Types.{Name, HwType};
 ghost use Rattle.hw_model.specs.Kinds.{Kind};
-ghost use Rattle.hw_model.specs.Design.{Module, Design};
+ghost use Rattle.hw_model.specs.Design.{Op, Module, Design, IsSameDesign};
+ghost use Rattle.hw_model.specs.Hierarchy.{HasNoRecursion};
+ghost use Rattle.hw_model.specs.Meaning.{HasNoCycle};
 ghost use Rattle.hw_model.specs.Sound.{Sound};
 ghost use Rattle.ir_store.specs.ResultTypes.{result_types};
 ghost use Rattle.op_verifier.specs.TypeLists.{settled};
 ghost use Rattle.op_verifier.specs.OwnChecks.{own_cause};
+ghost use Rattle.design_cycles.specs.Asked.{HasDistinctSymbols};
 ghost use Rattle.op_verifier.specs.Faults.{first_fault};
+ghost use Rattle.op_verifier.specs.Verdict.{IsAccepted};
 
 /// Does nothing. Its clause says that an operation that is not refused by itself has results of the types that it settles.
 pub fn results_are_settled()
@@ -21,4 +25,18 @@ pub fn unrefused_designs_are_sound()
     ensures sound { (d : Design) → first_fault d ≡ None → Sound d }
     ensures distinct { (d : Design) → first_fault d ≡ None → (i j : ℕ) (m n : Module) → slice_get d i ≡ Some m → slice_get d j ≡ Some n
         → m.symbol ≡ n.symbol → i ≡ j }
+{}
+
+/// Does nothing. Its clauses say that an accepted design is sound, that no two of its modules have one symbol, that none is
+/// within itself, and that no net of any module's flattening depends on itself without a register between.
+pub fn accepted_designs_are_sound()
+    ensures sound { (d : Design) → IsAccepted d → Sound d }
+    ensures distinct { (d : Design) → IsAccepted d → HasDistinctSymbols d }
+    ensures finite { (d : Design) → IsAccepted d → HasNoRecursion d }
+    ensures acyclic { (d : Design) → IsAccepted d → (top : Name) → HasNoCycle d top }
+{}
+
+/// Does nothing. Its clause says that a design that differs from an accepted one in nothing but places is accepted.
+pub fn places_decide_no_verdict()
+    ensures { (d e : Design) → IsSameDesign d e → IsAccepted d → IsAccepted e }
 {}

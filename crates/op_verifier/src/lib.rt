@@ -29,7 +29,10 @@ mod verify_fail;
 
 pub use accepted::Verified;
 pub use faults::first_fault;
-pub use laws::{results_are_settled, unrefused_designs_are_sound};
+pub use laws::{
+    accepted_designs_are_sound, places_decide_no_verdict, results_are_settled,
+    unrefused_designs_are_sound,
+};
 pub use own_laws::operations_fit;
 pub use verdicts::verify;
 pub use verify_fail::VerifyFail;
