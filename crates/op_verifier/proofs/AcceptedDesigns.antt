@@ -1,11 +1,14 @@
 -- What an accepted design has; and that places decide nothing of it.
-use Rattle.std.proofs.Common.{◌≡◌, ◌⊎◌, ◌<◌, ◌^◌, ℕ, List, [], map, slice_get, false, is_some, Option, Some, None, option_map, refl, sym, ap, subst, ◌∙◌}
+use Rattle.std.proofs.Common.{◌≡◌, ◌⊎◌, ◌<◌, ◌^◌, ℕ, ℤ, pos, negsuc, List, [], ◌∷◌, map, slice_get, false, is_some, Option, Some, None, option_map, refl, sym, ap, ap₂, subst, ◌∙◌, arith}
+use Rattle.std.proofs.lemmas.Bool.Decides.{nat_tests}
 use Rattle.std.proofs.lemmas.Option.{slice_get-map}
 use Rattle.wiring.specs.Wiring.{Depends as IsReached}
 use Rattle.diag.specs.declared.refusal.Refusal.{Refusal}
 use Rattle.hw_model.specs.Types.{Name}
+use Rattle.hw_model.specs.Types.HwType.{int}
 use Rattle.hw_model.specs.Kinds.{Instance}
-use Rattle.hw_model.specs.Design.{Op, Module, Design, op_without_place, module_without_places, without_places, IsSameDesign, find_module, instance_in}
+use Rattle.hw_model.specs.Kinds.Kind.{constant}
+use Rattle.hw_model.specs.Design.{OpResult, Op, Module, Design, op_without_place, module_without_places, without_places, IsSameDesign, find_module, instance_in}
 use Rattle.hw_model.specs.Design.Ref.{result}
 use Rattle.hw_model.specs.Flat.{Net, net}
 use Rattle.hw_model.specs.Hierarchy.{HasNoRecursion}
@@ -16,10 +19,16 @@ use Rattle.design_cycles.proofs.Callees.{found_at}
 use Rattle.design_cycles.proofs.Cyclic.{cyclic_op, none_cyclic}
 use Rattle.design_cycles.proofs.Returning.{none_recursive}
 use Rattle.op_verifier.specs.Faults.{first_fault}
-use Rattle.op_verifier.specs.Verdict.{OpAt, NoOp, NoModule, IsRecursive, IsTooLarge, IsOnCycle, IsAccepted}
+use Rattle.op_verifier.specs.Answers.{or_else}
+use Rattle.op_verifier.specs.LimitChecks.{has_constant_outside}
+use Rattle.op_verifier.specs.LiteralChecks.{is_out_of_range}
+use Rattle.op_verifier.specs.OpChecks.{settled_type, divides_by_constant, value_cause, alone_cause, outer_cause}
+use Rattle.op_verifier.specs.Verdict.{IsInRange, OpAt, NoOp, NoModule, IsRecursive, IsTooLarge, IsOnCycle, IsAccepted}
 use Rattle.op_verifier.proofs.Distinct.{distinct_symbols}
+use Rattle.op_verifier.proofs.NoCause.{no_constant_outside}
 use Rattle.op_verifier.proofs.Placeless.{calls_placeless, weight_placeless, needs_placeless}
 use Rattle.op_verifier.proofs.PlacelessFaults.{fault_placeless}
+use Rattle.op_verifier.proofs.Unrefused.{or_none, ops_unrefused, module_unrefused}
 use Rattle.op_verifier.proofs.WholeDesigns.{unmapped, Forms, recursive_forms, cyclic_forms}
 
 module _ (d : Design) (accepted : IsAccepted d) where
@@ -106,3 +115,22 @@ accepted_with d a = record {
 -- places decide nothing
 pub same_accepted : (d e : Design) → IsSameDesign d e → IsAccepted d → IsAccepted e
 same_accepted d e same a = accepted_with e (subst IsAccepted same (accepted_without d a))
+
+-- ---- constants
+
+within_range : (z : ℤ) (w : ℕ) → is_out_of_range z w ≡ false → IsInRange z w
+unfolding is_out_of_range
+within_range (pos n) w is = grind (arith, nat_tests)
+within_range (negsuc n) w is = grind (arith, nat_tests)
+
+pub constant_in_range : (d : Design) (n j : ℕ) (m : Module) (o : Op) (z : ℤ) (w : ℕ) → IsAccepted d → OpAt d n j m o → o.kind ≡ constant z → o.types ≡ int w ∷ [] → IsInRange z w
+unfolding has_constant_outside
+constant_in_range d n j m o z w accepted at kind types =
+    let found : find_module d m.symbol ≡ Some m = (found_at d (accepted_distinct d accepted) n m at.module_there).1 in
+    let body = (module_unrefused d (no_fault d accepted) m.symbol m found).body in
+    let unrefused = ops_unrefused d m.ports m.body m.body body j o at.op_there in
+    let later = or_none (value_cause m.ports m.body o) (or_else (alone_cause m.ports m.body o) (outer_cause d m.ports unrefused.last o)) unrefused.none in
+    let alone = or_none (alone_cause m.ports m.body o) (outer_cause d m.ports unrefused.last o) later.1 in
+    let inside = no_constant_outside o.kind o.types (map (λ (r : OpResult). r.type) o.results) o.named (map (settled_type m.ports m.body) o.operands) (divides_by_constant m.body o.operands) alone.0 in
+    let same : has_constant_outside (constant z) (int w ∷ []) ≡ has_constant_outside o.kind o.types = sym (ap₂ (λ k ts. has_constant_outside k ts) kind types) in
+    within_range z w (same ∙ inside)

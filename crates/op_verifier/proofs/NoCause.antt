@@ -90,3 +90,11 @@ no_cause kind ts rs us named b h =
       results = n.2;
       parts = n.3;
     }
+
+pub no_constant_outside : (kind : Kind) (ts rs : List HwType) (named : ℕ) (xs : List (Option HwType)) (b : Bool) → own_cause kind ts rs named xs b ≡ None → has_constant_outside kind ts ≡ false
+unfolding own_cause
+no_constant_outside kind ts rs named xs b h =
+    let p3 = uncaused (has_mismatch kind ts rs xs) _ _ h in
+    let p4 = uncaused (has_type_outside kind ts rs) _ _ p3.1 in
+    let p5 = uncaused (has_constant_outside kind ts) _ _ p4.1 in
+    p5.0

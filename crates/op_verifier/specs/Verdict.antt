@@ -1,5 +1,5 @@
 -- The verdict on a design: its first refusal, in the order that is stated, or none.
-use Rattle.std.specs.Prelude.{◌≡◌, false, is_some, ℕ, ◌<◌, ◌^◌, ◌⊎◌, [], Option, Some, None, slice_get}
+use Rattle.std.specs.Prelude.{◌≡◌, false, is_some, ℕ, ℤ, pos, negsuc, ◌<◌, ◌-◌, ◌^◌, ◌⊎◌, [], Option, Some, None, slice_get}
 use Rattle.diag.specs.declared.cause.Cause.TheVariants.{RecursiveInstance, TooLarge, CombinationalCycle}
 use Rattle.diag.specs.declared.refusal.Refusal.{Refusal}
 use Rattle.wiring.specs.Wiring.{Depends as IsReached}
@@ -79,3 +79,8 @@ pub data IsRefusal (d : Design) : Refusal → Type 0 where
 abbrev pub IsVerdict : Design → Option Refusal → Type 0
 IsVerdict d None = IsAccepted d
 IsVerdict d (Some r) = IsRefusal d r
+
+-- an integer is one of a type of so many bits, as it may be written: from -2^(w - 1) to 2^w - 1
+abbrev pub IsInRange : ℤ → ℕ → Type 0
+IsInRange (pos n) w = n < 2 ^ w
+IsInRange (negsuc n) w = n < 2 ^ (w - 1)

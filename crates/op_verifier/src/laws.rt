@@ -1,7 +1,9 @@
 //! The laws on designs of which nothing is refused, each a clause of a function that does nothing.
-ghost use Rattle.std.specs.Prelude.{◌≡◌, ℕ, Bool, List, Option, Some, None, length, slice_get};
+ghost use Rattle.std.specs.Prelude.{◌≡◌, ℕ, ℤ, Bool, List, [], ◌∷◌, Option, Some, None, length, slice_get};
 ghost use Rattle.hw_model.specs.Types.{Name, HwType};
+ghost use Rattle.hw_model.specs.Types.HwType.{int};
 ghost use Rattle.hw_model.specs.Kinds.{Kind};
+ghost use Rattle.hw_model.specs.Kinds.Kind.{constant};
 ghost use Rattle.hw_model.specs.Design.{Op, Module, Design, IsSameDesign};
 ghost use Rattle.hw_model.specs.Hierarchy.{HasNoRecursion};
 ghost use Rattle.hw_model.specs.Meaning.{HasNoCycle};
@@ -11,7 +13,7 @@ ghost use Rattle.op_verifier.specs.TypeLists.{settled};
 ghost use Rattle.op_verifier.specs.OwnChecks.{own_cause};
 ghost use Rattle.design_cycles.specs.Asked.{HasDistinctSymbols};
 ghost use Rattle.op_verifier.specs.Faults.{first_fault};
-ghost use Rattle.op_verifier.specs.Verdict.{IsAccepted};
+ghost use Rattle.op_verifier.specs.Verdict.{OpAt, IsAccepted, IsInRange};
 
 /// Does nothing. Its clause says that an operation that is not refused by itself has results of the types that it settles.
 pub fn results_are_settled()
@@ -28,12 +30,15 @@ pub fn unrefused_designs_are_sound()
 {}
 
 /// Does nothing. Its clauses say that an accepted design is sound, that no two of its modules have one symbol, that none is
-/// within itself, and that no net of any module's flattening depends on itself without a register between.
+/// within itself, that no net of any module's flattening depends on itself without a register between, and that its
+/// constants are in the range of their types.
 pub fn accepted_designs_are_sound()
     ensures sound { (d : Design) → IsAccepted d → Sound d }
     ensures distinct { (d : Design) → IsAccepted d → HasDistinctSymbols d }
     ensures finite { (d : Design) → IsAccepted d → HasNoRecursion d }
     ensures acyclic { (d : Design) → IsAccepted d → (top : Name) → HasNoCycle d top }
+    ensures constants { (d : Design) (n j : ℕ) (m : Module) (o : Op) (z : ℤ) (w : ℕ) → IsAccepted d → OpAt d n j m o
+        → o.kind ≡ constant z → o.types ≡ int w ∷ [] → IsInRange z w }
 {}
 
 /// Does nothing. Its clause says that a design that differs from an accepted one in nothing but places is accepted.

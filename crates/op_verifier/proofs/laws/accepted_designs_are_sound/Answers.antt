@@ -1,4 +1,4 @@
-use Rattle.op_verifier.proofs.AcceptedDesigns.{no_fault, accepted_distinct, accepted_finite, accepted_acyclic}
+use Rattle.op_verifier.proofs.AcceptedDesigns.{no_fault, accepted_distinct, accepted_finite, accepted_acyclic, constant_in_range}
 use Rattle.op_verifier.proofs.Fitting.{fits}
 use Rattle.op_verifier.proofs.Settled.{settles, instance_operands, output_operands}
 use Rattle.op_verifier.proofs.SoundDesigns.{sound_design}
@@ -10,4 +10,5 @@ returns c = record {
   distinct = accepted_distinct;
   finite = accepted_finite;
   acyclic = accepted_acyclic;
+  constants = constant_in_range;
 }
