@@ -35,8 +35,10 @@ use Rattle.design_cycles.proofs.Inside.{no_cycle_anywhere}
 
 -- ---- one node, by the marks of what its needs reach
 
-pub marks_need : (graph : List NodeList) (v : ℕ) (x : NodeList) (starts : List ℕ) (marks : List Bool) (r : Bool) → v < length graph → starts ≡ (get_or graph v x).nodes.items
-    → AreReached (lists_of graph) starts marks → r ≡ get_or marks v r → MatchBool r (Depends (edges (lists_of graph)) v v) (Depends (edges (lists_of graph)) v v → ⊥)
+pub marks_need : (graph : List NodeList) (v : ℕ) (x : NodeList) (starts : List ℕ) (marks : List Bool) (r : Bool) → v < length graph
+    → starts ≡ (get_or graph v x).nodes.items
+    → AreReached (lists_of graph) starts marks → r ≡ get_or marks v r
+    → MatchBool r (Depends (edges (lists_of graph)) v v) (Depends (edges (lists_of graph)) v v → ⊥)
 marks_need graph v x starts marks r below are reached at = by_mark r (at ∙ any_default marks v r false inside)
   where
     inside : v < length marks
@@ -62,7 +64,8 @@ marks_need graph v x starts marks r below are reached at = by_mark r (at ∙ any
 
 -- ---- one more node
 
-pub node_more : (lists : List (List ℕ)) (start node : ℕ) → ((v : ℕ) → start ≤ v → v < node → Depends (edges lists) v v → ⊥) → (Depends (edges lists) node node → ⊥)
+pub node_more : (lists : List (List ℕ)) (start node : ℕ) → ((v : ℕ) → start ≤ v → v < node → Depends (edges lists) v v → ⊥)
+    → (Depends (edges lists) node node → ⊥)
     → (v : ℕ) → start ≤ v → v < node + 1 → Depends (edges lists) v v → ⊥
 node_more lists start node before here v low below around = go (grind arith)
   where
@@ -71,7 +74,8 @@ node_more lists start node before here v low below around = go (grind arith)
     go (inr same) = here (subst (λ z. Depends (edges lists) z z) same around)
 
 pub closed_node : (graph : List NodeList) (placed : List Bool) (node : ℕ) (answer : Bool) → length placed ≡ length graph
-    → ((v : ℕ) → marked placed v ≡ true → Depends (edges (lists_of graph)) v v → ⊥) → (IsTrue answer ↔ ((node < length placed) × (marked placed node ≡ false))) → answer ≡ false
+    → ((v : ℕ) → marked placed v ≡ true → Depends (edges (lists_of graph)) v v → ⊥)
+    → (IsTrue answer ↔ ((node < length placed) × (marked placed node ≡ false))) → answer ≡ false
     → Depends (edges (lists_of graph)) node node → ⊥
 closed_node graph placed node answer count none says denied around = by_mark (marked placed node) refl
   where
@@ -86,7 +90,8 @@ closed_node graph placed node answer count none says denied around = by_mark (ma
         apart : true ≡ false → ⊥
         apart e = cc
 
-pub none_within : (lists : List (List ℕ)) (start size node : ℕ) → start + size ≤ node → ((v : ℕ) → start ≤ v → v < node → Depends (edges lists) v v → ⊥) → ReturnsWithin lists start size → ⊥
+pub none_within : (lists : List (List ℕ)) (start size node : ℕ) → start + size ≤ node → ((v : ℕ) → start ≤ v → v < node → Depends (edges lists) v v → ⊥)
+    → ReturnsWithin lists start size → ⊥
 none_within lists start size node all none (v, low, high, around) = none v low (omega arith) around
 
 -- ---- one operation of a module
@@ -133,7 +138,8 @@ module _ (modules : List StoredModule) (distinct : HasDistinctSymbols (map numbe
 
 -- ---- what depends on itself is a result of an operation that is there
 
-pub cyclic_op : (d : Design) (s : Name) (j k : ℕ) → Depends (needs d s) (net [] (result j k)) (net [] (result j k)) → (o : Op) × (slice_get (body_of (find_module d s)) j ≡ Some o)
+pub cyclic_op : (d : Design) (s : Name) (j k : ℕ) → Depends (needs d s) (net [] (result j k)) (net [] (result j k))
+    → (o : Op) × (slice_get (body_of (find_module d s)) j ≡ Some o)
 cyclic_op d s j k (n, (c, need, chain)) = go (slice_get (body_of (find_module d s)) j) refl
   where
     go : (x : Option Op) → slice_get (body_of (find_module d s)) j ≡ x → (o : Op) × (slice_get (body_of (find_module d s)) j ≡ Some o)
@@ -141,7 +147,8 @@ cyclic_op d s j k (n, (c, need, chain)) = go (slice_get (body_of (find_module d 
         absurd (subst (λ x. In c (needs_of (result_in d s [] (body_of (find_module d s)) j k x))) none (subst (λ x. In c (needs_of x)) (result_here d s [] j k) need))
     go (Some o) is = (o, is)
 
-pub cyclic_within : (modules : List StoredModule) (i : ℕ) (m : StoredModule) → HasDistinctSymbols (map numbered_module modules) → Some m ≡ slice_get modules i → (j : ℕ)
+pub cyclic_within : (modules : List StoredModule) (i : ℕ) (m : StoredModule) → HasDistinctSymbols (map numbered_module modules) → Some m ≡ slice_get modules i
+    → (j : ℕ)
     → IsCyclicAt (map numbered_module modules) i j → j < length (numbered m.ops)
 cyclic_within modules i m distinct at j cyclic =
     let one : Some cyclic.module_there ≡ Some (numbered_module m) = sym cyclic.has_module ∙ stored_at modules i m at in

@@ -17,7 +17,8 @@ use Rattle.design_cycles.specs.Nodes.{size_by, size_in, sizes_in, AreSpans, IsLa
 -- ---- what the results of one operation need
 
 -- each result needs what its own row gives
-rows_need : (g : Ref → List ℕ) (f : List ℕ → List ℕ) (j k : ℕ) (rows : List (List ℕ)) → ((i : ℕ) → i < length rows → g (result j (k + i)) ≡ f (edges rows i)) → map g (op_refs j k (length rows)) ≡ map f rows
+rows_need : (g : Ref → List ℕ) (f : List ℕ → List ℕ) (j k : ℕ) (rows : List (List ℕ)) → ((i : ℕ) → i < length rows → g (result j (k + i)) ≡ f (edges rows i))
+    → map g (op_refs j k (length rows)) ≡ map f rows
 rows_need g f j k [] each = refl
 rows_need g f j k (r ∷ rows) each =
     ap₂ (λ x xs. x ∷ xs) ((let e : k ≡ k + 0 = omega arith in ap (λ m. g (result j m)) e) ∙ each 0 (omega arith))
@@ -42,7 +43,8 @@ module _ (ports : ℕ) (rows : Name → List (List ℕ)) (os : List Op) (j : ℕ
 
   -- what a result needs, where the operation is no register
   of_result : (k : ℕ) → is_register o ≡ false → need (result j k) ≡ nodes_in node (op_wires (table_by rows) o k (instance_in o.kind))
-  of_result k r = ap (λ x. nodes_in node (result_wires (table_by rows) k x)) there ∙ ap (λ b. nodes_in node (cond b [] (op_wires (table_by rows) o k (instance_in o.kind)))) r
+  of_result k r =
+      ap (λ x. nodes_in node (result_wires (table_by rows) k x)) there ∙ ap (λ b. nodes_in node (cond b [] (op_wires (table_by rows) o k (instance_in o.kind)))) r
 
   pub held_lists : is_register o ≡ true → lists_at ports rows os j ≡ []
   held_lists r = of_size 0 (ap (λ b. cond b 0 (size_by rows o (instance_in o.kind))) r)
@@ -51,7 +53,8 @@ module _ (ports : ℕ) (rows : Name → List (List ℕ)) (os : List Op) (j : ℕ
   given_lists r n x =
       of_size 0 (ap (λ b. cond b 0 (size_by rows o (instance_in o.kind))) r ∙ ap (size_by rows o) n ∙ ap (λ b. cond b 0 (length o.results)) x)
 
-  pub made_lists : is_register o ≡ false → instance_in o.kind ≡ None → is_output_op o ≡ false → lists_at ports rows os j ≡ times_over (length o.results) (nodes_in node o.operands)
+  pub made_lists : is_register o ≡ false → instance_in o.kind ≡ None → is_output_op o ≡ false
+      → lists_at ports rows os j ≡ times_over (length o.results) (nodes_in node o.operands)
   made_lists r n x =
       of_size (length o.results) (ap (λ b. cond b 0 (size_by rows o (instance_in o.kind))) r ∙ ap (size_by rows o) n ∙ ap (λ b. cond b 0 (length o.results)) x)
       ∙ same_need need (nodes_in node o.operands) j 0 (length o.results) each
@@ -64,7 +67,8 @@ module _ (ports : ℕ) (rows : Name → List (List ℕ)) (os : List Op) (j : ℕ
           ap (λ m. need (result j m)) number ∙ of_result i r ∙ ap (λ y. nodes_in node (op_wires (table_by rows) o i y)) n
           ∙ ap (λ b. nodes_in node (cond b [] (where_typed (result_type o i) o.operands))) x ∙ ap (λ t. nodes_in node (where_typed t o.operands)) typed
 
-  pub called_lists : (i : Instance) → is_register o ≡ false → instance_in o.kind ≡ Some i → lists_at ports rows os j ≡ map (λ xs. nodes_in node (picked o.operands xs)) (rows i.symbol)
+  pub called_lists : (i : Instance) → is_register o ≡ false → instance_in o.kind ≡ Some i
+      → lists_at ports rows os j ≡ map (λ xs. nodes_in node (picked o.operands xs)) (rows i.symbol)
   called_lists i r n =
       of_size (length (rows i.symbol)) (ap (λ b. cond b 0 (size_by rows o (instance_in o.kind))) r ∙ ap (size_by rows o) n)
       ∙ rows_need need (λ xs. nodes_in node (picked o.operands xs)) j 0 (rows i.symbol) each
@@ -107,7 +111,9 @@ module _ (ports : ℕ) (rows : Name → List (List ℕ)) (os : List Op) where
       count = length-map (take j os) (size_in rows) ∙ (let e : length (take j os) ≡ j = omega (arith, length-take j os) in e)
 
       sizes : sizes_in rows (take (j + 1) os) ≡ sizes_in rows (take j os) ++ size_in rows has.0 ∷ []
-      sizes = ap (sizes_in rows) ((let e : j + 1 ≡ suc j = omega arith in ap (λ k. take k os) e) ∙ take-suc_some os j has.0 has.1) ∙ map-append (size_in rows) (take j os) (has.0 ∷ [])
+      sizes =
+          ap (sizes_in rows) ((let e : j + 1 ≡ suc j = omega arith in ap (λ k. take k os) e) ∙ take-suc_some os j has.0 has.1)
+          ∙ map-append (size_in rows) (take j os) (has.0 ∷ [])
 
       longer : body_refs ports (sizes_in rows (take (j + 1) os)) ≡ body_refs ports (sizes_in rows (take j os)) ++ op_refs j 0 (size_in rows has.0)
       longer =
@@ -130,7 +136,8 @@ length-port_refs p (suc n) = ap suc (length-port_refs (suc p) n)
 
 length-result_refs : (i : ℕ) (ns : List ℕ) → length (result_refs i ns) ≡ total ns
 length-result_refs i [] = refl
-length-result_refs i (n ∷ ns) = length-append (op_refs i 0 n) (result_refs (suc i) ns) ∙ ap₂ (λ a b. a + b) (length-op_refs i 0 n) (length-result_refs (suc i) ns)
+length-result_refs i (n ∷ ns) =
+    length-append (op_refs i 0 n) (result_refs (suc i) ns) ∙ ap₂ (λ a b. a + b) (length-op_refs i 0 n) (length-result_refs (suc i) ns)
 
 spans_bound : (start : ℕ) (ns : List ℕ) (ss : List Span) → AreSpans start ns ss → start < 2 ^ 32 → start + total ns < 2 ^ 32
 spans_bound start [] ss are small = omega arith

@@ -32,10 +32,13 @@ inputs_small qs xs n small are =
 
 inputs-push : (p : ℕ) (qs : List Port) (q : Port) → inputs_from p (qs ++ q ∷ []) ≡ inputs_from p qs ++ cond q.is_output [] ((p + length qs) ∷ [])
 inputs-push p [] q = let e : p ≡ p + 0 = omega arith in ap (λ n. cond q.is_output [] (n ∷ [])) e
-inputs-push p (x ∷ qs) q = go x.is_output (inputs-push (suc p) qs q ∙ (let e : suc p + length qs ≡ p + suc (length qs) = omega arith in ap (λ n. inputs_from (suc p) qs ++ cond q.is_output [] (n ∷ [])) e))
+inputs-push p (x ∷ qs) q =
+    let e : suc p + length qs ≡ p + suc (length qs) = omega arith in
+    go x.is_output (inputs-push (suc p) qs q ∙ ap (λ n. inputs_from (suc p) qs ++ cond q.is_output [] (n ∷ [])) e)
   where
     go : (b : Bool) → inputs_from (suc p) (qs ++ q ∷ []) ≡ inputs_from (suc p) qs ++ cond q.is_output [] ((p + suc (length qs)) ∷ [])
-        → cond b (inputs_from (suc p) (qs ++ q ∷ [])) (p ∷ inputs_from (suc p) (qs ++ q ∷ [])) ≡ cond b (inputs_from (suc p) qs) (p ∷ inputs_from (suc p) qs) ++ cond q.is_output [] ((p + suc (length qs)) ∷ [])
+        → cond b (inputs_from (suc p) (qs ++ q ∷ [])) (p ∷ inputs_from (suc p) (qs ++ q ∷ []))
+        ≡ cond b (inputs_from (suc p) qs) (p ∷ inputs_from (suc p) qs) ++ cond q.is_output [] ((p + suc (length qs)) ∷ [])
     go true rest = rest
     go false rest = ap (λ xs. p ∷ xs) rest
 
@@ -57,9 +60,11 @@ module _ (qs : List CodePort) (i : ℕ) (x : CodePort) (below : i < length qs) (
   input_more plain now = now ∙ ap (λ ys. ys ++ i ∷ []) before ∙ sym (more ∙ ap (λ b. inputs_from 0 (map port_of (take i qs)) ++ cond b [] (i ∷ [])) plain)
 
   pub output_more : (get_or qs i x).out ≡ true → new ≡ old → new ≡ inputs_from 0 (map port_of (take (i + 1) qs))
-  output_more out now = now ∙ before ∙ sym (more ∙ ap (λ b. inputs_from 0 (map port_of (take i qs)) ++ cond b [] (i ∷ [])) out ∙ append-nil (inputs_from 0 (map port_of (take i qs))))
+  output_more out now =
+      now ∙ before ∙ sym (more ∙ ap (λ b. inputs_from 0 (map port_of (take i qs)) ++ cond b [] (i ∷ [])) out ∙ append-nil (inputs_from 0 (map port_of (take i qs))))
 
-pub inputs_all : (qs : List CodePort) (i : ℕ) (xs : List ℕ) → length qs ≤ i → xs ≡ inputs_from 0 (map port_of (take i qs)) → xs ≡ inputs_from 0 (map port_of qs)
+pub inputs_all : (qs : List CodePort) (i : ℕ) (xs : List ℕ) → length qs ≤ i → xs ≡ inputs_from 0 (map port_of (take i qs))
+    → xs ≡ inputs_from 0 (map port_of qs)
 inputs_all qs i xs all are = are ∙ ap (λ ys. inputs_from 0 (map port_of ys)) (take_all i qs all)
 
 -- the number of an input says its position
@@ -103,7 +108,8 @@ to_input p (q ∷ qs) (suc j) x input = go q.is_output (λ y i. to_input (suc p)
     place : suc p + j ≡ p + suc j
     place = omega arith
 
-    go : (b : Bool) → ((y : ℕ) → IsInput qs j y → slice_get (inputs_from (suc p) qs) y ≡ Some (suc p + j)) → cond b (input_count (take j qs)) (suc (input_count (take j qs))) ≡ x
+    go : (b : Bool) → ((y : ℕ) → IsInput qs j y → slice_get (inputs_from (suc p) qs) y ≡ Some (suc p + j))
+        → cond b (input_count (take j qs)) (suc (input_count (take j qs))) ≡ x
         → slice_get (cond b (inputs_from (suc p) qs) (p ∷ inputs_from (suc p) qs)) x ≡ Some (p + suc j)
     go true rest is = rest x (record { port_there = input.port_there; has_port = input.has_port; is_in = input.is_in; number = is }) ∙ ap Some place
     go false rest is =
@@ -112,9 +118,12 @@ to_input p (q ∷ qs) (suc j) x input = go q.is_output (λ y i. to_input (suc p)
 
 -- ---- numbers of marked nodes
 
-numbers-push : (marks : List Bool) (n : ℕ) (vs : List ℕ) (v : ℕ) → reached_numbers marks n (vs ++ v ∷ []) ≡ reached_numbers marks n vs ++ cond (marked marks v) ((n + length vs) ∷ []) []
+numbers-push : (marks : List Bool) (n : ℕ) (vs : List ℕ) (v : ℕ)
+    → reached_numbers marks n (vs ++ v ∷ []) ≡ reached_numbers marks n vs ++ cond (marked marks v) ((n + length vs) ∷ []) []
 numbers-push marks n [] v = let e : n ≡ n + 0 = omega arith in ap (λ m. cond (marked marks v) (m ∷ []) []) e
-numbers-push marks n (x ∷ vs) v = go (marked marks x) (numbers-push marks (suc n) vs v ∙ (let e : suc n + length vs ≡ n + suc (length vs) = omega arith in ap (λ m. reached_numbers marks (suc n) vs ++ cond (marked marks v) (m ∷ []) []) e))
+numbers-push marks n (x ∷ vs) v =
+    let e : suc n + length vs ≡ n + suc (length vs) = omega arith in
+    go (marked marks x) (numbers-push marks (suc n) vs v ∙ ap (λ m. reached_numbers marks (suc n) vs ++ cond (marked marks v) (m ∷ []) []) e)
   where
     go : (b : Bool) → reached_numbers marks (suc n) (vs ++ v ∷ []) ≡ reached_numbers marks (suc n) vs ++ cond (marked marks v) ((n + suc (length vs)) ∷ []) []
         → cond b (n ∷ reached_numbers marks (suc n) (vs ++ v ∷ [])) (reached_numbers marks (suc n) (vs ++ v ∷ []))
@@ -129,20 +138,24 @@ module _ (marks : List Bool) (vs : List ℕ) (i : ℕ) (below : i < length vs) (
       ∙ ap (λ n. reached_numbers marks 0 (take i vs) ++ cond (marked marks (get_or vs i 0)) (n ∷ []) []) (let whole : length (take i vs) ≡ i = length-take-le i vs (omega arith) in let e : 0 + length (take i vs) ≡ i = omega arith in e)
 
   pub number_marked : (b : Bool) → b ≡ marked marks (get_or vs i 0) → b ≡ true → new ≡ old ++ i ∷ [] → new ≡ reached_numbers marks 0 (take (i + 1) vs)
-  number_marked b is said now = now ∙ ap (λ ys. ys ++ i ∷ []) before ∙ sym (more_numbers ∙ ap (λ c. reached_numbers marks 0 (take i vs) ++ cond c (i ∷ []) []) (sym is ∙ said))
+  number_marked b is said now =
+      now ∙ ap (λ ys. ys ++ i ∷ []) before ∙ sym (more_numbers ∙ ap (λ c. reached_numbers marks 0 (take i vs) ++ cond c (i ∷ []) []) (sym is ∙ said))
 
   pub number_open : (b : Bool) → b ≡ marked marks (get_or vs i 0) → b ≡ false → new ≡ old → new ≡ reached_numbers marks 0 (take (i + 1) vs)
   number_open b is said now =
       now ∙ before ∙ sym (more_numbers ∙ ap (λ c. reached_numbers marks 0 (take i vs) ++ cond c (i ∷ []) []) (sym is ∙ said) ∙ append-nil (reached_numbers marks 0 (take i vs)))
 
-pub numbers_all : (marks : List Bool) (vs : List ℕ) (i : ℕ) (xs : List ℕ) → length vs ≤ i → xs ≡ reached_numbers marks 0 (take i vs) → xs ≡ reached_numbers marks 0 vs
+pub numbers_all : (marks : List Bool) (vs : List ℕ) (i : ℕ) (xs : List ℕ) → length vs ≤ i → xs ≡ reached_numbers marks 0 (take i vs)
+    → xs ≡ reached_numbers marks 0 vs
 numbers_all marks vs i xs all are = are ∙ ap (reached_numbers marks 0) (take_all i vs all)
 
-from_numbers : (marks : List Bool) (n : ℕ) (vs : List ℕ) (x : ℕ) → In x (reached_numbers marks n vs) → (i v : ℕ) × (x ≡ n + i) × (slice_get vs i ≡ Some v) × (marked marks v ≡ true)
+from_numbers : (marks : List Bool) (n : ℕ) (vs : List ℕ) (x : ℕ) → In x (reached_numbers marks n vs)
+    → (i v : ℕ) × (x ≡ n + i) × (slice_get vs i ≡ Some v) × (marked marks v ≡ true)
 from_numbers marks n [] x here = absurd here
 from_numbers marks n (v ∷ vs) x here = go (marked marks v) refl here (from_numbers marks (suc n) vs x)
   where
-    later : ((i w : ℕ) × (x ≡ suc n + i) × (slice_get vs i ≡ Some w) × (marked marks w ≡ true)) → (i w : ℕ) × (x ≡ n + i) × (slice_get (v ∷ vs) i ≡ Some w) × (marked marks w ≡ true)
+    later : ((i w : ℕ) × (x ≡ suc n + i) × (slice_get vs i ≡ Some w) × (marked marks w ≡ true))
+        → (i w : ℕ) × (x ≡ n + i) × (slice_get (v ∷ vs) i ≡ Some w) × (marked marks w ≡ true)
     later (i, w, place, at, is) = let e : x ≡ n + suc i = omega arith in (suc i, w, e, at, is)
 
     go : (b : Bool) → marked marks v ≡ b → In x (cond b (n ∷ reached_numbers marks (suc n) vs) (reached_numbers marks (suc n) vs))
@@ -158,13 +171,16 @@ to_numbers marks n (w ∷ vs) zero v at is =
     let same : w ≡ v = cc in
     let e : n ≡ n + 0 = omega arith in
     subst (λ m. In m (reached_numbers marks n (w ∷ vs))) e (subst (λ b. In n (cond b (n ∷ reached_numbers marks (suc n) vs) (reached_numbers marks (suc n) vs))) (sym (ap (marked marks) same ∙ is)) (inl refl))
-to_numbers marks n (w ∷ vs) (suc i) v at is = go (marked marks w) (subst (λ m. In m (reached_numbers marks (suc n) vs)) (let e : suc n + i ≡ n + suc i = omega arith in e) (to_numbers marks (suc n) vs i v at is))
+to_numbers marks n (w ∷ vs) (suc i) v at is =
+    go (marked marks w) (subst (λ m. In m (reached_numbers marks (suc n) vs)) (let e : suc n + i ≡ n + suc i = omega arith in e) (to_numbers marks (suc n) vs i v at is))
   where
-    go : (b : Bool) → In (n + suc i) (reached_numbers marks (suc n) vs) → In (n + suc i) (cond b (n ∷ reached_numbers marks (suc n) vs) (reached_numbers marks (suc n) vs))
+    go : (b : Bool) → In (n + suc i) (reached_numbers marks (suc n) vs)
+        → In (n + suc i) (cond b (n ∷ reached_numbers marks (suc n) vs) (reached_numbers marks (suc n) vs))
     go true there = inr there
     go false there = there
 
-pub inputs_reached : (lists : List (List ℕ)) (inputs : List ℕ) (a : ℕ) (marks marks' : List Bool) (numbers : List ℕ) → AreReached lists (a ∷ []) marks → marks' ≡ marks → numbers ≡ reached_numbers marks' 0 inputs
+pub inputs_reached : (lists : List (List ℕ)) (inputs : List ℕ) (a : ℕ) (marks marks' : List Bool) (numbers : List ℕ) → AreReached lists (a ∷ []) marks
+    → marks' ≡ marks → numbers ≡ reached_numbers marks' 0 inputs
     → AreInputs lists inputs (Some a) numbers
 inputs_reached lists inputs a marks marks' numbers reached same are = record {
   sound = λ x here. sound x (from_numbers marks 0 inputs x (subst (In x) are' here));
@@ -178,7 +194,8 @@ inputs_reached lists inputs a marks marks' numbers reached same are = record {
     from v (b, k, inl is, chain) = (a, refl, (k, subst (λ z. Chain (edges lists) k z v) is chain))
     from v (b, k, inr never, chain) = absurd never
 
-    sound : (x : ℕ) → ((i v : ℕ) × (x ≡ 0 + i) × (slice_get inputs i ≡ Some v) × (marked marks v ≡ true)) → (v : ℕ) × (slice_get inputs x ≡ Some v) × LeadsTo lists (Some a) v
+    sound : (x : ℕ) → ((i v : ℕ) × (x ≡ 0 + i) × (slice_get inputs i ≡ Some v) × (marked marks v ≡ true))
+        → (v : ℕ) × (slice_get inputs x ≡ Some v) × LeadsTo lists (Some a) v
     sound x (i, v, place, at, is) = let e : x ≡ i = omega arith in (v, ap (slice_get inputs) e ∙ at, from v (reached.sound v is))
 
     complete : (x v : ℕ) → slice_get inputs x ≡ Some v → v < length lists → LeadsTo lists (Some a) v → In x numbers
@@ -199,7 +216,8 @@ inputs_none lists inputs numbers are = record {
 pub outputs_none : (lists : List (List ℕ)) (inputs : List ℕ) (outputs : List (List ℕ)) → outputs ≡ [] → AreOutputs lists inputs [] outputs
 outputs_none lists inputs outputs none = record { count = ap length none; each = λ k from at. cc }
 
-outputs-push : (lists : List (List ℕ)) (inputs : List ℕ) (nodes : List (Option ℕ)) (outputs : List (List ℕ)) (node : Option ℕ) (numbers : List ℕ) → AreOutputs lists inputs nodes outputs
+outputs-push : (lists : List (List ℕ)) (inputs : List ℕ) (nodes : List (Option ℕ)) (outputs : List (List ℕ)) (node : Option ℕ) (numbers : List ℕ)
+    → AreOutputs lists inputs nodes outputs
     → AreInputs lists inputs node numbers → AreOutputs lists inputs (nodes ++ node ∷ []) (outputs ++ numbers ∷ [])
 outputs-push lists inputs nodes outputs node numbers are one = record {
   count = length-append outputs (numbers ∷ []) ∙ ap (λ n. n + 1) are.count ∙ sym (length-append nodes (node ∷ []));
@@ -209,7 +227,8 @@ outputs-push lists inputs nodes outputs node numbers are one = record {
     same_count : length outputs ≡ length nodes
     same_count = are.count
 
-    by_place : (k : ℕ) (from : Option ℕ) → slice_get (nodes ++ node ∷ []) k ≡ Some from → (k < length nodes) ⊎ (length nodes ≤ k) → AreInputs lists inputs from (edges (outputs ++ numbers ∷ []) k)
+    by_place : (k : ℕ) (from : Option ℕ) → slice_get (nodes ++ node ∷ []) k ≡ Some from → (k < length nodes) ⊎ (length nodes ≤ k)
+        → AreInputs lists inputs from (edges (outputs ++ numbers ∷ []) k)
     by_place k from at (inl before) =
         let was : slice_get nodes k ≡ Some from = sym (slice_get-append_left nodes (node ∷ []) k before) ∙ at in
         let kept : edges (outputs ++ numbers ∷ []) k ≡ edges outputs k =
@@ -227,13 +246,15 @@ outputs-push lists inputs nodes outputs node numbers are one = record {
         subst (λ n. AreInputs lists inputs n (edges (outputs ++ numbers ∷ []) k)) same (subst (AreInputs lists inputs node) (sym row) one)
 
 pub outputs_more : {A : Type 0} (f : A → Option ℕ) (values : List A) (i : ℕ) (d : A) (lists : List (List ℕ)) (inputs : List ℕ) (new old : List (List ℕ)) (numbers : List ℕ) → i < length values
-    → AreOutputs lists inputs (map f (take i values)) old → AreInputs lists inputs (f (get_or values i d)) numbers → new ≡ old ++ numbers ∷ [] → AreOutputs lists inputs (map f (take (i + 1) values)) new
+    → AreOutputs lists inputs (map f (take i values)) old → AreInputs lists inputs (f (get_or values i d)) numbers → new ≡ old ++ numbers ∷ []
+    → AreOutputs lists inputs (map f (take (i + 1) values)) new
 outputs_more f values i d lists inputs new old numbers below are one now =
     subst (AreOutputs lists inputs (map f (take (i + 1) values))) (sym now)
     (subst (λ ns. AreOutputs lists inputs ns (old ++ numbers ∷ [])) (sym (ap (map f) (take_more values i d below) ∙ map-append f (take i values) (get_or values i d ∷ [])))
     (outputs-push lists inputs (map f (take i values)) old (f (get_or values i d)) numbers are one))
 
-pub outputs_all : {A : Type 0} (f : A → Option ℕ) (values : List A) (i : ℕ) (lists : List (List ℕ)) (inputs : List ℕ) (outputs : List (List ℕ)) → length values ≤ i
+pub outputs_all : {A : Type 0} (f : A → Option ℕ) (values : List A) (i : ℕ) (lists : List (List ℕ)) (inputs : List ℕ) (outputs : List (List ℕ))
+    → length values ≤ i
     → AreOutputs lists inputs (map f (take i values)) outputs → AreOutputs lists inputs (map f values) outputs
 outputs_all f values i lists inputs outputs all are = subst (λ vs. AreOutputs lists inputs (map f vs) outputs) (take_all i values all) are
 

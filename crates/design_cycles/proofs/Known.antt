@@ -53,7 +53,8 @@ module _ (d : Design) (summaries : List Summary) where
       go None is = is
       go (Some m) is = let has = number_found d s m is in let never : Some has.0 ≡ None = sym has.1 ∙ none in cc
 
-  pub known_by : (top : Name) → ((s : Name) (t : ℕ) → In s (calls d top) → symbol_place s (symbols_in d) ≡ Some t → IsSummed d (rows_of (slice_get summaries t)) t)
+  pub known_by : (top : Name)
+      → ((s : Name) (t : ℕ) → In s (calls d top) → symbol_place s (symbols_in d) ≡ Some t → IsSummed d (rows_of (slice_get summaries t)) t)
       → KnowsCallees d (rows_by (symbols_in d) summaries) top
   known_by top each s named = go (symbol_place s (symbols_in d)) refl
     where
@@ -68,10 +69,12 @@ module _ (d : Design) (summaries : List Summary) where
           shown (subst (λ o. IsSummary d (λ _ k. edges (rows_at summaries o) k) s) (sym place) (subst (IsSummary d (λ _ k. edges (rows_at summaries (Some t)) k)) there.2 summed))
 
 -- a module that is instanced, by number, and one that instances it
-pub called_edge : (d : Design) (top s : Name) (t : ℕ) → In s (calls d top) → symbol_place s (symbols_in d) ≡ Some t → (i : ℕ) × (symbol_place top (symbols_in d) ≡ Some i) × In t (edges (call_lists d) i)
+pub called_edge : (d : Design) (top s : Name) (t : ℕ) → In s (calls d top) → symbol_place s (symbols_in d) ≡ Some t
+    → (i : ℕ) × (symbol_place top (symbols_in d) ≡ Some i) × In t (edges (call_lists d) i)
 called_edge d top s t named place = go (find_module d top) refl named
   where
-    go : (o : Option Module) → find_module d top ≡ o → In s (called (body_of o)) → (i : ℕ) × (symbol_place top (symbols_in d) ≡ Some i) × In t (edges (call_lists d) i)
+    go : (o : Option Module) → find_module d top ≡ o → In s (called (body_of o))
+        → (i : ℕ) × (symbol_place top (symbols_in d) ≡ Some i) × In t (edges (call_lists d) i)
     go None is never = absurd never
     go (Some m) is here =
         let at = number_found d top m is in
@@ -125,7 +128,8 @@ module _ (modules : List StoredModule) (distinct : HasDistinctSymbols (map numbe
         (subst (λ ss. KnowsCallees design (rows_by (symbols_in design) ss) (symbol_at modules (get_or order k 0))) (sym same)
         (known_by design summaries (symbol_at modules (get_or order k 0)) each))
       where
-        each : (s : Name) (t : ℕ) → In s (calls design (symbol_at modules (get_or order k 0))) → symbol_place s (symbols_in design) ≡ Some t → IsSummed design (rows_of (slice_get summaries t)) t
+        each : (s : Name) (t : ℕ) → In s (calls design (symbol_at modules (get_or order k 0))) → symbol_place s (symbols_in design) ≡ Some t
+            → IsSummed design (rows_of (slice_get summaries t)) t
         each s t named place =
             let edge = called_edge design (symbol_at modules (get_or order k 0)) s t named place in
             let one : Some edge.0 ≡ Some (get_or order k 0) = sym edge.1 ∙ symbol_number (get_or order k 0) within in
@@ -135,11 +139,13 @@ module _ (modules : List StoredModule) (distinct : HasDistinctSymbols (map numbe
             before t (whole.behind k (get_or order k 0) t (slice_get-get_or order k 0 below) need there) (are.all (get_or order k 0) t need there)
 
     pub all_known : (summaries : List Summary) (k : ℕ) → length order ≤ k
-        → ((v : ℕ) → In v (take k order) → marked marks v ≡ true → IsSummed design (rows_of (slice_get summaries v)) v) → (top : Name) → KnowsCallees design (rows_by symbols summaries) top
+        → ((v : ℕ) → In v (take k order) → marked marks v ≡ true → IsSummed design (rows_of (slice_get summaries v)) v) → (top : Name)
+        → KnowsCallees design (rows_by symbols summaries) top
     all_known summaries k all before top =
         subst (λ ss. KnowsCallees design (rows_by ss summaries) top) (sym (symbols_stored modules)) (known_by design summaries top each)
       where
-        each : (s : Name) (t : ℕ) → In s (calls design top) → symbol_place s (symbols_in design) ≡ Some t → IsSummed design (rows_of (slice_get summaries t)) t
+        each : (s : Name) (t : ℕ) → In s (calls design top) → symbol_place s (symbols_in design) ≡ Some t
+            → IsSummed design (rows_of (slice_get summaries t)) t
         each s t named place =
             let edge = called_edge design top s t named place in
             let there : t < length (call_lists design) = number_there s t place in
@@ -158,7 +164,8 @@ module _ (modules : List StoredModule) (distinct : HasDistinctSymbols (map numbe
 
       pub step_skips : (new : List Summary) → marked marks (get_or order k 0) ≡ false → new ≡ summaries
           → (length new ≡ length modules) × ((v : ℕ) → In v (take (k + 1) order) → marked marks v ≡ true → IsSummed design (rows_of (slice_get new v)) v)
-      step_skips new uncalled same = (ap length same ∙ before.0, λ v here mark. subst (λ ss. IsSummed design (rows_of (slice_get ss v)) v) (sym same) (go v (last_or_before v here) mark))
+      step_skips new uncalled same =
+          (ap length same ∙ before.0, λ v here mark. subst (λ ss. IsSummed design (rows_of (slice_get ss v)) v) (sym same) (go v (last_or_before v here) mark))
         where
           go : (v : ℕ) → (v ≡ get_or order k 0) ⊎ In v (take k order) → marked marks v ≡ true → IsSummed design (rows_of (slice_get summaries v)) v
           go v (inl last) mark = let e : true ≡ false = sym mark ∙ ap (marked marks) last ∙ uncalled in absurd (true_false e)
@@ -167,7 +174,8 @@ module _ (modules : List StoredModule) (distinct : HasDistinctSymbols (map numbe
               true_false e = cc
           go v (inr front) mark = before.1 v front mark
 
-      pub step_sums : (new : List Summary) (one : Summary) → new ≡ set summaries (get_or order k 0) one → IsSummed design (rows_of (Some one)) (get_or order k 0)
+      pub step_sums : (new : List Summary) (one : Summary) → new ≡ set summaries (get_or order k 0) one
+          → IsSummed design (rows_of (Some one)) (get_or order k 0)
           → (length new ≡ length modules) × ((v : ℕ) → In v (take (k + 1) order) → marked marks v ≡ true → IsSummed design (rows_of (slice_get new v)) v)
       step_sums new one now summed = (
         ap length now ∙ length-set summaries (get_or order k 0) one ∙ before.0,
@@ -224,8 +232,10 @@ module _ (modules : List StoredModule) (distinct : HasDistinctSymbols (map numbe
         → lists ≡ body_lists (length (ports_of (find_module design m.symbol))) rows (body_of (find_module design m.symbol))
     lists_found lists are = are ∙ ap (λ n. body_lists n rows os) (sym port_count) ∙ ap (λ o. body_lists (length (ports_of o)) rows (body_of o)) (sym found)
 
-    pub summed_at : (layout : Layout) → IsLayout (length m.ports.ports.items) (sizes_in rows os) (ids_of m.body) layout → (lists : List (List ℕ)) → lists ≡ body_lists (length m.ports.ports.items) rows os
-        → (inputs : List ℕ) → inputs ≡ inputs_from 0 (map port_of m.ports.ports.items) → (values : List Value) → map (ref_by (position_of (ids_of m.body))) values ≡ output_refs os
+    pub summed_at : (layout : Layout) → IsLayout (length m.ports.ports.items) (sizes_in rows os) (ids_of m.body) layout → (lists : List (List ℕ))
+        → lists ≡ body_lists (length m.ports.ports.items) rows os
+        → (inputs : List ℕ) → inputs ≡ inputs_from 0 (map port_of m.ports.ports.items) → (values : List Value)
+        → map (ref_by (position_of (ids_of m.body))) values ≡ output_refs os
         → (outputs : List (List ℕ)) → AreOutputs lists inputs (map (value_node layout) values) outputs → IsSummed design outputs i
     summed_at layout is lists are inputs from values given outputs sums other there =
         let same : Some one ≡ Some other = sym (stored_at modules i (module_of m) at) ∙ there in
@@ -237,9 +247,11 @@ module _ (modules : List StoredModule) (distinct : HasDistinctSymbols (map numbe
         (subst (λ ls. AreOutputs ls inputs (map (value_node layout) values) outputs) (lists_found lists are) sums))
         refs)
       where
-        nodes_are : (vs : List Value) → map (value_node layout) vs ≡ map (node_ref (length m.ports.ports.items) (sizes_in rows os)) (map (ref_by (position_of (ids_of m.body))) vs)
+        nodes_are : (vs : List Value)
+            → map (value_node layout) vs ≡ map (node_ref (length m.ports.ports.items) (sizes_in rows os)) (map (ref_by (position_of (ids_of m.body))) vs)
         nodes_are [] = refl
-        nodes_are (v ∷ vs) = ap₂ (λ x xs. x ∷ xs) (value_is (length m.ports.ports.items) (sizes_in rows os) (ids_of m.body) layout is (sizes_count m.body rows) v) (nodes_are vs)
+        nodes_are (v ∷ vs) =
+            ap₂ (λ x xs. x ∷ xs) (value_is (length m.ports.ports.items) (sizes_in rows os) (ids_of m.body) layout is (sizes_count m.body rows) v) (nodes_are vs)
 
         refs : map (value_node layout) values
             ≡ map (node_ref (length (ports_of (find_module design m.symbol))) (sizes_in rows (body_of (find_module design m.symbol)))) (output_refs (body_of (find_module design m.symbol)))

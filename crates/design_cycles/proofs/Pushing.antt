@@ -40,9 +40,11 @@ module _ (b : Body) (ids : List OpId) (all : ids ≡ map op_id (ids_of b)) where
   ids_distinct = subst AreDistinct (sym indices_are) (ids_once b)
 
   pub ids_count : length ids ≡ length (numbered (ops_of b))
-  ids_count = ap length all ∙ length-map (ids_of b) op_id ∙ length-map (ops_of b) (λ (o : BodyOp). o.id) ∙ sym (length-map (ops_of b) (op_by (position_of (ids_of b))))
+  ids_count =
+      ap length all ∙ length-map (ids_of b) op_id ∙ length-map (ops_of b) (λ (o : BodyOp). o.id) ∙ sym (length-map (ops_of b) (op_by (position_of (ids_of b))))
 
-  pub layout_is : (ports : ℕ) (sizes : List ℕ) (layout : Layout) → layout.ports ≡ ports → AreSpans layout.ports sizes layout.spans.items → ArePositions (indices ids) layout.positions.items
+  pub layout_is : (ports : ℕ) (sizes : List ℕ) (layout : Layout) → layout.ports ≡ ports → AreSpans layout.ports sizes layout.spans.items
+      → ArePositions (indices ids) layout.positions.items
       → IsLayout ports sizes (ids_of b) layout
   layout_is ports sizes layout count spans positions = record {
     count = count;
@@ -61,16 +63,19 @@ module _ (b : Body) (o : CodeOp) (ports : ℕ) (rows : Name → List (List ℕ))
   abbrev os : List Op
   os = numbered (ops_of b)
 
-  pub made_need : (n : ℕ) → n ≡ length (op_view b o).results → false ≡ is_register (op_view b o) → None ≡ instance_in (op_view b o).kind → false ≡ is_output_op (op_view b o)
+  pub made_need : (n : ℕ) → n ≡ length (op_view b o).results → false ≡ is_register (op_view b o) → None ≡ instance_in (op_view b o).kind
+      → false ≡ is_output_op (op_view b o)
       → times_over n (value_nodes l o.operands.now) ≡ lists_at ports rows os j
   made_need n count r i x =
       ap₂ times_over count (values_are ports (sizes_in rows os) (ids_of b) l is (sizes_count b rows) o.operands.now) ∙ sym (made_lists ports rows os j (op_view b o) there (sym r) (sym i) (sym x))
 
   pub called_need : (i : Instance) (xs : List (List ℕ)) → xs ≡ rows i.symbol → false ≡ is_register (op_view b o) → Some i ≡ instance_in (op_view b o).kind
       → map (picked_values l o.operands.now) xs ≡ lists_at ports rows os j
-  called_need i xs are r n = ap (map (picked_values l o.operands.now)) are ∙ each (rows i.symbol) ∙ sym (called_lists ports rows os j (op_view b o) there i (sym r) (sym n))
+  called_need i xs are r n =
+      ap (map (picked_values l o.operands.now)) are ∙ each (rows i.symbol) ∙ sym (called_lists ports rows os j (op_view b o) there i (sym r) (sym n))
     where
-      each : (ys : List (List ℕ)) → map (picked_values l o.operands.now) ys ≡ map (λ zs. nodes_in (node_ref ports (sizes_in rows os)) (picked (op_view b o).operands zs)) ys
+      each : (ys : List (List ℕ))
+          → map (picked_values l o.operands.now) ys ≡ map (λ zs. nodes_in (node_ref ports (sizes_in rows os)) (picked (op_view b o).operands zs)) ys
       each [] = refl
       each (y ∷ ys) = ap₂ (λ a c. a ∷ c) (picked_are ports (sizes_in rows os) (ids_of b) l is (sizes_count b rows) o.operands.now y) (each ys)
 
@@ -85,7 +90,8 @@ module _ (os : List Op) (p : ℕ) (before : output_refs (drop p os) ≡ output_r
   pub output_here : (o : Op) → slice_get os p ≡ Some o → true ≡ is_output_op o → o.operands ≡ output_refs os
   output_here o at is = sym (ap (λ b. cond b o.operands (output_refs (drop (p + 1) os))) (sym is)) ∙ sym (ap output_refs (drop_at os p o at)) ∙ before
 
-  pub output_later : (o : Op) → slice_get os p ≡ Some o → (s : Sort) → (s ≡ Gives → ⊥) → gives s ≡ is_output_op o → output_refs (drop (p + 1) os) ≡ output_refs os
+  pub output_later : (o : Op) → slice_get os p ≡ Some o → (s : Sort) → (s ≡ Gives → ⊥) → gives s ≡ is_output_op o
+      → output_refs (drop (p + 1) os) ≡ output_refs os
   output_later o at s other is =
       sym (ap (λ b. cond b o.operands (output_refs (drop (p + 1) os))) (sym is ∙ not_given s other)) ∙ sym (ap output_refs (drop_at os p o at)) ∙ before
     where
@@ -106,7 +112,8 @@ module _ (os : List Op) (p : ℕ) (before : output_refs (drop p os) ≡ output_r
 
 -- ---- spans
 
-pub spans_below : (b : Body) (rows : Name → List (List ℕ)) (ports : ℕ) (layout : Layout) → IsLayout ports (sizes_in rows (numbered (ops_of b))) (ids_of b) layout → (ids : List OpId)
+pub spans_below : (b : Body) (rows : Name → List (List ℕ)) (ports : ℕ) (layout : Layout)
+    → IsLayout ports (sizes_in rows (numbered (ops_of b))) (ids_of b) layout → (ids : List OpId)
     → ids ≡ map op_id (ids_of b) → (j : ℕ) → j < length ids → j < length layout.spans.items
 spans_below b rows ports layout is ids all j below =
     let spans : length layout.spans.items ≡ length (sizes_in rows (numbered (ops_of b))) = span_count ports (sizes_in rows (numbered (ops_of b))) layout.spans.items is.spans in

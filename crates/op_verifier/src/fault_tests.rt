@@ -13,17 +13,17 @@ use smallvec::SmallVec;
 use std::alloc::{AllocError, Global};
 use std::test::Fail;
 
-const A: Value = Value::Port(0);
+pub(crate) const A: Value = Value::Port(0);
 
 const B: Value = Value::Port(1);
 
 // result 0 of the operation of a number
-fn result(number: u32) -> Value {
+pub(crate) fn result(number: u32) -> Value {
     Value::Result(OpId::nth(number), 0)
 }
 
 // the operation of a line, on integers
-fn operation(
+pub(crate) fn operation(
     alloc: Global,
     line: u32,
     kind: OpKind,
@@ -108,17 +108,22 @@ fn module(
 }
 
 // the module T with these operations
-fn top(alloc: Global, ops: Vec<NewOp>) -> Result<Module, AllocError> {
+pub(crate) fn top(alloc: Global, ops: Vec<NewOp>) -> Result<Module, AllocError> {
     module(alloc, 1, b"T".as_slice(), b"o".as_slice(), ops)
 }
 
 // the output of a value of so many bits on a line
-fn output(alloc: Global, line: u32, value: Value, width: u32) -> Result<NewOp, AllocError> {
+pub(crate) fn output(
+    alloc: Global,
+    line: u32,
+    value: Value,
+    width: u32,
+) -> Result<NewOp, AllocError> {
     operation(alloc, line, OpKind::Output, &[value], &[width], &[])
 }
 
 // two operations, and three
-fn two(alloc: Global, first: NewOp, second: NewOp) -> Result<Vec<NewOp>, AllocError> {
+pub(crate) fn two(alloc: Global, first: NewOp, second: NewOp) -> Result<Vec<NewOp>, AllocError> {
     let mut ops = Vec::with_capacity(alloc, 3)?;
     ops.push(first)?;
     ops.push(second)?;
@@ -136,14 +141,20 @@ fn three(
     Ok(ops)
 }
 
-// the line and the cause of the first refusal of a design
-fn refused(alloc: Global, modules: Vec<Module>) -> Result<Option<(u32, Cause)>, AllocError> {
+// a design of these modules
+pub(crate) fn designed(alloc: Global, modules: Vec<Module>) -> Result<Design, AllocError> {
     let mut design = Design::new(alloc);
     for one in modules {
         if design.module_count() < 100 {
             let _ = design.add_module(one)?;
         }
     }
+    Ok(design)
+}
+
+// the line and the cause of the first refusal of a design
+fn refused(alloc: Global, modules: Vec<Module>) -> Result<Option<(u32, Cause)>, AllocError> {
+    let design = designed(alloc, modules)?;
     Ok(first_fault(alloc, &design)?.map(|refusal| (refusal.place.line, refusal.cause)))
 }
 
@@ -166,12 +177,17 @@ fn of_two(
 }
 
 // a sum of the two ports on a line
-fn sum(alloc: Global, line: u32) -> Result<NewOp, AllocError> {
+pub(crate) fn sum(alloc: Global, line: u32) -> Result<NewOp, AllocError> {
     operation(alloc, line, OpKind::Add, &[A, B], &[8], &[8])
 }
 
 // an instance of a module on a line, its second input by this name
-fn instance(alloc: Global, line: u32, symbol: &[u8], second: &[u8]) -> Result<NewOp, AllocError> {
+pub(crate) fn instance(
+    alloc: Global,
+    line: u32,
+    symbol: &[u8],
+    second: &[u8],
+) -> Result<NewOp, AllocError> {
     let mut inputs = Vec::with_capacity(alloc, 2)?;
     inputs.push(Text::of(alloc, b"a".as_slice())?)?;
     inputs.push(Text::of(alloc, second)?)?;

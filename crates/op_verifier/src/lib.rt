@@ -24,6 +24,8 @@ mod type_checks;
 mod type_lists;
 mod type_parts;
 mod values;
+#[cfg(test)]
+mod verdict_tests;
 mod verdicts;
 mod verify_fail;
 
