@@ -1,0 +1,307 @@
+//! The pieces of an operation, as they are printed.
+ghost use Rattle.std.specs.Prelude.{◌≡◌, ◌++◌, map, codes, OnOk};
+
+use crate::literals::push_literals;
+use crate::numbers::{is_one, push_count, push_integer, truth_text};
+use crate::said::{Pending, Said};
+use crate::strings::{push_name, push_string, push_symbol};
+use crate::types::{push_type, push_types};
+use crate::value_names::ValueNames;
+use hw_model::kinds::{Instance, Predicate};
+use hw_model::types::Ty;
+use io_edge::byte_text::Text;
+use ir_store::operation::Value;
+use mlir_lexer::token::TokenKind;
+use mlir_reader::pieces::{Keyword, Piece};
+use std::alloc::AllocError;
+
+// A mark with the blanks round it.
+fn mark_text(mark: TokenKind) -> &'static [u8] {
+    match mark {
+        TokenKind::Arrow => b" -> ",
+        TokenKind::LeftParenthesis => b"(",
+        TokenKind::RightParenthesis => b")",
+        TokenKind::LeftBrace => b"{",
+        TokenKind::RightBrace => b"}",
+        TokenKind::LeftBracket => b"[",
+        TokenKind::RightBracket => b"]",
+        TokenKind::Less => b"<",
+        TokenKind::Greater => b">",
+        TokenKind::Colon => b" : ",
+        TokenKind::Comma => b", ",
+        TokenKind::Equals => b" = ",
+        TokenKind::Minus => b"-",
+        _ => b"",
+    }
+}
+
+// A word with the blanks round it.
+fn word_text(word: Keyword) -> &'static [u8] {
+    match word {
+        Keyword::From => b" from ",
+        Keyword::Clock => b" clock ",
+    }
+}
+
+// The name of a predicate.
+fn predicate_text(predicate: Predicate) -> &'static [u8] {
+    match predicate {
+        Predicate::Eq => b"eq",
+        Predicate::Ne => b"ne",
+        Predicate::Slt => b"slt",
+        Predicate::Sle => b"sle",
+        Predicate::Sgt => b"sgt",
+        Predicate::Sge => b"sge",
+        Predicate::Ult => b"ult",
+        Predicate::Ule => b"ule",
+        Predicate::Ugt => b"ugt",
+        Predicate::Uge => b"uge",
+        Predicate::Ceq => b"ceq",
+        Predicate::Cne => b"cne",
+        Predicate::Weq => b"weq",
+        Predicate::Wne => b"wne",
+    }
+}
+
+/// Adds `%v`.
+pub fn push_value_name(out: &mut Text, name: &[u8]) -> Result<(), AllocError> {
+    out.push_bytes(b"%")?;
+    out.push_bytes(name)?;
+    Ok(())
+}
+
+// Adds `#i`, or nothing.
+fn push_pack_number(out: &mut Text, number: Option<u32>) -> Result<(), AllocError> {
+    if let Some(number) = number {
+        out.push_bytes(b"#")?;
+        push_count(out, number)?;
+    }
+    Ok(())
+}
+
+// Adds an operand.
+fn push_operand(out: &mut Text, names: &ValueNames, value: Value) -> Result<(), AllocError> {
+    let operand = names.operand(value);
+    push_value_name(out, operand.name)?;
+    push_pack_number(out, operand.number)?;
+    Ok(())
+}
+
+// Adds the first of some operands.
+fn push_first_operand(
+    out: &mut Text,
+    names: &ValueNames,
+    operands: &[Value],
+) -> Result<(), AllocError> {
+    match operands.first() {
+        Some(value) => push_operand(out, names, *value)?,
+        None => push_operand(out, names, Value::Undefined)?,
+    }
+    Ok(())
+}
+
+// Adds operands with commas between them.
+fn push_operands(out: &mut Text, names: &ValueNames, operands: &[Value]) -> Result<(), AllocError> {
+    if let [first, others @ ..] = operands {
+        push_operand(out, names, *first)?;
+        push_operands_behind(out, names, others)?;
+    }
+    Ok(())
+}
+
+// Adds operands, each behind a comma.
+fn push_operands_behind(
+    out: &mut Text,
+    names: &ValueNames,
+    operands: &[Value],
+) -> Result<(), AllocError> {
+    for value in operands {
+        out.push_bytes(b", ")?;
+        push_operand(out, names, *value)?;
+    }
+    Ok(())
+}
+
+// Adds a word and two operands, where something resets.
+fn push_reset(
+    out: &mut Text,
+    names: &ValueNames,
+    word: &[u8],
+    pending: &Pending<'_>,
+) -> Result<(), AllocError> {
+    if let Said::WithReset = pending.said {
+        out.push_bytes(word)?;
+        push_first_operand(out, names, pending.operands)?;
+        out.push_bytes(b", ")?;
+        push_first_operand(out, names, behind(pending.operands, 1))?;
+    }
+    Ok(())
+}
+
+// The items behind so many.
+fn behind<T>(items: &[T], count: usize) -> &[T] {
+    &items[count.min(items.len())..]
+}
+
+// Adds `p: %v: T`.
+fn push_input(
+    out: &mut Text,
+    names: &ValueNames,
+    port: &[u8],
+    value: Value,
+    ty: &Ty,
+) -> Result<(), AllocError> {
+    push_name(out, port)?;
+    out.push_bytes(b": ")?;
+    push_operand(out, names, value)?;
+    out.push_bytes(b": ")?;
+    push_type(out, ty)?;
+    Ok(())
+}
+
+// Adds the inputs of an instance with commas between them.
+fn push_inputs(
+    out: &mut Text,
+    names: &ValueNames,
+    ports: &[Text],
+    operands: &[Value],
+    types: &[Ty],
+) -> Result<(), AllocError> {
+    for (i, ((port, value), ty)) in ports.iter().zip(operands).zip(types).enumerate() {
+        if i > 0 {
+            out.push_bytes(b", ")?;
+        }
+        push_input(out, names, port.as_bytes(), *value, ty)?;
+    }
+    Ok(())
+}
+
+// Adds `q: T`.
+fn push_output(out: &mut Text, port: &[u8], ty: &Ty) -> Result<(), AllocError> {
+    push_name(out, port)?;
+    out.push_bytes(b": ")?;
+    push_type(out, ty)?;
+    Ok(())
+}
+
+// Adds the outputs of an instance with commas between them.
+fn push_outputs(out: &mut Text, ports: &[Text], types: &[Ty]) -> Result<(), AllocError> {
+    for (i, (port, ty)) in ports.iter().zip(types).enumerate() {
+        if i > 0 {
+            out.push_bytes(b", ")?;
+        }
+        push_output(out, port.as_bytes(), ty)?;
+    }
+    Ok(())
+}
+
+// Adds an instance's inner symbol, where it has one.
+fn push_inner(out: &mut Text, symbol: &Option<Text>) -> Result<(), AllocError> {
+    if let Some(symbol) = symbol {
+        out.push_bytes(b"sym ")?;
+        push_symbol(out, symbol.as_bytes())?;
+        out.push_bytes(b" ")?;
+    }
+    Ok(())
+}
+
+// Adds an instance.
+fn push_instance(
+    out: &mut Text,
+    names: &ValueNames,
+    instance: &Instance,
+    operands: &[Value],
+    types: &[Ty],
+) -> Result<(), AllocError> {
+    push_string(out, instance.name.as_bytes())?;
+    out.push_bytes(b" ")?;
+    push_inner(out, &instance.inner_symbol)?;
+    push_symbol(out, instance.symbol.as_bytes())?;
+    out.push_bytes(b"(")?;
+    push_inputs(out, names, &instance.inputs, operands, types)?;
+    out.push_bytes(b") -> (")?;
+    push_outputs(out, &instance.outputs, behind(types, instance.inputs.len()))?;
+    out.push_bytes(b")")?;
+    Ok(())
+}
+
+// Adds what is said besides operands and types.
+fn push_said(
+    out: &mut Text,
+    names: &ValueNames,
+    piece: Piece,
+    pending: &Pending<'_>,
+) -> Result<(), AllocError> {
+    match (piece, pending.said) {
+        (Piece::Predicate, Said::Predicate(predicate)) => {
+            out.push_bytes(predicate_text(predicate))?;
+        }
+        (Piece::Number, Said::Position(position)) => push_count(out, position)?,
+        (Piece::Truth, Said::Number(value)) => out.push_bytes(truth_text(is_one(value)))?,
+        (Piece::Integer, Said::Number(value)) => push_integer(out, value)?,
+        (Piece::Literals, Said::Literals(list)) => push_literals(out, &list.literals)?,
+        (Piece::Field, Said::FieldName(name)) => push_string(out, name)?,
+        (Piece::Instance, Said::Child(instance)) => {
+            push_instance(out, names, instance, pending.operands, pending.types)?;
+        }
+        _ => {}
+    }
+    Ok(())
+}
+
+// Adds a piece, of what is left of what was gathered.
+fn push_piece(
+    out: &mut Text,
+    names: &ValueNames,
+    piece: Piece,
+    pending: &Pending<'_>,
+) -> Result<(), AllocError> {
+    match piece {
+        Piece::Mark(mark) => out.push_bytes(mark_text(mark))?,
+        Piece::Word(word) => out.push_bytes(word_text(word))?,
+        Piece::Operand => push_first_operand(out, names, pending.operands)?,
+        Piece::Operands => push_operands(out, names, pending.operands)?,
+        Piece::Group => {
+            out.push_bytes(b"(")?;
+            push_operands(out, names, pending.operands)?;
+            out.push_bytes(b")")?;
+        }
+        Piece::Predicate => {
+            push_said(out, names, piece, pending)?;
+            out.push_bytes(b" ")?;
+        }
+        Piece::Literals => {
+            out.push_bytes(b"[")?;
+            push_said(out, names, piece, pending)?;
+            out.push_bytes(b"]")?;
+        }
+        Piece::Reset => push_reset(out, names, b" reset ", pending)?,
+        Piece::SyncReset => push_reset(out, names, b" reset sync ", pending)?,
+        Piece::Type => push_types(out, first_of(pending.types))?,
+        Piece::Types => push_types(out, pending.types)?,
+        Piece::Number | Piece::Truth | Piece::Integer | Piece::Field | Piece::Instance => {
+            push_said(out, names, piece, pending)?;
+        }
+    }
+    Ok(())
+}
+
+// The first of some types, where there is one.
+fn first_of(types: &[Ty]) -> &[Ty] {
+    &types[..types.len().min(1)]
+}
+
+/// Adds pieces, and gives what is left behind them.
+pub fn push_pieces<'d>(
+    out: &mut Text,
+    names: &ValueNames,
+    pieces: &[Piece],
+    pending: Pending<'d>,
+) -> Result<Pending<'d>, AllocError> {
+    let mut left = pending;
+    for piece in pieces {
+        push_piece(out, names, *piece, &left)?;
+        left = left.behind(*piece);
+    }
+    Ok(left)
+}
