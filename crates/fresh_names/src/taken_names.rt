@@ -19,6 +19,7 @@ pub struct TakenNames {
     names: Vec<Text>,
 }
 
+#[tactic(auto, using(std::proofs::Common::append_assoc), unfolding(crate::specs::Fresh::suffixed))]
 fn suffixed(alloc: Global, wanted: &[u8], number: usize) -> Result<Text, AllocError>
     ensures { IfOk result (λ name. name ≡ suffixed wanted.now number) }
 {
@@ -50,6 +51,7 @@ impl TakenNames {
         false
     }
 
+    #[tactic(auto, unfolding(crate::specs::Fresh::free_name))]
     fn free_name(&self, alloc: Global, wanted: &[u8]) -> Result<Text, AllocError>
         ensures { IfOk result (λ name. name ≡ free_name (taken_names self.now) wanted.now) }
     {

@@ -10,3 +10,4 @@ pub mod Operations
 pub mod Modules
 pub mod Naming
 pub mod Texts
+pub mod Views

@@ -57,6 +57,7 @@ wishes_of (compreg_ce r) ts own n = own_wish own ∷ []
 wishes_of (firreg r) ts own n = own_wish own ∷ []
 wishes_of _ ts own n = None ∷ []
 
+-- what the results of an operation want
 abbrev pub wishes : OpParts → List (Option Name)
 wishes o = wishes_of o.kind o.types o.name (length o.results)
 
@@ -99,9 +100,13 @@ first_name [] = []
 first_name (n ∷ ns) = n
 
 -- a value of this name
-abbrev pub called : Option Name → ValueText
-called None = no_value
-called (Some name) = record { name = name; number = None }
+abbrev pub called : Name → ValueText
+called name = record { name = name; number = None }
+
+-- so many names, of which the first ones are these
+abbrev pub firsts : ℕ → List Name → List Name
+firsts zero ns = []
+firsts (suc n) ns = first_name ns ∷ firsts n (drop 1 ns)
 
 -- whether the results of an operation are a pack: those of a struct with two fields or more
 abbrev pub is_pack : Kind → ℕ → Bool
@@ -113,7 +118,7 @@ abbrev pub value_at : OpParts → List Name → ℕ → ValueText
 value_at o ns k =
     cond (is_pack o.kind (length o.results))
     (cond (nat_lt k (length o.results)) (record { name = first_name ns; number = Some k }) no_value)
-    (called (slice_get (take (name_count o) ns) k))
+    (cond (nat_lt k (name_count o)) (called (first_name (drop k ns))) no_value)
 
 -- result k of the i-th operation, where the names of the operations begin so
 abbrev pub value_in : List Name → List OpParts → ℕ → ℕ → ValueText
@@ -124,7 +129,7 @@ value_in ns (o ∷ os) (suc i) k = value_in (drop (name_count o) ns) os i k
 -- the value of the j-th port, where the names of the ports begin so
 abbrev pub port_value : List Name → List Port → ℕ → ValueText
 port_value ns [] j = no_value
-port_value ns (p ∷ ps) zero = cond p.is_output no_value (called (slice_get ns 0))
+port_value ns (p ∷ ps) zero = cond p.is_output no_value (called (first_name ns))
 port_value ns (p ∷ ps) (suc j) = port_value (drop (length (port_wish p)) ns) ps j
 
 -- a value, where the names are given; what nothing defines has no name
@@ -142,4 +147,4 @@ listed_names (n ∷ ns) = names n ns
 
 -- the names of an operation's results, where the names begin so
 abbrev pub results_named : OpParts → List Name → ResultNames
-results_named o ns = cond (is_pack o.kind (length o.results)) (pack (first_name ns) (length o.results)) (listed_names (take (name_count o) ns))
+results_named o ns = cond (is_pack o.kind (length o.results)) (pack (first_name ns) (length o.results)) (listed_names (firsts (name_count o) ns))

@@ -174,6 +174,17 @@ instance_said _ os ts = []
 
 -- ---- pieces
 
+-- a piece of what is said besides operands and types
+unfoldable pub said_bytes : Piece → Pending → List ℕ
+said_bytes piece.Predicate g = predicate_said g.extra
+said_bytes piece.Number g = position_said g.extra
+said_bytes piece.Truth g = truth_said g.extra
+said_bytes piece.Integer g = number_said g.extra
+said_bytes piece.Literals g = literals_said g.extra
+said_bytes piece.Field g = field_said g.extra
+said_bytes piece.Instance g = instance_said g.extra g.operands g.types
+said_bytes _ g = []
+
 -- a piece, of what is left
 unfoldable pub piece_bytes : Piece → Pending → List ℕ
 piece_bytes (piece.Mark k) g = mark_bytes k

@@ -84,10 +84,14 @@ extra_shown _ ts = nothing
 abbrev pub name_entry : Name → Entry
 name_entry name = record { key = codes "name"; value = text_value name }
 
+-- entries with that entry among them, by the bytes of keys
+abbrev pub named_entries : Name → List Entry → List Entry
+named_entries name es = put_entry (name_entry name) es
+
 -- an operation's entries, with its name among them where it has one and its value is called otherwise
 abbrev pub entries_shown : Name → Name → List Entry → List Entry
 entries_shown [] printed es = es
-entries_shown (b ∷ bs) printed es = cond (same_name (b ∷ bs) printed) es (put_entry (name_entry (b ∷ bs)) es)
+entries_shown (b ∷ bs) printed es = cond (same_name (b ∷ bs) printed) es (named_entries (b ∷ bs) es)
 
 -- what stands behind an operation's name
 abbrev pub pending_shown : OpParts → List ValueText → Pending

@@ -1,5 +1,9 @@
 //! Dictionaries, as they are printed.
-ghost use Rattle.std.specs.Prelude.{◌≡◌, ◌++◌, map, OnOk};
+ghost use Rattle.std.specs.Prelude.{◌≡◌, ◌++◌, ◌≤◌, map, length, codes, OnOk};
+ghost use Rattle.ir_store.specs.DictionaryViews.{entry_of};
+ghost use Rattle.mlir_printer.specs.Commas.{behind};
+ghost use Rattle.mlir_printer.specs.Attributes.{entry_bytes, dictionary_bytes, separator_bytes, entries_bytes, place_of_name};
+ghost use Rattle.mlir_printer.specs.Texts.{name_entry, named_entries, entries_shown};
 
 use crate::attributes::push_entry;
 use crate::strings::push_string;
@@ -8,7 +12,9 @@ use ir_store::dictionary::Entry;
 use std::alloc::AllocError;
 
 // Adds a comma in front of what is not the first.
-fn push_separator(out: &mut Text, is_first: bool) -> Result<(), AllocError> {
+fn push_separator(out: &mut Text, is_first: bool) -> Result<(), AllocError>
+    ensures { OnOk result (out.new ≡ out.old ++ separator_bytes is_first) }
+{
     if !is_first {
         out.push_bytes(b", ")?;
     }
@@ -17,7 +23,9 @@ fn push_separator(out: &mut Text, is_first: bool) -> Result<(), AllocError> {
 
 // Adds entries with commas between them, the first of them behind a comma where it is not the first
 // of all.
-fn push_entries(out: &mut Text, is_first: bool, entries: &[Entry]) -> Result<(), AllocError> {
+fn push_entries(out: &mut Text, is_first: bool, entries: &[Entry]) -> Result<(), AllocError>
+    ensures { OnOk result (out.new ≡ out.old ++ entries_bytes is_first (map entry_of entries.now)) }
+{
     if let [first, others @ ..] = entries {
         push_separator(out, is_first)?;
         push_entry(out, first)?;
@@ -27,7 +35,9 @@ fn push_entries(out: &mut Text, is_first: bool, entries: &[Entry]) -> Result<(),
 }
 
 // Adds entries, each behind a comma.
-fn push_entries_behind(out: &mut Text, entries: &[Entry]) -> Result<(), AllocError> {
+fn push_entries_behind(out: &mut Text, entries: &[Entry]) -> Result<(), AllocError>
+    ensures { OnOk result (out.new ≡ out.old ++ behind entry_bytes (map entry_of entries.now)) }
+{
     for entry in entries {
         out.push_bytes(b", ")?;
         push_entry(out, entry)?;
@@ -36,7 +46,10 @@ fn push_entries_behind(out: &mut Text, entries: &[Entry]) -> Result<(), AllocErr
 }
 
 /// Adds a dictionary with something in front of it, or nothing where it has no entry.
-pub fn push_dictionary(out: &mut Text, front: &[u8], entries: &[Entry]) -> Result<(), AllocError> {
+#[tactic(auto, unfolding(crate::specs::Attributes::dictionary_bytes))]
+pub fn push_dictionary(out: &mut Text, front: &[u8], entries: &[Entry]) -> Result<(), AllocError>
+    ensures { OnOk result (out.new ≡ out.old ++ dictionary_bytes front.now (map entry_of entries.now)) }
+{
     if entries.is_empty() {
         return Ok(());
     }
@@ -48,7 +61,10 @@ pub fn push_dictionary(out: &mut Text, front: &[u8], entries: &[Entry]) -> Resul
 }
 
 // How many entries have keys that are less than `name`.
-fn place_of_name(entries: &[Entry]) -> usize {
+fn place_of_name(entries: &[Entry]) -> usize
+    ensures place { result ≡ place_of_name (map entry_of entries.now) }
+    ensures within { result ≤ length entries.now }
+{
     for (i, entry) in entries.iter().enumerate() {
         if entry.key.as_bytes() >= b"name".as_slice() {
             return i;
@@ -58,7 +74,10 @@ fn place_of_name(entries: &[Entry]) -> usize {
 }
 
 // Adds the entry that gives an operation its name.
-fn push_name_entry(out: &mut Text, is_first: bool, name: &[u8]) -> Result<(), AllocError> {
+#[tactic(auto, unfolding(crate::specs::Attributes::entry_bytes))]
+fn push_name_entry(out: &mut Text, is_first: bool, name: &[u8]) -> Result<(), AllocError>
+    ensures { OnOk result (out.new ≡ out.old ++ (separator_bytes is_first ++ entry_bytes (name_entry name.now))) }
+{
     push_separator(out, is_first)?;
     out.push_bytes(b"name = ")?;
     push_string(out, name)?;
@@ -66,7 +85,10 @@ fn push_name_entry(out: &mut Text, is_first: bool, name: &[u8]) -> Result<(), Al
 }
 
 // Adds a dictionary with the entry that gives an operation its name among the others.
-fn push_with_name(out: &mut Text, name: &[u8], entries: &[Entry]) -> Result<(), AllocError> {
+#[tactic(auto, unfolding(crate::specs::Attributes::dictionary_bytes))]
+fn push_with_name(out: &mut Text, name: &[u8], entries: &[Entry]) -> Result<(), AllocError>
+    ensures { OnOk result (out.new ≡ out.old ++ dictionary_bytes (codes " ") (named_entries name.now (map entry_of entries.now))) }
+{
     let place = place_of_name(entries);
     out.push_bytes(b" {")?;
     push_entries(out, true, &entries[..place])?;
@@ -83,7 +105,9 @@ pub fn push_named_dictionary(
     own: &[u8],
     printed: &[u8],
     entries: &[Entry],
-) -> Result<(), AllocError> {
+) -> Result<(), AllocError>
+    ensures { OnOk result (out.new ≡ out.old ++ dictionary_bytes (codes " ") (entries_shown own.now printed.now (map entry_of entries.now))) }
+{
     if own.is_empty() || own == printed {
         push_dictionary(out, b" ", entries)?;
     } else {

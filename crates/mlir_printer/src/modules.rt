@@ -97,7 +97,7 @@ fn push_header(out: &mut Text, names: &ValueNames, module: &Module) -> Result<()
 pub fn push_module(alloc: Global, out: &mut Text, module: &Module) -> Result<(), AllocError> {
     let names = ValueNames::of(alloc, module)?;
     push_header(out, &names, module)?;
-    push_operations(out, &names, names.input_count(), &module.body)?;
+    push_operations(out, &names, &module.body)?;
     out.push_bytes(b"  }\n")?;
     Ok(())
 }

@@ -20,6 +20,16 @@ pub fn push_count(out: &mut Text, count: u32) -> Result<(), AllocError>
     Ok(())
 }
 
+/// Adds a length.
+#[tactic(auto, unfolding(crate::specs::Numbers::count_bytes))]
+pub fn push_length(out: &mut Text, length: usize) -> Result<(), AllocError>
+    ensures { OnOk result (out.new ≡ out.old ++ count_bytes length) }
+{
+    let mut buffer = Buffer::new();
+    out.push_bytes(buffer.format(length).as_bytes())?;
+    Ok(())
+}
+
 /// Adds an integer with its sign.
 #[tactic(auto, unfolding(crate::specs::Numbers::integer_bytes))]
 pub fn push_integer(out: &mut Text, value: Integer) -> Result<(), AllocError>

@@ -1,14 +1,25 @@
 //! Operations, as they are printed.
-ghost use Rattle.std.specs.Prelude.{◌≡◌, ◌++◌, map, OnOk};
+ghost use Rattle.std.specs.Prelude.{◌≡◌, ◌++◌, ◌≤◌, ◌^◌, map, drop, OnOk, IfOk};
+ghost use Rattle.hw_model.specs.TypeViews.{type_of};
+ghost use Rattle.hw_model.specs.KindViews.{kind_of};
+ghost use Rattle.ir_store.specs.Bodies.{read_parts};
+ghost use Rattle.ir_store.specs.OperationViews.{types_in};
+ghost use Rattle.ir_store.specs.DictionaryViews.{entries_in};
+ghost use Rattle.mlir_printer.specs.Commas.{behind};
+ghost use Rattle.mlir_printer.specs.Pieces.{value_name_bytes, pieces_bytes};
+ghost use Rattle.mlir_printer.specs.Operations.{results_bytes, bin_bytes, form_bytes, is_truth_said, shape_shown, after_blank, left_behind_all, operation_line, shaped_bytes};
+ghost use Rattle.mlir_reader.specs.Shapes.{front_pieces, type_pieces};
+ghost use Rattle.mlir_printer.specs.Naming.{first_name, firsts, listed_names, name_count, results_named};
+ghost use Rattle.mlir_printer.specs.Texts.{listed_of, extra_shown, entries_shown, operation_shown};
+ghost use Rattle.mlir_printer.specs.Views.{names_held, value_held, pending_of, extra_of};
 
 use crate::dictionaries::push_named_dictionary;
-use crate::numbers::{is_shown_as_truth, push_count};
+use crate::numbers::{is_shown_as_truth, push_length};
 use crate::pieces::{push_pieces, push_value_name};
 use crate::said::{Pending, Said, said_of};
-use crate::value_names::ValueNames;
+use crate::value_names::{Place, ValueNames};
 use crate::wanted::is_pack;
 use diag::listed::Listed;
-use fresh_names::taken_names::NameId;
 use hw_model::kinds::OpKind;
 use hw_model::types::Ty;
 use io_edge::byte_text::Text;
@@ -18,7 +29,10 @@ use mlir_reader::shapes::{front_pieces, shape_of, type_pieces};
 use std::alloc::AllocError;
 
 // The name of a kind of operation.
-fn listed_of(kind: &OpKind) -> Listed {
+#[tactic(auto, unfolding(crate::specs::Texts::listed_of))]
+fn listed_of(kind: &OpKind) -> Listed
+    ensures { result ≡ listed_of (kind_of kind.now) }
+{
     match kind {
         OpKind::Add => Listed::CombAdd,
         OpKind::Mul => Listed::CombMul,
@@ -61,7 +75,9 @@ fn listed_of(kind: &OpKind) -> Listed {
 }
 
 // Whether what is said of a constant is printed as `true` or `false`.
-fn is_truth_said(types: &[Ty], said: Said<'_>) -> bool {
+fn is_truth_said(types: &[Ty], said: Said<'_>) -> bool
+    ensures { result ≡ is_truth_said (map type_of types.now) (extra_of said.entry) }
+{
     match (types.first(), said) {
         (Some(ty), Said::Number(value)) => is_shown_as_truth(ty, value),
         _ => false,
@@ -69,7 +85,10 @@ fn is_truth_said(types: &[Ty], said: Said<'_>) -> bool {
 }
 
 // The form of an operation.
-fn shape_shown(name: Listed, pending: &Pending<'_>) -> Shape {
+#[tactic(auto, unfolding(crate::specs::Operations::shape_shown))]
+fn shape_shown(name: Listed, names: &ValueNames, pending: &Pending<'_>) -> Shape
+    ensures { result ≡ shape_shown name (pending_of names.now pending.now) }
+{
     match name {
         Listed::HwConstant if is_truth_said(pending.types, pending.said) => Shape::Truth,
         Listed::HwConstant => Shape::Integer,
@@ -79,34 +98,56 @@ fn shape_shown(name: Listed, pending: &Pending<'_>) -> Shape {
     }
 }
 
-// Adds names of values with commas between them.
-fn push_names(out: &mut Text, names: &ValueNames, ids: &[NameId]) -> Result<(), AllocError> {
-    if let [first, others @ ..] = ids {
-        push_value_name(out, names.name(*first))?;
-        for id in others {
-            out.push_bytes(b", ")?;
-            push_value_name(out, names.name(*id))?;
-        }
-        out.push_bytes(b" = ")?;
+// Adds so many names of values, in front of which so many others stand, with commas between them and
+// `=` behind them.
+#[tactic(auto, unfolding(crate::specs::Operations::results_bytes))]
+fn push_names(out: &mut Text, names: &ValueNames, first: u32, count: u32) -> Result<(), AllocError>
+    ensures { OnOk result (out.new ≡ out.old ++ results_bytes (listed_names (firsts count (drop first (names_held names.now))))) }
+{
+    if count == 0 {
+        return Ok(());
+    }
+    push_value_name(out, names.nth(first as usize))?;
+    push_names_behind(out, names, first as usize + 1, count - 1)?;
+    out.push_bytes(b" = ")?;
+    Ok(())
+}
+
+// Adds so many names of values, in front of which so many others stand, each behind a comma.
+fn push_names_behind(
+    out: &mut Text,
+    names: &ValueNames,
+    first: usize,
+    count: u32,
+) -> Result<(), AllocError>
+    requires { first ≤ 2 ^ 32 }
+    ensures { OnOk result (out.new ≡ out.old ++ behind value_name_bytes (firsts count (drop first (names_held names.now)))) }
+{
+    for i in 0..count {
+        out.push_bytes(b", ")?;
+        push_value_name(out, names.nth(first + i as usize))?;
     }
     Ok(())
 }
 
-// Adds the names of an operation's results, of which so many names stand in front.
+// Adds the names of an operation's results.
+#[tactic(auto, unfolding(crate::specs::Operations::results_bytes))]
 fn push_results(
     out: &mut Text,
     names: &ValueNames,
     op: &Op<'_>,
-    first: usize,
-    count: usize,
-) -> Result<(), AllocError> {
+    place: Place,
+) -> Result<(), AllocError>
+    requires { place.names ≡ name_count (read_parts op.now) }
+    ensures { OnOk result (out.new ≡ out.old ++ results_bytes (results_named (read_parts op.now) (drop place.first (names_held names.now)))) }
+{
     let results = op.results.results.len();
     if !is_pack(op.kind, results) {
-        return push_names(out, names, names.range(first, count));
+        return push_names(out, names, place.first, place.names);
     }
-    push_value_name(out, names.nth(first))?;
+    push_value_name(out, names.nth(place.first as usize))?;
     out.push_bytes(b":")?;
-    push_count(out, results as u32)?;
+    push_length(out, results)?;
     out.push_bytes(b" = ")?;
     Ok(())
 }
@@ -117,47 +158,75 @@ fn push_front<'d>(
     names: &ValueNames,
     pieces: &[Piece],
     pending: Pending<'d>,
-) -> Result<Pending<'d>, AllocError> {
+) -> Result<Pending<'d>, AllocError>
+    ensures bytes { OnOk result (out.new ≡ out.old ++ after_blank pieces.now (pieces_bytes pieces.now (pending_of names.now pending.entry))) }
+    ensures left { IfOk result (λ left. pending_of names.now left ≡ left_behind_all pieces.now (pending_of names.now pending.entry)) }
+{
     if !pieces.is_empty() {
         out.push_bytes(b" ")?;
     }
     push_pieces(out, names, pieces, pending)
 }
 
-/// Adds a line of a body: an operation of which so many names stand in front, and so many are its
-/// results'.
+// Adds a form: pieces, a dictionary, and the types.
+fn push_form(
+    out: &mut Text,
+    names: &ValueNames,
+    shape: Shape,
+    pending: Pending<'_>,
+    op: &Op<'_>,
+    first: u32,
+) -> Result<(), AllocError>
+    ensures { OnOk result (out.new ≡ out.old ++ form_bytes (front_pieces shape) (type_pieces shape) (pending_of names.now pending.entry) (entries_shown op.now.name.now (first_name (drop first (names_held names.now))) (entries_in op.now.dictionary.now))) }
+{
+    let printed = names.nth(first as usize);
+    let left = push_front(out, names, front_pieces(shape), pending)?;
+    push_named_dictionary(out, op.name.as_bytes(), printed, &op.dictionary.entries)?;
+    push_pieces(out, names, type_pieces(shape), left)?;
+    Ok(())
+}
+
+// What is left to print of an operation behind its name.
+fn pending_of<'d>(op: &Op<'d>) -> Pending<'d>
+    ensures operands { result.operands.now ≡ op.now.operands.now }
+    ensures types { map type_of result.types.now ≡ types_in op.now.types.now }
+    ensures said { extra_of result.said ≡ extra_shown (kind_of op.now.kind.now) (types_in op.now.types.now) }
+{
+    Pending {
+        operands: op.operands,
+        types: &op.types.types,
+        said: said_of(op.kind, &op.types.types),
+    }
+}
+
+/// Adds a line of a body, of an operation the names of whose results stand so.
+#[tactic(auto, unfolding(crate::specs::Operations::operation_line, crate::specs::Operations::operation_bytes, crate::specs::Operations::shaped_bytes))]
 pub fn push_operation(
     out: &mut Text,
     names: &ValueNames,
     op: &Op<'_>,
-    first: usize,
-    count: usize,
-) -> Result<(), AllocError> {
+    place: Place,
+) -> Result<(), AllocError>
+    requires { place.names ≡ name_count (read_parts op.now) }
+    ensures { OnOk result (out.new ≡ out.old ++ operation_line (operation_shown (read_parts op.now) (map (value_held names.now) op.now.operands.now) (drop place.first (names_held names.now)))) }
+{
     let name = listed_of(op.kind);
-    let pending = Pending {
-        operands: op.operands,
-        types: &op.types.types,
-        said: said_of(op.kind, &op.types.types),
-    };
-    let shape = shape_shown(name, &pending);
+    let pending = pending_of(op);
+    let shape = shape_shown(name, names, &pending);
     out.push_bytes(b"    ")?;
-    push_results(out, names, op, first, count)?;
+    push_results(out, names, op, place)?;
     out.push_bytes(name.name())?;
     push_bin(out, op.bin)?;
-    let left = push_front(out, names, front_pieces(shape), pending)?;
-    push_named_dictionary(
-        out,
-        op.name.as_bytes(),
-        names.nth(first),
-        &op.dictionary.entries,
-    )?;
-    push_pieces(out, names, type_pieces(shape), left)?;
+    push_form(out, names, shape, pending, op, place.first)?;
     out.push_bytes(b"\n")?;
     Ok(())
 }
 
 // Adds ` bin`, or nothing.
-fn push_bin(out: &mut Text, bin: bool) -> Result<(), AllocError> {
+#[tactic(auto, unfolding(crate::specs::Operations::bin_bytes))]
+fn push_bin(out: &mut Text, bin: bool) -> Result<(), AllocError>
+    ensures { OnOk result (out.new ≡ out.old ++ bin_bytes bin) }
+{
     if bin {
         out.push_bytes(b" bin")?;
     }
@@ -165,18 +234,12 @@ fn push_bin(out: &mut Text, bin: bool) -> Result<(), AllocError> {
 }
 
 /// Adds the lines of a body.
-pub fn push_operations(
-    out: &mut Text,
-    names: &ValueNames,
-    first: usize,
-    body: &Body,
-) -> Result<(), AllocError> {
-    let mut first = first;
+pub fn push_operations(out: &mut Text, names: &ValueNames, body: &Body) -> Result<(), AllocError> {
     for id in body.ops() {
         let op = body.op(id);
-        let count = names.count(id);
-        push_operation(out, names, &op, first, count)?;
-        first += count;
+        if let Some(place) = names.place(id) {
+            push_operation(out, names, &op, place)?;
+        }
     }
     Ok(())
 }

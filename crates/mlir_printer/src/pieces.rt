@@ -1,5 +1,13 @@
 //! The pieces of an operation, as they are printed.
-ghost use Rattle.std.specs.Prelude.{◌≡◌, ◌++◌, map, codes, OnOk};
+ghost use Rattle.std.specs.Prelude.{◌≡◌, ◌++◌, map, take, drop, codes, IfOk, OnOk};
+ghost use Rattle.hw_model.specs.TypeViews.{type_of};
+ghost use Rattle.hw_model.specs.KindViews.{predicate_of, instance_of};
+ghost use Rattle.mlir_printer.specs.Commas.{commas, behind};
+ghost use Rattle.mlir_printer.specs.Strings.{name_bytes};
+ghost use Rattle.mlir_printer.specs.Types.{type_bytes};
+ghost use Rattle.mlir_printer.specs.Operations.{left_behind_all};
+ghost use Rattle.mlir_printer.specs.Pieces.{mark_bytes, word_bytes, predicate_bytes, value_name_bytes, pack_number_bytes, operand_bytes, first_operand, first_type_bytes, reset_said, input_bytes, output_bytes, inputs_joined, outputs_joined, inner_bytes, instance_bytes, piece_bytes, pieces_bytes, said_bytes};
+ghost use Rattle.mlir_printer.specs.Views.{value_held, pending_of, extra_of};
 
 use crate::literals::push_literals;
 use crate::numbers::{is_one, push_count, push_integer, truth_text};
@@ -16,7 +24,10 @@ use mlir_reader::pieces::{Keyword, Piece};
 use std::alloc::AllocError;
 
 // A mark with the blanks round it.
-fn mark_text(mark: TokenKind) -> &'static [u8] {
+#[tactic(auto, unfolding(crate::specs::Pieces::mark_bytes))]
+fn mark_text(mark: TokenKind) -> &'static [u8]
+    ensures { result.now ≡ mark_bytes mark }
+{
     match mark {
         TokenKind::Arrow => b" -> ",
         TokenKind::LeftParenthesis => b"(",
@@ -36,7 +47,10 @@ fn mark_text(mark: TokenKind) -> &'static [u8] {
 }
 
 // A word with the blanks round it.
-fn word_text(word: Keyword) -> &'static [u8] {
+#[tactic(auto, unfolding(crate::specs::Pieces::word_bytes))]
+fn word_text(word: Keyword) -> &'static [u8]
+    ensures { result.now ≡ word_bytes word }
+{
     match word {
         Keyword::From => b" from ",
         Keyword::Clock => b" clock ",
@@ -44,7 +58,10 @@ fn word_text(word: Keyword) -> &'static [u8] {
 }
 
 // The name of a predicate.
-fn predicate_text(predicate: Predicate) -> &'static [u8] {
+#[tactic(auto, unfolding(crate::specs::Pieces::predicate_bytes))]
+fn predicate_text(predicate: Predicate) -> &'static [u8]
+    ensures { result.now ≡ predicate_bytes (predicate_of predicate) }
+{
     match predicate {
         Predicate::Eq => b"eq",
         Predicate::Ne => b"ne",
@@ -64,14 +81,20 @@ fn predicate_text(predicate: Predicate) -> &'static [u8] {
 }
 
 /// Adds `%v`.
-pub fn push_value_name(out: &mut Text, name: &[u8]) -> Result<(), AllocError> {
+#[tactic(auto, unfolding(crate::specs::Pieces::value_name_bytes))]
+pub fn push_value_name(out: &mut Text, name: &[u8]) -> Result<(), AllocError>
+    ensures { OnOk result (out.new ≡ out.old ++ value_name_bytes name.now) }
+{
     out.push_bytes(b"%")?;
     out.push_bytes(name)?;
     Ok(())
 }
 
 // Adds `#i`, or nothing.
-fn push_pack_number(out: &mut Text, number: Option<u32>) -> Result<(), AllocError> {
+#[tactic(auto, unfolding(crate::specs::Pieces::pack_number_bytes))]
+fn push_pack_number(out: &mut Text, number: Option<u32>) -> Result<(), AllocError>
+    ensures { OnOk result (out.new ≡ out.old ++ pack_number_bytes number) }
+{
     if let Some(number) = number {
         out.push_bytes(b"#")?;
         push_count(out, number)?;
@@ -80,8 +103,11 @@ fn push_pack_number(out: &mut Text, number: Option<u32>) -> Result<(), AllocErro
 }
 
 // Adds an operand.
-fn push_operand(out: &mut Text, names: &ValueNames, value: Value) -> Result<(), AllocError> {
-    let operand = names.operand(value);
+#[tactic(auto, unfolding(crate::specs::Pieces::operand_bytes))]
+fn push_operand(out: &mut Text, names: &ValueNames, value: Value) -> Result<(), AllocError>
+    ensures { OnOk result (out.new ≡ out.old ++ operand_bytes (value_held names.now value)) }
+{
+    let operand = names.value(value);
     push_value_name(out, operand.name)?;
     push_pack_number(out, operand.number)?;
     Ok(())
@@ -92,7 +118,9 @@ fn push_first_operand(
     out: &mut Text,
     names: &ValueNames,
     operands: &[Value],
-) -> Result<(), AllocError> {
+) -> Result<(), AllocError>
+    ensures { OnOk result (out.new ≡ out.old ++ operand_bytes (first_operand (map (value_held names.now) operands.now))) }
+{
     match operands.first() {
         Some(value) => push_operand(out, names, *value)?,
         None => push_operand(out, names, Value::Undefined)?,
@@ -101,7 +129,9 @@ fn push_first_operand(
 }
 
 // Adds operands with commas between them.
-fn push_operands(out: &mut Text, names: &ValueNames, operands: &[Value]) -> Result<(), AllocError> {
+fn push_operands(out: &mut Text, names: &ValueNames, operands: &[Value]) -> Result<(), AllocError>
+    ensures { OnOk result (out.new ≡ out.old ++ commas operand_bytes (map (value_held names.now) operands.now)) }
+{
     if let [first, others @ ..] = operands {
         push_operand(out, names, *first)?;
         push_operands_behind(out, names, others)?;
@@ -114,7 +144,9 @@ fn push_operands_behind(
     out: &mut Text,
     names: &ValueNames,
     operands: &[Value],
-) -> Result<(), AllocError> {
+) -> Result<(), AllocError>
+    ensures { OnOk result (out.new ≡ out.old ++ behind operand_bytes (map (value_held names.now) operands.now)) }
+{
     for value in operands {
         out.push_bytes(b", ")?;
         push_operand(out, names, *value)?;
@@ -128,29 +160,36 @@ fn push_reset(
     names: &ValueNames,
     word: &[u8],
     pending: &Pending<'_>,
-) -> Result<(), AllocError> {
+) -> Result<(), AllocError>
+    ensures { OnOk result (out.new ≡ out.old ++ reset_said word.now (extra_of pending.now.said) (map (value_held names.now) pending.now.operands.now)) }
+{
     if let Said::WithReset = pending.said {
         out.push_bytes(word)?;
         push_first_operand(out, names, pending.operands)?;
         out.push_bytes(b", ")?;
-        push_first_operand(out, names, behind(pending.operands, 1))?;
+        push_first_operand(out, names, rest_of(pending.operands, 1))?;
     }
     Ok(())
 }
 
 // The items behind so many.
-fn behind<T>(items: &[T], count: usize) -> &[T] {
+fn rest_of<T>(items: &[T], count: usize) -> &[T]
+    ensures { result.now ≡ drop count items.now }
+{
     &items[count.min(items.len())..]
 }
 
 // Adds `p: %v: T`.
+#[tactic(auto, unfolding(crate::specs::Pieces::input_bytes))]
 fn push_input(
     out: &mut Text,
     names: &ValueNames,
     port: &[u8],
     value: Value,
     ty: &Ty,
-) -> Result<(), AllocError> {
+) -> Result<(), AllocError>
+    ensures { OnOk result (out.new ≡ out.old ++ input_bytes (record { port = port.now; operand = value_held names.now value; type = type_of ty.now })) }
+{
     push_name(out, port)?;
     out.push_bytes(b": ")?;
     push_operand(out, names, value)?;
@@ -166,7 +205,9 @@ fn push_inputs(
     ports: &[Text],
     operands: &[Value],
     types: &[Ty],
-) -> Result<(), AllocError> {
+) -> Result<(), AllocError>
+    ensures { OnOk result (out.new ≡ out.old ++ commas input_bytes (inputs_joined ports.now (map (value_held names.now) operands.now) (map type_of types.now))) }
+{
     for (i, ((port, value), ty)) in ports.iter().zip(operands).zip(types).enumerate() {
         if i > 0 {
             out.push_bytes(b", ")?;
@@ -177,7 +218,10 @@ fn push_inputs(
 }
 
 // Adds `q: T`.
-fn push_output(out: &mut Text, port: &[u8], ty: &Ty) -> Result<(), AllocError> {
+#[tactic(auto, unfolding(crate::specs::Pieces::output_bytes))]
+fn push_output(out: &mut Text, port: &[u8], ty: &Ty) -> Result<(), AllocError>
+    ensures { OnOk result (out.new ≡ out.old ++ output_bytes (record { name = port.now; type = type_of ty.now })) }
+{
     push_name(out, port)?;
     out.push_bytes(b": ")?;
     push_type(out, ty)?;
@@ -185,7 +229,9 @@ fn push_output(out: &mut Text, port: &[u8], ty: &Ty) -> Result<(), AllocError> {
 }
 
 // Adds the outputs of an instance with commas between them.
-fn push_outputs(out: &mut Text, ports: &[Text], types: &[Ty]) -> Result<(), AllocError> {
+fn push_outputs(out: &mut Text, ports: &[Text], types: &[Ty]) -> Result<(), AllocError>
+    ensures { OnOk result (out.new ≡ out.old ++ commas output_bytes (outputs_joined ports.now (map type_of types.now))) }
+{
     for (i, (port, ty)) in ports.iter().zip(types).enumerate() {
         if i > 0 {
             out.push_bytes(b", ")?;
@@ -196,7 +242,10 @@ fn push_outputs(out: &mut Text, ports: &[Text], types: &[Ty]) -> Result<(), Allo
 }
 
 // Adds an instance's inner symbol, where it has one.
-fn push_inner(out: &mut Text, symbol: &Option<Text>) -> Result<(), AllocError> {
+#[tactic(auto, unfolding(crate::specs::Pieces::inner_bytes))]
+fn push_inner(out: &mut Text, symbol: &Option<Text>) -> Result<(), AllocError>
+    ensures { OnOk result (out.new ≡ out.old ++ inner_bytes symbol.now) }
+{
     if let Some(symbol) = symbol {
         out.push_bytes(b"sym ")?;
         push_symbol(out, symbol.as_bytes())?;
@@ -206,13 +255,16 @@ fn push_inner(out: &mut Text, symbol: &Option<Text>) -> Result<(), AllocError> {
 }
 
 // Adds an instance.
+#[tactic(auto, unfolding(crate::specs::Pieces::instance_bytes))]
 fn push_instance(
     out: &mut Text,
     names: &ValueNames,
     instance: &Instance,
     operands: &[Value],
     types: &[Ty],
-) -> Result<(), AllocError> {
+) -> Result<(), AllocError>
+    ensures { OnOk result (out.new ≡ out.old ++ instance_bytes (instance_of instance.now) (map (value_held names.now) operands.now) (map type_of types.now)) }
+{
     push_string(out, instance.name.as_bytes())?;
     out.push_bytes(b" ")?;
     push_inner(out, &instance.inner_symbol)?;
@@ -220,18 +272,25 @@ fn push_instance(
     out.push_bytes(b"(")?;
     push_inputs(out, names, &instance.inputs, operands, types)?;
     out.push_bytes(b") -> (")?;
-    push_outputs(out, &instance.outputs, behind(types, instance.inputs.len()))?;
+    push_outputs(
+        out,
+        &instance.outputs,
+        rest_of(types, instance.inputs.len()),
+    )?;
     out.push_bytes(b")")?;
     Ok(())
 }
 
 // Adds what is said besides operands and types.
+#[tactic(auto, unfolding(crate::specs::Pieces::said_bytes))]
 fn push_said(
     out: &mut Text,
     names: &ValueNames,
     piece: Piece,
     pending: &Pending<'_>,
-) -> Result<(), AllocError> {
+) -> Result<(), AllocError>
+    ensures { OnOk result (out.new ≡ out.old ++ said_bytes piece (pending_of names.now pending.now)) }
+{
     match (piece, pending.said) {
         (Piece::Predicate, Said::Predicate(predicate)) => {
             out.push_bytes(predicate_text(predicate))?;
@@ -250,12 +309,15 @@ fn push_said(
 }
 
 // Adds a piece, of what is left of what was gathered.
+#[tactic(auto, unfolding(crate::specs::Pieces::piece_bytes, crate::specs::Pieces::said_bytes))]
 fn push_piece(
     out: &mut Text,
     names: &ValueNames,
     piece: Piece,
     pending: &Pending<'_>,
-) -> Result<(), AllocError> {
+) -> Result<(), AllocError>
+    ensures { OnOk result (out.new ≡ out.old ++ piece_bytes piece (pending_of names.now pending.now)) }
+{
     match piece {
         Piece::Mark(mark) => out.push_bytes(mark_text(mark))?,
         Piece::Word(word) => out.push_bytes(word_text(word))?,
@@ -277,7 +339,7 @@ fn push_piece(
         }
         Piece::Reset => push_reset(out, names, b" reset ", pending)?,
         Piece::SyncReset => push_reset(out, names, b" reset sync ", pending)?,
-        Piece::Type => push_types(out, first_of(pending.types))?,
+        Piece::Type => push_first_type(out, pending.types)?,
         Piece::Types => push_types(out, pending.types)?,
         Piece::Number | Piece::Truth | Piece::Integer | Piece::Field | Piece::Instance => {
             push_said(out, names, piece, pending)?;
@@ -286,9 +348,14 @@ fn push_piece(
     Ok(())
 }
 
-// The first of some types, where there is one.
-fn first_of(types: &[Ty]) -> &[Ty] {
-    &types[..types.len().min(1)]
+// Adds the first of some types, where there is one.
+fn push_first_type(out: &mut Text, types: &[Ty]) -> Result<(), AllocError>
+    ensures { OnOk result (out.new ≡ out.old ++ first_type_bytes (map type_of types.now)) }
+{
+    if let Some(ty) = types.first() {
+        push_type(out, ty)?;
+    }
+    Ok(())
 }
 
 /// Adds pieces, and gives what is left behind them.
@@ -297,7 +364,10 @@ pub fn push_pieces<'d>(
     names: &ValueNames,
     pieces: &[Piece],
     pending: Pending<'d>,
-) -> Result<Pending<'d>, AllocError> {
+) -> Result<Pending<'d>, AllocError>
+    ensures bytes { OnOk result (out.new ≡ out.old ++ pieces_bytes pieces.now (pending_of names.now pending.entry)) }
+    ensures left { IfOk result (λ left. pending_of names.now left ≡ left_behind_all pieces.now (pending_of names.now pending.entry)) }
+{
     let mut left = pending;
     for piece in pieces {
         push_piece(out, names, *piece, &left)?;

@@ -1,5 +1,10 @@
 //! What an operation says, and what is left of it.
-ghost use Rattle.std.specs.Prelude.{◌≡◌, map};
+ghost use Rattle.std.specs.Prelude.{◌≡◌, map, drop};
+ghost use Rattle.hw_model.specs.TypeViews.{type_of};
+ghost use Rattle.hw_model.specs.KindViews.{kind_of, reset_of};
+ghost use Rattle.mlir_printer.specs.Pieces.{operands_taken, types_taken, left_behind};
+ghost use Rattle.mlir_printer.specs.Texts.{reset_extra, extra_shown};
+ghost use Rattle.mlir_printer.specs.Views.{extra_of};
 
 use crate::numbers::shown_by_first;
 use hw_model::kinds::{Instance, Integer, LiteralList, OpKind, Predicate, Reset};
@@ -40,7 +45,9 @@ pub struct Pending<'d> {
 }
 
 // What a reset says.
-fn said_of_reset<'d>(reset: Reset) -> Said<'d> {
+fn said_of_reset<'d>(reset: Reset) -> Said<'d>
+    ensures { extra_of result ≡ reset_extra (reset_of reset) }
+{
     match reset {
         Reset::No => Said::Nothing,
         Reset::Sync => Said::WithReset,
@@ -48,7 +55,10 @@ fn said_of_reset<'d>(reset: Reset) -> Said<'d> {
 }
 
 /// What a kind says besides operands and types, of operations with these types.
-pub fn said_of<'d>(kind: &'d OpKind, types: &[Ty]) -> Said<'d> {
+#[tactic(auto, unfolding(crate::specs::Texts::extra_shown))]
+pub fn said_of<'d>(kind: &'d OpKind, types: &[Ty]) -> Said<'d>
+    ensures { extra_of result ≡ extra_shown (kind_of kind.now) (map type_of types.now) }
+{
     match kind {
         OpKind::Icmp(predicate) => Said::Predicate(*predicate),
         OpKind::Extract(low) => Said::Position(*low),
@@ -66,7 +76,9 @@ pub fn said_of<'d>(kind: &'d OpKind, types: &[Ty]) -> Said<'d> {
 }
 
 // How many operands a piece takes.
-fn operands_taken(piece: Piece) -> usize {
+fn operands_taken(piece: Piece) -> usize
+    ensures { result ≡ operands_taken piece }
+{
     match piece {
         Piece::Operand => 1,
         _ => 0,
@@ -74,7 +86,9 @@ fn operands_taken(piece: Piece) -> usize {
 }
 
 // How many types a piece takes.
-fn types_taken(piece: Piece) -> usize {
+fn types_taken(piece: Piece) -> usize
+    ensures { result ≡ types_taken piece }
+{
     match piece {
         Piece::Type => 1,
         _ => 0,
@@ -83,7 +97,11 @@ fn types_taken(piece: Piece) -> usize {
 
 impl<'d> Pending<'d> {
     /// What is left behind a piece.
-    pub fn behind(self, piece: Piece) -> Pending<'d> {
+    pub fn behind(self, piece: Piece) -> Pending<'d>
+        ensures operands { result.operands.now ≡ drop (operands_taken piece) self.entry.operands.now }
+        ensures types { result.types.now ≡ drop (types_taken piece) self.entry.types.now }
+        ensures said { result.said ≡ self.entry.said }
+    {
         let operands = operands_taken(piece).min(self.operands.len());
         let types = types_taken(piece).min(self.types.len());
         Pending {

@@ -1,12 +1,12 @@
 //! The names of a module's values.
-ghost use Rattle.std.specs.Prelude.{◌≡◌};
+ghost use Rattle.std.specs.Prelude.{◌≡◌, ℕ, ◌+◌, ◌<◌, ◌≤◌, ◌^◌, length, map, Some, slice_get};
+ghost use Rattle.fresh_names.specs.TakenViews.{taken_names};
 
 use crate::strings::standing;
 use crate::wanted::{constant_name, instance_name, is_pack};
 use fresh_names::taken_names::{NameId, TakenNames};
 use hw_model::kinds::{Instance, Integer, OpKind};
 use hw_model::types::Ty;
-use io_edge::byte_text::Text;
 use ir_store::body::{Body, Op};
 use ir_store::design::{Module, Port};
 use ir_store::operation::{OpId, Value};
@@ -15,13 +15,13 @@ use std::alloc::{AllocError, Global};
 
 /// Where the names of an operation's results stand.
 #[derive(Clone, Copy, Debug)]
-struct Place {
-    // how many names stand in front
-    first: usize,
-    // how many results are named
-    count: usize,
-    // how many names they have: a pack has one
-    names: usize,
+pub struct Place {
+    /// How many names stand in front.
+    pub first: u32,
+    /// How many results are named.
+    pub count: usize,
+    /// How many names they have: a pack has one.
+    pub names: u32,
 }
 
 /// A value as it is printed.
@@ -34,58 +34,69 @@ pub struct ValueText<'n> {
 }
 
 /// The names of the values of a module: of its input ports, then of its results in the order of
-/// the body.
+/// the body. Contracts see them by `names_held` and `value_held`.
 #[derive(Drop)]
 pub struct ValueNames {
     // the names that are taken
     names: TakenNames,
+    // the same, each by its number
+    ids: Vec<NameId>,
     // how many values wanted no name
     numbered: u32,
-    // the taken names in order
-    ids: Vec<NameId>,
-    // of each port its name, of an output none
-    ports: Vec<Option<NameId>>,
+    // of each port the number of its name, of an output none
+    ports: Vec<Option<u32>>,
     // of each operation, by its number, where its names stand
     places: Vec<Place>,
-    // how many names the input ports have
-    inputs: usize,
+    ghost counted: { length ids.items ≡ length (taken_names names) },
+    ghost in_order: { (i : ℕ) → i < length ids.items → slice_get (map (λ (id : _). id.index) ids.items) i ≡ Some i },
+    ghost few: { length ids.items < 2 ^ 32 },
+    ghost numbers: { numbered ≤ length ids.items },
 }
 
 impl ValueNames {
+    ghost use Rattle.std.specs.Prelude.{◌≡◌, ◌++◌, drop, slice_get, IfOk, OnOk};
+    ghost use Rattle.mlir_printer.specs.Naming.{first_name};
+    ghost use Rattle.mlir_printer.specs.Views.{names_held, value_held, value_of, placed, port_placed, place_value};
+
     /// The names of the values of a module.
     pub fn of(alloc: Global, module: &Module) -> Result<ValueNames, AllocError> {
-        let mut names = ValueNames {
-            names: TakenNames::new(alloc),
-            numbered: 0,
-            ids: Vec::new(alloc),
-            ports: Vec::new(alloc),
-            places: Vec::new(alloc),
-            inputs: 0,
-        };
+        let mut names = ValueNames::empty(alloc);
         names.add_ports(alloc, &module.ports.ports)?;
-        names.inputs = names.ids.len();
         names.add_operations(alloc, &module.body)?;
         Ok(names)
     }
 
-    // Takes the free name of a wanted one.
-    fn take(&mut self, wanted: &[u8]) -> Result<NameId, AllocError> {
-        if self.names.len() >= u32::MAX as usize {
+    // No names.
+    fn empty(alloc: Global) -> ValueNames {
+        ValueNames {
+            names: TakenNames::new(alloc),
+            ids: Vec::new(alloc),
+            numbered: 0,
+            ports: Vec::new(alloc),
+            places: Vec::new(alloc),
+        }
+    }
+
+    // Takes the free name of a wanted one, and gives its number.
+    fn take(&mut self, wanted: &[u8]) -> Result<u32, AllocError> {
+        let number = self.ids.len() as u32;
+        if number == u32::MAX {
             return Err(AllocError);
         }
+        self.ids.reserve(1)?;
         let id = self.names.take(wanted)?;
-        self.ids.push(id)?;
-        Ok(id)
+        self.ids.push_reserved(id);
+        Ok(number)
     }
 
     // Takes the name of a value that wants one.
-    fn take_name(&mut self, alloc: Global, wanted: &[u8]) -> Result<NameId, AllocError> {
+    fn take_name(&mut self, alloc: Global, wanted: &[u8]) -> Result<u32, AllocError> {
         let wanted = standing(alloc, wanted)?;
         self.take(wanted.as_bytes())
     }
 
     // Takes the next number.
-    fn take_number(&mut self) -> Result<NameId, AllocError> {
+    fn take_number(&mut self) -> Result<u32, AllocError> {
         let mut buffer = Buffer::new();
         let id = self.take(buffer.format(self.numbered).as_bytes())?;
         self.numbered += 1;
@@ -93,7 +104,7 @@ impl ValueNames {
     }
 
     // Takes the own name of a register or a wire.
-    fn take_own(&mut self, alloc: Global, own: &[u8]) -> Result<NameId, AllocError> {
+    fn take_own(&mut self, alloc: Global, own: &[u8]) -> Result<u32, AllocError> {
         if own.is_empty() {
             self.take_number()
         } else {
@@ -111,7 +122,7 @@ impl ValueNames {
     }
 
     // Takes the name of a port, where it is an input.
-    fn add_port(&mut self, alloc: Global, port: &Port) -> Result<Option<NameId>, AllocError> {
+    fn add_port(&mut self, alloc: Global, port: &Port) -> Result<Option<u32>, AllocError> {
         if port.out {
             return Ok(None);
         }
@@ -130,20 +141,18 @@ impl ValueNames {
 
     // Takes the names of an operation's results, and gives where they stand.
     fn add_operation(&mut self, alloc: Global, op: &Op<'_>) -> Result<Place, AllocError> {
-        let first = self.ids.len();
+        let first = self.ids.len() as u32;
         self.take_results(alloc, op)?;
-        let names = self.ids.len() - first;
+        let names = self.ids.len() as u32 - first;
         let results = op.results.results.len();
-        if is_pack(op.kind, results) {
-            return Ok(Place {
-                first,
-                count: results,
-                names,
-            });
-        }
+        let count = if is_pack(op.kind, results) {
+            results
+        } else {
+            names as usize
+        };
         Ok(Place {
             first,
-            count: names,
+            count,
             names,
         })
     }
@@ -177,7 +186,7 @@ impl ValueNames {
         alloc: Global,
         types: &[Ty],
         value: Integer,
-    ) -> Result<NameId, AllocError> {
+    ) -> Result<u32, AllocError> {
         match types {
             [Ty::Int(width), ..] => {
                 let name = constant_name(alloc, *width, value)?;
@@ -196,31 +205,31 @@ impl ValueNames {
         Ok(())
     }
 
-    /// The names from one on, so many where there are so many.
-    pub fn range(&self, first: usize, count: usize) -> &[NameId] {
-        let first = first.min(self.ids.len());
-        let rest = &self.ids.as_slice()[first..];
-        &rest[..count.min(rest.len())]
-    }
-
-    /// The name of an id.
-    pub fn name(&self, id: NameId) -> &[u8] {
-        self.names.name(id)
-    }
-
     /// The name behind so many others; the empty one where there is none.
-    pub fn nth(&self, number: usize) -> &[u8] {
+    pub fn nth(&self, number: usize) -> &[u8]
+        ensures { result.now ≡ first_name (drop number (names_held self.now)) }
+    {
         match self.ids.get(number) {
             Some(id) => self.names.name(*id),
             None => &[],
         }
     }
 
-    /// The name of a value; what nothing defines has the empty one.
-    pub fn operand(&self, value: Value) -> ValueText<'_> {
+    /// Where the names of the results of an operation of this id stand.
+    pub fn place(&self, id: OpId) -> Option<Place>
+        ensures { result ≡ slice_get self.now.places.items id.index }
+    {
+        self.places.get(id.number() as usize).copied()
+    }
+
+    /// A value as it is printed; what nothing defines has the empty name.
+    #[tactic(auto, unfolding(crate::specs::Views::value_held))]
+    pub fn value(&self, value: Value) -> ValueText<'_>
+        ensures { value_of result ≡ value_held self.now value }
+    {
         match value {
             Value::Port(port) => self.port(port),
-            Value::Result(id, number) => self.result(id.number() as usize, number),
+            Value::Result(id, number) => self.result(id, number),
             Value::Undefined => ValueText {
                 name: &[],
                 number: None,
@@ -228,24 +237,13 @@ impl ValueNames {
         }
     }
 
-    /// How many names the results of an operation of the body have.
-    pub fn count(&self, id: OpId) -> usize {
-        match self.places.get(id.number() as usize) {
-            Some(place) => place.names,
-            None => 0,
-        }
-    }
-
-    /// How many names the input ports have.
-    pub fn input_count(&self) -> usize {
-        self.inputs
-    }
-
-    // The name of a port's value.
-    fn port(&self, port: u32) -> ValueText<'_> {
+    // The value of a port.
+    fn port(&self, port: u32) -> ValueText<'_>
+        ensures { value_of result ≡ port_placed (names_held self.now) (slice_get self.now.ports.items port) }
+    {
         match self.ports.get(port as usize) {
-            Some(Some(id)) => ValueText {
-                name: self.names.name(*id),
+            Some(Some(number)) => ValueText {
+                name: self.nth(*number as usize),
                 number: None,
             },
             Some(None) | None => ValueText {
@@ -255,27 +253,37 @@ impl ValueNames {
         }
     }
 
-    // The name of a result.
-    fn result(&self, operation: usize, number: u32) -> ValueText<'_> {
-        match self.places.get(operation) {
-            Some(place) if (number as usize) < place.count => self.placed(*place, number),
-            Some(_) | None => ValueText {
+    // A result of an operation.
+    fn result(&self, id: OpId, number: u32) -> ValueText<'_>
+        ensures { value_of result ≡ placed (names_held self.now) (slice_get self.now.places.items id.index) number }
+    {
+        match self.place(id) {
+            Some(place) => self.placed(place, number),
+            None => ValueText {
                 name: &[],
                 number: None,
             },
         }
     }
 
-    // The name of a result of a place.
-    fn placed(&self, place: Place, number: u32) -> ValueText<'_> {
-        if place.names < place.count {
+    // A result of a place.
+    fn placed(&self, place: Place, number: u32) -> ValueText<'_>
+        ensures { value_of result ≡ place_value (names_held self.now) place number }
+    {
+        if (number as usize) >= place.count {
             return ValueText {
-                name: self.nth(place.first),
+                name: &[],
+                number: None,
+            };
+        }
+        if (place.names as usize) < place.count {
+            return ValueText {
+                name: self.nth(place.first as usize),
                 number: Some(number),
             };
         }
         ValueText {
-            name: self.nth(place.first + number as usize),
+            name: self.nth(place.first as usize + number as usize),
             number: None,
         }
     }
