@@ -1,7 +1,7 @@
 -- How attributes and dictionaries are printed (MLIR language reference: "Attributes", dictionary attributes).
 use Rattle.std.specs.Ordering.{nat_cmp, is_lt}
 use Rattle.std.specs.Cmp.Lexicographic.{slice_cmp}
-use Rattle.std.specs.Prelude.{ℕ, suc, Bool, cond, List, [], ◌∷◌, ◌++◌, codes, ℤ}
+use Rattle.std.specs.Prelude.{ℕ, suc, ◌+◌, Bool, cond, List, [], ◌∷◌, ◌++◌, codes, ℤ}
 use Rattle.hw_model.specs.Types.{HwType}
 use Rattle.hw_model.specs.Design.{Attribute, Attributes, Entry}
 use Rattle.hw_model.specs.Design.Attribute.{unit_value, text_value, symbol_value, truth_value, integer_value, list_value}
@@ -9,7 +9,7 @@ use Rattle.hw_model.specs.Design.Attributes.{no_attributes, attribute}
 use Rattle.mlir_printer.specs.Strings.{string_bytes, name_bytes, symbol_bytes}
 use Rattle.mlir_printer.specs.Numbers.{integer_bytes, truth_bytes}
 use Rattle.mlir_printer.specs.Types.{type_bytes}
-use Rattle.mlir_printer.specs.Commas.{commas, behind}
+use Rattle.mlir_printer.specs.Commas.{comma_bytes, commas}
 
 -- an integer and its type
 unfoldable pub typed_bytes : ℤ → HwType → List ℕ
@@ -23,17 +23,12 @@ abbrev mutual
   attribute_bytes (symbol_value name) = symbol_bytes name
   attribute_bytes (truth_value b) = truth_bytes b
   attribute_bytes (integer_value z t) = typed_bytes z t
-  attribute_bytes (list_value inner) = codes "[" ++ (attributes_bytes inner ++ codes "]")
+  attribute_bytes (list_value inner) = codes "[" ++ (attributes_from 0 inner ++ codes "]")
 
-  -- attributes with commas between them
-  pub attributes_bytes : Attributes → List ℕ
-  attributes_bytes no_attributes = []
-  attributes_bytes (attribute a rest) = attribute_bytes a ++ attributes_behind rest
-
-  -- attributes, each behind a comma
-  pub attributes_behind : Attributes → List ℕ
-  attributes_behind no_attributes = []
-  attributes_behind (attribute a rest) = codes ", " ++ (attribute_bytes a ++ attributes_behind rest)
+  -- attributes with commas between them, of which the first has this number
+  pub attributes_from : ℕ → Attributes → List ℕ
+  attributes_from i no_attributes = []
+  attributes_from i (attribute a rest) = comma_bytes i ++ (attribute_bytes a ++ attributes_from (i + 1) rest)
 
 -- ` = V`, or nothing for a unit
 abbrev pub value_bytes : Attribute → List ℕ
@@ -52,15 +47,6 @@ entry_bytes e = name_bytes e.key ++ value_bytes e.value
 unfoldable pub dictionary_bytes : List ℕ → List Entry → List ℕ
 dictionary_bytes front [] = []
 dictionary_bytes front (e ∷ es) = front ++ (codes "{" ++ (commas entry_bytes (e ∷ es) ++ codes "}"))
-
--- a comma in front of what is not the first
-abbrev pub separator_bytes : Bool → List ℕ
-separator_bytes is_first = cond is_first [] (codes ", ")
-
--- entries with commas between them, the first of them behind a comma where it is not the first of all
-abbrev pub entries_bytes : Bool → List Entry → List ℕ
-entries_bytes is_first [] = []
-entries_bytes is_first (e ∷ es) = separator_bytes is_first ++ (entry_bytes e ++ behind entry_bytes es)
 
 -- how many entries have keys that are less than `name`
 abbrev pub place_of_name : List Entry → ℕ

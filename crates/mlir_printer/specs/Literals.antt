@@ -1,9 +1,10 @@
 -- How the constants of aggregates are printed (CIRCT, HW dialect: `hw.aggregate_constant`).
-use Rattle.std.specs.Prelude.{ℕ, cond, List, [], ◌∷◌, ◌++◌, codes, ℤ}
+use Rattle.std.specs.Prelude.{ℕ, ◌+◌, cond, List, [], ◌∷◌, ◌++◌, codes, ℤ}
 use Rattle.hw_model.specs.Types.{HwType}
 use Rattle.hw_model.specs.Kinds.{Literal, Literals}
 use Rattle.hw_model.specs.Kinds.Literal.{leaf, parts}
 use Rattle.hw_model.specs.Kinds.Literals.{no_literals, literal}
+use Rattle.mlir_printer.specs.Commas.{comma_bytes}
 use Rattle.mlir_printer.specs.Numbers.{truth_bytes, is_shown_as_truth, is_one}
 use Rattle.mlir_printer.specs.Attributes.{typed_bytes}
 
@@ -15,14 +16,9 @@ abbrev mutual
   -- a constant
   pub literal_bytes : Literal → List ℕ
   literal_bytes (leaf z t) = leaf_bytes z t
-  literal_bytes (parts ls) = codes "[" ++ (literals_bytes ls ++ codes "]")
+  literal_bytes (parts ls) = codes "[" ++ (literals_from 0 ls ++ codes "]")
 
-  -- constants with commas between them
-  pub literals_bytes : Literals → List ℕ
-  literals_bytes no_literals = []
-  literals_bytes (literal l ls) = literal_bytes l ++ literals_behind ls
-
-  -- constants, each behind a comma
-  pub literals_behind : Literals → List ℕ
-  literals_behind no_literals = []
-  literals_behind (literal l ls) = codes ", " ++ (literal_bytes l ++ literals_behind ls)
+  -- constants with commas between them, of which the first has this number
+  pub literals_from : ℕ → Literals → List ℕ
+  literals_from i no_literals = []
+  literals_from i (literal l ls) = comma_bytes i ++ (literal_bytes l ++ literals_from (i + 1) ls)

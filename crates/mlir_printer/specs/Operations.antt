@@ -16,7 +16,7 @@ use Rattle.mlir_reader.specs.declared.pieces.Shape.TheVariants as shape
 use Rattle.mlir_printer.specs.Numbers.{count_bytes, is_shown_as_truth}
 use Rattle.mlir_printer.specs.Pieces.{ValueText, Pending, value_name_bytes, pieces_bytes, left_behind}
 use Rattle.mlir_printer.specs.Attributes.{dictionary_bytes}
-use Rattle.mlir_printer.specs.Commas.{commas, behind}
+use Rattle.mlir_printer.specs.Commas.{commas}
 
 -- an operation as it is printed: the names of its results, its name, its `bin` mark, what stands behind them, and its dictionary
 pub record OperationText : Type 0 where

@@ -15,8 +15,8 @@ use Rattle.mlir_reader.specs.declared.pieces.Piece.TheVariants as piece
 use Rattle.mlir_printer.specs.Strings.{string_bytes, name_bytes, symbol_bytes}
 use Rattle.mlir_printer.specs.Numbers.{count_bytes, integer_bytes, truth_bytes, is_one}
 use Rattle.mlir_printer.specs.Types.{type_bytes}
-use Rattle.mlir_printer.specs.Literals.{literals_bytes}
-use Rattle.mlir_printer.specs.Commas.{commas, behind}
+use Rattle.mlir_printer.specs.Literals.{literals_from}
+use Rattle.mlir_printer.specs.Commas.{commas}
 
 -- ---- operands
 
@@ -118,7 +118,7 @@ number_said (number z) = integer_bytes z
 number_said _ = []
 
 abbrev pub literals_said : Extra → List ℕ
-literals_said (literals ls) = literals_bytes ls
+literals_said (literals ls) = literals_from 0 ls
 literals_said _ = []
 
 abbrev pub field_said : Extra → List ℕ

@@ -88,10 +88,14 @@ name_entry name = record { key = codes "name"; value = text_value name }
 abbrev pub named_entries : Name → List Entry → List Entry
 named_entries name es = put_entry (name_entry name) es
 
+-- whether an operation has no own name, or its value is called so
+abbrev pub names_itself : Name → Name → Bool
+names_itself [] printed = true
+names_itself (b ∷ bs) printed = same_name (b ∷ bs) printed
+
 -- an operation's entries, with its name among them where it has one and its value is called otherwise
 abbrev pub entries_shown : Name → Name → List Entry → List Entry
-entries_shown [] printed es = es
-entries_shown (b ∷ bs) printed es = cond (same_name (b ∷ bs) printed) es (named_entries (b ∷ bs) es)
+entries_shown own printed es = cond (names_itself own printed) es (named_entries own es)
 
 -- what stands behind an operation's name
 abbrev pub pending_shown : OpParts → List ValueText → Pending

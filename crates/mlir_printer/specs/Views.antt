@@ -8,7 +8,7 @@ use Rattle.fresh_names.specs.TakenViews.{taken_names}
 use Rattle.ir_store.specs.declared.operation.Value.{Value}
 use Rattle.ir_store.specs.declared.operation.Value.TheVariants.{Port, Result, Undefined}
 use Rattle.mlir_reader.specs.PieceText.{Extra}
-use Rattle.mlir_reader.specs.PieceText.Extra as extra
+use Rattle.mlir_reader.specs.PieceText as text
 use Rattle.mlir_printer.specs.Numbers.{shown_literals}
 use Rattle.mlir_printer.specs.Pieces.{ValueText as Shown, Pending as Left, no_value}
 use Rattle.mlir_printer.specs.Naming.{first_name, called}
@@ -52,14 +52,14 @@ value_held v Undefined = no_value
 
 -- what an operation says besides operands and types
 abbrev pub extra_of : Said → Extra
-extra_of said.Nothing = extra.nothing
-extra_of said.WithReset = extra.with_reset
-extra_of (said.Predicate p) = extra.predicate (predicate_of p)
-extra_of (said.Position n) = extra.position n
-extra_of (said.Number z) = extra.number (integer_of z)
-extra_of (said.Literals ls) = extra.literals (shown_literals (literals_in ls.now))
-extra_of (said.FieldName name) = extra.field_name name.now
-extra_of (said.Child i) = extra.child (instance_of i.now)
+extra_of said.Nothing = text.Extra.nothing
+extra_of said.WithReset = text.Extra.with_reset
+extra_of (said.Predicate p) = text.Extra.predicate (predicate_of p)
+extra_of (said.Position n) = text.Extra.position n
+extra_of (said.Number z) = text.Extra.number (integer_of z)
+extra_of (said.Literals ls) = text.Extra.literals (shown_literals (literals_in ls.now))
+extra_of (said.FieldName name) = text.Extra.field_name name.now
+extra_of (said.Child i) = text.Extra.child (instance_of i.now)
 
 -- what is left of an operation, where values are named so
 abbrev pub pending_of : ValueNames → Pending → Left

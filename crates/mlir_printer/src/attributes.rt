@@ -5,8 +5,9 @@ ghost use Rattle.hw_model.specs.KindViews.{integer_of};
 ghost use Rattle.ir_store.specs.DictionaryViews.{attribute_of, attributes_of, entry_of};
 ghost use Rattle.mlir_printer.specs.Types.{type_bytes};
 ghost use Rattle.mlir_printer.specs.Numbers.{integer_bytes};
-ghost use Rattle.mlir_printer.specs.Attributes.{attribute_bytes, attributes_bytes, attributes_behind, value_bytes, entry_bytes, typed_bytes};
+ghost use Rattle.mlir_printer.specs.Attributes.{attribute_bytes, attributes_from, value_bytes, entry_bytes, typed_bytes};
 
+use crate::commas::push_comma;
 use crate::numbers::{push_integer, truth_text};
 use crate::strings::{push_name, push_string, push_symbol};
 use crate::types::push_type;
@@ -50,22 +51,10 @@ fn push_attribute(out: &mut Text, attribute: &Attribute) -> Result<(), AllocErro
 // Adds attributes with commas between them.
 #[cycle(attributes)]
 fn push_attributes(out: &mut Text, attributes: &[Attribute]) -> Result<(), AllocError>
-    ensures { OnOk result (out.new ≡ out.old ++ attributes_bytes (attributes_of (map attribute_of attributes.now))) }
+    ensures { OnOk result (out.new ≡ out.old ++ attributes_from 0 (attributes_of (map attribute_of attributes.now))) }
 {
-    if let [first, others @ ..] = attributes {
-        push_attribute(out, first)?;
-        push_attributes_behind(out, others)?;
-    }
-    Ok(())
-}
-
-// Adds attributes, each behind a comma.
-#[cycle(attributes)]
-fn push_attributes_behind(out: &mut Text, attributes: &[Attribute]) -> Result<(), AllocError>
-    ensures { OnOk result (out.new ≡ out.old ++ attributes_behind (attributes_of (map attribute_of attributes.now))) }
-{
-    for attribute in attributes {
-        out.push_bytes(b", ")?;
+    for (i, attribute) in attributes.iter().enumerate() {
+        push_comma(out, i)?;
         push_attribute(out, attribute)?;
     }
     Ok(())

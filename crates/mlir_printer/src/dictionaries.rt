@@ -1,45 +1,27 @@
 //! Dictionaries, as they are printed.
-ghost use Rattle.std.specs.Prelude.{◌≡◌, ◌++◌, ◌≤◌, map, length, codes, OnOk};
+ghost use Rattle.std.specs.Prelude.{◌≡◌, ◌++◌, ◌+◌, ◌^◌, ◌<◌, ◌≤◌, map, length, codes, OnOk};
+ghost use Rattle.std.specs.Ordering.{nat_cmp, is_lt};
+ghost use Rattle.std.specs.Cmp.Lexicographic.{slice_cmp};
 ghost use Rattle.ir_store.specs.DictionaryViews.{entry_of};
-ghost use Rattle.mlir_printer.specs.Commas.{behind};
-ghost use Rattle.mlir_printer.specs.Attributes.{entry_bytes, dictionary_bytes, separator_bytes, entries_bytes, place_of_name};
-ghost use Rattle.mlir_printer.specs.Texts.{name_entry, named_entries, entries_shown};
+ghost use Rattle.mlir_printer.specs.Commas.{items_from};
+ghost use Rattle.mlir_printer.specs.Attributes.{entry_bytes, dictionary_bytes, place_of_name};
+ghost use Rattle.mlir_printer.specs.Texts.{name_entry, named_entries, names_itself, entries_shown};
 
 use crate::attributes::push_entry;
-use crate::strings::push_string;
+use crate::commas::push_comma;
+use crate::strings::{push_name, push_string};
 use io_edge::byte_text::Text;
 use ir_store::dictionary::Entry;
 use std::alloc::AllocError;
+use std::cmp::Ordering;
 
-// Adds a comma in front of what is not the first.
-fn push_separator(out: &mut Text, is_first: bool) -> Result<(), AllocError>
-    ensures { OnOk result (out.new ≡ out.old ++ separator_bytes is_first) }
+// Adds entries with commas between them, of which the first has this number.
+fn push_entries(out: &mut Text, first: usize, entries: &[Entry]) -> Result<(), AllocError>
+    requires { first + length entries.now < 2 ^ 64 }
+    ensures { OnOk result (out.new ≡ out.old ++ items_from entry_bytes first (map entry_of entries.now)) }
 {
-    if !is_first {
-        out.push_bytes(b", ")?;
-    }
-    Ok(())
-}
-
-// Adds entries with commas between them, the first of them behind a comma where it is not the first
-// of all.
-fn push_entries(out: &mut Text, is_first: bool, entries: &[Entry]) -> Result<(), AllocError>
-    ensures { OnOk result (out.new ≡ out.old ++ entries_bytes is_first (map entry_of entries.now)) }
-{
-    if let [first, others @ ..] = entries {
-        push_separator(out, is_first)?;
-        push_entry(out, first)?;
-        push_entries_behind(out, others)?;
-    }
-    Ok(())
-}
-
-// Adds entries, each behind a comma.
-fn push_entries_behind(out: &mut Text, entries: &[Entry]) -> Result<(), AllocError>
-    ensures { OnOk result (out.new ≡ out.old ++ behind entry_bytes (map entry_of entries.now)) }
-{
-    for entry in entries {
-        out.push_bytes(b", ")?;
+    for (i, entry) in entries.iter().enumerate() {
+        push_comma(out, first + i)?;
         push_entry(out, entry)?;
     }
     Ok(())
@@ -55,9 +37,19 @@ pub fn push_dictionary(out: &mut Text, front: &[u8], entries: &[Entry]) -> Resul
     }
     out.push_bytes(front)?;
     out.push_bytes(b"{")?;
-    push_entries(out, true, entries)?;
+    push_entries(out, 0, entries)?;
     out.push_bytes(b"}")?;
     Ok(())
+}
+
+// Whether a key is less than `name`.
+fn is_before_name(key: &[u8]) -> bool
+    ensures { result ≡ is_lt (slice_cmp nat_cmp key.now (codes "name")) }
+{
+    match key.cmp(b"name".as_slice()) {
+        Ordering::Less => true,
+        Ordering::Equal | Ordering::Greater => false,
+    }
 }
 
 // How many entries have keys that are less than `name`.
@@ -66,7 +58,7 @@ fn place_of_name(entries: &[Entry]) -> usize
     ensures within { result ≤ length entries.now }
 {
     for (i, entry) in entries.iter().enumerate() {
-        if entry.key.as_bytes() >= b"name".as_slice() {
+        if !is_before_name(entry.key.as_bytes()) {
             return i;
         }
     }
@@ -75,27 +67,37 @@ fn place_of_name(entries: &[Entry]) -> usize
 
 // Adds the entry that gives an operation its name.
 #[tactic(auto, unfolding(crate::specs::Attributes::entry_bytes))]
-fn push_name_entry(out: &mut Text, is_first: bool, name: &[u8]) -> Result<(), AllocError>
-    ensures { OnOk result (out.new ≡ out.old ++ (separator_bytes is_first ++ entry_bytes (name_entry name.now))) }
+fn push_name_entry(out: &mut Text, name: &[u8]) -> Result<(), AllocError>
+    ensures { OnOk result (out.new ≡ out.old ++ entry_bytes (name_entry name.now)) }
 {
-    push_separator(out, is_first)?;
-    out.push_bytes(b"name = ")?;
+    push_name(out, b"name")?;
+    out.push_bytes(b" = ")?;
     push_string(out, name)?;
     Ok(())
 }
 
 // Adds a dictionary with the entry that gives an operation its name among the others.
-#[tactic(auto, unfolding(crate::specs::Attributes::dictionary_bytes))]
 fn push_with_name(out: &mut Text, name: &[u8], entries: &[Entry]) -> Result<(), AllocError>
     ensures { OnOk result (out.new ≡ out.old ++ dictionary_bytes (codes " ") (named_entries name.now (map entry_of entries.now))) }
 {
     let place = place_of_name(entries);
     out.push_bytes(b" {")?;
-    push_entries(out, true, &entries[..place])?;
-    push_name_entry(out, place == 0, name)?;
-    push_entries_behind(out, &entries[place..])?;
+    push_entries(out, 0, &entries[..place])?;
+    push_comma(out, place)?;
+    push_name_entry(out, name)?;
+    push_entries(out, place + 1, &entries[place..])?;
     out.push_bytes(b"}")?;
     Ok(())
+}
+
+// Whether an operation has no own name, or its value is called so.
+fn names_itself(own: &[u8], printed: &[u8]) -> bool
+    ensures { result ≡ names_itself own.now printed.now }
+{
+    match own {
+        [] => true,
+        _ => own == printed,
+    }
 }
 
 /// Adds an operation's dictionary, with its name among the entries where it has one and its value
@@ -108,7 +110,7 @@ pub fn push_named_dictionary(
 ) -> Result<(), AllocError>
     ensures { OnOk result (out.new ≡ out.old ++ dictionary_bytes (codes " ") (entries_shown own.now printed.now (map entry_of entries.now))) }
 {
-    if own.is_empty() || own == printed {
+    if names_itself(own, printed) {
         push_dictionary(out, b" ", entries)?;
     } else {
         push_with_name(out, own, entries)?;

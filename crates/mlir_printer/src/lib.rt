@@ -2,6 +2,7 @@
 #![tactic(auto)]
 
 pub mod attributes;
+pub mod commas;
 pub mod design_text;
 pub mod dictionaries;
 pub mod literals;

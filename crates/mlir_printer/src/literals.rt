@@ -3,9 +3,10 @@ ghost use Rattle.std.specs.Prelude.{◌≡◌, ◌++◌, map, codes, OnOk};
 ghost use Rattle.hw_model.specs.TypeViews.{type_of};
 ghost use Rattle.hw_model.specs.KindViews.{integer_of, literal_of, literals_of};
 ghost use Rattle.mlir_printer.specs.Numbers.{shown_integer, shown_literal, shown_literals};
-ghost use Rattle.mlir_printer.specs.Literals.{leaf_bytes, literal_bytes, literals_bytes, literals_behind};
+ghost use Rattle.mlir_printer.specs.Literals.{leaf_bytes, literal_bytes, literals_from};
 
 use crate::attributes::push_typed;
+use crate::commas::push_comma;
 use crate::numbers::{is_one, is_shown_as_truth, shown_integer, truth_text};
 use hw_model::kinds::{Integer, Literal};
 use hw_model::types::Ty;
@@ -44,22 +45,10 @@ fn push_literal(out: &mut Text, literal: &Literal) -> Result<(), AllocError>
 /// Adds constants with commas between them, signed.
 #[cycle(literals)]
 pub fn push_literals(out: &mut Text, literals: &[Literal]) -> Result<(), AllocError>
-    ensures { OnOk result (out.new ≡ out.old ++ literals_bytes (shown_literals (literals_of (map literal_of literals.now)))) }
+    ensures { OnOk result (out.new ≡ out.old ++ literals_from 0 (shown_literals (literals_of (map literal_of literals.now)))) }
 {
-    if let [first, others @ ..] = literals {
-        push_literal(out, first)?;
-        push_literals_behind(out, others)?;
-    }
-    Ok(())
-}
-
-// Adds constants, each behind a comma.
-#[cycle(literals)]
-fn push_literals_behind(out: &mut Text, literals: &[Literal]) -> Result<(), AllocError>
-    ensures { OnOk result (out.new ≡ out.old ++ literals_behind (shown_literals (literals_of (map literal_of literals.now)))) }
-{
-    for literal in literals {
-        out.push_bytes(b", ")?;
+    for (i, literal) in literals.iter().enumerate() {
+        push_comma(out, i)?;
         push_literal(out, literal)?;
     }
     Ok(())

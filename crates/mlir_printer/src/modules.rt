@@ -1,6 +1,7 @@
 //! Modules, as they are printed.
 ghost use Rattle.std.specs.Prelude.{◌≡◌, ◌++◌, map, OnOk, IfOk};
 
+use crate::commas::push_comma;
 use crate::dictionaries::push_dictionary;
 use crate::operations::push_operations;
 use crate::pieces::push_value_name;
@@ -33,41 +34,30 @@ fn push_output_port(out: &mut Text, port: &Port) -> Result<(), AllocError> {
     Ok(())
 }
 
-// Adds a port, in front of which so many names stand, and gives how many stand behind it.
+// Adds a port, in front of whose name so many others stand.
 fn push_port(
     out: &mut Text,
     names: &ValueNames,
     first: usize,
     port: &Port,
-) -> Result<usize, AllocError> {
+) -> Result<(), AllocError> {
     if port.out {
         push_output_port(out, port)?;
-        return Ok(first);
-    }
-    push_input_port(out, names.nth(first), port)?;
-    Ok(first + 1)
-}
-
-// Adds ports with commas between them.
-fn push_ports(out: &mut Text, names: &ValueNames, ports: &[Port]) -> Result<(), AllocError> {
-    if let [port, others @ ..] = ports {
-        let first = push_port(out, names, 0, port)?;
-        push_ports_behind(out, names, first, others)?;
+    } else {
+        push_input_port(out, names.nth(first), port)?;
     }
     Ok(())
 }
 
-// Adds ports, in front of which so many names stand, each behind a comma.
-fn push_ports_behind(
-    out: &mut Text,
-    names: &ValueNames,
-    first: usize,
-    ports: &[Port],
-) -> Result<(), AllocError> {
-    let mut first = first;
-    for port in ports {
-        out.push_bytes(b", ")?;
-        first = push_port(out, names, first, port)?;
+// Adds ports with commas between them.
+fn push_ports(out: &mut Text, names: &ValueNames, ports: &[Port]) -> Result<(), AllocError> {
+    let mut first = 0;
+    for (i, port) in ports.iter().enumerate() {
+        push_comma(out, i)?;
+        push_port(out, names, first, port)?;
+        if !port.out {
+            first += 1;
+        }
     }
     Ok(())
 }

@@ -1,5 +1,5 @@
 //! Integers, as they are printed.
-ghost use Rattle.std.specs.Prelude.{◌≡◌, ◌++◌, ◌-◌, ◌^◌, true, map, OnOk};
+ghost use Rattle.std.specs.Prelude.{◌≡◌, ◌++◌, ◌+◌, ◌-◌, decimal, ◌^◌, true, map, OnOk};
 ghost use Rattle.hw_model.specs.TypeViews.{type_of};
 ghost use Rattle.hw_model.specs.KindViews.{integer_of};
 ghost use Rattle.mlir_printer.specs.Numbers.{count_bytes, integer_bytes, is_negative, shown_number, shown_integer, shown_by_first, is_truth, is_one_bit, is_shown_as_truth, truth_bytes, is_one};
@@ -38,14 +38,24 @@ pub fn push_integer(out: &mut Text, value: Integer) -> Result<(), AllocError>
     let mut buffer = Buffer::new();
     match value {
         Integer::NonNegative(n) => out.push_bytes(buffer.format(n).as_bytes())?,
-        Integer::Negative(u128::MAX) => {
-            out.push_bytes(b"-340282366920938463463374607431768211456")?;
-        }
         Integer::Negative(n) => {
-            out.push(b'-')?;
-            out.push_bytes(buffer.format(n + 1).as_bytes())?;
+            out.push_bytes(b"-")?;
+            push_further(out, n)?;
         }
     }
+    Ok(())
+}
+
+// Adds the number behind one.
+fn push_further(out: &mut Text, n: u128) -> Result<(), AllocError>
+    ensures { OnOk result (out.new ≡ out.old ++ decimal (n + 1)) }
+{
+    if n == u128::MAX {
+        out.push_bytes(b"340282366920938463463374607431768211456")?;
+        return Ok(());
+    }
+    let mut buffer = Buffer::new();
+    out.push_bytes(buffer.format(n + 1).as_bytes())?;
     Ok(())
 }
 

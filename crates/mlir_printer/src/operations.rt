@@ -5,7 +5,7 @@ ghost use Rattle.hw_model.specs.KindViews.{kind_of};
 ghost use Rattle.ir_store.specs.Bodies.{read_parts};
 ghost use Rattle.ir_store.specs.OperationViews.{types_in};
 ghost use Rattle.ir_store.specs.DictionaryViews.{entries_in};
-ghost use Rattle.mlir_printer.specs.Commas.{behind};
+ghost use Rattle.mlir_printer.specs.Commas.{commas};
 ghost use Rattle.mlir_printer.specs.Pieces.{value_name_bytes, pieces_bytes};
 ghost use Rattle.mlir_printer.specs.Operations.{results_bytes, bin_bytes, form_bytes, is_truth_said, shape_shown, after_blank, left_behind_all, operation_line, shaped_bytes};
 ghost use Rattle.mlir_reader.specs.Shapes.{front_pieces, type_pieces};
@@ -13,6 +13,7 @@ ghost use Rattle.mlir_printer.specs.Naming.{first_name, firsts, listed_names, na
 ghost use Rattle.mlir_printer.specs.Texts.{listed_of, extra_shown, entries_shown, operation_shown};
 ghost use Rattle.mlir_printer.specs.Views.{names_held, value_held, pending_of, extra_of};
 
+use crate::commas::push_comma;
 use crate::dictionaries::push_named_dictionary;
 use crate::numbers::{is_shown_as_truth, push_length};
 use crate::pieces::{push_pieces, push_value_name};
@@ -98,8 +99,7 @@ fn shape_shown(name: Listed, names: &ValueNames, pending: &Pending<'_>) -> Shape
     }
 }
 
-// Adds so many names of values, in front of which so many others stand, with commas between them and
-// `=` behind them.
+// Adds so many names of values, in front of which so many others stand, and `=` behind them.
 #[tactic(auto, unfolding(crate::specs::Operations::results_bytes))]
 fn push_names(out: &mut Text, names: &ValueNames, first: u32, count: u32) -> Result<(), AllocError>
     ensures { OnOk result (out.new ≡ out.old ++ results_bytes (listed_names (firsts count (drop first (names_held names.now))))) }
@@ -107,25 +107,18 @@ fn push_names(out: &mut Text, names: &ValueNames, first: u32, count: u32) -> Res
     if count == 0 {
         return Ok(());
     }
-    push_value_name(out, names.nth(first as usize))?;
-    push_names_behind(out, names, first as usize + 1, count - 1)?;
+    push_listed(out, names, first, count)?;
     out.push_bytes(b" = ")?;
     Ok(())
 }
 
-// Adds so many names of values, in front of which so many others stand, each behind a comma.
-fn push_names_behind(
-    out: &mut Text,
-    names: &ValueNames,
-    first: usize,
-    count: u32,
-) -> Result<(), AllocError>
-    requires { first ≤ 2 ^ 32 }
-    ensures { OnOk result (out.new ≡ out.old ++ behind value_name_bytes (firsts count (drop first (names_held names.now)))) }
+// Adds so many names of values, in front of which so many others stand, with commas between them.
+fn push_listed(out: &mut Text, names: &ValueNames, first: u32, count: u32) -> Result<(), AllocError>
+    ensures { OnOk result (out.new ≡ out.old ++ commas value_name_bytes (firsts count (drop first (names_held names.now)))) }
 {
     for i in 0..count {
-        out.push_bytes(b", ")?;
-        push_value_name(out, names.nth(first + i as usize))?;
+        push_comma(out, i as usize)?;
+        push_value_name(out, names.nth(first as usize + i as usize))?;
     }
     Ok(())
 }

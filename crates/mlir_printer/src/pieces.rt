@@ -2,13 +2,14 @@
 ghost use Rattle.std.specs.Prelude.{◌≡◌, ◌++◌, map, take, drop, codes, IfOk, OnOk};
 ghost use Rattle.hw_model.specs.TypeViews.{type_of};
 ghost use Rattle.hw_model.specs.KindViews.{predicate_of, instance_of};
-ghost use Rattle.mlir_printer.specs.Commas.{commas, behind};
+ghost use Rattle.mlir_printer.specs.Commas.{commas};
 ghost use Rattle.mlir_printer.specs.Strings.{name_bytes};
 ghost use Rattle.mlir_printer.specs.Types.{type_bytes};
 ghost use Rattle.mlir_printer.specs.Operations.{left_behind_all};
 ghost use Rattle.mlir_printer.specs.Pieces.{mark_bytes, word_bytes, predicate_bytes, value_name_bytes, pack_number_bytes, operand_bytes, first_operand, first_type_bytes, reset_said, input_bytes, output_bytes, inputs_joined, outputs_joined, inner_bytes, instance_bytes, piece_bytes, pieces_bytes, said_bytes};
 ghost use Rattle.mlir_printer.specs.Views.{value_held, pending_of, extra_of};
 
+use crate::commas::push_comma;
 use crate::literals::push_literals;
 use crate::numbers::{is_one, push_count, push_integer, truth_text};
 use crate::said::{Pending, Said};
@@ -132,23 +133,8 @@ fn push_first_operand(
 fn push_operands(out: &mut Text, names: &ValueNames, operands: &[Value]) -> Result<(), AllocError>
     ensures { OnOk result (out.new ≡ out.old ++ commas operand_bytes (map (value_held names.now) operands.now)) }
 {
-    if let [first, others @ ..] = operands {
-        push_operand(out, names, *first)?;
-        push_operands_behind(out, names, others)?;
-    }
-    Ok(())
-}
-
-// Adds operands, each behind a comma.
-fn push_operands_behind(
-    out: &mut Text,
-    names: &ValueNames,
-    operands: &[Value],
-) -> Result<(), AllocError>
-    ensures { OnOk result (out.new ≡ out.old ++ behind operand_bytes (map (value_held names.now) operands.now)) }
-{
-    for value in operands {
-        out.push_bytes(b", ")?;
+    for (i, value) in operands.iter().enumerate() {
+        push_comma(out, i)?;
         push_operand(out, names, *value)?;
     }
     Ok(())
@@ -208,11 +194,10 @@ fn push_inputs(
 ) -> Result<(), AllocError>
     ensures { OnOk result (out.new ≡ out.old ++ commas input_bytes (inputs_joined ports.now (map (value_held names.now) operands.now) (map type_of types.now))) }
 {
-    for (i, ((port, value), ty)) in ports.iter().zip(operands).zip(types).enumerate() {
-        if i > 0 {
-            out.push_bytes(b", ")?;
-        }
-        push_input(out, names, port.as_bytes(), *value, ty)?;
+    let count = ports.len().min(operands.len()).min(types.len());
+    for i in 0..count {
+        push_comma(out, i)?;
+        push_input(out, names, ports[i].as_bytes(), operands[i], &types[i])?;
     }
     Ok(())
 }
@@ -232,11 +217,10 @@ fn push_output(out: &mut Text, port: &[u8], ty: &Ty) -> Result<(), AllocError>
 fn push_outputs(out: &mut Text, ports: &[Text], types: &[Ty]) -> Result<(), AllocError>
     ensures { OnOk result (out.new ≡ out.old ++ commas output_bytes (outputs_joined ports.now (map type_of types.now))) }
 {
-    for (i, (port, ty)) in ports.iter().zip(types).enumerate() {
-        if i > 0 {
-            out.push_bytes(b", ")?;
-        }
-        push_output(out, port.as_bytes(), ty)?;
+    let count = ports.len().min(types.len());
+    for i in 0..count {
+        push_comma(out, i)?;
+        push_output(out, ports[i].as_bytes(), &types[i])?;
     }
     Ok(())
 }

@@ -2,9 +2,10 @@
 ghost use Rattle.std.specs.Prelude.{◌≡◌, ◌++◌, map, codes, OnOk};
 ghost use Rattle.hw_model.specs.TypeViews.{type_of, field_of, fields_of, fields_in};
 ghost use Rattle.mlir_printer.specs.Strings.{name_bytes};
-ghost use Rattle.mlir_printer.specs.Commas.{commas, behind};
-ghost use Rattle.mlir_printer.specs.Types.{type_bytes, fields_bytes, fields_behind};
+ghost use Rattle.mlir_printer.specs.Commas.{commas};
+ghost use Rattle.mlir_printer.specs.Types.{type_bytes, fields_from};
 
+use crate::commas::push_comma;
 use crate::numbers::push_count;
 use crate::strings::push_name;
 use hw_model::types::{Field, FieldList, Ty};
@@ -37,7 +38,7 @@ pub fn push_type(out: &mut Text, ty: &Ty) -> Result<(), AllocError>
 // Adds a struct's type.
 #[cycle(types)]
 fn push_struct(out: &mut Text, list: &FieldList) -> Result<(), AllocError>
-    ensures { OnOk result (out.new ≡ out.old ++ (codes "!hw.struct<" ++ (fields_bytes (fields_in list.now) ++ codes ">"))) }
+    ensures { OnOk result (out.new ≡ out.old ++ (codes "!hw.struct<" ++ (fields_from 0 (fields_in list.now) ++ codes ">"))) }
 {
     out.push_bytes(b"!hw.struct<")?;
     push_fields(out, &list.fields)?;
@@ -48,22 +49,10 @@ fn push_struct(out: &mut Text, list: &FieldList) -> Result<(), AllocError>
 // Adds fields with commas between them.
 #[cycle(types)]
 fn push_fields(out: &mut Text, fields: &[Field]) -> Result<(), AllocError>
-    ensures { OnOk result (out.new ≡ out.old ++ fields_bytes (fields_of (map field_of fields.now))) }
+    ensures { OnOk result (out.new ≡ out.old ++ fields_from 0 (fields_of (map field_of fields.now))) }
 {
-    if let [first, others @ ..] = fields {
-        push_field(out, first)?;
-        push_fields_behind(out, others)?;
-    }
-    Ok(())
-}
-
-// Adds fields, each behind a comma.
-#[cycle(types)]
-fn push_fields_behind(out: &mut Text, fields: &[Field]) -> Result<(), AllocError>
-    ensures { OnOk result (out.new ≡ out.old ++ fields_behind (fields_of (map field_of fields.now))) }
-{
-    for field in fields {
-        out.push_bytes(b", ")?;
+    for (i, field) in fields.iter().enumerate() {
+        push_comma(out, i)?;
         push_field(out, field)?;
     }
     Ok(())
@@ -84,19 +73,8 @@ fn push_field(out: &mut Text, field: &Field) -> Result<(), AllocError>
 pub fn push_types(out: &mut Text, types: &[Ty]) -> Result<(), AllocError>
     ensures { OnOk result (out.new ≡ out.old ++ commas type_bytes (map type_of types.now)) }
 {
-    if let [first, others @ ..] = types {
-        push_type(out, first)?;
-        push_types_behind(out, others)?;
-    }
-    Ok(())
-}
-
-// Adds types, each behind a comma.
-fn push_types_behind(out: &mut Text, types: &[Ty]) -> Result<(), AllocError>
-    ensures { OnOk result (out.new ≡ out.old ++ behind type_bytes (map type_of types.now)) }
-{
-    for ty in types {
-        out.push_bytes(b", ")?;
+    for (i, ty) in types.iter().enumerate() {
+        push_comma(out, i)?;
         push_type(out, ty)?;
     }
     Ok(())
