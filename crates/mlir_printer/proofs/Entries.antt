@@ -1,9 +1,9 @@
 -- Entries of dictionaries, and the one that is put among them.
-use Rattle.std.proofs.Common.{◌≡◌, ℕ, zero, suc, ◌+◌, ◌<◌, Bool, true, false, cond, List, [], ◌∷◌, ◌++◌, map, length, take, drop, get_or, refl, sym, ap, ◌∙◌, arith, append_assoc}
+use Rattle.std.proofs.Common.{◌≡◌, ℕ, zero, suc, ◌+◌, ◌<◌, Bool, true, false, cond, List, [], ◌∷◌, ◌++◌, map, length, take, drop, get_or, refl, sym, ap, ◌∙◌, arith, append_assoc, length-drop, ◌-◌}
 use Rattle.std.specs.Prelude.{codes}
 use Rattle.std.specs.Ordering.{nat_cmp, is_lt}
 use Rattle.std.specs.Cmp.Lexicographic.{slice_cmp}
-use Rattle.std.proofs.lemmas.List.{drop_more}
+use Rattle.std.proofs.lemmas.List.{drop_more, take_all}
 use Rattle.hw_model.specs.Types.{Name}
 use Rattle.hw_model.specs.Design.{Entry}
 use Rattle.mlir_reader.specs.Resolving.{put_entry}
@@ -66,11 +66,11 @@ dictionary_named name (x ∷ xs) = go (is_lt (slice_cmp nat_cmp x.key (codes "na
     go false = refl
 
 -- the parts of that dictionary, added one after another
-pub named_added : (name : Name) (es : List Entry) (out s0 s1 s2 s3 s4 end front back : List ℕ)
+pub named_added : (name : Name) (es : List Entry) (out s0 s1 s2 s3 s4 end : List ℕ)
     → s0 ≡ out ++ codes " {" → s1 ≡ s0 ++ items_from entry_bytes 0 (take (place_of_name es) es) → s2 ≡ s1 ++ comma_bytes (place_of_name es)
     → s3 ≡ s2 ++ entry_bytes (name_entry name) → s4 ≡ s3 ++ items_from entry_bytes (place_of_name es + 1) (drop (place_of_name es) es) → end ≡ s4 ++ codes "}"
     → end ≡ out ++ dictionary_bytes (codes " ") (named_entries name es)
-named_added name es out s0 s1 s2 s3 s4 end front back p0 p1 p2 p3 p4 p5 =
+named_added name es out s0 s1 s2 s3 s4 end p0 p1 p2 p3 p4 p5 =
     let A = items_from entry_bytes 0 (take (place_of_name es) es) in
     let B = comma_bytes (place_of_name es) in
     let C = entry_bytes (name_entry name) in
@@ -79,8 +79,21 @@ named_added name es out s0 s1 s2 s3 s4 end front back p0 p1 p2 p3 p4 p5 =
     let whole : commas entry_bytes (named_entries name es) ≡ A ++ (B ++ (C ++ D)) =
     put_items name 0 es entry_bytes ∙ ap (λ k. A ++ (comma_bytes k ++ (C ++ items_from entry_bytes (k + 1) (drop (place_of_name es) es)))) z in
     let t : end ≡ ((((out ++ codes " {") ++ A) ++ B) ++ C) ++ D ++ codes "}" =
-    p5 ∙ ap (λ s. s ++ codes "}") (p4 ∙ ap (λ s. s ++ D) (p3 ∙ ap (λ s. s ++ C) (p2 ∙ ap (λ s. s ++ B) (p1 ∙ ap (λ s. s ++ A) p0)))) ∙ append_assoc ((((out ++ codes " {") ++ A) ++ B) ++ C) D (codes "}") in
+    p5 ∙ ap (λ s. s ++ codes "}") (p4 ∙ ap (λ s. s ++ D) (p3 ∙ ap (λ s. s ++ C) (p2 ∙ ap (λ s. s ++ B) (p1 ∙ ap (λ s. s ++ A) p0)))) in
     t ∙ tail out A B C D ∙ ap (λ r. out ++ (codes " {" ++ (r ++ codes "}"))) (sym whole) ∙ ap (λ r. out ++ r) (sym (dictionary_named name es))
   where
     tail : (o a b c d : List ℕ) → ((((o ++ codes " {") ++ a) ++ b) ++ c) ++ d ++ codes "}" ≡ o ++ (codes " {" ++ ((a ++ (b ++ (c ++ d))) ++ codes "}"))
     tail o a b c d = simp append_assoc
+
+pub map_take : {A B : Type 0} (f : A → B) (n : ℕ) (xs : List A) → map f (take n xs) ≡ take n (map f xs)
+map_take f zero xs = refl
+map_take f (suc n) [] = refl
+map_take f (suc n) (x ∷ xs) = ap (λ r. f x ∷ r) (map_take f n xs)
+
+pub map_drop : {A B : Type 0} (f : A → B) (n : ℕ) (xs : List A) → map f (drop n xs) ≡ drop n (map f xs)
+map_drop f zero xs = refl
+map_drop f (suc n) [] = refl
+map_drop f (suc n) (x ∷ xs) = map_drop f n xs
+
+pub rest_all : {A : Type 0} (p : ℕ) (xs : List A) → take (length xs - p) (drop p xs) ≡ drop p xs
+rest_all p xs = take_all (length xs - p) (drop p xs) (omega (arith, length-drop p xs))

@@ -1,6 +1,6 @@
 -- Steps of loops over the parts of an operation.
-use Rattle.std.proofs.Common.{◌≡◌, ℕ, zero, suc, ◌+◌, ◌<◌, List, [], ◌∷◌, ◌++◌, map, length, drop, get_or, refl, sym, ap, ◌∙◌, arith}
-use Rattle.std.proofs.lemmas.List.{drop_more}
+use Rattle.std.proofs.Common.{◌≡◌, ℕ, zero, suc, ◌+◌, ◌<◌, ◌≤◌, List, [], ◌∷◌, ◌++◌, map, length, min, drop, get_or, refl, sym, ap, ◌∙◌, arith}
+use Rattle.std.proofs.lemmas.List.{drop_more, append-nil}
 use Rattle.hw_model.specs.Types.{Name, HwType}
 use Rattle.hw_model.specs.TypeViews.{type_of}
 use Rattle.mlir_reader.specs.declared.pieces.Piece.{Piece}
@@ -40,7 +40,7 @@ outputs_step h ps ts i p t out one two whole lp lt ap' at inv e1 e2 =
     added out one two (comma_bytes i) (output_bytes (record { name = p; type = h t })) (items_from output_bytes (i + 1) (outputs_joined (drop (i + 1) ps) (map h (drop (i + 1) ts)))) whole
     (sym (ap (λ l. out ++ items_from output_bytes i l) d) ∙ inv) e1 e2
 
-map_drop : {A B : Type 0} (f : A → B) (n : ℕ) (xs : List A) → map f (drop n xs) ≡ drop n (map f xs)
+pub map_drop : {A B : Type 0} (f : A → B) (n : ℕ) (xs : List A) → map f (drop n xs) ≡ drop n (map f xs)
 map_drop f zero xs = refl
 map_drop f (suc n) [] = refl
 map_drop f (suc n) (x ∷ xs) = map_drop f n xs
@@ -55,3 +55,41 @@ pending_behind v p l m e f g =
     ap (λ x. record { operands = x; types = map type_of m.types.now; extra = extra_of m.said }) os
     ∙ ap (λ x. record { operands = drop (operands_taken p) (map (value_held v) l.operands.now); types = x; extra = extra_of m.said }) ts
     ∙ ap (λ x. record { operands = drop (operands_taken p) (map (value_held v) l.operands.now); types = drop (types_taken p) (map type_of l.types.now); extra = extra_of x }) g
+
+inputs_no_operands : (ps : List Name) (ts : List HwType) → inputs_joined ps [] ts ≡ []
+inputs_no_operands [] ts = refl
+inputs_no_operands (p ∷ ps) ts = refl
+
+inputs_no_types : (ps : List Name) (os : List ValueText) → inputs_joined ps os [] ≡ []
+inputs_no_types [] os = refl
+inputs_no_types (p ∷ ps) [] = refl
+inputs_no_types (p ∷ ps) (o ∷ os) = refl
+
+outputs_no_types : (ps : List Name) → outputs_joined ps [] ≡ []
+outputs_no_types [] = refl
+outputs_no_types (p ∷ ps) = refl
+
+-- behind the shortest of the lists nothing is joined
+pub inputs_none : {V T : Type 0} (g : V → ValueText) (h : T → HwType) (ps : List Name) (os : List V) (ts : List T) (i : ℕ)
+    → min (min (length ps) (length os)) (length ts) ≤ i → inputs_joined (drop i ps) (map g (drop i os)) (map h (drop i ts)) ≡ []
+inputs_none g h [] os ts zero le = refl
+inputs_none g h [] os ts (suc i) le = refl
+inputs_none g h (p ∷ ps) [] ts zero le = refl
+inputs_none g h (p ∷ ps) [] ts (suc i) le = inputs_no_operands (drop i ps) (map h (drop (suc i) ts))
+inputs_none g h (p ∷ ps) (o ∷ os) [] zero le = refl
+inputs_none g h (p ∷ ps) (o ∷ os) [] (suc i) le = inputs_no_types (drop i ps) (map g (drop i os))
+inputs_none g h (p ∷ ps) (o ∷ os) (t ∷ ts) zero le = absurd (omega (arith, le))
+inputs_none g h (p ∷ ps) (o ∷ os) (t ∷ ts) (suc i) le = inputs_none g h ps os ts i (omega (arith, le))
+
+pub outputs_none : {T : Type 0} (h : T → HwType) (ps : List Name) (ts : List T) (i : ℕ)
+    → min (length ps) (length ts) ≤ i → outputs_joined (drop i ps) (map h (drop i ts)) ≡ []
+outputs_none h [] ts zero le = refl
+outputs_none h [] ts (suc i) le = refl
+outputs_none h (p ∷ ps) [] zero le = refl
+outputs_none h (p ∷ ps) [] (suc i) le = outputs_no_types (drop i ps)
+outputs_none h (p ∷ ps) (t ∷ ts) zero le = absurd (omega (arith, le))
+outputs_none h (p ∷ ps) (t ∷ ts) (suc i) le = outputs_none h ps ts i (omega (arith, le))
+
+-- where nothing is left all is added
+pub all_added : {A : Type 0} (f : A → List ℕ) (m : ℕ) (left : List A) (out whole : List ℕ) → left ≡ [] → out ++ items_from f m left ≡ whole → out ≡ whole
+all_added f m left out whole e h = sym (append-nil out) ∙ sym (ap (λ l. out ++ items_from f m l) e) ∙ h

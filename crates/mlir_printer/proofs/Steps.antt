@@ -87,3 +87,12 @@ pub items_all : {A B : Type 0} (f : B → List ℕ) (g : A → B) (m n : ℕ) (x
     → end ++ items_from (λ x. f (g x)) m (drop i xs) ≡ out ++ items_from (λ x. f (g x)) n xs → end ≡ out ++ items_from f n (map g xs)
 items_all f g m n xs i out end le h =
     items_end (λ x. f (g x)) m xs i end (out ++ items_from (λ x. f (g x)) n xs) le h ∙ ap (λ r. out ++ r) (items_map f g n xs)
+
+-- five parts added
+pub five : (out one two thr fou end a b c d e : List ℕ) → one ≡ out ++ a → two ≡ one ++ b → thr ≡ two ++ c → fou ≡ thr ++ d → end ≡ fou ++ e
+    → end ≡ out ++ (a ++ (b ++ (c ++ (d ++ e))))
+five out one two thr fou end a b c d e p q r s t =
+    t ∙ ap (λ x. x ++ e) (s ∙ ap (λ x. x ++ d) (three out one two thr a b c p q r)) ∙ flat out a b c d e
+  where
+    flat : (o v w x y z : List ℕ) → ((o ++ (v ++ (w ++ x))) ++ y) ++ z ≡ o ++ (v ++ (w ++ (x ++ (y ++ z))))
+    flat o v w x y z = simp append_assoc

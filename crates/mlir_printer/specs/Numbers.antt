@@ -10,10 +10,14 @@ use Rattle.hw_model.specs.Kinds.Literals.{no_literals, literal}
 unfoldable pub count_bytes : ℕ → List ℕ
 count_bytes n = decimal n
 
+-- the number behind one, also behind 2^128 - 1
+abbrev pub further_bytes : ℕ → List ℕ
+further_bytes n = cond (n == 340282366920938463463374607431768211455) (codes "340282366920938463463374607431768211456") (decimal (n + 1))
+
 -- an integer with its sign
 unfoldable pub integer_bytes : ℤ → List ℕ
 integer_bytes (pos n) = decimal n
-integer_bytes (negsuc n) = codes "-" ++ decimal (n + 1)
+integer_bytes (negsuc n) = codes "-" ++ further_bytes n
 
 -- ---- the signed reading of constants
 

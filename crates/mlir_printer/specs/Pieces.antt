@@ -161,12 +161,19 @@ unfoldable pub inner_bytes : Option Name → List ℕ
 inner_bytes None = []
 inner_bytes (Some name) = codes "sym " ++ (symbol_bytes name ++ codes " ")
 
--- `"u" [sym @s] @N(p: %v: T, ..) -> (q: T, ..)`
+-- `"u" [sym @s] @N`
+unfoldable pub instance_head : Instance → List ℕ
+instance_head i = string_bytes i.name ++ (codes " " ++ (inner_bytes i.inner_symbol ++ symbol_bytes i.symbol))
+
+-- `(p: %v: T, ..) -> (q: T, ..)`
+unfoldable pub connections_bytes : List Name → List Name → List ValueText → List HwType → List ℕ
+connections_bytes ins outs os ts =
+    codes "(" ++ (commas input_bytes (inputs_joined ins os ts)
+    ++ (codes ") -> (" ++ (commas output_bytes (outputs_joined outs (drop (length ins) ts)) ++ codes ")")))
+
+-- an instance
 unfoldable pub instance_bytes : Instance → List ValueText → List HwType → List ℕ
-instance_bytes i os ts =
-    string_bytes i.name ++ (codes " " ++ (inner_bytes i.inner_symbol ++ (symbol_bytes i.symbol
-    ++ (codes "(" ++ (commas input_bytes (inputs_joined i.inputs os ts)
-    ++ (codes ") -> (" ++ (commas output_bytes (outputs_joined i.outputs (drop (length i.inputs) ts)) ++ codes ")")))))))
+instance_bytes i os ts = instance_head i ++ connections_bytes i.inputs i.outputs os ts
 
 abbrev pub instance_said : Extra → List ValueText → List HwType → List ℕ
 instance_said (child i) os ts = instance_bytes i os ts

@@ -136,11 +136,15 @@ operations_shown means ns (o ∷ os) =
 abbrev pub value_shown : Port → List Name → Option Name
 value_shown p ns = cond p.is_output None (Some (first_name ns))
 
+-- a port, where the names begin so
+abbrev pub port_shown : List Name → Port → PortText
+port_shown ns p = record { value = value_shown p ns; name = p.name; type = p.type }
+
 -- ports, where the names begin so
 abbrev pub ports_shown : List Name → List Port → List PortText
 ports_shown ns [] = []
 ports_shown ns (p ∷ ps) =
-    record { value = value_shown p ns; name = p.name; type = p.type } ∷ ports_shown (drop (length (port_wish p)) ns) ps
+    port_shown ns p ∷ ports_shown (drop (length (port_wish p)) ns) ps
 
 -- a module where the names are given
 abbrev pub module_named : List Name → Module → ModuleText

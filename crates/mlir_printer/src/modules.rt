@@ -1,5 +1,11 @@
 //! Modules, as they are printed.
-ghost use Rattle.std.specs.Prelude.{◌≡◌, ◌++◌, map, OnOk, IfOk};
+ghost use Rattle.std.specs.Prelude.{◌≡◌, ◌++◌, map, drop, OnOk};
+ghost use Rattle.hw_model.specs.TypeViews.{type_of};
+ghost use Rattle.ir_store.specs.Designs.{port_of};
+ghost use Rattle.mlir_printer.specs.Commas.{commas};
+ghost use Rattle.mlir_printer.specs.Modules.{input_port_bytes, output_port_bytes, port_name_bytes, port_bytes, private_bytes};
+ghost use Rattle.mlir_printer.specs.Texts.{port_shown, ports_shown};
+ghost use Rattle.mlir_printer.specs.Views.{names_held};
 
 use crate::commas::push_comma;
 use crate::dictionaries::push_dictionary;
@@ -12,21 +18,37 @@ use io_edge::byte_text::Text;
 use ir_store::design::{Module, Port};
 use std::alloc::{AllocError, Global};
 
+// Adds the name of a port, where it is not called as its value.
+#[tactic(auto, unfolding(crate::specs::Modules::port_name_bytes))]
+fn push_port_name(out: &mut Text, value: &[u8], name: &[u8]) -> Result<(), AllocError>
+    ensures { OnOk result (out.new ≡ out.old ++ port_name_bytes value.now name.now) }
+{
+    if value == name {
+        return Ok(());
+    }
+    out.push_bytes(b" ")?;
+    push_string(out, name)?;
+    Ok(())
+}
+
 // Adds an input port whose value is called so.
-fn push_input_port(out: &mut Text, value: &[u8], port: &Port) -> Result<(), AllocError> {
+#[tactic(auto, unfolding(crate::specs::Modules::input_port_bytes))]
+fn push_input_port(out: &mut Text, value: &[u8], port: &Port) -> Result<(), AllocError>
+    ensures { OnOk result (out.new ≡ out.old ++ input_port_bytes value.now port.now.name (type_of port.now.ty)) }
+{
     out.push_bytes(b"in ")?;
     push_value_name(out, value)?;
-    if value != port.name.as_bytes() {
-        out.push_bytes(b" ")?;
-        push_string(out, port.name.as_bytes())?;
-    }
+    push_port_name(out, value, port.name.as_bytes())?;
     out.push_bytes(b" : ")?;
     push_type(out, &port.ty)?;
     Ok(())
 }
 
 // Adds an output port.
-fn push_output_port(out: &mut Text, port: &Port) -> Result<(), AllocError> {
+#[tactic(auto, unfolding(crate::specs::Modules::output_port_bytes))]
+fn push_output_port(out: &mut Text, port: &Port) -> Result<(), AllocError>
+    ensures { OnOk result (out.new ≡ out.old ++ output_port_bytes port.now.name (type_of port.now.ty)) }
+{
     out.push_bytes(b"out ")?;
     push_name(out, port.name.as_bytes())?;
     out.push_bytes(b" : ")?;
@@ -40,7 +62,9 @@ fn push_port(
     names: &ValueNames,
     first: usize,
     port: &Port,
-) -> Result<(), AllocError> {
+) -> Result<(), AllocError>
+    ensures { OnOk result (out.new ≡ out.old ++ port_bytes (port_shown (drop first (names_held names.now)) (port_of port.now))) }
+{
     if port.out {
         push_output_port(out, port)?;
     } else {
@@ -63,7 +87,10 @@ fn push_ports(out: &mut Text, names: &ValueNames, ports: &[Port]) -> Result<(), 
 }
 
 // Adds `private `, or nothing.
-fn push_private(out: &mut Text, private: bool) -> Result<(), AllocError> {
+#[tactic(auto, unfolding(crate::specs::Modules::private_bytes))]
+fn push_private(out: &mut Text, private: bool) -> Result<(), AllocError>
+    ensures { OnOk result (out.new ≡ out.old ++ private_bytes private) }
+{
     if private {
         out.push_bytes(b"private ")?;
     }

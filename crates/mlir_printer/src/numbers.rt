@@ -1,8 +1,8 @@
 //! Integers, as they are printed.
-ghost use Rattle.std.specs.Prelude.{◌≡◌, ◌++◌, ◌+◌, ◌-◌, decimal, ◌^◌, true, map, OnOk};
+ghost use Rattle.std.specs.Prelude.{◌≡◌, ◌++◌, ◌-◌, ◌^◌, true, map, OnOk};
 ghost use Rattle.hw_model.specs.TypeViews.{type_of};
 ghost use Rattle.hw_model.specs.KindViews.{integer_of};
-ghost use Rattle.mlir_printer.specs.Numbers.{count_bytes, integer_bytes, is_negative, shown_number, shown_integer, shown_by_first, is_truth, is_one_bit, is_shown_as_truth, truth_bytes, is_one};
+ghost use Rattle.mlir_printer.specs.Numbers.{count_bytes, further_bytes, integer_bytes, is_negative, shown_number, shown_integer, shown_by_first, is_truth, is_one_bit, is_shown_as_truth, truth_bytes, is_one};
 
 use hw_model::kinds::Integer;
 use hw_model::types::Ty;
@@ -48,7 +48,7 @@ pub fn push_integer(out: &mut Text, value: Integer) -> Result<(), AllocError>
 
 // Adds the number behind one.
 fn push_further(out: &mut Text, n: u128) -> Result<(), AllocError>
-    ensures { OnOk result (out.new ≡ out.old ++ decimal (n + 1)) }
+    ensures { OnOk result (out.new ≡ out.old ++ further_bytes n) }
 {
     if n == u128::MAX {
         out.push_bytes(b"340282366920938463463374607431768211456")?;

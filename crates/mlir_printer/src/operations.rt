@@ -162,6 +162,7 @@ fn push_front<'d>(
 }
 
 // Adds a form: pieces, a dictionary, and the types.
+#[tactic(auto, unfolding(crate::specs::Operations::form_bytes))]
 fn push_form(
     out: &mut Text,
     names: &ValueNames,

@@ -6,7 +6,7 @@ ghost use Rattle.mlir_printer.specs.Commas.{commas};
 ghost use Rattle.mlir_printer.specs.Strings.{name_bytes};
 ghost use Rattle.mlir_printer.specs.Types.{type_bytes};
 ghost use Rattle.mlir_printer.specs.Operations.{left_behind_all};
-ghost use Rattle.mlir_printer.specs.Pieces.{mark_bytes, word_bytes, predicate_bytes, value_name_bytes, pack_number_bytes, operand_bytes, first_operand, first_type_bytes, reset_said, input_bytes, output_bytes, inputs_joined, outputs_joined, inner_bytes, instance_bytes, piece_bytes, pieces_bytes, said_bytes};
+ghost use Rattle.mlir_printer.specs.Pieces.{mark_bytes, word_bytes, predicate_bytes, value_name_bytes, pack_number_bytes, operand_bytes, first_operand, first_type_bytes, reset_said, input_bytes, output_bytes, inputs_joined, outputs_joined, inner_bytes, instance_head, connections_bytes, instance_bytes, piece_bytes, pieces_bytes, said_bytes};
 ghost use Rattle.mlir_printer.specs.Views.{value_held, pending_of, extra_of};
 
 use crate::commas::push_comma;
@@ -115,6 +115,7 @@ fn push_operand(out: &mut Text, names: &ValueNames, value: Value) -> Result<(), 
 }
 
 // Adds the first of some operands.
+#[tactic(auto, unfolding(crate::specs::Views::value_held))]
 fn push_first_operand(
     out: &mut Text,
     names: &ValueNames,
@@ -238,6 +239,39 @@ fn push_inner(out: &mut Text, symbol: &Option<Text>) -> Result<(), AllocError>
     Ok(())
 }
 
+// Adds what an instance and its module are called.
+#[tactic(auto, unfolding(crate::specs::Pieces::instance_head))]
+fn push_instance_head(out: &mut Text, instance: &Instance) -> Result<(), AllocError>
+    ensures { OnOk result (out.new ≡ out.old ++ instance_head (instance_of instance.now)) }
+{
+    push_string(out, instance.name.as_bytes())?;
+    out.push_bytes(b" ")?;
+    push_inner(out, &instance.inner_symbol)?;
+    push_symbol(out, instance.symbol.as_bytes())?;
+    Ok(())
+}
+
+// Adds the inputs and the outputs of an instance.
+#[tactic(auto, unfolding(crate::specs::Pieces::connections_bytes))]
+fn push_connections(
+    out: &mut Text,
+    names: &ValueNames,
+    inputs: &[Text],
+    outputs: &[Text],
+    operands: &[Value],
+    types: &[Ty],
+) -> Result<(), AllocError>
+    ensures { OnOk result (out.new ≡ out.old ++ connections_bytes inputs.now outputs.now (map (value_held names.now) operands.now) (map type_of types.now)) }
+{
+    let behind = rest_of(types, inputs.len());
+    out.push_bytes(b"(")?;
+    push_inputs(out, names, inputs, operands, types)?;
+    out.push_bytes(b") -> (")?;
+    push_outputs(out, outputs, behind)?;
+    out.push_bytes(b")")?;
+    Ok(())
+}
+
 // Adds an instance.
 #[tactic(auto, unfolding(crate::specs::Pieces::instance_bytes))]
 fn push_instance(
@@ -249,19 +283,15 @@ fn push_instance(
 ) -> Result<(), AllocError>
     ensures { OnOk result (out.new ≡ out.old ++ instance_bytes (instance_of instance.now) (map (value_held names.now) operands.now) (map type_of types.now)) }
 {
-    push_string(out, instance.name.as_bytes())?;
-    out.push_bytes(b" ")?;
-    push_inner(out, &instance.inner_symbol)?;
-    push_symbol(out, instance.symbol.as_bytes())?;
-    out.push_bytes(b"(")?;
-    push_inputs(out, names, &instance.inputs, operands, types)?;
-    out.push_bytes(b") -> (")?;
-    push_outputs(
+    push_instance_head(out, instance)?;
+    push_connections(
         out,
+        names,
+        &instance.inputs,
         &instance.outputs,
-        rest_of(types, instance.inputs.len()),
+        operands,
+        types,
     )?;
-    out.push_bytes(b")")?;
     Ok(())
 }
 

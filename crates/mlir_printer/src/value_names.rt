@@ -209,10 +209,11 @@ impl ValueNames {
     pub fn nth(&self, number: usize) -> &[u8]
         ensures { result.now ≡ first_name (drop number (names_held self.now)) }
     {
-        match self.ids.get(number) {
-            Some(id) => self.names.name(*id),
-            None => &[],
+        if number >= self.ids.len() {
+            return &[];
         }
+        let id = self.ids[number];
+        self.names.name(id)
     }
 
     /// Where the names of the results of an operation of this id stand.
