@@ -2,3 +2,4 @@ pub mod Steps
 pub mod Entries
 pub mod Passing
 pub mod Numbered
+pub mod Listing

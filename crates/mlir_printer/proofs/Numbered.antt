@@ -1,7 +1,8 @@
 -- Names by their numbers.
 use Rattle.std.proofs.Common.{◌≡◌, ℕ, zero, suc, ◌+◌, ◌-◌, ◌<◌, ◌≤◌, List, [], ◌∷◌, ◌++◌, map, length, drop, get_or, refl, sym, ap, ◌∙◌, arith}
+use Rattle.std.proofs.lemmas.Bool.{ltb-true, ltb-false}
 use Rattle.std.proofs.Math.Seq.{drop-nil}
-use Rattle.std.specs.Prelude.{Some, None, Option, slice_get}
+use Rattle.std.specs.Prelude.{Bool, true, false, nat_lt, Some, None, Option, slice_get}
 use Rattle.fresh_names.specs.declared.taken_names.NameId.{NameId}
 use Rattle.hw_model.specs.Types.{Name}
 use Rattle.mlir_printer.specs.Commas.{comma_bytes, items_from}
@@ -52,3 +53,23 @@ names_step f count first i xs x out one two whole lt at inv e1 e2 =
     ∙ ap (λ l. x ∷ firsts (count - (i + 1)) l) (drop_one (first + i) xs ∙ ap (λ m. drop m xs) j) in
     added out one two (comma_bytes i) (f x) (items_from f (i + 1) (firsts (count - (i + 1)) (drop (first + (i + 1)) xs))) whole
     (sym (ap (λ l. out ++ items_from f i l) d) ∙ inv) e1 e2
+
+front_at : {A : Type 0} (f : A → ℕ) (xs : List A) (x : A) (i : ℕ) → i < length xs → slice_get (map f (xs ++ x ∷ [])) i ≡ slice_get (map f xs) i
+front_at f [] x i lt = absurd (omega (arith, lt))
+front_at f (y ∷ ys) x zero lt = refl
+front_at f (y ∷ ys) x (suc i) lt = front_at f ys x i (omega (arith, lt))
+
+last_at : {A : Type 0} (f : A → ℕ) (xs : List A) (x : A) → slice_get (map f (xs ++ x ∷ [])) (length xs) ≡ Some (f x)
+last_at f [] x = refl
+last_at f (y ∷ ys) x = last_at f ys x
+
+-- numbers in order, and one more
+pub in_order_push : {A : Type 0} (f : A → ℕ) (xs : List A) (x : A) → ((i : ℕ) → i < length xs → slice_get (map f xs) i ≡ Some i) → f x ≡ length xs
+    → (i : ℕ) → i < length xs + 1 → slice_get (map f (xs ++ x ∷ [])) i ≡ Some i
+in_order_push f xs x known e i lt = go (nat_lt i (length xs)) refl
+  where
+    go : (b : Bool) → nat_lt i (length xs) ≡ b → slice_get (map f (xs ++ x ∷ [])) i ≡ Some i
+    go true t = front_at f xs x i (ltb-true i (length xs) t) ∙ known i (ltb-true i (length xs) t)
+    go false t =
+        let same : length xs ≡ i = omega (arith, ltb-false i (length xs) t, lt) in
+        ap (λ k. slice_get (map f (xs ++ x ∷ [])) k) (sym same) ∙ last_at f xs x ∙ ap (λ k. Some k) (e ∙ same)

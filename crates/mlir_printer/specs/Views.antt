@@ -31,7 +31,7 @@ names_held v = taken_names v.names
 abbrev pub place_value : List Name → Place → ℕ → Shown
 place_value ns p k =
     cond (nat_lt k p.count)
-    (cond (nat_lt p.names p.count) (record { name = first_name (drop p.first ns); number = Some k }) (called (first_name (drop (p.first + k) ns))))
+    (cond p.pack (record { name = first_name (drop p.first ns); number = Some k }) (called (first_name (drop (p.first + k) ns))))
     no_value
 
 abbrev pub placed : List Name → Option Place → ℕ → Shown

@@ -18,8 +18,8 @@ use crate::dictionaries::push_named_dictionary;
 use crate::numbers::{is_shown_as_truth, push_length};
 use crate::pieces::{push_pieces, push_value_name};
 use crate::said::{Pending, Said, said_of};
-use crate::value_names::{Place, ValueNames};
-use crate::wanted::is_pack;
+use crate::value_names::ValueNames;
+use crate::wanted::{is_pack, name_count};
 use diag::listed::Listed;
 use hw_model::kinds::OpKind;
 use hw_model::types::Ty;
@@ -101,7 +101,12 @@ fn shape_shown(name: Listed, names: &ValueNames, pending: &Pending<'_>) -> Shape
 
 // Adds so many names of values, in front of which so many others stand, and `=` behind them.
 #[tactic(auto, unfolding(crate::specs::Operations::results_bytes))]
-fn push_names(out: &mut Text, names: &ValueNames, first: u32, count: u32) -> Result<(), AllocError>
+fn push_names(
+    out: &mut Text,
+    names: &ValueNames,
+    first: u32,
+    count: usize,
+) -> Result<(), AllocError>
     ensures { OnOk result (out.new ≡ out.old ++ results_bytes (listed_names (firsts count (drop first (names_held names.now))))) }
 {
     if count == 0 {
@@ -113,12 +118,17 @@ fn push_names(out: &mut Text, names: &ValueNames, first: u32, count: u32) -> Res
 }
 
 // Adds so many names of values, in front of which so many others stand, with commas between them.
-fn push_listed(out: &mut Text, names: &ValueNames, first: u32, count: u32) -> Result<(), AllocError>
+fn push_listed(
+    out: &mut Text,
+    names: &ValueNames,
+    first: u32,
+    count: usize,
+) -> Result<(), AllocError>
     ensures { OnOk result (out.new ≡ out.old ++ commas value_name_bytes (firsts count (drop first (names_held names.now)))) }
 {
     for i in 0..count {
-        push_comma(out, i as usize)?;
-        push_value_name(out, names.nth(first as usize + i as usize))?;
+        push_comma(out, i)?;
+        push_value_name(out, names.behind(first, i))?;
     }
     Ok(())
 }
@@ -129,16 +139,16 @@ fn push_results(
     out: &mut Text,
     names: &ValueNames,
     op: &Op<'_>,
-    place: Place,
+    first: u32,
 ) -> Result<(), AllocError>
-    requires { place.names ≡ name_count (read_parts op.now) }
-    ensures { OnOk result (out.new ≡ out.old ++ results_bytes (results_named (read_parts op.now) (drop place.first (names_held names.now)))) }
+    ensures { OnOk result (out.new ≡ out.old ++ results_bytes (results_named (read_parts op.now) (drop first (names_held names.now)))) }
 {
     let results = op.results.results.len();
     if !is_pack(op.kind, results) {
-        return push_names(out, names, place.first, place.names);
+        push_names(out, names, first, name_count(op))?;
+        return Ok(());
     }
-    push_value_name(out, names.nth(place.first as usize))?;
+    push_value_name(out, names.nth(first as usize))?;
     out.push_bytes(b":")?;
     push_length(out, results)?;
     out.push_bytes(b" = ")?;
@@ -193,25 +203,25 @@ fn pending_of<'d>(op: &Op<'d>) -> Pending<'d>
     }
 }
 
-/// Adds a line of a body, of an operation the names of whose results stand so.
+/// Adds a line of a body, of an operation in front of the names of whose results
+/// so many others stand.
 #[tactic(auto, unfolding(crate::specs::Operations::operation_line, crate::specs::Operations::operation_bytes, crate::specs::Operations::shaped_bytes))]
 pub fn push_operation(
     out: &mut Text,
     names: &ValueNames,
     op: &Op<'_>,
-    place: Place,
+    first: u32,
 ) -> Result<(), AllocError>
-    requires { place.names ≡ name_count (read_parts op.now) }
-    ensures { OnOk result (out.new ≡ out.old ++ operation_line (operation_shown (read_parts op.now) (map (value_held names.now) op.now.operands.now) (drop place.first (names_held names.now)))) }
+    ensures { OnOk result (out.new ≡ out.old ++ operation_line (operation_shown (read_parts op.now) (map (value_held names.now) op.now.operands.now) (drop first (names_held names.now)))) }
 {
     let name = listed_of(op.kind);
     let pending = pending_of(op);
     let shape = shape_shown(name, names, &pending);
     out.push_bytes(b"    ")?;
-    push_results(out, names, op, place)?;
+    push_results(out, names, op, first)?;
     out.push_bytes(name.name())?;
     push_bin(out, op.bin)?;
-    push_form(out, names, shape, pending, op, place.first)?;
+    push_form(out, names, shape, pending, op, first)?;
     out.push_bytes(b"\n")?;
     Ok(())
 }
@@ -232,7 +242,7 @@ pub fn push_operations(out: &mut Text, names: &ValueNames, body: &Body) -> Resul
     for id in body.ops() {
         let op = body.op(id);
         if let Some(place) = names.place(id) {
-            push_operation(out, names, &op, place)?;
+            push_operation(out, names, &op, place.first)?;
         }
     }
     Ok(())

@@ -3,7 +3,7 @@ ghost use Rattle.std.specs.Prelude.{◌≡◌, ℕ, ◌+◌, ◌<◌, ◌≤◌,
 ghost use Rattle.fresh_names.specs.TakenViews.{taken_names};
 
 use crate::strings::standing;
-use crate::wanted::{constant_name, instance_name, is_pack};
+use crate::wanted::{constant_name, instance_name, is_pack, name_count};
 use fresh_names::taken_names::{NameId, TakenNames};
 use hw_model::kinds::{Instance, Integer, OpKind};
 use hw_model::types::Ty;
@@ -20,8 +20,8 @@ pub struct Place {
     pub first: u32,
     /// How many results are named.
     pub count: usize,
-    /// How many names they have: a pack has one.
-    pub names: u32,
+    /// Whether one name stands for all of them.
+    pub pack: bool,
 }
 
 /// A value as it is printed.
@@ -54,7 +54,8 @@ pub struct ValueNames {
 }
 
 impl ValueNames {
-    ghost use Rattle.std.specs.Prelude.{◌≡◌, ◌++◌, drop, slice_get, IfOk, OnOk};
+    ghost use Rattle.std.specs.Prelude.{◌≡◌, ◌+◌, ◌++◌, ◌∷◌, [], length, drop, slice_get, IfOk, OnOk};
+    ghost use Rattle.fresh_names.specs.Fresh.{free_name};
     ghost use Rattle.mlir_printer.specs.Naming.{first_name};
     ghost use Rattle.mlir_printer.specs.Views.{names_held, value_held, value_of, placed, port_placed, place_value};
 
@@ -78,7 +79,14 @@ impl ValueNames {
     }
 
     // Takes the free name of a wanted one, and gives its number.
-    fn take(&mut self, wanted: &[u8]) -> Result<u32, AllocError> {
+    fn take(&mut self, wanted: &[u8]) -> Result<u32, AllocError>
+        ensures names { OnOk result (names_held self.new ≡ names_held self.old ++ free_name (names_held self.old) wanted.now ∷ []) }
+        ensures number { IfOk result (λ n. n ≡ length (names_held self.old)) }
+        ensures more { OnOk result (length self.new.ids.items ≡ length self.old.ids.items + 1) }
+        ensures numbered { self.new.numbered ≡ self.old.numbered }
+        ensures ports { self.new.ports ≡ self.old.ports }
+        ensures places { self.new.places ≡ self.old.places }
+    {
         let number = self.ids.len() as u32;
         if number == u32::MAX {
             return Err(AllocError);
@@ -143,18 +151,10 @@ impl ValueNames {
     fn add_operation(&mut self, alloc: Global, op: &Op<'_>) -> Result<Place, AllocError> {
         let first = self.ids.len() as u32;
         self.take_results(alloc, op)?;
-        let names = self.ids.len() as u32 - first;
         let results = op.results.results.len();
-        let count = if is_pack(op.kind, results) {
-            results
-        } else {
-            names as usize
-        };
-        Ok(Place {
-            first,
-            count,
-            names,
-        })
+        let pack = is_pack(op.kind, results);
+        let count = if pack { results } else { name_count(op) };
+        Ok(Place { first, count, pack })
     }
 
     // Takes the names of an operation's results.
@@ -214,6 +214,16 @@ impl ValueNames {
         }
         let id = self.ids[number];
         self.names.name(id)
+    }
+
+    /// The name behind so many others and so many more; the empty one where there is none.
+    pub fn behind(&self, first: u32, number: usize) -> &[u8]
+        ensures { result.now ≡ first_name (drop (first + number) (names_held self.now)) }
+    {
+        match (first as usize).checked_add(number) {
+            Some(number) => self.nth(number),
+            None => &[],
+        }
     }
 
     /// Where the names of the results of an operation of this id stand.
@@ -277,7 +287,7 @@ impl ValueNames {
                 number: None,
             };
         }
-        if (place.names as usize) < place.count {
+        if place.pack {
             return ValueText {
                 name: self.nth(place.first as usize),
                 number: Some(number),
@@ -292,13 +302,17 @@ impl ValueNames {
 
 // Puts a place at a position, behind empty ones where there are fewer.
 fn put_place(places: &mut Vec<Place>, position: usize, place: Place) -> Result<(), AllocError> {
-    while places.len() <= position {
+    for _ in places.len()..position {
         places.push(Place {
             first: 0,
             count: 0,
-            names: 0,
+            pack: false,
         })?;
     }
-    places[position] = place;
+    if position < places.len() {
+        places[position] = place;
+    } else {
+        places.push(place)?;
+    }
     Ok(())
 }

@@ -1,7 +1,8 @@
 //! Names that values want.
 ghost use Rattle.std.specs.Prelude.{◌≡◌, IfOk};
 ghost use Rattle.hw_model.specs.KindViews.{integer_of, kind_of};
-ghost use Rattle.mlir_printer.specs.Naming.{constant_name, instance_name, is_pack};
+ghost use Rattle.ir_store.specs.Bodies.{read_parts};
+ghost use Rattle.mlir_printer.specs.Naming.{constant_name, instance_name, is_pack, name_count};
 
 use crate::numbers::{
     is_one, is_shown_as_truth, push_count, push_integer, shown_integer, truth_text,
@@ -9,6 +10,7 @@ use crate::numbers::{
 use hw_model::kinds::{Integer, OpKind};
 use hw_model::types::Ty;
 use io_edge::byte_text::Text;
+use ir_store::body::Op;
 use std::alloc::{AllocError, Global};
 
 /// What a constant of an integer type wants: `cV_iW`, or `true` and `false`.
@@ -37,6 +39,19 @@ pub fn instance_name(alloc: Global, instance: &[u8], port: &[u8]) -> Result<Text
     name.push(b'.')?;
     name.push_bytes(port)?;
     Ok(name)
+}
+
+/// How many names the results of an operation take, a pack one.
+#[tactic(auto, unfolding(crate::specs::Naming::wishes_of))]
+pub fn name_count(op: &Op<'_>) -> usize
+    ensures { result ≡ name_count (read_parts op.now) }
+{
+    match op.kind {
+        OpKind::StructExplode => op.results.results.len().min(1),
+        OpKind::Instance(instance) => instance.outputs.len(),
+        OpKind::Output => 0,
+        _ => 1,
+    }
 }
 
 /// Whether so many results of an operation are a pack.
