@@ -1,6 +1,8 @@
 -- Ids that are all those of a body.
-use Rattle.std.proofs.Common.{◌≡◌, ℕ, zero, suc, ◌<◌, List, [], ◌∷◌, map, length, refl, sym, subst, arith}
+use Rattle.std.proofs.Common.{◌≡◌, ℕ, zero, suc, ◌<◌, List, [], ◌∷◌, map, length, refl, sym, ap, subst, arith}
 use Rattle.std.specs.Prelude.{Contains}
+use Rattle.hw_model.specs.Types.{Name}
+use Rattle.mlir_printer.specs.Naming.{instance_wishes}
 use Rattle.ir_store.specs.Bodies.{op_id}
 use Rattle.ir_store.specs.declared.operation.OpId.{OpId}
 
@@ -22,3 +24,8 @@ first_in ids before after x e h = (subst (AllIn ids) e h).0
 
 pub rest_in : (ids : List ℕ) (before after : List OpId) (x : OpId) → before ≡ x ∷ after → AllIn ids before → AllIn ids after
 rest_in ids before after x e h = (subst (AllIn ids) e h).1
+
+-- an instance takes a name for each of its outputs
+pub instance_length : (u : Name) (qs : List Name) → length (instance_wishes u qs) ≡ length qs
+instance_length u [] = refl
+instance_length u (q ∷ qs) = ap suc (instance_length u qs)

@@ -73,3 +73,10 @@ in_order_push f xs x known e i lt = go (nat_lt i (length xs)) refl
     go false t =
         let same : length xs ≡ i = omega (arith, ltb-false i (length xs) t, lt) in
         ap (λ k. slice_get (map f (xs ++ x ∷ [])) k) (sym same) ∙ last_at f xs x ∙ ap (λ k. Some k) (e ∙ same)
+
+pub not_below : (n : ℕ) → (n < 18446744073709551616 → ⊥) → 18446744073709551616 ≤ n
+not_below n h = go (nat_lt n 18446744073709551616) refl
+  where
+    go : (b : Bool) → nat_lt n 18446744073709551616 ≡ b → 18446744073709551616 ≤ n
+    go true t = absurd (h (ltb-true n 18446744073709551616 t))
+    go false t = ltb-false n 18446744073709551616 t

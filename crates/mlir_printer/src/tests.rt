@@ -70,3 +70,83 @@ fn examples_are_printed(rt: HostRuntime) -> Result<(), Fail> {
     }
     Ok(())
 }
+
+// texts, and what they are read and printed as
+const PARTS: [(&str, &str); 16] = [
+    (
+        "%x = comb.mul bin %a, %a : i8",
+        "%0 = comb.mul bin %a, %a : i8",
+    ),
+    (
+        "%x = comb.sub %a, %a : i8 {u, k = [1 : i4, \"t\", @sym, true, [-2]]}",
+        "%0 = comb.sub %a, %a {k = [1 : i4, \"t\", @sym, true, [-2 : i64]], u} : i8",
+    ),
+    (
+        "%x = comb.icmp bin slt %a, %a : i8",
+        "%0 = comb.icmp bin slt %a, %a : i8",
+    ),
+    (
+        "%x = comb.extract %a from 1 : (i8) -> i4",
+        "%0 = comb.extract %a from 1 : (i8) -> i4",
+    ),
+    (
+        "%x = comb.concat %a, %c : i8, i1",
+        "%0 = comb.concat %a, %c : i8, i1",
+    ),
+    (
+        "%x = comb.mux %c, %a, %a : i8",
+        "%0 = comb.mux %c, %a, %a : i8",
+    ),
+    ("%x = hw.constant true {e}", "%true = hw.constant true {e}"),
+    ("%x = hw.constant - 1 : i1", "%true = hw.constant true"),
+    (
+        "%x = hw.aggregate_constant [255 : i8, [true]] : i9",
+        "%0 = hw.aggregate_constant [-1 : i8, [true]] : i9",
+    ),
+    (
+        "%x = hw.array_inject %v[%c], %a : !hw.array<3xi8>, i2",
+        "%0 = hw.array_inject %v[%c], %a : !hw.array<3xi8>, i2",
+    ),
+    (
+        "%x = hw.struct_create (%a) : !hw.struct<\"y y\": i8>",
+        "%0 = hw.struct_create (%a) : !hw.struct<\"y y\": i8>",
+    ),
+    (
+        "%x = hw.struct_inject %s[\"x\"], %a : !hw.struct<x: i8>",
+        "%0 = hw.struct_inject %s[\"x\"], %a : !hw.struct<x: i8>",
+    ),
+    (
+        "%w = hw.wire %a {name = \"w w\", z, a} : i8",
+        "%_w_w = hw.wire %a {a, name = \"w w\", z} : i8",
+    ),
+    (
+        "%p, %q = hw.instance \"u\" sym @i @\"O o\"(a: %a: i8, \"b b\": %c: i1) -> (p: i8, \"q\\0A\": i8) {d}",
+        "%u.p, %_u.q_ = hw.instance \"u\" sym @i @\"O o\"(a: %a: i8, \"b b\": %c: i1) -> (p: i8, \"q\\0A\": i8) {d}",
+    ),
+    (
+        "%a = seq.compreg.ce %a, %clk, %c reset %c, %a : i8",
+        "%a_0 = seq.compreg.ce %a, %clk, %c reset %c, %a {name = \"a\"} : i8",
+    ),
+    (
+        "%x = seq.firreg %a clock %clk reset sync %c, %a {name = \"7\"} : i8",
+        "%_7 = seq.firreg %a clock %clk reset sync %c, %a {name = \"7\"} : i8",
+    ),
+];
+
+const HEADER: &str =
+    "  hw.module @M(in %a : i8, in %c : i1, in %clk : !seq.clock, in %s : i1, in %v : i1) {\n    ";
+
+#[test]
+fn parts_are_printed(rt: HostRuntime) -> Result<(), Fail> {
+    for (part, wanted) in PARTS {
+        let source = format!(in rt.alloc(); "{HEADER}{part}\n    hw.output\n  }}\n")?;
+        let text = format!(in rt.alloc();
+            "module {{\n{HEADER}{wanted}\n    hw.output\n  }}\n}}\n"
+        )?;
+        assert!(rt;
+            prints_as(rt.alloc(), source.as_str(), text.as_str())?,
+            "{part}"
+        );
+    }
+    Ok(())
+}

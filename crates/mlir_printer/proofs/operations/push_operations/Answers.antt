@@ -7,5 +7,5 @@ pub loop-id-init : goal.loop-id-init
 loop-id-init c = record {
   can = tt;
   finite = tt;
-  left = all_in (ids_of c.args.body.now) (ids_left c.into_iter-id-iterator.result) (ap ids_left c.into_iter-id-iterator.ensures ∙ c.ops.ensures);
+  left = all_in (ids_of c.args.body.now) (ids_left c.into_iter-id-iterator.result) (ap ids_left c.into_iter-id-iterator.ensures.into_iter_gives ∙ c.ops-id-items.ensures);
 }
