@@ -6,7 +6,6 @@ use Rattle.std.specs.Cmp.Lexicographic.{slice_cmp}
 use Rattle.std.proofs.lemmas.List.{drop_more, take_all}
 use Rattle.hw_model.specs.Types.{Name}
 use Rattle.hw_model.specs.Design.{Entry}
-use Rattle.mlir_reader.specs.Resolving.{put_entry}
 use Rattle.mlir_printer.specs.Commas.{comma_bytes, items_from, commas}
 use Rattle.mlir_printer.specs.Attributes.{entry_bytes, dictionary_bytes, place_of_name}
 use Rattle.mlir_printer.specs.Texts.{name_entry, named_entries}

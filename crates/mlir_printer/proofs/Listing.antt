@@ -1,5 +1,5 @@
 -- Ids that are all those of a body.
-use Rattle.std.proofs.Common.{◌≡◌, ℕ, zero, suc, ◌<◌, List, [], ◌∷◌, map, length, refl, sym, ap, subst, arith}
+use Rattle.std.proofs.Common.{◌≡◌, ℕ, suc, List, [], ◌∷◌, map, length, refl, sym, ap, subst, arith}
 use Rattle.std.specs.Prelude.{Contains}
 use Rattle.hw_model.specs.Types.{Name}
 use Rattle.mlir_printer.specs.Naming.{instance_wishes}

@@ -2,8 +2,7 @@
 use Rattle.std.proofs.Common.{◌≡◌, ℕ, zero, suc, ◌+◌, ◌-◌, ◌<◌, ◌≤◌, List, [], ◌∷◌, ◌++◌, map, length, drop, get_or, refl, sym, ap, ◌∙◌, arith}
 use Rattle.std.proofs.lemmas.Bool.{ltb-true, ltb-false}
 use Rattle.std.proofs.Math.Seq.{drop-nil}
-use Rattle.std.specs.Prelude.{Bool, true, false, nat_lt, Some, None, Option, slice_get}
-use Rattle.fresh_names.specs.declared.taken_names.NameId.{NameId}
+use Rattle.std.specs.Prelude.{Bool, true, false, nat_lt, Some, slice_get}
 use Rattle.hw_model.specs.Types.{Name}
 use Rattle.mlir_printer.specs.Commas.{comma_bytes, items_from}
 use Rattle.mlir_printer.specs.Naming.{first_name, firsts}

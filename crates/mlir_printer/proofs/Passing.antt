@@ -1,5 +1,5 @@
 -- Steps of loops over the parts of an operation.
-use Rattle.std.proofs.Common.{◌≡◌, ℕ, zero, suc, ◌+◌, ◌<◌, ◌≤◌, List, [], ◌∷◌, ◌++◌, map, length, min, drop, get_or, refl, sym, ap, ◌∙◌, arith}
+use Rattle.std.proofs.Common.{◌≡◌, ℕ, zero, suc, ◌+◌, ◌<◌, ◌≤◌, List, [], ◌∷◌, ◌++◌, map, length, min, drop, get_or, refl, sym, ap, ◌∙◌, zero-add, arith}
 use Rattle.std.proofs.lemmas.List.{drop_more, append-nil}
 use Rattle.hw_model.specs.Types.{Name, HwType}
 use Rattle.hw_model.specs.TypeViews.{type_of}
@@ -9,7 +9,12 @@ use Rattle.mlir_printer.specs.Pieces.{ValueText, input_bytes, output_bytes, inpu
 use Rattle.mlir_printer.specs.Views.{value_held, pending_of, extra_of}
 use Rattle.mlir_printer.specs.declared.value_names.ValueNames.{ValueNames}
 use Rattle.mlir_printer.specs.declared.said.Pending.{Pending}
-use Rattle.mlir_printer.proofs.Steps.{added}
+use Rattle.std.proofs.Math.Seq.{drop-nil}
+use Rattle.hw_model.specs.Design.{Port}
+use Rattle.mlir_printer.specs.Naming.{port_wish}
+use Rattle.mlir_printer.specs.Modules.{port_bytes}
+use Rattle.mlir_printer.specs.Texts.{port_shown, ports_shown}
+use Rattle.mlir_printer.proofs.Steps.{added, drop_none}
 
 split : {A : Type 0} (xs : List A) (i : ℕ) (x : A) → i < length xs → x ≡ get_or xs i x → drop i xs ≡ x ∷ drop (i + 1) xs
 split xs i x lt at = drop_more xs i x lt ∙ ap (λ y. y ∷ drop (i + 1) xs) (sym at)
@@ -93,3 +98,25 @@ outputs_none h (p ∷ ps) (t ∷ ts) (suc i) le = outputs_none h ps ts i (omega 
 -- where nothing is left all is added
 pub all_added : {A : Type 0} (f : A → List ℕ) (m : ℕ) (left : List A) (out whole : List ℕ) → left ≡ [] → out ++ items_from f m left ≡ whole → out ≡ whole
 all_added f m left out whole e h = sym (append-nil out) ∙ sym (ap (λ l. out ++ items_from f m l) e) ∙ h
+
+drop_again : {A : Type 0} (k f : ℕ) (xs : List A) → drop k (drop f xs) ≡ drop (f + k) xs
+drop_again k zero xs = ap (λ j. drop j xs) (sym (zero-add k))
+drop_again k (suc f) [] = drop-nil k ∙ sym (drop-nil (suc f + k))
+drop_again k (suc f) (x ∷ xs) = let e : suc (f + k) ≡ suc f + k = omega arith in drop_again k f xs ∙ ap (λ j. drop j (x ∷ xs)) e
+
+-- the port at a position is added
+pub ports_step : {A : Type 0} (view : A → Port) (ns : List Name) (xs : List A) (i first k : ℕ) (x : A) (out one two whole : List ℕ) → i < length xs → x ≡ get_or xs i x
+    → k ≡ length (port_wish (view x)) → out ++ items_from port_bytes i (ports_shown (drop first ns) (map view (drop i xs))) ≡ whole
+    → one ≡ out ++ comma_bytes i → two ≡ one ++ port_bytes (port_shown (drop first ns) (view x))
+    → two ++ items_from port_bytes (i + 1) (ports_shown (drop (first + k) ns) (map view (drop (i + 1) xs))) ≡ whole
+ports_step view ns xs i first k x out one two whole lt at count inv e1 e2 =
+    let d : ports_shown (drop first ns) (map view (drop i xs)) ≡ port_shown (drop first ns) (view x) ∷ ports_shown (drop (first + k) ns) (map view (drop (i + 1) xs)) =
+    ap (λ l. ports_shown (drop first ns) (map view l)) (split xs i x lt at)
+    ∙ ap (λ m. port_shown (drop first ns) (view x) ∷ ports_shown m (map view (drop (i + 1) xs))) (ap (λ j. drop j (drop first ns)) (sym count) ∙ drop_again k first ns) in
+    added out one two (comma_bytes i) (port_bytes (port_shown (drop first ns) (view x))) (items_from port_bytes (i + 1) (ports_shown (drop (first + k) ns) (map view (drop (i + 1) xs)))) whole
+    (sym (ap (λ l. out ++ items_from port_bytes i l) d) ∙ inv) e1 e2
+
+pub ports_end : {A : Type 0} (view : A → Port) (ms : List Name) (xs : List A) (i m : ℕ) (out whole : List ℕ) → length xs ≤ i
+    → out ++ items_from port_bytes m (ports_shown ms (map view (drop i xs))) ≡ whole → out ≡ whole
+ports_end view ms xs i m out whole le h =
+    all_added port_bytes m (ports_shown ms (map view (drop i xs))) out whole (ap (λ l. ports_shown ms (map view l)) (drop_none xs i le)) h

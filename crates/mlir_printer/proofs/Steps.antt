@@ -1,9 +1,8 @@
 -- Steps of loops that add items.
-use Rattle.std.proofs.Common.{◌≡◌, ℕ, zero, suc, ◌+◌, ◌-◌, ◌<◌, ◌≤◌, List, [], ◌∷◌, ◌++◌, map, length, drop, get_or, refl, sym, ap, ◌∙◌, arith, append_assoc}
+use Rattle.std.proofs.Common.{◌≡◌, ℕ, zero, suc, ◌+◌, ◌<◌, ◌≤◌, List, [], ◌∷◌, ◌++◌, map, length, drop, get_or, refl, sym, ap, ◌∙◌, arith, append_assoc}
 use Rattle.std.proofs.lemmas.List.{drop_more, append-nil}
-use Rattle.hw_model.specs.Types.{FieldTypes}
 use Rattle.hw_model.specs.TypeViews.{NamedType, fields_of}
-use Rattle.hw_model.specs.Kinds.{Literal, Literals}
+use Rattle.hw_model.specs.Kinds.{Literal}
 use Rattle.hw_model.specs.KindViews.{literals_of}
 use Rattle.hw_model.specs.Design.{Attribute}
 use Rattle.ir_store.specs.DictionaryViews.{attributes_of}
@@ -15,7 +14,7 @@ use Rattle.mlir_printer.specs.Attributes.{attribute_bytes, attributes_from}
 use Rattle.mlir_printer.specs.Numbers.{shown_literal, shown_literals}
 use Rattle.mlir_printer.specs.Literals.{literal_bytes, literals_from}
 
-drop_none : {A : Type 0} (xs : List A) (i : ℕ) → length xs ≤ i → drop i xs ≡ []
+pub drop_none : {A : Type 0} (xs : List A) (i : ℕ) → length xs ≤ i → drop i xs ≡ []
 drop_none [] zero h = refl
 drop_none [] (suc i) h = refl
 drop_none (x ∷ xs) zero h = absurd (omega (arith, h))

@@ -1,7 +1,7 @@
 -- How attributes and dictionaries are printed (MLIR language reference: "Attributes", dictionary attributes).
 use Rattle.std.specs.Ordering.{nat_cmp, is_lt}
 use Rattle.std.specs.Cmp.Lexicographic.{slice_cmp}
-use Rattle.std.specs.Prelude.{ℕ, suc, ◌+◌, Bool, cond, List, [], ◌∷◌, ◌++◌, codes, ℤ}
+use Rattle.std.specs.Prelude.{ℕ, suc, ◌+◌, cond, List, [], ◌∷◌, ◌++◌, codes, ℤ}
 use Rattle.hw_model.specs.Types.{HwType}
 use Rattle.hw_model.specs.Design.{Attribute, Attributes, Entry}
 use Rattle.hw_model.specs.Design.Attribute.{unit_value, text_value, symbol_value, truth_value, integer_value, list_value}

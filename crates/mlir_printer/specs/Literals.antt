@@ -1,5 +1,5 @@
 -- How the constants of aggregates are printed (CIRCT, HW dialect: `hw.aggregate_constant`).
-use Rattle.std.specs.Prelude.{ℕ, ◌+◌, cond, List, [], ◌∷◌, ◌++◌, codes, ℤ}
+use Rattle.std.specs.Prelude.{ℕ, ◌+◌, cond, List, [], ◌++◌, codes, ℤ}
 use Rattle.hw_model.specs.Types.{HwType}
 use Rattle.hw_model.specs.Kinds.{Literal, Literals}
 use Rattle.hw_model.specs.Kinds.Literal.{leaf, parts}

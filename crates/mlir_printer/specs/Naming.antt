@@ -1,8 +1,8 @@
 -- The names of values: the input ports first, then the results in the order of the body; none stands twice.
-use Rattle.std.specs.Prelude.{ℕ, zero, suc, ◌+◌, Bool, true, false, cond, nat_lt, List, [], ◌∷◌, ◌++◌, length, map, take, drop, slice_get, Option, Some, None, codes, decimal, ℤ}
+use Rattle.std.specs.Prelude.{ℕ, zero, suc, ◌+◌, Bool, false, cond, nat_lt, List, [], ◌∷◌, ◌++◌, length, drop, Option, Some, None, codes, decimal, ℤ}
 use Rattle.hw_model.specs.Types.{Name, HwType}
 use Rattle.hw_model.specs.Types.HwType.{int}
-use Rattle.hw_model.specs.Kinds.{Kind, Instance}
+use Rattle.hw_model.specs.Kinds.{Kind}
 use Rattle.hw_model.specs.Kinds.Kind.{constant, struct_explode, wire, instance, output, compreg, compreg_ce, firreg}
 use Rattle.hw_model.specs.Design.{Ref, Port}
 use Rattle.hw_model.specs.Design.Ref.{port, result, undefined}

@@ -1,5 +1,5 @@
 -- How integers are printed: decimal, constants by their signed reading (CIRCT, HW dialect: `hw.constant`).
-use Rattle.std.specs.Prelude.{ℕ, ◌+◌, ◌-◌, ◌^◌, Bool, false, cond, ◌&&◌, ◌||◌, ◌==◌, not, nat_lt, nat_le, List, [], ◌∷◌, ◌++◌, codes, decimal, ℤ, pos, negsuc}
+use Rattle.std.specs.Prelude.{ℕ, ◌+◌, ◌-◌, ◌^◌, Bool, false, cond, ◌&&◌, ◌==◌, nat_lt, nat_le, List, [], ◌∷◌, ◌++◌, codes, decimal, ℤ, pos, negsuc}
 use Rattle.hw_model.specs.Types.{HwType}
 use Rattle.hw_model.specs.Types.HwType.{int}
 use Rattle.hw_model.specs.Kinds.{Literal, Literals}

@@ -1,9 +1,9 @@
 -- How operations are printed: one line each.
-use Rattle.std.specs.Prelude.{ℕ, Bool, true, false, cond, List, [], ◌∷◌, ◌++◌, None, codes}
+use Rattle.std.specs.Prelude.{ℕ, Bool, false, cond, List, [], ◌∷◌, ◌++◌, None, codes}
 use Rattle.diag.specs.declared.listed.Listed.{Listed}
 use Rattle.diag.specs.declared.listed.Listed.TheVariants as listed
 use Rattle.diag.specs.Listed.{name_of_listed}
-use Rattle.hw_model.specs.Types.{Name, HwType}
+use Rattle.hw_model.specs.Types.{HwType}
 use Rattle.mlir_reader.specs.OperandText.{ResultNames}
 use Rattle.mlir_reader.specs.OperandText.ResultNames.{no_names, names, pack}
 use Rattle.mlir_reader.specs.PieceText.{Extra}

@@ -1,13 +1,12 @@
 -- What the text of a design says: its modules with the names of values chosen.
-use Rattle.std.specs.Prelude.{ℕ, Bool, true, false, cond, ◌&&◌, not, List, [], ◌∷◌, ◌++◌, length, map, take, drop, slice_get, Option, Some, None, codes, ℤ}
-use Rattle.std.specs.Ordering.{nat_cmp, is_lt}
+use Rattle.std.specs.Prelude.{ℕ, Bool, true, cond, List, [], ◌∷◌, length, map, drop, Option, Some, None, codes}
 use Rattle.diag.specs.declared.listed.Listed.{Listed}
 use Rattle.diag.specs.declared.listed.Listed.TheVariants as listed
 use Rattle.hw_model.specs.Types.{Name, HwType}
 use Rattle.hw_model.specs.Kinds.{Kind, Reset}
 use Rattle.hw_model.specs.Kinds.Reset.{no_reset, sync_reset}
 use Rattle.hw_model.specs.Kinds.Kind.{add, mul, and, or, xor, sub, divu, modu, divs, mods, shl, shru, shrs, icmp, parity, extract, concat, replicate, mux, constant, aggregate_constant, array_create, array_concat, array_get, array_slice, array_inject, struct_create, struct_extract, struct_inject, struct_explode, bitcast, wire, instance, output, compreg, compreg_ce, firreg}
-use Rattle.hw_model.specs.Design.{Attribute, Entry, Ref, Port, Op, Module, Design, same_name}
+use Rattle.hw_model.specs.Design.{Entry, Ref, Port, Op, Module, Design, same_name}
 use Rattle.hw_model.specs.Design.Attribute.{text_value}
 use Rattle.ir_store.specs.OperationViews.{OpParts}
 use Rattle.mlir_reader.specs.PieceText.{Extra}

@@ -1,6 +1,6 @@
 -- How types are printed (MLIR, builtin dialect: IntegerType; CIRCT: HW and Seq dialect types).
-use Rattle.std.specs.Prelude.{ℕ, ◌+◌, List, [], ◌∷◌, ◌++◌, codes}
-use Rattle.hw_model.specs.Types.{Name, HwType, FieldTypes}
+use Rattle.std.specs.Prelude.{ℕ, ◌+◌, List, [], ◌++◌, codes}
+use Rattle.hw_model.specs.Types.{HwType, FieldTypes}
 use Rattle.hw_model.specs.Types.HwType.{int, clock, array, struct}
 use Rattle.hw_model.specs.Types.FieldTypes.{no_fields, field}
 use Rattle.mlir_printer.specs.Strings.{name_bytes}

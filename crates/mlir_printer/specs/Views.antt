@@ -1,6 +1,5 @@
 -- What values of the code stand for.
 use Rattle.std.specs.Prelude.{ℕ, ◌+◌, cond, nat_lt, List, map, drop, slice_get, Option, Some, None}
-use Rattle.std.specs.Box.{box_value}
 use Rattle.hw_model.specs.Types.{Name}
 use Rattle.hw_model.specs.TypeViews.{type_of}
 use Rattle.hw_model.specs.KindViews.{predicate_of, integer_of, literals_in, instance_of}

@@ -1,9 +1,10 @@
 //! Modules, as they are printed.
-ghost use Rattle.std.specs.Prelude.{◌≡◌, ◌++◌, map, drop, OnOk};
+ghost use Rattle.std.specs.Prelude.{◌≡◌, ◌≤◌, ◌++◌, map, length, drop, OnOk};
 ghost use Rattle.hw_model.specs.TypeViews.{type_of};
 ghost use Rattle.ir_store.specs.Designs.{port_of};
 ghost use Rattle.mlir_printer.specs.Commas.{commas};
 ghost use Rattle.mlir_printer.specs.Modules.{input_port_bytes, output_port_bytes, port_name_bytes, port_bytes, private_bytes};
+ghost use Rattle.mlir_printer.specs.Naming.{port_wish};
 ghost use Rattle.mlir_printer.specs.Texts.{port_shown, ports_shown};
 ghost use Rattle.mlir_printer.specs.Views.{names_held};
 
@@ -73,15 +74,23 @@ fn push_port(
     Ok(())
 }
 
+// How many names a port takes: an input one.
+fn port_names(port: &Port) -> usize
+    ensures count { result ≡ length (port_wish (port_of port.now)) }
+    ensures few { result ≤ 1 }
+{
+    if port.out { 0 } else { 1 }
+}
+
 // Adds ports with commas between them.
-fn push_ports(out: &mut Text, names: &ValueNames, ports: &[Port]) -> Result<(), AllocError> {
+fn push_ports(out: &mut Text, names: &ValueNames, ports: &[Port]) -> Result<(), AllocError>
+    ensures { OnOk result (out.new ≡ out.old ++ commas port_bytes (ports_shown (names_held names.now) (map port_of ports.now))) }
+{
     let mut first = 0;
     for (i, port) in ports.iter().enumerate() {
         push_comma(out, i)?;
         push_port(out, names, first, port)?;
-        if !port.out {
-            first += 1;
-        }
+        first += port_names(port);
     }
     Ok(())
 }

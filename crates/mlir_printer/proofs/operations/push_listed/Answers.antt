@@ -1,4 +1,4 @@
-use Rattle.std.proofs.Common.{◌++◌, drop, arith, ap, ◌∙◌}
+use Rattle.std.proofs.Common.{◌++◌, drop, arith}
 use Rattle.mlir_printer.specs.Commas.{commas}
 use Rattle.mlir_printer.specs.Pieces.{value_name_bytes}
 use Rattle.mlir_printer.specs.Naming.{firsts}

@@ -1,4 +1,4 @@
-use Rattle.std.proofs.Common.{◌≡◌, ◌++◌, ◌∷◌, map, take}
+use Rattle.std.proofs.Common.{◌≡◌, ◌∷◌, map, take}
 use Rattle.mlir_printer.specs.Strings.{suffix_byte}
 use Rattle.mlir_printer.proofs.strings.spelled.Given as goal
 

@@ -1,4 +1,4 @@
-use Rattle.std.proofs.Common.{◌≡◌, ◌++◌, ap, ◌∙◌, sym, map, refl, arith}
+use Rattle.std.proofs.Common.{◌≡◌, ◌++◌, ap, ◌∙◌, sym, map, arith}
 use Rattle.std.specs.Prelude.{codes}
 use Rattle.hw_model.specs.TypeViews.{field_of, fields_of, fields_in}
 use Rattle.hw_model.proofs.FieldSums.{fields_open}

@@ -1,4 +1,4 @@
-use Rattle.std.proofs.Common.{◌≡◌, length, arith, sym, ap, ◌∙◌}
+use Rattle.std.proofs.Common.{arith}
 use Rattle.mlir_printer.specs.Naming.{wishes_of}
 use Rattle.mlir_printer.proofs.Listing.{instance_length}
 use Rattle.mlir_printer.proofs.wanted.name_count.Goals as goal

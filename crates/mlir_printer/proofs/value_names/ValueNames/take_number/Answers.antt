@@ -1,4 +1,4 @@
-use Rattle.std.proofs.Common.{◌≡◌, ◌≤◌, ◌+◌, length, arith}
+use Rattle.std.proofs.Common.{arith}
 use Rattle.mlir_printer.proofs.value_names.ValueNames.take_number.Goals as goal
 
 pub overflow_add-self : goal.overflow_add-self
