@@ -1,4 +1,5 @@
 pub mod Steps
+pub mod Escapes
 pub mod Entries
 pub mod Passing
 pub mod Numbered

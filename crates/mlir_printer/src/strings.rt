@@ -1,16 +1,20 @@
 //! Names and strings, as they are printed.
 ghost use Rattle.std.specs.Prelude.{◌≡◌, ◌++◌, ◌∷◌, [], ◌<◌, map, IfOk, OnOk};
-ghost use Rattle.mlir_printer.specs.Strings.{is_plain, hex_digit, escaped_byte, escaped_bytes, string_bytes, is_bare, name_bytes, symbol_bytes, stands, suffix_byte, standing};
+ghost use Rattle.mlir_printer.specs.Strings.{is_plain, hex_digit, escaped_byte, escaped_bytes, string_bytes, is_bare, name_bytes, symbol_bytes, stands, suffix_byte};
 
 use io_edge::byte_text::Text;
 use mlir_lexer::classes::{Class, Digit, NameByte, SuffixByte, is_name_start, run_of};
 use std::alloc::{AllocError, Global};
 
-// Whether a byte stands for itself in a string.
-fn is_plain(byte: u8) -> bool
-    ensures { result ≡ is_plain byte }
-{
-    32 <= byte && (byte <= 126 && (!(byte == b'"') && !(byte == b'\\')))
+// The bytes that stand for themselves in a string.
+enum PlainByte {}
+
+impl Class for PlainByte {
+    ghost test = { is_plain };
+
+    fn has(byte: u8) -> bool {
+        32 <= byte && (byte <= 126 && (!(byte == b'"') && !(byte == b'\\')))
+    }
 }
 
 // A hex digit, in capitals.
@@ -26,7 +30,7 @@ fn hex_digit(digit: u8) -> u8
 fn push_escaped_byte(out: &mut Text, byte: u8) -> Result<(), AllocError>
     ensures { OnOk result (out.new ≡ out.old ++ escaped_byte byte) }
 {
-    if is_plain(byte) {
+    if PlainByte::has(byte) {
         out.push(byte)?;
     } else if byte == b'\\' {
         out.push_bytes(b"\\\\")?;
@@ -36,8 +40,18 @@ fn push_escaped_byte(out: &mut Text, byte: u8) -> Result<(), AllocError>
     Ok(())
 }
 
-// Adds the bytes of a string.
+// Adds the bytes of a string: those in front that stand for themselves all at once.
 fn push_escaped(out: &mut Text, text: &[u8]) -> Result<(), AllocError>
+    ensures { OnOk result (out.new ≡ out.old ++ escaped_bytes text.now) }
+{
+    let plain = run_of::<PlainByte>(text);
+    out.push_bytes(&text[..plain])?;
+    push_others(out, &text[plain..])?;
+    Ok(())
+}
+
+// Adds the bytes of a string one by one.
+fn push_others(out: &mut Text, text: &[u8]) -> Result<(), AllocError>
     ensures { OnOk result (out.new ≡ out.old ++ escaped_bytes text.now) }
 {
     for byte in text {
@@ -92,8 +106,8 @@ pub fn push_symbol(out: &mut Text, name: &[u8]) -> Result<(), AllocError>
     Ok(())
 }
 
-// Whether a name may stand behind `%`, and is not digits alone.
-fn stands(name: &[u8]) -> bool
+/// Whether a name may stand behind `%`, and is not digits alone.
+pub fn stands(name: &[u8]) -> bool
     ensures { result ≡ stands name.now }
 {
     match name {
@@ -109,20 +123,8 @@ fn suffix_byte(byte: u8) -> u8
     if SuffixByte::has(byte) { byte } else { b'_' }
 }
 
-/// A name as a value may have it: one that may not stand behind `%`, or is digits alone, gets `_`
-/// in the place of each other byte, and one `_` in front.
-#[tactic(auto, unfolding(crate::specs::Strings::standing))]
-pub fn standing(alloc: Global, name: &[u8]) -> Result<Text, AllocError>
-    ensures { IfOk result (λ text. text ≡ standing name.now) }
-{
-    if stands(name) {
-        return Text::of(alloc, name);
-    }
-    spelled(alloc, name)
-}
-
-// A name with `_` in the place of each other byte, and one `_` in front.
-fn spelled(alloc: Global, name: &[u8]) -> Result<Text, AllocError>
+/// A name with `_` in the place of each byte that may not stand behind `%`, and one `_` in front.
+pub fn spelled(alloc: Global, name: &[u8]) -> Result<Text, AllocError>
     ensures { IfOk result (λ text. text ≡ 95 ∷ map suffix_byte name.now) }
 {
     let mut text = Text::new(alloc);

@@ -4,7 +4,7 @@ ghost use Rattle.std.specs.Prelude.{cond, nat_eq, OnOk};
 ghost use Rattle.fresh_names.specs.TakenViews.{taken_names};
 ghost use Rattle.mlir_printer.specs.Places.{place_for};
 
-use crate::strings::standing;
+use crate::strings::{spelled, stands};
 use crate::wanted::{constant_name, instance_name, is_pack, name_count};
 use fresh_names::taken_names::{NameId, TakenNames};
 use hw_model::kinds::{Instance, Integer, OpKind};
@@ -116,15 +116,19 @@ impl ValueNames {
         Ok(number)
     }
 
-    // Takes the name of a value that wants one.
+    // Takes the name of a value that wants one; where it may not stand, as it is spelled then.
+    #[tactic(auto, unfolding(crate::specs::Strings::standing))]
     fn take_name(&mut self, alloc: Global, wanted: &[u8]) -> Result<u32, AllocError>
         ensures chosen { OnOk result (chosen self.new ≡ with_wish (chosen self.old) (Some wanted.now)) }
         ensures number { IfOk result (λ n. n ≡ length (names_held self.old)) }
         ensures ports { self.new.ports ≡ self.old.ports }
         ensures places { self.new.places ≡ self.old.places }
     {
-        let wanted = standing(alloc, wanted)?;
-        self.take(wanted.as_bytes())
+        if stands(wanted) {
+            return self.take(wanted);
+        }
+        let name = spelled(alloc, wanted)?;
+        self.take(name.as_bytes())
     }
 
     // Takes the next number.

@@ -1,9 +1,6 @@
-use Rattle.std.proofs.Common.{◌++◌, refl, arith}
-use Rattle.mlir_printer.specs.Strings.{escaped_bytes}
-use Rattle.mlir_printer.proofs.Steps.{parts_end}
+use Rattle.mlir_printer.proofs.Escapes.{plain_parts}
 use Rattle.mlir_printer.proofs.strings.push_escaped.Goals as goal
 
 pub returns : goal.returns
 returns c =
-    parts_end escaped_bytes c.args.text.now c.loop-byte.byte-index c.loop-byte.out (c.args.out.now ++ escaped_bytes c.args.text.now) refl
-    (omega (arith, c.loop-byte-test.false)) c.loop-byte.invariant
+    plain_parts c.args.out.now c.push_bytes.new.self c.push_others.new.out c.args.text.now c.run_of-plain.result c.run_of-plain.ensures.exact c.in_ok-push_bytes.ensures.ok c.in_ok-push_others.ensures
