@@ -1,0 +1,11 @@
+pub mod Steps
+pub mod Escapes
+pub mod Entries
+pub mod Passing
+pub mod Numbered
+pub mod Listing
+pub mod Choosing
+pub mod Placing
+pub mod Walks
+pub mod Values
+pub mod Showing

@@ -1,0 +1,150 @@
+-- The names of values: the input ports first, then the results in the order of the body; none stands twice.
+use Rattle.std.specs.Prelude.{ℕ, zero, suc, ◌+◌, Bool, false, cond, nat_lt, List, [], ◌∷◌, ◌++◌, length, drop, Option, Some, None, codes, decimal, ℤ}
+use Rattle.hw_model.specs.Types.{Name, HwType}
+use Rattle.hw_model.specs.Types.HwType.{int}
+use Rattle.hw_model.specs.Kinds.{Kind}
+use Rattle.hw_model.specs.Kinds.Kind.{constant, struct_explode, wire, instance, output, compreg, compreg_ce, firreg}
+use Rattle.hw_model.specs.Design.{Ref, Port}
+use Rattle.hw_model.specs.Design.Ref.{port, result, undefined}
+use Rattle.fresh_names.specs.Fresh.{fresh}
+use Rattle.ir_store.specs.OperationViews.{OpParts}
+use Rattle.mlir_reader.specs.OperandText.{ResultNames}
+use Rattle.mlir_reader.specs.OperandText.ResultNames.{no_names, names, pack}
+use Rattle.mlir_printer.specs.Strings.{standing}
+use Rattle.mlir_printer.specs.Numbers.{integer_bytes, truth_bytes, shown_number, is_shown_as_truth, is_one}
+use Rattle.mlir_printer.specs.Pieces.{ValueText, no_value}
+
+-- ---- what is wanted
+
+-- `cV_iW`, or `true` and `false`
+unfoldable pub constant_name : ℕ → ℤ → Name
+constant_name w z =
+    cond (is_shown_as_truth (int w) z) (truth_bytes (is_one z)) (codes "c" ++ (integer_bytes (shown_number w z) ++ (codes "_i" ++ decimal w)))
+
+-- what a constant wants: one that is no integer wants nothing
+abbrev pub constant_wish : List HwType → ℤ → Option Name
+constant_wish (int w ∷ ts) z = Some (constant_name w z)
+constant_wish _ z = None
+
+-- what a register or a wire wants: an empty name is none
+abbrev pub own_wish : Name → Option Name
+own_wish [] = None
+own_wish (b ∷ bs) = Some (b ∷ bs)
+
+-- `INSTANCE.PORT`
+unfoldable pub instance_name : Name → Name → Name
+instance_name u q = u ++ ((46 ∷ []) ++ q)
+
+-- what the results of an instance want
+abbrev pub instance_wishes : Name → List Name → List (Option Name)
+instance_wishes u [] = []
+instance_wishes u (q ∷ qs) = Some (instance_name u q) ∷ instance_wishes u qs
+
+-- what the fields of a struct want together
+abbrev pub pack_wishes : ℕ → List (Option Name)
+pack_wishes zero = []
+pack_wishes (suc n) = None ∷ []
+
+-- what the results of an operation want, a pack one name
+unfoldable pub wishes_of : Kind → List HwType → Name → ℕ → List (Option Name)
+wishes_of (constant z) ts own n = constant_wish ts z ∷ []
+wishes_of struct_explode ts own n = pack_wishes n
+wishes_of wire ts own n = own_wish own ∷ []
+wishes_of (instance i) ts own n = instance_wishes i.name i.outputs
+wishes_of output ts own n = []
+wishes_of (compreg r) ts own n = own_wish own ∷ []
+wishes_of (compreg_ce r) ts own n = own_wish own ∷ []
+wishes_of (firreg r) ts own n = own_wish own ∷ []
+wishes_of _ ts own n = None ∷ []
+
+-- what the results of an operation want
+abbrev pub wishes : OpParts → List (Option Name)
+wishes o = wishes_of o.kind o.types o.name (length o.results)
+
+-- how many names an operation takes
+abbrev pub name_count : OpParts → ℕ
+name_count o = length (wishes o)
+
+-- what the results of operations want, in order
+abbrev pub body_wishes : List OpParts → List (Option Name)
+body_wishes [] = []
+body_wishes (o ∷ os) = wishes o ++ body_wishes os
+
+-- what a port wants: an input its name
+abbrev pub port_wish : Port → List (Option Name)
+port_wish p = cond p.is_output [] (Some p.name ∷ [])
+
+abbrev pub port_wishes : List Port → List (Option Name)
+port_wishes [] = []
+port_wishes (p ∷ ps) = port_wish p ++ port_wishes ps
+
+-- how many input ports there are
+abbrev pub input_count : List Port → ℕ
+input_count ps = length (port_wishes ps)
+
+-- the names that are wanted: what wants nothing wants the next number
+abbrev pub wanted : ℕ → List (Option Name) → List Name
+wanted n [] = []
+wanted n (None ∷ ws) = decimal n ∷ wanted (n + 1) ws
+wanted n (Some name ∷ ws) = standing name ∷ wanted n ws
+
+-- the names of ports and results, in order
+abbrev pub names_given : List Port → List OpParts → List Name
+names_given ps os = fresh [] (wanted 0 (port_wishes ps ++ body_wishes os))
+
+-- ---- what is named
+
+-- the first of some names, where there is one
+abbrev pub first_name : List Name → Name
+first_name [] = []
+first_name (n ∷ ns) = n
+
+-- a value of this name
+abbrev pub called : Name → ValueText
+called name = record { name = name; number = None }
+
+-- so many names, of which the first ones are these
+abbrev pub firsts : ℕ → List Name → List Name
+firsts zero ns = []
+firsts (suc n) ns = first_name ns ∷ firsts n (drop 1 ns)
+
+-- whether the results of an operation are a pack: those of a struct with two fields or more
+abbrev pub is_pack : Kind → ℕ → Bool
+is_pack struct_explode n = nat_lt 1 n
+is_pack _ n = false
+
+-- result k of an operation whose names begin so
+abbrev pub value_at : OpParts → List Name → ℕ → ValueText
+value_at o ns k =
+    cond (is_pack o.kind (length o.results))
+    (cond (nat_lt k (length o.results)) (record { name = first_name ns; number = Some k }) no_value)
+    (cond (nat_lt k (name_count o)) (called (first_name (drop k ns))) no_value)
+
+-- result k of the i-th operation, where the names of the operations begin so
+abbrev pub value_in : List Name → List OpParts → ℕ → ℕ → ValueText
+value_in ns [] i k = no_value
+value_in ns (o ∷ os) zero k = value_at o ns k
+value_in ns (o ∷ os) (suc i) k = value_in (drop (name_count o) ns) os i k
+
+-- the value of the j-th port, where the names of the ports begin so
+abbrev pub port_value : List Name → List Port → ℕ → ValueText
+port_value ns [] j = no_value
+port_value ns (p ∷ ps) zero = cond p.is_output no_value (called (first_name ns))
+port_value ns (p ∷ ps) (suc j) = port_value (drop (length (port_wish p)) ns) ps j
+
+-- a value, where the names are given; what nothing defines has no name
+abbrev pub value_named : List Name → List Port → List OpParts → Ref → ValueText
+value_named ns ps os (port j) = port_value ns ps j
+value_named ns ps os (result i k) = value_in (drop (input_count ps) ns) os i k
+value_named ns ps os undefined = no_value
+
+-- ---- how results are named
+
+-- names one by one
+abbrev pub listed_names : List Name → ResultNames
+listed_names [] = no_names
+listed_names (n ∷ ns) = names n ns
+
+-- the names of an operation's results, where the names begin so
+abbrev pub results_named : OpParts → List Name → ResultNames
+results_named o ns = cond (is_pack o.kind (length o.results)) (pack (first_name ns) (length o.results)) (listed_names (firsts (name_count o) ns))

@@ -1,0 +1,86 @@
+-- How operations are printed: one line each.
+use Rattle.std.specs.Prelude.{ℕ, Bool, false, cond, List, [], ◌∷◌, ◌++◌, None, codes}
+use Rattle.diag.specs.declared.listed.Listed.{Listed}
+use Rattle.diag.specs.declared.listed.Listed.TheVariants as listed
+use Rattle.diag.specs.Listed.{name_of_listed}
+use Rattle.hw_model.specs.Types.{HwType}
+use Rattle.mlir_reader.specs.OperandText.{ResultNames}
+use Rattle.mlir_reader.specs.OperandText.ResultNames.{no_names, names, pack}
+use Rattle.mlir_reader.specs.PieceText.{Extra}
+use Rattle.mlir_reader.specs.PieceText.Extra.{number}
+use Rattle.hw_model.specs.Design.{Entry}
+use Rattle.mlir_reader.specs.Shapes.{shape_of, front_pieces, type_pieces}
+use Rattle.mlir_reader.specs.declared.pieces.Piece.{Piece}
+use Rattle.mlir_reader.specs.declared.pieces.Shape.{Shape}
+use Rattle.mlir_reader.specs.declared.pieces.Shape.TheVariants as shape
+use Rattle.mlir_printer.specs.Numbers.{count_bytes, is_shown_as_truth}
+use Rattle.mlir_printer.specs.Pieces.{ValueText, Pending, value_name_bytes, pieces_bytes, left_behind}
+use Rattle.mlir_printer.specs.Attributes.{dictionary_bytes}
+use Rattle.mlir_printer.specs.Commas.{commas}
+
+-- an operation as it is printed: the names of its results, its name, its `bin` mark, what stands behind them, and its dictionary
+pub record OperationText : Type 0 where
+  pub results : ResultNames
+  pub name : Listed
+  pub bin : Bool
+  pub pending : Pending
+  pub dictionary : List Entry
+
+-- `%x = `, `%a, %b = `, `%x:k = `, or nothing
+unfoldable pub results_bytes : ResultNames → List ℕ
+results_bytes no_names = []
+results_bytes (names n ns) = commas value_name_bytes (n ∷ ns) ++ codes " = "
+results_bytes (pack n k) = value_name_bytes n ++ (codes ":" ++ (count_bytes k ++ codes " = "))
+
+-- ` bin`, or nothing
+unfoldable pub bin_bytes : Bool → List ℕ
+bin_bytes b = cond b (codes " bin") []
+
+-- whether what is said of a constant of the first of some types is printed as `true` or `false`
+abbrev pub is_truth_said : List HwType → Extra → Bool
+is_truth_said (t ∷ ts) (number z) = is_shown_as_truth t z
+is_truth_said _ _ = false
+
+-- an output with values has their types
+abbrev pub output_shape : List ValueText → Shape
+output_shape [] = shape.Nothing
+output_shape (o ∷ os) = shape.Joined
+
+-- the form of an operation
+unfoldable pub shape_shown : Listed → Pending → Shape
+shape_shown listed.HwConstant g = cond (is_truth_said g.types g.extra) shape.Truth shape.Integer
+shape_shown listed.HwOutput g = output_shape g.operands
+shape_shown o g = shape_of o None
+
+-- a blank in front of what stands behind a name
+abbrev pub after_blank : List Piece → List ℕ → List ℕ
+after_blank [] bytes = bytes
+after_blank (p ∷ ps) bytes = codes " " ++ bytes
+
+-- what is left behind pieces
+abbrev pub left_behind_all : List Piece → Pending → Pending
+left_behind_all [] g = g
+left_behind_all (p ∷ ps) g = left_behind_all ps (left_behind p g)
+
+-- a form: pieces, a dictionary, and the types
+unfoldable pub form_bytes : List Piece → List Piece → Pending → List Entry → List ℕ
+form_bytes front types g es =
+    after_blank front (pieces_bytes front g) ++ (dictionary_bytes (codes " ") es ++ pieces_bytes types (left_behind_all front g))
+
+-- an operation of a form
+unfoldable pub shaped_bytes : Shape → OperationText → List ℕ
+shaped_bytes s o =
+    results_bytes o.results ++ (name_of_listed o.name ++ (bin_bytes o.bin ++ form_bytes (front_pieces s) (type_pieces s) o.pending o.dictionary))
+
+-- an operation
+unfoldable pub operation_bytes : OperationText → List ℕ
+operation_bytes o = shaped_bytes (shape_shown o.name o.pending) o
+
+-- a line of a body
+unfoldable pub operation_line : OperationText → List ℕ
+operation_line o = codes "    " ++ (operation_bytes o ++ (10 ∷ []))
+
+-- the lines of a body
+abbrev pub operation_lines : List OperationText → List ℕ
+operation_lines [] = []
+operation_lines (o ∷ os) = operation_line o ++ operation_lines os

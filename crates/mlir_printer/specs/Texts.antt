@@ -1,0 +1,168 @@
+-- What the text of a design says: its modules with the names of values chosen.
+use Rattle.std.specs.Prelude.{ℕ, Bool, true, cond, List, [], ◌∷◌, length, map, drop, Option, Some, None, codes}
+use Rattle.diag.specs.declared.listed.Listed.{Listed}
+use Rattle.diag.specs.declared.listed.Listed.TheVariants as listed
+use Rattle.hw_model.specs.Types.{Name, HwType}
+use Rattle.hw_model.specs.Kinds.{Kind, Reset}
+use Rattle.hw_model.specs.Kinds.Reset.{no_reset, sync_reset}
+use Rattle.hw_model.specs.Kinds.Kind.{add, mul, and, or, xor, sub, divu, modu, divs, mods, shl, shru, shrs, icmp, parity, extract, concat, replicate, mux, constant, aggregate_constant, array_create, array_concat, array_get, array_slice, array_inject, struct_create, struct_extract, struct_inject, struct_explode, bitcast, wire, instance, output, compreg, compreg_ce, firreg}
+use Rattle.hw_model.specs.Design.{Entry, Ref, Port, Op, Module, Design, same_name}
+use Rattle.hw_model.specs.Design.Attribute.{text_value}
+use Rattle.ir_store.specs.OperationViews.{OpParts}
+use Rattle.mlir_reader.specs.PieceText.{Extra}
+use Rattle.mlir_reader.specs.PieceText.Extra.{nothing, with_reset, predicate, position, number, literals, field_name, child}
+use Rattle.mlir_reader.specs.Resolving.{put_entry}
+use Rattle.mlir_printer.specs.Numbers.{shown_by_first, shown_literals}
+use Rattle.mlir_printer.specs.Naming.{name_count, input_count, port_wish, names_given, first_name, value_named, results_named}
+use Rattle.mlir_printer.specs.Modules.{PortText, ModuleText, file_bytes}
+use Rattle.mlir_printer.specs.Pieces.{ValueText, Pending}
+use Rattle.mlir_printer.specs.Operations.{OperationText}
+
+-- ---- operations
+
+-- the name of a kind of operation (CIRCT: operation references of HW, Comb and Seq)
+unfoldable pub listed_of : Kind → Listed
+listed_of add = listed.CombAdd
+listed_of mul = listed.CombMul
+listed_of and = listed.CombAnd
+listed_of or = listed.CombOr
+listed_of xor = listed.CombXor
+listed_of sub = listed.CombSub
+listed_of divu = listed.CombDivu
+listed_of modu = listed.CombModu
+listed_of divs = listed.CombDivs
+listed_of mods = listed.CombMods
+listed_of shl = listed.CombShl
+listed_of shru = listed.CombShru
+listed_of shrs = listed.CombShrs
+listed_of (icmp p) = listed.CombIcmp
+listed_of parity = listed.CombParity
+listed_of (extract low) = listed.CombExtract
+listed_of concat = listed.CombConcat
+listed_of replicate = listed.CombReplicate
+listed_of mux = listed.CombMux
+listed_of (constant z) = listed.HwConstant
+listed_of (aggregate_constant ls) = listed.HwAggregateConstant
+listed_of array_create = listed.HwArrayCreate
+listed_of array_concat = listed.HwArrayConcat
+listed_of array_get = listed.HwArrayGet
+listed_of array_slice = listed.HwArraySlice
+listed_of array_inject = listed.HwArrayInject
+listed_of struct_create = listed.HwStructCreate
+listed_of (struct_extract name) = listed.HwStructExtract
+listed_of (struct_inject name) = listed.HwStructInject
+listed_of struct_explode = listed.HwStructExplode
+listed_of bitcast = listed.HwBitcast
+listed_of wire = listed.HwWire
+listed_of (instance i) = listed.HwInstance
+listed_of output = listed.HwOutput
+listed_of (compreg r) = listed.SeqCompreg
+listed_of (compreg_ce r) = listed.SeqCompregCe
+listed_of (firreg r) = listed.SeqFirreg
+
+-- what a reset says
+abbrev pub reset_extra : Reset → Extra
+reset_extra no_reset = nothing
+reset_extra sync_reset = with_reset
+
+-- what a kind says besides operands and types, of operations with these types; constants are shown signed
+unfoldable pub extra_shown : Kind → List HwType → Extra
+extra_shown (icmp p) ts = predicate p
+extra_shown (extract low) ts = position low
+extra_shown (constant z) ts = number (shown_by_first ts z)
+extra_shown (aggregate_constant ls) ts = literals (shown_literals ls)
+extra_shown (struct_extract name) ts = field_name name
+extra_shown (struct_inject name) ts = field_name name
+extra_shown (instance i) ts = child i
+extra_shown (compreg r) ts = reset_extra r
+extra_shown (compreg_ce r) ts = reset_extra r
+extra_shown (firreg r) ts = reset_extra r
+extra_shown _ ts = nothing
+
+-- the entry that gives an operation its name
+abbrev pub name_entry : Name → Entry
+name_entry name = record { key = codes "name"; value = text_value name }
+
+-- entries with that entry among them, by the bytes of keys
+abbrev pub named_entries : Name → List Entry → List Entry
+named_entries name es = put_entry (name_entry name) es
+
+-- whether an operation has no own name, or its value is called so
+abbrev pub names_itself : Name → Name → Bool
+names_itself [] printed = true
+names_itself (b ∷ bs) printed = same_name (b ∷ bs) printed
+
+-- an operation's entries, with its name among them where it has one and its value is called otherwise
+abbrev pub entries_shown : Name → Name → List Entry → List Entry
+entries_shown own printed es = cond (names_itself own printed) es (named_entries own es)
+
+-- what stands behind an operation's name
+abbrev pub pending_shown : OpParts → List ValueText → Pending
+pending_shown p os = record { operands = os; types = p.types; extra = extra_shown p.kind p.types }
+
+-- an operation with its operands named so, where the names of its results begin so
+abbrev pub operation_shown : OpParts → List ValueText → List Name → OperationText
+operation_shown p os ns = record {
+  results = results_named p ns;
+  name = listed_of p.kind;
+  bin = p.bin;
+  pending = pending_shown p os;
+  dictionary = entries_shown p.name (first_name ns) p.dictionary;
+}
+
+-- an operation but for its operands
+abbrev pub parts_in : Op → OpParts
+parts_in o = record {
+  kind = o.kind;
+  types = o.types;
+  results = o.results;
+  named = o.named;
+  name = o.name;
+  dictionary = o.dictionary;
+  bin = o.bin;
+  place = o.place;
+}
+
+-- operations, where values are named so and the names of results begin so
+abbrev pub operations_shown : (Ref → ValueText) → List Name → List Op → List OperationText
+operations_shown means ns [] = []
+operations_shown means ns (o ∷ os) =
+    operation_shown (parts_in o) (map means o.operands) ns ∷ operations_shown means (drop (name_count (parts_in o)) ns) os
+
+-- ---- modules
+
+-- the value of an input port; an output has none
+abbrev pub value_shown : Port → List Name → Option Name
+value_shown p ns = cond p.is_output None (Some (first_name ns))
+
+-- a port, where the names begin so
+abbrev pub port_shown : List Name → Port → PortText
+port_shown ns p = record { value = value_shown p ns; name = p.name; type = p.type }
+
+-- ports, where the names begin so
+abbrev pub ports_shown : List Name → List Port → List PortText
+ports_shown ns [] = []
+ports_shown ns (p ∷ ps) =
+    port_shown ns p ∷ ports_shown (drop (length (port_wish p)) ns) ps
+
+-- a module where the names are given
+abbrev pub module_named : List Name → Module → ModuleText
+module_named ns m = record {
+  symbol = m.symbol;
+  is_private = m.is_private;
+  ports = ports_shown ns m.ports;
+  dictionary = m.dictionary;
+  operations = operations_shown (value_named ns m.ports (map parts_in m.body)) (drop (input_count m.ports) ns) m.body;
+}
+
+-- what the text of a module says
+abbrev pub module_shown : Module → ModuleText
+module_shown m = module_named (names_given m.ports (map parts_in m.body)) m
+
+-- what the text of a design says
+abbrev pub modules_shown : Design → List ModuleText
+modules_shown d = map module_shown d
+
+-- the text of a design
+unfoldable pub ir_text : Design → List ℕ
+ir_text d = file_bytes (modules_shown d)

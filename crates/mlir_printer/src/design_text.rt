@@ -1,0 +1,33 @@
+//! The text of a design.
+ghost use Rattle.std.specs.Prelude.{◌≡◌, ◌++◌, map, OnOk, IfOk};
+ghost use Rattle.ir_store.specs.Designs.{design_of};
+ghost use Rattle.mlir_printer.specs.Modules.{modules_bytes};
+ghost use Rattle.mlir_printer.specs.Texts.{ir_text, modules_shown};
+
+use crate::modules::push_module;
+use io_edge::byte_text::Text;
+use ir_store::design::Design;
+use std::alloc::{AllocError, Global};
+
+/// The text of a design: `module {`, its modules in order, and `}`. The error comes only for want of
+/// memory.
+#[tactic(auto, using(std::proofs::Common::append_assoc), unfolding(crate::specs::Texts::ir_text, crate::specs::Modules::file_bytes))]
+pub fn design_text(alloc: Global, design: &Design) -> Result<Text, AllocError>
+    ensures { IfOk result (λ text. text ≡ ir_text (design_of design.now)) }
+{
+    let mut out = Text::new(alloc);
+    out.push_bytes(b"module {\n")?;
+    push_modules(alloc, &mut out, design)?;
+    out.push_bytes(b"}\n")?;
+    Ok(out)
+}
+
+// Adds the modules of a design.
+fn push_modules(alloc: Global, out: &mut Text, design: &Design) -> Result<(), AllocError>
+    ensures { OnOk result (out.new ≡ out.old ++ modules_bytes (modules_shown (design_of design.now))) }
+{
+    for number in 0..design.module_count() {
+        push_module(alloc, out, design.module(number))?;
+    }
+    Ok(())
+}

@@ -1,0 +1,19 @@
+//! Designs to MLIR text.
+#![tactic(auto)]
+
+pub mod attributes;
+pub mod commas;
+pub mod design_text;
+pub mod dictionaries;
+pub mod literals;
+pub mod modules;
+pub mod numbers;
+pub mod operations;
+pub mod pieces;
+pub mod said;
+pub mod strings;
+#[cfg(test)]
+mod tests;
+pub mod types;
+pub mod value_names;
+pub mod wanted;

@@ -1,0 +1,267 @@
+//! Operations, as they are printed.
+ghost use Rattle.std.specs.Prelude.{◌≡◌, ◌+◌, ◌++◌, map, drop, min, OnOk, IfOk};
+ghost use Rattle.hw_model.specs.TypeViews.{type_of};
+ghost use Rattle.hw_model.specs.KindViews.{kind_of};
+ghost use Rattle.ir_store.specs.Bodies.{ops_of, read_parts};
+ghost use Rattle.ir_store.specs.OperationViews.{types_in};
+ghost use Rattle.ir_store.specs.DictionaryViews.{entries_in};
+ghost use Rattle.mlir_printer.specs.Commas.{commas};
+ghost use Rattle.mlir_printer.specs.Pieces.{value_name_bytes, pieces_bytes};
+ghost use Rattle.mlir_printer.specs.Operations.{results_bytes, bin_bytes, form_bytes, is_truth_said, shape_shown, after_blank, left_behind_all, operation_line, operation_lines, shaped_bytes};
+ghost use Rattle.mlir_reader.specs.Shapes.{front_pieces, type_pieces};
+ghost use Rattle.mlir_printer.specs.Naming.{first_name, firsts, listed_names, name_count, results_named};
+ghost use Rattle.mlir_printer.specs.Texts.{listed_of, extra_shown, entries_shown, operation_shown};
+ghost use Rattle.mlir_printer.specs.Shown.{stored_shown};
+ghost use Rattle.mlir_printer.specs.Views.{names_held, value_held, pending_of, extra_of};
+
+use crate::commas::push_comma;
+use crate::dictionaries::push_named_dictionary;
+use crate::numbers::{is_shown_as_truth, push_length};
+use crate::pieces::{push_pieces, push_value_name};
+use crate::said::{Pending, Said, said_of};
+use crate::value_names::ValueNames;
+use crate::wanted::{is_pack, name_count};
+use diag::listed::Listed;
+use hw_model::kinds::OpKind;
+use hw_model::types::Ty;
+use io_edge::byte_text::Text;
+use ir_store::body::{Body, Op};
+use mlir_reader::pieces::{Piece, Shape};
+use mlir_reader::shapes::{front_pieces, shape_of, type_pieces};
+use std::alloc::AllocError;
+
+// The name of a kind of operation.
+#[tactic(auto, unfolding(crate::specs::Texts::listed_of))]
+fn listed_of(kind: &OpKind) -> Listed
+    ensures { result ≡ listed_of (kind_of kind.now) }
+{
+    match kind {
+        OpKind::Add => Listed::CombAdd,
+        OpKind::Mul => Listed::CombMul,
+        OpKind::And => Listed::CombAnd,
+        OpKind::Or => Listed::CombOr,
+        OpKind::Xor => Listed::CombXor,
+        OpKind::Sub => Listed::CombSub,
+        OpKind::Divu => Listed::CombDivu,
+        OpKind::Modu => Listed::CombModu,
+        OpKind::Divs => Listed::CombDivs,
+        OpKind::Mods => Listed::CombMods,
+        OpKind::Shl => Listed::CombShl,
+        OpKind::Shru => Listed::CombShru,
+        OpKind::Shrs => Listed::CombShrs,
+        OpKind::Icmp(_) => Listed::CombIcmp,
+        OpKind::Parity => Listed::CombParity,
+        OpKind::Extract(_) => Listed::CombExtract,
+        OpKind::Concat => Listed::CombConcat,
+        OpKind::Replicate => Listed::CombReplicate,
+        OpKind::Mux => Listed::CombMux,
+        OpKind::Constant(_) => Listed::HwConstant,
+        OpKind::AggregateConstant(_) => Listed::HwAggregateConstant,
+        OpKind::ArrayCreate => Listed::HwArrayCreate,
+        OpKind::ArrayConcat => Listed::HwArrayConcat,
+        OpKind::ArrayGet => Listed::HwArrayGet,
+        OpKind::ArraySlice => Listed::HwArraySlice,
+        OpKind::ArrayInject => Listed::HwArrayInject,
+        OpKind::StructCreate => Listed::HwStructCreate,
+        OpKind::StructExtract(_) => Listed::HwStructExtract,
+        OpKind::StructInject(_) => Listed::HwStructInject,
+        OpKind::StructExplode => Listed::HwStructExplode,
+        OpKind::Bitcast => Listed::HwBitcast,
+        OpKind::Wire => Listed::HwWire,
+        OpKind::Instance(_) => Listed::HwInstance,
+        OpKind::Output => Listed::HwOutput,
+        OpKind::CompReg(_) => Listed::SeqCompreg,
+        OpKind::CompRegCe(_) => Listed::SeqCompregCe,
+        OpKind::FirReg(_) => Listed::SeqFirreg,
+    }
+}
+
+// Whether what is said of a constant is printed as `true` or `false`.
+fn is_truth_said(types: &[Ty], said: Said<'_>) -> bool
+    ensures { result ≡ is_truth_said (map type_of types.now) (extra_of said.entry) }
+{
+    match (types.first(), said) {
+        (Some(ty), Said::Number(value)) => is_shown_as_truth(ty, value),
+        _ => false,
+    }
+}
+
+// The form of an operation.
+#[tactic(auto, unfolding(crate::specs::Operations::shape_shown))]
+fn shape_shown(name: Listed, names: &ValueNames, pending: &Pending<'_>) -> Shape
+    ensures { result ≡ shape_shown name (pending_of names.now pending.now) }
+{
+    match name {
+        Listed::HwConstant if is_truth_said(pending.types, pending.said) => Shape::Truth,
+        Listed::HwConstant => Shape::Integer,
+        Listed::HwOutput if pending.operands.is_empty() => Shape::Nothing,
+        Listed::HwOutput => Shape::Joined,
+        _ => shape_of(name, None),
+    }
+}
+
+// Adds so many names of values, in front of which so many others stand, and `=` behind them.
+#[tactic(auto, unfolding(crate::specs::Operations::results_bytes))]
+fn push_names(
+    out: &mut Text,
+    names: &ValueNames,
+    first: u32,
+    count: usize,
+) -> Result<(), AllocError>
+    ensures { OnOk result (out.new ≡ out.old ++ results_bytes (listed_names (firsts count (drop first (names_held names.now))))) }
+{
+    if count == 0 {
+        return Ok(());
+    }
+    push_listed(out, names, first, count)?;
+    out.push_bytes(b" = ")?;
+    Ok(())
+}
+
+// Adds so many names of values, in front of which so many others stand, with commas between them.
+fn push_listed(
+    out: &mut Text,
+    names: &ValueNames,
+    first: u32,
+    count: usize,
+) -> Result<(), AllocError>
+    ensures { OnOk result (out.new ≡ out.old ++ commas value_name_bytes (firsts count (drop first (names_held names.now)))) }
+{
+    for i in 0..count {
+        push_comma(out, i)?;
+        push_value_name(out, names.behind(first, i))?;
+    }
+    Ok(())
+}
+
+// Adds the names of an operation's results.
+#[tactic(auto, unfolding(crate::specs::Operations::results_bytes))]
+fn push_results(
+    out: &mut Text,
+    names: &ValueNames,
+    op: &Op<'_>,
+    first: u32,
+) -> Result<(), AllocError>
+    ensures { OnOk result (out.new ≡ out.old ++ results_bytes (results_named (read_parts op.now) (drop first (names_held names.now)))) }
+{
+    let results = op.results.results.len();
+    if !is_pack(op.kind, results) {
+        push_names(out, names, first, name_count(op))?;
+        return Ok(());
+    }
+    push_value_name(out, names.nth(first as usize))?;
+    out.push_bytes(b":")?;
+    push_length(out, results)?;
+    out.push_bytes(b" = ")?;
+    Ok(())
+}
+
+// Adds pieces behind a name, with a blank in front of the first, and gives what is left behind them.
+fn push_front<'d>(
+    out: &mut Text,
+    names: &ValueNames,
+    pieces: &[Piece],
+    pending: Pending<'d>,
+) -> Result<Pending<'d>, AllocError>
+    ensures bytes { OnOk result (out.new ≡ out.old ++ after_blank pieces.now (pieces_bytes pieces.now (pending_of names.now pending.entry))) }
+    ensures left { IfOk result (λ left. pending_of names.now left ≡ left_behind_all pieces.now (pending_of names.now pending.entry)) }
+{
+    if !pieces.is_empty() {
+        out.push_bytes(b" ")?;
+    }
+    push_pieces(out, names, pieces, pending)
+}
+
+// Adds a form: pieces, a dictionary, and the types.
+#[tactic(auto, unfolding(crate::specs::Operations::form_bytes))]
+fn push_form(
+    out: &mut Text,
+    names: &ValueNames,
+    shape: Shape,
+    pending: Pending<'_>,
+    op: &Op<'_>,
+    first: u32,
+) -> Result<(), AllocError>
+    ensures { OnOk result (out.new ≡ out.old ++ form_bytes (front_pieces shape) (type_pieces shape) (pending_of names.now pending.entry) (entries_shown op.now.name.now (first_name (drop first (names_held names.now))) (entries_in op.now.dictionary.now))) }
+{
+    let printed = names.nth(first as usize);
+    let left = push_front(out, names, front_pieces(shape), pending)?;
+    push_named_dictionary(out, op.name.as_bytes(), printed, &op.dictionary.entries)?;
+    push_pieces(out, names, type_pieces(shape), left)?;
+    Ok(())
+}
+
+// What is left to print of an operation behind its name.
+fn pending_of<'d>(op: &Op<'d>) -> Pending<'d>
+    ensures operands { result.operands.now ≡ op.now.operands.now }
+    ensures types { map type_of result.types.now ≡ types_in op.now.types.now }
+    ensures said { extra_of result.said ≡ extra_shown (kind_of op.now.kind.now) (types_in op.now.types.now) }
+{
+    Pending {
+        operands: op.operands,
+        types: &op.types.types,
+        said: said_of(op.kind, &op.types.types),
+    }
+}
+
+/// Adds a line of a body, of an operation in front of the names of whose results
+/// so many others stand.
+#[tactic(auto, unfolding(crate::specs::Operations::operation_line, crate::specs::Operations::operation_bytes, crate::specs::Operations::shaped_bytes))]
+pub fn push_operation(
+    out: &mut Text,
+    names: &ValueNames,
+    op: &Op<'_>,
+    first: u32,
+) -> Result<(), AllocError>
+    ensures { OnOk result (out.new ≡ out.old ++ operation_line (operation_shown (read_parts op.now) (map (value_held names.now) op.now.operands.now) (drop first (names_held names.now)))) }
+{
+    let name = listed_of(op.kind);
+    let pending = pending_of(op);
+    let shape = shape_shown(name, names, &pending);
+    out.push_bytes(b"    ")?;
+    push_results(out, names, op, first)?;
+    out.push_bytes(name.name())?;
+    push_bin(out, op.bin)?;
+    push_form(out, names, shape, pending, op, first)?;
+    out.push_bytes(b"\n")?;
+    Ok(())
+}
+
+// Adds ` bin`, or nothing.
+#[tactic(auto, unfolding(crate::specs::Operations::bin_bytes))]
+fn push_bin(out: &mut Text, bin: bool) -> Result<(), AllocError>
+    ensures { OnOk result (out.new ≡ out.old ++ bin_bytes bin) }
+{
+    if bin {
+        out.push_bytes(b" bin")?;
+    }
+    Ok(())
+}
+
+/// Adds the lines of a body, in front of the names of whose results so many others stand.
+pub fn push_operations(
+    out: &mut Text,
+    names: &ValueNames,
+    start: u32,
+    body: &Body,
+) -> Result<(), AllocError>
+    ensures { OnOk result (out.new ≡ out.old ++ operation_lines (stored_shown (value_held names.now) (drop start (names_held names.now)) (ops_of body.now))) }
+{
+    let mut first = start;
+    for id in body.ops() {
+        let op = body.op(id);
+        push_operation(out, names, &op, first)?;
+        first = moved(first, name_count(&op));
+    }
+    Ok(())
+}
+
+/// A number and so many more, at most the greatest one.
+pub fn moved(first: u32, count: usize) -> u32
+    ensures { result ≡ min (first + count) u32.MAX }
+{
+    match u32::try_from(count) {
+        Ok(count) => first.saturating_add(count),
+        Err(_) => u32::MAX,
+    }
+}

@@ -1,0 +1,391 @@
+//! The pieces of an operation, as they are printed.
+ghost use Rattle.std.specs.Prelude.{◌≡◌, ◌++◌, map, take, drop, codes, IfOk, OnOk};
+ghost use Rattle.hw_model.specs.TypeViews.{type_of};
+ghost use Rattle.hw_model.specs.KindViews.{predicate_of, instance_of};
+ghost use Rattle.mlir_printer.specs.Commas.{commas};
+ghost use Rattle.mlir_printer.specs.Strings.{name_bytes};
+ghost use Rattle.mlir_printer.specs.Types.{type_bytes};
+ghost use Rattle.mlir_printer.specs.Operations.{left_behind_all};
+ghost use Rattle.mlir_printer.specs.Pieces.{mark_bytes, word_bytes, predicate_bytes, value_name_bytes, pack_number_bytes, operand_bytes, first_operand, first_type_bytes, reset_said, input_bytes, output_bytes, inputs_joined, outputs_joined, inner_bytes, instance_head, connections_bytes, instance_bytes, piece_bytes, pieces_bytes, said_bytes};
+ghost use Rattle.mlir_printer.specs.Views.{value_held, pending_of, extra_of};
+
+use crate::commas::push_comma;
+use crate::literals::push_literals;
+use crate::numbers::{is_one, push_count, push_integer, truth_text};
+use crate::said::{Pending, Said};
+use crate::strings::{push_name, push_string, push_symbol};
+use crate::types::{push_type, push_types};
+use crate::value_names::ValueNames;
+use hw_model::kinds::{Instance, Predicate};
+use hw_model::types::Ty;
+use io_edge::byte_text::Text;
+use ir_store::operation::Value;
+use mlir_lexer::token::TokenKind;
+use mlir_reader::pieces::{Keyword, Piece};
+use std::alloc::AllocError;
+
+// A mark with the blanks round it.
+#[tactic(auto, unfolding(crate::specs::Pieces::mark_bytes))]
+fn mark_text(mark: TokenKind) -> &'static [u8]
+    ensures { result.now ≡ mark_bytes mark }
+{
+    match mark {
+        TokenKind::Arrow => b" -> ",
+        TokenKind::LeftParenthesis => b"(",
+        TokenKind::RightParenthesis => b")",
+        TokenKind::LeftBrace => b"{",
+        TokenKind::RightBrace => b"}",
+        TokenKind::LeftBracket => b"[",
+        TokenKind::RightBracket => b"]",
+        TokenKind::Less => b"<",
+        TokenKind::Greater => b">",
+        TokenKind::Colon => b" : ",
+        TokenKind::Comma => b", ",
+        TokenKind::Equals => b" = ",
+        TokenKind::Minus => b"-",
+        _ => b"",
+    }
+}
+
+// A word with the blanks round it.
+#[tactic(auto, unfolding(crate::specs::Pieces::word_bytes))]
+fn word_text(word: Keyword) -> &'static [u8]
+    ensures { result.now ≡ word_bytes word }
+{
+    match word {
+        Keyword::From => b" from ",
+        Keyword::Clock => b" clock ",
+    }
+}
+
+// The name of a predicate.
+#[tactic(auto, unfolding(crate::specs::Pieces::predicate_bytes))]
+fn predicate_text(predicate: Predicate) -> &'static [u8]
+    ensures { result.now ≡ predicate_bytes (predicate_of predicate) }
+{
+    match predicate {
+        Predicate::Eq => b"eq",
+        Predicate::Ne => b"ne",
+        Predicate::Slt => b"slt",
+        Predicate::Sle => b"sle",
+        Predicate::Sgt => b"sgt",
+        Predicate::Sge => b"sge",
+        Predicate::Ult => b"ult",
+        Predicate::Ule => b"ule",
+        Predicate::Ugt => b"ugt",
+        Predicate::Uge => b"uge",
+        Predicate::Ceq => b"ceq",
+        Predicate::Cne => b"cne",
+        Predicate::Weq => b"weq",
+        Predicate::Wne => b"wne",
+    }
+}
+
+/// Adds `%v`.
+#[tactic(auto, unfolding(crate::specs::Pieces::value_name_bytes))]
+pub fn push_value_name(out: &mut Text, name: &[u8]) -> Result<(), AllocError>
+    ensures { OnOk result (out.new ≡ out.old ++ value_name_bytes name.now) }
+{
+    out.push_bytes(b"%")?;
+    out.push_bytes(name)?;
+    Ok(())
+}
+
+// Adds `#i`, or nothing.
+#[tactic(auto, unfolding(crate::specs::Pieces::pack_number_bytes))]
+fn push_pack_number(out: &mut Text, number: Option<u32>) -> Result<(), AllocError>
+    ensures { OnOk result (out.new ≡ out.old ++ pack_number_bytes number) }
+{
+    if let Some(number) = number {
+        out.push_bytes(b"#")?;
+        push_count(out, number)?;
+    }
+    Ok(())
+}
+
+// Adds an operand.
+#[tactic(auto, unfolding(crate::specs::Pieces::operand_bytes))]
+fn push_operand(out: &mut Text, names: &ValueNames, value: Value) -> Result<(), AllocError>
+    ensures { OnOk result (out.new ≡ out.old ++ operand_bytes (value_held names.now value)) }
+{
+    let operand = names.value(value);
+    push_value_name(out, operand.name)?;
+    push_pack_number(out, operand.number)?;
+    Ok(())
+}
+
+// Adds the first of some operands.
+#[tactic(auto, unfolding(crate::specs::Views::value_held))]
+fn push_first_operand(
+    out: &mut Text,
+    names: &ValueNames,
+    operands: &[Value],
+) -> Result<(), AllocError>
+    ensures { OnOk result (out.new ≡ out.old ++ operand_bytes (first_operand (map (value_held names.now) operands.now))) }
+{
+    match operands.first() {
+        Some(value) => push_operand(out, names, *value)?,
+        None => push_operand(out, names, Value::Undefined)?,
+    }
+    Ok(())
+}
+
+// Adds operands with commas between them.
+fn push_operands(out: &mut Text, names: &ValueNames, operands: &[Value]) -> Result<(), AllocError>
+    ensures { OnOk result (out.new ≡ out.old ++ commas operand_bytes (map (value_held names.now) operands.now)) }
+{
+    for (i, value) in operands.iter().enumerate() {
+        push_comma(out, i)?;
+        push_operand(out, names, *value)?;
+    }
+    Ok(())
+}
+
+// Adds a word and two operands, where something resets.
+fn push_reset(
+    out: &mut Text,
+    names: &ValueNames,
+    word: &[u8],
+    pending: &Pending<'_>,
+) -> Result<(), AllocError>
+    ensures { OnOk result (out.new ≡ out.old ++ reset_said word.now (extra_of pending.now.said) (map (value_held names.now) pending.now.operands.now)) }
+{
+    if let Said::WithReset = pending.said {
+        out.push_bytes(word)?;
+        push_first_operand(out, names, pending.operands)?;
+        out.push_bytes(b", ")?;
+        push_first_operand(out, names, rest_of(pending.operands, 1))?;
+    }
+    Ok(())
+}
+
+// The items behind so many.
+fn rest_of<T>(items: &[T], count: usize) -> &[T]
+    ensures { result.now ≡ drop count items.now }
+{
+    &items[count.min(items.len())..]
+}
+
+// Adds `p: %v: T`.
+#[tactic(auto, unfolding(crate::specs::Pieces::input_bytes))]
+fn push_input(
+    out: &mut Text,
+    names: &ValueNames,
+    port: &[u8],
+    value: Value,
+    ty: &Ty,
+) -> Result<(), AllocError>
+    ensures { OnOk result (out.new ≡ out.old ++ input_bytes (record { port = port.now; operand = value_held names.now value; type = type_of ty.now })) }
+{
+    push_name(out, port)?;
+    out.push_bytes(b": ")?;
+    push_operand(out, names, value)?;
+    out.push_bytes(b": ")?;
+    push_type(out, ty)?;
+    Ok(())
+}
+
+// Adds the inputs of an instance with commas between them.
+fn push_inputs(
+    out: &mut Text,
+    names: &ValueNames,
+    ports: &[Text],
+    operands: &[Value],
+    types: &[Ty],
+) -> Result<(), AllocError>
+    ensures { OnOk result (out.new ≡ out.old ++ commas input_bytes (inputs_joined ports.now (map (value_held names.now) operands.now) (map type_of types.now))) }
+{
+    let count = ports.len().min(operands.len()).min(types.len());
+    for i in 0..count {
+        push_comma(out, i)?;
+        push_input(out, names, ports[i].as_bytes(), operands[i], &types[i])?;
+    }
+    Ok(())
+}
+
+// Adds `q: T`.
+#[tactic(auto, unfolding(crate::specs::Pieces::output_bytes))]
+fn push_output(out: &mut Text, port: &[u8], ty: &Ty) -> Result<(), AllocError>
+    ensures { OnOk result (out.new ≡ out.old ++ output_bytes (record { name = port.now; type = type_of ty.now })) }
+{
+    push_name(out, port)?;
+    out.push_bytes(b": ")?;
+    push_type(out, ty)?;
+    Ok(())
+}
+
+// Adds the outputs of an instance with commas between them.
+fn push_outputs(out: &mut Text, ports: &[Text], types: &[Ty]) -> Result<(), AllocError>
+    ensures { OnOk result (out.new ≡ out.old ++ commas output_bytes (outputs_joined ports.now (map type_of types.now))) }
+{
+    let count = ports.len().min(types.len());
+    for i in 0..count {
+        push_comma(out, i)?;
+        push_output(out, ports[i].as_bytes(), &types[i])?;
+    }
+    Ok(())
+}
+
+// Adds an instance's inner symbol, where it has one.
+#[tactic(auto, unfolding(crate::specs::Pieces::inner_bytes))]
+fn push_inner(out: &mut Text, symbol: &Option<Text>) -> Result<(), AllocError>
+    ensures { OnOk result (out.new ≡ out.old ++ inner_bytes symbol.now) }
+{
+    if let Some(symbol) = symbol {
+        out.push_bytes(b"sym ")?;
+        push_symbol(out, symbol.as_bytes())?;
+        out.push_bytes(b" ")?;
+    }
+    Ok(())
+}
+
+// Adds what an instance and its module are called.
+#[tactic(auto, unfolding(crate::specs::Pieces::instance_head))]
+fn push_instance_head(out: &mut Text, instance: &Instance) -> Result<(), AllocError>
+    ensures { OnOk result (out.new ≡ out.old ++ instance_head (instance_of instance.now)) }
+{
+    push_string(out, instance.name.as_bytes())?;
+    out.push_bytes(b" ")?;
+    push_inner(out, &instance.inner_symbol)?;
+    push_symbol(out, instance.symbol.as_bytes())?;
+    Ok(())
+}
+
+// Adds the inputs and the outputs of an instance.
+#[tactic(auto, unfolding(crate::specs::Pieces::connections_bytes))]
+fn push_connections(
+    out: &mut Text,
+    names: &ValueNames,
+    inputs: &[Text],
+    outputs: &[Text],
+    operands: &[Value],
+    types: &[Ty],
+) -> Result<(), AllocError>
+    ensures { OnOk result (out.new ≡ out.old ++ connections_bytes inputs.now outputs.now (map (value_held names.now) operands.now) (map type_of types.now)) }
+{
+    let behind = rest_of(types, inputs.len());
+    out.push_bytes(b"(")?;
+    push_inputs(out, names, inputs, operands, types)?;
+    out.push_bytes(b") -> (")?;
+    push_outputs(out, outputs, behind)?;
+    out.push_bytes(b")")?;
+    Ok(())
+}
+
+// Adds an instance.
+#[tactic(auto, unfolding(crate::specs::Pieces::instance_bytes))]
+fn push_instance(
+    out: &mut Text,
+    names: &ValueNames,
+    instance: &Instance,
+    operands: &[Value],
+    types: &[Ty],
+) -> Result<(), AllocError>
+    ensures { OnOk result (out.new ≡ out.old ++ instance_bytes (instance_of instance.now) (map (value_held names.now) operands.now) (map type_of types.now)) }
+{
+    push_instance_head(out, instance)?;
+    push_connections(
+        out,
+        names,
+        &instance.inputs,
+        &instance.outputs,
+        operands,
+        types,
+    )?;
+    Ok(())
+}
+
+// Adds what is said besides operands and types.
+#[tactic(auto, unfolding(crate::specs::Pieces::said_bytes))]
+fn push_said(
+    out: &mut Text,
+    names: &ValueNames,
+    piece: Piece,
+    pending: &Pending<'_>,
+) -> Result<(), AllocError>
+    ensures { OnOk result (out.new ≡ out.old ++ said_bytes piece (pending_of names.now pending.now)) }
+{
+    match (piece, pending.said) {
+        (Piece::Predicate, Said::Predicate(predicate)) => {
+            out.push_bytes(predicate_text(predicate))?;
+        }
+        (Piece::Number, Said::Position(position)) => push_count(out, position)?,
+        (Piece::Truth, Said::Number(value)) => out.push_bytes(truth_text(is_one(value)))?,
+        (Piece::Integer, Said::Number(value)) => push_integer(out, value)?,
+        (Piece::Literals, Said::Literals(list)) => push_literals(out, &list.literals)?,
+        (Piece::Field, Said::FieldName(name)) => push_string(out, name)?,
+        (Piece::Instance, Said::Child(instance)) => {
+            push_instance(out, names, instance, pending.operands, pending.types)?;
+        }
+        _ => {}
+    }
+    Ok(())
+}
+
+// Adds a piece, of what is left of what was gathered.
+#[tactic(auto, unfolding(crate::specs::Pieces::piece_bytes, crate::specs::Pieces::said_bytes))]
+fn push_piece(
+    out: &mut Text,
+    names: &ValueNames,
+    piece: Piece,
+    pending: &Pending<'_>,
+) -> Result<(), AllocError>
+    ensures { OnOk result (out.new ≡ out.old ++ piece_bytes piece (pending_of names.now pending.now)) }
+{
+    match piece {
+        Piece::Mark(mark) => out.push_bytes(mark_text(mark))?,
+        Piece::Word(word) => out.push_bytes(word_text(word))?,
+        Piece::Operand => push_first_operand(out, names, pending.operands)?,
+        Piece::Operands => push_operands(out, names, pending.operands)?,
+        Piece::Group => {
+            out.push_bytes(b"(")?;
+            push_operands(out, names, pending.operands)?;
+            out.push_bytes(b")")?;
+        }
+        Piece::Predicate => {
+            push_said(out, names, piece, pending)?;
+            out.push_bytes(b" ")?;
+        }
+        Piece::Literals => {
+            out.push_bytes(b"[")?;
+            push_said(out, names, piece, pending)?;
+            out.push_bytes(b"]")?;
+        }
+        Piece::Reset => push_reset(out, names, b" reset ", pending)?,
+        Piece::SyncReset => push_reset(out, names, b" reset sync ", pending)?,
+        Piece::Type => push_first_type(out, pending.types)?,
+        Piece::Types => push_types(out, pending.types)?,
+        Piece::Number | Piece::Truth | Piece::Integer | Piece::Field | Piece::Instance => {
+            push_said(out, names, piece, pending)?;
+        }
+    }
+    Ok(())
+}
+
+// Adds the first of some types, where there is one.
+fn push_first_type(out: &mut Text, types: &[Ty]) -> Result<(), AllocError>
+    ensures { OnOk result (out.new ≡ out.old ++ first_type_bytes (map type_of types.now)) }
+{
+    if let Some(ty) = types.first() {
+        push_type(out, ty)?;
+    }
+    Ok(())
+}
+
+/// Adds pieces, and gives what is left behind them.
+pub fn push_pieces<'d>(
+    out: &mut Text,
+    names: &ValueNames,
+    pieces: &[Piece],
+    pending: Pending<'d>,
+) -> Result<Pending<'d>, AllocError>
+    ensures bytes { OnOk result (out.new ≡ out.old ++ pieces_bytes pieces.now (pending_of names.now pending.entry)) }
+    ensures left { IfOk result (λ left. pending_of names.now left ≡ left_behind_all pieces.now (pending_of names.now pending.entry)) }
+{
+    let mut left = pending;
+    for piece in pieces {
+        push_piece(out, names, *piece, &left)?;
+        left = left.behind(*piece);
+    }
+    Ok(left)
+}

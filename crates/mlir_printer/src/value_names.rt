@@ -1,0 +1,400 @@
+//! The names of a module's values.
+ghost use Rattle.std.specs.Prelude.{◌≡◌, ℕ, ◌+◌, ◌<◌, ◌≤◌, ◌^◌, length, map, Some, slice_get};
+ghost use Rattle.std.specs.Prelude.{cond, nat_eq, OnOk};
+ghost use Rattle.fresh_names.specs.TakenViews.{taken_names};
+ghost use Rattle.mlir_printer.specs.Places.{place_for};
+
+use crate::strings::{spelled, stands};
+use crate::wanted::{constant_name, instance_name, is_pack, name_count};
+use fresh_names::taken_names::{NameId, TakenNames};
+use hw_model::kinds::{Instance, Integer, OpKind};
+use hw_model::types::Ty;
+use ir_store::body::{Body, Op};
+use ir_store::design::{Module, Port};
+use ir_store::operation::{OpId, Value};
+use itoa::Buffer;
+use std::alloc::{AllocError, Global};
+
+/// Where the names of an operation's results stand.
+#[derive(Clone, Copy, Debug)]
+pub struct Place {
+    /// How many names stand in front.
+    pub first: u32,
+    /// How many results are named.
+    pub count: usize,
+    /// Whether one name stands for all of them.
+    pub pack: bool,
+}
+
+/// A value as it is printed.
+#[derive(Clone, Copy, Debug)]
+pub struct ValueText<'n> {
+    /// Its name, without the sign.
+    pub name: &'n [u8],
+    /// Its number within a pack.
+    pub number: Option<u32>,
+}
+
+/// The names of the values of a module: of its input ports, then of its results in the order of
+/// the body. Contracts see them by `names_held` and `value_held`.
+#[derive(Drop)]
+pub struct ValueNames {
+    // the names that are taken
+    names: TakenNames,
+    // the same, each by its number
+    ids: Vec<NameId>,
+    // how many values wanted no name
+    numbered: u32,
+    // of each port the number of its name, of an output none
+    ports: Vec<Option<u32>>,
+    // of each operation, by its number, where its names stand
+    places: Vec<Place>,
+    ghost counted: { length ids.items ≡ length (taken_names names) },
+    ghost in_order: { (i : ℕ) → i < length ids.items → slice_get (map (λ (id : _). id.index) ids.items) i ≡ Some i },
+    ghost few: { length ids.items < 2 ^ 32 },
+    ghost numbers: { numbered ≤ length ids.items },
+}
+
+impl ValueNames {
+    ghost use Rattle.std.specs.Prelude.{◌≡◌, ℕ, ◌+◌, ◌++◌, ◌∷◌, [], Some, None, length, map, drop, slice_get, IfOk, OnOk};
+    ghost use Rattle.hw_model.specs.TypeViews.{type_of};
+    ghost use Rattle.hw_model.specs.KindViews.{integer_of, instance_of};
+    ghost use Rattle.fresh_names.specs.Fresh.{free_name};
+    ghost use Rattle.ir_store.specs.declared.operation.Value.{Value};
+    ghost use Rattle.ir_store.specs.Bodies.{ids_of, ops_of, read_parts};
+    ghost use Rattle.ir_store.specs.Designs.{port_of, ports_in};
+    ghost use Rattle.ir_store.specs.Numbered.{position_of, ref_by};
+    ghost use Rattle.mlir_printer.specs.Naming.{constant_wish, own_wish, instance_wishes, wishes, body_wishes, port_wish, port_wishes, input_count, names_given, first_name, value_named};
+    ghost use Rattle.mlir_printer.specs.Chosen.{with_wish, with_wishes};
+    ghost use Rattle.mlir_printer.specs.Places.{HavePlaces, place_at, port_places};
+    ghost use Rattle.mlir_printer.specs.Shown.{parts_in_body};
+    ghost use Rattle.mlir_printer.specs.Views.{names_held, chosen, value_held, value_of, placed, port_placed, place_value};
+
+    /// The names of the values of a module.
+    pub fn of(alloc: Global, one: &Module) -> Result<ValueNames, AllocError>
+        ensures names { IfOk result (λ v. names_held v ≡ names_given (ports_in one.now.ports) (parts_in_body (ops_of one.now.body))) }
+        ensures values { IfOk result (λ v. (x : Value) → value_held v x ≡ value_named (names_held v) (ports_in one.now.ports) (parts_in_body (ops_of one.now.body)) (ref_by (position_of (ids_of one.now.body)) x)) }
+    {
+        let mut names = ValueNames::empty(alloc);
+        names.add_ports(alloc, &one.ports.ports)?;
+        names.add_operations(alloc, &one.body)?;
+        Ok(names)
+    }
+
+    // No names.
+    fn empty(alloc: Global) -> ValueNames
+        ensures names { names_held result ≡ [] }
+        ensures numbered { result.numbered ≡ 0 }
+        ensures ports { result.ports.items ≡ [] }
+        ensures places { result.places.items ≡ [] }
+    {
+        ValueNames {
+            names: TakenNames::new(alloc),
+            ids: Vec::new(alloc),
+            numbered: 0,
+            ports: Vec::new(alloc),
+            places: Vec::new(alloc),
+        }
+    }
+
+    // Takes the free name of a wanted one, and gives its number.
+    fn take(&mut self, wanted: &[u8]) -> Result<u32, AllocError>
+        ensures names { OnOk result (names_held self.new ≡ names_held self.old ++ free_name (names_held self.old) wanted.now ∷ []) }
+        ensures number { IfOk result (λ n. n ≡ length (names_held self.old)) }
+        ensures more { OnOk result (length self.new.ids.items ≡ length self.old.ids.items + 1) }
+        ensures numbered { self.new.numbered ≡ self.old.numbered }
+        ensures ports { self.new.ports ≡ self.old.ports }
+        ensures places { self.new.places ≡ self.old.places }
+    {
+        let number = self.ids.len() as u32;
+        if number == u32::MAX {
+            return Err(AllocError);
+        }
+        self.ids.reserve(1)?;
+        let id = self.names.take(wanted)?;
+        self.ids.push_reserved(id);
+        Ok(number)
+    }
+
+    // Takes the name of a value that wants one; where it may not stand, as it is spelled then.
+    #[tactic(auto, unfolding(crate::specs::Strings::standing))]
+    fn take_name(&mut self, alloc: Global, wanted: &[u8]) -> Result<u32, AllocError>
+        ensures chosen { OnOk result (chosen self.new ≡ with_wish (chosen self.old) (Some wanted.now)) }
+        ensures number { IfOk result (λ n. n ≡ length (names_held self.old)) }
+        ensures ports { self.new.ports ≡ self.old.ports }
+        ensures places { self.new.places ≡ self.old.places }
+    {
+        if stands(wanted) {
+            return self.take(wanted);
+        }
+        let name = spelled(alloc, wanted)?;
+        self.take(name.as_bytes())
+    }
+
+    // Takes the next number.
+    fn take_number(&mut self) -> Result<u32, AllocError>
+        ensures chosen { OnOk result (chosen self.new ≡ with_wish (chosen self.old) None) }
+        ensures ports { self.new.ports ≡ self.old.ports }
+        ensures places { self.new.places ≡ self.old.places }
+    {
+        let mut buffer = Buffer::new();
+        let id = self.take(buffer.format(self.numbered).as_bytes())?;
+        self.numbered += 1;
+        Ok(id)
+    }
+
+    // Takes the own name of a register or a wire.
+    fn take_own(&mut self, alloc: Global, own: &[u8]) -> Result<u32, AllocError>
+        ensures chosen { OnOk result (chosen self.new ≡ with_wish (chosen self.old) (own_wish own.now)) }
+        ensures ports { self.new.ports ≡ self.old.ports }
+        ensures places { self.new.places ≡ self.old.places }
+    {
+        if own.is_empty() {
+            self.take_number()
+        } else {
+            self.take_name(alloc, own)
+        }
+    }
+
+    // Takes the names of ports.
+    fn add_ports(&mut self, alloc: Global, ports: &[Port]) -> Result<(), AllocError>
+        ensures chosen { OnOk result (chosen self.new ≡ with_wishes (chosen self.old) (port_wishes (map port_of ports.now))) }
+        ensures ports { OnOk result (self.new.ports.items ≡ self.old.ports.items ++ port_places (length (names_held self.old)) (map port_of ports.now)) }
+        ensures places { OnOk result (self.new.places ≡ self.old.places) }
+    {
+        for port in ports {
+            let name = self.add_port(alloc, port)?;
+            self.ports.push(name)?;
+        }
+        Ok(())
+    }
+
+    // Takes the name of a port, where it is an input.
+    fn add_port(&mut self, alloc: Global, port: &Port) -> Result<Option<u32>, AllocError>
+        ensures chosen { OnOk result (chosen self.new ≡ with_wishes (chosen self.old) (port_wish (port_of port.now))) }
+        ensures number { IfOk result (λ n. n ∷ [] ≡ port_places (length (names_held self.old)) (port_of port.now ∷ [])) }
+        ensures ports { self.new.ports ≡ self.old.ports }
+        ensures places { self.new.places ≡ self.old.places }
+    {
+        if port.out {
+            return Ok(None);
+        }
+        Ok(Some(self.take_name(alloc, port.name.as_bytes())?))
+    }
+
+    // Takes the names of the results of a body.
+    fn add_operations(&mut self, alloc: Global, body: &Body) -> Result<(), AllocError>
+        requires { self.old.places.items ≡ [] }
+        ensures chosen { OnOk result (chosen self.new ≡ with_wishes (chosen self.old) (body_wishes (parts_in_body (ops_of body.now)))) }
+        ensures ports { OnOk result (self.new.ports ≡ self.old.ports) }
+        ensures places { OnOk result (HavePlaces (length (names_held self.old)) (ops_of body.now) self.new.places.items) }
+    {
+        for id in body.ops() {
+            let op = body.op(id);
+            let place = self.add_operation(alloc, &op)?;
+            put_place(&mut self.places, id.number() as usize, place)?;
+        }
+        Ok(())
+    }
+
+    // Takes the names of an operation's results, and gives where they stand.
+    fn add_operation(&mut self, alloc: Global, op: &Op<'_>) -> Result<Place, AllocError>
+        ensures chosen { OnOk result (chosen self.new ≡ with_wishes (chosen self.old) (wishes (read_parts op.now))) }
+        ensures place { IfOk result (λ place. place ≡ place_at (length (names_held self.old)) (read_parts op.now)) }
+        ensures ports { self.new.ports ≡ self.old.ports }
+        ensures places { self.new.places ≡ self.old.places }
+    {
+        let first = self.ids.len() as u32;
+        self.take_results(alloc, op)?;
+        let results = op.results.results.len();
+        let pack = is_pack(op.kind, results);
+        let count = if pack { results } else { name_count(op) };
+        Ok(Place { first, count, pack })
+    }
+
+    // Takes the names of an operation's results.
+    #[tactic(auto, unfolding(crate::specs::Naming::wishes_of))]
+    fn take_results(&mut self, alloc: Global, op: &Op<'_>) -> Result<(), AllocError>
+        ensures chosen { OnOk result (chosen self.new ≡ with_wishes (chosen self.old) (wishes (read_parts op.now))) }
+        ensures ports { self.new.ports ≡ self.old.ports }
+        ensures places { self.new.places ≡ self.old.places }
+    {
+        match op.kind {
+            OpKind::Constant(value) => {
+                self.take_constant(alloc, &op.types.types, *value)?;
+            }
+            OpKind::StructExplode => {
+                if op.results.results.len() > 0 {
+                    self.take_number()?;
+                }
+            }
+            OpKind::Wire | OpKind::CompReg(_) | OpKind::CompRegCe(_) | OpKind::FirReg(_) => {
+                self.take_own(alloc, op.name.as_bytes())?;
+            }
+            OpKind::Instance(instance) => self.take_outputs(alloc, instance)?,
+            OpKind::Output => {}
+            _ => {
+                self.take_number()?;
+            }
+        }
+        Ok(())
+    }
+
+    // Takes the name of a constant of the first of some types.
+    fn take_constant(
+        &mut self,
+        alloc: Global,
+        types: &[Ty],
+        value: Integer,
+    ) -> Result<u32, AllocError>
+        ensures chosen { OnOk result (chosen self.new ≡ with_wish (chosen self.old) (constant_wish (map type_of types.now) (integer_of value))) }
+        ensures ports { self.new.ports ≡ self.old.ports }
+        ensures places { self.new.places ≡ self.old.places }
+    {
+        match types.first() {
+            Some(ty) => self.take_typed(alloc, ty, value),
+            None => self.take_number(),
+        }
+    }
+
+    // Takes the name of a constant of a type.
+    fn take_typed(&mut self, alloc: Global, ty: &Ty, value: Integer) -> Result<u32, AllocError>
+        ensures chosen { OnOk result (chosen self.new ≡ with_wish (chosen self.old) (constant_wish (type_of ty.now ∷ []) (integer_of value))) }
+        ensures ports { self.new.ports ≡ self.old.ports }
+        ensures places { self.new.places ≡ self.old.places }
+    {
+        match ty {
+            Ty::Int(width) => {
+                let name = constant_name(alloc, *width, value)?;
+                self.take_name(alloc, name.as_bytes())
+            }
+            Ty::Clock | Ty::Array(..) | Ty::Struct(_) => self.take_number(),
+        }
+    }
+
+    // Takes the names of an instance's results.
+    fn take_outputs(&mut self, alloc: Global, instance: &Instance) -> Result<(), AllocError>
+        ensures chosen { OnOk result (chosen self.new ≡ with_wishes (chosen self.old) (instance_wishes (instance_of instance.now).name (instance_of instance.now).outputs)) }
+        ensures ports { self.new.ports ≡ self.old.ports }
+        ensures places { self.new.places ≡ self.old.places }
+    {
+        for port in &instance.outputs {
+            let name = instance_name(alloc, instance.name.as_bytes(), port.as_bytes())?;
+            self.take_name(alloc, name.as_bytes())?;
+        }
+        Ok(())
+    }
+
+    /// The name behind so many others; the empty one where there is none.
+    pub fn nth(&self, number: usize) -> &[u8]
+        ensures { result.now ≡ first_name (drop number (names_held self.now)) }
+    {
+        if number >= self.ids.len() {
+            return &[];
+        }
+        let id = self.ids[number];
+        self.names.name(id)
+    }
+
+    /// The name behind so many others and so many more; the empty one where there is none.
+    pub fn behind(&self, first: u32, number: usize) -> &[u8]
+        ensures { result.now ≡ first_name (drop (first + number) (names_held self.now)) }
+    {
+        match (first as usize).checked_add(number) {
+            Some(number) => self.nth(number),
+            None => &[],
+        }
+    }
+
+    // Where the names of the results of an operation of this id stand.
+    fn place(&self, id: OpId) -> Option<Place>
+        ensures { result ≡ slice_get self.now.places.items id.index }
+    {
+        self.places.get(id.number() as usize).copied()
+    }
+
+    /// A value as it is printed; what nothing defines has the empty name.
+    #[tactic(auto, unfolding(crate::specs::Views::value_held))]
+    pub fn value(&self, value: Value) -> ValueText<'_>
+        ensures { value_of result ≡ value_held self.now value }
+    {
+        match value {
+            Value::Port(port) => self.port(port),
+            Value::Result(id, number) => self.result(id, number),
+            Value::Undefined => ValueText {
+                name: &[],
+                number: None,
+            },
+        }
+    }
+
+    // The value of a port.
+    fn port(&self, port: u32) -> ValueText<'_>
+        ensures { value_of result ≡ port_placed (names_held self.now) (slice_get self.now.ports.items port) }
+    {
+        match self.ports.get(port as usize) {
+            Some(Some(number)) => ValueText {
+                name: self.nth(*number as usize),
+                number: None,
+            },
+            Some(None) | None => ValueText {
+                name: &[],
+                number: None,
+            },
+        }
+    }
+
+    // A result of an operation.
+    fn result(&self, id: OpId, number: u32) -> ValueText<'_>
+        ensures { value_of result ≡ placed (names_held self.now) (slice_get self.now.places.items id.index) number }
+    {
+        match self.place(id) {
+            Some(place) => self.placed(place, number),
+            None => ValueText {
+                name: &[],
+                number: None,
+            },
+        }
+    }
+
+    // A result of a place.
+    fn placed(&self, place: Place, number: u32) -> ValueText<'_>
+        ensures { value_of result ≡ place_value (names_held self.now) place number }
+    {
+        if (number as usize) >= place.count {
+            return ValueText {
+                name: &[],
+                number: None,
+            };
+        }
+        if place.pack {
+            return ValueText {
+                name: self.nth(place.first as usize),
+                number: Some(number),
+            };
+        }
+        ValueText {
+            name: self.nth(place.first as usize + number as usize),
+            number: None,
+        }
+    }
+}
+
+// Puts a place at a position, behind empty ones where there are fewer.
+fn put_place(places: &mut Vec<Place>, position: usize, place: Place) -> Result<(), AllocError>
+    ensures { OnOk result ((id : ℕ) → place_for places.new.items id ≡ cond (nat_eq position id) place (place_for places.old.items id)) }
+{
+    for _ in places.len()..position {
+        places.push(Place {
+            first: 0,
+            count: 0,
+            pack: false,
+        })?;
+    }
+    if position < places.len() {
+        places[position] = place;
+    } else {
+        places.push(place)?;
+    }
+    Ok(())
+}
