@@ -1,9 +1,13 @@
 //! The command line program: the system's files and streams for [`run_circt`].
 #![tactic(auto)]
 
-use circt_top::report::report;
+ghost use Rattle.std.specs.Prelude.{IfErr};
+ghost use Rattle.circt_top.specs.Runs.{IsStop};
+
+use circt_top::report::stopped;
 use circt_top::run::run_circt;
-use circt_top::status::{Status, UsageKind};
+use circt_top::status::Status;
+use command_line::usage::UsageKind;
 use io_edge::real_files::RealFiles;
 use io_edge::real_sink::RealSink;
 use std::env;
@@ -17,7 +21,7 @@ fn main(rt: HostRuntime) -> ExitCode {
     let words = match words(&rt) {
         Ok(words) => words,
         Err(status) => {
-            report(&mut err, &status);
+            let status = stopped(&mut err, status);
             return ExitCode::from(status.code());
         }
     };
@@ -35,7 +39,9 @@ fn main(rt: HostRuntime) -> ExitCode {
 }
 
 // The words after the program's name.
-fn words(rt: &HostRuntime) -> Result<Vec<String>, Status> {
+fn words(rt: &HostRuntime) -> Result<Vec<String>, Status>
+    ensures { IfErr result IsStop }
+{
     let mut words = match env::args(rt) {
         Ok(args) => args,
         Err(error) if error.kind() == ErrorKind::OutOfMemory => return Err(Status::NoMemory),

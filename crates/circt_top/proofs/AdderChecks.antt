@@ -1,18 +1,18 @@
 -- The tree of an adder keeps precedence and meets the checks.
-use Rattle.std.proofs.Common.{◌≡◌, ℕ, zero, suc, ◌+◌, ◌-◌, ◌^◌, ◌<◌, ◌≤◌, Bool, true, false, cond, not, ◌&&◌, ◌||◌, ◌==◌, List, [], ◌∷◌, ◌++◌, map, length, Option, Some, None, slice_get, decimal, refl, sym, ◌∙◌, ap, ap₂, subst, IsTrue, arith, append-nil}
+use Rattle.std.proofs.Common.{◌≡◌, ℕ, zero, suc, ◌+◌, ◌-◌, ◌^◌, ◌<◌, Bool, true, false, cond, not, ◌&&◌, ◌||◌, ◌==◌, List, [], ◌∷◌, ◌++◌, map, Some, None, slice_get, decimal, refl, sym, ◌∙◌, ap, ap₂, subst, IsTrue, arith, append-nil}
 use Rattle.hw_model.specs.Types.{Name}
 use Rattle.hw_model.specs.Design.{same_name}
 use Rattle.verilog_model.specs.Tokens.{is_name_start, is_digit, is_name_byte}
 use Rattle.verilog_model.specs.Numerals.{all_bytes}
 use Rattle.verilog_model.specs.Reserved.{reserved_words}
-use Rattle.verilog_model.specs.Tree.{VPort, VModule, Tree, Item}
-use Rattle.verilog_model.specs.Hierarchy.{first_some, when, or_else}
+use Rattle.verilog_model.specs.Tree.{Item}
+use Rattle.verilog_model.specs.Hierarchy.{when, or_else}
 use Rattle.verilog_model.specs.Grammar.{tree_fits}
-use Rattle.verilog_model.specs.Checks.{contains_name, are_distinct, starts_name, is_identifier, all_identifiers, Declared, Role, find_declared, can_read, can_assign, has_role, high_checks, items_check, item_checks, declared_ports, declared_items, declared_in, each_driven, ports_check, module_checks, tree_checks, names_check}
+use Rattle.verilog_model.specs.Checks.{contains_name, are_distinct, starts_name, is_identifier, all_identifiers, Declared, find_declared, can_read, can_assign, has_role, high_checks, items_check, declared_ports, declared_in, each_driven, ports_check, tree_checks, names_check}
 use Rattle.verilog_model.specs.Checks.Role.{input_port, output_port, net}
 use Rattle.verilog_model.proofs.Numerals.{and_intro, and_first, and_second, all_bytes_weaker, is_decimal-decimal}
 use Rattle.circt_top.specs.Form.{Adder, is_plain, all_plain}
-use Rattle.circt_top.specs.Printing.{high_of, vport, input_name, tree_of, vmodule_of, sum_wire}
+use Rattle.circt_top.specs.Printing.{high_of, input_name, tree_of, vmodule_of, sum_wire}
 use Rattle.circt_top.proofs.Names.{same_name-self, same_name-sym, not_true, contains_at}
 use Rattle.circt_top.proofs.AdderTree.{ports_of, ports}
 

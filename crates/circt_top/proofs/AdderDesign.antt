@@ -1,6 +1,6 @@
 -- An adder's design: where its nets come from, and its one settled map.
-use Rattle.std.proofs.Common.{◌≡◌, ℕ, zero, suc, ◌+◌, ◌*◌, ◌<◌, ◌≤◌, Bool, true, false, cond, List, [], ◌∷◌, ◌++◌, map, length, take, drop, Option, Some, None, slice_get, refl, sym, ◌∙◌, ap, ap₂, subst, arith, inl, inr, ◌⊎◌}
-use Rattle.wiring.specs.Wiring.{In, FallsAlong}
+use Rattle.std.proofs.Common.{◌≡◌, ℕ, zero, suc, ◌+◌, ◌*◌, ◌<◌, Bool, true, false, cond, List, [], ◌∷◌, ◌++◌, map, take, drop, Option, Some, None, slice_get, refl, sym, ◌∙◌, ap, ap₂, subst, arith, inl, inr}
+use Rattle.wiring.specs.Wiring.{In}
 use Rattle.wiring.specs.Options.{bind}
 use Rattle.wiring.proofs.Settled.{settles_along}
 use Rattle.bits_core.specs.Word.{Word, number, bits, first}
@@ -10,12 +10,12 @@ use Rattle.hw_model.specs.Kinds.Kind.{add}
 use Rattle.hw_model.specs.Design.{Ref, Port, Module, Design, find_module, callee}
 use Rattle.hw_model.specs.Design.Ref.{port, result, undefined}
 use Rattle.hw_model.specs.Flat.{Net, net, Source, Path, source, source_at, module_at, instances, input_of, input_source, input_width, result_source, joined_at, copy_of, state_of, registers_of, module_state, module_registers, registers, state}
-use Rattle.hw_model.specs.Flat.Source.{nowhere, input, held, copy, made}
+use Rattle.hw_model.specs.Flat.Source.{nowhere, input, made}
 use Rattle.hw_model.specs.Meaning.{needs, needs_of, value, value_of, Settled, machine, outputs, outputs_of, next_content}
 use Rattle.hw_model.specs.Value.{joined}
 use Rattle.hw_model.proofs.Machines.{AlwaysSettles}
 use Rattle.circt_top.specs.Form.{Adder, design_of, module_of, input_port, output_port}
-use Rattle.circt_top.proofs.Names.{same_name-self, some_at}
+use Rattle.circt_top.proofs.Names.{same_name-self}
 
 -- the nets of the sum and of a port
 abbrev pub sum_net : Net

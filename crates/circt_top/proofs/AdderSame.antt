@@ -1,19 +1,18 @@
 -- The tree of an adder behaves as its design.
-use Rattle.std.proofs.Common.{◌≡◌, ℕ, zero, suc, ◌+◌, ◌-◌, ◌*◌, ◌^◌, ◌<◌, ◌≤◌, max, Bool, true, false, cond, not, ◌&&◌, ◌||◌, List, [], ◌∷◌, ◌++◌, map, length, take, drop, replicate, Option, Some, None, slice_get, refl, sym, ◌∙◌, ap, ap₂, subst, IsTrue, arith}
+use Rattle.std.proofs.Common.{◌≡◌, ℕ, ◌+◌, ◌-◌, ◌*◌, ◌^◌, ◌<◌, ◌≤◌, max, Bool, true, false, cond, ◌&&◌, [], ◌∷◌, ◌++◌, length, drop, replicate, Some, slice_get, refl, sym, ◌∙◌, ap, ap₂, subst, IsTrue, arith}
 use Rattle.bits_core.specs.Word.{Word, number, bits, first, add as add_words, sign}
 use Rattle.bits_core.proofs.Numbers.{length-bits}
 use Rattle.bits_core.proofs.First.{length-first}
 use Rattle.hw_model.specs.Types.{Name}
 use Rattle.hw_model.specs.Design.{same_name}
-use Rattle.hw_model.specs.Design.Ref.{port, result, undefined}
-use Rattle.hw_model.specs.Flat.{Net, net}
+use Rattle.hw_model.specs.Flat.{Net}
 use Rattle.hw_model.specs.Meaning.{Settled, machine}
-use Rattle.hw_model.specs.Machine.{Machine, Same, SettlesOnce, Carries}
+use Rattle.hw_model.specs.Machine.{Same, SettlesOnce, Carries}
 use Rattle.hw_model.proofs.Machines.{AlwaysSettles, same_forth}
-use Rattle.verilog_model.specs.Tree.{VPort, VModule, Tree, Expr}
+use Rattle.verilog_model.specs.Tree.{Expr}
 use Rattle.verilog_model.specs.Tree.Operator.{plus}
 use Rattle.verilog_model.specs.Tree.Expr.{name, binary}
-use Rattle.verilog_model.specs.Expression.{assigned, extended, low_bits, value}
+use Rattle.verilog_model.specs.Expression.{assigned, extended, low_bits}
 use Rattle.verilog_model.specs.Checks.{contains_name, are_distinct}
 use Rattle.verilog_model.specs.Hierarchy.{VPath, VNet, vnet, Drive, drive, vmodule_at, width_in, width_at, range_width, input_width_before}
 use Rattle.verilog_model.specs.Hierarchy.Drive.{nothing, expression, input}

@@ -1,15 +1,14 @@
 -- An adder's tree: what drives its names, and how wide they are.
-use Rattle.std.proofs.Common.{◌≡◌, ℕ, zero, suc, ◌+◌, ◌-◌, ◌*◌, ◌^◌, ◌<◌, ◌≤◌, max, Bool, true, false, cond, not, ◌&&◌, ◌||◌, ◌==◌, List, [], ◌∷◌, ◌++◌, map, length, take, drop, replicate, Option, Some, None, slice_get, decimal, refl, sym, ◌∙◌, ap, ap₂, subst, IsTrue, arith, eqb-true}
+use Rattle.std.proofs.Common.{◌≡◌, ℕ, zero, suc, ◌+◌, ◌-◌, ◌*◌, ◌^◌, ◌<◌, ◌≤◌, Bool, true, false, cond, ◌||◌, ◌==◌, List, [], ◌∷◌, ◌++◌, map, Option, Some, None, slice_get, decimal, refl, sym, ◌∙◌, ap, ap₂, IsTrue, arith, eqb-true}
 use Rattle.wiring.specs.Options.{bind}
-use Rattle.bits_core.specs.Word.{Word, number, bits, first, add as add_words}
+use Rattle.bits_core.specs.Word.{Word}
 use Rattle.hw_model.specs.Types.{Name}
 use Rattle.hw_model.specs.Design.{same_name}
-use Rattle.verilog_model.specs.Tree.{VPort, VModule, Tree, Expr, Numeral, Item}
+use Rattle.verilog_model.specs.Tree.{VPort, VModule, Tree, Expr, Numeral}
 use Rattle.verilog_model.specs.Tree.Operator.{plus}
 use Rattle.verilog_model.specs.Tree.Expr.{name, binary}
-use Rattle.verilog_model.specs.Tree.Item.{wire, assign}
 use Rattle.verilog_model.specs.Checks.{contains_name, are_distinct}
-use Rattle.verilog_model.specs.Hierarchy.{VPath, VNet, vnet, VInstance, Drive, drive, drive_at, drive_in, vmodule_at, find_vmodule, find_port, find_instance, first_some, when, or_else, item_range, item_drive, range_in, range_width, width_of_range, width_in, width_at, input_width_before, vports_of, vstate_of, vmodule_state, vregisters_of, vmodule_registers, vregisters, vstate, inner_drive, drive_or_nothing}
+use Rattle.verilog_model.specs.Hierarchy.{VPath, VNet, vnet, VInstance, drive, drive_at, drive_in, vmodule_at, find_vmodule, find_port, find_instance, first_some, when, or_else, item_range, range_width, width_of_range, width_in, input_width_before, vports_of, vstate_of, vmodule_state, vregisters_of, vmodule_registers, vregisters, vstate, drive_or_nothing}
 use Rattle.verilog_model.specs.Hierarchy.Drive.{nothing, expression, input}
 use Rattle.verilog_model.specs.Meaning.{output_ports, tree_outputs, next_vcontent}
 use Rattle.hw_model.specs.Value.{joined}

@@ -12,3 +12,5 @@ pub mod ReadAgain
 pub mod Resolved
 pub mod Standing
 pub mod Translated
+mod Reported
+mod Ends

@@ -1,5 +1,5 @@
 -- Names in lists: where they stand, and what it means that none stands twice.
-use Rattle.std.proofs.Common.{◌≡◌, ℕ, zero, suc, ◌+◌, ◌<◌, Bool, true, false, cond, not, ◌&&◌, ◌||◌, List, [], ◌∷◌, ◌++◌, length, Option, Some, None, slice_get, refl, sym, ◌∙◌, ap, subst, IsTrue, arith}
+use Rattle.std.proofs.Common.{◌≡◌, ℕ, zero, suc, ◌<◌, Bool, true, false, cond, not, ◌||◌, List, [], ◌∷◌, ◌++◌, length, Some, slice_get, refl, sym, ◌∙◌, ap, IsTrue, arith}
 use Rattle.std.specs.Cmp.Lexicographic.{bytes_decides}
 use Rattle.hw_model.specs.Types.{Name}
 use Rattle.hw_model.specs.Design.{same_name}

@@ -1,11 +1,10 @@
 -- The printed text of an adder, read as Verilog, is its tree.
-use Rattle.std.proofs.Common.{◌≡◌, ℕ, ◌-◌, ◌^◌, ◌<◌, Bool, true, false, cond, ◌==◌, List, [], ◌∷◌, ◌++◌, map, Option, Some, None, codes, decimal, refl, sym, ◌∙◌, ap, append_assoc, IsTrue, arith}
+use Rattle.std.proofs.Common.{◌≡◌, ℕ, ◌-◌, ◌^◌, ◌<◌, Bool, true, false, cond, ◌==◌, List, [], ◌∷◌, ◌++◌, map, Some, None, codes, decimal, refl, sym, ◌∙◌, ap, append_assoc, IsTrue, arith}
 use Rattle.hw_model.specs.Types.{Name}
-use Rattle.verilog_model.specs.Tree.{VPort}
 use Rattle.verilog_model.specs.Tokens.{Piece, pieces, without_gaps, tokens, is_word_byte, is_digit}
-use Rattle.verilog_model.specs.Tokens.Piece.{word, operator, mark, gap}
-use Rattle.verilog_model.specs.Numerals.{all_bytes, is_nonempty, is_decimal}
-use Rattle.verilog_model.specs.Grammar.{range_spelled, port_spelled, ports_spelled, more_ports_spelled, spelled, comma, open_paren, close_paren, semicolon, open_bracket, close_bracket, colon}
+use Rattle.verilog_model.specs.Tokens.Piece.{word, operator, mark}
+use Rattle.verilog_model.specs.Numerals.{all_bytes, is_nonempty}
+use Rattle.verilog_model.specs.Grammar.{range_spelled, port_spelled, ports_spelled, more_ports_spelled, spelled, comma, open_paren, close_paren, semicolon}
 use Rattle.verilog_model.proofs.Numerals.{is_decimal-decimal, and_first, and_second}
 use Rattle.verilog_model.proofs.Reread.{begins_no_word, pieces_word, all_digits_are_word}
 use Rattle.circt_top.specs.Form.{Adder}

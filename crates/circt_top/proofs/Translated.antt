@@ -1,17 +1,16 @@
 -- What is printed for a text of the first form is its translation.
-use Rattle.std.proofs.Common.{◌≡◌, ℕ, zero, suc, ◌+◌, ◌-◌, ◌^◌, ◌<◌, ◌≤◌, Bool, true, false, cond, not, ◌&&◌, ◌==◌, nat_le, List, [], ◌∷◌, ◌++◌, map, length, Option, Some, None, slice_get, refl, sym, ◌∙◌, ap, ap₂, subst, IsTrue, arith, leb-true}
+use Rattle.std.proofs.Common.{◌≡◌, ℕ, ◌^◌, ◌<◌, ◌≤◌, true, false, not, ◌&&◌, nat_le, List, [], ◌∷◌, ◌++◌, map, length, Some, slice_get, refl, sym, ◌∙◌, ap, ap₂, subst, IsTrue, arith, leb-true}
 use Rattle.hw_model.specs.Types.{Name}
-use Rattle.hw_model.specs.Design.{Port, same_name}
-use Rattle.verilog_model.specs.Tree.{VPort}
-use Rattle.verilog_model.specs.Numerals.{is_nonempty, all_bytes, decimal_number}
+use Rattle.hw_model.specs.Design.{same_name}
+use Rattle.verilog_model.specs.Numerals.{is_nonempty, decimal_number}
 use Rattle.verilog_model.specs.Checks.{contains_name, are_distinct, starts_name}
 use Rattle.verilog_model.specs.Hierarchy.{range_width}
-use Rattle.verilog_model.specs.Behaviour.{Behaves, IsVerilog, IsPartner, Shown, shown_port, shown_of}
+use Rattle.verilog_model.specs.Behaviour.{Behaves, shown_port, shown_of}
 use Rattle.verilog_model.proofs.Numerals.{and_first, and_second}
 use Rattle.verilog_model.proofs.Reread.{all_name_bytes}
-use Rattle.circt_top.specs.Form.{Adder, Source, IsForm, adder_of, design_of, module_of, input_port, output_port, input_names, inputs_of, inputs_write, writes, has_width, has_values, has_names, is_plain, all_plain, is_suffix, place_of}
-use Rattle.circt_top.specs.Printing.{verilog_text, tree_of, vmodule_of, vport, high_of, input_name, name_or_none, sum_wire}
-use Rattle.circt_top.specs.Translation.{Accepted, IsTranslation, name_kept, ports_kept}
+use Rattle.circt_top.specs.Form.{Adder, Source, IsForm, adder_of, design_of, input_port, output_port, input_names, inputs_of, inputs_write, writes, has_width, has_values, has_names, is_plain, all_plain, is_suffix, place_of}
+use Rattle.circt_top.specs.Printing.{verilog_text, tree_of, vmodule_of, vport, high_of, input_name, name_or_none}
+use Rattle.circt_top.specs.Translation.{IsTranslation, name_kept, ports_kept}
 use Rattle.circt_top.proofs.Names.{not_true, place_found, place_below}
 use Rattle.circt_top.proofs.Printed.{IsWord, AllWords, HasWords, printed}
 use Rattle.circt_top.proofs.AdderChecks.{plain_start, plain_bytes, plain_at, plain_apart, sum_wire_apart, IsNamed, adder_checks, adder_fits}

@@ -1,45 +1,43 @@
 -- What the program answers, for its words, the files that are told, and what its sinks take.
-use Rattle.std.specs.Prelude.{◌≡◌, ℕ, ◌≤◌, Bool, true, false, List, [], ◌∷◌, ◌++◌, Option, Some, None, codes}
+use Rattle.std.specs.Prelude.{◌≡◌, ℕ, ◌≤◌, Bool, true, false, List, [], ◌++◌, Option, Some, None, Ok, Err, codes, take, length, ◌⊎◌}
 use Rattle.hw_model.specs.Types.{Name}
-use Rattle.hw_model.specs.Design.{Design}
 use Rattle.io_edge.specs.Faults.{HasRisen}
 use Rattle.io_edge.specs.Reading.{file_at}
+use Rattle.io_edge.specs.Writing.{with_file}
 use Rattle.io_edge.specs.Bytes.{Appends, AppendsFront}
 use Rattle.io_edge.specs.Pieces.{pieces_of, Sends}
-use Rattle.circt_top.specs.Translation.{Accepted, IsTranslation}
+use Rattle.diag.specs.Line.{refusal_line, shown_name}
+use Rattle.diag.specs.declared.refusal.Refusal.{Refusal}
+use Rattle.command_line.specs.Line.{Paths}
+use Rattle.command_line.specs.Usage.{usage_text}
+use Rattle.command_line.specs.declared.usage.UsageKind.{UsageKind}
+use Rattle.circt_top.specs.Outcome.{IsOutcome}
+use Rattle.circt_top.specs.Words.{said}
 use Rattle.circt_top.specs.declared.status.Status.{Status}
 use Rattle.circt_top.specs.declared.status.Status.TheVariants.{Done, Refused, Usage, ReadFault, WriteFault, NoMemory}
-use Rattle.circt_top.specs.declared.status.UsageKind.{UsageKind}
-use Rattle.circt_top.specs.declared.status.Refusal.{Refusal}
-use Rattle.circt_top.specs.declared.status.OpName.TheVariants.{File}
-use Rattle.circt_top.specs.declared.status.Cause.TheVariants.{OutsideProfile}
 
--- ---- the input
+-- ---- files
 
--- the name of standard input
-abbrev pub standard_input : Name
-standard_input = codes "-"
+-- told files, each a name and its bytes
+abbrev pub Told : Type 0
+Told = Option (List (Name × List ℕ))
 
--- the bytes of standard input, where they are told
-abbrev pub told_input : Option (List (Name × Name)) → Option (List ℕ)
-told_input None = None
-told_input (Some files) = file_at standard_input files
-
--- no design is accepted
-abbrev pub IsOutside : List ℕ → Type 0
-IsOutside bytes = (d : Design) → Accepted bytes d → ⊥
+-- the bytes of a file, where they are told
+abbrev pub told_at : Name → Told → Option (List ℕ)
+told_at name None = None
+told_at name (Some files) = file_at name files
 
 -- ---- statuses
 
 abbrev pub usage_of : Status → Option UsageKind
-usage_of Done = None
-usage_of (Refused refusal) = None
 usage_of (Usage kind) = Some kind
-usage_of ReadFault = None
-usage_of WriteFault = None
-usage_of NoMemory = None
+usage_of _ = None
 
 -- facts for some statuses
+abbrev pub OnRefused : Status → (Refusal → Type 0) → Type 0
+OnRefused (Refused refusal) P = P refusal
+OnRefused _ P = Unit {0}
+
 abbrev pub OnReadFault : Status → Type 0 → Type 0
 OnReadFault ReadFault P = P
 OnReadFault _ P = Unit {0}
@@ -48,15 +46,86 @@ abbrev pub OnWriteFault : Status → Type 0 → Type 0
 OnWriteFault WriteFault P = P
 OnWriteFault _ P = Unit {0}
 
-abbrev pub OnWritten : Status → Type 0 → Type 0
-OnWritten Done P = P
-OnWritten _ P = Unit {0}
+abbrev pub OnDone : Status → Type 0 → Type 0
+OnDone Done P = P
+OnDone _ P = Unit {0}
 
 -- a fact for the ends before anything is written
 abbrev pub Unwritten : Status → Type 0 → Type 0
 Unwritten Done P = Unit {0}
 Unwritten WriteFault P = Unit {0}
 Unwritten _ P = P
+
+-- ---- the output
+
+-- no file changed but the one where the output goes
+abbrev pub OthersStay : Option Name → Told → Told → Type 0
+OthersStay None before after = after ≡ before
+OthersStay (Some name) before after =
+    (files : List (Name × List ℕ)) → before ≡ Some files → (after ≡ Some files) ⊎ ((bytes : List ℕ) × (after ≡ Some (with_file name bytes files)))
+
+-- the file has a front of the text, or is as it was
+abbrev pub IsHalfWritten : Name → Told → Told → List ℕ → Type 0
+IsHalfWritten name before after text =
+    (files : List (Name × List ℕ)) → before ≡ Some files
+    → (after ≡ Some files) ⊎ ((count : ℕ) × (count ≤ length text) × (after ≡ Some (with_file name (take count text) files)))
+
+module _ {S : Type 0} (puts : S → List ℕ → Bool → S → Type 0) (told : S → Option (List ℕ)) where
+  -- a whole text went out: in pieces of 4,096 bytes to the output, or to the file of a name, the output staying as it is
+  abbrev pub Delivers : Option Name → S → S → Told → Told → List ℕ → Type 0
+  Delivers None before after files written text =
+      Sends puts before (pieces_of 4096 text) true after × Appends (told before) (told after) text × (written ≡ files)
+  Delivers (Some name) before after files written text =
+      (after ≡ before) × ((all : List (Name × List ℕ)) → files ≡ Some all → written ≡ Some (with_file name text all))
+
+  -- a front of a text went out
+  abbrev pub DeliversFront : Option Name → S → S → Told → Told → List ℕ → Type 0
+  DeliversFront None before after files written text =
+      Sends puts before (pieces_of 4096 text) false after × AppendsFront (told before) (told after) text × (written ≡ files)
+  DeliversFront (Some name) before after files written text = (after ≡ before) × IsHalfWritten name files written text
+
+-- a text is what is made of the input, where that is told
+abbrev pub IsMadeOf : Option (List ℕ) → List ℕ → Type 0
+IsMadeOf input text = (bytes : List ℕ) → input ≡ Some bytes → IsOutcome bytes (Ok text)
+
+-- a refusal is that of the input, where that is told
+abbrev pub IsRefusalOf : Option (List ℕ) → Refusal → Type 0
+IsRefusalOf input refusal = (bytes : List ℕ) → input ≡ Some bytes → IsOutcome bytes (Err refusal)
+
+-- a fact about the files that the words name
+abbrev pub ForPaths : List Name → (Paths → Type 0) → Type 0
+ForPaths words P = (paths : Paths) → said words ≡ Ok paths → P paths
+
+-- ---- the line on what is wrong
+
+-- where the output goes, as a line shows it
+abbrev pub shown_output : Option Name → List ℕ
+shown_output None = codes "<stdout>"
+shown_output (Some name) = name
+
+-- the line for an end, of files of these names and an input of these bytes
+abbrev pub line_of : Paths → List ℕ → Status → List ℕ
+line_of paths source Done = []
+line_of paths source (Refused refusal) = refusal_line paths.input source refusal
+line_of paths source (Usage kind) = codes "circt: usage: " ++ (usage_text kind ++ codes "\n")
+line_of paths source ReadFault = codes "circt: cannot read " ++ (shown_name paths.input ++ codes "\n")
+line_of paths source WriteFault = codes "circt: cannot write " ++ (shown_output paths.output ++ codes "\n")
+line_of paths source NoMemory = codes "circt: out of memory\n"
+
+module _ {S : Type 0} (told : S → Option (List ℕ)) (faults : S → ℕ) where
+  -- a sink that meets no fault takes the line, and one that meets faults a front of it
+  pub record Reports (before after : S) (line : List ℕ) : Type 0 where
+    pub front : AppendsFront (told before) (told after) line
+    pub whole : ¬ HasRisen (faults before) (faults after) → Appends (told before) (told after) line
+    pub kept : faults before ≤ faults after
+
+-- ---- ends
+
+-- a usage comes exactly where something is wrong with the words, want of memory aside
+abbrev pub IsUsage : Status → Option UsageKind → Type 0
+IsUsage (Usage kind) fault = fault ≡ Some kind
+IsUsage NoMemory fault = Unit {0}
+IsUsage _ fault = fault ≡ None
 
 abbrev pub IsDoneOrNoMemory : Status → Type 0
 IsDoneOrNoMemory Done = Unit {0}
@@ -68,45 +137,21 @@ IsRefusedOrNoMemory (Refused refusal) = Unit {0}
 IsRefusedOrNoMemory NoMemory = Unit {0}
 IsRefusedOrNoMemory _ = ⊥
 
--- the one refusal: of the whole file, at its first byte
-abbrev pub outside_profile : Refusal
-outside_profile = record { file = 0; place = record { line = 1; col = 1 }; op = File; cause = OutsideProfile }
+-- a source is what is read of the told bytes: at most one byte more than a text may have
+abbrev pub IsReadOf : Option (List ℕ) → List ℕ → Type 0
+IsReadOf input source = (bytes : List ℕ) → input ≡ Some bytes → source ≡ take 67108865 bytes
 
--- a refusal is that one, and the input, where it is told, is outside
-abbrev pub Refuses : Status → Option (List ℕ) → Type 0
-Refuses (Refused refusal) input = (refusal ≡ outside_profile) × ((bytes : List ℕ) → input ≡ Some bytes → IsOutside bytes)
-Refuses _ input = Unit {0}
+-- a fact for the ends whose line names a file
+abbrev pub OnFile : Status → Type 0 → Type 0
+OnFile (Refused refusal) P = P
+OnFile ReadFault P = P
+OnFile WriteFault P = P
+OnFile _ P = Unit {0}
 
--- ---- the output
-
-module _ {S : Type 0} (puts : S → List ℕ → Bool → S → Type 0) (told : S → Option (List ℕ)) where
-  -- a whole text went out, in pieces of 4,096 bytes: the Verilog of the input, where that is told
-  pub record Prints (before after : S) (input : Option (List ℕ)) : Type 0 where
-    pub text : List ℕ
-    pub sent : Sends puts before (pieces_of 4096 text) true after
-    pub appended : Appends (told before) (told after) text
-    pub translated : (bytes : List ℕ) → input ≡ Some bytes → IsTranslation bytes text
-
-  -- a front of such a text went out
-  pub record PrintsFront (before after : S) (input : Option (List ℕ)) : Type 0 where
-    pub text : List ℕ
-    pub sent : Sends puts before (pieces_of 4096 text) false after
-    pub appended : AppendsFront (told before) (told after) text
-    pub translated : (bytes : List ℕ) → input ≡ Some bytes → IsTranslation bytes text
-
--- ---- the line on what is wrong
-
-abbrev pub line_of : Status → List ℕ
-line_of Done = []
-line_of (Refused refusal) = codes "<stdin>:1:1: error: 'builtin.module' S4: outside the profile" ++ 10 ∷ []
-line_of (Usage kind) = codes "circt: usage: bad arguments" ++ 10 ∷ []
-line_of ReadFault = codes "circt: cannot read <stdin>" ++ 10 ∷ []
-line_of WriteFault = codes "circt: cannot write <stdout>" ++ 10 ∷ []
-line_of NoMemory = codes "circt: out of memory" ++ 10 ∷ []
-
-module _ {S : Type 0} (told : S → Option (List ℕ)) (faults : S → ℕ) where
-  -- a sink that meets no fault takes the line, and one that meets faults a front of it
-  pub record Reports (before after : S) (line : List ℕ) : Type 0 where
-    pub front : AppendsFront (told before) (told after) line
-    pub whole : ¬ HasRisen (faults before) (faults after) → Appends (told before) (told after) line
-    pub kept : faults before ≤ faults after
+-- the line that a sink takes: of files that the words name, and, where the input is refused, of what is read of it
+pub record ReportsEnd {S : Type 0} (told : S → Option (List ℕ)) (faults : S → ℕ) (words : List Name) (files : Told) (status : Status) (before after : S) : Type 0 where
+  pub paths : Paths
+  pub source : List ℕ
+  pub named : OnFile status ((others : Paths) → said words ≡ Ok others → paths ≡ others)
+  pub read : OnRefused status (λ refusal. IsReadOf (told_at paths.input files) source)
+  pub reports : Reports told faults before after (line_of paths source status)

@@ -1,16 +1,16 @@
 -- The first form of text: one module that adds two of its input ports.
-use Rattle.std.specs.Prelude.{◌≡◌, ℕ, suc, ◌+◌, ◌≤◌, ◌^◌, Bool, true, false, cond, not, ◌&&◌, ◌||◌, ◌==◌, nat_le, List, [], ◌∷◌, ◌++◌, map, length, Option, Some, None, codes, IsTrue, slice_get, pos}
+use Rattle.std.specs.Prelude.{◌≡◌, ℕ, suc, ◌≤◌, ◌^◌, Bool, true, false, cond, not, ◌&&◌, ◌||◌, ◌==◌, nat_le, List, [], ◌∷◌, ◌++◌, map, length, codes, IsTrue}
 use Rattle.hw_model.specs.Types.{Name}
 use Rattle.hw_model.specs.Types.HwType.{int}
 use Rattle.hw_model.specs.Kinds.Kind.{add, output}
-use Rattle.hw_model.specs.Design.{Port, Op, Module, Design, Ref, same_name, nowhere_place}
+use Rattle.hw_model.specs.Design.{Port, Op, Module, Design, same_name, nowhere_place}
 use Rattle.hw_model.specs.Design.Ref.{port, result}
 use Rattle.verilog_model.specs.Tree.{Numeral}
 use Rattle.verilog_model.specs.Tokens.{is_name_start, is_digit}
-use Rattle.verilog_model.specs.Numerals.{decimal_number, is_decimal, all_bytes, is_nonempty}
+use Rattle.verilog_model.specs.Numerals.{decimal_number, is_decimal, all_bytes}
 use Rattle.verilog_model.specs.Checks.{contains_name, are_distinct, starts_name}
 use Rattle.verilog_model.specs.Reserved.{reserved_words}
-use Rattle.circt_top.specs.Tokens.{Token, tokens, is_suffix_byte}
+use Rattle.circt_top.specs.Tokens.{Token, tokens}
 use Rattle.circt_top.specs.Tokens.Token.{word, value, symbol, mark}
 
 -- ---- the grammar: a text's tree keeps its names and how it writes its widths

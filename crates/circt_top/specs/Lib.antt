@@ -10,3 +10,6 @@ pub mod Resolving
 pub mod Tokens
 pub mod Translation
 pub mod Words
+pub mod Outcome
+pub mod Delivery
+pub mod Runs

@@ -1,7 +1,7 @@
 -- The Verilog of an adder in the plain form: a wire for the sum, and the output assigned from it.
-use Rattle.std.specs.Prelude.{ℕ, zero, suc, ◌-◌, Bool, true, false, cond, ◌==◌, List, [], ◌∷◌, ◌++◌, map, Option, Some, None, codes, decimal, slice_get}
+use Rattle.std.specs.Prelude.{ℕ, ◌-◌, Bool, true, false, cond, ◌==◌, List, [], ◌∷◌, ◌++◌, map, Option, Some, None, codes, decimal, slice_get}
 use Rattle.hw_model.specs.Types.{Name}
-use Rattle.verilog_model.specs.Tree.{Numeral, Operator, Expr, VPort, Item, VModule, Tree}
+use Rattle.verilog_model.specs.Tree.{Numeral, VPort, VModule, Tree}
 use Rattle.verilog_model.specs.Tree.Operator.{plus}
 use Rattle.verilog_model.specs.Tree.Expr.{name, binary}
 use Rattle.verilog_model.specs.Tree.Item.{wire, assign}

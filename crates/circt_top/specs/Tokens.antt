@@ -1,10 +1,9 @@
 -- The tokens of an MLIR text of the first form (MLIR language reference: lexical conventions). Blanks are space, tab, CR
 -- and LF; `//` begins a comment to the line's end. Words, and the names behind `%` and `@`, are runs of bytes; any other
 -- byte is a mark alone, which most texts of the language have and the first form has few of.
-use Rattle.std.specs.Prelude.{ℕ, Bool, true, false, cond, not, ◌&&◌, ◌||◌, ◌==◌, List, [], ◌∷◌, ◌++◌}
+use Rattle.std.specs.Prelude.{ℕ, Bool, false, cond, not, ◌&&◌, ◌||◌, ◌==◌, List, [], ◌∷◌, ◌++◌}
 use Rattle.hw_model.specs.Types.{Name}
 use Rattle.verilog_model.specs.Tokens.{is_name_start, is_digit, is_among}
-use Rattle.verilog_model.specs.Numerals.{all_bytes, is_nonempty}
 
 pub data Token : Type 0 where
   word value symbol : Name → Token

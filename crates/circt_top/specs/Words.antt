@@ -1,21 +1,24 @@
--- The command line.
-use Rattle.std.specs.Prelude.{ℕ, Bool, true, false, ◌&&◌, List, [], ◌∷◌, Option, Some, None, codes}
-use Rattle.hw_model.specs.Types.{Name}
-use Rattle.hw_model.specs.Design.{same_name}
-use Rattle.circt_top.specs.declared.status.UsageKind.{UsageKind}
-use Rattle.circt_top.specs.declared.status.UsageKind.TheVariants.{Words}
+-- What the words say that the program answers.
+use Rattle.std.specs.Prelude.{ℕ, List, Option, Some, None, Result, Ok, Err}
+use Rattle.command_line.specs.Line.{Command, Paths, line}
+use Rattle.command_line.specs.Line.Command.{opt, translate}
+use Rattle.command_line.specs.declared.usage.UsageKind.{UsageKind}
+use Rattle.command_line.specs.declared.usage.UsageKind.TheVariants.{Words}
 
--- the words are `translate` and `--export-verilog`
-abbrev pub is_command : List Name → Bool
-is_command [] = false
-is_command (a ∷ []) = false
-is_command (a ∷ b ∷ []) = same_name a (codes "translate") && same_name b (codes "--export-verilog")
-is_command (a ∷ b ∷ c ∷ rest) = false
+-- of the commands, `translate` is answered
+abbrev pub answered : Result Command UsageKind → Result Paths UsageKind
+answered (Ok (opt paths)) = Err Words
+answered (Ok (translate paths)) = Ok paths
+answered (Err kind) = Err kind
 
-abbrev pub unless_command : Bool → Option UsageKind
-unless_command true = None
-unless_command false = Some Words
+-- the files of the command that the words say, or what is wrong with them
+abbrev pub said : List (List ℕ) → Result Paths UsageKind
+said words = answered (line words)
+
+abbrev pub fault_in : Result Paths UsageKind → Option UsageKind
+fault_in (Ok paths) = None
+fault_in (Err kind) = Some kind
 
 -- what is wrong with the words
-abbrev pub fault_of : List Name → Option UsageKind
-fault_of words = unless_command (is_command words)
+abbrev pub fault_of : List (List ℕ) → Option UsageKind
+fault_of words = fault_in (said words)

@@ -4,10 +4,12 @@
 #![tactic(auto)]
 
 mod adder;
+mod delivery;
 mod form;
 #[cfg(test)]
 mod form_tests;
 mod lexer;
+mod outcome;
 mod port_names;
 mod reader;
 pub mod report;
@@ -18,5 +20,4 @@ pub mod status;
 mod tests;
 mod translation;
 mod widths;
-mod words;
 mod writer;

@@ -1,27 +1,86 @@
 //! The line on what is wrong.
-ghost use Rattle.std.specs.Prelude.{◌≡◌};
-ghost use Rattle.circt_top.specs.Answer.{line_of, Reports};
+ghost use Rattle.std.specs.Prelude.{◌≡◌, codes, ◌++◌, [], Err, Ok, OnOk, OnErr, option_map};
+ghost use Rattle.io_edge.specs.Bytes.{Appends, AppendsFront};
+ghost use Rattle.io_edge.specs.Faults.{HasCause};
+ghost use Rattle.diag.specs.Line.{IsWithin, shown_name};
+ghost use Rattle.command_line.specs.Invocations.{paths_of};
+ghost use Rattle.circt_top.specs.Runs.{IsStop};
+ghost use Rattle.circt_top.specs.Answer.{line_of, shown_output, OnRefused, Reports};
 
 use crate::status::Status;
-use io_edge::sinks::{Sink, put_all};
+use command_line::invocation::Paths;
+use diag::line::{put_three, refusal_text};
+use io_edge::sinks::{Failed, Sink, put_all};
 
-/// Sends the line on what is wrong, if anything is. A fault of the sink is let go.
-pub fn report<E: Sink>(err: &mut E, status: &Status)
-    ensures { Reports E.told E.faults err.old err.new (line_of status.now) }
+/// Sends the line on what is wrong, if anything is. A fault of the sink is let go. `source` is the
+/// text in which an operation that is not listed stands. It takes no memory.
+pub fn report<E: Sink>(err: &mut E, paths: &Paths<'_>, source: &[u8], status: &Status)
+    requires { OnRefused status.now (λ r. IsWithin r.op source.now) }
+    ensures { Reports E.told E.faults err.old err.new (line_of (paths_of paths.now) source.now status.now) }
 {
-    let _ = put_all(err, line(status));
+    let _ = put_line(err, paths, source, status);
 }
 
-// The line on what is wrong; nothing where all went well.
-fn line(status: &Status) -> &'static [u8]
-    ensures { result.now ≡ line_of status.now }
+/// An end before any file is read, with its line.
+pub fn stopped<E: Sink>(err: &mut E, status: Status) -> Status
+    requires { IsStop status }
+    ensures status { result ≡ status }
+    ensures report { (paths : _) → Reports E.told E.faults err.old err.new (line_of paths [] status) }
+{
+    let paths = Paths {
+        input: "-",
+        output: None,
+    };
+    report(err, &paths, b"", &status);
+    status
+}
+
+// The line, up to the first fault of the sink.
+fn put_line<E: Sink>(
+    err: &mut E,
+    paths: &Paths<'_>,
+    source: &[u8],
+    status: &Status,
+) -> Result<(), Failed>
+    requires { OnRefused status.now (λ r. IsWithin r.op source.now) }
+    ensures ok { OnOk result (Appends (E.told err.old) (E.told err.new) (line_of (paths_of paths.now) source.now status.now)) }
+    ensures err { OnErr result (AppendsFront (E.told err.old) (E.told err.new) (line_of (paths_of paths.now) source.now status.now)) }
+    ensures cause { HasCause (E.faults err.old) (E.faults err.new) result }
 {
     match status {
-        Status::Done => b"",
-        Status::Refused(_) => b"<stdin>:1:1: error: 'builtin.module' S4: outside the profile\n",
-        Status::Usage(_) => b"circt: usage: bad arguments\n",
-        Status::ReadFault => b"circt: cannot read <stdin>\n",
-        Status::WriteFault => b"circt: cannot write <stdout>\n",
-        Status::NoMemory => b"circt: out of memory\n",
+        Status::Done => put_all(err, b""),
+        Status::Refused(refusal) => refusal_text(err, paths.input, source, refusal),
+        Status::Usage(kind) => put_three(err, b"circt: usage: ", kind.text(), b"\n"),
+        Status::ReadFault => {
+            let name = shown_input(paths.input.as_bytes());
+            put_three(err, b"circt: cannot read ", name, b"\n")
+        }
+        Status::WriteFault => {
+            let name = shown_output(paths.output);
+            put_three(err, b"circt: cannot write ", name, b"\n")
+        }
+        Status::NoMemory => put_all(err, b"circt: out of memory\n"),
+    }
+}
+
+// The input's name, as the line has it.
+#[tactic(auto, unfolding(diag::specs::Line::shown_name))]
+fn shown_input(name: &[u8]) -> &[u8]
+    ensures { result.now ≡ shown_name name.now }
+{
+    if name == b"-".as_slice() {
+        b"<stdin>"
+    } else {
+        name
+    }
+}
+
+// The output's name, as the line has it.
+fn shown_output<'a>(name: Option<&'a str>) -> &'a [u8]
+    ensures { result.now ≡ shown_output (option_map (λ s. s.now) name.entry) }
+{
+    match name {
+        Some(name) => name.as_bytes(),
+        None => b"<stdout>",
     }
 }

@@ -2,42 +2,8 @@
 ghost use Rattle.std.specs.Prelude.{◌≡◌};
 ghost use Rattle.circt_top.specs.Codes.{code_of};
 
-/// A place in a source: its line and its column in bytes, both from 1.
-#[derive(Clone, Copy, Debug, PartialEq, Eq)]
-pub struct Place {
-    pub line: u32,
-    pub col: u32,
-}
-
-/// The operation that a refusal names.
-#[derive(Clone, Copy, Debug, PartialEq, Eq)]
-pub enum OpName {
-    /// The whole file, which is shown as `builtin.module`.
-    File,
-}
-
-/// Why a text is refused.
-#[derive(Clone, Copy, Debug, PartialEq, Eq)]
-pub enum Cause {
-    /// S4: the text is not of the language that the program reads.
-    OutsideProfile,
-}
-
-/// A refusal: the file by its number from 0, the place in it, the operation and the cause.
-#[derive(Clone, Copy, Debug, PartialEq, Eq)]
-pub struct Refusal {
-    pub file: u32,
-    pub place: Place,
-    pub op: OpName,
-    pub cause: Cause,
-}
-
-/// What is wrong with the words.
-#[derive(Clone, Copy, Debug, PartialEq, Eq)]
-pub enum UsageKind {
-    /// They are no command.
-    Words,
-}
+use command_line::usage::UsageKind;
+use diag::refusal::Refusal;
 
 /// How a run of the program ended.
 #[derive(Clone, Copy, Debug, PartialEq, Eq)]

@@ -66,8 +66,13 @@ fn operation(op: OpName, source: &[u8]) -> &[u8]
     }
 }
 
-// Sends three pieces one behind the other, up to the first that fails.
-fn put_three<S: Sink>(sink: &mut S, first: &[u8], second: &[u8], third: &[u8]) -> Result<(), Failed>
+/// Sends three texts one behind the other, up to the first that fails. It takes no memory.
+pub fn put_three<S: Sink>(
+    sink: &mut S,
+    first: &[u8],
+    second: &[u8],
+    third: &[u8],
+) -> Result<(), Failed>
     ensures ok { OnOk result (Appends (S.told sink.old) (S.told sink.new) (first.now ++ (second.now ++ third.now))) }
     ensures err { OnErr result (AppendsFront (S.told sink.old) (S.told sink.new) (first.now ++ (second.now ++ third.now))) }
     ensures cause { HasCause (S.faults sink.old) (S.faults sink.new) result }

@@ -1,5 +1,5 @@
 -- The class of a name, by the listed operation that has it.
-use Rattle.std.proofs.Common.{◌≡◌, ◌≢◌, ℕ, Bool, true, false, cond, not, ◌&&◌, ◌==◌, length, List, [], ◌∷◌, Option, Some, None, refl, ap, sym, ◌∙◌, nat_eq, ne_eqb}
+use Rattle.std.proofs.Common.{◌≡◌, ◌≢◌, ℕ, Bool, true, false, cond, not, ◌&&◌, ◌==◌, length, List, [], ◌∷◌, Some, None, refl, ap, sym, ◌∙◌, nat_eq, ne_eqb}
 use Rattle.mlir_lexer.specs.Runs.{run}
 use Rattle.mlir_reader.specs.AttributeText.{is_among}
 use Rattle.std.specs.Cmp.Lexicographic.{pointwise, bytes_decides}

@@ -1,5 +1,5 @@
 -- The definitions of reading computed on small texts.
-use Rattle.std.proofs.Common.{◌≡◌, [], ◌∷◌, ◌++◌, map, Result, Ok, Err, refl, arith}
+use Rattle.std.proofs.Common.{◌≡◌, [], Ok, Err, refl, arith}
 use Rattle.std.specs.Prelude.{codes}
 use Rattle.diag.specs.declared.refusal.OpName.TheVariants as op
 use Rattle.diag.specs.declared.cause.Cause.TheVariants.{Unexpected}

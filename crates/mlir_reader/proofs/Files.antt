@@ -1,11 +1,11 @@
 -- Ports in a list, and modules of a file, one after another.
 use Rattle.std.proofs.Common.{◌≡◌, Result, ℕ, zero, suc, ◌-◌, ◌≤◌, ◌<◌, Bool, true, false, cond, List, [], ◌∷◌, ◌++◌, map, length, Ok, Err, refl, sym, ap, ◌∙◌, arith, append_assoc}
 use Rattle.std.proofs.lemmas.List.{append-nil}
-use Rattle.hw_model.specs.Design.{Design, Module}
+use Rattle.hw_model.specs.Design.{Design}
 use Rattle.mlir_lexer.specs.declared.token.TokenKind.TheVariants as kind
 use Rattle.diag.specs.declared.refusal.OpName.TheVariants as op
 use Rattle.mlir_lexer.specs.Tokens.{Lexeme}
-use Rattle.mlir_reader.specs.Stream.{Symbol, token, bad, end, is_next, unexpected}
+use Rattle.mlir_reader.specs.Stream.{Symbol, unexpected}
 use Rattle.mlir_reader.specs.Reads.{Read, Reads, on, want}
 use Rattle.mlir_reader.specs.OperationText.{no_operation}
 use Rattle.mlir_reader.specs.ModuleText.{ModuleText, header, port_text, module_text, modules_text, is_end, want_end}

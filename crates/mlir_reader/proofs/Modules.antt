@@ -1,11 +1,11 @@
 -- A module whose parts are those of its text.
-use Rattle.std.proofs.Common.{◌≡◌, ℕ, ◌+◌, ◌≤◌, Bool, true, false, cond, List, [], ◌∷◌, ◌++◌, map, length, ap, sym, ◌∙◌, refl, arith}
+use Rattle.std.proofs.Common.{◌≡◌, ◌+◌, ◌≤◌, Bool, true, false, cond, List, [], ◌∷◌, ◌++◌, map, length, ap, ◌∙◌, refl, arith}
 use Rattle.std.specs.Prelude.{◌||◌}
 use Rattle.diag.specs.declared.listed.Listed.TheVariants as listed
 use Rattle.hw_model.specs.Design as hw
 use Rattle.ir_store.specs.BodyOps.{BodyOp, ids_in}
 use Rattle.ir_store.specs.Numbered.{op_by, numbered}
-use Rattle.ir_store.specs.Designs.{StoredModule, numbered_module}
+use Rattle.ir_store.specs.Designs.{numbered_module}
 use Rattle.ir_store.specs.OperationViews.{place_of}
 use Rattle.mlir_reader.specs.ModuleText.{ModuleText}
 use Rattle.mlir_reader.specs.Resolving.{Meanings, no_meaning, with_definitions, port_definitions, ports_from, operations_from, meanings, port_meanings, kept_entries, ends_with_output, has_outputs, left_out_output, completed, module_of}

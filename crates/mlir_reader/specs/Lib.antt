@@ -13,6 +13,7 @@ pub mod ModuleText
 pub mod Resolving
 pub mod Reading
 pub mod Views
+pub mod Waiting
 pub mod Heads
 pub mod TypeHeads
 pub mod AttributeHeads

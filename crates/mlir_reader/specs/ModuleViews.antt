@@ -7,7 +7,7 @@ use Rattle.hw_model.specs.Design as hw
 use Rattle.ir_store.specs.Designs as store
 use Rattle.ir_store.specs.DictionaryViews.{entries_in}
 use Rattle.ir_store.specs.declared.design.Design.{Design}
-use Rattle.mlir_reader.specs.Stream.{Symbol, is_next}
+use Rattle.mlir_reader.specs.Stream.{is_next}
 use Rattle.mlir_reader.specs.Reads.{Read, Reads, on, want}
 use Rattle.mlir_reader.specs.ModuleText as text
 use Rattle.mlir_reader.specs.Resolving as resolving

@@ -34,4 +34,5 @@ pub mod syntax;
 #[cfg(test)]
 mod tests;
 pub mod type_text;
+mod waiting;
 pub mod word_text;

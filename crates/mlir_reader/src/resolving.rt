@@ -15,6 +15,7 @@ use crate::names::{Defined, Names};
 use crate::own_names::own_name;
 use crate::results::marked_results;
 use crate::syntax::{Gathered, ModuleText, OperandName, OperationText, PortText, ResultNames};
+use crate::waiting::Waiting;
 use diag::listed::Listed;
 use diag::refusal::Place;
 use hw_model::kinds::OpKind;
@@ -118,7 +119,7 @@ fn resolved_body<'s>(
     let mut body = Body::new(alloc);
     body.reserve(operations.len() as u32 + 1, operand_count(&operations))?;
     let mut position: u32 = 0;
-    for text in operations {
+    for text in Waiting::of(operations) {
         let operation = resolved_operation(alloc, names, seen, position, text)?;
         body.add_op(None, operation)?;
         position += 1;

@@ -1,10 +1,8 @@
 -- The adder that the text says has its operands among its inputs, and its Verilog is the translation.
-use Rattle.std.proofs.Common.{◌≡◌, ◌<◌, ℕ, List, length, map, arith, subst, sym, IfSome, IfNone, Some, None}
+use Rattle.std.proofs.Common.{subst, sym}
 use Rattle.std.proofs.Math.ListN.{length-map}
-use Rattle.circt_top.specs.Form.{Adder, IsForm}
 use Rattle.circt_top.specs.Parts.{adder_of_code}
-use Rattle.circt_top.specs.Printing.{verilog_text}
-use Rattle.circt_top.specs.Translation.{IsTranslation, IsAnswered}
+use Rattle.circt_top.specs.Translation.{IsTranslation}
 use Rattle.circt_top.proofs.Translated.{HasOperands, form_operands, translated}
 use Rattle.circt_top.proofs.translation.translate.Goals as goal
 

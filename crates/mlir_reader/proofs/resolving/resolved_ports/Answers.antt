@@ -1,5 +1,4 @@
-use Rattle.std.proofs.Common.{◌+◌, length, ap, arith, map}
-use Rattle.ir_store.specs.Designs.{port_of}
+use Rattle.std.proofs.Common.{length, ap, arith, map}
 use Rattle.mlir_reader.specs.Resolving.{ports_from, port_definitions, with_definitions}
 use Rattle.mlir_reader.specs.Views.{port_text_of}
 use Rattle.mlir_reader.specs.Meanings.{meanings_of}

@@ -1,10 +1,10 @@
-use Rattle.std.proofs.Common.{◌≡◌, nat_eq, sym, ap, ◌∙◌}
+use Rattle.std.proofs.Common.{nat_eq, sym, ap, ◌∙◌}
 use Rattle.std.specs.Prelude.{option_map}
 use Rattle.std.specs.Cmp.Lexicographic.{pointwise}
 use Rattle.std.specs.Map.{lookup}
 use Rattle.std.proofs.Math.Path.{fun_ext}
-use Rattle.mlir_reader.specs.Meanings.{defined_of, definition, meanings_of}
-use Rattle.mlir_reader.proofs.Tables.{none_copied, some_copied, insert_absent, found_push, kept_name}
+use Rattle.mlir_reader.specs.Meanings.{defined_of, meanings_of}
+use Rattle.mlir_reader.proofs.Tables.{none_copied, insert_absent, found_push}
 use Rattle.mlir_reader.proofs.names.Names.define.Goals as goal
 
 pub returns-clause-means : goal.returns-clause-means

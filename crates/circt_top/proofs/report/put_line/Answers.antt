@@ -1,0 +1,17 @@
+-- Each end has its line.
+use Rattle.circt_top.proofs.report.put_line.Goals as goal
+
+pub returns-in-Usage-clause-ok : goal.returns-in-Usage-clause-ok
+returns-in-Usage-clause-ok g c = rw (c.in-Usage.is, ← c.text.ensures) c.put_three.ensures.ok
+
+pub returns-in-Usage-clause-err : goal.returns-in-Usage-clause-err
+returns-in-Usage-clause-err g c = rw (c.in-Usage.is, ← c.text.ensures) c.put_three.ensures.err
+
+pub returns-in-ReadFault-clause-ok : goal.returns-in-ReadFault-clause-ok
+returns-in-ReadFault-clause-ok g c = rw (c.in-ReadFault.is, ← c.as_bytes.ensures.value, ← c.shown_input-name.ensures) c.put_three-in-ReadFault.ensures.ok
+
+pub returns-in-WriteFault-clause-ok : goal.returns-in-WriteFault-clause-ok
+returns-in-WriteFault-clause-ok g c = rw (c.in-WriteFault.is, ← c.shown_output-name.ensures) c.put_three-in-WriteFault.ensures.ok
+
+pub returns-in-NoMemory-clause-ok : goal.returns-in-NoMemory-clause-ok
+returns-in-NoMemory-clause-ok g c = rw c.in-NoMemory.is c.put_all-in-NoMemory.ensures.ok

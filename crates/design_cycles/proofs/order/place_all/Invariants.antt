@@ -1,0 +1,9 @@
+use Rattle.design_cycles.specs.Graphs.{lists_of, IsOrder}
+use Rattle.design_cycles.specs.Marks.{open_count}
+use Rattle.design_cycles.proofs.order.place_all.Given as goal
+
+abbrev pub invariant-loop : goal.invariant-loop
+invariant-loop l = IsOrder (lists_of l.graph) l.placed l.nodes.items
+
+abbrev pub decreases-loop : goal.decreases-loop
+decreases-loop l = open_count l.placed

@@ -1,0 +1,7 @@
+use Rattle.std.proofs.Common.{ℕ, ◌<◌}
+use Rattle.ir_store.specs.Designs.{design_of}
+use Rattle.design_cycles.specs.Asked.{IsRecursiveAt}
+use Rattle.design_cycles.proofs.recursion.first_returning.Given as goal
+
+abbrev pub invariant-loop-position : goal.invariant-loop-position
+invariant-loop-position l = (j : ℕ) → j < l.position → IsRecursiveAt (design_of l.design) l.number j → ⊥

@@ -1,0 +1,52 @@
+//! Which modules instance which, by their numbers.
+ghost use Rattle.std.specs.Prelude.{◌≡◌, ◌<◌, length, map, IfOk};
+ghost use Rattle.hw_model.specs.Hierarchy.{called};
+ghost use Rattle.ir_store.specs.Bodies.{ids_of, ops_of, op_id};
+ghost use Rattle.ir_store.specs.Numbered.{numbered};
+ghost use Rattle.ir_store.specs.Designs.{design_of, modules_of};
+ghost use Rattle.design_cycles.specs.Graphs.{lists_of};
+ghost use Rattle.design_cycles.specs.Calls.{numbers_of, call_lists, IsCalleeAt};
+
+use crate::graph::NodeList;
+use crate::ops::{Sort, ids_in, op_at, sort_of};
+use ir_store::body::Body;
+use ir_store::design::Design;
+use ir_store::operation::OpId;
+use std::alloc::{AllocError, Global};
+
+/// Of each module, the numbers of those that it instances.
+pub(crate) fn call_graph(alloc: Global, design: &Design) -> Result<Vec<NodeList>, AllocError>
+    ensures { IfOk result (λ graph. lists_of graph.items ≡ call_lists (design_of design.now)) }
+{
+    let mut graph = Vec::with_capacity(alloc, design.module_count() as usize)?;
+    for number in 0..design.module_count() {
+        graph.push(calls_of(alloc, design, &design.module(number).body)?)?;
+    }
+    Ok(graph)
+}
+
+/// The numbers of the modules that a body instances.
+fn calls_of(alloc: Global, design: &Design, body: &Body) -> Result<NodeList, AllocError>
+    ensures { IfOk result (λ list. list.nodes.items ≡ numbers_of (map (λ m. m.symbol) (modules_of design.now)) (called (numbered (ops_of body.now)))) }
+{
+    let ids = ids_in(alloc, body)?;
+    let mut nodes = Vec::new(alloc);
+    for position in 0..ids.len() {
+        if let Some(number) = callee_of(design, body, ids.as_slice(), position) {
+            nodes.push(number)?;
+        }
+    }
+    Ok(NodeList { nodes })
+}
+
+/// The number of the module that the operation at a position instances.
+pub(crate) fn callee_of(design: &Design, body: &Body, ids: &[OpId], position: usize) -> Option<u32>
+    requires all { ids.now ≡ map op_id (ids_of body.now) }
+    requires within { position < length ids.now }
+    ensures { IsCalleeAt (map (λ m. m.symbol) (modules_of design.now)) (numbered (ops_of body.now)) position result }
+{
+    match sort_of(op_at(body, ids, position).kind) {
+        Sort::Calls(instance) => design.find(instance.symbol.as_bytes()),
+        Sort::Register | Sort::Gives | Sort::Made => None,
+    }
+}

@@ -1,0 +1,56 @@
+//! Operations of a body by their positions, and what each is to its module.
+ghost use Rattle.std.specs.Prelude.{◌≡◌, ◌<◌, length, map, IfOk, is_some, slice_get, Some};
+ghost use Rattle.hw_model.specs.Design.{instance_in, register_form, is_output_kind};
+ghost use Rattle.hw_model.specs.KindViews.{kind_of};
+ghost use Rattle.ir_store.specs.Bodies.{ids_of, ops_of, op_id};
+ghost use Rattle.ir_store.specs.Numbered.{numbered};
+ghost use Rattle.design_cycles.specs.Sorts.{holds, called_in, gives};
+ghost use Rattle.design_cycles.specs.Reading.{op_view};
+
+use hw_model::kinds::{Instance, OpKind};
+use ir_store::body::{Body, Op};
+use ir_store::operation::OpId;
+use std::alloc::{AllocError, Global};
+
+/// What an operation is to its module.
+#[derive(Drop)]
+pub(crate) enum Sort<'k> {
+    /// A register.
+    Register,
+    /// An instance of a module.
+    Calls(&'k Instance),
+    /// The module's output.
+    Gives,
+    /// An operation whose results are made of its operands.
+    Made,
+}
+
+/// What an operation of this kind is.
+pub(crate) fn sort_of(kind: &OpKind) -> Sort<'_>
+    ensures register { holds result ≡ is_some (register_form (kind_of kind.now)) }
+    ensures instance { called_in result ≡ instance_in (kind_of kind.now) }
+    ensures output { gives result ≡ is_output_kind (kind_of kind.now) }
+{
+    match kind {
+        OpKind::CompReg(_) | OpKind::CompRegCe(_) | OpKind::FirReg(_) => Sort::Register,
+        OpKind::Instance(instance) => Sort::Calls(instance),
+        OpKind::Output => Sort::Gives,
+        _ => Sort::Made,
+    }
+}
+
+/// The ids of a body's operations in text order.
+pub(crate) fn ids_in(alloc: Global, body: &Body) -> Result<Vec<OpId>, AllocError>
+    ensures { IfOk result (λ ids. ids.items ≡ map op_id (ids_of body.now)) }
+{
+    body.ops().collect(alloc)
+}
+
+/// The operation at a position, `ids` being those of all.
+pub(crate) fn op_at<'b>(body: &'b Body, ids: &[OpId], position: usize) -> Op<'b>
+    requires all { ids.now ≡ map op_id (ids_of body.now) }
+    requires within { position < length ids.now }
+    ensures { slice_get (numbered (ops_of body.now)) position ≡ Some (op_view body.now result) }
+{
+    body.op(ids[position])
+}

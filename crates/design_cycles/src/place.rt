@@ -1,0 +1,11 @@
+//! Places of operations in a design.
+use ir_store::operation::OpId;
+
+/// An operation of a module.
+#[derive(Clone, Copy, Debug, PartialEq, Eq)]
+pub struct OpPlace {
+    /// The module's number.
+    pub module: u32,
+    /// The operation.
+    pub op: OpId,
+}

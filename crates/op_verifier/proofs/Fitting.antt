@@ -1,0 +1,114 @@
+-- Operations without a cause fit.
+use Rattle.std.proofs.Common.{◌≡◌, ℕ, ◌+◌, ◌≤◌, max, Bool, false, List, length, take, drop, length-drop, sym, ap, ◌∙◌, arith}
+use Rattle.std.specs.Prelude.{Option, Some, None, slice_get}
+use Rattle.hw_model.specs.Types.{HwType, width}
+use Rattle.hw_model.specs.Kinds.{Kind, Instance}
+use Rattle.hw_model.specs.Kinds.Kind.{add, mul, and, or, xor, sub, divu, modu, divs, mods, shl, shru, shrs, icmp, parity, extract, concat, replicate, mux, constant, aggregate_constant, array_create, array_concat, array_get, array_slice, array_inject, struct_create, struct_extract, struct_inject, struct_explode, bitcast, wire, instance, output, compreg, compreg_ce, firreg}
+use Rattle.hw_model.specs.Sound.{Fits}
+use Rattle.ir_store.specs.ResultTypes.{first_type, second_type, result_type, result_types, result_count}
+use Rattle.op_verifier.specs.TypeLists.{settled}
+use Rattle.op_verifier.specs.OperandChecks.{has_other_form, has_other_operand}
+use Rattle.op_verifier.specs.LimitChecks.{has_outside_leaf, has_outside_array, has_type_outside, has_extract_outside, has_broken_copy, has_wide_concat, are_unequal, has_unequal_widths, has_unknown_field, has_wrong_field}
+use Rattle.op_verifier.specs.CountChecks.{operand_count, type_count, has_miscounted_parts}
+use Rattle.op_verifier.specs.OwnChecks.{own_cause}
+use Rattle.op_verifier.specs.TypeChecks.{is_outside, has_bad_field}
+use Rattle.std.specs.List.{list_any}
+use Rattle.op_verifier.proofs.Widths.{neither}
+use Rattle.op_verifier.proofs.Agreeing.{same_number, pairwise_agreed, prefix_agreed}
+use Rattle.op_verifier.proofs.FitArrays.{creation, joining, element, slicing, injection}
+use Rattle.op_verifier.proofs.NoCause.{NoCause, no_cause}
+use Rattle.op_verifier.proofs.FitStructs.{aggregate, construction, selection, exchange, explosion, plain_register, enabled_register, without_results}
+use Rattle.op_verifier.proofs.FitIntegers.{variadic, binary, unary, comparison, parities, extraction, replication, concatenation, choice, recast, none_left}
+
+-- the widths of two types that are there
+equal_widths : (x y : Option HwType) (u v : HwType) → are_unequal x y ≡ false → x ≡ Some u → y ≡ Some v → width u ≡ width v
+equal_widths (Some t) (Some s) u v h p q =
+    let a = same_number (width t) (width s) h in
+    let b : t ≡ u = cc in
+    let c : s ≡ v = cc in cc
+equal_widths None y u v h p q = cc
+equal_widths (Some t) None u v h p q = cc
+
+joined_count : (m n : ℕ) → n ≡ max 1 m → m ≡ n → n ≡ m
+joined_count m n h e = omega arith
+
+some_joined : (m n : ℕ) → n ≡ max 1 m → m ≡ n → 1 ≤ m
+some_joined m n h e = omega arith
+
+-- the array that is made is within the limits
+array_within : (kind : Kind) (ts rs : List HwType) → has_type_outside kind ts rs ≡ false → has_outside_array kind rs ≡ false
+unfolding has_type_outside
+array_within kind ts rs h = (neither (has_outside_leaf kind) _ (neither (list_any is_outside ts) _ h).1).1
+
+-- the field of an operation is in its struct
+field_known : (kind : Kind) (ts : List HwType) → has_wrong_field kind ts ≡ false → has_unknown_field kind ts ≡ false
+unfolding has_wrong_field
+field_known kind ts h = (neither (list_any has_bad_field ts) _ h).1
+
+fits_by : (kind : Kind) (ts rs us : List HwType) → NoCause kind ts rs us → (k : ℕ) (t : HwType) → slice_get rs k ≡ Some t → Fits kind ts (settled us) t k
+unfolding has_other_form has_other_operand operand_count type_count result_type result_types result_count has_extract_outside has_broken_copy has_wide_concat has_unequal_widths has_miscounted_parts
+fits_by add ts rs us h k t e = variadic ts rs us k t h.types h.results h.operand h.result e
+fits_by mul ts rs us h k t e = variadic ts rs us k t h.types h.results h.operand h.result e
+fits_by and ts rs us h k t e = variadic ts rs us k t h.types h.results h.operand h.result e
+fits_by or ts rs us h k t e = variadic ts rs us k t h.types h.results h.operand h.result e
+fits_by xor ts rs us h k t e = variadic ts rs us k t h.types h.results h.operand h.result e
+fits_by sub ts rs us h k t e = binary ts rs us k t h.types h.results h.operands h.operand h.result e
+fits_by divu ts rs us h k t e = binary ts rs us k t h.types h.results h.operands h.operand h.result e
+fits_by modu ts rs us h k t e = binary ts rs us k t h.types h.results h.operands h.operand h.result e
+fits_by divs ts rs us h k t e = binary ts rs us k t h.types h.results h.operands h.operand h.result e
+fits_by mods ts rs us h k t e = binary ts rs us k t h.types h.results h.operands h.operand h.result e
+fits_by shl ts rs us h k t e = binary ts rs us k t h.types h.results h.operands h.operand h.result e
+fits_by shru ts rs us h k t e = binary ts rs us k t h.types h.results h.operands h.operand h.result e
+fits_by shrs ts rs us h k t e = binary ts rs us k t h.types h.results h.operands h.operand h.result e
+fits_by (icmp p) ts rs us h k t e = comparison ts rs us k t h.types h.results h.operands h.operand h.result e
+fits_by parity ts rs us h k t e = parities ts rs us k t h.types h.results h.operands h.operand h.result e
+fits_by (extract low) ts rs us h k t e = extraction low ts rs us k t h.types h.results h.operands h.form h.operand h.extract h.result e
+fits_by concat ts rs us h k t e = concatenation ts rs us k t (joined_count (length ts) (length us) h.operands h.types) h.results h.form h.operand h.wide h.result e
+fits_by replicate ts rs us h k t e = replication ts rs us k t h.types h.results h.operands h.form h.operand h.copy h.result e
+fits_by mux ts rs us h k t e = choice ts rs us k t h.types h.results h.operands h.operand h.result e
+fits_by (constant z) ts rs us h k t e = none_left us h.operands
+fits_by (aggregate_constant ls) ts rs us h k t e = aggregate ls ts rs us k t h.types h.operands h.results h.operand h.parts h.result e
+fits_by array_create ts rs us h k t e = creation ts rs us k t h.types h.results h.operand (array_within array_create ts rs h.limit) h.result e
+fits_by array_concat ts rs us h k t e = joining ts rs us k t (some_joined (length ts) (length us) h.operands h.types) (joined_count (length ts) (length us) h.operands h.types) h.results h.form h.operand (array_within array_concat ts rs h.limit) h.result e
+fits_by array_get ts rs us h k t e = element ts rs us k t h.types h.operands h.results h.form h.operand h.result e
+fits_by array_slice ts rs us h k t e = slicing ts rs us k t h.types h.operands h.results h.form h.operand h.result e
+fits_by array_inject ts rs us h k t e = injection ts rs us k t h.types h.operands h.results h.form h.operand h.result e
+fits_by struct_create ts rs us h k t e = construction ts rs us k t h.types h.operands h.results h.form h.operand h.result e
+fits_by (struct_extract name) ts rs us h k t e = selection name ts rs us k t h.types h.operands h.results h.form h.operand (field_known (struct_extract name) ts h.field) h.result e
+fits_by (struct_inject name) ts rs us h k t e = exchange name ts rs us k t h.types h.operands h.results h.form h.operand (field_known (struct_inject name) ts h.field) h.result e
+fits_by struct_explode ts rs us h k t e = explosion ts rs us k t h.types h.operands h.results h.form h.operand h.result e
+fits_by bitcast ts rs us h k t e = recast ts rs us k t h.types h.results h.operands h.operand (λ u v. equal_widths (first_type ts) (second_type ts) u v h.widths) h.result e
+fits_by wire ts rs us h k t e = unary ts rs us k t h.types h.results h.operands h.operand h.result e
+fits_by (instance i) ts rs us h k t e = tt
+fits_by output ts rs us h k t e = without_results rs k t h.results e
+fits_by (compreg r) ts rs us h k t e = plain_register r ts rs us k t h.types h.operands h.results h.operand h.result e
+fits_by (compreg_ce r) ts rs us h k t e = enabled_register r ts rs us k t h.types h.operands h.results h.operand h.result e
+fits_by (firreg r) ts rs us h k t e = plain_register r ts rs us k t h.types h.operands h.results h.operand h.result e
+
+pub fits : (kind : Kind) (ts rs : List HwType) (named : ℕ) (us : List HwType) (is_known : Bool) → own_cause kind ts rs named (settled us) is_known ≡ None
+    → (k : ℕ) (t : HwType) → slice_get rs k ≡ Some t → Fits kind ts (settled us) t k
+fits kind ts rs named us is_known h = fits_by kind ts rs us (no_cause kind ts rs us named is_known h)
+
+-- an instance's operands and results have its written types
+instance_by : (i : Instance) (ts rs us : List HwType) → NoCause (instance i) ts rs us → (us ≡ take (length i.inputs) ts) × (rs ≡ drop (length i.inputs) ts)
+unfolding has_other_operand operand_count type_count result_types result_count
+instance_by i ts rs us h =
+    let n : length us ≡ length i.inputs = h.operands in
+    let l : length us ≤ length ts = at_most (length us) (length i.inputs) (length i.outputs) (length ts) n h.types in
+    let m : length rs ≡ length (drop (length i.inputs) ts) = h.results ∙ sym (length-drop (length i.inputs) ts) in
+    (prefix_agreed us ts l h.operand ∙ ap (λ (c : ℕ). take c ts) n, pairwise_agreed rs (drop (length i.inputs) ts) m h.result)
+  where
+    at_most : (a b c d : ℕ) → a ≡ b → d ≡ b + c → a ≤ d
+    at_most a b c d e f = omega arith
+
+pub instance_types : (i : Instance) (ts rs : List HwType) (named : ℕ) (us : List HwType) (is_known : Bool)
+    → own_cause (instance i) ts rs named (settled us) is_known ≡ None → (us ≡ take (length i.inputs) ts) × (rs ≡ drop (length i.inputs) ts)
+instance_types i ts rs named us is_known h = instance_by i ts rs us (no_cause (instance i) ts rs us named is_known h)
+
+-- an output's operands have its written types
+output_by : (ts rs us : List HwType) → NoCause output ts rs us → us ≡ ts
+unfolding has_other_operand operand_count
+output_by ts rs us h = pairwise_agreed us ts h.operands h.operand
+
+pub output_types : (ts rs : List HwType) (named : ℕ) (us : List HwType) (is_known : Bool) → own_cause output ts rs named (settled us) is_known ≡ None → us ≡ ts
+output_types ts rs named us is_known h = output_by ts rs us (no_cause output ts rs us named is_known h)

@@ -1,0 +1,20 @@
+-- Lemmas.
+pub mod Agreeing
+pub mod Distinct
+pub mod FaultSteps
+pub mod FitArrays
+pub mod FitIntegers
+pub mod FitStructs
+pub mod Fitting
+pub mod Found
+pub mod Lists
+pub mod Mismatch
+pub mod Names
+pub mod NoCause
+pub mod Positions
+pub mod Settled
+pub mod SoundDesigns
+pub mod Symbols
+pub mod Unrefused
+pub mod Walks
+pub mod Widths

@@ -1,0 +1,231 @@
+-- The types that an operation settles for its results, where nothing is refused of it by itself: they are those of its results.
+use Rattle.std.proofs.Common.{◌≡◌, ℕ, ◌+◌, ◌≤◌, max, Bool, true, false, not, List, [], ◌∷◌, take, drop, length, nat_eq, is_none, Option, Some, None, refl, sym, ap, ◌∙◌, arith}
+use Rattle.std.specs.List.{list_any}
+use Rattle.std.proofs.lemmas.List.{length-map, length-drop}
+use Rattle.diag.specs.declared.cause.Cause.{Cause}
+use Rattle.hw_model.specs.Types.{HwType}
+use Rattle.hw_model.specs.Types.HwType.{int, clock, array, struct}
+use Rattle.hw_model.specs.Kinds.{Kind, Instance}
+use Rattle.hw_model.specs.Kinds.Kind.{add, mul, and, or, xor, sub, divu, modu, divs, mods, shl, shru, shrs, icmp, parity, extract, concat, replicate, mux, constant, aggregate_constant, array_create, array_concat, array_get, array_slice, array_inject, struct_create, struct_extract, struct_inject, struct_explode, bitcast, wire, instance, output, compreg, compreg_ce, firreg}
+use Rattle.hw_model.specs.Sound.{field_list}
+use Rattle.hw_model.specs.SameType.{same_type, type_from}
+use Rattle.ir_store.specs.ResultTypes.{first_type, second_type, with_width, joined_width, with_length, joined_length, kept_size, as_int, as_array, array_of, element_of, field_of, fields_of, field_count, result_type, result_types, result_count}
+use Rattle.op_verifier.specs.TypeChecks.{is_int}
+use Rattle.op_verifier.specs.TypeLists.{settled, is_no_int, is_no_array, differs, differ}
+use Rattle.op_verifier.specs.OperandChecks.{is_no_array_of, has_other_array, has_other_form, has_other_operand, has_other_result, has_mismatch}
+use Rattle.op_verifier.specs.LimitChecks.{has_type_outside, has_constant_outside, has_extract_outside, has_broken_copy, has_wide_concat, has_unknown_divisor, has_wrong_index, has_unknown_field, has_wrong_field, has_unequal_widths, has_clock_value}
+use Rattle.op_verifier.specs.CountChecks.{operand_count, type_count, has_wrong_operands, has_wrong_results, has_wrong_count}
+use Rattle.op_verifier.specs.OwnChecks.{caused, own_cause}
+use Rattle.op_verifier.proofs.Widths.{neither}
+use Rattle.op_verifier.proofs.Agreeing.{not_false, same_number, pairwise_agreed}
+
+-- ---- what no cause says
+
+uncaused : (b : Bool) (c : Cause) (rest : Option Cause) → caused b c rest ≡ None → (b ≡ false) × (rest ≡ None)
+uncaused false c rest h = (refl, h)
+uncaused true c rest h = cc
+
+-- the tests that do not hold
+pub record Accepted (kind : Kind) (ts rs : List HwType) (xs : List (Option HwType)) : Type 0 where
+  pub form : has_other_form kind ts ≡ false
+  pub operand : has_other_operand kind ts xs ≡ false
+  pub result : differ (settled rs) (result_types kind ts (length xs)) ≡ false
+  pub field : has_unknown_field kind ts ≡ false
+  pub operands : length xs ≡ operand_count kind ts (length xs)
+  pub types : length ts ≡ type_count kind (length xs)
+  pub results : length rs ≡ result_count kind ts
+
+pub accepted : (kind : Kind) (ts rs : List HwType) (named : ℕ) (xs : List (Option HwType)) (b : Bool) → own_cause kind ts rs named xs b ≡ None → Accepted kind ts rs xs
+unfolding own_cause has_mismatch has_wrong_field has_wrong_count has_wrong_operands has_wrong_results has_other_result
+accepted kind ts rs named xs b h =
+    let p3 = uncaused (has_mismatch kind ts rs xs) _ _ h in
+    let p4 = uncaused (has_type_outside kind ts rs) _ _ p3.1 in
+    let p5 = uncaused (has_constant_outside kind ts) _ _ p4.1 in
+    let p6 = uncaused (has_extract_outside kind ts) _ _ p5.1 in
+    let p7 = uncaused (has_broken_copy kind ts) _ _ p6.1 in
+    let p8 = uncaused (has_wide_concat kind ts) _ _ p7.1 in
+    let p9 = uncaused (has_unknown_divisor kind b) _ _ p8.1 in
+    let p10 = uncaused (has_wrong_index kind ts xs) _ _ p9.1 in
+    let p11 = uncaused (has_wrong_field kind ts) _ _ p10.1 in
+    let p12 = uncaused (has_unequal_widths kind ts) _ _ p11.1 in
+    let p13 = uncaused (has_clock_value kind ts) _ _ p12.1 in
+    let p14 = uncaused (has_wrong_count kind ts rs named xs) _ _ p13.1 in
+    let m = neither (has_other_form kind ts) _ p3.0 in
+    let o = neither (has_other_operand kind ts xs) _ m.1 in
+    let f = neither (list_any _ ts) (has_unknown_field kind ts) p11.0 in
+    let c = neither (has_wrong_operands kind ts (length xs)) _ p14.0 in
+    let d = neither (has_wrong_results kind ts (length rs) named) _ c.1 in
+    let e = neither (not (nat_eq (length xs) (operand_count kind ts (length xs)))) _ c.0 in
+    let g = neither (not (nat_eq named (result_count kind ts))) _ d.0 in
+    record {
+      form = m.0;
+      operand = o.0;
+      result = o.1;
+      field = f.1;
+      operands = same_number (length xs) (operand_count kind ts (length xs)) e.0;
+      types = same_number (length ts) (type_count kind (length xs)) e.1;
+      results = same_number (length rs) (result_count kind ts) g.1;
+    }
+
+-- ---- the types that are settled
+
+-- types, so many
+pub record Settles (xs : List (Option HwType)) (count : ℕ) : Type 0 where
+  pub us : List HwType
+  pub same : xs ≡ settled us
+  pub number : length us ≡ count
+
+one : (x : Option HwType) (t : HwType) → x ≡ Some t → Settles (x ∷ []) 1
+one x t e = record { us = t ∷ []; same = ap (λ (y : Option HwType). y ∷ []) e; number = refl }
+
+-- the first of one type or two, and the second
+first_of_one : (ts : List HwType) → length ts ≡ 1 → (t : HwType) × (first_type ts ≡ Some t)
+first_of_one [] n = absurd (omega arith)
+first_of_one (t ∷ ts) n = (t, refl)
+
+first_of_two : (ts : List HwType) → length ts ≡ 2 → (t : HwType) × (first_type ts ≡ Some t)
+first_of_two [] n = absurd (omega arith)
+first_of_two (t ∷ ts) n = (t, refl)
+
+second_of_two : (ts : List HwType) → length ts ≡ 2 → (t : HwType) × (second_type ts ≡ Some t)
+second_of_two [] n = absurd (omega arith)
+second_of_two (t ∷ []) n = absurd (omega arith)
+second_of_two (t ∷ u ∷ ts) n = (u, refl)
+
+by_first : (ts : List HwType) → length ts ≡ 1 → Settles (first_type ts ∷ []) 1
+by_first ts n = let t = first_of_one ts n in one (first_type ts) t.0 t.1
+
+by_second : (ts : List HwType) → length ts ≡ 2 → Settles (second_type ts ∷ []) 1
+by_second ts n = let t = second_of_two ts n in one (second_type ts) t.0 t.1
+
+-- joined integers
+width_known : (ts : List HwType) → list_any (λ (t : HwType). not (is_int t)) ts ≡ false → (w : ℕ) × (joined_width ts ≡ Some w)
+width_known [] h = (0, refl)
+width_known (int v ∷ ts) h =
+    let rest = width_known ts h in
+    (v + rest.0, ap (with_width (int v)) rest.1)
+width_known (clock ∷ ts) h = cc
+width_known (array n t ∷ ts) h = cc
+width_known (struct fs ∷ ts) h = cc
+
+-- joined arrays
+length_known : (e : Option HwType) (ts : List HwType) → list_any (is_no_array_of e) ts ≡ false → (w : ℕ) × (joined_length ts ≡ Some w)
+length_known e [] h = (0, refl)
+length_known e (array n t ∷ ts) h =
+    let rest = length_known e ts (neither (is_no_array_of e (array n t)) (list_any (is_no_array_of e) ts) h).1 in
+    (n + rest.0, ap (with_length (array n t)) rest.1)
+length_known e (int w ∷ ts) h = cc
+length_known e (clock ∷ ts) h = cc
+length_known e (struct fs ∷ ts) h = cc
+
+element_known : (x : Option HwType) (t : HwType) → x ≡ Some t → is_no_array x ≡ false → (u : HwType) × (element_of x ≡ Some u)
+element_known (Some (array n u)) t e h = (u, refl)
+element_known (Some (int w)) t e h = cc
+element_known (Some clock) t e h = cc
+element_known (Some (struct fs)) t e h = cc
+element_known None t e h = cc
+
+joined_arrays : (ts : List HwType) (n : ℕ) → n ≡ max 1 (length ts) → length ts ≡ n → has_other_array ts ≡ false → Settles (array_of (joined_length ts) (element_of (first_type ts)) ∷ []) 1
+joined_arrays [] n some count h = absurd (omega (arith, some, count))
+joined_arrays (t ∷ ts) n some count h =
+    let e = element_of (Some t) in
+    let split = neither (is_no_array_of e t) (list_any (is_no_array_of e) ts) h in
+    let u = element_known (Some t) t refl (neither (is_no_array (Some t)) (differs (element_of (Some t)) e) split.0).0 in
+    let w = length_known e (t ∷ ts) h in
+    one (array_of (joined_length (t ∷ ts)) e) (array (kept_size w.0) u.0)
+    (ap (λ (x : Option ℕ). array_of x e) w.1 ∙ ap (array_of (Some w.0)) u.1)
+
+field_known : (x : Option HwType) → is_none x ≡ false → (t : HwType) × (x ≡ Some t)
+field_known None h = cc
+field_known (Some t) h = (t, refl)
+
+fields_known : (x : Option HwType) → Settles (fields_of x) (field_count x)
+fields_known None = record { us = []; same = refl; number = refl }
+fields_known (Some (int w)) = record { us = []; same = refl; number = refl }
+fields_known (Some clock) = record { us = []; same = refl; number = refl }
+fields_known (Some (array n t)) = record { us = []; same = refl; number = refl }
+fields_known (Some (struct fs)) = record { us = field_list fs; same = refl; number = refl }
+
+settles_all : (kind : Kind) (ts : List HwType) (n : ℕ) → has_other_form kind ts ≡ false → has_unknown_field kind ts ≡ false → n ≡ operand_count kind ts n → length ts ≡ type_count kind n
+    → Settles (result_types kind ts n) (result_count kind ts)
+unfolding result_types result_type result_count type_count operand_count has_other_form
+settles_all add ts n form field operands types = by_first ts types
+settles_all mul ts n form field operands types = by_first ts types
+settles_all and ts n form field operands types = by_first ts types
+settles_all or ts n form field operands types = by_first ts types
+settles_all xor ts n form field operands types = by_first ts types
+settles_all sub ts n form field operands types = by_first ts types
+settles_all divu ts n form field operands types = by_first ts types
+settles_all modu ts n form field operands types = by_first ts types
+settles_all divs ts n form field operands types = by_first ts types
+settles_all mods ts n form field operands types = by_first ts types
+settles_all shl ts n form field operands types = by_first ts types
+settles_all shru ts n form field operands types = by_first ts types
+settles_all shrs ts n form field operands types = by_first ts types
+settles_all mux ts n form field operands types = by_first ts types
+settles_all (constant z) ts n form field operands types = by_first ts types
+settles_all (aggregate_constant ls) ts n form field operands types = by_first ts types
+settles_all struct_create ts n form field operands types = by_first ts types
+settles_all (struct_inject name) ts n form field operands types = by_first ts types
+settles_all wire ts n form field operands types = by_first ts types
+settles_all (compreg r) ts n form field operands types = by_first ts types
+settles_all (compreg_ce r) ts n form field operands types = by_first ts types
+settles_all (firreg r) ts n form field operands types = by_first ts types
+settles_all (extract low) ts n form field operands types = by_second ts types
+settles_all replicate ts n form field operands types = by_second ts types
+settles_all array_slice ts n form field operands types = by_second ts types
+settles_all bitcast ts n form field operands types = by_second ts types
+settles_all (icmp p) ts n form field operands types = one (Some (int 1)) (int 1) refl
+settles_all parity ts n form field operands types = one (Some (int 1)) (int 1) refl
+settles_all concat ts n form field operands types =
+    let w = width_known ts form in one (as_int (joined_width ts)) (int (kept_size w.0)) (ap as_int w.1)
+settles_all array_create ts n form field operands types =
+    let t = first_of_one ts types in one (as_array n (first_type ts)) (array (kept_size n) t.0) (ap (as_array n) t.1)
+settles_all array_concat ts n form field operands types = joined_arrays ts n operands types form
+settles_all array_get ts n form field operands types =
+    let t = first_of_two ts types in
+    let u = element_known (first_type ts) t.0 t.1 (neither (is_no_array (first_type ts)) (is_no_int (second_type ts)) form).0 in
+    one (element_of (first_type ts)) u.0 u.1
+settles_all array_inject ts n form field operands types = let t = first_of_two ts types in one (first_type ts) t.0 t.1
+settles_all (struct_extract name) ts n form field operands types =
+    let t = field_known (field_of (first_type ts) name) field in one (field_of (first_type ts) name) t.0 t.1
+settles_all struct_explode ts n form field operands types = fields_known (first_type ts)
+settles_all (instance i) ts n form field operands types =
+    record { us = drop (length i.inputs) ts; same = refl; number = length-drop (length i.inputs) ts }
+settles_all output ts n form field operands types = record { us = []; same = refl; number = refl }
+
+-- an operation that is not refused by itself has results of the types that it settles
+pub settles : (kind : Kind) (ts rs : List HwType) (named : ℕ) (xs : List (Option HwType)) (b : Bool) → own_cause kind ts rs named xs b ≡ None
+    → result_types kind ts (length xs) ≡ settled rs
+settles kind ts rs named xs b h =
+    let a = accepted kind ts rs named xs b h in
+    let s = settles_all kind ts (length xs) a.form a.field a.operands a.types in
+    s.same ∙ ap settled (sym (pairwise_agreed rs s.us (a.results ∙ sym s.number) (ap (differ (settled rs)) (sym s.same) ∙ a.result)))
+
+-- the first of some types, which differ nowhere from others
+first_types : (us ts : List HwType) → length us ≤ length ts → differ (settled us) (settled ts) ≡ false → us ≡ take (length us) ts
+first_types [] ts n h = refl
+first_types (u ∷ us) [] n h = absurd (omega (arith, n))
+first_types (u ∷ us) (t ∷ ts) n h =
+    let p = neither (differs (Some u) (Some t)) (differ (settled us) (settled ts)) h in
+    let e : u ≡ t = type_from u t (not_false (same_type u t) p.0) in
+    let f : us ≡ take (length us) ts = first_types us ts (omega (arith, n)) p.1 in cc
+
+-- the operands of an instance that is not refused by itself have the types that it writes first
+pub instance_operands : (i : Instance) (ts rs : List HwType) (named : ℕ) (us : List HwType) (b : Bool) → own_cause (instance i) ts rs named (settled us) b ≡ None
+    → us ≡ take (length i.inputs) ts
+unfolding has_other_operand operand_count type_count
+instance_operands i ts rs named us b h =
+    let a = accepted (instance i) ts rs named (settled us) b h in
+    let n : length (settled us) ≡ length us = length-map us (λ (t : HwType). Some t) in
+    let inputs : length us ≡ length i.inputs = sym n ∙ a.operands in
+    let all : length ts ≡ length i.inputs + length i.outputs = a.types in
+    first_types us ts (omega (arith, inputs, all)) a.operand ∙ ap (λ (k : ℕ). take k ts) inputs
+
+-- those of an output have the types that it writes
+pub output_operands : (ts rs : List HwType) (named : ℕ) (us : List HwType) (b : Bool) → own_cause output ts rs named (settled us) b ≡ None → us ≡ ts
+unfolding has_other_operand operand_count type_count
+output_operands ts rs named us b h =
+    let a = accepted output ts rs named (settled us) b h in
+    let n : length (settled us) ≡ length us = length-map us (λ (t : HwType). Some t) in
+    pairwise_agreed us ts (sym n ∙ a.operands) a.operand

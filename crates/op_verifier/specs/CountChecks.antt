@@ -1,0 +1,81 @@
+-- How many operands, types and results an operation has (CIRCT: operation references of the HW, Comb and Seq dialects).
+-- In a text that is read only the results named, the fields of hw.struct_create and the elements of
+-- hw.aggregate_constant can be too few or too many.
+use Rattle.std.specs.Prelude.{ℕ, ◌+◌, max, Bool, false, not, ◌||◌, nat_eq, List, length, Option, Some, None}
+use Rattle.hw_model.specs.Types.{HwType}
+use Rattle.hw_model.specs.Kinds.{Kind, Reset, Literals}
+use Rattle.hw_model.specs.Kinds.Reset.{no_reset, sync_reset}
+use Rattle.hw_model.specs.Kinds.Literal.{parts}
+use Rattle.hw_model.specs.Kinds.Kind.{add, mul, and, or, xor, parity, extract, concat, replicate, mux, constant, aggregate_constant, array_create, array_concat, array_get, array_slice, array_inject, struct_create, struct_extract, struct_explode, bitcast, wire, instance, output, compreg, compreg_ce, firreg}
+use Rattle.ir_store.specs.ResultTypes.{first_type, field_count, result_count}
+use Rattle.op_verifier.specs.LiteralChecks.{is_miscounted}
+
+-- the operands of a reset
+abbrev pub reset_operands : Reset → ℕ
+reset_operands no_reset = 0
+reset_operands sync_reset = 2
+
+-- how many operands an operation takes that writes these types and has n operands: of some kinds any number from 1 on
+unfoldable pub operand_count : Kind → List HwType → ℕ → ℕ
+operand_count add ts n = max 1 n
+operand_count mul ts n = max 1 n
+operand_count and ts n = max 1 n
+operand_count or ts n = max 1 n
+operand_count xor ts n = max 1 n
+operand_count parity ts n = 1
+operand_count (extract low) ts n = 1
+operand_count concat ts n = max 1 (length ts)
+operand_count replicate ts n = 1
+operand_count mux ts n = 3
+operand_count (constant z) ts n = 0
+operand_count (aggregate_constant ls) ts n = 0
+operand_count array_create ts n = max 1 n
+operand_count array_concat ts n = max 1 (length ts)
+operand_count array_inject ts n = 3
+operand_count struct_create ts n = field_count (first_type ts)
+operand_count (struct_extract name) ts n = 1
+operand_count struct_explode ts n = 1
+operand_count bitcast ts n = 1
+operand_count wire ts n = 1
+operand_count (instance i) ts n = length i.inputs
+operand_count output ts n = length ts
+operand_count (compreg r) ts n = 2 + reset_operands r
+operand_count (compreg_ce r) ts n = 3 + reset_operands r
+operand_count (firreg r) ts n = 2 + reset_operands r
+operand_count kind ts n = 2
+
+-- how many types it writes
+unfoldable pub type_count : Kind → ℕ → ℕ
+type_count (extract low) n = 2
+type_count concat n = n
+type_count replicate n = 2
+type_count array_concat n = n
+type_count array_get n = 2
+type_count array_slice n = 2
+type_count array_inject n = 2
+type_count bitcast n = 2
+type_count (instance i) n = length i.inputs + length i.outputs
+type_count output n = n
+type_count kind n = 1
+
+-- whether a constant has other numbers of parts than its type
+abbrev pub parts_miscounted : Literals → Option HwType → Bool
+parts_miscounted ls None = false
+parts_miscounted ls (Some t) = is_miscounted (parts ls) t
+
+-- whether an aggregate constant has
+unfoldable pub has_miscounted_parts : Kind → List HwType → Bool
+has_miscounted_parts (aggregate_constant ls) ts = parts_miscounted ls (first_type ts)
+has_miscounted_parts kind ts = false
+
+-- whether the operands or the types are too few or too many
+unfoldable pub has_wrong_operands : Kind → List HwType → ℕ → Bool
+has_wrong_operands kind ts n = not (nat_eq n (operand_count kind ts n)) || not (nat_eq (length ts) (type_count kind n))
+
+-- whether the results are, or those that are named
+unfoldable pub has_wrong_results : Kind → List HwType → ℕ → ℕ → Bool
+has_wrong_results kind ts count named = not (nat_eq named (result_count kind ts)) || not (nat_eq count (result_count kind ts))
+
+-- whether an operation has a wrong number of values
+unfoldable pub has_wrong_count : Kind → List HwType → List HwType → ℕ → List (Option HwType) → Bool
+has_wrong_count kind ts rs named xs = has_wrong_operands kind ts (length xs) || (has_wrong_results kind ts (length rs) named || has_miscounted_parts kind ts)

@@ -1,0 +1,16 @@
+pub mod Answers
+pub mod BodyViews
+pub mod CountChecks
+pub mod Entries
+pub mod Faults
+pub mod Headers
+pub mod LimitChecks
+pub mod LiteralChecks
+pub mod OpChecks
+pub mod OperandChecks
+pub mod OwnChecks
+pub mod OwnViews
+pub mod Tables
+pub mod TypeChecks
+pub mod TypeLists
+pub mod Verdict

@@ -1,0 +1,137 @@
+//! How many operands, types and results an operation has.
+ghost use Rattle.std.specs.Prelude.{◌≡◌, ◌+◌, map, length, nat_eq};
+ghost use Rattle.std.specs.Option.{option_map};
+ghost use Rattle.hw_model.specs.TypeViews.{type_of};
+ghost use Rattle.hw_model.specs.KindViews.{kind_of, reset_of, literals_in};
+ghost use Rattle.ir_store.specs.ResultTypes.{field_count, result_count};
+ghost use Rattle.op_verifier.specs.CountChecks.{reset_operands, operand_count, type_count, parts_miscounted, has_miscounted_parts, has_wrong_operands, has_wrong_results};
+
+use crate::literal_checks::are_parts_miscounted;
+use crate::type_parts::field_count;
+use hw_model::kinds::{Instance, LiteralList, OpKind, Reset};
+use hw_model::types::Ty;
+
+/// Whether an operation has too few or too many operands, or written types.
+#[tactic(auto, unfolding(crate::specs::CountChecks::has_wrong_operands))]
+pub(crate) fn has_wrong_operands(kind: &OpKind, types: &[Ty], operands: usize) -> bool
+    ensures { result ≡ has_wrong_operands (kind_of kind.now) (map type_of types.now) operands }
+{
+    operands != operand_count(kind, types, operands) || !has_type_count(kind, types, operands)
+}
+
+/// How many operands an operation takes: of some kinds any number from 1 on.
+#[tactic(auto, unfolding(crate::specs::CountChecks::operand_count))]
+fn operand_count(kind: &OpKind, types: &[Ty], operands: usize) -> usize
+    ensures { result ≡ operand_count (kind_of kind.now) (map type_of types.now) operands }
+{
+    match kind {
+        OpKind::Add | OpKind::Mul | OpKind::And | OpKind::Or | OpKind::Xor | OpKind::ArrayCreate =>
+            operands.max(1),
+        OpKind::Concat | OpKind::ArrayConcat => types.len().max(1),
+        OpKind::Constant(_) | OpKind::AggregateConstant(_) => 0,
+        OpKind::Parity
+        | OpKind::Extract(_)
+        | OpKind::Replicate
+        | OpKind::StructExtract(_)
+        | OpKind::StructExplode
+        | OpKind::Bitcast
+        | OpKind::Wire => 1,
+        OpKind::Mux | OpKind::ArrayInject => 3,
+        OpKind::StructCreate => struct_size(types.first()),
+        OpKind::Instance(instance) => instance.inputs.len(),
+        OpKind::Output => types.len(),
+        OpKind::CompReg(reset) | OpKind::FirReg(reset) => 2 + reset_operands(*reset),
+        OpKind::CompRegCe(reset) => 3 + reset_operands(*reset),
+        _ => 2,
+    }
+}
+
+/// The operands of a reset.
+fn reset_operands(reset: Reset) -> usize
+    ensures { result ≡ reset_operands (reset_of reset) }
+{
+    match reset {
+        Reset::No => 0,
+        Reset::Sync => 2,
+    }
+}
+
+/// How many fields a struct has; what is no struct has none.
+fn struct_size(ty: Option<&Ty>) -> usize
+    ensures { result ≡ field_count (option_map (λ t. type_of t.now) ty.entry) }
+{
+    match ty {
+        Some(Ty::Struct(list)) => field_count(&list.fields),
+        Some(Ty::Clock | Ty::Int(_) | Ty::Array(..)) | None => 0,
+    }
+}
+
+/// Whether an operation has as many written types as its form.
+#[tactic(auto, unfolding(crate::specs::CountChecks::type_count))]
+fn has_type_count(kind: &OpKind, types: &[Ty], operands: usize) -> bool
+    ensures { result ≡ nat_eq (length types.now) (type_count (kind_of kind.now) operands) }
+{
+    match kind {
+        OpKind::Concat | OpKind::ArrayConcat | OpKind::Output => types.len() == operands,
+        OpKind::Extract(_)
+        | OpKind::Replicate
+        | OpKind::ArrayGet
+        | OpKind::ArraySlice
+        | OpKind::ArrayInject
+        | OpKind::Bitcast => types.len() == 2,
+        OpKind::Instance(instance) => has_port_types(instance, types),
+        _ => types.len() == 1,
+    }
+}
+
+/// Whether an instance has a type for each of its inputs and outputs.
+fn has_port_types(instance: &Instance, types: &[Ty]) -> bool
+    ensures { result ≡ nat_eq (length types.now) (length instance.now.inputs.items + length instance.now.outputs.items) }
+{
+    match types.len().checked_sub(instance.inputs.len()) {
+        Some(outputs) => outputs == instance.outputs.len(),
+        None => false,
+    }
+}
+
+/// Whether an operation has too few or too many results, or names too few or too many.
+#[tactic(auto, unfolding(crate::specs::CountChecks::has_wrong_results))]
+pub(crate) fn has_wrong_results(kind: &OpKind, types: &[Ty], results: usize, named: u32) -> bool
+    ensures { result ≡ has_wrong_results (kind_of kind.now) (map type_of types.now) results named }
+{
+    let count = result_count(kind, types);
+    named as usize != count || results != count
+}
+
+/// How many results an operation has.
+#[tactic(auto, unfolding(ir_store::specs::ResultTypes::result_count))]
+fn result_count(kind: &OpKind, types: &[Ty]) -> usize
+    ensures { result ≡ result_count (kind_of kind.now) (map type_of types.now) }
+{
+    match kind {
+        OpKind::Output => 0,
+        OpKind::StructExplode => struct_size(types.first()),
+        OpKind::Instance(instance) => types.len().saturating_sub(instance.inputs.len()),
+        _ => 1,
+    }
+}
+
+/// Whether an aggregate constant, or a list in it, is shorter or longer than its type.
+#[tactic(auto, unfolding(crate::specs::CountChecks::has_miscounted_parts))]
+pub(crate) fn has_miscounted_parts(kind: &OpKind, types: &[Ty]) -> bool
+    ensures { result ≡ has_miscounted_parts (kind_of kind.now) (map type_of types.now) }
+{
+    match kind {
+        OpKind::AggregateConstant(list) => parts_miscounted(list, types.first()),
+        _ => false,
+    }
+}
+
+fn parts_miscounted(list: &LiteralList, ty: Option<&Ty>) -> bool
+    ensures { result ≡ parts_miscounted (literals_in list.now) (option_map (λ t. type_of t.now) ty.entry) }
+{
+    match ty {
+        Some(ty) => are_parts_miscounted(list, ty),
+        None => false,
+    }
+}

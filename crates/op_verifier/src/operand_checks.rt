@@ -1,0 +1,145 @@
+//! The operands of an operation and the kinds of its types against what its form asks for.
+ghost use Rattle.std.specs.Prelude.{◌≡◌, ◌<◌, map};
+ghost use Rattle.std.specs.Option.{option_map};
+ghost use Rattle.std.specs.List.{list_any};
+ghost use Rattle.hw_model.specs.TypeViews.{type_of};
+ghost use Rattle.hw_model.specs.KindViews.{kind_of, reset_of, literals_in};
+ghost use Rattle.op_verifier.specs.OperandChecks.{is_no_array_of, has_other_array, has_other_form, enable_differs, reset_differs, register_differs, parts_differ, has_other_operand};
+
+use crate::literal_checks::{LeafTest, any_failing_leaf, parts_differ as list_differs};
+use crate::type_lists::{
+    any_differs, any_other_than_int, differ_from_fields, differ_from_types, differ_in_three,
+    differ_in_two, differs, is_no_array, is_no_int, is_no_struct, settled_at,
+};
+use crate::type_parts::{element_of, field_of, fields_in};
+use hw_model::kinds::{LiteralList, OpKind, Reset};
+use hw_model::types::Ty;
+
+/// Whether a written type is of a kind that the form does not take.
+#[tactic(auto, unfolding(crate::specs::OperandChecks::has_other_form))]
+pub(crate) fn has_other_form(kind: &OpKind, types: &[Ty]) -> bool
+    ensures { result ≡ has_other_form (kind_of kind.now) (map type_of types.now) }
+{
+    match kind {
+        OpKind::AggregateConstant(list) => any_failing_leaf(LeafTest::Kind, &list.literals),
+        OpKind::ArrayConcat | OpKind::ArraySlice => has_other_array(types),
+        OpKind::ArrayGet | OpKind::ArrayInject => {
+            is_no_array(types.first()) || is_no_int(types.get(1))
+        }
+        OpKind::StructCreate
+        | OpKind::StructExtract(_)
+        | OpKind::StructInject(_)
+        | OpKind::StructExplode => is_no_struct(types.first()),
+        OpKind::Mux
+        | OpKind::ArrayCreate
+        | OpKind::Bitcast
+        | OpKind::Wire
+        | OpKind::Instance(_)
+        | OpKind::Output
+        | OpKind::CompReg(_)
+        | OpKind::CompRegCe(_)
+        | OpKind::FirReg(_) => false,
+        _ => any_other_than_int(types),
+    }
+}
+
+/// Whether a type is no array, or one of other elements.
+fn is_no_array_of(element: Option<&Ty>, ty: &Ty) -> bool
+    ensures { result ≡ is_no_array_of (option_map (λ t. type_of t.now) element.entry) (type_of ty.now) }
+{
+    is_no_array(Some(ty)) || differs(element_of(Some(ty)), element)
+}
+
+/// Whether one of the types is no array, or one of other elements than the first.
+fn has_other_array(types: &[Ty]) -> bool
+    ensures { result ≡ has_other_array (map type_of types.now) }
+{
+    any_other_array(element_of(types.first()), types)
+}
+
+fn any_other_array(element: Option<&Ty>, types: &[Ty]) -> bool
+    ensures { result ≡ list_any (is_no_array_of (option_map (λ t. type_of t.now) element.entry)) (map type_of types.now) }
+{
+    for ty in types {
+        if is_no_array_of(element, ty) {
+            return true;
+        }
+    }
+    false
+}
+
+/// Whether an operand's type is not the written or required one, where it is settled; of an aggregate constant, whether
+/// its parts are none of its type.
+#[tactic(auto, unfolding(crate::specs::OperandChecks::has_other_operand))]
+pub(crate) fn has_other_operand(kind: &OpKind, types: &[Ty], operands: &[Option<&Ty>]) -> bool
+    ensures { result ≡ has_other_operand (kind_of kind.now) (map type_of types.now) (map (option_map (λ t. type_of t.now)) operands.now) }
+{
+    let first = types.first();
+    match kind {
+        OpKind::Concat
+        | OpKind::ArrayConcat
+        | OpKind::ArrayGet
+        | OpKind::Instance(_)
+        | OpKind::Output => differ_from_types(operands, types),
+        OpKind::Mux => differ_in_three(operands, Some(&Ty::Int(1)), first, first),
+        OpKind::AggregateConstant(list) => parts_differ(list, first),
+        OpKind::ArraySlice => {
+            differs(settled_at(operands, 0), first) || is_no_int(settled_at(operands, 1))
+        }
+        OpKind::ArrayInject => differ_in_three(operands, first, types.get(1), element_of(first)),
+        OpKind::StructCreate => differ_from_fields(operands, fields_in(first)),
+        OpKind::StructInject(name) => differ_in_two(operands, first, field_of(first, name)),
+        OpKind::CompReg(reset) | OpKind::FirReg(reset) => {
+            register_differs(false, *reset, first, operands)
+        }
+        OpKind::CompRegCe(reset) => register_differs(true, *reset, first, operands),
+        _ => any_differs(operands, first),
+    }
+}
+
+/// Whether a list of constants is none of the type, where there is one.
+fn parts_differ(list: &LiteralList, ty: Option<&Ty>) -> bool
+    ensures { result ≡ parts_differ (literals_in list.now) (option_map (λ t. type_of t.now) ty.entry) }
+{
+    match ty {
+        Some(ty) => list_differs(list, ty),
+        None => false,
+    }
+}
+
+/// Whether an operand of a register has another type than is due.
+fn register_differs(
+    has_enable: bool,
+    reset: Reset,
+    ty: Option<&Ty>,
+    operands: &[Option<&Ty>],
+) -> bool
+    ensures { result ≡ register_differs has_enable (reset_of reset) (option_map (λ t. type_of t.now) ty.entry) (map (option_map (λ t. type_of t.now)) operands.now) }
+{
+    let at = if has_enable { 3 } else { 2 };
+    differ_in_two(operands, ty, Some(&Ty::Clock))
+        || (enable_differs(has_enable, operands) || reset_differs(reset, ty, at, operands))
+}
+
+fn enable_differs(has_enable: bool, operands: &[Option<&Ty>]) -> bool
+    ensures { result ≡ enable_differs has_enable (map (option_map (λ t. type_of t.now)) operands.now) }
+{
+    if has_enable {
+        differs(settled_at(operands, 2), Some(&Ty::Int(1)))
+    } else {
+        false
+    }
+}
+
+fn reset_differs(reset: Reset, ty: Option<&Ty>, at: usize, operands: &[Option<&Ty>]) -> bool
+    requires { at < 4 }
+    ensures { result ≡ reset_differs (reset_of reset) (option_map (λ t. type_of t.now) ty.entry) at (map (option_map (λ t. type_of t.now)) operands.now) }
+{
+    match reset {
+        Reset::No => false,
+        Reset::Sync => {
+            differs(settled_at(operands, at), Some(&Ty::Int(1)))
+                || differs(settled_at(operands, at + 1), ty)
+        }
+    }
+}
