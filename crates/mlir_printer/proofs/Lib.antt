@@ -3,3 +3,11 @@ pub mod Entries
 pub mod Passing
 pub mod Numbered
 pub mod Listing
+pub mod LexedTexts
+pub mod LexedStrings
+pub mod LexedNames
+pub mod LexedNumbers
+pub mod LexedCommas
+pub mod LexedTypes
+pub mod LexedAttributes
+pub mod LexedLiterals
