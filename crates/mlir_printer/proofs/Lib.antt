@@ -6,3 +6,11 @@ pub mod Listing
 pub mod NameTables
 pub mod NamedDefinitions
 pub mod ValuesFound
+pub mod LexedTexts
+pub mod LexedStrings
+pub mod LexedNames
+pub mod LexedNumbers
+pub mod LexedCommas
+pub mod LexedTypes
+pub mod LexedAttributes
+pub mod LexedLiterals

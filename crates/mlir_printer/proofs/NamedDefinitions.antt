@@ -16,7 +16,7 @@ use Rattle.mlir_reader.specs.Resolving.Defined.{is_port, are_results}
 use Rattle.mlir_printer.specs.Pieces.{ValueText}
 use Rattle.mlir_printer.specs.Naming.{wishes, wishes_of, pack_wishes, name_count, body_wishes, port_wish, port_wishes, input_count, first_name, called, firsts, is_pack, value_at, value_in, port_value, listed_names, results_named}
 use Rattle.mlir_printer.specs.Texts.{parts_in, operations_shown, operation_shown, ports_shown, port_shown}
-use Rattle.mlir_printer.specs.Said.{operand_said, operation_said, port_said}
+use Rattle.mlir_printer.specs.Spellable.{said_operand, said_operation, said_port}
 use Rattle.mlir_printer.proofs.NameTables.{Among, Finds, finds_left, finds_right}
 
 abbrev pub name_of : Definition → Name
@@ -102,24 +102,24 @@ results_names i own o ns = go (is_pack o.kind (length o.results)) refl
         ∙ sym (ap (λ k. firsts k ns) (pack_named o.kind o.types o.name (length o.results) h))
     go false h = ap (map name_of) (each_defined i own o ns h) ∙ names_from_named i 0 (firsts (name_count o) ns)
 
-pub ports_names : (j : ℕ) (ns : List Name) (ps : List Port) → map name_of (port_definitions j (map port_said (ports_shown ns ps))) ≡ firsts (input_count ps) ns
+pub ports_names : (j : ℕ) (ns : List Name) (ps : List Port) → map name_of (port_definitions j (map said_port (ports_shown ns ps))) ≡ firsts (input_count ps) ns
 ports_names j ns [] = refl
 ports_names j ns (p ∷ ps) = go p.is_output (ports_names (j + 1) (drop (length (port_wish p)) ns) ps)
   where
     go : (b : Bool)
-        → map name_of (port_definitions (j + 1) (map port_said (ports_shown (drop (length (cond b [] (Some p.name ∷ []))) ns) ps)))
+        → map name_of (port_definitions (j + 1) (map said_port (ports_shown (drop (length (cond b [] (Some p.name ∷ []))) ns) ps)))
         ≡ firsts (input_count ps) (drop (length (cond b [] (Some p.name ∷ []))) ns)
-        → map name_of (port_definition j (cond b None (Some (first_name ns))) ++ port_definitions (j + 1) (map port_said (ports_shown (drop (length (cond b [] (Some p.name ∷ []))) ns) ps)))
+        → map name_of (port_definition j (cond b None (Some (first_name ns))) ++ port_definitions (j + 1) (map said_port (ports_shown (drop (length (cond b [] (Some p.name ∷ []))) ns) ps)))
         ≡ firsts (length (cond b [] (Some p.name ∷ []) ++ port_wishes ps)) ns
     go true r = r
     go false r = ap (λ l. first_name ns ∷ l) r
 
 pub body_names : (means : Ref → ValueText) (i : ℕ) (ns : List Name) (os : List Op)
-    → map name_of (body_definitions i (map operation_said (operations_shown means ns os))) ≡ firsts (length (body_wishes (map parts_in os))) ns
+    → map name_of (body_definitions i (map said_operation (operations_shown means ns os))) ≡ firsts (length (body_wishes (map parts_in os))) ns
 body_names means i ns [] = refl
 body_names means i ns (o ∷ os) =
-    let here = operation_said (operation_shown (parts_in o) (map means o.operands) ns) in
-    let rest = map operation_said (operations_shown means (drop (name_count (parts_in o)) ns) os) in
+    let here = said_operation (operation_shown (parts_in o) (map means o.operands) ns) in
+    let rest = map said_operation (operations_shown means (drop (name_count (parts_in o)) ns) os) in
     map_append name_of (operation_definitions i here) (body_definitions (i + 1) rest)
     ∙ ap (λ l. l ++ map name_of (body_definitions (i + 1) rest)) (results_names i (own_count here) (parts_in o) ns)
     ∙ ap (λ l. firsts (name_count (parts_in o)) ns ++ l) (body_names means (i + 1) (drop (name_count (parts_in o)) ns) os)

@@ -11,4 +11,4 @@ pub mod Modules
 pub mod Naming
 pub mod Texts
 pub mod Views
-pub mod Said
+pub mod Spellable
