@@ -14,3 +14,4 @@ pub mod LexedCommas
 pub mod LexedTypes
 pub mod LexedAttributes
 pub mod LexedLiterals
+pub mod GivenNames
