@@ -15,3 +15,5 @@ pub mod LexedTypes
 pub mod LexedAttributes
 pub mod LexedLiterals
 pub mod GivenNames
+pub mod KindsKept
+pub mod EntriesKept

@@ -12,3 +12,4 @@ pub mod Naming
 pub mod Texts
 pub mod Views
 pub mod Spellable
+pub mod Printable
