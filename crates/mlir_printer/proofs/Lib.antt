@@ -17,3 +17,4 @@ pub mod LexedLiterals
 pub mod GivenNames
 pub mod KindsKept
 pub mod EntriesKept
+pub mod OperationsAgain

@@ -93,7 +93,7 @@ each_defined i own o ns h =
     ap (λ b. names_defined i own (cond b (ResultNames.pack (first_name ns) (length o.results)) (listed_names (firsts (name_count o) ns)))) h
     ∙ listed_defined i own (firsts (name_count o) ns)
 
-results_names : (i own : ℕ) (o : OpParts) (ns : List Name) → map name_of (names_defined i own (results_named o ns)) ≡ firsts (name_count o) ns
+pub results_names : (i own : ℕ) (o : OpParts) (ns : List Name) → map name_of (names_defined i own (results_named o ns)) ≡ firsts (name_count o) ns
 results_names i own o ns = go (is_pack o.kind (length o.results)) refl
   where
     go : (b : Bool) → is_pack o.kind (length o.results) ≡ b → map name_of (names_defined i own (results_named o ns)) ≡ firsts (name_count o) ns
