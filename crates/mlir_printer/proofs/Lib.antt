@@ -18,3 +18,4 @@ pub mod GivenNames
 pub mod KindsKept
 pub mod EntriesKept
 pub mod OperationsAgain
+pub mod DesignsAgain
