@@ -78,7 +78,7 @@ definitions_append : (m : Meanings) (ds es : List Definition) → with_definitio
 definitions_append m [] es = refl
 definitions_append m (d ∷ ds) es = definitions_append (with_definition m d) ds es
 
-each_among : {A : Type 0} (P : A → Type 0) (xs : List A) (x : A) → Each P xs → Among x xs → P x
+pub each_among : {A : Type 0} (P : A → Type 0) (xs : List A) (x : A) → Each P xs → Among x xs → P x
 each_among P [] x h a = absurd a
 each_among P (y ∷ xs) x h (inl e) = subst P (sym e) h.0
 each_among P (y ∷ xs) x h (inr a) = each_among P xs x h.1 a

@@ -17,7 +17,7 @@ use Rattle.mlir_printer.specs.Printable.{KeepsConstants}
 
 -- ---- constants
 
-negative_parts : (w n : ℕ) → is_negative w n ≡ true → (1 < w) × (w < 129) × (2 ^ (w - 1) ≤ n) × (n < 2 ^ w)
+pub negative_parts : (w n : ℕ) → is_negative w n ≡ true → (1 < w) × (w < 129) × (2 ^ (w - 1) ≤ n) × (n < 2 ^ w)
 negative_parts w n h =
     let a = and_parts (nat_lt 1 w) (nat_lt w 129 && (nat_le (2 ^ (w - 1)) n && nat_lt n (2 ^ w))) h in
     let b = and_parts (nat_lt w 129) (nat_le (2 ^ (w - 1)) n && nat_lt n (2 ^ w)) a.1 in

@@ -19,3 +19,6 @@ pub mod KindsKept
 pub mod EntriesKept
 pub mod OperationsAgain
 pub mod DesignsAgain
+pub mod FormsFit
+pub mod DictionariesFit
+pub mod DesignsFit

@@ -15,7 +15,7 @@ use Rattle.mlir_reader.specs.Numerals.{count_limit}
 use Rattle.mlir_reader.specs.OperationText.{takes_bin, string_keys}
 use Rattle.mlir_reader.specs.ModuleText.{module_keys}
 use Rattle.mlir_reader.specs.Resolving.{kept_by_first, kept_literals, is_dropped, has_name, type_or_none}
-use Rattle.mlir_printer.specs.Naming.{port_wishes, body_wishes}
+use Rattle.mlir_printer.specs.Naming.{is_pack, port_wishes, body_wishes}
 use Rattle.mlir_printer.specs.Texts.{listed_of, parts_in}
 use Rattle.mlir_printer.specs.Spellable.{Each, AreBytes, MayBeBytes, IsInteger, IsAnyType, AreLiterals, IsEntry}
 
@@ -136,7 +136,7 @@ pub record IsPrintableOp (ports : List Port) (body : List Op) (o : Op) : Type 0 
   pub results : o.results ≡ map settled_result (result_types o.kind o.types (length o.operands))
   -- each result is named, and a pack has fewer than its limit
   pub named : o.named ≡ length o.results
-  pub few : length o.results < count_limit
+  pub few : is_pack o.kind (length o.results) ≡ true → length o.results < count_limit
   -- constants are kept as their bits, and what is said can be written
   pub kept : KeepsConstants o.kind o.types
   pub written : IsWritten o.kind
