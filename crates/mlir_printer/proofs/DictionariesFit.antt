@@ -105,7 +105,7 @@ either_less a b h g = go (slice_cmp nat_cmp a b) refl
         absurd (false≢true (sym g ∙ ap (λ x. same_name b x) s ∙ name_self b))
     go Greater e = ap is_lt (nat_list_cmp_total.antisymm b a ∙ ap ordering_reverse e)
 
-put_in_order : (e : Entry) (es : List Entry) → AreInOrder es → Each (λ (x : Entry). same_name e.key x.key ≡ false) es → AreInOrder (put_entry e es)
+pub put_in_order : (e : Entry) (es : List Entry) → AreInOrder es → Each (λ (x : Entry). same_name e.key x.key ≡ false) es → AreInOrder (put_entry e es)
 put_in_order e [] up other = tt
 put_in_order e (f ∷ es) up other = go (is_less f e) refl (put_in_order e es (in_order_rest f es up) other.1)
   where
@@ -113,7 +113,7 @@ put_in_order e (f ∷ es) up other = go (is_less f e) refl (put_in_order e es (i
     go true l r = in_order_cons f (put_entry e es) (put_above f e es (starts_above f es up) l) r
     go false l r = (either_less f.key e.key l other.0, up)
 
-each_put : (P : Entry → Type 0) (e : Entry) (es : List Entry) → P e → Each P es → Each P (put_entry e es)
+pub each_put : (P : Entry → Type 0) (e : Entry) (es : List Entry) → P e → Each P es → Each P (put_entry e es)
 each_put P e [] h g = (h, tt)
 each_put P e (f ∷ es) h g = go (is_less f e) (each_put P e es h g.1)
   where

@@ -22,3 +22,5 @@ pub mod DesignsAgain
 pub mod FormsFit
 pub mod DictionariesFit
 pub mod DesignsFit
+pub mod ReadBytes
+pub mod ReadPieces
