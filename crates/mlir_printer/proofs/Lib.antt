@@ -24,3 +24,4 @@ pub mod DictionariesFit
 pub mod DesignsFit
 pub mod ReadBytes
 pub mod ReadPieces
+pub mod ReadOperations
