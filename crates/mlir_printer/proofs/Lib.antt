@@ -25,3 +25,4 @@ pub mod DesignsFit
 pub mod ReadBytes
 pub mod ReadPieces
 pub mod ReadOperations
+pub mod ReadModules
