@@ -26,3 +26,4 @@ pub mod ReadBytes
 pub mod ReadPieces
 pub mod ReadOperations
 pub mod ReadModules
+pub mod VerifiedDesigns
