@@ -11,3 +11,8 @@ pub mod LexedCommas
 pub mod LexedTypes
 pub mod LexedAttributes
 pub mod LexedLiterals
+pub mod LexedOperands
+pub mod LexedInstances
+pub mod LexedPieces
+pub mod LexedOperations
+pub mod LexedModules
