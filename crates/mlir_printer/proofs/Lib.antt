@@ -16,3 +16,4 @@ pub mod LexedInstances
 pub mod LexedPieces
 pub mod LexedOperations
 pub mod LexedModules
+pub mod SaidForms
