@@ -31,7 +31,8 @@ said_input j = record { port = j.port; operand = said_operand j.operand; type = 
 input_lexed : (j : InputText) → AreBytes j.port → IsOperand j.operand → IsAnyType j.type → Lexed (InputPhrase (said_input j)) (input_bytes j)
 unfolding input_bytes
 input_lexed j name operand type =
-    then (name_lexed j.port name) (then_on colon_blank (then (operand_lexed j.operand operand) (then_on colon_blank (type_lexed j.type most_open type)) refl)) refl
+    then (name_lexed j.port name)
+    (then_on colon_blank (then (operand_lexed j.operand operand) (then_on colon_blank (type_lexed j.type most_open type)) refl)) refl
 
 output_lexed : (q : NamedType) → AreBytes q.name → IsAnyType q.type → Lexed (OutputPhrase q) (output_bytes q)
 unfolding output_bytes
@@ -45,7 +46,8 @@ each_input (p ∷ ps) (o ∷ os) [] h g k = tt
 each_input (p ∷ ps) (o ∷ os) (t ∷ ts) h g k =
     (input_lexed (record { port = p; operand = o; type = t }) h.0 g.0 k.0, each_input ps os ts h.1 g.1 k.1)
 
-each_output : (qs : List Name) (ts : List HwType) → Each AreBytes qs → Each IsAnyType ts → Each (λ q. Lexed (OutputPhrase q) (output_bytes q)) (outputs_joined qs ts)
+each_output : (qs : List Name) (ts : List HwType) → Each AreBytes qs → Each IsAnyType ts
+    → Each (λ q. Lexed (OutputPhrase q) (output_bytes q)) (outputs_joined qs ts)
 each_output [] ts h k = tt
 each_output (q ∷ qs) [] h k = tt
 each_output (q ∷ qs) (t ∷ ts) h k = (output_lexed (record { name = q; type = t }) h.0 k.0, each_output qs ts h.1 k.1)
@@ -89,7 +91,8 @@ gathered_of g i os ts ps qs = record {
   extra = child (record { name = i.name; inner_symbol = i.inner_symbol; symbol = i.symbol; inputs = ps; outputs = qs });
 }
 
-same_gathered : (g : Gathered) (i : Instance) (os os' : List OperandName) (ts ts' : List HwType) (ps ps' qs qs' : List Name) → os ≡ os' → ts ≡ ts' → ps ≡ ps'
+same_gathered : (g : Gathered) (i : Instance) (os os' : List OperandName) (ts ts' : List HwType) (ps ps' qs qs' : List Name) → os ≡ os' → ts ≡ ts'
+    → ps ≡ ps'
     → qs ≡ qs' → gathered_of g i os ts ps qs ≡ gathered_of g i os' ts' ps' qs'
 same_gathered g i os os' ts ts' ps ps' qs qs' a b c d =
     ap (λ x. gathered_of g i x ts ps qs) a ∙ ap (λ x. gathered_of g i os' x ps qs) b ∙ ap (λ x. gathered_of g i os' ts' x qs) c
@@ -127,10 +130,12 @@ instance_says g i os ts h =
     let left : length (drop (length i.inputs) ts) ≡ length i.outputs = rw (length-drop (length i.inputs) ts) (omega (arith, types)) in
     let (names, behind) = outputs_say i.outputs (drop (length i.inputs) ts) left in
     let front : types_said (inputs_of i os ts) ++ types_out (outputs_of i ts) ≡ ts =
-    ap (λ x. x ++ types_out (outputs_of i ts)) inputs.types ∙ ap (λ x. take (length i.inputs) ts ++ x) behind ∙ take-append-drop (length i.inputs) ts in
+    ap (λ x. x ++ types_out (outputs_of i ts)) inputs.types ∙ ap (λ x. take (length i.inputs) ts ++ x) behind
+    ∙ take-append-drop (length i.inputs) ts in
     let all : (g.types ++ types_said (inputs_of i os ts)) ++ types_out (outputs_of i ts) ≡ g.types ++ ts =
     append_assoc g.types (types_said (inputs_of i os ts)) (types_out (outputs_of i ts)) ∙ ap (λ x. g.types ++ x) front in
-    sym (same_gathered g i (operands_said (inputs_of i os ts)) (map said_operand os) ((g.types ++ types_said (inputs_of i os ts)) ++ types_out (outputs_of i ts)) (g.types ++ ts)
+    sym (same_gathered g i (operands_said (inputs_of i os ts)) (map said_operand os)
+    ((g.types ++ types_said (inputs_of i os ts)) ++ types_out (outputs_of i ts)) (g.types ++ ts)
     (ports_said (inputs_of i os ts)) i.inputs (names_out (outputs_of i ts)) i.outputs inputs.operands all inputs.ports names)
 
 -- ---- instances
@@ -154,12 +159,14 @@ inputs_lexed : (i : Instance) (os : List ValueText) (ts : List HwType) → IsIns
     → Lexed (Commas InputPhrase (inputs_of i os ts)) (commas input_bytes (inputs_joined i.inputs os ts))
 inputs_lexed i os ts h =
     lexed_as (commas_said InputPhrase said_input (inputs_joined i.inputs os ts))
-    (commas_lexed (λ j. InputPhrase (said_input j)) input_bytes (inputs_joined i.inputs os ts) (each_input i.inputs os ts h.inputs h.operands h.types))
+    (commas_lexed (λ j. InputPhrase (said_input j)) input_bytes (inputs_joined i.inputs os ts)
+    (each_input i.inputs os ts h.inputs h.operands h.types))
 
 outputs_lexed : (i : Instance) (os : List ValueText) (ts : List HwType) → IsInstance i os ts
     → Lexed (Commas OutputPhrase (outputs_of i ts)) (commas output_bytes (outputs_of i ts))
 outputs_lexed i os ts h =
-    commas_lexed OutputPhrase output_bytes (outputs_of i ts) (each_output i.outputs (drop (length i.inputs) ts) h.outputs (each_left IsAnyType (length i.inputs) ts h.types))
+    commas_lexed OutputPhrase output_bytes (outputs_of i ts)
+    (each_output i.outputs (drop (length i.inputs) ts) h.outputs (each_left IsAnyType (length i.inputs) ts h.types))
 
 connections_lexed : (i : Instance) (os : List ValueText) (ts : List HwType) → IsInstance i os ts
     → Lexed (ConnectionsPhrase (inputs_of i os ts) (outputs_of i ts)) (connections_bytes i.inputs i.outputs os ts)

@@ -30,11 +30,13 @@ use Rattle.mlir_printer.proofs.LexedOperations.{Anywhere, operation_name, operat
 -- ---- ports
 
 -- `"name"`, or nothing where a port is called as its value
-port_name_lexed : (v name : Name) → AreBytes name → Lexed (Either (Holding kind.StringLiteral name) (Where (name ≡ v) Nothing)) (port_name_bytes v name)
+port_name_lexed : (v name : Name) → AreBytes name
+    → Lexed (Either (Holding kind.StringLiteral name) (Where (name ≡ v) Nothing)) (port_name_bytes v name)
 unfolding port_name_bytes
 port_name_lexed v name small = go (same_name v name) refl
   where
-    go : (b : Bool) → same_name v name ≡ b → Lexed (Either (Holding kind.StringLiteral name) (Where (name ≡ v) Nothing)) (cond b [] (codes " " ++ string_bytes name))
+    go : (b : Bool) → same_name v name ≡ b
+        → Lexed (Either (Holding kind.StringLiteral name) (Where (name ≡ v) Nothing)) (cond b [] (codes " " ++ string_bytes name))
     go true e = lexed_as (λ ts w. inr (sym ((bytes_decides v name).0 e), w)) (lexed nothing)
     go false e = lexed_as (λ ts w. inl w) (blank_on (lexed (string_lexed name small)))
 
@@ -62,7 +64,8 @@ each_port : (p : PortText) → IsSpellablePort p → Lexed (PortPhrase (said_por
 each_port p h = port_lexed p.value p.name p.type h.value h.name h.type
 
 ports_lexed : (ps : List PortText) → Each IsSpellablePort ps → Lexed (Commas PortPhrase (map said_port ps)) (commas port_bytes ps)
-ports_lexed ps h = lexed_as (commas_said PortPhrase said_port ps) (commas_lexed (λ p. PortPhrase (said_port p)) port_bytes ps (each_of each_port ps h))
+ports_lexed ps h =
+    lexed_as (commas_said PortPhrase said_port ps) (commas_lexed (λ p. PortPhrase (said_port p)) port_bytes ps (each_of each_port ps h))
 
 -- ---- modules
 
@@ -79,7 +82,8 @@ unfolding private_bytes
 private_whole true = blank_behind (bare_lexed (codes "private") refl)
 private_whole false = nothing
 
-module_word : Whole (One (λ (t : Lexeme). (t.kind ≡ kind.BareName) × (t.text ≡ name_of_listed listed.HwModule) × Anywhere t start_place)) (codes "  hw.module ")
+module_word :
+    Whole (One (λ (t : Lexeme). (t.kind ≡ kind.BareName) × (t.text ≡ name_of_listed listed.HwModule) × Anywhere t start_place)) (codes "  hw.module ")
 unfolding name_of_listed
 module_word = blank_on_whole (blank_on_whole (blank_behind (operation_name listed.HwModule start_place)))
 
@@ -91,7 +95,8 @@ close_line = whole_as (λ ts w. (w.0, w.1, (w.2, tt))) (blank_on_whole (blank_on
 
 -- the bytes of a module by its phrases
 regrouped : (a b c p d brace x : List ℕ)
-    → a ++ (b ++ (c ++ ((codes "(" ++ (p ++ codes ")")) ++ (d ++ (brace ++ x))))) ≡ (a ++ (b ++ (c ++ (codes "(" ++ (p ++ (codes ")" ++ (d ++ brace))))))) ++ x
+    → a ++ (b ++ (c ++ ((codes "(" ++ (p ++ codes ")")) ++ (d ++ (brace ++ x)))))
+    ≡ (a ++ (b ++ (c ++ (codes "(" ++ (p ++ (codes ")" ++ (d ++ brace))))))) ++ x
 regrouped a b c p d brace x = simp append_assoc
 
 module_whole : (m : ModuleText) → IsSpellable m → Whole (ModulePhrase Anywhere (said m)) (module_bytes m)
@@ -115,7 +120,8 @@ file_whole : (ms : List ModuleText) → Each IsSpellable ms → Whole (FilePhras
 unfolding file_bytes
 file_whole ms h =
     let word : Whole FileWord (codes "module ") = whole_as (λ ts w. inl w) (blank_behind (bare_lexed (codes "module") refl)) in
-    let inside : Whole (Between kind.LeftBrace kind.RightBrace (ModulesPhrase Anywhere (map said ms))) (codes "{" ++ ((10 ∷ []) ++ (modules_bytes ms ++ (codes "}" ++ (10 ∷ []))))) =
+    let inside : Whole (Between kind.LeftBrace kind.RightBrace (ModulesPhrase Anywhere (map said ms)))
+    (codes "{" ++ ((10 ∷ []) ++ (modules_bytes ms ++ (codes "}" ++ (10 ∷ []))))) =
     then_whole (line_behind (lexed left_brace)) (then_whole (modules_whole ms h) (line_behind (lexed right_brace))) in
     whole_as (λ ts w. inr ([], w)) (then_whole word (whole_as (λ ts w. ([], ts, refl, inr refl, ([], ts, refl, inr (refl, refl), w))) inside))
 

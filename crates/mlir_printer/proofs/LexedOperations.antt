@@ -44,7 +44,8 @@ unfolding results_bytes
 results_whole no_names h = nothing
 results_whole (names n ns) h =
     closed 32 (codes "= ") (commas_lexed ValueName value_name_bytes (n ∷ ns) (each_of value_name_lexed (n ∷ ns) h)) blank_equals refl
-results_whole (pack n k) h = closed 58 _ (value_name_lexed n h.0) (then_whole colon_mark (closed 32 (codes "= ") (count_lexed k h.1) blank_equals refl)) refl
+results_whole (pack n k) h =
+    closed 58 _ (value_name_lexed n h.0) (then_whole colon_mark (closed 32 (codes "= ") (count_lexed k h.1) blank_equals refl)) refl
 
 -- ---- names of operations
 
@@ -89,7 +90,8 @@ name_bare listed.SeqCompreg = refl
 name_bare listed.SeqCompregCe = refl
 name_bare listed.SeqFirreg = refl
 
-pub operation_name : (o : Listed) (place : Place) → Lexed (One (λ (t : Lexeme). (t.kind ≡ kind.BareName) × (t.text ≡ name_of_listed o) × Anywhere t place)) (name_of_listed o)
+pub operation_name : (o : Listed) (place : Place)
+    → Lexed (One (λ (t : Lexeme). (t.kind ≡ kind.BareName) × (t.text ≡ name_of_listed o) × Anywhere t place)) (name_of_listed o)
 operation_name o place = lexed_as (λ ts w. (w.0, w.1, (w.2.0, w.2.1, tt))) (bare_lexed (name_of_listed o) (name_bare o))
 
 -- ---- forms
@@ -240,7 +242,8 @@ unfolding given
 given_once [] = refl
 given_once (e ∷ es) = (refl, refl)
 
-given_lexed : (strings : List Name) (es : List Entry) → IsDictionary strings es → Lexed (MaybeDictionary strings (given es)) (dictionary_bytes (codes " ") es)
+given_lexed : (strings : List Name) (es : List Entry) → IsDictionary strings es
+    → Lexed (MaybeDictionary strings (given es)) (dictionary_bytes (codes " ") es)
 unfolding given dictionary_bytes
 given_lexed strings [] h = lexed nothing
 given_lexed strings (e ∷ es) h = blank_on (lexed (dictionary_lexed strings (e ∷ es) h))
@@ -272,10 +275,12 @@ form_lexed : (strings : List Name) (s : Shape) (p : Pending) (es : List Entry) �
 unfolding form_bytes
 form_lexed strings s p es h d =
     let types = pieces_lexed (type_pieces s) (left_behind_all (front_pieces s) p) (gathered_front s p) h.types (types_parted s) in
-    let said = subst (λ x. Lexed (PiecesPhrase (type_pieces s) (gathered_front s p) x) (pieces_bytes (type_pieces s) (left_behind_all (front_pieces s) p))) h.all types in
+    let said = subst (λ x. Lexed (PiecesPhrase (type_pieces s) (gathered_front s p) x)
+    (pieces_bytes (type_pieces s) (left_behind_all (front_pieces s) p))) h.all types in
     let behind = then (given_lexed strings es d) (lexed_as with_nothing said)
     (pieces_stop (type_pieces s) (left_behind_all (front_pieces s) p) (gathered_front s p) h.types (types_stop s)) in
-    let front = front_lexed (front_pieces s) p gathered_nothing (gathered_front s p) (pieces_lexed (front_pieces s) p gathered_nothing h.front (front_parted s)) in
+    let front = front_lexed (front_pieces s) p gathered_nothing (gathered_front s p)
+    (pieces_lexed (front_pieces s) p gathered_nothing h.front (front_parted s)) in
     lexed_as (λ ts w. (gathered_front s p, given es, None, given_once es, w)) (then front behind (behind_stops s p es h))
 
 -- ---- operations
@@ -303,7 +308,8 @@ operation_lexed o h =
 
 line_whole : (o : OperationText) → IsSpellableOperation o → Whole (OperationPhrase Anywhere (said_operation o)) (operation_line o)
 unfolding operation_line
-line_whole o h = whole_as behind_nothing (then_whole (blank (codes "    ") (inl refl, (inl refl, (inl refl, (inl refl, tt))))) (line_behind (operation_lexed o h)))
+line_whole o h =
+    whole_as behind_nothing (then_whole (blank (codes "    ") (inl refl, (inl refl, (inl refl, (inl refl, tt))))) (line_behind (operation_lexed o h)))
 
 -- the operations of a body are read as themselves
 pub operations_whole : (os : List OperationText) → AreSpellable os → Whole (OperationsPhrase Anywhere (map said_operation os)) (operation_lines os)

@@ -27,9 +27,10 @@ use Rattle.mlir_printer.proofs.LexedInstances.{instance_lexed}
 
 -- ---- what is said besides operands and types
 
-predicate_piece : (e : Extra) (p : Pending) (g : Gathered) → p.extra ≡ e → SaysPredicate e → Whole (PiecePhrase piece.Predicate g (with_extra g e)) (predicate_said e ++ codes " ")
-predicate_piece (predicate q) p g same h = whole_as (λ ts w. (q, _, refl, predicate_back q, w)) (predicate_word q)
-predicate_piece _ p g same h = absurd h
+predicate_piece : (e : Extra) (g : Gathered) → SaysPredicate e
+    → Whole (PiecePhrase piece.Predicate g (with_extra g e)) (predicate_said e ++ codes " ")
+predicate_piece (predicate q) g h = whole_as (λ ts w. (q, _, refl, predicate_back q, w)) (predicate_word q)
+predicate_piece _ g h = absurd h
 
 position_piece : (e : Extra) (g : Gathered) → SaysPosition e → Lexed (PiecePhrase piece.Number g (with_extra g e)) (position_said e)
 position_piece (position n) g h = lexed_as (λ ts w. (n, refl, w)) (count_lexed n h)
@@ -44,7 +45,8 @@ integer_piece : (e : Extra) (g : Gathered) → SaysInteger e → Lexed (PiecePhr
 integer_piece (number z) g h = lexed_as (λ ts w. (z, refl, w)) (integer_lexed z h)
 integer_piece _ g h = absurd h
 
-literals_piece : (e : Extra) (g : Gathered) → SaysLiterals e → Whole (PiecePhrase piece.Literals g (with_extra g e)) (codes "[" ++ (literals_said e ++ codes "]"))
+literals_piece : (e : Extra) (g : Gathered) → SaysLiterals e
+    → Whole (PiecePhrase piece.Literals g (with_extra g e)) (codes "[" ++ (literals_said e ++ codes "]"))
 literals_piece (literals ls) g h = whole_as (λ ts w. (ls, refl, w)) (aggregate_lexed ls h)
 literals_piece _ g h = absurd h
 
@@ -64,12 +66,14 @@ reset_lexed : (Reset : Phrase) (word : List ℕ) → Whole Reset word → (r v :
     → Lexed (ResetPhrase Reset g (with_extra (with_operands g (said_operand r ∷ said_operand v ∷ [])) with_reset))
     (word ++ (operand_bytes r ++ (codes ", " ++ operand_bytes v)))
 reset_lexed Reset word whole r v g hr hv =
-    lexed_as (λ ts w. (said_operand r, said_operand v, refl, w)) (then_on whole (then (operand_lexed r hr) (then_on comma_blank (operand_lexed v hv)) refl))
+    lexed_as (λ ts w. (said_operand r, said_operand v, refl, w))
+    (then_on whole (then (operand_lexed r hr) (then_on comma_blank (operand_lexed v hv)) refl))
 
 -- a word and two operands, or nothing
 reset_piece : (Reset : Phrase) (word : List ℕ) → Whole Reset word → (e : Extra) (os : List ValueText) (g : Gathered) → MayReset e os
     → Lexed (Either (ResetPhrase Reset g (gathered_reset e os g)) (Where (gathered_reset e os g ≡ g) Nothing)) (reset_said word e os)
-reset_piece Reset word whole with_reset os g h = lexed_as (λ ts w. inl w) (reset_lexed Reset word whole (first_operand os) (first_operand (drop 1 os)) g h.0 h.1)
+reset_piece Reset word whole with_reset os g h =
+    lexed_as (λ ts w. inl w) (reset_lexed Reset word whole (first_operand os) (first_operand (drop 1 os)) g h.0 h.1)
 reset_piece Reset word whole _ os g h = lexed_as (λ ts w. inr (refl, w)) (lexed nothing)
 
 reset_word : Whole (Word (codes "reset")) (codes " reset ")
@@ -104,8 +108,9 @@ piece_lexed (piece.Word w) p g h = lexed_as (λ ts v. (refl, v)) (lexed (word_wh
 piece_lexed piece.Operand p g h = lexed_as (λ ts w. (said_operand (first_operand p.operands), refl, w)) (operand_lexed (first_operand p.operands) h)
 piece_lexed piece.Operands p g h = some_operands p.operands g h.0 h.1
 piece_lexed piece.Group p g h =
-    lexed_as (λ ts w. (map said_operand p.operands, refl, w)) (lexed (between 41 [] left_parenthesis (operands_lexed p.operands h) right_parenthesis refl))
-piece_lexed piece.Predicate p g h = lexed (predicate_piece p.extra p g refl h)
+    lexed_as (λ ts w. (map said_operand p.operands, refl, w))
+    (lexed (between 41 [] left_parenthesis (operands_lexed p.operands h) right_parenthesis refl))
+piece_lexed piece.Predicate p g h = lexed (predicate_piece p.extra g h)
 piece_lexed piece.Number p g h = position_piece p.extra g h
 piece_lexed piece.Truth p g h = truth_piece p.extra g h
 piece_lexed piece.Integer p g h = integer_piece p.extra g h
@@ -125,11 +130,12 @@ is_closed (piece.Word w) = true
 is_closed piece.Predicate = true
 is_closed _ = false
 
-closed_piece : (x : Piece) (p : Pending) (g : Gathered) → is_closed x ≡ true → Needs x p g → Whole (PiecePhrase x g (gathered_with x p g)) (piece_bytes x p)
+closed_piece : (x : Piece) (p : Pending) (g : Gathered) → is_closed x ≡ true → Needs x p g
+    → Whole (PiecePhrase x g (gathered_with x p g)) (piece_bytes x p)
 unfolding piece_bytes
 closed_piece (piece.Mark k) p g e h = whole_as (λ ts w. (refl, w)) (mark_whole k h)
 closed_piece (piece.Word w) p g e h = whole_as (λ ts v. (refl, v)) (word_whole w)
-closed_piece piece.Predicate p g e h = predicate_piece p.extra p g refl h
+closed_piece piece.Predicate p g e h = predicate_piece p.extra g h
 closed_piece _ p g e h = absurd cc
 
 -- whether the tokens in front of pieces end where these begin
@@ -153,7 +159,8 @@ pieces_stop [] p g h e = tt
 pieces_stop (piece.Mark k ∷ xs) p g h e = mark_stops k (pieces_bytes xs (left_behind (piece.Mark k) p)) h.0
 pieces_stop (piece.Word w ∷ xs) p g h e = word_stops w (pieces_bytes xs (left_behind (piece.Word w) p))
 pieces_stop (piece.Reset ∷ xs) p g h e =
-    reset_stops (codes " reset ") (λ rest. refl) p.extra p.operands (pieces_bytes xs (left_behind piece.Reset p)) (pieces_stop xs (left_behind piece.Reset p) (gathered_with piece.Reset p g) h.1 e)
+    reset_stops (codes " reset ") (λ rest. refl) p.extra p.operands (pieces_bytes xs (left_behind piece.Reset p))
+    (pieces_stop xs (left_behind piece.Reset p) (gathered_with piece.Reset p g) h.1 e)
 pieces_stop (piece.SyncReset ∷ xs) p g h e =
     reset_stops (codes " reset sync ") (λ rest. refl) p.extra p.operands (pieces_bytes xs (left_behind piece.SyncReset p))
     (pieces_stop xs (left_behind piece.SyncReset p) (gathered_with piece.SyncReset p g) h.1 e)
@@ -167,7 +174,8 @@ is_parted (x ∷ xs) = (is_closed x || stops_at xs) && is_parted xs
 -- a piece and those behind it
 parted : (x : Piece) (xs : List Piece) (p : Pending) (g : Gathered) → NeedAll (x ∷ xs) p g → (c : Bool) → is_closed x ≡ c → (c || stops_at xs) ≡ true
     → Lexed (PiecesPhrase xs (gathered_with x p g) (gathered_with_all xs (left_behind x p) (gathered_with x p g))) (pieces_bytes xs (left_behind x p))
-    → Lexed (Then (PiecePhrase x g (gathered_with x p g)) (PiecesPhrase xs (gathered_with x p g) (gathered_with_all (x ∷ xs) p g))) (pieces_bytes (x ∷ xs) p)
+    → Lexed (Then (PiecePhrase x g (gathered_with x p g)) (PiecesPhrase xs (gathered_with x p g) (gathered_with_all (x ∷ xs) p g)))
+    (pieces_bytes (x ∷ xs) p)
 parted x xs p g h true closed e more = then_on (closed_piece x p g closed h.0) more
 parted x xs p g h false opened e more = then (piece_lexed x p g h.0) more (pieces_stop xs (left_behind x p) (gathered_with x p g) h.1 e)
 

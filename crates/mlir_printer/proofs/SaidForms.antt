@@ -18,11 +18,13 @@ use Rattle.mlir_printer.specs.Spellable.{Each, AreBytes, IsAnyType, IsInteger, A
 abbrev pub pending : List ValueText → List HwType → Extra → Pending
 pending os ts e = record { operands = os; types = ts; extra = e }
 
-pub says_variadic : (os : List ValueText) (t : HwType) → 1 ≤ length os → Each IsOperand os → IsAnyType t → IsSaidAs shape.Variadic (pending os (t ∷ []) nothing)
+pub says_variadic : (os : List ValueText) (t : HwType) → 1 ≤ length os → Each IsOperand os → IsAnyType t
+    → IsSaidAs shape.Variadic (pending os (t ∷ []) nothing)
 unfolding front_pieces type_pieces
 says_variadic os t some h type = record { front = ((some, h), tt); types = (tt, (type, tt)); all = refl }
 
-pub says_binary : (a b : ValueText) (t : HwType) → IsOperand a → IsOperand b → IsAnyType t → IsSaidAs shape.Binary (pending (a ∷ b ∷ []) (t ∷ []) nothing)
+pub says_binary : (a b : ValueText) (t : HwType) → IsOperand a → IsOperand b → IsAnyType t
+    → IsSaidAs shape.Binary (pending (a ∷ b ∷ []) (t ∷ []) nothing)
 unfolding front_pieces type_pieces
 says_binary a b t ha hb type = record { front = (ha, (tt, (hb, tt))); types = (tt, (type, tt)); all = refl }
 
@@ -45,7 +47,8 @@ pub says_joined : (os : List ValueText) (ts : List HwType) → 1 ≤ length os �
 unfolding front_pieces type_pieces
 says_joined os ts some h count types = record { front = ((some, h), tt); types = (tt, ((rw length-map count, types), tt)); all = refl }
 
-pub says_conversion : (a : ValueText) (t u : HwType) → IsOperand a → IsAnyType t → IsAnyType u → IsSaidAs shape.Conversion (pending (a ∷ []) (t ∷ u ∷ []) nothing)
+pub says_conversion : (a : ValueText) (t u : HwType) → IsOperand a → IsAnyType t → IsAnyType u
+    → IsSaidAs shape.Conversion (pending (a ∷ []) (t ∷ u ∷ []) nothing)
 unfolding front_pieces type_pieces
 says_conversion a t u ha from to = record { front = (ha, tt); types = (tt, (tt, (from, (tt, (tt, (to, tt)))))); all = refl }
 
@@ -104,7 +107,8 @@ pub says_nothing : IsSaidAs shape.Nothing (pending [] [] nothing)
 unfolding front_pieces type_pieces
 says_nothing = record { front = tt; types = tt; all = refl }
 
-pub says_register : (a c : ValueText) (t : HwType) → IsOperand a → IsOperand c → IsAnyType t → IsSaidAs shape.Register (pending (a ∷ c ∷ []) (t ∷ []) nothing)
+pub says_register : (a c : ValueText) (t : HwType) → IsOperand a → IsOperand c → IsAnyType t
+    → IsSaidAs shape.Register (pending (a ∷ c ∷ []) (t ∷ []) nothing)
 unfolding front_pieces type_pieces
 says_register a c t ha hc type = record { front = (ha, (tt, (hc, (tt, tt)))); types = (tt, (type, tt)); all = refl }
 
@@ -124,7 +128,8 @@ unfolding front_pieces type_pieces
 says_reset_enabled a c e r v t ha hc he hr hv type =
     record { front = (ha, (tt, (hc, (tt, (he, ((hr, hv), tt)))))); types = (tt, (type, tt)); all = refl }
 
-pub says_clocked : (a c : ValueText) (t : HwType) → IsOperand a → IsOperand c → IsAnyType t → IsSaidAs shape.ClockedRegister (pending (a ∷ c ∷ []) (t ∷ []) nothing)
+pub says_clocked : (a c : ValueText) (t : HwType) → IsOperand a → IsOperand c → IsAnyType t
+    → IsSaidAs shape.ClockedRegister (pending (a ∷ c ∷ []) (t ∷ []) nothing)
 unfolding front_pieces type_pieces
 says_clocked a c t ha hc type = record { front = (ha, (tt, (hc, (tt, tt)))); types = (tt, (type, tt)); all = refl }
 
