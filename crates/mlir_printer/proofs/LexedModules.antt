@@ -8,7 +8,7 @@ use Rattle.diag.specs.Listed.{name_of_listed}
 use Rattle.diag.specs.declared.listed.Listed.TheVariants as listed
 use Rattle.hw_model.specs.Types.{Name, HwType}
 use Rattle.hw_model.specs.Design.{Entry, same_name}
-use Rattle.mlir_lexer.specs.Tokens.{Lexeme, tokens, tokens_behind}
+use Rattle.mlir_lexer.specs.Tokens.{Lexeme, tokens_behind}
 use Rattle.mlir_lexer.specs.declared.token.TokenKind.TheVariants as kind
 use Rattle.mlir_reader.specs.TypeText.{most_open}
 use Rattle.mlir_reader.specs.ModuleText.{module_keys}
@@ -17,7 +17,7 @@ use Rattle.mlir_printer.specs.Strings.{symbol_bytes, string_bytes}
 use Rattle.mlir_printer.specs.Commas.{commas}
 use Rattle.mlir_printer.specs.Attributes.{dictionary_bytes}
 use Rattle.mlir_printer.specs.Modules.{PortText, ModuleText, port_name_bytes, input_port_bytes, output_port_bytes, port_bytes_by, port_bytes, private_bytes, header_bytes, module_bytes, modules_bytes, file_bytes}
-use Rattle.mlir_printer.specs.Spellable.{Each, AreBytes, IsAnyType, IsDictionary, MayBeValue, IsSpellablePort, IsSpellable, said, said_port}
+use Rattle.mlir_printer.specs.Spellable.{Each, AreBytes, IsAnyType, IsDictionary, MayBeValue, IsSpellablePort, IsSpellable, AreSpelled, said, said_port}
 use Rattle.mlir_printer.proofs.LexedTexts.{Stops, Whole, Lexed, lexed, lexed_as, whole_as, whole_by, then, then_on, then_whole, closed, nothing, blank_on, blank_on_whole, blank_behind, line_behind, left_brace, right_brace, left_parenthesis, right_parenthesis}
 use Rattle.mlir_printer.proofs.LexedStrings.{string_lexed}
 use Rattle.mlir_printer.proofs.LexedNames.{bare_lexed, name_lexed, symbol_lexed, value_name_lexed}
@@ -126,8 +126,7 @@ file_whole ms h =
     whole_as (λ ts w. inr ([], w)) (then_whole word (whole_as (λ ts w. ([], ts, refl, inr refl, ([], ts, refl, inr (refl, refl), w))) inside))
 
 -- the bytes of spellable texts are read as what they say
-pub spellable_texts_are_spelled : (ms : List ModuleText) → Each IsSpellable ms
-    → (ts : List Lexeme) × (tokens (file_bytes ms) ≡ map token_of ts) × FilePhrase (λ t place. Unit {0}) (map said ms) ts
+pub spellable_texts_are_spelled : (ms : List ModuleText) → Each IsSpellable ms → AreSpelled (file_bytes ms) ms
 unfolding tokens_behind
 spellable_texts_are_spelled ms h =
     let all = (file_whole ms h).lex [] start_place 0 in
