@@ -17,3 +17,4 @@ pub mod LexedPieces
 pub mod LexedOperations
 pub mod LexedModules
 pub mod SaidForms
+pub mod SpellableExample
