@@ -25,8 +25,8 @@ operand : (name : Name) → IsValueName name → IsOperand (called name)
 unfolding called
 operand name h = record { name = h; number = tt }
 
-sum : OperationText
-sum = record {
+addition : OperationText
+addition = record {
   results = names (codes "0") [];
   name = listed.CombAdd;
   bin = false;
@@ -34,8 +34,8 @@ sum = record {
   dictionary = [];
 }
 
-end : OperationText
-end = record { results = no_names; name = listed.HwOutput; bin = false; pending = pending (called (codes "0") ∷ []) (byte ∷ []) nothing; dictionary = [] }
+output : OperationText
+output = record { results = no_names; name = listed.HwOutput; bin = false; pending = pending (called (codes "0") ∷ []) (byte ∷ []) nothing; dictionary = [] }
 
 adder : ModuleText
 adder = record {
@@ -45,7 +45,7 @@ adder = record {
       record { value = Some (codes "a"); name = codes "a"; type = byte } ∷ record { value = Some (codes "b"); name = codes "b"; type = byte }
       ∷ record { value = None; name = codes "sum"; type = byte } ∷ [];
   dictionary = [];
-  operations = sum ∷ end ∷ [];
+  operations = addition ∷ output ∷ [];
 }
 
 name_a : IsValueName (codes "a")
@@ -58,7 +58,7 @@ name_0 : IsValueName (codes "0")
 name_0 = record { some = omega arith; whole = refl }
 
 adder_is_spellable : IsSpellable adder
-unfolding adder sum end byte called shape_shown shape_of
+unfolding adder addition output byte called shape_shown shape_of
 adder_is_spellable = record {
   symbol = (omega arith, (omega arith, (omega arith, (omega arith, (omega arith, tt)))));
   ports = (
