@@ -44,7 +44,8 @@ items_lexed P bytes i some x (y ∷ ys) one each =
     lexed_by (ap (λ c. bytes x ++ (c ++ (bytes y ++ items_from bytes (i + 1) ys))) (sym (comma_is i some))) (then one (then_on comma_blank more) refl)
 
 -- items
-pub commas_lexed : {A : Type 0} (P : A → Phrase) (bytes : A → List ℕ) (xs : List A) → Each (λ y. Lexed (P y) (bytes y)) xs → Lexed (Commas P xs) (commas bytes xs)
+pub commas_lexed : {A : Type 0} (P : A → Phrase) (bytes : A → List ℕ) (xs : List A) → Each (λ y. Lexed (P y) (bytes y)) xs
+    → Lexed (Commas P xs) (commas bytes xs)
 unfolding comma_bytes
 commas_lexed P bytes [] each = lexed nothing
 commas_lexed P bytes (x ∷ xs) each = items_lexed P bytes 1 (omega arith) x xs each.0 each.1
@@ -56,6 +57,7 @@ each_of to (x ∷ xs) h = (to x h.0, each_of to xs h.1)
 
 -- ---- between marks
 
-pub between : {left right : TokenKind} {P : Phrase} {a b : List ℕ} (c : ℕ) (cs : List ℕ) → Whole (Mark left) a → Lexed P b → Whole (Mark right) (c ∷ cs)
+pub between : {left right : TokenKind} {P : Phrase} {a b : List ℕ} (c : ℕ) (cs : List ℕ) → Whole (Mark left) a → Lexed P b
+    → Whole (Mark right) (c ∷ cs)
     → is_suffix_byte c ≡ false → Whole (Between left right P) (a ++ (b ++ (c ∷ cs)))
 between c cs opened inside close ends = then_whole opened (closed c cs inside close ends)

@@ -24,7 +24,8 @@ pub run_whole : (test : ℕ → Bool) (xs rest : List ℕ) → run test xs ≡ l
 run_whole test [] rest h stop = stop
 run_whole test (x ∷ xs) rest h stop = go (test x) refl h (run_whole test xs rest)
   where
-    go : (t : Bool) → test x ≡ t → cond t (run test xs + 1) 0 ≡ suc (length xs) → (run test xs ≡ length xs → run test rest ≡ 0 → run test (xs ++ rest) ≡ length xs)
+    go : (t : Bool) → test x ≡ t → cond t (run test xs + 1) 0 ≡ suc (length xs)
+        → (run test xs ≡ length xs → run test rest ≡ 0 → run test (xs ++ rest) ≡ length xs)
         → run test (x ∷ (xs ++ rest)) ≡ suc (length xs)
     go true e h more =
         let less : run test xs ≡ length xs = omega (arith, h) in
@@ -117,7 +118,8 @@ signed_lexed {k} b name front some whole = record {
 pub value_name_lexed : (name : Name) → IsValueName name → Lexed (ValueName name) (value_name_bytes name)
 unfolding value_name_bytes front_of sign_front
 value_name_lexed name h =
-    lexed_as (λ ts p. (p.0, p.1, (p.2.0, ap (content_of kind.ValueName) p.2.1))) (signed_lexed {k = kind.ValueName} 37 name (λ bs. refl) h.some h.whole)
+    lexed_as (λ ts p. (p.0, p.1, (p.2.0, ap (content_of kind.ValueName) p.2.1)))
+    (signed_lexed {k = kind.ValueName} 37 name (λ bs. refl) h.some h.whole)
 
 -- the word of a type
 pub type_word_lexed : (name : List ℕ) → 1 ≤ length name → suffix_length name ≡ length name → Lexed (TypeWord name) (33 ∷ name)
@@ -133,7 +135,8 @@ start_no_digit b h = grind (arith, h)
 name_is_suffix : (b : ℕ) → is_name_byte b ≡ true → is_suffix_byte b ≡ true
 name_is_suffix b h = ap (λ t. t || (b == 45)) h
 
-pub run_wider : (test other : ℕ → Bool) (bs : List ℕ) → ((b : ℕ) → test b ≡ true → other b ≡ true) → run test bs ≡ length bs → run other bs ≡ length bs
+pub run_wider : (test other : ℕ → Bool) (bs : List ℕ) → ((b : ℕ) → test b ≡ true → other b ≡ true) → run test bs ≡ length bs
+    → run other bs ≡ length bs
 run_wider test other [] to h = refl
 run_wider test other (b ∷ bs) to h = go (test b) refl h (run_wider test other bs to)
   where
@@ -159,7 +162,8 @@ bare_symbol (b ∷ bs) h =
     let (start, whole) = both (is_name_start b) (run is_name_byte bs == length bs) h in
     let quote = unlike_byte is_name_start b 34 refl start in
     lexed_as (λ ts p. (p.0, p.1, (p.2.0, ap (content_of kind.SymbolName) p.2.1)))
-    (signed_lexed {k = kind.SymbolName} 64 (b ∷ bs) (λ rest. cond-false (b == 34) _ _ quote) (omega arith) (bare_suffix b bs start (eqb-true _ _ whole)))
+    (signed_lexed {k = kind.SymbolName} 64 (b ∷ bs) (λ rest. cond-false (b == 34) _ _ quote) (omega arith)
+    (bare_suffix b bs start (eqb-true _ _ whole)))
 
 -- a symbol is read as what it holds
 pub symbol_lexed : (name : Name) → AreBytes name → Lexed (SymbolPhrase name) (symbol_bytes name)

@@ -40,7 +40,8 @@ run_joined [] d h digit = cond-true (is_digit d) 1 0 digit
 run_joined (x ∷ xs) d h digit = go (is_digit x) refl h (λ e. run_joined xs d e digit)
   where
     go : (t : Bool) → is_digit x ≡ t → cond t (run is_digit xs + 1) 0 ≡ suc (length xs)
-        → (run is_digit xs ≡ length xs → run is_digit (xs ++ (d ∷ [])) ≡ length (xs ++ (d ∷ []))) → run is_digit (x ∷ (xs ++ (d ∷ []))) ≡ suc (length (xs ++ (d ∷ [])))
+        → (run is_digit xs ≡ length xs → run is_digit (xs ++ (d ∷ [])) ≡ length (xs ++ (d ∷ [])))
+        → run is_digit (x ∷ (xs ++ (d ∷ []))) ≡ suc (length (xs ++ (d ∷ [])))
     go true e h more =
         let less : run is_digit xs ≡ length xs = omega (arith, h) in
         cond-true (is_digit x) _ 0 e ∙ ap (λ n. n + 1) (more less) ∙ add-one (length (xs ++ (d ∷ [])))
@@ -159,7 +160,8 @@ count_lexed n small = number_lexed count_limit n small (omega (arith, small))
 
 -- ---- numbers within packs
 
-suffix_digits : (ds : List ℕ) → 1 ≤ length ds → run is_digit ds ≡ length ds → (suffix_length ds ≡ length ds) × ((rest : List ℕ) → begins is_digit (ds ++ rest) ≡ true)
+suffix_digits : (ds : List ℕ) → 1 ≤ length ds → run is_digit ds ≡ length ds
+    → (suffix_length ds ≡ length ds) × ((rest : List ℕ) → begins is_digit (ds ++ rest) ≡ true)
 suffix_digits [] some whole = absurd (omega (arith, some))
 suffix_digits (b ∷ bs) some whole =
     let (digit, others) = first_digit b bs whole in (cond-true (is_digit b) _ _ digit ∙ whole, λ rest. digit)
@@ -201,7 +203,8 @@ glued_lexed w small =
 
 -- ---- integers
 
-minus_token : (ds rest : List ℕ) → 1 ≤ length ds → run is_digit ds ≡ length ds → (place : Place) (at : ℕ) → IsLexed (Mark kind.Minus) (45 ∷ []) (ds ++ rest) place at
+minus_token : (ds rest : List ℕ) → 1 ≤ length ds → run is_digit ds ≡ length ds → (place : Place) (at : ℕ)
+    → IsLexed (Mark kind.Minus) (45 ∷ []) (ds ++ rest) place at
 unfolding front_of sign_front
 minus_token [] rest some whole place at = absurd (omega (arith, some))
 minus_token (b ∷ bs) rest some whole place at =

@@ -125,7 +125,8 @@ byte_read b small = go (is_plain b) refl (b == 92) refl
 quote_rest : (rest : List ℕ) → string_rest Plain (34 ∷ rest) ≡ Some 1
 quote_rest rest = ap (option_map (λ n. n + 1)) (string_rest-closed rest)
 
-bytes_rest : (text : List ℕ) → AreBytes text → (rest : List ℕ) → string_rest Plain (escaped_bytes text ++ (34 ∷ rest)) ≡ Some (length (escaped_bytes text) + 1)
+bytes_rest : (text : List ℕ) → AreBytes text → (rest : List ℕ)
+    → string_rest Plain (escaped_bytes text ++ (34 ∷ rest)) ≡ Some (length (escaped_bytes text) + 1)
 bytes_rest [] small rest = quote_rest rest
 bytes_rest (b ∷ bs) small rest =
     let more = bytes_rest bs small.1 rest in

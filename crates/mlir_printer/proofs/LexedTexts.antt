@@ -99,7 +99,8 @@ then_whole {a = a} {b} h g = record {
 }
 
 -- bytes that end a token of their own
-pub closed : {P Q : Phrase} {a : List ℕ} (b : ℕ) (bs : List ℕ) → Lexed P a → Whole Q (b ∷ bs) → is_suffix_byte b ≡ false → Whole (Then P Q) (a ++ (b ∷ bs))
+pub closed : {P Q : Phrase} {a : List ℕ} (b : ℕ) (bs : List ℕ) → Lexed P a → Whole Q (b ∷ bs) → is_suffix_byte b ≡ false
+    → Whole (Then P Q) (a ++ (b ∷ bs))
 closed b bs h g first = record {
   lex = λ rest place at. let one = h.lex ((b ∷ bs) ++ rest) place at first in joined one (g.lex rest one.end one.behind);
 }
@@ -130,14 +131,16 @@ passed_by [] rest place at = (place, at, refl)
 passed_by (b ∷ bs) rest place at = passed_by bs rest (next_place place b) (at + 1)
 
 -- bytes that begin with a token are the token and what is behind it
-pub one_token : {T : Lexeme → Type 0} {k : TokenKind} {n : ℕ} (b : ℕ) (bs rest : List ℕ) (place : Place) (at : ℕ) → front_of b (bs ++ rest) ≡ Token k n
+pub one_token : {T : Lexeme → Type 0} {k : TokenKind} {n : ℕ} (b : ℕ) (bs rest : List ℕ) (place : Place) (at : ℕ)
+    → front_of b (bs ++ rest) ≡ Token k n
     → n ≡ length bs + 1 → ((t : Lexeme) → t.kind ≡ k → t.text ≡ b ∷ bs → T t) → IsLexed (One T) (b ∷ bs) rest place at
 unfolding tokens_behind
 one_token {k = k} {n} b bs rest place at front count is =
     let (end, behind, e) = passed_by bs rest (next_place place b) (at + 1) in
     let later = λ (more : ℕ). tokens_behind more (next_place place b) (at + 1) (bs ++ rest) in
     let t : Lexeme = record { kind = k; place = place; at = at; text = take n (b ∷ (bs ++ rest)) } in
-    let text : take n (b ∷ (bs ++ rest)) ≡ b ∷ bs = ap (λ m. take m (b ∷ (bs ++ rest))) (count ∙ add-one (length bs)) ∙ take-append_seam (b ∷ bs) rest in
+    let text : take n (b ∷ (bs ++ rest)) ≡ b ∷ bs = ap (λ m. take m (b ∷ (bs ++ rest))) (count ∙ add-one (length bs))
+    ∙ take-append_seam (b ∷ bs) rest in
     let left : n - 1 ≡ length bs = omega (arith, count) in
     record {
       passed = t ∷ [];
@@ -159,11 +162,13 @@ blanks_passed (b ∷ bs) place at = go (is_space b) refl (b == 10) refl
     later more = tokens_behind more (next_place place b) (at + 1) bs
 
     go : (s : Bool) → is_space b ≡ s → (e : Bool) → (b == 10) ≡ e
-        → tokens_behind (cond s (run is_space bs + 1) 0) place at (b ∷ bs) ≡ told (front_of b bs) place at (b ∷ bs) (λ more. tokens_behind more (next_place place b) (at + 1) bs)
+        → tokens_behind (cond s (run is_space bs + 1) 0) place at (b ∷ bs)
+        ≡ told (front_of b bs) place at (b ∷ bs) (λ more. tokens_behind more (next_place place b) (at + 1) bs)
     go false h e g = refl
     go true h true g = let same : b ≡ 10 = eqb-true b 10 g in absurd (cc (ap is_space same))
     go true h false g =
-        let front : front_of b bs ≡ Gap (run is_space bs + 1) = cond-false (b == 10) LineEnd _ g ∙ cond-true (is_space b) (Gap (run is_space bs + 1)) _ h in
+        let front : front_of b bs ≡ Gap (run is_space bs + 1) =
+        cond-false (b == 10) LineEnd _ g ∙ cond-true (is_space b) (Gap (run is_space bs + 1)) _ h in
         let count : run is_space bs + 1 ≡ suc (run is_space bs) = add-one (run is_space bs) in
         let less : run is_space bs + 1 - 1 ≡ run is_space bs = omega arith in
         ap (λ n. tokens_behind n place at (b ∷ bs)) count ∙ ap later (sym less) ∙ ap (λ f. told f place at (b ∷ bs) later) (sym front)

@@ -76,7 +76,8 @@ unfolding in_fields
 fields_bytes i no_fields = refl
 fields_bytes i (field name t fs) = ap (λ x. comma_bytes i ++ ((name_bytes name ++ (codes ": " ++ type_bytes t)) ++ x)) (fields_bytes (i + 1) fs)
 
-pub field_lexed : (Inner : HwType → Phrase) (f : NamedType) → AreBytes f.name → Lexed (Inner f.type) (type_bytes f.type) → Lexed (FieldPhrase Inner f) (field_bytes f)
+pub field_lexed : (Inner : HwType → Phrase) (f : NamedType) → AreBytes f.name → Lexed (Inner f.type) (type_bytes f.type)
+    → Lexed (FieldPhrase Inner f) (field_bytes f)
 field_lexed Inner f small inner = then (name_lexed f.name small) (then_on colon_blank inner) refl
 
 struct_lexed : (Inner : HwType → Phrase) (fs : FieldTypes) → Each (λ f. Lexed (FieldPhrase Inner f) (field_bytes f)) (in_fields fs)

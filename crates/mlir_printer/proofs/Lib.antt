@@ -14,6 +14,13 @@ pub mod LexedCommas
 pub mod LexedTypes
 pub mod LexedAttributes
 pub mod LexedLiterals
+pub mod LexedOperands
+pub mod LexedInstances
+pub mod LexedPieces
+pub mod LexedOperations
+pub mod LexedModules
+pub mod SaidForms
+pub mod SpellableExample
 pub mod GivenNames
 pub mod KindsKept
 pub mod EntriesKept

@@ -11,6 +11,7 @@ use Rattle.hw_model.specs.Design.{Attribute, Attributes, Entry}
 use Rattle.hw_model.specs.Design.Attribute.{unit_value, text_value, symbol_value, truth_value, integer_value, list_value}
 use Rattle.hw_model.specs.Design.Attributes.{no_attributes, attribute}
 use Rattle.mlir_lexer.specs.Fronts.{suffix_length}
+use Rattle.mlir_lexer.specs.Tokens.{Lexeme, tokens}
 use Rattle.mlir_lexer.specs.declared.token.TokenKind.{TokenKind}
 use Rattle.mlir_lexer.specs.declared.token.TokenKind.TheVariants as kind
 use Rattle.mlir_reader.specs.Numerals.{count_limit, number_limit}
@@ -23,7 +24,7 @@ use Rattle.mlir_reader.specs.PieceText.{Extra, Gathered, gathered_nothing, with_
 use Rattle.mlir_reader.specs.PieceText.Extra.{with_reset, predicate, position, number, literals, field_name, child}
 use Rattle.mlir_reader.specs.OperationText.{OperationText as OperationSaid, takes_bin, string_keys, is_last}
 use Rattle.mlir_reader.specs.ModuleText.{PortText as PortSaid, ModuleText as ModuleSaid, module_keys}
-use Rattle.mlir_reader.specs.Spelling.{AreOnce, StandsInBody}
+use Rattle.mlir_reader.specs.Spelling.{AreOnce, StandsInBody, FilePhrase, token_of}
 use Rattle.mlir_reader.specs.declared.pieces.Piece.{Piece}
 use Rattle.mlir_reader.specs.declared.pieces.Piece.TheVariants as piece
 use Rattle.mlir_reader.specs.declared.pieces.Shape.{Shape}
@@ -87,7 +88,9 @@ AreBytes bytes = Each (λ b. b < 256) bytes
 
 -- a name that may stand behind `%`: one suffix, digits alone or none in front
 pub record IsValueName (name : Name) : Type 0 where
+  -- it is not empty
   pub some : 1 ≤ length name
+  -- a suffix at its front has all its bytes
   pub whole : suffix_length name ≡ length name
 
 -- an integer that is read: its distance from 0 is below 2^128
@@ -150,12 +153,16 @@ IsValue of_string a = (of_string ≡ false) × IsAttribute a most_open
 
 -- an entry of a dictionary, where the values of some keys are strings
 pub record IsEntry (strings : List Name) (e : Entry) : Type 0 where
+  -- a bare name or a string can hold the key
   pub key : AreBytes e.key
+  -- the value is one that may stand behind the key
   pub value : IsValue (is_among e.key strings) e.value
 
--- a dictionary: each key stands once
+-- a dictionary, where the values of some keys are strings
 pub record IsDictionary (strings : List Name) (es : List Entry) : Type 0 where
+  -- each key stands once
   pub once : AreOnce [] es
+  -- each entry can be read
   pub each : Each (IsEntry strings) es
 
 -- ---- pieces
@@ -167,7 +174,9 @@ IsNumber (Some n) = n < count_limit
 
 -- an operand
 pub record IsOperand (o : ValueText) : Type 0 where
+  -- its name may stand behind `%`
   pub name : IsValueName o.name
+  -- so may its number behind `#`
   pub number : IsNumber o.number
 
 -- a token of one or two signs
@@ -194,27 +203,32 @@ abbrev pub MayReset : Extra → List ValueText → Type 0
 MayReset with_reset os = IsOperand (first_operand os) × IsOperand (first_operand (drop 1 os))
 MayReset _ os = ⊤
 
+-- a predicate is said
 abbrev pub SaysPredicate : Extra → Type 0
 SaysPredicate (predicate p) = ⊤
 SaysPredicate _ = ⊥
 
+-- a position below the limit is said
 abbrev pub SaysPosition : Extra → Type 0
 SaysPosition (position n) = n < count_limit
 SaysPosition _ = ⊥
 
+-- 0 or 1 is said
 abbrev pub SaysTruth : Extra → Type 0
 SaysTruth (number z) = is_truth z ≡ true
 SaysTruth _ = ⊥
 
+-- an integer is said
 abbrev pub SaysInteger : Extra → Type 0
 SaysInteger (number z) = IsInteger z
 SaysInteger _ = ⊥
 
--- the outermost brackets open one list
+-- constants are said; their brackets have opened one list
 abbrev pub SaysLiterals : Extra → Type 0
 SaysLiterals (literals ls) = AreLiterals ls 31
 SaysLiterals _ = ⊥
 
+-- the name of a field is said
 abbrev pub SaysField : Extra → Type 0
 SaysField (field_name name) = AreBytes name
 SaysField _ = ⊥
@@ -224,18 +238,23 @@ abbrev pub MayBeBytes : Option Name → Type 0
 MayBeBytes None = ⊤
 MayBeBytes (Some name) = AreBytes name
 
--- an instance: as many operands as inputs, and a type for each input and each output
+-- an instance with its operands and types
 pub record IsInstance (i : Instance) (os : List ValueText) (ts : List HwType) : Type 0 where
+  -- its name, its inner symbol, its module's symbol and the names of ports are bytes
   pub name : AreBytes i.name
   pub inner : MayBeBytes i.inner_symbol
   pub symbol : AreBytes i.symbol
   pub inputs : Each AreBytes i.inputs
   pub outputs : Each AreBytes i.outputs
+  -- each operand and each type can be read
   pub operands : Each IsOperand os
   pub types : Each IsAnyType ts
+  -- there is an operand for each input
   pub inputs_count : length os ≡ length i.inputs
+  -- there is a type for each input and each output
   pub types_count : length ts ≡ length i.inputs + length i.outputs
 
+-- an instance is said, with operands and types of its own
 abbrev pub SaysInstance : Extra → List ValueText → List HwType → Type 0
 SaysInstance (child i) os ts = IsInstance i os ts
 SaysInstance _ os ts = ⊥
@@ -305,10 +324,13 @@ NeedAll (x ∷ xs) p g = Needs x p g × NeedAll xs (left_behind x p) (gathered_w
 abbrev pub gathered_front : Shape → Pending → Gathered
 gathered_front s p = gathered_with_all (front_pieces s) p gathered_nothing
 
--- what is said in a form: its pieces have what they need, and nothing is said but by them
+-- what is said in a form
 pub record IsSaidAs (s : Shape) (p : Pending) : Type 0 where
+  -- the pieces in front of the types have what they need
   pub front : NeedAll (front_pieces s) p gathered_nothing
+  -- so have those of the types, of what is left behind the front
   pub types : NeedAll (type_pieces s) (left_behind_all (front_pieces s) p) (gathered_front s p)
+  -- what is gathered with them is all that is said
   pub all : gathered_with_all (type_pieces s) (left_behind_all (front_pieces s) p) (gathered_front s p) ≡ said_pending p
 
 -- names of results, or a pack of fewer than its limit
@@ -319,10 +341,15 @@ AreResults (pack n k) = IsValueName n × (k < count_limit)
 
 -- an operation
 pub record IsSpellableOperation (o : OperationText) : Type 0 where
+  -- it is not the module itself
   pub stands : StandsInBody o.name
+  -- its results have names that may stand
   pub results : AreResults o.results
+  -- it has the mark `bin` only where that may stand
   pub bin : o.bin ≡ true → takes_bin o.name ≡ true
+  -- its form says what there is to say
   pub form : IsSaidAs (shape_shown o.name o.pending) o.pending
+  -- its dictionary can be read
   pub dictionary : IsDictionary (string_keys o.name) o.dictionary
 
 -- operations one after another; an output is the last
@@ -339,13 +366,26 @@ MayBeValue (Some v) = IsValueName v
 
 -- a port
 pub record IsSpellablePort (p : PortText) : Type 0 where
+  -- the value of an input has a name that may stand
   pub value : MayBeValue p.value
+  -- a bare name or a string can hold its name
   pub name : AreBytes p.name
+  -- its type can be read
   pub type : IsAnyType p.type
 
 -- a module
 pub record IsSpellable (m : ModuleText) : Type 0 where
+  -- a symbol can hold its name
   pub symbol : AreBytes m.symbol
+  -- each port can be read
   pub ports : Each IsSpellablePort m.ports
+  -- its dictionary can be read
   pub dictionary : IsDictionary module_keys m.dictionary
+  -- its operations can be read, and an output is the last
   pub operations : AreSpellable m.operations
+
+-- ---- what bytes say
+
+-- bytes are read as what modules say, wherever it stands
+abbrev pub AreSpelled : List ℕ → List ModuleText → Type 0
+AreSpelled bytes ms = (ts : List Lexeme) × (tokens bytes ≡ map token_of ts) × FilePhrase (λ t place. Unit {0}) (map said ms) ts
