@@ -26,6 +26,7 @@ use Rattle.mlir_printer.specs.Texts.{listed_of, extra_shown, reset_extra}
 use Rattle.mlir_printer.specs.Spellable.{Each, AreBytes, IsInteger, IsAnyType, IsLiteral, AreLiterals, IsOperand, IsInstance, IsSaidAs, SaysPredicate, SaysPosition, SaysLiterals, SaysField, said_operand, said_pending, Opens}
 use Rattle.mlir_printer.specs.Printable.{IsWritten, IsWrittenInstance, operands_written, types_written}
 use Rattle.mlir_printer.proofs.KindsKept.{negative_parts}
+use Rattle.mlir_printer.proofs.SaidForms.{pending, says_variadic, says_binary, says_comparison, says_unary, says_extraction, says_joined, says_conversion, says_choice, says_truth, says_integer, says_aggregate, says_element, says_slice, says_element_change, says_struct, says_field, says_field_change, says_instance, says_nothing, says_register, says_reset_register, says_enabled, says_reset_enabled, says_clocked, says_reset_clocked}
 
 -- ---- lists of so many
 
@@ -55,173 +56,144 @@ of_five P h (x ∷ xs) e = of_four (λ r. P (x ∷ r)) (h x) xs (omega (arith, e
 
 -- ---- forms
 
-abbrev pub pending : List ValueText → List HwType → Extra → Pending
-pending os ts e = record { operands = os; types = ts; extra = e }
-
 -- operands and types that can be read, of a form
 abbrev Fit : Shape → Extra → List ValueText → List HwType → Type 0
 Fit s e os ts = Each IsOperand os → Each IsAnyType ts → IsSaidAs s (pending os ts e)
 
 variadic : (os : List ValueText) (ts : List HwType) → 1 ≤ length os → length ts ≡ 1 → Fit shape.Variadic nothing os ts
-unfolding front_pieces type_pieces
-variadic os ts lo lt = of_one (λ ts. Fit shape.Variadic nothing os ts) (λ t ho ht. record { front = ((lo, ho), tt); types = (tt, (ht.0, tt)); all = refl }) ts lt
+variadic os ts lo lt = of_one (λ ts. Fit shape.Variadic nothing os ts) (λ t ho ht. says_variadic os t lo ho ht.0) ts lt
 
 binary : (os : List ValueText) (ts : List HwType) → length os ≡ 2 → length ts ≡ 1 → Fit shape.Binary nothing os ts
-unfolding front_pieces type_pieces
 binary os ts lo lt =
     of_two (λ os. Fit shape.Binary nothing os ts)
     (λ a b. of_one (λ ts. Fit shape.Binary nothing (a ∷ b ∷ []) ts)
-    (λ t ho ht. record { front = (ho.0, (tt, (ho.1.0, tt))); types = (tt, (ht.0, tt)); all = refl }) ts lt) os lo
+    (λ t ho ht. says_binary a b t ho.0 ho.1.0 ht.0) ts lt) os lo
 
 comparison : (p : Predicate) (os : List ValueText) (ts : List HwType) → length os ≡ 2 → length ts ≡ 1 → Fit shape.Comparison (predicate p) os ts
-unfolding front_pieces type_pieces
 comparison p os ts lo lt =
     of_two (λ os. Fit shape.Comparison (predicate p) os ts)
     (λ a b. of_one (λ ts. Fit shape.Comparison (predicate p) (a ∷ b ∷ []) ts)
-    (λ t ho ht. record { front = (tt, (ho.0, (tt, (ho.1.0, tt)))); types = (tt, (ht.0, tt)); all = refl }) ts lt) os lo
+    (λ t ho ht. says_comparison p a b t ho.0 ho.1.0 ht.0) ts lt) os lo
 
 unary : (os : List ValueText) (ts : List HwType) → length os ≡ 1 → length ts ≡ 1 → Fit shape.Unary nothing os ts
-unfolding front_pieces type_pieces
 unary os ts lo lt =
     of_one (λ os. Fit shape.Unary nothing os ts)
-    (λ a. of_one (λ ts. Fit shape.Unary nothing (a ∷ []) ts) (λ t ho ht. record { front = (ho.0, tt); types = (tt, (ht.0, tt)); all = refl }) ts lt) os lo
+    (λ a. of_one (λ ts. Fit shape.Unary nothing (a ∷ []) ts) (λ t ho ht. says_unary a t ho.0 ht.0) ts lt) os lo
 
 extraction : (n : ℕ) (os : List ValueText) (ts : List HwType) → n < count_limit → length os ≡ 1 → length ts ≡ 2 → Fit shape.Extraction (position n) os ts
-unfolding front_pieces type_pieces
 extraction n os ts small lo lt =
     of_one (λ os. Fit shape.Extraction (position n) os ts)
     (λ a. of_two (λ ts. Fit shape.Extraction (position n) (a ∷ []) ts)
-    (λ t u ho ht. record { front = (ho.0, (tt, (small, tt))); types = (tt, (tt, (ht.0, (tt, (tt, (ht.1.0, tt)))))); all = refl }) ts lt) os lo
+    (λ t u ho ht. says_extraction a n t u ho.0 small ht.0 ht.1.0) ts lt) os lo
 
 joined : (os : List ValueText) (ts : List HwType) → 1 ≤ length os → length ts ≡ length os → Fit shape.Joined nothing os ts
-unfolding front_pieces type_pieces
-joined os ts lo lt ho ht =
-    record { front = ((lo, ho), tt); types = (tt, ((lt ∙ sym (length-map os said_operand), ht), tt)); all = refl }
+joined os ts lo lt ho ht = says_joined os ts lo ho lt ht
 
 conversion : (os : List ValueText) (ts : List HwType) → length os ≡ 1 → length ts ≡ 2 → Fit shape.Conversion nothing os ts
-unfolding front_pieces type_pieces
 conversion os ts lo lt =
     of_one (λ os. Fit shape.Conversion nothing os ts)
     (λ a. of_two (λ ts. Fit shape.Conversion nothing (a ∷ []) ts)
-    (λ t u ho ht. record { front = (ho.0, tt); types = (tt, (tt, (ht.0, (tt, (tt, (ht.1.0, tt)))))); all = refl }) ts lt) os lo
+    (λ t u ho ht. says_conversion a t u ho.0 ht.0 ht.1.0) ts lt) os lo
 
 choice : (os : List ValueText) (ts : List HwType) → length os ≡ 3 → length ts ≡ 1 → Fit shape.Choice nothing os ts
-unfolding front_pieces type_pieces
 choice os ts lo lt =
     of_three (λ os. Fit shape.Choice nothing os ts)
     (λ a b c. of_one (λ ts. Fit shape.Choice nothing (a ∷ b ∷ c ∷ []) ts)
-    (λ t ho ht. record { front = (ho.0, (tt, (ho.1.0, (tt, (ho.1.1.0, tt))))); types = (tt, (ht.0, tt)); all = refl }) ts lt) os lo
+    (λ t ho ht. says_choice a b c t ho.0 ho.1.0 ho.1.1.0 ht.0) ts lt) os lo
 
 whole_number : (z : ℤ) (os : List ValueText) (ts : List HwType) → IsInteger z → length os ≡ 0 → length ts ≡ 1 → Fit shape.Integer (number z) os ts
-unfolding front_pieces type_pieces
 whole_number z os ts small lo lt =
     of_none (λ os. Fit shape.Integer (number z) os ts)
-    (of_one (λ ts. Fit shape.Integer (number z) [] ts) (λ t ho ht. record { front = (small, tt); types = (tt, (ht.0, tt)); all = refl }) ts lt) os lo
+    (of_one (λ ts. Fit shape.Integer (number z) [] ts) (λ t ho ht. says_integer z t small ht.0) ts lt) os lo
 
 truth : (z : ℤ) (os : List ValueText) → is_truth z ≡ true → length os ≡ 0 → Fit shape.Truth (number z) os (int 1 ∷ [])
-unfolding front_pieces type_pieces
 truth z os one lo =
-    of_none (λ os. Fit shape.Truth (number z) os (int 1 ∷ [])) (λ ho ht. record { front = (one, tt); types = tt; all = refl }) os lo
+    of_none (λ os. Fit shape.Truth (number z) os (int 1 ∷ [])) (λ ho ht. says_truth z one) os lo
 
 aggregate : (ls : Literals) (os : List ValueText) (ts : List HwType) → AreLiterals ls 31 → length os ≡ 0 → length ts ≡ 1 → Fit shape.Aggregate (literals ls) os ts
-unfolding front_pieces type_pieces
 aggregate ls os ts h lo lt =
     of_none (λ os. Fit shape.Aggregate (literals ls) os ts)
-    (of_one (λ ts. Fit shape.Aggregate (literals ls) [] ts) (λ t ho ht. record { front = (h, tt); types = (tt, (ht.0, tt)); all = refl }) ts lt) os lo
+    (of_one (λ ts. Fit shape.Aggregate (literals ls) [] ts) (λ t ho ht. says_aggregate ls t h ht.0) ts lt) os lo
 
 element : (os : List ValueText) (ts : List HwType) → length os ≡ 2 → length ts ≡ 2 → Fit shape.Element nothing os ts
-unfolding front_pieces type_pieces
 element os ts lo lt =
     of_two (λ os. Fit shape.Element nothing os ts)
     (λ a b. of_two (λ ts. Fit shape.Element nothing (a ∷ b ∷ []) ts)
-    (λ t u ho ht. record { front = (ho.0, (tt, (ho.1.0, (tt, tt)))); types = (tt, (ht.0, (tt, (ht.1.0, tt)))); all = refl }) ts lt) os lo
+    (λ t u ho ht. says_element a b t u ho.0 ho.1.0 ht.0 ht.1.0) ts lt) os lo
 
 slice : (os : List ValueText) (ts : List HwType) → length os ≡ 2 → length ts ≡ 2 → Fit shape.Slice nothing os ts
-unfolding front_pieces type_pieces
 slice os ts lo lt =
     of_two (λ os. Fit shape.Slice nothing os ts)
     (λ a b. of_two (λ ts. Fit shape.Slice nothing (a ∷ b ∷ []) ts)
-    (λ t u ho ht. record { front = (ho.0, (tt, (ho.1.0, (tt, tt)))); types = (tt, (tt, (ht.0, (tt, (tt, (ht.1.0, tt)))))); all = refl }) ts lt) os lo
+    (λ t u ho ht. says_slice a b t u ho.0 ho.1.0 ht.0 ht.1.0) ts lt) os lo
 
 element_change : (os : List ValueText) (ts : List HwType) → length os ≡ 3 → length ts ≡ 2 → Fit shape.ElementChange nothing os ts
-unfolding front_pieces type_pieces
 element_change os ts lo lt =
     of_three (λ os. Fit shape.ElementChange nothing os ts)
     (λ a b c. of_two (λ ts. Fit shape.ElementChange nothing (a ∷ b ∷ c ∷ []) ts)
-    (λ t u ho ht. record { front = (ho.0, (tt, (ho.1.0, (tt, (tt, (ho.1.1.0, tt)))))); types = (tt, (ht.0, (tt, (ht.1.0, tt)))); all = refl }) ts lt) os lo
+    (λ t u ho ht. says_element_change a b c t u ho.0 ho.1.0 ho.1.1.0 ht.0 ht.1.0) ts lt) os lo
 
 group : (os : List ValueText) (ts : List HwType) → length ts ≡ 1 → Fit shape.Struct nothing os ts
-unfolding front_pieces type_pieces
-group os ts lt = of_one (λ ts. Fit shape.Struct nothing os ts) (λ t ho ht. record { front = (ho, tt); types = (tt, (ht.0, tt)); all = refl }) ts lt
+group os ts lt = of_one (λ ts. Fit shape.Struct nothing os ts) (λ t ho ht. says_struct os t ho ht.0) ts lt
 
 field_taken : (name : Name) (os : List ValueText) (ts : List HwType) → AreBytes name → length os ≡ 1 → length ts ≡ 1 → Fit shape.Field (field_name name) os ts
-unfolding front_pieces type_pieces
 field_taken name os ts bytes lo lt =
     of_one (λ os. Fit shape.Field (field_name name) os ts)
     (λ a. of_one (λ ts. Fit shape.Field (field_name name) (a ∷ []) ts)
-    (λ t ho ht. record { front = (ho.0, (tt, (bytes, (tt, tt)))); types = (tt, (ht.0, tt)); all = refl }) ts lt) os lo
+    (λ t ho ht. says_field a name t ho.0 bytes ht.0) ts lt) os lo
 
 field_change : (name : Name) (os : List ValueText) (ts : List HwType) → AreBytes name → length os ≡ 2 → length ts ≡ 1 → Fit shape.FieldChange (field_name name) os ts
-unfolding front_pieces type_pieces
 field_change name os ts bytes lo lt =
     of_two (λ os. Fit shape.FieldChange (field_name name) os ts)
     (λ a b. of_one (λ ts. Fit shape.FieldChange (field_name name) (a ∷ b ∷ []) ts)
-    (λ t ho ht. record { front = (ho.0, (tt, (bytes, (tt, (tt, (ho.1.0, tt)))))); types = (tt, (ht.0, tt)); all = refl }) ts lt) os lo
+    (λ t ho ht. says_field_change a b name t ho.0 ho.1.0 bytes ht.0) ts lt) os lo
 
 no_values : (os : List ValueText) (ts : List HwType) → length os ≡ 0 → length ts ≡ 0 → Fit shape.Nothing nothing os ts
-unfolding front_pieces type_pieces
 no_values os ts lo lt =
     of_none (λ os. Fit shape.Nothing nothing os ts)
-    (of_none (λ ts. Fit shape.Nothing nothing [] ts) (λ ho ht. record { front = tt; types = tt; all = refl }) ts lt) os lo
+    (of_none (λ ts. Fit shape.Nothing nothing [] ts) (λ ho ht. says_nothing) ts lt) os lo
 
 register : (os : List ValueText) (ts : List HwType) → length os ≡ 2 → length ts ≡ 1 → Fit shape.Register nothing os ts
-unfolding front_pieces type_pieces
 register os ts lo lt =
     of_two (λ os. Fit shape.Register nothing os ts)
     (λ a b. of_one (λ ts. Fit shape.Register nothing (a ∷ b ∷ []) ts)
-    (λ t ho ht. record { front = (ho.0, (tt, (ho.1.0, (tt, tt)))); types = (tt, (ht.0, tt)); all = refl }) ts lt) os lo
+    (λ t ho ht. says_register a b t ho.0 ho.1.0 ht.0) ts lt) os lo
 
 reset_register : (os : List ValueText) (ts : List HwType) → length os ≡ 4 → length ts ≡ 1 → Fit shape.Register with_reset os ts
-unfolding front_pieces type_pieces
 reset_register os ts lo lt =
     of_four (λ os. Fit shape.Register with_reset os ts)
     (λ a b c d. of_one (λ ts. Fit shape.Register with_reset (a ∷ b ∷ c ∷ d ∷ []) ts)
-    (λ t ho ht. record { front = (ho.0, (tt, (ho.1.0, ((ho.1.1.0, ho.1.1.1.0), tt)))); types = (tt, (ht.0, tt)); all = refl }) ts lt) os lo
+    (λ t ho ht. says_reset_register a b c d t ho.0 ho.1.0 ho.1.1.0 ho.1.1.1.0 ht.0) ts lt) os lo
 
 enabled_register : (os : List ValueText) (ts : List HwType) → length os ≡ 3 → length ts ≡ 1 → Fit shape.EnabledRegister nothing os ts
-unfolding front_pieces type_pieces
 enabled_register os ts lo lt =
     of_three (λ os. Fit shape.EnabledRegister nothing os ts)
     (λ a b c. of_one (λ ts. Fit shape.EnabledRegister nothing (a ∷ b ∷ c ∷ []) ts)
-    (λ t ho ht. record { front = (ho.0, (tt, (ho.1.0, (tt, (ho.1.1.0, (tt, tt)))))); types = (tt, (ht.0, tt)); all = refl }) ts lt) os lo
+    (λ t ho ht. says_enabled a b c t ho.0 ho.1.0 ho.1.1.0 ht.0) ts lt) os lo
 
 enabled_reset_register : (os : List ValueText) (ts : List HwType) → length os ≡ 5 → length ts ≡ 1 → Fit shape.EnabledRegister with_reset os ts
-unfolding front_pieces type_pieces
 enabled_reset_register os ts lo lt =
     of_five (λ os. Fit shape.EnabledRegister with_reset os ts)
     (λ a b c d f. of_one (λ ts. Fit shape.EnabledRegister with_reset (a ∷ b ∷ c ∷ d ∷ f ∷ []) ts)
-    (λ t ho ht. record { front = (ho.0, (tt, (ho.1.0, (tt, (ho.1.1.0, ((ho.1.1.1.0, ho.1.1.1.1.0), tt)))))); types = (tt, (ht.0, tt)); all = refl }) ts lt) os lo
+    (λ t ho ht. says_reset_enabled a b c d f t ho.0 ho.1.0 ho.1.1.0 ho.1.1.1.0 ho.1.1.1.1.0 ht.0) ts lt) os lo
 
 clocked_register : (os : List ValueText) (ts : List HwType) → length os ≡ 2 → length ts ≡ 1 → Fit shape.ClockedRegister nothing os ts
-unfolding front_pieces type_pieces
 clocked_register os ts lo lt =
     of_two (λ os. Fit shape.ClockedRegister nothing os ts)
     (λ a b. of_one (λ ts. Fit shape.ClockedRegister nothing (a ∷ b ∷ []) ts)
-    (λ t ho ht. record { front = (ho.0, (tt, (ho.1.0, (tt, tt)))); types = (tt, (ht.0, tt)); all = refl }) ts lt) os lo
+    (λ t ho ht. says_clocked a b t ho.0 ho.1.0 ht.0) ts lt) os lo
 
 clocked_reset_register : (os : List ValueText) (ts : List HwType) → length os ≡ 4 → length ts ≡ 1 → Fit shape.ClockedRegister with_reset os ts
-unfolding front_pieces type_pieces
 clocked_reset_register os ts lo lt =
     of_four (λ os. Fit shape.ClockedRegister with_reset os ts)
     (λ a b c d. of_one (λ ts. Fit shape.ClockedRegister with_reset (a ∷ b ∷ c ∷ d ∷ []) ts)
-    (λ t ho ht. record { front = (ho.0, (tt, (ho.1.0, ((ho.1.1.0, ho.1.1.1.0), tt)))); types = (tt, (ht.0, tt)); all = refl }) ts lt) os lo
+    (λ t ho ht. says_reset_clocked a b c d t ho.0 ho.1.0 ho.1.1.0 ho.1.1.1.0 ht.0) ts lt) os lo
 
 call : (i : Instance) (os : List ValueText) (ts : List HwType) → IsWrittenInstance i → length os ≡ length i.inputs → length ts ≡ length i.inputs + length i.outputs
     → Fit shape.Instance (child i) os ts
-unfolding front_pieces type_pieces
-call i os ts w lo lt ho ht = record {
-  front = (
-    record {
+call i os ts w lo lt ho ht =
+    says_instance i os ts
+    (record {
       name = w.name;
       inner = w.inner;
       symbol = w.symbol;
@@ -231,12 +203,7 @@ call i os ts w lo lt ho ht = record {
       types = ht;
       inputs_count = lo;
       types_count = lt;
-    },
-    tt,
-  );
-  types = tt;
-  all = refl;
-}
+    })
 
 -- ---- constants
 

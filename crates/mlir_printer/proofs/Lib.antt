@@ -34,3 +34,5 @@ pub mod ReadPieces
 pub mod ReadOperations
 pub mod ReadModules
 pub mod VerifiedDesigns
+pub mod PlacesChosen
+pub mod PrintedDesigns

@@ -13,6 +13,12 @@ use Rattle.hw_model.specs.Sound.{type_in, input_type}
 use Rattle.hw_model.specs.Design.{Ref, Port, OpResult, Op, Module, Design, is_output_op, result_type, instance_in}
 use Rattle.hw_model.specs.Design.Ref.{port, result, undefined}
 use Rattle.ir_store.specs.ResultTypes.{result_types, result_count}
+use Rattle.diag.specs.Place.{start_place}
+use Rattle.diag.specs.declared.refusal.OpName.TheVariants as op
+use Rattle.diag.specs.declared.cause.Cause.TheVariants.{TooLong}
+use Rattle.mlir_reader.specs.Stream.{stream_of, refusal}
+use Rattle.mlir_reader.specs.ModuleText.{file_text}
+use Rattle.mlir_reader.specs.Reading.{text_limit, design_read, read}
 use Rattle.mlir_reader.specs.Numerals.{count_limit}
 use Rattle.mlir_reader.specs.Resolving.{marked_results, type_or_none}
 use Rattle.mlir_reader.specs.Spelling.{Spells}
@@ -252,3 +258,17 @@ modules_printable d n (m ∷ ms) h read =
 -- a design that bytes spell and that is not refused can be printed
 pub spelled_designs_are_printable : (source : List ℕ) (d : Design) → AreBytes source → length source < count_limit → Spells source d → first_fault d ≡ None → Printable d
 spelled_designs_are_printable source d bytes small h none = modules_printable d 0 d none (spelled_is_read source d bytes small h)
+
+-- what is read is short
+read_small : (source : List ℕ) (d : Design) → read source ≡ Ok d → length source < count_limit
+read_small source d h = go (nat_lt text_limit (length source)) refl h
+  where
+    go : (b : Bool) → nat_lt text_limit (length source) ≡ b → cond b (Err (refusal start_place op.File TooLong)) (design_read (file_text (stream_of source))) ≡ Ok d
+        → length source < count_limit
+    go true e g = cc
+    go false e g = let le = ltb-false text_limit (length source) e in omega (arith, le)
+
+-- a design that is read and not refused can be printed, since what is read is spelled
+pub read_designs_are_printable : ((source : List ℕ) (d : Design) → read source ≡ Ok d → Spells source d)
+    → (source : List ℕ) (d : Design) → AreBytes source → read source ≡ Ok d → first_fault d ≡ None → Printable d
+read_designs_are_printable spelled source d bytes h none = spelled_designs_are_printable source d bytes (read_small source d h) (spelled source d h) none
