@@ -1,15 +1,13 @@
 -- The printed text says the design that is printed.
-use Rattle.std.proofs.Common.{◌≡◌, ℕ, zero, suc, ◌+◌, ◌<◌, ◌≤◌, Bool, true, false, cond, List, [], ◌∷◌, ◌++◌, map, length, drop, refl, ap, ◌∙◌, sym, subst, inl, inr, ◌⊎◌, arith, length-append}
-use Rattle.std.specs.Prelude.{Option, Some, None, is_some, slice_get, not, ⊤}
-use Rattle.std.proofs.lemmas.Bool.{cond-true, cond-false}
+use Rattle.std.proofs.Common.{◌≡◌, ℕ, ◌+◌, Bool, true, false, cond, List, [], ◌∷◌, ◌++◌, map, length, drop, refl, ap, ◌∙◌, sym, subst, inl, inr, arith, length-append}
+use Rattle.std.specs.Prelude.{Option, Some, None, is_some, not}
 use Rattle.diag.specs.declared.listed.Listed.TheVariants as listed
 use Rattle.hw_model.specs.Types.{Name}
 use Rattle.hw_model.specs.Design.{Ref, Port, Op, Module, Design, op_without_place, module_without_places, without_places, IsSameDesign}
 use Rattle.hw_model.specs.Design.Ref.{port, result, undefined}
-use Rattle.fresh_names.specs.Fresh.{fresh}
 use Rattle.fresh_names.proofs.Distinct.{AreFresh, fresh_are_new, fresh_length}
 use Rattle.mlir_reader.specs.OperationText.{OperationText}
-use Rattle.mlir_reader.specs.Resolving.{Meanings, Defined, Definition, with_definition, with_definitions, no_meaning, resolved, port_definition, port_definitions, operation_definitions, body_definitions, operations_from, ports_from, is_marked, ends_with_output, has_outputs, left_out_output, completed, port_meanings, meanings, module_of, design_of}
+use Rattle.mlir_reader.specs.Resolving.{Meanings, Defined, Definition, with_definition, with_definitions, no_meaning, resolved, port_definition, port_definitions, operation_definitions, body_definitions, operations_from, ports_from, is_marked, ends_with_output, has_outputs, left_out_output, port_meanings, meanings, module_of, design_of}
 use Rattle.mlir_printer.specs.Pieces.{ValueText}
 use Rattle.mlir_printer.specs.Naming.{port_wish, port_wishes, input_count, body_wishes, wishes, wanted, names_given, name_count, first_name, firsts, value_named}
 use Rattle.mlir_printer.specs.Texts.{parts_in, operation_shown, operations_shown, port_shown, ports_shown, module_shown, modules_shown}
@@ -17,7 +15,7 @@ use Rattle.mlir_printer.specs.Spellable.{Each, said_operand, said_operation, sai
 use Rattle.mlir_printer.specs.Printable.{IsDefined, IsPrintableOp, IsPrintablePort, EndsWithOutput, IsPrintableModule, Printable}
 use Rattle.mlir_printer.proofs.NameTables.{Among, Finds, finds_left, finds_right, AreNew, new_left, new_right, found, all_new}
 use Rattle.mlir_printer.proofs.NamedDefinitions.{name_of, map_append, firsts_add, firsts_all, ports_names, body_names}
-use Rattle.mlir_printer.proofs.ValuesFound.{AreCounted, port_found, result_found}
+use Rattle.mlir_printer.proofs.ValuesFound.{port_found, result_found}
 use Rattle.mlir_printer.proofs.GivenNames.{Suits, given_suit, suit_first, suit_behind, wanted_length}
 use Rattle.mlir_printer.proofs.EntriesKept.{kept_itself}
 use Rattle.mlir_printer.proofs.OperationsAgain.{are_counted, operation_again, last_output}

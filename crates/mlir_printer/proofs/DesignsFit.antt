@@ -1,8 +1,8 @@
 -- What is printed of a design is what can be read again.
-use Rattle.std.proofs.Common.{◌≡◌, ℕ, zero, suc, ◌+◌, ◌<◌, ◌≤◌, Bool, true, false, cond, List, [], ◌∷◌, ◌++◌, map, length, drop, refl, ap, ◌∙◌, sym, subst, inl, inr, ◌⊎◌, arith}
-use Rattle.std.specs.Prelude.{nat_lt, Option, Some, None, slice_get, ⊤}
+use Rattle.std.proofs.Common.{◌≡◌, ℕ, zero, suc, ◌<◌, Bool, true, false, cond, List, [], ◌∷◌, ◌++◌, map, length, drop, refl, ap, ◌∙◌, sym, subst, inl, inr, arith}
+use Rattle.std.specs.Prelude.{nat_lt, Option, Some, None, slice_get}
 use Rattle.std.proofs.lemmas.List.{length-map}
-use Rattle.std.proofs.lemmas.Bool.{cond-true, cond-false, false≢true, lt-ltb}
+use Rattle.std.proofs.lemmas.Bool.{false≢true, lt-ltb}
 use Rattle.diag.specs.declared.listed.Listed.TheVariants as listed
 use Rattle.hw_model.specs.Types.{Name}
 use Rattle.hw_model.specs.Kinds.{Kind}
@@ -15,12 +15,12 @@ use Rattle.mlir_reader.specs.OperandText.{ResultNames}
 use Rattle.mlir_reader.specs.Spelling.{StandsInBody}
 use Rattle.mlir_printer.specs.Pieces.{ValueText, no_value}
 use Rattle.mlir_printer.specs.Naming.{wishes, port_wish, port_wishes, input_count, body_wishes, names_given, name_count, first_name, firsts, called, is_pack, value_at, value_in, port_value, value_named, listed_names, results_named}
-use Rattle.mlir_printer.specs.Texts.{listed_of, extra_shown, parts_in, operation_shown, operations_shown, port_shown, ports_shown, module_shown, modules_shown}
-use Rattle.mlir_printer.specs.Spellable.{Each, IsValueName, IsOperand, AreResults, MayBeValue, IsSaidAs, IsSpellableOperation, AreSpellable, IsSpellablePort, IsSpellable}
+use Rattle.mlir_printer.specs.Texts.{listed_of, parts_in, operation_shown, operations_shown, ports_shown, module_shown, modules_shown}
+use Rattle.mlir_printer.specs.Spellable.{Each, IsValueName, IsOperand, AreResults, MayBeValue, IsSpellableOperation, AreSpellable, IsSpellablePort, IsSpellable}
 use Rattle.mlir_printer.specs.Printable.{IsDefined, operands_written, types_written, IsPrintableOp, IsPrintablePort, EndsWithOutput, IsPrintableModule, Printable}
 use Rattle.mlir_printer.proofs.NameTables.{Among}
 use Rattle.mlir_printer.proofs.NamedDefinitions.{pack_named}
-use Rattle.mlir_printer.proofs.GivenNames.{Suits, IsDigits, IsWord, digits_value, word_value, given_suit, suit_first, suit_behind}
+use Rattle.mlir_printer.proofs.GivenNames.{Suits, digits_value, word_value, given_suit, suit_first, suit_behind}
 use Rattle.mlir_printer.proofs.OperationsAgain.{are_counted, last_output}
 use Rattle.mlir_printer.proofs.DesignsAgain.{each_among}
 use Rattle.mlir_printer.proofs.DictionariesFit.{kept_fits, shown_fits}

@@ -1,13 +1,13 @@
 -- A printed dictionary can be read: its keys stand once, and its values where they may.
-use Rattle.std.proofs.Common.{◌≡◌, ℕ, ◌<◌, Bool, true, false, cond, List, [], ◌∷◌, ◌++◌, refl, ap, ◌∙◌, sym, subst, arith}
+use Rattle.std.proofs.Common.{◌≡◌, Bool, true, false, cond, List, [], ◌∷◌, ◌++◌, refl, ap, ◌∙◌, sym, arith}
 use Rattle.std.proofs.Common.{Ordering, Less, Equal, Greater}
 use Rattle.std.proofs.lemmas.Slice.Eq.{bytes_eq-Decides}
 use Rattle.std.proofs.lemmas.Map.Text.{is_eq-slice_cmp}
-use Rattle.std.specs.Prelude.{codes, ⊤}
+use Rattle.std.specs.Prelude.{⊤}
 use Rattle.std.specs.Ordering.{nat_cmp, is_lt, is_eq, ordering_reverse}
 use Rattle.std.specs.Cmp.{IsStrictWeakOrder}
 use Rattle.std.specs.Cmp.Lexicographic.{slice_cmp}
-use Rattle.std.proofs.lemmas.Bool.{cond-true, cond-false, false≢true}
+use Rattle.std.proofs.lemmas.Bool.{cond-false, false≢true}
 use Rattle.std.proofs.lemmas.Cmp.{nat_list_cmp_total}
 use Rattle.std.proofs.lemmas.List.Sorted.{ranks_by}
 use Rattle.diag.specs.declared.listed.Listed.{Listed}
@@ -16,11 +16,11 @@ use Rattle.hw_model.specs.Design.{Entry, same_name}
 use Rattle.hw_model.specs.Equality.{name_from, name_self}
 use Rattle.mlir_reader.specs.AttributeText.{is_among}
 use Rattle.mlir_reader.specs.Spelling.{AreOnce}
-use Rattle.mlir_reader.specs.Resolving.{put_entry, has_name, is_name_entry, is_dropped}
+use Rattle.mlir_reader.specs.Resolving.{put_entry, has_name}
 use Rattle.mlir_printer.specs.Texts.{name_entry, named_entries, entries_shown}
 use Rattle.mlir_printer.specs.Spellable.{Each, AreBytes, IsEntry, IsDictionary}
 use Rattle.mlir_printer.specs.Printable.{AreInOrder, IsKeptDictionary}
-use Rattle.mlir_printer.proofs.EntriesKept.{is_less, is_order, in_order_rest, none_given}
+use Rattle.mlir_printer.proofs.EntriesKept.{is_less, in_order_rest, none_given}
 
 -- ---- keys that rise stand once
 

@@ -1,10 +1,10 @@
 -- A printed dictionary is kept as it is, and gives an operation its own name.
-use Rattle.std.proofs.Common.{◌≡◌, ℕ, suc, Bool, true, false, cond, ◌&&◌, List, [], ◌∷◌, length, refl, ap, ◌∙◌, sym, subst, arith}
-use Rattle.std.specs.Prelude.{nat_eq, not, Option, Some, None, codes, ⊤}
+use Rattle.std.proofs.Common.{◌≡◌, Bool, true, false, cond, ◌&&◌, List, [], ◌∷◌, length, refl, ap, ◌∙◌, sym}
+use Rattle.std.specs.Prelude.{nat_eq, Some, None}
 use Rattle.std.specs.Ordering.{nat_cmp, is_lt}
 use Rattle.std.specs.Cmp.{IsStrictWeakOrder}
 use Rattle.std.specs.Cmp.Lexicographic.{slice_cmp}
-use Rattle.std.proofs.lemmas.Bool.{cond-true, cond-false, false≢true}
+use Rattle.std.proofs.lemmas.Bool.{cond-true, cond-false}
 use Rattle.std.proofs.lemmas.Cmp.{nat_list_cmp_total}
 use Rattle.std.proofs.lemmas.List.Sorted.{ranks_by}
 use Rattle.diag.specs.declared.listed.Listed.{Listed}
@@ -14,10 +14,10 @@ use Rattle.hw_model.specs.Equality.{name_from}
 use Rattle.mlir_lexer.specs.Classes.{is_digit}
 use Rattle.mlir_lexer.specs.Runs.{run}
 use Rattle.mlir_reader.specs.Resolving.{put_entry, sorted, is_empty_hint, without, has_name, is_name_entry, is_dropped, kept_entries, text_in, given_name, unless_digits, name_or}
-use Rattle.mlir_printer.specs.Texts.{name_entry, named_entries, names_itself, entries_shown}
+use Rattle.mlir_printer.specs.Texts.{name_entry, named_entries, entries_shown}
 use Rattle.mlir_printer.specs.Spellable.{Each}
 use Rattle.mlir_printer.specs.Printable.{AreInOrder}
-use Rattle.mlir_printer.proofs.GivenNames.{Suits, IsDigits, IsWord, digits_alone, word_not_digits}
+use Rattle.mlir_printer.proofs.GivenNames.{IsDigits, IsWord, digits_alone, word_not_digits}
 
 -- ---- entries in order stay so
 

@@ -1,11 +1,9 @@
 -- The form of a printed operation takes just its operands and types.
-use Rattle.std.proofs.Common.{◌≡◌, ℕ, zero, suc, ◌+◌, ◌-◌, ◌^◌, ◌<◌, ◌≤◌, max, Bool, true, false, cond, ◌&&◌, List, [], ◌∷◌, ◌++◌, map, length, drop, refl, ap, ◌∙◌, sym, subst, arith}
-use Rattle.std.proofs.lemmas.List.{length-map}
+use Rattle.std.proofs.Common.{◌≡◌, ℕ, zero, suc, ◌+◌, ◌-◌, ◌^◌, ◌<◌, ◌≤◌, max, Bool, true, false, cond, List, [], ◌∷◌, length, refl, ap, sym, subst, arith}
 use Rattle.std.proofs.lemmas.Nat.{pow_pos}
 use Rattle.std.proofs.Math.Pow.{pow_mono}
 use Rattle.std.proofs.lemmas.Bool.{and_parts, eqb-true}
-use Rattle.std.specs.Prelude.{ℤ, pos, negsuc, nat_eq, nat_lt, Option, Some, None, ⊤}
-use Rattle.diag.specs.declared.listed.Listed.TheVariants as listed
+use Rattle.std.specs.Prelude.{ℤ, pos, negsuc}
 use Rattle.hw_model.specs.Types.{Name, HwType}
 use Rattle.hw_model.specs.Types.HwType.{int, clock, array, struct}
 use Rattle.hw_model.specs.Kinds.{Kind, Predicate, Literal, Literals, Instance}
@@ -13,17 +11,17 @@ use Rattle.hw_model.specs.Kinds.Reset.{no_reset, sync_reset}
 use Rattle.hw_model.specs.Kinds.Literal.{leaf, parts}
 use Rattle.hw_model.specs.Kinds.Literals.{no_literals, literal}
 use Rattle.hw_model.specs.Kinds.Kind.{add, mul, and, or, xor, sub, divu, modu, divs, mods, shl, shru, shrs, icmp, parity, extract, concat, replicate, mux, constant, aggregate_constant, array_create, array_concat, array_get, array_slice, array_inject, struct_create, struct_extract, struct_inject, struct_explode, bitcast, wire, instance, output, compreg, compreg_ce, firreg}
-use Rattle.mlir_reader.specs.Numerals.{count_limit, number_limit}
-use Rattle.mlir_reader.specs.PieceText.{Extra, Gathered, gathered_nothing}
+use Rattle.mlir_reader.specs.Numerals.{count_limit}
+use Rattle.mlir_reader.specs.PieceText.{Extra}
 use Rattle.mlir_reader.specs.PieceText.Extra.{nothing, with_reset, predicate, position, number, literals, field_name, child}
-use Rattle.mlir_reader.specs.Shapes.{shape_of, front_pieces, type_pieces}
+use Rattle.mlir_reader.specs.Shapes.{shape_of}
 use Rattle.mlir_reader.specs.declared.pieces.Shape.{Shape}
 use Rattle.mlir_reader.specs.declared.pieces.Shape.TheVariants as shape
 use Rattle.mlir_printer.specs.Numbers.{is_negative, shown_number, shown_integer, shown_by_first, shown_literal, shown_literals, is_truth, is_one_bit, is_shown_as_truth}
-use Rattle.mlir_printer.specs.Pieces.{ValueText, Pending}
-use Rattle.mlir_printer.specs.Operations.{shape_shown, output_shape, is_truth_said, left_behind_all}
-use Rattle.mlir_printer.specs.Texts.{listed_of, extra_shown, reset_extra}
-use Rattle.mlir_printer.specs.Spellable.{Each, AreBytes, IsInteger, IsAnyType, IsLiteral, AreLiterals, IsOperand, IsInstance, IsSaidAs, SaysPredicate, SaysPosition, SaysLiterals, SaysField, said_operand, said_pending, Opens}
+use Rattle.mlir_printer.specs.Pieces.{ValueText}
+use Rattle.mlir_printer.specs.Operations.{shape_shown, output_shape, is_truth_said}
+use Rattle.mlir_printer.specs.Texts.{listed_of, extra_shown}
+use Rattle.mlir_printer.specs.Spellable.{Each, AreBytes, IsInteger, IsAnyType, IsLiteral, AreLiterals, IsOperand, IsSaidAs}
 use Rattle.mlir_printer.specs.Printable.{IsWritten, IsWrittenInstance, operands_written, types_written}
 use Rattle.mlir_printer.proofs.KindsKept.{negative_parts}
 use Rattle.mlir_printer.proofs.SaidForms.{pending, says_variadic, says_binary, says_comparison, says_unary, says_extraction, says_joined, says_conversion, says_choice, says_truth, says_integer, says_aggregate, says_element, says_slice, says_element_change, says_struct, says_field, says_field_change, says_instance, says_nothing, says_register, says_reset_register, says_enabled, says_reset_enabled, says_clocked, says_reset_clocked}

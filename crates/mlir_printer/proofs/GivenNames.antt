@@ -1,5 +1,5 @@
 -- The names that values are given: digits where none is wanted, and else what begins with no digit.
-use Rattle.std.proofs.Common.{◌≡◌, ℕ, zero, suc, ◌+◌, ◌^◌, ◌<◌, ◌≤◌, Bool, true, false, cond, ◌&&◌, ◌||◌, ◌==◌, List, [], ◌∷◌, ◌++◌, map, length, drop, decimal, refl, ap, ◌∙◌, sym, subst, arith, add-one, length-append}
+use Rattle.std.proofs.Common.{◌≡◌, ℕ, zero, suc, ◌+◌, ◌^◌, ◌<◌, ◌≤◌, Bool, true, false, cond, ◌||◌, ◌==◌, List, [], ◌∷◌, ◌++◌, map, length, drop, decimal, refl, ap, ◌∙◌, sym, subst, arith, add-one, length-append}
 use Rattle.std.specs.Prelude.{nat_eq, not, Option, Some, None, ⊤}
 use Rattle.std.specs.Cmp.Lexicographic.{pointwise, bytes_decides}
 use Rattle.std.proofs.lemmas.Fmt.{decimal_injective}
@@ -7,11 +7,10 @@ use Rattle.std.proofs.lemmas.Bool.{cond-true, cond-false, false≢true, eqb-true
 use Rattle.std.proofs.lemmas.List.{append-nil}
 use Rattle.hw_model.specs.Types.{Name}
 use Rattle.fresh_names.specs.Fresh.{is_taken, suffixed, free_from, free_name, fresh}
-use Rattle.mlir_lexer.specs.Classes.{is_digit, is_suffix_byte, is_name_byte, is_name_start}
+use Rattle.mlir_lexer.specs.Classes.{is_digit, is_suffix_byte, is_name_start}
 use Rattle.mlir_lexer.specs.Runs.{run, begins}
-use Rattle.mlir_lexer.specs.Fronts.{suffix_length}
 use Rattle.mlir_printer.specs.Strings.{stands, suffix_byte, standing}
-use Rattle.mlir_printer.specs.Naming.{wanted, first_name}
+use Rattle.mlir_printer.specs.Naming.{wanted}
 use Rattle.mlir_printer.specs.Spellable.{IsValueName}
 use Rattle.mlir_printer.proofs.LexedNumbers.{numeral}
 

@@ -1,5 +1,5 @@
 -- An operation's kind is told by its name and by what is said of it.
-use Rattle.std.proofs.Common.{◌≡◌, ℕ, zero, suc, ◌+◌, ◌-◌, ◌*◌, ◌^◌, ◌<◌, ◌≤◌, Bool, true, false, cond, ◌&&◌, List, [], ◌∷◌, refl, ap, ◌∙◌, sym, arith}
+use Rattle.std.proofs.Common.{◌≡◌, ℕ, suc, ◌-◌, ◌*◌, ◌^◌, ◌<◌, ◌≤◌, Bool, true, false, cond, ◌&&◌, List, [], ◌∷◌, refl, ap, ◌∙◌, arith}
 use Rattle.std.specs.Prelude.{ℤ, pos, negsuc, nat_lt, nat_le}
 use Rattle.std.proofs.Math.Nat.{pow-succ'}
 use Rattle.std.proofs.lemmas.Bool.{and_parts, and_from, ltb-true, leb-true, lt-ltb}
@@ -9,7 +9,7 @@ use Rattle.hw_model.specs.Kinds.{Kind, Literal, Literals}
 use Rattle.hw_model.specs.Kinds.Reset.{no_reset, sync_reset}
 use Rattle.hw_model.specs.Kinds.Literal.{leaf, parts}
 use Rattle.hw_model.specs.Kinds.Literals.{no_literals, literal}
-use Rattle.hw_model.specs.Kinds.Kind.{add, mul, and, or, xor, sub, divu, modu, divs, mods, shl, shru, shrs, icmp, parity, extract, concat, replicate, mux, constant, aggregate_constant, array_create, array_concat, array_get, array_slice, array_inject, struct_create, struct_extract, struct_inject, struct_explode, bitcast, wire, instance, output, compreg, compreg_ce, firreg}
+use Rattle.hw_model.specs.Kinds.Kind.{constant, aggregate_constant, compreg, compreg_ce, firreg}
 use Rattle.mlir_reader.specs.Resolving.{has_negative, kept_number, kept_integer, kept_by_first, kept_literal, kept_literals, plain_kind, said_kind, kind_named}
 use Rattle.mlir_printer.specs.Numbers.{is_negative, shown_number, shown_integer, shown_by_first, shown_literal, shown_literals}
 use Rattle.mlir_printer.specs.Texts.{listed_of, extra_shown}

@@ -36,3 +36,4 @@ pub mod ReadModules
 pub mod VerifiedDesigns
 pub mod PlacesChosen
 pub mod PrintedDesigns
+pub mod PrintableExample

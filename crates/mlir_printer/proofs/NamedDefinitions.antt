@@ -1,23 +1,20 @@
 -- The definitions that a printed module makes: one for each name that is given.
-use Rattle.std.proofs.Common.{◌≡◌, ℕ, zero, suc, ◌+◌, ◌<◌, ◌≤◌, Bool, true, false, cond, List, [], ◌∷◌, ◌++◌, map, length, drop, refl, ap, ◌∙◌, sym, subst, inl, inr, ◌⊎◌, arith, length-append}
-use Rattle.std.specs.Prelude.{nat_lt, nat_eq, min, Option, Some, None, slice_get}
-use Rattle.std.proofs.lemmas.Bool.{ltb-true, lt-ltb, eqb-true, false≢true}
+use Rattle.std.proofs.Common.{◌≡◌, ℕ, zero, suc, ◌+◌, ◌<◌, Bool, true, false, cond, List, [], ◌∷◌, ◌++◌, map, length, drop, refl, ap, ◌∙◌, sym, arith, length-append}
+use Rattle.std.specs.Prelude.{nat_eq, min, Some, None}
+use Rattle.std.proofs.lemmas.Bool.{ltb-true, eqb-true}
 use Rattle.std.proofs.Math.Seq.{drop-nil}
 use Rattle.hw_model.specs.Types.{Name, HwType}
 use Rattle.hw_model.specs.Kinds.{Kind}
 use Rattle.hw_model.specs.Kinds.Kind.{struct_explode}
 use Rattle.hw_model.specs.Design.{Ref, Port, Op}
-use Rattle.hw_model.specs.Design.Ref.{port, result}
 use Rattle.ir_store.specs.OperationViews.{OpParts}
-use Rattle.ir_store.specs.ResultTypes.{result_count}
 use Rattle.mlir_reader.specs.OperandText.{ResultNames}
-use Rattle.mlir_reader.specs.Resolving.{Meanings, Definition, names_from, names_defined, port_definitions, port_definition, operation_definitions, body_definitions, own_count, ref_in, resolved}
-use Rattle.mlir_reader.specs.Resolving.Defined.{is_port, are_results}
+use Rattle.mlir_reader.specs.Resolving.{Definition, names_from, names_defined, port_definitions, port_definition, operation_definitions, body_definitions, own_count}
+use Rattle.mlir_reader.specs.Resolving.Defined.{are_results}
 use Rattle.mlir_printer.specs.Pieces.{ValueText}
-use Rattle.mlir_printer.specs.Naming.{wishes, wishes_of, pack_wishes, name_count, body_wishes, port_wish, port_wishes, input_count, first_name, called, firsts, is_pack, value_at, value_in, port_value, listed_names, results_named}
-use Rattle.mlir_printer.specs.Texts.{parts_in, operations_shown, operation_shown, ports_shown, port_shown}
-use Rattle.mlir_printer.specs.Spellable.{said_operand, said_operation, said_port}
-use Rattle.mlir_printer.proofs.NameTables.{Among, Finds, finds_left, finds_right}
+use Rattle.mlir_printer.specs.Naming.{wishes, wishes_of, pack_wishes, name_count, body_wishes, port_wish, port_wishes, input_count, first_name, firsts, is_pack, listed_names, results_named}
+use Rattle.mlir_printer.specs.Texts.{parts_in, operations_shown, operation_shown, ports_shown}
+use Rattle.mlir_printer.specs.Spellable.{said_operation, said_port}
 
 abbrev pub name_of : Definition → Name
 name_of d = d.name

@@ -1,14 +1,14 @@
 -- A printed operation says the operation that it was.
-use Rattle.std.proofs.Common.{◌≡◌, ℕ, zero, suc, ◌+◌, ◌-◌, ◌<◌, ◌≤◌, Bool, true, false, cond, List, [], ◌∷◌, ◌++◌, map, length, drop, refl, ap, ◌∙◌, sym, subst, inl, inr, ◌⊎◌, arith, length-drop}
+use Rattle.std.proofs.Common.{◌≡◌, ℕ, zero, suc, ◌≤◌, Bool, true, false, cond, List, [], ◌∷◌, map, length, drop, refl, ap, ◌∙◌, sym, subst, arith, length-drop}
 use Rattle.std.proofs.lemmas.List.{length-map}
-use Rattle.std.specs.Prelude.{ℤ, Option, Some, None, slice_get, ⊤}
+use Rattle.std.specs.Prelude.{Option, Some, None}
 use Rattle.std.proofs.lemmas.Bool.{cond-true, cond-false, ltb-false}
 use Rattle.hw_model.specs.Types.{Name, HwType}
 use Rattle.hw_model.specs.Types.HwType.{int, clock, array, struct}
 use Rattle.hw_model.specs.Kinds.{Kind}
 use Rattle.hw_model.specs.Kinds.Kind.{struct_explode, wire, instance, output, compreg, compreg_ce, firreg}
 use Rattle.hw_model.specs.Sound.{field_list}
-use Rattle.hw_model.specs.Design.{Entry, Ref, Port, OpResult, Op, is_output_kind, nowhere_place, op_without_place}
+use Rattle.hw_model.specs.Design.{Ref, Port, Op, is_output_kind, op_without_place}
 use Rattle.ir_store.specs.ResultTypes.{first_type, fields_of, field_count, result_types, result_count}
 use Rattle.mlir_reader.specs.OperandText.{ResultNames, named_count}
 use Rattle.mlir_reader.specs.OperationText.{OperationText, is_last}
@@ -16,14 +16,14 @@ use Rattle.mlir_reader.specs.Resolving as read
 use Rattle.mlir_reader.specs.Resolving.{Meanings, Definition, resolved, marks, marked_results, own_types, own_count, operation_at, operation_definitions, names_defined, kind_named, has_name, name_or, given_name, unless_digits, own_name_of, type_or_none}
 use Rattle.mlir_printer.specs.Pieces.{ValueText}
 use Rattle.mlir_printer.specs.Naming.{wishes, wishes_of, own_wish, pack_wishes, name_count, first_name, firsts, is_pack, listed_names, results_named}
-use Rattle.mlir_printer.specs.Texts.{listed_of, extra_shown, parts_in, operation_shown, entries_shown}
+use Rattle.mlir_printer.specs.Texts.{listed_of, parts_in, operation_shown, entries_shown}
 use Rattle.mlir_printer.specs.Spellable.{Each, said_operand, said_operation}
 use Rattle.mlir_printer.specs.Printable.{IsDefined, settled_result, types_written, IsPrintableOp}
 use Rattle.mlir_printer.proofs.Listing.{instance_length}
 use Rattle.mlir_printer.proofs.NameTables.{AreNew, no_marks}
 use Rattle.mlir_printer.proofs.NamedDefinitions.{name_of, results_names, firsts_length, pack_kind, pack_named}
 use Rattle.mlir_printer.proofs.ValuesFound.{AreCounted}
-use Rattle.mlir_printer.proofs.GivenNames.{Suits, IsDigits, IsWord}
+use Rattle.mlir_printer.proofs.GivenNames.{Suits}
 use Rattle.mlir_printer.proofs.KindsKept.{kind_again}
 use Rattle.mlir_printer.proofs.EntriesKept.{shown_kept, none_given, own_again, SuitsOwn}
 

@@ -1,8 +1,8 @@
 -- What bytes spell but for places they spell with the places of their tokens.
-use Rattle.std.proofs.Common.{◌≡◌, ℕ, zero, suc, ◌+◌, Bool, true, false, cond, List, [], ◌∷◌, ◌++◌, map, refl, ap, ◌∙◌, sym, subst, inl, inr, ◌⊎◌}
+use Rattle.std.proofs.Common.{◌≡◌, ℕ, ◌+◌, Bool, true, false, cond, List, [], ◌∷◌, ◌++◌, map, refl, ap, ◌∙◌, sym, inl, inr}
 use Rattle.diag.specs.Place.{start_place}
 use Rattle.diag.specs.declared.refusal.Place.{Place}
-use Rattle.hw_model.specs.Design.{Op, Module, Design, op_without_place, module_without_places, without_places, IsSameDesign}
+use Rattle.hw_model.specs.Design.{Op, Design, op_without_place, module_without_places, without_places, IsSameDesign}
 use Rattle.mlir_lexer.specs.Tokens.{Lexeme}
 use Rattle.mlir_reader.specs.OperationText.{OperationText, is_last}
 use Rattle.mlir_reader.specs.ModuleText.{ModuleText}

@@ -1,6 +1,6 @@
 -- What is read of bytes: names are bytes, numbers are below their limits, and nothing is too deep.
-use Rattle.std.proofs.Common.{◌≡◌, ℕ, zero, suc, ◌+◌, ◌-◌, ◌*◌, ◌<◌, ◌≤◌, Bool, true, false, cond, ◌&&◌, ◌==◌, List, [], ◌∷◌, ◌++◌, map, take, drop, length, refl, ap, ◌∙◌, sym, subst, inl, inr, ◌⊎◌, arith}
-use Rattle.std.specs.Prelude.{ℤ, pos, negsuc, nat_le, Option, Some, None, Result, Ok, Err, codes, ⊤}
+use Rattle.std.proofs.Common.{◌≡◌, ℕ, zero, suc, ◌+◌, ◌-◌, ◌<◌, ◌≤◌, Bool, true, false, cond, ◌&&◌, ◌==◌, List, [], ◌∷◌, ◌++◌, map, take, drop, length, refl, ap, ◌∙◌, sym, subst, inl, inr, arith}
+use Rattle.std.specs.Prelude.{ℤ, pos, negsuc, nat_le, Result, Ok, Err, ⊤}
 use Rattle.std.proofs.lemmas.Bool.{and_parts, leb-true}
 use Rattle.diag.specs.Place.{start_place, next_place}
 use Rattle.diag.specs.declared.refusal.Place.{Place}
@@ -22,12 +22,12 @@ use Rattle.mlir_lexer.specs.declared.fronts.Front.{Front}
 use Rattle.mlir_lexer.specs.declared.fronts.Front.TheVariants.{LineEnd, Gap, Token, Bad}
 use Rattle.mlir_lexer.specs.declared.token.TokenKind.{TokenKind}
 use Rattle.mlir_lexer.specs.declared.token.TokenKind.TheVariants as kind
-use Rattle.mlir_reader.specs.Numerals.{number_limit, count_limit, negative}
+use Rattle.mlir_reader.specs.Numerals.{number_limit, negative}
 use Rattle.mlir_reader.specs.TypeText.{most_open}
-use Rattle.mlir_reader.specs.AttributeText.{is_among, is_stored, in_order}
+use Rattle.mlir_reader.specs.AttributeText.{is_among, in_order}
 use Rattle.mlir_reader.specs.LiteralText.{literals_in_order, truth_leaf}
-use Rattle.mlir_reader.specs.Spelling.{Phrase, Commas, Holding, NamePhrase, SymbolPhrase, IntegerPhrase, GluedPhrase, ElementPhrase, FieldPhrase, PlainType, TypeWith, TypePhrase, IntegerType, AttributeWith, AttributePhrase, ValuePhrase, EntryPhrase, LiteralWith, PartsPhrase, LiteralPhrase, AggregatePhrase, token_of}
-use Rattle.mlir_printer.specs.Spellable.{Each, AreBytes, IsInteger, Opens, IsType, AreFields, IsAnyType, IsLiteral, AreLiterals, IsAttribute, AreAttributes, IsValue, IsEntry}
+use Rattle.mlir_reader.specs.Spelling.{Phrase, Commas, Holding, NamePhrase, SymbolPhrase, IntegerPhrase, ElementPhrase, FieldPhrase, TypeWith, TypePhrase, IntegerType, AttributePhrase, ValuePhrase, EntryPhrase, LiteralWith, PartsPhrase, LiteralPhrase, AggregatePhrase, token_of}
+use Rattle.mlir_printer.specs.Spellable.{Each, AreBytes, IsInteger, IsType, AreFields, IsLiteral, AreLiterals, IsAttribute, AreAttributes, IsValue, IsEntry}
 
 -- ---- the tokens of bytes
 

@@ -1,32 +1,32 @@
 -- What is read of modules: operations and ports that can be printed, and few names.
-use Rattle.std.proofs.Common.{◌≡◌, ℕ, zero, suc, ◌+◌, ◌-◌, ◌^◌, ◌<◌, ◌≤◌, Bool, true, false, cond, List, [], ◌∷◌, ◌++◌, map, length, refl, ap, ◌∙◌, sym, subst, inl, inr, ◌⊎◌, arith, length-append}
-use Rattle.std.specs.Prelude.{Option, Some, None, is_some, not, ⊤}
+use Rattle.std.proofs.Common.{◌≡◌, ℕ, zero, suc, ◌+◌, ◌^◌, ◌<◌, ◌≤◌, Bool, true, false, cond, List, [], ◌∷◌, ◌++◌, map, length, refl, ap, ◌∙◌, sym, subst, inl, inr, arith, length-append}
+use Rattle.std.specs.Prelude.{Some, is_some, not}
 use Rattle.std.proofs.lemmas.List.{length-map}
 use Rattle.diag.specs.declared.refusal.Place as code
 use Rattle.diag.specs.declared.listed.Listed.{Listed}
 use Rattle.diag.specs.declared.listed.Listed.TheVariants as listed
 use Rattle.hw_model.specs.Types.{Name, HwType}
 use Rattle.hw_model.specs.TypeViews.{NamedType}
-use Rattle.hw_model.specs.Kinds.{Kind, Instance}
+use Rattle.hw_model.specs.Kinds.{Kind}
 use Rattle.hw_model.specs.Kinds.Kind.{struct_explode, instance, output}
 use Rattle.hw_model.specs.Design.{Entry, Port, Op, Module, Design}
 use Rattle.ir_store.specs.ResultTypes.{result_types}
-use Rattle.mlir_lexer.specs.Tokens.{Lexeme, tokens}
+use Rattle.mlir_lexer.specs.Tokens.{Lexeme}
 use Rattle.mlir_lexer.specs.declared.token.TokenKind.TheVariants as kind
 use Rattle.mlir_reader.specs.Numerals.{count_limit}
 use Rattle.mlir_reader.specs.TypeText.{most_open}
 use Rattle.mlir_reader.specs.OperandText.{ResultNames, named_count}
 use Rattle.mlir_reader.specs.OperandText.ResultNames.{no_names, names, pack}
-use Rattle.mlir_reader.specs.PieceText.{Extra, Gathered, gathered_nothing, Joined}
+use Rattle.mlir_reader.specs.PieceText.{Extra, Gathered, gathered_nothing}
 use Rattle.mlir_reader.specs.PieceText.Extra.{child}
 use Rattle.mlir_reader.specs.Shapes.{front_pieces, type_pieces}
 use Rattle.mlir_reader.specs.OperationText.{OperationText}
 use Rattle.mlir_reader.specs.ModuleText.{PortText, ModuleText, module_keys}
-use Rattle.mlir_reader.specs.Resolving.{Meanings, said_instance, plain_kind, said_kind, kind_named, with_definitions, operation_definitions, operation_at, operations_from, port_definition, ports_from, is_marked, no_meaning, port_meanings, meanings, ends_with_output, has_outputs, left_out_output, completed, module_of, design_of}
-use Rattle.mlir_reader.specs.Spelling.{Phrase, Either, Holding, Where, Nothing, Stands, IsPlaceOf, Commas, ValueName, InputPhrase, OutputPhrase, PiecePhrase, PiecesPhrase, FormPhrase, ResultsPhrase, OperationPhrase, OperationsPhrase, PortPhrase, AttributesPhrase, ModulePhrase, ModulesPhrase, FilePhrase, token_of, Spells}
+use Rattle.mlir_reader.specs.Resolving.{Meanings, said_instance, plain_kind, said_kind, kind_named, with_definitions, operation_definitions, operation_at, operations_from, port_definition, ports_from, no_meaning, port_meanings, meanings, ends_with_output, has_outputs, left_out_output, completed, module_of, design_of}
+use Rattle.mlir_reader.specs.Spelling.{Phrase, Either, Holding, Where, Nothing, Stands, IsPlaceOf, Commas, ValueName, OutputPhrase, PiecePhrase, PiecesPhrase, ResultsPhrase, OperationPhrase, OperationsPhrase, PortPhrase, AttributesPhrase, ModulePhrase, ModulesPhrase, FilePhrase, Spells}
 use Rattle.mlir_reader.specs.declared.pieces.Piece.{Piece}
 use Rattle.mlir_reader.specs.declared.pieces.Piece.TheVariants as piece
-use Rattle.mlir_printer.specs.Naming.{wishes, wishes_of, pack_wishes, instance_wishes, body_wishes, port_wish, port_wishes}
+use Rattle.mlir_printer.specs.Naming.{wishes, wishes_of, pack_wishes, body_wishes, port_wishes}
 use Rattle.mlir_printer.specs.Texts.{listed_of, parts_in}
 use Rattle.mlir_printer.specs.Spellable.{Each, AreBytes, IsAnyType}
 use Rattle.mlir_printer.specs.Printable.{IsKeptDictionary}

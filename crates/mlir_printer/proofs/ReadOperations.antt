@@ -1,38 +1,37 @@
 -- What is read of operations and modules can be printed again, but for what a verifier refuses.
-use Rattle.std.proofs.Common.{◌≡◌, ℕ, zero, suc, ◌+◌, ◌-◌, ◌^◌, ◌<◌, ◌≤◌, Bool, true, false, cond, ◌&&◌, List, [], ◌∷◌, ◌++◌, map, length, refl, ap, ◌∙◌, sym, subst, inl, inr, ◌⊎◌, arith}
+use Rattle.std.proofs.Common.{◌≡◌, ℕ, zero, suc, ◌-◌, ◌^◌, ◌<◌, ◌≤◌, Bool, true, false, cond, ◌&&◌, List, [], ◌∷◌, ◌++◌, length, refl, ap, ◌∙◌, sym, subst, arith}
 use Rattle.std.specs.Prelude.{ℤ, pos, negsuc, nat_eq, nat_lt, Option, Some, None, ⊤}
 use Rattle.std.proofs.lemmas.List.{length-map}
-use Rattle.std.proofs.lemmas.Nat.{pow_pos}
 use Rattle.std.proofs.Math.Pow.{pow_mono}
-use Rattle.std.proofs.lemmas.Bool.{and_parts, ltb-true, cond-true, cond-false}
+use Rattle.std.proofs.lemmas.Bool.{and_parts, ltb-true, cond-false}
 use Rattle.diag.specs.declared.listed.Listed.{Listed}
 use Rattle.diag.specs.declared.listed.Listed.TheVariants as listed
 use Rattle.hw_model.specs.Types.{Name, HwType}
 use Rattle.hw_model.specs.Types.HwType.{int, clock, array, struct}
-use Rattle.hw_model.specs.Kinds.{Kind, Literal, Literals, Instance}
+use Rattle.hw_model.specs.Kinds.{Literal, Literals}
 use Rattle.hw_model.specs.Kinds.Literal.{leaf, parts}
 use Rattle.hw_model.specs.Kinds.Literals.{no_literals, literal}
-use Rattle.hw_model.specs.Design.{Attribute, Entry, OpResult, Op, same_name}
-use Rattle.hw_model.specs.Design.Attribute.{unit_value, text_value, symbol_value, truth_value, integer_value, list_value}
+use Rattle.hw_model.specs.Design.{Attribute, Entry, Op, same_name}
+use Rattle.hw_model.specs.Design.Attribute.{text_value}
 use Rattle.ir_store.specs.ResultTypes.{result_types}
 use Rattle.mlir_lexer.specs.Classes.{is_digit}
 use Rattle.mlir_lexer.specs.Runs.{run}
 use Rattle.mlir_lexer.specs.Tokens.{Lexeme}
 use Rattle.mlir_lexer.specs.declared.token.TokenKind.TheVariants as kind
-use Rattle.mlir_reader.specs.Numerals.{count_limit, number_limit}
+use Rattle.mlir_reader.specs.Numerals.{count_limit}
 use Rattle.mlir_reader.specs.AttributeText.{is_among}
-use Rattle.mlir_reader.specs.OperandText.{OperandName, ResultNames, named_count}
+use Rattle.mlir_reader.specs.OperandText.{ResultNames}
 use Rattle.mlir_reader.specs.OperandText.ResultNames.{no_names, names, pack}
 use Rattle.mlir_reader.specs.PieceText.{Extra, Gathered, gathered_nothing}
-use Rattle.mlir_reader.specs.PieceText.Extra.{nothing, with_reset, predicate, position, number, literals, field_name, child}
+use Rattle.mlir_reader.specs.PieceText.Extra.{position, number, literals, field_name, child}
 use Rattle.mlir_reader.specs.Shapes.{front_pieces, type_pieces}
 use Rattle.mlir_reader.specs.declared.pieces.Shape.{Shape}
 use Rattle.mlir_reader.specs.OperationText.{OperationText, takes_bin, string_keys, given_entries}
 use Rattle.mlir_reader.specs.Resolving as read
 use Rattle.mlir_reader.specs.Resolving.{Meanings, resolved, has_negative, kept_number, kept_integer, kept_by_first, kept_literal, kept_literals, said_position, said_number, said_literals, said_field, said_instance, plain_kind, said_kind, kind_named, put_entry, sorted, without, is_dropped, has_name, is_name_entry, kept_entries, text_in, given_name, unless_digits, name_or, own_name_of, marks, marked_results, operation_definitions, operation_at}
-use Rattle.mlir_reader.specs.Spelling.{Phrase, Stands, Commas, ValueName, AreOnce, DictionaryPhrase, EntryPhrase, MaybeDictionary, IsOneOf, FormPhrase, BinPhrase, ResultsPhrase, StandsInBody, OperationPhrase}
+use Rattle.mlir_reader.specs.Spelling.{Stands, AreOnce, DictionaryPhrase, EntryPhrase, MaybeDictionary, IsOneOf, FormPhrase, BinPhrase, ResultsPhrase, StandsInBody, OperationPhrase}
 use Rattle.mlir_printer.specs.Texts.{listed_of}
-use Rattle.mlir_printer.specs.Spellable.{Each, AreBytes, IsInteger, IsType, IsAnyType, IsLiteral, AreLiterals, IsValue, IsEntry, Opens}
+use Rattle.mlir_printer.specs.Spellable.{Each, AreBytes, IsInteger, IsAnyType, IsLiteral, AreLiterals, IsValue, IsEntry}
 use Rattle.mlir_printer.specs.Printable.{AreInOrder, IsKeptDictionary, KeepsConstants, IsWritten, IsWrittenInstance}
 use Rattle.mlir_printer.proofs.DictionariesFit.{put_in_order, each_put}
 use Rattle.mlir_printer.proofs.ReadBytes.{AreTexts, parts_of, held_bytes, each_read, entry_read}

@@ -1,20 +1,19 @@
 -- What is read of an operation's pieces: types that can be read, and what is said within its limits.
-use Rattle.std.proofs.Common.{◌≡◌, ℕ, zero, suc, ◌+◌, ◌-◌, ◌^◌, ◌<◌, ◌≤◌, Bool, true, false, cond, List, [], ◌∷◌, ◌++◌, map, length, refl, ap, ◌∙◌, sym, subst, inl, inr, ◌⊎◌, arith}
-use Rattle.std.specs.Prelude.{ℤ, pos, negsuc, Option, Some, None, codes, ⊤}
-use Rattle.hw_model.specs.Types.{Name, HwType}
+use Rattle.std.proofs.Common.{◌<◌, Bool, true, false, List, [], ◌∷◌, ◌++◌, map, sym, subst, inl, inr, arith}
+use Rattle.std.specs.Prelude.{Option, Some, None, ⊤}
+use Rattle.hw_model.specs.Types.{Name}
 use Rattle.hw_model.specs.Types.HwType.{int}
 use Rattle.hw_model.specs.TypeViews.{NamedType}
-use Rattle.hw_model.specs.Kinds.{Kind, Instance}
 use Rattle.mlir_lexer.specs.Tokens.{Lexeme}
 use Rattle.mlir_lexer.specs.declared.token.TokenKind.TheVariants as kind
 use Rattle.mlir_reader.specs.Numerals.{count_limit}
 use Rattle.mlir_reader.specs.TypeText.{most_open}
-use Rattle.mlir_reader.specs.PieceText.{Extra, Gathered, Joined, with_operands, with_types, with_extra, truth_number, instance_with, with_instance}
-use Rattle.mlir_reader.specs.PieceText.Extra.{nothing, with_reset, predicate, position, number, literals, field_name, child}
+use Rattle.mlir_reader.specs.PieceText.{Extra, Gathered, Joined, truth_number}
+use Rattle.mlir_reader.specs.PieceText.Extra.{position, number, literals, field_name, child}
 use Rattle.mlir_reader.specs.Spelling.{Phrase, InputPhrase, OutputPhrase, InnerSymbol, InstancePhrase, ResetPhrase, TypePhrase, PiecePhrase, PiecesPhrase}
 use Rattle.mlir_reader.specs.declared.pieces.Piece.{Piece}
 use Rattle.mlir_reader.specs.declared.pieces.Piece.TheVariants as piece
-use Rattle.mlir_printer.specs.Spellable.{Each, AreBytes, MayBeBytes, IsInteger, IsType, IsAnyType, AreLiterals}
+use Rattle.mlir_printer.specs.Spellable.{Each, AreBytes, MayBeBytes, IsInteger, IsAnyType, AreLiterals}
 use Rattle.mlir_printer.specs.Printable.{IsWrittenInstance}
 use Rattle.mlir_printer.proofs.ReadBytes.{AreTexts, parts_of, held_bytes, name_bytes_read, symbol_bytes_read, each_read, integer_read, type_read, field_read, aggregate_read}
 

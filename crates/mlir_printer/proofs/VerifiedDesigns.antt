@@ -1,16 +1,16 @@
 -- A design that is read and not refused can be printed and read again.
-use Rattle.std.proofs.Common.{◌≡◌, ℕ, zero, suc, ◌+◌, ◌^◌, ◌<◌, ◌≤◌, max, Bool, true, false, cond, ◌&&◌, ◌||◌, List, [], ◌∷◌, ◌++◌, map, length, refl, ap, ◌∙◌, sym, subst, inl, inr, ◌⊎◌, arith}
-use Rattle.std.specs.Prelude.{not, nat_eq, nat_lt, Option, Some, None, option_map, is_some, slice_get, ⊤, Result, Ok, Err}
+use Rattle.std.proofs.Common.{◌≡◌, ℕ, zero, suc, ◌<◌, max, Bool, true, false, cond, ◌&&◌, List, [], ◌∷◌, map, length, refl, ap, ◌∙◌, sym, subst, arith}
+use Rattle.std.specs.Prelude.{not, nat_eq, nat_lt, Option, Some, None, is_some, slice_get, ⊤, Ok, Err}
 use Rattle.std.proofs.lemmas.List.{length-map}
-use Rattle.std.proofs.lemmas.Bool.{or_parts, eqb-true, ltb-false, false≢true}
+use Rattle.std.proofs.lemmas.Bool.{or_parts, eqb-true, ltb-false}
 use Rattle.wiring.specs.Options.{bind, omap}
 use Rattle.diag.specs.declared.cause.Cause.{Cause}
-use Rattle.hw_model.specs.Types.{Name, HwType}
+use Rattle.hw_model.specs.Types.{HwType}
 use Rattle.hw_model.specs.Kinds.{Kind}
 use Rattle.hw_model.specs.Kinds.Reset.{no_reset, sync_reset}
 use Rattle.hw_model.specs.Kinds.Kind.{concat, array_concat, struct_create, output, compreg, compreg_ce, firreg}
 use Rattle.hw_model.specs.Sound.{type_in, input_type}
-use Rattle.hw_model.specs.Design.{Ref, Port, OpResult, Op, Module, Design, is_output_op, result_type, instance_in}
+use Rattle.hw_model.specs.Design.{Ref, Port, OpResult, Op, Module, Design, is_output_op, result_type}
 use Rattle.hw_model.specs.Design.Ref.{port, result, undefined}
 use Rattle.ir_store.specs.ResultTypes.{result_types, result_count}
 use Rattle.diag.specs.Place.{start_place}
@@ -22,12 +22,11 @@ use Rattle.mlir_reader.specs.Reading.{text_limit, design_read, read}
 use Rattle.mlir_reader.specs.Numerals.{count_limit}
 use Rattle.mlir_reader.specs.Resolving.{marked_results, type_or_none}
 use Rattle.mlir_reader.specs.Spelling.{Spells}
-use Rattle.op_verifier.specs.Answers.{when, or_else}
-use Rattle.op_verifier.specs.CountChecks.{operand_count, type_count, has_wrong_operands, has_wrong_results, has_miscounted_parts, has_wrong_count}
+use Rattle.op_verifier.specs.CountChecks.{operand_count, type_count, has_wrong_operands, has_wrong_results, has_wrong_count}
 use Rattle.op_verifier.specs.OperandChecks.{has_mismatch}
 use Rattle.op_verifier.specs.LimitChecks.{has_type_outside, has_constant_outside, has_extract_outside, has_broken_copy, has_wide_concat, has_unknown_divisor, has_wrong_index, has_wrong_field, has_unequal_widths, has_clock_value}
 use Rattle.op_verifier.specs.OwnChecks.{caused, own_cause}
-use Rattle.op_verifier.specs.OpChecks.{has_again, has_undefined, settled_type, divides_by_constant, has_other_outputs, instance_cause, value_cause, alone_cause, outer_cause, op_cause}
+use Rattle.op_verifier.specs.OpChecks.{has_again, has_undefined, settled_type, divides_by_constant, value_cause, alone_cause, op_cause}
 use Rattle.op_verifier.specs.Headers.{has_port, has_output, ports_cause, names_cause, header_cause}
 use Rattle.op_verifier.specs.Faults.{op_refusal, header_refusal, is_empty, body_fault, module_fault, faults_from, first_fault}
 use Rattle.op_verifier.proofs.Unrefused.{or_none, map_none, when_none, not_false}
