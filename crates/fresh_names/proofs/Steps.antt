@@ -1,5 +1,5 @@
 -- One step of the search for a free name.
-use Rattle.std.proofs.Common.{◌≡◌, ℕ, zero, suc, ◌+◌, ◌-◌, ◌<◌, Bool, true, false, cond, List, length, refl, ap, ◌∙◌, sym, arith}
+use Rattle.std.proofs.Common.{◌≡◌, ℕ, suc, ◌+◌, ◌-◌, ◌<◌, true, false, cond, List, ap, ◌∙◌, sym, arith}
 use Rattle.fresh_names.specs.Fresh.{Name, is_taken, suffixed, free_from}
 
 pub free_step : (taken : List Name) (w : Name) (n k : ℕ) → k < n

@@ -1,9 +1,9 @@
 //! A table of names that are taken.
-ghost use Rattle.std.specs.Prelude.{◌≡◌, ◌+◌, ◌<◌, ◌^◌, [], ◌∷◌, ◌++◌, length, Some, slice_get, IfOk, OnOk, OnErr};
-ghost use Rattle.fresh_names.specs.Fresh.{free_name, is_taken, suffixed};
-ghost use Rattle.fresh_names.specs.TakenViews.{taken_names};
+ghost use Rattle.std.specs.Prelude.{◌≡◌, length, map, IfOk};
+ghost use Rattle.fresh_names.specs.Fresh.{suffixed};
+ghost use Rattle.fresh_names.specs.Tried.{AreTried};
 
-use io_edge::byte_text::Text;
+use indexmap::IndexSet;
 use itoa::Buffer;
 use std::alloc::{AllocError, Global};
 
@@ -13,71 +13,117 @@ pub struct NameId {
     pub(crate) index: u32,
 }
 
-/// Names that are taken, in order.
+/// Names that are taken, in order. Contracts see them by `taken_names`.
 #[derive(Drop)]
 pub struct TakenNames {
-    names: Vec<Text>,
+    names: IndexSet<Vec<u8>>,
+    // of each name how many of its suffixed names are known to be taken
+    tried: Vec<usize>,
+    ghost paired: { length tried.items ≡ length names.keys },
+    ghost taken: { AreTried (map (λ (name : _). name.items) names.keys) tried.items },
 }
 
+// The name, `_`, and the number.
 #[tactic(auto, using(std::proofs::Common::append_assoc), unfolding(crate::specs::Fresh::suffixed))]
-fn suffixed(alloc: Global, wanted: &[u8], number: usize) -> Result<Text, AllocError>
-    ensures { IfOk result (λ name. name ≡ suffixed wanted.now number) }
+fn suffixed(alloc: Global, wanted: &[u8], number: usize) -> Result<Vec<u8>, AllocError>
+    ensures { IfOk result (λ name. name.items ≡ suffixed wanted.now number) }
 {
     let mut buffer = Buffer::new();
-    let mut name = Text::of(alloc, wanted)?;
+    let digits = buffer.format(number).as_bytes();
+    let mut name = Vec::from_slice(alloc, wanted)?;
     name.push(b'_')?;
-    name.push_bytes(buffer.format(number).as_bytes())?;
+    name.extend_from_slice(digits)?;
     Ok(name)
 }
 
 impl TakenNames {
+    ghost use Rattle.std.specs.Prelude.{◌≡◌, ◌+◌, ◌<◌, ◌^◌, [], ◌∷◌, ◌++◌, length, Some, slice_get, false, IfOk, OnOk, OnErr};
+    ghost use Rattle.fresh_names.specs.Fresh.{free_from, free_name, is_taken, suffixed};
+    ghost use Rattle.fresh_names.specs.Tried.{IsTried};
+    ghost use Rattle.fresh_names.specs.TakenViews.{taken_names};
+
     /// No name is taken. It takes no memory.
     pub fn new(alloc: Global) -> TakenNames
         ensures { taken_names result ≡ [] }
     {
         TakenNames {
-            names: Vec::new(alloc),
+            names: IndexSet::new(alloc),
+            tried: Vec::new(alloc),
         }
     }
 
+    // Whether a name is taken.
     fn is_taken(&self, name: &[u8]) -> bool
         ensures { result ≡ is_taken (taken_names self.now) name.now }
     {
-        for taken in &self.names {
-            if taken.as_bytes() == name {
-                return true;
-            }
-        }
-        false
+        self.names.contains(name)
     }
 
-    #[tactic(auto, unfolding(crate::specs::Fresh::free_name))]
-    fn free_name(&self, alloc: Global, wanted: &[u8]) -> Result<Text, AllocError>
-        ensures { IfOk result (λ name. name ≡ free_name (taken_names self.now) wanted.now) }
+    // The first number from another one on of which the suffixed name is not taken, and that name;
+    // the last number is that of the names.
+    fn free_from(
+        &self,
+        alloc: Global,
+        wanted: &[u8],
+        first: usize,
+    ) -> Result<(usize, Vec<u8>), AllocError>
+        requires { IsTried (taken_names self.now) wanted.now first }
+        ensures name { IfOk result (λ r. r.1.items ≡ free_from (taken_names self.now) wanted.now (length (taken_names self.now)) 0) }
+        ensures suffixed { IfOk result (λ r. r.1.items ≡ suffixed wanted.now r.0) }
+        ensures tried { IfOk result (λ r. IsTried (taken_names self.now) wanted.now r.0) }
     {
-        if !self.is_taken(wanted) {
-            return Text::of(alloc, wanted);
-        }
-        for number in 0..self.names.len() {
+        for number in first..self.names.len() {
             let name = suffixed(alloc, wanted, number)?;
-            if !self.is_taken(name.as_bytes()) {
-                return Ok(name);
+            if !self.is_taken(name.as_slice()) {
+                return Ok((number, name));
             }
         }
-        suffixed(alloc, wanted, self.names.len())
+        let number = self.names.len();
+        Ok((number, suffixed(alloc, wanted, number)?))
+    }
+
+    // Takes a name that is not taken.
+    fn add(&mut self, name: Vec<u8>) -> Result<(), AllocError>
+        requires { is_taken (taken_names self.old) name.items ≡ false }
+        ensures ok { OnOk result (taken_names self.new ≡ taken_names self.old ++ name.items ∷ []) }
+        ensures tried { OnOk result (self.new.tried.items ≡ self.old.tried.items ++ 0 ∷ []) }
+        ensures err { OnErr result (taken_names self.new ≡ taken_names self.old) }
+    {
+        self.tried.reserve(1)?;
+        self.names.insert(name)?;
+        self.tried.push_reserved(0);
+        Ok(())
+    }
+
+    // Takes the first suffixed name that is not taken, of the name at a position.
+    fn add_suffixed(&mut self, wanted: &[u8], position: usize) -> Result<(), AllocError>
+        requires { slice_get (taken_names self.old) position ≡ Some wanted.now }
+        ensures ok { OnOk result (taken_names self.new ≡ taken_names self.old ++ free_from (taken_names self.old) wanted.now (length (taken_names self.old)) 0 ∷ []) }
+        ensures err { OnErr result (taken_names self.new ≡ taken_names self.old) }
+    {
+        let alloc = *self.tried.allocator();
+        let (number, name) = self.free_from(alloc, wanted, self.tried[position])?;
+        self.add(name)?;
+        self.tried[position] = number + 1;
+        Ok(())
     }
 
     /// Takes the free name of a wanted one.
+    #[tactic(auto, unfolding(crate::specs::Fresh::free_name))]
     pub fn take(&mut self, wanted: &[u8]) -> Result<NameId, AllocError>
         requires { length (taken_names self.old) + 1 < 2 ^ 32 }
         ensures ok { OnOk result (taken_names self.new ≡ taken_names self.old ++ free_name (taken_names self.old) wanted.now ∷ []) }
         ensures id { IfOk result (λ id. id.index ≡ length (taken_names self.old)) }
         ensures err { OnErr result (taken_names self.new ≡ taken_names self.old) }
     {
-        let alloc = *self.names.allocator();
         let index = self.names.len() as u32;
-        let name = self.free_name(alloc, wanted)?;
-        self.names.push(name)?;
+        match self.names.get_index_of(wanted) {
+            Some(position) => self.add_suffixed(wanted, position)?,
+            None => {
+                let alloc = *self.tried.allocator();
+                self.add(Vec::from_slice(alloc, wanted)?)?;
+            }
+        }
         Ok(NameId { index })
     }
 
@@ -86,7 +132,10 @@ impl TakenNames {
         requires { id.index < length (taken_names self.now) }
         ensures { Some result.now ≡ slice_get (taken_names self.now) id.index }
     {
-        self.names[id.index as usize].as_bytes()
+        match self.names.get_index(id.index as usize) {
+            Some(name) => name.as_slice(),
+            None => &[],
+        }
     }
 
     /// How many names are taken.

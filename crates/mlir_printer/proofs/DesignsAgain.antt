@@ -5,7 +5,8 @@ use Rattle.diag.specs.declared.listed.Listed.TheVariants as listed
 use Rattle.hw_model.specs.Types.{Name}
 use Rattle.hw_model.specs.Design.{Ref, Port, Op, Module, Design, op_without_place, module_without_places, without_places, IsSameDesign}
 use Rattle.hw_model.specs.Design.Ref.{port, result, undefined}
-use Rattle.fresh_names.proofs.Distinct.{AreFresh, fresh_are_new, fresh_length}
+use Rattle.fresh_names.proofs.Distinct.{AreFresh, fresh_are_new}
+use Rattle.fresh_names.proofs.Giving.{fresh_count}
 use Rattle.mlir_reader.specs.OperationText.{OperationText}
 use Rattle.mlir_reader.specs.Resolving.{Meanings, Defined, Definition, with_definition, with_definitions, no_meaning, resolved, port_definition, port_definitions, operation_definitions, body_definitions, operations_from, ports_from, is_marked, ends_with_output, has_outputs, left_out_output, port_meanings, meanings, module_of, design_of}
 use Rattle.mlir_printer.specs.Pieces.{ValueText}
@@ -103,7 +104,7 @@ module _ (m : Module) (p : IsPrintableModule m) where
 
   given_length : length given ≡ length (port_wishes m.ports ++ body_wishes (map parts_in m.body))
   given_length =
-      fresh_length [] (wanted 0 (port_wishes m.ports ++ body_wishes (map parts_in m.body))) ∙ wanted_length 0 (port_wishes m.ports ++ body_wishes (map parts_in m.body))
+      fresh_count [] (wanted 0 (port_wishes m.ports ++ body_wishes (map parts_in m.body))) ∙ wanted_length 0 (port_wishes m.ports ++ body_wishes (map parts_in m.body))
 
   all_names : map name_of (port_defs ++ body_defs) ≡ given
   all_names =

@@ -7,6 +7,8 @@ use Rattle.std.proofs.lemmas.Bool.{cond-true, cond-false, false≢true, eqb-true
 use Rattle.std.proofs.lemmas.List.{append-nil}
 use Rattle.hw_model.specs.Types.{Name}
 use Rattle.fresh_names.specs.Fresh.{is_taken, suffixed, free_from, free_name, fresh}
+use Rattle.fresh_names.proofs.Taken.{one_more}
+use Rattle.fresh_names.proofs.Free.{name_stays}
 use Rattle.mlir_lexer.specs.Classes.{is_digit, is_suffix_byte, is_name_start}
 use Rattle.mlir_lexer.specs.Runs.{run, begins}
 use Rattle.mlir_printer.specs.Strings.{stands, suffix_byte, standing}
@@ -189,21 +191,14 @@ number_unlike : (n k : ℕ) → n < k → k < 2 ^ 64 → pointwise nat_eq (decim
 number_unlike n k lt small =
     unlike (decimal n) (decimal k) (λ e. let s = decimal_injective n k (omega (arith, lt, small)) small e in absurd (omega (arith, s, lt)))
 
-free_itself : (taken : List Name) (w : Name) → is_taken taken w ≡ false → free_name taken w ≡ w
-unfolding free_name
-free_itself taken w h = cond-false (is_taken taken w) (free_from taken w (length taken) 0) w h
-
-push_length : (ts : List Name) (n : Name) → length (ts ++ n ∷ []) ≡ length ts + 1
-push_length ts n = length-append ts (n ∷ [])
-
 pub names_suit : (n : ℕ) (taken : List Name) (ws : List (Option Name)) → length taken + length ws < 2 ^ 64 → n + length ws < 2 ^ 64 → AreFree taken n
     → Suits ws (fresh taken (wanted n ws))
 names_suit n taken [] small few free = tt
 names_suit n taken (None ∷ ws) small few free =
     let x = free_name taken (decimal n) in
-    let e : x ≡ decimal n = free_itself taken (decimal n) (free n (omega arith) (omega (arith, few))) in (
+    let e : x ≡ decimal n = name_stays taken (decimal n) (free n (omega arith) (omega (arith, few))) in (
       subst IsDigits (sym e) (decimal_digits n (omega (arith, few))),
-      names_suit (n + 1) (taken ++ x ∷ []) ws (omega (arith, push_length taken x, small)) (omega (arith, few))
+      names_suit (n + 1) (taken ++ x ∷ []) ws (omega (arith, one_more taken x, small)) (omega (arith, few))
           (λ k le lt. push_free taken x (decimal k) (free k (omega (arith, le)) lt)
           (ap (λ (y : Name). pointwise nat_eq y (decimal k)) e ∙ number_unlike n k (omega (arith, le)) lt)),
     )
@@ -211,7 +206,7 @@ names_suit n taken (Some w ∷ ws) small few free =
     let x = free_name taken (standing w) in
     let word : IsWord x = begins_word (standing w) x (standing_word w) (free_begins taken (standing w) (omega (arith, small))) in (
       word,
-      names_suit n (taken ++ x ∷ []) ws (omega (arith, push_length taken x, small)) (omega (arith, few))
+      names_suit n (taken ++ x ∷ []) ws (omega (arith, one_more taken x, small)) (omega (arith, few))
           (λ k le lt. push_free taken x (decimal k) (free k le lt) (word_unlike x k lt word)),
     )
 

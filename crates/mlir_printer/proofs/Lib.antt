@@ -3,6 +3,11 @@ pub mod Entries
 pub mod Passing
 pub mod Numbered
 pub mod Listing
+pub mod Choosing
+pub mod Placing
+pub mod Walks
+pub mod Values
+pub mod Showing
 pub mod NameTables
 pub mod NamedDefinitions
 pub mod ValuesFound

@@ -99,7 +99,7 @@ outputs_none h (p ∷ ps) (t ∷ ts) (suc i) le = outputs_none h ps ts i (omega 
 pub all_added : {A : Type 0} (f : A → List ℕ) (m : ℕ) (left : List A) (out whole : List ℕ) → left ≡ [] → out ++ items_from f m left ≡ whole → out ≡ whole
 all_added f m left out whole e h = sym (append-nil out) ∙ sym (ap (λ l. out ++ items_from f m l) e) ∙ h
 
-drop_again : {A : Type 0} (k f : ℕ) (xs : List A) → drop k (drop f xs) ≡ drop (f + k) xs
+pub drop_again : {A : Type 0} (k f : ℕ) (xs : List A) → drop k (drop f xs) ≡ drop (f + k) xs
 drop_again k zero xs = ap (λ j. drop j xs) (sym (zero-add k))
 drop_again k (suc f) [] = drop-nil k ∙ sym (drop-nil (suc f + k))
 drop_again k (suc f) (x ∷ xs) = let e : suc (f + k) ≡ suc f + k = omega arith in drop_again k f xs ∙ ap (λ j. drop j (x ∷ xs)) e

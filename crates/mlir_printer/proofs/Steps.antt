@@ -95,3 +95,12 @@ five out one two thr fou end a b c d e p q r s t =
   where
     flat : (o v w x y z : List ℕ) → ((o ++ (v ++ (w ++ x))) ++ y) ++ z ≡ o ++ (v ++ (w ++ (x ++ (y ++ z))))
     flat o v w x y z = simp append_assoc
+
+-- eight parts added
+pub eight : (out one two thr fou fiv six sev end a b c d e f g h : List ℕ) → one ≡ out ++ a → two ≡ one ++ b → thr ≡ two ++ c → fou ≡ thr ++ d → fiv ≡ fou ++ e
+    → six ≡ fiv ++ f → sev ≡ six ++ g → end ≡ sev ++ h → end ≡ out ++ (a ++ (b ++ (c ++ (d ++ (e ++ (f ++ (g ++ h)))))))
+eight out one two thr fou fiv six sev end a b c d e f g h p q r s t u v w =
+    three fiv six sev end f g h u v w ∙ ap (λ x. x ++ (f ++ (g ++ h))) (five out one two thr fou fiv a b c d e p q r s t) ∙ flat out a b c d e (f ++ (g ++ h))
+  where
+    flat : (o v w x y z r : List ℕ) → (o ++ (v ++ (w ++ (x ++ (y ++ z))))) ++ r ≡ o ++ (v ++ (w ++ (x ++ (y ++ (z ++ r)))))
+    flat o v w x y z r = simp append_assoc

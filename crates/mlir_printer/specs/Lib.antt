@@ -10,6 +10,9 @@ pub mod Operations
 pub mod Modules
 pub mod Naming
 pub mod Texts
+pub mod Chosen
+pub mod Places
+pub mod Shown
 pub mod Views
 pub mod Spellable
 pub mod Printable

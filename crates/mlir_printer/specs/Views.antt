@@ -11,6 +11,7 @@ use Rattle.mlir_reader.specs.PieceText as text
 use Rattle.mlir_printer.specs.Numbers.{shown_literals}
 use Rattle.mlir_printer.specs.Pieces.{ValueText as Shown, Pending as Left, no_value}
 use Rattle.mlir_printer.specs.Naming.{first_name, called}
+use Rattle.mlir_printer.specs.Chosen.{Chosen}
 use Rattle.mlir_printer.specs.declared.value_names.ValueText.{ValueText}
 use Rattle.mlir_printer.specs.declared.value_names.ValueNames.{ValueNames}
 use Rattle.mlir_printer.specs.declared.value_names.Place.{Place}
@@ -25,6 +26,10 @@ value_of v = record { name = v.name.now; number = v.number }
 -- the names of a module's values, in order
 abbrev pub names_held : ValueNames → List Name
 names_held v = taken_names v.names
+
+-- the names, and the next number for what wants none
+abbrev pub chosen : ValueNames → Chosen
+chosen v = record { names = taken_names v.names; next = v.numbered }
 
 -- result k of a place
 abbrev pub place_value : List Name → Place → ℕ → Shown

@@ -1,5 +1,8 @@
 //! The text of a design.
 ghost use Rattle.std.specs.Prelude.{◌≡◌, ◌++◌, map, OnOk, IfOk};
+ghost use Rattle.ir_store.specs.Designs.{design_of};
+ghost use Rattle.mlir_printer.specs.Modules.{modules_bytes};
+ghost use Rattle.mlir_printer.specs.Texts.{ir_text, modules_shown};
 
 use crate::modules::push_module;
 use io_edge::byte_text::Text;
@@ -8,7 +11,10 @@ use std::alloc::{AllocError, Global};
 
 /// The text of a design: `module {`, its modules in order, and `}`. The error comes only for want of
 /// memory.
-pub fn design_text(alloc: Global, design: &Design) -> Result<Text, AllocError> {
+#[tactic(auto, using(std::proofs::Common::append_assoc), unfolding(crate::specs::Texts::ir_text, crate::specs::Modules::file_bytes))]
+pub fn design_text(alloc: Global, design: &Design) -> Result<Text, AllocError>
+    ensures { IfOk result (λ text. text ≡ ir_text (design_of design.now)) }
+{
     let mut out = Text::new(alloc);
     out.push_bytes(b"module {\n")?;
     push_modules(alloc, &mut out, design)?;
@@ -17,7 +23,9 @@ pub fn design_text(alloc: Global, design: &Design) -> Result<Text, AllocError> {
 }
 
 // Adds the modules of a design.
-fn push_modules(alloc: Global, out: &mut Text, design: &Design) -> Result<(), AllocError> {
+fn push_modules(alloc: Global, out: &mut Text, design: &Design) -> Result<(), AllocError>
+    ensures { OnOk result (out.new ≡ out.old ++ modules_bytes (modules_shown (design_of design.now))) }
+{
     for number in 0..design.module_count() {
         push_module(alloc, out, design.module(number))?;
     }

@@ -1,16 +1,17 @@
 //! Modules, as they are printed.
-ghost use Rattle.std.specs.Prelude.{◌≡◌, ◌≤◌, ◌++◌, map, length, drop, OnOk};
+ghost use Rattle.std.specs.Prelude.{◌≡◌, ◌≤◌, ◌++◌, map, length, min, drop, OnOk};
 ghost use Rattle.hw_model.specs.TypeViews.{type_of};
-ghost use Rattle.ir_store.specs.Designs.{port_of};
+ghost use Rattle.ir_store.specs.Designs.{port_of, module_of, numbered_module};
 ghost use Rattle.mlir_printer.specs.Commas.{commas};
-ghost use Rattle.mlir_printer.specs.Modules.{input_port_bytes, output_port_bytes, port_name_bytes, port_bytes, private_bytes};
-ghost use Rattle.mlir_printer.specs.Naming.{port_wish};
-ghost use Rattle.mlir_printer.specs.Texts.{port_shown, ports_shown};
+ghost use Rattle.mlir_printer.specs.Modules.{input_port_bytes, output_port_bytes, port_name_bytes, port_bytes, private_bytes, header_bytes, module_bytes};
+ghost use Rattle.mlir_printer.specs.Naming.{port_wish, input_count};
+ghost use Rattle.mlir_printer.specs.Texts.{port_shown, ports_shown, module_shown};
+ghost use Rattle.mlir_printer.specs.Shown.{header_shown};
 ghost use Rattle.mlir_printer.specs.Views.{names_held};
 
 use crate::commas::push_comma;
 use crate::dictionaries::push_dictionary;
-use crate::operations::push_operations;
+use crate::operations::{moved, push_operations};
 use crate::pieces::push_value_name;
 use crate::strings::{push_name, push_string, push_symbol};
 use crate::types::push_type;
@@ -95,6 +96,17 @@ fn push_ports(out: &mut Text, names: &ValueNames, ports: &[Port]) -> Result<(), 
     Ok(())
 }
 
+// How many names the ports take; where there are more than a u32 can say, the greatest.
+fn input_count(ports: &[Port]) -> u32
+    ensures { result ≡ min (input_count (map port_of ports.now)) u32.MAX }
+{
+    let mut count: u32 = 0;
+    for port in ports {
+        count = moved(count, port_names(port));
+    }
+    count
+}
+
 // Adds `private `, or nothing.
 #[tactic(auto, unfolding(crate::specs::Modules::private_bytes))]
 fn push_private(out: &mut Text, private: bool) -> Result<(), AllocError>
@@ -107,23 +119,28 @@ fn push_private(out: &mut Text, private: bool) -> Result<(), AllocError>
 }
 
 // Adds the first line of a module.
-fn push_header(out: &mut Text, names: &ValueNames, module: &Module) -> Result<(), AllocError> {
+#[tactic(auto, using(std::proofs::Common::append_assoc), unfolding(crate::specs::Modules::header_bytes))]
+fn push_header(out: &mut Text, names: &ValueNames, one: &Module) -> Result<(), AllocError>
+    ensures { OnOk result (out.new ≡ out.old ++ header_bytes (header_shown (names_held names.now) (module_of one.now))) }
+{
     out.push_bytes(b"  hw.module ")?;
-    push_private(out, module.private)?;
-    push_symbol(out, module.symbol.as_bytes())?;
+    push_private(out, one.private)?;
+    push_symbol(out, one.symbol.as_bytes())?;
     out.push_bytes(b"(")?;
-    push_ports(out, names, &module.ports.ports)?;
+    push_ports(out, names, &one.ports.ports)?;
     out.push_bytes(b")")?;
-    push_dictionary(out, b" attributes ", &module.dictionary.entries)?;
+    push_dictionary(out, b" attributes ", &one.dictionary.entries)?;
     out.push_bytes(b" {\n")?;
     Ok(())
 }
 
 /// Adds a module.
-pub fn push_module(alloc: Global, out: &mut Text, module: &Module) -> Result<(), AllocError> {
-    let names = ValueNames::of(alloc, module)?;
-    push_header(out, &names, module)?;
-    push_operations(out, &names, &module.body)?;
+pub fn push_module(alloc: Global, out: &mut Text, one: &Module) -> Result<(), AllocError>
+    ensures { OnOk result (out.new ≡ out.old ++ module_bytes (module_shown (numbered_module (module_of one.now)))) }
+{
+    let names = ValueNames::of(alloc, one)?;
+    push_header(out, &names, one)?;
+    push_operations(out, &names, input_count(&one.ports.ports), &one.body)?;
     out.push_bytes(b"  }\n")?;
     Ok(())
 }

@@ -1,16 +1,17 @@
 //! Operations, as they are printed.
-ghost use Rattle.std.specs.Prelude.{◌≡◌, ◌++◌, ◌≤◌, ◌^◌, map, drop, OnOk, IfOk};
+ghost use Rattle.std.specs.Prelude.{◌≡◌, ◌+◌, ◌++◌, map, drop, min, OnOk, IfOk};
 ghost use Rattle.hw_model.specs.TypeViews.{type_of};
 ghost use Rattle.hw_model.specs.KindViews.{kind_of};
-ghost use Rattle.ir_store.specs.Bodies.{read_parts};
+ghost use Rattle.ir_store.specs.Bodies.{ops_of, read_parts};
 ghost use Rattle.ir_store.specs.OperationViews.{types_in};
 ghost use Rattle.ir_store.specs.DictionaryViews.{entries_in};
 ghost use Rattle.mlir_printer.specs.Commas.{commas};
 ghost use Rattle.mlir_printer.specs.Pieces.{value_name_bytes, pieces_bytes};
-ghost use Rattle.mlir_printer.specs.Operations.{results_bytes, bin_bytes, form_bytes, is_truth_said, shape_shown, after_blank, left_behind_all, operation_line, shaped_bytes};
+ghost use Rattle.mlir_printer.specs.Operations.{results_bytes, bin_bytes, form_bytes, is_truth_said, shape_shown, after_blank, left_behind_all, operation_line, operation_lines, shaped_bytes};
 ghost use Rattle.mlir_reader.specs.Shapes.{front_pieces, type_pieces};
 ghost use Rattle.mlir_printer.specs.Naming.{first_name, firsts, listed_names, name_count, results_named};
 ghost use Rattle.mlir_printer.specs.Texts.{listed_of, extra_shown, entries_shown, operation_shown};
+ghost use Rattle.mlir_printer.specs.Shown.{stored_shown};
 ghost use Rattle.mlir_printer.specs.Views.{names_held, value_held, pending_of, extra_of};
 
 use crate::commas::push_comma;
@@ -237,13 +238,30 @@ fn push_bin(out: &mut Text, bin: bool) -> Result<(), AllocError>
     Ok(())
 }
 
-/// Adds the lines of a body.
-pub fn push_operations(out: &mut Text, names: &ValueNames, body: &Body) -> Result<(), AllocError> {
+/// Adds the lines of a body, in front of the names of whose results so many others stand.
+pub fn push_operations(
+    out: &mut Text,
+    names: &ValueNames,
+    start: u32,
+    body: &Body,
+) -> Result<(), AllocError>
+    ensures { OnOk result (out.new ≡ out.old ++ operation_lines (stored_shown (value_held names.now) (drop start (names_held names.now)) (ops_of body.now))) }
+{
+    let mut first = start;
     for id in body.ops() {
         let op = body.op(id);
-        if let Some(place) = names.place(id) {
-            push_operation(out, names, &op, place.first)?;
-        }
+        push_operation(out, names, &op, first)?;
+        first = moved(first, name_count(&op));
     }
     Ok(())
+}
+
+/// A number and so many more, at most the greatest one.
+pub fn moved(first: u32, count: usize) -> u32
+    ensures { result ≡ min (first + count) u32.MAX }
+{
+    match u32::try_from(count) {
+        Ok(count) => first.saturating_add(count),
+        Err(_) => u32::MAX,
+    }
 }

@@ -1,6 +1,8 @@
 //! The names of a module's values.
 ghost use Rattle.std.specs.Prelude.{◌≡◌, ℕ, ◌+◌, ◌<◌, ◌≤◌, ◌^◌, length, map, Some, slice_get};
+ghost use Rattle.std.specs.Prelude.{cond, nat_eq, OnOk};
 ghost use Rattle.fresh_names.specs.TakenViews.{taken_names};
+ghost use Rattle.mlir_printer.specs.Places.{place_for};
 
 use crate::strings::standing;
 use crate::wanted::{constant_name, instance_name, is_pack, name_count};
@@ -54,21 +56,38 @@ pub struct ValueNames {
 }
 
 impl ValueNames {
-    ghost use Rattle.std.specs.Prelude.{◌≡◌, ◌+◌, ◌++◌, ◌∷◌, [], length, drop, slice_get, IfOk, OnOk};
+    ghost use Rattle.std.specs.Prelude.{◌≡◌, ℕ, ◌+◌, ◌++◌, ◌∷◌, [], Some, None, length, map, drop, slice_get, IfOk, OnOk};
+    ghost use Rattle.hw_model.specs.TypeViews.{type_of};
+    ghost use Rattle.hw_model.specs.KindViews.{integer_of, instance_of};
     ghost use Rattle.fresh_names.specs.Fresh.{free_name};
-    ghost use Rattle.mlir_printer.specs.Naming.{first_name};
-    ghost use Rattle.mlir_printer.specs.Views.{names_held, value_held, value_of, placed, port_placed, place_value};
+    ghost use Rattle.ir_store.specs.declared.operation.Value.{Value};
+    ghost use Rattle.ir_store.specs.Bodies.{ids_of, ops_of, read_parts};
+    ghost use Rattle.ir_store.specs.Designs.{port_of, ports_in};
+    ghost use Rattle.ir_store.specs.Numbered.{position_of, ref_by};
+    ghost use Rattle.mlir_printer.specs.Naming.{constant_wish, own_wish, instance_wishes, wishes, body_wishes, port_wish, port_wishes, input_count, names_given, first_name, value_named};
+    ghost use Rattle.mlir_printer.specs.Chosen.{with_wish, with_wishes};
+    ghost use Rattle.mlir_printer.specs.Places.{HavePlaces, place_at, port_places};
+    ghost use Rattle.mlir_printer.specs.Shown.{parts_in_body};
+    ghost use Rattle.mlir_printer.specs.Views.{names_held, chosen, value_held, value_of, placed, port_placed, place_value};
 
     /// The names of the values of a module.
-    pub fn of(alloc: Global, module: &Module) -> Result<ValueNames, AllocError> {
+    pub fn of(alloc: Global, one: &Module) -> Result<ValueNames, AllocError>
+        ensures names { IfOk result (λ v. names_held v ≡ names_given (ports_in one.now.ports) (parts_in_body (ops_of one.now.body))) }
+        ensures values { IfOk result (λ v. (x : Value) → value_held v x ≡ value_named (names_held v) (ports_in one.now.ports) (parts_in_body (ops_of one.now.body)) (ref_by (position_of (ids_of one.now.body)) x)) }
+    {
         let mut names = ValueNames::empty(alloc);
-        names.add_ports(alloc, &module.ports.ports)?;
-        names.add_operations(alloc, &module.body)?;
+        names.add_ports(alloc, &one.ports.ports)?;
+        names.add_operations(alloc, &one.body)?;
         Ok(names)
     }
 
     // No names.
-    fn empty(alloc: Global) -> ValueNames {
+    fn empty(alloc: Global) -> ValueNames
+        ensures names { names_held result ≡ [] }
+        ensures numbered { result.numbered ≡ 0 }
+        ensures ports { result.ports.items ≡ [] }
+        ensures places { result.places.items ≡ [] }
+    {
         ValueNames {
             names: TakenNames::new(alloc),
             ids: Vec::new(alloc),
@@ -98,13 +117,22 @@ impl ValueNames {
     }
 
     // Takes the name of a value that wants one.
-    fn take_name(&mut self, alloc: Global, wanted: &[u8]) -> Result<u32, AllocError> {
+    fn take_name(&mut self, alloc: Global, wanted: &[u8]) -> Result<u32, AllocError>
+        ensures chosen { OnOk result (chosen self.new ≡ with_wish (chosen self.old) (Some wanted.now)) }
+        ensures number { IfOk result (λ n. n ≡ length (names_held self.old)) }
+        ensures ports { self.new.ports ≡ self.old.ports }
+        ensures places { self.new.places ≡ self.old.places }
+    {
         let wanted = standing(alloc, wanted)?;
         self.take(wanted.as_bytes())
     }
 
     // Takes the next number.
-    fn take_number(&mut self) -> Result<u32, AllocError> {
+    fn take_number(&mut self) -> Result<u32, AllocError>
+        ensures chosen { OnOk result (chosen self.new ≡ with_wish (chosen self.old) None) }
+        ensures ports { self.new.ports ≡ self.old.ports }
+        ensures places { self.new.places ≡ self.old.places }
+    {
         let mut buffer = Buffer::new();
         let id = self.take(buffer.format(self.numbered).as_bytes())?;
         self.numbered += 1;
@@ -112,7 +140,11 @@ impl ValueNames {
     }
 
     // Takes the own name of a register or a wire.
-    fn take_own(&mut self, alloc: Global, own: &[u8]) -> Result<u32, AllocError> {
+    fn take_own(&mut self, alloc: Global, own: &[u8]) -> Result<u32, AllocError>
+        ensures chosen { OnOk result (chosen self.new ≡ with_wish (chosen self.old) (own_wish own.now)) }
+        ensures ports { self.new.ports ≡ self.old.ports }
+        ensures places { self.new.places ≡ self.old.places }
+    {
         if own.is_empty() {
             self.take_number()
         } else {
@@ -121,7 +153,11 @@ impl ValueNames {
     }
 
     // Takes the names of ports.
-    fn add_ports(&mut self, alloc: Global, ports: &[Port]) -> Result<(), AllocError> {
+    fn add_ports(&mut self, alloc: Global, ports: &[Port]) -> Result<(), AllocError>
+        ensures chosen { OnOk result (chosen self.new ≡ with_wishes (chosen self.old) (port_wishes (map port_of ports.now))) }
+        ensures ports { OnOk result (self.new.ports.items ≡ self.old.ports.items ++ port_places (length (names_held self.old)) (map port_of ports.now)) }
+        ensures places { OnOk result (self.new.places ≡ self.old.places) }
+    {
         for port in ports {
             let name = self.add_port(alloc, port)?;
             self.ports.push(name)?;
@@ -130,7 +166,12 @@ impl ValueNames {
     }
 
     // Takes the name of a port, where it is an input.
-    fn add_port(&mut self, alloc: Global, port: &Port) -> Result<Option<u32>, AllocError> {
+    fn add_port(&mut self, alloc: Global, port: &Port) -> Result<Option<u32>, AllocError>
+        ensures chosen { OnOk result (chosen self.new ≡ with_wishes (chosen self.old) (port_wish (port_of port.now))) }
+        ensures number { IfOk result (λ n. n ∷ [] ≡ port_places (length (names_held self.old)) (port_of port.now ∷ [])) }
+        ensures ports { self.new.ports ≡ self.old.ports }
+        ensures places { self.new.places ≡ self.old.places }
+    {
         if port.out {
             return Ok(None);
         }
@@ -138,7 +179,12 @@ impl ValueNames {
     }
 
     // Takes the names of the results of a body.
-    fn add_operations(&mut self, alloc: Global, body: &Body) -> Result<(), AllocError> {
+    fn add_operations(&mut self, alloc: Global, body: &Body) -> Result<(), AllocError>
+        requires { self.old.places.items ≡ [] }
+        ensures chosen { OnOk result (chosen self.new ≡ with_wishes (chosen self.old) (body_wishes (parts_in_body (ops_of body.now)))) }
+        ensures ports { OnOk result (self.new.ports ≡ self.old.ports) }
+        ensures places { OnOk result (HavePlaces (length (names_held self.old)) (ops_of body.now) self.new.places.items) }
+    {
         for id in body.ops() {
             let op = body.op(id);
             let place = self.add_operation(alloc, &op)?;
@@ -148,7 +194,12 @@ impl ValueNames {
     }
 
     // Takes the names of an operation's results, and gives where they stand.
-    fn add_operation(&mut self, alloc: Global, op: &Op<'_>) -> Result<Place, AllocError> {
+    fn add_operation(&mut self, alloc: Global, op: &Op<'_>) -> Result<Place, AllocError>
+        ensures chosen { OnOk result (chosen self.new ≡ with_wishes (chosen self.old) (wishes (read_parts op.now))) }
+        ensures place { IfOk result (λ place. place ≡ place_at (length (names_held self.old)) (read_parts op.now)) }
+        ensures ports { self.new.ports ≡ self.old.ports }
+        ensures places { self.new.places ≡ self.old.places }
+    {
         let first = self.ids.len() as u32;
         self.take_results(alloc, op)?;
         let results = op.results.results.len();
@@ -158,7 +209,12 @@ impl ValueNames {
     }
 
     // Takes the names of an operation's results.
-    fn take_results(&mut self, alloc: Global, op: &Op<'_>) -> Result<(), AllocError> {
+    #[tactic(auto, unfolding(crate::specs::Naming::wishes_of))]
+    fn take_results(&mut self, alloc: Global, op: &Op<'_>) -> Result<(), AllocError>
+        ensures chosen { OnOk result (chosen self.new ≡ with_wishes (chosen self.old) (wishes (read_parts op.now))) }
+        ensures ports { self.new.ports ≡ self.old.ports }
+        ensures places { self.new.places ≡ self.old.places }
+    {
         match op.kind {
             OpKind::Constant(value) => {
                 self.take_constant(alloc, &op.types.types, *value)?;
@@ -186,18 +242,38 @@ impl ValueNames {
         alloc: Global,
         types: &[Ty],
         value: Integer,
-    ) -> Result<u32, AllocError> {
-        match types {
-            [Ty::Int(width), ..] => {
+    ) -> Result<u32, AllocError>
+        ensures chosen { OnOk result (chosen self.new ≡ with_wish (chosen self.old) (constant_wish (map type_of types.now) (integer_of value))) }
+        ensures ports { self.new.ports ≡ self.old.ports }
+        ensures places { self.new.places ≡ self.old.places }
+    {
+        match types.first() {
+            Some(ty) => self.take_typed(alloc, ty, value),
+            None => self.take_number(),
+        }
+    }
+
+    // Takes the name of a constant of a type.
+    fn take_typed(&mut self, alloc: Global, ty: &Ty, value: Integer) -> Result<u32, AllocError>
+        ensures chosen { OnOk result (chosen self.new ≡ with_wish (chosen self.old) (constant_wish (type_of ty.now ∷ []) (integer_of value))) }
+        ensures ports { self.new.ports ≡ self.old.ports }
+        ensures places { self.new.places ≡ self.old.places }
+    {
+        match ty {
+            Ty::Int(width) => {
                 let name = constant_name(alloc, *width, value)?;
                 self.take_name(alloc, name.as_bytes())
             }
-            _ => self.take_number(),
+            Ty::Clock | Ty::Array(..) | Ty::Struct(_) => self.take_number(),
         }
     }
 
     // Takes the names of an instance's results.
-    fn take_outputs(&mut self, alloc: Global, instance: &Instance) -> Result<(), AllocError> {
+    fn take_outputs(&mut self, alloc: Global, instance: &Instance) -> Result<(), AllocError>
+        ensures chosen { OnOk result (chosen self.new ≡ with_wishes (chosen self.old) (instance_wishes (instance_of instance.now).name (instance_of instance.now).outputs)) }
+        ensures ports { self.new.ports ≡ self.old.ports }
+        ensures places { self.new.places ≡ self.old.places }
+    {
         for port in &instance.outputs {
             let name = instance_name(alloc, instance.name.as_bytes(), port.as_bytes())?;
             self.take_name(alloc, name.as_bytes())?;
@@ -226,8 +302,8 @@ impl ValueNames {
         }
     }
 
-    /// Where the names of the results of an operation of this id stand.
-    pub fn place(&self, id: OpId) -> Option<Place>
+    // Where the names of the results of an operation of this id stand.
+    fn place(&self, id: OpId) -> Option<Place>
         ensures { result ≡ slice_get self.now.places.items id.index }
     {
         self.places.get(id.number() as usize).copied()
@@ -301,7 +377,9 @@ impl ValueNames {
 }
 
 // Puts a place at a position, behind empty ones where there are fewer.
-fn put_place(places: &mut Vec<Place>, position: usize, place: Place) -> Result<(), AllocError> {
+fn put_place(places: &mut Vec<Place>, position: usize, place: Place) -> Result<(), AllocError>
+    ensures { OnOk result ((id : ℕ) → place_for places.new.items id ≡ cond (nat_eq position id) place (place_for places.old.items id)) }
+{
     for _ in places.len()..position {
         places.push(Place {
             first: 0,
