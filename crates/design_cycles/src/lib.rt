@@ -21,6 +21,7 @@ mod wired;
 mod wires;
 
 pub use cycles::first_cycle;
+pub use ops::{ids_in, op_at};
 pub use place::OpPlace;
 pub use recursion::first_recursive;
 pub use size::first_too_large;

@@ -40,14 +40,14 @@ pub(crate) fn sort_of(kind: &OpKind) -> Sort<'_>
 }
 
 /// The ids of a body's operations in text order.
-pub(crate) fn ids_in(alloc: Global, body: &Body) -> Result<Vec<OpId>, AllocError>
+pub fn ids_in(alloc: Global, body: &Body) -> Result<Vec<OpId>, AllocError>
     ensures { IfOk result (λ ids. ids.items ≡ map op_id (ids_of body.now)) }
 {
     body.ops().collect(alloc)
 }
 
 /// The operation at a position, `ids` being those of all.
-pub(crate) fn op_at<'b>(body: &'b Body, ids: &[OpId], position: usize) -> Op<'b>
+pub fn op_at<'b>(body: &'b Body, ids: &[OpId], position: usize) -> Op<'b>
     requires all { ids.now ≡ map op_id (ids_of body.now) }
     requires within { position < length ids.now }
     ensures { slice_get (numbered (ops_of body.now)) position ≡ Some (op_view body.now result) }

@@ -14,3 +14,5 @@ pub mod Chosen
 pub mod Places
 pub mod Shown
 pub mod Views
+pub mod Spellable
+pub mod Printable

@@ -5,6 +5,7 @@ pub mod attributes;
 pub mod commas;
 pub mod design_text;
 pub mod dictionaries;
+pub mod laws;
 pub mod literals;
 pub mod modules;
 pub mod numbers;

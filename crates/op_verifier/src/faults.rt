@@ -73,7 +73,7 @@ fn body_fault(
 }
 
 /// A refusal of the design's text.
-pub(crate) fn refused_at(place: Place, listed: Listed, cause: Cause) -> Refusal
+pub fn refused_at(place: Place, listed: Listed, cause: Cause) -> Refusal
     ensures { result ≡ refused_at (place_of place) listed cause }
 {
     Refusal {
@@ -85,7 +85,7 @@ pub(crate) fn refused_at(place: Place, listed: Listed, cause: Cause) -> Refusal
 }
 
 /// The listed name of a kind.
-pub(crate) fn listed_of(kind: &OpKind) -> Listed
+pub fn listed_of(kind: &OpKind) -> Listed
     ensures { result ≡ listed_of (kind_of kind.now) }
 {
     match kind {

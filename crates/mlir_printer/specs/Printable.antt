@@ -1,0 +1,175 @@
+-- What a design must have to be printed and read again as itself.
+use Rattle.std.specs.Prelude.{◌≡◌, ℕ, ◌+◌, ◌^◌, ◌<◌, max, true, false, List, [], ◌∷◌, ◌++◌, length, map, Option, Some, slice_get, ⊤}
+use Rattle.std.specs.Ordering.{nat_cmp, is_lt}
+use Rattle.std.specs.Cmp.Lexicographic.{slice_cmp}
+use Rattle.diag.specs.declared.listed.Listed.{Listed}
+use Rattle.diag.specs.declared.listed.Listed.TheVariants as listed
+use Rattle.hw_model.specs.Types.{Name, HwType}
+use Rattle.hw_model.specs.Kinds.{Kind, Reset, Instance}
+use Rattle.hw_model.specs.Kinds.Reset.{no_reset, sync_reset}
+use Rattle.hw_model.specs.Kinds.Kind.{add, mul, and, or, xor, parity, extract, concat, replicate, mux, constant, aggregate_constant, array_create, array_concat, array_get, array_slice, array_inject, struct_create, struct_extract, struct_inject, struct_explode, bitcast, wire, instance, output, compreg, compreg_ce, firreg}
+use Rattle.hw_model.specs.Design.{Entry, Ref, Port, OpResult, Op, Module, Design, is_output_op}
+use Rattle.hw_model.specs.Design.Ref.{port, result, undefined}
+use Rattle.ir_store.specs.ResultTypes.{result_types}
+use Rattle.mlir_reader.specs.Numerals.{count_limit}
+use Rattle.mlir_reader.specs.OperationText.{takes_bin, string_keys}
+use Rattle.mlir_reader.specs.ModuleText.{module_keys}
+use Rattle.mlir_reader.specs.Resolving.{kept_by_first, kept_literals, is_dropped, has_name, type_or_none}
+use Rattle.mlir_printer.specs.Naming.{is_pack, port_wishes, body_wishes}
+use Rattle.mlir_printer.specs.Texts.{listed_of, parts_in}
+use Rattle.mlir_printer.specs.Spellable.{Each, AreBytes, MayBeBytes, IsInteger, IsAnyType, AreLiterals, IsEntry}
+
+-- ---- dictionaries
+
+-- keys rise by their bytes, so that none stands twice
+abbrev pub AreInOrder : List Entry → Type 0
+AreInOrder [] = ⊤
+AreInOrder (e ∷ []) = ⊤
+AreInOrder (e ∷ f ∷ es) = (is_lt (slice_cmp nat_cmp e.key f.key) ≡ true) × AreInOrder (f ∷ es)
+
+-- a dictionary of an operation of a name
+pub record IsKeptDictionary (o : Listed) (strings : List Name) (es : List Entry) : Type 0 where
+  -- the entries stand by the bytes of their keys, each key once
+  pub in_order : AreInOrder es
+  -- no hint is empty, and what has a name of its own has no entry for it
+  pub kept : Each (λ (e : Entry). is_dropped o e ≡ false) es
+  -- keys are bytes, values are read where they stand, and those of some keys are strings
+  pub entries : Each (IsEntry strings) es
+
+-- ---- values
+
+-- an operand is an input port or a result of an operation of the body
+abbrev pub IsDefined : List Port → List Op → Ref → Type 0
+IsDefined ports body (port j) = (p : Port) × (slice_get ports j ≡ Some p) × (p.is_output ≡ false)
+IsDefined ports body (result i k) = (o : Op) × (slice_get body i ≡ Some o) × (k < length o.results)
+IsDefined ports body undefined = ⊥
+
+-- a result of a type, whose name was not defined earlier
+abbrev pub settled_result : Option HwType → OpResult
+settled_result t = record { type = type_or_none t; again = false }
+
+-- ---- kinds
+
+-- constants of integer types are kept as the numbers that their bits are
+abbrev pub KeepsConstants : Kind → List HwType → Type 0
+KeepsConstants (constant z) ts = kept_by_first ts z ≡ z
+KeepsConstants (aggregate_constant ls) ts = kept_literals ls ≡ ls
+KeepsConstants _ ts = ⊤
+
+-- numbers are below the limits of the text, names are bytes
+pub record IsWrittenInstance (i : Instance) : Type 0 where
+  pub name : AreBytes i.name
+  pub inner : MayBeBytes i.inner_symbol
+  pub symbol : AreBytes i.symbol
+  pub inputs : Each AreBytes i.inputs
+  pub outputs : Each AreBytes i.outputs
+
+-- what a kind says besides operands and types can be written
+abbrev pub IsWritten : Kind → Type 0
+IsWritten (extract low) = low < count_limit
+IsWritten (constant z) = IsInteger z
+IsWritten (aggregate_constant ls) = AreLiterals ls 31
+IsWritten (struct_extract name) = AreBytes name
+IsWritten (struct_inject name) = AreBytes name
+IsWritten (instance i) = IsWrittenInstance i
+IsWritten _ = ⊤
+
+-- the operands of a reset
+abbrev pub reset_operands : Reset → ℕ
+reset_operands no_reset = 0
+reset_operands sync_reset = 2
+
+-- how many operands are written of an operation that has n: of some kinds any number, of some any from 1 on
+unfoldable pub operands_written : Kind → ℕ → ℕ
+operands_written add n = max 1 n
+operands_written mul n = max 1 n
+operands_written and n = max 1 n
+operands_written or n = max 1 n
+operands_written xor n = max 1 n
+operands_written parity n = 1
+operands_written (extract low) n = 1
+operands_written concat n = max 1 n
+operands_written replicate n = 1
+operands_written mux n = 3
+operands_written (constant z) n = 0
+operands_written (aggregate_constant ls) n = 0
+operands_written array_create n = max 1 n
+operands_written array_concat n = max 1 n
+operands_written array_inject n = 3
+operands_written struct_create n = n
+operands_written (struct_extract name) n = 1
+operands_written struct_explode n = 1
+operands_written bitcast n = 1
+operands_written wire n = 1
+operands_written (instance i) n = length i.inputs
+operands_written output n = n
+operands_written (compreg r) n = 2 + reset_operands r
+operands_written (compreg_ce r) n = 3 + reset_operands r
+operands_written (firreg r) n = 2 + reset_operands r
+operands_written kind n = 2
+
+-- how many types are written of an operation with n operands
+unfoldable pub types_written : Kind → ℕ → ℕ
+types_written (extract low) n = 2
+types_written concat n = n
+types_written replicate n = 2
+types_written array_concat n = n
+types_written array_get n = 2
+types_written array_slice n = 2
+types_written array_inject n = 2
+types_written bitcast n = 2
+types_written (instance i) n = length i.inputs + length i.outputs
+types_written output n = n
+types_written kind n = 1
+
+-- ---- operations
+
+pub record IsPrintableOp (ports : List Port) (body : List Op) (o : Op) : Type 0 where
+  -- each operand is a value of the body
+  pub defined : Each (IsDefined ports body) o.operands
+  -- there are as many operands and types as the text has
+  pub operands : length o.operands ≡ operands_written o.kind (length o.operands)
+  pub types : length o.types ≡ types_written o.kind (length o.operands)
+  -- the types can be read
+  pub readable : Each IsAnyType o.types
+  -- the results are those that the kind and the types give, and no name was defined earlier
+  pub results : o.results ≡ map settled_result (result_types o.kind o.types (length o.operands))
+  -- each result is named, and a pack has fewer than its limit
+  pub named : o.named ≡ length o.results
+  pub few : is_pack o.kind (length o.results) ≡ true → length o.results < count_limit
+  -- constants are kept as their bits, and what is said can be written
+  pub kept : KeepsConstants o.kind o.types
+  pub written : IsWritten o.kind
+  -- only registers and wires have a name of their own
+  pub nameless : has_name (listed_of o.kind) ≡ false → o.name ≡ []
+  pub name : AreBytes o.name
+  pub dictionary : IsKeptDictionary (listed_of o.kind) (string_keys (listed_of o.kind)) o.dictionary
+  -- `bin` stands only where it may
+  pub bin : o.bin ≡ true → takes_bin (listed_of o.kind) ≡ true
+
+-- ---- modules
+
+pub record IsPrintablePort (p : Port) : Type 0 where
+  -- its name was not defined earlier
+  pub first : p.again ≡ false
+  pub name : AreBytes p.name
+  pub type : IsAnyType p.type
+
+-- a body ends with its one output
+abbrev pub EndsWithOutput : List Op → Type 0
+EndsWithOutput [] = ⊥
+EndsWithOutput (o ∷ []) = is_output_op o ≡ true
+EndsWithOutput (o ∷ p ∷ os) = (is_output_op o ≡ false) × EndsWithOutput (p ∷ os)
+
+pub record IsPrintableModule (m : Module) : Type 0 where
+  pub symbol : AreBytes m.symbol
+  pub ports : Each IsPrintablePort m.ports
+  pub dictionary : IsKeptDictionary listed.HwModule module_keys m.dictionary
+  pub operations : Each (IsPrintableOp m.ports m.body) m.body
+  pub ends : EndsWithOutput m.body
+  -- fewer than 2^64 names are given
+  pub few : length (port_wishes m.ports ++ body_wishes (map parts_in m.body)) < 2 ^ 64
+
+-- each module can be printed
+abbrev pub Printable : Design → Type 0
+Printable d = Each IsPrintableModule d

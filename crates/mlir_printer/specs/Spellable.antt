@@ -1,0 +1,391 @@
+-- What the text of a design says to its reader, and what it needs to be read as the same.
+use Rattle.std.specs.Prelude.{◌≡◌, ℕ, zero, suc, ◌+◌, ◌<◌, ◌≤◌, Bool, true, false, List, [], ◌∷◌, length, map, drop, Option, Some, None, ℤ, pos, negsuc, ⊤}
+use Rattle.diag.specs.Place.{start_place}
+use Rattle.hw_model.specs.Types.{Name, HwType, FieldTypes}
+use Rattle.hw_model.specs.Types.HwType.{int, clock, array, struct}
+use Rattle.hw_model.specs.Types.FieldTypes.{no_fields, field}
+use Rattle.hw_model.specs.Kinds.{Instance, Literal, Literals}
+use Rattle.hw_model.specs.Kinds.Literal.{leaf, parts}
+use Rattle.hw_model.specs.Kinds.Literals.{no_literals, literal}
+use Rattle.hw_model.specs.Design.{Attribute, Attributes, Entry}
+use Rattle.hw_model.specs.Design.Attribute.{unit_value, text_value, symbol_value, truth_value, integer_value, list_value}
+use Rattle.hw_model.specs.Design.Attributes.{no_attributes, attribute}
+use Rattle.mlir_lexer.specs.Fronts.{suffix_length}
+use Rattle.mlir_lexer.specs.Tokens.{Lexeme, tokens}
+use Rattle.mlir_lexer.specs.declared.token.TokenKind.{TokenKind}
+use Rattle.mlir_lexer.specs.declared.token.TokenKind.TheVariants as kind
+use Rattle.mlir_reader.specs.Numerals.{count_limit, number_limit}
+use Rattle.mlir_reader.specs.TypeText.{most_open}
+use Rattle.mlir_reader.specs.AttributeText.{is_among, is_stored}
+use Rattle.mlir_reader.specs.OperandText.{OperandName, ResultNames}
+use Rattle.mlir_reader.specs.OperandText.ResultNames.{no_names, names, pack}
+use Rattle.mlir_reader.specs.Shapes.{front_pieces, type_pieces}
+use Rattle.mlir_reader.specs.PieceText.{Extra, Gathered, gathered_nothing, with_operands, with_types, with_extra}
+use Rattle.mlir_reader.specs.PieceText.Extra.{with_reset, predicate, position, number, literals, field_name, child}
+use Rattle.mlir_reader.specs.OperationText.{OperationText as OperationSaid, takes_bin, string_keys, is_last}
+use Rattle.mlir_reader.specs.ModuleText.{PortText as PortSaid, ModuleText as ModuleSaid, module_keys}
+use Rattle.mlir_reader.specs.Spelling.{AreOnce, StandsInBody, FilePhrase, token_of}
+use Rattle.mlir_reader.specs.declared.pieces.Piece.{Piece}
+use Rattle.mlir_reader.specs.declared.pieces.Piece.TheVariants as piece
+use Rattle.mlir_reader.specs.declared.pieces.Shape.{Shape}
+use Rattle.mlir_printer.specs.Numbers.{is_truth}
+use Rattle.mlir_printer.specs.Pieces.{ValueText, Pending, first_operand, left_behind}
+use Rattle.mlir_printer.specs.Operations.{OperationText, shape_shown, left_behind_all}
+use Rattle.mlir_printer.specs.Modules.{PortText, ModuleText}
+
+-- ---- what a reader reads
+
+-- no number is number 0
+abbrev pub said_number : Option ℕ → ℕ
+said_number None = 0
+said_number (Some n) = n
+
+-- an operand as a reader reads it
+abbrev pub said_operand : ValueText → OperandName
+said_operand o = record { name = o.name; number = said_number o.number }
+
+-- what is gathered of an operation
+abbrev pub said_pending : Pending → Gathered
+said_pending p = record { operands = map said_operand p.operands; types = p.types; extra = p.extra }
+
+-- an operation as a reader reads it, at some place
+abbrev pub said_operation : OperationText → OperationSaid
+said_operation o = record {
+  results = o.results;
+  name = o.name;
+  bin = o.bin;
+  gathered = said_pending o.pending;
+  dictionary = o.dictionary;
+  place = start_place;
+}
+
+-- a port as a reader reads it
+abbrev pub said_port : PortText → PortSaid
+said_port p = record { value = p.value; name = p.name; type = p.type }
+
+-- a module as a reader reads it, at some place
+abbrev pub said : ModuleText → ModuleSaid
+said m = record {
+  symbol = m.symbol;
+  is_private = m.is_private;
+  ports = map said_port m.ports;
+  dictionary = m.dictionary;
+  operations = map said_operation m.operations;
+  place = start_place;
+  close = start_place;
+}
+
+-- ---- names, numbers, types
+
+-- each of a list is so
+abbrev pub Each : {A : Type 0} → (A → Type 0) → List A → Type 0
+Each P [] = ⊤
+Each P (x ∷ xs) = P x × Each P xs
+
+-- bytes, and no greater numbers
+abbrev pub AreBytes : List ℕ → Type 0
+AreBytes bytes = Each (λ b. b < 256) bytes
+
+-- a name that may stand behind `%`: one suffix, digits alone or none in front
+pub record IsValueName (name : Name) : Type 0 where
+  -- it is not empty
+  pub some : 1 ≤ length name
+  -- a suffix at its front has all its bytes
+  pub whole : suffix_length name ≡ length name
+
+-- an integer that is read: its distance from 0 is below 2^128
+abbrev pub IsInteger : ℤ → Type 0
+IsInteger (pos n) = n < number_limit
+IsInteger (negsuc n) = suc n < number_limit
+
+-- aggregates may be opened: so many more, of which there is one at least
+abbrev pub Opens : (ℕ → Type 0) → ℕ → Type 0
+Opens Inner zero = ⊥
+Opens Inner (suc room) = Inner room
+
+abbrev mutual
+  -- a type that is read where so many aggregates may be opened: widths and lengths are below their limit, names are bytes
+  pub IsType : HwType → ℕ → Type 0
+  IsType (int w) room = w < count_limit
+  IsType clock room = ⊤
+  IsType (array n t) room = (n < count_limit) × Opens (λ inner. IsType t inner) room
+  IsType (struct fs) room = Opens (λ inner. AreFields fs inner) room
+
+  pub AreFields : FieldTypes → ℕ → Type 0
+  AreFields no_fields room = ⊤
+  AreFields (field name t fs) room = AreBytes name × IsType t room × AreFields fs room
+
+-- a type where nothing is open
+abbrev pub IsAnyType : HwType → Type 0
+IsAnyType t = IsType t most_open
+
+-- ---- constants of aggregates, attributes, dictionaries
+
+abbrev mutual
+  -- a constant that is read where so many lists may be opened
+  pub IsLiteral : Literal → ℕ → Type 0
+  IsLiteral (leaf z t) room = IsInteger z × IsType t room
+  IsLiteral (parts ls) room = Opens (λ inner. AreLiterals ls inner) room
+
+  pub AreLiterals : Literals → ℕ → Type 0
+  AreLiterals no_literals room = ⊤
+  AreLiterals (literal l ls) room = IsLiteral l room × AreLiterals ls room
+
+abbrev mutual
+  -- an attribute that is read where so many lists may be opened; a unit stands in no list
+  pub IsAttribute : Attribute → ℕ → Type 0
+  IsAttribute unit_value room = ⊥
+  IsAttribute (text_value text) room = AreBytes text
+  IsAttribute (symbol_value name) room = AreBytes name
+  IsAttribute (truth_value b) room = ⊤
+  IsAttribute (integer_value z t) room = (is_stored z ≡ true) × IsType t room
+  IsAttribute (list_value inner) room = Opens (λ more. AreAttributes inner more) room
+
+  pub AreAttributes : Attributes → ℕ → Type 0
+  AreAttributes no_attributes room = ⊤
+  AreAttributes (attribute a rest) room = IsAttribute a room × AreAttributes rest room
+
+-- the value of a key: of some keys it is a string, of another one an attribute or nothing
+abbrev pub IsValue : Bool → Attribute → Type 0
+IsValue of_string unit_value = of_string ≡ false
+IsValue of_string (text_value text) = AreBytes text
+IsValue of_string a = (of_string ≡ false) × IsAttribute a most_open
+
+-- an entry of a dictionary, where the values of some keys are strings
+pub record IsEntry (strings : List Name) (e : Entry) : Type 0 where
+  -- a bare name or a string can hold the key
+  pub key : AreBytes e.key
+  -- the value is one that may stand behind the key
+  pub value : IsValue (is_among e.key strings) e.value
+
+-- a dictionary, where the values of some keys are strings
+pub record IsDictionary (strings : List Name) (es : List Entry) : Type 0 where
+  -- each key stands once
+  pub once : AreOnce [] es
+  -- each entry can be read
+  pub each : Each (IsEntry strings) es
+
+-- ---- pieces
+
+-- a number within a pack is below its limit
+abbrev pub IsNumber : Option ℕ → Type 0
+IsNumber None = ⊤
+IsNumber (Some n) = n < count_limit
+
+-- an operand
+pub record IsOperand (o : ValueText) : Type 0 where
+  -- its name may stand behind `%`
+  pub name : IsValueName o.name
+  -- so may its number behind `#`
+  pub number : IsNumber o.number
+
+-- a token of one or two signs
+abbrev pub IsMark : TokenKind → Type 0
+IsMark kind.BareName = ⊥
+IsMark kind.ValueName = ⊥
+IsMark kind.SymbolName = ⊥
+IsMark kind.SymbolString = ⊥
+IsMark kind.Integer = ⊥
+IsMark kind.StringLiteral = ⊥
+IsMark kind.ResultNumber = ⊥
+IsMark kind.AttributeAlias = ⊥
+IsMark kind.TypeName = ⊥
+IsMark kind.Minus = ⊥
+IsMark _ = ⊤
+
+-- there is a first type
+abbrev pub HasType : List HwType → Type 0
+HasType [] = ⊥
+HasType (t ∷ ts) = IsAnyType t
+
+-- two operands stand behind a reset
+abbrev pub MayReset : Extra → List ValueText → Type 0
+MayReset with_reset os = IsOperand (first_operand os) × IsOperand (first_operand (drop 1 os))
+MayReset _ os = ⊤
+
+-- a predicate is said
+abbrev pub SaysPredicate : Extra → Type 0
+SaysPredicate (predicate p) = ⊤
+SaysPredicate _ = ⊥
+
+-- a position below the limit is said
+abbrev pub SaysPosition : Extra → Type 0
+SaysPosition (position n) = n < count_limit
+SaysPosition _ = ⊥
+
+-- 0 or 1 is said
+abbrev pub SaysTruth : Extra → Type 0
+SaysTruth (number z) = is_truth z ≡ true
+SaysTruth _ = ⊥
+
+-- an integer is said
+abbrev pub SaysInteger : Extra → Type 0
+SaysInteger (number z) = IsInteger z
+SaysInteger _ = ⊥
+
+-- constants are said; their brackets have opened one list
+abbrev pub SaysLiterals : Extra → Type 0
+SaysLiterals (literals ls) = AreLiterals ls 31
+SaysLiterals _ = ⊥
+
+-- the name of a field is said
+abbrev pub SaysField : Extra → Type 0
+SaysField (field_name name) = AreBytes name
+SaysField _ = ⊥
+
+-- a name, or none
+abbrev pub MayBeBytes : Option Name → Type 0
+MayBeBytes None = ⊤
+MayBeBytes (Some name) = AreBytes name
+
+-- an instance with its operands and types
+pub record IsInstance (i : Instance) (os : List ValueText) (ts : List HwType) : Type 0 where
+  -- its name, its inner symbol, its module's symbol and the names of ports are bytes
+  pub name : AreBytes i.name
+  pub inner : MayBeBytes i.inner_symbol
+  pub symbol : AreBytes i.symbol
+  pub inputs : Each AreBytes i.inputs
+  pub outputs : Each AreBytes i.outputs
+  -- each operand and each type can be read
+  pub operands : Each IsOperand os
+  pub types : Each IsAnyType ts
+  -- there is an operand for each input
+  pub inputs_count : length os ≡ length i.inputs
+  -- there is a type for each input and each output
+  pub types_count : length ts ≡ length i.inputs + length i.outputs
+
+-- an instance is said, with operands and types of its own
+abbrev pub SaysInstance : Extra → List ValueText → List HwType → Type 0
+SaysInstance (child i) os ts = IsInstance i os ts
+SaysInstance _ os ts = ⊥
+
+-- what a piece needs of what is left, where so much is gathered in front
+abbrev pub Needs : Piece → Pending → Gathered → Type 0
+Needs (piece.Mark k) p g = IsMark k
+Needs (piece.Word w) p g = ⊤
+Needs piece.Operand p g = IsOperand (first_operand p.operands)
+Needs piece.Operands p g = (1 ≤ length p.operands) × Each IsOperand p.operands
+Needs piece.Group p g = Each IsOperand p.operands
+Needs piece.Predicate p g = SaysPredicate p.extra
+Needs piece.Number p g = SaysPosition p.extra
+Needs piece.Truth p g = SaysTruth p.extra
+Needs piece.Integer p g = SaysInteger p.extra
+Needs piece.Literals p g = SaysLiterals p.extra
+Needs piece.Field p g = SaysField p.extra
+Needs piece.Instance p g = SaysInstance p.extra p.operands p.types
+Needs piece.Reset p g = MayReset p.extra p.operands
+Needs piece.SyncReset p g = MayReset p.extra p.operands
+Needs piece.Type p g = HasType p.types
+Needs piece.Types p g = (length p.types ≡ length g.operands) × Each IsAnyType p.types
+
+-- the first type, where there is one
+abbrev pub first_type : List HwType → List HwType
+first_type [] = []
+first_type (t ∷ ts) = t ∷ []
+
+-- what is gathered with a reset
+abbrev pub gathered_reset : Extra → List ValueText → Gathered → Gathered
+gathered_reset with_reset os g =
+    with_extra (with_operands g (said_operand (first_operand os) ∷ said_operand (first_operand (drop 1 os)) ∷ [])) with_reset
+gathered_reset _ os g = g
+
+-- what is gathered with a piece of what is left, where so much is gathered in front
+abbrev pub gathered_with : Piece → Pending → Gathered → Gathered
+gathered_with (piece.Mark k) p g = g
+gathered_with (piece.Word w) p g = g
+gathered_with piece.Operand p g = with_operands g (said_operand (first_operand p.operands) ∷ [])
+gathered_with piece.Operands p g = with_operands g (map said_operand p.operands)
+gathered_with piece.Group p g = with_operands g (map said_operand p.operands)
+gathered_with piece.Truth p g = with_extra (with_types g (int 1 ∷ [])) p.extra
+gathered_with piece.Predicate p g = with_extra g p.extra
+gathered_with piece.Number p g = with_extra g p.extra
+gathered_with piece.Integer p g = with_extra g p.extra
+gathered_with piece.Literals p g = with_extra g p.extra
+gathered_with piece.Field p g = with_extra g p.extra
+gathered_with piece.Instance p g = with_extra (with_types (with_operands g (map said_operand p.operands)) p.types) p.extra
+gathered_with piece.Reset p g = gathered_reset p.extra p.operands g
+gathered_with piece.SyncReset p g = gathered_reset p.extra p.operands g
+gathered_with piece.Type p g = with_types g (first_type p.types)
+gathered_with piece.Types p g = with_types g p.types
+
+-- what is gathered with pieces
+abbrev pub gathered_with_all : List Piece → Pending → Gathered → Gathered
+gathered_with_all [] p g = g
+gathered_with_all (x ∷ xs) p g = gathered_with_all xs (left_behind x p) (gathered_with x p g)
+
+-- what pieces need
+abbrev pub NeedAll : List Piece → Pending → Gathered → Type 0
+NeedAll [] p g = ⊤
+NeedAll (x ∷ xs) p g = Needs x p g × NeedAll xs (left_behind x p) (gathered_with x p g)
+
+-- ---- operations
+
+-- what is gathered in front of the types of a form
+abbrev pub gathered_front : Shape → Pending → Gathered
+gathered_front s p = gathered_with_all (front_pieces s) p gathered_nothing
+
+-- what is said in a form
+pub record IsSaidAs (s : Shape) (p : Pending) : Type 0 where
+  -- the pieces in front of the types have what they need
+  pub front : NeedAll (front_pieces s) p gathered_nothing
+  -- so have those of the types, of what is left behind the front
+  pub types : NeedAll (type_pieces s) (left_behind_all (front_pieces s) p) (gathered_front s p)
+  -- what is gathered with them is all that is said
+  pub all : gathered_with_all (type_pieces s) (left_behind_all (front_pieces s) p) (gathered_front s p) ≡ said_pending p
+
+-- names of results, or a pack of fewer than its limit
+abbrev pub AreResults : ResultNames → Type 0
+AreResults no_names = ⊤
+AreResults (names n ns) = Each IsValueName (n ∷ ns)
+AreResults (pack n k) = IsValueName n × (k < count_limit)
+
+-- an operation
+pub record IsSpellableOperation (o : OperationText) : Type 0 where
+  -- it is not the module itself
+  pub stands : StandsInBody o.name
+  -- its results have names that may stand
+  pub results : AreResults o.results
+  -- it has the mark `bin` only where that may stand
+  pub bin : o.bin ≡ true → takes_bin o.name ≡ true
+  -- its form says what there is to say
+  pub form : IsSaidAs (shape_shown o.name o.pending) o.pending
+  -- its dictionary can be read
+  pub dictionary : IsDictionary (string_keys o.name) o.dictionary
+
+-- operations one after another; an output is the last
+abbrev pub AreSpellable : List OperationText → Type 0
+AreSpellable [] = ⊤
+AreSpellable (o ∷ os) = IsSpellableOperation o × (is_last o.name ≡ true → os ≡ []) × AreSpellable os
+
+-- ---- modules
+
+-- the value of a port has a name that may stand
+abbrev pub MayBeValue : Option Name → Type 0
+MayBeValue None = ⊤
+MayBeValue (Some v) = IsValueName v
+
+-- a port
+pub record IsSpellablePort (p : PortText) : Type 0 where
+  -- the value of an input has a name that may stand
+  pub value : MayBeValue p.value
+  -- a bare name or a string can hold its name
+  pub name : AreBytes p.name
+  -- its type can be read
+  pub type : IsAnyType p.type
+
+-- a module
+pub record IsSpellable (m : ModuleText) : Type 0 where
+  -- a symbol can hold its name
+  pub symbol : AreBytes m.symbol
+  -- each port can be read
+  pub ports : Each IsSpellablePort m.ports
+  -- its dictionary can be read
+  pub dictionary : IsDictionary module_keys m.dictionary
+  -- its operations can be read, and an output is the last
+  pub operations : AreSpellable m.operations
+
+-- ---- what bytes say
+
+-- bytes are read as what modules say, wherever it stands
+abbrev pub AreSpelled : List ℕ → List ModuleText → Type 0
+AreSpelled bytes ms = (ts : List Lexeme) × (tokens bytes ≡ map token_of ts) × FilePhrase (λ t place. Unit {0}) (map said ms) ts

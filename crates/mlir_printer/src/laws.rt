@@ -1,0 +1,38 @@
+//! The laws of printing, each a clause of a function that does nothing.
+
+ghost use Rattle.std.specs.Prelude.{◌≡◌, ℕ, ◌≤◌, List, length, None, Ok};
+ghost use Rattle.hw_model.specs.Design.{Design, IsSameDesign};
+ghost use Rattle.mlir_reader.specs.Reading.{text_limit, read};
+ghost use Rattle.mlir_reader.specs.Spelling.{SpellsPlacelessly};
+ghost use Rattle.op_verifier.specs.Faults.{first_fault};
+ghost use Rattle.mlir_printer.specs.Modules.{ModuleText, file_bytes};
+ghost use Rattle.mlir_printer.specs.Spellable.{Each, AreBytes, IsSpellable, AreSpelled};
+ghost use Rattle.mlir_printer.specs.Texts.{ir_text};
+ghost use Rattle.mlir_printer.specs.Printable.{Printable};
+
+use mlir_reader::laws::{what_is_read_is_spelled, what_is_spelled_is_read};
+
+/// Does nothing. Its clause says that the bytes of modules that can be spelled are tokens which the grammar reads as just these modules.
+pub fn what_is_spellable_is_spelled()
+    ensures { (ms : List ModuleText) → Each IsSpellable ms → AreSpelled (file_bytes ms) ms }
+{}
+
+/// Does nothing. Its clause says that the text of a design that can be printed spells that design, but for places.
+pub fn what_is_printable_is_spelled()
+    ensures { (d : Design) → Printable d → SpellsPlacelessly (ir_text d) d }
+{}
+
+/// Does nothing. Its clause says that a design that is read of bytes and not refused can be printed.
+pub fn what_is_accepted_is_printable()
+    ensures { (source : List ℕ) (d : Design) → AreBytes source → read source ≡ Ok d → first_fault d ≡ None → Printable d }
+{
+    what_is_read_is_spelled();
+}
+
+/// Does nothing. Its clause says that the text of a design that can be printed, where it is not too long, is read as that design again, but
+/// for places.
+pub fn what_is_printed_is_read_again()
+    ensures { (d : Design) → Printable d → length (ir_text d) ≤ text_limit → (e : Design) × (read (ir_text d) ≡ Ok e) × IsSameDesign d e }
+{
+    what_is_spelled_is_read();
+}
