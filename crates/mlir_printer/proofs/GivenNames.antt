@@ -1,5 +1,5 @@
 -- The names that values are given: digits where none is wanted, and else what begins with no digit.
-use Rattle.std.proofs.Common.{◌≡◌, ℕ, zero, suc, ◌+◌, ◌^◌, ◌<◌, ◌≤◌, Bool, true, false, cond, ◌||◌, ◌==◌, List, [], ◌∷◌, ◌++◌, map, length, drop, decimal, refl, ap, ◌∙◌, sym, subst, arith, add-one, length-append}
+use Rattle.std.proofs.Common.{◌≡◌, ℕ, zero, suc, ◌+◌, ◌^◌, ◌<◌, ◌≤◌, Bool, true, false, cond, ◌||◌, ◌==◌, List, [], ◌∷◌, ◌++◌, map, length, drop, decimal, refl, ap, ◌∙◌, sym, subst, arith, add-one}
 use Rattle.std.specs.Prelude.{nat_eq, not, Option, Some, None, ⊤}
 use Rattle.std.specs.Cmp.Lexicographic.{pointwise, bytes_decides}
 use Rattle.std.proofs.lemmas.Fmt.{decimal_injective}
