@@ -35,7 +35,7 @@ use Rattle.mlir_printer.specs.Spellable.{Each, AreBytes, IsInteger, IsAnyType, I
 use Rattle.mlir_printer.specs.Printable.{AreInOrder, IsKeptDictionary, KeepsConstants, IsWritten, IsWrittenInstance}
 use Rattle.mlir_printer.proofs.DictionariesFit.{put_in_order, each_put}
 use Rattle.mlir_printer.proofs.ReadBytes.{AreTexts, parts_of, held_bytes, each_read, entry_read}
-use Rattle.mlir_printer.proofs.ReadPieces.{IsReadExtra, IsReadPart, pieces_read}
+use Rattle.mlir_printer.proofs.ReadPieces.{each_weaker, IsReadExtra, IsReadPart, pieces_read}
 
 -- ---- dictionaries
 
@@ -58,17 +58,13 @@ among_push key (m ∷ ns) n h = go (same_name m key) h (among_push key ns n)
     go true e r = cc
     go false e r = r e
 
-each_of : {A : Type 0} (P Q : A → Type 0) → ((x : A) → P x → Q x) → (xs : List A) → Each P xs → Each Q xs
-each_of P Q f [] h = tt
-each_of P Q f (x ∷ xs) h = (f x h.0, each_of P Q f xs h.1)
-
 once_apart : (earlier : List Name) (es : List Entry) → AreOnce earlier es → Each (λ (x : Entry). is_among x.key earlier ≡ false) es × AreApart es
 once_apart earlier [] h = (tt, tt)
 once_apart earlier (e ∷ es) h =
     let r = once_apart (earlier ++ e.key ∷ []) es h.1 in
-    let front = each_of (λ (x : Entry). is_among x.key (earlier ++ e.key ∷ []) ≡ false) (λ (x : Entry). is_among x.key earlier ≡ false)
+    let front = each_weaker (λ (x : Entry). is_among x.key (earlier ++ e.key ∷ []) ≡ false) (λ (x : Entry). is_among x.key earlier ≡ false)
     (λ x a. (among_push x.key earlier e.key a).0) es r.0 in
-    let apart = each_of (λ (x : Entry). is_among x.key (earlier ++ e.key ∷ []) ≡ false) (λ (x : Entry). same_name e.key x.key ≡ false)
+    let apart = each_weaker (λ (x : Entry). is_among x.key (earlier ++ e.key ∷ []) ≡ false) (λ (x : Entry). same_name e.key x.key ≡ false)
     (λ x a. (among_push x.key earlier e.key a).1) es r.0 in
     ((h.0, front), (apart, r.1))
 
