@@ -41,11 +41,13 @@ body_again ports body m earlier means i ns (o ∷ os) resolve new suits p =
     (new_right earlier (operation_definitions i here) (body_definitions (i + 1) rest) new)
     (suit_behind (wishes (parts_in o)) (body_wishes (map parts_in os)) ns suits) p.1)
 
-output_there : (means : Ref → ValueText) (ns : List Name) (os : List Op) → EndsWithOutput os → ends_with_output (map said_operation (operations_shown means ns os)) ≡ true
+output_there : (means : Ref → ValueText) (ns : List Name) (os : List Op) → EndsWithOutput os
+    → ends_with_output (map said_operation (operations_shown means ns os)) ≡ true
 output_there means ns [] h = absurd h
 output_there means ns (o ∷ []) h = ap (λ b. cond b true false) (last_output o.kind ∙ h)
 output_there means ns (o ∷ p ∷ os) h =
-    ap (λ b. cond b true (ends_with_output (map said_operation (operations_shown means (drop (name_count (parts_in o)) ns) (p ∷ os))))) (last_output o.kind ∙ h.0)
+    ap (λ b. cond b true (ends_with_output (map said_operation (operations_shown means (drop (name_count (parts_in o)) ns) (p ∷ os)))))
+    (last_output o.kind ∙ h.0)
     ∙ output_there means (drop (name_count (parts_in o)) ns) (p ∷ os) h.1
 
 -- ---- ports
@@ -54,7 +56,8 @@ direction : (b : Bool) (n : Name) → not (is_some (cond b None (Some n))) ≡ b
 direction true n = refl
 direction false n = refl
 
-not_marked : (earlier : Meanings) (j : ℕ) (b : Bool) (n : Name) (ds : List Definition) → AreNew earlier (port_definition j (cond b None (Some n)) ++ ds)
+not_marked : (earlier : Meanings) (j : ℕ) (b : Bool) (n : Name) (ds : List Definition)
+    → AreNew earlier (port_definition j (cond b None (Some n)) ++ ds)
     → is_marked earlier (cond b None (Some n)) ≡ false
 not_marked earlier j true n ds new = refl
 not_marked earlier j false n ds new = ap (λ (o : Option Defined). is_some o) new.0
@@ -67,9 +70,11 @@ ports_again earlier j ns (q ∷ ps) new p =
     let rest = map said_port (ports_shown (drop (length (port_wish q)) ns) ps) in
     let later = with_definitions earlier (port_definition j value) in
     let unmarked : is_marked earlier value ≡ q.again = not_marked earlier j q.is_output (first_name ns) (port_definitions (j + 1) rest) new ∙ sym p.0.first in
-    ap (λ x. record { name = q.name; is_output = x; type = q.type; again = is_marked earlier value } ∷ ports_from later (j + 1) rest) (direction q.is_output (first_name ns))
+    ap (λ x. record { name = q.name; is_output = x; type = q.type; again = is_marked earlier value } ∷ ports_from later (j + 1) rest)
+    (direction q.is_output (first_name ns))
     ∙ ap (λ x. record { name = q.name; is_output = q.is_output; type = q.type; again = x } ∷ ports_from later (j + 1) rest) unmarked
-    ∙ ap (λ l. q ∷ l) (ports_again later (j + 1) (drop (length (port_wish q)) ns) ps (new_right earlier (port_definition j value) (port_definitions (j + 1) rest) new) p.1)
+    ∙ ap (λ l. q ∷ l) (ports_again later (j + 1) (drop (length (port_wish q)) ns) ps
+    (new_right earlier (port_definition j value) (port_definitions (j + 1) rest) new) p.1)
 
 -- ---- modules
 
@@ -104,7 +109,8 @@ module _ (m : Module) (p : IsPrintableModule m) where
 
   given_length : length given ≡ length (port_wishes m.ports ++ body_wishes (map parts_in m.body))
   given_length =
-      fresh_count [] (wanted 0 (port_wishes m.ports ++ body_wishes (map parts_in m.body))) ∙ wanted_length 0 (port_wishes m.ports ++ body_wishes (map parts_in m.body))
+      fresh_count [] (wanted 0 (port_wishes m.ports ++ body_wishes (map parts_in m.body))) ∙ wanted_length 0
+      (port_wishes m.ports ++ body_wishes (map parts_in m.body))
 
   all_names : map name_of (port_defs ++ body_defs) ≡ given
   all_names =
@@ -149,7 +155,8 @@ module _ (m : Module) (p : IsPrintableModule m) where
   body_said : map op_without_place (module_of (said (module_shown m))).body ≡ map op_without_place m.body
   body_said =
       let os = operations_from (meanings (said (module_shown m))) (port_meanings (said (module_shown m)).ports) 0 texts in
-      ap (λ b. map op_without_place (cond b os (cond (has_outputs (said (module_shown m)).ports) os (os ++ left_out_output (said (module_shown m)).close ∷ []))))
+      ap (λ b. map op_without_place (cond b os (cond (has_outputs (said (module_shown m)).ports) os
+      (os ++ left_out_output (said (module_shown m)).close ∷ []))))
       (output_there means behind m.body p.ends)
       ∙ body_again m.ports m.body (meanings (said (module_shown m))) (port_meanings (said (module_shown m)).ports) means 0 behind m.body resolves
       (new_right no_meaning port_defs body_defs all_are_new)

@@ -126,7 +126,8 @@ module _ (ports : List Port) (body : List Op) (o : Op) (p : IsPrintableOp ports 
         results = results_fit (parts_in o) ns op_names suits;
         bin = p.bin;
         form =
-            form_fits o.kind (map means o.operands) o.types (n ∙ p.operands ∙ ap (operands_written o.kind) (sym n)) (p.types ∙ ap (types_written o.kind) (sym n))
+            form_fits o.kind (map means o.operands) o.types (n ∙ p.operands ∙ ap (operands_written o.kind) (sym n))
+            (p.types ∙ ap (types_written o.kind) (sym n))
             p.written (operands_fit means (IsDefined ports body) o.operands f p.defined) p.readable;
         dictionary = shown_fits (listed_of o.kind) _ o.name (first_name ns) o.dictionary p.dictionary p.nameless p.name;
       }
@@ -160,8 +161,10 @@ ports_fit ns (q ∷ ps) suits p = (
 module_fits : (m : Module) → IsPrintableModule m → IsSpellable (module_shown m)
 module_fits m p =
     let ns = names_given m.ports (map parts_in m.body) in
-    let all : Suits (port_wishes m.ports ++ body_wishes (map parts_in m.body)) ns = given_suit (port_wishes m.ports ++ body_wishes (map parts_in m.body)) p.few in
-    let behind : Suits (body_wishes (map parts_in m.body)) (drop (input_count m.ports) ns) = suit_behind (port_wishes m.ports) (body_wishes (map parts_in m.body)) ns all in
+    let all : Suits (port_wishes m.ports ++ body_wishes (map parts_in m.body)) ns = given_suit
+    (port_wishes m.ports ++ body_wishes (map parts_in m.body)) p.few in
+    let behind : Suits (body_wishes (map parts_in m.body)) (drop (input_count m.ports) ns) = suit_behind (port_wishes m.ports)
+    (body_wishes (map parts_in m.body)) ns all in
     record {
       symbol = p.symbol;
       ports = ports_fit ns m.ports (suit_first (port_wishes m.ports) (body_wishes (map parts_in m.body)) ns all) p.ports;
@@ -171,7 +174,8 @@ module_fits m p =
           (values ns all behind) behind p.operations p.ends;
     }
   where
-    values : (ns : List Name) → Suits (port_wishes m.ports ++ body_wishes (map parts_in m.body)) ns → Suits (body_wishes (map parts_in m.body)) (drop (input_count m.ports) ns)
+    values : (ns : List Name) → Suits (port_wishes m.ports ++ body_wishes (map parts_in m.body)) ns
+        → Suits (body_wishes (map parts_in m.body)) (drop (input_count m.ports) ns)
         → (r : Ref) → IsDefined m.ports m.body r → IsOperand (value_named ns m.ports (map parts_in m.body) r)
     values ns all behind (port j) h = port_fits ns m.ports j h.0 (suit_first (port_wishes m.ports) (body_wishes (map parts_in m.body)) ns all) h.1 h.2
     values ns all behind (result i k) h =

@@ -105,7 +105,8 @@ either_less a b h g = go (slice_cmp nat_cmp a b) refl
         absurd (false≢true (sym g ∙ ap (λ x. same_name b x) s ∙ name_self b))
     go Greater e = ap is_lt (nat_list_cmp_total.antisymm b a ∙ ap ordering_reverse e)
 
-pub put_in_order : (e : Entry) (es : List Entry) → AreInOrder es → Each (λ (x : Entry). same_name e.key x.key ≡ false) es → AreInOrder (put_entry e es)
+pub put_in_order : (e : Entry) (es : List Entry) → AreInOrder es → Each (λ (x : Entry). same_name e.key x.key ≡ false) es
+    → AreInOrder (put_entry e es)
 put_in_order e [] up other = tt
 put_in_order e (f ∷ es) up other = go (is_less f e) refl (put_in_order e es (in_order_rest f es up) other.1)
   where

@@ -48,7 +48,8 @@ without_put : (test : Entry → Bool) (e : Entry) (es : List Entry) → test e �
 without_put test e [] h = cond-true (test e) [] (e ∷ []) h
 without_put test e (f ∷ es) h = go (is_less f e) (without_put test e es h)
   where
-    go : (b : Bool) → without test (put_entry e es) ≡ without test es → without test (cond b (f ∷ put_entry e es) (e ∷ f ∷ es)) ≡ without test (f ∷ es)
+    go : (b : Bool) → without test (put_entry e es) ≡ without test es
+        → without test (cond b (f ∷ put_entry e es) (e ∷ f ∷ es)) ≡ without test (f ∷ es)
     go true r = ap (λ l. cond (test f) l (f ∷ l)) r
     go false r = cond-true (test e) (without test (f ∷ es)) (e ∷ without test (f ∷ es)) h
 
@@ -75,9 +76,14 @@ shown_kept o (b ∷ bs) printed es up kept named = go (same_name (b ∷ bs) prin
 -- ---- own names
 
 -- what is kept gives no name, where the operation has one of its own
-pub none_given : (o : Listed) (es : List Entry) → has_name o ≡ true → Each (λ (e : Entry). is_dropped o e ≡ false) es → Each (λ (e : Entry). is_name_entry e ≡ false) es
+pub none_given : (o : Listed) (es : List Entry) → has_name o ≡ true → Each (λ (e : Entry). is_dropped o e ≡ false) es
+    → Each (λ (e : Entry). is_name_entry e ≡ false) es
 none_given o [] h kept = tt
-none_given o (e ∷ es) h kept = (go (is_empty_hint e) (is_name_entry e) (ap (λ b. cond (is_empty_hint e) true (b && is_name_entry e)) (sym h) ∙ kept.0), none_given o es h kept.1)
+none_given o (e ∷ es) h kept = (
+  go (is_empty_hint e) (is_name_entry e)
+      (ap (λ b. cond (is_empty_hint e) true (b && is_name_entry e)) (sym h) ∙ kept.0),
+  none_given o es h kept.1,
+)
   where
     go : (b c : Bool) → cond b true (true && c) ≡ false → c ≡ false
     go true c e = cc
@@ -91,7 +97,8 @@ name_put : (own : Name) (es : List Entry) → Each (λ (e : Entry). is_name_entr
 name_put own [] h = refl
 name_put own (e ∷ es) h = go (is_less e (name_entry own)) (name_put own es h.1)
   where
-    go : (b : Bool) → given_name (named_entries own es) ≡ Some own → given_name (cond b (e ∷ named_entries own es) (name_entry own ∷ e ∷ es)) ≡ Some own
+    go : (b : Bool) → given_name (named_entries own es) ≡ Some own
+        → given_name (cond b (e ∷ named_entries own es) (name_entry own ∷ e ∷ es)) ≡ Some own
     go true r = cond-false (is_name_entry e) (Some (text_in e.value)) (given_name (named_entries own es)) h.0 ∙ r
     go false r = refl
 

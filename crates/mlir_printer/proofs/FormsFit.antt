@@ -78,7 +78,8 @@ unary os ts lo lt =
     of_one (λ os. Fit shape.Unary nothing os ts)
     (λ a. of_one (λ ts. Fit shape.Unary nothing (a ∷ []) ts) (λ t ho ht. says_unary a t ho.0 ht.0) ts lt) os lo
 
-extraction : (n : ℕ) (os : List ValueText) (ts : List HwType) → n < count_limit → length os ≡ 1 → length ts ≡ 2 → Fit shape.Extraction (position n) os ts
+extraction : (n : ℕ) (os : List ValueText) (ts : List HwType) → n < count_limit → length os ≡ 1 → length ts ≡ 2
+    → Fit shape.Extraction (position n) os ts
 extraction n os ts small lo lt =
     of_one (λ os. Fit shape.Extraction (position n) os ts)
     (λ a. of_two (λ ts. Fit shape.Extraction (position n) (a ∷ []) ts)
@@ -108,7 +109,8 @@ truth : (z : ℤ) (os : List ValueText) → is_truth z ≡ true → length os �
 truth z os one lo =
     of_none (λ os. Fit shape.Truth (number z) os (int 1 ∷ [])) (λ ho ht. says_truth z one) os lo
 
-aggregate : (ls : Literals) (os : List ValueText) (ts : List HwType) → AreLiterals ls 31 → length os ≡ 0 → length ts ≡ 1 → Fit shape.Aggregate (literals ls) os ts
+aggregate : (ls : Literals) (os : List ValueText) (ts : List HwType) → AreLiterals ls 31 → length os ≡ 0 → length ts ≡ 1
+    → Fit shape.Aggregate (literals ls) os ts
 aggregate ls os ts h lo lt =
     of_none (λ os. Fit shape.Aggregate (literals ls) os ts)
     (of_one (λ ts. Fit shape.Aggregate (literals ls) [] ts) (λ t ho ht. says_aggregate ls t h ht.0) ts lt) os lo
@@ -134,13 +136,15 @@ element_change os ts lo lt =
 group : (os : List ValueText) (ts : List HwType) → length ts ≡ 1 → Fit shape.Struct nothing os ts
 group os ts lt = of_one (λ ts. Fit shape.Struct nothing os ts) (λ t ho ht. says_struct os t ho ht.0) ts lt
 
-field_taken : (name : Name) (os : List ValueText) (ts : List HwType) → AreBytes name → length os ≡ 1 → length ts ≡ 1 → Fit shape.Field (field_name name) os ts
+field_taken : (name : Name) (os : List ValueText) (ts : List HwType) → AreBytes name → length os ≡ 1 → length ts ≡ 1
+    → Fit shape.Field (field_name name) os ts
 field_taken name os ts bytes lo lt =
     of_one (λ os. Fit shape.Field (field_name name) os ts)
     (λ a. of_one (λ ts. Fit shape.Field (field_name name) (a ∷ []) ts)
     (λ t ho ht. says_field a name t ho.0 bytes ht.0) ts lt) os lo
 
-field_change : (name : Name) (os : List ValueText) (ts : List HwType) → AreBytes name → length os ≡ 2 → length ts ≡ 1 → Fit shape.FieldChange (field_name name) os ts
+field_change : (name : Name) (os : List ValueText) (ts : List HwType) → AreBytes name → length os ≡ 2 → length ts ≡ 1
+    → Fit shape.FieldChange (field_name name) os ts
 field_change name os ts bytes lo lt =
     of_two (λ os. Fit shape.FieldChange (field_name name) os ts)
     (λ a b. of_one (λ ts. Fit shape.FieldChange (field_name name) (a ∷ b ∷ []) ts)
@@ -187,7 +191,8 @@ clocked_reset_register os ts lo lt =
     (λ a b c d. of_one (λ ts. Fit shape.ClockedRegister with_reset (a ∷ b ∷ c ∷ d ∷ []) ts)
     (λ t ho ht. says_reset_clocked a b c d t ho.0 ho.1.0 ho.1.1.0 ho.1.1.1.0 ht.0) ts lt) os lo
 
-call : (i : Instance) (os : List ValueText) (ts : List HwType) → IsWrittenInstance i → length os ≡ length i.inputs → length ts ≡ length i.inputs + length i.outputs
+call : (i : Instance) (os : List ValueText) (ts : List HwType) → IsWrittenInstance i → length os ≡ length i.inputs
+    → length ts ≡ length i.inputs + length i.outputs
     → Fit shape.Instance (child i) os ts
 call i os ts w lo lt ho ht =
     says_instance i os ts
@@ -259,7 +264,8 @@ constant_fits z os [] small lo lt ho ht = absurd (omega (arith, lt))
 constant_fits z os (t ∷ u ∷ ts) small lo lt ho ht = absurd (omega (arith, lt))
 constant_fits z os (t ∷ []) small lo lt ho ht = constant_of (shown_integer t z) t os (integer_shown t z small) lo ho ht
 
-output_fits : (os : List ValueText) (ts : List HwType) → length ts ≡ length os → Each IsOperand os → Each IsAnyType ts → IsSaidAs (output_shape os) (pending os ts nothing)
+output_fits : (os : List ValueText) (ts : List HwType) → length ts ≡ length os → Each IsOperand os → Each IsAnyType ts
+    → IsSaidAs (output_shape os) (pending os ts nothing)
 output_fits [] ts lt = no_values [] ts refl lt
 output_fits (o ∷ os) ts lt = joined (o ∷ os) ts (omega arith) lt
 
@@ -269,7 +275,8 @@ some_there : (n : ℕ) → n ≡ max 1 n → 1 ≤ n
 some_there n e = omega (arith, e)
 
 -- the form of an operation takes its operands and types
-pub form_fits : (k : Kind) (os : List ValueText) (ts : List HwType) → length os ≡ operands_written k (length os) → length ts ≡ types_written k (length os)
+pub form_fits : (k : Kind) (os : List ValueText) (ts : List HwType) → length os ≡ operands_written k (length os)
+    → length ts ≡ types_written k (length os)
     → IsWritten k → Each IsOperand os → Each IsAnyType ts
     → IsSaidAs (shape_shown (listed_of k) (pending os ts (extra_shown k ts))) (pending os ts (extra_shown k ts))
 unfolding shape_shown shape_of listed_of extra_shown operands_written types_written

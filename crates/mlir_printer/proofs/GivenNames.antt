@@ -1,5 +1,5 @@
 -- The names that values are given: digits where none is wanted, and else what begins with no digit.
-use Rattle.std.proofs.Common.{◌≡◌, ℕ, zero, suc, ◌+◌, ◌^◌, ◌<◌, ◌≤◌, Bool, true, false, cond, ◌||◌, ◌==◌, List, [], ◌∷◌, ◌++◌, map, length, drop, decimal, refl, ap, ◌∙◌, sym, subst, arith, add-one, length-append}
+use Rattle.std.proofs.Common.{◌≡◌, ℕ, zero, suc, ◌+◌, ◌^◌, ◌<◌, ◌≤◌, Bool, true, false, cond, ◌||◌, ◌==◌, List, [], ◌∷◌, ◌++◌, map, length, drop, decimal, refl, ap, ◌∙◌, sym, subst, arith, add-one}
 use Rattle.std.specs.Prelude.{nat_eq, not, Option, Some, None, ⊤}
 use Rattle.std.specs.Cmp.Lexicographic.{pointwise, bytes_decides}
 use Rattle.std.proofs.lemmas.Fmt.{decimal_injective}
@@ -30,7 +30,8 @@ all_run : (test : ℕ → Bool) (bs : List ℕ) → run test bs ≡ length bs �
 all_run test [] h = tt
 all_run test (b ∷ bs) h = go (test b) refl h (all_run test bs)
   where
-    go : (t : Bool) → test b ≡ t → cond t (run test bs + 1) 0 ≡ suc (length bs) → (run test bs ≡ length bs → AllMeet test bs) → (test b ≡ true) × AllMeet test bs
+    go : (t : Bool) → test b ≡ t → cond t (run test bs + 1) 0 ≡ suc (length bs) → (run test bs ≡ length bs → AllMeet test bs)
+        → (test b ≡ true) × AllMeet test bs
     go true e h r = (e, r (omega (arith, h)))
     go false e h r = absurd (omega (arith, h))
 
@@ -111,7 +112,12 @@ stands_word : (name : Name) → stands name ≡ true → IsWord name
 stands_word [] h = cc
 stands_word (b ∷ bs) h =
     let p = and_parts (not (is_digit b)) (nat_eq (run is_suffix_byte (b ∷ bs)) (length (b ∷ bs))) h in
-    record { some = omega arith; front = not-true (is_digit b) p.0; whole = all_run is_suffix_byte (b ∷ bs) (eqb-true (run is_suffix_byte (b ∷ bs)) (length (b ∷ bs)) p.1) }
+    record {
+      some = omega arith;
+      front = not-true (is_digit b) p.0;
+      whole = all_run is_suffix_byte (b ∷ bs)
+          (eqb-true (run is_suffix_byte (b ∷ bs)) (length (b ∷ bs)) p.1);
+    }
 
 standing_word : (name : Name) → IsWord (standing name)
 unfolding standing
@@ -172,7 +178,8 @@ push_free : (ts : List Name) (n q : Name) → is_taken ts q ≡ false → pointw
 push_free [] n q h g = cond-false (pointwise nat_eq n q) true false g
 push_free (t ∷ ts) n q h g = go (pointwise nat_eq t q) h (λ r. push_free ts n q r g)
   where
-    go : (b : Bool) → cond b true (is_taken ts q) ≡ false → (is_taken ts q ≡ false → is_taken (ts ++ n ∷ []) q ≡ false) → cond b true (is_taken (ts ++ n ∷ []) q) ≡ false
+    go : (b : Bool) → cond b true (is_taken ts q) ≡ false → (is_taken ts q ≡ false → is_taken (ts ++ n ∷ []) q ≡ false)
+        → cond b true (is_taken (ts ++ n ∷ []) q) ≡ false
     go true e r = cc
     go false e r = r e
 

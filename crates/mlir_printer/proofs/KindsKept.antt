@@ -41,7 +41,8 @@ number_again w (pos n) h = go (is_negative w n) refl
         let d = doubled w p.0 in
         let there : has_negative w (2 ^ w - 1 - n) ≡ true =
         and_from (nat_lt 0 w) (nat_lt w 129 && nat_lt (2 ^ w - 1 - n) (2 ^ (w - 1))) (lt-ltb 0 w (omega (arith, p.0)))
-        (and_from (nat_lt w 129) (nat_lt (2 ^ w - 1 - n) (2 ^ (w - 1))) (lt-ltb w 129 p.1) (lt-ltb (2 ^ w - 1 - n) (2 ^ (w - 1)) (omega (arith, d, lo, hi)))) in
+        (and_from (nat_lt w 129) (nat_lt (2 ^ w - 1 - n) (2 ^ (w - 1))) (lt-ltb w 129 p.1)
+        (lt-ltb (2 ^ w - 1 - n) (2 ^ (w - 1)) (omega (arith, d, lo, hi)))) in
         let back : 2 ^ w - 1 - (2 ^ w - 1 - n) ≡ n = omega (arith, hi) in
         ap (λ b. cond b (pos (2 ^ w - 1 - (2 ^ w - 1 - n))) (negsuc (2 ^ w - 1 - n))) there ∙ ap (λ k. pos k) back
 

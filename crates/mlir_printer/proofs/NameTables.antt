@@ -68,7 +68,8 @@ found m (x ∷ ds) new d (inr h) = found (with_definition m x) ds new.1 d h
 pub no_marks : (m : Meanings) (ds : List Definition) → AreNew m ds → marks m ds ≡ map (λ d. false) ds
 no_marks m [] new = refl
 no_marks m (d ∷ ds) new =
-    ap (λ b. b ∷ marks (with_definition m d) ds) (ap (λ (o : Option Defined). is_some o) new.0) ∙ ap (λ bs. false ∷ bs) (no_marks (with_definition m d) ds new.1)
+    ap (λ b. b ∷ marks (with_definition m d) ds) (ap (λ (o : Option Defined). is_some o) new.0) ∙ ap (λ bs. false ∷ bs)
+    (no_marks (with_definition m d) ds new.1)
 
 -- ---- names that are given once are new
 
@@ -80,7 +81,8 @@ taken_front : (ts : List Name) (n q : Name) → is_taken (ts ++ n ∷ []) q ≡ 
 taken_front [] n q h = refl
 taken_front (t ∷ ts) n q h = go (pointwise nat_eq t q) h (taken_front ts n q)
   where
-    go : (b : Bool) → cond b true (is_taken (ts ++ n ∷ []) q) ≡ false → (is_taken (ts ++ n ∷ []) q ≡ false → is_taken ts q ≡ false) → cond b true (is_taken ts q) ≡ false
+    go : (b : Bool) → cond b true (is_taken (ts ++ n ∷ []) q) ≡ false → (is_taken (ts ++ n ∷ []) q ≡ false → is_taken ts q ≡ false)
+        → cond b true (is_taken ts q) ≡ false
     go true g r = g
     go false g r = r g
 
@@ -92,7 +94,8 @@ taken_last [] n q h = go (pointwise nat_eq n q) h
     go false g = refl
 taken_last (t ∷ ts) n q h = go (pointwise nat_eq t q) h (taken_last ts n q)
   where
-    go : (b : Bool) → cond b true (is_taken (ts ++ n ∷ []) q) ≡ false → (is_taken (ts ++ n ∷ []) q ≡ false → pointwise nat_eq n q ≡ false) → pointwise nat_eq n q ≡ false
+    go : (b : Bool) → cond b true (is_taken (ts ++ n ∷ []) q) ≡ false → (is_taken (ts ++ n ∷ []) q ≡ false → pointwise nat_eq n q ≡ false)
+        → pointwise nat_eq n q ≡ false
     go true g r = cc
     go false g r = r g
 
@@ -102,7 +105,8 @@ one_more m taken d none q h =
     ap (λ o. known_or o (cond (same_name q d.name) (Some d.defined) None)) (none q (taken_front taken d.name q h))
     ∙ ap (λ b. known_or None (cond b (Some d.defined) None)) other
 
-names_new : (m : Meanings) (taken : List Name) (ds : List Definition) → StandsForNone m taken → AreFresh taken (map (λ (d : Definition). d.name) ds) → AreNew m ds
+names_new : (m : Meanings) (taken : List Name) (ds : List Definition) → StandsForNone m taken → AreFresh taken (map (λ (d : Definition). d.name) ds)
+    → AreNew m ds
 names_new m taken [] none fresh = tt
 names_new m taken (d ∷ ds) none fresh = (none d.name fresh.0, names_new (with_definition m d) (taken ++ d.name ∷ []) ds (one_more m taken d none) fresh.1)
 

@@ -99,14 +99,16 @@ results_names i own o ns = go (is_pack o.kind (length o.results)) refl
         ∙ sym (ap (λ k. firsts k ns) (pack_named o.kind o.types o.name (length o.results) h))
     go false h = ap (map name_of) (each_defined i own o ns h) ∙ names_from_named i 0 (firsts (name_count o) ns)
 
-pub ports_names : (j : ℕ) (ns : List Name) (ps : List Port) → map name_of (port_definitions j (map said_port (ports_shown ns ps))) ≡ firsts (input_count ps) ns
+pub ports_names : (j : ℕ) (ns : List Name) (ps : List Port)
+    → map name_of (port_definitions j (map said_port (ports_shown ns ps))) ≡ firsts (input_count ps) ns
 ports_names j ns [] = refl
 ports_names j ns (p ∷ ps) = go p.is_output (ports_names (j + 1) (drop (length (port_wish p)) ns) ps)
   where
     go : (b : Bool)
         → map name_of (port_definitions (j + 1) (map said_port (ports_shown (drop (length (cond b [] (Some p.name ∷ []))) ns) ps)))
         ≡ firsts (input_count ps) (drop (length (cond b [] (Some p.name ∷ []))) ns)
-        → map name_of (port_definition j (cond b None (Some (first_name ns))) ++ port_definitions (j + 1) (map said_port (ports_shown (drop (length (cond b [] (Some p.name ∷ []))) ns) ps)))
+        → map name_of (port_definition j (cond b None (Some (first_name ns))) ++ port_definitions (j + 1)
+        (map said_port (ports_shown (drop (length (cond b [] (Some p.name ∷ []))) ns) ps)))
         ≡ firsts (length (cond b [] (Some p.name ∷ []) ++ port_wishes ps)) ns
     go true r = r
     go false r = ap (λ l. first_name ns ∷ l) r

@@ -68,7 +68,8 @@ operands_again m means Defined [] f h = refl
 operands_again m means Defined (r ∷ rs) f h =
     ap (λ x. x ∷ map (resolved m) (map said_operand (map means rs))) (f r h.0) ∙ ap (λ l. r ∷ l) (operands_again m means Defined rs f h.1)
 
-marked_none : (ts : List (Option HwType)) (ds : List Definition) → length ds ≤ length ts → marked_results ts (map (λ d. false) ds) ≡ map settled_result ts
+marked_none : (ts : List (Option HwType)) (ds : List Definition) → length ds ≤ length ts
+    → marked_results ts (map (λ d. false) ds) ≡ map settled_result ts
 marked_none [] [] h = refl
 marked_none [] (d ∷ ds) h = absurd (omega (arith, h))
 marked_none (t ∷ ts) [] h = ap (λ l. settled_result t ∷ l) (marked_none ts [] (omega arith))
@@ -76,7 +77,8 @@ marked_none (t ∷ ts) (d ∷ ds) h = ap (λ l. settled_result t ∷ l) (marked_
 
 -- ---- own names
 
-named_kind : (k : Kind) (ts : List HwType) (own : Name) (n : ℕ) → has_name (listed_of k) ≡ true → (wishes_of k ts own n ≡ own_wish own ∷ []) × (is_pack k n ≡ false)
+named_kind : (k : Kind) (ts : List HwType) (own : Name) (n : ℕ) → has_name (listed_of k) ≡ true
+    → (wishes_of k ts own n ≡ own_wish own ∷ []) × (is_pack k n ≡ false)
 unfolding wishes_of listed_of
 named_kind wire ts own n h = (refl, refl)
 named_kind (compreg r) ts own n h = (refl, refl)
@@ -147,7 +149,8 @@ module _ (ports : List Port) (body : List Op) (o : Op) (p : IsPrintableOp ports 
       listed (x ∷ xs) = refl
 
       go : (b : Bool) → is_pack o.kind (length o.results) ≡ b
-          → named_count (cond (is_pack o.kind (length o.results)) (ResultNames.pack (first_name ns) (length o.results)) (listed_names (firsts (name_count (parts_in o)) ns))) ≡ length o.results
+          → named_count (cond (is_pack o.kind (length o.results)) (ResultNames.pack (first_name ns) (length o.results))
+          (listed_names (firsts (name_count (parts_in o)) ns))) ≡ length o.results
       go true h = ap (λ b. named_count (cond b (ResultNames.pack (first_name ns) (length o.results)) (listed_names (firsts (name_count (parts_in o)) ns)))) h
       go false h =
           ap (λ b. named_count (cond b (ResultNames.pack (first_name ns) (length o.results)) (listed_names (firsts (name_count (parts_in o)) ns)))) h
@@ -162,16 +165,19 @@ module _ (ports : List Port) (body : List Op) (o : Op) (p : IsPrintableOp ports 
       first_own rs e = ap read.first_name e
 
       go : (b : Bool) → has_name (listed_of o.kind) ≡ b
-          → cond (has_name (listed_of o.kind)) (name_or (given_name (entries_shown o.name (first_name ns) o.dictionary)) (read.first_name (results_named (parts_in o) ns))) [] ≡ o.name
+          → cond (has_name (listed_of o.kind)) (name_or (given_name (entries_shown o.name (first_name ns) o.dictionary))
+          (read.first_name (results_named (parts_in o) ns))) [] ≡ o.name
       go false h =
-          cond-false (has_name (listed_of o.kind)) (name_or (given_name (entries_shown o.name (first_name ns) o.dictionary)) (read.first_name (results_named (parts_in o) ns))) [] h
+          cond-false (has_name (listed_of o.kind)) (name_or (given_name (entries_shown o.name (first_name ns) o.dictionary))
+          (read.first_name (results_named (parts_in o) ns))) [] h
           ∙ sym (p.nameless h)
       go true h =
           let k = named_kind o.kind o.types o.name (length o.results) h in
           let names : results_named (parts_in o) ns ≡ ResultNames.names (first_name ns) [] =
           ap (λ b. cond b (ResultNames.pack (first_name ns) (length o.results)) (listed_names (firsts (name_count (parts_in o)) ns))) k.1
           ∙ ap (λ ws. listed_names (firsts (length ws) ns)) k.0 in
-          cond-true (has_name (listed_of o.kind)) (name_or (given_name (entries_shown o.name (first_name ns) o.dictionary)) (read.first_name (results_named (parts_in o) ns))) [] h
+          cond-true (has_name (listed_of o.kind)) (name_or (given_name (entries_shown o.name (first_name ns) o.dictionary))
+          (read.first_name (results_named (parts_in o) ns))) [] h
           ∙ ap (λ x. name_or (given_name (entries_shown o.name (first_name ns) o.dictionary)) x) (first_own (results_named (parts_in o) ns) names)
           ∙ own_again o.name (first_name ns) o.dictionary (none_given (listed_of o.kind) o.dictionary h p.dictionary.kept)
           (suits_own o.name ns (subst (λ ws. Suits ws ns) k.0 suits))

@@ -55,8 +55,10 @@ same_body m =
     let p = port_meanings m.ports in
     let all : meanings (unplaced_module m) ≡ meanings m = ap (λ ds. with_definitions p ds) (same_definitions 0 m.operations) in
     completed_without (unplaced_module m) (operations_from (meanings (unplaced_module m)) p 0 (map unplaced m.operations))
-    ∙ ap (λ b. completed_by b (has_outputs m.ports) (map op_without_place (operations_from (meanings (unplaced_module m)) p 0 (map unplaced m.operations)))) (same_end m.operations)
-    ∙ ap (λ x. completed_by (ends_with_output m.operations) (has_outputs m.ports) (map op_without_place (operations_from x p 0 (map unplaced m.operations)))) all
+    ∙ ap (λ b. completed_by b (has_outputs m.ports) (map op_without_place
+    (operations_from (meanings (unplaced_module m)) p 0 (map unplaced m.operations)))) (same_end m.operations)
+    ∙ ap (λ x. completed_by (ends_with_output m.operations) (has_outputs m.ports)
+    (map op_without_place (operations_from x p 0 (map unplaced m.operations)))) all
     ∙ ap (λ l. completed_by (ends_with_output m.operations) (has_outputs m.ports) l) (same_operations (meanings m) p 0 m.operations)
     ∙ sym (completed_without m (operations_from (meanings m) p 0 m.operations))
 
@@ -130,7 +132,25 @@ module_placed m ts h =
         h.1,
         h.2,
         (n.0, n.1, (n.2.0, n.2.1, refl)),
-        (b.0, b.1, b.2, b.3, (c.0, c.1, c.2, c.3, (d.0, d.1, d.2, d.3, (e.0, e.1, e.2, e.3, (f.0, f.1, f.2, f.3, (g.0, g.1, g.2, os.phrase, (z.0, z.1, (z.2.0, refl)))))))),
+        (
+          b.0,
+          b.1,
+          b.2,
+          b.3,
+          (
+            c.0,
+            c.1,
+            c.2,
+            c.3,
+            (
+              d.0,
+              d.1,
+              d.2,
+              d.3,
+              (e.0, e.1, e.2, e.3, (f.0, f.1, f.2, f.3, (g.0, g.1, g.2, os.phrase, (z.0, z.1, (z.2.0, refl))))),
+            ),
+          ),
+        ),
       );
       same = ap (λ l. record m { operations = l; place = start_place; close = start_place }) os.same;
     }

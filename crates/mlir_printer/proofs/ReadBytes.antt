@@ -113,7 +113,8 @@ hex_small b = digit (is_digit b) refl
     low true h = let p = leb-true b 102 (and_parts (nat_le 97 b) (nat_le b 102) h).1 in omega (arith, p)
     low false h = high (nat_le 65 b && nat_le b 70) refl
 
-    digit : (t : Bool) → is_digit b ≡ t → cond t (b - 48) (cond (nat_le 97 b && nat_le b 102) (b - 87) (cond (nat_le 65 b && nat_le b 70) (b - 55) 0)) < 16
+    digit : (t : Bool) → is_digit b ≡ t
+        → cond t (b - 48) (cond (nat_le 97 b && nat_le b 102) (b - 87) (cond (nat_le 65 b && nat_le b 70) (b - 55) 0)) < 16
     digit true h = let p = leb-true b 57 (and_parts (nat_le 48 b) (nat_le b 57) h).1 in omega (arith, p)
     digit false h = low (nat_le 97 b && nat_le b 102) refl
 
@@ -129,19 +130,23 @@ decoded_bytes : (p : Pending) (bs : List ℕ) → AreBytes bs → AreBytes (deco
 decoded_bytes p [] h = tt
 decoded_bytes Nothing (b ∷ bs) h = go (b == 92) (decoded_bytes Backslash bs h.1) (decoded_bytes Nothing bs h.1)
   where
-    go : (t : Bool) → AreBytes (decoded Backslash bs) → AreBytes (decoded Nothing bs) → AreBytes (cond t (decoded Backslash bs) (b ∷ decoded Nothing bs))
+    go : (t : Bool) → AreBytes (decoded Backslash bs) → AreBytes (decoded Nothing bs)
+        → AreBytes (cond t (decoded Backslash bs) (b ∷ decoded Nothing bs))
     go true x y = x
     go false x y = (h.0, y)
 decoded_bytes Backslash (b ∷ bs) h = go (is_hex_digit b) (decoded_bytes (HighDigit b) bs h.1) (decoded_bytes Nothing bs h.1)
   where
-    go : (t : Bool) → AreBytes (decoded (HighDigit b) bs) → AreBytes (decoded Nothing bs) → AreBytes (cond t (decoded (HighDigit b) bs) (escaped b ∷ decoded Nothing bs))
+    go : (t : Bool) → AreBytes (decoded (HighDigit b) bs) → AreBytes (decoded Nothing bs)
+        → AreBytes (cond t (decoded (HighDigit b) bs) (escaped b ∷ decoded Nothing bs))
     go true x y = x
     go false x y = (escaped_small b h.0, y)
 decoded_bytes (HighDigit high) (b ∷ bs) h = (let x = hex_small high in let y = hex_small b in omega (arith, x, y), decoded_bytes Nothing bs h.1)
 
 content_bytes : (k : TokenKind) (text : List ℕ) → AreBytes text → AreBytes (content_of k text)
-content_bytes kind.StringLiteral text h = decoded_bytes Nothing (take (length text - (1 + 1)) (drop 1 text)) (take_bytes (length text - (1 + 1)) (drop 1 text) (drop_bytes 1 text h))
-content_bytes kind.SymbolString text h = decoded_bytes Nothing (take (length text - (2 + 1)) (drop 2 text)) (take_bytes (length text - (2 + 1)) (drop 2 text) (drop_bytes 2 text h))
+content_bytes kind.StringLiteral text h = decoded_bytes Nothing (take (length text - (1 + 1)) (drop 1 text))
+    (take_bytes (length text - (1 + 1)) (drop 1 text) (drop_bytes 1 text h))
+content_bytes kind.SymbolString text h = decoded_bytes Nothing (take (length text - (2 + 1)) (drop 2 text))
+    (take_bytes (length text - (2 + 1)) (drop 2 text) (drop_bytes 2 text h))
 content_bytes kind.ValueName text h = drop_bytes 1 text h
 content_bytes kind.SymbolName text h = drop_bytes 1 text h
 content_bytes kind.ResultNumber text h = drop_bytes 1 text h
@@ -258,7 +263,8 @@ parts_read Part room part ls ts texts h =
     subst (λ (x : Literals). AreLiterals x room) (sym h.1)
     (literals_are room h.0 (each_read Part (λ (l : Literal). IsLiteral l room) part h.0 c.0 v.0 c.3))
 
-leaf_read : (room : ℕ) (Lists : Literals → Phrase) (z : ℤ) (t : HwType) (ts : List Lexeme) → AreTexts ts → LiteralWith Lists room (leaf z t) ts → IsLiteral (leaf z t) room
+leaf_read : (room : ℕ) (Lists : Literals → Phrase) (z : ℤ) (t : HwType) (ts : List Lexeme) → AreTexts ts → LiteralWith Lists room (leaf z t) ts
+    → IsLiteral (leaf z t) room
 leaf_read room Lists z t ts texts (inl h) =
     let s = parts_of ts h.0 h.1 h.2 texts in
     let r = h.4 in

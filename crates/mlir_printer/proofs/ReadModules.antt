@@ -39,7 +39,8 @@ use Rattle.mlir_printer.proofs.ReadOperations.{IsReadDictionary, kept_read, dict
 parts_count : (ts a b : List Lexeme) → ts ≡ a ++ b → length ts ≡ length a + length b
 parts_count ts a b e = ap length e ∙ length-append a b
 
-commas_few : {A : Type 0} (P : A → Phrase) → ((x : A) (ts : List Lexeme) → P x ts → 1 ≤ length ts) → (xs : List A) (ts : List Lexeme) → Commas P xs ts → length xs ≤ length ts
+commas_few : {A : Type 0} (P : A → Phrase) → ((x : A) (ts : List Lexeme) → P x ts → 1 ≤ length ts) → (xs : List A) (ts : List Lexeme) → Commas P xs ts
+    → length xs ≤ length ts
 commas_few P f [] ts h = omega arith
 commas_few P f (x ∷ []) ts h = let e = f x ts h in omega (arith, e)
 commas_few P f (x ∷ y ∷ xs) ts h =
@@ -192,7 +193,8 @@ op_few At o ts m earlier i small h =
     let said = kind_outputs o.name o.gathered.extra o.gathered.types in
     let x = operation_at m earlier i o in
     record {
-      wanted = wishes_few x.kind x.types x.name (length x.results) (length ts) (omega (arith, c1, c2, one)) (omega (arith, c1, c2, c3, c4, c5, c6, front, types, said));
+      wanted = wishes_few x.kind x.types x.name (length x.results) (length ts) (omega (arith, c1, c2, one))
+          (omega (arith, c1, c2, c3, c4, c5, c6, front, types, said));
       named = names_few o.results a.0 (omega (arith, c1, small)) a.3;
     }
 
@@ -263,7 +265,8 @@ abbrev IsReadPortText : PortText → Type 0
 IsReadPortText p = AreBytes p.name × IsAnyType p.type
 
 -- a port is called by a string, or as its value
-port_name_read : (name v : Name) (ts : List Lexeme) → AreTexts ts → AreBytes v → Either (Holding kind.StringLiteral name) (Where (name ≡ v) Nothing) ts → AreBytes name
+port_name_read : (name v : Name) (ts : List Lexeme) → AreTexts ts → AreBytes v
+    → Either (Holding kind.StringLiteral name) (Where (name ≡ v) Nothing) ts → AreBytes name
 port_name_read name v ts texts h (inl e) = held_bytes kind.StringLiteral name ts texts e
 port_name_read name v ts texts h (inr e) = subst AreBytes (sym e.0) h
 
@@ -322,7 +325,8 @@ attributes_read : (es : List Entry) (ts : List Lexeme) → AreTexts ts → Attri
 attributes_read es ts texts (inl h) = dictionary_read module_keys es h.1 (parts_of ts h.0 h.1 h.2 texts).1 h.4
 attributes_read es ts texts (inr h) = subst (IsReadDictionary module_keys) (sym h.0) (record { once = tt; each = tt })
 
-module_read : (At : Stands) (m : ModuleText) (ts : List Lexeme) → AreTexts ts → length ts < count_limit → ModulePhrase At m ts → IsReadModule (module_of m)
+module_read : (At : Stands) (m : ModuleText) (ts : List Lexeme) → AreTexts ts → length ts < count_limit → ModulePhrase At m ts
+    → IsReadModule (module_of m)
 module_read At m ts texts small h =
     let s1 = parts_of ts h.0 h.1 h.2 texts in
     let c1 = parts_count ts h.0 h.1 h.2 in
@@ -361,17 +365,35 @@ module_read At m ts texts small h =
       dictionary = kept_read listed.HwModule module_keys m.dictionary (attributes_read m.dictionary e.0 s5.0 e.3);
       operations = whole.each;
       named = whole.named;
-      few = omega (arith, length-append (port_wishes (module_of m).ports) (body_wishes (map parts_in (module_of m).body)), ports, port_tokens, wanted, c1, c2, c3, c4, c5, c6, c7, k1, k2, small);
+      few = omega (
+        arith,
+        length-append (port_wishes (module_of m).ports) (body_wishes (map parts_in (module_of m).body)),
+        ports,
+        port_tokens,
+        wanted,
+        c1,
+        c2,
+        c3,
+        c4,
+        c5,
+        c6,
+        c7,
+        k1,
+        k2,
+        small,
+      );
     }
 
-modules_read : (At : Stands) (ms : List ModuleText) (ts : List Lexeme) → AreTexts ts → length ts < count_limit → ModulesPhrase At ms ts → Each IsReadModule (design_of ms)
+modules_read : (At : Stands) (ms : List ModuleText) (ts : List Lexeme) → AreTexts ts → length ts < count_limit → ModulesPhrase At ms ts
+    → Each IsReadModule (design_of ms)
 modules_read At [] ts texts small h = tt
 modules_read At (m ∷ ms) ts texts small h =
     let s = parts_of ts h.0 h.1 h.2 texts in
     let c = parts_count ts h.0 h.1 h.2 in
     (module_read At m h.0 s.0 (omega (arith, c, small)) h.3, modules_read At ms h.1 s.1 (omega (arith, c, small)) h.4)
 
-file_read : (At : Stands) (ms : List ModuleText) (ts : List Lexeme) → AreTexts ts → length ts < count_limit → FilePhrase At ms ts → Each IsReadModule (design_of ms)
+file_read : (At : Stands) (ms : List ModuleText) (ts : List Lexeme) → AreTexts ts → length ts < count_limit → FilePhrase At ms ts
+    → Each IsReadModule (design_of ms)
 file_read At ms ts texts small (inl h) = modules_read At ms ts texts small h
 file_read At ms ts texts small (inr h) =
     let a = h.1 in

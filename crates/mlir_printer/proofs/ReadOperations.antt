@@ -35,7 +35,7 @@ use Rattle.mlir_printer.specs.Spellable.{Each, AreBytes, IsInteger, IsAnyType, I
 use Rattle.mlir_printer.specs.Printable.{AreInOrder, IsKeptDictionary, KeepsConstants, IsWritten, IsWrittenInstance}
 use Rattle.mlir_printer.proofs.DictionariesFit.{put_in_order, each_put}
 use Rattle.mlir_printer.proofs.ReadBytes.{AreTexts, parts_of, held_bytes, each_read, entry_read}
-use Rattle.mlir_printer.proofs.ReadPieces.{IsReadExtra, IsReadPart, pieces_read}
+use Rattle.mlir_printer.proofs.ReadPieces.{each_weaker, IsReadExtra, IsReadPart, pieces_read}
 
 -- ---- dictionaries
 
@@ -58,16 +58,14 @@ among_push key (m ∷ ns) n h = go (same_name m key) h (among_push key ns n)
     go true e r = cc
     go false e r = r e
 
-each_of : {A : Type 0} (P Q : A → Type 0) → ((x : A) → P x → Q x) → (xs : List A) → Each P xs → Each Q xs
-each_of P Q f [] h = tt
-each_of P Q f (x ∷ xs) h = (f x h.0, each_of P Q f xs h.1)
-
 once_apart : (earlier : List Name) (es : List Entry) → AreOnce earlier es → Each (λ (x : Entry). is_among x.key earlier ≡ false) es × AreApart es
 once_apart earlier [] h = (tt, tt)
 once_apart earlier (e ∷ es) h =
     let r = once_apart (earlier ++ e.key ∷ []) es h.1 in
-    let front = each_of (λ (x : Entry). is_among x.key (earlier ++ e.key ∷ []) ≡ false) (λ (x : Entry). is_among x.key earlier ≡ false) (λ x a. (among_push x.key earlier e.key a).0) es r.0 in
-    let apart = each_of (λ (x : Entry). is_among x.key (earlier ++ e.key ∷ []) ≡ false) (λ (x : Entry). same_name e.key x.key ≡ false) (λ x a. (among_push x.key earlier e.key a).1) es r.0 in
+    let front = each_weaker (λ (x : Entry). is_among x.key (earlier ++ e.key ∷ []) ≡ false) (λ (x : Entry). is_among x.key earlier ≡ false)
+    (λ x a. (among_push x.key earlier e.key a).0) es r.0 in
+    let apart = each_weaker (λ (x : Entry). is_among x.key (earlier ++ e.key ∷ []) ≡ false) (λ (x : Entry). same_name e.key x.key ≡ false)
+    (λ x a. (among_push x.key earlier e.key a).1) es r.0 in
     ((h.0, front), (apart, r.1))
 
 each_without : (P : Entry → Type 0) (test : Entry → Bool) (es : List Entry) → Each P es → Each P (without test es)
@@ -90,7 +88,8 @@ none_left : (test : Entry → Bool) (es : List Entry) → Each (λ (e : Entry). 
 none_left test [] = tt
 none_left test (e ∷ es) = go (test e) refl (none_left test es)
   where
-    go : (b : Bool) → test e ≡ b → Each (λ (e : Entry). test e ≡ false) (without test es) → Each (λ (e : Entry). test e ≡ false) (cond b (without test es) (e ∷ without test es))
+    go : (b : Bool) → test e ≡ b → Each (λ (e : Entry). test e ≡ false) (without test es)
+        → Each (λ (e : Entry). test e ≡ false) (cond b (without test es) (e ∷ without test es))
     go true h r = r
     go false h r = (h, r)
 
@@ -114,7 +113,8 @@ kept_read o strings es h = record {
   entries = each_sorted (IsEntry strings) (without (is_dropped o) es) (each_without (IsEntry strings) (is_dropped o) es h.each);
 }
 
-pub dictionary_read : (strings : List Name) (es : List Entry) (ts : List Lexeme) → AreTexts ts → DictionaryPhrase strings es ts → IsReadDictionary strings es
+pub dictionary_read : (strings : List Name) (es : List Entry) (ts : List Lexeme) → AreTexts ts → DictionaryPhrase strings es ts
+    → IsReadDictionary strings es
 dictionary_read strings es ts texts h =
     let b = h.1 in
     let s = parts_of ts b.0 b.1 b.2 texts in
@@ -122,7 +122,8 @@ dictionary_read strings es ts texts h =
     let u = parts_of b.1 c.0 c.1 c.2 s.1 in
     record { once = h.0; each = each_read (EntryPhrase strings) (IsEntry strings) (entry_read strings) es c.0 u.0 c.3 }
 
-maybe_read : (strings : List Name) (es : Option (List Entry)) (ts : List Lexeme) → AreTexts ts → MaybeDictionary strings es ts → IsReadDictionary strings (given_entries es)
+maybe_read : (strings : List Name) (es : Option (List Entry)) (ts : List Lexeme) → AreTexts ts → MaybeDictionary strings es ts
+    → IsReadDictionary strings (given_entries es)
 maybe_read strings None ts texts h = record { once = tt; each = tt }
 maybe_read strings (Some es) ts texts h = dictionary_read strings es ts texts h
 
@@ -243,7 +244,8 @@ text_bytes : (b : Bool) (v : Attribute) → IsValue b v → AreBytes (text_in v)
 text_bytes b (text_value text) h = h
 text_bytes b _ h = tt
 
-given_bytes : (strings : List Name) (es : List Entry) (other : Name) → Each (IsEntry strings) es → AreBytes other → AreBytes (name_or (given_name es) other)
+given_bytes : (strings : List Name) (es : List Entry) (other : Name) → Each (IsEntry strings) es → AreBytes other
+    → AreBytes (name_or (given_name es) other)
 given_bytes strings [] other h g = g
 given_bytes strings (e ∷ es) other h g = go (is_name_entry e) (given_bytes strings es other h.1 g)
   where
@@ -267,7 +269,8 @@ first_bytes (names n (m ∷ ns)) ts texts h =
     unless_bytes n (held_bytes kind.ValueName n c.0 (parts_of h.0 c.0 c.1 c.2 s.0).0 c.3)
 first_bytes (pack n k) ts texts h = unless_bytes n (held_bytes kind.ValueName n h.0 (parts_of ts h.0 h.1 h.2 texts).0 h.3)
 
-own_bytes : (o : Listed) (r : ResultNames) (strings : List Name) (es : List Entry) → AreBytes (read.first_name r) → Each (IsEntry strings) es → AreBytes (own_name_of o r es)
+own_bytes : (o : Listed) (r : ResultNames) (strings : List Name) (es : List Entry) → AreBytes (read.first_name r) → Each (IsEntry strings) es
+    → AreBytes (own_name_of o r es)
 own_bytes o r strings es h g = go (has_name o)
   where
     go : (b : Bool) → AreBytes (cond b (name_or (given_name es) (read.first_name r)) [])
@@ -297,7 +300,8 @@ record IsReadTail (strings : List Name) (g : Gathered) (es : List Entry) : Type 
   part : IsReadPart g
   dictionary : IsReadDictionary strings es
 
-form_read : (strings : List Name) (shape : Shape) (h : Gathered) (es : List Entry) (ts : List Lexeme) → AreTexts ts → FormPhrase strings shape h es ts → IsReadTail strings h es
+form_read : (strings : List Name) (shape : Shape) (h : Gathered) (es : List Entry) (ts : List Lexeme) → AreTexts ts → FormPhrase strings shape h es ts
+    → IsReadTail strings h es
 form_read strings shape h es ts texts f =
     let a = f.4 in
     let s1 = parts_of ts a.0 a.1 a.2 texts in

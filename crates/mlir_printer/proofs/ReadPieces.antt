@@ -39,7 +39,7 @@ each_map : {A B : Type 0} (f : A → B) (P : B → Type 0) (xs : List A) → Eac
 each_map f P [] h = tt
 each_map f P (x ∷ xs) h = (h.0, each_map f P xs h.1)
 
-each_weaker : {A : Type 0} (P Q : A → Type 0) → ((x : A) → P x → Q x) → (xs : List A) → Each P xs → Each Q xs
+pub each_weaker : {A : Type 0} (P Q : A → Type 0) → ((x : A) → P x → Q x) → (xs : List A) → Each P xs → Each Q xs
 each_weaker P Q f [] h = tt
 each_weaker P Q f (x ∷ xs) h = (f x h.0, each_weaker P Q f xs h.1)
 
@@ -132,10 +132,18 @@ piece_read piece.Reset g h ts texts r (inr i) = subst IsReadPart (sym i.0) r
 piece_read piece.SyncReset g h ts texts r (inl i) = reset_read g h ts r i
 piece_read piece.SyncReset g h ts texts r (inr i) = subst IsReadPart (sym i.0) r
 piece_read piece.Type g h ts texts r i =
-    subst IsReadPart (sym i.1) (record { types = each_append IsAnyType g.types (i.0 ∷ []) r.types (type_read most_open i.0 ts texts i.2, tt); extra = r.extra })
+    subst IsReadPart (sym i.1) (record {
+      types = each_append IsAnyType g.types (i.0 ∷ []) r.types
+          (type_read most_open i.0 ts texts i.2, tt);
+      extra = r.extra;
+    })
 piece_read piece.Types g h ts texts r i =
     subst IsReadPart (sym i.1)
-    (record { types = each_append IsAnyType g.types i.0 r.types (each_read (TypePhrase most_open) IsAnyType (type_read most_open) i.0 ts texts i.3); extra = r.extra })
+    (record {
+      types = each_append IsAnyType g.types i.0 r.types
+          (each_read (TypePhrase most_open) IsAnyType (type_read most_open) i.0 ts texts i.3);
+      extra = r.extra;
+    })
 
 pub pieces_read : (ps : List Piece) (g h : Gathered) (ts : List Lexeme) → AreTexts ts → IsReadPart g → PiecesPhrase ps g h ts → IsReadPart h
 pieces_read [] g h ts texts r i = subst IsReadPart (sym i.0) r

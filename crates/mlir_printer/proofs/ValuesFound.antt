@@ -17,7 +17,8 @@ use Rattle.mlir_printer.proofs.NamedDefinitions.{pack_defined, each_defined}
 
 -- ---- ports
 
-here_port : (m : Meanings) (j : ℕ) (n : Name) (ds : List Definition) → Finds m (port_definition j (Some n) ++ ds) → resolved m (said_operand (called n)) ≡ port j
+here_port : (m : Meanings) (j : ℕ) (n : Name) (ds : List Definition) → Finds m (port_definition j (Some n) ++ ds)
+    → resolved m (said_operand (called n)) ≡ port j
 here_port m j n ds f = ap (λ o. ref_in o 0) (f (record { name = n; defined = is_port j }) (inl refl))
 
 pub port_found : (m : Meanings) (ns : List Name) (ps : List Port) (first j : ℕ) (p : Port)
@@ -31,14 +32,16 @@ port_found m ns (q ∷ ps) first zero p f at input =
     go q.is_output out f ∙ ap (λ k. port k) z
   where
     go : (b : Bool) → b ≡ false
-        → Finds m (port_definition first (cond b None (Some (first_name ns))) ++ port_definitions (first + 1) (map said_port (ports_shown (drop (length (cond b [] (Some q.name ∷ []))) ns) ps)))
+        → Finds m (port_definition first (cond b None (Some (first_name ns))) ++ port_definitions (first + 1)
+        (map said_port (ports_shown (drop (length (cond b [] (Some q.name ∷ []))) ns) ps)))
         → resolved m (said_operand (cond b no_value (called (first_name ns)))) ≡ port first
     go true e g = cc
     go false e g = here_port m first (first_name ns) (port_definitions (first + 1) (map said_port (ports_shown (drop 1 ns) ps))) g
 port_found m ns (q ∷ ps) first (suc j) p f at input =
     let s : first + 1 + j ≡ first + suc j = omega arith in
     port_found m (drop (length (port_wish q)) ns) ps (first + 1) j p
-    (finds_right m (port_definition first (port_shown ns q).value) (port_definitions (first + 1) (map said_port (ports_shown (drop (length (port_wish q)) ns) ps))) f) at input
+    (finds_right m (port_definition first (port_shown ns q).value)
+    (port_definitions (first + 1) (map said_port (ports_shown (drop (length (port_wish q)) ns) ps))) f) at input
     ∙ ap (λ k. port k) s
 
 -- ---- results
@@ -46,11 +49,13 @@ port_found m ns (q ∷ ps) first (suc j) p f at input =
 names_among : (i from : ℕ) (n k : ℕ) (ns : List Name) → k < n
     → Among (record { name = first_name (drop k ns); defined = are_results i (from + k) 1 }) (names_from i from (firsts n ns))
 names_among i from zero k ns lt = absurd (omega (arith, lt))
-names_among i from (suc n) zero ns lt = let z : from + zero ≡ from = omega arith in inl (ap (λ j. record { name = first_name ns; defined = are_results i j 1 }) z)
+names_among i from (suc n) zero ns lt = let z : from + zero ≡ from = omega arith in inl
+    (ap (λ j. record { name = first_name ns; defined = are_results i j 1 }) z)
 names_among i from (suc n) (suc k) ns lt =
     let s : from + 1 + k ≡ from + suc k = omega arith in
     inr (subst (λ (d : Definition). Among d (names_from i (from + 1) (firsts n (drop 1 ns))))
-    (ap (λ l. record { name = first_name l; defined = are_results i (from + 1 + k) 1 }) (drop_next k ns) ∙ ap (λ j. record { name = first_name (drop (suc k) ns); defined = are_results i j 1 }) s)
+    (ap (λ l. record { name = first_name l; defined = are_results i (from + 1 + k) 1 }) (drop_next k ns) ∙ ap
+    (λ j. record { name = first_name (drop (suc k) ns); defined = are_results i j 1 }) s)
     (names_among i (from + 1) n k (drop 1 ns) (omega (arith, lt))))
   where
     drop_next : (k : ℕ) (ns : List Name) → drop k (drop 1 ns) ≡ drop (suc k) ns
@@ -75,7 +80,8 @@ result_at m i own k o ns f counts lt = go (is_pack o.kind (length o.results)) re
         let within : k < min (length o.results) own = let c = counts.counted in omega (arith, lt, c) in
         let z : 0 + k ≡ k = omega arith in
         let v : value_at o ns k ≡ record { name = first_name ns; number = Some k } =
-        ap (λ b. cond b (cond (nat_lt k (length o.results)) (record { name = first_name ns; number = Some k }) no_value) (cond (nat_lt k (name_count o)) (called (first_name (drop k ns))) no_value)) h
+        ap (λ b. cond b (cond (nat_lt k (length o.results)) (record { name = first_name ns; number = Some k }) no_value)
+        (cond (nat_lt k (name_count o)) (called (first_name (drop k ns))) no_value)) h
         ∙ ap (λ b. cond b (record { name = first_name ns; number = Some k }) no_value) (lt-ltb k (length o.results) lt) in
         ap (λ x. resolved m (said_operand x)) v
         ∙ ap (λ d. ref_in d k) (g (record { name = first_name ns; defined = are_results i 0 (min (length o.results) own) }) (inl refl))
@@ -86,7 +92,8 @@ result_at m i own k o ns f counts lt = go (is_pack o.kind (length o.results)) re
         let g : Finds m (names_from i 0 (firsts (name_count o) ns)) = subst (λ ds. Finds m ds) (each_defined i own o ns h) f in
         let z : 0 + k + 0 ≡ k = omega arith in
         let v : value_at o ns k ≡ called (first_name (drop k ns)) =
-        ap (λ b. cond b (cond (nat_lt k (length o.results)) (record { name = first_name ns; number = Some k }) no_value) (cond (nat_lt k (name_count o)) (called (first_name (drop k ns))) no_value)) h
+        ap (λ b. cond b (cond (nat_lt k (length o.results)) (record { name = first_name ns; number = Some k }) no_value)
+        (cond (nat_lt k (name_count o)) (called (first_name (drop k ns))) no_value)) h
         ∙ ap (λ b. cond b (called (first_name (drop k ns))) no_value) (lt-ltb k (name_count o) c) in
         ap (λ x. resolved m (said_operand x)) v
         ∙ ap (λ d. ref_in d 0) (g (record { name = first_name (drop k ns); defined = are_results i (0 + k) 1 }) (names_among i 0 (name_count o) k ns c))

@@ -134,7 +134,8 @@ defined_of ports os (port j) h = go (slice_get ports j) refl h
     go (Some q) e g = (q, e, input q.is_output q.type g)
 defined_of ports os (result j k) h = go (slice_get os j) refl h
   where
-    go : (q : Option Op) → slice_get os j ≡ q → is_some (bind q (λ (o : Op). result_type o k)) ≡ true → (o : Op) × (slice_get os j ≡ Some o) × (k < length o.results)
+    go : (q : Option Op) → slice_get os j ≡ q → is_some (bind q (λ (o : Op). result_type o k)) ≡ true
+        → (o : Op) × (slice_get os j ≡ Some o) × (k < length o.results)
     go None e g = cc
     go (Some o) e g = (o, e, slice_within (λ (r : OpResult). r.type) o.results k g)
 defined_of ports os undefined h = cc
@@ -150,7 +151,8 @@ all_defined ports os (r ∷ rs) h = go (is_some (type_in ports os r)) refl h (al
 
 -- ---- operations
 
-op_printable : (d : Design) (ports : List Port) (whole : List Op) (last : Bool) (o : Op) → op_cause d ports whole last o ≡ None → IsReadOp o → o.named < count_limit
+op_printable : (d : Design) (ports : List Port) (whole : List Op) (last : Bool) (o : Op) → op_cause d ports whole last o ≡ None → IsReadOp o
+    → o.named < count_limit
     → IsPrintableOp ports whole o
 op_printable d ports whole last o h read named =
     let a = or_none (value_cause ports whole o) _ h in
@@ -165,7 +167,8 @@ op_printable d ports whole last o h read named =
     let count : length o.results ≡ result_count o.kind o.types = sym (length-map o.results (λ (r : OpResult). r.type)) ∙ right.results in
     let written = counts_written o.kind o.types (length xs) right.operands right.types in
     let ts = result_types o.kind o.types (length o.operands) in
-    let size : length (marked_results ts read.again) ≡ length ts = sym (ap length read.results) ∙ count ∙ sym (types_counted o.kind o.types (length o.operands)) in
+    let size : length (marked_results ts read.again) ≡ length ts = sym (ap length read.results) ∙ count ∙ sym
+    (types_counted o.kind o.types (length o.operands)) in
     let some : o.named ≡ length o.results = right.names ∙ sym count in
     record {
       defined = all_defined ports whole o.operands known;
@@ -188,7 +191,8 @@ abbrev OutputsLast : List Op → Type 0
 OutputsLast [] = ⊤
 OutputsLast (o ∷ os) = ((is_output_op o && not (is_empty os)) ≡ false) × OutputsLast os
 
-last_output_op : (d : Design) (ports : List Port) (whole : List Op) (last : Bool) (o : Op) → op_cause d ports whole last o ≡ None → (is_output_op o && not last) ≡ false
+last_output_op : (d : Design) (ports : List Port) (whole : List Op) (last : Bool) (o : Op) → op_cause d ports whole last o ≡ None
+    → (is_output_op o && not last) ≡ false
 last_output_op d ports whole last o h =
     let a = or_none (value_cause ports whole o) _ h in
     let b = or_none (alone_cause ports whole o) _ a.1 in
@@ -196,7 +200,8 @@ last_output_op d ports whole last o h =
     let e = or_none _ _ c.1 in
     when_none (is_output_op o && not last) _ e.1
 
-body_printable : (d : Design) (ports : List Port) (whole os : List Op) → body_fault d ports whole os ≡ None → Each IsReadOp os → Each (λ (o : Op). o.named < count_limit) os
+body_printable : (d : Design) (ports : List Port) (whole os : List Op) → body_fault d ports whole os ≡ None → Each IsReadOp os
+    → Each (λ (o : Op). o.named < count_limit) os
     → Each (IsPrintableOp ports whole) os × OutputsLast os
 body_printable d ports whole [] h read named = (tt, tt)
 body_printable d ports whole (o ∷ os) h read named =
@@ -214,7 +219,8 @@ ends_so (o ∷ []) h l = go (is_output_op o) h
     go false e = cc
 ends_so (o ∷ p ∷ os) h l = go (is_output_op o) refl h l.0 (λ e. ends_so (p ∷ os) e l.1)
   where
-    go : (b : Bool) → is_output_op o ≡ b → cond b true (has_output (p ∷ os)) ≡ true → (b && true) ≡ false → (has_output (p ∷ os) ≡ true → EndsWithOutput (p ∷ os))
+    go : (b : Bool) → is_output_op o ≡ b → cond b true (has_output (p ∷ os)) ≡ true → (b && true) ≡ false
+        → (has_output (p ∷ os) ≡ true → EndsWithOutput (p ∷ os))
         → (is_output_op o ≡ false) × EndsWithOutput (p ∷ os)
     go true e g f r = cc
     go false e g f r = (e, r g)
@@ -255,14 +261,16 @@ modules_printable d n (m ∷ ms) h read =
     (module_printable d n m a.0 read.0, modules_printable d (suc n) ms a.1 read.1)
 
 -- a design that bytes spell and that is not refused can be printed
-pub spelled_designs_are_printable : (source : List ℕ) (d : Design) → AreBytes source → length source < count_limit → Spells source d → first_fault d ≡ None → Printable d
+pub spelled_designs_are_printable : (source : List ℕ) (d : Design) → AreBytes source → length source < count_limit → Spells source d
+    → first_fault d ≡ None → Printable d
 spelled_designs_are_printable source d bytes small h none = modules_printable d 0 d none (spelled_is_read source d bytes small h)
 
 -- what is read is short
 read_small : (source : List ℕ) (d : Design) → read source ≡ Ok d → length source < count_limit
 read_small source d h = go (nat_lt text_limit (length source)) refl h
   where
-    go : (b : Bool) → nat_lt text_limit (length source) ≡ b → cond b (Err (refusal start_place op.File TooLong)) (design_read (file_text (stream_of source))) ≡ Ok d
+    go : (b : Bool) → nat_lt text_limit (length source) ≡ b
+        → cond b (Err (refusal start_place op.File TooLong)) (design_read (file_text (stream_of source))) ≡ Ok d
         → length source < count_limit
     go true e g = cc
     go false e g = let le = ltb-false text_limit (length source) e in omega (arith, le)

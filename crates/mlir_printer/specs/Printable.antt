@@ -56,15 +56,20 @@ KeepsConstants (constant z) ts = kept_by_first ts z ≡ z
 KeepsConstants (aggregate_constant ls) ts = kept_literals ls ≡ ls
 KeepsConstants _ ts = ⊤
 
--- numbers are below the limits of the text, names are bytes
+-- the names that an instance has
 pub record IsWrittenInstance (i : Instance) : Type 0 where
+  -- its own name is bytes
   pub name : AreBytes i.name
+  -- so is its inner symbol, where it has one
   pub inner : MayBeBytes i.inner_symbol
+  -- so is the symbol of its module
   pub symbol : AreBytes i.symbol
+  -- so are the names of the inputs
   pub inputs : Each AreBytes i.inputs
+  -- so are the names of the outputs
   pub outputs : Each AreBytes i.outputs
 
--- what a kind says besides operands and types can be written
+-- what a kind says besides operands and types can be written: numbers are below the limits of the text, names are bytes
 abbrev pub IsWritten : Kind → Type 0
 IsWritten (extract low) = low < count_limit
 IsWritten (constant z) = IsInteger z
@@ -124,35 +129,44 @@ types_written kind n = 1
 
 -- ---- operations
 
+-- an operation of a body of a module with these ports
 pub record IsPrintableOp (ports : List Port) (body : List Op) (o : Op) : Type 0 where
   -- each operand is a value of the body
   pub defined : Each (IsDefined ports body) o.operands
-  -- there are as many operands and types as the text has
+  -- there are as many operands as the text has
   pub operands : length o.operands ≡ operands_written o.kind (length o.operands)
+  -- there are as many types as the text has
   pub types : length o.types ≡ types_written o.kind (length o.operands)
   -- the types can be read
   pub readable : Each IsAnyType o.types
   -- the results are those that the kind and the types give, and no name was defined earlier
   pub results : o.results ≡ map settled_result (result_types o.kind o.types (length o.operands))
-  -- each result is named, and a pack has fewer than its limit
+  -- each result is named
   pub named : o.named ≡ length o.results
+  -- a pack has fewer results than its limit
   pub few : is_pack o.kind (length o.results) ≡ true → length o.results < count_limit
-  -- constants are kept as their bits, and what is said can be written
+  -- constants are kept as their bits
   pub kept : KeepsConstants o.kind o.types
+  -- what is said besides operands and types can be written
   pub written : IsWritten o.kind
   -- only registers and wires have a name of their own
   pub nameless : has_name (listed_of o.kind) ≡ false → o.name ≡ []
+  -- that name is bytes
   pub name : AreBytes o.name
+  -- the dictionary is one that is kept, without the own name
   pub dictionary : IsKeptDictionary (listed_of o.kind) (string_keys (listed_of o.kind)) o.dictionary
   -- `bin` stands only where it may
   pub bin : o.bin ≡ true → takes_bin (listed_of o.kind) ≡ true
 
 -- ---- modules
 
+-- a port
 pub record IsPrintablePort (p : Port) : Type 0 where
   -- its name was not defined earlier
   pub first : p.again ≡ false
+  -- its name is bytes
   pub name : AreBytes p.name
+  -- its type can be read
   pub type : IsAnyType p.type
 
 -- a body ends with its one output
@@ -161,11 +175,17 @@ EndsWithOutput [] = ⊥
 EndsWithOutput (o ∷ []) = is_output_op o ≡ true
 EndsWithOutput (o ∷ p ∷ os) = (is_output_op o ≡ false) × EndsWithOutput (p ∷ os)
 
+-- a module
 pub record IsPrintableModule (m : Module) : Type 0 where
+  -- its symbol is bytes
   pub symbol : AreBytes m.symbol
+  -- each port can be printed
   pub ports : Each IsPrintablePort m.ports
+  -- the dictionary is one that is kept
   pub dictionary : IsKeptDictionary listed.HwModule module_keys m.dictionary
+  -- each operation can be printed
   pub operations : Each (IsPrintableOp m.ports m.body) m.body
+  -- the body ends with its one output
   pub ends : EndsWithOutput m.body
   -- fewer than 2^64 names are given
   pub few : length (port_wishes m.ports ++ body_wishes (map parts_in m.body)) < 2 ^ 64
