@@ -1,12 +1,14 @@
 //! The text of a design.
 ghost use Rattle.std.specs.Prelude.{◌≡◌, ◌++◌, map, OnOk, IfOk};
-ghost use Rattle.ir_store.specs.Designs.{design_of};
+ghost use Rattle.ir_store.specs.Designs.{design_of, numbered_module};
+ghost use Rattle.op_verifier.specs.Answered.{modules_verified};
 ghost use Rattle.mlir_printer.specs.Modules.{modules_bytes};
 ghost use Rattle.mlir_printer.specs.Texts.{ir_text, modules_shown};
 
 use crate::modules::push_module;
 use io_edge::byte_text::Text;
 use ir_store::design::Design;
+use op_verifier::Verified;
 use std::alloc::{AllocError, Global};
 
 /// The text of a design: `module {`, its modules in order, and `}`. The error comes only for want of
@@ -20,6 +22,13 @@ pub fn design_text(alloc: Global, design: &Design) -> Result<Text, AllocError>
     push_modules(alloc, &mut out, design)?;
     out.push_bytes(b"}\n")?;
     Ok(out)
+}
+
+/// The text of a verified design. The error comes only for want of memory.
+pub fn print_design(alloc: Global, verified: &Verified) -> Result<Text, AllocError>
+    ensures { IfOk result (λ text. text ≡ ir_text (map numbered_module (modules_verified verified.now))) }
+{
+    design_text(alloc, verified.design())
 }
 
 // Adds the modules of a design.
