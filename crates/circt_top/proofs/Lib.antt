@@ -4,13 +4,17 @@ pub mod AdderSame
 pub mod AdderTree
 pub mod Answered
 pub mod Completed
-pub mod Digits
 pub mod LinesPrinted
 pub mod Names
 pub mod Printed
-pub mod ReadAgain
-pub mod Resolved
 pub mod Standing
 pub mod Translated
 mod Reported
 mod Ends
+pub mod ExportedModules
+pub mod Answers
+pub mod Within
+pub mod ExportedOps
+pub mod ExportedPorts
+pub mod ExportedDesigns
+pub mod Outcomes

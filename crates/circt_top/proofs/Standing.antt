@@ -1,5 +1,5 @@
 -- Tables of places, made from the last name on.
-use Rattle.std.proofs.Common.{◌≡◌, ℕ, zero, suc, ◌+◌, ◌<◌, Bool, true, false, cond, not, ◌&&◌, ◌||◌, List, [], ◌∷◌, map, length, get_or, drop, Option, Some, None, refl, sym, ◌∙◌, ap, subst, arith, Bor, drop-cons}
+use Rattle.std.proofs.Common.{◌≡◌, ℕ, zero, suc, ◌+◌, ◌<◌, Bool, true, false, cond, not, ◌&&◌, ◌||◌, List, [], ◌∷◌, map, length, get_or, drop, Option, Some, None, is_some, refl, sym, ◌∙◌, ap, subst, arith, Bor, drop-cons}
 use Rattle.hw_model.specs.Types.{Name}
 use Rattle.hw_model.specs.Design.{same_name}
 use Rattle.verilog_model.specs.Checks.{contains_name, are_distinct}
@@ -86,3 +86,21 @@ pub table_fails : (xs : List (Bor (List ℕ))) (i j : ℕ) (d : Bor (List ℕ)) 
 table_fails xs i j d old e lt places =
     fails xs j (get_or xs j d) old (drop-cons xs j d lt)
     (λ n. subst (λ k. old n ≡ place_from k (names_in (drop k xs)) n) e (places n))
+
+is_nothing : (o : Option ℕ) → (b : Bool) (k : ℕ) → o ≡ cond b (Some k) None → not (is_some o) ≡ not b
+is_nothing o true k e = ap (λ x. not (is_some x)) e
+is_nothing o false k e = ap (λ x. not (is_some x)) e
+
+-- a name is apart from others, of which none stands twice, where the table of their places does not have it
+pub apart_from : (ns : List Name) (n : Name) (place : Option ℕ) → are_distinct ns ≡ true → place ≡ place_from 0 ns n → not (is_some place) ≡ (not (contains_name n ns) && are_distinct ns)
+apart_from ns n place distinct e =
+    is_nothing place (contains_name n ns) (0 + place_of ns n) (e ∙ place_from-is 0 ns n) ∙ sym (ap (λ b. not (contains_name n ns) && b) distinct ∙ and_true (not (contains_name n ns)))
+  where
+    and_true : (b : Bool) → (b && true) ≡ b
+    and_true true = refl
+    and_true false = refl
+
+-- what is not there is none
+pub not_some : (o : Option ℕ) (b : Bool) → is_some o ≡ not b → b ≡ not (is_some o)
+not_some o true h = sym (ap not h)
+not_some o false h = sym (ap not h)

@@ -8,11 +8,11 @@ use Rattle.io_edge.specs.Bytes.{Appends, AppendsFront}
 use Rattle.io_edge.specs.Pieces.{pieces_of, Sends}
 use Rattle.diag.specs.Line.{refusal_line, shown_name}
 use Rattle.diag.specs.declared.refusal.Refusal.{Refusal}
-use Rattle.command_line.specs.Line.{Paths}
+use Rattle.command_line.specs.Line.{Command, Paths, line}
 use Rattle.command_line.specs.Usage.{usage_text}
 use Rattle.command_line.specs.declared.usage.UsageKind.{UsageKind}
 use Rattle.circt_top.specs.Outcome.{IsOutcome}
-use Rattle.circt_top.specs.Words.{said}
+use Rattle.circt_top.specs.Words.{paths_in}
 use Rattle.circt_top.specs.declared.status.Status.{Status}
 use Rattle.circt_top.specs.declared.status.Status.TheVariants.{Done, Refused, Usage, ReadFault, WriteFault, NoMemory}
 
@@ -84,17 +84,17 @@ module _ {S : Type 0} (puts : S → List ℕ → Bool → S → Type 0) (told : 
       Sends puts before (pieces_of 4096 text) false after × AppendsFront (told before) (told after) text × (written ≡ files)
   DeliversFront (Some name) before after files written text = (after ≡ before) × IsHalfWritten name files written text
 
--- a text is what is made of the input, where that is told
-abbrev pub IsMadeOf : Option (List ℕ) → List ℕ → Type 0
-IsMadeOf input text = (bytes : List ℕ) → input ≡ Some bytes → IsOutcome bytes (Ok text)
+-- a text is what the command makes of the input, where that is told
+abbrev pub IsMadeOf : Command → Option (List ℕ) → List ℕ → Type 0
+IsMadeOf c input text = (bytes : List ℕ) → input ≡ Some bytes → IsOutcome c bytes (Ok text)
 
--- a refusal is that of the input, where that is told
-abbrev pub IsRefusalOf : Option (List ℕ) → Refusal → Type 0
-IsRefusalOf input refusal = (bytes : List ℕ) → input ≡ Some bytes → IsOutcome bytes (Err refusal)
+-- a refusal is that of the input by the command, where that is told
+abbrev pub IsRefusalOf : Command → Option (List ℕ) → Refusal → Type 0
+IsRefusalOf c input refusal = (bytes : List ℕ) → input ≡ Some bytes → IsOutcome c bytes (Err refusal)
 
--- a fact about the files that the words name
-abbrev pub ForPaths : List Name → (Paths → Type 0) → Type 0
-ForPaths words P = (paths : Paths) → said words ≡ Ok paths → P paths
+-- a fact about the command that the words say
+abbrev pub ForCommand : List Name → (Command → Type 0) → Type 0
+ForCommand words P = (c : Command) → line words ≡ Ok c → P c
 
 -- ---- the line on what is wrong
 
@@ -152,6 +152,6 @@ OnFile _ P = Unit {0}
 pub record ReportsEnd {S : Type 0} (told : S → Option (List ℕ)) (faults : S → ℕ) (words : List Name) (files : Told) (status : Status) (before after : S) : Type 0 where
   pub paths : Paths
   pub source : List ℕ
-  pub named : OnFile status ((others : Paths) → said words ≡ Ok others → paths ≡ others)
+  pub named : OnFile status (ForCommand words (λ c. paths ≡ paths_in c))
   pub read : OnRefused status (λ refusal. IsReadOf (told_at paths.input files) source)
   pub reports : Reports told faults before after (line_of paths source status)

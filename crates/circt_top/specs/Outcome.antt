@@ -1,28 +1,36 @@
 -- What is made of the text of an input.
-use Rattle.std.specs.Prelude.{◌≡◌, ℕ, List, Result, Ok, Err}
+use Rattle.std.specs.Prelude.{◌≡◌, ℕ, ◌⊎◌, List, None, Result, Ok, Err}
 use Rattle.hw_model.specs.Design.{Design}
 use Rattle.diag.specs.declared.refusal.Refusal.{Refusal}
-use Rattle.diag.specs.declared.refusal.OpName.TheVariants.{File}
-use Rattle.diag.specs.declared.cause.Cause.TheVariants.{OutsideProfile}
-use Rattle.circt_top.specs.Translation.{Accepted, IsTranslation}
+use Rattle.command_line.specs.Line.{Command}
+use Rattle.command_line.specs.Line.Command.{opt, translate}
+use Rattle.circt_top.specs.Accepting.{Accepted, IsRefused}
+use Rattle.circt_top.specs.Exporting.{export_refusal}
+use Rattle.circt_top.specs.Reprint.{IsReprint}
+use Rattle.circt_top.specs.Translation.{IsTranslation, IsUnexported}
 use Rattle.circt_top.specs.declared.outcome.OutcomeFail.{OutcomeFail}
 use Rattle.circt_top.specs.declared.outcome.OutcomeFail.TheVariants.{Refused, NoMemory}
 
--- no design is accepted
-abbrev pub IsOutside : List ℕ → Type 0
-IsOutside bytes = (d : Design) → Accepted bytes d → ⊥
+-- a command makes this text of these bytes, or refuses them so
+abbrev pub IsOutcome : Command → List ℕ → Result (List ℕ) Refusal → Type 0
+IsOutcome (opt paths) bytes (Ok text) = IsReprint bytes text
+IsOutcome (opt paths) bytes (Err r) = IsRefused bytes r
+IsOutcome (translate paths) bytes (Ok text) = IsTranslation bytes text
+IsOutcome (translate paths) bytes (Err r) = IsRefused bytes r ⊎ IsUnexported bytes r
 
--- the one refusal: of the whole file, at its first byte
-abbrev pub outside_profile : Refusal
-outside_profile = record { file = 0; place = record { line = 1; col = 1 }; op = File; cause = OutsideProfile }
+-- a command takes this design
+abbrev pub Takes : Command → Design → Type 0
+Takes (opt paths) d = Unit {0}
+Takes (translate paths) d = export_refusal d ≡ None
 
--- these bytes are translated to this text, or refused so
-abbrev pub IsOutcome : List ℕ → Result (List ℕ) Refusal → Type 0
-IsOutcome bytes (Ok text) = IsTranslation bytes text
-IsOutcome bytes (Err refusal) = (refusal ≡ outside_profile) × IsOutside bytes
+-- the bytes are accepted, as a design that the command takes
+pub record IsAnswered (c : Command) (bytes : List ℕ) : Type 0 where
+  pub design : Design
+  pub accepted : Accepted bytes design
+  pub takes : Takes c design
 
 -- an answer is the outcome, or want of memory
-abbrev pub Gives : List ℕ → Result (List ℕ) OutcomeFail → Type 0
-Gives bytes (Ok text) = IsOutcome bytes (Ok text)
-Gives bytes (Err (Refused refusal)) = IsOutcome bytes (Err refusal)
-Gives bytes (Err NoMemory) = Unit {0}
+abbrev pub Gives : Command → List ℕ → Result (List ℕ) OutcomeFail → Type 0
+Gives c bytes (Ok text) = IsOutcome c bytes (Ok text)
+Gives c bytes (Err (Refused refusal)) = IsOutcome c bytes (Err refusal)
+Gives c bytes (Err NoMemory) = Unit {0}

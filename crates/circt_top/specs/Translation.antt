@@ -1,16 +1,11 @@
--- What `translate --export-verilog` does with a text: the design that it says, and a Verilog text that behaves as it.
-use Rattle.std.specs.Prelude.{◌≡◌, ℕ, List, map, Option, Some, None}
+-- What `translate --export-verilog` does with a text: a Verilog text that behaves as the design that it says.
+use Rattle.std.specs.Prelude.{◌≡◌, ℕ, List, map, Some, None}
+use Rattle.diag.specs.declared.refusal.Refusal.{Refusal}
 use Rattle.hw_model.specs.Types.{Name}
 use Rattle.hw_model.specs.Design.{Module, Design}
 use Rattle.verilog_model.specs.Behaviour.{Behaves, Shown, shown_of}
-use Rattle.circt_top.specs.Form.{Adder, IsForm, design_of}
-use Rattle.circt_top.specs.Printing.{verilog_text}
-
--- the bytes are accepted, and this is their design, places aside
-pub record Accepted (bytes : List ℕ) (d : Design) : Type 0 where
-  pub adder : Adder
-  pub form : IsForm bytes adder
-  pub design : d ≡ design_of adder
+use Rattle.circt_top.specs.Accepting.{Accepted}
+use Rattle.circt_top.specs.Exporting.{export_refusal, export_text}
 
 -- names are legal as they stand, so each module and each port keeps its own
 abbrev pub name_kept : Module → Name
@@ -23,11 +18,13 @@ ports_kept m = map shown_of m.ports
 pub record IsTranslation (bytes text : List ℕ) : Type 0 where
   pub design : Design
   pub accepted : Accepted bytes design
+  pub exported : export_refusal design ≡ None
   pub behaves : Behaves text design name_kept ports_kept
   -- and it is laid out so
-  pub laid_out : text ≡ verilog_text accepted.adder
+  pub laid_out : text ≡ export_text design
 
--- what is answered for the bytes: their translation, or None where no adder is said
-abbrev pub IsAnswered : List ℕ → Option (List ℕ) → Type 0
-IsAnswered bytes (Some text) = IsTranslation bytes text
-IsAnswered bytes None = (a : Adder) → IsForm bytes a → ⊥
+-- the input is accepted, and this is the first header or operation that the export does not have
+pub record IsUnexported (bytes : List ℕ) (r : Refusal) : Type 0 where
+  pub design : Design
+  pub accepted : Accepted bytes design
+  pub missing : export_refusal design ≡ Some r

@@ -3,21 +3,29 @@
 //! [`run::run_circt`] is the whole program over any files and sinks.
 #![tactic(auto)]
 
-mod adder;
 mod delivery;
+mod exporting;
 mod form;
 #[cfg(test)]
-mod form_tests;
-mod lexer;
+mod opt_tests;
 mod outcome;
 mod port_names;
-mod reader;
 pub mod report;
 mod reserved;
 pub mod run;
+#[cfg(test)]
+mod size_tests;
 pub mod status;
 #[cfg(test)]
+mod syntax_tests;
+#[cfg(test)]
 mod tests;
-mod translation;
-mod widths;
+#[cfg(test)]
+mod translate_tests;
+#[cfg(test)]
+mod verdict_tests;
+#[cfg(test)]
+mod whole_design_tests;
+#[cfg(test)]
+mod word_tests;
 mod writer;

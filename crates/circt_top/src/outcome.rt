@@ -1,10 +1,27 @@
 //! What is made of the text of an input.
+ghost use Rattle.std.specs.Prelude.{◌≡◌, IfOk};
+ghost use Rattle.ir_store.specs.Designs.{design_of};
+ghost use Rattle.command_line.specs.Invocations.{command_of};
+ghost use Rattle.mlir_printer.specs.Spellable.{AreBytes};
+ghost use Rattle.circt_top.specs.Accepting.{Accepted};
+ghost use Rattle.circt_top.specs.Reprint.{IsReprint};
 ghost use Rattle.circt_top.specs.Outcome.{Gives};
+ghost use Rattle.circt_top.specs.Outcomes.{IsTaken, unread, unverified};
 
-use crate::translation::translate;
-use diag::cause::Cause;
-use diag::refusal::{OpName, Place, Refusal};
+use crate::exporting::exported;
+use command_line::invocation::Invocation;
+use diag::refusal::Refusal;
+use hw_model::{heights_are_acyclic, places_decide_nothing};
 use io_edge::byte_text::Text;
+use mlir_printer::design_text::print_design;
+use mlir_printer::laws::{
+    what_is_accepted_is_printable, what_is_printable_is_spelled, what_is_printed_is_read_again,
+};
+use mlir_reader::fail::ReadFail;
+use mlir_reader::read::read_design;
+use op_verifier::{
+    Verified, VerifyFail, accepted_designs_are_sound, places_decide_no_verdict, verify,
+};
 use std::alloc::{AllocError, Global};
 
 /// Why no text was made.
@@ -27,21 +44,79 @@ impl From<AllocError> for OutcomeFail {
     }
 }
 
-// The refusal of every text that is not of the first form.
-const OUTSIDE_PROFILE: Refusal = Refusal {
-    file: 0,
-    place: Place { line: 1, col: 1 },
-    op: OpName::File,
-    cause: Cause::OutsideProfile,
-};
-
-/// What is made of the text of an input: the text that it prints, or what is refused.
-pub fn outcome(alloc: Global, source: &[u8]) -> Result<Text, OutcomeFail>
-    ensures { Gives source.now result }
+/// What a command makes of the text of its input: the text that it prints, or what is refused.
+pub fn outcome(
+    alloc: Global,
+    invocation: &Invocation<'_>,
+    source: &[u8],
+) -> Result<Text, OutcomeFail>
+    ensures { Gives (command_of invocation.now) source.now result }
 {
-    match translate(alloc, source) {
-        Ok(Some(text)) => Ok(text),
-        Ok(None) => Err(OutcomeFail::Refused(OUTSIDE_PROFILE)),
-        Err(_) => Err(OutcomeFail::NoMemory),
+    let verified = match accepted(alloc, source) {
+        Ok(verified) => verified,
+        Err(fail) => return Err(fail),
+    };
+    match invocation {
+        Invocation::Opt(_) => Ok(reprinted(alloc, source, &verified)?),
+        Invocation::Translate(_) => exported(alloc, verified.design()),
+    }
+}
+
+/// The design that a text says, where nothing of it is refused.
+fn accepted(alloc: Global, source: &[u8]) -> Result<Verified, OutcomeFail>
+    ensures { IsTaken source.now result }
+{
+    let design = match read_design(alloc, source) {
+        Ok(design) => design,
+        Err(fail) => return Err(unread(fail)),
+    };
+    match verify(alloc, design) {
+        Ok(verified) => Ok(verified),
+        Err(fail) => Err(unverified(fail)),
+    }
+}
+
+/// Why no text is made of what is not read.
+fn unread(fail: ReadFail) -> OutcomeFail
+    ensures { result ≡ unread fail }
+{
+    match fail {
+        ReadFail::Refused(refusal) => OutcomeFail::Refused(refusal),
+        ReadFail::NoMemory => OutcomeFail::NoMemory,
+    }
+}
+
+/// Why no text is made of what is not verified.
+fn unverified(fail: VerifyFail) -> OutcomeFail
+    ensures { result ≡ unverified fail }
+{
+    match fail {
+        VerifyFail::Refused(refusal) => OutcomeFail::Refused(refusal),
+        VerifyFail::NoMemory => OutcomeFail::NoMemory,
+    }
+}
+
+/// The text of the accepted design that a text says.
+fn reprinted(alloc: Global, source: &[u8], verified: &Verified) -> Result<Text, AllocError>
+    requires { Accepted source.now (design_of verified.now.design) }
+    ensures { IfOk result (IsReprint source.now) }
+{
+    what_is_accepted_is_printable();
+    what_is_printable_is_spelled();
+    what_is_printed_is_read_again();
+    accepted_designs_are_sound();
+    places_decide_no_verdict();
+    heights_are_acyclic();
+    places_decide_nothing();
+    are_bytes(source);
+    print_design(alloc, verified)
+}
+
+/// Does nothing. Its clause says that bytes are numbers below 256.
+fn are_bytes(bytes: &[u8])
+    ensures { AreBytes bytes.now }
+{
+    for byte in bytes {
+        let _ = *byte;
     }
 }

@@ -1,26 +1,29 @@
 //! The names of a module: which are plain, and where each stands.
-ghost use Rattle.std.specs.Prelude.{◌≡◌, ◌↔◌, ◌||◌, ℕ, cond, Some, None, List, map, IfOk, OnOk, IsTrue};
+ghost use Rattle.std.specs.Prelude.{◌≡◌, ◌↔◌, ◌||◌, ℕ, cond, Some, None, List, ◌∷◌, map, IfOk, OnOk, IsTrue};
 ghost use Rattle.hw_model.specs.Design.{same_name};
 ghost use Rattle.verilog_model.specs.Tokens.{is_name_start, is_digit};
 ghost use Rattle.verilog_model.specs.Numerals.{all_bytes};
-ghost use Rattle.verilog_model.specs.Checks.{starts_name};
-ghost use Rattle.circt_top.specs.Form.{is_suffix, is_plain, all_plain};
+ghost use Rattle.verilog_model.specs.Checks.{starts_name, are_distinct};
+ghost use Rattle.circt_top.specs.Form.{is_plain, all_plain};
+ghost use Rattle.circt_top.specs.Exporting.{are_names};
 ghost use Rattle.circt_top.specs.Places.{place_in, IsTableOf};
 
-use crate::lexer::{is_digit, is_letter};
 use crate::reserved::is_reserved;
-use crate::widths::all_digits;
 use std::alloc::{AllocError, Global};
 use std::collections::HashMap;
 
-/// Whether a value may have a name: digits alone, or no digit first.
-pub fn is_suffix(name: &[u8]) -> bool
-    ensures { result ≡ is_suffix name.now }
+/// Whether a byte is a letter or `_`.
+fn is_letter(byte: u8) -> bool
+    ensures { result ≡ is_name_start byte }
 {
-    match name {
-        [] => false,
-        [first, rest @ ..] => !is_digit(*first) || all_digits(rest),
-    }
+    (b'a' <= byte && byte <= b'z') || ((b'A' <= byte && byte <= b'Z') || byte == b'_')
+}
+
+/// Whether a byte is a digit.
+fn is_digit(byte: u8) -> bool
+    ensures { result ≡ is_digit byte }
+{
+    b'0' <= byte && byte <= b'9'
 }
 
 /// Whether each byte is a letter, a digit or `_`.
@@ -46,7 +49,7 @@ fn starts_name(name: &[u8]) -> bool
 }
 
 /// Whether a name goes into Verilog as it is: letters, digits and `_`, no digit first, neither reserved nor `_GEN`.
-pub fn is_plain(name: &[u8]) -> bool
+fn is_plain(name: &[u8]) -> bool
     ensures { result ≡ is_plain name.now }
 {
     (starts_name(name) && all_plain_bytes(name))
@@ -54,7 +57,7 @@ pub fn is_plain(name: &[u8]) -> bool
 }
 
 /// Whether each of these names is plain.
-pub fn all_plain(names: &[&[u8]]) -> bool
+fn all_plain(names: &[&[u8]]) -> bool
     ensures { result ≡ all_plain (map (λ n. n.now) names.now) }
 {
     for name in names {
@@ -67,13 +70,13 @@ pub fn all_plain(names: &[&[u8]]) -> bool
 
 /// Where each of some names stands.
 #[derive(Drop)]
-pub struct Places<'s> {
+struct Places<'s> {
     by_name: HashMap<&'s [u8], usize>,
 }
 
 impl<'s> Places<'s> {
     /// The place of a name, or `None` where it does not stand.
-    pub fn find(&self, name: &'s [u8]) -> Option<usize>
+    fn find(&self, name: &'s [u8]) -> Option<usize>
         ensures { result ≡ place_in self.now name.now }
     {
         self.by_name.get(name).copied()
@@ -94,7 +97,7 @@ impl<'s> Places<'s> {
 /// The places of names; `None` where one stands twice.
 ///
 /// The error comes only for want of memory.
-pub fn places_of<'s>(alloc: Global, names: &[&'s [u8]]) -> Result<Option<Places<'s>>, AllocError>
+fn places_of<'s>(alloc: Global, names: &[&'s [u8]]) -> Result<Option<Places<'s>>, AllocError>
     ensures { IfOk result (IsTableOf (map (λ n. n.now) names.now)) }
 {
     let by_name = HashMap::with_capacity(alloc, names.len())?;
@@ -105,4 +108,30 @@ pub fn places_of<'s>(alloc: Global, names: &[&'s [u8]]) -> Result<Option<Places<
         }
     }
     Ok(Some(places))
+}
+
+/// Whether none of these names stands twice.
+fn are_apart<'n>(alloc: Global, inputs: &[&'n [u8]], output: &'n [u8]) -> Result<bool, AllocError>
+    ensures { IfOk result (λ apart. apart ≡ are_distinct (output.now ∷ map (λ n. n.now) inputs.now)) }
+{
+    match places_of(alloc, inputs)? {
+        Some(places) => Ok(places.find(output).is_none()),
+        None => Ok(false),
+    }
+}
+
+/// Whether the names of a module and of its ports go into Verilog as they are, and no two ports have one.
+///
+/// The error comes only for want of memory.
+pub fn are_names<'n>(
+    alloc: Global,
+    symbol: &[u8],
+    inputs: &[&'n [u8]],
+    output: &'n [u8],
+) -> Result<bool, AllocError>
+    ensures { IfOk result (λ fit. fit ≡ are_names symbol.now (map (λ n. n.now) inputs.now) output.now) }
+{
+    let plain = is_plain(symbol) && (is_plain(output) && all_plain(inputs));
+    let apart = are_apart(alloc, inputs, output)?;
+    Ok(plain && apart)
 }

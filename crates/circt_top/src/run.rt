@@ -1,16 +1,13 @@
 //! The top call.
 ghost use Rattle.std.specs.Prelude.{◌≡◌, ℕ, List, [], Some, None, Ok, Err, map, string_bytes, option_map};
 ghost use Rattle.io_edge.specs.Faults.{HasRisen};
-ghost use Rattle.hw_model.specs.Design.{Design};
-ghost use Rattle.diag.specs.Line.{IsWithin};
-ghost use Rattle.command_line.specs.Line.{parsed};
-ghost use Rattle.command_line.specs.Invocations.{paths_of};
-ghost use Rattle.circt_top.specs.Words.{said, answered, fault_of};
-ghost use Rattle.circt_top.specs.Outcome.{IsOutcome, IsOutside};
-ghost use Rattle.circt_top.specs.Translation.{Accepted};
+ghost use Rattle.command_line.specs.Line.{line};
+ghost use Rattle.command_line.specs.Invocations.{command_of, paths_of as files_of};
+ghost use Rattle.circt_top.specs.Words.{input_of, output_of, paths_in, paths_named, fault_of};
+ghost use Rattle.circt_top.specs.Outcome.{IsOutcome, IsAnswered};
 ghost use Rattle.circt_top.specs.Delivery.{HasOutputFault};
-ghost use Rattle.circt_top.specs.Answer.{told_at, usage_of, IsReadOf, IsUsage, OnRefused, OnReadFault, OnWriteFault, OnDone, Unwritten, ForPaths, IsMadeOf, IsRefusalOf, Delivers, DeliversFront, IsDoneOrNoMemory, IsRefusedOrNoMemory, line_of, Reports, ReportsEnd};
-ghost use Rattle.circt_top.specs.Runs.{SaysPaths, IsWorked, unread};
+ghost use Rattle.circt_top.specs.Answer.{told_at, usage_of, IsReadOf, IsUsage, OnRefused, OnReadFault, OnWriteFault, OnDone, Unwritten, ForCommand, IsMadeOf, IsRefusalOf, Delivers, DeliversFront, IsDoneOrNoMemory, IsRefusedOrNoMemory, line_of, Reports, ReportsEnd};
+ghost use Rattle.circt_top.specs.Runs.{IsWorked, unread};
 
 use crate::delivery::{Delivery, deliver};
 use crate::outcome::{OutcomeFail, outcome};
@@ -31,8 +28,9 @@ pub const READ_LIMIT: u64 = 67_108_865;
 /// standard input), the output goes to `out` or to the file of `-o`, and one line on what is wrong
 /// goes to `err`.
 ///
-/// `translate [FILE] --export-verilog [-o FILE]` reads FILE and prints its Verilog. All other words
-/// are answered by [`Status::Usage`]. A fault of `err` changes no status.
+/// `opt [FILE] [-o FILE]` reads FILE and prints its design as MLIR text, and
+/// `translate [FILE] --export-verilog [-o FILE]` prints it as Verilog. All other words are answered
+/// by [`Status::Usage`]. A fault of `err` changes no status.
 pub fn run_circt<R: Threads + Sync, F: Files, O: Sink, E: Sink>(
     rt: &R,
     alloc: Global,
@@ -42,18 +40,18 @@ pub fn run_circt<R: Threads + Sync, F: Files, O: Sink, E: Sink>(
     err: &mut E,
 ) -> Status
     ensures usage { IsUsage result (fault_of (map string_bytes words.now)) }
-    ensures refused { OnRefused result (λ r. ForPaths (map string_bytes words.now) (λ p. IsRefusalOf (told_at p.input (F.files files.old)) r)) }
-    ensures read_fault { OnReadFault result (ForPaths (map string_bytes words.now) (λ p. HasRisen (F.read_faults files.old p.input) (F.read_faults files.new p.input))) }
-    ensures write_fault { OnWriteFault result (ForPaths (map string_bytes words.now) (λ p. HasOutputFault p.output (O.faults out.old) (O.faults out.new) (F.write_faults files.old) (F.write_faults files.new))) }
+    ensures refused { OnRefused result (λ r. ForCommand (map string_bytes words.now) (λ c. IsRefusalOf c (told_at (input_of c) (F.files files.old)) r)) }
+    ensures read_fault { OnReadFault result (ForCommand (map string_bytes words.now) (λ c. HasRisen (F.read_faults files.old (input_of c)) (F.read_faults files.new (input_of c)))) }
+    ensures write_fault { OnWriteFault result (ForCommand (map string_bytes words.now) (λ c. HasOutputFault (output_of c) (O.faults out.old) (O.faults out.new) (F.write_faults files.old) (F.write_faults files.new))) }
     ensures unwritten { Unwritten result ((out.new ≡ out.old) × (F.files files.new ≡ F.files files.old)) }
-    ensures done { OnDone result (ForPaths (map string_bytes words.now) (λ p. (text : List ℕ) × Delivers O.puts O.told p.output out.old out.new (F.files files.old) (F.files files.new) text × IsMadeOf (told_at p.input (F.files files.old)) text)) }
-    ensures front { OnWriteFault result (ForPaths (map string_bytes words.now) (λ p. (text : List ℕ) × DeliversFront O.puts O.told p.output out.old out.new (F.files files.old) (F.files files.new) text × IsMadeOf (told_at p.input (F.files files.old)) text)) }
-    ensures complete { (p : _) → said (map string_bytes words.now) ≡ Ok p → (bytes : List ℕ) → told_at p.input (F.files files.old) ≡ Some bytes → (d : Design) → Accepted bytes d
-        → ¬ HasRisen (F.read_faults files.old p.input) (F.read_faults files.new p.input)
-        → ¬ HasOutputFault p.output (O.faults out.old) (O.faults out.new) (F.write_faults files.old) (F.write_faults files.new)
+    ensures done { OnDone result (ForCommand (map string_bytes words.now) (λ c. (text : List ℕ) × Delivers O.puts O.told (output_of c) out.old out.new (F.files files.old) (F.files files.new) text × IsMadeOf c (told_at (input_of c) (F.files files.old)) text)) }
+    ensures front { OnWriteFault result (ForCommand (map string_bytes words.now) (λ c. (text : List ℕ) × DeliversFront O.puts O.told (output_of c) out.old out.new (F.files files.old) (F.files files.new) text × IsMadeOf c (told_at (input_of c) (F.files files.old)) text)) }
+    ensures complete { (c : _) → line (map string_bytes words.now) ≡ Ok c → (bytes : List ℕ) → told_at (input_of c) (F.files files.old) ≡ Some bytes → IsAnswered c bytes
+        → ¬ HasRisen (F.read_faults files.old (input_of c)) (F.read_faults files.new (input_of c))
+        → ¬ HasOutputFault (output_of c) (O.faults out.old) (O.faults out.new) (F.write_faults files.old) (F.write_faults files.new)
         → IsDoneOrNoMemory result }
-    ensures refusing { (p : _) → said (map string_bytes words.now) ≡ Ok p → (bytes : List ℕ) → told_at p.input (F.files files.old) ≡ Some bytes → IsOutside bytes
-        → ¬ HasRisen (F.read_faults files.old p.input) (F.read_faults files.new p.input)
+    ensures refusing { (c : _) → line (map string_bytes words.now) ≡ Ok c → (bytes : List ℕ) → told_at (input_of c) (F.files files.old) ≡ Some bytes → ¬ IsAnswered c bytes
+        → ¬ HasRisen (F.read_faults files.old (input_of c)) (F.read_faults files.new (input_of c))
         → IsRefusedOrNoMemory result }
     ensures report { ReportsEnd E.told E.faults (map string_bytes words.now) (F.files files.old) result err.old err.new }
 {
@@ -63,51 +61,57 @@ pub fn run_circt<R: Threads + Sync, F: Files, O: Sink, E: Sink>(
         Err(WordsFail::Reserved) => return stopped(err, Status::Usage(UsageKind::Words)),
         Err(WordsFail::NoMemory) => return stopped(err, Status::NoMemory),
     };
-    match paths_said(alloc, &regular) {
-        Ok(paths) => run_on(alloc, &paths, files, out, err),
+    match read_line(alloc, &regular) {
+        Ok(invocation) => run_on(alloc, &invocation, files, out, err),
         Err(LineFail::Usage(kind)) => stopped(err, Status::Usage(kind)),
         Err(LineFail::NoMemory) => stopped(err, Status::NoMemory),
     }
 }
 
-// The files of the command that regular words say.
-fn paths_said<'a>(alloc: Global, words: &'a [String]) -> Result<Paths<'a>, LineFail>
-    ensures { SaysPaths (answered (parsed (map string_bytes words.entry.now))) result }
+// The files that an invocation names.
+fn paths_of<'a>(invocation: &Invocation<'a>) -> Paths<'a>
+    ensures { files_of result ≡ paths_named invocation.now }
 {
-    match read_line(alloc, words) {
-        Ok(Invocation::Translate(paths)) => Ok(paths),
-        Ok(Invocation::Opt(_)) => Err(LineFail::Usage(UsageKind::Words)),
-        Err(fail) => Err(fail),
+    match invocation {
+        Invocation::Opt(paths) | Invocation::Translate(paths) => *paths,
     }
 }
 
 // The run on the files of a command.
 fn run_on<F: Files, O: Sink, E: Sink>(
     alloc: Global,
-    paths: &Paths<'_>,
+    invocation: &Invocation<'_>,
     files: &mut F,
     out: &mut O,
     err: &mut E,
 ) -> Status
-    ensures refused { OnRefused result (λ r. IsRefusalOf (told_at paths.now.input.now (F.files files.old)) r) }
-    ensures read_fault { OnReadFault result (HasRisen (F.read_faults files.old paths.now.input.now) (F.read_faults files.new paths.now.input.now)) }
-    ensures write_fault { OnWriteFault result (HasOutputFault (paths_of paths.now).output (O.faults out.old) (O.faults out.new) (F.write_faults files.old) (F.write_faults files.new)) }
+    ensures refused { OnRefused result (λ r. IsRefusalOf (command_of invocation.now) (told_at (input_of (command_of invocation.now)) (F.files files.old)) r) }
+    ensures read_fault { OnReadFault result (HasRisen (F.read_faults files.old (input_of (command_of invocation.now))) (F.read_faults files.new (input_of (command_of invocation.now)))) }
+    ensures write_fault { OnWriteFault result (HasOutputFault (output_of (command_of invocation.now)) (O.faults out.old) (O.faults out.new) (F.write_faults files.old) (F.write_faults files.new)) }
     ensures unwritten { Unwritten result ((out.new ≡ out.old) × (F.files files.new ≡ F.files files.old)) }
-    ensures done { OnDone result ((text : List ℕ) × Delivers O.puts O.told (paths_of paths.now).output out.old out.new (F.files files.old) (F.files files.new) text × IsMadeOf (told_at paths.now.input.now (F.files files.old)) text) }
-    ensures front { OnWriteFault result ((text : List ℕ) × DeliversFront O.puts O.told (paths_of paths.now).output out.old out.new (F.files files.old) (F.files files.new) text × IsMadeOf (told_at paths.now.input.now (F.files files.old)) text) }
+    ensures done { OnDone result ((text : List ℕ) × Delivers O.puts O.told (output_of (command_of invocation.now)) out.old out.new (F.files files.old) (F.files files.new) text × IsMadeOf (command_of invocation.now) (told_at (input_of (command_of invocation.now)) (F.files files.old)) text) }
+    ensures front { OnWriteFault result ((text : List ℕ) × DeliversFront O.puts O.told (output_of (command_of invocation.now)) out.old out.new (F.files files.old) (F.files files.new) text × IsMadeOf (command_of invocation.now) (told_at (input_of (command_of invocation.now)) (F.files files.old)) text) }
     ensures no_usage { usage_of result ≡ None }
-    ensures report { (source : List ℕ) × OnRefused result (λ r. IsReadOf (told_at paths.now.input.now (F.files files.old)) source) × Reports E.told E.faults err.old err.new (line_of (paths_of paths.now) source result) }
+    ensures report { (source : List ℕ) × OnRefused result (λ r. IsReadOf (told_at (input_of (command_of invocation.now)) (F.files files.old)) source) × Reports E.told E.faults err.old err.new (line_of (paths_in (command_of invocation.now)) source result) }
 {
+    let paths = paths_of(invocation);
     let source = match files.read(alloc, paths.input, READ_LIMIT) {
         Ok(source) => source,
         Err(fail) => {
             let status = unread(fail);
-            report(err, paths, b"", &status);
+            report(err, &paths, b"", &status);
             return status;
         }
     };
-    let status = answer(alloc, paths.output, source.as_bytes(), files, out);
-    report(err, paths, source.as_bytes(), &status);
+    let status = answer(
+        alloc,
+        invocation,
+        paths.output,
+        source.as_bytes(),
+        files,
+        out,
+    );
+    report(err, &paths, source.as_bytes(), &status);
     status
 }
 
@@ -124,21 +128,21 @@ fn unread(fail: FileFail) -> Status
 // The run on the text of the input.
 fn answer<F: Files, O: Sink>(
     alloc: Global,
+    invocation: &Invocation<'_>,
     output: Option<&str>,
     source: &[u8],
     files: &mut F,
     out: &mut O,
 ) -> Status
-    ensures refused { OnRefused result (λ r. IsOutcome source.now (Err r)) }
-    ensures within { OnRefused result (λ r. IsWithin r.op source.now) }
+    ensures refused { OnRefused result (λ r. IsOutcome (command_of invocation.now) source.now (Err r)) }
     ensures write_fault { OnWriteFault result (HasOutputFault (option_map (λ s. s.now) output.entry) (O.faults out.old) (O.faults out.new) (F.write_faults files.old) (F.write_faults files.new)) }
     ensures unwritten { Unwritten result ((out.new ≡ out.old) × (F.files files.new ≡ F.files files.old)) }
-    ensures done { OnDone result ((text : List ℕ) × Delivers O.puts O.told (option_map (λ s. s.now) output.entry) out.old out.new (F.files files.old) (F.files files.new) text × IsOutcome source.now (Ok text)) }
-    ensures front { OnWriteFault result ((text : List ℕ) × DeliversFront O.puts O.told (option_map (λ s. s.now) output.entry) out.old out.new (F.files files.old) (F.files files.new) text × IsOutcome source.now (Ok text)) }
+    ensures done { OnDone result ((text : List ℕ) × Delivers O.puts O.told (option_map (λ s. s.now) output.entry) out.old out.new (F.files files.old) (F.files files.new) text × IsOutcome (command_of invocation.now) source.now (Ok text)) }
+    ensures front { OnWriteFault result ((text : List ℕ) × DeliversFront O.puts O.told (option_map (λ s. s.now) output.entry) out.old out.new (F.files files.old) (F.files files.new) text × IsOutcome (command_of invocation.now) source.now (Ok text)) }
     ensures reads { F.read_faults files.new ≡ F.read_faults files.old }
     ensures kinds { IsWorked result }
 {
-    match outcome(alloc, source) {
+    match outcome(alloc, invocation, source) {
         Ok(text) => match deliver(alloc, output, text.as_bytes(), files, out) {
             Delivery::Whole => Status::Done,
             Delivery::Fault => Status::WriteFault,

@@ -1,17 +1,21 @@
+//! Runs of the whole program on files and sinks in memory.
 use crate::run::run_circt;
-use crate::status::Status;
 use io_edge::memory_files::{MemoryFile, MemoryFiles};
 use io_edge::memory_sink::MemorySink;
-use std::alloc::{AllocError, Global};
+use std::alloc::{AllocError, AllocGlobal, Global};
+use std::process::Abort;
 use std::test::Fail;
+use std::thread::Threads;
 
-const ADDER: &str = "hw.module @Add8(in %a : i8, in %b : i8, out c : i8) {
+/// A module that adds its two inputs.
+pub const ADDER: &str = "hw.module @Add8(in %a : i8, in %b : i8, out c : i8) {
   %0 = comb.add %a, %b : i8
   hw.output %0 : i8
 }
 ";
 
-const ADDER_VERILOG: &str = "module Add8(
+/// The adder as Verilog.
+pub const ADDER_VERILOG: &str = "module Add8(
   input wire [7:0] a,
   input wire [7:0] b,
   output wire [7:0] c
@@ -22,154 +26,32 @@ const ADDER_VERILOG: &str = "module Add8(
 endmodule
 ";
 
-const XOR: &str = "hw.module @Add8(in %a : i8, in %b : i8, out c : i8) {
-  %0 = comb.xor %a, %b : i8
-  hw.output %0 : i8
+/// The adder as it is printed.
+pub const ADDER_PRINTED: &str = "module {
+  hw.module @Add8(in %a : i8, in %b : i8, out c : i8) {
+    %0 = comb.add %a, %b : i8
+    hw.output %0 : i8
+  }
 }
 ";
 
-const REFUSED: &str = "<stdin>:1:1: error: 'builtin.module' S4: outside the profile\n";
-
-const COMMAND: &str = "translate --export-verilog";
-
-const USAGE: &str = "circt: usage: bad arguments\n";
-
-const REFUSED_FILE: &str = "a.mlir:1:1: error: 'builtin.module' S4: outside the profile\n";
-
-const UNNAMED: &str = "circt: usage: no translation named\n";
-
-const UNREAD_FILE: &str = "circt: cannot read b.mlir\n";
-
-const UNWRITTEN_FILE: &str = "circt: cannot write x.v\n";
-
-const UNREAD: &str = "circt: cannot read <stdin>\n";
-
-const UNWRITTEN: &str = "circt: cannot write <stdout>\n";
-
-// Words, the text of each file, how many reads and how many writes are to fail, whether the first put fails; and then the
-// exit status, what is on the output, what is in the file `x.v` and what is on the error output.
-#[test]
-fn runs_end_as_they_should(rt: HostRuntime) -> Result<(), Fail> {
-    for (words, input, failing, code, out, written, err) in [
-        (COMMAND, ADDER, Failing::No, 0, ADDER_VERILOG, "old", ""),
-        (COMMAND, XOR, Failing::No, 1, "", "old", REFUSED),
-        (COMMAND, "", Failing::No, 1, "", "old", REFUSED),
-        ("", ADDER, Failing::No, 2, "", "old", USAGE),
-        ("translate", ADDER, Failing::No, 2, "", "old", UNNAMED),
-        ("opt", ADDER, Failing::No, 2, "", "old", USAGE),
-        (
-            "--export-verilog translate",
-            ADDER,
-            Failing::No,
-            2,
-            "",
-            "old",
-            USAGE,
-        ),
-        (
-            "translate -export-verilog",
-            ADDER,
-            Failing::No,
-            0,
-            ADDER_VERILOG,
-            "old",
-            "",
-        ),
-        (
-            "translate a.mlir --export-verilog",
-            ADDER,
-            Failing::No,
-            0,
-            ADDER_VERILOG,
-            "old",
-            "",
-        ),
-        (
-            "translate a.mlir --export-verilog",
-            XOR,
-            Failing::No,
-            1,
-            "",
-            "old",
-            REFUSED_FILE,
-        ),
-        (
-            "translate b.mlir --export-verilog",
-            ADDER,
-            Failing::No,
-            5,
-            "",
-            "old",
-            UNREAD_FILE,
-        ),
-        (
-            "translate --export-verilog -o x.v",
-            ADDER,
-            Failing::No,
-            0,
-            "",
-            ADDER_VERILOG,
-            "",
-        ),
-        (
-            "translate --export-verilog -o -",
-            ADDER,
-            Failing::No,
-            0,
-            ADDER_VERILOG,
-            "old",
-            "",
-        ),
-        (
-            "translate --export-verilog -o x.v",
-            ADDER,
-            Failing::Write,
-            6,
-            "",
-            "old",
-            UNWRITTEN_FILE,
-        ),
-        (
-            "translate --passes=cse",
-            ADDER,
-            Failing::No,
-            2,
-            "",
-            "old",
-            USAGE,
-        ),
-        (COMMAND, ADDER, Failing::Read, 5, "", "old", UNREAD),
-        (COMMAND, ADDER, Failing::Put, 6, "", "old", UNWRITTEN),
-    ] {
-        let alloc = rt.alloc();
-        let said = words_of(alloc, words)?;
-        let mut files = files_of(alloc, input, failing)?;
-        let failing = vec![in alloc; 0; usize::from(failing == Failing::Put)]?;
-        let mut sink = MemorySink::new(alloc, 4096)?.failing_at(failing);
-        let mut errors = MemorySink::new(alloc, 4096)?;
-        let status = run_circt(
-            &rt,
-            alloc,
-            said.as_slice(),
-            &mut files,
-            &mut sink,
-            &mut errors,
-        );
-        assert_eq!(rt; status.code(), code, "of {words}");
-        assert_eq!(rt; sink.held(), out.as_bytes(), "of {words}");
-        assert_eq!(rt; files.held("x.v"), Some(written.as_bytes()), "of {words}");
-        assert_eq!(rt; errors.held(), err.as_bytes(), "of {words}");
-    }
-    Ok(())
-}
-
-// What is to fail first.
+/// What is to fail first.
 #[derive(Clone, Copy, PartialEq, Eq)]
-enum Failing {
+pub enum Failing {
     No,
     Read,
     Write,
     Put,
+    Line,
+}
+
+/// How a run ended: the exit status, the files, what is on the output and on the error output.
+#[derive(Drop)]
+pub struct Ended {
+    pub code: u8,
+    pub files: MemoryFiles,
+    pub out: MemorySink,
+    pub err: MemorySink,
 }
 
 // The words that stand between blanks.
@@ -193,27 +75,81 @@ fn files_of(alloc: Global, input: &str, failing: Failing) -> Result<MemoryFiles,
     Ok(files.failing_writes_at(writes))
 }
 
+// A sink of which the first put fails, or none does.
+fn sink_of(alloc: Global, fails: bool) -> Result<MemorySink, AllocError> {
+    let failing = vec![in alloc; 0; usize::from(fails)]?;
+    Ok(MemorySink::new(alloc, 16384)?.failing_at(failing))
+}
+
+/// The run of the words that stand between the blanks of a line.
+pub fn run_words(
+    rt: &(impl Threads + Sync + AllocGlobal),
+    line: &str,
+    input: &str,
+    failing: Failing,
+) -> Result<Ended, AllocError> {
+    let alloc = rt.alloc();
+    let words = words_of(alloc, line)?;
+    let mut files = files_of(alloc, input, failing)?;
+    let mut out = sink_of(alloc, failing == Failing::Put)?;
+    let mut err = sink_of(alloc, failing == Failing::Line)?;
+    let status = run_circt(rt, alloc, words.as_slice(), &mut files, &mut out, &mut err);
+    Ok(Ended {
+        code: status.code(),
+        files,
+        out,
+        err,
+    })
+}
+
+/// Checks that each text is refused with its line, and that nothing is printed of it.
+pub fn all_refused(
+    rt: &(impl Threads + Sync + AllocGlobal + Abort),
+    rows: &[(&str, &str)],
+) -> Result<(), Fail> {
+    for (source, line) in rows {
+        let run = run_words(rt, "opt", source, Failing::No)?;
+        assert_eq!(rt; run.err.held(), line.as_bytes(), "of {source}");
+        assert_eq!(rt; run.out.held(), b"".as_slice(), "of {source}");
+        assert_eq!(rt; run.code, 1, "of {source}");
+    }
+    Ok(())
+}
+
+/// Checks what is printed of each text, and that the printed text is printed again as it is.
+pub fn all_printed(
+    rt: &(impl Threads + Sync + AllocGlobal + Abort),
+    rows: &[(&str, &str)],
+) -> Result<(), Fail> {
+    for (source, printed) in rows {
+        for text in [source, printed] {
+            let run = run_words(rt, "opt", text, Failing::No)?;
+            assert_eq!(rt; run.err.held(), b"".as_slice(), "of {text}");
+            assert_eq!(rt; run.out.held(), printed.as_bytes(), "of {text}");
+            assert_eq!(rt; run.code, 0, "of {text}");
+        }
+    }
+    Ok(())
+}
+
 // A text one byte longer than a text may be is refused without reading more.
 #[test]
 fn a_text_that_is_too_long_is_refused(rt: HostRuntime) -> Result<(), Fail> {
-    let alloc = rt.alloc();
-    let words = words_of(alloc, COMMAND)?;
-    let mut text = String::from_str(alloc, ADDER)?;
+    let mut text = String::from_str(rt.alloc(), ADDER)?;
     for _ in text.len()..(1usize << 26) + 1 {
         text.push(' ')?;
     }
-    let mut files = files_of(alloc, text.as_str(), Failing::No)?;
-    let mut sink = MemorySink::new(alloc, 4096)?;
-    let mut errors = MemorySink::new(alloc, 4096)?;
-    let status = run_circt(
+    let run = run_words(
         &rt,
-        alloc,
-        words.as_slice(),
-        &mut files,
-        &mut sink,
-        &mut errors,
+        "translate --export-verilog",
+        text.as_str(),
+        Failing::No,
+    )?;
+    assert_eq!(rt;
+        run.err.held(),
+        b"<stdin>:1:1: error: 'builtin.module' S7: text too long\n".as_slice()
     );
-    assert!(rt; matches!(status, Status::Refused(_)));
-    assert_eq!(rt; sink.held(), b"".as_slice());
+    assert_eq!(rt; run.out.held(), b"".as_slice());
+    assert_eq!(rt; run.code, 1);
     Ok(())
 }

@@ -1,6 +1,23 @@
--- A text that says no adder is outside.
-use Rattle.std.proofs.Common.{refl}
+use Rattle.std.proofs.Common.{◌≡◌, sym, subst, ap, map, Ok}
+use Rattle.hw_model.specs.Design.{Design}
+use Rattle.ir_store.specs.Designs.{design_of, numbered_module}
+use Rattle.command_line.specs.Invocations.{command_of, paths_of}
+use Rattle.command_line.specs.declared.invocation.Invocation.{Invocation}
+use Rattle.circt_top.specs.Accepting.{Accepted}
+use Rattle.circt_top.specs.Outcome.{IsOutcome, Gives}
+use Rattle.circt_top.proofs.Outcomes.{translated, refused_gives}
 use Rattle.circt_top.proofs.outcome.outcome.Goals as goal
 
-pub returns-in-Ok-None : goal.returns-in-Ok-None
-returns-in-Ok-None c = let none = rw c.in-Ok-None.field-0-is at c.in-Ok-None.ensures in (refl, λ d accepted. none accepted.adder accepted.form)
+pub returns-in-Err : goal.returns-in-Err
+returns-in-Err c = refused_gives (command_of c.args.invocation.now) c.args.source.now c.in-Err.fail c.in-Err.ensures
+
+pub returns-in-Opt : goal.returns-in-Opt
+returns-in-Opt c =
+    subst (λ (i : Invocation). IsOutcome (command_of i) c.args.source.now (Ok c.in_ok-reprinted-in-Opt.field-0)) (sym c.in-Opt.is) c.in_ok-reprinted-in-Opt.ensures
+
+pub returns : goal.returns
+returns c =
+    let e : design_of c.design.result.now ≡ design_of c.in-Ok.verified.design = ap (map numbered_module) c.design.ensures in
+    let accepted : Accepted c.args.source.now (design_of c.design.result.now) = subst (λ (d : Design). Accepted c.args.source.now d) (sym e) c.in-Ok.ensures in
+    subst (λ (i : Invocation). Gives (command_of i) c.args.source.now c.exported.result) (sym c.in-Translate.is)
+    (translated (paths_of c.in-Translate.field-0) c.args.source.now (design_of c.design.result.now) c.exported.result accepted c.exported.ensures)

@@ -1,0 +1,40 @@
+-- A text is answered exactly where it is not refused.
+use Rattle.std.proofs.Common.{◌≡◌, ℕ, inl, inr, List, Some, None, Ok, Err, sym, ◌∙◌, ap, subst, false, true, is_some}
+use Rattle.diag.specs.declared.refusal.Refusal.{Refusal}
+use Rattle.hw_model.specs.Design.{Design}
+use Rattle.command_line.specs.Line.{Command}
+use Rattle.command_line.specs.Line.Command.{opt, translate}
+use Rattle.mlir_reader.specs.Reading.{read}
+use Rattle.op_verifier.specs.Faults.{first_fault}
+use Rattle.op_verifier.specs.Verdict.{IsAccepted, IsRefusal, unfit, recursive, too_large, cyclic}
+use Rattle.circt_top.specs.Accepting.{Accepted, IsRefused, unread, unaccepted}
+use Rattle.circt_top.specs.Exporting.{export_refusal}
+use Rattle.circt_top.specs.Outcome.{IsOutcome, IsAnswered}
+
+-- what is accepted is not refused
+not_both : (d : Design) (r : Refusal) → IsAccepted d → IsRefusal d r → ⊥
+not_both d r a (unfit x e) = let f : is_some (first_fault d) ≡ true = ap is_some e in let g : true ≡ false = sym f ∙ a.unrefused in cc
+not_both d r a (recursive n j m o none first) = a.no_recursion n j m o first.there first.meets
+not_both d r a (too_large n m none finite first) = a.light n m first.there first.meets
+not_both d r a (cyclic n j m o none finite light first) = a.no_cycle n j m o first.there first.meets
+
+-- a text says one design
+one_design : (bytes : List ℕ) (d e : Design) → read bytes ≡ Ok d → read bytes ≡ Ok e → d ≡ e
+one_design bytes d e h k = let x : Ok d ≡ Ok e = sym h ∙ k in cc
+
+unrefused : (bytes : List ℕ) (d : Design) (r : Refusal) → Accepted bytes d → IsRefused bytes r → ⊥
+unrefused bytes d r a (unread x e) = let f : Err x ≡ Ok d = sym e ∙ a.says in cc
+unrefused bytes d r a (unaccepted e x h refused) = not_both e x (subst IsAccepted (one_design bytes d e a.says h) a.accepted) refused
+
+-- what is answered is not refused
+pub answered_unrefused : (c : Command) (bytes : List ℕ) (r : Refusal) → IsAnswered c bytes → IsOutcome c bytes (Err r) → ⊥
+answered_unrefused (opt p) bytes r a is = unrefused bytes a.design r a.accepted is
+answered_unrefused (translate p) bytes r a (inl is) = unrefused bytes a.design r a.accepted is
+answered_unrefused (translate p) bytes r a (inr is) =
+    let e : export_refusal a.design ≡ Some r = ap export_refusal (one_design bytes a.design is.design a.accepted.says is.accepted.says) ∙ is.missing in
+    let f : None ≡ Some r = sym a.takes ∙ e in cc
+
+-- what gives a text is answered
+pub made_answered : (c : Command) (bytes text : List ℕ) → IsOutcome c bytes (Ok text) → IsAnswered c bytes
+made_answered (opt p) bytes text is = record { design = is.design; accepted = is.accepted; takes = tt }
+made_answered (translate p) bytes text is = record { design = is.design; accepted = is.accepted; takes = is.exported }

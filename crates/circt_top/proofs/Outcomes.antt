@@ -1,0 +1,105 @@
+-- What is made of an accepted design.
+use Rattle.std.proofs.Common.{◌≡◌, ℕ, ◌≤◌, inl, inr, List, length, Option, Some, None, Result, Ok, Err, is_some, false, refl, sym, subst}
+use Rattle.diag.specs.declared.refusal.Refusal.{Refusal}
+use Rattle.hw_model.specs.Design.{Design, IsSameDesign}
+use Rattle.hw_model.specs.Hierarchy.{HasNoRecursion}
+use Rattle.hw_model.specs.Machine.{Same}
+use Rattle.hw_model.specs.Meaning.{machine, HasNoCycle, HasHeights}
+use Rattle.hw_model.specs.Types.{Name}
+use Rattle.command_line.specs.Line.{Command, Paths}
+use Rattle.command_line.specs.Line.Command.{opt, translate}
+use Rattle.verilog_model.specs.Behaviour.{Behaves}
+use Rattle.mlir_reader.specs.Reading.{text_limit, read}
+use Rattle.mlir_reader.specs.Spelling.{SpellsPlacelessly}
+use Rattle.mlir_reader.specs.ModuleViews.{ReadsDesign}
+use Rattle.mlir_reader.specs.declared.fail.ReadFail.{ReadFail}
+use Rattle.mlir_reader.specs.declared.fail.ReadFail.TheVariants as reading
+use Rattle.op_verifier.specs.declared.verify_fail.VerifyFail.{VerifyFail}
+use Rattle.op_verifier.specs.declared.verify_fail.VerifyFail.TheVariants as verifying
+use Rattle.op_verifier.specs.Answered.{Explains}
+use Rattle.op_verifier.specs.Faults.{first_fault}
+use Rattle.op_verifier.specs.Verdict.{IsAccepted}
+use Rattle.mlir_printer.specs.Printable.{Printable}
+use Rattle.mlir_printer.specs.Spellable.{AreBytes}
+use Rattle.mlir_printer.specs.Texts.{ir_text}
+use Rattle.circt_top.specs.Accepting.{Accepted, IsRefused, unaccepted}
+use Rattle.circt_top.specs.Accepting.{unread as unread_text}
+use Rattle.circt_top.specs.Outcomes.{IsTaken, unread, unverified}
+use Rattle.circt_top.specs.Exports.{Exports}
+use Rattle.circt_top.specs.Outcome.{IsOutcome, Gives}
+use Rattle.circt_top.specs.Reprint.{IsReprint, IsReadAgain}
+use Rattle.circt_top.specs.Translation.{name_kept, ports_kept}
+use Rattle.circt_top.specs.declared.outcome.OutcomeFail.{OutcomeFail}
+use Rattle.circt_top.specs.declared.outcome.OutcomeFail.TheVariants.{Refused, NoMemory}
+use Rattle.circt_top.proofs.Translated.{exported_behaves}
+
+-- what the laws of the crates below say
+pub record PrintingLaws : Type 0 where
+  pub printable : (source : List ℕ) (d : Design) → AreBytes source → read source ≡ Ok d → first_fault d ≡ None → Printable d
+  pub spelled : (d : Design) → Printable d → SpellsPlacelessly (ir_text d) d
+  pub again : (d : Design) → Printable d → length (ir_text d) ≤ text_limit → (e : Design) × (read (ir_text d) ≡ Ok e) × IsSameDesign d e
+
+pub record DesignLaws : Type 0 where
+  pub finite : (d : Design) → IsAccepted d → HasNoRecursion d
+  pub acyclic : (d : Design) → IsAccepted d → (top : Name) → HasNoCycle d top
+  pub heights : (d : Design) (top : Name) → HasNoRecursion d → HasNoCycle d top → HasHeights d top
+  pub placeless : (d e : Design) → IsSameDesign d e → IsAccepted d → IsAccepted e
+  pub same : (d e : Design) → IsSameDesign d e → (top : Name) → HasHeights d top → Same (machine d top) (machine e top)
+
+no_fault : (x : Option Refusal) → is_some x ≡ false → x ≡ None
+no_fault None h = refl
+no_fault (Some r) h = cc
+
+module _ (printing : PrintingLaws) (designs : DesignLaws) (source : List ℕ) (d : Design) (bytes : AreBytes source) (accepted : Accepted source d) where
+  printable : Printable d
+  printable = printing.printable source d bytes accepted.says (no_fault (first_fault d) accepted.accepted.unrefused)
+
+  read_again : length (ir_text d) ≤ text_limit → IsReadAgain d (ir_text d)
+  read_again short =
+      let found = printing.again d printable short in
+      record {
+        again = found.0;
+        accepted = record { says = found.1; accepted = designs.placeless d found.0 found.2 accepted.accepted };
+        same = found.2;
+        behaves = λ m here. designs.same d found.0 found.2 m.symbol (designs.heights d m.symbol (designs.finite d accepted.accepted) (designs.acyclic d accepted.accepted m.symbol));
+      }
+
+  -- an accepted design printed is a reprint
+  pub reprinted : (text : List ℕ) → text ≡ ir_text d → IsReprint source text
+  reprinted text e = subst (λ t. IsReprint source t) (sym e) (record {
+    design = d;
+    accepted = accepted;
+    laid_out = refl;
+    spelled = printing.spelled d printable;
+    read_again = read_again;
+  })
+
+-- an accepted design exported is a translation, or refused for what the export does not have
+pub translated : (p : Paths) (source : List ℕ) (d : Design) (r : Result (List ℕ) OutcomeFail) → Accepted source d → Exports d r → Gives (translate p) source r
+translated p source d (Ok text) accepted h = record {
+  design = d;
+  accepted = accepted;
+  exported = h.0;
+  behaves = subst (λ t. Behaves t d name_kept ports_kept) (sym h.1) (exported_behaves d h.0);
+  laid_out = h.1;
+}
+translated p source d (Err (Refused r)) accepted h = inr (record { design = d; accepted = accepted; missing = h })
+translated p source d (Err NoMemory) accepted h = tt
+
+-- what is refused is refused by each command
+pub refused_by : (c : Command) (source : List ℕ) (r : Refusal) → IsRefused source r → IsOutcome c source (Err r)
+refused_by (opt p) source r h = h
+refused_by (translate p) source r h = inl h
+
+pub refused_gives : (c : Command) (source : List ℕ) (fail : OutcomeFail) → IsTaken source (Err fail) → Gives c source (Err fail)
+refused_gives c source (Refused r) h = refused_by c source r h
+refused_gives c source NoMemory h = tt
+
+-- what is not read is refused, and what is not verified
+pub unread_taken : (source : List ℕ) (fail : ReadFail) → ReadsDesign (Err fail) (read source) → IsTaken source (Err (unread fail))
+unread_taken source (reading.Refused r) h = unread_text r h
+unread_taken source reading.NoMemory h = tt
+
+pub unverified_taken : (source : List ℕ) (d : Design) (fail : VerifyFail) → read source ≡ Ok d → Explains d fail → IsTaken source (Err (unverified fail))
+unverified_taken source d (verifying.Refused r) h e = unaccepted d r h e
+unverified_taken source d verifying.NoMemory h e = tt

@@ -1,0 +1,16 @@
+-- Which bytes are accepted, and what the others are refused for.
+use Rattle.std.specs.Prelude.{◌≡◌, ℕ, List, Ok, Err}
+use Rattle.diag.specs.declared.refusal.Refusal.{Refusal}
+use Rattle.hw_model.specs.Design.{Design}
+use Rattle.mlir_reader.specs.Reading.{read}
+use Rattle.op_verifier.specs.Verdict.{IsAccepted, IsRefusal}
+
+-- the bytes say this design, of which nothing is refused
+pub record Accepted (bytes : List ℕ) (d : Design) : Type 0 where
+  pub says : read bytes ≡ Ok d
+  pub accepted : IsAccepted d
+
+-- the first refusal: of the text, or else of the design that it says
+pub data IsRefused (bytes : List ℕ) : Refusal → Type 0 where
+  unread : (r : Refusal) → read bytes ≡ Err r → IsRefused bytes r
+  unaccepted : (d : Design) (r : Refusal) → read bytes ≡ Ok d → IsRefusal d r → IsRefused bytes r

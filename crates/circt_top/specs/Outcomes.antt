@@ -1,0 +1,26 @@
+-- The parts of an outcome.
+use Rattle.std.specs.Prelude.{ℕ, List, Result, Ok, Err}
+use Rattle.ir_store.specs.Designs.{design_of}
+use Rattle.op_verifier.specs.declared.accepted.Verified.{Verified}
+use Rattle.circt_top.specs.Accepting.{Accepted, IsRefused}
+use Rattle.mlir_reader.specs.declared.fail.ReadFail.{ReadFail}
+use Rattle.mlir_reader.specs.declared.fail.ReadFail.TheVariants as read
+use Rattle.op_verifier.specs.declared.verify_fail.VerifyFail.{VerifyFail}
+use Rattle.op_verifier.specs.declared.verify_fail.VerifyFail.TheVariants as verify
+use Rattle.circt_top.specs.declared.outcome.OutcomeFail.{OutcomeFail}
+use Rattle.circt_top.specs.declared.outcome.OutcomeFail.TheVariants.{Refused, NoMemory}
+
+-- the design that the bytes say, of which nothing is refused, or the first refusal
+abbrev pub IsTaken : List ℕ → Result Verified OutcomeFail → Type 0
+IsTaken bytes (Ok v) = Accepted bytes (design_of v.design)
+IsTaken bytes (Err (Refused r)) = IsRefused bytes r
+IsTaken bytes (Err NoMemory) = Unit {0}
+
+-- why no text is made of what is not read, of what is not verified
+abbrev pub unread : ReadFail → OutcomeFail
+unread (read.Refused r) = Refused r
+unread read.NoMemory = NoMemory
+
+abbrev pub unverified : VerifyFail → OutcomeFail
+unverified (verify.Refused r) = Refused r
+unverified verify.NoMemory = NoMemory
