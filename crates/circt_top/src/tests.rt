@@ -122,13 +122,22 @@ pub fn all_printed(
     rows: &[(&str, &str)],
 ) -> Result<(), Fail> {
     for (source, printed) in rows {
-        for text in [source, printed] {
-            let run = run_words(rt, "opt", text, Failing::No)?;
-            assert_eq!(rt; run.err.held(), b"".as_slice(), "of {text}");
-            assert_eq!(rt; run.out.held(), printed.as_bytes(), "of {text}");
-            assert_eq!(rt; run.code, 0, "of {text}");
-        }
+        is_printed(rt, source, printed)?;
+        is_printed(rt, printed, printed)?;
     }
+    Ok(())
+}
+
+// Checks what is printed of a text.
+fn is_printed(
+    rt: &(impl Threads + Sync + AllocGlobal + Abort),
+    text: &str,
+    printed: &str,
+) -> Result<(), Fail> {
+    let run = run_words(rt, "opt", text, Failing::No)?;
+    assert_eq!(rt; run.err.held(), b"".as_slice(), "of {text}");
+    assert_eq!(rt; run.out.held(), printed.as_bytes(), "of {text}");
+    assert_eq!(rt; run.code, 0, "of {text}");
     Ok(())
 }
 
