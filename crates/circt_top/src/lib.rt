@@ -7,6 +7,8 @@ mod delivery;
 mod exporting;
 mod form;
 #[cfg(test)]
+mod operation_tests;
+#[cfg(test)]
 mod opt_tests;
 mod outcome;
 mod port_names;
@@ -23,7 +25,7 @@ mod tests;
 #[cfg(test)]
 mod translate_tests;
 #[cfg(test)]
-mod verdict_tests;
+mod value_tests;
 #[cfg(test)]
 mod whole_design_tests;
 #[cfg(test)]
