@@ -57,7 +57,7 @@ fn entries_without(
 ) -> Result<Vec<Entry>, AllocError>
     ensures { IfOk result (λ kept. map entry_of kept.items ≡ without (is_dropped name) (entries_in dictionary)) }
 {
-    let mut kept = Vec::new(alloc);
+    let mut kept = Vec::with_capacity(alloc, dictionary.entries.len())?;
     for entry in dictionary.entries {
         if !is_dropped(name, &entry) {
             kept.push(entry)?;
@@ -84,6 +84,9 @@ pub fn kept_entries(
 ) -> Result<Dictionary, AllocError>
     ensures { IfOk result (λ kept. entries_in kept ≡ kept_entries name (entries_in dictionary)) }
 {
+    if dictionary.entries.is_empty() {
+        return Ok(dictionary);
+    }
     let entries = sorted(entries_without(alloc, name, dictionary)?)?;
     Ok(Dictionary { entries })
 }
