@@ -30,9 +30,6 @@ use std::alloc::Global;
 /// The operation that refusals name where none is open within a module.
 pub const HEADER: OpName = OpName::Listed(Listed::HwModule);
 
-// How many operations of a body have room at first.
-const FIRST_ROOM: usize = 8;
-
 impl<'s> Gathered<'s> {
     ghost use Rattle.std.specs.Prelude.{◌≡◌};
     ghost use Rattle.mlir_reader.specs.PieceText.{gathered_nothing};
@@ -60,7 +57,7 @@ impl<'s> Reader<'s> {
         ensures gives { ReadsAs (λ operations. map operation_of operations.items) result self.new (operations_text (length self.old) self.old) }
         ensures shorter { OnOk result (length self.new ≤ length self.old) }
     {
-        let mut operations = Vec::with_capacity(self.alloc(), FIRST_ROOM)?;
+        let mut operations = Vec::new(self.alloc());
         while !self.is_next(TokenKind::RightBrace) {
             let operation = match self.operation_text() {
                 Ok(operation) => operation,
