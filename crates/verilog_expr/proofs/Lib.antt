@@ -1,4 +1,15 @@
 pub mod Numerals
+pub mod Digits
+pub mod Adding
+pub mod Placing
+pub mod ReadOps
+pub mod Marking
+pub mod PartsMarked
+pub mod HeightSteps
+pub mod TextParts
+pub mod FormTexts
+pub mod FormRows
+pub mod Writing
 pub mod Own
 pub mod Assigned
 pub mod Rows

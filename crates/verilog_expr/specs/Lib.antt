@@ -5,3 +5,11 @@ pub mod Expressions
 pub mod Spilling
 pub mod Text
 pub mod Values
+pub mod Tables
+pub mod Scopes
+pub mod Marks
+pub mod PartTables
+pub mod Named
+pub mod Forms
+pub mod Rows
+pub mod Made
