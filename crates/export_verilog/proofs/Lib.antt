@@ -45,3 +45,8 @@ pub mod AcceptedDivisions
 pub mod AcceptedValues
 pub mod AcceptedExports
 pub mod AggregateSamples
+pub mod Rests
+pub mod Listed
+pub mod PortNames
+pub mod Adding
+pub mod Walking

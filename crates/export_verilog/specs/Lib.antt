@@ -6,3 +6,8 @@ pub mod Exportable
 pub mod Behaving
 pub mod Aggregates
 pub mod Room
+pub mod Written
+pub mod WrittenViews
+pub mod Held
+pub mod RoleViews
+pub mod Walks

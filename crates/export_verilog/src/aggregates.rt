@@ -68,7 +68,8 @@ fn body_aggregate(alloc: Global, body: &Body) -> Result<Option<Refusal>, AllocEr
 fn has_aggregate(op: &Op<'_>) -> bool
     ensures { (body : _) → result ≡ has_aggregate (op_view body op.now) }
 {
-    is_aggregate_kind(op.kind) || (some_aggregate(&op.types.types) || gives_aggregate(&op.results.results))
+    is_aggregate_kind(op.kind)
+        || (some_aggregate(&op.types.types) || gives_aggregate(&op.results.results))
 }
 
 /// Whether one of the ports is of a type of aggregates.

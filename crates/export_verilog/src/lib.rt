@@ -3,7 +3,15 @@
 
 mod acceptance;
 pub mod aggregates;
+pub mod blocks;
+pub mod body_names;
+pub mod instances;
 mod laws;
+pub mod legal_names;
+pub mod lines;
+pub mod op_names;
+pub mod ports;
+pub mod wishes;
 
 pub use acceptance::{accepted_designs_are_exportable, stored_designs_have_room};
 pub use laws::{exported_designs_behave, exported_modules_behave_the_same};
