@@ -1,5 +1,5 @@
 -- The first aggregate of a body and of a design, step by step.
-use Rattle.std.proofs.Common.{◌≡◌, ℕ, suc, ◌+◌, true, false, List, [], ◌∷◌, drop, slice_get, option_map, Option, Some, None, refl, sym, ◌∙◌, ap, arith}
+use Rattle.std.proofs.Common.{◌≡◌, ℕ, suc, ◌+◌, true, false, List, drop, slice_get, option_map, Option, Some, None, sym, ◌∙◌, ap, arith}
 use Rattle.wiring.proofs.Lists.{drop_some}
 use Rattle.diag.specs.declared.cause.Cause.TheVariants.{OutsideProfile}
 use Rattle.diag.specs.declared.refusal.Refusal.{Refusal}

@@ -1,16 +1,16 @@
 -- The names of a module's ports are the first that it gives.
-use Rattle.std.proofs.Common.{◌≡◌, ℕ, zero, suc, ◌+◌, Bool, true, false, cond, nat_eq, List, [], ◌∷◌, ◌++◌, map, length, slice_get, Option, Some, None, refl, sym, ◌∙◌, ap, append_assoc, arith, add-zero, add-suc, zero-add, suc-add, eq-eqb}
+use Rattle.std.proofs.Common.{◌≡◌, ℕ, zero, suc, ◌+◌, Bool, true, false, cond, nat_eq, List, [], ◌∷◌, ◌++◌, map, length, slice_get, Some, refl, sym, ◌∙◌, ap, append_assoc, arith, add-zero, add-suc, zero-add, suc-add, eq-eqb}
 use Rattle.std.proofs.lemmas.List.{map-append, append-nil}
 use Rattle.hw_model.specs.Types.{Name}
-use Rattle.hw_model.specs.Design.{Port, Op, Module}
+use Rattle.hw_model.specs.Design.{Port, Module}
 use Rattle.name_legalise.specs.Legal.{legal, legal_name, legal_after}
 use Rattle.name_legalise.proofs.Legals.{legal_count}
-use Rattle.export_verilog.specs.Keys.{Key, each, same_key, port_keys, op_keys, module_keys, wish, port_wish, names, name_among, key_name, key_text, name_or_nothing}
-use Rattle.export_verilog.specs.Keys.Key.{port_key, value_key, instance_key}
+use Rattle.export_verilog.specs.Keys.{Key, each, port_keys, op_keys, module_keys, wish, port_wish, names, name_among, key_name, key_text, name_or_nothing}
+use Rattle.export_verilog.specs.Keys.Key.{port_key}
 use Rattle.export_verilog.specs.Exported.{vport, vports}
 use Rattle.export_verilog.specs.Written.{port_named, ports_named}
 use Rattle.export_verilog.specs.Held.{ArePortNames}
-use Rattle.export_verilog.proofs.KeyNames.{key_self, key_from}
+use Rattle.export_verilog.proofs.KeyNames.{key_from}
 
 -- the names of some wishes, and then of others
 pub legal_append : (ts xs ys : List Name) → legal_after ts (xs ++ ys) ≡ legal_after ts xs ++ legal_after (ts ++ legal_after ts xs) ys

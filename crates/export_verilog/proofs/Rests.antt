@@ -1,14 +1,11 @@
 -- The rest of a text stands behind its pieces, and parts that are added one after another.
-use Rattle.std.proofs.Common.{◌≡◌, ℕ, Bool, true, false, List, [], ◌∷◌, ◌++◌, Option, Some, None, codes, refl, sym, ◌∙◌, ap, append_assoc}
-use Rattle.hw_model.specs.Types.{Name}
-use Rattle.verilog_model.specs.Tree.{Numeral, Operator, Expr, Exprs, VPort, Load, Block, Connection, Item}
+use Rattle.std.proofs.Common.{◌≡◌, [], ◌∷◌, ◌++◌, Option, Some, None, codes, refl, sym, ◌∙◌, ap, append_assoc}
+use Rattle.verilog_model.specs.Tree.{Numeral, Expr, Exprs, VPort, Load, Connection}
 use Rattle.verilog_model.specs.Tree.Expr.{name, bit_select, part_select, literal, joined, repeated, as_signed, as_unsigned, paren, odd, binary, choice}
 use Rattle.verilog_model.specs.Tree.Exprs.{last, more}
-use Rattle.verilog_model.specs.Tree.Block.{load, if_load, if_else, if_else_if}
-use Rattle.verilog_model.specs.Tree.Item.{wire, reg, assign, always, instance}
 use Rattle.verilog_model.specs.Grammar.{base_mark, direction}
 use Rattle.verilog_expr.specs.Text.{operator_text, expr_text, exprs_text}
-use Rattle.export_verilog.specs.Layout.{Text, range_text, port_text, port_lines, ports_text, load_text, if_text, block_text, connection_text, connection_lines, connections_text, item_text, items_text}
+use Rattle.export_verilog.specs.Layout.{Text, range_text, port_text, load_text, if_text, connection_text}
 use Rattle.export_verilog.specs.Written.{written, written_load, otherwise_text}
 
 -- ---- parts that are added one after another

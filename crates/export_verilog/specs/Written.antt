@@ -2,7 +2,7 @@
 use Rattle.std.specs.Prelude.{◌≡◌, ℕ, ◌<◌, ◌^◌, Bool, true, false, List, [], ◌∷◌, ◌++◌, Option, Some, None, codes, slice_get}
 use Rattle.hw_model.specs.Types.{Name, width}
 use Rattle.hw_model.specs.Design.{Port}
-use Rattle.verilog_model.specs.Tree.{Expr, VPort, Load, Block, Connection, Item}
+use Rattle.verilog_model.specs.Tree.{Expr, VPort, Load, Block, Connection}
 use Rattle.verilog_model.specs.Tree.Expr.{name}
 use Rattle.verilog_model.specs.Tree.Block.{load, if_load, if_else, if_else_if}
 use Rattle.verilog_expr.specs.Numerals.{high_of}

@@ -1,5 +1,5 @@
 -- What parts of a register's block stand for.
-use Rattle.std.specs.Prelude.{List, Option, option_map}
+use Rattle.std.specs.Prelude.{option_map}
 use Rattle.verilog_model.specs.Tree.{Block}
 use Rattle.export_verilog.specs.Written.{WrittenReset, written_block}
 use Rattle.export_verilog.specs.declared.blocks.Reset.{Reset}

@@ -1,11 +1,11 @@
-use Rattle.std.proofs.Common.{◌≡◌, ◌<◌, ◌≤◌, ◌++◌, length, sym, ap, ◌∙◌, arith}
+use Rattle.std.proofs.Common.{◌≡◌, ◌<◌, ◌≤◌, ◌++◌, length, ap, ◌∙◌, arith}
 use Rattle.hw_model.specs.KindViews.{kind_of}
 use Rattle.name_legalise.specs.Legal.{legal_after}
 use Rattle.name_legalise.specs.LegalViews.{legal_names}
 use Rattle.verilog_expr.specs.Scopes.{scope_ports, scope_ops, op_read}
 use Rattle.export_verilog.specs.Keys.{role_of}
 use Rattle.export_verilog.specs.RoleViews.{role_seen}
-use Rattle.export_verilog.specs.Held.{role_by, op_seen, op_wishes, op_results, op_own_name}
+use Rattle.export_verilog.specs.Held.{role_by, op_wishes, op_results, op_own_name}
 use Rattle.export_verilog.specs.Walks.{body_wishes, body_given, result_lists}
 use Rattle.export_verilog.proofs.Walking.{wishes_seen, results_seen, walk_names, walk_given, walked_names, walked_given, map_pushed}
 use Rattle.export_verilog.proofs.body_names.add_ops.Goals as goal

@@ -1,4 +1,4 @@
-use Rattle.std.proofs.Common.{◌≡◌, ◌∷◌, [], map, refl, sym, ap, ◌∙◌, arith, ◌++◌}
+use Rattle.std.proofs.Common.{◌∷◌, [], map, refl, sym, ap, ◌∙◌, arith, ◌++◌}
 use Rattle.std.proofs.lemmas.Option.{get_or_from_slice_get}
 use Rattle.hw_model.specs.Design.{Module}
 use Rattle.ir_store.specs.Designs.{StoredModule, modules_of, module_of, numbered_module, design_of}

@@ -1,4 +1,4 @@
-use Rattle.std.proofs.Common.{◌≡◌, ◌∷◌, [], map, refl, sym, ap, ◌∙◌, arith, ◌++◌}
+use Rattle.std.proofs.Common.{◌∷◌, [], map, refl, ap, ◌∙◌, arith, ◌++◌}
 use Rattle.hw_model.specs.Design.{Port}
 use Rattle.ir_store.specs.Designs.{port_of}
 use Rattle.export_verilog.proofs.Listed.{gather_step, gather_end}

@@ -1,4 +1,4 @@
-use Rattle.std.proofs.Common.{◌≡◌, ◌<◌, ◌≤◌, ◌++◌, ◌∷◌, [], map, Some, sym, ap, ◌∙◌, arith, length, get_or, ◌+◌, zero-add}
+use Rattle.std.proofs.Common.{◌≡◌, ◌<◌, ◌≤◌, ◌++◌, ◌∷◌, [], map, Some, ap, ◌∙◌, arith, length, get_or}
 use Rattle.hw_model.specs.Types.{Name}
 use Rattle.hw_model.specs.KindViews.{instance_of}
 use Rattle.name_legalise.specs.Legal.{legal_after, legal_name}

@@ -1,8 +1,7 @@
 use Rattle.std.proofs.Common.{◌++◌, map, arith, refl, sym}
 use Rattle.std.specs.Prelude.{[]}
 use Rattle.ir_store.specs.Designs.{port_of}
-use Rattle.export_verilog.specs.Layout.{port_text}
-use Rattle.export_verilog.specs.Written.{ports_named, ports_left, port_named, line_end}
+use Rattle.export_verilog.specs.Written.{ports_named, ports_left}
 use Rattle.export_verilog.proofs.Listed.{narrow_at, ports_step, ports_end}
 use Rattle.export_verilog.proofs.ports.push_lines.Goals as goal
 

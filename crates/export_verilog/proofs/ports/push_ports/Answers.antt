@@ -1,4 +1,4 @@
-use Rattle.std.proofs.Common.{◌∷◌, [], ap, sym, ◌++◌, ◌∙◌, map, codes, arith}
+use Rattle.std.proofs.Common.{◌∷◌, [], ap, ◌++◌, ◌∙◌, map, codes, arith}
 use Rattle.ir_store.specs.Designs.{port_of}
 use Rattle.export_verilog.specs.Written.{ports_named, ports_left}
 use Rattle.export_verilog.proofs.Rests.{three_parts}
