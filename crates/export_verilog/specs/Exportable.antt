@@ -1,0 +1,50 @@
+-- The designs whose export behaves as they do: sound ones on integers, as the verifier accepts them.
+use Rattle.std.specs.Prelude.{◌≡◌, ℕ, suc, ◌+◌, ◌<◌, ◌≤◌, ◌^◌, Bool, true, false, ◌||◌, List, [], ◌∷◌, length, Option, Some, None, slice_get}
+use Rattle.wiring.specs.Wiring.{In}
+use Rattle.hw_model.specs.Types.{Name, HwType, width}
+use Rattle.hw_model.specs.Design.{Ref, Port, OpResult, Op, Module, Design, find_module, is_instance, is_output_op, result_type}
+use Rattle.hw_model.specs.Design.Ref.{port, result}
+use Rattle.hw_model.specs.Flat.{Register, register_in}
+use Rattle.hw_model.specs.Hierarchy.{HasNoRecursion}
+use Rattle.hw_model.specs.Meaning.{HasNoCycle}
+use Rattle.hw_model.specs.Sound.{Sound}
+use Rattle.verilog_expr.specs.Values.{is_aggregate_kind, is_division, IsDivision}
+use Rattle.export_verilog.specs.Keys.{module_keys}
+
+-- the bits of each result are one or more
+abbrev pub HaveBits : List OpResult → Type 0
+HaveBits rs = (k : ℕ) (r : OpResult) → slice_get rs k ≡ Some r → 1 ≤ width r.type
+
+-- a register's clock is an input port
+record IsClocked (ports : List Port) (r : Register) : Type 0 where
+  pub number : ℕ
+  pub clock : Port
+  pub is_port : r.clock ≡ port number
+  pub there : slice_get ports number ≡ Some clock
+  pub input : clock.is_output ≡ false
+
+-- an operation of a body on integers
+pub record IsExportableOp (ports : List Port) (os : List Op) (o : Op) : Type 0 where
+  pub integers : is_aggregate_kind o.kind ≡ false
+  -- an instance has as many results as its module has outputs, a module's output none, every other operation one
+  pub one_result : (is_instance o || is_output_op o) ≡ false → (r : OpResult) × (o.results ≡ r ∷ [])
+  pub no_result : is_output_op o ≡ true → o.results ≡ []
+  pub bits : HaveBits o.results
+  pub division : is_division o.kind ≡ true → IsDivision os o
+  pub clocked : (r : Register) → register_in o ≡ Some r → IsClocked ports r
+
+-- a module on integers
+pub record IsExportableModule (m : Module) : Type 0 where
+  pub ops : (i : ℕ) (o : Op) → slice_get m.body i ≡ Some o → IsExportableOp m.ports m.body o
+  pub bits : (j : ℕ) (p : Port) → slice_get m.ports j ≡ Some p → 1 ≤ width p.type
+  -- names are told apart by numbers of a machine
+  pub room : length (module_keys m) + 130 < 2 ^ 64
+
+-- a design on integers that is sound, with distinct symbols, no module within itself, and no net that depends on itself
+pub record IsExportable (d : Design) : Type 0 where
+  pub sound : Sound d
+  pub distinct : (i j : ℕ) (m n : Module) → slice_get d i ≡ Some m → slice_get d j ≡ Some n → m.symbol ≡ n.symbol → i ≡ j
+  pub finite : HasNoRecursion d
+  pub acyclic : (top : Name) → HasNoCycle d top
+  pub modules : (n : ℕ) (m : Module) → slice_get d n ≡ Some m → IsExportableModule m
+  pub room : length d + 130 < 2 ^ 64

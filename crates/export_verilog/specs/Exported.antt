@@ -1,0 +1,144 @@
+-- The Verilog tree of a design (IEEE 1364-2005, 12.1: hierarchy; 6.1: continuous assignments; 9.2.2: nonblocking
+-- assignments): for each module its ports, the declarations in the order of names, the statements in the order of the
+-- body, and an assignment to each output port in order.
+use Rattle.std.specs.Prelude.{ℕ, zero, suc, Bool, true, false, cond, List, [], ◌∷◌, ◌++◌, map, Option, Some, None, slice_get}
+use Rattle.wiring.specs.Options.{bind}
+use Rattle.hw_model.specs.Types.{Name, width}
+use Rattle.hw_model.specs.Kinds.{Instance}
+use Rattle.hw_model.specs.Design.{Ref, Port, OpResult, Op, Module, Design, same_name, find_module, instance_in, result_type, output_refs}
+use Rattle.hw_model.specs.Design.Ref.{port, result, undefined}
+use Rattle.hw_model.specs.Flat.{width_of, Register, ResetBy, register_in}
+use Rattle.hw_model.specs.Sound.{ports_of}
+use Rattle.verilog_model.specs.Tree.{Expr, VPort, Load, Block, Connection, Item, VModule, Tree}
+use Rattle.verilog_model.specs.Tree.Expr.{name}
+use Rattle.verilog_model.specs.Tree.Block.{load, if_load, if_else, if_else_if}
+use Rattle.verilog_model.specs.Tree.Item.{wire, reg, assign, always, instance}
+use Rattle.name_legalise.specs.Legal.{legal}
+use Rattle.verilog_expr.specs.Numerals.{high_of}
+use Rattle.verilog_expr.specs.Building.{no_expr}
+use Rattle.verilog_expr.specs.Expressions.{expr_to, own_expr}
+use Rattle.verilog_expr.specs.Spilling.{height_limit}
+use Rattle.export_verilog.specs.Keys.{Key, Role, each, role_of, module_keys, names, key_text, name_or_nothing, named}
+use Rattle.export_verilog.specs.Keys.Key.{port_key, value_key, instance_key}
+use Rattle.export_verilog.specs.Keys.Role.{hidden, net, variable, block}
+
+-- ---- module names
+
+unfoldable pub symbol_names : Design → List Name
+symbol_names d = legal (map (λ (m : Module). m.symbol) d)
+
+abbrev pub symbol_among : List Module → List Name → Name → Name
+symbol_among (m ∷ ms) (n ∷ ns) s = cond (same_name m.symbol s) n (symbol_among ms ns s)
+symbol_among _ _ s = []
+
+-- the name of the module of a symbol
+abbrev pub symbol_name : Design → Name → Name
+symbol_name d s = symbol_among d (symbol_names d) s
+
+-- ---- expressions
+
+-- the expression of a value of a module: no expression is nested deeper than the limit of heights
+abbrev pub expression : Module → Ref → Expr
+expression m r = expr_to (named m) m.ports m.body (suc height_limit) r
+
+-- what is assigned to a value's own name
+abbrev pub assigned_expr : Module → Ref → Expr
+assigned_expr m r = own_expr (named m) m.ports m.body (expression m) r
+
+-- ---- ports
+
+abbrev pub vport : Module → ℕ → Port → List VPort
+vport m j p = record { is_output = p.is_output; high = high_of (width p.type); name = key_text m (port_key j) } ∷ []
+
+abbrev pub vports : Module → List VPort
+vports m = each (vport m) 0 m.ports
+
+-- ---- declarations
+
+abbrev pub result_wires : Module → ℕ → ℕ → List OpResult → List Item
+result_wires m i k [] = []
+result_wires m i k (r ∷ rs) = wire (high_of (width r.type)) (key_text m (value_key i k)) ∷ result_wires m i (suc k) rs
+
+abbrev pub declared_as : Module → ℕ → Op → Role → List Item
+declared_as m i o hidden = []
+declared_as m i o net = wire (high_of (width_of (result_type o 0))) (key_text m (value_key i 0)) ∷ []
+declared_as m i o variable = reg (high_of (width_of (result_type o 0))) (key_text m (value_key i 0)) ∷ []
+declared_as m i o block = result_wires m i 0 o.results
+
+abbrev pub declares : Module → ℕ → Op → List Item
+declares m i o = declared_as m i o (role_of m.ports m.body i o)
+
+-- ---- registers
+
+abbrev pub loads : Name → Expr → Load
+loads q e = record { target = q; value = e }
+
+-- the reset is asked before the enable
+abbrev pub block_of : (Ref → Expr) → Name → Ref → Option Ref → Option ResetBy → Block
+block_of ex q next None None = load (loads q (ex next))
+block_of ex q next (Some en) None = if_load (ex en) (loads q (ex next))
+block_of ex q next None (Some r) = if_else (ex r.signal) (loads q (ex r.value)) (loads q (ex next))
+block_of ex q next (Some en) (Some r) = if_else_if (ex r.signal) (loads q (ex r.value)) (ex en) (loads q (ex next))
+
+abbrev pub always_of : Module → Name → Option Register → List Item
+always_of m q None = []
+always_of m q (Some r) = always (name_or_nothing (named m r.clock)) (block_of (expression m) q r.next r.enable r.reset) ∷ []
+
+-- ---- instances
+
+abbrev pub expr_or_none : (Ref → Expr) → List Ref → Expr
+expr_or_none ex [] = no_expr
+expr_or_none ex (r ∷ rs) = ex r
+
+abbrev pub others : {A : Type 0} → List A → List A
+others [] = []
+others (x ∷ xs) = xs
+
+-- the connections of the ports from the j-th on of the module `c`, whose inputs are joined to the operands that are left,
+-- and whose outputs to the results of operation i from the k-th on
+abbrev pub connections_of : Module → Module → ℕ → ℕ → ℕ → List Port → List Ref → List Connection
+connections_of c m i j k [] rs = []
+connections_of c m i j k (p ∷ ps) rs =
+    cond p.is_output
+    (record { port = key_text c (port_key j); value = name (key_text m (value_key i k)) } ∷ connections_of c m i (suc j) (suc k) ps rs)
+    (record { port = key_text c (port_key j); value = expr_or_none (expression m) rs } ∷ connections_of c m i (suc j) k ps (others rs))
+
+abbrev pub connections_to : Option Module → Module → ℕ → Op → List Connection
+connections_to None m i o = []
+connections_to (Some c) m i o = connections_of c m i 0 0 c.ports o.operands
+
+abbrev pub instance_of : Design → Module → ℕ → Op → Option Instance → List Item
+instance_of d m i o None = []
+instance_of d m i o (Some x) =
+    instance (symbol_name d x.symbol) (key_text m (instance_key i)) (connections_to (find_module d x.symbol) m i o) ∷ []
+
+-- ---- statements
+
+abbrev pub stated_as : Design → Module → ℕ → Op → Role → List Item
+stated_as d m i o hidden = []
+stated_as d m i o net = assign (key_text m (value_key i 0)) (assigned_expr m (result i 0)) ∷ []
+stated_as d m i o variable = always_of m (key_text m (value_key i 0)) (register_in o)
+stated_as d m i o block = instance_of d m i o (instance_in o.kind)
+
+abbrev pub states : Design → Module → ℕ → Op → List Item
+states d m i o = stated_as d m i o (role_of m.ports m.body i o)
+
+-- the assignments to the output ports from the j-th port on
+abbrev pub output_assigns : Module → ℕ → List Port → List Ref → List Item
+output_assigns m j [] rs = []
+output_assigns m j (p ∷ ps) rs =
+    cond p.is_output
+    (assign (key_text m (port_key j)) (expr_or_none (expression m) rs) ∷ output_assigns m (suc j) ps (others rs))
+    (output_assigns m (suc j) ps rs)
+
+-- ---- modules
+
+abbrev pub vitems : Design → Module → List Item
+vitems d m = each (declares m) 0 m.body ++ (each (states d m) 0 m.body ++ output_assigns m 0 m.ports (output_refs m.body))
+
+abbrev pub vmodule : Design → Module → VModule
+vmodule d m = record { name = symbol_name d m.symbol; ports = vports m; items = vitems d m }
+
+-- the tree of a design
+abbrev pub tree_of : Design → Tree
+tree_of d = map (vmodule d) d

@@ -1,0 +1,5 @@
+-- The words of this crate's contracts.
+pub mod Keys
+pub mod Exported
+pub mod Layout
+pub mod Exportable

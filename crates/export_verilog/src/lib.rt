@@ -1,0 +1,4 @@
+//! The Verilog of a design.
+#![tactic(auto)]
+
+mod laws;

@@ -1,0 +1,2 @@
+//! Names made legal.
+#![tactic(auto)]

@@ -1,0 +1,152 @@
+-- The expression of a pure operation, from the expressions of its operands (IEEE 1364-2005, 5.1: operators; 5.4 and 5.5:
+-- widths and signs). An operand whose width or sign the context would change is made unsigned where it is signed; every
+-- other operand stands as it is. Parentheses stand only where the precedence of operators asks for them (5.1.2).
+use Rattle.std.specs.Prelude.{ℕ, suc, ◌+◌, ◌-◌, ◌/◌, Bool, true, false, cond, ◌&&◌, ◌==◌, nat_le, List, [], ◌∷◌, decimal, codes}
+use Rattle.bits_core.specs.Word.{number, bits_of_ℤ}
+use Rattle.hw_model.specs.Kinds.{Kind, Predicate}
+use Rattle.hw_model.specs.Kinds.Predicate.{eq, ne, slt, sle, sgt, sge, ult, ule, ugt, uge, ceq, cne, weq, wne}
+use Rattle.hw_model.specs.Kinds.Kind.{add, mul, and, or, xor, sub, divu, modu, divs, mods, shl, shru, shrs, icmp, parity, extract, concat, replicate, mux, constant, bitcast, wire}
+use Rattle.verilog_model.specs.Tree.{Operator, Expr, Exprs}
+use Rattle.verilog_model.specs.Tree.Operator.{times, over, modulo, plus, minus, left_shift, right_shift, signed_right_shift, below, at_most, above, at_least, equals, differs, bit_and, bit_xor, bit_or}
+use Rattle.verilog_model.specs.Tree.Expr.{name, bit_select, part_select, literal, joined, repeated, as_signed, as_unsigned, paren, odd, binary, choice}
+use Rattle.verilog_model.specs.Tree.Exprs.{last, more}
+use Rattle.verilog_model.specs.Grammar.{level, strength, choice_level, primary_level}
+use Rattle.verilog_model.specs.Expression.{is_signed}
+use Rattle.verilog_expr.specs.Numerals.{hex}
+
+-- ---- operands
+
+-- in place of what is not there: no bits
+abbrev pub no_expr : Expr
+no_expr = literal (codes "0") false (codes "0")
+
+-- the literal of a number in w bits
+abbrev pub literal_of : ℕ → Bool → ℕ → Expr
+literal_of w is_signed n = literal (decimal w) is_signed (hex n)
+
+-- the expression made unsigned
+abbrev pub unsigned : Expr → Expr
+unsigned e = cond (is_signed e) (as_unsigned e) e
+
+-- the expression in a place that asks for so much binding strength
+abbrev pub placed : ℕ → Expr → Expr
+placed l e = cond (nat_le l (level e)) e (paren e)
+
+abbrev pub unsigned_at : ℕ → Expr → Expr
+unsigned_at l e = placed l (unsigned e)
+
+abbrev pub of_one_expr : (Expr → Expr) → List Expr → Expr
+of_one_expr f (a ∷ []) = f a
+of_one_expr f _ = no_expr
+
+abbrev pub of_two_exprs : (Expr → Expr → Expr) → List Expr → Expr
+of_two_exprs f (a ∷ b ∷ []) = f a b
+of_two_exprs f _ = no_expr
+
+abbrev pub of_three_exprs : (Expr → Expr → Expr → Expr) → List Expr → Expr
+of_three_exprs f (a ∷ b ∷ c ∷ []) = f a b c
+of_three_exprs f _ = no_expr
+
+-- ---- rows
+
+-- an operator between unsigned operands; the right one stands in parentheses where it binds equally
+abbrev pub unsigned_pair : Operator → Expr → Expr → Expr
+unsigned_pair o a b = binary o (unsigned_at (strength o) a) (unsigned_at (suc (strength o)) b)
+
+-- `a + b + c`: an operator between operands, to the left
+abbrev pub chained : Operator → Expr → List Expr → Expr
+chained o a [] = a
+chained o a (b ∷ bs) = chained o (binary o a (unsigned_at (suc (strength o)) b)) bs
+
+-- one operand stands as it is
+abbrev pub variadic : Operator → List Expr → Expr
+variadic o [] = no_expr
+variadic o (a ∷ []) = a
+variadic o (a ∷ b ∷ bs) = chained o (unsigned_at (strength o) a) (b ∷ bs)
+
+-- an operator between two operands made signed
+abbrev pub signed_pair : Operator → Expr → Expr → Expr
+signed_pair o a b = binary o (as_signed a) (as_signed b)
+
+-- a shift of an unsigned operand, and of one made signed, by an amount that keeps its own width and sign
+abbrev pub unsigned_shift : Operator → Expr → Expr → Expr
+unsigned_shift o a b = binary o (unsigned_at (strength o) a) (placed (suc (strength o)) b)
+
+abbrev pub signed_shift : Operator → Expr → Expr → Expr
+signed_shift o a b = binary o (as_signed a) (placed (suc (strength o)) b)
+
+-- a division by a literal
+abbrev pub unsigned_division : Operator → ℕ → ℕ → Expr → Expr
+unsigned_division o w divisor a = binary o (unsigned_at (strength o) a) (literal_of w false divisor)
+
+abbrev pub signed_division : Operator → ℕ → ℕ → Expr → Expr
+signed_division o w divisor a = binary o (as_signed a) (literal_of w true divisor)
+
+abbrev pub comparison : Predicate → Expr → Expr → Expr
+comparison eq a b = unsigned_pair equals a b
+comparison ne a b = unsigned_pair differs a b
+comparison slt a b = signed_pair below a b
+comparison sle a b = signed_pair at_most a b
+comparison sgt a b = signed_pair above a b
+comparison sge a b = signed_pair at_least a b
+comparison ult a b = unsigned_pair below a b
+comparison ule a b = unsigned_pair at_most a b
+comparison ugt a b = unsigned_pair above a b
+comparison uge a b = unsigned_pair at_least a b
+comparison ceq a b = unsigned_pair equals a b
+comparison cne a b = unsigned_pair differs a b
+comparison weq a b = unsigned_pair equals a b
+comparison wne a b = unsigned_pair differs a b
+
+-- w bits from bit low of a name
+abbrev pub select : ℕ → ℕ → Expr → Expr
+select low w (name n) = cond (w == 1) (bit_select n (decimal low)) (part_select n (decimal (low + w - 1)) (decimal low))
+select low w _ = no_expr
+
+-- all bits of an operand are the operand, fewer are a select of its name
+abbrev pub selected : ℕ → ℕ → ℕ → Expr → Expr
+selected low operand_width w a = cond (low == 0 && w == operand_width) a (select low w a)
+
+abbrev pub exprs_of : Expr → List Expr → Exprs
+exprs_of a [] = last a
+exprs_of a (b ∷ bs) = more a (exprs_of b bs)
+
+-- `{a, b}`
+abbrev pub concatenation : List Expr → Expr
+concatenation [] = no_expr
+concatenation (a ∷ rest) = joined (exprs_of a rest)
+
+-- `c ? a : b`, where the middle needs no parentheses and the right one binds as `?:` does
+abbrev pub conditional : Expr → Expr → Expr → Expr
+conditional c a b = choice (placed (suc choice_level) c) (unsigned a) (unsigned_at choice_level b)
+
+abbrev pub first_width : List ℕ → ℕ
+first_width [] = 0
+first_width (w ∷ ws) = w
+
+-- the expression of an operation of a kind with a result of w bits, its operands' widths and expressions being `ws` and
+-- `es`, and `divisor` the number of the constant that it divides by
+abbrev pub built : Kind → ℕ → List ℕ → ℕ → List Expr → Expr
+built add w ws divisor es = variadic plus es
+built mul w ws divisor es = variadic times es
+built and w ws divisor es = variadic bit_and es
+built or w ws divisor es = variadic bit_or es
+built xor w ws divisor es = variadic bit_xor es
+built sub w ws divisor es = of_two_exprs (unsigned_pair minus) es
+built divu w ws divisor es = of_two_exprs (λ a b. unsigned_division over w divisor a) es
+built modu w ws divisor es = of_two_exprs (λ a b. unsigned_division modulo w divisor a) es
+built divs w ws divisor es = of_two_exprs (λ a b. signed_division over w divisor a) es
+built mods w ws divisor es = of_two_exprs (λ a b. signed_division modulo w divisor a) es
+built shl w ws divisor es = of_two_exprs (unsigned_shift left_shift) es
+built shru w ws divisor es = of_two_exprs (unsigned_shift right_shift) es
+built shrs w ws divisor es = of_two_exprs (signed_shift signed_right_shift) es
+built (icmp p) w ws divisor es = of_two_exprs (comparison p) es
+built parity w ws divisor es = of_one_expr (λ a. odd (placed primary_level a)) es
+built (extract low) w ws divisor es = of_one_expr (selected low (first_width ws) w) es
+built concat w ws divisor es = concatenation es
+built replicate w ws divisor es = of_one_expr (λ a. repeated (decimal (w / first_width ws)) (last a)) es
+built mux w ws divisor es = of_three_exprs conditional es
+built (constant z) w ws divisor es = literal_of w false (number (bits_of_ℤ w z))
+built bitcast w ws divisor es = of_one_expr (λ a. a) es
+built wire w ws divisor es = of_one_expr (λ a. a) es
+built _ w ws divisor es = no_expr

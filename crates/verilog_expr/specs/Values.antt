@@ -1,0 +1,80 @@
+-- What the expressions of a body are worth.
+use Rattle.std.specs.Prelude.{◌≡◌, ℕ, suc, ◌<◌, ◌≤◌, Bool, true, false, ◌||◌, List, [], ◌∷◌, map, length, Option, Some, None, is_some, slice_get}
+use Rattle.wiring.specs.Wiring.{In}
+use Rattle.bits_core.specs.Word.{Word, number}
+use Rattle.hw_model.specs.Types.{Name, HwType, width}
+use Rattle.hw_model.specs.Kinds.{Kind}
+use Rattle.hw_model.specs.Kinds.Kind.{divu, modu, divs, mods, extract, aggregate_constant, array_create, array_concat, array_get, array_slice, array_inject, struct_create, struct_extract, struct_inject, struct_explode}
+use Rattle.hw_model.specs.Design.{Ref, Port, Op, is_instance, is_register, is_output_op, result_type}
+use Rattle.hw_model.specs.Design.Ref.{port, result, undefined}
+use Rattle.hw_model.specs.Flat.{width_of}
+use Rattle.hw_model.specs.Sound.{type_in, OpFits}
+use Rattle.verilog_model.specs.Tree.{Expr}
+use Rattle.verilog_model.specs.Tree.Expr.{name}
+use Rattle.verilog_model.specs.Expression.{length_of, own_value}
+use Rattle.verilog_expr.specs.Expressions.{op_at, value_width, constant_of}
+use Rattle.verilog_expr.specs.Spilling.{is_pure, is_constant_kind, is_narrower, spilled}
+
+-- an expression has w bits, and so has its value by its own width and sign
+pub record HasBits (widths : Name → ℕ) (ρ : Name → Word) (w : ℕ) (e : Expr) : Type 0 where
+  pub long : length_of widths e ≡ w
+  pub worth : length (own_value widths ρ e) ≡ w
+
+-- whether a kind is of aggregates
+abbrev pub is_aggregate_kind : Kind → Bool
+is_aggregate_kind (aggregate_constant ls) = true
+is_aggregate_kind array_create = true
+is_aggregate_kind array_concat = true
+is_aggregate_kind array_get = true
+is_aggregate_kind array_slice = true
+is_aggregate_kind array_inject = true
+is_aggregate_kind struct_create = true
+is_aggregate_kind (struct_extract f) = true
+is_aggregate_kind (struct_inject f) = true
+is_aggregate_kind struct_explode = true
+is_aggregate_kind _ = false
+
+abbrev pub is_division : Kind → Bool
+is_division divu = true
+is_division modu = true
+is_division divs = true
+is_division mods = true
+is_division _ = false
+
+-- whether an operation gives values from its operands' values: a pure one, or a wire
+abbrev pub gives_values : Op → Bool
+gives_values o = opposite (is_register o || (is_instance o || is_output_op o)) where
+  opposite : Bool → Bool
+  opposite true = false
+  opposite false = true
+
+-- a divisor is the value of a constant that is not 0 in its type
+pub record IsDivision (os : List Op) (o : Op) : Type 0 where
+  pub dividend : Ref
+  pub divisor : ℕ
+  pub operands : o.operands ≡ dividend ∷ result divisor 0 ∷ []
+  pub by : Op
+  pub there : slice_get os divisor ≡ Some by
+  pub constant : is_constant_kind by.kind ≡ true
+  pub not_zero : (t : HwType) → result_type o 0 ≡ Some t → 0 < constant_of (Some by) (width t)
+
+-- a body whose values can be written as expressions over the names: its operations fit and are of integers, divisors are
+-- constants, and a name has what is no pure operation's, what is cut, and what has a wire
+pub record IsWritable (named : Ref → Option Name) (ports : List Port) (os : List Op) : Type 0 where
+  pub fits : (i : ℕ) (o : Op) → slice_get os i ≡ Some o → OpFits (type_in ports os) o
+  pub integers : (i : ℕ) (o : Op) → slice_get os i ≡ Some o → is_aggregate_kind o.kind ≡ false
+  pub bits : (i k : ℕ) (o : Op) (t : HwType) → slice_get os i ≡ Some o → result_type o k ≡ Some t → 1 ≤ width t
+  pub divisions : (i : ℕ) (o : Op) → slice_get os i ≡ Some o → is_division o.kind ≡ true → IsDivision os o
+  pub inputs : (j : ℕ) (t : HwType) → type_in ports os (port j) ≡ Some t → is_some (named (port j)) ≡ true
+  pub owned : (i k : ℕ) (o : Op) (t : HwType) → slice_get os i ≡ Some o → result_type o k ≡ Some t → is_pure o ≡ false
+      → is_some (named (result i k)) ≡ true
+  pub wires : (i k : ℕ) (o : Op) (t : HwType) → slice_get os i ≡ Some o → result_type o k ≡ Some t → named (result i k) ≡ None
+      → spilled ports os (result i k) ≡ false
+  pub cuts : (i : ℕ) (o : Op) (r : Ref) → slice_get os i ≡ Some o → o.operands ≡ r ∷ []
+      → is_narrower o.kind (width_of (result_type o 0)) (value_width ports os r) ≡ true → is_some (named r) ≡ true
+  pub one_result : (i k : ℕ) (o : Op) (t : HwType) → slice_get os i ≡ Some o → gives_values o ≡ true → result_type o k ≡ Some t → k ≡ 0
+
+-- names have the widths and the words of their values
+pub record AreNamed (named : Ref → Option Name) (ports : List Port) (os : List Op) (widths : Name → ℕ) (ρ : Name → Word) : Type 0 where
+  pub long : (r : Ref) (n : Name) → named r ≡ Some n → widths n ≡ value_width ports os r
+  pub worth : (r : Ref) (n : Name) → named r ≡ Some n → length (ρ n) ≡ value_width ports os r

@@ -1,0 +1,4 @@
+//! Expressions of Verilog for the values of a design's body.
+#![tactic(auto)]
+
+mod laws;
