@@ -1,1 +1,4 @@
 pub mod TextRead
+pub mod Nets
+pub mod Numerals
+pub mod Checked
