@@ -1,0 +1,4 @@
+use Rattle.verilog_expr.proofs.laws.expressions_hold.Goals as goal
+
+pub returns : goal.returns
+returns c = ?
