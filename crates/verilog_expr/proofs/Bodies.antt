@@ -36,7 +36,7 @@ as_many f [] = refl
 as_many f (x ∷ xs) = let rest : length (map f xs) ≡ length xs = as_many f xs in omega arith
 
 -- a kind that is a constant's
-constant_kind : (kind : Kind) → is_constant_kind kind ≡ true → (z : ℤ) × (kind ≡ constant z)
+pub constant_kind : (kind : Kind) → is_constant_kind kind ≡ true → (z : ℤ) × (kind ≡ constant z)
 constant_kind (constant z) is = (z, refl)
 constant_kind _ is = absurd (false≢true is)
 
@@ -67,7 +67,7 @@ gives_values-pure o pure = go (is_register o) (is_instance o) (is_output_op o) (
 no_bits : (widths : Name → ℕ) (ρ : Name → Word) → HasBits widths ρ 0 no_expr
 no_bits widths ρ = record { long = refl; worth = refl }
 
-named_twice : {A : Type 0} → (m : Option A) → is_some m ≡ true → m ≡ None → ⊥
+pub named_twice : {A : Type 0} → (m : Option A) → is_some m ≡ true → m ≡ None → ⊥
 named_twice None some none = false≢true some
 named_twice (Some a) some none = let bad : true ≡ false = cc in true≢false bad
 

@@ -6,3 +6,5 @@ pub mod Parts
 pub mod Built
 pub mod Nets
 pub mod Bodies
+pub mod Heights
+pub mod Depths

@@ -119,18 +119,22 @@ height_under flat h = 0
 height_under shared h = 0
 height_under nested h = cond (nat_le height_limit h) 0 h
 
-abbrev pub operands_at : List Op → Ref → List Ref
-operands_at os r = operands_of (op_at os r) where
-  operands_of : Option Op → List Ref
-  operands_of None = []
-  operands_of (Some o) = o.operands
+abbrev pub operands_of : Option Op → List Ref
+operands_of None = []
+operands_of (Some o) = o.operands
 
--- the height of a value: one more than the greatest of its operation's operands, 0 of what is a name or a literal
+abbrev pub operands_at : List Op → Ref → List Ref
+operands_at os r = operands_of (op_at os r)
+
+-- the height of a part, from the greatest of its operands' heights: 0 of what is a name or a literal
+abbrev pub height_over : Part → ℕ → ℕ
+height_over flat n = 0
+height_over _ n = suc n
+
+-- the height of a value: one more than the greatest of its operation's operands
 abbrev pub height_step : List Port → List Op → (Ref → ℕ) → Ref → ℕ
-height_step ports os h r = height_of (part ports os r) where
-  height_of : Part → ℕ
-  height_of flat = 0
-  height_of _ = suc (greatest (map (λ x. height_under (part ports os x) (h x)) (operands_at os r)))
+height_step ports os h r =
+    height_over (part ports os r) (greatest (map (λ x. height_under (part ports os x) (h x)) (operands_at os r)))
 
 -- the heights of a body's values, each from those of its operation's operands
 abbrev pub AreHeights : List Port → List Op → (Ref → ℕ) → Type 0
