@@ -1,12 +1,12 @@
 -- What an assignment gives to a name: its own value, where the widths are the same, and always as many bits as the name has.
-use Rattle.std.proofs.Common.{◌≡◌, ℕ, zero, suc, ◌+◌, ◌-◌, ◌<◌, ◌≤◌, max, Bool, true, false, cond, ◌&&◌, List, [], ◌∷◌, ◌++◌, length, drop, replicate, refl, sym, ap, ◌∙◌, arith, length-append, length-drop}
+use Rattle.std.proofs.Common.{◌≡◌, ℕ, zero, suc, ◌+◌, ◌-◌, ◌≤◌, max, Bool, true, false, cond, ◌&&◌, [], ◌∷◌, length, drop, replicate, ap, ◌∙◌, arith, length-append, length-drop}
 use Rattle.std.proofs.Math.ListN.{length-replicate}
-use Rattle.bits_core.specs.Word.{Word, number, bits, sign, flag, extract, copies, parity, bitwise, add, sub, mul, quotient, rest, signed_quotient, signed_rest, shift_left, shift_right, shift_right_signed}
+use Rattle.bits_core.specs.Word.{Word, number, bits, sign, flag, extract, copies, parity, bitwise}
 use Rattle.bits_core.proofs.Arithmetic.{length-add, length-sub, length-mul, length-quotient, length-rest, length-signed_quotient, length-signed_rest}
 use Rattle.bits_core.proofs.Shifts.{length-shift_left, length-shift_right, length-shift_right_signed}
 use Rattle.hw_model.specs.Types.{Name}
 use Rattle.verilog_model.specs.Numerals.{decimal_number, hex_number}
-use Rattle.verilog_model.specs.Tree.{Operator, Expr, Exprs}
+use Rattle.verilog_model.specs.Tree.{Operator, Expr}
 use Rattle.verilog_model.specs.Tree.Operator.{times, over, modulo, plus, minus, left_shift, right_shift, signed_right_shift, below, at_most, above, at_least, equals, differs, bit_and, bit_xor, bit_or}
 use Rattle.verilog_model.specs.Tree.Expr.{name, bit_select, part_select, literal, joined, repeated, as_signed, as_unsigned, paren, odd, binary, choice}
 use Rattle.verilog_model.specs.Expression.{is_signed, length_of, extended, is_true, compared, low_bits, value, values, own_value, assigned}

@@ -1,8 +1,8 @@
 -- The expressions of a body have the widths of their values, and the values of their operations.
-use Rattle.std.proofs.Common.{◌≡◌, ℕ, ℤ, zero, suc, ◌<◌, ◌≤◌, ◌^◌, Bool, true, false, cond, not, ◌||◌, List, [], ◌∷◌, map, length, Option, Some, None, is_some, slice_get, refl, sym, ap, ap₂, subst, ◌∙◌, inl, inr, arith}
+use Rattle.std.proofs.Common.{◌≡◌, ℕ, ℤ, ◌<◌, ◌≤◌, ◌^◌, Bool, true, false, cond, not, ◌||◌, List, [], ◌∷◌, map, length, Option, Some, None, is_some, slice_get, refl, sym, ap, ap₂, subst, ◌∙◌, inl, inr, arith}
 use Rattle.std.proofs.lemmas.Bool.{true≢false, false≢true}
 use Rattle.wiring.specs.Options.{bind}
-use Rattle.wiring.specs.Wiring.{In, IsAcyclic, IsWithin}
+use Rattle.wiring.specs.Wiring.{In, IsAcyclic}
 use Rattle.wiring.proofs.Members.{from_In-map}
 use Rattle.wiring.proofs.Settled.{by_needs}
 use Rattle.bits_core.specs.Word.{Word, number, bits, bits_of_ℤ}
@@ -19,10 +19,10 @@ use Rattle.verilog_model.specs.Tree.{Expr}
 use Rattle.verilog_model.specs.Tree.Expr.{name}
 use Rattle.verilog_model.specs.Expression.{own_value}
 use Rattle.verilog_expr.specs.Building.{no_expr, literal_of, built}
-use Rattle.verilog_expr.specs.Expressions.{op_at, value_width, constant_number, constant_of, divisor_in, name_or, op_expr, typed_expr, result_expr, own_expr, AreExprs}
+use Rattle.verilog_expr.specs.Expressions.{value_width, constant_number, constant_of, divisor_in, name_or, op_expr, typed_expr, result_expr, own_expr, AreExprs}
 use Rattle.verilog_expr.specs.Spilling.{is_pure, is_wire_kind, is_constant_kind, is_narrower, inner_of, inner_needs}
-use Rattle.verilog_expr.specs.Values.{HasBits, HaveBits, IsWholeName, IsBuildable, IsDividedBy, IsDivision, is_aggregate_kind, is_division, is_variadic, is_item_kind, gives_values, IsWritable, AreNamed, HoldConstants}
-use Rattle.verilog_expr.proofs.Own.{extended_full, Is, Is-own, literal_is}
+use Rattle.verilog_expr.specs.Values.{HasBits, HaveBits, IsWholeName, IsBuildable, IsDividedBy, IsDivision, is_division, is_item_kind, gives_values, IsWritable, AreNamed, HoldConstants}
+use Rattle.verilog_expr.proofs.Own.{extended_full, Is-own, literal_is}
 use Rattle.verilog_expr.proofs.Rows.{as_bits}
 use Rattle.verilog_expr.proofs.Built.{built_bits, built_worth}
 use Rattle.verilog_expr.proofs.Nets.{results, IsWithin-results}
@@ -79,9 +79,14 @@ absent_own named ports os ex (result i k) none = go (slice_get os i) none where
   by_type : (o : Op) (u : Option HwType) → u ≡ None → typed_expr named ports os ex o u ≡ no_expr
   by_type o None is = refl
   by_type o (Some t) is = cc
+
   go : (m : Option Op) → bind m (λ (o : Op). result_type o k) ≡ None → result_expr named ports os ex k m ≡ no_expr
   go None is = refl
   go (Some o) is = by_type o (result_type o k) is
+
+-- a pure operation's first result needs its operands
+pub pure_needs : (os : List Op) (i : ℕ) (o : Op) → slice_get os i ≡ Some o → is_pure o ≡ true → inner_needs os (result i 0) ≡ o.operands
+pure_needs os i o there pure = ap inner_of there ∙ ap (λ b. cond b o.operands []) pure
 
 module _ (named : Ref → Option Name) (ports : List Port) (os : List Op) (ex : Ref → Expr) (widths : Name → ℕ) (ρ : Name → Word) where
   -- the expression of what has a name, and of what has none
@@ -126,12 +131,15 @@ module _ (named : Ref → Option Name) (ports : List Port) (os : List Op) (ex : 
       by_name : (r : Ref) → ex r ≡ e → (m : Option Name) → named r ≡ m → is_some m ≡ true → IsWholeName widths ρ e
       by_name r same None unnamed some = absurd (false≢true some)
       by_name r same (Some n) named_so some = record { called = n; same = sym same ∙ is_name are r n named_so; whole = names.worth r n named_so ∙ sym (names.long r n named_so) }
+
       width_at_zero : width_of (result_type o 0) ≡ width t
       width_at_zero = ap width_of (ap (result_type o) (sym (writable.one_result i k o t there values is)) ∙ is)
+
       of_one : (r : Ref) → o.operands ≡ r ∷ [] → type_in ports os r ≡ x → ex r ≡ e → IsWholeName widths ρ e
       of_one r alone type same =
           by_name r same (named r) refl (writable.cuts i o r there alone
           (ap₂ (is_narrower o.kind) width_at_zero (ap width_of type) ∙ narrower))
+
       go : (rs : List Ref) → o.operands ≡ rs → map (type_in ports os) rs ≡ x ∷ [] → map ex rs ≡ e ∷ [] → IsWholeName widths ρ e
       go [] alone types exprs = absurd (let bad : true ≡ false = cc in true≢false bad)
       go (r ∷ []) alone types exprs =
@@ -165,9 +173,6 @@ module _ (named : Ref → Option Name) (ports : List Port) (os : List Op) (ex : 
 
     -- ---- each value
 
-    pure_needs : (i : ℕ) (o : Op) → slice_get os i ≡ Some o → is_pure o ≡ true → inner_needs os (result i 0) ≡ o.operands
-    pure_needs i o there pure = ap inner_of there ∙ ap (λ b. cond b o.operands []) pure
-
     unnamed_result : (i k : ℕ) → named (result i k) ≡ None → ((x : Ref) → In x (inner_needs os (result i k)) → Good x)
         → HasBits widths ρ (value_width ports os (result i k)) (own_expr named ports os ex (result i k))
     unnamed_result i k unnamed good = by_type (type_in ports os (result i k)) refl where
@@ -177,11 +182,13 @@ module _ (named : Ref → Option Name) (ports : List Port) (os : List Op) (ex : 
       by_purity o t there is true pure =
           let values : gives_values o ≡ true = gives_values-pure o pure in
           let first : k ≡ 0 = writable.one_result i k o t there values is in
-          let needs : inner_needs os (result i k) ≡ o.operands = ap (λ n. inner_needs os (result i n)) first ∙ pure_needs i o there pure in
+          let needs : inner_needs os (result i k) ≡ o.operands = ap (λ n. inner_needs os (result i n)) first ∙ pure_needs os i o there pure in
           op_bits i k o t there values is (λ x here. good x (subst (In x) (sym needs) here))
+
       by_op : (t : HwType) (m : Option Op) → slice_get os i ≡ m → bind m (λ (q : Op). result_type q k) ≡ Some t → HasBits widths ρ (width t) (own_expr named ports os ex (result i k))
       by_op t None there is = absurd (let bad : true ≡ false = cc in true≢false bad)
       by_op t (Some o) there is = subst (HasBits widths ρ (width t)) (sym (is_op i k o t there is)) (by_purity o t there is (is_pure o) refl)
+
       by_type : (u : Option HwType) → type_in ports os (result i k) ≡ u → HasBits widths ρ (width_of u) (own_expr named ports os ex (result i k))
       by_type None is = subst (HasBits widths ρ 0) (sym (absent_own named ports os ex (result i k) is)) (no_bits widths ρ)
       by_type (Some t) is = by_op t (slice_get os i) refl is
@@ -199,6 +206,7 @@ module _ (named : Ref → Option Name) (ports : List Port) (os : List Op) (ex : 
       by_name : (r : Ref) → ((x : Ref) → In x (inner_needs os r) → Good x) → (m : Option Name) → named r ≡ m → Good r
       by_name r good None unnamed = subst (HasBits widths ρ (value_width ports os r)) (sym (is_own are r unnamed)) (unnamed_bits r unnamed good)
       by_name r good (Some n) is = named_bits r n is
+
       step : (r : Ref) → ((x : Ref) → In x (inner_needs os r) → Good x) → Good r
       step r good = by_name r good (named r) refl
 
@@ -214,17 +222,19 @@ module _ (named : Ref → Option Name) (ports : List Port) (os : List Op) (ex : 
     constant_word hold i o t there constant_so is = by_kind (constant_kind o.kind constant_so) where
       small : width t < 2 ^ 64
       small = subst (λ u. width_of u < 2 ^ 64) (type_of_result i 0 o t there is) (writable.narrow (result i 0))
+
       by_name : (z : ℤ) → o.kind ≡ constant z → (m : Option Name) → named (result i 0) ≡ m
           → own_value widths ρ (ex (result i 0)) ≡ bits (width t) (number (bits_of_ℤ (width t) z))
       by_name z kind_is None unnamed =
           let literal_is_it : ex (result i 0) ≡ literal_of (width t) false (number (bits_of_ℤ (width t) z)) =
-            is_own are (result i 0) unnamed ∙ is_op i 0 o t there is
-            ∙ ap (λ kind. built kind (width t) (map (value_width ports os) o.operands) (divisor_in os (width t) o.operands) (map ex o.operands)) kind_is in
+          is_own are (result i 0) unnamed ∙ is_op i 0 o t there is
+          ∙ ap (λ kind. built kind (width t) (map (value_width ports os) o.operands) (divisor_in os (width t) o.operands) (map ex o.operands)) kind_is in
           ap (own_value widths ρ) literal_is_it
           ∙ Is-own widths ρ (width t) false (literal_of (width t) false (number (bits_of_ℤ (width t) z))) _ (literal_is widths ρ (width t) false (number (bits_of_ℤ (width t) z)) small)
       by_name z kind_is (Some n) named_so =
           ap (own_value widths ρ) (is_name are (result i 0) n named_so) ∙ word_of_name (result i 0) n named_so ∙ hold i o z t n there kind_is is named_so
           ∙ as_bits (width t) (bits_of_ℤ (width t) z) (length-bits_of_ℤ (width t) z)
+
       by_kind : (z : ℤ) × (o.kind ≡ constant z) → own_value widths ρ (ex (result i 0)) ≡ bits (width t) (constant_number o.kind (width t))
       by_kind (z, kind_is) = by_name z kind_is (named (result i 0)) refl ∙ ap (λ kind. bits (width t) (constant_number kind (width t))) (sym kind_is)
 

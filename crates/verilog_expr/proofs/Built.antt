@@ -1,11 +1,10 @@
 -- The expression of an operation has the width of its result and the operation's value, for each kind.
-use Rattle.std.proofs.Common.{◌≡◌, ℕ, suc, ◌+◌, ◌*◌, ◌/◌, ◌<◌, ◌≤◌, ◌^◌, Bool, true, false, List, [], ◌∷◌, map, length, decimal, Option, Some, refl, sym, ap, subst, ◌∙◌, inl, inr, arith}
-use Rattle.std.proofs.Math.ListN.{length-replicate}
+use Rattle.std.proofs.Common.{◌≡◌, ℕ, suc, ◌/◌, ◌<◌, ◌≤◌, ◌^◌, Bool, true, false, List, [], ◌∷◌, map, length, decimal, Option, Some, refl, sym, ap, subst, ◌∙◌, inl, inr, arith}
 use Rattle.std.proofs.lemmas.Bool.{true≢false}
 use Rattle.wiring.specs.Lists.{total}
 use Rattle.wiring.specs.Wiring.{In}
 use Rattle.bits_core.specs.Word.{Word, number, bits, bits_of_ℤ, flag, extract as bits_from, copies, sub as difference, quotient, rest, signed_quotient, signed_rest, parity as parity_of, shift_left, shift_right, shift_right_signed, bitwise, ones, zeros, and_words, or_words, xor_words}
-use Rattle.bits_core.proofs.Numbers.{length-bits, bits-number}
+use Rattle.bits_core.proofs.Numbers.{bits-number}
 use Rattle.bits_core.proofs.Arithmetic.{length-add, length-mul, length-sub, length-quotient, length-rest, length-signed_quotient, length-signed_rest}
 use Rattle.bits_core.proofs.Bitwise.{length-bitwise, and_words_assoc, or_words_assoc, xor_words_assoc, and_words-ones, or_words-zeros, xor_words-zeros}
 use Rattle.bits_core.proofs.Complement.{length-bits_of_ℤ}
@@ -14,7 +13,7 @@ use Rattle.hw_model.specs.Types.{Name, HwType, width}
 use Rattle.hw_model.specs.Types.HwType.{int}
 use Rattle.hw_model.specs.Kinds.{Kind}
 use Rattle.hw_model.specs.Kinds.Kind.{add, mul, and, or, xor, sub, divu, modu, divs, mods, shl, shru, shrs, icmp, parity, extract, concat, replicate, mux, constant, aggregate_constant, array_create, array_concat, array_get, array_slice, array_inject, struct_create, struct_extract, struct_inject, struct_explode, bitcast, wire, instance, output, compreg, compreg_ce, firreg}
-use Rattle.hw_model.specs.Value.{joined as joined_words, is_high, product, and_all, or_all, xor_all, of_one, of_two, of_three, compare, op_value}
+use Rattle.hw_model.specs.Value.{product, and_all, or_all, xor_all, of_one, of_two, of_three, compare, op_value}
 use Rattle.hw_model.specs.Flat.{width_of}
 use Rattle.hw_model.specs.Sound.{AllAre, Fits}
 use Rattle.verilog_model.specs.Tree.{Operator, Expr}
@@ -25,7 +24,7 @@ use Rattle.verilog_model.specs.Grammar.{strength, primary_level}
 use Rattle.verilog_model.specs.Expression.{context_of, arithmetic, shifted, own_value}
 use Rattle.verilog_model.specs.Expression.Context.{both_operands, left_operand}
 use Rattle.verilog_expr.specs.Building.{literal_of, placed, unsigned_at, of_one_expr, of_two_exprs, of_three_exprs, unsigned_pair, variadic, unsigned_shift, signed_shift, unsigned_division, signed_division, comparison, selected, first_width, conditional, built}
-use Rattle.verilog_expr.specs.Values.{HasBits, HaveBits, IsWholeName, IsBuildable, IsDividedBy}
+use Rattle.verilog_expr.specs.Values.{HasBits, HaveBits, IsBuildable, IsDividedBy}
 use Rattle.verilog_expr.proofs.Own.{Is, Is-own, HasBits-Is, placed_own, unsigned_at_is, signed_is, literal_is, both_is, shift_is}
 use Rattle.verilog_expr.proofs.Rows.{Gives, gives, AllBits, folded, added, multiplied, from_right, variadic_gives, comparison_gives, odd_gives}
 use Rattle.verilog_expr.proofs.Parts.{selected_gives, concatenation_gives, repeated_gives, conditional_gives}
@@ -138,8 +137,8 @@ module _ (widths : Name → ℕ) (ρ : Name → Word) where
       → Gives widths ρ P w (unsigned_division o w divisor a) (arithmetic o false (own_value widths ρ a) (own_value widths ρ b))
   unsigned_division_gives P o w divisor a b context keeps small first always =
       let is : Is widths ρ w false (unsigned_division o w divisor a) (arithmetic o false (own_value widths ρ a) (bits w divisor)) =
-        both_is widths ρ o w false (unsigned_at (strength o) a) (literal_of w false divisor) (own_value widths ρ a) (bits w divisor) context
-        (unsigned_at_is widths ρ (strength o) w a first) (literal_is widths ρ w false divisor small) (keeps (own_value widths ρ a) (bits w divisor) ∙ first.worth) in
+      both_is widths ρ o w false (unsigned_at (strength o) a) (literal_of w false divisor) (own_value widths ρ a) (bits w divisor) context
+      (unsigned_at_is widths ρ (strength o) w a first) (literal_is widths ρ w false divisor small) (keeps (own_value widths ρ a) (bits w divisor) ∙ first.worth) in
       record {
         bits = HasBits-Is widths ρ w false (unsigned_division o w divisor a) _ is;
         worth = λ p. Is-own widths ρ w false (unsigned_division o w divisor a) _ is ∙ ap (λ y. arithmetic o false (own_value widths ρ a) y) (sym (always p));
@@ -150,8 +149,8 @@ module _ (widths : Name → ℕ) (ρ : Name → Word) where
       → Gives widths ρ P w (signed_division o w divisor a) (arithmetic o true (own_value widths ρ a) (own_value widths ρ b))
   signed_division_gives P o w divisor a b context keeps small first always =
       let is : Is widths ρ w true (signed_division o w divisor a) (arithmetic o true (own_value widths ρ a) (bits w divisor)) =
-        both_is widths ρ o w true (as_signed a) (literal_of w true divisor) (own_value widths ρ a) (bits w divisor) context
-        (signed_is widths ρ w a first) (literal_is widths ρ w true divisor small) (keeps (own_value widths ρ a) (bits w divisor) ∙ first.worth) in
+      both_is widths ρ o w true (as_signed a) (literal_of w true divisor) (own_value widths ρ a) (bits w divisor) context
+      (signed_is widths ρ w a first) (literal_is widths ρ w true divisor small) (keeps (own_value widths ρ a) (bits w divisor) ∙ first.worth) in
       record {
         bits = HasBits-Is widths ρ w true (signed_division o w divisor a) _ is;
         worth = λ p. Is-own widths ρ w true (signed_division o w divisor a) _ is ∙ ap (λ y. arithmetic o true (own_value widths ρ a) y) (sym (always p));

@@ -1,5 +1,5 @@
 -- No expression is nested deeper than the limit of heights: what stands for a value does not change with the depth then.
-use Rattle.std.proofs.Common.{◌≡◌, ℕ, ℤ, zero, suc, ◌<◌, ◌≤◌, Bool, true, false, cond, not, ◌&&◌, nat_le, List, [], map, Option, Some, None, is_some, slice_get, refl, sym, ap, subst, ◌∙◌, arith}
+use Rattle.std.proofs.Common.{◌≡◌, ℕ, ℤ, zero, suc, ◌<◌, ◌≤◌, Bool, true, false, cond, not, ◌&&◌, nat_le, List, map, Option, Some, None, slice_get, refl, sym, ap, subst, ◌∙◌, arith}
 use Rattle.std.proofs.lemmas.Bool.{true≢false, leb-true, leb-false}
 use Rattle.wiring.specs.Options.{bind}
 use Rattle.wiring.specs.Wiring.{In, greatest, IsAcyclic}
@@ -12,12 +12,11 @@ use Rattle.hw_model.specs.Design.{Ref, Port, Op, result_type}
 use Rattle.hw_model.specs.Design.Ref.{port, result, undefined}
 use Rattle.hw_model.specs.Sound.{type_in}
 use Rattle.verilog_model.specs.Tree.{Expr}
-use Rattle.verilog_model.specs.Tree.Expr.{name}
 use Rattle.verilog_expr.specs.Building.{built}
 use Rattle.verilog_expr.specs.Expressions.{op_at, value_width, divisor_in, name_or, op_expr, typed_expr, result_expr, own_expr, expr_step, AreExprs, expr_to}
-use Rattle.verilog_expr.specs.Spilling.{Part, is_pure, is_constant_kind, is_shared, some_op, cuts, part_of_op, part_of, part, height_limit, height_under, operands_of, height_over, height_step, height, has_wire, spilled_op, spilled, inner_needs}
+use Rattle.verilog_expr.specs.Spilling.{is_pure, is_constant_kind, is_shared, some_op, cuts, part_of_op, part_of, part, height_limit, height_under, operands_of, height_over, height_step, height, has_wire, spilled_op, spilled, inner_needs}
 use Rattle.verilog_expr.specs.Spilling.Part.{flat, shared, nested}
-use Rattle.verilog_expr.specs.Values.{gives_values, IsWritable}
+use Rattle.verilog_expr.specs.Values.{IsWritable}
 use Rattle.verilog_expr.proofs.Bodies.{constant_kind, named_twice, absent_own, gives_values-pure}
 use Rattle.verilog_expr.proofs.Heights.{heights_hold}
 
@@ -33,8 +32,10 @@ module _ (named : Ref → Option Name) (ports : List Port) (os : List Op) (writa
   unnamed_first i o t there is unnamed pure = go (is_constant_kind o.kind) refl (is_shared ports os (result i 0) o) refl bare where
     h : ℕ
     h = height ports os (result i 0)
+
     bare : spilled_op ports os (result i 0) (Some o) ≡ false
     bare = ap (spilled_op ports os (result i 0)) (sym there) ∙ writable.wires i 0 o t there is unnamed
+
     its_part : (c s : Bool) → is_constant_kind o.kind ≡ c → is_shared ports os (result i 0) o ≡ s
         → part ports os (result i 0) ≡ cond (not c) (cond s shared nested) flat
     its_part c s constant_so shared_so =
@@ -42,11 +43,13 @@ module _ (named : Ref → Option Name) (ports : List Port) (os : List Op) (writa
         ∙ ap (λ p. cond (p && not (is_constant_kind o.kind)) (cond (is_shared ports os (result i 0) o) shared nested) flat) pure
         ∙ ap (λ k. cond (not k) (cond (is_shared ports os (result i 0) o) shared nested) flat) constant_so
         ∙ ap (λ k. cond (not c) (cond k shared nested) flat) shared_so
+
     has_none : (c s : Bool) → is_constant_kind o.kind ≡ c → is_shared ports os (result i 0) o ≡ s → spilled_op ports os (result i 0) (Some o) ≡ false
         → cond c (some_op (cuts ports os (result i 0)) os) (has_wire (cond (not c) (cond s shared nested) flat) h) ≡ false
     has_none c s constant_so shared_so bare =
         ap (λ p. cond c (some_op (cuts ports os (result i 0)) os) (has_wire p h)) (sym (its_part c s constant_so shared_so) ∙ ap (part_of ports os (result i 0)) there)
         ∙ ap (λ k. cond k (some_op (cuts ports os (result i 0)) os) (has_wire (part_of_op ports os (result i 0) o) h)) (sym constant_so) ∙ bare
+
     go : (c : Bool) → is_constant_kind o.kind ≡ c → (s : Bool) → is_shared ports os (result i 0) o ≡ s → spilled_op ports os (result i 0) (Some o) ≡ false → Unnamed (result i 0)
     go true constant_so s shared_so bare = constant_value i o refl there constant_so (its_part true s constant_so shared_so)
     go false constant_so true shared_so bare = absurd (true≢false (has_none false true constant_so shared_so bare))
@@ -64,6 +67,7 @@ module _ (named : Ref → Option Name) (ports : List Port) (os : List Op) (writa
         let first : k ≡ 0 = writable.one_result i k o t there (gives_values-pure o pure) is in
         subst (λ n. Unnamed (result i n)) (sym first)
         (unnamed_first i o t there (ap (result_type o) (sym first) ∙ is) (ap (λ n. named (result i n)) (sym first) ∙ unnamed) pure)
+
     by_op : (m : Option Op) → slice_get os i ≡ m → bind m (λ (q : Op). result_type q k) ≡ Some t → Unnamed (result i k)
     by_op None there is = absurd (let bad : true ≡ false = cc in true≢false bad)
     by_op (Some o) there is = by_purity o there is (is_pure o) refl
@@ -92,6 +96,7 @@ module _ (named : Ref → Option Name) (ports : List Port) (os : List Op) (writa
       go : (b : Bool) → nat_le height_limit h ≡ b → cond b 0 h ≡ h
       go true high = let bound : height_limit ≤ h = leb-true height_limit h high in absurd (omega arith)
       go false high = refl
+
     by_value : Unnamed r → height_under (part ports os r) (height ports os r) ≡ height ports os r
     by_value (constant_value i o same there constant_so is_flat) =
         ap (λ p. height_under p (height ports os r)) is_flat ∙ sym (flat_height r is_flat)
@@ -107,11 +112,11 @@ module _ (named : Ref → Option Name) (ports : List Port) (os : List Op) (writa
   lower i o r same there is_nested n bound x here =
       let operands_are : operands_of (op_at os r) ≡ o.operands = ap (λ q. operands_of (op_at os q)) same ∙ ap operands_of there in
       let tall : height ports os r ≡ suc (above o.operands) =
-        height_is r ∙ ap (λ p. height_over p (above (operands_of (op_at os r)))) is_nested ∙ ap (λ rs. suc (above rs)) operands_are in
+      height_is r ∙ ap (λ p. height_over p (above (operands_of (op_at os r)))) is_nested ∙ ap (λ rs. suc (above rs)) operands_are in
       let under : ℕ = height_under (part ports os x) (height ports os x) in
       let bounded : under ≤ above o.operands =
-        le-greatest under (map (λ y. height_under (part ports os y) (height ports os y)) o.operands)
-        (In-map (λ y. height_under (part ports os y) (height ports os y)) x o.operands here) in
+      le-greatest under (map (λ y. height_under (part ports os y) (height ports os y)) o.operands)
+      (In-map (λ y. height_under (part ports os y) (height ports os y)) x o.operands here) in
       ((omega arith), (λ unnamed t is. let own : under ≡ height ports os x = unnamed_under x t unnamed is in omega arith))
 
   is_op : (ex : Ref → Expr) (i : ℕ) (o : Op) (r : Ref) (t : HwType) → r ≡ result i 0 → slice_get os i ≡ Some o → type_in ports os r ≡ Some t
@@ -124,6 +129,7 @@ module _ (named : Ref → Option Name) (ports : List Port) (os : List Op) (writa
   same_constant f g o w constant_so = go (constant_kind o.kind constant_so) where
     with_kind : (Ref → Expr) → Kind → Expr
     with_kind ex kind = built kind w (map (value_width ports os) o.operands) (divisor_in os w o.operands) (map ex o.operands)
+
     go : (z : ℤ) × (o.kind ≡ constant z) → with_kind f o.kind ≡ with_kind g o.kind
     go (z, is) = ap (with_kind f) is ∙ sym (ap (with_kind g) is)
 
@@ -142,9 +148,11 @@ module _ (named : Ref → Option Name) (ports : List Port) (os : List Op) (writa
         ∙ same_nested f g o (width t) (λ x here. same x (lower i o r same_ref there is_nested m (first.1 unnamed t is) x here)
         (lower i o r same_ref there is_nested n (second.1 unnamed t is) x here))
         ∙ sym (is_op g i o r t same_ref there is)
+
     by_type : named r ≡ None → (u : Option HwType) → type_in ports os r ≡ u → own_expr named ports os f r ≡ own_expr named ports os g r
     by_type unnamed None is = absent_own named ports os f r is ∙ sym (absent_own named ports os g r is)
     by_type unnamed (Some t) is = by_value t unnamed is (unnamed_value r t unnamed is)
+
     by_name : (q : Option Name) → named r ≡ q → expr_step named ports os f r ≡ expr_step named ports os g r
     by_name None unnamed = ap (name_or (named r)) (by_type unnamed (type_in ports os r) refl)
     by_name (Some k) is =

@@ -1,6 +1,6 @@
 -- The heights of a body's values are each from those of its operation's operands, where no value depends on itself.
-use Rattle.std.proofs.Common.{◌≡◌, ℕ, zero, suc, ◌<◌, ◌≤◌, Bool, true, false, cond, not, ◌&&◌, List, [], map, length, Option, Some, None, refl, sym, ap, ◌∙◌, arith}
-use Rattle.wiring.specs.Wiring.{In, greatest, IsAcyclic, IsHeight, FallsAlong}
+use Rattle.std.proofs.Common.{◌≡◌, ℕ, zero, suc, ◌<◌, ◌≤◌, Bool, true, false, cond, not, ◌&&◌, List, [], map, length, Option, Some, None, refl, ap, arith}
+use Rattle.wiring.specs.Wiring.{In, greatest, IsAcyclic, IsHeight}
 use Rattle.wiring.proofs.Members.{map_same}
 use Rattle.wiring.proofs.Heights.{HasHeights-acyclic, height-le, FallsAlong-height}
 use Rattle.hw_model.specs.Design.{Ref, Port, Op}
@@ -15,6 +15,7 @@ module _ (ports : List Port) (os : List Op) where
   same_step f g r same = go (op_at os r) same where
     above : (Ref → ℕ) → List Ref → ℕ
     above h rs = greatest (map (λ x. height_under (part ports os x) (h x)) rs)
+
     by_purity : (o : Op) (b c : Bool) (p : Part) → ((x : Ref) → In x (cond b o.operands []) → f x ≡ g x)
         → height_over (cond (b && c) p flat) (above f o.operands) ≡ height_over (cond (b && c) p flat) (above g o.operands)
     by_purity o false c p same = refl
@@ -22,6 +23,7 @@ module _ (ports : List Port) (os : List Op) where
         ap (λ hs. height_over (cond c p flat) (greatest hs))
         (map_same (λ x. height_under (part ports os x) (f x)) (λ x. height_under (part ports os x) (g x)) o.operands
         (λ x here. ap (height_under (part ports os x)) (same x here)))
+
     go : (m : Option Op) → ((x : Ref) → In x (inner_of m) → f x ≡ g x)
         → height_over (part_of ports os r m) (above f (operands_of m)) ≡ height_over (part_of ports os r m) (above g (operands_of m))
     go None same = refl

@@ -8,3 +8,4 @@ pub mod Nets
 pub mod Bodies
 pub mod Heights
 pub mod Depths
+pub mod Fit

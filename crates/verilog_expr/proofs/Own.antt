@@ -1,14 +1,13 @@
 -- Expressions under one width and sign: what each form gives where its parts stand under the same ones.
-use Rattle.std.proofs.Common.{◌≡◌, ℕ, zero, suc, ◌+◌, ◌-◌, ◌<◌, ◌≤◌, ◌^◌, max, Bool, true, false, cond, ◌&&◌, nat_le, List, [], ◌∷◌, ◌++◌, length, drop, replicate, decimal, refl, sym, ap, ap₂, ◌∙◌, arith, length-append, length-drop}
-use Rattle.std.proofs.Math.ListN.{length-replicate}
+use Rattle.std.proofs.Common.{◌≡◌, ℕ, ◌-◌, ◌<◌, ◌^◌, max, Bool, true, false, cond, ◌&&◌, nat_le, ◌++◌, length, replicate, decimal, refl, sym, ap, ap₂, ◌∙◌, arith}
 use Rattle.bits_core.specs.Word.{Word, number, bits, sign, flag}
 use Rattle.bits_core.proofs.Numbers.{length-bits}
 use Rattle.hw_model.specs.Types.{Name}
-use Rattle.verilog_model.specs.Numerals.{decimal_number, hex_number}
-use Rattle.verilog_model.specs.Tree.{Operator, Expr, Exprs}
-use Rattle.verilog_model.specs.Tree.Expr.{name, as_signed, as_unsigned, paren, binary, choice}
+use Rattle.verilog_model.specs.Numerals.{decimal_number}
+use Rattle.verilog_model.specs.Tree.{Operator, Expr}
+use Rattle.verilog_model.specs.Tree.Expr.{as_signed, as_unsigned, paren, binary, choice}
 use Rattle.verilog_model.specs.Grammar.{level}
-use Rattle.verilog_model.specs.Expression.{Context, context_of, binary_length, is_signed, length_of, binary_signed, Operand, binary_value, extended, is_true, arithmetic, shifted, compared, low_bits, value, own_value, assigned}
+use Rattle.verilog_model.specs.Expression.{context_of, binary_length, is_signed, length_of, binary_signed, Operand, binary_value, extended, is_true, arithmetic, shifted, compared, value, own_value}
 use Rattle.verilog_model.specs.Expression.Context.{both_operands, left_operand, no_operand}
 use Rattle.verilog_model.proofs.Numerals.{decimal_number-decimal}
 use Rattle.verilog_expr.specs.Building.{literal_of, unsigned, placed, unsigned_at}
@@ -151,6 +150,6 @@ module _ (widths : Name → ℕ) (ρ : Name → Word) where
         worth = ap₂ (λ u v. cond (is_true (own_value widths ρ c)) u v) first.worth second.worth;
         size = go (is_true (own_value widths ρ c));
       } where
-    go : (b : Bool) → length (cond b x y) ≡ w
-    go true = first.size
-    go false = second.size
+        go : (b : Bool) → length (cond b x y) ≡ w
+        go true = first.size
+        go false = second.size

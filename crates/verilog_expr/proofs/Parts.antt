@@ -1,6 +1,6 @@
 -- Further rows of `built`: selects, concatenations, replications, and choices.
-use Rattle.std.proofs.Common.{◌≡◌, ℕ, zero, suc, ◌+◌, ◌-◌, ◌*◌, ◌/◌, ◌<◌, ◌≤◌, ◌^◌, Bool, true, false, cond, ◌&&◌, ◌||◌, ◌==◌, nat_lt, List, [], ◌∷◌, ◌++◌, map, length, decimal, Option, Some, refl, sym, ap, ap₂, subst, ◌∙◌, inl, inr, arith, append-nil, length-append}
-use Rattle.std.proofs.lemmas.Bool.{eqb-true, eqb-false, ltb-true}
+use Rattle.std.proofs.Common.{◌≡◌, ℕ, suc, ◌+◌, ◌-◌, ◌*◌, ◌/◌, ◌<◌, ◌≤◌, ◌^◌, Bool, true, false, cond, ◌&&◌, ◌==◌, nat_lt, List, [], ◌∷◌, ◌++◌, map, length, decimal, Some, refl, sym, ap, ap₂, subst, ◌∙◌, arith, append-nil, length-append}
+use Rattle.std.proofs.lemmas.Bool.{eqb-true, eqb-false}
 use Rattle.std.proofs.Math.Nat.{mul-div_cancel}
 use Rattle.wiring.specs.Lists.{total}
 use Rattle.bits_core.specs.Word.{Word, extract, copies}
@@ -9,7 +9,7 @@ use Rattle.bits_core.proofs.First.{extract_all}
 use Rattle.hw_model.specs.Types.{Name, HwType, width}
 use Rattle.hw_model.specs.Value.{joined as joined_words, is_high}
 use Rattle.verilog_model.specs.Numerals.{decimal_number}
-use Rattle.verilog_model.specs.Tree.{Expr, Exprs}
+use Rattle.verilog_model.specs.Tree.{Expr}
 use Rattle.verilog_model.specs.Tree.Expr.{name, bit_select, part_select, repeated}
 use Rattle.verilog_model.specs.Tree.Exprs.{last}
 use Rattle.verilog_model.specs.Grammar.{choice_level}
@@ -49,7 +49,7 @@ module _ (widths : Name → ℕ) (ρ : Name → Word) where
       let second : decimal_number (decimal (low + w - 1)) ≡ low + w - 1 = decimal_number-decimal (low + w - 1) (omega arith) in
       let long : decimal_number (decimal (low + w - 1)) - decimal_number (decimal low) + 1 ≡ w = omega arith in
       let same : extract (decimal_number (decimal low)) (decimal_number (decimal (low + w - 1)) - decimal_number (decimal low) + 1) (ρ n) ≡ extract low w (ρ n) =
-        ap₂ (λ m k. extract m k (ρ n)) first long in
+      ap₂ (λ m k. extract m k (ρ n)) first long in
       gives_own P w (part_select n (decimal (low + w - 1)) (decimal low)) (extract low w (ρ n)) long
       (extended_full _ false _ (ap length same ∙ size ∙ sym long) ∙ same)
       size
@@ -156,7 +156,7 @@ module _ (widths : Name → ℕ) (ρ : Name → Word) where
       → Gives widths ρ P w (conditional c a b) (cond (is_high (own_value widths ρ c)) (own_value widths ρ a) (own_value widths ρ b))
   conditional_gives P w c a b has first second =
       let truth : is_true (own_value widths ρ (placed (suc choice_level) c)) ≡ is_high (own_value widths ρ c) =
-        ap is_true (placed_own widths ρ (suc choice_level) c) ∙ is_true-high (own_value widths ρ c) has.worth in
+      ap is_true (placed_own widths ρ (suc choice_level) c) ∙ is_true-high (own_value widths ρ c) has.worth in
       gives widths ρ P w false (conditional c a b) _ _
       (choice_is widths ρ w (placed (suc choice_level) c) (unsigned a) (unsigned_at choice_level b) (own_value widths ρ a) (own_value widths ρ b)
       (unsigned_is widths ρ w a first) (unsigned_at_is widths ρ choice_level w b second))

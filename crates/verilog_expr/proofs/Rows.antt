@@ -1,31 +1,24 @@
 -- The rows of `built`: what the expression of each group of operations gives, whatever its operands are.
-use Rattle.std.proofs.Common.{◌≡◌, ℕ, zero, suc, ◌+◌, ◌-◌, ◌*◌, ◌/◌, ◌<◌, ◌≤◌, ◌^◌, Bool, true, false, cond, ◌&&◌, ◌==◌, nat_lt, List, [], ◌∷◌, ◌++◌, map, length, decimal, Option, Some, refl, sym, ap, ap₂, subst, ◌∙◌, inl, inr, arith, append-nil, length-append}
-use Rattle.std.proofs.lemmas.Bool.{eqb-true, eqb-false, ltb-true}
-use Rattle.std.proofs.Math.Nat.{mul-div_cancel}
+use Rattle.std.proofs.Common.{◌≡◌, ℕ, suc, ◌+◌, ◌*◌, ◌≤◌, Bool, true, false, List, [], ◌∷◌, map, length, refl, sym, ap, ◌∙◌, inl, inr, arith}
 use Rattle.wiring.specs.Lists.{total}
 use Rattle.wiring.specs.Wiring.{In}
 use Rattle.wiring.proofs.Members.{from_In-map}
-use Rattle.bits_core.specs.Word.{Word, number, bits, bits_of_ℤ, flag, extract, copies, add, mul, quotient, rest, signed_quotient, signed_rest, and_words, or_words, xor_words, parity, ones, zeros}
-use Rattle.bits_core.proofs.Numbers.{length-bits, length-copies, length-extract, bits-number}
-use Rattle.bits_core.proofs.Arithmetic.{length-add, length-mul, length-quotient, length-rest, length-signed_quotient, length-signed_rest, add-bits_left, mul-bits_left}
-use Rattle.bits_core.proofs.First.{extract_all}
-use Rattle.hw_model.specs.Types.{Name, HwType, width}
+use Rattle.bits_core.specs.Word.{Word, number, bits, flag, add, mul, parity}
+use Rattle.bits_core.proofs.Numbers.{bits-number}
+use Rattle.bits_core.proofs.Arithmetic.{add-bits_left, mul-bits_left}
+use Rattle.hw_model.specs.Types.{Name}
 use Rattle.hw_model.specs.Kinds.{Predicate}
 use Rattle.hw_model.specs.Kinds.Predicate.{eq, ne, slt, sle, sgt, sge, ult, ule, ugt, uge, ceq, cne, weq, wne}
-use Rattle.hw_model.specs.Value.{joined as joined_words, is_high, product, compare}
-use Rattle.hw_model.specs.Flat.{width_of}
-use Rattle.verilog_model.specs.Numerals.{decimal_number}
-use Rattle.verilog_model.specs.Tree.{Operator, Expr, Exprs}
-use Rattle.verilog_model.specs.Tree.Operator.{over, modulo, below, at_most, above, at_least, equals, differs}
-use Rattle.verilog_model.specs.Tree.Expr.{name, bit_select, part_select, joined, repeated, as_signed, odd, binary, choice}
-use Rattle.verilog_model.specs.Tree.Exprs.{last}
-use Rattle.verilog_model.specs.Grammar.{strength, choice_level, primary_level}
-use Rattle.verilog_model.specs.Expression.{context_of, length_of, lengths_of, is_signed, extended, is_true, arithmetic, compared, value, values, own_value}
+use Rattle.hw_model.specs.Value.{product, compare}
+use Rattle.verilog_model.specs.Tree.{Operator, Expr}
+use Rattle.verilog_model.specs.Tree.Operator.{below, at_most, above, at_least, equals, differs}
+use Rattle.verilog_model.specs.Tree.Expr.{as_signed, odd, binary}
+use Rattle.verilog_model.specs.Grammar.{strength}
+use Rattle.verilog_model.specs.Expression.{context_of, arithmetic, compared, own_value}
 use Rattle.verilog_model.specs.Expression.Context.{both_operands, no_operand}
-use Rattle.verilog_model.proofs.Numerals.{decimal_number-decimal}
-use Rattle.verilog_expr.specs.Building.{literal_of, unsigned, placed, unsigned_at, unsigned_pair, chained, variadic, signed_pair, comparison, select, selected, exprs_of, concatenation, conditional}
-use Rattle.verilog_expr.specs.Values.{HasBits, HaveBits, IsWholeName}
-use Rattle.verilog_expr.proofs.Own.{extended_full, Is, Is-own, HasBits-Is, placed_own, unsigned_is, unsigned_at_is, signed_is, literal_is, both_is, compare_is, choice_is}
+use Rattle.verilog_expr.specs.Building.{placed, unsigned_at, unsigned_pair, chained, variadic, signed_pair, comparison}
+use Rattle.verilog_expr.specs.Values.{HasBits}
+use Rattle.verilog_expr.proofs.Own.{extended_full, Is, Is-own, HasBits-Is, placed_own, unsigned_at_is, signed_is, both_is, compare_is}
 
 -- an expression has w bits, and the value x where the premise P holds
 pub record Gives (widths : Name → ℕ) (ρ : Name → Word) (P : Type 0) (w : ℕ) (e : Expr) (x : Word) : Type 0 where
@@ -146,5 +139,5 @@ module _ (widths : Name → ℕ) (ρ : Name → Word) where
   pub odd_gives : (P : Type 0) (l : ℕ) (a : Expr) → Gives widths ρ P 1 (odd (placed l a)) (flag (parity (own_value widths ρ a)))
   odd_gives P l a =
       let worth : own_value widths ρ (odd (placed l a)) ≡ flag (parity (own_value widths ρ a)) =
-        extended_full 1 false (flag (parity (own_value widths ρ (placed l a)))) refl ∙ ap (λ x. flag (parity x)) (placed_own widths ρ l a) in
+      extended_full 1 false (flag (parity (own_value widths ρ (placed l a)))) refl ∙ ap (λ x. flag (parity x)) (placed_own widths ρ l a) in
       record { bits = record { long = refl; worth = ap length worth }; worth = λ p. worth }

@@ -1,9 +1,7 @@
 -- Which values have a wire of their own.
-use Rattle.std.specs.Prelude.{◌≡◌, ℕ, zero, suc, ◌+◌, max, Bool, true, false, cond, not, ◌&&◌, ◌||◌, nat_eq, nat_le, nat_lt, List, [], ◌∷◌, length, map, Option, Some, None, is_some, codes, slice_get}
-use Rattle.wiring.specs.Options.{bind}
-use Rattle.wiring.specs.Lists.{total}
+use Rattle.std.specs.Prelude.{◌≡◌, ℕ, zero, suc, ◌+◌, Bool, true, false, cond, not, ◌&&◌, ◌||◌, nat_eq, nat_le, nat_lt, List, [], ◌∷◌, length, map, Option, Some, None, codes}
 use Rattle.wiring.specs.Wiring.{greatest}
-use Rattle.hw_model.specs.Types.{Name, width}
+use Rattle.hw_model.specs.Types.{Name}
 use Rattle.hw_model.specs.Kinds.{Kind}
 use Rattle.hw_model.specs.Kinds.Kind.{extract, constant, wire}
 use Rattle.hw_model.specs.Design.{Attribute, Entry, Ref, Port, Op, same_name, is_instance, is_register, is_output_op, result_type}
@@ -84,9 +82,9 @@ some_op p (o ∷ os) = p o || some_op p os
 abbrev pub is_shared : List Port → List Op → Ref → Op → Bool
 is_shared ports os r o =
     (nat_le 2 (use_count os r) || some_op (cuts ports os r) os) || (some_op (joins r) os || is_some_name (hint_of o)) where
-  is_some_name : Name → Bool
-  is_some_name [] = false
-  is_some_name (b ∷ bs) = true
+      is_some_name : Name → Bool
+      is_some_name [] = false
+      is_some_name (b ∷ bs) = true
 
 -- ---- heights
 
