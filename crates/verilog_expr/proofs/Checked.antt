@@ -215,18 +215,18 @@ module _ (known : List Declared) where
   -- ---- rows
 
   -- each operand that has a type is well
-  pub HaveWell : List (Option HwType) → List Expr → Type 0
+  unfoldable pub HaveWell : List (Option HwType) → List Expr → Type 0
   HaveWell [] [] = Unit {0}
   HaveWell [] (e ∷ es) = ⊥
   HaveWell (x ∷ xs) [] = ⊥
   HaveWell (x ∷ xs) (e ∷ es) = (is_some x ≡ true → IsWell e) × HaveWell xs es
 
   -- the divisor of a division is not 0
-  pub IsDivided : Kind → ℕ → ℕ → Type 0
+  unfoldable pub IsDivided : Kind → ℕ → ℕ → Type 0
   IsDivided kind w divisor = is_division kind ≡ true → 0 < divisor % 2 ^ w
 
   -- what is cut is a name
-  pub IsCut : Kind → ℕ → List (Option HwType) → List Expr → Type 0
+  unfoldable pub IsCut : Kind → ℕ → List (Option HwType) → List Expr → Type 0
   IsCut kind w xs es = (x : Option HwType) (e : Expr) → xs ≡ x ∷ [] → es ≡ e ∷ [] → is_narrower kind w (width_of x) ≡ true → IsWide (width_of x) e
 
   some_is : {A : Type 0} (x : Option A) (a : A) → x ≡ Some a → is_some x ≡ true

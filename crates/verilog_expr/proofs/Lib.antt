@@ -1,4 +1,14 @@
-pub mod TextRead
-pub mod Nets
 pub mod Numerals
+pub mod Own
+pub mod Assigned
+pub mod Rows
+pub mod Parts
+pub mod Built
+pub mod Nets
+pub mod Bodies
+pub mod Heights
+pub mod Depths
+pub mod Fit
+pub mod TextRead
 pub mod Checked
+pub mod BodiesChecked

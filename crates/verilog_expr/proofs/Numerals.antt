@@ -1,11 +1,10 @@
 -- Hexadecimal numerals and ranges say their numbers again.
-use Rattle.std.proofs.Common.{◌≡◌, ℕ, zero, suc, ◌+◌, ◌-◌, ◌*◌, ◌/◌, ◌%◌, ◌^◌, ◌<◌, ◌≤◌, Bool, true, false, cond, nat_lt, nat_le, ◌==◌, ◌&&◌, ◌||◌, List, [], ◌∷◌, ◌++◌, Some, None, decimal, refl, sym, ap, ◌∙◌, arith, IsTrue}
+use Rattle.std.proofs.Common.{◌≡◌, ℕ, zero, suc, ◌-◌, ◌/◌, ◌%◌, ◌^◌, ◌<◌, ◌≤◌, Bool, true, false, cond, nat_lt, ◌==◌, ◌||◌, [], ◌∷◌, ◌++◌, Some, None, decimal, refl, ◌∙◌, arith, IsTrue}
 use Rattle.std.proofs.lemmas.Bool.{ltb-true, ltb-false}
 use Rattle.verilog_model.specs.Tokens.{is_digit, is_between}
-use Rattle.verilog_model.specs.Tree.{Numeral}
-use Rattle.verilog_model.specs.Numerals.{number_from, hex_digit, hex_number, decimal_number, all_bytes, is_nonempty, is_hex}
+use Rattle.verilog_model.specs.Numerals.{hex_digit, hex_number, decimal_number, all_bytes, is_nonempty, is_hex}
 use Rattle.verilog_model.specs.Hierarchy.{range_width}
-use Rattle.verilog_model.proofs.Numerals.{and_intro, and_first, and_second, number_from-append, all_bytes-append, is_nonempty-append, decimal_number-decimal}
+use Rattle.verilog_model.proofs.Numerals.{and_intro, and_second, number_from-append, all_bytes-append, is_nonempty-append, decimal_number-decimal}
 use Rattle.verilog_expr.specs.Numerals.{hex_byte, hex_digits, hex, high_of}
 
 abbrev is_hex_byte : ℕ → Bool
