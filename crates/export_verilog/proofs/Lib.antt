@@ -2,3 +2,4 @@ pub mod Samples
 pub mod TextRead
 pub mod Lists
 pub mod KeyNames
+pub mod KeysOf

@@ -1,11 +1,11 @@
 -- What the expressions of a body are worth.
-use Rattle.std.specs.Prelude.{◌≡◌, ℕ, suc, ◌<◌, ◌≤◌, Bool, true, false, ◌||◌, List, [], ◌∷◌, map, length, Option, Some, None, is_some, slice_get}
+use Rattle.std.specs.Prelude.{◌≡◌, ℕ, ℤ, suc, ◌<◌, ◌≤◌, ◌^◌, Bool, true, false, ◌||◌, List, [], ◌∷◌, map, length, Option, Some, None, is_some, slice_get}
 use Rattle.wiring.specs.Wiring.{In}
-use Rattle.bits_core.specs.Word.{Word, number}
+use Rattle.bits_core.specs.Word.{Word, bits, bits_of_ℤ}
 use Rattle.hw_model.specs.Types.{Name, HwType, width}
 use Rattle.hw_model.specs.Kinds.{Kind}
-use Rattle.hw_model.specs.Kinds.Kind.{divu, modu, divs, mods, extract, aggregate_constant, array_create, array_concat, array_get, array_slice, array_inject, struct_create, struct_extract, struct_inject, struct_explode}
-use Rattle.hw_model.specs.Design.{Ref, Port, Op, is_instance, is_register, is_output_op, result_type}
+use Rattle.hw_model.specs.Kinds.Kind.{add, mul, and, or, xor, divu, modu, divs, mods, constant, aggregate_constant, array_create, array_concat, array_get, array_slice, array_inject, struct_create, struct_extract, struct_inject, struct_explode}
+use Rattle.hw_model.specs.Design.{Ref, Port, Op, instance_in, is_output_kind, register_form, is_instance, is_register, is_output_op, result_type}
 use Rattle.hw_model.specs.Design.Ref.{port, result, undefined}
 use Rattle.hw_model.specs.Flat.{width_of}
 use Rattle.hw_model.specs.Sound.{type_in, OpFits}
@@ -19,6 +19,21 @@ use Rattle.verilog_expr.specs.Spilling.{is_pure, is_constant_kind, is_narrower, 
 pub record HasBits (widths : Name → ℕ) (ρ : Name → Word) (w : ℕ) (e : Expr) : Type 0 where
   pub long : length_of widths e ≡ w
   pub worth : length (own_value widths ρ e) ≡ w
+
+-- each expression has the bits of its type
+abbrev pub HaveBits : (Name → ℕ) → (Name → Word) → List (Option HwType) → List Expr → Type 0
+HaveBits widths ρ [] [] = Unit {0}
+HaveBits widths ρ [] (e ∷ es) = ⊥
+HaveBits widths ρ (x ∷ xs) [] = ⊥
+HaveBits widths ρ (x ∷ xs) (e ∷ es) = HasBits widths ρ (width_of x) e × HaveBits widths ρ xs es
+
+-- an expression is a name, whose word has the name's width
+pub record IsWholeName (widths : Name → ℕ) (ρ : Name → Word) (e : Expr) : Type 0 where
+  pub called : Name
+  pub same : e ≡ name called
+  pub whole : length (ρ called) ≡ widths called
+
+-- ---- kinds
 
 -- whether a kind is of aggregates
 abbrev pub is_aggregate_kind : Kind → Bool
@@ -41,6 +56,37 @@ is_division divs = true
 is_division mods = true
 is_division _ = false
 
+-- whether a kind takes any number of operands, from one on, of its result's type
+abbrev pub is_variadic : Kind → Bool
+is_variadic add = true
+is_variadic mul = true
+is_variadic and = true
+is_variadic or = true
+is_variadic xor = true
+is_variadic _ = false
+
+-- whether a kind gives no value from its operands' values: a register's, an instance's, a module's output
+abbrev pub is_item_kind : Kind → Bool
+is_item_kind kind = is_some (register_form kind) || (is_some (instance_in kind) || is_output_kind kind)
+
+-- ---- operations
+
+-- what an operation of a kind with a result of type t asks of the types and the expressions of its operands, to be
+-- written as an expression
+pub record IsBuildable (widths : Name → ℕ) (ρ : Name → Word) (kind : Kind) (xs : List (Option HwType)) (t : HwType) (es : List Expr) : Type 0 where
+  pub integers : is_aggregate_kind kind ≡ false
+  pub values : is_item_kind kind ≡ false
+  pub filled : is_variadic kind ≡ true → 1 ≤ length xs
+  pub bits : 1 ≤ width t
+  pub narrow : width t < 2 ^ 64
+  pub narrow_operands : (x : Option HwType) → In x xs → width_of x < 2 ^ 64
+  pub operands : HaveBits widths ρ xs es
+  pub cut : (x : Option HwType) (e : Expr) → xs ≡ x ∷ [] → es ≡ e ∷ [] → is_narrower kind (width t) (width_of x) ≡ true → IsWholeName widths ρ e
+
+-- what a division by a literal of w bits asks: the second operand always is the literal's number
+abbrev pub IsDividedBy : (Name → ℕ) → (Name → Word) → Kind → ℕ → ℕ → List Expr → Type 0
+IsDividedBy widths ρ kind w divisor es = is_division kind ≡ true → (a b : Expr) → es ≡ a ∷ b ∷ [] → own_value widths ρ b ≡ bits w divisor
+
 -- whether an operation gives values from its operands' values: a pure one, or a wire
 abbrev pub gives_values : Op → Bool
 gives_values o = opposite (is_register o || (is_instance o || is_output_op o)) where
@@ -58,12 +104,15 @@ pub record IsDivision (os : List Op) (o : Op) : Type 0 where
   pub constant : is_constant_kind by.kind ≡ true
   pub not_zero : (t : HwType) → result_type o 0 ≡ Some t → 0 < constant_of (Some by) (width t)
 
--- a body whose values can be written as expressions over the names: its operations fit and are of integers, divisors are
--- constants, and a name has what is no pure operation's, what is cut, and what has a wire
+-- a body whose values can be written as expressions over the names: its operations fit and are of integers, no width is
+-- past the numbers of a machine, divisors are constants, and a name has what is no pure operation's, what is cut, and what
+-- has a wire
 pub record IsWritable (named : Ref → Option Name) (ports : List Port) (os : List Op) : Type 0 where
   pub fits : (i : ℕ) (o : Op) → slice_get os i ≡ Some o → OpFits (type_in ports os) o
   pub integers : (i : ℕ) (o : Op) → slice_get os i ≡ Some o → is_aggregate_kind o.kind ≡ false
+  pub filled : (i : ℕ) (o : Op) → slice_get os i ≡ Some o → is_variadic o.kind ≡ true → 1 ≤ length o.operands
   pub bits : (i k : ℕ) (o : Op) (t : HwType) → slice_get os i ≡ Some o → result_type o k ≡ Some t → 1 ≤ width t
+  pub narrow : (r : Ref) → value_width ports os r < 2 ^ 64
   pub divisions : (i : ℕ) (o : Op) → slice_get os i ≡ Some o → is_division o.kind ≡ true → IsDivision os o
   pub inputs : (j : ℕ) (t : HwType) → type_in ports os (port j) ≡ Some t → is_some (named (port j)) ≡ true
   pub owned : (i k : ℕ) (o : Op) (t : HwType) → slice_get os i ≡ Some o → result_type o k ≡ Some t → is_pure o ≡ false
@@ -78,3 +127,8 @@ pub record IsWritable (named : Ref → Option Name) (ports : List Port) (os : Li
 pub record AreNamed (named : Ref → Option Name) (ports : List Port) (os : List Op) (widths : Name → ℕ) (ρ : Name → Word) : Type 0 where
   pub long : (r : Ref) (n : Name) → named r ≡ Some n → widths n ≡ value_width ports os r
   pub worth : (r : Ref) (n : Name) → named r ≡ Some n → length (ρ n) ≡ value_width ports os r
+
+-- the names of constants have their words
+abbrev pub HoldConstants : (Ref → Option Name) → List Op → (Name → Word) → Type 0
+HoldConstants named os ρ = (i : ℕ) (o : Op) (z : ℤ) (t : HwType) (n : Name) → slice_get os i ≡ Some o → o.kind ≡ constant z
+    → result_type o 0 ≡ Some t → named (result i 0) ≡ Some n → ρ n ≡ bits_of_ℤ (width t) z
