@@ -3,3 +3,5 @@ pub mod TextRead
 pub mod Lists
 pub mod KeyNames
 pub mod KeysOf
+pub mod Symbols
+pub mod Items
