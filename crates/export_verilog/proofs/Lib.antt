@@ -5,3 +5,4 @@ pub mod KeyNames
 pub mod KeysOf
 pub mod Symbols
 pub mod Items
+pub mod Lookups
