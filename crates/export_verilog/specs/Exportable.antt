@@ -8,7 +8,8 @@ use Rattle.hw_model.specs.Flat.{Register, register_in}
 use Rattle.hw_model.specs.Hierarchy.{HasNoRecursion}
 use Rattle.hw_model.specs.Meaning.{HasNoCycle}
 use Rattle.hw_model.specs.Sound.{Sound}
-use Rattle.verilog_expr.specs.Values.{is_aggregate_kind, is_division, IsDivision}
+use Rattle.verilog_expr.specs.Expressions.{value_width}
+use Rattle.verilog_expr.specs.Values.{is_aggregate_kind, is_variadic, is_division, IsDivision}
 use Rattle.export_verilog.specs.Keys.{module_keys}
 
 -- the bits of each result are one or more
@@ -30,6 +31,7 @@ pub record IsExportableOp (ports : List Port) (os : List Op) (o : Op) : Type 0 w
   pub one_result : (is_instance o || is_output_op o) ≡ false → (r : OpResult) × (o.results ≡ r ∷ [])
   pub no_result : is_output_op o ≡ true → o.results ≡ []
   pub bits : HaveBits o.results
+  pub filled : is_variadic o.kind ≡ true → 1 ≤ length o.operands
   pub division : is_division o.kind ≡ true → IsDivision os o
   pub clocked : (r : Register) → register_in o ≡ Some r → IsClocked ports r
 
@@ -37,6 +39,9 @@ pub record IsExportableOp (ports : List Port) (os : List Op) (o : Op) : Type 0 w
 pub record IsExportableModule (m : Module) : Type 0 where
   pub ops : (i : ℕ) (o : Op) → slice_get m.body i ≡ Some o → IsExportableOp m.ports m.body o
   pub bits : (j : ℕ) (p : Port) → slice_get m.ports j ≡ Some p → 1 ≤ width p.type
+  -- widths are numbers of a machine
+  pub narrow : (r : Ref) → value_width m.ports m.body r < 2 ^ 64
+  pub narrow_ports : (j : ℕ) (p : Port) → slice_get m.ports j ≡ Some p → width p.type < 2 ^ 64
   -- names are told apart by numbers of a machine
   pub room : length (module_keys m) + 130 < 2 ^ 64
 
