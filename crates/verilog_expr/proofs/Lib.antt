@@ -9,3 +9,4 @@ pub mod Bodies
 pub mod Heights
 pub mod Depths
 pub mod Fit
+pub mod Samples
