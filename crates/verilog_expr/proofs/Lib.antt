@@ -10,3 +10,4 @@ pub mod Heights
 pub mod Depths
 pub mod Fit
 pub mod Samples
+pub mod SampleBody
