@@ -12,3 +12,5 @@ pub mod Fit
 pub mod TextRead
 pub mod Checked
 pub mod BodiesChecked
+pub mod Samples
+pub mod SampleBody
