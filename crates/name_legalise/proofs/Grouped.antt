@@ -1,6 +1,5 @@
 -- Words in groups by their first letters.
-use Rattle.std.proofs.Common.{◌≡◌, ℕ, zero, suc, ◌+◌, ◌<◌, Bool, true, false, ◌&&◌, ◌||◌, nat_eq, List, [], ◌∷◌, ◌++◌, map, length, get_or, drop, add-one, drop-cons, subst, IsTrue, refl, sym, ap, ◌∙◌, arith}
-use Rattle.std.specs.Cmp.Lexicographic.{pointwise}
+use Rattle.std.proofs.Common.{◌≡◌, ℕ, zero, suc, ◌+◌, ◌<◌, Bool, true, false, ◌||◌, nat_eq, List, [], ◌∷◌, ◌++◌, map, length, get_or, drop, add-one, drop-cons, subst, IsTrue, refl, sym, ap, ◌∙◌}
 use Rattle.std.proofs.lemmas.Bool.{eqb-true}
 use Rattle.hw_model.specs.Types.{Name}
 use Rattle.hw_model.specs.Design.{same_name}

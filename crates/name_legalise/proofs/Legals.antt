@@ -11,7 +11,7 @@ use Rattle.verilog_model.proofs.Numerals.{and_intro, and_first, and_second}
 use Rattle.fresh_names.specs.Fresh.{is_taken, suffixed, free_name}
 use Rattle.fresh_names.proofs.Taken.{same_is, taken_more, taken_last, one_more}
 use Rattle.fresh_names.proofs.Free.{name_free, name_stays}
-use Rattle.name_legalise.specs.Legal.{cleaned, legal_name, legal_after, legal}
+use Rattle.name_legalise.specs.Legal.{cleaned, legal_name, legal_after}
 use Rattle.name_legalise.proofs.Members.{is_taken-append, contains_name-is_taken, free_first, free_second, free_both}
 use Rattle.name_legalise.proofs.Suffixes.{reserved_count, suffixed_unreserved, least_within}
 use Rattle.name_legalise.proofs.NameBytes.{cleaned_same, starts_named, bytes_named}

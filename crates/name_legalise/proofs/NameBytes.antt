@@ -1,5 +1,5 @@
 -- The bytes of legal names.
-use Rattle.std.proofs.Common.{◌≡◌, ℕ, ◌<◌, ◌^◌, Bool, true, false, cond, ◌&&◌, ◌||◌, ◌==◌, List, [], ◌∷◌, ◌++◌, map, length, decimal, IsTrue, refl, sym, ap, ◌∙◌}
+use Rattle.std.proofs.Common.{◌≡◌, ℕ, ◌<◌, ◌^◌, Bool, true, false, cond, ◌||◌, ◌==◌, List, [], ◌∷◌, map, length, decimal, IsTrue, refl, ap, ◌∙◌}
 use Rattle.hw_model.specs.Types.{Name}
 use Rattle.verilog_model.specs.Tokens.{is_name_start, is_name_byte, is_digit}
 use Rattle.verilog_model.specs.Numerals.{all_bytes, is_nonempty}

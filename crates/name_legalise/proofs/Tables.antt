@@ -1,16 +1,16 @@
 -- A table of taken names, of which some are the legal ones.
-use Rattle.std.proofs.Common.{◌≡◌, ◌⊎◌, inl, inr, ℕ, zero, suc, ◌+◌, ◌<◌, ◌≤◌, ◌^◌, Bool, true, false, cond, ◌||◌, nat_eq, List, [], ◌∷◌, ◌++◌, length, get_or, append_assoc, subst, refl, sym, ap, ◌∙◌, true≢false, arith, length-append}
+use Rattle.std.proofs.Common.{◌≡◌, ◌⊎◌, inl, inr, ℕ, zero, suc, ◌+◌, ◌<◌, ◌≤◌, ◌^◌, Bool, true, false, cond, ◌||◌, nat_eq, List, [], ◌∷◌, ◌++◌, length, get_or, append_assoc, refl, sym, ap, ◌∙◌, true≢false, arith, length-append}
 use Rattle.std.specs.Prelude.{Some, slice_get}
 use Rattle.std.specs.Cmp.Lexicographic.{pointwise}
 use Rattle.std.proofs.lemmas.List.{get_or_append_left}
 use Rattle.std.proofs.Math.Seq.{get_or-append_seam}
 use Rattle.hw_model.specs.Types.{Name}
 use Rattle.fresh_names.specs.Fresh.{is_taken, free_name}
-use Rattle.fresh_names.proofs.Taken.{same_is, is_same, taken_more, taken_last, one_more}
+use Rattle.fresh_names.proofs.Taken.{same_is, taken_more, taken_last, one_more}
 use Rattle.fresh_names.proofs.Free.{name_free, name_stays}
 use Rattle.verilog_model.specs.Reserved.{reserved_words}
 use Rattle.name_legalise.specs.Kept.{names_at, taken_count, IsTable, with_reserved}
-use Rattle.name_legalise.proofs.Members.{is_taken-append, or_first, or_second}
+use Rattle.name_legalise.proofs.Members.{is_taken-append, or_first}
 use Rattle.name_legalise.proofs.Suffixes.{reserved_count, name_unreserved}
 use Rattle.name_legalise.proofs.Least.{name_alike, name_beyond}
 

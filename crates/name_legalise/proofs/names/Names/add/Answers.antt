@@ -1,9 +1,9 @@
-use Rattle.std.proofs.Common.{◌≡◌, ℕ, ◌+◌, ◌<◌, ◌^◌, ◌⊎◌, ◌++◌, ◌∷◌, [], List, map, length, subst, sym, ap, ◌∙◌, arith}
+use Rattle.std.proofs.Common.{◌+◌, ◌<◌, ◌^◌, ◌++◌, ◌∷◌, [], map, length, subst, sym, ap, ◌∙◌, arith}
 use Rattle.std.proofs.lemmas.List.{length-map, map-append}
 use Rattle.fresh_names.specs.Fresh.{free_name}
 use Rattle.fresh_names.specs.TakenViews.{taken_names}
 use Rattle.verilog_model.specs.Reserved.{reserved_words}
-use Rattle.name_legalise.specs.Kept.{names_at, IsTable, with_reserved}
+use Rattle.name_legalise.specs.Kept.{names_at, IsTable}
 use Rattle.name_legalise.proofs.Tables.{length-names_at}
 use Rattle.name_legalise.proofs.Taking.{with_small, table_kept, names_kept, table_added, names_added, on_any}
 use Rattle.name_legalise.proofs.names.Names.add.Goals as goal
