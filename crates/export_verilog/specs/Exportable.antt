@@ -16,7 +16,7 @@ abbrev pub HaveBits : List OpResult → Type 0
 HaveBits rs = (k : ℕ) (r : OpResult) → slice_get rs k ≡ Some r → 1 ≤ width r.type
 
 -- a register's clock is an input port
-record IsClocked (ports : List Port) (r : Register) : Type 0 where
+pub record IsClocked (ports : List Port) (r : Register) : Type 0 where
   pub number : ℕ
   pub clock : Port
   pub is_port : r.clock ≡ port number

@@ -31,7 +31,7 @@ pub map_map : {A B C : Type 0} → (f : A → B) (g : B → C) (xs : List A) →
 map_map f g [] = refl
 map_map f g (x ∷ xs) = ap (λ ys. g (f x) ∷ ys) (map_map f g xs)
 
-as_many : {A B : Type 0} → (f : A → B) (xs : List A) → length (map f xs) ≡ length xs
+pub as_many : {A B : Type 0} → (f : A → B) (xs : List A) → length (map f xs) ≡ length xs
 as_many f [] = refl
 as_many f (x ∷ xs) = let rest : length (map f xs) ≡ length xs = as_many f xs in omega arith
 
@@ -49,7 +49,7 @@ division_types mods ts xs t k is fits = fits
 division_types _ ts xs t k is fits = absurd (false≢true is)
 
 -- what gives values is no register, instance or output
-item_kind : (o : Op) → gives_values o ≡ true → is_item_kind o.kind ≡ false
+pub item_kind : (o : Op) → gives_values o ≡ true → is_item_kind o.kind ≡ false
 item_kind o gives = go (is_item_kind o.kind) gives where
   go : (b : Bool) → not b ≡ true → b ≡ false
   go true h = sym h
@@ -90,13 +90,13 @@ pure_needs os i o there pure = ap inner_of there ∙ ap (λ b. cond b o.operands
 
 module _ (named : Ref → Option Name) (ports : List Port) (os : List Op) (ex : Ref → Expr) (widths : Name → ℕ) (ρ : Name → Word) where
   -- the expression of what has a name, and of what has none
-  is_name : AreExprs named ports os ex → (r : Ref) (n : Name) → named r ≡ Some n → ex r ≡ name n
+  pub is_name : AreExprs named ports os ex → (r : Ref) (n : Name) → named r ≡ Some n → ex r ≡ name n
   is_name are r n is = are r ∙ ap (λ m. name_or m (own_expr named ports os ex r)) is
 
-  is_own : AreExprs named ports os ex → (r : Ref) → named r ≡ None → ex r ≡ own_expr named ports os ex r
+  pub is_own : AreExprs named ports os ex → (r : Ref) → named r ≡ None → ex r ≡ own_expr named ports os ex r
   is_own are r is = are r ∙ ap (λ m. name_or m (own_expr named ports os ex r)) is
 
-  is_op : (i k : ℕ) (o : Op) (t : HwType) → slice_get os i ≡ Some o → result_type o k ≡ Some t
+  pub is_op : (i k : ℕ) (o : Op) (t : HwType) → slice_get os i ≡ Some o → result_type o k ≡ Some t
       → own_expr named ports os ex (result i k) ≡ op_expr named ports os ex o (width t)
   is_op i k o t there is = ap (result_expr named ports os ex k) there ∙ ap (typed_expr named ports os ex o) is
 

@@ -9,5 +9,8 @@ pub mod Bodies
 pub mod Heights
 pub mod Depths
 pub mod Fit
+pub mod TextRead
+pub mod Checked
+pub mod BodiesChecked
 pub mod Samples
 pub mod SampleBody

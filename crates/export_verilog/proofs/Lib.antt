@@ -1,0 +1,4 @@
+pub mod Samples
+pub mod TextRead
+pub mod Lists
+pub mod KeyNames
