@@ -6,3 +6,4 @@ pub mod KeysOf
 pub mod Symbols
 pub mod Items
 pub mod Lookups
+pub mod Fitting
