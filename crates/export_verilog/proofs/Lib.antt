@@ -6,3 +6,6 @@ pub mod KeysOf
 pub mod Symbols
 pub mod Items
 pub mod Lookups
+pub mod Settings
+pub mod Registers
+pub mod Drives
