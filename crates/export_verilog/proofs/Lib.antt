@@ -9,3 +9,6 @@ pub mod Lookups
 pub mod Settings
 pub mod Registers
 pub mod Drives
+pub mod Sources
+pub mod Places
+pub mod Writable
