@@ -1,1 +1,16 @@
+pub mod Numerals
+pub mod Own
+pub mod Assigned
+pub mod Rows
+pub mod Parts
+pub mod Built
+pub mod Nets
+pub mod Bodies
+pub mod Heights
+pub mod Depths
+pub mod Fit
 pub mod TextRead
+pub mod Checked
+pub mod BodiesChecked
+pub mod Samples
+pub mod SampleBody

@@ -1,5 +1,5 @@
 -- Numerals as they are printed (IEEE 1364-2005, 3.5.1: integer constants).
-use Rattle.std.specs.Prelude.{ℕ, zero, suc, ◌+◌, ◌-◌, ◌/◌, ◌%◌, Bool, cond, ◌==◌, nat_lt, List, [], ◌∷◌, ◌++◌, Option, Some, None, decimal}
+use Rattle.std.specs.Prelude.{ℕ, zero, suc, ◌+◌, ◌-◌, ◌/◌, ◌%◌, cond, ◌==◌, nat_lt, [], ◌∷◌, ◌++◌, Option, Some, None, decimal}
 use Rattle.verilog_model.specs.Tree.{Numeral}
 
 -- the hexadecimal digit of a number below 16, a capital letter from ten on

@@ -1,9 +1,7 @@
 -- Which values have a wire of their own.
-use Rattle.std.specs.Prelude.{◌≡◌, ℕ, zero, suc, ◌+◌, max, Bool, true, false, cond, not, ◌&&◌, ◌||◌, nat_eq, nat_le, nat_lt, List, [], ◌∷◌, length, map, Option, Some, None, is_some, codes, slice_get}
-use Rattle.wiring.specs.Options.{bind}
-use Rattle.wiring.specs.Lists.{total}
+use Rattle.std.specs.Prelude.{◌≡◌, ℕ, zero, suc, ◌+◌, Bool, true, false, cond, not, ◌&&◌, ◌||◌, nat_eq, nat_le, nat_lt, List, [], ◌∷◌, length, map, Option, Some, None, codes}
 use Rattle.wiring.specs.Wiring.{greatest}
-use Rattle.hw_model.specs.Types.{Name, width}
+use Rattle.hw_model.specs.Types.{Name}
 use Rattle.hw_model.specs.Kinds.{Kind}
 use Rattle.hw_model.specs.Kinds.Kind.{extract, constant, wire}
 use Rattle.hw_model.specs.Design.{Attribute, Entry, Ref, Port, Op, same_name, is_instance, is_register, is_output_op, result_type}
@@ -84,9 +82,9 @@ some_op p (o ∷ os) = p o || some_op p os
 abbrev pub is_shared : List Port → List Op → Ref → Op → Bool
 is_shared ports os r o =
     (nat_le 2 (use_count os r) || some_op (cuts ports os r) os) || (some_op (joins r) os || is_some_name (hint_of o)) where
-  is_some_name : Name → Bool
-  is_some_name [] = false
-  is_some_name (b ∷ bs) = true
+      is_some_name : Name → Bool
+      is_some_name [] = false
+      is_some_name (b ∷ bs) = true
 
 -- ---- heights
 
@@ -119,18 +117,22 @@ height_under flat h = 0
 height_under shared h = 0
 height_under nested h = cond (nat_le height_limit h) 0 h
 
-abbrev pub operands_at : List Op → Ref → List Ref
-operands_at os r = operands_of (op_at os r) where
-  operands_of : Option Op → List Ref
-  operands_of None = []
-  operands_of (Some o) = o.operands
+abbrev pub operands_of : Option Op → List Ref
+operands_of None = []
+operands_of (Some o) = o.operands
 
--- the height of a value: one more than the greatest of its operation's operands, 0 of what is a name or a literal
+abbrev pub operands_at : List Op → Ref → List Ref
+operands_at os r = operands_of (op_at os r)
+
+-- the height of a part, from the greatest of its operands' heights: 0 of what is a name or a literal
+abbrev pub height_over : Part → ℕ → ℕ
+height_over flat n = 0
+height_over _ n = suc n
+
+-- the height of a value: one more than the greatest of its operation's operands
 abbrev pub height_step : List Port → List Op → (Ref → ℕ) → Ref → ℕ
-height_step ports os h r = height_of (part ports os r) where
-  height_of : Part → ℕ
-  height_of flat = 0
-  height_of _ = suc (greatest (map (λ x. height_under (part ports os x) (h x)) (operands_at os r)))
+height_step ports os h r =
+    height_over (part ports os r) (greatest (map (λ x. height_under (part ports os x) (h x)) (operands_at os r)))
 
 -- the heights of a body's values, each from those of its operation's operands
 abbrev pub AreHeights : List Port → List Op → (Ref → ℕ) → Type 0

@@ -1,18 +1,18 @@
 -- What the expressions of a body are worth.
-use Rattle.std.specs.Prelude.{◌≡◌, ℕ, ℤ, suc, ◌<◌, ◌≤◌, ◌^◌, Bool, true, false, ◌||◌, List, [], ◌∷◌, map, length, Option, Some, None, is_some, slice_get}
+use Rattle.std.specs.Prelude.{◌≡◌, ℕ, ℤ, ◌<◌, ◌≤◌, ◌^◌, Bool, true, false, ◌||◌, List, [], ◌∷◌, length, Option, Some, None, is_some, slice_get}
 use Rattle.wiring.specs.Wiring.{In}
 use Rattle.bits_core.specs.Word.{Word, bits, bits_of_ℤ}
 use Rattle.hw_model.specs.Types.{Name, HwType, width}
 use Rattle.hw_model.specs.Kinds.{Kind}
 use Rattle.hw_model.specs.Kinds.Kind.{add, mul, and, or, xor, divu, modu, divs, mods, constant, aggregate_constant, array_create, array_concat, array_get, array_slice, array_inject, struct_create, struct_extract, struct_inject, struct_explode}
 use Rattle.hw_model.specs.Design.{Ref, Port, Op, instance_in, is_output_kind, register_form, is_instance, is_register, is_output_op, result_type}
-use Rattle.hw_model.specs.Design.Ref.{port, result, undefined}
+use Rattle.hw_model.specs.Design.Ref.{port, result}
 use Rattle.hw_model.specs.Flat.{width_of}
 use Rattle.hw_model.specs.Sound.{type_in, OpFits}
 use Rattle.verilog_model.specs.Tree.{Expr}
 use Rattle.verilog_model.specs.Tree.Expr.{name}
 use Rattle.verilog_model.specs.Expression.{length_of, own_value}
-use Rattle.verilog_expr.specs.Expressions.{op_at, value_width, constant_of}
+use Rattle.verilog_expr.specs.Expressions.{value_width, constant_of}
 use Rattle.verilog_expr.specs.Spilling.{is_pure, is_constant_kind, is_narrower, spilled}
 
 -- an expression has w bits, and so has its value by its own width and sign

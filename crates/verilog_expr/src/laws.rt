@@ -1,16 +1,96 @@
-//! Laws.
-ghost use Rattle.std.specs.Prelude.{◌≡◌, ℕ, List, []};
-ghost use Rattle.hw_model.specs.Design.{Ref, Port, Op};
-ghost use Rattle.verilog_model.specs.Tree.{Expr};
-ghost use Rattle.verilog_expr.specs.Numerals.{hex};
-ghost use Rattle.verilog_expr.specs.Building.{built};
-ghost use Rattle.verilog_expr.specs.Expressions.{expr_to};
-ghost use Rattle.verilog_expr.specs.Spilling.{spilled};
-ghost use Rattle.verilog_expr.specs.Text.{expr_text};
+//! The laws of expressions, each a clause of a function that does nothing.
 
-/// Does nothing.
-pub fn nothing()
-    ensures a { (ports : List Port) (os : List Op) (r : Ref) → spilled ports os r ≡ spilled ports os r }
-    ensures b { (e : Expr) → expr_text e [] ≡ expr_text e [] }
-    ensures c { (n : ℕ) → hex n ≡ hex n }
+ghost use Rattle.std.specs.Prelude.{◌≡◌, ℕ, suc, ◌<◌, ◌≤◌, ◌^◌, Bool, true, List, [], length, map, Option, Some, None, slice_get, decimal};
+ghost use Rattle.wiring.specs.Wiring.{In, IsAcyclic};
+ghost use Rattle.bits_core.specs.Word.{Word};
+ghost use Rattle.hw_model.specs.Types.{Name, HwType, width};
+ghost use Rattle.hw_model.specs.Kinds.{Kind};
+ghost use Rattle.hw_model.specs.Design.{Ref, Port, Op, result_type};
+ghost use Rattle.hw_model.specs.Design.Ref.{result as result_of};
+ghost use Rattle.hw_model.specs.Value.{op_value};
+ghost use Rattle.hw_model.specs.Flat.{width_of};
+ghost use Rattle.hw_model.specs.Sound.{type_in, Fits};
+ghost use Rattle.verilog_model.specs.Numerals.{decimal_number, hex_number, is_decimal, is_hex};
+ghost use Rattle.verilog_model.specs.Tree.{Expr};
+ghost use Rattle.verilog_model.specs.Grammar.{fits};
+ghost use Rattle.verilog_model.specs.Expression.{own_value, assigned};
+ghost use Rattle.verilog_model.specs.Hierarchy.{range_width};
+ghost use Rattle.verilog_expr.specs.Numerals.{hex, high_of};
+ghost use Rattle.verilog_expr.specs.Building.{built};
+ghost use Rattle.verilog_expr.specs.Expressions.{value_width, own_expr, AreExprs, expr_to};
+ghost use Rattle.verilog_expr.specs.Spilling.{AreHeights, height, height_limit, inner_needs};
+ghost use Rattle.verilog_expr.specs.Values.{HasBits, IsBuildable, IsDividedBy, gives_values, is_division, IsWritable, AreNamed, HoldConstants};
+
+/// Does nothing. Its clauses say that numerals say their numbers again: a decimal one of a number below 2 ^ 64, a
+/// hexadecimal one of any number, and the range of a width (IEEE 1364-2005, 3.5.1).
+pub fn numerals_say_numbers()
+    ensures decimals { (n : ℕ) → n < 2 ^ 64 → decimal_number (decimal n) ≡ n }
+    ensures decimal_digits { (n : ℕ) → n < 2 ^ 64 → is_decimal (decimal n) ≡ true }
+    ensures hexadecimals { (n : ℕ) → hex_number (hex n) ≡ n }
+    ensures hexadecimal_digits { (n : ℕ) → is_hex (hex n) ≡ true }
+    ensures ranges { (w : ℕ) → 1 ≤ w → w < 2 ^ 64 → range_width (high_of w) ≡ w }
+{}
+
+/// Does nothing. Its clauses say what an assignment to a name gives (IEEE 1364-2005, 5.4): of an expression of the name's
+/// width its own value, and of any expression as many bits as the name has.
+pub fn assigned_values()
+    ensures same { (widths : Name → ℕ) (ρ : Name → Word) (w : ℕ) (e : Expr) → HasBits widths ρ w e → assigned widths ρ w e ≡ own_value widths ρ e }
+    ensures long { (widths : Name → ℕ) (ρ : Name → Word) (w : ℕ) (e : Expr) → length (assigned widths ρ w e) ≡ w }
+{}
+
+/// Does nothing. Its clauses say that the expression of an operation has the width of its result and the operation's
+/// value, whatever the expressions of its operands are: they count by their own width and value alone.
+pub fn built_expressions()
+    ensures bits { (widths : Name → ℕ) (ρ : Name → Word) (kind : Kind) (ts : List HwType) (xs : List (Option HwType)) (t : HwType) (k divisor : ℕ)
+        (es : List Expr) → Fits kind ts xs t k → IsBuildable widths ρ kind xs t es
+        → HasBits widths ρ (width t) (built kind (width t) (map width_of xs) divisor es) }
+    ensures worth { (widths : Name → ℕ) (ρ : Name → Word) (kind : Kind) (ts : List HwType) (xs : List (Option HwType)) (t : HwType) (k divisor : ℕ)
+        (es : List Expr) → Fits kind ts xs t k → IsBuildable widths ρ kind xs t es → IsDividedBy widths ρ kind (width t) divisor es
+        → own_value widths ρ (built kind (width t) (map width_of xs) divisor es) ≡ op_value kind ts t k (map (own_value widths ρ) es) }
+{}
+
+/// Does nothing. Its clauses say of the expressions of a body: each has the width of its value (`bits`); the expression
+/// of an operation has the width of the result (`own_bits`) and the value that the operation gives from those of its
+/// operands' expressions (`worth`), where a division asks that the names of constants hold them; and what has neither
+/// type nor name has no bits (`absent`).
+pub fn expressions_of_a_body()
+    ensures bits { (named : Ref → Option Name) (ports : List Port) (os : List Op) (ex : Ref → Expr) (widths : Name → ℕ) (ρ : Name → Word)
+        → IsWritable named ports os → IsAcyclic (inner_needs os) → AreExprs named ports os ex → AreNamed named ports os widths ρ
+        → (r : Ref) → HasBits widths ρ (value_width ports os r) (ex r) }
+    ensures own_bits { (named : Ref → Option Name) (ports : List Port) (os : List Op) (ex : Ref → Expr) (widths : Name → ℕ) (ρ : Name → Word)
+        → IsWritable named ports os → IsAcyclic (inner_needs os) → AreExprs named ports os ex → AreNamed named ports os widths ρ
+        → (i k : ℕ) (o : Op) (t : HwType) → slice_get os i ≡ Some o → gives_values o ≡ true → result_type o k ≡ Some t
+        → HasBits widths ρ (width t) (own_expr named ports os ex (result_of i k)) }
+    ensures worth { (named : Ref → Option Name) (ports : List Port) (os : List Op) (ex : Ref → Expr) (widths : Name → ℕ) (ρ : Name → Word)
+        → IsWritable named ports os → IsAcyclic (inner_needs os) → AreExprs named ports os ex → AreNamed named ports os widths ρ
+        → (i k : ℕ) (o : Op) (t : HwType) → slice_get os i ≡ Some o → gives_values o ≡ true → result_type o k ≡ Some t
+        → (is_division o.kind ≡ true → HoldConstants named os ρ)
+        → own_value widths ρ (own_expr named ports os ex (result_of i k)) ≡ op_value o.kind o.types t k (map (λ (x : Ref). own_value widths ρ (ex x)) o.operands) }
+    ensures absent { (named : Ref → Option Name) (ports : List Port) (os : List Op) (ex : Ref → Expr) (widths : Name → ℕ) (ρ : Name → Word)
+        → AreExprs named ports os ex → (r : Ref) → type_in ports os r ≡ None → named r ≡ None → own_value widths ρ (ex r) ≡ [] }
+{}
+
+/// Does nothing. Its clause says that the heights of a body's values are each from those of its operation's operands,
+/// where no value depends on itself.
+pub fn heights_hold()
+    ensures { (ports : List Port) (os : List Op) → IsAcyclic (inner_needs os) → AreHeights ports os (height ports os) }
+{}
+
+/// Does nothing. Its clause says that the expressions down to a depth of one more than the limit of heights are those of
+/// the body: each is made from those of its operation's operands.
+pub fn expressions_hold()
+    ensures { (named : Ref → Option Name) (ports : List Port) (os : List Op) → IsWritable named ports os → IsAcyclic (inner_needs os)
+        → AreExprs named ports os (λ (r : Ref). expr_to named ports os (suc height_limit) r) }
+{}
+
+/// Does nothing. Its clauses say that expressions keep the precedence and association of the operators (IEEE 1364-2005,
+/// 5.1.2): that of an operation where those of its operands do, each expression of a body, and each down to a depth.
+pub fn expressions_fit()
+    ensures built { (kind : Kind) (w : ℕ) (ws : List ℕ) (divisor : ℕ) (es : List Expr) → ((e : Expr) → In e es → fits e ≡ true)
+        → fits (built kind w ws divisor es) ≡ true }
+    ensures body { (named : Ref → Option Name) (ports : List Port) (os : List Op) (ex : Ref → Expr) → IsWritable named ports os
+        → IsAcyclic (inner_needs os) → AreExprs named ports os ex → (r : Ref) → fits (ex r) ≡ true }
+    ensures depth { (named : Ref → Option Name) (ports : List Port) (os : List Op) (n : ℕ) (r : Ref) → fits (expr_to named ports os n r) ≡ true }
+    ensures own { (named : Ref → Option Name) (ports : List Port) (os : List Op) (ex : Ref → Expr) → ((r : Ref) → fits (ex r) ≡ true)
+        → (r : Ref) → fits (own_expr named ports os ex r) ≡ true }
 {}

@@ -1,0 +1,155 @@
+-- The expressions of a body's values meet the checks of a text.
+use Rattle.std.proofs.Common.{◌≡◌, ℕ, ℤ, zero, suc, ◌%◌, ◌<◌, ◌≤◌, ◌^◌, Bool, true, false, List, [], ◌∷◌, map, length, Option, Some, None, is_some, slice_get, refl, sym, ap, ap₂, subst, ◌∙◌, inl, inr, arith}
+use Rattle.std.proofs.Math.Nat.{mod-eq_of_lt}
+use Rattle.std.proofs.lemmas.Nat.{pow_pos}
+use Rattle.std.proofs.lemmas.Bool.{ltb-true, true≢false, false≢true}
+use Rattle.wiring.specs.Options.{bind}
+use Rattle.wiring.specs.Wiring.{In, IsAcyclic}
+use Rattle.wiring.proofs.Members.{from_In-map}
+use Rattle.wiring.proofs.Settled.{by_needs}
+use Rattle.bits_core.specs.Word.{Word, number, bits_of_ℤ}
+use Rattle.bits_core.proofs.Numbers.{number_below}
+use Rattle.bits_core.proofs.Complement.{length-bits_of_ℤ}
+use Rattle.hw_model.specs.Types.{Name, HwType, width}
+use Rattle.hw_model.specs.Kinds.{Kind}
+use Rattle.hw_model.specs.Kinds.Kind.{constant, extract}
+use Rattle.hw_model.specs.Design.{Ref, Port, Op, result_type}
+use Rattle.hw_model.specs.Design.Ref.{port, result, undefined}
+use Rattle.hw_model.specs.Flat.{width_of}
+use Rattle.hw_model.specs.Sound.{type_in}
+use Rattle.verilog_model.specs.Tree.{Expr}
+use Rattle.verilog_model.specs.Tree.Expr.{name}
+use Rattle.verilog_model.specs.Checks.{Declared}
+use Rattle.verilog_expr.specs.Building.{built}
+use Rattle.verilog_expr.specs.Expressions.{value_width, constant_number, constant_of, divisor_in, name_or, op_expr, own_expr, AreExprs}
+use Rattle.verilog_expr.specs.Spilling.{is_pure, is_narrower, inner_needs}
+use Rattle.verilog_expr.specs.Values.{IsDivision, is_division, gives_values, IsWritable}
+use Rattle.verilog_expr.proofs.Bodies.{map_map, gives_values-pure, pure_needs, absent_own, item_kind, as_many, named_twice, is_name, is_own, is_op}
+use Rattle.verilog_expr.proofs.Nets.{results, IsWithin-results}
+use Rattle.verilog_expr.proofs.Checked.{IsWell, IsWide, HaveWell, IsDivided, IsCut, built_well}
+
+-- the names of values are known, with all their bits
+pub record AreKnown (known : List Declared) (named : Ref → Option Name) (ports : List Port) (os : List Op) : Type 0 where
+  pub well : (r : Ref) (n : Name) → named r ≡ Some n → IsWell known (name n)
+  pub wide : (r : Ref) (n : Name) → named r ≡ Some n → 1 < value_width ports os r → IsWide known (value_width ports os r) (name n)
+
+-- what the lemmas on expressions do not look at
+no_widths : Name → ℕ
+no_widths n = 0
+
+no_words : Name → Word
+no_words n = []
+
+module _ (known : List Declared) (named : Ref → Option Name) (ports : List Port) (os : List Op) (ex : Ref → Expr)
+    (writable : IsWritable named ports os) (acyclic : IsAcyclic (inner_needs os)) (are : AreExprs named ports os ex) (names : AreKnown known named ports os) where
+  Typed : Ref → Type 0
+  Typed r = is_some (type_in ports os r) ≡ true → IsWell known (ex r)
+
+  all_typed : (rs : List Ref) → ((x : Ref) → In x rs → Typed x) → HaveWell known (map (type_in ports os) rs) (map ex rs)
+  unfolding Typed HaveWell
+  all_typed [] good = tt
+  all_typed (r ∷ rs) good = (good r (inl refl), all_typed rs (λ x here. good x (inr here)))
+
+  constant_bound : (kind : Kind) (w : ℕ) → constant_number kind w < 2 ^ w
+  constant_bound (constant z) w = subst (λ n. number (bits_of_ℤ w z) < 2 ^ n) (length-bits_of_ℤ w z) (number_below (bits_of_ℤ w z))
+  constant_bound _ w = pow_pos w
+
+  divided_well : (i k : ℕ) (o : Op) (t : HwType) → slice_get os i ≡ Some o → gives_values o ≡ true → result_type o k ≡ Some t → IsDivided known o.kind (width t) (divisor_in os (width t) o.operands)
+  unfolding IsDivided
+  divided_well i k o t there values is division =
+      let d : IsDivision os o = writable.divisions i o there division in
+      let first : k ≡ 0 = writable.one_result i k o t there values is in
+      let at_zero : result_type o 0 ≡ Some t = ap (result_type o) (sym first) ∙ is in
+      let number_is : divisor_in os (width t) o.operands ≡ constant_number d.by.kind (width t) = ap (divisor_in os (width t)) d.operands ∙ ap (λ m. constant_of m (width t)) d.there in
+      let small : constant_number d.by.kind (width t) < 2 ^ width t = constant_bound d.by.kind (width t) in
+      let rest : constant_number d.by.kind (width t) % 2 ^ width t ≡ constant_number d.by.kind (width t) = mod-eq_of_lt small in
+      subst (λ n. 0 < n) (sym (ap (λ n. n % 2 ^ width t) number_is ∙ rest)) (d.not_zero t at_zero)
+
+  cut_wide : (i k : ℕ) (o : Op) (t : HwType) → slice_get os i ≡ Some o → gives_values o ≡ true → result_type o k ≡ Some t
+      → IsCut known o.kind (width t) (map (type_in ports os) o.operands) (map ex o.operands)
+  unfolding IsCut
+  cut_wide i k o t there values is x e types exprs narrower = go o.operands refl types exprs where
+    by_name : (r : Ref) → type_in ports os r ≡ x → ex r ≡ e → 1 < value_width ports os r → (m : Option Name) → named r ≡ m → is_some m ≡ true → IsWide known (width_of x) e
+    by_name r type same large None unnamed some = absurd (false≢true some)
+    by_name r type same large (Some n) named_so some =
+        subst (λ w. IsWide known w e) (ap width_of type)
+        (subst (IsWide known (value_width ports os r)) (sym (is_name named ports os ex no_widths no_words are r n named_so) ∙ same) (names.wide r n named_so large))
+
+    width_at_zero : width_of (result_type o 0) ≡ width t
+    width_at_zero = ap width_of (ap (result_type o) (sym (writable.one_result i k o t there values is)) ∙ is)
+
+    narrower_less : (kind : Kind) (v w : ℕ) → is_narrower kind v w ≡ true → v < w
+    narrower_less (extract low) v w h = ltb-true v w h
+    narrower_less _ v w h = absurd (false≢true h)
+
+    of_one : (r : Ref) → o.operands ≡ r ∷ [] → type_in ports os r ≡ x → ex r ≡ e → IsWide known (width_of x) e
+    of_one r alone type same =
+        let some : 1 ≤ width t = writable.bits i k o t there is in
+        let less : width t < width_of x = narrower_less o.kind (width t) (width_of x) narrower in
+        let whole : value_width ports os r ≡ width_of x = ap width_of type in
+        by_name r type same (omega (arith, some, less, whole)) (named r) refl
+        (writable.cuts i o r there alone (ap₂ (is_narrower o.kind) width_at_zero whole ∙ narrower))
+
+    go : (rs : List Ref) → o.operands ≡ rs → map (type_in ports os) rs ≡ x ∷ [] → map ex rs ≡ e ∷ [] → IsWide known (width_of x) e
+    go [] alone types exprs = absurd (let bad : true ≡ false = cc in true≢false bad)
+    go (r ∷ []) alone types exprs =
+        let type : type_in ports os r ≡ x = cc in
+        let same : ex r ≡ e = cc in
+        of_one r alone type same
+    go (r ∷ q ∷ rs) alone types exprs = absurd (let bad : true ≡ false = cc in true≢false bad)
+
+  op_well : (i k : ℕ) (o : Op) (t : HwType) → slice_get os i ≡ Some o → gives_values o ≡ true → result_type o k ≡ Some t
+      → ((x : Ref) → In x o.operands → Typed x) → IsWell known (op_expr named ports os ex o (width t))
+  op_well i k o t there values is good =
+      subst (λ ws. IsWell known (built o.kind (width t) ws (divisor_in os (width t) o.operands) (map ex o.operands))) (map_map (type_in ports os) width_of o.operands)
+      (built_well known o.kind o.types (map (type_in ports os) o.operands) t k (divisor_in os (width t) o.operands) (map ex o.operands)
+      (writable.fits i o there k t is) (writable.integers i o there) (item_kind o values)
+      (λ variadic. subst (λ n. 1 ≤ n) (sym (as_many (type_in ports os) o.operands)) (writable.filled i o there variadic))
+      (writable.bits i k o t there is)
+      (subst (λ u. width_of u < 2 ^ 64) (ap (λ m. bind m (λ (q : Op). result_type q k)) there ∙ is) (writable.narrow (result i k)))
+      (λ x here. let found = from_In-map (type_in ports os) x o.operands here in subst (λ u. width_of u < 2 ^ 64) (sym found.2) (writable.narrow found.0))
+      (all_typed o.operands good) (divided_well i k o t there values is) (cut_wide i k o t there values is))
+
+  -- ---- each value
+
+  unnamed_well : (r : Ref) → named r ≡ None → ((x : Ref) → In x (inner_needs os r) → Typed x) → is_some (type_in ports os r) ≡ true → IsWell known (own_expr named ports os ex r)
+  unnamed_well undefined unnamed good some = absurd (false≢true some)
+  unnamed_well (port j) unnamed good some = go (type_in ports os (port j)) refl some where
+    go : (u : Option HwType) → type_in ports os (port j) ≡ u → is_some u ≡ true → IsWell known (own_expr named ports os ex (port j))
+    go None is h = absurd (false≢true h)
+    go (Some t) is h = absurd (named_twice (named (port j)) (writable.inputs j t is) unnamed)
+  unnamed_well (result i k) unnamed good some = by_op (slice_get os i) refl some where
+    by_purity : (o : Op) (t : HwType) → slice_get os i ≡ Some o → result_type o k ≡ Some t → (b : Bool) → is_pure o ≡ b → IsWell known (op_expr named ports os ex o (width t))
+    by_purity o t there is false impure = absurd (named_twice (named (result i k)) (writable.owned i k o t there is impure) unnamed)
+    by_purity o t there is true pure =
+        let values : gives_values o ≡ true = gives_values-pure o pure in
+        let first : k ≡ 0 = writable.one_result i k o t there values is in
+        let needs : inner_needs os (result i k) ≡ o.operands = ap (λ n. inner_needs os (result i n)) first ∙ pure_needs os i o there pure in
+        op_well i k o t there values is (λ x here. good x (subst (In x) (sym needs) here))
+
+    by_type : (o : Op) → slice_get os i ≡ Some o → (u : Option HwType) → result_type o k ≡ u → is_some u ≡ true → IsWell known (own_expr named ports os ex (result i k))
+    by_type o there None is h = absurd (false≢true h)
+    by_type o there (Some t) is h = subst (IsWell known) (sym (is_op named ports os ex no_widths no_words i k o t there is)) (by_purity o t there is (is_pure o) refl)
+
+    by_op : (m : Option Op) → slice_get os i ≡ m → is_some (bind m (λ (q : Op). result_type q k)) ≡ true → IsWell known (own_expr named ports os ex (result i k))
+    by_op None there h = absurd (false≢true h)
+    by_op (Some o) there h = by_type o there (result_type o k) refl h
+
+  typed_well : (r : Ref) → Typed r
+  unfolding Typed
+  typed_well = by_needs (inner_needs os) Typed step (results (length os)) (IsWithin-results os) acyclic where
+    by_name : (r : Ref) → ((x : Ref) → In x (inner_needs os r) → Typed x) → (m : Option Name) → named r ≡ m → is_some (type_in ports os r) ≡ true → IsWell known (ex r)
+    by_name r good None unnamed h = subst (IsWell known) (sym (is_own named ports os ex no_widths no_words are r unnamed)) (unnamed_well r unnamed good h)
+    by_name r good (Some n) is h = subst (IsWell known) (sym (is_name named ports os ex no_widths no_words are r n is)) (names.well r n is)
+
+    step : (r : Ref) → ((x : Ref) → In x (inner_needs os r) → Typed x) → Typed r
+    step r good = by_name r good (named r) refl
+
+  -- the expression of each value that has a type
+  pub body_well : (r : Ref) (t : HwType) → type_in ports os r ≡ Some t → IsWell known (ex r)
+  unfolding Typed
+  body_well r t is = typed_well r (ap is_some is)
+
+  -- what is assigned to the name of an operation's value
+  pub own_well : (i k : ℕ) (o : Op) (t : HwType) → slice_get os i ≡ Some o → gives_values o ≡ true → result_type o k ≡ Some t → IsWell known (own_expr named ports os ex (result i k))
+  own_well i k o t there values is = subst (IsWell known) (sym (is_op named ports os ex no_widths no_words i k o t there is)) (op_well i k o t there values is (λ x here. typed_well x))

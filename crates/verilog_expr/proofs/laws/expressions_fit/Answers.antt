@@ -1,0 +1,14 @@
+use Rattle.verilog_expr.proofs.Fit.{built_fits, body_fits, depth_fits, own_fits}
+use Rattle.verilog_expr.proofs.laws.expressions_fit.Goals as goal
+
+pub returns-clause-built : goal.returns-clause-built
+returns-clause-built c = built_fits
+
+pub returns-clause-body : goal.returns-clause-body
+returns-clause-body c = body_fits
+
+pub returns-clause-depth : goal.returns-clause-depth
+returns-clause-depth c = depth_fits
+
+pub returns-clause-own : goal.returns-clause-own
+returns-clause-own c = own_fits
