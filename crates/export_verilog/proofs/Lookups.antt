@@ -202,7 +202,7 @@ instance_value d m (instance_key i) = bind (slice_get m.body i) (λ (o : Op). om
 instance_value d m _ = None
 
 module _ (d : Design) (m : Module) where
-  instances_back : (n : Name) (y : Item) (c : VInstance) → In y (vitems d m) → instance_named n y ≡ Some c
+  pub instances_back : (n : Name) (y : Item) (c : VInstance) → In y (vitems d m) → instance_named n y ≡ Some c
       → (k : Key) × In k (module_keys m) × (n ≡ key_text m k) × (instance_value d m k ≡ Some c)
   instances_back n y c here gives = go (from_items d m y here) where
     go : From d m y → (k : Key) × In k (module_keys m) × (n ≡ key_text m k) × (instance_value d m k ≡ Some c)
