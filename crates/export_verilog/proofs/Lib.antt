@@ -6,10 +6,11 @@ pub mod KeysOf
 pub mod Symbols
 pub mod Items
 pub mod Lookups
-pub mod Fitting
 pub mod Settings
 pub mod Registers
 pub mod Drives
 pub mod Sources
 pub mod Places
 pub mod Writable
+pub mod Fitting
+pub mod Known
