@@ -138,3 +138,76 @@ module _ (d : Design) (x : Setting d) (s : Name) (m : Module) (is : find_module 
         let own : y ≡ declared_port m j p = as_it ∙ ap (λ (v : VPort). record { name = v.name; role = port_role v.is_output; high = v.high }) e in
         (port_key j, port_in m j p there, sym called ∙ ap (λ (q : Declared). q.name) own, ap (omap (declared_port m j)) there ∙ ap (λ (q : Declared). Some q) (sym own ∙ same))
     go j p there (inr never) as_it = absurd never
+
+  known_back : (n : Name) (y c : Declared) → In y (known_first m) → when (same_name y.name n) y ≡ Some c → Backed n c
+  known_back n y c here gives = let h = when_some (same_name y.name n) y c gives in
+      go (in_append y (declared_ports (vports m)) (declared_items (declarations m)) here) (name_from y.name n h.0) h.1 where
+    go : In y (declared_ports (vports m)) ⊎ In y (declared_items (declarations m)) → y.name ≡ n → y ≡ c → Backed n c
+    go (inl h) called same = ports_back n y c h called same
+    go (inr h) called same = let e = in_declared_items y (declarations m) h in items_back n y c e.0 e.1 e.2 called same
+
+  Forth : Key → Declared → Type 0
+  Forth k c = (y : Declared) × In y (known_first m) × (when (same_name y.name (key_text m k)) y ≡ Some c)
+
+  -- a thing that is declared so is found so
+  forth_as : (k : Key) (c y : Declared) → In y (known_first m) → y.name ≡ key_text m k → y ≡ c → Forth k c
+  unfolding Forth
+  forth_as k c y here called same = (y, here, ap (λ b. when b y) (ap (λ n. same_name n (key_text m k)) called ∙ name_self (key_text m k)) ∙ ap (λ (q : Declared). Some q) same)
+
+  known_forth : (k : Key) (c : Declared) → In k (module_keys m) → declared_value m k ≡ Some c → Forth k c
+  known_forth k c here value_is = go (owner_of m k here) where
+    among_items : (y : Declared) (z : Item) → In z (declarations m) → In y (declared_by z) → In y (known_first m)
+    among_items y z at within = In-append_right y (declared_ports (vports m)) (declared_items (declarations m)) (declared_items_in y (declarations m) z at within)
+
+    same_value : (l : Key) (v : Declared) → k ≡ l → declared_value m l ≡ Some v → v ≡ c
+    same_value l v e f = let g : Some v ≡ Some c = sym f ∙ ap (declared_value m) (sym e) ∙ value_is in let h : v ≡ c = cc in h
+
+    own : (i n : ℕ) (o : Op) (r : OpResult) → slice_get m.body i ≡ Some o → slice_get o.results n ≡ Some r → k ≡ value_key i n → In (declared_result m i n o r) (known_first m) → Forth k c
+    own i n o r there found_so e within =
+        forth_as k c (declared_result m i n o r) within (ap (key_text m) (sym e)) (same_value (value_key i n) (declared_result m i n o r) e (value_of_result i n o r there found_so))
+
+    role_at : (i n : ℕ) (o : Op) (r : OpResult) (q : Role) → role_of m.ports m.body i o ≡ q → record { name = key_text m (value_key i n); role = result_role q; high = high_of (width r.type) } ≡ declared_result m i n o r
+    role_at i n o r q e = ap (λ w. record { name = key_text m (value_key i n); role = result_role w; high = high_of (width r.type) }) (sym e)
+
+    go : Owner m k → Forth k c
+    go (a_port j p there e) =
+        forth_as k c (declared_port m j p)
+        (In-append_left (declared_port m j p) (declared_ports (vports m)) (declared_items (declarations m))
+        (In-map (λ (q : VPort). record { name = q.name; role = port_role q.is_output; high = q.high }) (vport_at m j p) (vports m) (into_each (vport m) m.ports (vport_at m j p) j p there (inl refl))))
+        (ap (key_text m) (sym e)) (same_value (port_key j) (declared_port m j p) e (ap (omap (declared_port m j)) there))
+    go (a_net i o there role e) = let r = result_at_first d x s m is i o there (inl role) in
+        own i 0 o r.0 there r.1 e (among_items (declared_result m i 0 o r.0) (wire (high_of (width_of (result_type o 0))) (key_text m (value_key i 0)))
+        (into_each (declares m) m.body (wire (high_of (width_of (result_type o 0))) (key_text m (value_key i 0))) i o there (subst (λ q. In (wire (high_of (width_of (result_type o 0))) (key_text m (value_key i 0))) (declared_as m i o q)) (sym role) (inl refl)))
+        (inl (sym (role_at i 0 o r.0 net role) ∙ ap (λ h. record { name = key_text m (value_key i 0); role = net_role; high = h }) (sym (high_first o r.0 r.1)))))
+    go (a_variable i o there role e) = let r = result_at_first d x s m is i o there (inr role) in
+        own i 0 o r.0 there r.1 e (among_items (declared_result m i 0 o r.0) (reg (high_of (width_of (result_type o 0))) (key_text m (value_key i 0)))
+        (into_each (declares m) m.body (reg (high_of (width_of (result_type o 0))) (key_text m (value_key i 0))) i o there (subst (λ q. In (reg (high_of (width_of (result_type o 0))) (key_text m (value_key i 0))) (declared_as m i o q)) (sym role) (inl refl)))
+        (inl (sym (role_at i 0 o r.0 variable role) ∙ ap (λ h. record { name = key_text m (value_key i 0); role = variable_role; high = h }) (sym (high_first o r.0 r.1)))))
+    go (owns_instance i o there role e) = let g : None ≡ Some c = sym (ap (declared_value m) e) ∙ value_is in cc
+    go (a_result i n o r there role found_so e) =
+        own i n o r there found_so e (among_items (declared_result m i n o r) (wire (high_of (width r.type)) (key_text m (value_key i n)))
+        (into_each (declares m) m.body (wire (high_of (width r.type)) (key_text m (value_key i n))) i o there
+        (subst (λ q. In (wire (high_of (width r.type)) (key_text m (value_key i n))) (declared_as m i o q)) (sym role)
+        (subst (λ a. In (wire (high_of (width r.type)) (key_text m (value_key i a))) (result_wires m i 0 o.results)) (zero-add n) (into_wires m i 0 o.results n r found_so))))
+        (inl (sym (role_at i n o r block role))))
+
+  -- ---- what is known later, too
+
+  unfoldable pub KnowsAll : List Declared → Type 0
+  KnowsAll known = (k : Key) (c : Declared) → In k (module_keys m) → declared_value m k ≡ Some c → find_declared known (key_text m k) ≡ Some c
+
+  pub knows_first : KnowsAll (known_first m)
+  unfolding KnowsAll Forth Backed
+  knows_first k c here value_is =
+      found m (x.names s m is) (λ n (y : Declared). when (same_name y.name n) y) (known_first m) (declared_value m) known_back known_forth k here ∙ value_is
+
+  found_more : (n : Name) (known more_known : List Declared) (c : Declared) → find_declared known n ≡ Some c → find_declared (known ++ more_known) n ≡ Some c
+  found_more n [] more_known c e = cc
+  found_more n (y ∷ known) more_known c e = go (when (same_name y.name n) y) e (found_more n known more_known c) where
+    go : (o : Option Declared) → or_else o (find_declared known n) ≡ Some c → (find_declared known n ≡ Some c → find_declared (known ++ more_known) n ≡ Some c) → or_else o (find_declared (known ++ more_known) n) ≡ Some c
+    go None h rest = rest h
+    go (Some z) h rest = h
+
+  pub knows_more : (known more_known : List Declared) → KnowsAll known → KnowsAll (known ++ more_known)
+  unfolding KnowsAll
+  knows_more known more_known knows k c here value_is = found_more (key_text m k) known more_known c (knows k c here value_is)

@@ -14,3 +14,4 @@ pub mod Places
 pub mod Writable
 pub mod Fitting
 pub mod Known
+pub mod Readable
