@@ -25,7 +25,7 @@ use Rattle.export_verilog.specs.Exported.{expression, assigned_expr}
 use Rattle.export_verilog.proofs.KeyNames.{AreNames, text_named, name_is_identifier}
 use Rattle.export_verilog.proofs.KeysOf.{Owner, owner_of, port_in}
 use Rattle.export_verilog.proofs.KeysOf.Owner.{a_port, a_net, a_variable, an_instance as owns_instance, a_result}
-use Rattle.export_verilog.proofs.Settings.{Setting, module_ok, result_at_first}
+use Rattle.export_verilog.proofs.Settings.{Setting, module_ok, one_result_of, result_at_first}
 use Rattle.export_verilog.proofs.Writable.{NamedAs, named_as, writable}
 use Rattle.export_verilog.proofs.Sources.{inner_acyclic}
 use Rattle.export_verilog.proofs.Writable.NamedAs.{by_port, by_value}
@@ -137,10 +137,10 @@ module _ (d : Design) (x : Setting d) (s : Name) (m : Module) (is : find_module 
 
   pub expression_well : (r : Ref) (t : HwType) → type_in m.ports m.body r ≡ Some t → IsWell known (expression m r)
   expression_well r t typed =
-      body_well known (named m) m.ports m.body (expression m) (writable d x s m is) (inner_acyclic d s m is (x.ok.acyclic s))
-      (expressions_hold (named m) m.ports m.body (writable d x s m is) (inner_acyclic d s m is (x.ok.acyclic s))) are_known r t typed
+      body_well known (named m) m.ports m.body (expression m) (writable d x s m is) (inner_acyclic d s m is (one_result_of d x s m is) (x.ok.acyclic s))
+      (expressions_hold (named m) m.ports m.body (writable d x s m is) (inner_acyclic d s m is (one_result_of d x s m is) (x.ok.acyclic s))) are_known r t typed
 
   pub assigned_well : (i k : ℕ) (o : Op) (t : HwType) → slice_get m.body i ≡ Some o → gives_values o ≡ true → result_type o k ≡ Some t → IsWell known (assigned_expr m (result i k))
   assigned_well i k o t there values typed =
-      own_well known (named m) m.ports m.body (expression m) (writable d x s m is) (inner_acyclic d s m is (x.ok.acyclic s))
-      (expressions_hold (named m) m.ports m.body (writable d x s m is) (inner_acyclic d s m is (x.ok.acyclic s))) are_known i k o t there values typed
+      own_well known (named m) m.ports m.body (expression m) (writable d x s m is) (inner_acyclic d s m is (one_result_of d x s m is) (x.ok.acyclic s))
+      (expressions_hold (named m) m.ports m.body (writable d x s m is) (inner_acyclic d s m is (one_result_of d x s m is) (x.ok.acyclic s))) are_known i k o t there values typed
