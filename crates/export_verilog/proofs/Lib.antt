@@ -15,3 +15,5 @@ pub mod Writable
 pub mod Fitting
 pub mod Known
 pub mod Readable
+pub mod Stated
+pub mod Apart

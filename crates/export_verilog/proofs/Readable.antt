@@ -37,11 +37,11 @@ module _ (d : Design) (x : Setting d) (s : Name) (m : Module) (is : find_module 
     pub as_it : Declared
     pub found : find_declared known (key_text m k) ≡ Some as_it
 
-  found_port : (j : ℕ) (p : Port) → slice_get m.ports j ≡ Some p → find_declared known (key_text m (port_key j)) ≡ Some (declared_port m j p)
+  pub found_port : (j : ℕ) (p : Port) → slice_get m.ports j ≡ Some p → find_declared known (key_text m (port_key j)) ≡ Some (declared_port m j p)
   unfolding KnowsAll
   found_port j p there = knows (port_key j) (declared_port m j p) (port_in m j p there) (ap (omap (declared_port m j)) there)
 
-  found_result : (i k : ℕ) (o : Op) (r : OpResult) → In (value_key i k) (module_keys m) → slice_get m.body i ≡ Some o → slice_get o.results k ≡ Some r
+  pub found_result : (i k : ℕ) (o : Op) (r : OpResult) → In (value_key i k) (module_keys m) → slice_get m.body i ≡ Some o → slice_get o.results k ≡ Some r
       → find_declared known (key_text m (value_key i k)) ≡ Some (declared_result m i k o r)
   unfolding KnowsAll
   found_result i k o r here there at =
