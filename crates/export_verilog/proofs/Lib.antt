@@ -17,3 +17,4 @@ pub mod Known
 pub mod Readable
 pub mod Stated
 pub mod Apart
+pub mod Ordered

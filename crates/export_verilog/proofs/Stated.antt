@@ -39,7 +39,7 @@ use Rattle.export_verilog.proofs.Readable.{found_port, found_result, expression_
 
 -- ---- ranges
 
-high_decimal : (w : ℕ) → w < 2 ^ 64 → high_checks (high_of w) ≡ true
+pub high_decimal : (w : ℕ) → w < 2 ^ 64 → high_checks (high_of w) ≡ true
 high_decimal w small = go (w == 1) where
   go : (b : Bool) → high_checks (cond b None (Some (decimal (w - 1)))) ≡ true
   go true = refl
@@ -68,7 +68,7 @@ placed_in f g (x ∷ xs) (y ∷ ys) (suc n) b same at = let rest : map f xs ≡ 
 
 -- ---- items in order
 
-items_split : (t : Tree) (known : List Declared) (xs ys : List Item) → ((y : Item) (kn : List Declared) → In y xs → item_checks t kn y ≡ true)
+pub items_split : (t : Tree) (known : List Declared) (xs ys : List Item) → ((y : Item) (kn : List Declared) → In y xs → item_checks t kn y ≡ true)
     → items_check t (known ++ declared_items xs) ys ≡ true → items_check t known (xs ++ ys) ≡ true
 items_split t known [] ys all rest = subst (λ k. items_check t k ys ≡ true) (append-nil known) rest
 items_split t known (x ∷ xs) ys all rest =
@@ -83,11 +83,11 @@ module _ (d : Design) (x : Setting d) (s : Name) (m : Module) (is : find_module 
   typed_first : (o : Op) (r : OpResult) → slice_get o.results 0 ≡ Some r → result_type o 0 ≡ Some r.type
   typed_first o r e = ap (omap (λ (z : OpResult). z.type)) e
 
-  result_small : (i k : ℕ) (o : Op) (r : OpResult) → slice_get m.body i ≡ Some o → slice_get o.results k ≡ Some r → width r.type < 2 ^ 64
+  pub result_small : (i k : ℕ) (o : Op) (r : OpResult) → slice_get m.body i ≡ Some o → slice_get o.results k ≡ Some r → width r.type < 2 ^ 64
   result_small i k o r there at =
       subst (λ z. width_of z < 2 ^ 64) (ap (λ z. bind z (λ (q : Op). result_type q k)) there ∙ ap (omap (λ (z : OpResult). z.type)) at) ((module_ok d x s m is).narrow (result i k))
 
-  first_small : (i : ℕ) (o : Op) → slice_get m.body i ≡ Some o → width_of (result_type o 0) < 2 ^ 64
+  pub first_small : (i : ℕ) (o : Op) → slice_get m.body i ≡ Some o → width_of (result_type o 0) < 2 ^ 64
   first_small i o there = subst (λ z. width_of z < 2 ^ 64) (ap (λ z. bind z (λ (q : Op). result_type q 0)) there) ((module_ok d x s m is).narrow (result i 0))
 
   -- a declaration meets the checks whatever is known
@@ -133,7 +133,7 @@ module _ (d : Design) (x : Setting d) (s : Name) (m : Module) (is : find_module 
           (and_intro (expr_checks known (expression m b.signal)) (load_checks known q (loads q (expression m b.value))) (good b.signal _ (are.signal b v)) (load_good q b.value ty (are.value b v)))
           (and_intro (expr_checks known (expression m e)) (load_checks known q (loads q (expression m r.next))) (good e _ (are.enable e u)) next_good)
 
-    register_good : (i : ℕ) (o : Op) (r : Register) → slice_get m.body i ≡ Some o → role_of m.ports m.body i o ≡ variable → register_in o ≡ Some r → item_checks t known (block_at m i r) ≡ true
+    pub register_good : (i : ℕ) (o : Op) (r : Register) → slice_get m.body i ≡ Some o → role_of m.ports m.body i o ≡ variable → register_in o ≡ Some r → item_checks t known (block_at m i r) ≡ true
     register_good i o r there role is_register_of =
         let first = result_at_first d x s m is i o there (inr role) in
         let typed = typed_register d x s m is i o there role first.0.type (typed_first o first.0 first.1) in
@@ -152,7 +152,7 @@ module _ (d : Design) (x : Setting d) (s : Name) (m : Module) (is : find_module 
 
     -- ---- wires and outputs
 
-    net_good : (i : ℕ) (o : Op) → slice_get m.body i ≡ Some o → role_of m.ports m.body i o ≡ net → item_checks t known (assign (key_text m (value_key i 0)) (assigned_expr m (result i 0))) ≡ true
+    pub net_good : (i : ℕ) (o : Op) → slice_get m.body i ≡ Some o → role_of m.ports m.body i o ≡ net → item_checks t known (assign (key_text m (value_key i 0)) (assigned_expr m (result i 0))) ≡ true
     net_good i o there role =
         let first = result_at_first d x s m is i o there (inl role) in
         let sort = made_of_role m.ports m.body i o role in
@@ -162,7 +162,7 @@ module _ (d : Design) (x : Setting d) (s : Name) (m : Module) (is : find_module 
       values : register_form o.kind ≡ None → instance_in o.kind ≡ None → is_output_kind o.kind ≡ false → gives_values o ≡ true
       values r n u = simp (r, n, u) refl
 
-    output_good : (j : ℕ) (p : Port) → slice_get m.ports j ≡ Some p → p.is_output ≡ true
+    pub output_good : (j : ℕ) (p : Port) → slice_get m.ports j ≡ Some p → p.is_output ≡ true
         → item_checks t known (assign (key_text m (port_key j)) (expr_for (expression m) (slice_get (output_refs m.body) (output_count (take j m.ports))))) ≡ true
     output_good j p there out =
         let at = place_of_output m.ports j p there out in
@@ -183,7 +183,7 @@ module _ (d : Design) (x : Setting d) (s : Name) (m : Module) (is : find_module 
       map_same [] = refl
       map_same (u ∷ us) = ap (λ z. u ∷ z) (map_same us)
 
-    connection_good : (i : ℕ) (o : Op) → slice_get m.body i ≡ Some o → role_of m.ports m.body i o ≡ block → (c : Called d m o) → (j : ℕ) (p : Port) → slice_get c.module_of.ports j ≡ Some p
+    pub connection_good : (i : ℕ) (o : Op) → slice_get m.body i ≡ Some o → role_of m.ports m.body i o ≡ block → (c : Called d m o) → (j : ℕ) (p : Port) → slice_get c.module_of.ports j ≡ Some p
         → (e : Connection) → e ≡ connection_of c.module_of m i j 0 (take j c.module_of.ports) p o.operands
         → connection_checks known (find_port (vports c.module_of) e.port) e.value ≡ true
     connection_good i o there role c j p at e same =
@@ -203,7 +203,7 @@ module _ (d : Design) (x : Setting d) (s : Name) (m : Module) (is : find_module 
           let g = placed_in (type_in m.ports m.body) (λ (u : HwType). Some u) o.operands (input_types c.module_of.ports) (input_count (take j c.module_of.ports)) p.type c.inputs (place_of_input c.module_of.ports j p at out) in
           ap (λ z. expr_checks known (expr_for (expression m) z)) g.1 ∙ good g.0 p.type g.2
 
-    all_connections : (i : ℕ) (o : Op) → slice_get m.body i ≡ Some o → role_of m.ports m.body i o ≡ block → (c : Called d m o) → (cs : List Connection)
+    pub all_connections : (i : ℕ) (o : Op) → slice_get m.body i ≡ Some o → role_of m.ports m.body i o ≡ block → (c : Called d m o) → (cs : List Connection)
         → ((e : Connection) → In e cs → connection_checks known (find_port (vports c.module_of) e.port) e.value ≡ true) → connections_check known (vports c.module_of) cs ≡ true
     all_connections i o there role c [] all = refl
     all_connections i o there role c (e ∷ cs) all =
