@@ -18,3 +18,4 @@ pub mod Readable
 pub mod Stated
 pub mod Apart
 pub mod Ordered
+pub mod Declares
