@@ -53,7 +53,7 @@ unfoldable pub port_keys_from : ℕ → List Port → List Key
 port_keys_from j [] = []
 port_keys_from j (p ∷ ps) = port_key j ∷ port_keys_from (suc j) ps
 
-port_keys_above : (j : ℕ) (ps : List Port) (k : Key) → In k (port_keys_from j ps) → (n : ℕ) × (p : Port) × (slice_get ps n ≡ Some p) × (k ≡ port_key (j + n))
+pub port_keys_above : (j : ℕ) (ps : List Port) (k : Key) → In k (port_keys_from j ps) → (n : ℕ) × (p : Port) × (slice_get ps n ≡ Some p) × (k ≡ port_key (j + n))
 unfolding port_keys_from
 port_keys_above j [] k here = absurd here
 port_keys_above j (p ∷ ps) k (inl same) = (0, p, refl, same ∙ ap port_key (sym (add-zero j)))
