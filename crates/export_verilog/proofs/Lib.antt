@@ -19,3 +19,4 @@ pub mod Stated
 pub mod Apart
 pub mod Ordered
 pub mod Declares
+pub mod Nesting
