@@ -20,3 +20,4 @@ pub mod Apart
 pub mod Ordered
 pub mod Declares
 pub mod Nesting
+pub mod Clocks

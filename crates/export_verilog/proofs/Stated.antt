@@ -47,7 +47,7 @@ high_decimal w small = go (w == 1) where
 
 -- ---- inputs by number
 
-place_of_input : (ps : List Port) (j : ℕ) (p : Port) → slice_get ps j ≡ Some p → p.is_output ≡ false → slice_get (input_types ps) (input_count (take j ps)) ≡ Some p.type
+pub place_of_input : (ps : List Port) (j : ℕ) (p : Port) → slice_get ps j ≡ Some p → p.is_output ≡ false → slice_get (input_types ps) (input_count (take j ps)) ≡ Some p.type
 place_of_input [] j p is out = cc
 place_of_input (x ∷ ps) zero p is out =
     let e : x ≡ p = cc in let way : x.is_output ≡ false = ap (λ (z : Port). z.is_output) e ∙ out in
@@ -59,7 +59,7 @@ place_of_input (x ∷ ps) (suc j) p is out = go x.is_output (place_of_input ps j
   go false rest = rest
 
 -- what stands at a place of a list that maps to another one
-placed_in : {A B C : Type 0} (f : A → C) (g : B → C) (xs : List A) (ys : List B) (n : ℕ) (b : B) → map f xs ≡ map g ys → slice_get ys n ≡ Some b → (a : A) × (slice_get xs n ≡ Some a) × (f a ≡ g b)
+pub placed_in : {A B C : Type 0} (f : A → C) (g : B → C) (xs : List A) (ys : List B) (n : ℕ) (b : B) → map f xs ≡ map g ys → slice_get ys n ≡ Some b → (a : A) × (slice_get xs n ≡ Some a) × (f a ≡ g b)
 placed_in f g [] [] n b same at = cc
 placed_in f g [] (y ∷ ys) n b same at = cc
 placed_in f g (x ∷ xs) [] n b same at = cc
