@@ -21,3 +21,4 @@ pub mod Ordered
 pub mod Declares
 pub mod Nesting
 pub mod Clocks
+pub mod Driven
