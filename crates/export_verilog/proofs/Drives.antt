@@ -147,7 +147,7 @@ module _ (d : Design) (x : Setting d) (s : Name) (m : Module) (is : find_module 
   abbrev gives : Name → Item → Option Drive
   gives n y = item_drive (tree_of d) top q (vmodule d m) n y
 
-  block_name : (i : ℕ) (r : Register) → block_target (block_of (expression m) (key_text m (value_key i 0)) r.next r.enable r.reset) ≡ key_text m (value_key i 0)
+  pub block_name : (i : ℕ) (r : Register) → block_target (block_of (expression m) (key_text m (value_key i 0)) r.next r.enable r.reset) ≡ key_text m (value_key i 0)
   block_name i r = go r.enable r.reset where
     go : (e : _) (f : _) → block_target (block_of (expression m) (key_text m (value_key i 0)) r.next e f) ≡ key_text m (value_key i 0)
     go None None = refl

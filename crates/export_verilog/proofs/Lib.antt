@@ -12,3 +12,4 @@ pub mod Drives
 pub mod Sources
 pub mod Places
 pub mod Writable
+pub mod Content
