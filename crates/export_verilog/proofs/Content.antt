@@ -86,7 +86,7 @@ module _ (d : Design) (x : Setting d) (s : Name) (m : Module) (is : find_module 
   are : AreNames m
   are = x.names s m is
 
-  variable_width : (i : ℕ) (o : Op) → slice_get m.body i ≡ Some o → role_of m.ports m.body i o ≡ variable
+  pub variable_width : (i : ℕ) (o : Op) → slice_get m.body i ≡ Some o → role_of m.ports m.body i o ≡ variable
       → width_in (vmodule d m) (key_text m (value_key i 0)) ≡ held_width o
   variable_width i o there role =
       width_under x.say d m (module_ok d x s m is) are (result_at_first d x s m is) (value_key i 0) (variable_in m i o there role)

@@ -13,3 +13,4 @@ pub mod Sources
 pub mod Places
 pub mod Writable
 pub mod Content
+pub mod Nets
