@@ -14,3 +14,5 @@ pub mod Places
 pub mod Writable
 pub mod Content
 pub mod Nets
+pub mod Operands
+pub mod Worth
