@@ -16,3 +16,4 @@ pub mod Content
 pub mod Nets
 pub mod Operands
 pub mod Worth
+pub mod Ways

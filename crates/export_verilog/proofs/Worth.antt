@@ -63,7 +63,7 @@ low_all k w size = let none : length w - k ≡ 0 = omega arith in ap (λ n. drop
 pub low_whole : (k : ℕ) (w : Word) → length w ≡ k → low_bits k (extended k false w) ≡ w
 low_whole k w size = ap (low_bits k) (extended_full k false w size) ∙ low_all k w size
 
-constant_form : (k : Kind) (z : ℤ) → k ≡ constant z → (register_form k ≡ None) × (instance_in k ≡ None) × (is_division k ≡ false)
+pub constant_form : (k : Kind) (z : ℤ) → k ≡ constant z → (register_form k ≡ None) × (instance_in k ≡ None) × (is_division k ≡ false)
 constant_form k z e = (ap register_form e, ap instance_in e, ap is_division e)
 
 made_gives : (o : Op) → register_form o.kind ≡ None → instance_in o.kind ≡ None → is_output_kind o.kind ≡ false → gives_values o ≡ true
@@ -102,7 +102,7 @@ module _ (d : Design) (x : Setting d) (top : Name) (inputs content : Word) where
     pub found_there : find_module d (symbol_at_path d x top p m here).0 ≡ Some m
     found_there = (symbol_at_path d x top p m here).1
 
-    can_write : IsWritable (named m) m.ports m.body
+    pub can_write : IsWritable (named m) m.ports m.body
     can_write = writable d x symbol_there m found_there
 
     no_inner_cycle : IsAcyclic (inner_needs m.body)
@@ -167,7 +167,7 @@ module _ (d : Design) (x : Setting d) (top : Name) (inputs content : Word) where
       made_worth i k o t there gives typed hold =
           body_worth (named m) m.ports m.body (expression m) (width_in (vmodule d m)) (names_at (vpath_of d top p) σ) can_write no_inner_cycle are_exprs names_fit i k o t there gives typed hold
 
-      own_unnamed : (r : Ref) → named m r ≡ None → own σ p m r ≡ own_value (width_in (vmodule d m)) (names_at (vpath_of d top p) σ) (assigned_expr m r)
+      pub own_unnamed : (r : Ref) → named m r ≡ None → own σ p m r ≡ own_value (width_in (vmodule d m)) (names_at (vpath_of d top p) σ) (assigned_expr m r)
       own_unnamed r e = ap (own_value (width_in (vmodule d m)) (names_at (vpath_of d top p) σ))
           (is_own (named m) m.ports m.body (expression m) (width_in (vmodule d m)) (names_at (vpath_of d top p) σ) are_exprs r e)
 
@@ -223,6 +223,17 @@ module _ (d : Design) (x : Setting d) (top : Name) (inputs content : Word) where
           by_drive (value_key i l) same (driven_from (vnet (vpath_of d top (number_of m.body i ∷ p)) (key_text c.module_of (port_key e.place)))) (drive_result d x top p m here i l o r c there role found e)
           (low_long (key_width m (value_key i l)) false (σ (vnet (vpath_of d top (number_of m.body i ∷ p)) (key_text c.module_of (port_key e.place)))))
 
+  -- what is joined to an input port
+  pub joined_is : (u : ℕ) (p : Path) (m : Module) → (f : Further d x top p u m) → (j : ℕ) (z : Option Ref)
+      → operand_for (slice_get m.ports j) f.op.operands (input_count (take j m.ports)) ≡ z → source d top (at (u ∷ p) (port j)) ≡ copy_of p z
+  joined_is u p m f j z joins =
+      ap (copy_of p) (ap (λ y. bind y (joined_at d u j)) f.here
+      ∙ ap (λ y. bind y (joined_ref d j)) instance_is
+      ∙ ap (λ y. bind y (λ (c : Module). port_ref c.ports f.op.operands j)) (callee_is d f.outer f.op f.called)
+      ∙ ap (λ (c : Module). port_ref c.ports f.op.operands j) f.inside ∙ joins) where
+    instance_is : slice_get (instances f.outer.body) u ≡ Some f.op
+    instance_is = ap (slice_get (instances f.outer.body)) (sym f.is_number) ∙ instance_found f.outer.body f.place f.op f.called.kind f.there f.called.is_kind
+
   -- ---- under two maps that agree
 
   module _ (σ : VNet → Word) (good : IsGood σ) (τ : Net → Word) where
@@ -252,17 +263,6 @@ module _ (d : Design) (x : Setting d) (top : Name) (inputs content : Word) where
         ap (driven (tree_of d) (symbol_name d top) inputs content σ (key_width m (port_key j))) (drive_top_input d x top m here j y there inward)
         ∙ sym (evaluated_as τ [] (port j) (from_input (input_width (take j m.ports)) (width y.type))
         (ap (input_source j) here ∙ ap (λ z. input_of z (input_width (take j m.ports))) there ∙ ap (λ b. cond b nowhere (from_input (input_width (take j m.ports)) (width y.type))) inward))
-
-    -- what is joined to an input port
-    pub joined_is : (u : ℕ) (p : Path) (m : Module) → (f : Further d x top p u m) → (j : ℕ) (z : Option Ref)
-        → operand_for (slice_get m.ports j) f.op.operands (input_count (take j m.ports)) ≡ z → source d top (at (u ∷ p) (port j)) ≡ copy_of p z
-    joined_is u p m f j z joins =
-        ap (copy_of p) (ap (λ y. bind y (joined_at d u j)) f.here
-        ∙ ap (λ y. bind y (joined_ref d j)) instance_is
-        ∙ ap (λ y. bind y (λ (c : Module). port_ref c.ports f.op.operands j)) (callee_is d f.outer f.op f.called)
-        ∙ ap (λ (c : Module). port_ref c.ports f.op.operands j) f.inside ∙ joins) where
-      instance_is : slice_get (instances f.outer.body) u ≡ Some f.op
-      instance_is = ap (slice_get (instances f.outer.body)) (sym f.is_number) ∙ instance_found f.outer.body f.place f.op f.called.kind f.there f.called.is_kind
 
     inner_input_agrees : (u : ℕ) (p : Path) (m : Module) (here : module_at d top (u ∷ p) ≡ Some m) (f : Further d x top p u m) (j : ℕ) (y : Port) → slice_get m.ports j ≡ Some y → y.is_output ≡ false
         → ((r : Ref) → own σ p f.outer r ≡ τ (at p r)) → given σ (u ∷ p) m (port_key j) ≡ evaluated τ (u ∷ p) (port j)
