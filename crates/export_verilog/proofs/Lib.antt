@@ -17,3 +17,4 @@ pub mod Nets
 pub mod Operands
 pub mod Worth
 pub mod Ways
+pub mod Both

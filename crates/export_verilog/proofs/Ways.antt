@@ -49,13 +49,13 @@ clash : {A : Type 0} (o : Option A) → is_some o ≡ true → o ≡ None → �
 clash o some none = let h : true ≡ false = sym some ∙ ap is_some none in cc
 
 module _ (d : Design) (x : Setting d) (top : Name) (inputs content : Word) (m0 : Module) (top_is : find_module d top ≡ Some m0) where
-  abbrev worth : (VNet → Word) → Path → Module → Ref → Word
+  abbrev pub worth : (VNet → Word) → Path → Module → Ref → Word
   worth σ p m r = own d x top inputs content σ p m r
 
-  abbrev got : (Net → Word) → Path → Ref → Word
+  abbrev pub got : (Net → Word) → Path → Ref → Word
   got τ p r = evaluated d x top inputs content τ p r
 
-  abbrev drives : (VNet → Word) → Path → Module → Key → Word
+  abbrev pub drives : (VNet → Word) → Path → Module → Key → Word
   drives σ p m k = given d x top inputs content σ p m k
 
   abbrev pub IsTreeSettled : (VNet → Word) → Type 0
@@ -128,7 +128,7 @@ module _ (d : Design) (x : Setting d) (top : Name) (inputs content : Word) (m0 :
 
   -- ---- a value without a name
 
-  unnamed_agrees : (σ : VNet → Word) → IsGood d x top inputs content σ → (τ : Net → Word) (p : Path) (m : Module) (here : module_at d top p ≡ Some m) (r : Ref) → named m r ≡ None
+  pub unnamed_agrees : (σ : VNet → Word) → IsGood d x top inputs content σ → (τ : Net → Word) (p : Path) (m : Module) (here : module_at d top p ≡ Some m) (r : Ref) → named m r ≡ None
       → ((z : Ref) → In (at p z) (needs d top (at p r)) → worth σ p m z ≡ τ (at p z)) → worth σ p m r ≡ got τ p r
   unnamed_agrees σ good τ p m here r unnamed own_is = by_type (type_in m.ports m.body r) refl where
     by_pure : (i k : ℕ) (o : Op) (t : HwType) → r ≡ result i k → slice_get m.body i ≡ Some o → result_type o k ≡ Some t → (b : Bool) → is_pure o ≡ b → worth σ p m r ≡ got τ p r
@@ -155,7 +155,7 @@ module _ (d : Design) (x : Setting d) (top : Name) (inputs content : Word) (m0 :
     by_type (Some t) typed = by_ref r t refl typed
 
   -- a named value, by what has its name
-  named_agrees : (σ : VNet → Word) (good : IsGood d x top inputs content σ) (τ : Net → Word)
+  pub named_agrees : (σ : VNet → Word) (good : IsGood d x top inputs content σ) (τ : Net → Word)
       → ((p : Path) (m : Module) → module_at d top p ≡ Some m → (r : Ref) → worth σ p m r ≡ τ (at p r)) → ShowOutputs d x top inputs content σ good τ
       → (p : Path) (m : Module) (here : module_at d top p ≡ Some m) (r : Ref) (n : Name) → NamedAs d x (symbol_there d x top inputs content p m here) m (found_there d x top inputs content p m here) n r
       → (k : Key) × In k (module_keys m) × (n ≡ key_text m k) × (drives σ p m k ≡ got τ p r)
@@ -175,7 +175,7 @@ module _ (d : Design) (x : Setting d) (top : Name) (inputs content : Word) (m0 :
   -- ---- a settled map of the tree
 
   module _ (σ : VNet → Word) (settled : IsTreeSettled σ) where
-    settled_given : (p : Path) (m : Module) (here : module_at d top p ≡ Some m) (k : Key) → In k (module_keys m) → σ (vnet (vpath_of d top p) (key_text m k)) ≡ drives σ p m k
+    pub settled_given : (p : Path) (m : Module) (here : module_at d top p ≡ Some m) (k : Key) → In k (module_keys m) → σ (vnet (vpath_of d top p) (key_text m k)) ≡ drives σ p m k
     settled_given p m here k within =
         settled (vnet (vpath_of d top p) (key_text m k))
         ∙ ap (λ w. driven (tree_of d) (symbol_name d top) inputs content σ w (key_drive d x top p m k)) (width_here d x top p m here k within)
@@ -237,10 +237,10 @@ module _ (d : Design) (x : Setting d) (top : Name) (inputs content : Word) (m0 :
   back_missing σ p r none = ap (back_at σ p r) none
 
   module _ (σ : VNet → Word) (settled : IsTreeSettled σ) where
-    back_own : (p : Path) (m : Module) → module_at d top p ≡ Some m → (r : Ref) → worth σ p m r ≡ back σ (at p r)
+    pub back_own : (p : Path) (m : Module) → module_at d top p ≡ Some m → (r : Ref) → worth σ p m r ≡ back σ (at p r)
     back_own p m here r = sym (back_here σ p m r here)
 
-    output_shown : (p : Path) (m : Module) → module_at d top p ≡ Some m → (j : ℕ) (y : Port) (r : Ref) → slice_get m.ports j ≡ Some y → y.is_output ≡ true
+    pub output_shown : (p : Path) (m : Module) → module_at d top p ≡ Some m → (j : ℕ) (y : Port) (r : Ref) → slice_get m.ports j ≡ Some y → y.is_output ≡ true
         → slice_get (output_refs m.body) (output_count (take j m.ports)) ≡ Some r → σ (vnet (vpath_of d top p) (key_text m (port_key j))) ≡ back σ (at p r)
     output_shown p m here j y r there out gives =
         settled_given σ settled p m here (port_key j) (port_in m j y there)
@@ -266,11 +266,11 @@ module _ (d : Design) (x : Setting d) (top : Name) (inputs content : Word) (m0 :
 
   -- ---- from the design to the tree
 
-  abbrev or_undefined : Option Ref → Ref
+  abbrev pub or_undefined : Option Ref → Ref
   or_undefined None = undefined
   or_undefined (Some r) = r
 
-  abbrev port_shows : Module → ℕ → Option Port → Ref
+  abbrev pub port_shows : Module → ℕ → Option Port → Ref
   port_shows m j None = undefined
   port_shows m j (Some y) = cond y.is_output (or_undefined (slice_get (output_refs m.body) (output_count (take j m.ports)))) (port j)
 
@@ -280,7 +280,7 @@ module _ (d : Design) (x : Setting d) (top : Name) (inputs content : Word) (m0 :
   shown_ref m (value_key i k) = result i k
   shown_ref m (instance_key i) = undefined
 
-  input_shows : (m : Module) (j : ℕ) (y : Port) → slice_get m.ports j ≡ Some y → y.is_output ≡ false → shown_ref m (port_key j) ≡ port j
+  pub input_shows : (m : Module) (j : ℕ) (y : Port) → slice_get m.ports j ≡ Some y → y.is_output ≡ false → shown_ref m (port_key j) ≡ port j
   input_shows m j y there inward = ap (port_shows m j) there ∙ ap (λ b. cond b (or_undefined (slice_get (output_refs m.body) (output_count (take j m.ports)))) (port j)) inward
 
   pub output_shows : (m : Module) (j : ℕ) (y : Port) (r : Ref) → slice_get m.ports j ≡ Some y → y.is_output ≡ true → slice_get (output_refs m.body) (output_count (take j m.ports)) ≡ Some r
@@ -334,13 +334,10 @@ module _ (d : Design) (x : Setting d) (top : Name) (inputs content : Word) (m0 :
         ap₂ (λ q (y : Module). ρ (at q (shown_ref y l))) paths one ∙ ap (λ y. ρ (at p (shown_ref m y))) keys
 
   -- what holds of owned and of unowned nets holds of all
-  by_owner_of : (P : VNet → Type 0) → ((p : Path) (m : Module) → module_at d top p ≡ Some m → (k : Key) → In k (module_keys m) → P (vnet (vpath_of d top p) (key_text m k)))
+  pub by_owner_of : (P : VNet → Type 0) → ((p : Path) (m : Module) → module_at d top p ≡ Some m → (k : Key) → In k (module_keys m) → P (vnet (vpath_of d top p) (key_text m k)))
       → ((v : VNet) → drive (tree_of d) (symbol_name d top) v ≡ nothing → ((ρ : Net → Word) → to ρ v ≡ []) → P v) → (v : VNet) → P v
   unfolding to to_of
-  by_owner_of P owned free v = go (whose v) (λ (ρ : Net → Word) (w : Whose v). to_of ρ v w) (λ ρ. refl) where
-    to_none : (w : Whose v) → ((ρ : Net → Word) → to ρ v ≡ to_of ρ v w) → (none : drive (tree_of d) (symbol_name d top) v ≡ nothing) → Unit {0}
-    to_none w same none = tt
-
-    go : (w : Whose v) → (f : (Net → Word) → Whose v → Word) → ((ρ : Net → Word) → to ρ v ≡ to_of ρ v w) → P v
-    go (owned_by p m here k within path name) f same = subst P (sym (ap₂ vnet path name)) (owned p m here k within)
-    go (unowned none never) f same = free v none same
+  by_owner_of P owned free v = go (whose v) (λ ρ. refl) where
+    go : (w : Whose v) → ((ρ : Net → Word) → to ρ v ≡ to_of ρ v w) → P v
+    go (owned_by p m here k within path name) same = subst P (sym (ap₂ vnet path name)) (owned p m here k within)
+    go (unowned none never) same = free v none same
