@@ -36,20 +36,21 @@ use Rattle.export_verilog.proofs.Places.{vpath_of}
 use Rattle.export_verilog.proofs.Nets.{key_drive, width_here, drive_instance}
 use Rattle.export_verilog.proofs.Operands.{output_ref_at}
 use Rattle.export_verilog.proofs.Worth.{evaluated_as, HaveWords, IsGood, symbol_there, found_there, port_width_is, result_width_is, own_named, own_absent, constant_form, ShowOutputs, output_agrees}
-use Rattle.export_verilog.proofs.Ways.{worth, got, drives, IsTreeSettled, IsDesignSettled, unnamed_agrees, named_agrees, settled_given, tree_good, back, back_here, back_own, output_shown, back_settled, shown_ref, input_shows, output_shows, to, to_key, by_owner_of}
+use Rattle.export_verilog.proofs.Ways.{worth, got, drives, IsTreeSettled, IsDesignSettled, unnamed_agrees, named_agrees, settled_given, tree_good, back, back_here, back_own, output_shown, back_settled}
+use Rattle.export_verilog.proofs.Owners.{shown_ref, input_shows, output_shows, to, to_key, by_owner_of}
 
 module _ (d : Design) (x : Setting d) (top : Name) (inputs content : Word) (m0 : Module) (top_is : find_module d top ≡ Some m0) where
   heights : HasHeights d top
   heights = heights_from_no_cycle d top x.ok.finite (x.ok.acyclic top)
 
   abbrev over : (Net → Word) → VNet → Word
-  over ρ = to d x top inputs content m0 top_is ρ
+  over ρ = to d x top m0 top_is ρ
 
   abbrev from : (VNet → Word) → Net → Word
   from σ = back d x top inputs content m0 top_is σ
 
-  over_key : (ρ : Net → Word) (p : Path) (m : Module) → module_at d top p ≡ Some m → (k : Key) → In k (module_keys m) → over ρ (vnet (vpath_of d top p) (key_text m k)) ≡ ρ (at p (shown_ref d x top inputs content m0 top_is m k))
-  over_key ρ p m here k within = to_key d x top inputs content m0 top_is ρ p m here k within
+  over_key : (ρ : Net → Word) (p : Path) (m : Module) → module_at d top p ≡ Some m → (k : Key) → In k (module_keys m) → over ρ (vnet (vpath_of d top p) (key_text m k)) ≡ ρ (at p (shown_ref d x top m0 top_is m k))
+  over_key ρ p m here k within = to_key d x top m0 top_is ρ p m here k within
 
   -- what an instance's name stands for
   instance_given : (σ : VNet → Word) (p : Path) (m : Module) (here : module_at d top p ≡ Some m) (i : ℕ) (o : Op) → slice_get m.body i ≡ Some o → role_of m.ports m.body i o ≡ block
@@ -69,18 +70,18 @@ module _ (d : Design) (x : Setting d) (top : Name) (inputs content : Word) (m0 :
     over_words : HaveWords d x top inputs content (over ρ)
     over_words p m here k within = ap length (over_key ρ p m here k within) ∙ go (owner_of m k within) where
       P : Key → Type 0
-      P l = length (ρ (at p (shown_ref d x top inputs content m0 top_is m l))) ≡ key_width m l
+      P l = length (ρ (at p (shown_ref d x top m0 top_is m l))) ≡ key_width m l
 
-      moved : (l : Key) → k ≡ l → length (ρ (at p (shown_ref d x top inputs content m0 top_is m l))) ≡ key_width m l → length (ρ (at p (shown_ref d x top inputs content m0 top_is m k))) ≡ key_width m k
-      moved l same e = subst (λ z. length (ρ (at p (shown_ref d x top inputs content m0 top_is m z))) ≡ key_width m z) (sym same) e
+      moved : (l : Key) → k ≡ l → length (ρ (at p (shown_ref d x top m0 top_is m l))) ≡ key_width m l → length (ρ (at p (shown_ref d x top m0 top_is m k))) ≡ key_width m k
+      moved l same e = subst (λ z. length (ρ (at p (shown_ref d x top m0 top_is m z))) ≡ key_width m z) (sym same) e
 
-      by_way : (j : ℕ) (y : Port) → slice_get m.ports j ≡ Some y → (b : Bool) → y.is_output ≡ b → length (ρ (at p (shown_ref d x top inputs content m0 top_is m (port_key j)))) ≡ key_width m (port_key j)
+      by_way : (j : ℕ) (y : Port) → slice_get m.ports j ≡ Some y → (b : Bool) → y.is_output ≡ b → length (ρ (at p (shown_ref d x top m0 top_is m (port_key j)))) ≡ key_width m (port_key j)
       by_way j y there true out =
           let o = output_ref_at d m (module_sound d x (symbol_there d x top inputs content p m here) m (found_there d x top inputs content p m here)) j y there out in
-          ap (λ z. length (ρ (at p z))) (output_shows d x top inputs content m0 top_is m j y o.0 there out o.1) ∙ typed_long p m o.0 y.type here o.2
+          ap (λ z. length (ρ (at p z))) (output_shows d x top m0 top_is m j y o.0 there out o.1) ∙ typed_long p m o.0 y.type here o.2
           ∙ sym (port_width_is d x top inputs content p m here j y there)
       by_way j y there false inward =
-          ap (λ z. length (ρ (at p z))) (input_shows d x top inputs content m0 top_is m j y there inward)
+          ap (λ z. length (ρ (at p z))) (input_shows d x top m0 top_is m j y there inward)
           ∙ typed_long p m (port j) y.type here (ap input_type there ∙ ap (λ b. cond b None (Some y.type)) inward)
           ∙ sym (port_width_is d x top inputs content p m here j y there)
 
@@ -89,7 +90,7 @@ module _ (d : Design) (x : Setting d) (top : Name) (inputs content : Word) (m0 :
           let h = first_result d x (symbol_there d x top inputs content p m here) m (found_there d x top inputs content p m here) i o there role in
           result_long p m i 0 o h.0.type here there (ap (λ rs. omap (λ (z : OpResult). z.type) (slice_get rs 0)) h.1)
 
-      go : Owner m k → length (ρ (at p (shown_ref d x top inputs content m0 top_is m k))) ≡ key_width m k
+      go : Owner m k → length (ρ (at p (shown_ref d x top m0 top_is m k))) ≡ key_width m k
       go (a_port j y there same) = moved (port_key j) same (by_way j y there y.is_output refl)
       go (a_net i o there role same) = moved (value_key i 0) same (first_long i o there (inl role))
       go (a_variable i o there role same) = moved (value_key i 0) same (first_long i o there (inr role))
@@ -101,7 +102,7 @@ module _ (d : Design) (x : Setting d) (top : Name) (inputs content : Word) (m0 :
         → NamedAs d x (symbol_there d x top inputs content p m here) m (found_there d x top inputs content p m here) n r → over ρ (vnet (vpath_of d top p) n) ≡ ρ (at p r)
     name_shows p m here r n (by_port j y there inward same called) =
         ap (λ w. over ρ (vnet (vpath_of d top p) w)) called ∙ over_key ρ p m here (port_key j) (port_in m j y there)
-        ∙ ap (λ z. ρ (at p z)) (input_shows d x top inputs content m0 top_is m j y there inward ∙ sym same)
+        ∙ ap (λ z. ρ (at p z)) (input_shows d x top m0 top_is m j y there inward ∙ sym same)
     name_shows p m here r n (by_value i k within same called) =
         ap (λ w. over ρ (vnet (vpath_of d top p) w)) called ∙ over_key ρ p m here (value_key i k) within ∙ ap (λ z. ρ (at p z)) (sym same)
 
@@ -135,46 +136,46 @@ module _ (d : Design) (x : Setting d) (top : Name) (inputs content : Word) (m0 :
     own_is p m here r = own_at (at p r) m here
 
     shows : ShowOutputs d x top inputs content (over ρ) over_good ρ
-    shows p m here j y r there out gives = over_key ρ p m here (port_key j) (port_in m j y there) ∙ ap (λ z. ρ (at p z)) (output_shows d x top inputs content m0 top_is m j y r there out gives)
+    shows p m here j y r there out gives = over_key ρ p m here (port_key j) (port_in m j y there) ∙ ap (λ z. ρ (at p z)) (output_shows d x top m0 top_is m j y r there out gives)
 
     over_given : (p : Path) (m : Module) (here : module_at d top p ≡ Some m) (k : Key) → In k (module_keys m)
-        → ρ (at p (shown_ref d x top inputs content m0 top_is m k)) ≡ drives d x top inputs content m0 top_is (over ρ) p m k
+        → ρ (at p (shown_ref d x top m0 top_is m k)) ≡ drives d x top inputs content m0 top_is (over ρ) p m k
     over_given p m here k within = go (owner_of m k within) where
-      by_name : (r : Ref) (n : Name) → n ≡ key_text m k → shown_ref d x top inputs content m0 top_is m k ≡ r
+      by_name : (r : Ref) (n : Name) → n ≡ key_text m k → shown_ref d x top m0 top_is m k ≡ r
           → NamedAs d x (symbol_there d x top inputs content p m here) m (found_there d x top inputs content p m here) n r
-          → ρ (at p (shown_ref d x top inputs content m0 top_is m k)) ≡ drives d x top inputs content m0 top_is (over ρ) p m k
+          → ρ (at p (shown_ref d x top m0 top_is m k)) ≡ drives d x top inputs content m0 top_is (over ρ) p m k
       by_name r n is same called =
           let h = named_agrees d x top inputs content m0 top_is (over ρ) over_good ρ own_is shows p m here r n called in
           let keys : k ≡ h.0 = Rattle.export_verilog.proofs.KeyNames.texts_apart m (Rattle.export_verilog.proofs.Places.names_at_path d x top p m here) k h.0 within h.1 (sym is ∙ h.2) in
           ap (λ z. ρ (at p z)) same ∙ settled (at p r) ∙ sym h.3 ∙ ap (drives d x top inputs content m0 top_is (over ρ) p m) (sym keys)
 
       by_way : (j : ℕ) (y : Port) → slice_get m.ports j ≡ Some y → k ≡ port_key j → (b : Bool) → y.is_output ≡ b
-          → ρ (at p (shown_ref d x top inputs content m0 top_is m k)) ≡ drives d x top inputs content m0 top_is (over ρ) p m k
+          → ρ (at p (shown_ref d x top m0 top_is m k)) ≡ drives d x top inputs content m0 top_is (over ρ) p m k
       by_way j y there same true out =
           let o = output_ref_at d m (module_sound d x (symbol_there d x top inputs content p m here) m (found_there d x top inputs content p m here)) j y there out in
-          ap (λ z. ρ (at p z)) (ap (shown_ref d x top inputs content m0 top_is m) same ∙ output_shows d x top inputs content m0 top_is m j y o.0 there out o.1)
+          ap (λ z. ρ (at p z)) (ap (shown_ref d x top m0 top_is m) same ∙ output_shows d x top m0 top_is m j y o.0 there out o.1)
           ∙ sym (own_is p m here o.0) ∙ sym (output_agrees d x top inputs content (over ρ) over_good ρ p m here j y o.0 there out o.1)
           ∙ ap (drives d x top inputs content m0 top_is (over ρ) p m) (sym same)
       by_way j y there same false inward =
           by_name (port j) (key_text m (port_key j)) (ap (key_text m) (sym same))
-          (ap (shown_ref d x top inputs content m0 top_is m) same ∙ input_shows d x top inputs content m0 top_is m j y there inward)
+          (ap (shown_ref d x top m0 top_is m) same ∙ input_shows d x top m0 top_is m j y there inward)
           (by_port j y there inward refl refl)
 
-      by_result : (i l : ℕ) → k ≡ value_key i l → ρ (at p (shown_ref d x top inputs content m0 top_is m k)) ≡ drives d x top inputs content m0 top_is (over ρ) p m k
-      by_result i l same = by_name (result i l) (key_text m (value_key i l)) (ap (key_text m) (sym same)) (ap (shown_ref d x top inputs content m0 top_is m) same)
+      by_result : (i l : ℕ) → k ≡ value_key i l → ρ (at p (shown_ref d x top m0 top_is m k)) ≡ drives d x top inputs content m0 top_is (over ρ) p m k
+      by_result i l same = by_name (result i l) (key_text m (value_key i l)) (ap (key_text m) (sym same)) (ap (shown_ref d x top m0 top_is m) same)
           (by_value i l (subst (λ z. In z (module_keys m)) same within) refl refl)
 
-      go : Owner m k → ρ (at p (shown_ref d x top inputs content m0 top_is m k)) ≡ drives d x top inputs content m0 top_is (over ρ) p m k
+      go : Owner m k → ρ (at p (shown_ref d x top m0 top_is m k)) ≡ drives d x top inputs content m0 top_is (over ρ) p m k
       go (a_port j y there same) = by_way j y there same y.is_output refl
       go (a_net i o there role same) = by_result i 0 same
       go (a_variable i o there role same) = by_result i 0 same
       go (an_instance i o there role same) =
-          ap (λ z. ρ (at p (shown_ref d x top inputs content m0 top_is m z))) same ∙ settled (at p undefined)
+          ap (λ z. ρ (at p (shown_ref d x top m0 top_is m z))) same ∙ settled (at p undefined)
           ∙ sym (instance_given (over ρ) p m here i o there role) ∙ ap (drives d x top inputs content m0 top_is (over ρ) p m) (sym same)
       go (a_result i l o r there role found same) = by_result i l same
 
     pub over_settled : IsTreeSettled d x top inputs content m0 top_is (over ρ)
-    over_settled = by_owner_of d x top inputs content m0 top_is
+    over_settled = by_owner_of d x top m0 top_is
         (λ v. over ρ v ≡ driven (tree_of d) (symbol_name d top) inputs content (over ρ) (width_at (vmodule_at (tree_of d) (symbol_name d top) v.path) v.name) (drive (tree_of d) (symbol_name d top) v))
         (λ p m here k within. over_key ρ p m here k within ∙ over_given p m here k within
         ∙ sym (ap (λ w. driven (tree_of d) (symbol_name d top) inputs content (over ρ) w (key_drive d x top p m k)) (width_here d x top p m here k within)))
@@ -184,30 +185,30 @@ module _ (d : Design) (x : Setting d) (top : Name) (inputs content : Word) (m0 :
 
   module _ (σ : VNet → Word) (settled : IsTreeSettled d x top inputs content m0 top_is σ) where
     shown_again : (p : Path) (m : Module) (here : module_at d top p ≡ Some m) (k : Key) → In k (module_keys m)
-        → from σ (at p (shown_ref d x top inputs content m0 top_is m k)) ≡ σ (vnet (vpath_of d top p) (key_text m k))
-    shown_again p m here k within = back_here d x top inputs content m0 top_is σ p m (shown_ref d x top inputs content m0 top_is m k) here ∙ go (owner_of m k within) where
-      moved : (l : Key) → k ≡ l → worth d x top inputs content m0 top_is σ p m (shown_ref d x top inputs content m0 top_is m l) ≡ σ (vnet (vpath_of d top p) (key_text m l))
-          → worth d x top inputs content m0 top_is σ p m (shown_ref d x top inputs content m0 top_is m k) ≡ σ (vnet (vpath_of d top p) (key_text m k))
-      moved l same e = subst (λ z. worth d x top inputs content m0 top_is σ p m (shown_ref d x top inputs content m0 top_is m z) ≡ σ (vnet (vpath_of d top p) (key_text m z))) (sym same) e
+        → from σ (at p (shown_ref d x top m0 top_is m k)) ≡ σ (vnet (vpath_of d top p) (key_text m k))
+    shown_again p m here k within = back_here d x top inputs content m0 top_is σ p m (shown_ref d x top m0 top_is m k) here ∙ go (owner_of m k within) where
+      moved : (l : Key) → k ≡ l → worth d x top inputs content m0 top_is σ p m (shown_ref d x top m0 top_is m l) ≡ σ (vnet (vpath_of d top p) (key_text m l))
+          → worth d x top inputs content m0 top_is σ p m (shown_ref d x top m0 top_is m k) ≡ σ (vnet (vpath_of d top p) (key_text m k))
+      moved l same e = subst (λ z. worth d x top inputs content m0 top_is σ p m (shown_ref d x top m0 top_is m z) ≡ σ (vnet (vpath_of d top p) (key_text m z))) (sym same) e
 
       by_way : (j : ℕ) (y : Port) → slice_get m.ports j ≡ Some y → (b : Bool) → y.is_output ≡ b
-          → worth d x top inputs content m0 top_is σ p m (shown_ref d x top inputs content m0 top_is m (port_key j)) ≡ σ (vnet (vpath_of d top p) (key_text m (port_key j)))
+          → worth d x top inputs content m0 top_is σ p m (shown_ref d x top m0 top_is m (port_key j)) ≡ σ (vnet (vpath_of d top p) (key_text m (port_key j)))
       by_way j y there true out =
           let o = output_ref_at d m (module_sound d x (symbol_there d x top inputs content p m here) m (found_there d x top inputs content p m here)) j y there out in
-          ap (worth d x top inputs content m0 top_is σ p m) (output_shows d x top inputs content m0 top_is m j y o.0 there out o.1)
+          ap (worth d x top inputs content m0 top_is σ p m) (output_shows d x top m0 top_is m j y o.0 there out o.1)
           ∙ back_own d x top inputs content m0 top_is σ settled p m here o.0
           ∙ sym (output_shown d x top inputs content m0 top_is σ settled p m here j y o.0 there out o.1)
       by_way j y there false inward =
-          ap (worth d x top inputs content m0 top_is σ p m) (input_shows d x top inputs content m0 top_is m j y there inward)
+          ap (worth d x top inputs content m0 top_is σ p m) (input_shows d x top m0 top_is m j y there inward)
           ∙ own_named d x top inputs content p m here σ (tree_good d x top inputs content m0 top_is σ settled).words (port j) (key_text m (port_key j))
           (named_input d x (symbol_there d x top inputs content p m here) m (found_there d x top inputs content p m here) j y there inward)
 
-      by_result : (i l : ℕ) → k ≡ value_key i l → worth d x top inputs content m0 top_is σ p m (shown_ref d x top inputs content m0 top_is m k) ≡ σ (vnet (vpath_of d top p) (key_text m k))
+      by_result : (i l : ℕ) → k ≡ value_key i l → worth d x top inputs content m0 top_is σ p m (shown_ref d x top m0 top_is m k) ≡ σ (vnet (vpath_of d top p) (key_text m k))
       by_result i l same = moved (value_key i l) same
           (own_named d x top inputs content p m here σ (tree_good d x top inputs content m0 top_is σ settled).words (result i l) (key_text m (value_key i l))
           (named_result d x (symbol_there d x top inputs content p m here) m (found_there d x top inputs content p m here) i l (subst (λ z. In z (module_keys m)) same within)))
 
-      go : Owner m k → worth d x top inputs content m0 top_is σ p m (shown_ref d x top inputs content m0 top_is m k) ≡ σ (vnet (vpath_of d top p) (key_text m k))
+      go : Owner m k → worth d x top inputs content m0 top_is σ p m (shown_ref d x top m0 top_is m k) ≡ σ (vnet (vpath_of d top p) (key_text m k))
       go (a_port j y there same) = moved (port_key j) same (by_way j y there y.is_output refl)
       go (a_net i o there role same) = by_result i 0 same
       go (a_variable i o there role same) = by_result i 0 same
@@ -218,7 +219,7 @@ module _ (d : Design) (x : Setting d) (top : Name) (inputs content : Word) (m0 :
       go (a_result i l o r there role found same) = by_result i l same
 
     pub round : (v : VNet) → over (from σ) v ≡ σ v
-    round = by_owner_of d x top inputs content m0 top_is (λ v. over (from σ) v ≡ σ v)
+    round = by_owner_of d x top m0 top_is (λ v. over (from σ) v ≡ σ v)
         (λ p m here k within. over_key (from σ) p m here k within ∙ shown_again p m here k within)
         (λ v none free. free (from σ)
         ∙ sym (settled v ∙ ap (driven (tree_of d) (symbol_name d top) inputs content σ (width_at (vmodule_at (tree_of d) (symbol_name d top) v.path) v.name)) none))

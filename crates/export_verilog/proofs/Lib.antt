@@ -16,5 +16,6 @@ pub mod Content
 pub mod Nets
 pub mod Operands
 pub mod Worth
+pub mod Owners
 pub mod Ways
 pub mod Both
