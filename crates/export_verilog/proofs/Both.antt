@@ -40,7 +40,7 @@ use Rattle.export_verilog.proofs.Ways.{worth, got, drives, IsTreeSettled, IsDesi
 use Rattle.export_verilog.proofs.Owners.{shown_ref, input_shows, output_shows, to, to_key, by_owner_of}
 
 module _ (d : Design) (x : Setting d) (top : Name) (inputs content : Word) (m0 : Module) (top_is : find_module d top ≡ Some m0) where
-  heights : HasHeights d top
+  pub heights : HasHeights d top
   heights = heights_from_no_cycle d top x.ok.finite (x.ok.acyclic top)
 
   abbrev over : (Net → Word) → VNet → Word
@@ -98,7 +98,7 @@ module _ (d : Design) (x : Setting d) (top : Name) (inputs content : Word) (m0 :
       go (a_result i l o r there role found same) = moved (value_key i l) same (result_long p m i l o r.type here there (ap (omap (λ (z : OpResult). z.type)) found))
 
     -- a name shows its value
-    name_shows : (p : Path) (m : Module) (here : module_at d top p ≡ Some m) (r : Ref) (n : Name)
+    pub name_shows : (p : Path) (m : Module) (here : module_at d top p ≡ Some m) (r : Ref) (n : Name)
         → NamedAs d x (symbol_there d x top inputs content p m here) m (found_there d x top inputs content p m here) n r → over ρ (vnet (vpath_of d top p) n) ≡ ρ (at p r)
     name_shows p m here r n (by_port j y there inward same called) =
         ap (λ w. over ρ (vnet (vpath_of d top p) w)) called ∙ over_key ρ p m here (port_key j) (port_in m j y there)

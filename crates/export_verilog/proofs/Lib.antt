@@ -19,3 +19,5 @@ pub mod Worth
 pub mod Owners
 pub mod Ways
 pub mod Both
+pub mod Slots
+pub mod Final
