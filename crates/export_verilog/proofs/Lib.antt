@@ -21,3 +21,13 @@ pub mod Ways
 pub mod Both
 pub mod Slots
 pub mod Final
+pub mod Standing
+pub mod Fitting
+pub mod Known
+pub mod Readable
+pub mod Stated
+pub mod Apart
+pub mod Ordered
+pub mod Declares
+pub mod Nesting
+pub mod Clocks

@@ -2,12 +2,13 @@
 use Rattle.std.specs.Prelude.{◌≡◌, ℕ, suc, ◌+◌, ◌<◌, ◌≤◌, ◌^◌, Bool, true, false, ◌||◌, List, [], ◌∷◌, length, Option, Some, None, slice_get}
 use Rattle.wiring.specs.Wiring.{In}
 use Rattle.hw_model.specs.Types.{Name, HwType, width}
+use Rattle.hw_model.specs.Types.HwType.{clock}
 use Rattle.hw_model.specs.Design.{Ref, Port, OpResult, Op, Module, Design, find_module, is_instance, is_output_op, result_type}
 use Rattle.hw_model.specs.Design.Ref.{port, result}
 use Rattle.hw_model.specs.Flat.{Register, register_in}
 use Rattle.hw_model.specs.Hierarchy.{HasNoRecursion}
 use Rattle.hw_model.specs.Meaning.{HasNoCycle}
-use Rattle.hw_model.specs.Sound.{Sound}
+use Rattle.hw_model.specs.Sound.{Sound, type_in}
 use Rattle.verilog_expr.specs.Expressions.{value_width}
 use Rattle.verilog_expr.specs.Values.{is_aggregate_kind, is_variadic, is_division, IsDivision}
 use Rattle.export_verilog.specs.Keys.{module_keys}
@@ -42,6 +43,8 @@ pub record IsExportableModule (m : Module) : Type 0 where
   -- widths are numbers of a machine
   pub narrow : (r : Ref) → value_width m.ports m.body r < 2 ^ 64
   pub narrow_ports : (j : ℕ) (p : Port) → slice_get m.ports j ≡ Some p → width p.type < 2 ^ 64
+  -- a clock is an input port: no operation gives one
+  pub clocks : (r : Ref) → type_in m.ports m.body r ≡ Some clock → (j : ℕ) × (r ≡ port j)
   -- names are told apart by numbers of a machine
   pub room : length (module_keys m) + 130 < 2 ^ 64
 

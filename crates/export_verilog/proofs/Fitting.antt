@@ -1,0 +1,116 @@
+-- The tree of any design keeps the precedence and association of the operators.
+use Rattle.std.proofs.Common.{◌≡◌, ℕ, zero, suc, Bool, true, false, ◌&&◌, cond, List, [], ◌∷◌, ◌++◌, map, Option, Some, None, refl, sym, ◌∙◌, ap, ap₂, IsTrue, slice_get}
+use Rattle.hw_model.specs.Types.{Name, width}
+use Rattle.hw_model.specs.Kinds.{Instance}
+use Rattle.hw_model.specs.Design.{Ref, Port, OpResult, Op, Module, Design, find_module, instance_in, output_refs}
+use Rattle.hw_model.specs.Design.Ref.{result}
+use Rattle.hw_model.specs.Flat.{Register, ResetBy, register_in}
+use Rattle.hw_model.specs.Equality.{both_of}
+use Rattle.verilog_model.specs.Tree.{Expr, Connection, Item, VModule, Tree}
+use Rattle.verilog_model.specs.Tree.Expr.{name}
+use Rattle.verilog_model.specs.Tree.Item.{assign, always}
+use Rattle.verilog_model.specs.Grammar.{fits, item_fits, items_fit, connections_fit, tree_fits}
+use Rattle.verilog_model.proofs.Numerals.{and_intro}
+use Rattle.verilog_expr.specs.Spilling.{height_limit}
+use Rattle.verilog_expr.proofs.Fit.{depth_fits, own_fits}
+use Rattle.export_verilog.specs.Keys.{Role, each, role_of, key_text, name_or_nothing, named}
+use Rattle.export_verilog.specs.Keys.Key.{port_key, value_key}
+use Rattle.export_verilog.specs.Keys.Role.{hidden, net, variable, block}
+use Rattle.export_verilog.specs.Exported.{expression, assigned_expr, expr_or_none, others, result_wires, declared_as, declares, always_of, block_of, connections_of, connections_to, instance_of, stated_as, states, output_assigns, vitems, vmodule, tree_of}
+
+expression_fits : (m : Module) (r : Ref) → fits (expression m r) ≡ true
+expression_fits m r = depth_fits (named m) m.ports m.body (suc height_limit) r
+
+assigned_fits : (m : Module) (r : Ref) → fits (assigned_expr m r) ≡ true
+assigned_fits m r = own_fits (named m) m.ports m.body (expression m) (expression_fits m) r
+
+expr_fits : (m : Module) (rs : List Ref) → fits (expr_or_none (expression m) rs) ≡ true
+expr_fits m [] = refl
+expr_fits m (r ∷ rs) = expression_fits m r
+
+-- ---- lists of items
+
+items_joined : (xs ys : List Item) → items_fit xs ≡ true → items_fit ys ≡ true → items_fit (xs ++ ys) ≡ true
+items_joined [] ys a b = b
+items_joined (x ∷ xs) ys a b = let h = both_of (item_fits x) (items_fit xs) a in and_intro (item_fits x) (items_fit (xs ++ ys)) h.0 (items_joined xs ys h.1 b)
+
+each_fits : {A : Type 0} (f : ℕ → A → List Item) (i : ℕ) (xs : List A) → ((j : ℕ) (x : A) → items_fit (f j x) ≡ true) → items_fit (each f i xs) ≡ true
+each_fits f i [] all = refl
+each_fits f i (x ∷ xs) all = items_joined (f i x) (each f (suc i) xs) (all i x) (each_fits f (suc i) xs all)
+
+-- ---- declarations and statements
+
+wires_fit : (m : Module) (i k : ℕ) (rs : List OpResult) → items_fit (result_wires m i k rs) ≡ true
+wires_fit m i k [] = refl
+wires_fit m i k (r ∷ rs) = wires_fit m i (suc k) rs
+
+declares_fit : (m : Module) (i : ℕ) (o : Op) → items_fit (declares m i o) ≡ true
+declares_fit m i o = go (role_of m.ports m.body i o) where
+  go : (r : Role) → items_fit (declared_as m i o r) ≡ true
+  go hidden = refl
+  go net = refl
+  go variable = refl
+  go block = wires_fit m i 0 o.results
+
+connections_fit_all : (c m : Module) (i j k : ℕ) (ps : List Port) (rs : List Ref) → connections_fit (connections_of c m i j k ps rs) ≡ true
+connections_fit_all c m i j k [] rs = refl
+connections_fit_all c m i j k (p ∷ ps) rs =
+    go p.is_output (connections_fit_all c m i (suc j) (suc k) ps rs) (and_intro (fits (expr_or_none (expression m) rs)) (connections_fit (connections_of c m i (suc j) k ps (others rs))) (expr_fits m rs) (connections_fit_all c m i (suc j) k ps (others rs))) where
+  head : Expr → Connection
+  head e = record { port = key_text c (port_key j); value = e }
+  go : (b : Bool) → connections_fit (connections_of c m i (suc j) (suc k) ps rs) ≡ true
+      → (fits (expr_or_none (expression m) rs) && connections_fit (connections_of c m i (suc j) k ps (others rs))) ≡ true
+      → connections_fit (cond b (head (name (key_text m (value_key i k))) ∷ connections_of c m i (suc j) (suc k) ps rs) (head (expr_or_none (expression m) rs) ∷ connections_of c m i (suc j) k ps (others rs))) ≡ true
+  go true x y = x
+  go false x y = y
+
+always_fits : (m : Module) (q : Name) (r : Option Register) → items_fit (always_of m q r) ≡ true
+always_fits m q None = refl
+always_fits m q (Some r) = go r.enable r.reset where
+  ex : (x : Ref) → fits (expression m x) ≡ true
+  ex x = expression_fits m x
+  all_of : Name → Option Ref → Option ResetBy → List Item
+  all_of n e s = always n (block_of (expression m) q r.next e s) ∷ []
+  go : (e : Option Ref) (s : Option ResetBy) → items_fit (all_of (name_or_nothing (named m r.clock)) e s) ≡ true
+  go None None = rw (ex r.next) refl
+  go (Some e) None = rw (ex e, ex r.next) refl
+  go None (Some s) = rw (ex s.signal, ex s.value, ex r.next) refl
+  go (Some e) (Some s) = rw (ex s.signal, ex s.value, ex e, ex r.next) refl
+
+instance_fits : (d : Design) (m : Module) (i : ℕ) (o : Op) (x : Option Instance) → items_fit (instance_of d m i o x) ≡ true
+instance_fits d m i o None = refl
+instance_fits d m i o (Some x) = and_intro (connections_fit (connections_to (find_module d x.symbol) m i o)) true (go (find_module d x.symbol)) refl where
+  go : (c : Option Module) → connections_fit (connections_to c m i o) ≡ true
+  go None = refl
+  go (Some c) = connections_fit_all c m i 0 0 c.ports o.operands
+
+states_fit : (d : Design) (m : Module) (i : ℕ) (o : Op) → items_fit (states d m i o) ≡ true
+states_fit d m i o = go (role_of m.ports m.body i o) where
+  go : (r : Role) → items_fit (stated_as d m i o r) ≡ true
+  go hidden = refl
+  go net = and_intro (fits (assigned_expr m (result i 0))) true (assigned_fits m (result i 0)) refl
+  go variable = always_fits m (key_text m (value_key i 0)) (register_in o)
+  go block = instance_fits d m i o (instance_in o.kind)
+
+outputs_fit : (m : Module) (j : ℕ) (ps : List Port) (rs : List Ref) → items_fit (output_assigns m j ps rs) ≡ true
+outputs_fit m j [] rs = refl
+outputs_fit m j (p ∷ ps) rs =
+    go p.is_output (and_intro (fits (expr_or_none (expression m) rs)) (items_fit (output_assigns m (suc j) ps (others rs))) (expr_fits m rs) (outputs_fit m (suc j) ps (others rs))) (outputs_fit m (suc j) ps rs) where
+  go : (b : Bool) → (fits (expr_or_none (expression m) rs) && items_fit (output_assigns m (suc j) ps (others rs))) ≡ true → items_fit (output_assigns m (suc j) ps rs) ≡ true
+      → items_fit (cond b (assign (key_text m (port_key j)) (expr_or_none (expression m) rs) ∷ output_assigns m (suc j) ps (others rs)) (output_assigns m (suc j) ps rs)) ≡ true
+  go true x y = x
+  go false x y = y
+
+-- ---- trees
+
+module_fits : (d : Design) (m : Module) → items_fit (vitems d m) ≡ true
+module_fits d m =
+    items_joined (each (declares m) 0 m.body) (each (states d m) 0 m.body ++ output_assigns m 0 m.ports (output_refs m.body)) (each_fits (declares m) 0 m.body (declares_fit m))
+    (items_joined (each (states d m) 0 m.body) (output_assigns m 0 m.ports (output_refs m.body)) (each_fits (states d m) 0 m.body (states_fit d m)) (outputs_fit m 0 m.ports (output_refs m.body)))
+
+modules_fit : (d ms : Design) → tree_fits (map (vmodule d) ms) ≡ true
+modules_fit d [] = refl
+modules_fit d (m ∷ ms) = and_intro (items_fit (vitems d m)) (tree_fits (map (vmodule d) ms)) (module_fits d m) (modules_fit d ms)
+
+pub tree_of_fits : (d : Design) → tree_fits (tree_of d) ≡ true
+tree_of_fits d = modules_fit d d

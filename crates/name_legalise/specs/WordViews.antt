@@ -1,0 +1,8 @@
+-- What groups of words stand for.
+use Rattle.std.specs.Prelude.{map}
+use Rattle.name_legalise.specs.Words.{Lettered}
+use Rattle.name_legalise.specs.declared.reserved.Group.{Group}
+
+-- a group's letter and words
+abbrev pub lettered : Group → Lettered
+lettered g = record { letter = g.letter; words = map (λ (w : _). w.now) g.words.now }

@@ -1,0 +1,53 @@
+//! Wanted names with the bytes of Verilog names alone.
+ghost use Rattle.std.specs.Prelude.{◌≡◌, ◌++◌, IfOk, map, take};
+ghost use Rattle.verilog_model.specs.Tokens.{is_name_start, is_name_byte};
+ghost use Rattle.verilog_model.specs.Checks.{starts_name};
+ghost use Rattle.name_legalise.specs.Legal.{name_byte, cleaned};
+
+use std::alloc::{AllocError, Global};
+
+/// Whether a byte may begin a name: a letter or `_` (IEEE 1364-2005, 3.7).
+fn is_name_start(byte: u8) -> bool
+    ensures { result ≡ is_name_start byte }
+{
+    (b'a' <= byte && byte <= b'z') || ((b'A' <= byte && byte <= b'Z') || byte == b'_')
+}
+
+/// Whether a byte may stand in a name: a letter, a digit, `_`, `$` (3.7).
+fn is_name_byte(byte: u8) -> bool
+    ensures { result ≡ is_name_byte byte }
+{
+    is_name_start(byte) || ((b'0' <= byte && byte <= b'9') || byte == b'$')
+}
+
+/// The byte, or `_` for one that stands in no name.
+fn name_byte(byte: u8) -> u8
+    ensures { result ≡ name_byte byte }
+{
+    if is_name_byte(byte) { byte } else { b'_' }
+}
+
+/// Whether the name begins with a letter or `_` once its bytes are those of names.
+fn starts_name(wanted: &[u8]) -> bool
+    ensures { result ≡ starts_name (map name_byte wanted.now) }
+{
+    match wanted {
+        [first, ..] => is_name_start(name_byte(*first)),
+        [] => false,
+    }
+}
+
+/// The wanted name with each byte that stands in no name made `_`, and `_` in front where it does not begin with a
+/// letter or `_`. Fails where memory runs out.
+pub fn cleaned(alloc: Global, wanted: &[u8]) -> Result<Vec<u8>, AllocError>
+    ensures { IfOk result (λ name. name.items ≡ cleaned wanted.now) }
+{
+    let mut name = Vec::with_capacity(alloc, wanted.len() + 1)?;
+    if !starts_name(wanted) {
+        name.push(b'_')?;
+    }
+    for byte in wanted {
+        name.push(name_byte(*byte))?;
+    }
+    Ok(name)
+}
