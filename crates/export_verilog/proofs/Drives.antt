@@ -141,13 +141,13 @@ module _ (d : Design) (x : Setting d) (s : Name) (m : Module) (is : find_module 
   drive_value (instance_key i) = None
 
   -- the value of a thing that an operation has
-  value_by_role : (i k : ℕ) (o : Op) (r : Role) → slice_get m.body i ≡ Some o → role_of m.ports m.body i o ≡ r → drive_value (value_key i k) ≡ role_drive i k o r
+  pub value_by_role : (i k : ℕ) (o : Op) (r : Role) → slice_get m.body i ≡ Some o → role_of m.ports m.body i o ≡ r → drive_value (value_key i k) ≡ role_drive i k o r
   value_by_role i k o r there role = ap (λ z. bind z (λ (o : Op). role_drive i k o (role_of m.ports m.body i o))) there ∙ ap (role_drive i k o) role
 
   abbrev gives : Name → Item → Option Drive
   gives n y = item_drive (tree_of d) top q (vmodule d m) n y
 
-  block_name : (i : ℕ) (r : Register) → block_target (block_of (expression m) (key_text m (value_key i 0)) r.next r.enable r.reset) ≡ key_text m (value_key i 0)
+  pub block_name : (i : ℕ) (r : Register) → block_target (block_of (expression m) (key_text m (value_key i 0)) r.next r.enable r.reset) ≡ key_text m (value_key i 0)
   block_name i r = go r.enable r.reset where
     go : (e : _) (f : _) → block_target (block_of (expression m) (key_text m (value_key i 0)) r.next e f) ≡ key_text m (value_key i 0)
     go None None = refl
@@ -161,7 +161,7 @@ module _ (d : Design) (x : Setting d) (s : Name) (m : Module) (is : find_module 
   instance_drive n i o c = ap₂ (λ v f. first_some (joined_output q (key_text m (instance_key i)) n (vports_of v)) (connections_to f m i o))
       (vmodule_found d x.ok x.symbols c.kind.symbol c.module_of c.there) c.there
 
-  value_of_result : (i : ℕ) (o : Op) (c : Called d m o) → slice_get m.body i ≡ Some o → role_of m.ports m.body i o ≡ block → (k j : ℕ) → output_place k c.module_of.ports ≡ Some j
+  pub value_of_result : (i : ℕ) (o : Op) (c : Called d m o) → slice_get m.body i ≡ Some o → role_of m.ports m.body i o ≡ block → (k j : ℕ) → output_place k c.module_of.ports ≡ Some j
       → drive_value (value_key i k) ≡ Some (driven_from (vnet (key_text m (instance_key i) ∷ q) (key_text c.module_of (port_key j))))
   value_of_result i o c there role k j at =
       value_by_role i k o block there role

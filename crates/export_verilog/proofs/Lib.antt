@@ -12,6 +12,16 @@ pub mod Drives
 pub mod Sources
 pub mod Places
 pub mod Writable
+pub mod Content
+pub mod Nets
+pub mod Operands
+pub mod Worth
+pub mod Owners
+pub mod Ways
+pub mod Both
+pub mod Slots
+pub mod Final
+pub mod Standing
 pub mod Fitting
 pub mod Known
 pub mod Readable
