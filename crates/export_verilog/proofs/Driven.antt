@@ -236,7 +236,7 @@ module _ (d : Design) (x : Setting d) (s : Name) (m : Module) (is : find_module 
   abbrev pub driven_keys : List Key
   driven_keys = each (op_wires m) 0 m.body ++ output_keys 0 m.ports
 
-  output_among : (j : ℕ) (ps : List Port) (a : Key) → In a (output_keys j ps) → (n : ℕ) × (p : Port) × (slice_get ps n ≡ Some p) × (p.is_output ≡ true) × (a ≡ port_key (j + n))
+  pub output_among : (j : ℕ) (ps : List Port) (a : Key) → In a (output_keys j ps) → (n : ℕ) × (p : Port) × (slice_get ps n ≡ Some p) × (p.is_output ≡ true) × (a ≡ port_key (j + n))
   output_among j [] a h = absurd h
   output_among j (p ∷ ps) a h = go p.is_output refl h (output_among (suc j) ps a) where
     moved : (n : ℕ) (q : Port) → slice_get ps n ≡ Some q → q.is_output ≡ true → a ≡ port_key (suc j + n) → (n : ℕ) × (q : Port) × (slice_get (p ∷ ps) n ≡ Some q) × (q.is_output ≡ true) × (a ≡ port_key (j + n))
@@ -249,7 +249,7 @@ module _ (d : Design) (x : Setting d) (s : Name) (m : Module) (is : find_module 
     go true out (inr u) rest = let e = rest u in moved e.0 e.1 e.2 e.3 e.4
     go false out u rest = let e = rest u in moved e.0 e.1 e.2 e.3 e.4
 
-  among_output : (j : ℕ) (ps : List Port) (n : ℕ) (p : Port) → slice_get ps n ≡ Some p → p.is_output ≡ true → In (port_key (j + n)) (output_keys j ps)
+  pub among_output : (j : ℕ) (ps : List Port) (n : ℕ) (p : Port) → slice_get ps n ≡ Some p → p.is_output ≡ true → In (port_key (j + n)) (output_keys j ps)
   among_output j [] n p at out = cc
   among_output j (q ∷ ps) n p at out = go q.is_output refl n at (λ l u. among_output (suc j) ps l p u out) where
     go : (b : Bool) → q.is_output ≡ b → (n : ℕ) → slice_get (q ∷ ps) n ≡ Some p → ((l : ℕ) → slice_get ps l ≡ Some p → In (port_key (suc j + l)) (output_keys (suc j) ps))
