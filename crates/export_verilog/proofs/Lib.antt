@@ -33,3 +33,4 @@ pub mod Nesting
 pub mod Clocks
 pub mod Driven
 pub mod Checking
+pub mod Spelled
