@@ -1,32 +1,28 @@
 -- A settled map of a design goes over to a settled map of its tree, and each settled map of the tree comes from one.
-use Rattle.std.proofs.Common.{◌≡◌, ℕ, ℤ, zero, suc, ◌⊎◌, Bool, true, false, cond, is_some, List, [], ◌∷◌, map, length, take, slice_get, Option, Some, None, refl, sym, ◌∙◌, ap, ap₂, subst, inl, inr}
+use Rattle.std.proofs.Common.{◌≡◌, ℕ, ◌⊎◌, Bool, true, false, cond, [], map, length, slice_get, Option, Some, None, refl, sym, ◌∙◌, ap, subst, inl, inr}
 use Rattle.wiring.specs.Wiring.{In}
 use Rattle.wiring.specs.Options.{bind, omap}
 use Rattle.wiring.proofs.Heights.{by_heights}
-use Rattle.bits_core.specs.Word.{Word, bits_of_ℤ}
+use Rattle.bits_core.specs.Word.{Word}
 use Rattle.hw_model.specs.Types.{Name, HwType, width}
-use Rattle.hw_model.specs.Kinds.{Kind}
-use Rattle.hw_model.specs.Kinds.Kind.{constant}
-use Rattle.hw_model.specs.Design.{Ref, Port, OpResult, Op, Module, Design, find_module, is_output_kind, result_type, output_refs}
+use Rattle.hw_model.specs.Design.{Ref, Port, OpResult, Op, Module, Design, find_module, is_output_kind, result_type}
 use Rattle.hw_model.specs.Design.Ref.{port, result, undefined}
 use Rattle.hw_model.specs.Value.{op_value}
-use Rattle.hw_model.specs.Flat.{Path, Net, net as at, source, module_at, width_of}
+use Rattle.hw_model.specs.Flat.{Path, Net, net as at, module_at, width_of}
 use Rattle.hw_model.specs.Flat.Source.{made}
 use Rattle.hw_model.specs.Meaning.{needs, HasHeights}
 use Rattle.hw_model.specs.Sound.{type_in, input_type}
 use Rattle.hw_model.proofs.Finite.{heights_from_no_cycle}
 use Rattle.hw_model.proofs.NetWidths.{value_widths}
 use Rattle.verilog_model.specs.Hierarchy.{VNet, vnet, drive, vmodule_at, width_at}
-use Rattle.verilog_model.specs.Hierarchy.Drive.{nothing}
 use Rattle.verilog_model.specs.Meaning.{names_at, driven}
-use Rattle.verilog_expr.specs.Values.{is_division, HoldConstants}
+use Rattle.verilog_expr.specs.Values.{HoldConstants}
 use Rattle.export_verilog.specs.Keys.{Key, role_of, module_keys, key_text, named}
 use Rattle.export_verilog.specs.Keys.Key.{port_key, value_key, instance_key}
 use Rattle.export_verilog.specs.Keys.Role.{net, variable, block}
 use Rattle.export_verilog.specs.Exported.{symbol_name, tree_of}
 use Rattle.export_verilog.proofs.KeysOf.{Owner, owner_of, port_in}
 use Rattle.export_verilog.proofs.KeysOf.Owner.{a_port, a_net, a_variable, an_instance, a_result}
-use Rattle.export_verilog.proofs.Items.{output_count}
 use Rattle.export_verilog.proofs.Lookups.{key_width}
 use Rattle.export_verilog.proofs.Settings.{Setting, module_sound, first_result}
 use Rattle.export_verilog.proofs.Sources.{made_from}
@@ -35,8 +31,8 @@ use Rattle.export_verilog.proofs.Writable.NamedAs.{by_port, by_value}
 use Rattle.export_verilog.proofs.Places.{vpath_of}
 use Rattle.export_verilog.proofs.Nets.{key_drive, width_here, drive_instance}
 use Rattle.export_verilog.proofs.Operands.{output_ref_at}
-use Rattle.export_verilog.proofs.Worth.{evaluated_as, HaveWords, IsGood, symbol_there, found_there, port_width_is, result_width_is, own_named, own_absent, constant_form, ShowOutputs, output_agrees}
-use Rattle.export_verilog.proofs.Ways.{worth, got, drives, IsTreeSettled, IsDesignSettled, unnamed_agrees, named_agrees, settled_given, tree_good, back, back_here, back_own, output_shown, back_settled}
+use Rattle.export_verilog.proofs.Worth.{evaluated_as, HaveWords, IsGood, symbol_there, found_there, port_width_is, own_named, own_absent, constant_form, ShowOutputs, output_agrees}
+use Rattle.export_verilog.proofs.Ways.{worth, drives, IsTreeSettled, IsDesignSettled, unnamed_agrees, named_agrees, settled_given, tree_good, back, back_here, back_own, output_shown}
 use Rattle.export_verilog.proofs.Owners.{shown_ref, input_shows, output_shows, to, to_key, by_owner_of}
 
 module _ (d : Design) (x : Setting d) (top : Name) (inputs content : Word) (m0 : Module) (top_is : find_module d top ≡ Some m0) where

@@ -1,20 +1,19 @@
 -- The register content of a tree is laid out as that of its design.
-use Rattle.std.proofs.Common.{◌≡◌, ℕ, zero, suc, ◌+◌, ◌<◌, ◌≤◌, ◌⊎◌, Bool, true, false, cond, is_some, List, [], ◌∷◌, ◌++◌, length, map, take, slice_get, Option, Some, None, refl, sym, ◌∙◌, ap, ap₂, subst, inl, inr, zero-add, add-zero, suc-add, add-suc, append_assoc, arith}
+use Rattle.std.proofs.Common.{◌≡◌, ℕ, zero, suc, ◌+◌, ◌<◌, Bool, true, false, cond, is_some, List, [], ◌∷◌, ◌++◌, length, take, slice_get, Option, Some, None, refl, sym, ◌∙◌, ap, ap₂, subst, inl, inr, zero-add, add-zero, suc-add, add-suc, append_assoc, arith}
 use Rattle.std.proofs.lemmas.List.{length-map}
 use Rattle.wiring.specs.Wiring.{In}
-use Rattle.hw_model.specs.Types.{Name, HwType, width}
+use Rattle.hw_model.specs.Types.{Name}
 use Rattle.hw_model.specs.Kinds.{Instance}
-use Rattle.hw_model.specs.Design.{Ref, Port, OpResult, Op, Module, Design, RegisterForm, same_name, find_module, instance_in, register_form, result_type, output_refs, is_register}
-use Rattle.hw_model.specs.Design.Ref.{port, result}
+use Rattle.hw_model.specs.Design.{Ref, Port, OpResult, Op, Module, Design, RegisterForm, same_name, find_module, instance_in, register_form, result_type, output_refs}
+use Rattle.hw_model.specs.Design.Ref.{result}
 use Rattle.hw_model.specs.Equality.{name_self, name_from}
 use Rattle.hw_model.specs.Flat.{Path, width_of, module_at, instance_state, op_state, body_state, module_state, state_of, state, base, before_instance, state_before, held_width, Register, register_in}
-use Rattle.hw_model.specs.Sound.{type_in}
 use Rattle.hw_model.proofs.Sorts.{Sort, sort_of}
 use Rattle.hw_model.proofs.Sorts.Sort.{a_register, an_instance as is_an_instance, an_output, a_made}
 use Rattle.hw_model.proofs.Content.{before_position}
-use Rattle.verilog_model.specs.Tree.{Item, VModule, Tree}
+use Rattle.verilog_model.specs.Tree.{Item, VModule}
 use Rattle.verilog_model.specs.Tree.Item.{wire, reg, assign, always, instance}
-use Rattle.verilog_model.specs.Hierarchy.{VPath, vmodule_at, find_vmodule, block_target, item_state, items_state, vstate_of, vmodule_state, vstate, until, is_instance_named, loads, vstate_before, vbase, width_in}
+use Rattle.verilog_model.specs.Hierarchy.{block_target, items_state, vstate_of, vmodule_state, vstate, until, is_instance_named, loads, vstate_before, vbase, width_in}
 use Rattle.verilog_expr.specs.Spilling.{is_wire_kind, spilled}
 use Rattle.export_verilog.specs.Keys.{Key, Role, each, role_of, module_keys, key_text, named, name_or_nothing}
 use Rattle.export_verilog.specs.Keys.Key.{port_key, value_key, instance_key}
@@ -23,11 +22,11 @@ use Rattle.export_verilog.specs.Exported.{symbol_name, expression, result_wires,
 use Rattle.export_verilog.proofs.KeyNames.{AreNames, texts_apart}
 use Rattle.export_verilog.proofs.KeysOf.{role_of_register, role_of_instance, role_of_output, role_of_made, instance_of_role, register_of_role, variable_in, instance_in_keys}
 use Rattle.export_verilog.proofs.Symbols.{vmodule_found}
-use Rattle.export_verilog.proofs.Lookups.{key_width, width_under}
+use Rattle.export_verilog.proofs.Lookups.{width_under}
 use Rattle.export_verilog.proofs.Settings.{Setting, Called, called_by_role, module_ok, result_at_first}
 use Rattle.export_verilog.proofs.Registers.{register_of}
 use Rattle.export_verilog.proofs.Drives.{block_name}
-use Rattle.export_verilog.proofs.Places.{symbol_at_path, names_at_path, Further, further, name_of_step, vplace, vpath_of, number_of}
+use Rattle.export_verilog.proofs.Places.{symbol_at_path, Further, further, name_of_step, vplace, vpath_of}
 
 -- ---- lists of items
 
@@ -200,77 +199,77 @@ module _ (d : Design) (x : Setting d) (s : Name) (m : Module) (is : find_module 
     state_before_register i o there role =
         state_before_op (loads (key_text m (value_key i 0))) i o there
         (not_declares (loads (key_text m (value_key i 0))) (λ h n. refl) (λ h n. refl)) earlier passes where
-      test : Item → Bool
-      test = loads (key_text m (value_key i 0))
+          test : Item → Bool
+          test = loads (key_text m (value_key i 0))
 
-      in_block : (a : ℕ) (z : Op) → a < i → slice_get m.body a ≡ Some z → role_of m.ports m.body a z ≡ variable → (r : Option Register) (y : Item)
-          → In y (always_of m (key_text m (value_key a 0)) r) → loads (key_text m (value_key i 0)) y ≡ false
-      in_block a z below at role' None y here = absurd here
-      in_block a z below at role' (Some r) y (inl same) =
-          ap (loads (key_text m (value_key i 0))) same
-          ∙ ap (λ n. same_name n (key_text m (value_key i 0))) (block_name d x s m is s [] a r)
-          ∙ apart (value_key a 0) (value_key i 0) (variable_in m a z at role') (variable_in m i o there role) (λ e. (let h : a ≡ i = cc in omega arith))
-      in_block a z below at role' (Some r) y (inr never) = absurd never
+          in_block : (a : ℕ) (z : Op) → a < i → slice_get m.body a ≡ Some z → role_of m.ports m.body a z ≡ variable → (r : Option Register) (y : Item)
+              → In y (always_of m (key_text m (value_key a 0)) r) → loads (key_text m (value_key i 0)) y ≡ false
+          in_block a z below at role' None y here = absurd here
+          in_block a z below at role' (Some r) y (inl same) =
+              ap (loads (key_text m (value_key i 0))) same
+              ∙ ap (λ n. same_name n (key_text m (value_key i 0))) (block_name d x s m is s [] a r)
+              ∙ apart (value_key a 0) (value_key i 0) (variable_in m a z at role') (variable_in m i o there role) (λ e. (let h : a ≡ i = cc in omega arith))
+          in_block a z below at role' (Some r) y (inr never) = absurd never
 
-      in_instance : (a : ℕ) (z : Op) (k : Option Instance) (y : Item) → In y (instance_of d m a z k) → loads (key_text m (value_key i 0)) y ≡ false
-      in_instance a z None y here = absurd here
-      in_instance a z (Some k) y (inl same) = ap (loads (key_text m (value_key i 0))) same
-      in_instance a z (Some k) y (inr never) = absurd never
+          in_instance : (a : ℕ) (z : Op) (k : Option Instance) (y : Item) → In y (instance_of d m a z k) → loads (key_text m (value_key i 0)) y ≡ false
+          in_instance a z None y here = absurd here
+          in_instance a z (Some k) y (inl same) = ap (loads (key_text m (value_key i 0))) same
+          in_instance a z (Some k) y (inr never) = absurd never
 
-      by_role : (a : ℕ) (z : Op) → a < i → slice_get m.body a ≡ Some z → (r : Role) → role_of m.ports m.body a z ≡ r → (y : Item) → In y (stated_as d m a z r)
-          → loads (key_text m (value_key i 0)) y ≡ false
-      by_role a z below at hidden role' y here = absurd here
-      by_role a z below at net role' y (inl same) = ap (loads (key_text m (value_key i 0))) same
-      by_role a z below at net role' y (inr never) = absurd never
-      by_role a z below at variable role' y here = in_block a z below at role' (register_in z) y here
-      by_role a z below at block role' y here = in_instance a z (instance_in z.kind) y here
+          by_role : (a : ℕ) (z : Op) → a < i → slice_get m.body a ≡ Some z → (r : Role) → role_of m.ports m.body a z ≡ r → (y : Item) → In y (stated_as d m a z r)
+              → loads (key_text m (value_key i 0)) y ≡ false
+          by_role a z below at hidden role' y here = absurd here
+          by_role a z below at net role' y (inl same) = ap (loads (key_text m (value_key i 0))) same
+          by_role a z below at net role' y (inr never) = absurd never
+          by_role a z below at variable role' y here = in_block a z below at role' (register_in z) y here
+          by_role a z below at block role' y here = in_instance a z (instance_in z.kind) y here
 
-      earlier : (a : ℕ) (z : Op) → a < i → slice_get m.body a ≡ Some z → (y : Item) → In y (states d m a z) → loads (key_text m (value_key i 0)) y ≡ false
-      earlier a z below at y here = by_role a z below at (role_of m.ports m.body a z) refl y here
+          earlier : (a : ℕ) (z : Op) → a < i → slice_get m.body a ≡ Some z → (y : Item) → In y (states d m a z) → loads (key_text m (value_key i 0)) y ≡ false
+          earlier a z below at y here = by_role a z below at (role_of m.ports m.body a z) refl y here
 
-      passes : (r : List Item) → until (loads (key_text m (value_key i 0))) (states d m i o ++ r) ≡ []
-      passes r =
-          let g' = register_of d x s m is i o there role in
-          ap (λ z. until (loads (key_text m (value_key i 0))) (stated_as d m i o z ++ r)) role
-          ∙ ap (λ z. until (loads (key_text m (value_key i 0))) (always_of m (key_text m (value_key i 0)) z ++ r)) g'.1
-          ∙ ap (λ b. cond b [] (always (name_or_nothing (named m g'.0.clock)) (block_of (expression m) (key_text m (value_key i 0)) g'.0.next g'.0.enable g'.0.reset) ∷ until (loads (key_text m (value_key i 0))) r))
-          (ap (λ n. same_name n (key_text m (value_key i 0))) (block_name d x s m is s [] i g'.0) ∙ name_self (key_text m (value_key i 0)))
+          passes : (r : List Item) → until (loads (key_text m (value_key i 0))) (states d m i o ++ r) ≡ []
+          passes r =
+              let g' = register_of d x s m is i o there role in
+              ap (λ z. until (loads (key_text m (value_key i 0))) (stated_as d m i o z ++ r)) role
+              ∙ ap (λ z. until (loads (key_text m (value_key i 0))) (always_of m (key_text m (value_key i 0)) z ++ r)) g'.1
+              ∙ ap (λ b. cond b [] (always (name_or_nothing (named m g'.0.clock)) (block_of (expression m) (key_text m (value_key i 0)) g'.0.next g'.0.enable g'.0.reset) ∷ until (loads (key_text m (value_key i 0))) r))
+              (ap (λ n. same_name n (key_text m (value_key i 0))) (block_name d x s m is s [] i g'.0) ∙ name_self (key_text m (value_key i 0)))
 
     pub state_before_instance : (i : ℕ) (o : Op) → slice_get m.body i ≡ Some o → role_of m.ports m.body i o ≡ block
         → items_state f (vmodule d m) (until (is_instance_named (key_text m (instance_key i))) (vitems d m)) ≡ body_state g (take i m.body)
     state_before_instance i o there role =
         state_before_op (is_instance_named (key_text m (instance_key i))) i o there
         (not_declares (is_instance_named (key_text m (instance_key i))) (λ h n. refl) (λ h n. refl)) earlier passes where
-      in_block : (a : ℕ) (z : Op) (r : Option Register) (y : Item) → In y (always_of m (key_text m (value_key a 0)) r) → is_instance_named (key_text m (instance_key i)) y ≡ false
-      in_block a z None y here = absurd here
-      in_block a z (Some r) y (inl same) = ap (is_instance_named (key_text m (instance_key i))) same
-      in_block a z (Some r) y (inr never) = absurd never
+          in_block : (a : ℕ) (z : Op) (r : Option Register) (y : Item) → In y (always_of m (key_text m (value_key a 0)) r) → is_instance_named (key_text m (instance_key i)) y ≡ false
+          in_block a z None y here = absurd here
+          in_block a z (Some r) y (inl same) = ap (is_instance_named (key_text m (instance_key i))) same
+          in_block a z (Some r) y (inr never) = absurd never
 
-      in_instance : (a : ℕ) (z : Op) → a < i → slice_get m.body a ≡ Some z → role_of m.ports m.body a z ≡ block → (k : Option Instance) (y : Item) → In y (instance_of d m a z k)
-          → is_instance_named (key_text m (instance_key i)) y ≡ false
-      in_instance a z below at role' None y here = absurd here
-      in_instance a z below at role' (Some k) y (inl same) = ap (is_instance_named (key_text m (instance_key i))) same
-          ∙ apart (instance_key a) (instance_key i) (instance_in_keys m a z at role') (instance_in_keys m i o there role) (λ e. (let h : a ≡ i = cc in omega arith))
-      in_instance a z below at role' (Some k) y (inr never) = absurd never
+          in_instance : (a : ℕ) (z : Op) → a < i → slice_get m.body a ≡ Some z → role_of m.ports m.body a z ≡ block → (k : Option Instance) (y : Item) → In y (instance_of d m a z k)
+              → is_instance_named (key_text m (instance_key i)) y ≡ false
+          in_instance a z below at role' None y here = absurd here
+          in_instance a z below at role' (Some k) y (inl same) = ap (is_instance_named (key_text m (instance_key i))) same
+              ∙ apart (instance_key a) (instance_key i) (instance_in_keys m a z at role') (instance_in_keys m i o there role) (λ e. (let h : a ≡ i = cc in omega arith))
+          in_instance a z below at role' (Some k) y (inr never) = absurd never
 
-      by_role : (a : ℕ) (z : Op) → a < i → slice_get m.body a ≡ Some z → (r : Role) → role_of m.ports m.body a z ≡ r → (y : Item) → In y (stated_as d m a z r)
-          → is_instance_named (key_text m (instance_key i)) y ≡ false
-      by_role a z below at hidden role' y here = absurd here
-      by_role a z below at net role' y (inl same) = ap (is_instance_named (key_text m (instance_key i))) same
-      by_role a z below at net role' y (inr never) = absurd never
-      by_role a z below at variable role' y here = in_block a z (register_in z) y here
-      by_role a z below at block role' y here = in_instance a z below at role' (instance_in z.kind) y here
+          by_role : (a : ℕ) (z : Op) → a < i → slice_get m.body a ≡ Some z → (r : Role) → role_of m.ports m.body a z ≡ r → (y : Item) → In y (stated_as d m a z r)
+              → is_instance_named (key_text m (instance_key i)) y ≡ false
+          by_role a z below at hidden role' y here = absurd here
+          by_role a z below at net role' y (inl same) = ap (is_instance_named (key_text m (instance_key i))) same
+          by_role a z below at net role' y (inr never) = absurd never
+          by_role a z below at variable role' y here = in_block a z (register_in z) y here
+          by_role a z below at block role' y here = in_instance a z below at role' (instance_in z.kind) y here
 
-      earlier : (a : ℕ) (z : Op) → a < i → slice_get m.body a ≡ Some z → (y : Item) → In y (states d m a z) → is_instance_named (key_text m (instance_key i)) y ≡ false
-      earlier a z below at y here = by_role a z below at (role_of m.ports m.body a z) refl y here
+          earlier : (a : ℕ) (z : Op) → a < i → slice_get m.body a ≡ Some z → (y : Item) → In y (states d m a z) → is_instance_named (key_text m (instance_key i)) y ≡ false
+          earlier a z below at y here = by_role a z below at (role_of m.ports m.body a z) refl y here
 
-      passes : (r : List Item) → until (is_instance_named (key_text m (instance_key i))) (states d m i o ++ r) ≡ []
-      passes r =
-          let k = instance_of_role m.ports m.body i o role in
-          ap (λ z. until (is_instance_named (key_text m (instance_key i))) (stated_as d m i o z ++ r)) role
-          ∙ ap (λ z. until (is_instance_named (key_text m (instance_key i))) (instance_of d m i o z ++ r)) k.2
-          ∙ ap (λ b. cond b [] (instance (symbol_name d k.0.symbol) (key_text m (instance_key i)) (Rattle.export_verilog.specs.Exported.connections_to (find_module d k.0.symbol) m i o)
-          ∷ until (is_instance_named (key_text m (instance_key i))) r)) (name_self (key_text m (instance_key i)))
+          passes : (r : List Item) → until (is_instance_named (key_text m (instance_key i))) (states d m i o ++ r) ≡ []
+          passes r =
+              let k = instance_of_role m.ports m.body i o role in
+              ap (λ z. until (is_instance_named (key_text m (instance_key i))) (stated_as d m i o z ++ r)) role
+              ∙ ap (λ z. until (is_instance_named (key_text m (instance_key i))) (instance_of d m i o z ++ r)) k.2
+              ∙ ap (λ b. cond b [] (instance (symbol_name d k.0.symbol) (key_text m (instance_key i)) (Rattle.export_verilog.specs.Exported.connections_to (find_module d k.0.symbol) m i o)
+              ∷ until (is_instance_named (key_text m (instance_key i))) r)) (name_self (key_text m (instance_key i)))
 
 -- ---- a design
 

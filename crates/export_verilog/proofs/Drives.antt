@@ -1,28 +1,26 @@
 -- What drives each name of a module: the connections of instances, the assignments and the registers.
-use Rattle.std.proofs.Common.{◌≡◌, ℕ, zero, suc, pred, ◌+◌, ◌⊎◌, Bool, true, false, cond, List, [], ◌∷◌, ◌++◌, map, take, slice_get, Option, Some, None, refl, sym, ◌∙◌, ap, ap₂, subst, inl, inr, zero-add, add-zero, suc-add, add-suc, arith}
+use Rattle.std.proofs.Common.{◌≡◌, ℕ, zero, suc, pred, ◌+◌, Bool, true, false, cond, List, [], ◌∷◌, map, take, slice_get, Option, Some, None, refl, sym, ◌∙◌, ap, ap₂, subst, inl, inr, zero-add}
 use Rattle.wiring.specs.Wiring.{In}
 use Rattle.wiring.specs.Options.{bind, omap}
-use Rattle.wiring.proofs.Options.{omap_some, bind_some}
-use Rattle.hw_model.specs.Types.{Name, HwType, width}
-use Rattle.hw_model.specs.Kinds.{Instance}
-use Rattle.hw_model.specs.Design.{Ref, Port, OpResult, Op, Module, Design, same_name, find_module, instance_in, result_type, output_refs, callee}
-use Rattle.hw_model.specs.Design.Ref.{port, result}
+use Rattle.wiring.proofs.Options.{omap_some}
+use Rattle.hw_model.specs.Types.{Name, HwType}
+use Rattle.hw_model.specs.Design.{Port, OpResult, Op, Module, Design, same_name, find_module, output_refs, callee}
+use Rattle.hw_model.specs.Design.Ref.{result}
 use Rattle.hw_model.specs.Equality.{name_self, name_from}
-use Rattle.hw_model.specs.Flat.{width_of, input_count, input_width, Register, register_in, if_zero}
-use Rattle.hw_model.specs.Sound.{type_in, output_types}
-use Rattle.verilog_model.specs.Tree.{Expr, VPort, Connection, Item, VModule, Block}
+use Rattle.hw_model.specs.Flat.{input_count, Register, if_zero}
+use Rattle.hw_model.specs.Sound.{output_types}
+use Rattle.verilog_model.specs.Tree.{Expr, VPort, Connection, Item, VModule}
 use Rattle.verilog_model.specs.Tree.Expr.{name}
-use Rattle.verilog_model.specs.Tree.Item.{wire, reg, assign, always, instance}
-use Rattle.verilog_model.specs.Hierarchy.{first_some, or_else, when, find_port, find_connection, find_vmodule, VPath, vnet, Drive, block_target, loads, vbase, vstate_before, is_name, joined_output, vports_of, item_drive, inner_drive, drive_in, drive_or_nothing, input_width_before, input_drive, width_in, range_width}
-use Rattle.verilog_model.specs.Hierarchy.Drive.{nothing, input, held, expression as driven_by, net as driven_from}
-use Rattle.verilog_expr.specs.Numerals.{high_of}
-use Rattle.export_verilog.specs.Keys.{Key, Role, each, role_of, key_text, module_keys}
+use Rattle.verilog_model.specs.Tree.Item.{assign}
+use Rattle.verilog_model.specs.Hierarchy.{first_some, or_else, when, find_port, VPath, vnet, Drive, block_target, loads, vbase, vstate_before, is_name, joined_output, vports_of, item_drive, inner_drive, drive_in, drive_or_nothing, width_in}
+use Rattle.verilog_model.specs.Hierarchy.Drive.{nothing, held, expression as driven_by, net as driven_from}
+use Rattle.export_verilog.specs.Keys.{Key, Role, role_of, key_text, module_keys}
 use Rattle.export_verilog.specs.Keys.Key.{port_key, value_key, instance_key}
 use Rattle.export_verilog.specs.Keys.Role.{hidden, net, variable, block}
-use Rattle.export_verilog.specs.Exported.{symbol_name, expression, assigned_expr, block_of, connections_of, connections_to, vport, vports, vitems, vmodule, tree_of}
-use Rattle.export_verilog.proofs.Lists.{first_found, none_found}
+use Rattle.export_verilog.specs.Exported.{expression, assigned_expr, block_of, connections_of, connections_to, vports, vitems, vmodule, tree_of}
+use Rattle.export_verilog.proofs.Lists.{first_found}
 use Rattle.export_verilog.proofs.KeyNames.{AreNames, texts_apart}
-use Rattle.export_verilog.proofs.KeysOf.{instance_of_role, Owner, owner_of, port_in, net_in, variable_in, instance_in_keys, result_in_keys}
+use Rattle.export_verilog.proofs.KeysOf.{Owner, owner_of, port_in, net_in, variable_in, result_in_keys}
 use Rattle.export_verilog.proofs.KeysOf.Owner.{a_port, a_net, a_variable, an_instance as owns_instance, a_result}
 use Rattle.export_verilog.proofs.Symbols.{when_some, vmodule_found}
 use Rattle.export_verilog.proofs.Items.{output_count, expr_for, connection_of, from_connections, into_connections, output_item, block_at, instance_at, From, from_items, into_items}
@@ -48,9 +46,10 @@ output_place k (p ∷ ps) = cond p.is_output (if_zero k (Some 0) (omap suc (outp
 pub place_of_output : (ps : List Port) (j : ℕ) (p : Port) → slice_get ps j ≡ Some p → p.is_output ≡ true
     → (output_place (output_count (take j ps)) ps ≡ Some j) × (slice_get (output_types ps) (output_count (take j ps)) ≡ Some p.type)
 place_of_output [] j p is out = cc
-place_of_output (x ∷ ps) zero p is out = let e : x ≡ p = cc in let way : x.is_output ≡ true = ap (λ (z : Port). z.is_output) e ∙ out in
-    (ap (λ b. cond b (Some 0) (omap suc (output_place 0 ps))) way,
-    ap (λ b. slice_get (cond b (x.type ∷ output_types ps) (output_types ps)) 0) way ∙ ap (λ (z : Port). Some z.type) e)
+place_of_output (x ∷ ps) zero p is out = let e : x ≡ p = cc in let way : x.is_output ≡ true = ap (λ (z : Port). z.is_output) e ∙ out in (
+  ap (λ b. cond b (Some 0) (omap suc (output_place 0 ps))) way,
+  ap (λ b. slice_get (cond b (x.type ∷ output_types ps) (output_types ps)) 0) way ∙ ap (λ (z : Port). Some z.type) e,
+)
 place_of_output (x ∷ ps) (suc j) p is out = go x.is_output refl (place_of_output ps j p is out) where
   go : (b : Bool) → x.is_output ≡ b → (output_place (output_count (take j ps)) ps ≡ Some j) × (slice_get (output_types ps) (output_count (take j ps)) ≡ Some p.type)
       → (cond b (if_zero (cond b (suc (output_count (take j ps))) (output_count (take j ps))) (Some 0) (omap suc (output_place (pred (cond b (suc (output_count (take j ps))) (output_count (take j ps)))) ps)))
@@ -96,13 +95,13 @@ module _ (c m : Module) (are : AreNames c) (i : ℕ) (o : Op) (q : VPath) (u n :
       let e = from_connections c m i 0 0 c.ports o.operands y here in
       let same : y ≡ connection_of c m i e.0 0 (take e.0 c.ports) e.1 o.operands = e.3 ∙ ap (λ a. connection_of c m i a 0 (take e.0 c.ports) e.1 o.operands) (zero-add e.0) in
       go e.0 e.1 e.2 e.1.is_output refl (sym (joined_at e.0 e.1 e.2) ∙ sym (ap (joined_output q u n (vports c)) same) ∙ gives) where
-    go : (j : ℕ) (p : Port) → slice_get c.ports j ≡ Some p → (b : Bool) → p.is_output ≡ b
-        → cond b (when (is_name n (cond b (name (key_text m (value_key i (0 + output_count (take j c.ports))))) (expr_for (expression m) (slice_get o.operands (input_count (take j c.ports)))))) (output_drive j)) None ≡ Some w
-        → (j : ℕ) × (p : Port) × (slice_get c.ports j ≡ Some p) × (p.is_output ≡ true) × (n ≡ key_text m (value_key i (output_count (take j c.ports)))) × (output_drive j ≡ w)
-    go j p there true way is =
-        let h = when_some (same_name (key_text m (value_key i (0 + output_count (take j c.ports)))) n) (output_drive j) w is in
-        (j, p, there, way, sym (name_from (key_text m (value_key i (0 + output_count (take j c.ports)))) n h.0) ∙ ap (λ a. key_text m (value_key i a)) (zero-add (output_count (take j c.ports))), h.1)
-    go j p there false way is = cc
+        go : (j : ℕ) (p : Port) → slice_get c.ports j ≡ Some p → (b : Bool) → p.is_output ≡ b
+            → cond b (when (is_name n (cond b (name (key_text m (value_key i (0 + output_count (take j c.ports))))) (expr_for (expression m) (slice_get o.operands (input_count (take j c.ports)))))) (output_drive j)) None ≡ Some w
+            → (j : ℕ) × (p : Port) × (slice_get c.ports j ≡ Some p) × (p.is_output ≡ true) × (n ≡ key_text m (value_key i (output_count (take j c.ports)))) × (output_drive j ≡ w)
+        go j p there true way is =
+            let h = when_some (same_name (key_text m (value_key i (0 + output_count (take j c.ports)))) n) (output_drive j) w is in
+            (j, p, there, way, sym (name_from (key_text m (value_key i (0 + output_count (take j c.ports)))) n h.0) ∙ ap (λ a. key_text m (value_key i a)) (zero-add (output_count (take j c.ports))), h.1)
+        go j p there false way is = cc
 
   pub output_joined : (j : ℕ) (p : Port) → slice_get c.ports j ≡ Some p → p.is_output ≡ true → n ≡ key_text m (value_key i (output_count (take j c.ports)))
       → joined_output q u n (vports c) (connection_of c m i j 0 (take j c.ports) p o.operands) ≡ Some (output_drive j)
@@ -179,14 +178,16 @@ module _ (d : Design) (x : Setting d) (s : Name) (m : Module) (is : find_module 
         let p = place_of_output c.module_of.ports j.0 j.1 j.2 j.3 in
         let typed : omap (λ (r : OpResult). r.type) (slice_get o.results (output_count (take j.0 c.module_of.ports))) ≡ Some j.1.type =
         sym (slice_of_map o.results (output_count (take j.0 c.module_of.ports))) ∙ ap (λ ts. slice_get ts (output_count (take j.0 c.module_of.ports))) c.outputs ∙ p.1 in
-        let r = omap_some (λ (r : OpResult). r.type) (slice_get o.results (output_count (take j.0 c.module_of.ports))) typed in
-        (value_key i (output_count (take j.0 c.module_of.ports)),
-        result_in_keys m i (output_count (take j.0 c.module_of.ports)) o r.0 there role r.1, j.4,
-        value_of_result i o c there role (output_count (take j.0 c.module_of.ports)) j.0 p.0 ∙ ap (λ (z : Drive). Some z) j.5) where
-      slice_of_map : (rs : List OpResult) (k : ℕ) → slice_get (map (λ (r : OpResult). r.type) rs) k ≡ omap (λ (r : OpResult). r.type) (slice_get rs k)
-      slice_of_map [] k = refl
-      slice_of_map (r ∷ rs) zero = refl
-      slice_of_map (r ∷ rs) (suc k) = slice_of_map rs k
+        let r = omap_some (λ (r : OpResult). r.type) (slice_get o.results (output_count (take j.0 c.module_of.ports))) typed in (
+          value_key i (output_count (take j.0 c.module_of.ports)),
+          result_in_keys m i (output_count (take j.0 c.module_of.ports)) o r.0 there role r.1,
+          j.4,
+          value_of_result i o c there role (output_count (take j.0 c.module_of.ports)) j.0 p.0 ∙ ap (λ (z : Drive). Some z) j.5,
+        ) where
+          slice_of_map : (rs : List OpResult) (k : ℕ) → slice_get (map (λ (r : OpResult). r.type) rs) k ≡ omap (λ (r : OpResult). r.type) (slice_get rs k)
+          slice_of_map [] k = refl
+          slice_of_map (r ∷ rs) zero = refl
+          slice_of_map (r ∷ rs) (suc k) = slice_of_map rs k
 
     go : From d m y → (k : Key) × In k (module_keys m) × (n ≡ key_text m k) × (drive_value k ≡ Some w)
     go (net_assign i o there role same) =
@@ -200,9 +201,12 @@ module _ (d : Design) (x : Setting d) (s : Name) (m : Module) (is : find_module 
         (value_key i 0, variable_in m i o there role, sym called, value_by_role i 0 o variable there role ∙ ap (λ z. Some (held_under z)) called ∙ ap (λ (z : Drive). Some z) h.1)
     go (an_instance i o k there role kind same) = by_instance i o (called_by d x s m is i o there k kind) there role (sym (ap (gives n) same) ∙ is_given)
     go (output_assign j p there out same) =
-        let h = when_some (same_name (key_text m (port_key j)) n) (driven_by q (output_expr j)) w (sym (ap (gives n) same) ∙ is_given) in
-        (port_key j, port_in m j p there, sym (name_from (key_text m (port_key j)) n h.0),
-        ap (λ z. bind z (λ (p : Port). cond p.is_output (Some (driven_by q (output_expr j))) None)) there ∙ ap (λ b. cond b (Some (driven_by q (output_expr j))) None) out ∙ ap (λ (z : Drive). Some z) h.1)
+        let h = when_some (same_name (key_text m (port_key j)) n) (driven_by q (output_expr j)) w (sym (ap (gives n) same) ∙ is_given) in (
+          port_key j,
+          port_in m j p there,
+          sym (name_from (key_text m (port_key j)) n h.0),
+          ap (λ z. bind z (λ (p : Port). cond p.is_output (Some (driven_by q (output_expr j))) None)) there ∙ ap (λ b. cond b (Some (driven_by q (output_expr j))) None) out ∙ ap (λ (z : Drive). Some z) h.1,
+        )
     go (net_wire i o there role same) = absurd (let h : None ≡ Some w = sym (ap (gives n) same) ∙ is_given in cc)
     go (variable_reg i o there role same) = absurd (let h : None ≡ Some w = sym (ap (gives n) same) ∙ is_given in cc)
     go (result_wire i k o r there role at same) = absurd (let h : None ≡ Some w = sym (ap (gives n) same) ∙ is_given in cc)
@@ -214,10 +218,12 @@ module _ (d : Design) (x : Setting d) (s : Name) (m : Module) (is : find_module 
         ∙ sym given ∙ ap drive_value (sym same) ∙ value
 
     of_port : (j : ℕ) (p : Port) → slice_get m.ports j ≡ Some p → k ≡ port_key j → (b : Bool) → p.is_output ≡ b → (y : Item) × In y (vitems d m) × (gives (key_text m k) y ≡ Some w)
-    of_port j p there same true out = (output_item m j (take j m.ports) (output_refs m.body),
-        into_items d m (output_item m j (take j m.ports) (output_refs m.body)) (output_assign j p there out refl),
-        chosen (port_key j) (driven_by q (output_expr j)) same
-        (ap (λ z. bind z (λ (p : Port). cond p.is_output (Some (driven_by q (output_expr j))) None)) there ∙ ap (λ b. cond b (Some (driven_by q (output_expr j))) None) out))
+    of_port j p there same true out = (
+      output_item m j (take j m.ports) (output_refs m.body),
+      into_items d m (output_item m j (take j m.ports) (output_refs m.body)) (output_assign j p there out refl),
+      chosen (port_key j) (driven_by q (output_expr j)) same
+          (ap (λ z. bind z (λ (p : Port). cond p.is_output (Some (driven_by q (output_expr j))) None)) there ∙ ap (λ b. cond b (Some (driven_by q (output_expr j))) None) out),
+    )
     of_port j p there same false out = absurd (let h : None ≡ Some w =
         sym (ap drive_value same ∙ ap (λ z. bind z (λ (p : Port). cond p.is_output (Some (driven_by q (output_expr j))) None)) there ∙ ap (λ b. cond b (Some (driven_by q (output_expr j))) None) out) ∙ value in cc)
 
@@ -239,17 +245,19 @@ module _ (d : Design) (x : Setting d) (s : Name) (m : Module) (is : find_module 
       f = joined_output q (key_text m (instance_key i)) (key_text m k) (vports c.module_of)
 
       found_output : OutputAt c.module_of.ports l r.type → (y : Item) × In y (vitems d m) × (gives (key_text m k) y ≡ Some w)
-      found_output e = (instance_at d m i o c.kind,
-          into_items d m (instance_at d m i o c.kind) (an_instance i o c.kind there role c.is_kind refl),
-          instance_drive (key_text m k) i o c
-          ∙ first_found (joined_output q (key_text m (instance_key i)) (key_text m k) (vports c.module_of)) (the_drive e.place) (connections_of c.module_of m i 0 0 c.module_of.ports o.operands)
-          (connection_of c.module_of m i e.place 0 (take e.place c.module_of.ports) e.port o.operands)
-          (subst (λ a. In (connection_of c.module_of m i a 0 (take e.place c.module_of.ports) e.port o.operands) (connections_of c.module_of m i 0 0 c.module_of.ports o.operands)) (zero-add e.place)
-          (into_connections c.module_of m i 0 0 c.module_of.ports o.operands e.place e.port e.there))
-          (output_joined c.module_of m (x.names c.kind.symbol c.module_of c.there) i o q (key_text m (instance_key i)) (key_text m k) e.place e.port e.there e.out
-          (ap (key_text m) same ∙ ap (λ a. key_text m (value_key i a)) (sym e.number)))
-          only
-          ∙ sym (value_of_result i o c there role l e.place at_place) ∙ ap drive_value (sym same) ∙ value) where
+      found_output e = (
+        instance_at d m i o c.kind,
+        into_items d m (instance_at d m i o c.kind) (an_instance i o c.kind there role c.is_kind refl),
+        instance_drive (key_text m k) i o c
+            ∙ first_found (joined_output q (key_text m (instance_key i)) (key_text m k) (vports c.module_of)) (the_drive e.place) (connections_of c.module_of m i 0 0 c.module_of.ports o.operands)
+            (connection_of c.module_of m i e.place 0 (take e.place c.module_of.ports) e.port o.operands)
+            (subst (λ a. In (connection_of c.module_of m i a 0 (take e.place c.module_of.ports) e.port o.operands) (connections_of c.module_of m i 0 0 c.module_of.ports o.operands)) (zero-add e.place)
+            (into_connections c.module_of m i 0 0 c.module_of.ports o.operands e.place e.port e.there))
+            (output_joined c.module_of m (x.names c.kind.symbol c.module_of c.there) i o q (key_text m (instance_key i)) (key_text m k) e.place e.port e.there e.out
+            (ap (key_text m) same ∙ ap (λ a. key_text m (value_key i a)) (sym e.number)))
+            only
+            ∙ sym (value_of_result i o c there role l e.place at_place) ∙ ap drive_value (sym same) ∙ value,
+      ) where
         the_drive : ℕ → Drive
         the_drive a = driven_from (vnet (key_text m (instance_key i) ∷ q) (key_text c.module_of (port_key a)))
 
@@ -268,24 +276,28 @@ module _ (d : Design) (x : Setting d) (s : Name) (m : Module) (is : find_module 
             let places : Some e.place ≡ Some j.0 = sym at_place ∙ ap (λ a. output_place a c.module_of.ports) number ∙ p.0 in
             let place : e.place ≡ j.0 = cc in
             sym j.5 ∙ ap the_drive (sym place) where
-          other_in : (j : ℕ) (p : Port) → slice_get (output_types c.module_of.ports) (output_count (take j c.module_of.ports)) ≡ Some p.type
-              → In (value_key i (output_count (take j c.module_of.ports))) (module_keys m)
-          other_in j p at =
-              let n : ℕ = output_count (take j c.module_of.ports) in
-              let t : omap (λ (r : OpResult). r.type) (slice_get o.results n) ≡ Some p.type = sym (slice_of_map o.results n) ∙ ap (λ ts. slice_get ts n) c.outputs ∙ at in
-              let r = omap_some (λ (r : OpResult). r.type) (slice_get o.results n) t in
-              result_in_keys m i n o r.0 there role r.1
+              other_in : (j : ℕ) (p : Port) → slice_get (output_types c.module_of.ports) (output_count (take j c.module_of.ports)) ≡ Some p.type
+                  → In (value_key i (output_count (take j c.module_of.ports))) (module_keys m)
+              other_in j p at =
+                  let n : ℕ = output_count (take j c.module_of.ports) in
+                  let t : omap (λ (r : OpResult). r.type) (slice_get o.results n) ≡ Some p.type = sym (slice_of_map o.results n) ∙ ap (λ ts. slice_get ts n) c.outputs ∙ at in
+                  let r = omap_some (λ (r : OpResult). r.type) (slice_get o.results n) t in
+                  result_in_keys m i n o r.0 there role r.1
 
     go : Owner m k → (y : Item) × In y (vitems d m) × (gives (key_text m k) y ≡ Some w)
     go (a_port j p there same) = of_port j p there same p.is_output refl
-    go (a_net i o there role same) = (assign (key_text m (value_key i 0)) (assigned_expr m (result i 0)),
-        into_items d m (assign (key_text m (value_key i 0)) (assigned_expr m (result i 0))) (net_assign i o there role refl),
-        chosen (value_key i 0) (driven_by q (assigned_expr m (result i 0))) same (value_by_role i 0 o net there role))
+    go (a_net i o there role same) = (
+      assign (key_text m (value_key i 0)) (assigned_expr m (result i 0)),
+      into_items d m (assign (key_text m (value_key i 0)) (assigned_expr m (result i 0))) (net_assign i o there role refl),
+      chosen (value_key i 0) (driven_by q (assigned_expr m (result i 0))) same (value_by_role i 0 o net there role),
+    )
     go (a_variable i o there role same) =
-        let r = register_of d x s m is i o there role in
-        (block_at m i r.0, into_items d m (block_at m i r.0) (variable_block i o r.0 there role r.1 refl),
-        ap₂ (λ a b. when (same_name a (key_text m k)) (held (vbase (tree_of d) top q + vstate_before (tree_of d) (loads (key_text m b)) (Some (vmodule d m))) (width_in (vmodule d m) (key_text m b)))) (block_name i r.0) same
-        ∙ chosen (value_key i 0) (held_drive i) same (value_by_role i 0 o variable there role))
+        let r = register_of d x s m is i o there role in (
+          block_at m i r.0,
+          into_items d m (block_at m i r.0) (variable_block i o r.0 there role r.1 refl),
+          ap₂ (λ a b. when (same_name a (key_text m k)) (held (vbase (tree_of d) top q + vstate_before (tree_of d) (loads (key_text m b)) (Some (vmodule d m))) (width_in (vmodule d m) (key_text m b)))) (block_name i r.0) same
+              ∙ chosen (value_key i 0) (held_drive i) same (value_by_role i 0 o variable there role),
+        )
     go (owns_instance i o there role same) = absurd (let h : None ≡ Some w = sym (ap drive_value same) ∙ value in cc)
     go (a_result i l o r there role at same) = of_result i l o r there role at same (called_by_role d x s m is i o there role)
 

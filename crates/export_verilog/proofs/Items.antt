@@ -1,18 +1,18 @@
 -- Where each item of a module's tree comes from, and that each stands there.
-use Rattle.std.proofs.Common.{◌≡◌, ℕ, zero, suc, ◌+◌, ◌⊎◌, Bool, true, false, cond, List, [], ◌∷◌, ◌++◌, take, slice_get, Option, Some, None, refl, sym, ◌∙◌, ap, ap₂, subst, inl, inr, add-zero, add-suc, zero-add, suc-add, arith}
+use Rattle.std.proofs.Common.{◌≡◌, ℕ, zero, suc, ◌+◌, ◌⊎◌, Bool, true, false, cond, List, [], ◌∷◌, ◌++◌, take, slice_get, Option, Some, None, refl, sym, ◌∙◌, ap, ap₂, subst, inl, inr, add-zero, add-suc, zero-add, suc-add}
 use Rattle.wiring.specs.Wiring.{In}
 use Rattle.wiring.proofs.Members.{In-append_left, In-append_right}
-use Rattle.hw_model.specs.Types.{Name, width}
+use Rattle.hw_model.specs.Types.{width}
 use Rattle.hw_model.specs.Kinds.{Instance}
 use Rattle.hw_model.specs.Design.{Ref, Port, OpResult, Op, Module, Design, find_module, instance_in, result_type, output_refs}
-use Rattle.hw_model.specs.Design.Ref.{port, result}
+use Rattle.hw_model.specs.Design.Ref.{result}
 use Rattle.hw_model.specs.Flat.{width_of, input_count, Register, register_in}
 use Rattle.verilog_model.specs.Tree.{Expr, Connection, Item}
 use Rattle.verilog_model.specs.Tree.Expr.{name}
 use Rattle.verilog_model.specs.Tree.Item.{wire, reg, assign, always, instance}
 use Rattle.verilog_expr.specs.Numerals.{high_of}
 use Rattle.verilog_expr.specs.Building.{no_expr}
-use Rattle.export_verilog.specs.Keys.{Key, Role, each, role_of, key_text, name_or_nothing, named}
+use Rattle.export_verilog.specs.Keys.{Role, each, role_of, key_text, name_or_nothing, named}
 use Rattle.export_verilog.specs.Keys.Key.{port_key, value_key, instance_key}
 use Rattle.export_verilog.specs.Keys.Role.{hidden, net, variable, block}
 use Rattle.export_verilog.specs.Exported.{symbol_name, expression, assigned_expr, result_wires, declared_as, declares, block_of, always_of, expr_or_none, others, connections_of, connections_to, instance_of, stated_as, states, output_assigns, vitems}
@@ -51,22 +51,22 @@ shifted_output : (c m : Module) (i j k n : ℕ) (x : Port) (before : List Port) 
 shifted_output c m i j k n x before p rs out =
     ap₂ (λ a b. connection_with a b (input_count before)) (suc-add j n ∙ sym (add-suc j n)) (suc-add k (output_count before) ∙ sym (add-suc k (output_count before)))
     ∙ ap (λ b. connection_with (j + suc n) (k + cond b (suc (output_count before)) (output_count before)) (cond b (input_count before) (suc (input_count before)))) (sym out) where
-  connection_with : ℕ → ℕ → ℕ → Connection
-  connection_with a b e = record {
-    port = key_text c (port_key a);
-    value = cond p.is_output (name (key_text m (value_key i b))) (expr_for (expression m) (slice_get rs e));
-  }
+      connection_with : ℕ → ℕ → ℕ → Connection
+      connection_with a b e = record {
+        port = key_text c (port_key a);
+        value = cond p.is_output (name (key_text m (value_key i b))) (expr_for (expression m) (slice_get rs e));
+      }
 
 shifted_input : (c m : Module) (i j k n : ℕ) (x : Port) (before : List Port) (p : Port) (rs : List Ref) → x.is_output ≡ false
     → connection_of c m i (suc j + n) k before p (others rs) ≡ connection_of c m i (j + suc n) k (x ∷ before) p rs
 shifted_input c m i j k n x before p rs out =
     ap₂ (λ a b. connection_with a (output_count before) b) (suc-add j n ∙ sym (add-suc j n)) (later_expr rs (input_count before))
     ∙ ap (λ b. connection_with (j + suc n) (cond b (suc (output_count before)) (output_count before)) (slice_get rs (cond b (input_count before) (suc (input_count before))))) (sym out) where
-  connection_with : ℕ → ℕ → Option Ref → Connection
-  connection_with a b e = record {
-    port = key_text c (port_key a);
-    value = cond p.is_output (name (key_text m (value_key i (k + b)))) (expr_for (expression m) e);
-  }
+      connection_with : ℕ → ℕ → Option Ref → Connection
+      connection_with a b e = record {
+        port = key_text c (port_key a);
+        value = cond p.is_output (name (key_text m (value_key i (k + b)))) (expr_for (expression m) e);
+      }
 
 module _ (c m : Module) (i : ℕ) where
   pub from_connections : (j k : ℕ) (ps : List Port) (rs : List Ref) (y : Connection) → In y (connections_of c m i j k ps rs)
@@ -84,12 +84,22 @@ module _ (c m : Module) (i : ℕ) where
         → (In y (connections_of c m i (suc j) (suc k) ps rs) → (n : ℕ) × (p : Port) × (slice_get ps n ≡ Some p) × (y ≡ connection_of c m i (suc j + n) (suc k) (take n ps) p rs))
         → (In y (connections_of c m i (suc j) k ps (others rs)) → (n : ℕ) × (p : Port) × (slice_get ps n ≡ Some p) × (y ≡ connection_of c m i (suc j + n) k (take n ps) p (others rs)))
         → (n : ℕ) × (p : Port) × (slice_get (x ∷ ps) n ≡ Some p) × (y ≡ connection_of c m i (j + n) k (take n (x ∷ ps)) p rs)
-    go true out (inl same) first second = (0, x, refl, same ∙ ap (λ n. head (name (key_text m (value_key i n)))) (sym (add-zero k))
-        ∙ ap (λ b. head (cond b (name (key_text m (value_key i (k + 0)))) (expr_for (expression m) (slice_get rs 0)))) (sym out) ∙ place (j + 0) (sym (add-zero j)))
+    go true out (inl same) first second = (
+      0,
+      x,
+      refl,
+      same ∙ ap (λ n. head (name (key_text m (value_key i n)))) (sym (add-zero k))
+          ∙ ap (λ b. head (cond b (name (key_text m (value_key i (k + 0)))) (expr_for (expression m) (slice_get rs 0)))) (sym out) ∙ place (j + 0) (sym (add-zero j)),
+    )
     go true out (inr later) first second = let h = first later in
         (suc h.0, h.1, h.2, h.3 ∙ shifted_output c m i j k h.0 x (take h.0 ps) h.1 rs out)
-    go false out (inl same) first second = (0, x, refl, same ∙ ap head (first_expr (expression m) rs)
-        ∙ ap (λ b. head (cond b (name (key_text m (value_key i (k + 0)))) (expr_for (expression m) (slice_get rs 0)))) (sym out) ∙ place (j + 0) (sym (add-zero j)))
+    go false out (inl same) first second = (
+      0,
+      x,
+      refl,
+      same ∙ ap head (first_expr (expression m) rs)
+          ∙ ap (λ b. head (cond b (name (key_text m (value_key i (k + 0)))) (expr_for (expression m) (slice_get rs 0)))) (sym out) ∙ place (j + 0) (sym (add-zero j)),
+    )
     go false out (inr later) first second = let h = second later in
         (suc h.0, h.1, h.2, h.3 ∙ shifted_input c m i j k h.0 x (take h.0 ps) h.1 rs out)
 
@@ -140,11 +150,23 @@ module _ (m : Module) where
         → (In y (output_assigns m (suc j) ps rs) → (n : ℕ) × (p : Port) × (slice_get ps n ≡ Some p) × (p.is_output ≡ true) × (y ≡ output_item (suc j + n) (take n ps) rs))
         → (n : ℕ) × (p : Port) × (slice_get (x ∷ ps) n ≡ Some p) × (p.is_output ≡ true) × (y ≡ output_item (j + n) (take n (x ∷ ps)) rs)
     go true out (inl same) first second = (0, x, refl, out, same ∙ ap₂ (λ a e. assign (key_text m (port_key a)) e) (sym (add-zero j)) (first_expr (expression m) rs))
-    go true out (inr later) first second = let h = first later in (suc h.0, h.1, h.2, h.3, h.4
-        ∙ ap₂ (λ a e. assign (key_text m (port_key a)) (expr_for (expression m) e)) (suc-add j h.0 ∙ sym (add-suc j h.0)) (later_expr rs (output_count (take h.0 ps)))
-        ∙ ap (λ b. assign (key_text m (port_key (j + suc h.0))) (expr_for (expression m) (slice_get rs (cond b (suc (output_count (take h.0 ps))) (output_count (take h.0 ps)))))) (sym out))
-    go false out later first second = let h = second later in (suc h.0, h.1, h.2, h.3, h.4 ∙ moved h.0 0
-        ∙ ap (λ b. assign (key_text m (port_key (j + suc h.0))) (expr_for (expression m) (slice_get rs (cond b (suc (output_count (take h.0 ps))) (output_count (take h.0 ps)))))) (sym out))
+    go true out (inr later) first second = let h = first later in (
+      suc h.0,
+      h.1,
+      h.2,
+      h.3,
+      h.4
+          ∙ ap₂ (λ a e. assign (key_text m (port_key a)) (expr_for (expression m) e)) (suc-add j h.0 ∙ sym (add-suc j h.0)) (later_expr rs (output_count (take h.0 ps)))
+          ∙ ap (λ b. assign (key_text m (port_key (j + suc h.0))) (expr_for (expression m) (slice_get rs (cond b (suc (output_count (take h.0 ps))) (output_count (take h.0 ps)))))) (sym out),
+    )
+    go false out later first second = let h = second later in (
+      suc h.0,
+      h.1,
+      h.2,
+      h.3,
+      h.4 ∙ moved h.0 0
+          ∙ ap (λ b. assign (key_text m (port_key (j + suc h.0))) (expr_for (expression m) (slice_get rs (cond b (suc (output_count (take h.0 ps))) (output_count (take h.0 ps)))))) (sym out),
+    )
 
   pub into_outputs : (j : ℕ) (ps : List Port) (rs : List Ref) (n : ℕ) (p : Port) → slice_get ps n ≡ Some p → p.is_output ≡ true
       → In (output_item (j + n) (take n ps) rs) (output_assigns m j ps rs)

@@ -1,17 +1,17 @@
 -- Which things of a module have names: what each key belongs to.
-use Rattle.std.proofs.Common.{◌≡◌, ℕ, zero, suc, ◌+◌, ◌⊎◌, Bool, true, false, cond, is_some, List, [], ◌∷◌, ◌++◌, slice_get, Option, Some, None, refl, sym, ◌∙◌, ap, subst, inl, inr, add-zero, add-suc, zero-add, suc-add, arith}
+use Rattle.std.proofs.Common.{◌≡◌, ℕ, zero, suc, ◌+◌, ◌⊎◌, Bool, true, false, cond, is_some, List, [], ◌∷◌, slice_get, Some, None, refl, sym, ◌∙◌, ap, subst, inl, inr, add-zero, add-suc, zero-add, suc-add}
 use Rattle.wiring.specs.Wiring.{In}
 use Rattle.wiring.proofs.Members.{In-append_left, In-append_right}
-use Rattle.hw_model.specs.Kinds.{Kind, Instance}
-use Rattle.hw_model.specs.Design.{Ref, Port, OpResult, Op, Module, RegisterForm, instance_in, register_form, is_output_kind, is_register, is_instance, is_output_op}
-use Rattle.hw_model.specs.Design.Ref.{port, result}
+use Rattle.hw_model.specs.Kinds.{Instance}
+use Rattle.hw_model.specs.Design.{Port, OpResult, Op, Module, RegisterForm, instance_in, register_form, is_output_kind, is_instance, is_output_op}
+use Rattle.hw_model.specs.Design.Ref.{result}
 use Rattle.hw_model.proofs.Sorts.{Sort, sort_of}
 use Rattle.hw_model.proofs.Sorts.Sort.{a_register, an_instance as is_an_instance, an_output, a_made}
 use Rattle.verilog_expr.specs.Spilling.{is_wire_kind, spilled}
 use Rattle.export_verilog.specs.Keys.{Key, Role, each, role_of, result_keys, keys_of, op_keys, port_keys, module_keys}
 use Rattle.export_verilog.specs.Keys.Key.{port_key, value_key, instance_key}
 use Rattle.export_verilog.specs.Keys.Role.{hidden, net, variable, block}
-use Rattle.export_verilog.proofs.Lists.{in_append, FromEach, in_each, each_in}
+use Rattle.export_verilog.proofs.Lists.{in_append, in_each, each_in}
 
 -- ---- lists made element by element from the first position on
 

@@ -1,23 +1,23 @@
 -- What is found under the name of each of a module's things: ports, widths, instances and connections.
-use Rattle.std.proofs.Common.{◌≡◌, ℕ, zero, suc, ◌+◌, ◌<◌, ◌≤◌, ◌^◌, ◌⊎◌, Bool, true, false, cond, List, [], ◌∷◌, ◌++◌, take, slice_get, Option, Some, None, refl, sym, ◌∙◌, ap, ap₂, subst, inl, inr, zero-add, arith}
+use Rattle.std.proofs.Common.{◌≡◌, ℕ, ◌<◌, ◌≤◌, ◌^◌, ◌⊎◌, Bool, true, false, List, [], ◌∷◌, take, slice_get, Option, Some, None, refl, sym, ◌∙◌, ap, ap₂, subst, inl, inr, zero-add}
 use Rattle.wiring.specs.Wiring.{In}
 use Rattle.wiring.specs.Options.{bind, omap}
-use Rattle.wiring.proofs.Options.{omap_some, bind_some}
-use Rattle.hw_model.specs.Types.{Name, HwType, width}
+use Rattle.wiring.proofs.Options.{omap_some}
+use Rattle.hw_model.specs.Types.{Name, width}
 use Rattle.hw_model.specs.Kinds.{Instance}
-use Rattle.hw_model.specs.Design.{Ref, Port, OpResult, Op, Module, Design, same_name, find_module, instance_in, result_type, output_refs}
-use Rattle.hw_model.specs.Design.Ref.{port, result}
+use Rattle.hw_model.specs.Design.{Port, OpResult, Op, Module, Design, same_name, find_module, instance_in, result_type}
+use Rattle.hw_model.specs.Design.Ref.{result}
 use Rattle.hw_model.specs.Equality.{name_self, name_from}
-use Rattle.hw_model.specs.Flat.{width_of, input_count}
+use Rattle.hw_model.specs.Flat.{width_of}
 use Rattle.hw_model.specs.Sound.{type_in}
-use Rattle.verilog_model.specs.Tree.{Numeral, Expr, VPort, Connection, Item, VModule}
-use Rattle.verilog_model.specs.Tree.Item.{wire, reg, assign, always, instance}
+use Rattle.verilog_model.specs.Tree.{Numeral, VPort, Connection, Item}
+use Rattle.verilog_model.specs.Tree.Item.{wire, reg, instance}
 use Rattle.verilog_model.specs.Hierarchy.{first_some, or_else, when, find_port, find_connection, VInstance, instance_named, find_instance, item_range, range_in, range_width, width_of_range, width_in}
 use Rattle.verilog_expr.specs.Numerals.{high_of}
-use Rattle.export_verilog.specs.Keys.{Key, each, role_of, key_text, module_keys}
+use Rattle.export_verilog.specs.Keys.{Key, role_of, key_text, module_keys}
 use Rattle.export_verilog.specs.Keys.Key.{port_key, value_key, instance_key}
-use Rattle.export_verilog.specs.Keys.Role.{net, variable, block}
-use Rattle.export_verilog.specs.Exported.{symbol_name, expression, connections_of, connections_to, vport, vports, vitems, vmodule}
+use Rattle.export_verilog.specs.Keys.Role.{net, variable}
+use Rattle.export_verilog.specs.Exported.{symbol_name, connections_of, connections_to, vport, vports, vitems, vmodule}
 use Rattle.export_verilog.specs.Exportable.{IsExportableModule}
 use Rattle.export_verilog.proofs.Lists.{first_found, none_found}
 use Rattle.export_verilog.proofs.KeyNames.{AreNames, texts_apart}
@@ -67,14 +67,20 @@ module _ (m : Module) where
   ports_back : (n : Name) (y c : VPort) → In y (vports m) → when (same_name y.name n) y ≡ Some c → (k : Key) × In k (module_keys m) × (n ≡ key_text m k) × (port_value m k ≡ Some c)
   ports_back n y c here gives = let h = when_some (same_name y.name n) y c gives in let e = from_each (vport m) m.ports y here in go e.0 e.1 e.2 e.3 (name_from y.name n h.0) h.1 where
     go : (j : ℕ) (p : Port) → slice_get m.ports j ≡ Some p → In y (vport m j p) → y.name ≡ n → y ≡ c → (k : Key) × In k (module_keys m) × (n ≡ key_text m k) × (port_value m k ≡ Some c)
-    go j p there (inl same) called is = (port_key j, port_in m j p there, sym called ∙ ap (λ (z : VPort). z.name) same,
-        ap (omap (vport_at m j)) there ∙ ap (λ (z : VPort). Some z) (sym same ∙ is))
+    go j p there (inl same) called is = (
+      port_key j,
+      port_in m j p there,
+      sym called ∙ ap (λ (z : VPort). z.name) same,
+      ap (omap (vport_at m j)) there ∙ ap (λ (z : VPort). Some z) (sym same ∙ is),
+    )
     go j p there (inr never) called is = absurd never
 
   ports_forth : (k : Key) (c : VPort) → In k (module_keys m) → port_value m k ≡ Some c → (y : VPort) × In y (vports m) × (when (same_name y.name (key_text m k)) y ≡ Some c)
-  ports_forth (port_key j) c here is = let h = omap_some (vport_at m j) (slice_get m.ports j) is in
-      (vport_at m j h.0, into_each (vport m) m.ports (vport_at m j h.0) j h.0 h.1 (inl refl),
-      ap (λ b. when b (vport_at m j h.0)) (name_self (key_text m (port_key j))) ∙ ap (λ (z : VPort). Some z) h.2)
+  ports_forth (port_key j) c here is = let h = omap_some (vport_at m j) (slice_get m.ports j) is in (
+    vport_at m j h.0,
+    into_each (vport m) m.ports (vport_at m j h.0) j h.0 h.1 (inl refl),
+    ap (λ b. when b (vport_at m j h.0)) (name_self (key_text m (port_key j))) ∙ ap (λ (z : VPort). Some z) h.2,
+  )
   ports_forth (value_key i k) c here is = cc
   ports_forth (instance_key i) c here is = cc
 
@@ -133,15 +139,21 @@ module _ (d : Design) (m : Module) where
     go : Owner m k → (y : Item) × In y (vitems d m) × (item_range (key_text m k) y ≡ Some c)
     go (a_port j p there same) = absurd (let h : None ≡ Some c = sym (ap (item_high m) same) ∙ is in cc)
     go (owns_instance i o there role same) = absurd (let h : None ≡ Some c = sym (ap (item_high m) same) ∙ is in cc)
-    go (a_net i o there role same) = (wire (high_of (width_of (result_type o 0))) (key_text m (value_key i 0)),
-        into_items d m (wire (high_of (width_of (result_type o 0))) (key_text m (value_key i 0))) (net_wire i o there role refl),
-        chosen (high_of (width_of (result_type o 0))) (value_key i 0) same (ap (omap (λ o. high_of (width_of (result_type o 0)))) there))
-    go (a_variable i o there role same) = (reg (high_of (width_of (result_type o 0))) (key_text m (value_key i 0)),
-        into_items d m (reg (high_of (width_of (result_type o 0))) (key_text m (value_key i 0))) (variable_reg i o there role refl),
-        chosen (high_of (width_of (result_type o 0))) (value_key i 0) same (ap (omap (λ o. high_of (width_of (result_type o 0)))) there))
-    go (a_result i l o r there role at same) = (wire (high_of (width r.type)) (key_text m (value_key i l)),
-        into_items d m (wire (high_of (width r.type)) (key_text m (value_key i l))) (result_wire i l o r there role at refl),
-        chosen (high_of (width r.type)) (value_key i l) same (ap (omap (λ o. high_of (width_of (result_type o l)))) there ∙ ap (λ t. Some (high_of (width_of t))) (result_found o l r at)))
+    go (a_net i o there role same) = (
+      wire (high_of (width_of (result_type o 0))) (key_text m (value_key i 0)),
+      into_items d m (wire (high_of (width_of (result_type o 0))) (key_text m (value_key i 0))) (net_wire i o there role refl),
+      chosen (high_of (width_of (result_type o 0))) (value_key i 0) same (ap (omap (λ o. high_of (width_of (result_type o 0)))) there),
+    )
+    go (a_variable i o there role same) = (
+      reg (high_of (width_of (result_type o 0))) (key_text m (value_key i 0)),
+      into_items d m (reg (high_of (width_of (result_type o 0))) (key_text m (value_key i 0))) (variable_reg i o there role refl),
+      chosen (high_of (width_of (result_type o 0))) (value_key i 0) same (ap (omap (λ o. high_of (width_of (result_type o 0)))) there),
+    )
+    go (a_result i l o r there role at same) = (
+      wire (high_of (width r.type)) (key_text m (value_key i l)),
+      into_items d m (wire (high_of (width r.type)) (key_text m (value_key i l))) (result_wire i l o r there role at refl),
+      chosen (high_of (width r.type)) (value_key i l) same (ap (omap (λ o. high_of (width_of (result_type o l)))) there ∙ ap (λ t. Some (high_of (width_of t))) (result_found o l r at)),
+    )
 
   module _ (are : AreNames m) where
     pub item_range_under : (k : Key) → In k (module_keys m) → first_some (item_range (key_text m k)) (vitems d m) ≡ item_high m k
@@ -207,9 +219,12 @@ module _ (d : Design) (m : Module) where
   instances_back n y c here gives = go (from_items d m y here) where
     go : From d m y → (k : Key) × In k (module_keys m) × (n ≡ key_text m k) × (instance_value d m k ≡ Some c)
     go (an_instance i o x there role is same) =
-        let w = when_some (same_name (key_text m (instance_key i)) n) (instance_of_kind d m i o x) c (sym (ap (instance_named n) same) ∙ gives) in
-        (instance_key i, instance_in_keys m i o there role, sym (name_from (key_text m (instance_key i)) n w.0),
-        ap (λ z. bind z (λ (o : Op). omap (instance_of_kind d m i o) (instance_in o.kind))) there ∙ ap (omap (instance_of_kind d m i o)) is ∙ ap (λ (z : VInstance). Some z) w.1)
+        let w = when_some (same_name (key_text m (instance_key i)) n) (instance_of_kind d m i o x) c (sym (ap (instance_named n) same) ∙ gives) in (
+          instance_key i,
+          instance_in_keys m i o there role,
+          sym (name_from (key_text m (instance_key i)) n w.0),
+          ap (λ z. bind z (λ (o : Op). omap (instance_of_kind d m i o) (instance_in o.kind))) there ∙ ap (omap (instance_of_kind d m i o)) is ∙ ap (λ (z : VInstance). Some z) w.1,
+        )
     go (net_wire i o there role same) = absurd (let h : None ≡ Some c = sym (ap (instance_named n) same) ∙ gives in cc)
     go (variable_reg i o there role same) = absurd (let h : None ≡ Some c = sym (ap (instance_named n) same) ∙ gives in cc)
     go (result_wire i k o r there role at same) = absurd (let h : None ≡ Some c = sym (ap (instance_named n) same) ∙ gives in cc)
@@ -222,11 +237,13 @@ module _ (d : Design) (m : Module) where
     go : Owner m k → (y : Item) × In y (vitems d m) × (instance_named (key_text m k) y ≡ Some c)
     go (owns_instance i o there role same) =
         let kind = instance_of_role m.ports m.body i o role in
-        let y : Item = instance (symbol_name d kind.0.symbol) (key_text m (instance_key i)) (connections_to (find_module d kind.0.symbol) m i o) in
-        (y, into_items d m y (an_instance i o kind.0 there role kind.2 refl),
-        ap (λ z. when (same_name (key_text m z) (key_text m k)) (instance_of_kind d m i o kind.0)) (sym same) ∙ ap (λ b. when b (instance_of_kind d m i o kind.0)) (name_self (key_text m k))
-        ∙ sym (ap (λ z. bind z (λ (o : Op). omap (instance_of_kind d m i o) (instance_in o.kind))) there ∙ ap (omap (instance_of_kind d m i o)) kind.2)
-        ∙ ap (instance_value d m) (sym same) ∙ is)
+        let y : Item = instance (symbol_name d kind.0.symbol) (key_text m (instance_key i)) (connections_to (find_module d kind.0.symbol) m i o) in (
+          y,
+          into_items d m y (an_instance i o kind.0 there role kind.2 refl),
+          ap (λ z. when (same_name (key_text m z) (key_text m k)) (instance_of_kind d m i o kind.0)) (sym same) ∙ ap (λ b. when b (instance_of_kind d m i o kind.0)) (name_self (key_text m k))
+              ∙ sym (ap (λ z. bind z (λ (o : Op). omap (instance_of_kind d m i o) (instance_in o.kind))) there ∙ ap (omap (instance_of_kind d m i o)) kind.2)
+              ∙ ap (instance_value d m) (sym same) ∙ is,
+        )
     go (a_port j p there same) = absurd (let h : None ≡ Some c = sym (ap (instance_value d m) same) ∙ is in cc)
     go (a_net i o there role same) = absurd (let h : None ≡ Some c = sym (ap (instance_value d m) same) ∙ is in cc)
     go (a_variable i o there role same) = absurd (let h : None ≡ Some c = sym (ap (instance_value d m) same) ∙ is in cc)
@@ -251,18 +268,23 @@ module _ (c m : Module) (i : ℕ) (o : Op) where
   connections_back n y b here gives =
       let h = when_some (same_name y.port n) y b gives in
       let e = from_connections c m i 0 0 c.ports o.operands y here in
-      let same : y ≡ connection_of c m i e.0 0 (take e.0 c.ports) e.1 o.operands = e.3 ∙ ap (λ a. connection_of c m i a 0 (take e.0 c.ports) e.1 o.operands) (zero-add e.0) in
-      (port_key e.0, port_in c e.0 e.1 e.2, sym (name_from y.port n h.0) ∙ ap (λ (z : Connection). z.port) same,
-      ap (omap (λ p. connection_of c m i e.0 0 (take e.0 c.ports) p o.operands)) e.2 ∙ ap (λ (z : Connection). Some z) (sym same ∙ h.1))
+      let same : y ≡ connection_of c m i e.0 0 (take e.0 c.ports) e.1 o.operands = e.3 ∙ ap (λ a. connection_of c m i a 0 (take e.0 c.ports) e.1 o.operands) (zero-add e.0) in (
+        port_key e.0,
+        port_in c e.0 e.1 e.2,
+        sym (name_from y.port n h.0) ∙ ap (λ (z : Connection). z.port) same,
+        ap (omap (λ p. connection_of c m i e.0 0 (take e.0 c.ports) p o.operands)) e.2 ∙ ap (λ (z : Connection). Some z) (sym same ∙ h.1),
+      )
 
   connections_forth : (k : Key) (b : Connection) → In k (module_keys c) → connection_value c m i o k ≡ Some b
       → (y : Connection) × In y (connections_of c m i 0 0 c.ports o.operands) × (when (same_name y.port (key_text c k)) y ≡ Some b)
   connections_forth (port_key j) b here is =
       let h = omap_some (λ p. connection_of c m i j 0 (take j c.ports) p o.operands) (slice_get c.ports j) is in
-      let y : Connection = connection_of c m i j 0 (take j c.ports) h.0 o.operands in
-      (y, subst (λ a. In (connection_of c m i a 0 (take j c.ports) h.0 o.operands) (connections_of c m i 0 0 c.ports o.operands)) (zero-add j)
-      (into_connections c m i 0 0 c.ports o.operands j h.0 h.1),
-      ap (λ z. when z y) (name_self (key_text c (port_key j))) ∙ ap (λ (z : Connection). Some z) h.2)
+      let y : Connection = connection_of c m i j 0 (take j c.ports) h.0 o.operands in (
+        y,
+        subst (λ a. In (connection_of c m i a 0 (take j c.ports) h.0 o.operands) (connections_of c m i 0 0 c.ports o.operands)) (zero-add j)
+            (into_connections c m i 0 0 c.ports o.operands j h.0 h.1),
+        ap (λ z. when z y) (name_self (key_text c (port_key j))) ∙ ap (λ (z : Connection). Some z) h.2,
+      )
   connections_forth (value_key a k) b here is = cc
   connections_forth (instance_key a) b here is = cc
 

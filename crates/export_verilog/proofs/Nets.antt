@@ -1,15 +1,14 @@
 -- What drives the nets of a tree, place by place.
-use Rattle.std.proofs.Common.{◌≡◌, ℕ, zero, suc, ◌+◌, ◌<◌, ◌≤◌, ◌⊎◌, Bool, true, false, cond, List, [], ◌∷◌, ◌++◌, map, take, slice_get, Option, Some, None, refl, sym, ◌∙◌, ap, ap₂, subst, inl, inr, zero-add, add-zero, suc-add, add-suc, arith}
+use Rattle.std.proofs.Common.{◌≡◌, ℕ, zero, suc, ◌+◌, Bool, true, false, cond, List, [], ◌∷◌, take, slice_get, Some, None, refl, sym, ◌∙◌, ap, ap₂, subst, zero-add, add-zero, suc-add, add-suc, arith}
 use Rattle.wiring.specs.Wiring.{In}
 use Rattle.wiring.specs.Options.{bind, omap}
-use Rattle.hw_model.specs.Types.{Name, HwType, width}
-use Rattle.hw_model.specs.Design.{Ref, Port, OpResult, Op, Module, Design, same_name, find_module, instance_in, result_type, output_refs}
-use Rattle.hw_model.specs.Design.Ref.{port, result}
+use Rattle.hw_model.specs.Types.{Name, width}
+use Rattle.hw_model.specs.Design.{Port, OpResult, Op, Module, Design, same_name, find_module, instance_in, result_type, output_refs}
+use Rattle.hw_model.specs.Design.Ref.{result}
 use Rattle.hw_model.specs.Equality.{name_self, name_from}
 use Rattle.hw_model.specs.Flat.{Path, module_at, width_of, base, body_state, state, input_count, input_width}
-use Rattle.hw_model.specs.Sound.{type_in}
 use Rattle.verilog_model.specs.Tree.{Expr, VPort, VModule, Connection}
-use Rattle.verilog_model.specs.Hierarchy.{VPath, vnet, Drive, drive, drive_at, drive_in, inner_drive, drive_or_nothing, input_drive, connected, drive_of_connection, find_port, find_instance, find_connection, VInstance, vmodule_at, width_in, width_at, range_width, input_width_before}
+use Rattle.verilog_model.specs.Hierarchy.{VPath, vnet, Drive, drive, drive_at, drive_in, inner_drive, drive_or_nothing, input_drive, connected, drive_of_connection, find_port, find_instance, find_connection, vmodule_at, width_in, width_at, range_width, input_width_before}
 use Rattle.verilog_model.specs.Hierarchy.Drive.{nothing, input, held, expression as driven_by, net as driven_from}
 use Rattle.verilog_expr.specs.Numerals.{high_of}
 use Rattle.export_verilog.specs.Keys.{Key, each, role_of, module_keys, key_text}
@@ -20,10 +19,10 @@ use Rattle.export_verilog.specs.Exportable.{IsExportableModule}
 use Rattle.export_verilog.proofs.KeyNames.{AreNames, texts_apart}
 use Rattle.export_verilog.proofs.KeysOf.{port_in, net_in, variable_in, instance_in_keys, result_in_keys}
 use Rattle.export_verilog.proofs.Items.{output_count, expr_for, connection_of}
-use Rattle.export_verilog.proofs.Lookups.{vport_at, port_value, port_under, key_width, width_under, port_width, instance_of_kind, instance_under, connection_value, connection_under}
+use Rattle.export_verilog.proofs.Lookups.{vport_at, port_value, port_under, key_width, width_under, port_width, instance_of_kind, instance_under, connection_under}
 use Rattle.export_verilog.proofs.Settings.{Setting, Called, module_ok, result_at_first}
-use Rattle.export_verilog.proofs.Drives.{output_place, OutputAt, output_of_number, place_of_output, output_expr, drive_value, drive_under, no_drive_under, value_by_role, value_of_result}
-use Rattle.export_verilog.proofs.Places.{number_of, vpath_of, step_name, symbol_at_path, names_at_path, Further, name_of_step, vplace, inside_instance}
+use Rattle.export_verilog.proofs.Drives.{output_place, OutputAt, place_of_output, drive_value, drive_under, no_drive_under, value_by_role, value_of_result}
+use Rattle.export_verilog.proofs.Places.{number_of, vpath_of, step_name, symbol_at_path, names_at_path, Further, vplace, inside_instance}
 use Rattle.export_verilog.proofs.Content.{variable_width, register_base}
 
 -- the bits of the inputs before one
@@ -39,18 +38,18 @@ inputs_before m j (x ∷ ps) (suc n) p there each_ok =
     ∙ ap rest_of (ap (λ a. input_width_before (key_text m (port_key a)) (each (vport m) (suc j) ps)) (add-suc j n ∙ sym (suc-add j n))
     ∙ inputs_before m (suc j) ps n p there later)
     ∙ ap (λ w. cond x.is_output (input_width (take n ps)) (w + input_width (take n ps))) (each_ok 0 x refl).1 where
-  rest_of : ℕ → ℕ
-  rest_of w = cond x.is_output w (range_width (high_of (width x.type)) + w)
+      rest_of : ℕ → ℕ
+      rest_of w = cond x.is_output w (range_width (high_of (width x.type)) + w)
 
-  other : same_name (key_text m (port_key j)) (key_text m (port_key (j + suc n))) ≡ false
-  other = go (same_name (key_text m (port_key j)) (key_text m (port_key (j + suc n)))) refl where
-    go : (b : Bool) → same_name (key_text m (port_key j)) (key_text m (port_key (j + suc n))) ≡ b → b ≡ false
-    go false e = refl
-    go true e = absurd (let h : 0 ≡ suc n = (each_ok 0 x refl).0 (ap (λ a. key_text m (port_key a)) (add-zero j) ∙ name_from (key_text m (port_key j)) (key_text m (port_key (j + suc n))) e) in omega arith)
+      other : same_name (key_text m (port_key j)) (key_text m (port_key (j + suc n))) ≡ false
+      other = go (same_name (key_text m (port_key j)) (key_text m (port_key (j + suc n)))) refl where
+        go : (b : Bool) → same_name (key_text m (port_key j)) (key_text m (port_key (j + suc n))) ≡ b → b ≡ false
+        go false e = refl
+        go true e = absurd (let h : 0 ≡ suc n = (each_ok 0 x refl).0 (ap (λ a. key_text m (port_key a)) (add-zero j) ∙ name_from (key_text m (port_key j)) (key_text m (port_key (j + suc n))) e) in omega arith)
 
-  later : (a : ℕ) (q : Port) → slice_get ps a ≡ Some q → (key_text m (port_key (suc j + a)) ≡ key_text m (port_key (suc j + n)) → a ≡ n) × (range_width (high_of (width q.type)) ≡ width q.type)
-  later a q at = let h = each_ok (suc a) q at in
-      (λ e. (let g : suc a ≡ suc n = h.0 (ap (λ z. key_text m (port_key z)) (add-suc j a ∙ sym (suc-add j a)) ∙ e ∙ ap (λ z. key_text m (port_key z)) (suc-add j n ∙ sym (add-suc j n))) in omega arith), h.1)
+      later : (a : ℕ) (q : Port) → slice_get ps a ≡ Some q → (key_text m (port_key (suc j + a)) ≡ key_text m (port_key (suc j + n)) → a ≡ n) × (range_width (high_of (width q.type)) ≡ width q.type)
+      later a q at = let h = each_ok (suc a) q at in
+          (λ e. (let g : suc a ≡ suc n = h.0 (ap (λ z. key_text m (port_key z)) (add-suc j a ∙ sym (suc-add j a)) ∙ e ∙ ap (λ z. key_text m (port_key z)) (suc-add j n ∙ sym (add-suc j n))) in omega arith), h.1)
 
 module _ (d : Design) (x : Setting d) (top : Name) where
   abbrev pub here_path : Path → VPath
@@ -139,22 +138,22 @@ module _ (d : Design) (x : Setting d) (top : Name) where
       → key_drive [] m (port_key j) ≡ input (input_width (take j m.ports)) (width y.type)
   drive_top_input m here j y there out =
       drive_input [] m here j y there out ∙ ap₂ input before (port_width x.say d m ok names j y there) where
-    names : AreNames m
-    names = names_at_path d x top [] m here
+        names : AreNames m
+        names = names_at_path d x top [] m here
 
-    ok : IsExportableModule m
-    ok = module_ok d x (symbol_at_path d x top [] m here).0 m (symbol_at_path d x top [] m here).1
+        ok : IsExportableModule m
+        ok = module_ok d x (symbol_at_path d x top [] m here).0 m (symbol_at_path d x top [] m here).1
 
-    ports_ok : (a : ℕ) (q : Port) → slice_get m.ports a ≡ Some q → (key_text m (port_key (0 + a)) ≡ key_text m (port_key (0 + j)) → a ≡ j) × (range_width (high_of (width q.type)) ≡ width q.type)
-    ports_ok a q at = (same_place, port_width x.say d m ok names a q at) where
-      same_place : key_text m (port_key (0 + a)) ≡ key_text m (port_key (0 + j)) → a ≡ j
-      same_place e =
-          let texts : key_text m (port_key a) ≡ key_text m (port_key j) = ap (λ z. key_text m (port_key z)) (sym (zero-add a)) ∙ e ∙ ap (λ z. key_text m (port_key z)) (zero-add j) in
-          let keys : port_key a ≡ port_key j = texts_apart m names (port_key a) (port_key j) (port_in m a q at) (port_in m j y there) texts in
-          let places : a ≡ j = cc in places
+        ports_ok : (a : ℕ) (q : Port) → slice_get m.ports a ≡ Some q → (key_text m (port_key (0 + a)) ≡ key_text m (port_key (0 + j)) → a ≡ j) × (range_width (high_of (width q.type)) ≡ width q.type)
+        ports_ok a q at = (same_place, port_width x.say d m ok names a q at) where
+          same_place : key_text m (port_key (0 + a)) ≡ key_text m (port_key (0 + j)) → a ≡ j
+          same_place e =
+              let texts : key_text m (port_key a) ≡ key_text m (port_key j) = ap (λ z. key_text m (port_key z)) (sym (zero-add a)) ∙ e ∙ ap (λ z. key_text m (port_key z)) (zero-add j) in
+              let keys : port_key a ≡ port_key j = texts_apart m names (port_key a) (port_key j) (port_in m a q at) (port_in m j y there) texts in
+              let places : a ≡ j = cc in places
 
-    before : input_width_before (key_text m (port_key j)) (vports m) ≡ input_width (take j m.ports)
-    before = ap (λ z. input_width_before (key_text m (port_key z)) (vports m)) (sym (zero-add j)) ∙ inputs_before m 0 m.ports j y there ports_ok
+        before : input_width_before (key_text m (port_key j)) (vports m) ≡ input_width (take j m.ports)
+        before = ap (λ z. input_width_before (key_text m (port_key z)) (vports m)) (sym (zero-add j)) ∙ inputs_before m 0 m.ports j y there ports_ok
 
   -- an input further inside: what the instance joins to it
   pub drive_inner_input : (u : ℕ) (p : Path) (m : Module) → (here : module_at d top (u ∷ p) ≡ Some m) → (f : Further d x top p u m) → (j : ℕ) (y : Port) → slice_get m.ports j ≡ Some y → y.is_output ≡ false
@@ -166,28 +165,28 @@ module _ (d : Design) (x : Setting d) (top : Name) where
       ∙ ap (connected (vpath_of d top p) (key_text m (port_key j))) found
       ∙ ap (λ z. drive_of_connection (vpath_of d top p) (find_connection (connections_to z f.outer f.place f.op) (key_text m (port_key j)))) f.called.there
       ∙ joined m f.inside there where
-    names : AreNames f.outer
-    names = names_at_path d x top p f.outer f.here
+        names : AreNames f.outer
+        names = names_at_path d x top p f.outer f.here
 
-    step : step_name (module_at d top p) u ≡ key_text f.outer (instance_key f.place)
-    step = ap (λ z. step_name z u) f.here ∙ ap (λ i. key_text f.outer (instance_key i)) f.is_place
+        step : step_name (module_at d top p) u ≡ key_text f.outer (instance_key f.place)
+        step = ap (λ z. step_name z u) f.here ∙ ap (λ i. key_text f.outer (instance_key i)) f.is_place
 
-    found : find_instance (vitems d f.outer) (key_text f.outer (instance_key f.place)) ≡ Some (instance_of_kind d f.outer f.place f.op f.called.kind)
-    found = instance_under d f.outer names (instance_key f.place) (instance_in_keys f.outer f.place f.op f.there f.role)
-        ∙ ap (λ z. bind z (λ (o : Op). omap (instance_of_kind d f.outer f.place o) (instance_in o.kind))) f.there
-        ∙ ap (omap (instance_of_kind d f.outer f.place f.op)) f.called.is_kind
+        found : find_instance (vitems d f.outer) (key_text f.outer (instance_key f.place)) ≡ Some (instance_of_kind d f.outer f.place f.op f.called.kind)
+        found = instance_under d f.outer names (instance_key f.place) (instance_in_keys f.outer f.place f.op f.there f.role)
+            ∙ ap (λ z. bind z (λ (o : Op). omap (instance_of_kind d f.outer f.place o) (instance_in o.kind))) f.there
+            ∙ ap (omap (instance_of_kind d f.outer f.place f.op)) f.called.is_kind
 
-    joined_own : slice_get f.called.module_of.ports j ≡ Some y
-        → drive_of_connection (vpath_of d top p) (find_connection (connections_of f.called.module_of f.outer f.place 0 0 f.called.module_of.ports f.op.operands) (key_text f.called.module_of (port_key j)))
-        ≡ driven_by (vpath_of d top p) (expr_for (expression f.outer) (slice_get f.op.operands (input_count (take j f.called.module_of.ports))))
-    joined_own at =
-        ap (drive_of_connection (vpath_of d top p))
-        (connection_under f.called.module_of f.outer f.place f.op (x.names f.called.kind.symbol f.called.module_of f.called.there) (port_key j) (port_in f.called.module_of j y at)
-        ∙ ap (omap (λ q. connection_of f.called.module_of f.outer f.place j 0 (take j f.called.module_of.ports) q f.op.operands)) at)
-        ∙ ap (λ b. driven_by (vpath_of d top p) (cond b (Rattle.verilog_model.specs.Tree.Expr.name (key_text f.outer (value_key f.place (0 + output_count (take j f.called.module_of.ports))))) (expr_for (expression f.outer) (slice_get f.op.operands (input_count (take j f.called.module_of.ports)))))) out
+        joined_own : slice_get f.called.module_of.ports j ≡ Some y
+            → drive_of_connection (vpath_of d top p) (find_connection (connections_of f.called.module_of f.outer f.place 0 0 f.called.module_of.ports f.op.operands) (key_text f.called.module_of (port_key j)))
+            ≡ driven_by (vpath_of d top p) (expr_for (expression f.outer) (slice_get f.op.operands (input_count (take j f.called.module_of.ports))))
+        joined_own at =
+            ap (drive_of_connection (vpath_of d top p))
+            (connection_under f.called.module_of f.outer f.place f.op (x.names f.called.kind.symbol f.called.module_of f.called.there) (port_key j) (port_in f.called.module_of j y at)
+            ∙ ap (omap (λ q. connection_of f.called.module_of f.outer f.place j 0 (take j f.called.module_of.ports) q f.op.operands)) at)
+            ∙ ap (λ b. driven_by (vpath_of d top p) (cond b (Rattle.verilog_model.specs.Tree.Expr.name (key_text f.outer (value_key f.place (0 + output_count (take j f.called.module_of.ports))))) (expr_for (expression f.outer) (slice_get f.op.operands (input_count (take j f.called.module_of.ports)))))) out
 
-    joined : (z : Module) → f.called.module_of ≡ z → slice_get z.ports j ≡ Some y
-        → drive_of_connection (vpath_of d top p) (find_connection (connections_of f.called.module_of f.outer f.place 0 0 f.called.module_of.ports f.op.operands) (key_text z (port_key j)))
-        ≡ driven_by (vpath_of d top p) (expr_for (expression f.outer) (slice_get f.op.operands (input_count (take j z.ports))))
-    joined z same = subst (λ y'. slice_get y'.ports j ≡ Some y → drive_of_connection (vpath_of d top p) (find_connection (connections_of f.called.module_of f.outer f.place 0 0 f.called.module_of.ports f.op.operands) (key_text y' (port_key j)))
-        ≡ driven_by (vpath_of d top p) (expr_for (expression f.outer) (slice_get f.op.operands (input_count (take j y'.ports))))) same joined_own
+        joined : (z : Module) → f.called.module_of ≡ z → slice_get z.ports j ≡ Some y
+            → drive_of_connection (vpath_of d top p) (find_connection (connections_of f.called.module_of f.outer f.place 0 0 f.called.module_of.ports f.op.operands) (key_text z (port_key j)))
+            ≡ driven_by (vpath_of d top p) (expr_for (expression f.outer) (slice_get f.op.operands (input_count (take j z.ports))))
+        joined z same = subst (λ y'. slice_get y'.ports j ≡ Some y → drive_of_connection (vpath_of d top p) (find_connection (connections_of f.called.module_of f.outer f.place 0 0 f.called.module_of.ports f.op.operands) (key_text y' (port_key j)))
+            ≡ driven_by (vpath_of d top p) (expr_for (expression f.outer) (slice_get f.op.operands (input_count (take j y'.ports))))) same joined_own

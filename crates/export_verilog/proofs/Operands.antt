@@ -1,6 +1,6 @@
 -- The operands of instances and of outputs are there, with the types of the ports.
-use Rattle.std.proofs.Common.{◌≡◌, ℕ, zero, suc, Bool, true, false, cond, List, [], ◌∷◌, map, take, slice_get, Option, Some, None, refl, sym, ◌∙◌, ap, subst}
-use Rattle.wiring.specs.Options.{bind, omap}
+use Rattle.std.proofs.Common.{◌≡◌, ℕ, zero, suc, Bool, true, false, cond, List, [], ◌∷◌, map, take, slice_get, Option, Some, None, refl, sym, ◌∙◌, ap}
+use Rattle.wiring.specs.Options.{omap}
 use Rattle.wiring.proofs.Options.{omap_some, omap_none}
 use Rattle.hw_model.specs.Types.{HwType}
 use Rattle.hw_model.specs.Design.{Ref, Port, OpResult, Op, Module, Design, result_type, output_refs}

@@ -1,47 +1,22 @@
 -- Whose a net of the tree is: from a map of a design's nets to one of its tree's.
-use Rattle.std.proofs.Common.{◌≡◌, ℕ, ℤ, zero, suc, ◌⊎◌, Bool, true, false, cond, is_some, List, [], ◌∷◌, map, length, take, slice_get, Option, Some, None, refl, sym, ◌∙◌, ap, ap₂, subst, inl, inr}
+use Rattle.std.proofs.Common.{◌≡◌, ℕ, ◌⊎◌, true, false, cond, [], take, slice_get, Option, Some, None, refl, sym, ◌∙◌, ap, ap₂, subst, inl, inr}
 use Rattle.wiring.specs.Wiring.{In}
-use Rattle.wiring.specs.Options.{bind, omap}
-use Rattle.wiring.proofs.Options.{bind_some, bind_none}
-use Rattle.wiring.proofs.Members.{In-map, map_same}
-use Rattle.wiring.proofs.Heights.{by_heights}
-use Rattle.bits_core.specs.Word.{Word, bits_of_ℤ}
-use Rattle.hw_model.specs.Types.{Name, HwType, width}
-use Rattle.hw_model.specs.Kinds.{Kind, Instance}
-use Rattle.hw_model.specs.Kinds.Kind.{constant}
-use Rattle.hw_model.specs.Design.{Ref, Port, OpResult, Op, Module, Design, RegisterForm, find_module, instance_in, register_form, is_output_kind, result_type, output_refs, callee}
+use Rattle.bits_core.specs.Word.{Word}
+use Rattle.hw_model.specs.Types.{Name}
+use Rattle.hw_model.specs.Design.{Ref, Port, Module, Design, find_module, output_refs}
 use Rattle.hw_model.specs.Design.Ref.{port, result, undefined}
-use Rattle.hw_model.specs.Value.{op_value}
-use Rattle.hw_model.specs.Flat.{Path, Net, net as at, Source, source, module_at, instances, width_of, input_width, input_of, input_source, copy_of, joined_ref, joined_at, operand_for, input_count, given_ref, held_of, made_of, result_source, offset}
-use Rattle.hw_model.specs.Flat.Source.{nowhere, made, input as from_input}
-use Rattle.hw_model.specs.Meaning.{needs, needs_of, value_of, Settled, HasHeights}
-use Rattle.hw_model.specs.Sound.{type_in, input_type, output_types}
-use Rattle.hw_model.proofs.Sorts.{Sort, sort_of}
-use Rattle.hw_model.proofs.Sorts.Sort.{a_register, an_instance as is_an_instance, an_output, a_made}
-use Rattle.hw_model.proofs.Finite.{heights_from_no_cycle}
-use Rattle.hw_model.proofs.NetWidths.{value_widths}
-use Rattle.verilog_model.specs.Hierarchy.{VPath, VNet, vnet, Drive, drive, drive_at, vmodule_at, width_at}
+use Rattle.hw_model.specs.Flat.{Path, Net, net as at, module_at}
+use Rattle.verilog_model.specs.Hierarchy.{VNet, vnet, drive, drive_at, vmodule_at}
 use Rattle.verilog_model.specs.Hierarchy.Drive.{nothing}
-use Rattle.verilog_model.specs.Meaning.{names_at, driven, TreeSettled}
-use Rattle.verilog_expr.specs.Spilling.{is_pure}
-use Rattle.verilog_expr.specs.Values.{is_division, HoldConstants}
-use Rattle.export_verilog.specs.Keys.{Key, role_of, module_keys, key_text, named}
+use Rattle.export_verilog.specs.Keys.{Key, module_keys, key_text}
 use Rattle.export_verilog.specs.Keys.Key.{port_key, value_key, instance_key}
-use Rattle.export_verilog.specs.Keys.Role.{net, variable, block}
-use Rattle.export_verilog.specs.Exported.{symbol_name, expression, vmodule, tree_of}
+use Rattle.export_verilog.specs.Exported.{symbol_name, vmodule, tree_of}
 use Rattle.export_verilog.proofs.KeyNames.{texts_apart}
-use Rattle.export_verilog.proofs.KeysOf.{Owner, owner_of, register_of_role, instance_of_role, port_in, net_in, variable_in, result_in_keys}
-use Rattle.export_verilog.proofs.KeysOf.Owner.{a_port, a_net, a_variable, an_instance, a_result}
 use Rattle.export_verilog.proofs.Items.{output_count}
-use Rattle.export_verilog.proofs.Lookups.{key_width}
-use Rattle.export_verilog.proofs.Settings.{Setting, Called, module_sound, called_by, first_result, callee_is}
-use Rattle.export_verilog.proofs.Sources.{register_from, instance_from, made_from, rest_from, no_op_from, pure_sort}
-use Rattle.export_verilog.proofs.Writable.{NamedAs, named_as, named_result, named_input}
-use Rattle.export_verilog.proofs.Writable.NamedAs.{by_port, by_value}
-use Rattle.export_verilog.proofs.Places.{vpath_of, names_at_path, further, vplace, paths_apart, key_of_name, PathOf, path_of}
+use Rattle.export_verilog.proofs.Settings.{Setting}
+use Rattle.export_verilog.proofs.Places.{vpath_of, names_at_path, vplace, paths_apart, key_of_name, PathOf, path_of}
 use Rattle.export_verilog.proofs.Places.PathOf.{a_path, no_path}
-use Rattle.export_verilog.proofs.Nets.{key_drive, width_here, no_drive_here, drive_instance}
-use Rattle.export_verilog.proofs.Operands.{output_ref_at, output_type_at, none_at}
+use Rattle.export_verilog.proofs.Nets.{no_drive_here}
 
 module _ (d : Design) (x : Setting d) (top : Name) (m0 : Module) (top_is : find_module d top ≡ Some m0) where
   -- ---- what a net shows
@@ -80,12 +55,12 @@ module _ (d : Design) (x : Setting d) (top : Name) (m0 : Module) (top_is : find_
     by_key p m here same (inl h) = owned_by p m here h.0 h.1 (sym same) h.2
     by_key p m here same (inr never) =
         unowned (ap (λ q. drive (tree_of d) (symbol_name d top) (vnet q v.name)) (sym same) ∙ no_drive_here d x top p m here v.name never) nobody where
-      nobody : (r : Path) (n : Module) (k : Key) → module_at d top r ≡ Some n → In k (module_keys n) → v.path ≡ vpath_of d top r → v.name ≡ key_text n k → ⊥
-      nobody r n k there within path name =
-          let paths : p ≡ r = paths_apart d x top p r m n here there (same ∙ path) in
-          let modules : Some m ≡ Some n = sym here ∙ ap (module_at d top) paths ∙ there in
-          let one : m ≡ n = cc in
-          never k (subst (λ y. In k (module_keys y)) (sym one) within) (name ∙ ap (λ y. key_text y k) (sym one))
+          nobody : (r : Path) (n : Module) (k : Key) → module_at d top r ≡ Some n → In k (module_keys n) → v.path ≡ vpath_of d top r → v.name ≡ key_text n k → ⊥
+          nobody r n k there within path name =
+              let paths : p ≡ r = paths_apart d x top p r m n here there (same ∙ path) in
+              let modules : Some m ≡ Some n = sym here ∙ ap (module_at d top) paths ∙ there in
+              let one : m ≡ n = cc in
+              never k (subst (λ y. In k (module_keys y)) (sym one) within) (name ∙ ap (λ y. key_text y k) (sym one))
 
     by_path : PathOf d x top v.path → Whose v
     by_path (a_path p m here same) = by_key p m here same (key_of_name m v.name (module_keys m))

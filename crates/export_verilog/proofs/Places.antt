@@ -1,32 +1,31 @@
 -- The places of a design and of its tree: paths by numbers of instances, and paths by their names.
-use Rattle.std.proofs.Common.{◌≡◌, ℕ, zero, suc, pred, ◌⊎◌, Bool, true, false, cond, List, [], ◌∷◌, length, take, slice_get, Option, Some, None, refl, sym, ◌∙◌, ap, ap₂, subst, inl, inr, arith}
+use Rattle.std.proofs.Common.{◌≡◌, ℕ, zero, suc, ◌⊎◌, Bool, true, false, List, [], ◌∷◌, length, take, slice_get, Option, Some, None, refl, sym, ◌∙◌, ap, ap₂, subst, inl, inr, arith}
 use Rattle.std.proofs.lemmas.List.{length-take}
 use Rattle.std.proofs.lemmas.Option.{slice_get_within}
 use Rattle.wiring.specs.Wiring.{In}
 use Rattle.wiring.specs.Options.{bind, omap}
-use Rattle.wiring.proofs.Options.{bind_some, omap_some}
+use Rattle.wiring.proofs.Options.{bind_some}
 use Rattle.hw_model.specs.Types.{Name}
 use Rattle.hw_model.specs.Kinds.{Instance}
-use Rattle.hw_model.specs.Design.{Op, Module, Design, same_name, find_module, instance_in, callee, is_instance}
+use Rattle.hw_model.specs.Design.{Op, Module, Design, same_name, find_module, instance_in, callee}
 use Rattle.hw_model.specs.Equality.{name_self, name_from}
 use Rattle.hw_model.specs.Flat.{Path, instances, before_instance, module_at}
 use Rattle.hw_model.proofs.Sorts.{Sort, sort_of, instance_found}
 use Rattle.hw_model.proofs.Sorts.Sort.{a_register, an_instance as is_an_instance, an_output, a_made}
 use Rattle.hw_model.proofs.Finite.{path_chain}
 use Rattle.hw_model.proofs.Content.{before_position}
-use Rattle.verilog_model.specs.Tree.{VModule, Tree, Item}
-use Rattle.verilog_model.specs.Hierarchy.{VPath, VInstance, vmodule_at, find_instance, find_vmodule, instance_named}
+use Rattle.verilog_model.specs.Tree.{VModule}
+use Rattle.verilog_model.specs.Hierarchy.{VPath, VInstance, vmodule_at, find_instance, find_vmodule}
 use Rattle.export_verilog.specs.Keys.{Key, role_of, module_keys, key_text}
-use Rattle.export_verilog.specs.Keys.Key.{port_key, value_key, instance_key}
+use Rattle.export_verilog.specs.Keys.Key.{instance_key}
 use Rattle.export_verilog.specs.Keys.Role.{block}
 use Rattle.export_verilog.specs.Exported.{symbol_name, vitems, vmodule, tree_of}
 use Rattle.export_verilog.proofs.KeyNames.{AreNames, texts_apart}
-use Rattle.export_verilog.proofs.KeysOf.{role_of_instance, instance_of_role, Owner, owner_of, instance_in_keys}
+use Rattle.export_verilog.proofs.KeysOf.{role_of_instance, Owner, owner_of, instance_in_keys}
 use Rattle.export_verilog.proofs.KeysOf.Owner.{a_port, a_net, a_variable, an_instance, a_result}
 use Rattle.export_verilog.proofs.Symbols.{vmodule_found}
-use Rattle.export_verilog.proofs.Lookups.{instance_of_kind, instance_value, instances_back, instance_under, no_instance_under}
+use Rattle.export_verilog.proofs.Lookups.{instance_of_kind, instance_value, instance_under, no_instance_under}
 use Rattle.export_verilog.proofs.Settings.{Setting, Called, called_by, called_by_role, callee_is}
-use Rattle.export_verilog.proofs.Drives.{first_from}
 
 -- ---- instances by number
 
@@ -107,24 +106,29 @@ module _ (d : Design) (x : Setting d) (top : Name) where
       let kind = bind_some (instance_in inner.0.kind) (λ (i : Instance). find_module d i.symbol) inner.2 in
       let place = number_place outer.0.body u inner.0 inner.1 in
       go outer.0 outer.1 inner.0 kind.0 kind.1 kind.2 place.0 place.1 where
-    go : (m : Module) → module_at d top p ≡ Some m → (o : Op) (k : Instance) → instance_in o.kind ≡ Some k → find_module d k.symbol ≡ Some c
-        → slice_get m.body (place_of m.body u) ≡ Some o → number_of m.body (place_of m.body u) ≡ u → Further p u c
-    go m here o k kind found there number =
-        let at = symbol_at_path p m here in
-        let called : Called d m o = called_by d x at.0 m at.1 (place_of m.body u) o there k kind in
-        let same : Some called.module_of ≡ Some c = sym (callee_is d m o called) ∙ ap (λ z. bind z (λ (i : Instance). find_module d i.symbol)) kind ∙ found in
-        record {
-          outer = m; here = here; place = place_of m.body u; op = o; there = there;
-          role = by_sort (sort_of o.kind);
-          called = called;
-          inside = let e : called.module_of ≡ c = cc in e;
-          is_place = refl; is_number = number;
-        } where
-      by_sort : Sort o.kind → role_of m.ports m.body (place_of m.body u) o ≡ block
-      by_sort (is_an_instance z r n y) = role_of_instance m.ports m.body (place_of m.body u) o z r n
-      by_sort (a_register f r n y) = absurd (let h : None ≡ Some k = sym n ∙ kind in cc)
-      by_sort (an_output r n y) = absurd (let h : None ≡ Some k = sym n ∙ kind in cc)
-      by_sort (a_made r n y) = absurd (let h : None ≡ Some k = sym n ∙ kind in cc)
+        go : (m : Module) → module_at d top p ≡ Some m → (o : Op) (k : Instance) → instance_in o.kind ≡ Some k → find_module d k.symbol ≡ Some c
+            → slice_get m.body (place_of m.body u) ≡ Some o → number_of m.body (place_of m.body u) ≡ u → Further p u c
+        go m here o k kind found there number =
+            let at = symbol_at_path p m here in
+            let called : Called d m o = called_by d x at.0 m at.1 (place_of m.body u) o there k kind in
+            let same : Some called.module_of ≡ Some c = sym (callee_is d m o called) ∙ ap (λ z. bind z (λ (i : Instance). find_module d i.symbol)) kind ∙ found in
+            record {
+              outer = m;
+              here = here;
+              place = place_of m.body u;
+              op = o;
+              there = there;
+              role = by_sort (sort_of o.kind);
+              called = called;
+              inside = let e : called.module_of ≡ c = cc in e;
+              is_place = refl;
+              is_number = number;
+            } where
+              by_sort : Sort o.kind → role_of m.ports m.body (place_of m.body u) o ≡ block
+              by_sort (is_an_instance z r n y) = role_of_instance m.ports m.body (place_of m.body u) o z r n
+              by_sort (a_register f r n y) = absurd (let h : None ≡ Some k = sym n ∙ kind in cc)
+              by_sort (an_output r n y) = absurd (let h : None ≡ Some k = sym n ∙ kind in cc)
+              by_sort (a_made r n y) = absurd (let h : None ≡ Some k = sym n ∙ kind in cc)
 
   -- the name of the step
   pub name_of_step : (u : ℕ) (p : Path) (c : Module) (f : Further p u c) → vpath_of d top (u ∷ p) ≡ key_text f.outer (instance_key f.place) ∷ vpath_of d top p
@@ -156,9 +160,9 @@ module _ (d : Design) (x : Setting d) (top : Name) where
       → (module_at d top (number_of m.body i ∷ p) ≡ Some c.module_of) × (vpath_of d top (number_of m.body i ∷ p) ≡ key_text m (instance_key i) ∷ vpath_of d top p)
   inside_instance p m here i o c there = (
     ap (λ z. bind z (λ (y : Module). bind (slice_get (instances y.body) (number_of m.body i)) (callee d))) here
-    ∙ ap (λ z. bind z (callee d)) (instance_found m.body i o c.kind there c.is_kind) ∙ callee_is d m o c,
+        ∙ ap (λ z. bind z (callee d)) (instance_found m.body i o c.kind there c.is_kind) ∙ callee_is d m o c,
     ap (λ z. step_name z (number_of m.body i) ∷ vpath_of d top p) here
-    ∙ ap (λ z. key_text m (instance_key z) ∷ vpath_of d top p) (place_number m.body i o c.kind there c.is_kind),
+        ∙ ap (λ z. key_text m (instance_key z) ∷ vpath_of d top p) (place_number m.body i o c.kind there c.is_kind),
   )
 
   -- two paths of one name are one

@@ -1,5 +1,5 @@
 -- The operands of a register and their types.
-use Rattle.std.proofs.Common.{◌≡◌, ℕ, Bool, true, false, ◌⊎◌, List, [], ◌∷◌, map, slice_get, Option, Some, None, refl, sym, ◌∙◌, ap, subst, inl, inr}
+use Rattle.std.proofs.Common.{◌≡◌, ℕ, Bool, true, false, List, [], ◌∷◌, map, slice_get, Option, Some, None, refl, sym, ◌∙◌, ap, inr}
 use Rattle.wiring.specs.Options.{bind, omap}
 use Rattle.hw_model.specs.Types.{Name, HwType}
 use Rattle.hw_model.specs.Types.HwType.{int, clock}
@@ -8,7 +8,7 @@ use Rattle.hw_model.specs.Kinds.Reset.{no_reset, sync_reset}
 use Rattle.hw_model.specs.Kinds.Kind.{compreg, compreg_ce, firreg}
 use Rattle.hw_model.specs.Design.{Ref, OpResult, Op, Module, Design, RegisterForm, find_module, register_form, result_type}
 use Rattle.hw_model.specs.Flat.{Register, ResetBy, register_parts, register_in}
-use Rattle.hw_model.specs.Sound.{type_in, register_types, reset_types, Fits}
+use Rattle.hw_model.specs.Sound.{type_in, register_types, Fits}
 use Rattle.export_verilog.specs.Keys.{role_of}
 use Rattle.export_verilog.specs.Keys.Role.{variable}
 use Rattle.export_verilog.proofs.KeysOf.{register_of_role}
@@ -34,9 +34,11 @@ module _ (type_of : Ref → Option HwType) (t : HwType) where
   parts_typed true no_reset (a ∷ []) is = cc
   parts_typed true no_reset (a ∷ b ∷ []) is = cc
   parts_typed true no_reset (a ∷ b ∷ c ∷ []) is =
-      let p : type_of a ≡ Some t = cc in let q : type_of b ≡ Some clock = cc in let u : type_of c ≡ Some (int 1) = cc in
-      (record { next = a; clock = b; enable = Some c; reset = None }, refl,
-      record { next = p; clocked = q; enable = λ e h. (let same : c ≡ e = cc in ap type_of (sym same) ∙ u); signal = λ e h. cc; value = λ e h. cc })
+      let p : type_of a ≡ Some t = cc in let q : type_of b ≡ Some clock = cc in let u : type_of c ≡ Some (int 1) = cc in (
+        record { next = a; clock = b; enable = Some c; reset = None },
+        refl,
+        record { next = p; clocked = q; enable = λ e h. (let same : c ≡ e = cc in ap type_of (sym same) ∙ u); signal = λ e h. cc; value = λ e h. cc },
+      )
   parts_typed true no_reset (a ∷ b ∷ c ∷ f ∷ rs) is = cc
   parts_typed false sync_reset [] is = cc
   parts_typed false sync_reset (a ∷ []) is = cc
@@ -44,11 +46,17 @@ module _ (type_of : Ref → Option HwType) (t : HwType) where
   parts_typed false sync_reset (a ∷ b ∷ c ∷ []) is = cc
   parts_typed false sync_reset (a ∷ b ∷ c ∷ f ∷ []) is =
       let p : type_of a ≡ Some t = cc in let q : type_of b ≡ Some clock = cc in let u : type_of c ≡ Some (int 1) = cc in let v : type_of f ≡ Some t = cc in
-      let by : ResetBy = record { signal = c; value = f } in
-      (record { next = a; clock = b; enable = None; reset = Some (record { signal = c; value = f }) }, refl,
-      record { next = p; clocked = q; enable = λ e h. cc;
-        signal = λ e h. (let same : by ≡ e = cc in ap (λ (z : ResetBy). type_of z.signal) (sym same) ∙ u);
-        value = λ e h. (let same : by ≡ e = cc in ap (λ (z : ResetBy). type_of z.value) (sym same) ∙ v) })
+      let by : ResetBy = record { signal = c; value = f } in (
+        record { next = a; clock = b; enable = None; reset = Some (record { signal = c; value = f }) },
+        refl,
+        record {
+          next = p;
+          clocked = q;
+          enable = λ e h. cc;
+          signal = λ e h. (let same : by ≡ e = cc in ap (λ (z : ResetBy). type_of z.signal) (sym same) ∙ u);
+          value = λ e h. (let same : by ≡ e = cc in ap (λ (z : ResetBy). type_of z.value) (sym same) ∙ v);
+        },
+      )
   parts_typed false sync_reset (a ∷ b ∷ c ∷ f ∷ g ∷ rs) is = cc
   parts_typed true sync_reset [] is = cc
   parts_typed true sync_reset (a ∷ []) is = cc
@@ -58,11 +66,17 @@ module _ (type_of : Ref → Option HwType) (t : HwType) where
   parts_typed true sync_reset (a ∷ b ∷ z ∷ c ∷ f ∷ []) is =
       let p : type_of a ≡ Some t = cc in let q : type_of b ≡ Some clock = cc in let w : type_of z ≡ Some (int 1) = cc in
       let u : type_of c ≡ Some (int 1) = cc in let v : type_of f ≡ Some t = cc in
-      let by : ResetBy = record { signal = c; value = f } in
-      (record { next = a; clock = b; enable = Some z; reset = Some (record { signal = c; value = f }) }, refl,
-      record { next = p; clocked = q; enable = λ e h. (let same : z ≡ e = cc in ap type_of (sym same) ∙ w);
-        signal = λ e h. (let same : by ≡ e = cc in ap (λ (z : ResetBy). type_of z.signal) (sym same) ∙ u);
-        value = λ e h. (let same : by ≡ e = cc in ap (λ (z : ResetBy). type_of z.value) (sym same) ∙ v) })
+      let by : ResetBy = record { signal = c; value = f } in (
+        record { next = a; clock = b; enable = Some z; reset = Some (record { signal = c; value = f }) },
+        refl,
+        record {
+          next = p;
+          clocked = q;
+          enable = λ e h. (let same : z ≡ e = cc in ap type_of (sym same) ∙ w);
+          signal = λ e h. (let same : by ≡ e = cc in ap (λ (z : ResetBy). type_of z.signal) (sym same) ∙ u);
+          value = λ e h. (let same : by ≡ e = cc in ap (λ (z : ResetBy). type_of z.value) (sym same) ∙ v);
+        },
+      )
   parts_typed true sync_reset (a ∷ b ∷ z ∷ c ∷ f ∷ g ∷ rs) is = cc
 
 form_fits : (kind : Kind) (f : RegisterForm) (ts : List HwType) (xs : List (Option HwType)) (t : HwType) (k : ℕ) → register_form kind ≡ Some f → Fits kind ts xs t k

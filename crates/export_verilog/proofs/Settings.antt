@@ -1,8 +1,8 @@
 -- What the theorem stands on: an exportable design, whose names are legal and distinct.
-use Rattle.std.proofs.Common.{◌≡◌, ℕ, ◌⊎◌, Bool, true, false, ◌||◌, List, [], ◌∷◌, map, slice_get, is_some, Option, Some, None, refl, sym, ◌∙◌, ap, ap₂, subst, inl, inr}
+use Rattle.std.proofs.Common.{◌≡◌, ℕ, ◌⊎◌, false, ◌||◌, [], ◌∷◌, map, slice_get, is_some, Some, None, sym, ◌∙◌, ap, ap₂, inl, inr}
 use Rattle.hw_model.specs.Types.{Name, HwType}
 use Rattle.hw_model.specs.Kinds.{Instance}
-use Rattle.hw_model.specs.Design.{Port, OpResult, Op, Module, Design, find_module, instance_in, register_form, is_output_kind, callee, is_instance, is_output_op}
+use Rattle.hw_model.specs.Design.{OpResult, Op, Module, Design, find_module, instance_in, register_form, is_output_kind, callee}
 use Rattle.wiring.specs.Options.{bind}
 use Rattle.hw_model.specs.Sound.{type_in, input_types, output_types, SoundBody}
 use Rattle.hw_model.proofs.Sorts.{Sort, sort_of}
@@ -12,7 +12,7 @@ use Rattle.export_verilog.specs.Keys.Role.{net, variable, block}
 use Rattle.export_verilog.specs.Exportable.{IsExportable, IsExportableModule}
 use Rattle.export_verilog.proofs.KeyNames.{AreNames}
 use Rattle.export_verilog.proofs.KeysOf.{register_of_role, made_of_role, instance_of_role}
-use Rattle.export_verilog.proofs.Symbols.{AreSymbols, found_symbol, module_at_position}
+use Rattle.export_verilog.proofs.Symbols.{AreSymbols, found_symbol}
 use Rattle.export_verilog.proofs.Lookups.{SayWidths}
 
 pub record Setting (d : Design) : Type 0 where

@@ -1,13 +1,11 @@
 -- The registers of a design and those of its tree stand in the same order, and take the same values.
-use Rattle.std.proofs.Common.{◌≡◌, ℕ, zero, suc, ◌+◌, ◌⊎◌, Bool, true, false, cond, ◌||◌, is_some, List, [], ◌∷◌, ◌++◌, length, map, take, drop, slice_get, Option, Some, None, refl, sym, ◌∙◌, ap, ap₂, subst, inl, inr, zero-add, add-zero, suc-add, add-suc, append_assoc, append-nil, arith}
-use Rattle.wiring.specs.Wiring.{In}
-use Rattle.wiring.specs.Options.{bind, omap}
+use Rattle.std.proofs.Common.{◌≡◌, ℕ, zero, suc, ◌+◌, Bool, true, false, cond, ◌||◌, is_some, List, [], ◌∷◌, ◌++◌, length, take, drop, slice_get, Option, Some, None, refl, sym, ◌∙◌, ap, ap₂, subst, inr, zero-add, add-zero, suc-add, add-suc, append_assoc, append-nil, arith}
+use Rattle.wiring.specs.Options.{omap}
 use Rattle.bits_core.specs.Word.{Word, first}
 use Rattle.hw_model.specs.Types.{Name, HwType, width}
 use Rattle.hw_model.specs.Types.HwType.{int, clock}
-use Rattle.hw_model.specs.Kinds.{Instance}
-use Rattle.hw_model.specs.Design.{Ref, Port, OpResult, Op, Module, Design, RegisterForm, find_module, instance_in, register_form, is_output_kind, is_instance, result_type, output_refs}
-use Rattle.hw_model.specs.Design.Ref.{port, result}
+use Rattle.hw_model.specs.Design.{Ref, Port, OpResult, Op, Module, Design, find_module, instance_in, register_form, is_instance, result_type, output_refs}
+use Rattle.hw_model.specs.Design.Ref.{result}
 use Rattle.hw_model.specs.Value.{is_high}
 use Rattle.hw_model.specs.Flat.{Path, Net, net as at, module_at, instances, width_of, held_width, Slot, Register, ResetBy, register_in, instance_registers, op_registers, body_registers, registers_of, module_registers, registers, depth}
 use Rattle.hw_model.specs.Meaning.{enabled, reset, loaded, next_content}
@@ -15,24 +13,22 @@ use Rattle.hw_model.specs.Sound.{type_in}
 use Rattle.hw_model.proofs.Sorts.{Sort, sort_of}
 use Rattle.hw_model.proofs.Sorts.Sort.{a_register, an_instance as is_an_instance, an_output, a_made}
 use Rattle.hw_model.proofs.NetWidths.{value_widths}
-use Rattle.verilog_model.specs.Tree.{Expr, Load, Block, Item, VModule}
-use Rattle.verilog_model.specs.Tree.Block.{load, if_load, if_else, if_else_if}
-use Rattle.verilog_model.specs.Tree.Item.{wire, reg, assign, always, instance}
-use Rattle.verilog_model.specs.Expression.{is_true, low_bits, own_value, assigned}
-use Rattle.verilog_model.specs.Hierarchy.{VPath, VNet, vnet, width_in, block_target, VSlot, item_registers, items_registers, vregisters_of, vmodule_registers, vregisters}
+use Rattle.verilog_model.specs.Tree.{Item, VModule}
+use Rattle.verilog_model.specs.Tree.Item.{assign}
+use Rattle.verilog_model.specs.Expression.{is_true, low_bits}
+use Rattle.verilog_model.specs.Hierarchy.{VPath, VNet, vnet, width_in, VSlot, item_registers, items_registers, vregisters_of, vmodule_registers, vregisters}
 use Rattle.verilog_model.specs.Meaning.{names_at, load_value, holds, block_value, slot_value, slot_width, next_vcontent}
-use Rattle.verilog_expr.specs.Expressions.{value_width}
 use Rattle.verilog_expr.specs.Spilling.{is_wire_kind, spilled}
 use Rattle.verilog_expr.specs.Values.{HasBits}
 use Rattle.verilog_expr.proofs.Assigned.{assigned_same}
-use Rattle.export_verilog.specs.Keys.{Key, Role, each, role_of, module_keys, key_text, named, name_or_nothing}
+use Rattle.export_verilog.specs.Keys.{Role, each, role_of, key_text, named, name_or_nothing}
 use Rattle.export_verilog.specs.Keys.Key.{port_key, value_key, instance_key}
 use Rattle.export_verilog.specs.Keys.Role.{hidden, net, variable, block}
 use Rattle.export_verilog.specs.Exportable.{IsClocked}
 use Rattle.export_verilog.specs.Exported.{symbol_name, expression, result_wires, declared_as, declares, loads, block_of, always_of, instance_of, stated_as, states, output_assigns, expr_or_none, others, vitems, vmodule, tree_of}
-use Rattle.export_verilog.proofs.KeysOf.{role_of_register, role_of_instance, role_of_output, role_of_made, variable_in}
+use Rattle.export_verilog.proofs.KeysOf.{role_of_register, role_of_instance, role_of_output, role_of_made}
 use Rattle.export_verilog.proofs.Symbols.{vmodule_found}
-use Rattle.export_verilog.proofs.Settings.{Setting, Called, module_ok, called_by_role, first_result}
+use Rattle.export_verilog.proofs.Settings.{Setting, module_ok, called_by_role, first_result}
 use Rattle.export_verilog.proofs.Registers.{AreOperands, typed_register, register_of}
 use Rattle.export_verilog.proofs.Drives.{block_name}
 use Rattle.export_verilog.proofs.Places.{number_of, vpath_of, symbol_at_path, inside_instance}
@@ -40,7 +36,7 @@ use Rattle.export_verilog.proofs.Content.{variable_width}
 use Rattle.export_verilog.proofs.Writable.{named_input}
 use Rattle.export_verilog.proofs.Writable.NamedAs.{by_port}
 use Rattle.export_verilog.proofs.Worth.{low_all, IsGood, symbol_there, found_there, own_bits}
-use Rattle.export_verilog.proofs.Ways.{worth, IsDesignSettled}
+use Rattle.export_verilog.proofs.Ways.{IsDesignSettled}
 use Rattle.export_verilog.proofs.Owners.{to}
 use Rattle.export_verilog.proofs.Both.{heights, over_good, name_shows, own_is}
 

@@ -1,18 +1,17 @@
 -- Where the nets of a design come from, by what stands at the end of a path.
-use Rattle.std.proofs.Common.{◌≡◌, ℕ, zero, suc, Bool, true, false, cond, List, [], ◌∷◌, map, length, take, slice_get, is_some, Option, Some, None, refl, sym, ◌∙◌, ap, subst, inl, inr}
-use Rattle.wiring.specs.Options.{bind, omap}
-use Rattle.wiring.specs.Wiring.{In, Chain, Depends, IsAcyclic}
+use Rattle.std.proofs.Common.{◌≡◌, ℕ, zero, suc, Bool, true, false, cond, List, [], ◌∷◌, map, length, take, slice_get, is_some, Option, Some, None, refl, sym, ◌∙◌, ap, subst}
+use Rattle.wiring.specs.Options.{omap}
+use Rattle.wiring.specs.Wiring.{In, Chain, IsAcyclic}
 use Rattle.wiring.proofs.Members.{In-map}
-use Rattle.hw_model.specs.Types.{Name, HwType, width}
+use Rattle.hw_model.specs.Types.{Name, HwType}
 use Rattle.hw_model.specs.Kinds.{Instance}
-use Rattle.hw_model.specs.Design.{Ref, Port, OpResult, Op, Module, Design, RegisterForm, find_module, instance_in, register_form, is_output_kind, is_instance, is_register, is_output_op, result_type, callee, output_refs}
+use Rattle.hw_model.specs.Design.{Ref, OpResult, Op, Module, Design, RegisterForm, find_module, instance_in, register_form, is_output_kind, is_instance, is_output_op, result_type}
 use Rattle.hw_model.specs.Design.Ref.{port, result, undefined}
-use Rattle.hw_model.specs.Flat.{Path, Net, net, Source, source, module_at, instances, offset, input_width, input_of, input_source, copy_of, joined_at, given_ref, held_of, made_of, op_source, result_source, result_source_of}
-use Rattle.hw_model.specs.Flat.Source.{nowhere, input, held, copy, made}
+use Rattle.hw_model.specs.Flat.{Path, net, source, module_at, instances, offset, copy_of, given_ref, held_of, made_of, op_source, result_source, result_source_of}
+use Rattle.hw_model.specs.Flat.Source.{nowhere, made}
 use Rattle.hw_model.specs.Meaning.{needs, needs_of, HasNoCycle}
 use Rattle.hw_model.proofs.Sorts.{Sort, sort_of}
 use Rattle.hw_model.proofs.Sorts.Sort.{a_register, an_instance, an_output, a_made}
-use Rattle.verilog_expr.specs.Expressions.{op_at}
 use Rattle.verilog_expr.specs.Spilling.{is_pure, is_wire_kind, inner_of, inner_needs}
 
 module _ (d : Design) (top : Name) (p : Path) (m : Module) (here : module_at d top p ≡ Some m) where
@@ -53,6 +52,7 @@ pure_sort o pure = go (sort_of o.kind) where
   wire : register_form o.kind ≡ None → instance_in o.kind ≡ None → is_output_kind o.kind ≡ false → (b : Bool) → is_wire_kind o.kind ≡ b → is_wire_kind o.kind ≡ false
   wire r n u false e = e
   wire r n u true e = absurd (let h : false ≡ true = simp (r, n, u, e) at pure in cc)
+
   go : Sort o.kind → (register_form o.kind ≡ None) × (instance_in o.kind ≡ None) × (is_output_kind o.kind ≡ false) × (is_wire_kind o.kind ≡ false)
   go (a_register f r n u) = absurd (let h : false ≡ true = simp r at pure in cc)
   go (an_instance y r n u) = absurd (let h : false ≡ true = simp (r, n) at pure in cc)

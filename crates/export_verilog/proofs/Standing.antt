@@ -1,8 +1,8 @@
 -- The names of an exportable design are legal and distinct, so each of its modules behaves in Verilog as it does.
-use Rattle.std.proofs.Common.{◌≡◌, ℕ, ◌+◌, ◌<◌, ◌^◌, List, [], ◌∷◌, length, map, slice_get, Some, refl, sym, ◌∙◌, IsTrue, arith}
+use Rattle.std.proofs.Common.{◌≡◌, ℕ, ◌+◌, ◌<◌, ◌^◌, List, [], length, map, slice_get, Some, ◌∙◌, IsTrue, arith}
 use Rattle.std.proofs.lemmas.List.{length-map}
 use Rattle.hw_model.specs.Types.{Name}
-use Rattle.hw_model.specs.Design.{Module, Design, find_module}
+use Rattle.hw_model.specs.Design.{Module, Design}
 use Rattle.hw_model.specs.Meaning.{machine}
 use Rattle.hw_model.specs.Machine.{Same}
 use Rattle.verilog_model.specs.Checks.{names_check}

@@ -1,17 +1,17 @@
 -- The names of modules: each symbol's module is found under its name, and no other.
-use Rattle.std.proofs.Common.{◌≡◌, ℕ, zero, suc, Bool, true, false, cond, not, ◌&&◌, List, [], ◌∷◌, length, map, slice_get, Option, Some, None, refl, sym, ◌∙◌, ap, subst, inl, inr, IsTrue, arith}
+use Rattle.std.proofs.Common.{◌≡◌, ℕ, zero, suc, Bool, true, false, cond, not, ◌&&◌, List, [], ◌∷◌, length, slice_get, Some, refl, sym, ◌∙◌, ap, subst, IsTrue, arith}
 use Rattle.wiring.specs.Wiring.{In}
 use Rattle.wiring.proofs.Members.{In-map, from_In-map, In-slice_get, position_of_In}
 use Rattle.hw_model.specs.Types.{Name}
 use Rattle.hw_model.specs.Design.{Module, Design, same_name, find_module}
 use Rattle.hw_model.specs.Equality.{name_self, name_from}
-use Rattle.verilog_model.specs.Tree.{VModule, Tree}
-use Rattle.verilog_model.specs.Hierarchy.{first_some, when, find_vmodule}
+use Rattle.verilog_model.specs.Tree.{VModule}
+use Rattle.verilog_model.specs.Hierarchy.{when, find_vmodule}
 use Rattle.verilog_model.specs.Checks.{contains_name, are_distinct, names_check, all_identifiers}
 use Rattle.verilog_model.proofs.Numerals.{and_first, and_second}
 use Rattle.export_verilog.specs.Exported.{symbol_names, symbol_among, symbol_name, vmodule, tree_of}
 use Rattle.export_verilog.specs.Exportable.{IsExportable}
-use Rattle.export_verilog.proofs.Lists.{first_found, none_found}
+use Rattle.export_verilog.proofs.Lists.{first_found}
 use Rattle.export_verilog.proofs.KeyNames.{contains_in}
 
 pub when_some : {A : Type 0} (b : Bool) (a c : A) → when b a ≡ Some c → (b ≡ true) × (a ≡ c)
@@ -24,20 +24,20 @@ pub distinct_positions : (ns : List Name) (i j : ℕ) (n : Name) → IsTrue (are
 distinct_positions [] i j n apart here there = cc
 distinct_positions (m ∷ ns) i j n apart here there = go i j here there
     (λ a b. distinct_positions ns a b n (and_second (not (contains_name m ns)) (are_distinct ns) apart)) where
-  away : (c e : Bool) → IsTrue (not c && e) → c ≡ true → ⊥
-  away true e t is = cc
-  away false e t is = cc
+      away : (c e : Bool) → IsTrue (not c && e) → c ≡ true → ⊥
+      away true e t is = cc
+      away false e t is = cc
 
-  never : (k : ℕ) → m ≡ n → slice_get ns k ≡ Some n → ⊥
-  never k same at = away (contains_name m ns) (are_distinct ns) apart
-      (contains_in m ns (subst (λ x. In x ns) (sym same) (In-slice_get n ns k at)))
+      never : (k : ℕ) → m ≡ n → slice_get ns k ≡ Some n → ⊥
+      never k same at = away (contains_name m ns) (are_distinct ns) apart
+          (contains_in m ns (subst (λ x. In x ns) (sym same) (In-slice_get n ns k at)))
 
-  go : (i j : ℕ) → slice_get (m ∷ ns) i ≡ Some n → slice_get (m ∷ ns) j ≡ Some n
-      → ((a b : ℕ) → slice_get ns a ≡ Some n → slice_get ns b ≡ Some n → a ≡ b) → i ≡ j
-  go zero zero here there rest = refl
-  go zero (suc j) here there rest = absurd (never j (let same : m ≡ n = cc in same) there)
-  go (suc i) zero here there rest = absurd (never i (let same : m ≡ n = cc in same) here)
-  go (suc i) (suc j) here there rest = ap suc (rest i j here there)
+      go : (i j : ℕ) → slice_get (m ∷ ns) i ≡ Some n → slice_get (m ∷ ns) j ≡ Some n
+          → ((a b : ℕ) → slice_get ns a ≡ Some n → slice_get ns b ≡ Some n → a ≡ b) → i ≡ j
+      go zero zero here there rest = refl
+      go zero (suc j) here there rest = absurd (never j (let same : m ≡ n = cc in same) there)
+      go (suc i) zero here there rest = absurd (never i (let same : m ≡ n = cc in same) here)
+      go (suc i) (suc j) here there rest = ap suc (rest i j here there)
 
 -- ---- modules by symbol
 
@@ -57,9 +57,9 @@ found_at (x ∷ d) zero m is only = let e : x ≡ m = cc in
     ap (λ b. cond b (Some x) (find_module d m.symbol)) (ap (λ (y : Module). same_name y.symbol m.symbol) e ∙ name_self m.symbol) ∙ is
 found_at (x ∷ d) (suc i) m is only = go (same_name x.symbol m.symbol) refl
     (found_at d i m is (λ j y at same. let e : suc j ≡ suc i = only (suc j) y at same in omega arith)) where
-  go : (b : Bool) → same_name x.symbol m.symbol ≡ b → find_module d m.symbol ≡ Some m → cond b (Some x) (find_module d m.symbol) ≡ Some m
-  go true same rest = absurd (let e : 0 ≡ suc i = only 0 x refl (name_from x.symbol m.symbol same) in omega arith)
-  go false same rest = rest
+      go : (b : Bool) → same_name x.symbol m.symbol ≡ b → find_module d m.symbol ≡ Some m → cond b (Some x) (find_module d m.symbol) ≡ Some m
+      go true same rest = absurd (let e : 0 ≡ suc i = only 0 x refl (name_from x.symbol m.symbol same) in omega arith)
+      go false same rest = rest
 
 pub among_at : (ms : List Module) (ns : List Name) (i : ℕ) (m : Module) → length ns ≡ length ms → slice_get ms i ≡ Some m
     → ((j : ℕ) (x : Module) → slice_get ms j ≡ Some x → x.symbol ≡ m.symbol → j ≡ i) → slice_get ns i ≡ Some (symbol_among ms ns m.symbol)
@@ -69,10 +69,10 @@ among_at (x ∷ ms) (n ∷ ns) zero m many is only = let e : x ≡ m = cc in
     ap (λ b. Some (cond b n (symbol_among ms ns m.symbol))) (sym (ap (λ (y : Module). same_name y.symbol m.symbol) e ∙ name_self m.symbol))
 among_at (x ∷ ms) (n ∷ ns) (suc i) m many is only = go (same_name x.symbol m.symbol) refl
     (among_at ms ns i m (let e : length ns ≡ length ms = omega (arith, many) in e) is (λ j y at same. let e : suc j ≡ suc i = only (suc j) y at same in omega arith)) where
-  go : (b : Bool) → same_name x.symbol m.symbol ≡ b → slice_get ns i ≡ Some (symbol_among ms ns m.symbol)
-      → slice_get ns i ≡ Some (cond b n (symbol_among ms ns m.symbol))
-  go true same rest = absurd (let e : 0 ≡ suc i = only 0 x refl (name_from x.symbol m.symbol same) in omega arith)
-  go false same rest = rest
+      go : (b : Bool) → same_name x.symbol m.symbol ≡ b → slice_get ns i ≡ Some (symbol_among ms ns m.symbol)
+          → slice_get ns i ≡ Some (cond b n (symbol_among ms ns m.symbol))
+      go true same rest = absurd (let e : 0 ≡ suc i = only 0 x refl (name_from x.symbol m.symbol same) in omega arith)
+      go false same rest = rest
 
 -- ---- the names of a design's modules
 
@@ -101,14 +101,14 @@ module _ (d : Design) (x : IsExportable d) where
         (In-map (vmodule d) m d (In-slice_get m d at.0 at.1))
         (ap (λ b. when b (vmodule d m)) (ap (λ y. same_name (symbol_name d y) (symbol_name d s)) at.2 ∙ name_self (symbol_name d s)))
         (λ v w here gives. only at.0 at.1 at.2 v w here gives) where
-      only : (i : ℕ) → slice_get d i ≡ Some m → m.symbol ≡ s → (v w : VModule) → In v (tree_of d) → when (same_name v.name (symbol_name d s)) v ≡ Some w → w ≡ vmodule d m
-      only i there named v w here gives =
-          let h = when_some (same_name v.name (symbol_name d s)) v w gives in
-          let f = from_In-map (vmodule d) v d here in
-          let p = position_of_In f.0 d f.1 in
-          let same : symbol_name d f.0.symbol ≡ symbol_name d m.symbol =
-          ap (λ (y : VModule). y.name) (sym f.2) ∙ name_from v.name (symbol_name d s) h.0 ∙ ap (symbol_name d) (sym named) in
-          let e : p.0 ≡ i = symbols_apart p.0 i f.0 m p.1 there same in
-          let g : Some f.0 ≡ Some m = sym p.1 ∙ ap (slice_get d) e ∙ there in
-          let k : f.0 ≡ m = cc in
-          sym h.1 ∙ f.2 ∙ ap (vmodule d) k
+          only : (i : ℕ) → slice_get d i ≡ Some m → m.symbol ≡ s → (v w : VModule) → In v (tree_of d) → when (same_name v.name (symbol_name d s)) v ≡ Some w → w ≡ vmodule d m
+          only i there named v w here gives =
+              let h = when_some (same_name v.name (symbol_name d s)) v w gives in
+              let f = from_In-map (vmodule d) v d here in
+              let p = position_of_In f.0 d f.1 in
+              let same : symbol_name d f.0.symbol ≡ symbol_name d m.symbol =
+              ap (λ (y : VModule). y.name) (sym f.2) ∙ name_from v.name (symbol_name d s) h.0 ∙ ap (symbol_name d) (sym named) in
+              let e : p.0 ≡ i = symbols_apart p.0 i f.0 m p.1 there same in
+              let g : Some f.0 ≡ Some m = sym p.1 ∙ ap (slice_get d) e ∙ there in
+              let k : f.0 ≡ m = cc in
+              sym h.1 ∙ f.2 ∙ ap (vmodule d) k

@@ -1,25 +1,20 @@
 -- The maps between the nets of a design and those of its tree, and that they keep maps settled.
-use Rattle.std.proofs.Common.{◌≡◌, ℕ, ℤ, zero, suc, ◌⊎◌, Bool, true, false, cond, is_some, List, [], ◌∷◌, map, length, take, slice_get, Option, Some, None, refl, sym, ◌∙◌, ap, ap₂, subst, inl, inr}
+use Rattle.std.proofs.Common.{◌≡◌, ℕ, ◌⊎◌, Bool, true, false, cond, is_some, List, [], ◌∷◌, map, length, take, slice_get, Option, Some, None, refl, sym, ◌∙◌, ap, ap₂, subst, inl, inr}
 use Rattle.wiring.specs.Wiring.{In}
-use Rattle.wiring.specs.Options.{bind, omap}
+use Rattle.wiring.specs.Options.{bind}
 use Rattle.wiring.proofs.Options.{bind_some, bind_none}
 use Rattle.wiring.proofs.Members.{In-map, map_same}
-use Rattle.wiring.proofs.Heights.{by_heights}
 use Rattle.bits_core.specs.Word.{Word, bits_of_ℤ}
 use Rattle.hw_model.specs.Types.{Name, HwType, width}
-use Rattle.hw_model.specs.Kinds.{Kind, Instance}
-use Rattle.hw_model.specs.Kinds.Kind.{constant}
-use Rattle.hw_model.specs.Design.{Ref, Port, OpResult, Op, Module, Design, RegisterForm, find_module, instance_in, register_form, is_output_kind, result_type, output_refs, callee}
+use Rattle.hw_model.specs.Design.{Ref, Port, Op, Module, Design, find_module, instance_in, register_form, result_type, output_refs, callee}
 use Rattle.hw_model.specs.Design.Ref.{port, result, undefined}
 use Rattle.hw_model.specs.Value.{op_value}
 use Rattle.hw_model.specs.Flat.{Path, Net, net as at, Source, source, module_at, instances, width_of, input_width, input_of, input_source, copy_of, joined_ref, joined_at, operand_for, input_count, given_ref, held_of, made_of, result_source, offset}
 use Rattle.hw_model.specs.Flat.Source.{nowhere, made, input as from_input}
-use Rattle.hw_model.specs.Meaning.{needs, needs_of, value_of, Settled, HasHeights}
+use Rattle.hw_model.specs.Meaning.{needs, needs_of, Settled}
 use Rattle.hw_model.specs.Sound.{type_in, input_type, output_types}
 use Rattle.hw_model.proofs.Sorts.{Sort, sort_of}
 use Rattle.hw_model.proofs.Sorts.Sort.{a_register, an_instance as is_an_instance, an_output, a_made}
-use Rattle.hw_model.proofs.Finite.{heights_from_no_cycle}
-use Rattle.hw_model.proofs.NetWidths.{value_widths}
 use Rattle.verilog_model.specs.Hierarchy.{VPath, VNet, vnet, Drive, drive, drive_at, vmodule_at, width_at}
 use Rattle.verilog_model.specs.Hierarchy.Drive.{nothing}
 use Rattle.verilog_model.specs.Meaning.{names_at, driven, TreeSettled}
@@ -28,22 +23,19 @@ use Rattle.verilog_expr.specs.Values.{is_division, HoldConstants}
 use Rattle.verilog_expr.proofs.Bodies.{gives_values-pure, map_map}
 use Rattle.export_verilog.specs.Keys.{Key, role_of, module_keys, key_text, named}
 use Rattle.export_verilog.specs.Keys.Key.{port_key, value_key, instance_key}
-use Rattle.export_verilog.specs.Keys.Role.{net, variable, block}
+use Rattle.export_verilog.specs.Keys.Role.{net}
 use Rattle.export_verilog.specs.Exported.{symbol_name, expression, vmodule, tree_of}
-use Rattle.export_verilog.proofs.KeyNames.{texts_apart}
-use Rattle.export_verilog.proofs.KeysOf.{Owner, owner_of, register_of_role, instance_of_role, port_in, net_in, variable_in, result_in_keys}
+use Rattle.export_verilog.proofs.KeysOf.{Owner, owner_of, register_of_role, instance_of_role, port_in, net_in}
 use Rattle.export_verilog.proofs.KeysOf.Owner.{a_port, a_net, a_variable, an_instance, a_result}
 use Rattle.export_verilog.proofs.Items.{output_count}
-use Rattle.export_verilog.proofs.Lookups.{key_width}
-use Rattle.export_verilog.proofs.Settings.{Setting, Called, module_sound, called_by, first_result, callee_is}
+use Rattle.export_verilog.proofs.Settings.{Setting, Called, module_sound, called_by, callee_is}
 use Rattle.export_verilog.proofs.Sources.{register_from, instance_from, made_from, rest_from, no_op_from, pure_sort}
-use Rattle.export_verilog.proofs.Writable.{NamedAs, named_as, named_result, named_input}
+use Rattle.export_verilog.proofs.Writable.{NamedAs, named_as}
 use Rattle.export_verilog.proofs.Writable.NamedAs.{by_port, by_value}
-use Rattle.export_verilog.proofs.Places.{vpath_of, names_at_path, further, vplace, paths_apart, key_of_name, PathOf, path_of}
-use Rattle.export_verilog.proofs.Places.PathOf.{a_path, no_path}
-use Rattle.export_verilog.proofs.Nets.{key_drive, width_here, no_drive_here, drive_instance}
-use Rattle.export_verilog.proofs.Operands.{output_ref_at, output_type_at, none_at}
-use Rattle.export_verilog.proofs.Worth.{own, given, evaluated, evaluated_as, HaveWords, IsGood, symbol_there, found_there, can_write, port_width_is, result_width_is, own_named, own_absent, own_unnamed, made_worth, net_given, given_long, joined_is, constant_form, ShowOutputs, output_agrees, value_agrees}
+use Rattle.export_verilog.proofs.Places.{vpath_of, further}
+use Rattle.export_verilog.proofs.Nets.{key_drive, width_here}
+use Rattle.export_verilog.proofs.Operands.{output_type_at, none_at}
+use Rattle.export_verilog.proofs.Worth.{own, given, evaluated, evaluated_as, HaveWords, IsGood, symbol_there, found_there, can_write, own_named, own_absent, own_unnamed, made_worth, net_given, given_long, joined_is, constant_form, ShowOutputs, output_agrees, value_agrees}
 
 clash : {A : Type 0} (o : Option A) → is_some o ≡ true → o ≡ None → ⊥
 clash o some none = let h : true ≡ false = sym some ∙ ap is_some none in cc
@@ -78,12 +70,12 @@ module _ (d : Design) (x : Setting d) (top : Name) (inputs content : Word) (m0 :
       let f = further d x top u p m here in
       evaluated_as d x top inputs content τ (u ∷ p) (port j) nowhere
       (joined_is d x top inputs content u p m f j None (ap (λ y. operand_for y f.op.operands (input_count (take j m.ports))) there ∙ go f.op.operands z none)) where
-    go : (rs : List Ref) (z : Option Port) → input_type z ≡ None → operand_for z rs (input_count (take j m.ports)) ≡ None
-    go rs None e = refl
-    go rs (Some y) e = by_way y.is_output e where
-      by_way : (b : Bool) → cond b None (Some y.type) ≡ None → cond b None (slice_get rs (input_count (take j m.ports))) ≡ None
-      by_way true h = refl
-      by_way false h = cc
+        go : (rs : List Ref) (z : Option Port) → input_type z ≡ None → operand_for z rs (input_count (take j m.ports)) ≡ None
+        go rs None e = refl
+        go rs (Some y) e = by_way y.is_output e where
+          by_way : (b : Bool) → cond b None (Some y.type) ≡ None → cond b None (slice_get rs (input_count (take j m.ports))) ≡ None
+          by_way true h = refl
+          by_way false h = cc
 
   absent_result : (τ : Net → Word) (p : Path) (m : Module) (here : module_at d top p ≡ Some m) (i k : ℕ) (z : Option Op) → slice_get m.body i ≡ z
       → bind z (λ (o : Op). result_type o k) ≡ None → got τ p (result i k) ≡ []
@@ -115,16 +107,16 @@ module _ (d : Design) (x : Setting d) (top : Name) (inputs content : Word) (m0 :
   missing_value τ [] (port j) none = absurd (let h : None ≡ Some m0 = sym none ∙ top_is in cc)
   missing_value τ (u ∷ p) (port j) none =
       evaluated_as d x top inputs content τ (u ∷ p) (port j) nowhere (ap (copy_of p) (outer (bind_none (module_at d top p) (λ (m : Module). bind (slice_get (instances m.body) u) (callee d)) none))) where
-    called : (o : Op) → callee d o ≡ None → joined_ref d j o ≡ None
-    called o e = ap (λ z. bind z (λ (c : Module). Rattle.hw_model.specs.Flat.port_ref c.ports o.operands j)) e
+        called : (o : Op) → callee d o ≡ None → joined_ref d j o ≡ None
+        called o e = ap (λ z. bind z (λ (c : Module). Rattle.hw_model.specs.Flat.port_ref c.ports o.operands j)) e
 
-    inner : (m : Module) → (slice_get (instances m.body) u ≡ None) ⊎ ((o : Op) × (slice_get (instances m.body) u ≡ Some o) × (callee d o ≡ None)) → joined_at d u j m ≡ None
-    inner m (inl e) = ap (λ z. bind z (joined_ref d j)) e
-    inner m (inr h) = ap (λ z. bind z (joined_ref d j)) h.1 ∙ called h.0 h.2
+        inner : (m : Module) → (slice_get (instances m.body) u ≡ None) ⊎ ((o : Op) × (slice_get (instances m.body) u ≡ Some o) × (callee d o ≡ None)) → joined_at d u j m ≡ None
+        inner m (inl e) = ap (λ z. bind z (joined_ref d j)) e
+        inner m (inr h) = ap (λ z. bind z (joined_ref d j)) h.1 ∙ called h.0 h.2
 
-    outer : (module_at d top p ≡ None) ⊎ ((m : Module) × (module_at d top p ≡ Some m) × (bind (slice_get (instances m.body) u) (callee d) ≡ None)) → bind (module_at d top p) (joined_at d u j) ≡ None
-    outer (inl e) = ap (λ z. bind z (joined_at d u j)) e
-    outer (inr h) = ap (λ z. bind z (joined_at d u j)) h.1 ∙ inner h.0 (bind_none (slice_get (instances h.0.body) u) (callee d) h.2)
+        outer : (module_at d top p ≡ None) ⊎ ((m : Module) × (module_at d top p ≡ Some m) × (bind (slice_get (instances m.body) u) (callee d) ≡ None)) → bind (module_at d top p) (joined_at d u j) ≡ None
+        outer (inl e) = ap (λ z. bind z (joined_at d u j)) e
+        outer (inr h) = ap (λ z. bind z (joined_at d u j)) h.1 ∙ inner h.0 (bind_none (slice_get (instances h.0.body) u) (callee d) h.2)
 
   -- ---- a value without a name
 
@@ -159,16 +151,24 @@ module _ (d : Design) (x : Setting d) (top : Name) (inputs content : Word) (m0 :
       → ((p : Path) (m : Module) → module_at d top p ≡ Some m → (r : Ref) → worth σ p m r ≡ τ (at p r)) → ShowOutputs d x top inputs content σ good τ
       → (p : Path) (m : Module) (here : module_at d top p ≡ Some m) (r : Ref) (n : Name) → NamedAs d x (symbol_there d x top inputs content p m here) m (found_there d x top inputs content p m here) n r
       → (k : Key) × In k (module_keys m) × (n ≡ key_text m k) × (drives σ p m k ≡ got τ p r)
-  named_agrees σ good τ own_is shows p m here r n (by_port j y there inward same called) = (port_key j, port_in m j y there, called,
-      value_agrees d x top inputs content σ good τ own_is shows p m here (port_key j) r (port_in m j y there) as_port (λ i l e. cc) (λ i e. cc)) where
+  named_agrees σ good τ own_is shows p m here r n (by_port j y there inward same called) = (
+    port_key j,
+    port_in m j y there,
+    called,
+    value_agrees d x top inputs content σ good τ own_is shows p m here (port_key j) r (port_in m j y there) as_port (λ i l e. cc) (λ i e. cc),
+  ) where
     as_port : (a : ℕ) (z : Port) → slice_get m.ports a ≡ Some z → port_key j ≡ port_key a → (z.is_output ≡ false) × (r ≡ port a)
     as_port a z other e =
         let places : j ≡ a = cc in
         let ports : Some y ≡ Some z = sym there ∙ ap (slice_get m.ports) places ∙ other in
         let one : y ≡ z = cc in
         (ap (λ (w : Port). w.is_output) (sym one) ∙ inward, same ∙ ap port places)
-  named_agrees σ good τ own_is shows p m here r n (by_value i k within same called) = (value_key i k, within, called,
-      value_agrees d x top inputs content σ good τ own_is shows p m here (value_key i k) r within (λ j y there e. cc) as_value (λ a e. cc)) where
+  named_agrees σ good τ own_is shows p m here r n (by_value i k within same called) = (
+    value_key i k,
+    within,
+    called,
+    value_agrees d x top inputs content σ good τ own_is shows p m here (value_key i k) r within (λ j y there e. cc) as_value (λ a e. cc),
+  ) where
     as_value : (a l : ℕ) → value_key i k ≡ value_key a l → r ≡ result a l
     as_value a l e = let f : i ≡ a = cc in let g : k ≡ l = cc in same ∙ ap₂ result f g
 
@@ -186,35 +186,35 @@ module _ (d : Design) (x : Setting d) (top : Name) (inputs content : Word) (m0 :
     tree_constants : (p : Path) (m : Module) → module_at d top p ≡ Some m → HoldConstants (named m) m.body (names_at (vpath_of d top p) σ)
     tree_constants p m here i o z t n there kind typed called =
         go (named_as d x (symbol_there d x top inputs content p m here) m (found_there d x top inputs content p m here) (result i 0) n called) where
-      form : (register_form o.kind ≡ None) × (instance_in o.kind ≡ None) × (is_division o.kind ≡ false)
-      form = constant_form o.kind z kind
+          form : (register_form o.kind ≡ None) × (instance_in o.kind ≡ None) × (is_division o.kind ≡ false)
+          form = constant_form o.kind z kind
 
-      same_op : (a : ℕ) (o' : Op) → i ≡ a → slice_get m.body a ≡ Some o' → o ≡ o'
-      same_op a o' e at' = let h : Some o ≡ Some o' = sym there ∙ ap (slice_get m.body) e ∙ at' in let g : o ≡ o' = cc in g
+          same_op : (a : ℕ) (o' : Op) → i ≡ a → slice_get m.body a ≡ Some o' → o ≡ o'
+          same_op a o' e at' = let h : Some o ≡ Some o' = sym there ∙ ap (slice_get m.body) e ∙ at' in let g : o ≡ o' = cc in g
 
-      by_owner : (a k : ℕ) → i ≡ a → (within : In (value_key a k) (module_keys m)) → n ≡ key_text m (value_key a k) → Owner m (value_key a k) → σ (vnet (vpath_of d top p) n) ≡ bits_of_ℤ (width t) z
-      by_owner a k place within is (a_port j y at' e) = absurd (let h : value_key a k ≡ port_key j = e in cc)
-      by_owner a k place within is (an_instance b o' at' role e) = absurd (let h : value_key a k ≡ instance_key b = e in cc)
-      by_owner a k place within is (a_variable b o' at' role e) = absurd (
-          let places : i ≡ b = (let h : a ≡ b = cc in place ∙ h) in
-          let f = register_of_role m.ports m.body b o' role in
-          let h : None ≡ Some f.0 = sym form.0 ∙ ap (λ (w : Op). register_form w.kind) (same_op b o' places at') ∙ f.1 in cc)
-      by_owner a k place within is (a_result b l o' r at' role found e) = absurd (
-          let places : i ≡ b = (let h : a ≡ b = cc in place ∙ h) in
-          let f = instance_of_role m.ports m.body b o' role in
-          let h : None ≡ Some f.0 = sym form.1 ∙ ap (λ (w : Op). instance_in w.kind) (same_op b o' places at') ∙ f.2 in cc)
-      by_owner a k place within is (a_net b o' at' role e) =
-          let places : i ≡ b = (let h : a ≡ b = cc in place ∙ h) in
-          let ops : o ≡ o' = same_op b o' places at' in
-          let role' : role_of m.ports m.body i o ≡ net = ap₂ (role_of m.ports m.body) places ops ∙ role in
-          ap (λ w. σ (vnet (vpath_of d top p) w)) (is ∙ ap (key_text m) (e ∙ ap (λ w. value_key w 0) (sym places)))
-          ∙ settled_given p m here (value_key i 0) (net_in m i o there role')
-          ∙ net_given d x top inputs content p m here σ tree_words i o t there role' typed (λ h. absurd (let g : false ≡ true = sym form.2 ∙ h in cc))
-          ∙ ap (λ w. op_value w o.types t 0 (map (worth σ p m) o.operands)) kind
+          by_owner : (a k : ℕ) → i ≡ a → (within : In (value_key a k) (module_keys m)) → n ≡ key_text m (value_key a k) → Owner m (value_key a k) → σ (vnet (vpath_of d top p) n) ≡ bits_of_ℤ (width t) z
+          by_owner a k place within is (a_port j y at' e) = absurd (let h : value_key a k ≡ port_key j = e in cc)
+          by_owner a k place within is (an_instance b o' at' role e) = absurd (let h : value_key a k ≡ instance_key b = e in cc)
+          by_owner a k place within is (a_variable b o' at' role e) = absurd (
+              let places : i ≡ b = (let h : a ≡ b = cc in place ∙ h) in
+              let f = register_of_role m.ports m.body b o' role in
+              let h : None ≡ Some f.0 = sym form.0 ∙ ap (λ (w : Op). register_form w.kind) (same_op b o' places at') ∙ f.1 in cc)
+          by_owner a k place within is (a_result b l o' r at' role found e) = absurd (
+              let places : i ≡ b = (let h : a ≡ b = cc in place ∙ h) in
+              let f = instance_of_role m.ports m.body b o' role in
+              let h : None ≡ Some f.0 = sym form.1 ∙ ap (λ (w : Op). instance_in w.kind) (same_op b o' places at') ∙ f.2 in cc)
+          by_owner a k place within is (a_net b o' at' role e) =
+              let places : i ≡ b = (let h : a ≡ b = cc in place ∙ h) in
+              let ops : o ≡ o' = same_op b o' places at' in
+              let role' : role_of m.ports m.body i o ≡ net = ap₂ (role_of m.ports m.body) places ops ∙ role in
+              ap (λ w. σ (vnet (vpath_of d top p) w)) (is ∙ ap (key_text m) (e ∙ ap (λ w. value_key w 0) (sym places)))
+              ∙ settled_given p m here (value_key i 0) (net_in m i o there role')
+              ∙ net_given d x top inputs content p m here σ tree_words i o t there role' typed (λ h. absurd (let g : false ≡ true = sym form.2 ∙ h in cc))
+              ∙ ap (λ w. op_value w o.types t 0 (map (worth σ p m) o.operands)) kind
 
-      go : NamedAs d x (symbol_there d x top inputs content p m here) m (found_there d x top inputs content p m here) n (result i 0) → σ (vnet (vpath_of d top p) n) ≡ bits_of_ℤ (width t) z
-      go (by_port j y at' inward same is) = absurd (let h : result i 0 ≡ port j = same in cc)
-      go (by_value a k within same is) = by_owner a k (let h : i ≡ a = cc in h) within is (owner_of m (value_key a k) within)
+          go : NamedAs d x (symbol_there d x top inputs content p m here) m (found_there d x top inputs content p m here) n (result i 0) → σ (vnet (vpath_of d top p) n) ≡ bits_of_ℤ (width t) z
+          go (by_port j y at' inward same is) = absurd (let h : result i 0 ≡ port j = same in cc)
+          go (by_value a k within same is) = by_owner a k (let h : i ≡ a = cc in h) within is (owner_of m (value_key a k) within)
 
     pub tree_good : IsGood d x top inputs content σ
     tree_good = record { words = tree_words; constants = tree_constants }

@@ -1,54 +1,50 @@
 -- What the nets of a tree are worth under a map: what their sources give in the design.
-use Rattle.std.proofs.Common.{◌≡◌, ℕ, ℤ, zero, suc, ◌+◌, ◌-◌, ◌<◌, ◌≤◌, max, ◌⊎◌, Bool, true, false, cond, List, [], ◌∷◌, ◌++◌, length, drop, map, take, slice_get, is_some, Option, Some, None, refl, sym, ◌∙◌, ap, ap₂, subst, inl, inr, arith}
+use Rattle.std.proofs.Common.{◌≡◌, ℕ, ℤ, ◌+◌, ◌-◌, ◌⊎◌, Bool, true, false, cond, List, [], ◌∷◌, length, drop, map, take, slice_get, Option, Some, None, refl, sym, ◌∙◌, ap, ap₂, subst, inl, inr, arith}
 use Rattle.std.proofs.lemmas.List.{length-drop, length-append}
 use Rattle.std.proofs.lemmas.List.{length-replicate}
 use Rattle.wiring.specs.Wiring.{In, IsAcyclic}
 use Rattle.wiring.specs.Options.{bind, omap}
-use Rattle.wiring.proofs.Options.{bind_none, omap_none}
 use Rattle.wiring.proofs.Members.{map_same}
-use Rattle.bits_core.specs.Word.{Word, first, bits_of_ℤ, sign}
+use Rattle.bits_core.specs.Word.{Word}
 use Rattle.bits_core.proofs.First.{length-first}
 use Rattle.hw_model.specs.Types.{Name, HwType, width}
-use Rattle.hw_model.specs.Kinds.{Kind, Instance}
+use Rattle.hw_model.specs.Kinds.{Kind}
 use Rattle.hw_model.specs.Kinds.Kind.{constant}
-use Rattle.hw_model.specs.Design.{Ref, Port, OpResult, Op, Module, Design, RegisterForm, find_module, instance_in, register_form, is_output_kind, result_type, output_refs, callee, is_output_op}
-use Rattle.hw_model.specs.Design.Ref.{port, result, undefined}
+use Rattle.hw_model.specs.Design.{Ref, Port, OpResult, Op, Module, Design, find_module, instance_in, register_form, is_output_kind, result_type, output_refs}
+use Rattle.hw_model.specs.Design.Ref.{port, result}
 use Rattle.hw_model.specs.Value.{op_value}
-use Rattle.hw_model.specs.Flat.{Path, Net, net as at, Source, source, module_at, instances, width_of, base, body_state, state, offset, input_count, input_width, input_of, input_source, copy_of, joined_ref, joined_at, port_ref, operand_for, given_ref, held_of, made_of}
+use Rattle.hw_model.specs.Flat.{Path, Net, net as at, Source, source, module_at, instances, width_of, base, body_state, state, offset, input_count, input_width, input_of, input_source, copy_of, joined_ref, joined_at, port_ref, operand_for, held_of}
 use Rattle.hw_model.specs.Flat.Source.{nowhere, input as from_input, held as from_held, copy, made}
-use Rattle.hw_model.specs.Meaning.{needs, needs_of, value_of, only}
+use Rattle.hw_model.specs.Meaning.{needs_of, value_of}
 use Rattle.hw_model.specs.Sound.{type_in, input_type, output_types}
-use Rattle.hw_model.proofs.Sorts.{Sort, sort_of, instance_found}
-use Rattle.hw_model.proofs.Sorts.Sort.{a_register, an_instance as is_an_instance, an_output, a_made}
-use Rattle.verilog_model.specs.Tree.{Expr, VModule}
-use Rattle.verilog_model.specs.Tree.Expr.{name}
+use Rattle.hw_model.proofs.Sorts.{instance_found}
 use Rattle.verilog_model.specs.Expression.{own_value, assigned, extended, low_bits}
-use Rattle.verilog_model.specs.Hierarchy.{VPath, VNet, vnet, Drive, drive, vmodule_at, width_in, width_at}
-use Rattle.verilog_model.specs.Hierarchy.Drive.{nothing, input, held, expression as driven_by, net as driven_from}
-use Rattle.verilog_model.specs.Meaning.{names_at, driven, TreeSettled}
-use Rattle.verilog_expr.specs.Expressions.{value_width, own_expr, AreExprs}
-use Rattle.verilog_expr.specs.Spilling.{is_pure, inner_needs}
+use Rattle.verilog_model.specs.Hierarchy.{VNet, vnet, Drive, vmodule_at, width_in, width_at}
+use Rattle.verilog_model.specs.Hierarchy.Drive.{nothing, held, expression as driven_by, net as driven_from}
+use Rattle.verilog_model.specs.Meaning.{names_at, driven}
+use Rattle.verilog_expr.specs.Expressions.{value_width, AreExprs}
+use Rattle.verilog_expr.specs.Spilling.{inner_needs}
 use Rattle.verilog_expr.specs.Values.{HasBits, is_division, gives_values, IsWritable, AreNamed, HoldConstants}
 use Rattle.verilog_expr.proofs.Own.{extended_full}
 use Rattle.verilog_expr.proofs.Assigned.{assigned_same, assigned_long}
-use Rattle.verilog_expr.proofs.Bodies.{gives_values-pure, is_name, is_own, body_absent, body_bits, body_own_bits, body_worth, map_map}
+use Rattle.verilog_expr.proofs.Bodies.{is_name, is_own, body_absent, body_bits, body_own_bits, body_worth, map_map}
 use Rattle.verilog_expr.proofs.Depths.{expressions_hold}
 use Rattle.export_verilog.specs.Keys.{Key, role_of, module_keys, key_text, named}
 use Rattle.export_verilog.specs.Keys.Key.{port_key, value_key, instance_key}
 use Rattle.export_verilog.specs.Keys.Role.{net, variable, block}
 use Rattle.export_verilog.specs.Exported.{symbol_name, expression, assigned_expr, vmodule, tree_of}
-use Rattle.export_verilog.proofs.KeysOf.{Owner, owner_of, made_of_role, register_of_role, instance_of_role, port_in, net_in, variable_in, result_in_keys}
+use Rattle.export_verilog.proofs.KeysOf.{Owner, owner_of, made_of_role, register_of_role, instance_of_role, port_in}
 use Rattle.export_verilog.proofs.KeysOf.Owner.{a_port, a_net, a_variable, an_instance, a_result}
 use Rattle.export_verilog.proofs.Items.{output_count, expr_for}
 use Rattle.export_verilog.proofs.Lookups.{key_width}
-use Rattle.export_verilog.proofs.Settings.{Setting, Called, module_ok, module_sound, called_by_role, one_result_of, first_result, callee_is}
+use Rattle.export_verilog.proofs.Settings.{Setting, Called, module_sound, called_by_role, one_result_of, first_result, callee_is}
 use Rattle.export_verilog.proofs.Drives.{OutputAt, output_of_number}
-use Rattle.export_verilog.proofs.Sources.{register_from, instance_from, made_from, rest_from, no_op_from, pure_sort, inner_acyclic}
-use Rattle.export_verilog.proofs.Writable.{NamedAs, named_as, named_result, named_input, writable}
+use Rattle.export_verilog.proofs.Sources.{register_from, instance_from, made_from, inner_acyclic}
+use Rattle.export_verilog.proofs.Writable.{NamedAs, named_as, writable}
 use Rattle.export_verilog.proofs.Writable.NamedAs.{by_port, by_value}
 use Rattle.export_verilog.proofs.Places.{number_of, vpath_of, symbol_at_path, Further, further, vplace, inside_instance}
-use Rattle.export_verilog.proofs.Nets.{key_drive, width_here, module_width, drive_net, drive_variable, drive_result, drive_instance, drive_output, drive_top_input, drive_inner_input}
-use Rattle.export_verilog.proofs.Operands.{output_ref_at, operand_at, output_type_at, none_at}
+use Rattle.export_verilog.proofs.Nets.{key_drive, module_width, drive_net, drive_variable, drive_result, drive_instance, drive_output, drive_top_input, drive_inner_input}
+use Rattle.export_verilog.proofs.Operands.{output_ref_at, operand_at, output_type_at}
 
 -- ---- words
 
@@ -231,8 +227,8 @@ module _ (d : Design) (x : Setting d) (top : Name) (inputs content : Word) where
       ∙ ap (λ y. bind y (joined_ref d j)) instance_is
       ∙ ap (λ y. bind y (λ (c : Module). port_ref c.ports f.op.operands j)) (callee_is d f.outer f.op f.called)
       ∙ ap (λ (c : Module). port_ref c.ports f.op.operands j) f.inside ∙ joins) where
-    instance_is : slice_get (instances f.outer.body) u ≡ Some f.op
-    instance_is = ap (slice_get (instances f.outer.body)) (sym f.is_number) ∙ instance_found f.outer.body f.place f.op f.called.kind f.there f.called.is_kind
+        instance_is : slice_get (instances f.outer.body) u ≡ Some f.op
+        instance_is = ap (slice_get (instances f.outer.body)) (sym f.is_number) ∙ instance_found f.outer.body f.place f.op f.called.kind f.there f.called.is_kind
 
   -- ---- under two maps that agree
 
@@ -274,9 +270,9 @@ module _ (d : Design) (x : Setting d) (top : Name) (inputs content : Word) where
         ∙ own_is o.0
         ∙ sym (evaluated_as τ (u ∷ p) (port j) (copy (at p o.0)) (joined_is u p m f j (Some o.0)
         (ap (λ z. operand_for z f.op.operands (input_count (take j m.ports))) there ∙ ap (λ b. cond b None (slice_get f.op.operands (input_count (take j m.ports)))) inward ∙ o.1))) where
-      operand : (r : Ref) × (slice_get f.op.operands (input_count (take j m.ports)) ≡ Some r) × (type_in f.outer.ports f.outer.body r ≡ Some y.type)
-      operand = subst (λ c. slice_get c.ports j ≡ Some y → (r : Ref) × (slice_get f.op.operands (input_count (take j c.ports)) ≡ Some r) × (type_in f.outer.ports f.outer.body r ≡ Some y.type)) f.inside
-          (λ h. operand_at d f.outer f.op f.called j y h inward) there
+          operand : (r : Ref) × (slice_get f.op.operands (input_count (take j m.ports)) ≡ Some r) × (type_in f.outer.ports f.outer.body r ≡ Some y.type)
+          operand = subst (λ c. slice_get c.ports j ≡ Some y → (r : Ref) × (slice_get f.op.operands (input_count (take j c.ports)) ≡ Some r) × (type_in f.outer.ports f.outer.body r ≡ Some y.type)) f.inside
+              (λ h. operand_at d f.outer f.op f.called j y h inward) there
 
     first_type : (p : Path) (m : Module) (here : module_at d top p ≡ Some m) (i : ℕ) (o : Op) → slice_get m.body i ≡ Some o
         → (role_of m.ports m.body i o ≡ net) ⊎ (role_of m.ports m.body i o ≡ variable) → (t : HwType) × (result_type o 0 ≡ Some t)
@@ -307,22 +303,22 @@ module _ (d : Design) (x : Setting d) (top : Name) (inputs content : Word) where
         let c = called_by_role d x (symbol_there p m here) m (found_there p m here) i o there role in
         let typed : slice_get (output_types c.module_of.ports) k ≡ Some r.type = output_type_at d m o c k ∙ ap (omap (λ (z : OpResult). z.type)) found in
         by_output c (output_of_number c.module_of.ports k r.type typed) where
-      by_output : (c : Called d m o) → OutputAt c.module_of.ports k r.type → given σ p m (value_key i k) ≡ evaluated τ p (result i k)
-      by_output c e =
-          let inside = inside_instance d x top p m here i o c there in
-          let g = output_ref_at d c.module_of (module_sound d x c.kind.symbol c.module_of c.there) e.place e.port e.there e.out in
-          let w : key_width m (value_key i k) ≡ width r.type = result_width_is p m here i k o r.type there (ap (omap (λ (z : OpResult). z.type)) found) in
-          let long : length (σ (vnet (vpath_of d top (number_of m.body i ∷ p)) (key_text c.module_of (port_key e.place)))) ≡ width r.type =
-          good.words (number_of m.body i ∷ p) c.module_of inside.0 (port_key e.place) (port_in c.module_of e.place e.port e.there)
-          ∙ port_width_is (number_of m.body i ∷ p) c.module_of inside.0 e.place e.port e.there ∙ ap width e.type in
-          let k' = instance_of_role m.ports m.body i o role in
-          ap₂ (λ w z. driven (tree_of d) (symbol_name d top) inputs content σ w z) w (drive_result d x top p m here i k o r c there role found e)
-          ∙ low_whole (width r.type) (σ (vnet (vpath_of d top (number_of m.body i ∷ p)) (key_text c.module_of (port_key e.place)))) long
-          ∙ shows (number_of m.body i ∷ p) c.module_of inside.0 e.place e.port g.0 e.there e.out g.1
-          ∙ sym (evaluated_as τ p (result i k) (copy (at (number_of m.body i ∷ p) g.0))
-          (instance_from d top p m here i k o k'.0 there k'.1 k'.2
-          ∙ ap (copy_of (number_of m.body i ∷ p)) (ap (λ y. bind y (λ (c : Module). slice_get (output_refs c.body) k)) (callee_is d m o c)
-          ∙ ap (slice_get (output_refs c.module_of.body)) (sym e.number) ∙ g.1)))
+          by_output : (c : Called d m o) → OutputAt c.module_of.ports k r.type → given σ p m (value_key i k) ≡ evaluated τ p (result i k)
+          by_output c e =
+              let inside = inside_instance d x top p m here i o c there in
+              let g = output_ref_at d c.module_of (module_sound d x c.kind.symbol c.module_of c.there) e.place e.port e.there e.out in
+              let w : key_width m (value_key i k) ≡ width r.type = result_width_is p m here i k o r.type there (ap (omap (λ (z : OpResult). z.type)) found) in
+              let long : length (σ (vnet (vpath_of d top (number_of m.body i ∷ p)) (key_text c.module_of (port_key e.place)))) ≡ width r.type =
+              good.words (number_of m.body i ∷ p) c.module_of inside.0 (port_key e.place) (port_in c.module_of e.place e.port e.there)
+              ∙ port_width_is (number_of m.body i ∷ p) c.module_of inside.0 e.place e.port e.there ∙ ap width e.type in
+              let k' = instance_of_role m.ports m.body i o role in
+              ap₂ (λ w z. driven (tree_of d) (symbol_name d top) inputs content σ w z) w (drive_result d x top p m here i k o r c there role found e)
+              ∙ low_whole (width r.type) (σ (vnet (vpath_of d top (number_of m.body i ∷ p)) (key_text c.module_of (port_key e.place)))) long
+              ∙ shows (number_of m.body i ∷ p) c.module_of inside.0 e.place e.port g.0 e.there e.out g.1
+              ∙ sym (evaluated_as τ p (result i k) (copy (at (number_of m.body i ∷ p) g.0))
+              (instance_from d top p m here i k o k'.0 there k'.1 k'.2
+              ∙ ap (copy_of (number_of m.body i ∷ p)) (ap (λ y. bind y (λ (c : Module). slice_get (output_refs c.body) k)) (callee_is d m o c)
+              ∙ ap (slice_get (output_refs c.module_of.body)) (sym e.number) ∙ g.1)))
 
     -- a named value
     pub value_agrees : ((p : Path) (m : Module) → module_at d top p ≡ Some m → (r : Ref) → own σ p m r ≡ τ (at p r)) → ShowOutputs

@@ -1,28 +1,28 @@
 -- The values of an exportable module can be written as expressions over its names.
-use Rattle.std.proofs.Common.{◌≡◌, ℕ, zero, suc, ◌<◌, ◌≤◌, ◌+◌, ◌⊎◌, Bool, true, false, cond, not, ◌&&◌, ◌||◌, nat_lt, nat_le, nat_eq, List, [], ◌∷◌, map, length, slice_get, is_some, Option, Some, None, refl, sym, ◌∙◌, ap, ap₂, subst, inl, inr, eq-eqb, ltb-true, arith}
-use Rattle.wiring.specs.Wiring.{In, IsAcyclic}
-use Rattle.wiring.specs.Options.{bind, omap}
+use Rattle.std.proofs.Common.{◌≡◌, ℕ, zero, suc, ◌≤◌, ◌+◌, ◌⊎◌, Bool, true, false, cond, not, ◌&&◌, ◌||◌, nat_lt, List, [], ◌∷◌, slice_get, is_some, Option, Some, None, refl, sym, ◌∙◌, ap, ap₂, subst, inl, inr, eq-eqb, ltb-true, arith}
+use Rattle.wiring.specs.Wiring.{In}
+use Rattle.wiring.specs.Options.{omap}
 use Rattle.wiring.proofs.Options.{bind_some, omap_some}
 use Rattle.hw_model.specs.Types.{Name, HwType, width}
-use Rattle.hw_model.specs.Kinds.{Kind, Instance}
+use Rattle.hw_model.specs.Kinds.{Kind}
 use Rattle.hw_model.specs.Kinds.Kind.{extract}
-use Rattle.hw_model.specs.Design.{Ref, Port, OpResult, Op, Module, Design, RegisterForm, find_module, instance_in, register_form, is_output_kind, is_instance, is_register, is_output_op, result_type}
+use Rattle.hw_model.specs.Design.{Ref, Port, OpResult, Op, Module, Design, find_module, instance_in, register_form, is_output_kind, result_type}
 use Rattle.hw_model.specs.Design.Ref.{port, result, undefined}
 use Rattle.hw_model.specs.Flat.{width_of}
 use Rattle.hw_model.specs.Sound.{type_in, input_type}
 use Rattle.hw_model.proofs.Sorts.{Sort, sort_of}
 use Rattle.hw_model.proofs.Sorts.Sort.{a_register, an_instance, an_output, a_made}
-use Rattle.verilog_expr.specs.Expressions.{op_at, value_width}
-use Rattle.verilog_expr.specs.Spilling.{is_pure, is_wire_kind, is_constant_kind, is_narrower, places_in, same_ref, one_if, cuts, some_op, is_shared, Part, part_of_op, has_wire, height, spilled, spilled_op}
+use Rattle.verilog_expr.specs.Expressions.{value_width}
+use Rattle.verilog_expr.specs.Spilling.{is_pure, is_wire_kind, is_constant_kind, is_narrower, places_in, same_ref, one_if, cuts, some_op, is_shared, part_of_op, has_wire, height, spilled, spilled_op}
 use Rattle.verilog_expr.specs.Spilling.Part.{flat, shared, nested}
 use Rattle.verilog_expr.specs.Values.{gives_values, IsWritable}
-use Rattle.export_verilog.specs.Keys.{Key, Role, role_of, module_keys, key_text, key_name, named, input_name}
-use Rattle.export_verilog.specs.Keys.Key.{port_key, value_key, instance_key}
-use Rattle.export_verilog.specs.Keys.Role.{hidden, net, variable, block}
+use Rattle.export_verilog.specs.Keys.{role_of, module_keys, key_text, key_name, named, input_name}
+use Rattle.export_verilog.specs.Keys.Key.{port_key, value_key}
+use Rattle.export_verilog.specs.Keys.Role.{hidden, net}
 use Rattle.export_verilog.proofs.KeyNames.{AreNames, text_named, name_has_key, text_of_key}
 use Rattle.export_verilog.proofs.KeysOf.{role_of_register, role_of_instance, role_of_made, port_in, net_in, variable_in, result_in_keys}
-use Rattle.export_verilog.proofs.Settings.{Setting, module_ok, module_sound, one_result_of, first_result}
-use Rattle.export_verilog.proofs.Sources.{pure_sort, inner_acyclic}
+use Rattle.export_verilog.proofs.Settings.{Setting, module_ok, module_sound, one_result_of}
+use Rattle.export_verilog.proofs.Sources.{pure_sort}
 
 only_first : {A : Type 0} (xs : List A) (z : A) (k : ℕ) (y : A) → xs ≡ z ∷ [] → slice_get xs k ≡ Some y → k ≡ 0
 only_first xs z zero y is at = refl
@@ -102,6 +102,7 @@ module _ (d : Design) (x : Setting d) (s : Name) (m : Module) (is : find_module 
     by_way : (p : Port) → slice_get m.ports j ≡ Some p → (b : Bool) → p.is_output ≡ b → cond b None (key_name m (port_key j)) ≡ Some n → NamedAs n (port j)
     by_way p there true out h = cc
     by_way p there false out h = by_port j p there out refl (sym (text_of_key m are (port_key j) n h))
+
     go : (p : Option Port) → slice_get m.ports j ≡ p → input_name m j p ≡ Some n → NamedAs n (port j)
     go None there h = cc
     go (Some p) there h = by_way p there p.is_output refl h
@@ -116,6 +117,7 @@ module _ (d : Design) (x : Setting d) (s : Name) (m : Module) (is : find_module 
     by_way : (p : Port) → slice_get m.ports j ≡ Some p → (b : Bool) → p.is_output ≡ b → cond b None (Some p.type) ≡ Some t → is_some (named m (port j)) ≡ true
     by_way p there true out h = cc
     by_way p there false out h = some_is (named m (port j)) (key_text m (port_key j)) (named_input j p there out)
+
     go : (p : Option Port) → slice_get m.ports j ≡ p → input_type p ≡ Some t → is_some (named m (port j)) ≡ true
     go None there h = cc
     go (Some p) there h = by_way p there p.is_output refl h
@@ -183,15 +185,15 @@ module _ (d : Design) (x : Setting d) (s : Name) (m : Module) (is : find_module 
     by_ref t undefined same typed = cc
     by_ref t (result j k) same typed =
         let f = bind_some (slice_get m.body j) (λ (z : Op). result_type z k) typed in by_pure f.0 f.1 f.2 (is_pure f.0) refl where
-      by_pure : (o' : Op) → slice_get m.body j ≡ Some o' → result_type o' k ≡ Some t → (p : Bool) → is_pure o' ≡ p → is_some (named m (result j k)) ≡ true
-      by_pure o' at type_is false pure = owned j k o' t at type_is pure
-      by_pure o' at type_is true pure =
-          let h = pure_sort o' pure in
-          let first : k ≡ 0 = made_first j k o' t at type_is h.1 h.2 in
-          let here : r ≡ result j 0 = same ∙ ap (result j) first in
-          by_first j k first (made_named j o' at h.0 h.1 h.2
-          (inr (cut_spilled m.ports m.body j i o' o at pure there (only ∙ ap (λ z. z ∷ []) here)
-          (ap (λ z. is_narrower o.kind (width_of (result_type o 0)) (value_width m.ports m.body z)) (sym here) ∙ narrow))))
+          by_pure : (o' : Op) → slice_get m.body j ≡ Some o' → result_type o' k ≡ Some t → (p : Bool) → is_pure o' ≡ p → is_some (named m (result j k)) ≡ true
+          by_pure o' at type_is false pure = owned j k o' t at type_is pure
+          by_pure o' at type_is true pure =
+              let h = pure_sort o' pure in
+              let first : k ≡ 0 = made_first j k o' t at type_is h.1 h.2 in
+              let here : r ≡ result j 0 = same ∙ ap (result j) first in
+              by_first j k first (made_named j o' at h.0 h.1 h.2
+              (inr (cut_spilled m.ports m.body j i o' o at pure there (only ∙ ap (λ z. z ∷ []) here)
+              (ap (λ z. is_narrower o.kind (width_of (result_type o 0)) (value_width m.ports m.body z)) (sym here) ∙ narrow))))
 
     go : (t : Option HwType) → type_in m.ports m.body r ≡ t → is_some (named m r) ≡ true
     go None none = absurd (let h : false ≡ true = sym (no_bits_cut o.kind (width_of (result_type o 0))) ∙ ap (λ z. is_narrower o.kind (width_of (result_type o 0)) (width_of z)) (sym none) ∙ narrow in cc)

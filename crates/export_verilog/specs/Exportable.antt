@@ -1,10 +1,9 @@
 -- The designs whose export behaves as they do: sound ones on integers, as the verifier accepts them.
-use Rattle.std.specs.Prelude.{◌≡◌, ℕ, suc, ◌+◌, ◌<◌, ◌≤◌, ◌^◌, Bool, true, false, ◌||◌, List, [], ◌∷◌, length, Option, Some, None, slice_get}
-use Rattle.wiring.specs.Wiring.{In}
-use Rattle.hw_model.specs.Types.{Name, HwType, width}
+use Rattle.std.specs.Prelude.{◌≡◌, ℕ, ◌+◌, ◌<◌, ◌≤◌, ◌^◌, true, false, ◌||◌, List, [], ◌∷◌, length, Some, slice_get}
+use Rattle.hw_model.specs.Types.{Name, width}
 use Rattle.hw_model.specs.Types.HwType.{clock}
-use Rattle.hw_model.specs.Design.{Ref, Port, OpResult, Op, Module, Design, find_module, is_instance, is_output_op, result_type}
-use Rattle.hw_model.specs.Design.Ref.{port, result}
+use Rattle.hw_model.specs.Design.{Ref, Port, OpResult, Op, Module, Design, is_instance, is_output_op}
+use Rattle.hw_model.specs.Design.Ref.{port}
 use Rattle.hw_model.specs.Flat.{Register, register_in}
 use Rattle.hw_model.specs.Hierarchy.{HasNoRecursion}
 use Rattle.hw_model.specs.Meaning.{HasNoCycle}

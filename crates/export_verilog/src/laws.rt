@@ -1,6 +1,6 @@
 //! Laws.
-ghost use Rattle.std.specs.Prelude.{◌≡◌, ℕ, List, []};
-ghost use Rattle.hw_model.specs.Design.{Design};
+ghost use Rattle.std.specs.Prelude.{◌≡◌, ℕ, List, [], Some, slice_get};
+ghost use Rattle.hw_model.specs.Design.{Module, Design};
 ghost use Rattle.hw_model.specs.Types.{Name};
 ghost use Rattle.hw_model.specs.Machine.{Same};
 ghost use Rattle.hw_model.specs.Meaning.{machine};
@@ -13,4 +13,12 @@ ghost use Rattle.export_verilog.specs.Exportable.{IsExportable};
 pub fn nothing()
     ensures a { (d : Design) → IsExportable d → verilog_text d ≡ verilog_text d }
     ensures b { (d : Design) → tree_of d ≡ tree_of d }
+{}
+
+/// Does nothing. Its clause says that the Verilog of a design behaves as the design: each module of the tree has as many
+/// bits of register content as the design's module, settles exactly once for all inputs and content, and has the same runs
+/// (IEEE 1364-2005, 12.1: hierarchy; 6.1: continuous assignments; 9.2.2: nonblocking assignments).
+pub fn exported_modules_behave_the_same()
+    ensures { (d : Design) → IsExportable d → (n : ℕ) (m : Module) → slice_get d n ≡ Some m
+        → Same (machine d m.symbol) (tree_machine (tree_of d) (symbol_name d m.symbol)) }
 {}
