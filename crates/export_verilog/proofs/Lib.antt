@@ -34,3 +34,4 @@ pub mod Clocks
 pub mod Driven
 pub mod Checking
 pub mod Spelled
+pub mod Behaving

@@ -3,3 +3,4 @@ pub mod Keys
 pub mod Exported
 pub mod Layout
 pub mod Exportable
+pub mod Behaving
