@@ -138,17 +138,35 @@ clocked r is = subst (IsClocked register_module.ports) (let e : parts ≡ r = cc
 
 nine_exportable : IsExportableOp register_module.ports register_module.body nine_op
 nine_exportable = record {
-  integers = refl; one_result = λ e. (record { type = int 8; again = false }, refl); no_result = λ e. cc; bits = one_wide; filled = λ e. cc; division = λ e. cc; clocked = λ r e. cc;
+  integers = refl;
+  one_result = λ e. (record { type = int 8; again = false }, refl);
+  no_result = λ e. cc;
+  bits = one_wide;
+  filled = λ e. cc;
+  division = λ e. cc;
+  clocked = λ r e. cc;
 }
 
 register_exportable : IsExportableOp register_module.ports register_module.body register_op
 register_exportable = record {
-  integers = refl; one_result = λ e. (record { type = int 8; again = false }, refl); no_result = λ e. cc; bits = one_wide; filled = λ e. cc; division = λ e. cc; clocked = clocked;
+  integers = refl;
+  one_result = λ e. (record { type = int 8; again = false }, refl);
+  no_result = λ e. cc;
+  bits = one_wide;
+  filled = λ e. cc;
+  division = λ e. cc;
+  clocked = clocked;
 }
 
 output_exportable : IsExportableOp register_module.ports register_module.body output_op
 output_exportable = record {
-  integers = refl; one_result = λ e. cc; no_result = λ e. refl; bits = λ k r e. cc; filled = λ e. cc; division = λ e. cc; clocked = λ r e. cc;
+  integers = refl;
+  one_result = λ e. cc;
+  no_result = λ e. refl;
+  bits = λ k r e. cc;
+  filled = λ e. cc;
+  division = λ e. cc;
+  clocked = λ r e. cc;
 }
 
 abbrev SizeOf : HwType → Type 0
