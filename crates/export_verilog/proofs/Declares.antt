@@ -28,23 +28,23 @@ name_of_declared y = y.name
 -- ---- the keys of what is declared
 
 -- the keys of an operation's declarations, and of its statements
-abbrev wire_keys : Role → ℕ → Op → List Key
+abbrev pub wire_keys : Role → ℕ → Op → List Key
 wire_keys hidden i o = []
 wire_keys net i o = value_key i 0 ∷ []
 wire_keys variable i o = value_key i 0 ∷ []
 wire_keys block i o = result_keys i 0 o.results
 
-abbrev block_keys : Role → ℕ → Op → List Key
+abbrev pub block_keys : Role → ℕ → Op → List Key
 block_keys hidden i o = []
 block_keys net i o = []
 block_keys variable i o = []
 block_keys block i o = instance_key i ∷ []
 
 module _ (m : Module) where
-  abbrev op_wires : ℕ → Op → List Key
+  abbrev pub op_wires : ℕ → Op → List Key
   op_wires i o = wire_keys (role_of m.ports m.body i o) i o
 
-  abbrev op_blocks : ℕ → Op → List Key
+  abbrev pub op_blocks : ℕ → Op → List Key
   op_blocks i o = block_keys (role_of m.ports m.body i o) i o
 
   abbrev pub declared_keys : List Key
@@ -125,7 +125,7 @@ module _ (m : Module) where
 -- ---- no thing is declared twice
 
 -- the position that a key names
-key_place : Key → ℕ
+pub key_place : Key → ℕ
 key_place (port_key j) = j
 key_place (value_key i k) = i
 key_place (instance_key i) = i
@@ -138,7 +138,7 @@ module _ {A : Type 0} (f : ℕ → A → List Key) (placed : (i : ℕ) (x : A) (
     go (inl h) rest = (0, placed i x k h ∙ sym (add-zero i))
     go (inr h) rest = let e = rest h in (suc e.0, e.1 ∙ suc-add i e.0 ∙ sym (add-suc i e.0))
 
-  each_apart : (i : ℕ) (xs : List A) → AreApart (each f i xs)
+  pub each_apart : (i : ℕ) (xs : List A) → AreApart (each f i xs)
   each_apart i [] = tt
   each_apart i (x ∷ xs) =
       joined_apart (f i x) (each f (suc i) xs) (apart i x) (each_apart (suc i) xs)
@@ -156,7 +156,7 @@ result_keys_apart i k (r ∷ rs) = ((λ h. let e = result_keys_above i (suc k) r
   clash n e = let f : k ≡ suc k + n = cc in omega (arith, f)
 
 module _ (m : Module) where
-  wires_placed : (i : ℕ) (o : Op) (k : Key) → In k (op_wires m i o) → key_place k ≡ i
+  pub wires_placed : (i : ℕ) (o : Op) (k : Key) → In k (op_wires m i o) → key_place k ≡ i
   unfolding key_place
   wires_placed i o k here = go (role_of m.ports m.body i o) here where
     single : In k (value_key i 0 ∷ []) → key_place k ≡ i
@@ -168,7 +168,7 @@ module _ (m : Module) where
     go variable h = single h
     go block h = ap key_place (result_keys_above i 0 o.results k h).1
 
-  wires_apart : (i : ℕ) (o : Op) → AreApart (op_wires m i o)
+  pub wires_apart : (i : ℕ) (o : Op) → AreApart (op_wires m i o)
   wires_apart i o = go (role_of m.ports m.body i o) where
     go : (r : Role) → AreApart (wire_keys r i o)
     go hidden = tt
@@ -195,7 +195,7 @@ module _ (m : Module) where
     go block = ((λ h. h), tt)
 
   -- a wire's key is a value's, and a block's an instance's
-  wire_kind : (k : Key) → In k (each (op_wires m) 0 m.body) → (i n : ℕ) × (k ≡ value_key i n)
+  pub wire_kind : (k : Key) → In k (each (op_wires m) 0 m.body) → (i n : ℕ) × (k ≡ value_key i n)
   wire_kind k here = let e = from_each (op_wires m) m.body k here in go e.0 e.1 (role_of m.ports m.body e.0 e.1) e.3 where
     single : (i : ℕ) → In k (value_key i 0 ∷ []) → (j n : ℕ) × (k ≡ value_key j n)
     single i (inl e) = (i, 0, e)
@@ -206,10 +206,10 @@ module _ (m : Module) where
     go i o variable h = single i h
     go i o block h = let e = result_keys_above i 0 o.results k h in (i, 0 + e.0, e.1)
 
-  block_kind : (k : Key) → In k (each (op_blocks m) 0 m.body) → (i : ℕ) × (k ≡ instance_key i)
+  pub block_kind : (k : Key) → In k (each (op_blocks m) 0 m.body) → (i : ℕ) × (k ≡ instance_key i)
   block_kind k here = let e = from_each (op_blocks m) m.body k here in (e.0, (blocks_placed e.0 e.1 k e.3).0)
 
-  port_kind : (k : Key) → In k (port_keys_from 0 m.ports) → (j : ℕ) × (k ≡ port_key j)
+  pub port_kind : (k : Key) → In k (port_keys_from 0 m.ports) → (j : ℕ) × (k ≡ port_key j)
   port_kind k here = let e = port_keys_above 0 m.ports k here in (0 + e.0, e.3)
 
   pub declared_apart : AreApart (declared_keys m)

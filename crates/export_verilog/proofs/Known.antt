@@ -77,7 +77,7 @@ declared_value m (port_key j) = omap (declared_port m j) (slice_get m.ports j)
 declared_value m (value_key i k) = bind (slice_get m.body i) (λ (o : Op). omap (declared_result m i k o) (slice_get o.results k))
 declared_value m (instance_key i) = None
 
-in_declared_items : (y : Declared) (is : List Item) → In y (declared_items is) → (z : Item) × In z is × In y (declared_by z)
+pub in_declared_items : (y : Declared) (is : List Item) → In y (declared_items is) → (z : Item) × In z is × In y (declared_by z)
 in_declared_items y [] here = absurd here
 in_declared_items y (i ∷ is) here = go (in_append y (declared_by i) (declared_items is) here) (in_declared_items y is) where
   go : In y (declared_by i) ⊎ In y (declared_items is) → (In y (declared_items is) → (z : Item) × In z is × In y (declared_by z)) → (z : Item) × In z (i ∷ is) × In y (declared_by z)

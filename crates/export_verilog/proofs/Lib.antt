@@ -32,3 +32,6 @@ pub mod Ordered
 pub mod Declares
 pub mod Nesting
 pub mod Clocks
+pub mod Driven
+pub mod Checking
+pub mod Spelled

@@ -173,7 +173,7 @@ module _ (d : Design) (x : Setting d) (s : Name) (m : Module) (is : find_module 
 
     -- ---- instances
 
-    result_there : (i : ℕ) (o : Op) (c : Called d m o) (j : ℕ) (p : Port) → slice_get c.module_of.ports j ≡ Some p → p.is_output ≡ true
+    pub result_there : (i : ℕ) (o : Op) (c : Called d m o) (j : ℕ) (p : Port) → slice_get c.module_of.ports j ≡ Some p → p.is_output ≡ true
         → (r : OpResult) × (slice_get o.results (output_count (take j c.module_of.ports)) ≡ Some r)
     result_there i o c j p there out =
         let at = place_of_output c.module_of.ports j p there out in
