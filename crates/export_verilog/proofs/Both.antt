@@ -65,9 +65,6 @@ module _ (d : Design) (x : Setting d) (top : Name) (inputs content : Word) (m0 :
 
     over_words : HaveWords d x top inputs content (over ρ)
     over_words p m here k within = ap length (over_key ρ p m here k within) ∙ go (owner_of m k within) where
-      P : Key → Type 0
-      P l = length (ρ (at p (shown_ref d x top m0 top_is m l))) ≡ key_width m l
-
       moved : (l : Key) → k ≡ l → length (ρ (at p (shown_ref d x top m0 top_is m l))) ≡ key_width m l → length (ρ (at p (shown_ref d x top m0 top_is m k))) ≡ key_width m k
       moved l same e = subst (λ z. length (ρ (at p (shown_ref d x top m0 top_is m z))) ≡ key_width m z) (sym same) e
 

@@ -238,12 +238,6 @@ module _ (d : Design) (x : Setting d) (s : Name) (m : Module) (is : find_module 
       typed : slice_get (output_types c.module_of.ports) l ≡ Some r.type
       typed = ap (λ ts. slice_get ts l) (sym c.outputs) ∙ slice_of_map o.results l ∙ ap (omap (λ (r : OpResult). r.type)) at
 
-      u : Name
-      u = key_text m (instance_key i)
-
-      f : Connection → Option Drive
-      f = joined_output q (key_text m (instance_key i)) (key_text m k) (vports c.module_of)
-
       found_output : OutputAt c.module_of.ports l r.type → (y : Item) × In y (vitems d m) × (gives (key_text m k) y ≡ Some w)
       found_output e = (
         instance_at d m i o c.kind,

@@ -22,6 +22,7 @@ pub mod Both
 pub mod Slots
 pub mod Final
 pub mod Standing
+pub mod SampleSame
 pub mod Fitting
 pub mod Known
 pub mod Readable

@@ -19,10 +19,10 @@ use Rattle.verilog_expr.specs.Spilling.{spilled, height}
 use Rattle.verilog_expr.specs.Numerals.{hex}
 use Rattle.verilog_expr.specs.Text.{expr_text, exprs_text}
 
-abbrev register_ports : List Port
+abbrev pub register_ports : List Port
 register_ports = in_port (codes "clk") clock ∷ in_port (codes "rst") (int 1) ∷ in_port (codes "en") (int 1) ∷ in_port (codes "d") (int 8) ∷ []
 
-abbrev register_module : Module
+abbrev pub register_module : Module
 register_module =
     module_of (codes "Reg") (register_ports ++ out_port (codes "q") (int 8) ∷ [])
     (operation (constant (pos 9)) [] (int 8 ∷ []) (int 8 ∷ [])

@@ -233,9 +233,6 @@ module _ (d : Design) (x : Setting d) (top : Name) (inputs content : Word) (m0 :
         → block_value (vmodule d m) (names_at (vpath_of d top p) over) (width t) old (block_of (expression m) (key_text m (value_key i 0)) g.next g.enable g.reset)
         ≡ reset g.reset (λ r. ρ (at p r)) (enabled g.enable (λ r. ρ (at p r)) old (ρ (at p g.next)))
     block_is i t g typed old = go g.enable refl g.reset refl where
-      q : Name
-      q = key_text m (value_key i 0)
-
       next_is : load_value (vmodule d m) (names_at (vpath_of d top p) over) (width t) (loads (key_text m (value_key i 0)) (expression m g.next)) ≡ ρ (at p g.next)
       next_is = load_is (width t) (key_text m (value_key i 0)) g.next t typed.next refl
 
@@ -257,7 +254,6 @@ module _ (d : Design) (x : Setting d) (top : Name) (inputs content : Word) (m0 :
     clock_is : (i : ℕ) (o : Op) (g : Register) → slice_get m.body i ≡ Some o → register_in o ≡ Some g → type_in m.ports m.body g.clock ≡ Some clock
         → low_bits 1 (over (vnet (vpath_of d top p) (name_or_nothing (named m g.clock)))) ≡ ρ (at p g.clock)
     clock_is i o g there is typed =
-        let s : Name = symbol_there d x top inputs content p m here in
         let c : IsClocked m.ports g = ((module_ok d x (symbol_there d x top inputs content p m here) m (found_there d x top inputs content p m here)).ops i o there).clocked g is in
         let called : named m g.clock ≡ Some (key_text m (port_key c.number)) =
         ap (named m) c.is_port ∙ named_input d x (symbol_there d x top inputs content p m here) m (found_there d x top inputs content p m here) c.number c.clock c.there c.input in
