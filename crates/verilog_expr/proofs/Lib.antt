@@ -1,4 +1,6 @@
 pub mod Numerals
+pub mod Digits
+pub mod Adding
 pub mod Own
 pub mod Assigned
 pub mod Rows
