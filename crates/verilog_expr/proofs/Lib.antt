@@ -1,6 +1,8 @@
 pub mod Numerals
 pub mod Digits
 pub mod Adding
+pub mod Placing
+pub mod ReadOps
 pub mod Own
 pub mod Assigned
 pub mod Rows

@@ -5,3 +5,5 @@ pub mod Expressions
 pub mod Spilling
 pub mod Text
 pub mod Values
+pub mod Tables
+pub mod Scopes

@@ -3,3 +3,4 @@
 
 mod laws;
 pub mod literals;
+pub mod scope;

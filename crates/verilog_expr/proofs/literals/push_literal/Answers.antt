@@ -1,4 +1,3 @@
-use Rattle.std.proofs.Common.{ap}
 use Rattle.verilog_model.specs.Grammar.{base_mark}
 use Rattle.std.specs.Prelude.{decimal}
 use Rattle.verilog_expr.specs.Numerals.{hex}
