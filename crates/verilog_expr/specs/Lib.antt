@@ -7,3 +7,4 @@ pub mod Text
 pub mod Values
 pub mod Tables
 pub mod Scopes
+pub mod Marks

@@ -3,4 +3,5 @@
 
 mod laws;
 pub mod literals;
+pub mod marks;
 pub mod scope;

@@ -1,13 +1,17 @@
 //! A body with its ports, its operations by their positions in text order.
-ghost use Rattle.std.specs.Prelude.{◌≡◌, ◌<◌, ℕ, length, map, IfOk, Some, slice_get};
+ghost use Rattle.std.specs.Prelude.{◌≡◌, ◌<◌, ℕ, length, map, min, option_map, IfOk, Some, slice_get};
+ghost use Rattle.hw_model.specs.Design.{result_type};
+ghost use Rattle.hw_model.specs.Flat.{width_of};
+ghost use Rattle.hw_model.specs.Sound.{input_type};
+ghost use Rattle.ir_store.specs.Designs.{port_of};
 ghost use Rattle.ir_store.specs.Live.{AreDistinct};
 ghost use Rattle.ir_store.specs.Bodies.{ids_of, ops_of, op_id, read_op};
 ghost use Rattle.ir_store.specs.Numbered.{position_of, op_by, numbered};
 ghost use Rattle.verilog_expr.specs.Tables.{ArePositions};
 
 use ir_store::body::{Body, Op};
-use ir_store::design::PortList;
-use ir_store::operation::OpId;
+use ir_store::design::{Port, PortList};
+use ir_store::operation::{OpId, Value};
 use std::alloc::{AllocError, Global};
 
 /// A body with its ports. Contracts see it by `scope_ports` and `scope_ops`.
@@ -24,11 +28,13 @@ pub struct Scope<'m> {
 }
 
 impl<'m> Scope<'m> {
-    ghost use Rattle.std.specs.Prelude.{◌≡◌, ◌<◌, length, IfOk, Some, slice_get};
+    ghost use Rattle.std.specs.Prelude.{◌≡◌, ◌<◌, length, IfOk, Some, None, slice_get, option_map, cond, nat_lt};
     ghost use Rattle.ir_store.specs.Bodies.{ids_of, ops_of};
     ghost use Rattle.ir_store.specs.Designs.{ports_in};
     ghost use Rattle.ir_store.specs.Numbered.{position_of, numbered};
-    ghost use Rattle.verilog_expr.specs.Scopes.{scope_ops, op_read};
+    ghost use Rattle.verilog_expr.specs.Expressions.{value_width};
+    ghost use Rattle.verilog_expr.specs.Marks.{first_place, AreSmall};
+    ghost use Rattle.verilog_expr.specs.Scopes.{scope_ports, scope_ops, scope_ref, op_read};
 
     /// A body with its ports. One of 2^32 operations or more wants more memory than there is.
     pub fn of(alloc: Global, ports: &'m PortList, body: &'m Body) -> Result<Scope<'m>, AllocError>
@@ -71,11 +77,79 @@ impl<'m> Scope<'m> {
         }
     }
 
+    /// The operation of an id, where it is there.
+    pub fn op(&self, id: OpId) -> Option<Op<'m>>
+        ensures { option_map (op_read self.now) result ≡ slice_get (scope_ops self.now) (position_of (ids_of self.now.body.now) id.index) }
+    {
+        let position = self.position(id);
+        if position < self.count() {
+            Some(self.op_at(position))
+        } else {
+            None
+        }
+    }
+
+    /// The position of the operation whose first result the value is, where it is there.
+    pub fn place(&self, value: Value) -> Option<usize>
+        ensures { result ≡ first_place (length (scope_ops self.now)) (scope_ref self.now value) }
+    {
+        match value {
+            Value::Result(id, 0) => self.within(self.position(id)),
+            Value::Result(_, _) | Value::Port(_) | Value::Undefined => None,
+        }
+    }
+
+    // A position, where an operation stands there.
+    fn within(&self, position: usize) -> Option<usize>
+        ensures { result ≡ cond (nat_lt position (length (scope_ops self.now))) (Some position) None }
+    {
+        if position < self.count() {
+            Some(position)
+        } else {
+            None
+        }
+    }
+
+    /// The bits of a value.
+    pub fn width(&self, value: Value) -> u64
+        requires { AreSmall (scope_ports self.now) (scope_ops self.now) }
+        ensures { result ≡ value_width (scope_ports self.now) (scope_ops self.now) (scope_ref self.now value) }
+    {
+        match value {
+            Value::Port(port) => input_width(self.ports.ports.get(port as usize)),
+            Value::Result(id, number) => match self.op(id) {
+                Some(op) => result_width(&op, number),
+                None => 0,
+            },
+            Value::Undefined => 0,
+        }
+    }
+
     // What the table has for an id.
     fn known(&self, id: OpId) -> Option<u32>
         ensures { result ≡ slice_get self.now.positions.items id.index }
     {
         self.positions.get(id.number() as usize).copied()
+    }
+}
+
+// The bits of an input port, or 0.
+fn input_width(port: Option<&Port>) -> u64
+    ensures { result ≡ min (width_of (input_type (option_map (λ p. port_of p.now) port.entry))) u64.MAX }
+{
+    match port {
+        Some(port) if !port.out => port.ty.width(),
+        _ => 0,
+    }
+}
+
+/// The bits of a result of an operation, or 0 where there is none.
+pub fn result_width(op: &Op<'_>, number: u32) -> u64
+    ensures { result ≡ min (width_of (result_type (op_by (λ i. i) (read_op (op_id 0) op.now)) number)) u64.MAX }
+{
+    match op.results.results.get(number as usize) {
+        Some(one) => one.ty.width(),
+        None => 0,
     }
 }
 
