@@ -1,4 +1,9 @@
 pub mod Numerals
+pub mod Digits
+pub mod Adding
+pub mod Placing
+pub mod ReadOps
+pub mod Marking
 pub mod Own
 pub mod Assigned
 pub mod Rows

@@ -2,3 +2,6 @@
 #![tactic(auto)]
 
 mod laws;
+pub mod literals;
+pub mod marks;
+pub mod scope;

@@ -1,0 +1,205 @@
+-- Marks of values as uses are noted.
+use Rattle.std.proofs.Common.{◌≡◌, ℕ, zero, suc, ◌+◌, ◌<◌, ◌≤◌, min, Bool, true, false, cond, ◌&&◌, ◌||◌, nat_eq, nat_lt, List, [], ◌∷◌, ◌++◌, length, map, take, drop, set, replicate, get_or, slice_get, Some, None, refl, sym, ap, subst, ◌∙◌, arith, eq-eqb, ne_eqb}
+use Rattle.std.proofs.lemmas.Bool.{ltb-true, ltb-false, eqb-true, eqb-false}
+use Rattle.std.proofs.lemmas.List.{drop_more, append-nil, take_all}
+use Rattle.std.proofs.lemmas.Option.{slice_get_within, get_or_from_slice_get}
+use Rattle.hw_model.specs.Design.{Ref, Port, Op, is_instance, result_type}
+use Rattle.hw_model.specs.Design.Ref.{port, result, undefined}
+use Rattle.wiring.specs.Options.{bind}
+use Rattle.hw_model.specs.Flat.{width_of}
+use Rattle.verilog_expr.specs.Expressions.{value_width}
+use Rattle.verilog_expr.specs.Spilling.{same_ref, one_if, places_in, use_count, cuts, joins, some_op}
+use Rattle.verilog_expr.specs.Marks.{first_place, no_mark, mark_at, noted, one_use, after_operands, is_cut_by, after_ops}
+use Rattle.verilog_expr.specs.declared.marks.Mark.{Mark}
+
+-- ---- places
+
+pub place_some : (n : ℕ) (x : Ref) (p : ℕ) → first_place n x ≡ Some p → (x ≡ result p 0) × (p < n)
+place_some n (port j) p at = cc
+place_some n undefined p at = cc
+place_some n (result i (suc k)) p at = cc
+place_some n (result i zero) p at = go (nat_lt i n) refl at
+  where
+    go : (b : Bool) → nat_lt i n ≡ b → cond b (Some i) None ≡ Some p → (result i 0 ≡ result p 0) × (p < n)
+    go true is e = let same : i ≡ p = cc in (ap (λ j. result j 0) same, subst (λ j. j < n) same (ltb-true i n is))
+    go false is e = cc
+
+and_true : (b : Bool) → (b && true) ≡ b
+and_true true = refl
+and_true false = refl
+
+pub place_none : (n : ℕ) (x : Ref) (i : ℕ) → first_place n x ≡ None → i < n → same_ref x (result i 0) ≡ false
+place_none n (port j) i at below = refl
+place_none n undefined i at below = refl
+place_none n (result j (suc k)) i at below = apart (nat_eq j i) k
+  where
+    apart : (b : Bool) (k : ℕ) → (b && nat_eq (suc k) 0) ≡ false
+    apart true k = ne_eqb (suc k) 0 (λ e. omega (arith, e))
+    apart false k = refl
+place_none n (result j zero) i at below = go (nat_lt j n) refl at
+  where
+    go : (b : Bool) → nat_lt j n ≡ b → cond b (Some j) None ≡ None → (nat_eq j i && true) ≡ false
+    go true is e = cc
+    go false is e = and_true (nat_eq j i) ∙ ne_eqb j i (λ same. let above : n ≤ j = ltb-false j n is in omega (arith, same))
+
+-- ---- one mark is set
+
+zero_suc : (n : ℕ) → nat_eq 0 (suc n) ≡ false
+zero_suc n = ne_eqb 0 (suc n) (λ e. omega (arith, e))
+
+suc_zero : (n : ℕ) → nat_eq (suc n) 0 ≡ false
+suc_zero n = ne_eqb (suc n) 0 (λ e. omega (arith, e))
+
+suc_suc : (m n : ℕ) → nat_eq (suc m) (suc n) ≡ nat_eq m n
+suc_suc m n = go (nat_eq m n) refl
+  where
+    go : (b : Bool) → nat_eq m n ≡ b → nat_eq (suc m) (suc n) ≡ nat_eq m n
+    go true e = eq-eqb (suc m) (suc n) (ap suc (eqb-true m n e)) ∙ sym e
+    go false e = ne_eqb (suc m) (suc n) (λ s. omega (arith, s, eqb-false m n e)) ∙ sym e
+
+set_at : (ms : List Mark) (p : ℕ) (m : Mark) → p < length ms → (i : ℕ) → mark_at (set ms p m) i ≡ cond (nat_eq p i) m (mark_at ms i)
+set_at [] p m lt i = absurd (omega (arith, lt))
+set_at (q ∷ ms) zero m lt zero = refl
+set_at (q ∷ ms) zero m lt (suc i) = sym (ap (λ b. cond b m (mark_at ms i)) (zero_suc i))
+set_at (q ∷ ms) (suc p) m lt zero = sym (ap (λ b. cond b m q) (suc_zero p))
+set_at (q ∷ ms) (suc p) m lt (suc i) = set_at ms p m (omega (arith, lt)) i ∙ sym (ap (λ b. cond b m (mark_at ms i)) (suc_suc p i))
+
+-- the mark of one value changes
+pub one_noted : (cut : Ref → Bool) (joined : Bool) (ms : List Mark) (x : Ref) (p : ℕ) (m : Mark) → x ≡ result p 0 → p < length ms
+    → m ≡ noted (cut x) joined (mark_at ms p) → (i : ℕ) → mark_at (set ms p m) i ≡ one_use (result i 0) (cut (result i 0)) joined x (mark_at ms i)
+one_noted cut joined ms x p m is lt new i =
+    set_at ms p m lt i ∙ go (nat_eq p i) refl ∙ sym (ap (λ b. cond b (noted (cut (result i 0)) joined (mark_at ms i)) (mark_at ms i)) test)
+  where
+    test : same_ref x (result i 0) ≡ nat_eq p i
+    test = ap (λ y. same_ref y (result i 0)) is ∙ and_true (nat_eq p i)
+
+    go : (b : Bool) → nat_eq p i ≡ b → cond b m (mark_at ms i) ≡ cond b (noted (cut (result i 0)) joined (mark_at ms i)) (mark_at ms i)
+    go true e = new ∙ ap (λ y. noted (cut y) joined (mark_at ms p)) is ∙ ap (λ j. noted (cut (result j 0)) joined (mark_at ms j)) (eqb-true p i e)
+    go false e = refl
+
+pub few_noted : (cut joined : Bool) (ms : List Mark) (p : ℕ) (m : Mark) → p < length ms → m ≡ noted cut joined (mark_at ms p)
+    → ((i : ℕ) → (mark_at ms i).uses < 3) → (i : ℕ) → (mark_at (set ms p m) i).uses < 3
+few_noted cut joined ms p m lt new few i = go (nat_eq p i) (set_at ms p m lt i)
+  where
+    go : (b : Bool) → mark_at (set ms p m) i ≡ cond b m (mark_at ms i) → (mark_at (set ms p m) i).uses < 3
+    go true e = omega (arith, ap (λ (x : Mark). x.uses) e, ap (λ (x : Mark). x.uses) new)
+    go false e = omega (arith, ap (λ (x : Mark). x.uses) e, few i)
+
+-- ---- operands
+
+or_assoc : (a b c : Bool) → ((a || b) || c) ≡ (a || (b || c))
+or_assoc true b c = refl
+or_assoc false b c = refl
+
+more_places : (b : Bool) (n : ℕ) → (m c j : Bool) → (m || (c && nat_lt 0 (1 + n))) ≡ ((m || c) || (c && nat_lt 0 n))
+more_places b n true c j = refl
+more_places b n false false j = refl
+more_places b n false true j = go (nat_lt 0 (1 + n)) refl
+  where
+    go : (b : Bool) → nat_lt 0 (1 + n) ≡ b → b ≡ true
+    go true e = refl
+    go false e = absurd (omega (arith, ltb-false 0 (1 + n) e))
+
+-- the mark after one use and the operands behind it
+pub operand_first : (r : Ref) (cut joined : Bool) (x : Ref) (xs : List Ref) (m : Mark)
+    → after_operands r cut joined xs (one_use r cut joined x m) ≡ after_operands r cut joined (x ∷ xs) m
+operand_first r cut joined x xs m = go (same_ref x r)
+  where
+    go : (b : Bool) → after_operands r cut joined xs (cond b (noted cut joined m) m)
+        ≡ record { uses = min 2 (m.uses + (one_if b + places_in r xs)); cut = m.cut || (cut && nat_lt 0 (one_if b + places_in r xs)); joined = m.joined || (joined && nat_lt 0 (one_if b + places_in r xs)) }
+    go true =
+        let u : min 2 (min 2 (m.uses + 1) + places_in r xs) ≡ min 2 (m.uses + (1 + places_in r xs)) = omega arith in
+        let c = sym (more_places true (places_in r xs) m.cut cut true) in
+        let j = sym (more_places true (places_in r xs) m.joined joined true) in
+        cc
+    go false =
+        let n : 0 + places_in r xs ≡ places_in r xs = omega arith in cc
+
+pub operands_step : {A : Type 0} (r : Ref) (cut joined : Bool) (f : A → Ref) (xs : List A) (i : ℕ) (x : A) (m one whole : Mark) → i < length xs → x ≡ get_or xs i x
+    → after_operands r cut joined (map f (drop i xs)) m ≡ whole → one ≡ one_use r cut joined (f x) m → after_operands r cut joined (map f (drop (i + 1) xs)) one ≡ whole
+operands_step r cut joined f xs i x m one whole lt at h p =
+    let d : drop i xs ≡ x ∷ drop (i + 1) xs = drop_more xs i x lt ∙ ap (λ y. y ∷ drop (i + 1) xs) (sym at) in
+    ap (after_operands r cut joined (map f (drop (i + 1) xs))) p
+    ∙ operand_first r cut joined (f x) (map f (drop (i + 1) xs)) m
+    ∙ sym (ap (λ l. after_operands r cut joined (map f l) m) d)
+    ∙ h
+
+drop_none : {A : Type 0} (xs : List A) (i : ℕ) → length xs ≤ i → drop i xs ≡ []
+drop_none [] zero h = refl
+drop_none [] (suc i) h = refl
+drop_none (x ∷ xs) zero h = absurd (omega (arith, h))
+drop_none (x ∷ xs) (suc i) h = drop_none xs i (omega (arith, h))
+
+or_none : (b c : Bool) → (b || (c && false)) ≡ b
+or_none true c = refl
+or_none false true = refl
+or_none false false = refl
+
+abbrev made : ℕ → Bool → Bool → Mark
+made u c j = record { uses = u; cut = c; joined = j }
+
+same_mark : (u : ℕ) (c j : Bool) (m : Mark) → u ≡ m.uses → c ≡ m.cut → j ≡ m.joined → made u c j ≡ m
+same_mark u c j m p q r =
+    ap (λ x. made x c j) p ∙ ap (λ x. made m.uses x j) q ∙ ap (λ x. made m.uses m.cut x) r
+
+no_more : (r : Ref) (cut joined : Bool) (m : Mark) → m.uses < 3 → after_operands r cut joined [] m ≡ m
+no_more r cut joined m few =
+    same_mark (min 2 (m.uses + 0)) (m.cut || (cut && nat_lt 0 0)) (m.joined || (joined && nat_lt 0 0)) m (omega arith) (or_none m.cut cut) (or_none m.joined joined)
+
+pub operands_end : {A : Type 0} (r : Ref) (cut joined : Bool) (f : A → Ref) (xs : List A) (i : ℕ) (m whole : Mark) → m.uses < 3 → length xs ≤ i
+    → after_operands r cut joined (map f (drop i xs)) m ≡ whole → m ≡ whole
+operands_end r cut joined f xs i m whole few le h =
+    sym (no_more r cut joined m few) ∙ sym (ap (λ l. after_operands r cut joined (map f l) m) (drop_none xs i le)) ∙ h
+
+-- ---- operations
+
+drop_at : {A : Type 0} (xs : List A) (i : ℕ) (x : A) → slice_get xs i ≡ Some x → drop i xs ≡ x ∷ drop (i + 1) xs
+drop_at xs i x at = drop_more xs i x (slice_get_within xs i x at) ∙ ap (λ y. y ∷ drop (i + 1) xs) (get_or_from_slice_get xs i x x at)
+
+op_first : (ports : List Port) (all : List Op) (r : Ref) (o : Op) (os : List Op) (m : Mark)
+    → after_ops ports all r os (after_operands r (is_cut_by ports all o r) (is_instance o) o.operands m) ≡ after_ops ports all r (o ∷ os) m
+op_first ports all r o os m =
+    let u : min 2 (min 2 (m.uses + places_in r o.operands) + use_count os r) ≡ min 2 (m.uses + (places_in r o.operands + use_count os r)) = omega arith in
+    let c = or_assoc m.cut (is_cut_by ports all o r && nat_lt 0 (places_in r o.operands)) (some_op (cuts ports all r) os) in
+    let j = or_assoc m.joined (is_instance o && nat_lt 0 (places_in r o.operands)) (some_op (joins r) os) in
+    cc
+
+pub ops_step : (ports : List Port) (os : List Op) (r : Ref) (i : ℕ) (o : Op) (m one whole : Mark) → slice_get os i ≡ Some o
+    → after_ops ports os r (drop i os) m ≡ whole → one ≡ after_operands r (is_cut_by ports os o r) (is_instance o) o.operands m
+    → after_ops ports os r (drop (i + 1) os) one ≡ whole
+ops_step ports os r i o m one whole at h p =
+    ap (after_ops ports os r (drop (i + 1) os)) p
+    ∙ op_first ports os r o (drop (i + 1) os) m
+    ∙ sym (ap (λ l. after_ops ports os r l m) (drop_at os i o at))
+    ∙ h
+
+or_false : (b : Bool) → (b || false) ≡ b
+or_false true = refl
+or_false false = refl
+
+pub ops_end : (ports : List Port) (os : List Op) (r : Ref) (i : ℕ) (m whole : Mark) → m.uses < 3 → length os ≤ i
+    → after_ops ports os r (drop i os) m ≡ whole → m ≡ whole
+ops_end ports os r i m whole few le h =
+    let none : after_ops ports os r [] m ≡ m = same_mark (min 2 (m.uses + 0)) (m.cut || false) (m.joined || false) m (omega arith) (or_false m.cut) (or_false m.joined) in
+    sym none ∙ sym (ap (λ l. after_ops ports os r l m) (drop_none os i le)) ∙ h
+
+pub all_none : (n i : ℕ) → mark_at (replicate n no_mark) i ≡ no_mark
+all_none zero i = refl
+all_none (suc n) zero = refl
+all_none (suc n) (suc i) = all_none n i
+
+pub any_default : {A : Type 0} (xs : List A) (i : ℕ) (d : A) → i < length xs → get_or xs i d ≡ get_or xs i (get_or xs i d)
+any_default [] i d lt = absurd (omega (arith, lt))
+any_default (x ∷ xs) zero d lt = refl
+any_default (x ∷ xs) (suc i) d lt = any_default xs i d (omega (arith, lt))
+
+-- the width of the result of an operation that is there
+pub width_there : (ports : List Port) (os : List Op) (i : ℕ) (o : Op) → slice_get os i ≡ Some o → ((r : Ref) → value_width ports os r < 129) → width_of (result_type o 0) < 129
+width_there ports os i o at small = subst (λ m. width_of (bind m (λ (x : Op). result_type x 0)) < 129) at (small (result i 0))
+
+-- what a slice of a whole list writes back
+pub written_back : {A : Type 0} (n : ℕ) (new old : List A) → length new ≡ length old → n ≡ length old → take n (new ++ drop (length new) old) ≡ new
+written_back n new old same whole =
+    ap (λ rest. take n (new ++ rest)) (drop_none old (length new) (omega (arith, same)))
+    ∙ ap (take n) (append-nil new)
+    ∙ take_all n new (omega (arith, same, whole))

@@ -1,0 +1,196 @@
+//! A body with its ports, its operations by their positions in text order.
+ghost use Rattle.std.specs.Prelude.{◌≡◌, ◌<◌, ℕ, length, map, min, option_map, IfOk, Some, slice_get};
+ghost use Rattle.hw_model.specs.Design.{result_type};
+ghost use Rattle.hw_model.specs.Flat.{width_of};
+ghost use Rattle.hw_model.specs.Sound.{input_type};
+ghost use Rattle.ir_store.specs.Designs.{port_of};
+ghost use Rattle.ir_store.specs.Live.{AreDistinct};
+ghost use Rattle.ir_store.specs.Bodies.{ids_of, ops_of, op_id, read_op};
+ghost use Rattle.ir_store.specs.Numbered.{position_of, op_by, numbered};
+ghost use Rattle.verilog_expr.specs.Tables.{ArePositions};
+
+use ir_store::body::{Body, Op};
+use ir_store::design::{Port, PortList};
+use ir_store::operation::{OpId, Value};
+use std::alloc::{AllocError, Global};
+
+/// A body with its ports. Contracts see it by `scope_ports` and `scope_ops`.
+#[derive(Drop)]
+pub struct Scope<'m> {
+    ports: &'m PortList,
+    body: &'m Body,
+    // the ids in text order
+    ids: Vec<OpId>,
+    // the position of each id by its number
+    positions: Vec<u32>,
+    ghost all: { ids.items ≡ map op_id (ids_of body.now) },
+    ghost known: { ArePositions (ids_of body.now) positions.items },
+}
+
+impl<'m> Scope<'m> {
+    ghost use Rattle.std.specs.Prelude.{◌≡◌, ◌<◌, length, IfOk, Some, None, slice_get, option_map, cond, nat_lt};
+    ghost use Rattle.ir_store.specs.Bodies.{ids_of, ops_of};
+    ghost use Rattle.ir_store.specs.Designs.{ports_in};
+    ghost use Rattle.ir_store.specs.Numbered.{position_of, numbered};
+    ghost use Rattle.verilog_expr.specs.Expressions.{value_width};
+    ghost use Rattle.verilog_expr.specs.Marks.{first_place, AreSmall};
+    ghost use Rattle.verilog_expr.specs.Scopes.{scope_ports, scope_ops, scope_ref, op_read};
+
+    /// A body with its ports. One of 2^32 operations or more wants more memory than there is.
+    pub fn of(alloc: Global, ports: &'m PortList, body: &'m Body) -> Result<Scope<'m>, AllocError>
+        ensures ports { IfOk result (λ s. ports_in s.ports.now ≡ ports_in ports.now) }
+        ensures ops { IfOk result (λ s. numbered (ops_of s.body.now) ≡ numbered (ops_of body.now)) }
+        ensures ids { IfOk result (λ s. ids_of s.body.now ≡ ids_of body.now) }
+    {
+        let ids = ids_in(alloc, body)?;
+        let positions = positions_of(alloc, ids.as_slice())?;
+        Ok(Scope {
+            ports,
+            body,
+            ids,
+            positions,
+        })
+    }
+
+    /// How many operations there are.
+    pub fn count(&self) -> usize
+        ensures { result ≡ length (scope_ops self.now) }
+    {
+        self.ids.len()
+    }
+
+    /// The operation at a position.
+    pub fn op_at(&self, position: usize) -> Op<'m>
+        requires { position < length (scope_ops self.now) }
+        ensures { slice_get (scope_ops self.now) position ≡ Some (op_read self.now result) }
+    {
+        op_in(self.body, self.ids.as_slice(), position)
+    }
+
+    /// The position of the operation of an id; of one that is not there, the number of operations.
+    pub fn position(&self, id: OpId) -> usize
+        ensures { result ≡ position_of (ids_of self.now.body.now) id.index }
+    {
+        match self.known(id) {
+            Some(position) => (position as usize).min(self.ids.len()),
+            None => self.ids.len(),
+        }
+    }
+
+    /// The operation of an id, where it is there.
+    pub fn op(&self, id: OpId) -> Option<Op<'m>>
+        ensures { option_map (op_read self.now) result ≡ slice_get (scope_ops self.now) (position_of (ids_of self.now.body.now) id.index) }
+    {
+        let position = self.position(id);
+        if position < self.count() {
+            Some(self.op_at(position))
+        } else {
+            None
+        }
+    }
+
+    /// The position of the operation whose first result the value is, where it is there.
+    pub fn place(&self, value: Value) -> Option<usize>
+        ensures { result ≡ first_place (length (scope_ops self.now)) (scope_ref self.now value) }
+    {
+        match value {
+            Value::Result(id, 0) => self.within(self.position(id)),
+            Value::Result(_, _) | Value::Port(_) | Value::Undefined => None,
+        }
+    }
+
+    // A position, where an operation stands there.
+    fn within(&self, position: usize) -> Option<usize>
+        ensures { result ≡ cond (nat_lt position (length (scope_ops self.now))) (Some position) None }
+    {
+        if position < self.count() {
+            Some(position)
+        } else {
+            None
+        }
+    }
+
+    /// The bits of a value.
+    pub fn width(&self, value: Value) -> u64
+        requires { AreSmall (scope_ports self.now) (scope_ops self.now) }
+        ensures { result ≡ value_width (scope_ports self.now) (scope_ops self.now) (scope_ref self.now value) }
+    {
+        match value {
+            Value::Port(port) => input_width(self.ports.ports.get(port as usize)),
+            Value::Result(id, number) => match self.op(id) {
+                Some(op) => result_width(&op, number),
+                None => 0,
+            },
+            Value::Undefined => 0,
+        }
+    }
+
+    // What the table has for an id.
+    fn known(&self, id: OpId) -> Option<u32>
+        ensures { result ≡ slice_get self.now.positions.items id.index }
+    {
+        self.positions.get(id.number() as usize).copied()
+    }
+}
+
+// The bits of an input port, or 0.
+fn input_width(port: Option<&Port>) -> u64
+    ensures { result ≡ min (width_of (input_type (option_map (λ p. port_of p.now) port.entry))) u64.MAX }
+{
+    match port {
+        Some(port) if !port.out => port.ty.width(),
+        _ => 0,
+    }
+}
+
+/// The bits of a result of an operation, or 0 where there is none.
+pub fn result_width(op: &Op<'_>, number: u32) -> u64
+    ensures { result ≡ min (width_of (result_type (op_by (λ i. i) (read_op (op_id 0) op.now)) number)) u64.MAX }
+{
+    match op.results.results.get(number as usize) {
+        Some(one) => one.ty.width(),
+        None => 0,
+    }
+}
+
+// The ids of a body's operations in text order.
+fn ids_in(alloc: Global, body: &Body) -> Result<Vec<OpId>, AllocError>
+    ensures { IfOk result (λ ids. ids.items ≡ map op_id (ids_of body.now)) }
+{
+    body.ops().collect(alloc)
+}
+
+// The operation at a position, `ids` being those of all.
+fn op_in<'b>(body: &'b Body, ids: &[OpId], position: usize) -> Op<'b>
+    requires all { ids.now ≡ map op_id (ids_of body.now) }
+    requires within { position < length ids.now }
+    ensures { slice_get (numbered (ops_of body.now)) position ≡ Some (op_by (position_of (ids_of body.now)) (read_op (op_id 0) result)) }
+{
+    body.op(ids[position])
+}
+
+// The position of each id by its number.
+fn positions_of(alloc: Global, ids: &[OpId]) -> Result<Vec<u32>, AllocError>
+    requires { AreDistinct (map (λ (i : OpId). i.index) ids.now) }
+    ensures { IfOk result (λ ps. ArePositions (map (λ (i : OpId). i.index) ids.now) ps.items) }
+{
+    let Ok(count) = u32::try_from(ids.len()) else {
+        return Err(AllocError);
+    };
+    let mut positions = vec![in alloc; count; size_for(ids)]?;
+    for position in 0..ids.len() {
+        positions[ids[position].number() as usize] = position as u32;
+    }
+    Ok(positions)
+}
+
+// One more than the greatest number of an id.
+fn size_for(ids: &[OpId]) -> usize
+    ensures { (j q : ℕ) → slice_get (map (λ (i : OpId). i.index) ids.now) j ≡ Some q → q < result }
+{
+    let mut size: usize = 0;
+    for id in ids {
+        size = size.max((id.number() as usize).saturating_add(1));
+    }
+    size
+}
