@@ -38,11 +38,12 @@ module _ (d : Design) (x : Setting d) (s : Name) (m : Module) (is : find_module 
   ports_checked [] within = refl
   ports_checked (p ∷ ps) within =
       and_intro (high_checks p.high) (ports_check ps) (high_good (from_each (vport m) m.ports p (within p (inl refl)))) (ports_checked ps (λ q h. within q (inr h))) where
-    at_port : (j : ℕ) (q : Port) → slice_get m.ports j ≡ Some q → In p (vport m j q) → high_checks p.high ≡ true
-    at_port j q there (inl e) = ap (λ (z : VPort). high_checks z.high) e ∙ high_decimal (width q.type) ((module_ok d x s m is).narrow_ports j q there)
-    at_port j q there (inr never) = absurd never
-    high_good : (j : ℕ) × (q : Port) × (slice_get m.ports j ≡ Some q) × In p (vport m j q) → high_checks p.high ≡ true
-    high_good e = at_port e.0 e.1 e.2 e.3
+        at_port : (j : ℕ) (q : Port) → slice_get m.ports j ≡ Some q → In p (vport m j q) → high_checks p.high ≡ true
+        at_port j q there (inl e) = ap (λ (z : VPort). high_checks z.high) e ∙ high_decimal (width q.type) ((module_ok d x s m is).narrow_ports j q there)
+        at_port j q there (inr never) = absurd never
+
+        high_good : (j : ℕ) × (q : Port) × (slice_get m.ports j ≡ Some q) × In p (vport m j q) → high_checks p.high ≡ true
+        high_good e = at_port e.0 e.1 e.2 e.3
 
   -- ---- drivers
 
@@ -61,25 +62,29 @@ module _ (d : Design) (x : Setting d) (s : Name) (m : Module) (is : find_module 
   of_port j p there y same = ap (λ (z : Declared). driver_count (tree_of d) z.name (vitems d m) == drivers_due z.role) same ∙ go p.is_output refl where
     k : Key
     k = port_key j
+
     here : In (port_key j) (module_keys m)
     here = port_in m j p there
+
     apart : (i l n : ℕ) → port_key n ≡ value_key i l → ⊥
     apart i l n e = cc
+
     go : (b : Bool) → p.is_output ≡ b → (driver_count (tree_of d) (key_text m (port_key j)) (vitems d m) == drivers_due (port_role b)) ≡ true
     go true out = eq-eqb (driver_count (tree_of d) (key_text m (port_key j)) (vitems d m)) 1
         (driven_once d x s m is (port_key j) here (In-append_right (port_key j) (each (op_wires m) 0 m.body) (output_keys d x s m is (port_key j) here 0 m.ports)
         (subst (λ n. In (port_key n) (output_keys d x s m is (port_key j) here 0 m.ports)) (zero-add j) (among_output d x s m is (port_key j) here 0 m.ports j p there out))))
     go false out = eq-eqb (driver_count (tree_of d) (key_text m (port_key j)) (vitems d m)) 0
         (driven_never d x s m is (port_key j) here (λ h. away (in_append (port_key j) (each (op_wires m) 0 m.body) (output_keys d x s m is (port_key j) here 0 m.ports) h))) where
-      other : (n : ℕ) (q : Port) → slice_get m.ports n ≡ Some q → q.is_output ≡ true → port_key j ≡ port_key (0 + n) → ⊥
-      other n q at way e =
-          let f : j ≡ n = (let g : j ≡ 0 + n = cc in g ∙ zero-add n) in
-          let g : Some q ≡ Some p = sym at ∙ ap (slice_get m.ports) (sym f) ∙ there in
-          let h : q ≡ p = cc in
-          let clash : true ≡ false = sym way ∙ ap (λ (z : Port). z.is_output) h ∙ out in cc
-      away : In (port_key j) (each (op_wires m) 0 m.body) ⊎ In (port_key j) (output_keys d x s m is (port_key j) here 0 m.ports) → ⊥
-      away (inl u) = let e = wire_kind m (port_key j) u in apart e.0 e.1 j e.2
-      away (inr u) = let e = output_among d x s m is (port_key j) here 0 m.ports (port_key j) u in other e.0 e.1 e.2 e.3 e.4
+          other : (n : ℕ) (q : Port) → slice_get m.ports n ≡ Some q → q.is_output ≡ true → port_key j ≡ port_key (0 + n) → ⊥
+          other n q at way e =
+              let f : j ≡ n = (let g : j ≡ 0 + n = cc in g ∙ zero-add n) in
+              let g : Some q ≡ Some p = sym at ∙ ap (slice_get m.ports) (sym f) ∙ there in
+              let h : q ≡ p = cc in
+              let clash : true ≡ false = sym way ∙ ap (λ (z : Port). z.is_output) h ∙ out in cc
+
+          away : In (port_key j) (each (op_wires m) 0 m.body) ⊎ In (port_key j) (output_keys d x s m is (port_key j) here 0 m.ports) → ⊥
+          away (inl u) = let e = wire_kind m (port_key j) u in apart e.0 e.1 j e.2
+          away (inr u) = let e = output_among d x s m is (port_key j) here 0 m.ports (port_key j) u in other e.0 e.1 e.2 e.3 e.4
 
   wired_net : (i : ℕ) (o : Op) → slice_get m.body i ≡ Some o → role_of m.ports m.body i o ≡ net → In (value_key i 0) (each (op_wires m) 0 m.body)
   wired_net i o there role = into_each (op_wires m) m.body (value_key i 0) i o there (subst (λ r. In (value_key i 0) (wire_keys r i o)) (sym role) (inl refl))
@@ -110,15 +115,20 @@ module _ (d : Design) (x : Setting d) (s : Name) (m : Module) (is : find_module 
   of_item z (an_instance i o w there role at same) y here = go (subst (λ q. In y (declared_by q)) same here) where
     apart : (a l : ℕ) → instance_key i ≡ value_key a l → ⊥
     apart a l e = cc
+
     port_apart : (n : ℕ) → instance_key i ≡ port_key n → ⊥
     port_apart n e = cc
+
     key_here : In (instance_key i) (module_keys m)
     key_here = instance_in_keys m i o there role
+
     away : In (instance_key i) (each (op_wires m) 0 m.body) ⊎ In (instance_key i) (output_keys d x s m is (instance_key i) key_here 0 m.ports) → ⊥
     away (inl u) = let e = wire_kind m (instance_key i) u in apart e.0 e.1 e.2
     away (inr u) = let e = output_among d x s m is (instance_key i) key_here 0 m.ports (instance_key i) u in port_apart (0 + e.0) e.4
+
     none : driver_count (tree_of d) (key_text m (instance_key i)) (vitems d m) ≡ 0
     none = driven_never d x s m is (instance_key i) key_here (λ h. away (in_append (instance_key i) (each (op_wires m) 0 m.body) (output_keys d x s m is (instance_key i) key_here 0 m.ports) h))
+
     go : In y (record { name = key_text m (instance_key i); role = block_name; high = None } ∷ []) → Due y
     go (inl e) = ap (λ (q : Declared). driver_count (tree_of d) q.name (vitems d m) == drivers_due q.role) e ∙ eq-eqb (driver_count (tree_of d) (key_text m (instance_key i)) (vitems d m)) 0 none
     go (inr never) = absurd never
@@ -129,6 +139,7 @@ module _ (d : Design) (x : Setting d) (s : Name) (m : Module) (is : find_module 
     at_port : (v : VPort) → y ≡ record { name = v.name; role = port_role v.is_output; high = v.high } → (j : ℕ) (p : Port) → slice_get m.ports j ≡ Some p → In v (vport m j p) → Due y
     at_port v e j p there (inl f) = of_port j p there y (e ∙ ap (λ (q : VPort). record { name = q.name; role = port_role q.is_output; high = q.high }) f)
     at_port v e j p there (inr never) = absurd never
+
     go : In y (declared_ports (vports m)) ⊎ In y (declared_items (vitems d m)) → Due y
     go (inl h) = let f = from_In-map (λ (p : VPort). record { name = p.name; role = port_role p.is_output; high = p.high }) y (vports m) h in
         let e = from_each (vport m) m.ports f.0 f.1 in at_port f.0 f.2 e.0 e.1 e.2 e.3

@@ -140,37 +140,37 @@ module _ (d : Design) (x : Setting d) (s : Name) (m : Module) (is : find_module 
   joined_count i c names j l [] rs stands within = refl
   joined_count i c names j l (p ∷ ps) rs stands within =
       go p.is_output refl within (λ h. joined_count i c names (suc j) (suc l) ps rs later h) (λ h. joined_count i c names (suc j) l ps (others rs) later h) where
-    later : (q : ℕ) → slice_get ps q ≡ slice_get c.ports (suc j + q)
-    later q = stands (suc q) ∙ ap (slice_get c.ports) (add-suc j q ∙ sym (suc-add j q))
+        later : (q : ℕ) → slice_get ps q ≡ slice_get c.ports (suc j + q)
+        later q = stands (suc q) ∙ ap (slice_get c.ports) (add-suc j q ∙ sym (suc-add j q))
 
-    at_here : slice_get c.ports j ≡ Some p
-    at_here = sym (stands 0 ∙ ap (slice_get c.ports) (add-zero j))
+        at_here : slice_get c.ports j ≡ Some p
+        at_here = sym (stands 0 ∙ ap (slice_get c.ports) (add-zero j))
 
-    port_here : find_port (vports c) (key_text c (port_key j)) ≡ Some (vport_at c j p)
-    port_here = port_under c names (port_key j) (port_in c j p at_here) ∙ ap (omap (vport_at c j)) at_here
+        port_here : find_port (vports c) (key_text c (port_key j)) ≡ Some (vport_at c j p)
+        port_here = port_under c names (port_key j) (port_in c j p at_here) ∙ ap (omap (vport_at c j)) at_here
 
-    head : Expr → Connection
-    head e = record { port = key_text c (port_key j); value = e }
+        head : Expr → Connection
+        head e = record { port = key_text c (port_key j); value = e }
 
-    driven_head : p.is_output ≡ true → In (value_key i l) (module_keys m) → (cs : List Connection) → outputs_joined (key_text m k) (vports c) (head (name (key_text m (value_key i l))) ∷ cs)
-        ≡ once_if (same_key (value_key i l) k) + outputs_joined (key_text m k) (vports c) cs
-    driven_head out in_keys cs = simp (port_here, out, text_same m are (value_key i l) k in_keys here) (by_key (same_key (value_key i l) k)) where
-      by_key : (b : Bool) → cond b (suc (outputs_joined (key_text m k) (vports c) cs)) (outputs_joined (key_text m k) (vports c) cs) ≡ once_if b + outputs_joined (key_text m k) (vports c) cs
-      by_key true = omega arith
-      by_key false = sym (zero-add (outputs_joined (key_text m k) (vports c) cs))
+        driven_head : p.is_output ≡ true → In (value_key i l) (module_keys m) → (cs : List Connection) → outputs_joined (key_text m k) (vports c) (head (name (key_text m (value_key i l))) ∷ cs)
+            ≡ once_if (same_key (value_key i l) k) + outputs_joined (key_text m k) (vports c) cs
+        driven_head out in_keys cs = simp (port_here, out, text_same m are (value_key i l) k in_keys here) (by_key (same_key (value_key i l) k)) where
+          by_key : (b : Bool) → cond b (suc (outputs_joined (key_text m k) (vports c) cs)) (outputs_joined (key_text m k) (vports c) cs) ≡ once_if b + outputs_joined (key_text m k) (vports c) cs
+          by_key true = omega arith
+          by_key false = sym (zero-add (outputs_joined (key_text m k) (vports c) cs))
 
-    silent_head : p.is_output ≡ false → (e : Expr) (cs : List Connection) → outputs_joined (key_text m k) (vports c) (head e ∷ cs) ≡ outputs_joined (key_text m k) (vports c) cs
-    silent_head out e cs = simp (port_here, out) refl
+        silent_head : p.is_output ≡ false → (e : Expr) (cs : List Connection) → outputs_joined (key_text m k) (vports c) (head e ∷ cs) ≡ outputs_joined (key_text m k) (vports c) cs
+        silent_head out e cs = simp (port_here, out) refl
 
-    go : (b : Bool) → p.is_output ≡ b → ((a : Key) → In a (cond b (value_key i l ∷ out_keys i (suc l) ps) (out_keys i l ps)) → In a (module_keys m))
-        → (((a : Key) → In a (out_keys i (suc l) ps) → In a (module_keys m)) → outputs_joined (key_text m k) (vports c) (connections_of c m i (suc j) (suc l) ps rs) ≡ key_count k (out_keys i (suc l) ps))
-        → (((a : Key) → In a (out_keys i l ps) → In a (module_keys m)) → outputs_joined (key_text m k) (vports c) (connections_of c m i (suc j) l ps (others rs)) ≡ key_count k (out_keys i l ps))
-        → outputs_joined (key_text m k) (vports c) (cond b (head (name (key_text m (value_key i l))) ∷ connections_of c m i (suc j) (suc l) ps rs) (head (expr_or_none (expression m) rs) ∷ connections_of c m i (suc j) l ps (others rs)))
-        ≡ key_count k (cond b (value_key i l ∷ out_keys i (suc l) ps) (out_keys i l ps))
-    go true out all first second =
-        driven_head out (all (value_key i l) (inl refl)) (connections_of c m i (suc j) (suc l) ps rs)
-        ∙ ap (λ z. once_if (same_key (value_key i l) k) + z) (first (λ a h. all a (inr h)))
-    go false out all first second = silent_head out (expr_or_none (expression m) rs) (connections_of c m i (suc j) l ps (others rs)) ∙ second all
+        go : (b : Bool) → p.is_output ≡ b → ((a : Key) → In a (cond b (value_key i l ∷ out_keys i (suc l) ps) (out_keys i l ps)) → In a (module_keys m))
+            → (((a : Key) → In a (out_keys i (suc l) ps) → In a (module_keys m)) → outputs_joined (key_text m k) (vports c) (connections_of c m i (suc j) (suc l) ps rs) ≡ key_count k (out_keys i (suc l) ps))
+            → (((a : Key) → In a (out_keys i l ps) → In a (module_keys m)) → outputs_joined (key_text m k) (vports c) (connections_of c m i (suc j) l ps (others rs)) ≡ key_count k (out_keys i l ps))
+            → outputs_joined (key_text m k) (vports c) (cond b (head (name (key_text m (value_key i l))) ∷ connections_of c m i (suc j) (suc l) ps rs) (head (expr_or_none (expression m) rs) ∷ connections_of c m i (suc j) l ps (others rs)))
+            ≡ key_count k (cond b (value_key i l ∷ out_keys i (suc l) ps) (out_keys i l ps))
+        go true out all first second =
+            driven_head out (all (value_key i l) (inl refl)) (connections_of c m i (suc j) (suc l) ps rs)
+            ∙ ap (λ z. once_if (same_key (value_key i l) k) + z) (first (λ a h. all a (inr h)))
+        go false out all first second = silent_head out (expr_or_none (expression m) rs) (connections_of c m i (suc j) l ps (others rs)) ∙ second all
 
   -- ---- what an operation's statement drives
 
@@ -221,6 +221,7 @@ module _ (d : Design) (x : Setting d) (s : Name) (m : Module) (is : find_module 
     by_key : (b c : Bool) → b ≡ c → cond b 1 0 ≡ once_if c
     by_key true c e = ap once_if e
     by_key false c e = ap once_if e
+
     go : (b : Bool) → ((a : Key) → In a (cond b (port_key j ∷ output_keys (suc j) ps) (output_keys (suc j) ps)) → In a (module_keys m))
         → (((a : Key) → In a (output_keys (suc j) ps) → In a (module_keys m)) → driver_count t (key_text m k) (output_assigns m (suc j) ps (others rs)) ≡ key_count k (output_keys (suc j) ps))
         → (((a : Key) → In a (output_keys (suc j) ps) → In a (module_keys m)) → driver_count t (key_text m k) (output_assigns m (suc j) ps rs) ≡ key_count k (output_keys (suc j) ps))
@@ -264,6 +265,7 @@ module _ (d : Design) (x : Setting d) (s : Name) (m : Module) (is : find_module 
   outputs_apart j (p ∷ ps) = go p.is_output (outputs_apart (suc j) ps) where
     clash : (n : ℕ) → port_key j ≡ port_key (suc j + n) → ⊥
     clash n e = let f : j ≡ suc j + n = cc in omega (arith, f)
+
     go : (b : Bool) → AreApart (output_keys (suc j) ps) → AreApart (cond b (port_key j ∷ output_keys (suc j) ps) (output_keys (suc j) ps))
     go true rest = ((λ h. let e = output_among (suc j) ps (port_key j) h in clash e.0 e.4), rest)
     go false rest = rest
@@ -275,8 +277,8 @@ module _ (d : Design) (x : Setting d) (s : Name) (m : Module) (is : find_module 
   driven_apart =
       joined_apart (each (op_wires m) 0 m.body) (output_keys 0 m.ports) (each_apart (op_wires m) (wires_placed m) (wires_apart m) 0 m.body) (outputs_apart 0 m.ports)
       (λ a u v. let b = wire_kind m a u in let c = output_among 0 m.ports a v in clash b.0 b.1 (0 + c.0) (sym b.2 ∙ c.4)) where
-    clash : (i l j : ℕ) → value_key i l ≡ port_key j → ⊥
-    clash i l j e = cc
+        clash : (i l j : ℕ) → value_key i l ≡ port_key j → ⊥
+        clash i l j e = cc
 
   pub drivers_are : driver_count t (key_text m k) (vitems d m) ≡ key_count k driven_keys
   drivers_are =

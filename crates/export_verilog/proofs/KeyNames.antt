@@ -67,17 +67,19 @@ among_apart [] ns k l n distinct e f = cc
 among_apart (h ∷ ks) [] k l n distinct e f = cc
 among_apart (h ∷ ks) (m ∷ ns) k l n distinct e f =
     go (same_key h k) (same_key h l) refl refl e f (among_apart ks ns k l n (later (contains_name m ns) (are_distinct ns) distinct)) where
-  later : (c d : Bool) → IsTrue (not c && d) → IsTrue d
-  later c d t = and_second (not c) d t
-  away : (c d : Bool) → IsTrue (not c && d) → c ≡ true → ⊥
-  away true d t e = cc
-  away false d t e = cc
-  go : (a b : Bool) → same_key h k ≡ a → same_key h l ≡ b → cond a (Some m) (name_among ks ns k) ≡ Some n → cond b (Some m) (name_among ks ns l) ≡ Some n
-      → (name_among ks ns k ≡ Some n → name_among ks ns l ≡ Some n → k ≡ l) → k ≡ l
-  go true true x y e f rest = sym (key_from h k x) ∙ key_from h l y
-  go true false x y e f rest = absurd (away (contains_name m ns) (are_distinct ns) distinct (let same : n ≡ m = cc in contains_in m ns (rw (sym same) (among_name ks ns l n f))))
-  go false true x y e f rest = absurd (away (contains_name m ns) (are_distinct ns) distinct (let same : n ≡ m = cc in contains_in m ns (rw (sym same) (among_name ks ns k n e))))
-  go false false x y e f rest = rest e f
+      later : (c d : Bool) → IsTrue (not c && d) → IsTrue d
+      later c d t = and_second (not c) d t
+
+      away : (c d : Bool) → IsTrue (not c && d) → c ≡ true → ⊥
+      away true d t e = cc
+      away false d t e = cc
+
+      go : (a b : Bool) → same_key h k ≡ a → same_key h l ≡ b → cond a (Some m) (name_among ks ns k) ≡ Some n → cond b (Some m) (name_among ks ns l) ≡ Some n
+          → (name_among ks ns k ≡ Some n → name_among ks ns l ≡ Some n → k ≡ l) → k ≡ l
+      go true true x y e f rest = sym (key_from h k x) ∙ key_from h l y
+      go true false x y e f rest = absurd (away (contains_name m ns) (are_distinct ns) distinct (let same : n ≡ m = cc in contains_in m ns (rw (sym same) (among_name ks ns l n f))))
+      go false true x y e f rest = absurd (away (contains_name m ns) (are_distinct ns) distinct (let same : n ≡ m = cc in contains_in m ns (rw (sym same) (among_name ks ns k n e))))
+      go false false x y e f rest = rest e f
 
 -- ---- identifiers
 

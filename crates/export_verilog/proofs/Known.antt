@@ -105,46 +105,46 @@ module _ (d : Design) (x : Setting d) (s : Name) (m : Module) (is : find_module 
   unfolding Backed
   items_back n y c z here within called same = let e = from_each (declares m) m.body z here in
       go e.0 e.1 e.2 (role_of m.ports m.body e.0 e.1) refl e.3 where
-    own : (i k : ℕ) (o : Op) (r : OpResult) → slice_get m.body i ≡ Some o → slice_get o.results k ≡ Some r → In (value_key i k) (module_keys m) → y ≡ declared_result m i k o r → Backed n c
-    own i k o r there found_so key as_it = (value_key i k, key, sym called ∙ ap (λ (q : Declared). q.name) as_it, value_of_result i k o r there found_so ∙ ap (λ (q : Declared). Some q) (sym as_it ∙ same))
+        own : (i k : ℕ) (o : Op) (r : OpResult) → slice_get m.body i ≡ Some o → slice_get o.results k ≡ Some r → In (value_key i k) (module_keys m) → y ≡ declared_result m i k o r → Backed n c
+        own i k o r there found_so key as_it = (value_key i k, key, sym called ∙ ap (λ (q : Declared). q.name) as_it, value_of_result i k o r there found_so ∙ ap (λ (q : Declared). Some q) (sym as_it ∙ same))
 
-    wired : (i k : ℕ) (o : Op) (r : OpResult) (role : Role) → slice_get m.body i ≡ Some o → slice_get o.results k ≡ Some r → In (value_key i k) (module_keys m) → role_of m.ports m.body i o ≡ role
-        → z ≡ wire (high_of (width r.type)) (key_text m (value_key i k)) → result_role role ≡ net_role → In y (declared_by z) → Backed n c
-    wired i k o r role there found_so key is_role as_it plain at = by_in (subst (λ q. In y (declared_by q)) as_it at) where
-      by_in : In y (record { name = key_text m (value_key i k); role = net_role; high = high_of (width r.type) } ∷ []) → Backed n c
-      by_in (inl e) = own i k o r there found_so key (e ∙ ap (λ q. record { name = key_text m (value_key i k); role = q; high = high_of (width r.type) }) (sym plain ∙ ap result_role (sym is_role)))
-      by_in (inr never) = absurd never
+        wired : (i k : ℕ) (o : Op) (r : OpResult) (role : Role) → slice_get m.body i ≡ Some o → slice_get o.results k ≡ Some r → In (value_key i k) (module_keys m) → role_of m.ports m.body i o ≡ role
+            → z ≡ wire (high_of (width r.type)) (key_text m (value_key i k)) → result_role role ≡ net_role → In y (declared_by z) → Backed n c
+        wired i k o r role there found_so key is_role as_it plain at = by_in (subst (λ q. In y (declared_by q)) as_it at) where
+          by_in : In y (record { name = key_text m (value_key i k); role = net_role; high = high_of (width r.type) } ∷ []) → Backed n c
+          by_in (inl e) = own i k o r there found_so key (e ∙ ap (λ q. record { name = key_text m (value_key i k); role = q; high = high_of (width r.type) }) (sym plain ∙ ap result_role (sym is_role)))
+          by_in (inr never) = absurd never
 
-    go : (i : ℕ) (o : Op) → slice_get m.body i ≡ Some o → (role : Role) → role_of m.ports m.body i o ≡ role → In z (declared_as m i o role) → Backed n c
-    go i o there hidden role h = absurd h
-    go i o there net role (inl e) = let r = result_at_first d x s m is i o there (inl role) in
-        wired i 0 o r.0 net there r.1 (net_in m i o there role) role (e ∙ ap (λ h. wire h (key_text m (value_key i 0))) (high_first o r.0 r.1)) refl within
-    go i o there net role (inr never) = absurd never
-    go i o there variable role (inl e) = let r = result_at_first d x s m is i o there (inr role) in by_in r.0 r.1 (subst (λ q. In y (declared_by q)) e within) where
-      by_in : (r : OpResult) → slice_get o.results 0 ≡ Some r → In y (record { name = key_text m (value_key i 0); role = variable_role; high = high_of (width_of (result_type o 0)) } ∷ []) → Backed n c
-      by_in r at (inl f) = own i 0 o r there at (variable_in m i o there role)
-          (f ∙ ap₂ (λ q h. record { name = key_text m (value_key i 0); role = q; high = h }) (ap result_role (sym role)) (high_first o r at))
-      by_in r at (inr never) = absurd never
-    go i o there variable role (inr never) = absurd never
-    go i o there block role h = let w = from_wires m i 0 o.results z h in
-        wired i w.0 o w.1 block there w.2 (result_in_keys m i w.0 o w.1 there role w.2) role (w.3 ∙ ap (λ a. wire (high_of (width w.1.type)) (key_text m (value_key i a))) (zero-add w.0)) refl within
+        go : (i : ℕ) (o : Op) → slice_get m.body i ≡ Some o → (role : Role) → role_of m.ports m.body i o ≡ role → In z (declared_as m i o role) → Backed n c
+        go i o there hidden role h = absurd h
+        go i o there net role (inl e) = let r = result_at_first d x s m is i o there (inl role) in
+            wired i 0 o r.0 net there r.1 (net_in m i o there role) role (e ∙ ap (λ h. wire h (key_text m (value_key i 0))) (high_first o r.0 r.1)) refl within
+        go i o there net role (inr never) = absurd never
+        go i o there variable role (inl e) = let r = result_at_first d x s m is i o there (inr role) in by_in r.0 r.1 (subst (λ q. In y (declared_by q)) e within) where
+          by_in : (r : OpResult) → slice_get o.results 0 ≡ Some r → In y (record { name = key_text m (value_key i 0); role = variable_role; high = high_of (width_of (result_type o 0)) } ∷ []) → Backed n c
+          by_in r at (inl f) = own i 0 o r there at (variable_in m i o there role)
+              (f ∙ ap₂ (λ q h. record { name = key_text m (value_key i 0); role = q; high = h }) (ap result_role (sym role)) (high_first o r at))
+          by_in r at (inr never) = absurd never
+        go i o there variable role (inr never) = absurd never
+        go i o there block role h = let w = from_wires m i 0 o.results z h in
+            wired i w.0 o w.1 block there w.2 (result_in_keys m i w.0 o w.1 there role w.2) role (w.3 ∙ ap (λ a. wire (high_of (width w.1.type)) (key_text m (value_key i a))) (zero-add w.0)) refl within
 
   ports_back : (n : Name) (y c : Declared) → In y (declared_ports (vports m)) → y.name ≡ n → y ≡ c → Backed n c
   unfolding Backed
   ports_back n y c here called same = let f = from_In-map (λ (p : VPort). record { name = p.name; role = port_role p.is_output; high = p.high }) y (vports m) here in
       let e = from_each (vport m) m.ports f.0 f.1 in go e.0 e.1 e.2 e.3 f.2 where
-    go : {v : VPort} (j : ℕ) (p : Port) → slice_get m.ports j ≡ Some p → In v (vport m j p) → y ≡ record { name = v.name; role = port_role v.is_output; high = v.high } → Backed n c
-    go j p there (inl e) as_it =
-        let own : y ≡ declared_port m j p = as_it ∙ ap (λ (v : VPort). record { name = v.name; role = port_role v.is_output; high = v.high }) e in
-        (port_key j, port_in m j p there, sym called ∙ ap (λ (q : Declared). q.name) own, ap (omap (declared_port m j)) there ∙ ap (λ (q : Declared). Some q) (sym own ∙ same))
-    go j p there (inr never) as_it = absurd never
+        go : {v : VPort} (j : ℕ) (p : Port) → slice_get m.ports j ≡ Some p → In v (vport m j p) → y ≡ record { name = v.name; role = port_role v.is_output; high = v.high } → Backed n c
+        go j p there (inl e) as_it =
+            let own : y ≡ declared_port m j p = as_it ∙ ap (λ (v : VPort). record { name = v.name; role = port_role v.is_output; high = v.high }) e in
+            (port_key j, port_in m j p there, sym called ∙ ap (λ (q : Declared). q.name) own, ap (omap (declared_port m j)) there ∙ ap (λ (q : Declared). Some q) (sym own ∙ same))
+        go j p there (inr never) as_it = absurd never
 
   known_back : (n : Name) (y c : Declared) → In y (known_first m) → when (same_name y.name n) y ≡ Some c → Backed n c
   known_back n y c here gives = let h = when_some (same_name y.name n) y c gives in
       go (in_append y (declared_ports (vports m)) (declared_items (declarations m)) here) (name_from y.name n h.0) h.1 where
-    go : In y (declared_ports (vports m)) ⊎ In y (declared_items (declarations m)) → y.name ≡ n → y ≡ c → Backed n c
-    go (inl h) called same = ports_back n y c h called same
-    go (inr h) called same = let e = in_declared_items y (declarations m) h in items_back n y c e.0 e.1 e.2 called same
+        go : In y (declared_ports (vports m)) ⊎ In y (declared_items (declarations m)) → y.name ≡ n → y ≡ c → Backed n c
+        go (inl h) called same = ports_back n y c h called same
+        go (inr h) called same = let e = in_declared_items y (declarations m) h in items_back n y c e.0 e.1 e.2 called same
 
   Forth : Key → Declared → Type 0
   Forth k c = (y : Declared) × In y (known_first m) × (when (same_name y.name (key_text m k)) y ≡ Some c)

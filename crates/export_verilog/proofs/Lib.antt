@@ -36,3 +36,5 @@ pub mod Driven
 pub mod Checking
 pub mod Spelled
 pub mod Behaving
+pub mod Rests
+pub mod Listed

@@ -32,6 +32,7 @@ module _ {A B : Type 0} (f : ℕ → A → List B) where
       there = e.there;
       within = rw (sym (suc-add i e.place ∙ sym (add-suc i e.place))) e.within;
     }
+
     go : In y (f i x) ⊎ In y (each f (suc i) xs) → (In y (each f (suc i) xs) → FromEach (suc i) xs y) → FromEach i (x ∷ xs) y
     go (inl h) rest = record { place = 0; element = x; there = refl; within = rw (add-zero i) h }
     go (inr h) rest = later (rest h)

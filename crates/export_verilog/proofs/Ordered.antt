@@ -35,19 +35,22 @@ module _ (d : Design) (x : Setting d) (s : Name) (m : Module) (is : find_module 
   inputs_joined i o c (p ∷ ps) within =
       and_intro (p.is_output || is_some (find_connection cs p.name)) (joins_inputs ps cs) (or_right p.is_output (is_some (find_connection cs p.name)) (joined (from_each (vport c.module_of) c.module_of.ports p (within p (inl refl)))))
       (inputs_joined i o c ps (λ q h. within q (inr h))) where
-    cs : List Connection
-    cs = connections_of c.module_of m i 0 0 c.module_of.ports o.operands
-    or_right : (a b : Bool) → b ≡ true → (a || b) ≡ true
-    or_right true b e = refl
-    or_right false b e = e
-    there : (j : ℕ) (q : Port) → slice_get c.module_of.ports j ≡ Some q → In p (vport c.module_of j q) → is_some (find_connection cs p.name) ≡ true
-    there j q at (inl e) =
-        ap (λ (z : VPort). is_some (find_connection cs z.name)) e
-        ∙ ap is_some (connection_under c.module_of m i o (x.names c.kind.symbol c.module_of c.there) (port_key j) (port_in c.module_of j q at)
-        ∙ ap (omap (λ z. connection_of c.module_of m i j 0 (take j c.module_of.ports) z o.operands)) at)
-    there j q at (inr never) = absurd never
-    joined : (j : ℕ) × (q : Port) × (slice_get c.module_of.ports j ≡ Some q) × In p (vport c.module_of j q) → is_some (find_connection cs p.name) ≡ true
-    joined e = there e.0 e.1 e.2 e.3
+        cs : List Connection
+        cs = connections_of c.module_of m i 0 0 c.module_of.ports o.operands
+
+        or_right : (a b : Bool) → b ≡ true → (a || b) ≡ true
+        or_right true b e = refl
+        or_right false b e = e
+
+        there : (j : ℕ) (q : Port) → slice_get c.module_of.ports j ≡ Some q → In p (vport c.module_of j q) → is_some (find_connection cs p.name) ≡ true
+        there j q at (inl e) =
+            ap (λ (z : VPort). is_some (find_connection cs z.name)) e
+            ∙ ap is_some (connection_under c.module_of m i o (x.names c.kind.symbol c.module_of c.there) (port_key j) (port_in c.module_of j q at)
+            ∙ ap (omap (λ z. connection_of c.module_of m i j 0 (take j c.module_of.ports) z o.operands)) at)
+        there j q at (inr never) = absurd never
+
+        joined : (j : ℕ) × (q : Port) × (slice_get c.module_of.ports j ≡ Some q) × In p (vport c.module_of j q) → is_some (find_connection cs p.name) ≡ true
+        joined e = there e.0 e.1 e.2 e.3
 
   module _ (known : List Declared) (knows : KnowsAll d x s m is known) where
     instance_good : (i : ℕ) (o : Op) (y : Instance) → slice_get m.body i ≡ Some o → role_of m.ports m.body i o ≡ block → instance_in o.kind ≡ Some y → item_checks (tree_of d) known (instance_at d m i o y) ≡ true
@@ -61,11 +64,11 @@ module _ (d : Design) (x : Setting d) (s : Name) (m : Module) (is : find_module 
         (all_connections d x s m is known knows i o there role c cs (λ e h. each_good i o there role c e (from_connections c.module_of m i 0 0 c.module_of.ports o.operands e h)))
         (and_intro (joins_inputs (vports c.module_of) cs) (are_distinct (map (λ (z : Connection). z.port) cs)) (inputs_joined i o c (vports c.module_of) (λ p h. h))
         (ports_distinct c.module_of m (x.names c.kind.symbol c.module_of c.there) i o.operands)) where
-      each_good : (i : ℕ) (o : Op) → slice_get m.body i ≡ Some o → role_of m.ports m.body i o ≡ block → (c : Called d m o) → (e : Connection)
-          → (n : ℕ) × (p : Port) × (slice_get c.module_of.ports n ≡ Some p) × (e ≡ connection_of c.module_of m i (0 + n) 0 (take n c.module_of.ports) p o.operands)
-          → connection_checks known (find_port (vports c.module_of) e.port) e.value ≡ true
-      each_good i o there role c e h =
-          connection_good d x s m is known knows i o there role c h.0 h.1 h.2 e (h.3 ∙ ap (λ a. connection_of c.module_of m i a 0 (take h.0 c.module_of.ports) h.1 o.operands) (zero-add h.0))
+          each_good : (i : ℕ) (o : Op) → slice_get m.body i ≡ Some o → role_of m.ports m.body i o ≡ block → (c : Called d m o) → (e : Connection)
+              → (n : ℕ) × (p : Port) × (slice_get c.module_of.ports n ≡ Some p) × (e ≡ connection_of c.module_of m i (0 + n) 0 (take n c.module_of.ports) p o.operands)
+              → connection_checks known (find_port (vports c.module_of) e.port) e.value ≡ true
+          each_good i o there role c e h =
+              connection_good d x s m is known knows i o there role c h.0 h.1 h.2 e (h.3 ∙ ap (λ a. connection_of c.module_of m i a 0 (take h.0 c.module_of.ports) h.1 o.operands) (zero-add h.0))
 
     item_good : (y : Item) → From d m y → item_checks (tree_of d) known y ≡ true
     item_good y (net_wire i o there role same) = ap (item_checks (tree_of d) known) same ∙ high_decimal (width_of (result_type o 0)) (first_small d x s m is i o there)

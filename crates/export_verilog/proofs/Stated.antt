@@ -159,8 +159,8 @@ module _ (d : Design) (x : Setting d) (s : Name) (m : Module) (is : find_module 
         and_intro (has_role can_assign (find_declared known (key_text m (value_key i 0)))) (expr_checks known (assigned_expr m (result i 0)))
         (ap (has_role can_assign) (found_result d x s m is known knows i 0 o first.0 (net_in m i o there role) there first.1) ∙ ap (λ z. can_assign (result_role z)) role)
         ((assigned_well d x s m is known knows i 0 o first.0.type there (values sort.0 sort.1 sort.2) (typed_first o first.0 first.1)).checks) where
-      values : register_form o.kind ≡ None → instance_in o.kind ≡ None → is_output_kind o.kind ≡ false → gives_values o ≡ true
-      values r n u = simp (r, n, u) refl
+          values : register_form o.kind ≡ None → instance_in o.kind ≡ None → is_output_kind o.kind ≡ false → gives_values o ≡ true
+          values r n u = simp (r, n, u) refl
 
     pub output_good : (j : ℕ) (p : Port) → slice_get m.ports j ≡ Some p → p.is_output ≡ true
         → item_checks t known (assign (key_text m (port_key j)) (expr_for (expression m) (slice_get (output_refs m.body) (output_count (take j m.ports))))) ≡ true
@@ -179,9 +179,9 @@ module _ (d : Design) (x : Setting d) (s : Name) (m : Module) (is : find_module 
         let at = place_of_output c.module_of.ports j p there out in
         let g = placed_in (λ (r : OpResult). r.type) (λ (u : HwType). u) o.results (output_types c.module_of.ports) (output_count (take j c.module_of.ports)) p.type (c.outputs ∙ sym (map_same (output_types c.module_of.ports))) at.1 in
         (g.0, g.1) where
-      map_same : (us : List HwType) → map (λ (u : HwType). u) us ≡ us
-      map_same [] = refl
-      map_same (u ∷ us) = ap (λ z. u ∷ z) (map_same us)
+          map_same : (us : List HwType) → map (λ (u : HwType). u) us ≡ us
+          map_same [] = refl
+          map_same (u ∷ us) = ap (λ z. u ∷ z) (map_same us)
 
     pub connection_good : (i : ℕ) (o : Op) → slice_get m.body i ≡ Some o → role_of m.ports m.body i o ≡ block → (c : Called d m o) → (j : ℕ) (p : Port) → slice_get c.module_of.ports j ≡ Some p
         → (e : Connection) → e ≡ connection_of c.module_of m i j 0 (take j c.module_of.ports) p o.operands
@@ -191,17 +191,19 @@ module _ (d : Design) (x : Setting d) (s : Name) (m : Module) (is : find_module 
         ∙ ap (λ z. connection_checks known z (connection_of c.module_of m i j 0 (take j c.module_of.ports) p o.operands).value)
         (port_under c.module_of (x.names c.kind.symbol c.module_of c.there) (port_key j) (port_in c.module_of j p at) ∙ ap (omap (vport_at c.module_of j)) at)
         ∙ go p.is_output refl where
-      n : ℕ
-      n = output_count (take j c.module_of.ports)
-      value_at : Bool → Expr
-      value_at b = cond b (name (key_text m (value_key i (0 + n)))) (expr_for (expression m) (slice_get o.operands (input_count (take j c.module_of.ports))))
-      go : (b : Bool) → p.is_output ≡ b → cond b (joins_net known (value_at b)) (expr_checks known (value_at b)) ≡ true
-      go true out = let r = result_there i o c j p at out in
-          ap (λ a. has_role can_assign (find_declared known (key_text m (value_key i a)))) (zero-add n)
-          ∙ ap (has_role can_assign) (found_result d x s m is known knows i n o r.0 (result_in_keys m i n o r.0 there role r.1) there r.1) ∙ ap (λ z. can_assign (result_role z)) role
-      go false out =
-          let g = placed_in (type_in m.ports m.body) (λ (u : HwType). Some u) o.operands (input_types c.module_of.ports) (input_count (take j c.module_of.ports)) p.type c.inputs (place_of_input c.module_of.ports j p at out) in
-          ap (λ z. expr_checks known (expr_for (expression m) z)) g.1 ∙ good g.0 p.type g.2
+          n : ℕ
+          n = output_count (take j c.module_of.ports)
+
+          value_at : Bool → Expr
+          value_at b = cond b (name (key_text m (value_key i (0 + n)))) (expr_for (expression m) (slice_get o.operands (input_count (take j c.module_of.ports))))
+
+          go : (b : Bool) → p.is_output ≡ b → cond b (joins_net known (value_at b)) (expr_checks known (value_at b)) ≡ true
+          go true out = let r = result_there i o c j p at out in
+              ap (λ a. has_role can_assign (find_declared known (key_text m (value_key i a)))) (zero-add n)
+              ∙ ap (has_role can_assign) (found_result d x s m is known knows i n o r.0 (result_in_keys m i n o r.0 there role r.1) there r.1) ∙ ap (λ z. can_assign (result_role z)) role
+          go false out =
+              let g = placed_in (type_in m.ports m.body) (λ (u : HwType). Some u) o.operands (input_types c.module_of.ports) (input_count (take j c.module_of.ports)) p.type c.inputs (place_of_input c.module_of.ports j p at out) in
+              ap (λ z. expr_checks known (expr_for (expression m) z)) g.1 ∙ good g.0 p.type g.2
 
     pub all_connections : (i : ℕ) (o : Op) → slice_get m.body i ≡ Some o → role_of m.ports m.body i o ≡ block → (c : Called d m o) → (cs : List Connection)
         → ((e : Connection) → In e cs → connection_checks known (find_port (vports c.module_of) e.port) e.value ≡ true) → connections_check known (vports c.module_of) cs ≡ true

@@ -197,7 +197,7 @@ module_read : (m : VModule) (rest : Text) → IsSpellableModule m → tokens (mo
 unfolding module_text
 module_read m rest is =
     ap (λ ts. word (codes "module") ∷ ts) (word_read m.name (ports_text m.ports (items_text m.items (codes "endmodule" ++ (10 ∷ rest)))) is.name
-        (ports_apart m.ports (items_text m.items (codes "endmodule" ++ (10 ∷ rest))))
+    (ports_apart m.ports (items_text m.items (codes "endmodule" ++ (10 ∷ rest))))
     ∙ ap (λ ts. word m.name ∷ ts) (ports_read m.ports (items_text m.items (codes "endmodule" ++ (10 ∷ rest))) is.ports
     ∙ ap (λ ts. ports_spelled m.ports (mark 59 ∷ ts)) (items_read m.items (codes "endmodule" ++ (10 ∷ rest)) is.items)))
 

@@ -4,3 +4,5 @@ pub mod Exported
 pub mod Layout
 pub mod Exportable
 pub mod Behaving
+pub mod Written
+pub mod WrittenViews

@@ -1,4 +1,8 @@
 //! The Verilog of a design.
 #![tactic(auto)]
 
+pub mod blocks;
+pub mod instances;
 mod laws;
+pub mod lines;
+pub mod ports;

@@ -1,0 +1,13 @@
+use Rattle.std.proofs.Common.{◌∷◌, []}
+use Rattle.std.specs.Prelude.{codes}
+use Rattle.export_verilog.specs.Layout.{item_text, block_text}
+use Rattle.export_verilog.specs.WrittenViews.{block_held}
+use Rattle.export_verilog.proofs.Rests.{four_parts}
+use Rattle.export_verilog.proofs.blocks.push_always.Goals as goal
+
+pub returns : goal.returns
+unfolding item_text
+returns c =
+    four_parts c.args.out.now c.push_bytes.new.self c.push_bytes-2.new.self c.push_bytes-3.new.self c.push_block.new.out
+    (codes "  always @(posedge ") c.args.clock.now (41 ∷ 10 ∷ []) (block_text (block_held c.args.block.now) [])
+    c.in_ok-push_bytes.ensures.ok c.in_ok-push_bytes-2.ensures.ok c.in_ok-push_bytes-3.ensures.ok c.in_ok-push_block.ensures
