@@ -8,3 +8,4 @@ pub mod Values
 pub mod Tables
 pub mod Scopes
 pub mod Marks
+pub mod PartTables

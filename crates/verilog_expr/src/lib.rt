@@ -1,7 +1,11 @@
 //! Expressions of Verilog for the values of a design's body.
 #![tactic(auto)]
 
+mod height_table;
 mod laws;
 pub mod literals;
 pub mod marks;
+pub mod nesting;
+mod order;
 pub mod scope;
+pub mod wires;
