@@ -9,3 +9,4 @@ pub mod Tables
 pub mod Scopes
 pub mod Marks
 pub mod PartTables
+pub mod Named

@@ -8,4 +8,5 @@ pub mod marks;
 pub mod nesting;
 mod order;
 pub mod scope;
+pub mod value_names;
 pub mod wires;
