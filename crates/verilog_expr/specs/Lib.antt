@@ -10,3 +10,4 @@ pub mod Scopes
 pub mod Marks
 pub mod PartTables
 pub mod Named
+pub mod Forms
