@@ -11,3 +11,4 @@ pub mod Marks
 pub mod PartTables
 pub mod Named
 pub mod Forms
+pub mod Rows

@@ -8,6 +8,7 @@ pub mod literals;
 pub mod marks;
 pub mod nesting;
 mod order;
+pub mod row;
 pub mod scope;
 pub mod value_names;
 pub mod wires;
