@@ -4,6 +4,8 @@ pub mod Adding
 pub mod Placing
 pub mod ReadOps
 pub mod Marking
+pub mod PartsMarked
+pub mod HeightSteps
 pub mod Own
 pub mod Assigned
 pub mod Rows

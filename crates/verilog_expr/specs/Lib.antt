@@ -8,3 +8,7 @@ pub mod Values
 pub mod Tables
 pub mod Scopes
 pub mod Marks
+pub mod PartTables
+pub mod Named
+pub mod Forms
+pub mod Rows

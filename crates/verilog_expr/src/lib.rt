@@ -1,7 +1,14 @@
 //! Expressions of Verilog for the values of a design's body.
 #![tactic(auto)]
 
+pub mod form;
+mod height_table;
 mod laws;
 pub mod literals;
 pub mod marks;
+pub mod nesting;
+mod order;
+pub mod row;
 pub mod scope;
+pub mod value_names;
+pub mod wires;

@@ -1,0 +1,101 @@
+-- Heights as they are found.
+use Rattle.std.proofs.Common.{◌≡◌, ℕ, zero, suc, ◌+◌, ◌<◌, ◌≤◌, max, Bool, true, false, nat_eq, List, [], ◌∷◌, length, map, drop, get_or, set, ◌⊎◌, inl, inr, slice_get, Option, Some, None, refl, sym, ap, subst, ◌∙◌, arith}
+use Rattle.std.proofs.lemmas.Bool.{eqb-true, eqb-false}
+use Rattle.std.proofs.lemmas.List.{drop_more}
+use Rattle.wiring.specs.Wiring.{greatest}
+use Rattle.hw_model.specs.Design.{Ref, Port, Op}
+use Rattle.hw_model.specs.Design.Ref.{result}
+use Rattle.verilog_expr.specs.Spilling as told
+use Rattle.verilog_expr.specs.Spilling.{AreHeights, height, height_over, operands_at, operands_of, spilled}
+use Rattle.verilog_expr.specs.Spilling.Part.{flat, shared, nested}
+use Rattle.verilog_expr.specs.declared.nesting.Part.{Part}
+use Rattle.verilog_expr.specs.declared.nesting.Part.TheVariants.{Shared, Nested}
+use Rattle.verilog_expr.specs.declared.marks.Mark.{Mark}
+use Rattle.verilog_expr.specs.Marks.{no_mark, after_ops}
+use Rattle.verilog_expr.specs.PartTables.{wired, part_seen, stands_most, IsHeightAt, height_get, AreKnown, AreAll, AreHeightsAt}
+
+drop_none : {A : Type 0} (xs : List A) (i : ℕ) → length xs ≤ i → drop i xs ≡ []
+drop_none [] zero h = refl
+drop_none [] (suc i) h = refl
+drop_none (x ∷ xs) zero h = absurd (omega (arith, h))
+drop_none (x ∷ xs) (suc i) h = drop_none xs i (omega (arith, h))
+
+pub most_step : {A : Type 0} (g : Ref → ℕ) (f : A → Ref) (xs : List A) (i : ℕ) (x : A) (m n new whole : ℕ) → i < length xs → x ≡ get_or xs i x
+    → max m (greatest (map g (map f (drop i xs)))) ≡ whole → n ≡ g (f x) → new ≡ max n m → max new (greatest (map g (map f (drop (i + 1) xs)))) ≡ whole
+most_step g f xs i x m n new whole lt at h p q =
+    let d : drop i xs ≡ x ∷ drop (i + 1) xs = drop_more xs i x lt ∙ ap (λ y. y ∷ drop (i + 1) xs) (sym at) in
+    let e : max m (max (g (f x)) (greatest (map g (map f (drop (i + 1) xs))))) ≡ whole = sym (ap (λ l. max m (greatest (map g (map f l)))) d) ∙ h in
+    omega (arith, e, p, q)
+
+pub most_end : {A : Type 0} (g : Ref → ℕ) (f : A → Ref) (xs : List A) (i m whole : ℕ) → length xs ≤ i → max m (greatest (map g (map f (drop i xs)))) ≡ whole → m ≡ whole
+most_end g f xs i m whole le h =
+    let e : max m 0 ≡ whole = sym (ap (λ l. max m (greatest (map g (map f l)))) (drop_none xs i le)) ∙ h in
+    omega (arith, e)
+
+-- ---- the height of an operation
+
+module _ (ports : List Port) (os : List Op) (heights : AreHeights ports os (height ports os)) (i : ℕ) where
+  pub height_flat : told.part ports os (result i 0) ≡ flat → 0 ≡ height ports os (result i 0)
+  height_flat is = sym (heights (result i 0) ∙ ap (λ p. height_over p (stands_most ports os (operands_at os (result i 0)))) is)
+
+  over : (o : Op) (n : ℕ) → slice_get os i ≡ Some o → n ≡ stands_most ports os o.operands → n ≡ stands_most ports os (operands_at os (result i 0))
+  over o n at is = is ∙ sym (ap (λ m. stands_most ports os (operands_of m)) at)
+
+  pub height_shared : (o : Op) (n : ℕ) → slice_get os i ≡ Some o → told.part ports os (result i 0) ≡ shared → n ≡ stands_most ports os o.operands → n + 1 ≡ height ports os (result i 0)
+  height_shared o n at is most =
+      let e : height ports os (result i 0) ≡ suc (stands_most ports os (operands_at os (result i 0))) =
+      heights (result i 0) ∙ ap (λ p. height_over p (stands_most ports os (operands_at os (result i 0)))) is in
+      omega (arith, e, over o n at most)
+
+  pub height_nested : (o : Op) (n : ℕ) → slice_get os i ≡ Some o → told.part ports os (result i 0) ≡ nested → n ≡ stands_most ports os o.operands → n + 1 ≡ height ports os (result i 0)
+  height_nested o n at is most =
+      let e : height ports os (result i 0) ≡ suc (stands_most ports os (operands_at os (result i 0))) =
+      heights (result i 0) ∙ ap (λ p. height_over p (stands_most ports os (operands_at os (result i 0)))) is in
+      omega (arith, e, over o n at most)
+
+-- ---- a table of heights
+
+set_same : (hs : List (Option ℕ)) (p : ℕ) (h : Option ℕ) → p < length hs → height_get (set hs p h) p ≡ h
+set_same [] p h lt = absurd (omega (arith, lt))
+set_same (x ∷ hs) zero h lt = refl
+set_same (x ∷ hs) (suc p) h lt = set_same hs p h (omega (arith, lt))
+
+set_other : (hs : List (Option ℕ)) (p i : ℕ) (h : Option ℕ) → (p ≡ i → ⊥) → height_get (set hs p h) i ≡ height_get hs i
+set_other [] zero i h apart = refl
+set_other [] (suc p) i h apart = refl
+set_other (x ∷ hs) zero zero h apart = absurd (apart refl)
+set_other (x ∷ hs) zero (suc i) h apart = refl
+set_other (x ∷ hs) (suc p) zero h apart = refl
+set_other (x ∷ hs) (suc p) (suc i) h apart = set_other hs p i h (λ e. apart (ap suc e))
+
+pub known_set : (ports : List Port) (os : List Op) (hs : List (Option ℕ)) (p : ℕ) (h : Option ℕ) → AreKnown ports os hs → p < length hs → IsHeightAt ports os p h → AreKnown ports os (set hs p h)
+known_set ports os hs p h known lt is i below = go (nat_eq p i) refl
+  where
+    go : (b : Bool) → nat_eq p i ≡ b → IsHeightAt ports os i (height_get (set hs p h) i)
+    go true e = subst (λ j. IsHeightAt ports os j (height_get (set hs p h) j)) (eqb-true p i e) (subst (IsHeightAt ports os p) (sym (set_same hs p h lt)) is)
+    go false e = subst (IsHeightAt ports os i) (sym (set_other hs p i h (eqb-false p i e))) (known i below)
+
+-- the height of an operation that is no name and no literal
+pub height_above : (ports : List Port) (os : List Op) → AreHeights ports os (height ports os) → (i : ℕ) (o : Op) (n : ℕ) (p : Part) → (p ≡ Shared) ⊎ (p ≡ Nested)
+    → slice_get os i ≡ Some o → part_seen p ≡ told.part ports os (result i 0) → n ≡ stands_most ports os o.operands → n + 1 ≡ height ports os (result i 0)
+height_above ports os heights i o n p (inl e) at is most = height_shared ports os heights i o n at (sym is ∙ ap part_seen e) most
+height_above ports os heights i o n p (inr e) at is most = height_nested ports os heights i o n at (sym is ∙ ap part_seen e) most
+
+-- ---- wires
+
+pub wired_is : (ports : List Port) (os : List Op) (i : ℕ) (o : Op) (m : Mark) (p : told.Part) (h : ℕ) → slice_get os i ≡ Some o → m ≡ after_ops ports os (result i 0) os no_mark
+    → p ≡ told.part ports os (result i 0) → h ≡ height ports os (result i 0) → wired o m p h ≡ spilled ports os (result i 0)
+unfolding spilled
+wired_is ports os i o m p h at marked parted high =
+    ap (λ x. wired o x p h) marked
+    ∙ ap (λ x. wired o (after_ops ports os (result i 0) os no_mark) x h) (parted ∙ ap (told.part_of ports os (result i 0)) at)
+    ∙ ap (wired o (after_ops ports os (result i 0) os no_mark) (told.part_of_op ports os (result i 0) o)) high
+    ∙ sym (ap (told.spilled_op ports os (result i 0)) at)
+
+-- ---- whole tables
+
+pub none_known : (ports : List Port) (os : List Op) (hs : List (Option ℕ)) → ((i : ℕ) → i < length os → height_get hs i ≡ None) → AreKnown ports os hs
+none_known ports os hs none i lt = subst (IsHeightAt ports os i) (sym (none i lt)) tt
+
+pub all_heights : (ports : List Port) (os : List Op) (hs : List (Option ℕ)) (ns : List ℕ) → length hs ≡ length os → AreKnown ports os hs → AreAll hs ns → AreHeightsAt ports os ns
+all_heights ports os hs ns count known all i lt = subst (IsHeightAt ports os i) (all i (omega (arith, lt, count))) (known i lt)

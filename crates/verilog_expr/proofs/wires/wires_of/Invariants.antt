@@ -1,0 +1,11 @@
+use Rattle.std.proofs.Common.{◌≡◌, ℕ, ◌<◌, length, get_or, false}
+use Rattle.hw_model.specs.Design.Ref.{result as result_of}
+use Rattle.verilog_expr.specs.Spilling.{spilled}
+use Rattle.verilog_expr.specs.Scopes.{scope_ports, scope_ops}
+use Rattle.verilog_expr.proofs.wires.wires_of.Given as goal
+
+abbrev pub invariant-loop-place : goal.invariant-loop-place
+invariant-loop-place l = record {
+  count : length l.wires.items ≡ l.place;
+  wires : (i : ℕ) → i < l.place → get_or l.wires.items i false ≡ spilled (scope_ports l.scope) (scope_ops l.scope) (result_of i 0);
+}

@@ -1,0 +1,128 @@
+-- Which form the expression of an operation has.
+use Rattle.std.specs.Prelude.{ℕ, suc, ◌+◌, ◌/◌, Bool, true, false, cond, ◌&&◌, ◌==◌, List, [], ◌∷◌, Option, Some, None, map}
+use Rattle.bits_core.specs.Word.{number, bits_of_ℤ}
+use Rattle.hw_model.specs.Types.{Name}
+use Rattle.hw_model.specs.Kinds.{Kind, Predicate}
+use Rattle.hw_model.specs.Kinds.Predicate.{eq, ne, slt, sle, sgt, sge, ult, ule, ugt, uge, ceq, cne, weq, wne}
+use Rattle.hw_model.specs.Kinds.Kind.{add, mul, and, or, xor, sub, divu, modu, divs, mods, shl, shru, shrs, icmp, parity, extract, concat, replicate, mux, constant, bitcast, wire}
+use Rattle.verilog_model.specs.Tree.{Expr}
+use Rattle.verilog_model.specs.Tree.Expr.{name}
+use Rattle.verilog_model.specs.Grammar.{level, strength}
+use Rattle.verilog_model.specs.Expression.{is_signed}
+use Rattle.verilog_expr.specs.Building.{no_expr, literal_of, of_one_expr, select}
+use Rattle.verilog_expr.specs.Text.{expr_text}
+use Rattle.verilog_expr.specs.Forms.{operator_of, form_text}
+use Rattle.verilog_expr.specs.declared.form.Operator.{Operator}
+use Rattle.verilog_expr.specs.declared.form.Operator.TheVariants as signs
+use Rattle.verilog_expr.specs.declared.form.Form.{Form}
+use Rattle.verilog_expr.specs.declared.form.Form.TheVariants.{Same, Chain, SignedPair, UnsignedShift, SignedShift, UnsignedDivision, SignedDivision, Parity, Braces, Copies, Choice}
+use Rattle.verilog_expr.specs.declared.row.Row.{Row}
+use Rattle.verilog_expr.specs.declared.row.Row.TheVariants.{Missing, Number, Select, Operands}
+
+-- an operator between any number of operands, of one operand that operand
+abbrev pub chain_row : ℕ → Operator → Row
+chain_row n o = cond (n == 0) Missing (cond (n == 1) (Operands Same) (Operands (Chain o)))
+
+-- a form that takes so many operands
+abbrev pub row_of_count : ℕ → ℕ → Form → Row
+row_of_count n m f = cond (n == m) (Operands f) Missing
+
+abbrev pub comparison_form : Predicate → Form
+comparison_form eq = Chain signs.Equals
+comparison_form ne = Chain signs.Differs
+comparison_form slt = SignedPair signs.Below
+comparison_form sle = SignedPair signs.AtMost
+comparison_form sgt = SignedPair signs.Above
+comparison_form sge = SignedPair signs.AtLeast
+comparison_form ult = Chain signs.Below
+comparison_form ule = Chain signs.AtMost
+comparison_form ugt = Chain signs.Above
+comparison_form uge = Chain signs.AtLeast
+comparison_form ceq = Chain signs.Equals
+comparison_form cne = Chain signs.Differs
+comparison_form weq = Chain signs.Equals
+comparison_form wne = Chain signs.Differs
+
+-- all bits of an operand are the operand, fewer are a select of its name
+abbrev pub extract_row : ℕ → ℕ → ℕ → ℕ → Row
+extract_row n low w operand_width = cond (n == 1) (cond (low == 0 && w == operand_width) (Operands Same) (Select low w)) Missing
+
+-- the row of an operation of a kind with a result of w bits and n operands, of which the first has v bits, and `divisor`
+-- the number of the constant that it divides by
+abbrev pub row_for : Kind → ℕ → ℕ → ℕ → ℕ → Row
+row_for add w v divisor n = chain_row n signs.Plus
+row_for mul w v divisor n = chain_row n signs.Times
+row_for and w v divisor n = chain_row n signs.BitAnd
+row_for or w v divisor n = chain_row n signs.BitOr
+row_for xor w v divisor n = chain_row n signs.BitXor
+row_for sub w v divisor n = row_of_count n 2 (Chain signs.Minus)
+row_for divu w v divisor n = row_of_count n 2 (UnsignedDivision signs.Over w divisor)
+row_for modu w v divisor n = row_of_count n 2 (UnsignedDivision signs.Modulo w divisor)
+row_for divs w v divisor n = row_of_count n 2 (SignedDivision signs.Over w divisor)
+row_for mods w v divisor n = row_of_count n 2 (SignedDivision signs.Modulo w divisor)
+row_for shl w v divisor n = row_of_count n 2 (UnsignedShift signs.LeftShift)
+row_for shru w v divisor n = row_of_count n 2 (UnsignedShift signs.RightShift)
+row_for shrs w v divisor n = row_of_count n 2 (SignedShift signs.SignedRightShift)
+row_for (icmp p) w v divisor n = row_of_count n 2 (comparison_form p)
+row_for parity w v divisor n = row_of_count n 1 Parity
+row_for (extract low) w v divisor n = extract_row n low w v
+row_for concat w v divisor n = cond (n == 0) Missing (Operands Braces)
+row_for replicate w v divisor n = row_of_count n 1 (Copies (w / v))
+row_for mux w v divisor n = row_of_count n 3 Choice
+row_for (constant z) w v divisor n = Number w (number (bits_of_ℤ w z))
+row_for bitcast w v divisor n = row_of_count n 1 Same
+row_for wire w v divisor n = row_of_count n 1 Same
+row_for _ w v divisor n = Missing
+
+-- the operands that are written: of a division the first alone
+abbrev pub first_alone : List Expr → List Expr
+first_alone [] = []
+first_alone (e ∷ es) = e ∷ []
+
+abbrev pub shown : Form → List Expr → List Expr
+shown (UnsignedDivision o w d) es = first_alone es
+shown (SignedDivision o w d) es = first_alone es
+shown _ es = es
+
+-- the text of a row over operands
+abbrev pub row_text : Row → List Expr → List ℕ
+row_text Missing es = expr_text no_expr []
+row_text (Number w n) es = expr_text (literal_of w false n) []
+row_text (Select low w) es = expr_text (of_one_expr (select low w) es) []
+row_text (Operands f) es = form_text f 0 (shown f es)
+
+-- ---- sign and binding strength
+
+abbrev pub first_signed : List Expr → Bool
+first_signed [] = false
+first_signed (e ∷ es) = is_signed e
+
+abbrev pub first_level : List Expr → ℕ
+first_level [] = 11
+first_level (e ∷ es) = level e
+
+abbrev pub form_signed : Form → List Expr → Bool
+form_signed Same es = first_signed es
+form_signed (SignedShift o) es = true
+form_signed (SignedDivision o w d) es = true
+form_signed _ es = false
+
+abbrev pub form_level : Form → List Expr → ℕ
+form_level Same es = first_level es
+form_level (Chain o) es = strength (operator_of o)
+form_level (SignedPair o) es = strength (operator_of o)
+form_level (UnsignedShift o) es = strength (operator_of o)
+form_level (SignedShift o) es = strength (operator_of o)
+form_level (UnsignedDivision o w d) es = strength (operator_of o)
+form_level (SignedDivision o w d) es = strength (operator_of o)
+form_level Parity es = 10
+form_level Choice es = 1
+form_level _ es = 11
+
+abbrev pub row_signed : Row → List Expr → Bool
+row_signed (Operands f) es = form_signed f es
+row_signed _ es = false
+
+abbrev pub row_level : Row → List Expr → ℕ
+row_level (Operands f) es = form_level f es
+row_level _ es = 11

@@ -1,0 +1,151 @@
+//! Which form the expression of an operation has.
+ghost use Rattle.std.specs.Prelude.{◌≡◌, ◌<◌, ◌/◌};
+ghost use Rattle.bits_core.specs.Word.{number, bits_of_ℤ};
+ghost use Rattle.hw_model.specs.KindViews.{kind_of, predicate_of, integer_of};
+ghost use Rattle.verilog_expr.specs.Rows.{chain_row, row_of_count, comparison_form, extract_row, row_for};
+
+use crate::form::{Form, Operator};
+use hw_model::integer_values::op_value;
+use hw_model::kinds::{Integer, OpKind, Predicate};
+
+/// What an operation's expression is.
+#[derive(Clone, Copy, Debug)]
+pub enum Row {
+    /// Nothing: the operation has none.
+    Missing,
+    /// A literal of so many bits.
+    Number(u64, u128),
+    /// So many bits of a name, from a bit on.
+    Select(u32, u64),
+    /// Operands in a form.
+    Operands(Form),
+}
+
+/// The number that a constant of so many bits has.
+pub fn constant_number(width: u64, value: Integer) -> u128
+    requires { width < 129 }
+    ensures { result ≡ number (bits_of_ℤ width (integer_of value)) }
+{
+    if width == 0 {
+        return 0;
+    }
+    op_value(&OpKind::Constant(value), width as u32, &[]).value()
+}
+
+// An operator between any number of operands.
+fn chain_row(count: usize, operator: Operator) -> Row
+    ensures { result ≡ chain_row count operator }
+{
+    if count == 0 {
+        Row::Missing
+    } else if count == 1 {
+        Row::Operands(Form::Same)
+    } else {
+        Row::Operands(Form::Chain(operator))
+    }
+}
+
+// A form that takes so many operands.
+fn row_of_count(count: usize, wanted: usize, form: Form) -> Row
+    ensures { result ≡ row_of_count count wanted form }
+{
+    if count == wanted {
+        Row::Operands(form)
+    } else {
+        Row::Missing
+    }
+}
+
+// The form of a comparison.
+fn comparison_form(predicate: Predicate) -> Form
+    ensures { result ≡ comparison_form (predicate_of predicate) }
+{
+    match predicate {
+        Predicate::Eq | Predicate::Ceq | Predicate::Weq => Form::Chain(Operator::Equals),
+        Predicate::Ne | Predicate::Cne | Predicate::Wne => Form::Chain(Operator::Differs),
+        Predicate::Slt => Form::SignedPair(Operator::Below),
+        Predicate::Sle => Form::SignedPair(Operator::AtMost),
+        Predicate::Sgt => Form::SignedPair(Operator::Above),
+        Predicate::Sge => Form::SignedPair(Operator::AtLeast),
+        Predicate::Ult => Form::Chain(Operator::Below),
+        Predicate::Ule => Form::Chain(Operator::AtMost),
+        Predicate::Ugt => Form::Chain(Operator::Above),
+        Predicate::Uge => Form::Chain(Operator::AtLeast),
+    }
+}
+
+// The row of an extract.
+fn extract_row(count: usize, low: u32, width: u64, operand_width: u64) -> Row
+    ensures { result ≡ extract_row count low width operand_width }
+{
+    if count != 1 {
+        return Row::Missing;
+    }
+    if low == 0 && width == operand_width {
+        return Row::Operands(Form::Same);
+    }
+    Row::Select(low, width)
+}
+
+// How often an operand of so many bits stands in a result.
+fn copies(width: u64, operand_width: u64) -> u64
+    ensures { result ≡ width / operand_width }
+{
+    if operand_width == 0 {
+        0
+    } else {
+        width / operand_width
+    }
+}
+
+/// The row of an operation of a kind with a result of `width` bits and `count` operands, of which the first has
+/// `operand_width` bits, and `divisor` the number of the constant that it divides by.
+pub fn row_for(
+    kind: &OpKind,
+    width: u64,
+    operand_width: u64,
+    divisor: u128,
+    count: usize,
+) -> Row
+    requires { width < 129 }
+    ensures { result ≡ row_for (kind_of kind.now) width operand_width divisor count }
+{
+    match kind {
+        OpKind::Add => chain_row(count, Operator::Plus),
+        OpKind::Mul => chain_row(count, Operator::Times),
+        OpKind::And => chain_row(count, Operator::BitAnd),
+        OpKind::Or => chain_row(count, Operator::BitOr),
+        OpKind::Xor => chain_row(count, Operator::BitXor),
+        OpKind::Sub => row_of_count(count, 2, Form::Chain(Operator::Minus)),
+        OpKind::Divu => {
+            row_of_count(count, 2, Form::UnsignedDivision(Operator::Over, width, divisor))
+        }
+        OpKind::Modu => {
+            row_of_count(count, 2, Form::UnsignedDivision(Operator::Modulo, width, divisor))
+        }
+        OpKind::Divs => {
+            row_of_count(count, 2, Form::SignedDivision(Operator::Over, width, divisor))
+        }
+        OpKind::Mods => {
+            row_of_count(count, 2, Form::SignedDivision(Operator::Modulo, width, divisor))
+        }
+        OpKind::Shl => row_of_count(count, 2, Form::UnsignedShift(Operator::LeftShift)),
+        OpKind::Shru => row_of_count(count, 2, Form::UnsignedShift(Operator::RightShift)),
+        OpKind::Shrs => row_of_count(count, 2, Form::SignedShift(Operator::SignedRightShift)),
+        OpKind::Icmp(predicate) => row_of_count(count, 2, comparison_form(*predicate)),
+        OpKind::Parity => row_of_count(count, 1, Form::Parity),
+        OpKind::Extract(low) => extract_row(count, *low, width, operand_width),
+        OpKind::Concat => {
+            if count == 0 {
+                Row::Missing
+            } else {
+                Row::Operands(Form::Braces)
+            }
+        }
+        OpKind::Replicate => row_of_count(count, 1, Form::Copies(copies(width, operand_width))),
+        OpKind::Mux => row_of_count(count, 3, Form::Choice),
+        OpKind::Constant(value) => Row::Number(width, constant_number(width, *value)),
+        OpKind::Bitcast | OpKind::Wire => row_of_count(count, 1, Form::Same),
+        _ => Row::Missing,
+    }
+}
