@@ -1,7 +1,6 @@
 -- Lists of things of which none stands twice have distinct names.
-use Rattle.std.proofs.Common.{◌≡◌, ℕ, zero, suc, ◌+◌, ◌<◌, ◌≤◌, ◌⊎◌, Bool, true, false, not, cond, ◌&&◌, ◌||◌, List, [], ◌∷◌, ◌++◌, map, slice_get, Option, Some, None, refl, sym, ◌∙◌, ap, ap₂, subst, inl, inr, arith, add-zero, zero-add, suc-add, add-suc, IsTrue}
+use Rattle.std.proofs.Common.{◌≡◌, ℕ, suc, ◌+◌, ◌⊎◌, Bool, true, false, not, cond, ◌||◌, List, [], ◌∷◌, ◌++◌, map, slice_get, Some, refl, sym, ◌∙◌, ap, subst, inl, inr, arith, add-zero, zero-add, suc-add, add-suc}
 use Rattle.wiring.specs.Wiring.{In}
-use Rattle.hw_model.specs.Types.{Name}
 use Rattle.hw_model.specs.Design.{Port, Ref, Module, same_name}
 use Rattle.hw_model.specs.Equality.{name_from}
 use Rattle.verilog_model.specs.Tree.{Expr, Connection}
@@ -25,9 +24,9 @@ pub joined_apart : {A : Type 0} (ks ls : List A) → AreApart ks → AreApart ls
 joined_apart [] ls a b disjoint = b
 joined_apart (k ∷ ks) ls a b disjoint =
     ((λ h. away (in_append k ks ls h)), joined_apart ks ls a.1 b (λ l u v. disjoint l (inr u) v)) where
-  away : In k ks ⊎ In k ls → ⊥
-  away (inl h) = a.0 h
-  away (inr h) = disjoint k (inl refl) h
+      away : In k ks ⊎ In k ls → ⊥
+      away (inl h) = a.0 h
+      away (inr h) = disjoint k (inl refl) h
 
 -- ---- names
 
@@ -65,8 +64,8 @@ unfolding port_keys_from
 port_keys_apart j [] = tt
 port_keys_apart j (p ∷ ps) =
     ((λ h. let e = port_keys_above (suc j) ps (port_key j) h in clash e.0 e.3), port_keys_apart (suc j) ps) where
-  clash : (n : ℕ) → port_key j ≡ port_key (suc j + n) → ⊥
-  clash n e = let f : j ≡ suc j + n = cc in omega (arith, f)
+      clash : (n : ℕ) → port_key j ≡ port_key (suc j + n) → ⊥
+      clash n e = let f : j ≡ suc j + n = cc in omega (arith, f)
 
 pub port_keys_within : (m : Module) (k : Key) → In k (port_keys_from 0 m.ports) → In k (module_keys m)
 port_keys_within m k here = let e = port_keys_above 0 m.ports k here in
@@ -79,6 +78,7 @@ connected_ports c m i j k [] rs = refl
 connected_ports c m i j k (p ∷ ps) rs = go p.is_output (connected_ports c m i (suc j) (suc k) ps rs) (connected_ports c m i (suc j) k ps (others rs)) where
   head : Expr → Connection
   head e = record { port = key_text c (port_key j); value = e }
+
   go : (b : Bool) → map (λ (y : Connection). y.port) (connections_of c m i (suc j) (suc k) ps rs) ≡ map (key_text c) (port_keys_from (suc j) ps)
       → map (λ (y : Connection). y.port) (connections_of c m i (suc j) k ps (others rs)) ≡ map (key_text c) (port_keys_from (suc j) ps)
       → map (λ (y : Connection). y.port) (cond b (head (name (key_text m (value_key i k))) ∷ connections_of c m i (suc j) (suc k) ps rs) (head (expr_or_none (expression m) rs) ∷ connections_of c m i (suc j) k ps (others rs)))

@@ -1,15 +1,14 @@
 -- The tree of an exportable design meets the checks.
-use Rattle.std.proofs.Common.{◌≡◌, ℕ, zero, suc, ◌+◌, ◌<◌, ◌^◌, ◌⊎◌, ◌==◌, Bool, true, false, cond, ◌&&◌, List, [], ◌∷◌, ◌++◌, map, length, slice_get, Option, Some, None, refl, sym, ◌∙◌, ap, ap₂, subst, inl, inr, zero-add, eq-eqb, arith}
-use Rattle.wiring.specs.Options.{omap}
+use Rattle.std.proofs.Common.{◌≡◌, ℕ, suc, ◌+◌, ◌⊎◌, ◌==◌, Bool, true, false, ◌&&◌, List, [], ◌∷◌, map, length, slice_get, Some, None, refl, sym, ◌∙◌, ap, ap₂, subst, inl, inr, zero-add, eq-eqb, arith}
 use Rattle.wiring.specs.Wiring.{In}
 use Rattle.wiring.proofs.Members.{In-append_left, In-append_right, from_In-map, position_of_In}
 use Rattle.hw_model.specs.Types.{Name, width}
 use Rattle.hw_model.specs.Design.{Port, OpResult, Op, Module, Design, find_module, result_type}
 use Rattle.hw_model.specs.Flat.{width_of}
-use Rattle.verilog_model.specs.Tree.{VPort, Item, VModule, Tree}
+use Rattle.verilog_model.specs.Tree.{VPort, Item, VModule}
 use Rattle.verilog_model.specs.Tree.Item.{wire, reg}
 use Rattle.verilog_model.specs.Checks.{Declared, declared_by, declared_ports, declared_items, declared_in, port_role, high_checks, names_check, ports_check, items_check, each_driven, driver_count, drivers_due, clocks_check, nesting_checks, module_checks, modules_check, tree_checks}
-use Rattle.verilog_model.specs.Checks.Role.{block_name, variable as variable_role, net as net_role}
+use Rattle.verilog_model.specs.Checks.Role.{block_name}
 use Rattle.verilog_model.proofs.Numerals.{and_intro}
 use Rattle.verilog_expr.specs.Numerals.{high_of}
 use Rattle.export_verilog.specs.Keys.{Key, each, role_of, result_keys, key_text, module_keys}
@@ -18,10 +17,9 @@ use Rattle.export_verilog.specs.Keys.Role.{net, variable, block}
 use Rattle.export_verilog.specs.Exported.{symbol_names, symbol_name, vport, vports, vitems, vmodule, tree_of}
 use Rattle.export_verilog.proofs.Lists.{in_append}
 use Rattle.export_verilog.proofs.KeysOf.{from_each, into_each, results_in, port_in, net_in, variable_in, instance_in_keys, result_in_keys}
-use Rattle.export_verilog.proofs.Symbols.{found_symbol, module_at_position, symbol_at}
+use Rattle.export_verilog.proofs.Symbols.{module_at_position, symbol_at}
 use Rattle.export_verilog.proofs.Items.{From, from_items}
 use Rattle.export_verilog.proofs.Items.From.{net_wire, variable_reg, result_wire, net_assign, variable_block, an_instance, output_assign}
-use Rattle.export_verilog.proofs.Lookups.{vport_at}
 use Rattle.export_verilog.proofs.Settings.{Setting, module_ok}
 use Rattle.export_verilog.proofs.Known.{in_declared_items}
 use Rattle.export_verilog.proofs.Stated.{high_decimal}
@@ -38,11 +36,12 @@ module _ (d : Design) (x : Setting d) (s : Name) (m : Module) (is : find_module 
   ports_checked [] within = refl
   ports_checked (p ∷ ps) within =
       and_intro (high_checks p.high) (ports_check ps) (high_good (from_each (vport m) m.ports p (within p (inl refl)))) (ports_checked ps (λ q h. within q (inr h))) where
-    at_port : (j : ℕ) (q : Port) → slice_get m.ports j ≡ Some q → In p (vport m j q) → high_checks p.high ≡ true
-    at_port j q there (inl e) = ap (λ (z : VPort). high_checks z.high) e ∙ high_decimal (width q.type) ((module_ok d x s m is).narrow_ports j q there)
-    at_port j q there (inr never) = absurd never
-    high_good : (j : ℕ) × (q : Port) × (slice_get m.ports j ≡ Some q) × In p (vport m j q) → high_checks p.high ≡ true
-    high_good e = at_port e.0 e.1 e.2 e.3
+        at_port : (j : ℕ) (q : Port) → slice_get m.ports j ≡ Some q → In p (vport m j q) → high_checks p.high ≡ true
+        at_port j q there (inl e) = ap (λ (z : VPort). high_checks z.high) e ∙ high_decimal (width q.type) ((module_ok d x s m is).narrow_ports j q there)
+        at_port j q there (inr never) = absurd never
+
+        high_good : (j : ℕ) × (q : Port) × (slice_get m.ports j ≡ Some q) × In p (vport m j q) → high_checks p.high ≡ true
+        high_good e = at_port e.0 e.1 e.2 e.3
 
   -- ---- drivers
 
@@ -61,25 +60,29 @@ module _ (d : Design) (x : Setting d) (s : Name) (m : Module) (is : find_module 
   of_port j p there y same = ap (λ (z : Declared). driver_count (tree_of d) z.name (vitems d m) == drivers_due z.role) same ∙ go p.is_output refl where
     k : Key
     k = port_key j
+
     here : In (port_key j) (module_keys m)
     here = port_in m j p there
+
     apart : (i l n : ℕ) → port_key n ≡ value_key i l → ⊥
     apart i l n e = cc
+
     go : (b : Bool) → p.is_output ≡ b → (driver_count (tree_of d) (key_text m (port_key j)) (vitems d m) == drivers_due (port_role b)) ≡ true
     go true out = eq-eqb (driver_count (tree_of d) (key_text m (port_key j)) (vitems d m)) 1
         (driven_once d x s m is (port_key j) here (In-append_right (port_key j) (each (op_wires m) 0 m.body) (output_keys d x s m is (port_key j) here 0 m.ports)
         (subst (λ n. In (port_key n) (output_keys d x s m is (port_key j) here 0 m.ports)) (zero-add j) (among_output d x s m is (port_key j) here 0 m.ports j p there out))))
     go false out = eq-eqb (driver_count (tree_of d) (key_text m (port_key j)) (vitems d m)) 0
         (driven_never d x s m is (port_key j) here (λ h. away (in_append (port_key j) (each (op_wires m) 0 m.body) (output_keys d x s m is (port_key j) here 0 m.ports) h))) where
-      other : (n : ℕ) (q : Port) → slice_get m.ports n ≡ Some q → q.is_output ≡ true → port_key j ≡ port_key (0 + n) → ⊥
-      other n q at way e =
-          let f : j ≡ n = (let g : j ≡ 0 + n = cc in g ∙ zero-add n) in
-          let g : Some q ≡ Some p = sym at ∙ ap (slice_get m.ports) (sym f) ∙ there in
-          let h : q ≡ p = cc in
-          let clash : true ≡ false = sym way ∙ ap (λ (z : Port). z.is_output) h ∙ out in cc
-      away : In (port_key j) (each (op_wires m) 0 m.body) ⊎ In (port_key j) (output_keys d x s m is (port_key j) here 0 m.ports) → ⊥
-      away (inl u) = let e = wire_kind m (port_key j) u in apart e.0 e.1 j e.2
-      away (inr u) = let e = output_among d x s m is (port_key j) here 0 m.ports (port_key j) u in other e.0 e.1 e.2 e.3 e.4
+          other : (n : ℕ) (q : Port) → slice_get m.ports n ≡ Some q → q.is_output ≡ true → port_key j ≡ port_key (0 + n) → ⊥
+          other n q at way e =
+              let f : j ≡ n = (let g : j ≡ 0 + n = cc in g ∙ zero-add n) in
+              let g : Some q ≡ Some p = sym at ∙ ap (slice_get m.ports) (sym f) ∙ there in
+              let h : q ≡ p = cc in
+              let clash : true ≡ false = sym way ∙ ap (λ (z : Port). z.is_output) h ∙ out in cc
+
+          away : In (port_key j) (each (op_wires m) 0 m.body) ⊎ In (port_key j) (output_keys d x s m is (port_key j) here 0 m.ports) → ⊥
+          away (inl u) = let e = wire_kind m (port_key j) u in apart e.0 e.1 j e.2
+          away (inr u) = let e = output_among d x s m is (port_key j) here 0 m.ports (port_key j) u in other e.0 e.1 e.2 e.3 e.4
 
   wired_net : (i : ℕ) (o : Op) → slice_get m.body i ≡ Some o → role_of m.ports m.body i o ≡ net → In (value_key i 0) (each (op_wires m) 0 m.body)
   wired_net i o there role = into_each (op_wires m) m.body (value_key i 0) i o there (subst (λ r. In (value_key i 0) (wire_keys r i o)) (sym role) (inl refl))
@@ -110,15 +113,20 @@ module _ (d : Design) (x : Setting d) (s : Name) (m : Module) (is : find_module 
   of_item z (an_instance i o w there role at same) y here = go (subst (λ q. In y (declared_by q)) same here) where
     apart : (a l : ℕ) → instance_key i ≡ value_key a l → ⊥
     apart a l e = cc
+
     port_apart : (n : ℕ) → instance_key i ≡ port_key n → ⊥
     port_apart n e = cc
+
     key_here : In (instance_key i) (module_keys m)
     key_here = instance_in_keys m i o there role
+
     away : In (instance_key i) (each (op_wires m) 0 m.body) ⊎ In (instance_key i) (output_keys d x s m is (instance_key i) key_here 0 m.ports) → ⊥
     away (inl u) = let e = wire_kind m (instance_key i) u in apart e.0 e.1 e.2
     away (inr u) = let e = output_among d x s m is (instance_key i) key_here 0 m.ports (instance_key i) u in port_apart (0 + e.0) e.4
+
     none : driver_count (tree_of d) (key_text m (instance_key i)) (vitems d m) ≡ 0
     none = driven_never d x s m is (instance_key i) key_here (λ h. away (in_append (instance_key i) (each (op_wires m) 0 m.body) (output_keys d x s m is (instance_key i) key_here 0 m.ports) h))
+
     go : In y (record { name = key_text m (instance_key i); role = block_name; high = None } ∷ []) → Due y
     go (inl e) = ap (λ (q : Declared). driver_count (tree_of d) q.name (vitems d m) == drivers_due q.role) e ∙ eq-eqb (driver_count (tree_of d) (key_text m (instance_key i)) (vitems d m)) 0 none
     go (inr never) = absurd never
@@ -129,6 +137,7 @@ module _ (d : Design) (x : Setting d) (s : Name) (m : Module) (is : find_module 
     at_port : (v : VPort) → y ≡ record { name = v.name; role = port_role v.is_output; high = v.high } → (j : ℕ) (p : Port) → slice_get m.ports j ≡ Some p → In v (vport m j p) → Due y
     at_port v e j p there (inl f) = of_port j p there y (e ∙ ap (λ (q : VPort). record { name = q.name; role = port_role q.is_output; high = q.high }) f)
     at_port v e j p there (inr never) = absurd never
+
     go : In y (declared_ports (vports m)) ⊎ In y (declared_items (vitems d m)) → Due y
     go (inl h) = let f = from_In-map (λ (p : VPort). record { name = p.name; role = port_role p.is_output; high = p.high }) y (vports m) h in
         let e = from_each (vport m) m.ports f.0 f.1 in at_port f.0 f.2 e.0 e.1 e.2 e.3

@@ -1,15 +1,13 @@
 -- What a module's tree declares has legal names, of which none stands twice.
-use Rattle.std.proofs.Common.{◌≡◌, ℕ, zero, suc, ◌+◌, ◌<◌, ◌⊎◌, Bool, true, false, cond, ◌&&◌, List, [], ◌∷◌, ◌++◌, map, slice_get, Option, Some, None, refl, sym, ◌∙◌, ap, ap₂, subst, inl, inr, arith, zero-add, add-zero, suc-add, add-suc, append_assoc, append-nil, IsTrue}
+use Rattle.std.proofs.Common.{◌≡◌, ℕ, suc, ◌+◌, ◌⊎◌, Bool, true, false, cond, List, [], ◌∷◌, ◌++◌, map, slice_get, Option, Some, None, refl, sym, ◌∙◌, ap, ap₂, subst, inl, inr, arith, zero-add, add-zero, suc-add, add-suc, append_assoc, append-nil}
 use Rattle.std.proofs.lemmas.List.{map-append}
 use Rattle.wiring.specs.Wiring.{In}
-use Rattle.wiring.proofs.Members.{In-append_left, In-append_right}
-use Rattle.hw_model.specs.Types.{Name, width}
-use Rattle.hw_model.specs.Kinds.{Instance}
-use Rattle.hw_model.specs.Design.{Port, OpResult, Op, Module, Design, find_module, instance_in, output_refs, Ref}
+use Rattle.hw_model.specs.Types.{Name}
+use Rattle.hw_model.specs.Design.{Port, OpResult, Op, Module, Design, output_refs, Ref}
 use Rattle.hw_model.specs.Flat.{Register, register_in}
-use Rattle.verilog_model.specs.Tree.{Expr, VPort, Item, VModule}
+use Rattle.verilog_model.specs.Tree.{Item}
 use Rattle.verilog_model.specs.Tree.Item.{assign}
-use Rattle.verilog_model.specs.Checks.{is_identifier, all_identifiers, names_check, are_distinct, high_checks, Declared, declared_by, declared_ports, declared_items, declared_in, port_role, ports_check}
+use Rattle.verilog_model.specs.Checks.{is_identifier, all_identifiers, names_check, are_distinct, Declared, declared_by, declared_ports, declared_items, declared_in}
 use Rattle.verilog_model.proofs.Numerals.{and_intro}
 use Rattle.export_verilog.specs.Keys.{Key, Role, each, role_of, result_keys, key_text, module_keys}
 use Rattle.export_verilog.specs.Keys.Key.{port_key, value_key, instance_key}
@@ -17,10 +15,8 @@ use Rattle.export_verilog.specs.Keys.Role.{hidden, net, variable, block}
 use Rattle.export_verilog.specs.Exported.{expression, expr_or_none, others, vport, vports, vitems, vmodule, result_wires, declared_as, declares, always_of, instance_of, stated_as, states, output_assigns}
 use Rattle.export_verilog.proofs.Lists.{in_append}
 use Rattle.export_verilog.proofs.KeyNames.{AreNames, text_named, name_is_identifier}
-use Rattle.export_verilog.proofs.KeysOf.{from_each, into_each, in_results, instance_of_role, port_in, net_in, variable_in, instance_in_keys, result_in_keys}
+use Rattle.export_verilog.proofs.KeysOf.{from_each, in_results, instance_of_role, net_in, variable_in, instance_in_keys, result_in_keys}
 use Rattle.export_verilog.proofs.Apart.{AreApart, joined_apart, texts_distinct, port_keys_from, port_keys_above, port_keys_apart, port_keys_within}
-use Rattle.export_verilog.proofs.Settings.{Setting, module_ok}
-use Rattle.export_verilog.proofs.Stated.{high_decimal}
 
 name_of_declared : Declared → Name
 name_of_declared y = y.name
@@ -89,6 +85,7 @@ module _ (m : Module) where
     in_always : (q : Name) (r : Option Register) → names_of (always_of m q r) ≡ []
     in_always q None = refl
     in_always q (Some r) = refl
+
     go : (r : Role) → role_of m.ports m.body i o ≡ r → names_of (stated_as d m i o r) ≡ map (key_text m) (block_keys r i o)
     go hidden e = refl
     go net e = refl
@@ -143,8 +140,8 @@ module _ {A : Type 0} (f : ℕ → A → List Key) (placed : (i : ℕ) (x : A) (
   each_apart i (x ∷ xs) =
       joined_apart (f i x) (each f (suc i) xs) (apart i x) (each_apart (suc i) xs)
       (λ k u v. let e = each_above (suc i) xs k v in clash k (placed i x k u) e.0 e.1) where
-    clash : (k : Key) → key_place k ≡ i → (n : ℕ) → key_place k ≡ suc i + n → ⊥
-    clash k a n b = omega (arith, a, b)
+        clash : (k : Key) → key_place k ≡ i → (n : ℕ) → key_place k ≡ suc i + n → ⊥
+        clash k a n b = omega (arith, a, b)
 
 result_keys_above : (i k : ℕ) (rs : List OpResult) (key : Key) → In key (result_keys i k rs) → (n : ℕ) × (key ≡ value_key i (k + n))
 result_keys_above i k rs key here = let e = in_results i k rs key here in (e.0, e.3)
@@ -162,6 +159,7 @@ module _ (m : Module) where
     single : In k (value_key i 0 ∷ []) → key_place k ≡ i
     single (inl e) = ap key_place e
     single (inr never) = absurd never
+
     go : (r : Role) → In k (wire_keys r i o) → key_place k ≡ i
     go hidden h = absurd h
     go net h = single h
@@ -200,6 +198,7 @@ module _ (m : Module) where
     single : (i : ℕ) → In k (value_key i 0 ∷ []) → (j n : ℕ) × (k ≡ value_key j n)
     single i (inl e) = (i, 0, e)
     single i (inr never) = absurd never
+
     go : (i : ℕ) (o : Op) (r : Role) → In k (wire_keys r i o) → (j n : ℕ) × (k ≡ value_key j n)
     go i o hidden h = absurd h
     go i o net h = single i h
@@ -219,15 +218,18 @@ module _ (m : Module) where
       (each_apart (op_blocks m) (λ i o k h. (blocks_placed i o k h).1) blocks_apart 0 m.body)
       (λ k u v. let a = wire_kind k u in let b = block_kind k v in value_instance a.0 a.1 b.0 (sym a.2 ∙ b.1)))
       (λ k u v. let a = port_kind k u in go k a.0 a.1 (in_append k (each (op_wires m) 0 m.body) (each (op_blocks m) 0 m.body) v)) where
-    value_instance : (i n j : ℕ) → value_key i n ≡ instance_key j → ⊥
-    value_instance i n j e = cc
-    port_value : (j i n : ℕ) → port_key j ≡ value_key i n → ⊥
-    port_value j i n e = cc
-    port_instance : (j i : ℕ) → port_key j ≡ instance_key i → ⊥
-    port_instance j i e = cc
-    go : (k : Key) (j : ℕ) → k ≡ port_key j → In k (each (op_wires m) 0 m.body) ⊎ In k (each (op_blocks m) 0 m.body) → ⊥
-    go k j e (inl h) = let b = wire_kind k h in port_value j b.0 b.1 (sym e ∙ b.2)
-    go k j e (inr h) = let b = block_kind k h in port_instance j b.0 (sym e ∙ b.1)
+        value_instance : (i n j : ℕ) → value_key i n ≡ instance_key j → ⊥
+        value_instance i n j e = cc
+
+        port_value : (j i n : ℕ) → port_key j ≡ value_key i n → ⊥
+        port_value j i n e = cc
+
+        port_instance : (j i : ℕ) → port_key j ≡ instance_key i → ⊥
+        port_instance j i e = cc
+
+        go : (k : Key) (j : ℕ) → k ≡ port_key j → In k (each (op_wires m) 0 m.body) ⊎ In k (each (op_blocks m) 0 m.body) → ⊥
+        go k j e (inl h) = let b = wire_kind k h in port_value j b.0 b.1 (sym e ∙ b.2)
+        go k j e (inr h) = let b = block_kind k h in port_instance j b.0 (sym e ∙ b.1)
 
   pub declared_within : (k : Key) → In k (declared_keys m) → In k (module_keys m)
   declared_within k here = go (in_append k (port_keys_from 0 m.ports) (each (op_wires m) 0 m.body ++ each (op_blocks m) 0 m.body) here) where

@@ -1,38 +1,30 @@
 -- Each thing that an exported tree declares has the drivers that are due.
-use Rattle.std.proofs.Common.{◌≡◌, ℕ, zero, suc, ◌+◌, ◌<◌, ◌⊎◌, ◌==◌, Bool, true, false, not, cond, ◌&&◌, ◌||◌, List, [], ◌∷◌, ◌++◌, map, take, slice_get, Option, Some, None, refl, sym, ◌∙◌, ap, ap₂, subst, inl, inr, arith, zero-add, add-zero, suc-add, add-suc, eq-eqb}
-use Rattle.std.proofs.lemmas.Bool.{true≢false, false≢true}
-use Rattle.wiring.specs.Options.{bind, omap}
+use Rattle.std.proofs.Common.{◌≡◌, ℕ, zero, suc, ◌+◌, ◌⊎◌, Bool, true, false, cond, List, [], ◌∷◌, ◌++◌, map, slice_get, Option, Some, None, refl, sym, ◌∙◌, ap, ap₂, subst, inl, inr, arith, zero-add, add-zero, suc-add, add-suc}
+use Rattle.std.proofs.lemmas.Bool.{false≢true}
+use Rattle.wiring.specs.Options.{omap}
 use Rattle.wiring.specs.Wiring.{In}
-use Rattle.wiring.proofs.Members.{In-append_left, In-append_right, from_In-map}
-use Rattle.hw_model.specs.Types.{Name, HwType, width}
-use Rattle.hw_model.specs.Kinds.{Instance}
-use Rattle.hw_model.specs.Design.{Ref, Port, OpResult, Op, Module, Design, same_name, find_module, instance_in, result_type, output_refs}
+use Rattle.hw_model.specs.Types.{Name}
+use Rattle.hw_model.specs.Design.{Ref, Port, OpResult, Op, Module, Design, same_name, find_module, output_refs}
 use Rattle.hw_model.specs.Design.Ref.{result}
 use Rattle.hw_model.specs.Equality.{name_self, name_from}
-use Rattle.hw_model.specs.Flat.{Register, ResetBy, register_in, width_of}
+use Rattle.hw_model.specs.Flat.{Register, ResetBy}
 use Rattle.hw_model.specs.Sound.{output_types}
-use Rattle.verilog_model.specs.Tree.{Expr, VPort, Connection, Item, VModule, Tree}
+use Rattle.verilog_model.specs.Tree.{Expr, Connection, Item, Tree}
 use Rattle.verilog_model.specs.Tree.Expr.{name}
-use Rattle.verilog_model.specs.Tree.Item.{wire, reg, assign, always, instance}
-use Rattle.verilog_model.specs.Hierarchy.{find_vmodule, find_port, vports_of, is_name, block_target}
-use Rattle.verilog_model.specs.Checks.{Declared, declared_by, declared_ports, declared_items, declared_in, port_role, outputs_joined, drivers_of, driver_count, drivers_due, each_driven}
-use Rattle.verilog_model.specs.Checks.Role.{input_port, output_port, block_name, variable as variable_role, net as net_role}
-use Rattle.verilog_model.proofs.Numerals.{and_intro}
+use Rattle.verilog_model.specs.Tree.Item.{assign, always}
+use Rattle.verilog_model.specs.Hierarchy.{find_vmodule, find_port, vports_of, block_target}
+use Rattle.verilog_model.specs.Checks.{outputs_joined, driver_count}
 use Rattle.export_verilog.specs.Keys.{Key, Role, same_key, named, name_or_nothing, each, role_of, result_keys, key_text, module_keys}
-use Rattle.export_verilog.specs.Keys.Key.{port_key, value_key, instance_key}
+use Rattle.export_verilog.specs.Keys.Key.{port_key, value_key}
 use Rattle.export_verilog.specs.Keys.Role.{hidden, net, variable, block}
-use Rattle.export_verilog.specs.Exported.{symbol_name, expression, assigned_expr, expr_or_none, others, vport, vports, vitems, vmodule, tree_of, result_wires, declared_as, declares, block_of, always_of, connections_of, connections_to, instance_of, stated_as, states, output_assigns}
+use Rattle.export_verilog.specs.Exported.{symbol_name, expression, assigned_expr, expr_or_none, others, vports, vitems, tree_of, result_wires, declared_as, declares, block_of, always_of, connections_of, connections_to, instance_of, stated_as, states, output_assigns}
 use Rattle.export_verilog.proofs.KeyNames.{AreNames, key_self, key_from, texts_apart}
-use Rattle.export_verilog.proofs.KeysOf.{from_each, into_each, in_results, results_in, port_in, net_in, variable_in, instance_in_keys, result_in_keys}
-use Rattle.export_verilog.proofs.Lists.{in_append}
-use Rattle.export_verilog.proofs.Apart.{AreApart, joined_apart, port_keys_from, port_keys_above}
+use Rattle.export_verilog.proofs.KeysOf.{in_results, port_in, net_in, variable_in, result_in_keys}
+use Rattle.export_verilog.proofs.Apart.{AreApart, joined_apart}
 use Rattle.export_verilog.proofs.Symbols.{vmodule_found}
-use Rattle.export_verilog.proofs.Items.{From, from_items}
-use Rattle.export_verilog.proofs.Items.From.{net_wire, variable_reg, result_wire, net_assign, variable_block, an_instance, output_assign}
 use Rattle.export_verilog.proofs.Lookups.{port_under, vport_at}
-use Rattle.export_verilog.proofs.Settings.{Setting, Called, called_by, called_by_role}
+use Rattle.export_verilog.proofs.Settings.{Setting, Called, called_by_role}
 use Rattle.export_verilog.proofs.Registers.{register_of}
-use Rattle.export_verilog.proofs.Known.{in_declared_items}
 use Rattle.export_verilog.proofs.Declares.{wire_keys, op_wires, each_apart, wires_placed, wires_apart, wire_kind}
 
 -- ---- how often a key stands in a list
@@ -140,37 +132,37 @@ module _ (d : Design) (x : Setting d) (s : Name) (m : Module) (is : find_module 
   joined_count i c names j l [] rs stands within = refl
   joined_count i c names j l (p ∷ ps) rs stands within =
       go p.is_output refl within (λ h. joined_count i c names (suc j) (suc l) ps rs later h) (λ h. joined_count i c names (suc j) l ps (others rs) later h) where
-    later : (q : ℕ) → slice_get ps q ≡ slice_get c.ports (suc j + q)
-    later q = stands (suc q) ∙ ap (slice_get c.ports) (add-suc j q ∙ sym (suc-add j q))
+        later : (q : ℕ) → slice_get ps q ≡ slice_get c.ports (suc j + q)
+        later q = stands (suc q) ∙ ap (slice_get c.ports) (add-suc j q ∙ sym (suc-add j q))
 
-    at_here : slice_get c.ports j ≡ Some p
-    at_here = sym (stands 0 ∙ ap (slice_get c.ports) (add-zero j))
+        at_here : slice_get c.ports j ≡ Some p
+        at_here = sym (stands 0 ∙ ap (slice_get c.ports) (add-zero j))
 
-    port_here : find_port (vports c) (key_text c (port_key j)) ≡ Some (vport_at c j p)
-    port_here = port_under c names (port_key j) (port_in c j p at_here) ∙ ap (omap (vport_at c j)) at_here
+        port_here : find_port (vports c) (key_text c (port_key j)) ≡ Some (vport_at c j p)
+        port_here = port_under c names (port_key j) (port_in c j p at_here) ∙ ap (omap (vport_at c j)) at_here
 
-    head : Expr → Connection
-    head e = record { port = key_text c (port_key j); value = e }
+        head : Expr → Connection
+        head e = record { port = key_text c (port_key j); value = e }
 
-    driven_head : p.is_output ≡ true → In (value_key i l) (module_keys m) → (cs : List Connection) → outputs_joined (key_text m k) (vports c) (head (name (key_text m (value_key i l))) ∷ cs)
-        ≡ once_if (same_key (value_key i l) k) + outputs_joined (key_text m k) (vports c) cs
-    driven_head out in_keys cs = simp (port_here, out, text_same m are (value_key i l) k in_keys here) (by_key (same_key (value_key i l) k)) where
-      by_key : (b : Bool) → cond b (suc (outputs_joined (key_text m k) (vports c) cs)) (outputs_joined (key_text m k) (vports c) cs) ≡ once_if b + outputs_joined (key_text m k) (vports c) cs
-      by_key true = omega arith
-      by_key false = sym (zero-add (outputs_joined (key_text m k) (vports c) cs))
+        driven_head : p.is_output ≡ true → In (value_key i l) (module_keys m) → (cs : List Connection) → outputs_joined (key_text m k) (vports c) (head (name (key_text m (value_key i l))) ∷ cs)
+            ≡ once_if (same_key (value_key i l) k) + outputs_joined (key_text m k) (vports c) cs
+        driven_head out in_keys cs = simp (port_here, out, text_same m are (value_key i l) k in_keys here) (by_key (same_key (value_key i l) k)) where
+          by_key : (b : Bool) → cond b (suc (outputs_joined (key_text m k) (vports c) cs)) (outputs_joined (key_text m k) (vports c) cs) ≡ once_if b + outputs_joined (key_text m k) (vports c) cs
+          by_key true = omega arith
+          by_key false = sym (zero-add (outputs_joined (key_text m k) (vports c) cs))
 
-    silent_head : p.is_output ≡ false → (e : Expr) (cs : List Connection) → outputs_joined (key_text m k) (vports c) (head e ∷ cs) ≡ outputs_joined (key_text m k) (vports c) cs
-    silent_head out e cs = simp (port_here, out) refl
+        silent_head : p.is_output ≡ false → (e : Expr) (cs : List Connection) → outputs_joined (key_text m k) (vports c) (head e ∷ cs) ≡ outputs_joined (key_text m k) (vports c) cs
+        silent_head out e cs = simp (port_here, out) refl
 
-    go : (b : Bool) → p.is_output ≡ b → ((a : Key) → In a (cond b (value_key i l ∷ out_keys i (suc l) ps) (out_keys i l ps)) → In a (module_keys m))
-        → (((a : Key) → In a (out_keys i (suc l) ps) → In a (module_keys m)) → outputs_joined (key_text m k) (vports c) (connections_of c m i (suc j) (suc l) ps rs) ≡ key_count k (out_keys i (suc l) ps))
-        → (((a : Key) → In a (out_keys i l ps) → In a (module_keys m)) → outputs_joined (key_text m k) (vports c) (connections_of c m i (suc j) l ps (others rs)) ≡ key_count k (out_keys i l ps))
-        → outputs_joined (key_text m k) (vports c) (cond b (head (name (key_text m (value_key i l))) ∷ connections_of c m i (suc j) (suc l) ps rs) (head (expr_or_none (expression m) rs) ∷ connections_of c m i (suc j) l ps (others rs)))
-        ≡ key_count k (cond b (value_key i l ∷ out_keys i (suc l) ps) (out_keys i l ps))
-    go true out all first second =
-        driven_head out (all (value_key i l) (inl refl)) (connections_of c m i (suc j) (suc l) ps rs)
-        ∙ ap (λ z. once_if (same_key (value_key i l) k) + z) (first (λ a h. all a (inr h)))
-    go false out all first second = silent_head out (expr_or_none (expression m) rs) (connections_of c m i (suc j) l ps (others rs)) ∙ second all
+        go : (b : Bool) → p.is_output ≡ b → ((a : Key) → In a (cond b (value_key i l ∷ out_keys i (suc l) ps) (out_keys i l ps)) → In a (module_keys m))
+            → (((a : Key) → In a (out_keys i (suc l) ps) → In a (module_keys m)) → outputs_joined (key_text m k) (vports c) (connections_of c m i (suc j) (suc l) ps rs) ≡ key_count k (out_keys i (suc l) ps))
+            → (((a : Key) → In a (out_keys i l ps) → In a (module_keys m)) → outputs_joined (key_text m k) (vports c) (connections_of c m i (suc j) l ps (others rs)) ≡ key_count k (out_keys i l ps))
+            → outputs_joined (key_text m k) (vports c) (cond b (head (name (key_text m (value_key i l))) ∷ connections_of c m i (suc j) (suc l) ps rs) (head (expr_or_none (expression m) rs) ∷ connections_of c m i (suc j) l ps (others rs)))
+            ≡ key_count k (cond b (value_key i l ∷ out_keys i (suc l) ps) (out_keys i l ps))
+        go true out all first second =
+            driven_head out (all (value_key i l) (inl refl)) (connections_of c m i (suc j) (suc l) ps rs)
+            ∙ ap (λ z. once_if (same_key (value_key i l) k) + z) (first (λ a h. all a (inr h)))
+        go false out all first second = silent_head out (expr_or_none (expression m) rs) (connections_of c m i (suc j) l ps (others rs)) ∙ second all
 
   -- ---- what an operation's statement drives
 
@@ -221,6 +213,7 @@ module _ (d : Design) (x : Setting d) (s : Name) (m : Module) (is : find_module 
     by_key : (b c : Bool) → b ≡ c → cond b 1 0 ≡ once_if c
     by_key true c e = ap once_if e
     by_key false c e = ap once_if e
+
     go : (b : Bool) → ((a : Key) → In a (cond b (port_key j ∷ output_keys (suc j) ps) (output_keys (suc j) ps)) → In a (module_keys m))
         → (((a : Key) → In a (output_keys (suc j) ps) → In a (module_keys m)) → driver_count t (key_text m k) (output_assigns m (suc j) ps (others rs)) ≡ key_count k (output_keys (suc j) ps))
         → (((a : Key) → In a (output_keys (suc j) ps) → In a (module_keys m)) → driver_count t (key_text m k) (output_assigns m (suc j) ps rs) ≡ key_count k (output_keys (suc j) ps))
@@ -264,6 +257,7 @@ module _ (d : Design) (x : Setting d) (s : Name) (m : Module) (is : find_module 
   outputs_apart j (p ∷ ps) = go p.is_output (outputs_apart (suc j) ps) where
     clash : (n : ℕ) → port_key j ≡ port_key (suc j + n) → ⊥
     clash n e = let f : j ≡ suc j + n = cc in omega (arith, f)
+
     go : (b : Bool) → AreApart (output_keys (suc j) ps) → AreApart (cond b (port_key j ∷ output_keys (suc j) ps) (output_keys (suc j) ps))
     go true rest = ((λ h. let e = output_among (suc j) ps (port_key j) h in clash e.0 e.4), rest)
     go false rest = rest
@@ -275,8 +269,8 @@ module _ (d : Design) (x : Setting d) (s : Name) (m : Module) (is : find_module 
   driven_apart =
       joined_apart (each (op_wires m) 0 m.body) (output_keys 0 m.ports) (each_apart (op_wires m) (wires_placed m) (wires_apart m) 0 m.body) (outputs_apart 0 m.ports)
       (λ a u v. let b = wire_kind m a u in let c = output_among 0 m.ports a v in clash b.0 b.1 (0 + c.0) (sym b.2 ∙ c.4)) where
-    clash : (i l j : ℕ) → value_key i l ≡ port_key j → ⊥
-    clash i l j e = cc
+        clash : (i l j : ℕ) → value_key i l ≡ port_key j → ⊥
+        clash i l j e = cc
 
   pub drivers_are : driver_count t (key_text m k) (vitems d m) ≡ key_count k driven_keys
   drivers_are =

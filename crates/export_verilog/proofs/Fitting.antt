@@ -1,12 +1,12 @@
 -- The tree of any design keeps the precedence and association of the operators.
-use Rattle.std.proofs.Common.{◌≡◌, ℕ, zero, suc, Bool, true, false, ◌&&◌, cond, List, [], ◌∷◌, ◌++◌, map, Option, Some, None, refl, sym, ◌∙◌, ap, ap₂, IsTrue, slice_get}
-use Rattle.hw_model.specs.Types.{Name, width}
+use Rattle.std.proofs.Common.{◌≡◌, ℕ, suc, Bool, true, false, ◌&&◌, cond, List, [], ◌∷◌, ◌++◌, map, Option, Some, None, refl}
+use Rattle.hw_model.specs.Types.{Name}
 use Rattle.hw_model.specs.Kinds.{Instance}
 use Rattle.hw_model.specs.Design.{Ref, Port, OpResult, Op, Module, Design, find_module, instance_in, output_refs}
 use Rattle.hw_model.specs.Design.Ref.{result}
 use Rattle.hw_model.specs.Flat.{Register, ResetBy, register_in}
 use Rattle.hw_model.specs.Equality.{both_of}
-use Rattle.verilog_model.specs.Tree.{Expr, Connection, Item, VModule, Tree}
+use Rattle.verilog_model.specs.Tree.{Expr, Connection, Item}
 use Rattle.verilog_model.specs.Tree.Expr.{name}
 use Rattle.verilog_model.specs.Tree.Item.{assign, always}
 use Rattle.verilog_model.specs.Grammar.{fits, item_fits, items_fit, connections_fit, tree_fits}
@@ -56,21 +56,24 @@ connections_fit_all : (c m : Module) (i j k : ℕ) (ps : List Port) (rs : List R
 connections_fit_all c m i j k [] rs = refl
 connections_fit_all c m i j k (p ∷ ps) rs =
     go p.is_output (connections_fit_all c m i (suc j) (suc k) ps rs) (and_intro (fits (expr_or_none (expression m) rs)) (connections_fit (connections_of c m i (suc j) k ps (others rs))) (expr_fits m rs) (connections_fit_all c m i (suc j) k ps (others rs))) where
-  head : Expr → Connection
-  head e = record { port = key_text c (port_key j); value = e }
-  go : (b : Bool) → connections_fit (connections_of c m i (suc j) (suc k) ps rs) ≡ true
-      → (fits (expr_or_none (expression m) rs) && connections_fit (connections_of c m i (suc j) k ps (others rs))) ≡ true
-      → connections_fit (cond b (head (name (key_text m (value_key i k))) ∷ connections_of c m i (suc j) (suc k) ps rs) (head (expr_or_none (expression m) rs) ∷ connections_of c m i (suc j) k ps (others rs))) ≡ true
-  go true x y = x
-  go false x y = y
+      head : Expr → Connection
+      head e = record { port = key_text c (port_key j); value = e }
+
+      go : (b : Bool) → connections_fit (connections_of c m i (suc j) (suc k) ps rs) ≡ true
+          → (fits (expr_or_none (expression m) rs) && connections_fit (connections_of c m i (suc j) k ps (others rs))) ≡ true
+          → connections_fit (cond b (head (name (key_text m (value_key i k))) ∷ connections_of c m i (suc j) (suc k) ps rs) (head (expr_or_none (expression m) rs) ∷ connections_of c m i (suc j) k ps (others rs))) ≡ true
+      go true x y = x
+      go false x y = y
 
 always_fits : (m : Module) (q : Name) (r : Option Register) → items_fit (always_of m q r) ≡ true
 always_fits m q None = refl
 always_fits m q (Some r) = go r.enable r.reset where
   ex : (x : Ref) → fits (expression m x) ≡ true
   ex x = expression_fits m x
+
   all_of : Name → Option Ref → Option ResetBy → List Item
   all_of n e s = always n (block_of (expression m) q r.next e s) ∷ []
+
   go : (e : Option Ref) (s : Option ResetBy) → items_fit (all_of (name_or_nothing (named m r.clock)) e s) ≡ true
   go None None = rw (ex r.next) refl
   go (Some e) None = rw (ex e, ex r.next) refl
@@ -96,10 +99,10 @@ outputs_fit : (m : Module) (j : ℕ) (ps : List Port) (rs : List Ref) → items_
 outputs_fit m j [] rs = refl
 outputs_fit m j (p ∷ ps) rs =
     go p.is_output (and_intro (fits (expr_or_none (expression m) rs)) (items_fit (output_assigns m (suc j) ps (others rs))) (expr_fits m rs) (outputs_fit m (suc j) ps (others rs))) (outputs_fit m (suc j) ps rs) where
-  go : (b : Bool) → (fits (expr_or_none (expression m) rs) && items_fit (output_assigns m (suc j) ps (others rs))) ≡ true → items_fit (output_assigns m (suc j) ps rs) ≡ true
-      → items_fit (cond b (assign (key_text m (port_key j)) (expr_or_none (expression m) rs) ∷ output_assigns m (suc j) ps (others rs)) (output_assigns m (suc j) ps rs)) ≡ true
-  go true x y = x
-  go false x y = y
+      go : (b : Bool) → (fits (expr_or_none (expression m) rs) && items_fit (output_assigns m (suc j) ps (others rs))) ≡ true → items_fit (output_assigns m (suc j) ps rs) ≡ true
+          → items_fit (cond b (assign (key_text m (port_key j)) (expr_or_none (expression m) rs) ∷ output_assigns m (suc j) ps (others rs)) (output_assigns m (suc j) ps rs)) ≡ true
+      go true x y = x
+      go false x y = y
 
 -- ---- trees
 

@@ -1,12 +1,12 @@
 -- The names of a module's things: each thing has one, and no two have the same.
-use Rattle.std.proofs.Common.{◌≡◌, ℕ, zero, suc, ◌+◌, ◌<◌, ◌^◌, ◌⊎◌, Bool, true, false, ◌&&◌, ◌||◌, not, cond, nat_eq, List, [], ◌∷◌, ◌++◌, map, length, slice_get, Option, Some, None, refl, sym, ◌∙◌, ap, ap₂, inl, inr, eq-eqb, eqb-true, IsTrue, arith}
+use Rattle.std.proofs.Common.{◌≡◌, ◌⊎◌, Bool, true, false, ◌&&◌, ◌||◌, not, cond, nat_eq, List, [], ◌∷◌, length, Some, refl, sym, ◌∙◌, ap, ap₂, inl, inr, eq-eqb, eqb-true, IsTrue, arith}
 use Rattle.wiring.specs.Wiring.{In}
 use Rattle.hw_model.specs.Types.{Name}
 use Rattle.hw_model.specs.Design.{same_name, Module}
-use Rattle.hw_model.specs.Equality.{both_of, name_self, name_from}
+use Rattle.hw_model.specs.Equality.{both_of, name_self}
 use Rattle.verilog_model.specs.Checks.{contains_name, are_distinct, is_identifier, all_identifiers, names_check}
 use Rattle.verilog_model.proofs.Numerals.{and_first, and_second}
-use Rattle.export_verilog.specs.Keys.{Key, same_key, module_keys, names, wish, name_among, key_name, key_text, name_or_nothing}
+use Rattle.export_verilog.specs.Keys.{Key, same_key, module_keys, names, name_among, key_name, key_text, name_or_nothing}
 use Rattle.export_verilog.specs.Keys.Key.{port_key, value_key, instance_key}
 
 -- ---- keys are told apart
@@ -67,17 +67,19 @@ among_apart [] ns k l n distinct e f = cc
 among_apart (h ∷ ks) [] k l n distinct e f = cc
 among_apart (h ∷ ks) (m ∷ ns) k l n distinct e f =
     go (same_key h k) (same_key h l) refl refl e f (among_apart ks ns k l n (later (contains_name m ns) (are_distinct ns) distinct)) where
-  later : (c d : Bool) → IsTrue (not c && d) → IsTrue d
-  later c d t = and_second (not c) d t
-  away : (c d : Bool) → IsTrue (not c && d) → c ≡ true → ⊥
-  away true d t e = cc
-  away false d t e = cc
-  go : (a b : Bool) → same_key h k ≡ a → same_key h l ≡ b → cond a (Some m) (name_among ks ns k) ≡ Some n → cond b (Some m) (name_among ks ns l) ≡ Some n
-      → (name_among ks ns k ≡ Some n → name_among ks ns l ≡ Some n → k ≡ l) → k ≡ l
-  go true true x y e f rest = sym (key_from h k x) ∙ key_from h l y
-  go true false x y e f rest = absurd (away (contains_name m ns) (are_distinct ns) distinct (let same : n ≡ m = cc in contains_in m ns (rw (sym same) (among_name ks ns l n f))))
-  go false true x y e f rest = absurd (away (contains_name m ns) (are_distinct ns) distinct (let same : n ≡ m = cc in contains_in m ns (rw (sym same) (among_name ks ns k n e))))
-  go false false x y e f rest = rest e f
+      later : (c d : Bool) → IsTrue (not c && d) → IsTrue d
+      later c d t = and_second (not c) d t
+
+      away : (c d : Bool) → IsTrue (not c && d) → c ≡ true → ⊥
+      away true d t e = cc
+      away false d t e = cc
+
+      go : (a b : Bool) → same_key h k ≡ a → same_key h l ≡ b → cond a (Some m) (name_among ks ns k) ≡ Some n → cond b (Some m) (name_among ks ns l) ≡ Some n
+          → (name_among ks ns k ≡ Some n → name_among ks ns l ≡ Some n → k ≡ l) → k ≡ l
+      go true true x y e f rest = sym (key_from h k x) ∙ key_from h l y
+      go true false x y e f rest = absurd (away (contains_name m ns) (are_distinct ns) distinct (let same : n ≡ m = cc in contains_in m ns (rw (sym same) (among_name ks ns l n f))))
+      go false true x y e f rest = absurd (away (contains_name m ns) (are_distinct ns) distinct (let same : n ≡ m = cc in contains_in m ns (rw (sym same) (among_name ks ns k n e))))
+      go false false x y e f rest = rest e f
 
 -- ---- identifiers
 

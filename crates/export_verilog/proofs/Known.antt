@@ -1,44 +1,35 @@
 -- What a module's tree declares before its statements, and that the expressions of the statements meet the checks.
-use Rattle.std.proofs.Common.{◌≡◌, ℕ, zero, suc, ◌+◌, ◌-◌, ◌<◌, ◌≤◌, ◌^◌, ◌⊎◌, ◌==◌, nat_le, Bool, true, false, not, cond, ◌&&◌, List, [], ◌∷◌, ◌++◌, map, slice_get, decimal, Option, Some, None, is_some, refl, sym, ◌∙◌, ap, ap₂, subst, inl, inr, zero-add, arith, IsTrue, le-leb, eqb-true}
+use Rattle.std.proofs.Common.{◌≡◌, ℕ, ◌⊎◌, not, ◌&&◌, List, [], ◌∷◌, ◌++◌, slice_get, Option, Some, None, refl, sym, ◌∙◌, ap, ap₂, subst, inl, inr, zero-add, IsTrue}
 use Rattle.wiring.specs.Options.{bind, omap}
 use Rattle.wiring.specs.Wiring.{In}
-use Rattle.wiring.proofs.Options.{omap_some, bind_some}
 use Rattle.wiring.proofs.Members.{In-append_left, In-append_right, In-map, from_In-map}
-use Rattle.hw_model.specs.Types.{Name, HwType, width}
-use Rattle.hw_model.specs.Design.{Ref, Port, OpResult, Op, Module, Design, same_name, find_module, result_type}
-use Rattle.hw_model.specs.Design.Ref.{port, result}
+use Rattle.hw_model.specs.Types.{Name, width}
+use Rattle.hw_model.specs.Design.{Port, OpResult, Op, Module, Design, same_name, find_module, result_type}
 use Rattle.hw_model.specs.Equality.{name_self, name_from}
 use Rattle.hw_model.specs.Flat.{width_of}
-use Rattle.hw_model.specs.Sound.{type_in}
-use Rattle.verilog_model.specs.Tokens.{is_name_start, is_name_byte, is_word_byte}
-use Rattle.verilog_model.specs.Numerals.{decimal_number, is_nonempty, all_bytes}
-use Rattle.verilog_model.specs.Tree.{Numeral, Expr, VPort, Item}
-use Rattle.verilog_model.specs.Tree.Expr.{name}
-use Rattle.verilog_model.specs.Tree.Item.{wire, reg, assign, always, instance}
-use Rattle.verilog_model.specs.Hierarchy.{first_some, or_else, when}
+use Rattle.verilog_model.specs.Tokens.{is_name_byte}
+use Rattle.verilog_model.specs.Numerals.{all_bytes}
+use Rattle.verilog_model.specs.Tree.{VPort, Item}
+use Rattle.verilog_model.specs.Tree.Item.{wire, reg}
+use Rattle.verilog_model.specs.Hierarchy.{or_else, when}
 use Rattle.verilog_model.specs.Reserved.{reserved_words}
-use Rattle.verilog_model.specs.Checks.{contains_name, starts_name, is_identifier, Role as DeclaredRole, Declared, find_declared, can_read, has_role, within, has_bit, declared_by, port_role, declared_ports, declared_items}
-use Rattle.verilog_model.specs.Checks.Role.{input_port, output_port, variable as variable_role, net as net_role}
-use Rattle.verilog_model.proofs.Numerals.{and_first, and_second, decimal_number-decimal}
+use Rattle.verilog_model.specs.Checks.{contains_name, starts_name, is_identifier, Role as DeclaredRole, Declared, find_declared, within, declared_by, port_role, declared_ports, declared_items}
+use Rattle.verilog_model.specs.Checks.Role.{variable as variable_role, net as net_role}
+use Rattle.verilog_model.proofs.Numerals.{and_first, and_second}
 use Rattle.verilog_model.proofs.Reread.{all_name_bytes}
 use Rattle.verilog_expr.specs.Numerals.{high_of}
-use Rattle.verilog_expr.specs.Expressions.{value_width}
 use Rattle.verilog_expr.proofs.TextRead.{IsWord}
-use Rattle.verilog_expr.proofs.Checked.{IsWell, IsWide}
-use Rattle.verilog_expr.proofs.BodiesChecked.{AreKnown}
-use Rattle.export_verilog.specs.Keys.{Key, Role, each, role_of, key_text, module_keys, named}
+use Rattle.export_verilog.specs.Keys.{Key, Role, each, role_of, key_text, module_keys}
 use Rattle.export_verilog.specs.Keys.Key.{port_key, value_key, instance_key}
 use Rattle.export_verilog.specs.Keys.Role.{hidden, net, variable, block}
 use Rattle.export_verilog.specs.Exported.{result_wires, declared_as, declares, vport, vports}
 use Rattle.export_verilog.proofs.Lists.{in_append}
-use Rattle.export_verilog.proofs.KeyNames.{AreNames, text_named, name_is_identifier}
 use Rattle.export_verilog.proofs.KeysOf.{from_each, into_each, Owner, owner_of, port_in, net_in, variable_in, result_in_keys}
 use Rattle.export_verilog.proofs.KeysOf.Owner.{a_port, a_net, a_variable, an_instance as owns_instance, a_result}
 use Rattle.export_verilog.proofs.Symbols.{when_some}
 use Rattle.export_verilog.proofs.Items.{from_wires, into_wires}
 use Rattle.export_verilog.proofs.Lookups.{found, vport_at}
-use Rattle.export_verilog.proofs.Settings.{Setting, module_ok, result_at_first}
-use Rattle.export_verilog.proofs.Writable.{NamedAs, named_as}
+use Rattle.export_verilog.proofs.Settings.{Setting, result_at_first}
 
 -- ---- identifiers are words
 
@@ -105,46 +96,46 @@ module _ (d : Design) (x : Setting d) (s : Name) (m : Module) (is : find_module 
   unfolding Backed
   items_back n y c z here within called same = let e = from_each (declares m) m.body z here in
       go e.0 e.1 e.2 (role_of m.ports m.body e.0 e.1) refl e.3 where
-    own : (i k : ℕ) (o : Op) (r : OpResult) → slice_get m.body i ≡ Some o → slice_get o.results k ≡ Some r → In (value_key i k) (module_keys m) → y ≡ declared_result m i k o r → Backed n c
-    own i k o r there found_so key as_it = (value_key i k, key, sym called ∙ ap (λ (q : Declared). q.name) as_it, value_of_result i k o r there found_so ∙ ap (λ (q : Declared). Some q) (sym as_it ∙ same))
+        own : (i k : ℕ) (o : Op) (r : OpResult) → slice_get m.body i ≡ Some o → slice_get o.results k ≡ Some r → In (value_key i k) (module_keys m) → y ≡ declared_result m i k o r → Backed n c
+        own i k o r there found_so key as_it = (value_key i k, key, sym called ∙ ap (λ (q : Declared). q.name) as_it, value_of_result i k o r there found_so ∙ ap (λ (q : Declared). Some q) (sym as_it ∙ same))
 
-    wired : (i k : ℕ) (o : Op) (r : OpResult) (role : Role) → slice_get m.body i ≡ Some o → slice_get o.results k ≡ Some r → In (value_key i k) (module_keys m) → role_of m.ports m.body i o ≡ role
-        → z ≡ wire (high_of (width r.type)) (key_text m (value_key i k)) → result_role role ≡ net_role → In y (declared_by z) → Backed n c
-    wired i k o r role there found_so key is_role as_it plain at = by_in (subst (λ q. In y (declared_by q)) as_it at) where
-      by_in : In y (record { name = key_text m (value_key i k); role = net_role; high = high_of (width r.type) } ∷ []) → Backed n c
-      by_in (inl e) = own i k o r there found_so key (e ∙ ap (λ q. record { name = key_text m (value_key i k); role = q; high = high_of (width r.type) }) (sym plain ∙ ap result_role (sym is_role)))
-      by_in (inr never) = absurd never
+        wired : (i k : ℕ) (o : Op) (r : OpResult) (role : Role) → slice_get m.body i ≡ Some o → slice_get o.results k ≡ Some r → In (value_key i k) (module_keys m) → role_of m.ports m.body i o ≡ role
+            → z ≡ wire (high_of (width r.type)) (key_text m (value_key i k)) → result_role role ≡ net_role → In y (declared_by z) → Backed n c
+        wired i k o r role there found_so key is_role as_it plain at = by_in (subst (λ q. In y (declared_by q)) as_it at) where
+          by_in : In y (record { name = key_text m (value_key i k); role = net_role; high = high_of (width r.type) } ∷ []) → Backed n c
+          by_in (inl e) = own i k o r there found_so key (e ∙ ap (λ q. record { name = key_text m (value_key i k); role = q; high = high_of (width r.type) }) (sym plain ∙ ap result_role (sym is_role)))
+          by_in (inr never) = absurd never
 
-    go : (i : ℕ) (o : Op) → slice_get m.body i ≡ Some o → (role : Role) → role_of m.ports m.body i o ≡ role → In z (declared_as m i o role) → Backed n c
-    go i o there hidden role h = absurd h
-    go i o there net role (inl e) = let r = result_at_first d x s m is i o there (inl role) in
-        wired i 0 o r.0 net there r.1 (net_in m i o there role) role (e ∙ ap (λ h. wire h (key_text m (value_key i 0))) (high_first o r.0 r.1)) refl within
-    go i o there net role (inr never) = absurd never
-    go i o there variable role (inl e) = let r = result_at_first d x s m is i o there (inr role) in by_in r.0 r.1 (subst (λ q. In y (declared_by q)) e within) where
-      by_in : (r : OpResult) → slice_get o.results 0 ≡ Some r → In y (record { name = key_text m (value_key i 0); role = variable_role; high = high_of (width_of (result_type o 0)) } ∷ []) → Backed n c
-      by_in r at (inl f) = own i 0 o r there at (variable_in m i o there role)
-          (f ∙ ap₂ (λ q h. record { name = key_text m (value_key i 0); role = q; high = h }) (ap result_role (sym role)) (high_first o r at))
-      by_in r at (inr never) = absurd never
-    go i o there variable role (inr never) = absurd never
-    go i o there block role h = let w = from_wires m i 0 o.results z h in
-        wired i w.0 o w.1 block there w.2 (result_in_keys m i w.0 o w.1 there role w.2) role (w.3 ∙ ap (λ a. wire (high_of (width w.1.type)) (key_text m (value_key i a))) (zero-add w.0)) refl within
+        go : (i : ℕ) (o : Op) → slice_get m.body i ≡ Some o → (role : Role) → role_of m.ports m.body i o ≡ role → In z (declared_as m i o role) → Backed n c
+        go i o there hidden role h = absurd h
+        go i o there net role (inl e) = let r = result_at_first d x s m is i o there (inl role) in
+            wired i 0 o r.0 net there r.1 (net_in m i o there role) role (e ∙ ap (λ h. wire h (key_text m (value_key i 0))) (high_first o r.0 r.1)) refl within
+        go i o there net role (inr never) = absurd never
+        go i o there variable role (inl e) = let r = result_at_first d x s m is i o there (inr role) in by_in r.0 r.1 (subst (λ q. In y (declared_by q)) e within) where
+          by_in : (r : OpResult) → slice_get o.results 0 ≡ Some r → In y (record { name = key_text m (value_key i 0); role = variable_role; high = high_of (width_of (result_type o 0)) } ∷ []) → Backed n c
+          by_in r at (inl f) = own i 0 o r there at (variable_in m i o there role)
+              (f ∙ ap₂ (λ q h. record { name = key_text m (value_key i 0); role = q; high = h }) (ap result_role (sym role)) (high_first o r at))
+          by_in r at (inr never) = absurd never
+        go i o there variable role (inr never) = absurd never
+        go i o there block role h = let w = from_wires m i 0 o.results z h in
+            wired i w.0 o w.1 block there w.2 (result_in_keys m i w.0 o w.1 there role w.2) role (w.3 ∙ ap (λ a. wire (high_of (width w.1.type)) (key_text m (value_key i a))) (zero-add w.0)) refl within
 
   ports_back : (n : Name) (y c : Declared) → In y (declared_ports (vports m)) → y.name ≡ n → y ≡ c → Backed n c
   unfolding Backed
   ports_back n y c here called same = let f = from_In-map (λ (p : VPort). record { name = p.name; role = port_role p.is_output; high = p.high }) y (vports m) here in
       let e = from_each (vport m) m.ports f.0 f.1 in go e.0 e.1 e.2 e.3 f.2 where
-    go : {v : VPort} (j : ℕ) (p : Port) → slice_get m.ports j ≡ Some p → In v (vport m j p) → y ≡ record { name = v.name; role = port_role v.is_output; high = v.high } → Backed n c
-    go j p there (inl e) as_it =
-        let own : y ≡ declared_port m j p = as_it ∙ ap (λ (v : VPort). record { name = v.name; role = port_role v.is_output; high = v.high }) e in
-        (port_key j, port_in m j p there, sym called ∙ ap (λ (q : Declared). q.name) own, ap (omap (declared_port m j)) there ∙ ap (λ (q : Declared). Some q) (sym own ∙ same))
-    go j p there (inr never) as_it = absurd never
+        go : {v : VPort} (j : ℕ) (p : Port) → slice_get m.ports j ≡ Some p → In v (vport m j p) → y ≡ record { name = v.name; role = port_role v.is_output; high = v.high } → Backed n c
+        go j p there (inl e) as_it =
+            let own : y ≡ declared_port m j p = as_it ∙ ap (λ (v : VPort). record { name = v.name; role = port_role v.is_output; high = v.high }) e in
+            (port_key j, port_in m j p there, sym called ∙ ap (λ (q : Declared). q.name) own, ap (omap (declared_port m j)) there ∙ ap (λ (q : Declared). Some q) (sym own ∙ same))
+        go j p there (inr never) as_it = absurd never
 
   known_back : (n : Name) (y c : Declared) → In y (known_first m) → when (same_name y.name n) y ≡ Some c → Backed n c
   known_back n y c here gives = let h = when_some (same_name y.name n) y c gives in
       go (in_append y (declared_ports (vports m)) (declared_items (declarations m)) here) (name_from y.name n h.0) h.1 where
-    go : In y (declared_ports (vports m)) ⊎ In y (declared_items (declarations m)) → y.name ≡ n → y ≡ c → Backed n c
-    go (inl h) called same = ports_back n y c h called same
-    go (inr h) called same = let e = in_declared_items y (declarations m) h in items_back n y c e.0 e.1 e.2 called same
+        go : In y (declared_ports (vports m)) ⊎ In y (declared_items (declarations m)) → y.name ≡ n → y ≡ c → Backed n c
+        go (inl h) called same = ports_back n y c h called same
+        go (inr h) called same = let e = in_declared_items y (declarations m) h in items_back n y c e.0 e.1 e.2 called same
 
   Forth : Key → Declared → Type 0
   Forth k c = (y : Declared) × In y (known_first m) × (when (same_name y.name (key_text m k)) y ≡ Some c)

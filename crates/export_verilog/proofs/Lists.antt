@@ -1,5 +1,5 @@
 -- Lists that are made element by element, and what is first found in a list.
-use Rattle.std.proofs.Common.{◌≡◌, ℕ, zero, suc, ◌+◌, ◌⊎◌, List, [], ◌∷◌, ◌++◌, map, slice_get, Option, Some, None, refl, sym, ◌∙◌, ap, inl, inr, arith, add-zero, add-suc, zero-add, suc-add}
+use Rattle.std.proofs.Common.{◌≡◌, ℕ, zero, suc, ◌+◌, ◌⊎◌, List, [], ◌∷◌, ◌++◌, slice_get, Option, Some, None, refl, sym, ◌∙◌, ap, inl, inr, add-zero, add-suc, suc-add}
 use Rattle.wiring.specs.Wiring.{In}
 use Rattle.wiring.proofs.Members.{In-append_left, In-append_right}
 use Rattle.verilog_model.specs.Hierarchy.{first_some, or_else}
@@ -32,6 +32,7 @@ module _ {A B : Type 0} (f : ℕ → A → List B) where
       there = e.there;
       within = rw (sym (suc-add i e.place ∙ sym (add-suc i e.place))) e.within;
     }
+
     go : In y (f i x) ⊎ In y (each f (suc i) xs) → (In y (each f (suc i) xs) → FromEach (suc i) xs y) → FromEach i (x ∷ xs) y
     go (inl h) rest = record { place = 0; element = x; there = refl; within = rw (add-zero i) h }
     go (inr h) rest = later (rest h)

@@ -1,27 +1,25 @@
 -- The items of a module's tree meet the checks in their order.
-use Rattle.std.proofs.Common.{◌≡◌, ℕ, zero, suc, ◌+◌, Bool, true, false, cond, ◌&&◌, ◌||◌, List, [], ◌∷◌, ◌++◌, map, take, slice_get, Option, Some, None, is_some, refl, sym, ◌∙◌, ap, ap₂, subst, inl, inr, zero-add, IsTrue}
+use Rattle.std.proofs.Common.{◌≡◌, ℕ, ◌+◌, Bool, true, false, ◌&&◌, ◌||◌, List, [], ◌∷◌, ◌++◌, map, take, slice_get, Some, is_some, refl, ◌∙◌, ap, ap₂, inl, inr, zero-add}
 use Rattle.wiring.specs.Options.{omap}
 use Rattle.wiring.specs.Wiring.{In}
 use Rattle.wiring.proofs.Members.{In-append_right}
-use Rattle.hw_model.specs.Types.{Name, HwType, width}
+use Rattle.hw_model.specs.Types.{Name, width}
 use Rattle.hw_model.specs.Kinds.{Instance}
-use Rattle.hw_model.specs.Design.{Port, OpResult, Op, Module, Design, find_module, instance_in, result_type, output_refs}
+use Rattle.hw_model.specs.Design.{Port, Op, Module, Design, find_module, instance_in, result_type, output_refs}
 use Rattle.hw_model.specs.Flat.{width_of}
-use Rattle.verilog_model.specs.Tree.{VPort, Connection, Item, VModule, Tree}
-use Rattle.verilog_model.specs.Tree.Item.{wire, reg, assign}
+use Rattle.verilog_model.specs.Tree.{VPort, Connection, Item}
 use Rattle.verilog_model.specs.Hierarchy.{find_vmodule, find_port, find_connection, vports_of}
-use Rattle.verilog_model.specs.Checks.{Declared, connections_check, connection_checks, joins_inputs, ports_joined, item_checks, declared_by, items_check, declared_ports, declared_items, are_distinct}
+use Rattle.verilog_model.specs.Checks.{Declared, connections_check, connection_checks, joins_inputs, ports_joined, item_checks, declared_by, items_check, declared_ports, are_distinct}
 use Rattle.verilog_model.proofs.Numerals.{and_intro}
-use Rattle.verilog_expr.specs.Numerals.{high_of}
-use Rattle.export_verilog.specs.Keys.{each, role_of, key_text}
-use Rattle.export_verilog.specs.Keys.Key.{port_key, value_key}
+use Rattle.export_verilog.specs.Keys.{each, role_of}
+use Rattle.export_verilog.specs.Keys.Key.{port_key}
 use Rattle.export_verilog.specs.Keys.Role.{block}
 use Rattle.export_verilog.specs.Exported.{symbol_name, connections_of, connections_to, vport, vports, vitems, vmodule, tree_of, declares, states, output_assigns}
 use Rattle.export_verilog.proofs.KeysOf.{from_each, port_in}
 use Rattle.export_verilog.proofs.Symbols.{vmodule_found}
 use Rattle.export_verilog.proofs.Items.{connection_of, from_connections, instance_at, From, from_items}
 use Rattle.export_verilog.proofs.Items.From.{net_wire, variable_reg, result_wire, net_assign, variable_block, an_instance, output_assign}
-use Rattle.export_verilog.proofs.Lookups.{connection_under, connection_value, vport_at}
+use Rattle.export_verilog.proofs.Lookups.{connection_under}
 use Rattle.export_verilog.proofs.Settings.{Setting, Called, called_by}
 use Rattle.export_verilog.proofs.Known.{KnowsAll, knows_first, knows_more, known_first}
 use Rattle.export_verilog.proofs.Stated.{high_decimal, first_small, result_small, items_split, declaration_checks, register_good, net_good, output_good, connection_good, all_connections}
@@ -35,19 +33,22 @@ module _ (d : Design) (x : Setting d) (s : Name) (m : Module) (is : find_module 
   inputs_joined i o c (p ∷ ps) within =
       and_intro (p.is_output || is_some (find_connection cs p.name)) (joins_inputs ps cs) (or_right p.is_output (is_some (find_connection cs p.name)) (joined (from_each (vport c.module_of) c.module_of.ports p (within p (inl refl)))))
       (inputs_joined i o c ps (λ q h. within q (inr h))) where
-    cs : List Connection
-    cs = connections_of c.module_of m i 0 0 c.module_of.ports o.operands
-    or_right : (a b : Bool) → b ≡ true → (a || b) ≡ true
-    or_right true b e = refl
-    or_right false b e = e
-    there : (j : ℕ) (q : Port) → slice_get c.module_of.ports j ≡ Some q → In p (vport c.module_of j q) → is_some (find_connection cs p.name) ≡ true
-    there j q at (inl e) =
-        ap (λ (z : VPort). is_some (find_connection cs z.name)) e
-        ∙ ap is_some (connection_under c.module_of m i o (x.names c.kind.symbol c.module_of c.there) (port_key j) (port_in c.module_of j q at)
-        ∙ ap (omap (λ z. connection_of c.module_of m i j 0 (take j c.module_of.ports) z o.operands)) at)
-    there j q at (inr never) = absurd never
-    joined : (j : ℕ) × (q : Port) × (slice_get c.module_of.ports j ≡ Some q) × In p (vport c.module_of j q) → is_some (find_connection cs p.name) ≡ true
-    joined e = there e.0 e.1 e.2 e.3
+        cs : List Connection
+        cs = connections_of c.module_of m i 0 0 c.module_of.ports o.operands
+
+        or_right : (a b : Bool) → b ≡ true → (a || b) ≡ true
+        or_right true b e = refl
+        or_right false b e = e
+
+        there : (j : ℕ) (q : Port) → slice_get c.module_of.ports j ≡ Some q → In p (vport c.module_of j q) → is_some (find_connection cs p.name) ≡ true
+        there j q at (inl e) =
+            ap (λ (z : VPort). is_some (find_connection cs z.name)) e
+            ∙ ap is_some (connection_under c.module_of m i o (x.names c.kind.symbol c.module_of c.there) (port_key j) (port_in c.module_of j q at)
+            ∙ ap (omap (λ z. connection_of c.module_of m i j 0 (take j c.module_of.ports) z o.operands)) at)
+        there j q at (inr never) = absurd never
+
+        joined : (j : ℕ) × (q : Port) × (slice_get c.module_of.ports j ≡ Some q) × In p (vport c.module_of j q) → is_some (find_connection cs p.name) ≡ true
+        joined e = there e.0 e.1 e.2 e.3
 
   module _ (known : List Declared) (knows : KnowsAll d x s m is known) where
     instance_good : (i : ℕ) (o : Op) (y : Instance) → slice_get m.body i ≡ Some o → role_of m.ports m.body i o ≡ block → instance_in o.kind ≡ Some y → item_checks (tree_of d) known (instance_at d m i o y) ≡ true
@@ -61,11 +62,11 @@ module _ (d : Design) (x : Setting d) (s : Name) (m : Module) (is : find_module 
         (all_connections d x s m is known knows i o there role c cs (λ e h. each_good i o there role c e (from_connections c.module_of m i 0 0 c.module_of.ports o.operands e h)))
         (and_intro (joins_inputs (vports c.module_of) cs) (are_distinct (map (λ (z : Connection). z.port) cs)) (inputs_joined i o c (vports c.module_of) (λ p h. h))
         (ports_distinct c.module_of m (x.names c.kind.symbol c.module_of c.there) i o.operands)) where
-      each_good : (i : ℕ) (o : Op) → slice_get m.body i ≡ Some o → role_of m.ports m.body i o ≡ block → (c : Called d m o) → (e : Connection)
-          → (n : ℕ) × (p : Port) × (slice_get c.module_of.ports n ≡ Some p) × (e ≡ connection_of c.module_of m i (0 + n) 0 (take n c.module_of.ports) p o.operands)
-          → connection_checks known (find_port (vports c.module_of) e.port) e.value ≡ true
-      each_good i o there role c e h =
-          connection_good d x s m is known knows i o there role c h.0 h.1 h.2 e (h.3 ∙ ap (λ a. connection_of c.module_of m i a 0 (take h.0 c.module_of.ports) h.1 o.operands) (zero-add h.0))
+          each_good : (i : ℕ) (o : Op) → slice_get m.body i ≡ Some o → role_of m.ports m.body i o ≡ block → (c : Called d m o) → (e : Connection)
+              → (n : ℕ) × (p : Port) × (slice_get c.module_of.ports n ≡ Some p) × (e ≡ connection_of c.module_of m i (0 + n) 0 (take n c.module_of.ports) p o.operands)
+              → connection_checks known (find_port (vports c.module_of) e.port) e.value ≡ true
+          each_good i o there role c e h =
+              connection_good d x s m is known knows i o there role c h.0 h.1 h.2 e (h.3 ∙ ap (λ a. connection_of c.module_of m i a 0 (take h.0 c.module_of.ports) h.1 o.operands) (zero-add h.0))
 
     item_good : (y : Item) → From d m y → item_checks (tree_of d) known y ≡ true
     item_good y (net_wire i o there role same) = ap (item_checks (tree_of d) known) same ∙ high_decimal (width_of (result_type o 0)) (first_small d x s m is i o there)

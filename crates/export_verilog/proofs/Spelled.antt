@@ -1,18 +1,16 @@
 -- The names and numerals of an exported tree are words.
-use Rattle.std.proofs.Common.{◌≡◌, ℕ, zero, suc, ◌+◌, ◌-◌, ◌<◌, ◌≤◌, ◌^◌, ◌⊎◌, ◌==◌, Bool, true, false, cond, ◌&&◌, List, [], ◌∷◌, ◌++◌, map, take, slice_get, decimal, Option, Some, None, refl, sym, ◌∙◌, ap, ap₂, subst, inl, inr, zero-add, arith}
+use Rattle.std.proofs.Common.{◌≡◌, ℕ, ◌+◌, ◌-◌, ◌<◌, ◌^◌, ◌==◌, Bool, true, false, cond, List, [], ◌∷◌, map, take, slice_get, decimal, Option, Some, None, refl, sym, ◌∙◌, ap, subst, inl, inr, zero-add, arith}
 use Rattle.wiring.specs.Options.{omap}
 use Rattle.wiring.specs.Wiring.{In}
 use Rattle.wiring.proofs.Members.{In-slice_get, position_of_In}
 use Rattle.hw_model.specs.Types.{Name, HwType, width}
-use Rattle.hw_model.specs.Kinds.{Instance}
 use Rattle.hw_model.specs.Design.{Ref, Port, OpResult, Op, Module, Design, find_module, instance_in, result_type, output_refs, register_form, is_output_kind}
 use Rattle.hw_model.specs.Design.Ref.{result}
 use Rattle.hw_model.specs.Flat.{width_of, input_count, Register, ResetBy, register_in}
 use Rattle.hw_model.specs.Sound.{type_in, input_types, output_types}
-use Rattle.verilog_model.specs.Tree.{Expr, VPort, Load, Block, Connection, Item, VModule, Tree}
+use Rattle.verilog_model.specs.Tree.{VPort, Connection, Item}
 use Rattle.verilog_model.specs.Tree.Expr.{name}
-use Rattle.verilog_model.specs.Tree.Item.{wire, reg, assign, always, instance}
-use Rattle.verilog_model.specs.Checks.{is_identifier, are_distinct, all_identifiers}
+use Rattle.verilog_model.specs.Checks.{are_distinct, all_identifiers}
 use Rattle.verilog_model.proofs.Numerals.{and_second}
 use Rattle.verilog_expr.specs.Numerals.{high_of}
 use Rattle.verilog_expr.specs.Values.{gives_values}
@@ -22,8 +20,8 @@ use Rattle.export_verilog.specs.Keys.{Key, role_of, key_text, module_keys, named
 use Rattle.export_verilog.specs.Keys.Key.{port_key, value_key, instance_key}
 use Rattle.export_verilog.specs.Keys.Role.{net, variable, block}
 use Rattle.export_verilog.specs.Exported.{expression, assigned_expr, symbol_names, symbol_name, block_of, loads, connections_of, connections_to, vport, vports, vitems, vmodule, tree_of}
-use Rattle.export_verilog.proofs.TextRead.{IsHigh, IsSpellablePort, ArePorts, IsSpellableLoad, IsSpellableBlock, IsSpellableConnection, AreConnections, IsSpellableItem, AreItems, IsSpellableModule, IsSpellableTree}
-use Rattle.export_verilog.proofs.KeyNames.{AreNames, text_named, name_is_identifier, identifier_among}
+use Rattle.export_verilog.proofs.TextRead.{IsHigh, IsSpellablePort, ArePorts, IsSpellableLoad, IsSpellableBlock, IsSpellableConnection, AreConnections, IsSpellableItem, AreItems, IsSpellableTree}
+use Rattle.export_verilog.proofs.KeyNames.{text_named, name_is_identifier, identifier_among}
 use Rattle.export_verilog.proofs.KeysOf.{from_each, port_in, net_in, variable_in, instance_in_keys, result_in_keys, made_of_role}
 use Rattle.export_verilog.proofs.Symbols.{found_symbol, symbol_at, module_at_position}
 use Rattle.export_verilog.proofs.Items.{output_count, expr_for, connection_of, from_connections, From, from_items}
@@ -61,6 +59,7 @@ module _ (d : Design) (x : Setting d) where
       at_port : (j : ℕ) (q : Port) → slice_get m.ports j ≡ Some q → In p (vport m j q) → IsSpellablePort p
       at_port j q there (inl e) = subst IsSpellablePort (sym e) (record { name = key_word s m is (port_key j) (port_in m j q there); high = high_word (width q.type) ((module_ok d x s m is).narrow_ports j q there) })
       at_port j q there (inr never) = absurd never
+
       from_port : (j : ℕ) × (q : Port) × (slice_get m.ports j ≡ Some q) × In p (vport m j q) → IsSpellablePort p
       from_port e = at_port e.0 e.1 e.2 e.3
 
@@ -79,6 +78,7 @@ module _ (d : Design) (x : Setting d) where
     block_spelled i here t r are = go r.enable r.reset refl refl where
       next : IsSpellableLoad (loads (key_text m (value_key i 0)) (expression m r.next))
       next = load_spelled i here r.next t are.next
+
       go : (e : Option Ref) (b : Option ResetBy) → r.enable ≡ e → r.reset ≡ b → IsSpellableBlock (block_of (expression m) (key_text m (value_key i 0)) r.next e b)
       go None None u v = next
       go (Some e) None u v = (written e _ (are.enable e u), next)
@@ -93,9 +93,10 @@ module _ (d : Design) (x : Setting d) where
         let e : Some typed.0 ≡ Some r = sym typed.1 ∙ at in
         let f : typed.0 ≡ r = cc in
         let c = ((module_ok d x s m is).ops i o there).clocked r at in
-        let clock_name : name_or_nothing (named m r.clock) ≡ key_text m (port_key c.number) = ap (λ z. name_or_nothing (named m z)) c.is_port ∙ ap name_or_nothing (named_input d x s m is c.number c.clock c.there c.input) in
-        (subst IsWord (sym clock_name) (key_word s m is (port_key c.number) (port_in m c.number c.clock c.there)),
-        block_spelled i (variable_in m i o there role) first.0.type r (subst (AreOperands (type_in m.ports m.body) first.0.type) f typed.2))
+        let clock_name : name_or_nothing (named m r.clock) ≡ key_text m (port_key c.number) = ap (λ z. name_or_nothing (named m z)) c.is_port ∙ ap name_or_nothing (named_input d x s m is c.number c.clock c.there c.input) in (
+          subst IsWord (sym clock_name) (key_word s m is (port_key c.number) (port_in m c.number c.clock c.there)),
+          block_spelled i (variable_in m i o there role) first.0.type r (subst (AreOperands (type_in m.ports m.body) first.0.type) f typed.2),
+        )
 
     -- ---- instances
 
@@ -104,6 +105,7 @@ module _ (d : Design) (x : Setting d) where
     connection_spelled i o there role c j p at = record { port = key_word c.kind.symbol c.module_of c.there (port_key j) (port_in c.module_of j p at); value = go p.is_output refl } where
       n : ℕ
       n = output_count (take j c.module_of.ports)
+
       go : (b : Bool) → p.is_output ≡ b → IsSpellable (cond b (name (key_text m (value_key i (0 + n)))) (expr_for (expression m) (slice_get o.operands (input_count (take j c.module_of.ports)))))
       go true out = let r = result_there d x s m is (known_first m) (knows_first d x s m is) i o c j p at out in
           subst (λ a. IsWord (key_text m (value_key i a))) (sym (zero-add n)) (key_word s m is (value_key i n) (result_in_keys m i n o r.0 there role r.1))
@@ -125,8 +127,8 @@ module _ (d : Design) (x : Setting d) where
         let first = result_at_first d x s m is i o there (inl role) in
         let sort = made_of_role m.ports m.body i o role in
         (assigned_well d x s m is (known_first m) (knows_first d x s m is) i 0 o first.0.type there (values sort.0 sort.1 sort.2) (ap (omap (λ (z : OpResult). z.type)) first.1)).words where
-      values : register_form o.kind ≡ None → instance_in o.kind ≡ None → is_output_kind o.kind ≡ false → gives_values o ≡ true
-      values r n u = simp (r, n, u) refl
+          values : register_form o.kind ≡ None → instance_in o.kind ≡ None → is_output_kind o.kind ≡ false → gives_values o ≡ true
+          values r n u = simp (r, n, u) refl
 
     output_spelled : (j : ℕ) (p : Port) → slice_get m.ports j ≡ Some p → p.is_output ≡ true → IsSpellable (expr_for (expression m) (slice_get (output_refs m.body) (output_count (take j m.ports))))
     output_spelled j p there out =
@@ -141,8 +143,13 @@ module _ (d : Design) (x : Setting d) where
     item_spelled y (variable_block i o r there role at same) = subst IsSpellableItem (sym same) (register_spelled i o r there role at)
     item_spelled y (an_instance i o z there role at same) =
         let c : Called d m o = called_by d x s m is i o there z at in
-        subst IsSpellableItem (sym same) (symbol_word z.symbol c.module_of c.there, (key_word s m is (instance_key i) (instance_in_keys m i o there role),
-        subst (λ q. AreConnections (connections_to q m i o)) (sym c.there) (connections_spelled i o there role c (connections_of c.module_of m i 0 0 c.module_of.ports o.operands) (λ e h. h))))
+        subst IsSpellableItem (sym same) (
+          symbol_word z.symbol c.module_of c.there,
+          (
+            key_word s m is (instance_key i) (instance_in_keys m i o there role),
+            subst (λ q. AreConnections (connections_to q m i o)) (sym c.there) (connections_spelled i o there role c (connections_of c.module_of m i 0 0 c.module_of.ports o.operands) (λ e h. h)),
+          ),
+        )
     item_spelled y (output_assign j p there out same) = subst IsSpellableItem (sym same) (key_word s m is (port_key j) (port_in m j p there), output_spelled j p there out)
 
     items_spelled : (ys : List Item) → ((y : Item) → In y ys → From d m y) → AreItems ys
@@ -151,12 +158,14 @@ module _ (d : Design) (x : Setting d) where
 
   modules_spelled : (ms : List Module) → ((m : Module) → In m ms → find_module d m.symbol ≡ Some m) → IsSpellableTree (map (vmodule d) ms)
   modules_spelled [] found = tt
-  modules_spelled (m ∷ ms) found = let is = found m (inl refl) in
-      (record {
-        name = symbol_word m.symbol m is;
-        ports = ports_spelled m.symbol m is (vports m) (λ p h. h);
-        items = items_spelled m.symbol m is (vitems d m) (λ y h. from_items d m y h);
-      }, modules_spelled ms (λ z h. found z (inr h)))
+  modules_spelled (m ∷ ms) found = let is = found m (inl refl) in (
+    record {
+      name = symbol_word m.symbol m is;
+      ports = ports_spelled m.symbol m is (vports m) (λ p h. h);
+      items = items_spelled m.symbol m is (vitems d m) (λ y h. from_items d m y h);
+    },
+    modules_spelled ms (λ z h. found z (inr h)),
+  )
 
   pub tree_is_spellable : IsSpellableTree (tree_of d)
   tree_is_spellable = modules_spelled d (λ m h. let p = position_of_In m d h in module_at_position d x.ok p.0 m p.1)

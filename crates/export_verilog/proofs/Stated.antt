@@ -1,40 +1,33 @@
 -- The statements of a module's tree meet the checks, after its declarations.
-use Rattle.std.proofs.Common.{◌≡◌, ℕ, zero, suc, ◌+◌, ◌-◌, ◌<◌, ◌≤◌, ◌^◌, ◌⊎◌, ◌==◌, Bool, true, false, not, cond, ◌&&◌, ◌||◌, List, [], ◌∷◌, ◌++◌, map, take, slice_get, decimal, Option, Some, None, is_some, refl, sym, ◌∙◌, ap, ap₂, subst, inl, inr, zero-add, arith, IsTrue, eqb-true, append_assoc, append-nil}
+use Rattle.std.proofs.Common.{◌≡◌, ℕ, zero, suc, ◌+◌, ◌-◌, ◌<◌, ◌^◌, ◌==◌, Bool, true, false, cond, ◌&&◌, List, [], ◌∷◌, ◌++◌, map, take, slice_get, decimal, Option, Some, None, refl, sym, ◌∙◌, ap, subst, inl, inr, zero-add, arith, append_assoc, append-nil}
 use Rattle.wiring.specs.Options.{bind, omap}
 use Rattle.wiring.specs.Wiring.{In}
-use Rattle.wiring.proofs.Options.{omap_some, bind_some}
 use Rattle.hw_model.specs.Types.{Name, HwType, width}
-use Rattle.hw_model.specs.Kinds.{Instance}
-use Rattle.hw_model.specs.Design.{Ref, Port, OpResult, Op, Module, Design, same_name, find_module, instance_in, result_type, output_refs, is_instance, is_register, is_output_op, register_form, is_output_kind}
-use Rattle.hw_model.specs.Design.Ref.{port, result}
+use Rattle.hw_model.specs.Design.{Ref, Port, OpResult, Op, Module, Design, same_name, find_module, instance_in, result_type, output_refs, register_form, is_output_kind}
+use Rattle.hw_model.specs.Design.Ref.{result}
 use Rattle.hw_model.specs.Equality.{name_self}
 use Rattle.hw_model.specs.Flat.{width_of, input_count, Register, ResetBy, register_in}
 use Rattle.hw_model.specs.Sound.{type_in, input_types, output_types}
-use Rattle.verilog_model.specs.Tree.{Numeral, Expr, VPort, Load, Block, Connection, Item, VModule, Tree}
+use Rattle.verilog_model.specs.Tree.{Expr, Connection, Item, Tree}
 use Rattle.verilog_model.specs.Tree.Expr.{name}
-use Rattle.verilog_model.specs.Tree.Block.{load, if_load, if_else, if_else_if}
-use Rattle.verilog_model.specs.Tree.Item.{wire, reg, assign, always, instance}
-use Rattle.verilog_model.specs.Hierarchy.{find_vmodule, find_port, find_connection, vports_of, block_target}
-use Rattle.verilog_model.specs.Checks.{Declared, find_declared, can_read, can_assign, is_variable, is_input, has_role, expr_checks, load_checks, block_checks, joins_net, connection_checks, connections_check, high_checks, joins_inputs, ports_joined, item_checks, declared_by, items_check, port_role, declared_items, are_distinct}
+use Rattle.verilog_model.specs.Tree.Item.{assign}
+use Rattle.verilog_model.specs.Hierarchy.{find_port, block_target}
+use Rattle.verilog_model.specs.Checks.{Declared, find_declared, can_assign, is_variable, is_input, has_role, expr_checks, load_checks, block_checks, joins_net, connection_checks, connections_check, high_checks, item_checks, declared_by, items_check, port_role, declared_items}
 use Rattle.verilog_model.proofs.Numerals.{and_intro, is_decimal-decimal}
 use Rattle.verilog_expr.specs.Numerals.{high_of}
 use Rattle.verilog_expr.specs.Values.{gives_values}
-use Rattle.verilog_expr.proofs.Checked.{IsWell}
-use Rattle.export_verilog.specs.Keys.{Key, Role, each, role_of, key_text, module_keys, named, name_or_nothing}
-use Rattle.export_verilog.specs.Keys.Key.{port_key, value_key, instance_key}
+use Rattle.export_verilog.specs.Keys.{Role, each, role_of, key_text, named, name_or_nothing}
+use Rattle.export_verilog.specs.Keys.Key.{port_key, value_key}
 use Rattle.export_verilog.specs.Keys.Role.{hidden, net, variable, block}
-use Rattle.export_verilog.specs.Exported.{expression, assigned_expr, block_of, loads, connections_of, connections_to, symbol_name, vports, vmodule, tree_of, declares, declared_as, states, output_assigns, vitems}
-use Rattle.export_verilog.proofs.KeyNames.{AreNames, text_named}
+use Rattle.export_verilog.specs.Exported.{expression, assigned_expr, block_of, loads, vports, tree_of, declares, declared_as}
 use Rattle.export_verilog.proofs.KeysOf.{from_each, port_in, net_in, variable_in, result_in_keys, made_of_role}
-use Rattle.export_verilog.proofs.Symbols.{vmodule_found}
-use Rattle.export_verilog.proofs.Items.{output_count, expr_for, connection_of, from_connections, from_wires, block_at, instance_at, From, from_items}
-use Rattle.export_verilog.proofs.Items.From.{net_wire, variable_reg, result_wire, net_assign, variable_block, an_instance, output_assign}
-use Rattle.export_verilog.proofs.Lookups.{port_under, connection_under, vport_at}
+use Rattle.export_verilog.proofs.Items.{output_count, expr_for, connection_of, from_wires, block_at}
+use Rattle.export_verilog.proofs.Lookups.{port_under, vport_at}
 use Rattle.export_verilog.proofs.Drives.{place_of_output}
 use Rattle.export_verilog.proofs.Registers.{AreOperands, typed_register}
-use Rattle.export_verilog.proofs.Settings.{Setting, Called, module_ok, module_sound, called_by, one_result_of, result_at_first}
+use Rattle.export_verilog.proofs.Settings.{Setting, Called, module_ok, module_sound, result_at_first}
 use Rattle.export_verilog.proofs.Writable.{named_input}
-use Rattle.export_verilog.proofs.Known.{declared_port, declared_result, result_role, KnowsAll, knows_more}
+use Rattle.export_verilog.proofs.Known.{result_role, KnowsAll}
 use Rattle.export_verilog.proofs.Readable.{found_port, found_result, expression_well, assigned_well}
 
 -- ---- ranges
@@ -159,8 +152,8 @@ module _ (d : Design) (x : Setting d) (s : Name) (m : Module) (is : find_module 
         and_intro (has_role can_assign (find_declared known (key_text m (value_key i 0)))) (expr_checks known (assigned_expr m (result i 0)))
         (ap (has_role can_assign) (found_result d x s m is known knows i 0 o first.0 (net_in m i o there role) there first.1) ∙ ap (λ z. can_assign (result_role z)) role)
         ((assigned_well d x s m is known knows i 0 o first.0.type there (values sort.0 sort.1 sort.2) (typed_first o first.0 first.1)).checks) where
-      values : register_form o.kind ≡ None → instance_in o.kind ≡ None → is_output_kind o.kind ≡ false → gives_values o ≡ true
-      values r n u = simp (r, n, u) refl
+          values : register_form o.kind ≡ None → instance_in o.kind ≡ None → is_output_kind o.kind ≡ false → gives_values o ≡ true
+          values r n u = simp (r, n, u) refl
 
     pub output_good : (j : ℕ) (p : Port) → slice_get m.ports j ≡ Some p → p.is_output ≡ true
         → item_checks t known (assign (key_text m (port_key j)) (expr_for (expression m) (slice_get (output_refs m.body) (output_count (take j m.ports))))) ≡ true
@@ -179,9 +172,9 @@ module _ (d : Design) (x : Setting d) (s : Name) (m : Module) (is : find_module 
         let at = place_of_output c.module_of.ports j p there out in
         let g = placed_in (λ (r : OpResult). r.type) (λ (u : HwType). u) o.results (output_types c.module_of.ports) (output_count (take j c.module_of.ports)) p.type (c.outputs ∙ sym (map_same (output_types c.module_of.ports))) at.1 in
         (g.0, g.1) where
-      map_same : (us : List HwType) → map (λ (u : HwType). u) us ≡ us
-      map_same [] = refl
-      map_same (u ∷ us) = ap (λ z. u ∷ z) (map_same us)
+          map_same : (us : List HwType) → map (λ (u : HwType). u) us ≡ us
+          map_same [] = refl
+          map_same (u ∷ us) = ap (λ z. u ∷ z) (map_same us)
 
     pub connection_good : (i : ℕ) (o : Op) → slice_get m.body i ≡ Some o → role_of m.ports m.body i o ≡ block → (c : Called d m o) → (j : ℕ) (p : Port) → slice_get c.module_of.ports j ≡ Some p
         → (e : Connection) → e ≡ connection_of c.module_of m i j 0 (take j c.module_of.ports) p o.operands
@@ -191,17 +184,19 @@ module _ (d : Design) (x : Setting d) (s : Name) (m : Module) (is : find_module 
         ∙ ap (λ z. connection_checks known z (connection_of c.module_of m i j 0 (take j c.module_of.ports) p o.operands).value)
         (port_under c.module_of (x.names c.kind.symbol c.module_of c.there) (port_key j) (port_in c.module_of j p at) ∙ ap (omap (vport_at c.module_of j)) at)
         ∙ go p.is_output refl where
-      n : ℕ
-      n = output_count (take j c.module_of.ports)
-      value_at : Bool → Expr
-      value_at b = cond b (name (key_text m (value_key i (0 + n)))) (expr_for (expression m) (slice_get o.operands (input_count (take j c.module_of.ports))))
-      go : (b : Bool) → p.is_output ≡ b → cond b (joins_net known (value_at b)) (expr_checks known (value_at b)) ≡ true
-      go true out = let r = result_there i o c j p at out in
-          ap (λ a. has_role can_assign (find_declared known (key_text m (value_key i a)))) (zero-add n)
-          ∙ ap (has_role can_assign) (found_result d x s m is known knows i n o r.0 (result_in_keys m i n o r.0 there role r.1) there r.1) ∙ ap (λ z. can_assign (result_role z)) role
-      go false out =
-          let g = placed_in (type_in m.ports m.body) (λ (u : HwType). Some u) o.operands (input_types c.module_of.ports) (input_count (take j c.module_of.ports)) p.type c.inputs (place_of_input c.module_of.ports j p at out) in
-          ap (λ z. expr_checks known (expr_for (expression m) z)) g.1 ∙ good g.0 p.type g.2
+          n : ℕ
+          n = output_count (take j c.module_of.ports)
+
+          value_at : Bool → Expr
+          value_at b = cond b (name (key_text m (value_key i (0 + n)))) (expr_for (expression m) (slice_get o.operands (input_count (take j c.module_of.ports))))
+
+          go : (b : Bool) → p.is_output ≡ b → cond b (joins_net known (value_at b)) (expr_checks known (value_at b)) ≡ true
+          go true out = let r = result_there i o c j p at out in
+              ap (λ a. has_role can_assign (find_declared known (key_text m (value_key i a)))) (zero-add n)
+              ∙ ap (has_role can_assign) (found_result d x s m is known knows i n o r.0 (result_in_keys m i n o r.0 there role r.1) there r.1) ∙ ap (λ z. can_assign (result_role z)) role
+          go false out =
+              let g = placed_in (type_in m.ports m.body) (λ (u : HwType). Some u) o.operands (input_types c.module_of.ports) (input_count (take j c.module_of.ports)) p.type c.inputs (place_of_input c.module_of.ports j p at out) in
+              ap (λ z. expr_checks known (expr_for (expression m) z)) g.1 ∙ good g.0 p.type g.2
 
     pub all_connections : (i : ℕ) (o : Op) → slice_get m.body i ≡ Some o → role_of m.ports m.body i o ≡ block → (c : Called d m o) → (cs : List Connection)
         → ((e : Connection) → In e cs → connection_checks known (find_port (vports c.module_of) e.port) e.value ≡ true) → connections_check known (vports c.module_of) cs ≡ true

@@ -1,5 +1,5 @@
 -- The expressions of a body's values meet the checks of a text.
-use Rattle.std.proofs.Common.{◌≡◌, ℕ, ℤ, zero, suc, ◌%◌, ◌<◌, ◌≤◌, ◌^◌, Bool, true, false, List, [], ◌∷◌, map, length, Option, Some, None, is_some, slice_get, refl, sym, ap, ap₂, subst, ◌∙◌, inl, inr, arith}
+use Rattle.std.proofs.Common.{◌≡◌, ℕ, ◌%◌, ◌<◌, ◌≤◌, ◌^◌, Bool, true, false, List, [], ◌∷◌, map, length, Option, Some, None, is_some, slice_get, refl, sym, ap, ap₂, subst, ◌∙◌, inl, inr, arith}
 use Rattle.std.proofs.Math.Nat.{mod-eq_of_lt}
 use Rattle.std.proofs.lemmas.Nat.{pow_pos}
 use Rattle.std.proofs.lemmas.Bool.{ltb-true, true≢false, false≢true}
@@ -21,10 +21,10 @@ use Rattle.verilog_model.specs.Tree.{Expr}
 use Rattle.verilog_model.specs.Tree.Expr.{name}
 use Rattle.verilog_model.specs.Checks.{Declared}
 use Rattle.verilog_expr.specs.Building.{built}
-use Rattle.verilog_expr.specs.Expressions.{value_width, constant_number, constant_of, divisor_in, name_or, op_expr, own_expr, AreExprs}
+use Rattle.verilog_expr.specs.Expressions.{value_width, constant_number, constant_of, divisor_in, op_expr, own_expr, AreExprs}
 use Rattle.verilog_expr.specs.Spilling.{is_pure, is_narrower, inner_needs}
-use Rattle.verilog_expr.specs.Values.{IsDivision, is_division, gives_values, IsWritable}
-use Rattle.verilog_expr.proofs.Bodies.{map_map, gives_values-pure, pure_needs, absent_own, item_kind, as_many, named_twice, is_name, is_own, is_op}
+use Rattle.verilog_expr.specs.Values.{IsDivision, gives_values, IsWritable}
+use Rattle.verilog_expr.proofs.Bodies.{map_map, gives_values-pure, pure_needs, item_kind, as_many, named_twice, is_name, is_own, is_op}
 use Rattle.verilog_expr.proofs.Nets.{results, IsWithin-results}
 use Rattle.verilog_expr.proofs.Checked.{IsWell, IsWide, HaveWell, IsDivided, IsCut, built_well}
 

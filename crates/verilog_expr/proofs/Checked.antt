@@ -1,6 +1,6 @@
 -- Expressions meet the checks of a text: names are known, selects are in range, divisors are literals that are not 0; and
 -- their names and numerals are words.
-use Rattle.std.proofs.Common.{◌≡◌, ℕ, ℤ, zero, suc, ◌+◌, ◌-◌, ◌*◌, ◌/◌, ◌%◌, ◌<◌, ◌≤◌, ◌^◌, Bool, true, false, cond, not, ◌&&◌, ◌||◌, ◌==◌, nat_le, nat_lt, List, [], ◌∷◌, map, length, decimal, Option, Some, None, is_some, slice_get, refl, sym, ap, ap₂, subst, ◌∙◌, inl, inr, arith, IsTrue, lt-ltb, le-leb, leb-true, eq-eqb}
+use Rattle.std.proofs.Common.{◌≡◌, ℕ, suc, ◌+◌, ◌-◌, ◌*◌, ◌/◌, ◌%◌, ◌<◌, ◌≤◌, ◌^◌, Bool, true, false, cond, not, ◌&&◌, ◌||◌, ◌==◌, nat_le, nat_lt, List, [], ◌∷◌, map, length, decimal, Option, Some, is_some, refl, sym, ap, subst, ◌∙◌, inl, inr, arith, IsTrue, lt-ltb, le-leb, leb-true, eq-eqb}
 use Rattle.std.proofs.Math.Nat.{mul-div_cancel}
 use Rattle.wiring.specs.Lists.{total}
 use Rattle.wiring.specs.Wiring.{In}
@@ -12,18 +12,18 @@ use Rattle.hw_model.specs.Kinds.Predicate.{eq, ne, slt, sle, sgt, sge, ult, ule,
 use Rattle.hw_model.specs.Kinds.Kind.{add, mul, and, or, xor, sub, divu, modu, divs, mods, shl, shru, shrs, icmp, parity, extract, concat, replicate, mux, constant, aggregate_constant, array_create, array_concat, array_get, array_slice, array_inject, struct_create, struct_extract, struct_inject, struct_explode, bitcast, wire, instance, output, compreg, compreg_ce, firreg}
 use Rattle.hw_model.specs.Flat.{width_of}
 use Rattle.hw_model.specs.Sound.{Fits}
-use Rattle.verilog_model.specs.Tokens.{is_word_byte, is_digit, is_between, is_name_start}
-use Rattle.verilog_model.specs.Numerals.{decimal_number, hex_number, is_decimal, is_hex, is_nonempty, all_bytes}
+use Rattle.verilog_model.specs.Tokens.{is_word_byte, is_digit, is_between}
+use Rattle.verilog_model.specs.Numerals.{decimal_number, is_decimal, is_hex, is_nonempty, all_bytes}
 use Rattle.verilog_model.specs.Tree.{Operator, Expr, Exprs}
 use Rattle.verilog_model.specs.Tree.Operator.{times, over, modulo, plus, minus, left_shift, right_shift, signed_right_shift, below, at_most, above, at_least, equals, differs, bit_and, bit_xor, bit_or}
-use Rattle.verilog_model.specs.Tree.Expr.{name, bit_select, part_select, literal, joined, repeated, as_signed, as_unsigned, paren, odd, binary, choice}
-use Rattle.verilog_model.specs.Tree.Exprs.{last, more}
+use Rattle.verilog_model.specs.Tree.Expr.{name, bit_select, part_select, repeated, as_signed, as_unsigned, paren, odd, binary}
+use Rattle.verilog_model.specs.Tree.Exprs.{last}
 use Rattle.verilog_model.specs.Grammar.{level, strength, choice_level, primary_level}
 use Rattle.verilog_model.specs.Expression.{is_signed}
-use Rattle.verilog_model.specs.Checks.{Declared, find_declared, has_role, can_read, has_bit, is_divisor, divides, expr_checks, exprs_check}
+use Rattle.verilog_model.specs.Checks.{Declared, find_declared, has_bit, is_divisor, divides, expr_checks, exprs_check}
 use Rattle.verilog_model.proofs.Numerals.{and_intro, and_first, and_second, decimal_number-decimal, is_decimal-decimal, all_bytes_weaker}
 use Rattle.verilog_model.proofs.Reread.{all_digits_are_word}
-use Rattle.verilog_expr.specs.Building.{literal_of, unsigned, placed, unsigned_at, of_one_expr, of_two_exprs, of_three_exprs, unsigned_pair, chained, variadic, signed_pair, unsigned_shift, signed_shift, unsigned_division, signed_division, comparison, select, selected, exprs_of, concatenation, conditional, first_width, built}
+use Rattle.verilog_expr.specs.Building.{literal_of, unsigned, placed, unsigned_at, of_one_expr, of_two_exprs, of_three_exprs, unsigned_pair, chained, variadic, signed_pair, unsigned_shift, signed_shift, unsigned_division, signed_division, comparison, select, selected, exprs_of, concatenation, conditional, built}
 use Rattle.verilog_expr.specs.Values.{is_aggregate_kind, is_division, is_variadic, is_item_kind}
 use Rattle.verilog_expr.specs.Spilling.{is_narrower}
 use Rattle.verilog_expr.specs.Numerals.{hex}
@@ -60,15 +60,19 @@ hex_byte_is_word b h = go (is_digit b) (is_between 65 70 b) (is_between 97 102 b
   finish false false true true m q t = refl
   finish false false false true m q t = refl
   finish false false e false m q t = cc
+
   lower : (l u d : Bool) → IsTrue l → IsTrue (l || (u || d))
   lower l u d t = rw t refl
+
   upper : (l u d : Bool) → IsTrue u → IsTrue (l || (u || d))
   upper true u d t = refl
   upper false u d t = rw t refl
+
   digit : (l u d : Bool) → IsTrue d → IsTrue (l || (u || d))
   digit true u d t = refl
   digit false true d t = refl
   digit false false d t = t
+
   go : (d u l : Bool) → is_digit b ≡ d → is_between 65 70 b ≡ u → is_between 97 102 b ≡ l → IsTrue (d || (u || l)) → IsTrue (is_word_byte b)
   go true u l x y z h = finish (is_between 97 122 b) (is_between 65 90 b) (b == 95) (is_digit b) (b == 36) (b == 39) (digit (is_between 97 122 b) (is_between 65 90 b) (is_digit b) x)
   go false true l x y z h = finish (is_between 97 122 b) (is_between 65 90 b) (b == 95) (is_digit b) (b == 36) (b == 39)
@@ -192,10 +196,13 @@ module _ (known : List Declared) where
   well_select low w whole e some within small wide = rw wide.same (go (w == 1) refl) where
     n : Name
     n = wide.called
+
     high_small : low + w - 1 < 2 ^ 64
     high_small = omega (arith, some, within, small)
+
     low_small : low < 2 ^ 64
     low_small = omega (arith, some, within, small)
+
     go : (b : Bool) → (w == 1) ≡ b → IsWell (cond b (bit_select n (decimal low)) (part_select n (decimal (low + w - 1)) (decimal low)))
     go true one = record {
       words = (wide.word, decimal_word low low_small);

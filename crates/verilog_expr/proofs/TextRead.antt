@@ -1,15 +1,15 @@
 -- The text of an expression, read as tokens, is the expression's spelling.
-use Rattle.std.proofs.Common.{◌≡◌, ℕ, Bool, true, false, ◌||◌, ◌==◌, List, [], ◌∷◌, ◌++◌, codes, refl, sym, ◌∙◌, ap, IsTrue}
+use Rattle.std.proofs.Common.{◌≡◌, ℕ, Bool, true, false, List, [], ◌∷◌, ◌++◌, codes, refl, ◌∙◌, ap, IsTrue}
 use Rattle.hw_model.specs.Types.{Name}
-use Rattle.verilog_model.specs.Tokens.{Piece, pieces, without_gaps, tokens, is_word_byte, is_name_start, is_digit, is_between}
-use Rattle.verilog_model.specs.Tokens.Piece.{word, operator, mark, gap}
+use Rattle.verilog_model.specs.Tokens.{pieces, without_gaps, tokens, is_word_byte}
+use Rattle.verilog_model.specs.Tokens.Piece.{word, mark}
 use Rattle.verilog_model.specs.Numerals.{all_bytes, is_nonempty}
-use Rattle.verilog_model.specs.Tree.{Numeral, Operator, Expr, Exprs}
+use Rattle.verilog_model.specs.Tree.{Operator, Expr, Exprs}
 use Rattle.verilog_model.specs.Tree.Operator.{times, over, modulo, plus, minus, left_shift, right_shift, signed_right_shift, below, at_most, above, at_least, equals, differs, bit_and, bit_xor, bit_or}
 use Rattle.verilog_model.specs.Tree.Expr.{name, bit_select, part_select, literal, joined, repeated, as_signed, as_unsigned, paren, odd, binary, choice}
 use Rattle.verilog_model.specs.Tree.Exprs.{last, more}
 use Rattle.verilog_model.specs.Grammar.{base_mark, operator_token, expr_spelled, exprs_spelled}
-use Rattle.verilog_model.proofs.Numerals.{and_first, and_second, all_bytes-append, is_nonempty-append}
+use Rattle.verilog_model.proofs.Numerals.{all_bytes-append, is_nonempty-append}
 use Rattle.verilog_model.proofs.Reread.{begins_no_word, pieces_word}
 use Rattle.verilog_expr.specs.Text.{operator_text, expr_text, exprs_text}
 
@@ -107,6 +107,7 @@ operator_read bit_or rest = refl
 
 mutual
   unfolding expr_text exprs_text
+
   pub expr_read : (e : Expr) (rest : List ℕ) → IsSpellable e → GoesOn rest → tokens (expr_text e rest) ≡ expr_spelled e (tokens rest)
   expr_read (name n) rest is apart = word_read n rest is apart
   expr_read (bit_select n k) rest is apart =

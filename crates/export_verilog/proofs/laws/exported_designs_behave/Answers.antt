@@ -2,4 +2,4 @@ use Rattle.export_verilog.proofs.Behaving.{exported_behaves}
 use Rattle.export_verilog.proofs.laws.exported_designs_behave.Goals as goal
 
 pub returns : goal.returns
-returns = exported_behaves
+returns c = exported_behaves
