@@ -1,7 +1,6 @@
 -- Lists of things of which none stands twice have distinct names.
-use Rattle.std.proofs.Common.{◌≡◌, ℕ, zero, suc, ◌+◌, ◌<◌, ◌≤◌, ◌⊎◌, Bool, true, false, not, cond, ◌&&◌, ◌||◌, List, [], ◌∷◌, ◌++◌, map, slice_get, Option, Some, None, refl, sym, ◌∙◌, ap, ap₂, subst, inl, inr, arith, add-zero, zero-add, suc-add, add-suc, IsTrue}
+use Rattle.std.proofs.Common.{◌≡◌, ℕ, suc, ◌+◌, ◌⊎◌, Bool, true, false, not, cond, ◌||◌, List, [], ◌∷◌, ◌++◌, map, slice_get, Some, refl, sym, ◌∙◌, ap, subst, inl, inr, arith, add-zero, zero-add, suc-add, add-suc}
 use Rattle.wiring.specs.Wiring.{In}
-use Rattle.hw_model.specs.Types.{Name}
 use Rattle.hw_model.specs.Design.{Port, Ref, Module, same_name}
 use Rattle.hw_model.specs.Equality.{name_from}
 use Rattle.verilog_model.specs.Tree.{Expr, Connection}

@@ -1,21 +1,21 @@
 -- The text of an exportable design is Verilog that behaves as the design.
-use Rattle.std.proofs.Common.{◌≡◌, ℕ, zero, suc, ◌+◌, Bool, true, false, List, [], ◌∷◌, map, slice_get, Some, refl, sym, ◌∙◌, ap, ap₂, subst, inl, inr, add-zero, suc-add, add-suc, zero-add}
+use Rattle.std.proofs.Common.{◌≡◌, ℕ, suc, Bool, true, false, List, [], ◌∷◌, map, slice_get, Some, refl, ap₂, inl, inr}
 use Rattle.wiring.specs.Wiring.{In}
 use Rattle.wiring.proofs.Members.{position_of_In}
 use Rattle.hw_model.specs.Types.{width}
-use Rattle.hw_model.specs.Design.{Port, Module, Design, find_module}
+use Rattle.hw_model.specs.Design.{Port, Module, Design}
 use Rattle.verilog_model.specs.Hierarchy.{range_width}
-use Rattle.verilog_model.specs.Behaviour.{Shown, shown_port, IsPartner, UnlessPrivate, HavePartners, Behaves, IsVerilog}
+use Rattle.verilog_model.specs.Behaviour.{shown_port, IsPartner, UnlessPrivate, HavePartners}
 use Rattle.verilog_expr.specs.Numerals.{high_of}
 use Rattle.export_verilog.specs.Keys.{each, key_text}
 use Rattle.export_verilog.specs.Keys.Key.{port_key}
-use Rattle.export_verilog.specs.Exported.{symbol_name, vport, vports, vmodule, tree_of}
+use Rattle.export_verilog.specs.Exported.{vport, vmodule, tree_of}
 use Rattle.export_verilog.specs.Layout.{verilog_text}
 use Rattle.export_verilog.specs.Exportable.{IsExportable}
 use Rattle.export_verilog.specs.Behaving.{shown_port_of, shown_ports, shown_name, BehavesAs}
 use Rattle.export_verilog.proofs.TextRead.{tree_read}
 use Rattle.export_verilog.proofs.Symbols.{module_at_position, vmodule_found}
-use Rattle.export_verilog.proofs.Settings.{Setting, module_ok}
+use Rattle.export_verilog.proofs.Settings.{Setting}
 use Rattle.export_verilog.proofs.Standing.{setting, exported_same}
 use Rattle.export_verilog.proofs.Fitting.{tree_of_fits}
 use Rattle.export_verilog.proofs.Checking.{tree_is_checked}

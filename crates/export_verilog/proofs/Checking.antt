@@ -1,15 +1,14 @@
 -- The tree of an exportable design meets the checks.
-use Rattle.std.proofs.Common.{◌≡◌, ℕ, zero, suc, ◌+◌, ◌<◌, ◌^◌, ◌⊎◌, ◌==◌, Bool, true, false, cond, ◌&&◌, List, [], ◌∷◌, ◌++◌, map, length, slice_get, Option, Some, None, refl, sym, ◌∙◌, ap, ap₂, subst, inl, inr, zero-add, eq-eqb, arith}
-use Rattle.wiring.specs.Options.{omap}
+use Rattle.std.proofs.Common.{◌≡◌, ℕ, suc, ◌+◌, ◌⊎◌, ◌==◌, Bool, true, false, ◌&&◌, List, [], ◌∷◌, map, length, slice_get, Some, None, refl, sym, ◌∙◌, ap, ap₂, subst, inl, inr, zero-add, eq-eqb, arith}
 use Rattle.wiring.specs.Wiring.{In}
 use Rattle.wiring.proofs.Members.{In-append_left, In-append_right, from_In-map, position_of_In}
 use Rattle.hw_model.specs.Types.{Name, width}
 use Rattle.hw_model.specs.Design.{Port, OpResult, Op, Module, Design, find_module, result_type}
 use Rattle.hw_model.specs.Flat.{width_of}
-use Rattle.verilog_model.specs.Tree.{VPort, Item, VModule, Tree}
+use Rattle.verilog_model.specs.Tree.{VPort, Item, VModule}
 use Rattle.verilog_model.specs.Tree.Item.{wire, reg}
 use Rattle.verilog_model.specs.Checks.{Declared, declared_by, declared_ports, declared_items, declared_in, port_role, high_checks, names_check, ports_check, items_check, each_driven, driver_count, drivers_due, clocks_check, nesting_checks, module_checks, modules_check, tree_checks}
-use Rattle.verilog_model.specs.Checks.Role.{block_name, variable as variable_role, net as net_role}
+use Rattle.verilog_model.specs.Checks.Role.{block_name}
 use Rattle.verilog_model.proofs.Numerals.{and_intro}
 use Rattle.verilog_expr.specs.Numerals.{high_of}
 use Rattle.export_verilog.specs.Keys.{Key, each, role_of, result_keys, key_text, module_keys}
@@ -18,10 +17,9 @@ use Rattle.export_verilog.specs.Keys.Role.{net, variable, block}
 use Rattle.export_verilog.specs.Exported.{symbol_names, symbol_name, vport, vports, vitems, vmodule, tree_of}
 use Rattle.export_verilog.proofs.Lists.{in_append}
 use Rattle.export_verilog.proofs.KeysOf.{from_each, into_each, results_in, port_in, net_in, variable_in, instance_in_keys, result_in_keys}
-use Rattle.export_verilog.proofs.Symbols.{found_symbol, module_at_position, symbol_at}
+use Rattle.export_verilog.proofs.Symbols.{module_at_position, symbol_at}
 use Rattle.export_verilog.proofs.Items.{From, from_items}
 use Rattle.export_verilog.proofs.Items.From.{net_wire, variable_reg, result_wire, net_assign, variable_block, an_instance, output_assign}
-use Rattle.export_verilog.proofs.Lookups.{vport_at}
 use Rattle.export_verilog.proofs.Settings.{Setting, module_ok}
 use Rattle.export_verilog.proofs.Known.{in_declared_items}
 use Rattle.export_verilog.proofs.Stated.{high_decimal}

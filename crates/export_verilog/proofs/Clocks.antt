@@ -1,35 +1,34 @@
 -- The clocks of an exported tree come from the inputs at the top.
-use Rattle.std.proofs.Common.{◌≡◌, ℕ, zero, suc, ◌+◌, ◌⊎◌, Bool, true, false, not, cond, ◌&&◌, ◌||◌, List, [], ◌∷◌, ◌++◌, map, take, length, slice_get, Option, Some, None, refl, sym, ◌∙◌, ap, ap₂, subst, inl, inr, zero-add}
-use Rattle.std.proofs.lemmas.Bool.{true≢false, false≢true}
+use Rattle.std.proofs.Common.{◌≡◌, ℕ, zero, suc, ◌+◌, ◌⊎◌, Bool, true, false, not, cond, ◌&&◌, ◌||◌, List, [], ◌∷◌, take, length, slice_get, Option, Some, None, refl, sym, ◌∙◌, ap, subst, inl, inr, zero-add}
+use Rattle.std.proofs.lemmas.Bool.{false≢true}
 use Rattle.wiring.specs.Options.{omap}
 use Rattle.wiring.specs.Wiring.{In}
 use Rattle.hw_model.specs.Types.{Name, HwType}
 use Rattle.hw_model.specs.Types.HwType.{clock}
-use Rattle.hw_model.specs.Kinds.{Instance}
-use Rattle.hw_model.specs.Design.{Ref, Port, OpResult, Op, Module, Design, same_name, find_module, instance_in, result_type}
+use Rattle.hw_model.specs.Design.{Ref, Port, OpResult, Op, Module, Design, same_name, find_module}
 use Rattle.hw_model.specs.Design.Ref.{port}
-use Rattle.hw_model.specs.Equality.{name_self, name_from, both_of}
+use Rattle.hw_model.specs.Equality.{name_from, both_of}
 use Rattle.hw_model.specs.Flat.{input_count, Register, register_in}
 use Rattle.hw_model.specs.Sound.{type_in, input_type, input_types}
-use Rattle.verilog_model.specs.Tree.{Expr, VPort, Connection, Item, VModule, Tree}
+use Rattle.verilog_model.specs.Tree.{Connection, Item}
 use Rattle.verilog_model.specs.Tree.Expr.{name}
 use Rattle.verilog_model.specs.Tree.Item.{wire, reg, assign, always, instance}
-use Rattle.verilog_model.specs.Hierarchy.{find_vmodule, find_port, is_name}
+use Rattle.verilog_model.specs.Hierarchy.{is_name}
 use Rattle.verilog_model.specs.Checks.{inner_clock, uses_clock, any_uses_clock, clock_in, is_clock, is_input_name, clocks_joined, clocks_check}
 use Rattle.verilog_model.proofs.Numerals.{and_intro}
 use Rattle.verilog_expr.proofs.Depths.{expressions_hold}
 use Rattle.verilog_expr.specs.Expressions.{name_or, own_expr}
-use Rattle.export_verilog.specs.Keys.{Key, role_of, key_text, module_keys, named, name_or_nothing}
-use Rattle.export_verilog.specs.Keys.Key.{port_key, value_key, instance_key}
-use Rattle.export_verilog.specs.Keys.Role.{variable, block}
-use Rattle.export_verilog.specs.Exported.{symbol_name, expression, connections_of, connections_to, vports, vitems, vmodule, tree_of}
-use Rattle.export_verilog.proofs.KeyNames.{AreNames, texts_apart}
+use Rattle.export_verilog.specs.Keys.{role_of, key_text, named, name_or_nothing}
+use Rattle.export_verilog.specs.Keys.Key.{port_key, value_key}
+use Rattle.export_verilog.specs.Keys.Role.{variable}
+use Rattle.export_verilog.specs.Exported.{symbol_name, expression, connections_of, connections_to, vports, vitems, tree_of}
+use Rattle.export_verilog.proofs.KeyNames.{texts_apart}
 use Rattle.export_verilog.proofs.KeysOf.{port_in}
 use Rattle.export_verilog.proofs.Symbols.{vmodule_found}
-use Rattle.export_verilog.proofs.Items.{output_count, expr_for, connection_of, from_connections, block_at, instance_at, From, from_items}
+use Rattle.export_verilog.proofs.Items.{output_count, expr_for, connection_of, from_connections, From, from_items}
 use Rattle.export_verilog.proofs.Items.From.{net_wire, variable_reg, result_wire, net_assign, variable_block, an_instance, output_assign}
 use Rattle.export_verilog.proofs.Lookups.{port_under, vport_at}
-use Rattle.export_verilog.proofs.Registers.{AreOperands, typed_register}
+use Rattle.export_verilog.proofs.Registers.{typed_register}
 use Rattle.export_verilog.proofs.Settings.{Setting, Called, module_ok, called_by, one_result_of, result_at_first}
 use Rattle.export_verilog.proofs.Sources.{inner_acyclic}
 use Rattle.export_verilog.proofs.Writable.{named_input, writable}

@@ -1,15 +1,13 @@
 -- What a module's tree declares has legal names, of which none stands twice.
-use Rattle.std.proofs.Common.{◌≡◌, ℕ, zero, suc, ◌+◌, ◌<◌, ◌⊎◌, Bool, true, false, cond, ◌&&◌, List, [], ◌∷◌, ◌++◌, map, slice_get, Option, Some, None, refl, sym, ◌∙◌, ap, ap₂, subst, inl, inr, arith, zero-add, add-zero, suc-add, add-suc, append_assoc, append-nil, IsTrue}
+use Rattle.std.proofs.Common.{◌≡◌, ℕ, suc, ◌+◌, ◌⊎◌, Bool, true, false, cond, List, [], ◌∷◌, ◌++◌, map, slice_get, Option, Some, None, refl, sym, ◌∙◌, ap, ap₂, subst, inl, inr, arith, zero-add, add-zero, suc-add, add-suc, append_assoc, append-nil}
 use Rattle.std.proofs.lemmas.List.{map-append}
 use Rattle.wiring.specs.Wiring.{In}
-use Rattle.wiring.proofs.Members.{In-append_left, In-append_right}
-use Rattle.hw_model.specs.Types.{Name, width}
-use Rattle.hw_model.specs.Kinds.{Instance}
-use Rattle.hw_model.specs.Design.{Port, OpResult, Op, Module, Design, find_module, instance_in, output_refs, Ref}
+use Rattle.hw_model.specs.Types.{Name}
+use Rattle.hw_model.specs.Design.{Port, OpResult, Op, Module, Design, output_refs, Ref}
 use Rattle.hw_model.specs.Flat.{Register, register_in}
-use Rattle.verilog_model.specs.Tree.{Expr, VPort, Item, VModule}
+use Rattle.verilog_model.specs.Tree.{Item}
 use Rattle.verilog_model.specs.Tree.Item.{assign}
-use Rattle.verilog_model.specs.Checks.{is_identifier, all_identifiers, names_check, are_distinct, high_checks, Declared, declared_by, declared_ports, declared_items, declared_in, port_role, ports_check}
+use Rattle.verilog_model.specs.Checks.{is_identifier, all_identifiers, names_check, are_distinct, Declared, declared_by, declared_ports, declared_items, declared_in}
 use Rattle.verilog_model.proofs.Numerals.{and_intro}
 use Rattle.export_verilog.specs.Keys.{Key, Role, each, role_of, result_keys, key_text, module_keys}
 use Rattle.export_verilog.specs.Keys.Key.{port_key, value_key, instance_key}
@@ -17,10 +15,8 @@ use Rattle.export_verilog.specs.Keys.Role.{hidden, net, variable, block}
 use Rattle.export_verilog.specs.Exported.{expression, expr_or_none, others, vport, vports, vitems, vmodule, result_wires, declared_as, declares, always_of, instance_of, stated_as, states, output_assigns}
 use Rattle.export_verilog.proofs.Lists.{in_append}
 use Rattle.export_verilog.proofs.KeyNames.{AreNames, text_named, name_is_identifier}
-use Rattle.export_verilog.proofs.KeysOf.{from_each, into_each, in_results, instance_of_role, port_in, net_in, variable_in, instance_in_keys, result_in_keys}
+use Rattle.export_verilog.proofs.KeysOf.{from_each, in_results, instance_of_role, net_in, variable_in, instance_in_keys, result_in_keys}
 use Rattle.export_verilog.proofs.Apart.{AreApart, joined_apart, texts_distinct, port_keys_from, port_keys_above, port_keys_apart, port_keys_within}
-use Rattle.export_verilog.proofs.Settings.{Setting, module_ok}
-use Rattle.export_verilog.proofs.Stated.{high_decimal}
 
 name_of_declared : Declared → Name
 name_of_declared y = y.name

@@ -1,38 +1,30 @@
 -- Each thing that an exported tree declares has the drivers that are due.
-use Rattle.std.proofs.Common.{◌≡◌, ℕ, zero, suc, ◌+◌, ◌<◌, ◌⊎◌, ◌==◌, Bool, true, false, not, cond, ◌&&◌, ◌||◌, List, [], ◌∷◌, ◌++◌, map, take, slice_get, Option, Some, None, refl, sym, ◌∙◌, ap, ap₂, subst, inl, inr, arith, zero-add, add-zero, suc-add, add-suc, eq-eqb}
-use Rattle.std.proofs.lemmas.Bool.{true≢false, false≢true}
-use Rattle.wiring.specs.Options.{bind, omap}
+use Rattle.std.proofs.Common.{◌≡◌, ℕ, zero, suc, ◌+◌, ◌⊎◌, Bool, true, false, cond, List, [], ◌∷◌, ◌++◌, map, slice_get, Option, Some, None, refl, sym, ◌∙◌, ap, ap₂, subst, inl, inr, arith, zero-add, add-zero, suc-add, add-suc}
+use Rattle.std.proofs.lemmas.Bool.{false≢true}
+use Rattle.wiring.specs.Options.{omap}
 use Rattle.wiring.specs.Wiring.{In}
-use Rattle.wiring.proofs.Members.{In-append_left, In-append_right, from_In-map}
-use Rattle.hw_model.specs.Types.{Name, HwType, width}
-use Rattle.hw_model.specs.Kinds.{Instance}
-use Rattle.hw_model.specs.Design.{Ref, Port, OpResult, Op, Module, Design, same_name, find_module, instance_in, result_type, output_refs}
+use Rattle.hw_model.specs.Types.{Name}
+use Rattle.hw_model.specs.Design.{Ref, Port, OpResult, Op, Module, Design, same_name, find_module, output_refs}
 use Rattle.hw_model.specs.Design.Ref.{result}
 use Rattle.hw_model.specs.Equality.{name_self, name_from}
-use Rattle.hw_model.specs.Flat.{Register, ResetBy, register_in, width_of}
+use Rattle.hw_model.specs.Flat.{Register, ResetBy}
 use Rattle.hw_model.specs.Sound.{output_types}
-use Rattle.verilog_model.specs.Tree.{Expr, VPort, Connection, Item, VModule, Tree}
+use Rattle.verilog_model.specs.Tree.{Expr, Connection, Item, Tree}
 use Rattle.verilog_model.specs.Tree.Expr.{name}
-use Rattle.verilog_model.specs.Tree.Item.{wire, reg, assign, always, instance}
-use Rattle.verilog_model.specs.Hierarchy.{find_vmodule, find_port, vports_of, is_name, block_target}
-use Rattle.verilog_model.specs.Checks.{Declared, declared_by, declared_ports, declared_items, declared_in, port_role, outputs_joined, drivers_of, driver_count, drivers_due, each_driven}
-use Rattle.verilog_model.specs.Checks.Role.{input_port, output_port, block_name, variable as variable_role, net as net_role}
-use Rattle.verilog_model.proofs.Numerals.{and_intro}
+use Rattle.verilog_model.specs.Tree.Item.{assign, always}
+use Rattle.verilog_model.specs.Hierarchy.{find_vmodule, find_port, vports_of, block_target}
+use Rattle.verilog_model.specs.Checks.{outputs_joined, driver_count}
 use Rattle.export_verilog.specs.Keys.{Key, Role, same_key, named, name_or_nothing, each, role_of, result_keys, key_text, module_keys}
-use Rattle.export_verilog.specs.Keys.Key.{port_key, value_key, instance_key}
+use Rattle.export_verilog.specs.Keys.Key.{port_key, value_key}
 use Rattle.export_verilog.specs.Keys.Role.{hidden, net, variable, block}
-use Rattle.export_verilog.specs.Exported.{symbol_name, expression, assigned_expr, expr_or_none, others, vport, vports, vitems, vmodule, tree_of, result_wires, declared_as, declares, block_of, always_of, connections_of, connections_to, instance_of, stated_as, states, output_assigns}
+use Rattle.export_verilog.specs.Exported.{symbol_name, expression, assigned_expr, expr_or_none, others, vports, vitems, tree_of, result_wires, declared_as, declares, block_of, always_of, connections_of, connections_to, instance_of, stated_as, states, output_assigns}
 use Rattle.export_verilog.proofs.KeyNames.{AreNames, key_self, key_from, texts_apart}
-use Rattle.export_verilog.proofs.KeysOf.{from_each, into_each, in_results, results_in, port_in, net_in, variable_in, instance_in_keys, result_in_keys}
-use Rattle.export_verilog.proofs.Lists.{in_append}
-use Rattle.export_verilog.proofs.Apart.{AreApart, joined_apart, port_keys_from, port_keys_above}
+use Rattle.export_verilog.proofs.KeysOf.{in_results, port_in, net_in, variable_in, result_in_keys}
+use Rattle.export_verilog.proofs.Apart.{AreApart, joined_apart}
 use Rattle.export_verilog.proofs.Symbols.{vmodule_found}
-use Rattle.export_verilog.proofs.Items.{From, from_items}
-use Rattle.export_verilog.proofs.Items.From.{net_wire, variable_reg, result_wire, net_assign, variable_block, an_instance, output_assign}
 use Rattle.export_verilog.proofs.Lookups.{port_under, vport_at}
-use Rattle.export_verilog.proofs.Settings.{Setting, Called, called_by, called_by_role}
+use Rattle.export_verilog.proofs.Settings.{Setting, Called, called_by_role}
 use Rattle.export_verilog.proofs.Registers.{register_of}
-use Rattle.export_verilog.proofs.Known.{in_declared_items}
 use Rattle.export_verilog.proofs.Declares.{wire_keys, op_wires, each_apart, wires_placed, wires_apart, wire_kind}
 
 -- ---- how often a key stands in a list

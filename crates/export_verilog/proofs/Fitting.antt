@@ -1,12 +1,12 @@
 -- The tree of any design keeps the precedence and association of the operators.
-use Rattle.std.proofs.Common.{◌≡◌, ℕ, zero, suc, Bool, true, false, ◌&&◌, cond, List, [], ◌∷◌, ◌++◌, map, Option, Some, None, refl, sym, ◌∙◌, ap, ap₂, IsTrue, slice_get}
-use Rattle.hw_model.specs.Types.{Name, width}
+use Rattle.std.proofs.Common.{◌≡◌, ℕ, suc, Bool, true, false, ◌&&◌, cond, List, [], ◌∷◌, ◌++◌, map, Option, Some, None, refl}
+use Rattle.hw_model.specs.Types.{Name}
 use Rattle.hw_model.specs.Kinds.{Instance}
 use Rattle.hw_model.specs.Design.{Ref, Port, OpResult, Op, Module, Design, find_module, instance_in, output_refs}
 use Rattle.hw_model.specs.Design.Ref.{result}
 use Rattle.hw_model.specs.Flat.{Register, ResetBy, register_in}
 use Rattle.hw_model.specs.Equality.{both_of}
-use Rattle.verilog_model.specs.Tree.{Expr, Connection, Item, VModule, Tree}
+use Rattle.verilog_model.specs.Tree.{Expr, Connection, Item}
 use Rattle.verilog_model.specs.Tree.Expr.{name}
 use Rattle.verilog_model.specs.Tree.Item.{assign, always}
 use Rattle.verilog_model.specs.Grammar.{fits, item_fits, items_fit, connections_fit, tree_fits}

@@ -1,12 +1,12 @@
 -- The names of a module's things: each thing has one, and no two have the same.
-use Rattle.std.proofs.Common.{◌≡◌, ℕ, zero, suc, ◌+◌, ◌<◌, ◌^◌, ◌⊎◌, Bool, true, false, ◌&&◌, ◌||◌, not, cond, nat_eq, List, [], ◌∷◌, ◌++◌, map, length, slice_get, Option, Some, None, refl, sym, ◌∙◌, ap, ap₂, inl, inr, eq-eqb, eqb-true, IsTrue, arith}
+use Rattle.std.proofs.Common.{◌≡◌, ◌⊎◌, Bool, true, false, ◌&&◌, ◌||◌, not, cond, nat_eq, List, [], ◌∷◌, length, Some, refl, sym, ◌∙◌, ap, ap₂, inl, inr, eq-eqb, eqb-true, IsTrue, arith}
 use Rattle.wiring.specs.Wiring.{In}
 use Rattle.hw_model.specs.Types.{Name}
 use Rattle.hw_model.specs.Design.{same_name, Module}
-use Rattle.hw_model.specs.Equality.{both_of, name_self, name_from}
+use Rattle.hw_model.specs.Equality.{both_of, name_self}
 use Rattle.verilog_model.specs.Checks.{contains_name, are_distinct, is_identifier, all_identifiers, names_check}
 use Rattle.verilog_model.proofs.Numerals.{and_first, and_second}
-use Rattle.export_verilog.specs.Keys.{Key, same_key, module_keys, names, wish, name_among, key_name, key_text, name_or_nothing}
+use Rattle.export_verilog.specs.Keys.{Key, same_key, module_keys, names, name_among, key_name, key_text, name_or_nothing}
 use Rattle.export_verilog.specs.Keys.Key.{port_key, value_key, instance_key}
 
 -- ---- keys are told apart

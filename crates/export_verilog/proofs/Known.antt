@@ -1,44 +1,35 @@
 -- What a module's tree declares before its statements, and that the expressions of the statements meet the checks.
-use Rattle.std.proofs.Common.{◌≡◌, ℕ, zero, suc, ◌+◌, ◌-◌, ◌<◌, ◌≤◌, ◌^◌, ◌⊎◌, ◌==◌, nat_le, Bool, true, false, not, cond, ◌&&◌, List, [], ◌∷◌, ◌++◌, map, slice_get, decimal, Option, Some, None, is_some, refl, sym, ◌∙◌, ap, ap₂, subst, inl, inr, zero-add, arith, IsTrue, le-leb, eqb-true}
+use Rattle.std.proofs.Common.{◌≡◌, ℕ, ◌⊎◌, not, ◌&&◌, List, [], ◌∷◌, ◌++◌, slice_get, Option, Some, None, refl, sym, ◌∙◌, ap, ap₂, subst, inl, inr, zero-add, IsTrue}
 use Rattle.wiring.specs.Options.{bind, omap}
 use Rattle.wiring.specs.Wiring.{In}
-use Rattle.wiring.proofs.Options.{omap_some, bind_some}
 use Rattle.wiring.proofs.Members.{In-append_left, In-append_right, In-map, from_In-map}
-use Rattle.hw_model.specs.Types.{Name, HwType, width}
-use Rattle.hw_model.specs.Design.{Ref, Port, OpResult, Op, Module, Design, same_name, find_module, result_type}
-use Rattle.hw_model.specs.Design.Ref.{port, result}
+use Rattle.hw_model.specs.Types.{Name, width}
+use Rattle.hw_model.specs.Design.{Port, OpResult, Op, Module, Design, same_name, find_module, result_type}
 use Rattle.hw_model.specs.Equality.{name_self, name_from}
 use Rattle.hw_model.specs.Flat.{width_of}
-use Rattle.hw_model.specs.Sound.{type_in}
-use Rattle.verilog_model.specs.Tokens.{is_name_start, is_name_byte, is_word_byte}
-use Rattle.verilog_model.specs.Numerals.{decimal_number, is_nonempty, all_bytes}
-use Rattle.verilog_model.specs.Tree.{Numeral, Expr, VPort, Item}
-use Rattle.verilog_model.specs.Tree.Expr.{name}
-use Rattle.verilog_model.specs.Tree.Item.{wire, reg, assign, always, instance}
-use Rattle.verilog_model.specs.Hierarchy.{first_some, or_else, when}
+use Rattle.verilog_model.specs.Tokens.{is_name_byte}
+use Rattle.verilog_model.specs.Numerals.{all_bytes}
+use Rattle.verilog_model.specs.Tree.{VPort, Item}
+use Rattle.verilog_model.specs.Tree.Item.{wire, reg}
+use Rattle.verilog_model.specs.Hierarchy.{or_else, when}
 use Rattle.verilog_model.specs.Reserved.{reserved_words}
-use Rattle.verilog_model.specs.Checks.{contains_name, starts_name, is_identifier, Role as DeclaredRole, Declared, find_declared, can_read, has_role, within, has_bit, declared_by, port_role, declared_ports, declared_items}
-use Rattle.verilog_model.specs.Checks.Role.{input_port, output_port, variable as variable_role, net as net_role}
-use Rattle.verilog_model.proofs.Numerals.{and_first, and_second, decimal_number-decimal}
+use Rattle.verilog_model.specs.Checks.{contains_name, starts_name, is_identifier, Role as DeclaredRole, Declared, find_declared, within, declared_by, port_role, declared_ports, declared_items}
+use Rattle.verilog_model.specs.Checks.Role.{variable as variable_role, net as net_role}
+use Rattle.verilog_model.proofs.Numerals.{and_first, and_second}
 use Rattle.verilog_model.proofs.Reread.{all_name_bytes}
 use Rattle.verilog_expr.specs.Numerals.{high_of}
-use Rattle.verilog_expr.specs.Expressions.{value_width}
 use Rattle.verilog_expr.proofs.TextRead.{IsWord}
-use Rattle.verilog_expr.proofs.Checked.{IsWell, IsWide}
-use Rattle.verilog_expr.proofs.BodiesChecked.{AreKnown}
-use Rattle.export_verilog.specs.Keys.{Key, Role, each, role_of, key_text, module_keys, named}
+use Rattle.export_verilog.specs.Keys.{Key, Role, each, role_of, key_text, module_keys}
 use Rattle.export_verilog.specs.Keys.Key.{port_key, value_key, instance_key}
 use Rattle.export_verilog.specs.Keys.Role.{hidden, net, variable, block}
 use Rattle.export_verilog.specs.Exported.{result_wires, declared_as, declares, vport, vports}
 use Rattle.export_verilog.proofs.Lists.{in_append}
-use Rattle.export_verilog.proofs.KeyNames.{AreNames, text_named, name_is_identifier}
 use Rattle.export_verilog.proofs.KeysOf.{from_each, into_each, Owner, owner_of, port_in, net_in, variable_in, result_in_keys}
 use Rattle.export_verilog.proofs.KeysOf.Owner.{a_port, a_net, a_variable, an_instance as owns_instance, a_result}
 use Rattle.export_verilog.proofs.Symbols.{when_some}
 use Rattle.export_verilog.proofs.Items.{from_wires, into_wires}
 use Rattle.export_verilog.proofs.Lookups.{found, vport_at}
-use Rattle.export_verilog.proofs.Settings.{Setting, module_ok, result_at_first}
-use Rattle.export_verilog.proofs.Writable.{NamedAs, named_as}
+use Rattle.export_verilog.proofs.Settings.{Setting, result_at_first}
 
 -- ---- identifiers are words
 

@@ -1,7 +1,7 @@
 -- No module of an exported tree is within itself, and clocks come from the inputs at the top.
-use Rattle.std.proofs.Common.{◌≡◌, ℕ, zero, suc, ◌+◌, ◌<◌, ◌≤◌, ◌⊎◌, Bool, true, false, not, cond, ◌&&◌, ◌||◌, List, [], ◌∷◌, ◌++◌, map, length, slice_get, Option, Some, None, refl, sym, ◌∙◌, ap, ap₂, subst, inl, inr, arith}
+use Rattle.std.proofs.Common.{◌≡◌, ℕ, zero, suc, ◌<◌, ◌≤◌, Bool, true, List, [], ◌∷◌, map, length, slice_get, Some, refl, sym, ◌∙◌, ap, subst, inl, inr, arith}
 use Rattle.std.proofs.lemmas.List.{length-map}
-use Rattle.wiring.specs.Wiring.{In, IsHeight, HasHeights}
+use Rattle.wiring.specs.Wiring.{In, HasHeights}
 use Rattle.wiring.proofs.Members.{In-slice_get}
 use Rattle.wiring.proofs.Heights.{height-le, FallsAlong-height}
 use Rattle.hw_model.specs.Types.{Name}
@@ -12,13 +12,10 @@ use Rattle.hw_model.specs.Sound.{body_of}
 use Rattle.hw_model.proofs.Content.{call_heights}
 use Rattle.hw_model.proofs.Finite.{calls_within}
 use Rattle.hw_model.proofs.Gone.{called_In}
-use Rattle.verilog_model.specs.Tree.{Item, VModule, Tree}
+use Rattle.verilog_model.specs.Tree.{Item}
 use Rattle.verilog_model.specs.Tree.Item.{wire, reg, assign, always, instance}
-use Rattle.verilog_model.specs.Hierarchy.{find_vmodule}
 use Rattle.verilog_model.specs.Checks.{instances_end, items_of, ends_within, nesting_checks}
 use Rattle.verilog_model.proofs.Numerals.{and_intro}
-use Rattle.export_verilog.specs.Keys.{role_of}
-use Rattle.export_verilog.specs.Keys.Role.{block}
 use Rattle.export_verilog.specs.Exported.{symbol_name, vitems, vmodule, tree_of}
 use Rattle.export_verilog.proofs.Symbols.{vmodule_found}
 use Rattle.export_verilog.proofs.Items.{From, from_items}

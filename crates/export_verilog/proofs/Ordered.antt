@@ -1,27 +1,25 @@
 -- The items of a module's tree meet the checks in their order.
-use Rattle.std.proofs.Common.{◌≡◌, ℕ, zero, suc, ◌+◌, Bool, true, false, cond, ◌&&◌, ◌||◌, List, [], ◌∷◌, ◌++◌, map, take, slice_get, Option, Some, None, is_some, refl, sym, ◌∙◌, ap, ap₂, subst, inl, inr, zero-add, IsTrue}
+use Rattle.std.proofs.Common.{◌≡◌, ℕ, ◌+◌, Bool, true, false, ◌&&◌, ◌||◌, List, [], ◌∷◌, ◌++◌, map, take, slice_get, Some, is_some, refl, ◌∙◌, ap, ap₂, inl, inr, zero-add}
 use Rattle.wiring.specs.Options.{omap}
 use Rattle.wiring.specs.Wiring.{In}
 use Rattle.wiring.proofs.Members.{In-append_right}
-use Rattle.hw_model.specs.Types.{Name, HwType, width}
+use Rattle.hw_model.specs.Types.{Name, width}
 use Rattle.hw_model.specs.Kinds.{Instance}
-use Rattle.hw_model.specs.Design.{Port, OpResult, Op, Module, Design, find_module, instance_in, result_type, output_refs}
+use Rattle.hw_model.specs.Design.{Port, Op, Module, Design, find_module, instance_in, result_type, output_refs}
 use Rattle.hw_model.specs.Flat.{width_of}
-use Rattle.verilog_model.specs.Tree.{VPort, Connection, Item, VModule, Tree}
-use Rattle.verilog_model.specs.Tree.Item.{wire, reg, assign}
+use Rattle.verilog_model.specs.Tree.{VPort, Connection, Item}
 use Rattle.verilog_model.specs.Hierarchy.{find_vmodule, find_port, find_connection, vports_of}
-use Rattle.verilog_model.specs.Checks.{Declared, connections_check, connection_checks, joins_inputs, ports_joined, item_checks, declared_by, items_check, declared_ports, declared_items, are_distinct}
+use Rattle.verilog_model.specs.Checks.{Declared, connections_check, connection_checks, joins_inputs, ports_joined, item_checks, declared_by, items_check, declared_ports, are_distinct}
 use Rattle.verilog_model.proofs.Numerals.{and_intro}
-use Rattle.verilog_expr.specs.Numerals.{high_of}
-use Rattle.export_verilog.specs.Keys.{each, role_of, key_text}
-use Rattle.export_verilog.specs.Keys.Key.{port_key, value_key}
+use Rattle.export_verilog.specs.Keys.{each, role_of}
+use Rattle.export_verilog.specs.Keys.Key.{port_key}
 use Rattle.export_verilog.specs.Keys.Role.{block}
 use Rattle.export_verilog.specs.Exported.{symbol_name, connections_of, connections_to, vport, vports, vitems, vmodule, tree_of, declares, states, output_assigns}
 use Rattle.export_verilog.proofs.KeysOf.{from_each, port_in}
 use Rattle.export_verilog.proofs.Symbols.{vmodule_found}
 use Rattle.export_verilog.proofs.Items.{connection_of, from_connections, instance_at, From, from_items}
 use Rattle.export_verilog.proofs.Items.From.{net_wire, variable_reg, result_wire, net_assign, variable_block, an_instance, output_assign}
-use Rattle.export_verilog.proofs.Lookups.{connection_under, connection_value, vport_at}
+use Rattle.export_verilog.proofs.Lookups.{connection_under}
 use Rattle.export_verilog.proofs.Settings.{Setting, Called, called_by}
 use Rattle.export_verilog.proofs.Known.{KnowsAll, knows_first, knows_more, known_first}
 use Rattle.export_verilog.proofs.Stated.{high_decimal, first_small, result_small, items_split, declaration_checks, register_good, net_good, output_good, connection_good, all_connections}

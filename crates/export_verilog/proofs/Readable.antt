@@ -1,5 +1,5 @@
 -- The names of a module's values are known with all their bits, so its expressions meet the checks.
-use Rattle.std.proofs.Common.{◌≡◌, ℕ, zero, suc, ◌+◌, ◌-◌, ◌<◌, ◌≤◌, ◌^◌, ◌==◌, nat_le, Bool, true, false, ◌&&◌, cond, List, [], ◌∷◌, ◌++◌, slice_get, decimal, Option, Some, None, is_some, refl, sym, ◌∙◌, ap, ap₂, subst, inl, inr, arith, IsTrue, le-leb, eqb-true}
+use Rattle.std.proofs.Common.{◌≡◌, ℕ, ◌-◌, ◌<◌, ◌^◌, ◌==◌, nat_le, Bool, true, false, ◌&&◌, cond, List, slice_get, decimal, Some, None, refl, sym, ◌∙◌, ap, ap₂, subst, inl, inr, arith, le-leb, eqb-true}
 use Rattle.wiring.specs.Options.{bind, omap}
 use Rattle.wiring.specs.Wiring.{In}
 use Rattle.hw_model.specs.Types.{Name, HwType, width}
@@ -7,10 +7,8 @@ use Rattle.hw_model.specs.Design.{Ref, Port, OpResult, Op, Module, Design, find_
 use Rattle.hw_model.specs.Design.Ref.{port, result}
 use Rattle.hw_model.specs.Flat.{width_of}
 use Rattle.hw_model.specs.Sound.{type_in, input_type}
-use Rattle.verilog_model.specs.Numerals.{decimal_number}
-use Rattle.verilog_model.specs.Tree.{Numeral, Expr}
 use Rattle.verilog_model.specs.Tree.Expr.{name}
-use Rattle.verilog_model.specs.Checks.{Role as DeclaredRole, Declared, find_declared, can_read, has_role, within, has_bit, port_role}
+use Rattle.verilog_model.specs.Checks.{Declared, find_declared, can_read, has_role, within, has_bit, port_role}
 use Rattle.verilog_model.proofs.Numerals.{decimal_number-decimal}
 use Rattle.verilog_expr.specs.Numerals.{high_of}
 use Rattle.verilog_expr.specs.Expressions.{value_width}
@@ -22,14 +20,14 @@ use Rattle.export_verilog.specs.Keys.{Key, Role, role_of, key_text, module_keys,
 use Rattle.export_verilog.specs.Keys.Key.{port_key, value_key}
 use Rattle.export_verilog.specs.Keys.Role.{hidden, net, variable, block}
 use Rattle.export_verilog.specs.Exported.{expression, assigned_expr}
-use Rattle.export_verilog.proofs.KeyNames.{AreNames, text_named, name_is_identifier}
+use Rattle.export_verilog.proofs.KeyNames.{text_named, name_is_identifier}
 use Rattle.export_verilog.proofs.KeysOf.{Owner, owner_of, port_in}
 use Rattle.export_verilog.proofs.KeysOf.Owner.{a_port, a_net, a_variable, an_instance as owns_instance, a_result}
 use Rattle.export_verilog.proofs.Settings.{Setting, module_ok, one_result_of, result_at_first}
 use Rattle.export_verilog.proofs.Writable.{NamedAs, named_as, writable}
 use Rattle.export_verilog.proofs.Sources.{inner_acyclic}
 use Rattle.export_verilog.proofs.Writable.NamedAs.{by_port, by_value}
-use Rattle.export_verilog.proofs.Known.{identifier_word, declared_port, declared_result, result_role, declared_value, KnowsAll}
+use Rattle.export_verilog.proofs.Known.{identifier_word, declared_port, declared_result, result_role, KnowsAll}
 
 module _ (d : Design) (x : Setting d) (s : Name) (m : Module) (is : find_module d s ≡ Some m) (known : List Declared) (knows : KnowsAll d x s m is known) where
   -- what a thing that is no instance is declared as

@@ -1,15 +1,15 @@
 -- A register with enable and reset meets what the theorem asks, and so behaves in Verilog as it does.
-use Rattle.std.proofs.Common.{◌≡◌, ℕ, zero, suc, ◌+◌, ◌<◌, ◌≤◌, ◌^◌, Bool, true, false, cond, List, [], ◌∷◌, length, slice_get, Option, Some, None, pos, refl, sym, ◌∙◌, ap, subst, arith, codes}
+use Rattle.std.proofs.Common.{◌≡◌, ℕ, zero, suc, ◌+◌, ◌<◌, ◌≤◌, ◌^◌, Bool, true, false, cond, [], ◌∷◌, length, slice_get, Option, Some, None, pos, refl, ap, subst, arith, codes}
 use Rattle.wiring.specs.Wiring.{In}
 use Rattle.wiring.specs.Options.{bind}
 use Rattle.hw_model.specs.Types.{Name, HwType, width}
 use Rattle.hw_model.specs.Types.HwType.{int, clock}
 use Rattle.hw_model.specs.Kinds.Kind.{constant, output, compreg_ce}
 use Rattle.hw_model.specs.Kinds.Reset.{sync_reset}
-use Rattle.hw_model.specs.Design.{Ref, Port, OpResult, Op, Module, Design, same_name, find_module, callee, result_type}
+use Rattle.hw_model.specs.Design.{Ref, Port, OpResult, Op, Module, Design, same_name, find_module, callee}
 use Rattle.hw_model.specs.Design.Ref.{port, result, undefined}
-use Rattle.hw_model.specs.Flat.{Path, Net, net, source_at, module_at, instances, input_source, copy_of, joined_at, result_source, Register, register_in}
-use Rattle.hw_model.specs.Meaning.{needs, needs_of, HasNoCycle, machine}
+use Rattle.hw_model.specs.Flat.{Path, source_at, module_at, instances, input_source, copy_of, joined_at, result_source, Register, register_in}
+use Rattle.hw_model.specs.Meaning.{needs_of, HasNoCycle, machine}
 use Rattle.hw_model.specs.Machine.{Same}
 use Rattle.hw_model.specs.Hierarchy.{calls, called, HasNoRecursion}
 use Rattle.hw_model.specs.Sound.{Sound, SoundBody, OpFits, InstanceFits, type_in, body_of}

@@ -1,18 +1,16 @@
 -- The names and numerals of an exported tree are words.
-use Rattle.std.proofs.Common.{◌≡◌, ℕ, zero, suc, ◌+◌, ◌-◌, ◌<◌, ◌≤◌, ◌^◌, ◌⊎◌, ◌==◌, Bool, true, false, cond, ◌&&◌, List, [], ◌∷◌, ◌++◌, map, take, slice_get, decimal, Option, Some, None, refl, sym, ◌∙◌, ap, ap₂, subst, inl, inr, zero-add, arith}
+use Rattle.std.proofs.Common.{◌≡◌, ℕ, ◌+◌, ◌-◌, ◌<◌, ◌^◌, ◌==◌, Bool, true, false, cond, List, [], ◌∷◌, map, take, slice_get, decimal, Option, Some, None, refl, sym, ◌∙◌, ap, subst, inl, inr, zero-add, arith}
 use Rattle.wiring.specs.Options.{omap}
 use Rattle.wiring.specs.Wiring.{In}
 use Rattle.wiring.proofs.Members.{In-slice_get, position_of_In}
 use Rattle.hw_model.specs.Types.{Name, HwType, width}
-use Rattle.hw_model.specs.Kinds.{Instance}
 use Rattle.hw_model.specs.Design.{Ref, Port, OpResult, Op, Module, Design, find_module, instance_in, result_type, output_refs, register_form, is_output_kind}
 use Rattle.hw_model.specs.Design.Ref.{result}
 use Rattle.hw_model.specs.Flat.{width_of, input_count, Register, ResetBy, register_in}
 use Rattle.hw_model.specs.Sound.{type_in, input_types, output_types}
-use Rattle.verilog_model.specs.Tree.{Expr, VPort, Load, Block, Connection, Item, VModule, Tree}
+use Rattle.verilog_model.specs.Tree.{VPort, Connection, Item}
 use Rattle.verilog_model.specs.Tree.Expr.{name}
-use Rattle.verilog_model.specs.Tree.Item.{wire, reg, assign, always, instance}
-use Rattle.verilog_model.specs.Checks.{is_identifier, are_distinct, all_identifiers}
+use Rattle.verilog_model.specs.Checks.{are_distinct, all_identifiers}
 use Rattle.verilog_model.proofs.Numerals.{and_second}
 use Rattle.verilog_expr.specs.Numerals.{high_of}
 use Rattle.verilog_expr.specs.Values.{gives_values}
@@ -22,8 +20,8 @@ use Rattle.export_verilog.specs.Keys.{Key, role_of, key_text, module_keys, named
 use Rattle.export_verilog.specs.Keys.Key.{port_key, value_key, instance_key}
 use Rattle.export_verilog.specs.Keys.Role.{net, variable, block}
 use Rattle.export_verilog.specs.Exported.{expression, assigned_expr, symbol_names, symbol_name, block_of, loads, connections_of, connections_to, vport, vports, vitems, vmodule, tree_of}
-use Rattle.export_verilog.proofs.TextRead.{IsHigh, IsSpellablePort, ArePorts, IsSpellableLoad, IsSpellableBlock, IsSpellableConnection, AreConnections, IsSpellableItem, AreItems, IsSpellableModule, IsSpellableTree}
-use Rattle.export_verilog.proofs.KeyNames.{AreNames, text_named, name_is_identifier, identifier_among}
+use Rattle.export_verilog.proofs.TextRead.{IsHigh, IsSpellablePort, ArePorts, IsSpellableLoad, IsSpellableBlock, IsSpellableConnection, AreConnections, IsSpellableItem, AreItems, IsSpellableTree}
+use Rattle.export_verilog.proofs.KeyNames.{text_named, name_is_identifier, identifier_among}
 use Rattle.export_verilog.proofs.KeysOf.{from_each, port_in, net_in, variable_in, instance_in_keys, result_in_keys, made_of_role}
 use Rattle.export_verilog.proofs.Symbols.{found_symbol, symbol_at, module_at_position}
 use Rattle.export_verilog.proofs.Items.{output_count, expr_for, connection_of, from_connections, From, from_items}

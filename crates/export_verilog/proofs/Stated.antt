@@ -1,40 +1,33 @@
 -- The statements of a module's tree meet the checks, after its declarations.
-use Rattle.std.proofs.Common.{◌≡◌, ℕ, zero, suc, ◌+◌, ◌-◌, ◌<◌, ◌≤◌, ◌^◌, ◌⊎◌, ◌==◌, Bool, true, false, not, cond, ◌&&◌, ◌||◌, List, [], ◌∷◌, ◌++◌, map, take, slice_get, decimal, Option, Some, None, is_some, refl, sym, ◌∙◌, ap, ap₂, subst, inl, inr, zero-add, arith, IsTrue, eqb-true, append_assoc, append-nil}
+use Rattle.std.proofs.Common.{◌≡◌, ℕ, zero, suc, ◌+◌, ◌-◌, ◌<◌, ◌^◌, ◌==◌, Bool, true, false, cond, ◌&&◌, List, [], ◌∷◌, ◌++◌, map, take, slice_get, decimal, Option, Some, None, refl, sym, ◌∙◌, ap, subst, inl, inr, zero-add, arith, append_assoc, append-nil}
 use Rattle.wiring.specs.Options.{bind, omap}
 use Rattle.wiring.specs.Wiring.{In}
-use Rattle.wiring.proofs.Options.{omap_some, bind_some}
 use Rattle.hw_model.specs.Types.{Name, HwType, width}
-use Rattle.hw_model.specs.Kinds.{Instance}
-use Rattle.hw_model.specs.Design.{Ref, Port, OpResult, Op, Module, Design, same_name, find_module, instance_in, result_type, output_refs, is_instance, is_register, is_output_op, register_form, is_output_kind}
-use Rattle.hw_model.specs.Design.Ref.{port, result}
+use Rattle.hw_model.specs.Design.{Ref, Port, OpResult, Op, Module, Design, same_name, find_module, instance_in, result_type, output_refs, register_form, is_output_kind}
+use Rattle.hw_model.specs.Design.Ref.{result}
 use Rattle.hw_model.specs.Equality.{name_self}
 use Rattle.hw_model.specs.Flat.{width_of, input_count, Register, ResetBy, register_in}
 use Rattle.hw_model.specs.Sound.{type_in, input_types, output_types}
-use Rattle.verilog_model.specs.Tree.{Numeral, Expr, VPort, Load, Block, Connection, Item, VModule, Tree}
+use Rattle.verilog_model.specs.Tree.{Expr, Connection, Item, Tree}
 use Rattle.verilog_model.specs.Tree.Expr.{name}
-use Rattle.verilog_model.specs.Tree.Block.{load, if_load, if_else, if_else_if}
-use Rattle.verilog_model.specs.Tree.Item.{wire, reg, assign, always, instance}
-use Rattle.verilog_model.specs.Hierarchy.{find_vmodule, find_port, find_connection, vports_of, block_target}
-use Rattle.verilog_model.specs.Checks.{Declared, find_declared, can_read, can_assign, is_variable, is_input, has_role, expr_checks, load_checks, block_checks, joins_net, connection_checks, connections_check, high_checks, joins_inputs, ports_joined, item_checks, declared_by, items_check, port_role, declared_items, are_distinct}
+use Rattle.verilog_model.specs.Tree.Item.{assign}
+use Rattle.verilog_model.specs.Hierarchy.{find_port, block_target}
+use Rattle.verilog_model.specs.Checks.{Declared, find_declared, can_assign, is_variable, is_input, has_role, expr_checks, load_checks, block_checks, joins_net, connection_checks, connections_check, high_checks, item_checks, declared_by, items_check, port_role, declared_items}
 use Rattle.verilog_model.proofs.Numerals.{and_intro, is_decimal-decimal}
 use Rattle.verilog_expr.specs.Numerals.{high_of}
 use Rattle.verilog_expr.specs.Values.{gives_values}
-use Rattle.verilog_expr.proofs.Checked.{IsWell}
-use Rattle.export_verilog.specs.Keys.{Key, Role, each, role_of, key_text, module_keys, named, name_or_nothing}
-use Rattle.export_verilog.specs.Keys.Key.{port_key, value_key, instance_key}
+use Rattle.export_verilog.specs.Keys.{Role, each, role_of, key_text, named, name_or_nothing}
+use Rattle.export_verilog.specs.Keys.Key.{port_key, value_key}
 use Rattle.export_verilog.specs.Keys.Role.{hidden, net, variable, block}
-use Rattle.export_verilog.specs.Exported.{expression, assigned_expr, block_of, loads, connections_of, connections_to, symbol_name, vports, vmodule, tree_of, declares, declared_as, states, output_assigns, vitems}
-use Rattle.export_verilog.proofs.KeyNames.{AreNames, text_named}
+use Rattle.export_verilog.specs.Exported.{expression, assigned_expr, block_of, loads, vports, tree_of, declares, declared_as}
 use Rattle.export_verilog.proofs.KeysOf.{from_each, port_in, net_in, variable_in, result_in_keys, made_of_role}
-use Rattle.export_verilog.proofs.Symbols.{vmodule_found}
-use Rattle.export_verilog.proofs.Items.{output_count, expr_for, connection_of, from_connections, from_wires, block_at, instance_at, From, from_items}
-use Rattle.export_verilog.proofs.Items.From.{net_wire, variable_reg, result_wire, net_assign, variable_block, an_instance, output_assign}
-use Rattle.export_verilog.proofs.Lookups.{port_under, connection_under, vport_at}
+use Rattle.export_verilog.proofs.Items.{output_count, expr_for, connection_of, from_wires, block_at}
+use Rattle.export_verilog.proofs.Lookups.{port_under, vport_at}
 use Rattle.export_verilog.proofs.Drives.{place_of_output}
 use Rattle.export_verilog.proofs.Registers.{AreOperands, typed_register}
-use Rattle.export_verilog.proofs.Settings.{Setting, Called, module_ok, module_sound, called_by, one_result_of, result_at_first}
+use Rattle.export_verilog.proofs.Settings.{Setting, Called, module_ok, module_sound, result_at_first}
 use Rattle.export_verilog.proofs.Writable.{named_input}
-use Rattle.export_verilog.proofs.Known.{declared_port, declared_result, result_role, KnowsAll, knows_more}
+use Rattle.export_verilog.proofs.Known.{result_role, KnowsAll}
 use Rattle.export_verilog.proofs.Readable.{found_port, found_result, expression_well, assigned_well}
 
 -- ---- ranges

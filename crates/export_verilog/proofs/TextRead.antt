@@ -1,12 +1,11 @@
 -- The text of a tree, read as tokens, is the tree's spelling.
-use Rattle.std.proofs.Common.{◌≡◌, ℕ, Bool, true, false, List, [], ◌∷◌, ◌++◌, Option, Some, None, codes, refl, sym, ◌∙◌, ap, IsTrue}
-use Rattle.hw_model.specs.Types.{Name}
-use Rattle.verilog_model.specs.Tokens.{Piece, pieces, tokens}
-use Rattle.verilog_model.specs.Tokens.Piece.{word, operator, mark, gap}
+use Rattle.std.proofs.Common.{◌≡◌, Bool, true, false, List, [], ◌∷◌, ◌++◌, Option, Some, None, codes, refl, ◌∙◌, ap}
+use Rattle.verilog_model.specs.Tokens.{tokens}
+use Rattle.verilog_model.specs.Tokens.Piece.{word, operator, mark}
 use Rattle.verilog_model.specs.Tree.{Numeral, Expr, VPort, Load, Block, Connection, Item, VModule, Tree}
 use Rattle.verilog_model.specs.Tree.Block.{load, if_load, if_else, if_else_if}
 use Rattle.verilog_model.specs.Tree.Item.{wire, reg, assign, always, instance}
-use Rattle.verilog_model.specs.Grammar.{direction, expr_spelled, range_spelled, port_spelled, more_ports_spelled, ports_spelled, load_spelled, if_spelled, block_spelled, connection_spelled, more_connections_spelled, connections_spelled, item_spelled, items_spelled, module_spelled, spelled}
+use Rattle.verilog_model.specs.Grammar.{direction, range_spelled, port_spelled, more_ports_spelled, ports_spelled, load_spelled, if_spelled, block_spelled, connection_spelled, more_connections_spelled, connections_spelled, item_spelled, items_spelled, module_spelled, spelled}
 use Rattle.verilog_expr.specs.Text.{expr_text}
 use Rattle.verilog_expr.proofs.TextRead.{IsWord, IsSpellable, GoesOn, word_read, expr_read}
 use Rattle.export_verilog.specs.Layout.{Text, range_text, port_text, port_lines, ports_text, load_text, if_text, block_text, connection_text, connection_lines, connections_text, item_text, items_text, module_text, further_text, tree_text}

@@ -1,14 +1,12 @@
 -- The Verilog tree of a design (IEEE 1364-2005, 12.1: hierarchy; 6.1: continuous assignments; 9.2.2: nonblocking
 -- assignments): for each module its ports, the declarations in the order of names, the statements in the order of the
 -- body, and an assignment to each output port in order.
-use Rattle.std.specs.Prelude.{ℕ, zero, suc, Bool, true, false, cond, List, [], ◌∷◌, ◌++◌, map, Option, Some, None, slice_get}
-use Rattle.wiring.specs.Options.{bind}
+use Rattle.std.specs.Prelude.{ℕ, suc, cond, List, [], ◌∷◌, ◌++◌, map, Option, Some, None}
 use Rattle.hw_model.specs.Types.{Name, width}
 use Rattle.hw_model.specs.Kinds.{Instance}
 use Rattle.hw_model.specs.Design.{Ref, Port, OpResult, Op, Module, Design, same_name, find_module, instance_in, result_type, output_refs}
-use Rattle.hw_model.specs.Design.Ref.{port, result, undefined}
+use Rattle.hw_model.specs.Design.Ref.{result}
 use Rattle.hw_model.specs.Flat.{width_of, Register, ResetBy, register_in}
-use Rattle.hw_model.specs.Sound.{ports_of}
 use Rattle.verilog_model.specs.Tree.{Expr, VPort, Load, Block, Connection, Item, VModule, Tree}
 use Rattle.verilog_model.specs.Tree.Expr.{name}
 use Rattle.verilog_model.specs.Tree.Block.{load, if_load, if_else, if_else_if}
@@ -18,7 +16,7 @@ use Rattle.verilog_expr.specs.Numerals.{high_of}
 use Rattle.verilog_expr.specs.Building.{no_expr}
 use Rattle.verilog_expr.specs.Expressions.{expr_to, own_expr}
 use Rattle.verilog_expr.specs.Spilling.{height_limit}
-use Rattle.export_verilog.specs.Keys.{Key, Role, each, role_of, module_keys, names, key_text, name_or_nothing, named}
+use Rattle.export_verilog.specs.Keys.{Role, each, role_of, key_text, name_or_nothing, named}
 use Rattle.export_verilog.specs.Keys.Key.{port_key, value_key, instance_key}
 use Rattle.export_verilog.specs.Keys.Role.{hidden, net, variable, block}
 

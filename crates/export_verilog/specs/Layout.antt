@@ -1,7 +1,6 @@
 -- The layout of a Verilog text: one line for each port, declaration and statement, an empty line between modules. The rest
 -- of the text is an argument.
-use Rattle.std.specs.Prelude.{ℕ, Bool, true, false, List, [], ◌∷◌, ◌++◌, Option, Some, None, codes}
-use Rattle.hw_model.specs.Types.{Name}
+use Rattle.std.specs.Prelude.{ℕ, List, [], ◌∷◌, ◌++◌, Option, Some, None, codes}
 use Rattle.hw_model.specs.Design.{Design}
 use Rattle.verilog_model.specs.Tree.{Numeral, Expr, VPort, Load, Block, Connection, Item, VModule, Tree}
 use Rattle.verilog_model.specs.Tree.Block.{load, if_load, if_else, if_else_if}
