@@ -38,3 +38,4 @@ pub mod Spelled
 pub mod Behaving
 pub mod Rests
 pub mod Listed
+pub mod PortNames

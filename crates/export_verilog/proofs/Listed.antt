@@ -24,6 +24,18 @@ viewed view [] i x lt at = absurd (omega (arith, lt))
 viewed view (y ∷ ys) zero x lt at = ap (λ z. Some (view z)) (sym at)
 viewed view (y ∷ ys) (suc i) x lt at = viewed view ys i x (omega (arith, lt)) at
 
+-- what is made of each element is gathered
+pub gather_step : {A B : Type 0} (f : A → B) (F : List A → List B) (xs : List A) (i : ℕ) (x : A) (out one whole : List B)
+    → ((y : A) (ys : List A) → F (y ∷ ys) ≡ f y ∷ F ys) → i < length xs → x ≡ get_or xs i x
+    → out ++ F (drop i xs) ≡ whole → one ≡ out ++ f x ∷ [] → one ++ F (drop (i + 1) xs) ≡ whole
+gather_step f F xs i x out one whole more lt at inv e =
+    ap (λ l. l ++ F (drop (i + 1) xs)) e ∙ append_assoc out (f x ∷ []) (F (drop (i + 1) xs))
+    ∙ ap (λ l. out ++ l) (sym (ap F (split xs i x lt at) ∙ more x (drop (i + 1) xs))) ∙ inv
+
+pub gather_end : {A B : Type 0} (F : List A → List B) (xs : List A) (i : ℕ) (out whole : List B) → F [] ≡ [] → length xs ≤ i
+    → out ++ F (drop i xs) ≡ whole → out ≡ whole
+gather_end F xs i out whole none le inv = sym (append-nil out) ∙ sym (ap (λ l. out ++ l) (ap F (drop_none xs i le) ∙ none)) ∙ inv
+
 -- ---- ports
 
 pub port_first : (p : VPort) (ps : List VPort) (bs : Text) → ports_left (p ∷ ps) bs ≡ port_text p (line_end (some_left ps)) ++ ports_left ps bs

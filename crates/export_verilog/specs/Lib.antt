@@ -6,3 +6,4 @@ pub mod Exportable
 pub mod Behaving
 pub mod Written
 pub mod WrittenViews
+pub mod Held

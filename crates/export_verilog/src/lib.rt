@@ -4,5 +4,6 @@
 pub mod blocks;
 pub mod instances;
 mod laws;
+pub mod legal_names;
 pub mod lines;
 pub mod ports;
