@@ -7,3 +7,4 @@ pub mod Behaving
 pub mod Written
 pub mod WrittenViews
 pub mod Held
+pub mod RoleViews

@@ -7,3 +7,4 @@ mod laws;
 pub mod legal_names;
 pub mod lines;
 pub mod ports;
+pub mod wishes;

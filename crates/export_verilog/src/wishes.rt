@@ -1,0 +1,108 @@
+//! What the operations of a body are in Verilog, and the names that are wanted for them.
+ghost use Rattle.std.specs.Prelude.{◌≡◌, map, codes, slice_get, IfOk};
+ghost use Rattle.hw_model.specs.KindViews.{kind_of, instance_of};
+ghost use Rattle.ir_store.specs.DictionaryViews.{entry_of, attribute_of};
+ghost use Rattle.verilog_expr.specs.Spilling.{is_wire_kind, text_of, text_at};
+ghost use Rattle.export_verilog.specs.Keys.{or_name, name_or_nothing, result_wish};
+ghost use Rattle.export_verilog.specs.Held.{role_by, own_wish, op_seen};
+ghost use Rattle.export_verilog.specs.RoleViews.{role_seen};
+
+use hw_model::kinds::{Instance, OpKind};
+use io_edge::byte_text::Text;
+use ir_store::body::Op;
+use ir_store::dictionary::{Attribute, Entry};
+use std::alloc::{AllocError, Global};
+
+/// What an operation is in Verilog.
+#[derive(Clone, Copy, Debug)]
+pub enum Role {
+    /// Nothing by itself: the module's output, or a value that is written where it is used.
+    Hidden,
+    /// A wire with an assignment.
+    Net,
+    /// A variable with an `always` block.
+    Variable,
+    /// An instance, with a wire for each result.
+    Block,
+}
+
+/// What an operation of a kind is, whose first result has a wire or not.
+pub fn role_of(kind: &OpKind, has_wire: bool) -> Role
+    ensures { role_seen result ≡ role_by has_wire (kind_of kind.now) }
+{
+    match kind {
+        OpKind::CompReg(_) | OpKind::CompRegCe(_) | OpKind::FirReg(_) => Role::Variable,
+        OpKind::Instance(_) => Role::Block,
+        OpKind::Output => Role::Hidden,
+        OpKind::Wire => Role::Net,
+        _ => { if has_wire { Role::Net } else { Role::Hidden } }
+    }
+}
+
+// The text that an attribute is, or none.
+fn text_of(value: &Attribute) -> &[u8]
+    ensures { result.now ≡ text_of (attribute_of value.now) }
+{
+    match value {
+        Attribute::String(text) => text.as_bytes(),
+        _ => &[],
+    }
+}
+
+// The name that is wanted in a dictionary, or none (CIRCT, `sv.namehint`).
+fn hint_in(entries: &[Entry]) -> &[u8]
+    ensures { result.now ≡ text_at (codes "sv.namehint") (map entry_of entries.now) }
+{
+    for entry in entries {
+        if entry.key.as_bytes() == b"sv.namehint".as_slice() {
+            return text_of(&entry.value);
+        }
+    }
+    &[]
+}
+
+// A name, or another one in place of an empty one.
+fn or_name<'n>(name: &'n [u8], other: &'n [u8]) -> &'n [u8]
+    ensures { result.now ≡ or_name name.now other.now }
+{
+    match name {
+        [] => other,
+        [_, ..] => name,
+    }
+}
+
+/// The name that is wanted for the value of an operation that is no instance.
+pub fn own_wish<'b>(op: &Op<'b>) -> &'b [u8]
+    ensures { result.now ≡ own_wish (op_seen op.now) }
+{
+    match op.kind {
+        OpKind::CompReg(_) | OpKind::CompRegCe(_) | OpKind::FirReg(_) => {
+            or_name(op.name.as_bytes(), b"_reg")
+        }
+        OpKind::Wire => or_name(op.name.as_bytes(), b"_wire"),
+        _ => or_name(hint_in(&op.dictionary.entries), b"_GEN"),
+    }
+}
+
+// The name of an output of an instance, or none.
+fn output_name(instance: &Instance, number: usize) -> &[u8]
+    ensures { result.now ≡ name_or_nothing (slice_get (instance_of instance.now).outputs number) }
+{
+    match instance.outputs.get(number) {
+        Some(name) => name.as_bytes(),
+        None => &[],
+    }
+}
+
+/// The name that is wanted for a result of an instance: `_INSTANCE_PORT`.
+#[tactic(auto, using(std::proofs::Common::append_assoc))]
+pub fn result_wish(alloc: Global, instance: &Instance, number: usize) -> Result<Text, AllocError>
+    ensures { IfOk result (λ wish. wish ≡ result_wish (instance_of instance.now) number) }
+{
+    let mut wish = Text::new(alloc);
+    wish.push_bytes(b"_")?;
+    wish.push_bytes(instance.name.as_bytes())?;
+    wish.push_bytes(b"_")?;
+    wish.push_bytes(output_name(instance, number))?;
+    Ok(wish)
+}
