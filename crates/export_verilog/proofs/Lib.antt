@@ -39,3 +39,4 @@ pub mod Behaving
 pub mod Rests
 pub mod Listed
 pub mod PortNames
+pub mod Adding

@@ -1,5 +1,6 @@
 -- The names of a module's things, as code has them.
-use Rattle.std.specs.Prelude.{◌≡◌, ℕ, zero, suc, Bool, cond, is_some, List, [], ◌∷◌, codes, Option, Some, None, slice_get}
+use Rattle.std.specs.Prelude.{◌≡◌, ℕ, zero, suc, Bool, cond, is_some, List, [], ◌∷◌, ◌++◌, map, length, codes, Option, Some, None, slice_get}
+use Rattle.name_legalise.specs.Legal.{legal_name, legal_after}
 use Rattle.hw_model.specs.Types.{Name}
 use Rattle.hw_model.specs.Kinds.{Kind, Instance}
 use Rattle.hw_model.specs.Design.{Port, Op, Module, is_register, register_form, instance_in, is_output_kind}
@@ -40,3 +41,33 @@ own_wish o =
 abbrev pub result_wishes : Instance → ℕ → ℕ → List Name
 result_wishes i k zero = []
 result_wishes i k (suc n) = result_wish i k ∷ result_wishes i (suc k) n
+
+-- the names that are wanted for the things of an operation of a role
+abbrev pub wishes_of : Role → Option Instance → Op → List Name
+wishes_of hidden x o = []
+wishes_of net x o = own_wish o ∷ []
+wishes_of variable x o = own_wish o ∷ []
+wishes_of block None o = []
+wishes_of block (Some i) o = i.name ∷ result_wishes i 0 (length o.results)
+
+abbrev pub op_wishes : Role → Op → List Name
+op_wishes r o = wishes_of r (instance_in o.kind) o
+
+-- the names of an operation's results, where others are taken
+abbrev pub results_of : List Name → Role → Option Instance → Op → List (Option Name)
+results_of taken hidden x o = []
+results_of taken net x o = Some (legal_name taken (own_wish o)) ∷ []
+results_of taken variable x o = Some (legal_name taken (own_wish o)) ∷ []
+results_of taken block None o = []
+results_of taken block (Some i) o = map (λ (n : Name). Some n) (legal_after (taken ++ legal_name taken i.name ∷ []) (result_wishes i 0 (length o.results)))
+
+abbrev pub op_results : List Name → Role → Op → List (Option Name)
+op_results taken r o = results_of taken r (instance_in o.kind) o
+
+-- the own name of an operation that is an instance, where others are taken
+abbrev pub own_name_of : List Name → Role → Option Instance → Name
+own_name_of taken block (Some i) = legal_name taken i.name
+own_name_of taken _ _ = []
+
+abbrev pub op_own_name : List Name → Role → Op → Name
+op_own_name taken r o = own_name_of taken r (instance_in o.kind)

@@ -6,5 +6,6 @@ pub mod instances;
 mod laws;
 pub mod legal_names;
 pub mod lines;
+pub mod op_names;
 pub mod ports;
 pub mod wishes;

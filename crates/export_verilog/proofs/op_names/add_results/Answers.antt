@@ -1,0 +1,41 @@
+use Rattle.std.proofs.Common.{◌≡◌, ◌<◌, ◌≤◌, ◌++◌, ◌∷◌, [], map, Some, sym, ap, ◌∙◌, arith, length, get_or, ◌+◌, zero-add}
+use Rattle.hw_model.specs.Types.{Name}
+use Rattle.hw_model.specs.KindViews.{instance_of}
+use Rattle.name_legalise.specs.Legal.{legal_after, legal_name}
+use Rattle.name_legalise.specs.LegalViews.{legal_names}
+use Rattle.export_verilog.specs.Keys.{result_wish}
+use Rattle.export_verilog.specs.Held.{result_wishes}
+use Rattle.export_verilog.proofs.Adding.{names_step, list_step, names_end, list_end, wish_count, wish_first}
+use Rattle.export_verilog.proofs.op_names.add_results.Goals as goal
+
+pub loop-number-preserved : goal.loop-number-preserved
+loop-number-preserved c =
+    let i = instance_of c.args.instance.now in
+    let k = c.loop-number.number in
+    let ws = result_wishes i 0 c.args.count in
+    let ts = legal_names c.loop-number.names in
+    let us = legal_names c.add_name.new.names in
+    let w = result_wish i k in
+    let old = legal_names c.args.names.now in
+    let wholeN = old ++ legal_after old ws in
+    let wholeL = map (λ (n : Name). Some n) (legal_after old ws) in
+    let wish : c.as_bytes.result.now ≡ w = c.as_bytes.ensures ∙ c.in_ok-wish.ensures in
+    let lt : k < length ws = omega (arith, c.loop-number-test.true, wish_count i 0 c.args.count) in
+    let at : w ≡ get_or ws k w = wish_first i c.args.count k c.loop-number-test.true in
+    let is : c.in_ok-name.name ≡ legal_name ts w = c.in_ok-name.ensures.name ∙ ap (legal_name ts) wish in
+    let took : us ≡ ts ++ legal_name ts w ∷ [] = c.in_ok-name.ensures.names ∙ ap (λ x. ts ++ legal_name ts x ∷ []) wish in
+    record {
+      names = names_step ts us ws wholeN c.loop-number.list.items c.push.new.self.items wholeL k w c.in_ok-name.name lt at is took c.loop-number.invariant.names;
+      list = list_step ts us ws wholeN c.loop-number.list.items c.push.new.self.items wholeL k w c.in_ok-name.name lt at is took c.loop-number.invariant.list c.in_ok-push.ensures.items;
+    }
+
+pub returns : goal.returns
+returns c =
+    let ws = result_wishes (instance_of c.args.instance.now) 0 c.args.count in
+    let ts = legal_names c.loop-number.names in
+    let old = legal_names c.args.names.now in
+    let le : length ws ≤ c.loop-number.number = omega (arith, c.loop-number-test.false, wish_count (instance_of c.args.instance.now) 0 c.args.count) in
+    record {
+      names = names_end ts ws (old ++ legal_after old ws) c.loop-number.number le c.loop-number.invariant.names;
+      list = list_end ts ws c.loop-number.list.items (map (λ (n : Name). Some n) (legal_after old ws)) c.loop-number.number le c.loop-number.invariant.list;
+    }
