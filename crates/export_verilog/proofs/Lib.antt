@@ -40,3 +40,4 @@ pub mod Rests
 pub mod Listed
 pub mod PortNames
 pub mod Adding
+pub mod Walking

@@ -8,3 +8,4 @@ pub mod Written
 pub mod WrittenViews
 pub mod Held
 pub mod RoleViews
+pub mod Walks

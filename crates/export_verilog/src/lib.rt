@@ -2,6 +2,7 @@
 #![tactic(auto)]
 
 pub mod blocks;
+pub mod body_names;
 pub mod instances;
 mod laws;
 pub mod legal_names;
