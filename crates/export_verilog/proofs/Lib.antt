@@ -36,6 +36,15 @@ pub mod Driven
 pub mod Checking
 pub mod Spelled
 pub mod Behaving
+pub mod FirstAggregates
+pub mod AcceptedTypes
+pub mod AcceptedOps
+pub mod NoAggregates
+pub mod AcceptedWeights
+pub mod AcceptedDivisions
+pub mod AcceptedValues
+pub mod AcceptedExports
+pub mod AggregateSamples
 pub mod Rests
 pub mod Listed
 pub mod PortNames

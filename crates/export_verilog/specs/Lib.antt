@@ -4,6 +4,8 @@ pub mod Exported
 pub mod Layout
 pub mod Exportable
 pub mod Behaving
+pub mod Aggregates
+pub mod Room
 pub mod Written
 pub mod WrittenViews
 pub mod Held

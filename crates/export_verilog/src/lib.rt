@@ -1,6 +1,8 @@
 //! The Verilog of a design.
 #![tactic(auto)]
 
+mod acceptance;
+pub mod aggregates;
 pub mod blocks;
 pub mod body_names;
 pub mod instances;
@@ -10,3 +12,6 @@ pub mod lines;
 pub mod op_names;
 pub mod ports;
 pub mod wishes;
+
+pub use acceptance::{accepted_designs_are_exportable, stored_designs_have_room};
+pub use laws::{exported_designs_behave, exported_modules_behave_the_same};

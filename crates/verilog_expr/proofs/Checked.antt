@@ -60,19 +60,15 @@ hex_byte_is_word b h = go (is_digit b) (is_between 65 70 b) (is_between 97 102 b
   finish false false true true m q t = refl
   finish false false false true m q t = refl
   finish false false e false m q t = cc
-
   lower : (l u d : Bool) → IsTrue l → IsTrue (l || (u || d))
   lower l u d t = rw t refl
-
   upper : (l u d : Bool) → IsTrue u → IsTrue (l || (u || d))
   upper true u d t = refl
   upper false u d t = rw t refl
-
   digit : (l u d : Bool) → IsTrue d → IsTrue (l || (u || d))
   digit true u d t = refl
   digit false true d t = refl
   digit false false d t = t
-
   go : (d u l : Bool) → is_digit b ≡ d → is_between 65 70 b ≡ u → is_between 97 102 b ≡ l → IsTrue (d || (u || l)) → IsTrue (is_word_byte b)
   go true u l x y z h = finish (is_between 97 122 b) (is_between 65 90 b) (b == 95) (is_digit b) (b == 36) (b == 39) (digit (is_between 97 122 b) (is_between 65 90 b) (is_digit b) x)
   go false true l x y z h = finish (is_between 97 122 b) (is_between 65 90 b) (b == 95) (is_digit b) (b == 36) (b == 39)
@@ -196,13 +192,10 @@ module _ (known : List Declared) where
   well_select low w whole e some within small wide = rw wide.same (go (w == 1) refl) where
     n : Name
     n = wide.called
-
     high_small : low + w - 1 < 2 ^ 64
     high_small = omega (arith, some, within, small)
-
     low_small : low < 2 ^ 64
     low_small = omega (arith, some, within, small)
-
     go : (b : Bool) → (w == 1) ≡ b → IsWell (cond b (bit_select n (decimal low)) (part_select n (decimal (low + w - 1)) (decimal low)))
     go true one = record {
       words = (wide.word, decimal_word low low_small);

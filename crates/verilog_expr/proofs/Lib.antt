@@ -6,6 +6,10 @@ pub mod ReadOps
 pub mod Marking
 pub mod PartsMarked
 pub mod HeightSteps
+pub mod TextParts
+pub mod FormTexts
+pub mod FormRows
+pub mod Writing
 pub mod Own
 pub mod Assigned
 pub mod Rows

@@ -107,7 +107,6 @@ operator_read bit_or rest = refl
 
 mutual
   unfolding expr_text exprs_text
-
   pub expr_read : (e : Expr) (rest : List ℕ) → IsSpellable e → GoesOn rest → tokens (expr_text e rest) ≡ expr_spelled e (tokens rest)
   expr_read (name n) rest is apart = word_read n rest is apart
   expr_read (bit_select n k) rest is apart =

@@ -1,11 +1,9 @@
 -- How the expression of an operation is laid out round its operands.
-use Rattle.std.specs.Prelude.{ℕ, zero, suc, ◌+◌, ◌/◌, Bool, true, false, cond, not, ◌&&◌, ◌==◌, List, [], ◌∷◌, ◌++◌, length, Option, Some, None, decimal, codes}
-use Rattle.bits_core.specs.Word.{number, bits_of_ℤ}
-use Rattle.hw_model.specs.Types.{Name}
+use Rattle.std.specs.Prelude.{ℕ, ◌+◌, Bool, true, false, cond, not, ◌==◌, List, [], ◌∷◌, ◌++◌, decimal, codes}
 use Rattle.verilog_model.specs.Tree as tree
 use Rattle.verilog_model.specs.Tree.{Expr}
 use Rattle.verilog_model.specs.Tree.Operator.{times, over, modulo, plus, minus, left_shift, right_shift, signed_right_shift, below, at_most, above, at_least, equals, differs, bit_and, bit_xor, bit_or}
-use Rattle.verilog_model.specs.Grammar.{strength, choice_level, primary_level}
+use Rattle.verilog_model.specs.Grammar.{strength}
 use Rattle.verilog_expr.specs.Building.{literal_of, unsigned, placed}
 use Rattle.verilog_expr.specs.Text.{operator_text, expr_text}
 use Rattle.verilog_expr.specs.declared.form.Operator.{Operator}

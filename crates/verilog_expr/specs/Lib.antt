@@ -12,3 +12,4 @@ pub mod PartTables
 pub mod Named
 pub mod Forms
 pub mod Rows
+pub mod Made

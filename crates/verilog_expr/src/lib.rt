@@ -1,6 +1,7 @@
 //! Expressions of Verilog for the values of a design's body.
 #![tactic(auto)]
 
+pub mod expr;
 pub mod form;
 mod height_table;
 mod laws;

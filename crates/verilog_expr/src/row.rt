@@ -100,13 +100,7 @@ fn copies(width: u64, operand_width: u64) -> u64
 
 /// The row of an operation of a kind with a result of `width` bits and `count` operands, of which the first has
 /// `operand_width` bits, and `divisor` the number of the constant that it divides by.
-pub fn row_for(
-    kind: &OpKind,
-    width: u64,
-    operand_width: u64,
-    divisor: u128,
-    count: usize,
-) -> Row
+pub fn row_for(kind: &OpKind, width: u64, operand_width: u64, divisor: u128, count: usize) -> Row
     requires { width < 129 }
     ensures { result ≡ row_for (kind_of kind.now) width operand_width divisor count }
 {
@@ -118,16 +112,32 @@ pub fn row_for(
         OpKind::Xor => chain_row(count, Operator::BitXor),
         OpKind::Sub => row_of_count(count, 2, Form::Chain(Operator::Minus)),
         OpKind::Divu => {
-            row_of_count(count, 2, Form::UnsignedDivision(Operator::Over, width, divisor))
+            row_of_count(
+                count,
+                2,
+                Form::UnsignedDivision(Operator::Over, width, divisor),
+            )
         }
         OpKind::Modu => {
-            row_of_count(count, 2, Form::UnsignedDivision(Operator::Modulo, width, divisor))
+            row_of_count(
+                count,
+                2,
+                Form::UnsignedDivision(Operator::Modulo, width, divisor),
+            )
         }
         OpKind::Divs => {
-            row_of_count(count, 2, Form::SignedDivision(Operator::Over, width, divisor))
+            row_of_count(
+                count,
+                2,
+                Form::SignedDivision(Operator::Over, width, divisor),
+            )
         }
         OpKind::Mods => {
-            row_of_count(count, 2, Form::SignedDivision(Operator::Modulo, width, divisor))
+            row_of_count(
+                count,
+                2,
+                Form::SignedDivision(Operator::Modulo, width, divisor),
+            )
         }
         OpKind::Shl => row_of_count(count, 2, Form::UnsignedShift(Operator::LeftShift)),
         OpKind::Shru => row_of_count(count, 2, Form::UnsignedShift(Operator::RightShift)),
