@@ -31,7 +31,7 @@ others_drop view (x ∷ xs) (suc u) =
     others_drop view xs u ∙ ap (λ n. map view (drop n (x ∷ xs))) e
 
 module _ {A B : Type 0} (view : A → Port) (vref : B → Ref) (ex : Ref → Expr) (given : ℕ → Name) where
-  some_joined : (ns : List Name) (xs : List A) (j k : ℕ) (rs : List Ref) → length ns ≡ length xs
+  pub some_joined : (ns : List Name) (xs : List A) (j k : ℕ) (rs : List Ref) → length ns ≡ length xs
       → some_left (joined ex given k (drop j ns) (map view (drop j xs)) rs) ≡ nat_lt j (length xs)
   some_joined [] [] zero k rs e = refl
   some_joined [] [] (suc j) k rs e = grind arith

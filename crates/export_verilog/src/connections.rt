@@ -7,13 +7,15 @@ ghost use Rattle.verilog_expr.specs.Scopes.{scope_ports, scope_ops, scope_ids, s
 ghost use Rattle.verilog_expr.specs.Marks.{AreSmall};
 ghost use Rattle.verilog_expr.specs.Named.{named_of};
 ghost use Rattle.verilog_expr.specs.Text.{expr_text};
+ghost use Rattle.verilog_model.specs.Tree.Item.{instance};
+ghost use Rattle.export_verilog.specs.Layout.{item_text};
 ghost use Rattle.export_verilog.specs.Exported.{expr_or_none};
 ghost use Rattle.export_verilog.specs.Keys.{name_or_nothing};
 ghost use Rattle.export_verilog.specs.Values.{value_expr};
 ghost use Rattle.export_verilog.specs.Written.{connections_left};
 ghost use Rattle.export_verilog.specs.Joined.{joined};
 
-use crate::instances::push_connection;
+use crate::instances::{push_begin, push_connection, push_end, push_head};
 use crate::ports::line_end;
 use crate::values::{name_text, used_text};
 use io_edge::byte_text::Text;
@@ -118,5 +120,30 @@ pub fn push_connections(
         results = counted(results, is_output);
         inputs = counted(inputs, !is_output);
     }
+    Ok(())
+}
+
+/// Adds an instance of a module, whose ports have names, under its own name (12.1.2: module instantiation). No value may
+/// have more than 128 bits. The error is want of memory.
+pub fn push_instance(
+    alloc: Global,
+    out: &mut Text,
+    scope: &Scope<'_>,
+    names: &ValueNames,
+    id: OpId,
+    operands: &[Value],
+    ports: &[Port],
+    port_names: &[Text],
+    callee: &[u8],
+    name: &[u8],
+) -> Result<(), AllocError>
+    requires small { AreSmall (scope_ports scope.now) (scope_ops scope.now) }
+    requires count { length port_names.now ≡ length ports.now }
+    ensures { OnOk result (out.new ≡ out.old ++ item_text (instance callee.now name.now (joined (value_expr scope.now names.now) (λ k. name_or_nothing (named_of names.now (result_ref (position_of (scope_ids scope.now) id.index) k))) 0 port_names.now (map port_of ports.now) (map (scope_ref scope.now) operands.now))) []) }
+{
+    push_head(out, callee, name)?;
+    push_begin(out, ports.len() > 0)?;
+    push_connections(alloc, out, scope, names, id, operands, ports, port_names)?;
+    push_end(out, ports.len() > 0)?;
     Ok(())
 }

@@ -3,6 +3,7 @@
 
 mod acceptance;
 pub mod aggregates;
+pub mod assigns;
 pub mod blocks;
 pub mod body_names;
 pub mod connections;
