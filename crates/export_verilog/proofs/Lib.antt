@@ -56,3 +56,4 @@ pub mod RegisterItems
 pub mod ValueWires
 pub mod Joining
 pub mod InstanceParts
+pub mod SameNames
