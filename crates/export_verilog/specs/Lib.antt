@@ -16,3 +16,5 @@ pub mod Values
 pub mod RegisterViews
 pub mod Statements
 pub mod Joined
+pub mod ScopeModules
+pub mod NamedDesigns

@@ -12,9 +12,12 @@ pub mod instances;
 mod laws;
 pub mod legal_names;
 pub mod lines;
+pub mod module_names;
+pub mod named_design;
 pub mod op_names;
 pub mod ports;
 pub mod register_blocks;
+pub mod statements;
 pub mod values;
 pub mod wishes;
 
