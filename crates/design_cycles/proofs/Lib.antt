@@ -11,6 +11,7 @@ pub mod Summed
 pub mod Pushing
 pub mod Known
 pub mod Cyclic
+pub mod Ordered
 pub mod Placing
 pub mod Callees
 pub mod Capped

@@ -30,7 +30,7 @@ position_within (i ∷ ids) q below = go (nat_eq i q) refl (position_within ids 
     go true same rest low = ap Some (eqb-true i q same)
     go false other rest low = rest (omega arith)
 
-position_least : (ids : List ℕ) (q j : ℕ) → slice_get ids j ≡ Some q → position_of ids q ≤ j
+pub position_least : (ids : List ℕ) (q j : ℕ) → slice_get ids j ≡ Some q → position_of ids q ≤ j
 position_least [] q j at = cc
 position_least (i ∷ ids) q zero at = go (nat_eq i q) refl
   where

@@ -8,7 +8,7 @@ ghost use Rattle.design_cycles.specs.Graphs.{lists_of, AreCalled};
 ghost use Rattle.design_cycles.specs.Calls.{numbers_of, call_lists, IsCalleeAt};
 
 use crate::graph::{NodeList, mark_all};
-use crate::ops::{Sort, ids_in, op_at, sort_of};
+use crate::ops::{Sort, op_at, read_ids, sort_of};
 use ir_store::body::Body;
 use ir_store::design::Design;
 use ir_store::operation::OpId;
@@ -19,8 +19,9 @@ pub(crate) fn call_graph(alloc: Global, design: &Design) -> Result<Vec<NodeList>
     ensures { IfOk result (λ graph. lists_of graph.items ≡ call_lists (design_of design.now)) }
 {
     let mut graph = Vec::with_capacity(alloc, design.module_count() as usize)?;
+    let mut ids = Vec::new(alloc);
     for number in 0..design.module_count() {
-        graph.push(calls_of(alloc, design, &design.module(number).body)?)?;
+        graph.push(calls_of(alloc, design, &design.module(number).body, &mut ids)?)?;
     }
     Ok(graph)
 }
@@ -37,14 +38,20 @@ pub(crate) fn called_modules(alloc: Global, calls: &[NodeList]) -> Result<Vec<bo
     Ok(marks)
 }
 
-/// The numbers of the modules that a body instances.
-fn calls_of(alloc: Global, design: &Design, body: &Body) -> Result<NodeList, AllocError>
+/// The numbers of the modules that a body instances. `room` is memory that is used again.
+fn calls_of(
+    alloc: Global,
+    design: &Design,
+    body: &Body,
+    room: &mut Vec<OpId>,
+) -> Result<NodeList, AllocError>
     ensures { IfOk result (λ list. list.nodes.items ≡ numbers_of (map (λ m. m.symbol) (modules_of design.now)) (called (numbered (ops_of body.now)))) }
 {
-    let ids = ids_in(alloc, body)?;
+    read_ids(room, body)?;
+    let ids = room.as_slice();
     let mut nodes = Vec::new(alloc);
     for position in 0..ids.len() {
-        if let Some(number) = callee_of(design, body, ids.as_slice(), position) {
+        if let Some(number) = callee_of(design, body, ids, position) {
             nodes.push(number)?;
         }
     }

@@ -11,7 +11,9 @@ ghost use Rattle.design_cycles.specs.Summing.{KnowsCallees};
 
 use crate::calls::{call_graph, called_modules};
 use crate::graph::{NodeList, is_open, reached_from};
+use crate::in_order::are_in_order;
 use crate::layout::{Span, Summary};
+use crate::ops::read_ids;
 use crate::order::callees_first;
 use crate::place::OpPlace;
 use crate::summaries::summaries_of;
@@ -32,8 +34,9 @@ pub fn first_cycle(alloc: Global, design: &Design) -> Result<Option<OpPlace>, Al
     let order = callees_first(alloc, calls.as_slice())?;
     let called = called_modules(alloc, calls.as_slice())?;
     let summaries = summaries_of(alloc, design, order.nodes.as_slice(), called.as_slice())?;
+    let mut room = Vec::new(alloc);
     for module in 0..design.module_count() {
-        if let Some(op) = first_in_module(alloc, design, module, summaries.as_slice())? {
+        if let Some(op) = first_in_module(alloc, design, module, summaries.as_slice(), &mut room)? {
             return Ok(Some(OpPlace { module, op }));
         }
     }
@@ -41,8 +44,30 @@ pub fn first_cycle(alloc: Global, design: &Design) -> Result<Option<OpPlace>, Al
 }
 
 /// The first operation of a module with a result that depends on itself, where the summaries of the modules that it
-/// instances are known.
+/// instances are known. Where each operation takes what stands before it there is none, and no graph is made. `room` is
+/// memory that is used again.
 fn first_in_module(
+    alloc: Global,
+    design: &Design,
+    number: u32,
+    summaries: &[Summary],
+    room: &mut Vec<OpId>,
+) -> Result<Option<OpId>, AllocError>
+    requires distinct { HasDistinctSymbols (design_of design.now) }
+    requires within { number < length (modules_of design.now) }
+    requires inner { KnowsCallees (design_of design.now) (rows_by (map (λ m. m.symbol) (modules_of design.now)) summaries.now) (symbol_at (modules_of design.now) number) }
+    ensures { IfOk result (FindsOp (IsCyclicAt (design_of design.now) number) (ids_at (modules_of design.now) number)) }
+{
+    let body = &design.module(number).body;
+    read_ids(room, body)?;
+    if are_in_order(body, room.as_slice()) {
+        return Ok(None);
+    }
+    first_by_wires(alloc, design, number, summaries)
+}
+
+/// The same, by the graph of the module.
+fn first_by_wires(
     alloc: Global,
     design: &Design,
     number: u32,

@@ -6,6 +6,7 @@
 mod calls;
 mod cycles;
 mod graph;
+mod in_order;
 mod layout;
 mod ops;
 mod order;

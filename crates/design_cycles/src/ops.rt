@@ -1,5 +1,5 @@
 //! Operations of a body by their positions, and what each is to its module.
-ghost use Rattle.std.specs.Prelude.{◌≡◌, ◌<◌, length, map, IfOk, is_some, slice_get, Some};
+ghost use Rattle.std.specs.Prelude.{◌≡◌, ◌<◌, length, map, IfOk, OnOk, is_some, slice_get, Some};
 ghost use Rattle.hw_model.specs.Design.{instance_in, register_form, is_output_kind};
 ghost use Rattle.hw_model.specs.KindViews.{kind_of};
 ghost use Rattle.ir_store.specs.Bodies.{ids_of, ops_of, op_id};
@@ -44,6 +44,17 @@ pub fn ids_in(alloc: Global, body: &Body) -> Result<Vec<OpId>, AllocError>
     ensures { IfOk result (λ ids. ids.items ≡ map op_id (ids_of body.now)) }
 {
     body.ops().collect(alloc)
+}
+
+/// Puts the ids of a body's operations, in text order, in the place of `ids`. Its memory is used again.
+pub(crate) fn read_ids(ids: &mut Vec<OpId>, body: &Body) -> Result<(), AllocError>
+    ensures { OnOk result (ids.new.items ≡ map op_id (ids_of body.now)) }
+{
+    ids.clear();
+    for id in body.ops() {
+        ids.push(id)?;
+    }
+    Ok(())
 }
 
 /// The operation at a position, `ids` being those of all.

@@ -12,7 +12,7 @@ ghost use Rattle.design_cycles.specs.Places.{FindsNumber};
 ghost use Rattle.design_cycles.specs.Weighing.{kept_weight, weight_by, WeighsAt, Weighs, IsWhole};
 
 use crate::calls::{call_graph, callee_of};
-use crate::ops::{ids_in, op_at};
+use crate::ops::{op_at, read_ids};
 use crate::order::callees_first;
 use crate::weights::op_weight;
 use ir_store::body::Body;
@@ -56,25 +56,26 @@ fn module_weights(alloc: Global, design: &Design, order: &[u32]) -> Result<Vec<u
     ensures each { IfOk result (λ weights. (i : ℕ) → i < length (modules_of design.now) → Weighs (design_of design.now) weights.items u64.MAX i) }
 {
     let mut weights = vec![in alloc; 0u64; design.module_count() as usize]?;
+    let mut room = Vec::new(alloc);
     for number in order {
-        let weight = module_weight(alloc, design, *number, weights.as_slice())?;
+        let weight = module_weight(design, *number, weights.as_slice(), &mut room)?;
         weights[*number as usize] = weight;
     }
     Ok(weights)
 }
 
-/// The weight of a module, where those of the modules that it instances are kept.
+/// The weight of a module, where those of the modules that it instances are kept. `room` is memory that is used again.
 fn module_weight(
-    alloc: Global,
     design: &Design,
     number: u32,
     weights: &[u64],
+    room: &mut Vec<OpId>,
 ) -> Result<u64, AllocError>
     requires { number < length (modules_of design.now) }
     ensures { IfOk result (λ w. w ≡ min (weight_of (weight_by (map (λ m. m.symbol) (modules_of design.now)) weights.now) (slice_get (design_of design.now) number)) u64.MAX) }
 {
     let module = design.module(number);
-    let inside = body_weight(alloc, design, &module.body, weights)?;
+    let inside = body_weight(design, &module.body, weights, room)?;
     Ok(port_leaves(&module.ports).saturating_add(inside))
 }
 
@@ -89,19 +90,20 @@ fn port_leaves(list: &PortList) -> u64
     sum
 }
 
-/// The weight of a body's operations together, or `u64::MAX` where it is more.
+/// The weight of a body's operations together, or `u64::MAX` where it is more. `room` is memory that is used again.
 fn body_weight(
-    alloc: Global,
     design: &Design,
     body: &Body,
     weights: &[u64],
+    room: &mut Vec<OpId>,
 ) -> Result<u64, AllocError>
     ensures { IfOk result (λ w. w ≡ min (weight_of_body (weight_by (map (λ m. m.symbol) (modules_of design.now)) weights.now) (numbered (ops_of body.now))) u64.MAX) }
 {
-    let ids = ids_in(alloc, body)?;
+    read_ids(room, body)?;
+    let ids = room.as_slice();
     let mut sum: u64 = 0;
     for position in 0..ids.len() {
-        sum = sum.saturating_add(weight_at(design, body, ids.as_slice(), position, weights));
+        sum = sum.saturating_add(weight_at(design, body, ids, position, weights));
     }
     Ok(sum)
 }

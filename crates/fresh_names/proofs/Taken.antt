@@ -1,5 +1,5 @@
 -- Names that are taken.
-use Rattle.std.proofs.Common.{◌≡◌, ◌⊎◌, inl, inr, ℕ, zero, suc, ◌+◌, ◌-◌, ◌<◌, Bool, true, false, cond, ◌&&◌, ◌||◌, nat_eq, List, [], ◌∷◌, ◌++◌, map, length, set, get_or, subst, refl, sym, ap, ◌∙◌, arith, eq-eqb, length-append}
+use Rattle.std.proofs.Common.{◌≡◌, ◌⊎◌, inl, inr, ℕ, zero, suc, ◌+◌, ◌-◌, ◌<◌, Bool, true, false, cond, ◌&&◌, ◌||◌, not, nat_eq, List, [], ◌∷◌, ◌++◌, map, length, set, get_or, subst, refl, sym, ap, ◌∙◌, arith, eq-eqb, length-append}
 use Rattle.std.specs.Prelude.{Some, None, position, is_some, slice_get, option_map}
 use Rattle.std.specs.Cmp.Lexicographic.{pointwise}
 use Rattle.std.specs.List.{list_any}
@@ -179,6 +179,18 @@ tried_same ts w (suc k) h =
 -- a key that is not there goes last
 pub key_last : {K : Type 0} (b : Bool) (ks : List K) (k : K) → b ≡ false → cond b ks (ks ++ k ∷ []) ≡ ks ++ k ∷ []
 key_last b ks k e = ap (λ t. cond t ks (ks ++ k ∷ [])) e
+
+-- a key that is there changes nothing
+pub key_kept : {K : Type 0} (b : Bool) (ks : List K) (k : K) → b ≡ true → cond b ks (ks ++ k ∷ []) ≡ ks
+key_kept b ks k e = ap (λ t. cond t ks (ks ++ k ∷ [])) e
+
+pub not_there : (b : Bool) → not b ≡ true → b ≡ false
+not_there true e = cc
+not_there false e = refl
+
+pub is_there : (b : Bool) → not b ≡ false → b ≡ true
+is_there true e = refl
+is_there false e = cc
 
 pub one_more : {A : Type 0} (xs : List A) (x : A) → length (xs ++ x ∷ []) ≡ length xs + 1
 one_more [] x = refl

@@ -7,6 +7,9 @@ use indexmap::IndexSet;
 use itoa::Buffer;
 use std::alloc::{AllocError, Global};
 
+// The most names whose memory is used again: to clear it takes time in proportion.
+const MOST_KEPT: usize = 64;
+
 /// What names a taken name.
 #[derive(Clone, Copy, Debug)]
 pub struct NameId {
@@ -37,7 +40,7 @@ fn suffixed(alloc: Global, wanted: &[u8], number: usize) -> Result<Vec<u8>, Allo
 }
 
 impl TakenNames {
-    ghost use Rattle.std.specs.Prelude.{◌≡◌, ◌+◌, ◌<◌, ◌^◌, [], ◌∷◌, ◌++◌, length, Some, slice_get, false, IfOk, OnOk, OnErr};
+    ghost use Rattle.std.specs.Prelude.{◌≡◌, ◌+◌, ◌<◌, ◌^◌, [], ◌∷◌, ◌++◌, length, Some, slice_get, true, false, not, cond, IfOk, OnOk, OnErr};
     ghost use Rattle.fresh_names.specs.Fresh.{free_from, free_name, is_taken, suffixed};
     ghost use Rattle.fresh_names.specs.Tried.{IsTried};
     ghost use Rattle.fresh_names.specs.TakenViews.{taken_names};
@@ -49,6 +52,18 @@ impl TakenNames {
         TakenNames {
             names: IndexSet::new(alloc),
             tried: Vec::new(alloc),
+        }
+    }
+
+    /// Takes no name any more. The memory is used again where the names are few.
+    pub fn clear(&mut self)
+        ensures { taken_names self.new ≡ [] }
+    {
+        if self.names.len() > MOST_KEPT {
+            *self = TakenNames::new(*self.tried.allocator());
+        } else {
+            self.names.clear();
+            self.tried.clear();
         }
     }
 
@@ -82,6 +97,21 @@ impl TakenNames {
         Ok((number, suffixed(alloc, wanted, number)?))
     }
 
+    // Takes a name where it is not taken, and says whether it was not.
+    fn add_free(&mut self, name: Vec<u8>) -> Result<bool, AllocError>
+        ensures free { IfOk result (λ free. free ≡ not (is_taken (taken_names self.old) name.items)) }
+        ensures ok { OnOk result (taken_names self.new ≡ cond (is_taken (taken_names self.old) name.items) (taken_names self.old) (taken_names self.old ++ name.items ∷ [])) }
+        ensures tried { OnOk result (self.new.tried.items ≡ cond (is_taken (taken_names self.old) name.items) self.old.tried.items (self.old.tried.items ++ 0 ∷ [])) }
+        ensures err { OnErr result (taken_names self.new ≡ taken_names self.old) }
+    {
+        self.tried.reserve(1)?;
+        let free = self.names.insert(name)?;
+        if free {
+            self.tried.push_reserved(0);
+        }
+        Ok(free)
+    }
+
     // Takes a name that is not taken.
     fn add(&mut self, name: Vec<u8>) -> Result<(), AllocError>
         requires { is_taken (taken_names self.old) name.items ≡ false }
@@ -89,9 +119,7 @@ impl TakenNames {
         ensures tried { OnOk result (self.new.tried.items ≡ self.old.tried.items ++ 0 ∷ []) }
         ensures err { OnErr result (taken_names self.new ≡ taken_names self.old) }
     {
-        self.tried.reserve(1)?;
-        self.names.insert(name)?;
-        self.tried.push_reserved(0);
+        let _ = self.add_free(name)?;
         Ok(())
     }
 
@@ -117,14 +145,24 @@ impl TakenNames {
         ensures err { OnErr result (taken_names self.new ≡ taken_names self.old) }
     {
         let index = self.names.len() as u32;
-        match self.names.get_index_of(wanted) {
-            Some(position) => self.add_suffixed(wanted, position)?,
-            None => {
-                let alloc = *self.tried.allocator();
-                self.add(Vec::from_slice(alloc, wanted)?)?;
-            }
+        let alloc = *self.tried.allocator();
+        if !self.add_free(Vec::from_slice(alloc, wanted)?)? {
+            self.add_again(wanted)?;
         }
         Ok(NameId { index })
+    }
+
+    // Takes the first suffixed name that is not taken, of a name that is.
+    #[tactic(auto, unfolding(crate::specs::Fresh::free_name))]
+    fn add_again(&mut self, wanted: &[u8]) -> Result<(), AllocError>
+        requires { is_taken (taken_names self.old) wanted.now ≡ true }
+        ensures ok { OnOk result (taken_names self.new ≡ taken_names self.old ++ free_name (taken_names self.old) wanted.now ∷ []) }
+        ensures err { OnErr result (taken_names self.new ≡ taken_names self.old) }
+    {
+        match self.names.get_index_of(wanted) {
+            Some(position) => self.add_suffixed(wanted, position),
+            None => unreachable!(),
+        }
     }
 
     /// The name of an id.

@@ -5,7 +5,8 @@ ghost use Rattle.op_verifier.specs.Answered.{modules_verified};
 ghost use Rattle.mlir_printer.specs.Modules.{modules_bytes};
 ghost use Rattle.mlir_printer.specs.Texts.{ir_text, modules_shown};
 
-use crate::modules::push_module;
+use crate::modules::push_with_names;
+use crate::value_names::ValueNames;
 use io_edge::byte_text::Text;
 use ir_store::design::Design;
 use op_verifier::Verified;
@@ -35,8 +36,9 @@ pub fn print_design(alloc: Global, verified: &Verified) -> Result<Text, AllocErr
 fn push_modules(alloc: Global, out: &mut Text, design: &Design) -> Result<(), AllocError>
     ensures { OnOk result (out.new ≡ out.old ++ modules_bytes (modules_shown (design_of design.now))) }
 {
+    let mut names = ValueNames::empty(alloc);
     for number in 0..design.module_count() {
-        push_module(alloc, out, design.module(number))?;
+        names = push_with_names(alloc, names, out, design.module(number))?;
     }
     Ok(())
 }

@@ -138,9 +138,22 @@ fn push_header(out: &mut Text, names: &ValueNames, one: &Module) -> Result<(), A
 pub fn push_module(alloc: Global, out: &mut Text, one: &Module) -> Result<(), AllocError>
     ensures { OnOk result (out.new ≡ out.old ++ module_bytes (module_shown (numbered_module (module_of one.now)))) }
 {
-    let names = ValueNames::of(alloc, one)?;
+    let _ = push_with_names(alloc, ValueNames::empty(alloc), out, one)?;
+    Ok(())
+}
+
+/// Adds a module, and gives the names of its values. The memory of the names `room` is used again.
+pub fn push_with_names(
+    alloc: Global,
+    room: ValueNames,
+    out: &mut Text,
+    one: &Module,
+) -> Result<ValueNames, AllocError>
+    ensures { OnOk result (out.new ≡ out.old ++ module_bytes (module_shown (numbered_module (module_of one.now)))) }
+{
+    let names = ValueNames::again(alloc, room, one)?;
     push_header(out, &names, one)?;
     push_operations(out, &names, input_count(&one.ports.ports), &one.body)?;
     out.push_bytes(b"  }\n")?;
-    Ok(())
+    Ok(names)
 }

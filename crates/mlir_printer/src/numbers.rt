@@ -4,6 +4,7 @@ ghost use Rattle.hw_model.specs.TypeViews.{type_of};
 ghost use Rattle.hw_model.specs.KindViews.{integer_of};
 ghost use Rattle.mlir_printer.specs.Numbers.{count_bytes, further_bytes, integer_bytes, is_negative, shown_number, shown_integer, shown_by_first, is_truth, is_one_bit, is_shown_as_truth, truth_bytes, is_one};
 
+use crate::commas::push_few;
 use hw_model::kinds::Integer;
 use hw_model::types::Ty;
 use io_edge::byte_text::Text;
@@ -16,7 +17,7 @@ pub fn push_count(out: &mut Text, count: u32) -> Result<(), AllocError>
     ensures { OnOk result (out.new ≡ out.old ++ count_bytes count) }
 {
     let mut buffer = Buffer::new();
-    out.push_bytes(buffer.format(count).as_bytes())?;
+    push_few(out, buffer.format(count).as_bytes())?;
     Ok(())
 }
 

@@ -14,7 +14,7 @@ ghost use Rattle.mlir_printer.specs.Texts.{listed_of, extra_shown, entries_shown
 ghost use Rattle.mlir_printer.specs.Shown.{stored_shown};
 ghost use Rattle.mlir_printer.specs.Views.{names_held, value_held, pending_of, extra_of};
 
-use crate::commas::push_comma;
+use crate::commas::{push_comma, push_few};
 use crate::dictionaries::push_named_dictionary;
 use crate::numbers::{is_shown_as_truth, push_length};
 use crate::pieces::{push_pieces, push_value_name};
@@ -114,7 +114,7 @@ fn push_names(
         return Ok(());
     }
     push_listed(out, names, first, count)?;
-    out.push_bytes(b" = ")?;
+    push_few(out, b" = ")?;
     Ok(())
 }
 
@@ -167,7 +167,7 @@ fn push_front<'d>(
     ensures left { IfOk result (λ left. pending_of names.now left ≡ left_behind_all pieces.now (pending_of names.now pending.entry)) }
 {
     if !pieces.is_empty() {
-        out.push_bytes(b" ")?;
+        out.push(b' ')?;
     }
     push_pieces(out, names, pieces, pending)
 }
@@ -218,12 +218,12 @@ pub fn push_operation(
     let name = listed_of(op.kind);
     let pending = pending_of(op);
     let shape = shape_shown(name, names, &pending);
-    out.push_bytes(b"    ")?;
+    push_few(out, b"    ")?;
     push_results(out, names, op, first)?;
     out.push_bytes(name.name())?;
     push_bin(out, op.bin)?;
     push_form(out, names, shape, pending, op, first)?;
-    out.push_bytes(b"\n")?;
+    out.push(b'\n')?;
     Ok(())
 }
 

@@ -9,7 +9,7 @@ ghost use Rattle.mlir_printer.specs.Operations.{left_behind_all};
 ghost use Rattle.mlir_printer.specs.Pieces.{mark_bytes, word_bytes, predicate_bytes, value_name_bytes, pack_number_bytes, operand_bytes, first_operand, first_type_bytes, reset_said, input_bytes, output_bytes, inputs_joined, outputs_joined, inner_bytes, instance_head, connections_bytes, instance_bytes, piece_bytes, pieces_bytes, said_bytes};
 ghost use Rattle.mlir_printer.specs.Views.{value_held, pending_of, extra_of};
 
-use crate::commas::push_comma;
+use crate::commas::{push_comma, push_few};
 use crate::literals::push_literals;
 use crate::numbers::{is_one, push_count, push_integer, truth_text};
 use crate::said::{Pending, Said};
@@ -86,8 +86,8 @@ fn predicate_text(predicate: Predicate) -> &'static [u8]
 pub fn push_value_name(out: &mut Text, name: &[u8]) -> Result<(), AllocError>
     ensures { OnOk result (out.new ≡ out.old ++ value_name_bytes name.now) }
 {
-    out.push_bytes(b"%")?;
-    out.push_bytes(name)?;
+    out.push(b'%')?;
+    push_few(out, name)?;
     Ok(())
 }
 
@@ -97,7 +97,7 @@ fn push_pack_number(out: &mut Text, number: Option<u32>) -> Result<(), AllocErro
     ensures { OnOk result (out.new ≡ out.old ++ pack_number_bytes number) }
 {
     if let Some(number) = number {
-        out.push_bytes(b"#")?;
+        out.push(b'#')?;
         push_count(out, number)?;
     }
     Ok(())
@@ -333,18 +333,18 @@ fn push_piece(
     ensures { OnOk result (out.new ≡ out.old ++ piece_bytes piece (pending_of names.now pending.now)) }
 {
     match piece {
-        Piece::Mark(mark) => out.push_bytes(mark_text(mark))?,
+        Piece::Mark(mark) => push_few(out, mark_text(mark))?,
         Piece::Word(word) => out.push_bytes(word_text(word))?,
         Piece::Operand => push_first_operand(out, names, pending.operands)?,
         Piece::Operands => push_operands(out, names, pending.operands)?,
         Piece::Group => {
-            out.push_bytes(b"(")?;
+            out.push(b'(')?;
             push_operands(out, names, pending.operands)?;
-            out.push_bytes(b")")?;
+            out.push(b')')?;
         }
         Piece::Predicate => {
             push_said(out, names, piece, pending)?;
-            out.push_bytes(b" ")?;
+            out.push(b' ')?;
         }
         Piece::Literals => {
             out.push_bytes(b"[")?;
@@ -385,7 +385,7 @@ pub fn push_pieces<'d>(
     let mut left = pending;
     for piece in pieces {
         push_piece(out, names, *piece, &left)?;
-        left = left.behind(*piece);
+        left.pass(*piece);
     }
     Ok(left)
 }

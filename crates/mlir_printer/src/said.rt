@@ -96,6 +96,19 @@ fn types_taken(piece: Piece) -> usize
 }
 
 impl<'d> Pending<'d> {
+    /// Leaves what is behind a piece.
+    pub fn pass(&mut self, piece: Piece)
+        ensures operands { self.new.operands.now ≡ drop (operands_taken piece) self.old.operands.now }
+        ensures types { self.new.types.now ≡ drop (types_taken piece) self.old.types.now }
+        ensures said { self.new.said ≡ self.old.said }
+    {
+        match piece {
+            Piece::Operand => self.operands = behind_first(self.operands),
+            Piece::Type => self.types = behind_first(self.types),
+            _ => {}
+        }
+    }
+
     /// What is left behind a piece.
     pub fn behind(self, piece: Piece) -> Pending<'d>
         ensures operands { result.operands.now ≡ drop (operands_taken piece) self.entry.operands.now }
@@ -110,4 +123,11 @@ impl<'d> Pending<'d> {
             said: self.said,
         }
     }
+}
+
+// The items behind the first.
+fn behind_first<T>(items: &[T]) -> &[T]
+    ensures { result.now ≡ drop 1 items.now }
+{
+    &items[1.min(items.len())..]
 }

@@ -19,7 +19,7 @@ pub fn push_type(out: &mut Text, ty: &Ty) -> Result<(), AllocError>
 {
     match ty {
         Ty::Int(width) => {
-            out.push_bytes(b"i")?;
+            out.push(b'i')?;
             push_count(out, *width)?;
         }
         Ty::Clock => out.push_bytes(b"!seq.clock")?,

@@ -75,14 +75,22 @@ impl ValueNames {
         ensures names { IfOk result (λ v. names_held v ≡ names_given (ports_in one.now.ports) (parts_in_body (ops_of one.now.body))) }
         ensures values { IfOk result (λ v. (x : Value) → value_held v x ≡ value_named (names_held v) (ports_in one.now.ports) (parts_in_body (ops_of one.now.body)) (ref_by (position_of (ids_of one.now.body)) x)) }
     {
-        let mut names = ValueNames::empty(alloc);
+        ValueNames::again(alloc, ValueNames::empty(alloc), one)
+    }
+
+    /// The names of the values of a module. The memory of `room` is used again.
+    pub fn again(alloc: Global, room: ValueNames, one: &Module) -> Result<ValueNames, AllocError>
+        ensures names { IfOk result (λ v. names_held v ≡ names_given (ports_in one.now.ports) (parts_in_body (ops_of one.now.body))) }
+        ensures values { IfOk result (λ v. (x : Value) → value_held v x ≡ value_named (names_held v) (ports_in one.now.ports) (parts_in_body (ops_of one.now.body)) (ref_by (position_of (ids_of one.now.body)) x)) }
+    {
+        let mut names = room.emptied();
         names.add_ports(alloc, &one.ports.ports)?;
         names.add_operations(alloc, &one.body)?;
         Ok(names)
     }
 
-    // No names.
-    fn empty(alloc: Global) -> ValueNames
+    /// No names. It takes no memory.
+    pub fn empty(alloc: Global) -> ValueNames
         ensures names { names_held result ≡ [] }
         ensures numbered { result.numbered ≡ 0 }
         ensures ports { result.ports.items ≡ [] }
@@ -94,6 +102,33 @@ impl ValueNames {
             numbered: 0,
             ports: Vec::new(alloc),
             places: Vec::new(alloc),
+        }
+    }
+
+    // The same memory without names.
+    fn emptied(self) -> ValueNames
+        ensures names { names_held result ≡ [] }
+        ensures numbered { result.numbered ≡ 0 }
+        ensures ports { result.ports.items ≡ [] }
+        ensures places { result.places.items ≡ [] }
+    {
+        let ValueNames {
+            mut names,
+            mut ids,
+            numbered: _,
+            mut ports,
+            mut places,
+        } = self;
+        names.clear();
+        ids.clear();
+        ports.clear();
+        places.clear();
+        ValueNames {
+            names,
+            ids,
+            numbered: 0,
+            ports,
+            places,
         }
     }
 

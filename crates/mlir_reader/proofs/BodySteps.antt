@@ -10,28 +10,15 @@ use Rattle.ir_store.specs.declared.operation.OpId.{OpId}
 use Rattle.ir_store.specs.declared.operation.NewOp.{NewOp}
 use Rattle.ir_store.specs.declared.design.Port.{Port}
 use Rattle.ir_store.specs.BodyOps.{BodyOp, as_new, ids_in}
-use Rattle.ir_store.specs.Numbered.{op_by}
 use Rattle.ir_store.specs.Designs.{port_of}
-use Rattle.mlir_reader.specs.Resolving.{Meanings, with_definitions, port_definition, port_definitions, ports_from, is_marked, operation_definitions, operation_at, operations_from}
-use Rattle.mlir_reader.specs.Views.{port_text_of, operation_of}
-use Rattle.mlir_reader.specs.Meanings.{op_of, numbers_from, numbers_below}
+use Rattle.mlir_reader.specs.Resolving.{Meanings, with_definitions, port_definition, port_definitions, ports_from, is_marked}
+use Rattle.mlir_reader.specs.Views.{port_text_of}
+use Rattle.mlir_reader.specs.Meanings.{numbers_from, numbers_below}
 use Rattle.mlir_reader.specs.declared.syntax.PortText.{PortText}
-use Rattle.mlir_reader.specs.declared.syntax.OperationText.{OperationText}
 use Rattle.mlir_reader.proofs.Defining.{definitions_append}
 use Rattle.mlir_reader.proofs.Positions.{numbers_push}
 
 -- ---- operations
-
-pub ops_step : (done new : List BodyOp) (id : OpId) (op : NewOp) (means e f : Meanings) (i : ℕ) (o : OperationText) (rest next : List OperationText) (all : List hw.Op) →
-    new ≡ done ++ as_new id op ∷ [] → op_of op ≡ operation_at means e i (operation_of o) → f ≡ with_definitions e (operation_definitions i (operation_of o)) → rest ≡ o ∷ next →
-    map (op_by (λ i. i)) done ++ operations_from means e i (map operation_of rest) ≡ all →
-    map (op_by (λ i. i)) new ++ operations_from means f (i + 1) (map operation_of next) ≡ all
-ops_step done new id op means e f i o rest next all n s m r h =
-    let more = operations_from means f (i + 1) (map operation_of next) in
-    ap (λ os. map (op_by (λ i. i)) os ++ more) n ∙ ap (λ os. os ++ more) (map-append (op_by (λ i. i)) done (as_new id op ∷ []))
-    ∙ append_assoc (map (op_by (λ i. i)) done) (op_of op ∷ []) more ∙ ap (λ x. map (op_by (λ i. i)) done ++ x ∷ more) s
-    ∙ ap (λ g. map (op_by (λ i. i)) done ++ operation_at means e i (operation_of o) ∷ operations_from means g (i + 1) (map operation_of next)) m
-    ∙ ap (λ os. map (op_by (λ i. i)) done ++ operations_from means e i (map operation_of os)) (sym r) ∙ h
 
 length_numbers : (n f : ℕ) → length (numbers_from f n) ≡ n
 length_numbers zero f = refl

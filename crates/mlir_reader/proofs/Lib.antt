@@ -25,6 +25,7 @@ mod BodySteps
 mod Constants
 mod Defining
 mod KeyOrder
+mod Marks
 mod Modules
 mod Moving
 mod Positions

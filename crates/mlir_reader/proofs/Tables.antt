@@ -21,6 +21,9 @@ some_copied {V} f r o b e g = subst (λ (o : Option V). b ≡ is_some (option_ma
     on None g = sym g
     on (Some x) g = sym g
 
+some_same : {V : Type 0} (x y : V) → Some x ≡ Some y → x ≡ y
+some_same x y e = cc
+
 module _ {K V : Type 0} where
   pub insert_absent : (eq : K → K → Bool) (es : List (K × V)) (k : K) (v : V) → lookup (eq k) es ≡ None → insert_entry eq es k v ≡ es ++ (k, v) ∷ []
   insert_absent eq [] k v h = refl
@@ -30,6 +33,16 @@ module _ {K V : Type 0} where
           cond b ((e.0, v) ∷ es) (e ∷ insert_entry eq es k v) ≡ e ∷ (es ++ (k, v) ∷ [])
       go true h r = cc
       go false h r = ap (λ rest. e ∷ rest) (r h)
+
+  -- a value that is put back
+  pub insert_again : (eq : K → K → Bool) (es : List (K × V)) (k : K) (v w : V) → lookup (eq k) es ≡ Some v → insert_entry eq (insert_entry eq es k w) k v ≡ es
+  insert_again eq [] k v w h = cc
+  insert_again eq (e ∷ es) k v w h = go (eq k e.0) refl h (insert_again eq es k v w)
+    where
+      go : (b : Bool) → eq k e.0 ≡ b → cond b (Some e.1) (lookup (eq k) es) ≡ Some v → (lookup (eq k) es ≡ Some v → insert_entry eq (insert_entry eq es k w) k v ≡ es) →
+          insert_entry eq (cond b ((e.0, w) ∷ es) (e ∷ insert_entry eq es k w)) k v ≡ e ∷ es
+      go true t h r = rw t (ap (λ x. (e.0, x) ∷ es) (sym (some_same e.1 v h)))
+      go false t h r = rw t (ap (λ rest. e ∷ rest) (r h))
 
   -- what is found behind one more entry
   pub found_push : (f : V → Defined) (test : K → Bool) (es : List (K × V)) (k : K) (v : V) →

@@ -25,3 +25,4 @@ pub mod ModuleViews
 pub mod EndViews
 pub mod Spelling
 pub mod Locality
+pub mod Marked

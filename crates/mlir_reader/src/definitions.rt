@@ -1,21 +1,24 @@
 //! The names that a module's text defines, in order.
-ghost use Rattle.std.specs.Prelude.{◌≡◌, ◌<◌, ◌+◌, ◌^◌, ◌∷◌, length, map, IfOk, OnOk, All};
+ghost use Rattle.std.specs.Prelude.{◌≡◌, ◌<◌, ◌+◌, ◌^◌, ◌++◌, ◌∷◌, length, map, IfOk, OnOk, All};
 ghost use Rattle.std.specs.Option.{option_map};
 ghost use Rattle.hw_model.specs.TypeViews.{type_of, field_of, fields_of};
 ghost use Rattle.hw_model.specs.Sound.{field_list};
 ghost use Rattle.ir_store.specs.ResultTypes.{first_type, field_count, result_count};
 ghost use Rattle.mlir_reader.specs.OperandText.{named_count};
 ghost use Rattle.mlir_reader.specs.OperandText.ResultNames.{pack};
-ghost use Rattle.mlir_reader.specs.Resolving.{kind_named, said_instance, names_from, with_definitions, port_definition, port_definitions, names_defined, operation_definitions, body_definitions, marks, is_marked};
-ghost use Rattle.mlir_reader.specs.Views.{names_of, extra_of, operation_of, port_text_of};
+ghost use Rattle.mlir_reader.specs.Resolving.{kind_named, said_instance, names_from, with_definitions, port_definition, names_defined, operation_definitions, body_definitions, marks, is_marked};
+ghost use Rattle.mlir_reader.specs.Views.{names_of, extra_of, operation_of};
 ghost use Rattle.mlir_reader.specs.Meanings.{meanings_of, HasFewNames};
 
 use crate::names::{Defined, Names};
-use crate::syntax::{Extra, OperationText, PortText, ResultNames};
+use crate::syntax::{Extra, OperationText, ResultNames};
 use diag::listed::Listed;
 use hw_model::types::{Field, Ty};
 use smallvec::SmallVec;
 use std::alloc::{AllocError, Global};
+
+/// Of each name of a result in order, whether it stands for something earlier.
+pub type Marks = SmallVec<bool, 24, Global>;
 
 /// Defines the value name of a port, where it has one, and says whether it stands for something already.
 pub fn define_port<'s>(
@@ -32,54 +35,42 @@ pub fn define_port<'s>(
     }
 }
 
-/// Defines the value names of ports.
-pub fn define_ports<'s>(names: &mut Names<'s>, ports: &[PortText<'s>]) -> Result<(), AllocError>
-    requires { length ports.now < 2 ^ 32 }
-    ensures { OnOk result (meanings_of names.new ≡ with_definitions (meanings_of names.old) (port_definitions 0 (map port_text_of ports.now))) }
-{
-    for (position, port) in ports.iter().enumerate() {
-        match define_port(names, position as u32, port.value) {
-            Ok(_) => {}
-            Err(fail) => return Err(fail),
-        }
-    }
-    Ok(())
-}
-
-/// Defines the names of the results of an operation at a position, and says of each whether it stands for something
-/// already.
+/// Defines the names of the results of an operation at a position, and puts behind what is found of earlier ones of
+/// each whether it stands for something already.
 pub fn define_operation<'s>(
-    alloc: Global,
     names: &mut Names<'s>,
     position: u32,
     operation: &OperationText<'s>,
-) -> Result<SmallVec<bool, 4, Global>, AllocError>
+    found: &mut Marks,
+) -> Result<(), AllocError>
     requires { HasFewNames operation.now }
-    ensures marks { IfOk result (λ found. found.items ≡ marks (meanings_of names.old) (operation_definitions position (operation_of operation.now))) }
+    ensures marks { OnOk result (found.new.items ≡ found.old.items ++ marks (meanings_of names.old) (operation_definitions position (operation_of operation.now))) }
     ensures means { OnOk result (meanings_of names.new ≡ with_definitions (meanings_of names.old) (operation_definitions position (operation_of operation.now))) }
 {
     let types = operation.gathered.types.types.as_slice();
     let own = result_count(operation.name, &operation.gathered.extra, types);
-    define_results(alloc, names, position, own, &operation.results)
+    define_results(names, position, own, &operation.results, found)
 }
 
-/// Defines the names of the results of operations.
+/// Defines the names of the results of operations, and says of each whether it stands for something already.
 pub fn define_operations<'s>(
     alloc: Global,
     names: &mut Names<'s>,
     operations: &[OperationText<'s>],
-) -> Result<(), AllocError>
+) -> Result<Marks, AllocError>
     requires count { length operations.now < 2 ^ 32 }
     requires few { All HasFewNames operations.now }
-    ensures { OnOk result (meanings_of names.new ≡ with_definitions (meanings_of names.old) (body_definitions 0 (map operation_of operations.now))) }
+    ensures marks { IfOk result (λ found. found.items ≡ marks (meanings_of names.old) (body_definitions 0 (map operation_of operations.now))) }
+    ensures means { OnOk result (meanings_of names.new ≡ with_definitions (meanings_of names.old) (body_definitions 0 (map operation_of operations.now))) }
 {
+    let mut found = SmallVec::new(alloc);
     for (position, operation) in operations.iter().enumerate() {
-        match define_operation(alloc, names, position as u32, operation) {
-            Ok(_) => {}
+        match define_operation(names, position as u32, operation, &mut found) {
+            Ok(()) => {}
             Err(fail) => return Err(fail),
         }
     }
-    Ok(())
+    Ok(found)
 }
 
 // How many results an operation has of its own.
@@ -124,62 +115,61 @@ fn input_count(extra: &Extra) -> usize
 
 // Defines the names of results, of which an operation at a position has so many of its own.
 fn define_results<'s>(
-    alloc: Global,
     names: &mut Names<'s>,
     position: u32,
     own: usize,
     results: &ResultNames<'s>,
-) -> Result<SmallVec<bool, 4, Global>, AllocError>
+    found: &mut Marks,
+) -> Result<(), AllocError>
     requires { named_count (names_of results.now) < 2 ^ 32 }
-    ensures marks { IfOk result (λ found. found.items ≡ marks (meanings_of names.old) (names_defined position own (names_of results.now))) }
+    ensures marks { OnOk result (found.new.items ≡ found.old.items ++ marks (meanings_of names.old) (names_defined position own (names_of results.now))) }
     ensures means { OnOk result (meanings_of names.new ≡ with_definitions (meanings_of names.old) (names_defined position own (names_of results.now))) }
 {
     match results {
-        ResultNames::Unnamed => Ok(SmallVec::new(alloc)),
-        ResultNames::Names(first, others) => define_each(alloc, names, position, first, others),
-        ResultNames::Pack(name, count) => { define_pack(alloc, names, position, own, name, *count) }
+        ResultNames::Unnamed => Ok(()),
+        ResultNames::Names(first, others) => define_each(names, position, first, others, found),
+        ResultNames::Pack(name, count) => { define_pack(names, position, own, name, *count, found) }
     }
 }
 
 // Defines names of results one by one.
 fn define_each<'s>(
-    alloc: Global,
     names: &mut Names<'s>,
     position: u32,
     first: &'s [u8],
     others: &[&'s [u8]],
-) -> Result<SmallVec<bool, 4, Global>, AllocError>
+    found: &mut Marks,
+) -> Result<(), AllocError>
     requires { length others.now + 1 < 2 ^ 32 }
-    ensures marks { IfOk result (λ found. found.items ≡ marks (meanings_of names.old) (names_from position 0 (first.now ∷ map (λ n. n.now) others.now))) }
+    ensures marks { OnOk result (found.new.items ≡ found.old.items ++ marks (meanings_of names.old) (names_from position 0 (first.now ∷ map (λ n. n.now) others.now))) }
     ensures means { OnOk result (meanings_of names.new ≡ with_definitions (meanings_of names.old) (names_from position 0 (first.now ∷ map (λ n. n.now) others.now))) }
 {
-    let mut marks = SmallVec::new(alloc);
     let again = names.define(first, Defined::Result(position, 0))?;
-    marks.push(again)?;
+    found.push(again)?;
     for (place, name) in others.iter().enumerate() {
         let again = names.define(name, Defined::Result(position, place as u32 + 1))?;
-        marks.push(again)?;
+        found.push(again)?;
     }
-    Ok(marks)
+    Ok(())
 }
 
 // Defines the name of a pack of so many results.
 fn define_pack<'s>(
-    alloc: Global,
     names: &mut Names<'s>,
     position: u32,
     own: usize,
     name: &'s [u8],
     count: u32,
-) -> Result<SmallVec<bool, 4, Global>, AllocError>
-    ensures marks { IfOk result (λ found. found.items ≡ marks (meanings_of names.old) (names_defined position own (pack name.now count))) }
+    found: &mut Marks,
+) -> Result<(), AllocError>
+    ensures marks { OnOk result (found.new.items ≡ found.old.items ++ marks (meanings_of names.old) (names_defined position own (pack name.now count))) }
     ensures means { OnOk result (meanings_of names.new ≡ with_definitions (meanings_of names.old) (names_defined position own (pack name.now count))) }
 {
-    let mut marks = SmallVec::new(alloc);
-    if count != 0 {
-        let own = u32::try_from(own).unwrap_or(u32::MAX);
-        let again = names.define(name, Defined::Pack(position, count.min(own)))?;
-        marks.push(again)?;
+    if count == 0 {
+        return Ok(());
     }
-    Ok(marks)
+    let own = u32::try_from(own).unwrap_or(u32::MAX);
+    let again = names.define(name, Defined::Pack(position, count.min(own)))?;
+    found.push(again)?;
+    Ok(())
 }

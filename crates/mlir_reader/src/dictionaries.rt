@@ -84,6 +84,9 @@ pub fn kept_entries(
 ) -> Result<Dictionary, AllocError>
     ensures { IfOk result (λ kept. entries_in kept ≡ kept_entries name (entries_in dictionary)) }
 {
+    if dictionary.entries.is_empty() {
+        return Ok(dictionary);
+    }
     let entries = sorted(entries_without(alloc, name, dictionary)?)?;
     Ok(Dictionary { entries })
 }

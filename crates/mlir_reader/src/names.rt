@@ -25,14 +25,13 @@ pub struct Names<'s> {
 }
 
 impl<'s> Names<'s> {
-    /// No names. It takes no memory.
+    /// No names, with room for so many.
     #[tactic(auto, unfolding(crate::specs::Meanings::meanings_of))]
-    pub fn new(alloc: Global) -> Names<'s>
-        ensures { meanings_of result ≡ no_meaning }
+    pub fn with_room(alloc: Global, count: usize) -> Result<Names<'s>, AllocError>
+        ensures { IfOk result (λ names. meanings_of names ≡ no_meaning) }
     {
-        Names {
-            first: IndexMap::new(alloc),
-        }
+        let first = IndexMap::with_capacity(alloc, count)?;
+        Ok(Names { first })
     }
 
     /// What a name stands for.
@@ -49,10 +48,12 @@ impl<'s> Names<'s> {
         ensures again { IfOk result (λ again. again ≡ is_some (meanings_of self.old name.now)) }
         ensures means { OnOk result (meanings_of self.new ≡ with_definition (meanings_of self.old) (definition name.now defined)) }
     {
-        if self.first.get(name).is_some() {
-            return Ok(true);
+        match self.first.insert(name, defined)? {
+            None => Ok(false),
+            Some(known) => {
+                self.first.insert(name, known)?;
+                Ok(true)
+            }
         }
-        self.first.insert(name, defined)?;
-        Ok(false)
     }
 }

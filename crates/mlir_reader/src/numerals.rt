@@ -108,6 +108,9 @@ fn number_in(base: u8, digits: &[u8]) -> Option<u128>
 fn with_digit(front: u128, base: u8, digit: u8) -> Option<u128>
     ensures { result ≡ below number_limit (front * base + hex_value digit) }
 {
+    if front < 1 << 64 {
+        return Some(front * u128::from(base) + u128::from(hex_value(digit)));
+    }
     match front.checked_mul(u128::from(base)) {
         Some(product) => product.checked_add(u128::from(hex_value(digit))),
         None => None,

@@ -1,5 +1,6 @@
 //! Names of operations in a text.
-ghost use Rattle.std.specs.Prelude.{◌≡◌, List, ℕ, map};
+ghost use Rattle.std.specs.Prelude.{◌≡◌, ◌≢◌, List, ℕ, map, IfSome, IfNone};
+ghost use Rattle.diag.specs.Listed.{name_of_listed};
 ghost use Rattle.hw_model.specs.Design.{same_name};
 ghost use Rattle.mlir_reader.specs.AttributeText.{is_among};
 ghost use Rattle.mlir_reader.specs.OperationText.{class_of, class_of_listed, class_of_other, dialect, is_foreign, takes_bin, is_last};
@@ -66,9 +67,50 @@ impl Class for NoDot {
 pub fn class_of(name: &[u8]) -> NameClass
     ensures { class_seen result ≡ class_of name.now }
 {
-    match Listed::of(name) {
+    match listed_of(name) {
         Some(listed) => class_of_listed(listed),
         None => class_of_other(name),
+    }
+}
+
+// The listed operation of a name: what its end lets guess, or else one of all.
+fn listed_of(name: &[u8]) -> Option<Listed>
+    ensures some { IfSome result (λ listed. name_of_listed listed ≡ name.now) }
+    ensures none { IfNone result ((listed : Listed) → name_of_listed listed ≢ name.now) }
+{
+    let guess = guess_of(name);
+    if guess.name() == name {
+        Some(guess)
+    } else {
+        Listed::of(name)
+    }
+}
+
+// A listed operation whose name ends as a name does, where there is one.
+fn guess_of(name: &[u8]) -> Listed {
+    match name {
+        [.., b'd', b'd'] => Listed::CombAdd,
+        [.., b'n', b'd'] => Listed::CombAnd,
+        [.., b'o', b'r'] if name.len() == 7 => Listed::CombOr,
+        [.., b'o', b'r'] => Listed::CombXor,
+        [.., b'u', b'b'] => Listed::CombSub,
+        [.., b'u', b'l'] => Listed::CombMul,
+        [.., b'h', b'l'] => Listed::CombShl,
+        [.., b'r', b'u'] => Listed::CombShru,
+        [.., b'u', b'x'] => Listed::CombMux,
+        [.., b'm', b'p'] => Listed::CombIcmp,
+        [.., b't', b'y'] => Listed::CombParity,
+        [.., b'c', b't'] => Listed::CombExtract,
+        [.., b'a', b't'] => Listed::CombConcat,
+        [.., b't', b'e'] => Listed::CombReplicate,
+        [.., b'n', b't'] => Listed::HwConstant,
+        [.., b'e', b't'] => Listed::HwArrayGet,
+        [.., b'c', b'e'] => Listed::HwInstance,
+        [.., b'r', b'e'] => Listed::HwWire,
+        [.., b'u', b't'] => Listed::HwOutput,
+        [.., b'e', b'g'] if name.len() == 10 => Listed::SeqFirreg,
+        [.., b'e', b'g'] => Listed::SeqCompreg,
+        _ => Listed::HwModule,
     }
 }
 
@@ -127,10 +169,20 @@ fn is_among(name: &[u8], names: &[&str]) -> bool
 }
 
 /// Whether `bin` may stand behind the name of an operation.
+#[tactic(auto, unfolding(diag::specs::Listed::name_of_listed))]
 pub fn takes_bin(name: Listed) -> bool
     ensures { result ≡ takes_bin name }
 {
-    dialect(name.name()) == b"comb".as_slice()
+    match name {
+        Listed::CombAdd | Listed::CombMul | Listed::CombAnd | Listed::CombOr | Listed::CombXor => {
+            true
+        }
+        Listed::CombSub | Listed::CombDivu | Listed::CombModu | Listed::CombDivs => true,
+        Listed::CombMods | Listed::CombShl | Listed::CombShru | Listed::CombShrs => true,
+        Listed::CombIcmp | Listed::CombParity | Listed::CombExtract | Listed::CombConcat => true,
+        Listed::CombReplicate | Listed::CombMux => true,
+        _ => false,
+    }
 }
 
 /// Whether an operation is a module's output, which is the last of a body.

@@ -1,19 +1,20 @@
 //! From what the text of a module says to the module.
-ghost use Rattle.std.specs.Prelude.{◌≡◌, ◌||◌, ◌<◌, ◌+◌, ◌^◌, ◌++◌, ◌∷◌, [], cond, length, map, IfOk, OnOk, All};
+ghost use Rattle.std.specs.Prelude.{◌≡◌, ◌||◌, ◌<◌, ◌+◌, ◌^◌, ◌++◌, ◌∷◌, [], cond, drop, length, map, take, IfOk, OnOk, All};
 ghost use Rattle.ir_store.specs.Bodies.{ops_of, ids_of, gaps};
 ghost use Rattle.ir_store.specs.Numbered.{ref_by, op_by};
 ghost use Rattle.ir_store.specs.Designs.{ports_in, module_of as stored_module, numbered_module};
-ghost use Rattle.mlir_reader.specs.Resolving.{port_meanings, body_definitions, resolved, operation_at, operations_from, ports_from, port_definitions, with_definitions, operation_definitions, has_outputs, ends_with_output, left_out_output, module_of};
+ghost use Rattle.mlir_reader.specs.Marked.{defined_count, operation_marked, operations_marked};
+ghost use Rattle.mlir_reader.specs.Resolving.{resolved, ports_from, port_definitions, with_definitions, has_outputs, ends_with_output, left_out_output, module_of};
 ghost use Rattle.mlir_reader.specs.OperandText.{named_count};
 ghost use Rattle.mlir_reader.specs.Views.{operand_of, names_of, operation_of, port_text_of, module_text_of};
 ghost use Rattle.mlir_reader.specs.Meanings.{meanings_of, op_of, HasFewNames, numbers_below};
 
-use crate::definitions::{define_operation, define_operations, define_port, define_ports};
+use crate::definitions::{define_operations, define_port};
 use crate::dictionaries::kept_entries;
 use crate::kinds::kind_named;
 use crate::names::{Defined, Names};
 use crate::own_names::own_name;
-use crate::results::marked_results;
+use crate::results::results_of;
 use crate::syntax::{Gathered, ModuleText, OperandName, OperationText, PortText, ResultNames};
 use crate::waiting::Waiting;
 use diag::listed::Listed;
@@ -24,7 +25,6 @@ use ir_store::body::Body;
 use ir_store::design::{Module, Port, PortList};
 use ir_store::dictionary::Dictionary;
 use ir_store::operation::{NewOp, NewResultList, OpId, TyList, Value};
-use ir_store::result_types::result_types;
 use smallvec::SmallVec;
 use std::alloc::{AllocError, Global};
 
@@ -45,10 +45,10 @@ pub fn resolve_module(alloc: Global, text: ModuleText<'_>) -> Result<Module, All
         close,
     } = text;
     let ends = needs_no_output(&operations, &ports);
-    let names = names_of_module(alloc, &ports, &operations)?;
-    let mut seen = Names::new(alloc);
-    let ports = resolved_ports(alloc, &mut seen, ports)?;
-    let body = resolved_body(alloc, &names, &mut seen, operations)?;
+    let mut names = Names::with_room(alloc, ports.len().saturating_add(operations.len()))?;
+    let ports = resolved_ports(alloc, &mut names, ports)?;
+    let marks = define_operations(alloc, &mut names, &operations)?;
+    let body = resolved_body(alloc, &names, marks.as_slice(), operations)?;
     let body = completed(alloc, body, ends, close)?;
     let dictionary = kept_entries(alloc, Listed::HwModule, dictionary)?;
     Ok(Module {
@@ -61,37 +61,20 @@ pub fn resolve_module(alloc: Global, text: ModuleText<'_>) -> Result<Module, All
     })
 }
 
-// What the names of a module stand for.
-fn names_of_module<'s>(
-    alloc: Global,
-    ports: &[PortText<'s>],
-    operations: &[OperationText<'s>],
-) -> Result<Names<'s>, AllocError>
-    requires ports { length ports.now < 2 ^ 32 }
-    requires operations { length operations.now < 2 ^ 32 }
-    requires names { All HasFewNames operations.now }
-    ensures { IfOk result (λ names. meanings_of names ≡ with_definitions (port_meanings (map port_text_of ports.now)) (body_definitions 0 (map operation_of operations.now))) }
-{
-    let mut names = Names::new(alloc);
-    define_ports(&mut names, ports)?;
-    define_operations(alloc, &mut names, operations)?;
-    Ok(names)
-}
-
-// The ports, each with its mark.
+// The ports, each with its mark, once their names are defined.
 fn resolved_ports<'s>(
     alloc: Global,
-    seen: &mut Names<'s>,
+    names: &mut Names<'s>,
     ports: Vec<PortText<'s>>,
 ) -> Result<PortList, AllocError>
     requires { length ports.items < 2 ^ 32 }
-    ensures ports { IfOk result (λ list. ports_in list ≡ ports_from (meanings_of seen.old) 0 (map port_text_of ports.entry.items)) }
-    ensures means { OnOk result (meanings_of seen.new ≡ with_definitions (meanings_of seen.old) (port_definitions 0 (map port_text_of ports.entry.items))) }
+    ensures ports { IfOk result (λ list. ports_in list ≡ ports_from (meanings_of names.old) 0 (map port_text_of ports.entry.items)) }
+    ensures means { OnOk result (meanings_of names.new ≡ with_definitions (meanings_of names.old) (port_definitions 0 (map port_text_of ports.entry.items))) }
 {
     let mut list = Vec::with_capacity(alloc, ports.len())?;
     let mut position: u32 = 0;
     for port in ports {
-        let again = define_port(seen, position, port.value)?;
+        let again = define_port(names, position, port.value)?;
         list.push(Port {
             name: port.name,
             out: port.value.is_none(),
@@ -103,28 +86,50 @@ fn resolved_ports<'s>(
     Ok(PortList { ports: list })
 }
 
-// The operations of a body, of which all names and those that are seen so far stand for this.
+// The operations of a body, whose names stand for this and have these marks.
 fn resolved_body<'s>(
     alloc: Global,
     names: &Names<'s>,
-    seen: &mut Names<'s>,
+    marks: &[bool],
     operations: Vec<OperationText<'s>>,
 ) -> Result<Body, AllocError>
     requires count { length operations.items + 1 < 2 ^ 32 }
     requires few { All HasFewNames operations.items }
-    ensures ops { IfOk result (λ body. map (op_by (λ i. i)) (ops_of body) ≡ operations_from (meanings_of names.now) (meanings_of seen.old) 0 (map operation_of operations.entry.items)) }
+    ensures ops { IfOk result (λ body. map (op_by (λ i. i)) (ops_of body) ≡ operations_marked (meanings_of names.now) marks.now (map operation_of operations.entry.items)) }
     ensures ids { IfOk result (λ body. ids_of body ≡ numbers_below (length operations.entry.items)) }
     ensures gaps { IfOk result (λ body. gaps body ≡ 0) }
 {
     let mut body = Body::new(alloc);
     body.reserve(operations.len() as u32 + 1, operand_count(&operations))?;
-    let mut position: u32 = 0;
+    let mut left = marks;
     for text in Waiting::of(operations) {
-        let operation = resolved_operation(alloc, names, seen, position, text)?;
+        let (own, others) = parted(left, defined_count(&text.results));
+        left = others;
+        let operation = resolved_operation(alloc, names, own, text)?;
         body.add_op(None, operation)?;
-        position += 1;
     }
     Ok(body)
+}
+
+// The first so many of some marks, and the others.
+fn parted(marks: &[bool], count: usize) -> (&[bool], &[bool])
+    ensures first { result.0.now ≡ take count marks.now }
+    ensures others { result.1.now ≡ drop count marks.now }
+{
+    marks.split_at(count.min(marks.len()))
+}
+
+// How many names are defined.
+fn defined_count(results: &ResultNames<'_>) -> usize
+    requires { named_count (names_of results.now) < 2 ^ 32 }
+    ensures { result ≡ defined_count (names_of results.now) }
+{
+    match results {
+        ResultNames::Unnamed => 0,
+        ResultNames::Names(_, others) => others.len() + 1,
+        ResultNames::Pack(_, 0) => 0,
+        ResultNames::Pack(_, _) => 1,
+    }
 }
 
 // A body with the output that its text leaves out, unless that ends already.
@@ -151,19 +156,16 @@ fn operand_count(operations: &[OperationText<'_>]) -> u32 {
     u32::try_from(count).unwrap_or(u32::MAX)
 }
 
-// The operation at a position.
+// An operation whose names have these marks.
 fn resolved_operation<'s>(
     alloc: Global,
     names: &Names<'s>,
-    seen: &mut Names<'s>,
-    position: u32,
+    marks: &[bool],
     text: OperationText<'s>,
 ) -> Result<NewOp, AllocError>
     requires { HasFewNames text }
-    ensures op { IfOk result (λ op. op_of op ≡ operation_at (meanings_of names.now) (meanings_of seen.old) position (operation_of text.entry)) }
-    ensures means { OnOk result (meanings_of seen.new ≡ with_definitions (meanings_of seen.old) (operation_definitions position (operation_of text.entry))) }
+    ensures { IfOk result (λ op. op_of op ≡ operation_marked (meanings_of names.now) marks.now (operation_of text.entry)) }
 {
-    let marks = define_operation(alloc, seen, position, &text)?;
     let name = own_name(alloc, text.name, &text.results, &text.dictionary)?;
     let named = named_count(&text.results);
     let Gathered {
@@ -172,8 +174,7 @@ fn resolved_operation<'s>(
         extra,
     } = text.gathered;
     let kind = kind_named(alloc, text.name, extra, &types.types)?;
-    let own = result_types(alloc, &kind, &types.types, operands.len())?;
-    let results = marked_results(alloc, own, marks.as_slice())?;
+    let results = results_of(alloc, &kind, &types.types, operands.len(), marks)?;
     let operands = resolved_operands(alloc, names, operands.as_slice())?;
     let dictionary = kept_entries(alloc, text.name, text.dictionary)?;
     Ok(NewOp {

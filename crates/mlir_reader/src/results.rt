@@ -1,16 +1,84 @@
 //! The results of operations, with marks where their names stood for something earlier.
-ghost use Rattle.std.specs.Prelude.{◌≡◌, ◌++◌, [], false, map, drop, slice_index_or, IfOk, OnOk};
+ghost use Rattle.std.specs.Prelude.{◌≡◌, ℕ, ◌++◌, ◌∷◌, [], false, map, drop, slice_index_or, IfOk, IfSome, OnOk};
 ghost use Rattle.std.specs.Option.{option_map};
+ghost use Rattle.hw_model.specs.KindViews.{kind_of};
 ghost use Rattle.hw_model.specs.TypeViews.{type_of};
+ghost use Rattle.ir_store.specs.ResultTypes.{result_types};
 ghost use Rattle.ir_store.specs.OperationViews.{result_of, results_in};
 ghost use Rattle.mlir_reader.specs.Resolving.{type_or_none, marked_results};
 
+use hw_model::kinds::OpKind;
 use hw_model::types::Ty;
 use ir_store::operation::{NewResult, NewResultList};
+use ir_store::result_types::result_types;
 use std::alloc::{AllocError, Global};
 
-/// Results of these types with these marks; a mark without a type has a result of no type.
-pub fn marked_results(
+/// The results of an operation of this kind, with these types and so many operands, with these marks.
+pub fn results_of(
+    alloc: Global,
+    kind: &OpKind,
+    types: &[Ty],
+    operands: usize,
+    marks: &[bool],
+) -> Result<NewResultList, AllocError>
+    ensures { IfOk result (λ rs. results_in rs ≡ marked_results (result_types (kind_of kind.now) (map type_of types.now) operands) marks.now) }
+{
+    match one_type(alloc, kind, types)? {
+        Some(ty) => marked_result(alloc, ty, marks),
+        None => {
+            let types = result_types(alloc, kind, types, operands)?;
+            marked_results(alloc, types, marks)
+        }
+    }
+}
+
+// The type of the one result of an operation of this kind, where it has its type from those that are written.
+#[tactic(auto, unfolding(ir_store::specs::ResultTypes::result_types, ir_store::specs::ResultTypes::result_type))]
+fn one_type(alloc: Global, kind: &OpKind, types: &[Ty]) -> Result<Option<Option<Ty>>, AllocError>
+    ensures { IfOk result (λ one. IfSome one (λ ty. (n : ℕ) → result_types (kind_of kind.now) (map type_of types.now) n ≡ option_map type_of ty ∷ [])) }
+{
+    match kind {
+        OpKind::Icmp(_) | OpKind::Parity => Ok(Some(Some(Ty::Int(1)))),
+        OpKind::Extract(_) | OpKind::Replicate => Ok(Some(copied(alloc, types.get(1))?)),
+        OpKind::Add | OpKind::Mul | OpKind::And | OpKind::Or | OpKind::Xor | OpKind::Sub => {
+            Ok(Some(copied(alloc, types.first())?))
+        }
+        OpKind::Shl | OpKind::Shru | OpKind::Shrs | OpKind::Mux | OpKind::Constant(_) => {
+            Ok(Some(copied(alloc, types.first())?))
+        }
+        OpKind::Wire | OpKind::CompReg(_) | OpKind::CompRegCe(_) | OpKind::FirReg(_) => {
+            Ok(Some(copied(alloc, types.first())?))
+        }
+        _ => Ok(None),
+    }
+}
+
+// An equal type with memory of its own, where there is one.
+fn copied(alloc: Global, ty: Option<&Ty>) -> Result<Option<Ty>, AllocError>
+    ensures { IfOk result (λ copy. option_map type_of copy ≡ option_map (λ t. type_of t.now) ty.entry) }
+{
+    match ty {
+        Some(ty) => Ok(Some(ty.try_clone(alloc)?)),
+        None => Ok(None),
+    }
+}
+
+// A result of this type with the first of these marks, and one of no type for each other mark.
+fn marked_result(alloc: Global, ty: Option<Ty>, marks: &[bool]) -> Result<NewResultList, AllocError>
+    ensures { IfOk result (λ rs. results_in rs ≡ marked_results (option_map type_of ty ∷ []) marks.now) }
+{
+    let (again, others) = first_mark(marks);
+    let mut results = Vec::with_capacity(alloc, marks.len().max(1))?;
+    results.push(NewResult {
+        ty: type_or_none(ty),
+        again,
+    })?;
+    add_untyped(&mut results, others)?;
+    Ok(NewResultList { results })
+}
+
+// Results of these types with these marks; a mark without a type has a result of no type.
+fn marked_results(
     alloc: Global,
     types: Vec<Option<Ty>>,
     marks: &[bool],

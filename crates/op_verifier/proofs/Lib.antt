@@ -12,6 +12,7 @@ pub mod Lists
 pub mod Mismatch
 pub mod Names
 pub mod NoCause
+pub mod Owned
 pub mod Placeless
 pub mod PlacelessFaults
 pub mod Positions

@@ -1,5 +1,7 @@
 -- Names that are seen, in a set.
-use Rattle.std.proofs.Common.{◌≡◌, ℕ, Bool, true, false, cond, ◌||◌, List, [], ◌∷◌, ◌++◌, map, Bor, suc, ◌+◌, ◌<◌, length, drop, get_or, refl, sym, ap, ◌∙◌, drop-cons, add-one}
+use Rattle.std.proofs.Common.{◌≡◌, ℕ, Bool, true, false, cond, ◌||◌, List, [], ◌∷◌, ◌++◌, map, Bor, suc, ◌+◌, ◌<◌, length, take, drop, get_or, refl, sym, ap, ◌∙◌, drop-cons, add-one, Some}
+use Rattle.std.proofs.lemmas.Option.{slice_get-get_or}
+use Rattle.wiring.proofs.Lists.{take-suc_some}
 use Rattle.std.proofs.lemmas.List.{map_push}
 use Rattle.std.specs.List.{list_any}
 use Rattle.hw_model.specs.Types.{Name}
@@ -57,3 +59,27 @@ seen_first ports i p ks new name k less is named key absent put so_far =
     ∙ ap (λ (b : Bool). cond b true (has_seen (map shown ks ++ p.name ∷ []) (names_of (drop (i + 1) ports))))
     (ap (λ (n : Name). is_among n (map shown ks)) (sym named) ∙ among_keys name ks ∙ absent)
     ∙ ap (λ (seen : List Name). has_seen seen (names_of (drop (i + 1) ports))) (sym added)
+
+-- the ports before one and that port
+take_name : (ports : List Port) (i : ℕ) (p : Port) → i < length ports → p ≡ get_or ports i p → names_of (take (i + 1) ports) ≡ names_of (take i ports) ++ p.name ∷ []
+take_name ports i p less is =
+    ap (λ (n : ℕ). names_of (take n ports)) (add-one i)
+    ∙ ap names_of (take-suc_some ports i p (slice_get-get_or ports i p less ∙ ap Some (sym is)))
+    ∙ ap (map (λ (q : hw.Port). q.name)) (map_push port_of (take i ports) p)
+    ∙ map_push (λ (q : hw.Port). q.name) (map port_of (take i ports)) (port_of p)
+
+-- a name that stands among those of the ports before
+pub named_again : (ports : List Port) (i : ℕ) (p : Port) → i < length ports → p ≡ get_or ports i p → is_among p.name (names_of (take i ports)) ≡ true
+    → has_seen [] (names_of ports) ≡ has_seen (names_of (take i ports)) (names_of (drop i ports)) → true ≡ has_seen [] (names_of ports)
+named_again ports i p less is found so_far =
+    sym (so_far ∙ ap (has_seen (names_of (take i ports))) (next_name ports i p less is)
+    ∙ ap (λ (b : Bool). cond b true (has_seen (names_of (take i ports) ++ p.name ∷ []) (names_of (drop (i + 1) ports)))) found)
+
+-- a name that does not
+pub named_first : (ports : List Port) (i : ℕ) (p : Port) → i < length ports → p ≡ get_or ports i p → is_among p.name (names_of (take i ports)) ≡ false
+    → has_seen [] (names_of ports) ≡ has_seen (names_of (take i ports)) (names_of (drop i ports))
+    → has_seen [] (names_of ports) ≡ has_seen (names_of (take (i + 1) ports)) (names_of (drop (i + 1) ports))
+named_first ports i p less is absent so_far =
+    so_far ∙ ap (has_seen (names_of (take i ports))) (next_name ports i p less is)
+    ∙ ap (λ (b : Bool). cond b true (has_seen (names_of (take i ports) ++ p.name ∷ []) (names_of (drop (i + 1) ports)))) absent
+    ∙ ap (λ (seen : List Name). has_seen seen (names_of (drop (i + 1) ports))) (sym (take_name ports i p less is))

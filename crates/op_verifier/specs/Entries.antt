@@ -1,18 +1,18 @@
 -- The operations of a body, each with the types that it settles.
-use Rattle.std.specs.Prelude.{◌≡◌, List, length, map, Option, option_map}
+use Rattle.std.specs.Prelude.{◌≡◌, List, length, map, Option}
 use Rattle.hw_model.specs.Types.{HwType}
-use Rattle.hw_model.specs.TypeViews.{type_of}
 use Rattle.ir_store.specs.BodyOps.{BodyOp}
 use Rattle.ir_store.specs.Bodies.{read_op}
 use Rattle.ir_store.specs.ResultTypes.{result_types}
 use Rattle.op_verifier.specs.declared.entries.Entry.{Entry}
+use Rattle.op_verifier.specs.SettledViews.{types_settled}
 
 -- the operation of an entry, and the types that stand beside it
 abbrev pub op_in : Entry → BodyOp
 op_in e = read_op e.id e.op
 
 abbrev pub types_beside : Entry → List (Option HwType)
-types_beside e = map (option_map type_of) e.settled.items
+types_beside e = types_settled e.settled
 
 -- the types that an operation of a body settles
 abbrev pub settled_for : BodyOp → List (Option HwType)

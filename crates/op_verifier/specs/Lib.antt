@@ -2,6 +2,7 @@ pub mod Answered
 pub mod Answers
 pub mod BodyViews
 pub mod CountChecks
+pub mod SettledViews
 pub mod Entries
 pub mod Faults
 pub mod Headers

@@ -1,11 +1,10 @@
 //! The operations of a body as checks go over them: each with its id and the types that it settles for its results.
-ghost use Rattle.std.specs.Prelude.{◌≡◌, map, IfOk};
+ghost use Rattle.std.specs.Prelude.{◌≡◌, map, length, IfOk};
 ghost use Rattle.ir_store.specs.Bodies.{ops_of, read_op};
 
-use hw_model::types::Ty;
+use crate::settled_types::Settled;
 use ir_store::body::{Body, Op};
 use ir_store::operation::OpId;
-use ir_store::result_types::result_types;
 use std::alloc::{AllocError, Global};
 
 /// An operation of a body, with its id, and the types that it settles for its results.
@@ -13,7 +12,7 @@ use std::alloc::{AllocError, Global};
 pub(crate) struct Entry<'b> {
     pub(crate) id: OpId,
     pub(crate) op: Op<'b>,
-    pub(crate) settled: Vec<Option<Ty>>,
+    pub(crate) settled: Settled<'b>,
 }
 
 impl<'b> Entry<'b> {
@@ -24,7 +23,7 @@ impl<'b> Entry<'b> {
         ensures op { IfOk result (λ e. op_in e ≡ read_op id op.entry) }
         ensures settled { IfOk result (λ e. types_beside e ≡ settled_for (read_op id op.entry)) }
     {
-        let settled = result_types(alloc, op.kind, &op.types.types, op.operands.len())?;
+        let settled = Settled::of(alloc, &op)?;
         Ok(Entry { id, op, settled })
     }
 

@@ -20,6 +20,7 @@ mod own_laws;
 #[cfg(test)]
 mod own_tests;
 mod result_checks;
+mod settled_types;
 mod type_checks;
 mod type_lists;
 mod type_parts;

@@ -59,7 +59,7 @@ impl<'b> BodyView<'b> {
     {
         let types = self.settled_types(alloc, entry.op.operands)?;
         let divides = self.divides_by_constant(entry.op.operands);
-        Ok(own_cause(&entry.op, &types, divides))
+        Ok(own_cause(&entry.op, types.as_slice(), divides))
     }
 
     /// What an operation is refused for by what stands around it.

@@ -34,7 +34,12 @@ pub(crate) fn has_other_result(
 }
 
 /// Whether the first result of an operation that has one has another type than it gives.
-fn single_differs(kind: &OpKind, types: &[Ty], results: &[NewResult], operands: usize) -> bool
+pub(crate) fn single_differs(
+    kind: &OpKind,
+    types: &[Ty],
+    results: &[NewResult],
+    operands: usize,
+) -> bool
     ensures { result ≡ differ (settled (map (λ r. type_of r.ty) results.now)) (result_type (kind_of kind.now) (map type_of types.now) operands ∷ []) }
 {
     match results.first() {

@@ -17,11 +17,17 @@ const MOST_LEAVES: u64 = 1024;
 
 /// Whether a type is outside the limits: it or a type within it is an integer of other than 1 to 128 bits, an array of
 /// length 0 or a struct without fields, or the whole has more than 4,096 bits or 1,024 leaves.
-#[tactic(auto, unfolding(crate::specs::TypeChecks::is_outside))]
+#[tactic(auto, unfolding(crate::specs::TypeChecks::is_outside), using(crate::proofs::Owned::integer_outside, crate::proofs::Owned::clock_outside))]
 pub(crate) fn is_outside(ty: &Ty) -> bool
     ensures { result ≡ is_outside (type_of ty.now) }
 {
-    has_bad_part(ty) || (ty.width() > MOST_BITS || ty.leaf_count() > MOST_LEAVES)
+    match ty {
+        Ty::Int(width) => *width == 0 || *width > MOST_INTEGER_BITS,
+        Ty::Clock => false,
+        Ty::Array(..) | Ty::Struct(_) => {
+            has_bad_part(ty) || (ty.width() > MOST_BITS || ty.leaf_count() > MOST_LEAVES)
+        }
+    }
 }
 
 /// Whether the type or a type within it is none that a value can have.

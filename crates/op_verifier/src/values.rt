@@ -1,5 +1,5 @@
 //! The values of a body: what an operand is, the type that is settled for it, and whether it is a constant.
-ghost use Rattle.std.specs.Prelude.{◌≡◌, is_some, map, option_map, option_copied, slice_get, slice_index_or, IfOk, Some, None};
+ghost use Rattle.std.specs.Prelude.{◌≡◌, is_some, map, option_map, option_copied, slice_get, IfOk, Some};
 ghost use Rattle.hw_model.specs.TypeViews.{type_of};
 ghost use Rattle.hw_model.specs.KindViews.{kind_of, integer_of};
 ghost use Rattle.hw_model.specs.Sound.{input_type, type_in};
@@ -13,6 +13,7 @@ use hw_model::kinds::{Integer, OpKind};
 use hw_model::types::Ty;
 use ir_store::design::Port;
 use ir_store::operation::{OpId, Value};
+use smallvec::SmallVec;
 use std::alloc::{AllocError, Global};
 
 impl<'b> BodyView<'b> {
@@ -53,7 +54,7 @@ impl<'b> BodyView<'b> {
         match value {
             Value::Port(j) => input_type(self.ports.get(j as usize)),
             Value::Result(id, k) => match self.find(id) {
-                Some(entry) => type_at(&entry.settled, k as usize),
+                Some(entry) => entry.settled.at(k as usize),
                 None => None,
             },
             Value::Undefined => None,
@@ -77,11 +78,11 @@ impl<'b> BodyView<'b> {
         &self,
         alloc: Global,
         operands: &[Value],
-    ) -> Result<Vec<Option<&Ty>>, AllocError>
+    ) -> Result<SmallVec<Option<&Ty>, 4, Global>, AllocError>
         requires { AreSettled self.now.entries.items }
         ensures { IfOk result (λ ts. map (option_map (λ t. type_of t.now)) ts.items ≡ map (settled_type (ports_viewed self.now) (body_viewed self.now)) (map (ref_viewed self.now) operands.now)) }
     {
-        let mut types = Vec::with_capacity(alloc, operands.len())?;
+        let mut types = SmallVec::new(alloc);
         for value in operands {
             types.push(self.settled_type(*value))?;
         }
@@ -126,16 +127,6 @@ fn input_type(port: Option<&Port>) -> Option<&Ty>
     match port {
         Some(port) if !port.out => Some(&port.ty),
         Some(_) | None => None,
-    }
-}
-
-/// The type in a place, where one is settled there.
-fn type_at(types: &[Option<Ty>], k: usize) -> Option<&Ty>
-    ensures { option_map (λ t. type_of t.now) result ≡ slice_index_or (map (option_map type_of) types.now) k None }
-{
-    match types.get(k) {
-        Some(Some(ty)) => Some(ty),
-        Some(None) | None => None,
     }
 }
 

@@ -20,9 +20,8 @@ returns c =
     (omega (
       arith,
       c.loop-position-test.false,
-      c.len-position-end.ensures,
-      c.in_ok-ids.ids.ok.0,
-      ap length c.in_ok-ids.ensures,
+      ap length c.as_slice-ids.ensures.value,
+      ap length c.in_ok-read_ids.ensures,
       length-map (ids_of c.args.body.now) op_id,
       length-map (ops_of c.args.body.now) (λ (o : BodyOp). o.id),
       length-map (ops_of c.args.body.now) (op_by (position_of (ids_of c.args.body.now))),

@@ -12,6 +12,6 @@ loop-place-preserved c =
     let n = meanings_of c.define-in-loop-place.new.self in
     record {
       means = names_step_at m n c.args.others.now c.args.position l.place d c.loop-place-test.true c.in_ok-again-2.ensures.means ∙ l.invariant.means;
-      marks = marks_step_at m n c.args.others.now c.args.position l.place d l.marks.items c.push-in-loop-place.new.self.items c.in_ok-again-2.again
+      marks = marks_step_at m n c.args.others.now c.args.position l.place d l.found.items c.push-in-loop-place.new.self.items c.in_ok-again-2.again
           c.loop-place-test.true c.in_ok-again-2.ensures.means c.in_ok-again-2.ensures.again c.in_ok-push-2.ensures.ok ∙ l.invariant.marks;
     }

@@ -7,6 +7,6 @@ abbrev pub invariant-loop-place : goal.invariant-loop-place
 invariant-loop-place l = record {
   means : with_definitions (meanings_of l.names) (names_from l.position (l.place + 1) (map (λ n. n.now) (drop l.place l.others)))
       ≡ with_definitions (meanings_of l.fn.names) (names_from l.position 0 (l.first ∷ map (λ n. n.now) l.others));
-  marks : l.marks.items ++ marks (meanings_of l.names) (names_from l.position (l.place + 1) (map (λ n. n.now) (drop l.place l.others)))
-      ≡ marks (meanings_of l.fn.names) (names_from l.position 0 (l.first ∷ map (λ n. n.now) l.others));
+  marks : l.found.items ++ marks (meanings_of l.names) (names_from l.position (l.place + 1) (map (λ n. n.now) (drop l.place l.others)))
+      ≡ l.fn.found.items ++ marks (meanings_of l.fn.names) (names_from l.position 0 (l.first ∷ map (λ n. n.now) l.others));
 }

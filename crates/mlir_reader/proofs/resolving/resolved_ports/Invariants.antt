@@ -7,9 +7,9 @@ use Rattle.mlir_reader.proofs.resolving.resolved_ports.Given as goal
 
 abbrev pub invariant-loop-port : goal.invariant-loop-port
 invariant-loop-port l = record {
-  ports : map port_of l.list.items ++ ports_from (meanings_of l.seen) l.position (map port_text_of l.port-iterator.rest.items)
-      ≡ ports_from (meanings_of l.fn.seen) 0 (map port_text_of l.fn.ports.items);
-  means : with_definitions (meanings_of l.seen) (port_definitions l.position (map port_text_of l.port-iterator.rest.items))
-      ≡ with_definitions (meanings_of l.fn.seen) (port_definitions 0 (map port_text_of l.fn.ports.items));
+  ports : map port_of l.list.items ++ ports_from (meanings_of l.names) l.position (map port_text_of l.port-iterator.rest.items)
+      ≡ ports_from (meanings_of l.fn.names) 0 (map port_text_of l.fn.ports.items);
+  means : with_definitions (meanings_of l.names) (port_definitions l.position (map port_text_of l.port-iterator.rest.items))
+      ≡ with_definitions (meanings_of l.fn.names) (port_definitions 0 (map port_text_of l.fn.ports.items));
   count : l.position + length l.port-iterator.rest.items ≡ length l.fn.ports.items;
 }

@@ -2,7 +2,7 @@ use Rattle.std.proofs.Common.{arith}
 use Rattle.ir_store.specs.Designs.{module_of}
 use Rattle.mlir_printer.specs.Views.{names_held, value_held}
 use Rattle.mlir_printer.proofs.Showing.{module_added}
-use Rattle.mlir_printer.proofs.modules.push_module.Goals as goal
+use Rattle.mlir_printer.proofs.modules.push_with_names.Goals as goal
 
 pub returns : goal.returns
 returns c =

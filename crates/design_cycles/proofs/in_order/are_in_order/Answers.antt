@@ -1,0 +1,23 @@
+use Rattle.std.proofs.Common.{map, length, arith, ap, sym, ◌∙◌}
+use Rattle.std.proofs.lemmas.List.{length-map}
+use Rattle.ir_store.specs.BodyOps.{BodyOp}
+use Rattle.ir_store.specs.Bodies.{ids_of, ops_of, op_id}
+use Rattle.ir_store.specs.Numbered.{numbered, op_by, position_of}
+use Rattle.design_cycles.proofs.Ordered.{one_behind, all_behind}
+use Rattle.design_cycles.proofs.in_order.are_in_order.Goals as goal
+
+pub loop-position-preserved : goal.loop-position-preserved
+loop-position-preserved c =
+    one_behind (numbered (ops_of c.args.body.now)) c.loop-position.position c.loop-position.invariant (c.stands_behind.ensures c.if-not-stands_behind.false)
+
+pub returns : goal.returns
+returns c =
+    λ _. all_behind (numbered (ops_of c.args.body.now)) c.loop-position.position
+    (omega (
+      arith,
+      c.loop-position-test.false,
+      ap length c.requires,
+      length-map (ids_of c.args.body.now) op_id,
+      length-map (ops_of c.args.body.now) (λ (o : BodyOp). o.id),
+      length-map (ops_of c.args.body.now) (op_by (position_of (ids_of c.args.body.now))),
+    )) c.loop-position.invariant
