@@ -36,3 +36,4 @@ pub mod Driven
 pub mod Checking
 pub mod Spelled
 pub mod Behaving
+pub mod FirstAggregates

@@ -4,3 +4,4 @@ pub mod Exported
 pub mod Layout
 pub mod Exportable
 pub mod Behaving
+pub mod Aggregates

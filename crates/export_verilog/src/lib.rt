@@ -1,4 +1,5 @@
 //! The Verilog of a design.
 #![tactic(auto)]
 
-mod laws;
+pub mod aggregates;
+pub mod laws;
