@@ -32,3 +32,4 @@ pub mod Declares
 pub mod Nesting
 pub mod Clocks
 pub mod Driven
+pub mod AcceptedTypes

@@ -3,3 +3,5 @@ pub mod Keys
 pub mod Exported
 pub mod Layout
 pub mod Exportable
+pub mod Aggregates
+pub mod Room
