@@ -33,3 +33,6 @@ pub mod Nesting
 pub mod Clocks
 pub mod Driven
 pub mod AcceptedTypes
+pub mod AcceptedOps
+pub mod NoAggregates
+pub mod AcceptedWeights
