@@ -13,7 +13,7 @@ use Rattle.ir_store.specs.ResultTypes.{result_types, result_count}
 use Rattle.op_verifier.specs.Answers.{when, or_else}
 use Rattle.op_verifier.specs.TypeChecks.{is_outside, has_bad_field, is_clock}
 use Rattle.op_verifier.specs.TypeLists.{settled}
-use Rattle.op_verifier.specs.OperandChecks.{has_mismatch}
+use Rattle.op_verifier.specs.OperandChecks.{has_other_form, has_mismatch}
 use Rattle.op_verifier.specs.LimitChecks.{value_types, has_type_outside, has_constant_outside, has_extract_outside, has_broken_copy, has_wide_concat, has_unknown_divisor, has_wrong_index, has_wrong_field, has_unequal_widths, has_clock_value}
 use Rattle.op_verifier.specs.CountChecks.{operand_count, type_count}
 use Rattle.op_verifier.specs.OwnChecks.{caused, own_cause}
@@ -62,6 +62,7 @@ no_clocks kind ts h = (neither _ (list_any is_clock (value_types kind ts)) h).1
 
 -- the tests of an operation that is not refused
 pub record IsTested (ports : List Port) (os : List Op) (o : Op) : Type 0 where
+  pub form : has_other_form o.kind o.types ≡ false
   pub outside : list_any is_outside o.types ≡ false
   pub constant : has_constant_outside o.kind o.types ≡ false
   pub divisor : has_unknown_divisor o.kind (divides_by_constant os o.operands) ≡ false
@@ -80,6 +81,7 @@ tested ports os o h =
     let counts = accepted o.kind o.types rs o.named xs b h in
     let long : length xs ≡ length o.operands = length-map o.operands (settled_type ports os) in
     record {
+      form = counts.form;
       outside = types_within o.kind o.types rs own.outside;
       constant = own.constant;
       divisor = own.divisor;

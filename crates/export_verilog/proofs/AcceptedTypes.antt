@@ -79,7 +79,7 @@ module _ (ts : List HwType) (t : HwType) where
 
 -- ---- widths
 
-some_bits : (w : ℕ) → is_outside (int w) ≡ false → 1 ≤ w
+pub some_bits : (w : ℕ) → is_outside (int w) ≡ false → 1 ≤ w
 unfolding is_outside
 some_bits zero h = cc
 some_bits (suc w) h = omega arith

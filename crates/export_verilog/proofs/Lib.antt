@@ -36,3 +36,6 @@ pub mod AcceptedTypes
 pub mod AcceptedOps
 pub mod NoAggregates
 pub mod AcceptedWeights
+pub mod AcceptedDivisions
+pub mod AcceptedValues
+pub mod AcceptedExports
