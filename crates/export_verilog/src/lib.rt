@@ -1,4 +1,5 @@
 //! The Verilog of a design.
 #![tactic(auto)]
 
+pub mod acceptance;
 mod laws;
