@@ -39,3 +39,4 @@ pub mod AcceptedWeights
 pub mod AcceptedDivisions
 pub mod AcceptedValues
 pub mod AcceptedExports
+pub mod AggregateSamples

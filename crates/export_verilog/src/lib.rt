@@ -1,5 +1,7 @@
 //! The Verilog of a design.
 #![tactic(auto)]
 
-pub mod acceptance;
+mod acceptance;
 mod laws;
+
+pub use acceptance::{accepted_designs_are_exportable, stored_designs_have_room};
