@@ -1,10 +1,10 @@
 -- The divisor of an accepted division is a constant that is not 0 in its type.
-use Rattle.std.proofs.Common.{◌≡◌, ℕ, ℤ, zero, suc, pos, negsuc, ◌+◌, ◌-◌, ◌*◌, ◌≤◌, ◌<◌, ◌^◌, Bool, true, false, not, ◌&&◌, List, [], ◌∷◌, map, length, slice_get, Option, Some, None, refl, sym, ap, ap₂, ◌∙◌, subst, arith, option_map, pow_pos, pow-suc}
-use Rattle.std.specs.Prelude.{nat_eq, nat_le}
+use Rattle.std.proofs.Common.{◌≡◌, ℕ, ℤ, zero, suc, pos, negsuc, ◌-◌, ◌*◌, ◌≤◌, ◌<◌, ◌^◌, Bool, true, false, not, ◌&&◌, List, [], ◌∷◌, map, length, slice_get, Option, Some, None, refl, sym, ap, ◌∙◌, subst, arith, option_map, pow-suc}
+use Rattle.std.specs.Prelude.{nat_eq}
 use Rattle.std.specs.List.{list_any}
-use Rattle.std.proofs.lemmas.Bool.{eqb-true, eqb-false}
+use Rattle.std.proofs.lemmas.Bool.{eqb-true}
 use Rattle.std.proofs.lemmas.Bool.Decides.{nat_tests}
-use Rattle.bits_core.specs.Word.{Word, number, bits, bits_of_ℤ, not_word}
+use Rattle.bits_core.specs.Word.{number, bits, bits_of_ℤ}
 use Rattle.bits_core.proofs.Numbers.{length-bits, number-bits-below}
 use Rattle.bits_core.proofs.Complement.{number-not}
 use Rattle.wiring.specs.Options.{bind}
@@ -15,18 +15,18 @@ use Rattle.hw_model.specs.Kinds.Kind.{divu, modu, divs, mods, constant}
 use Rattle.hw_model.specs.Design.{Ref, Port, OpResult, Op, result_type}
 use Rattle.hw_model.specs.Design.Ref.{port, result, undefined}
 use Rattle.hw_model.specs.Sound.{type_in, Fits, OpFits}
-use Rattle.ir_store.specs.ResultTypes.{first_type, result_type as kind_result_type, result_types}
+use Rattle.ir_store.specs.ResultTypes.{result_type as kind_result_type, result_types}
 use Rattle.op_verifier.specs.TypeChecks.{is_outside}
 use Rattle.op_verifier.specs.TypeLists.{settled}
 use Rattle.op_verifier.specs.LiteralChecks.{is_out_of_range}
 use Rattle.op_verifier.specs.OperandChecks.{has_other_form}
 use Rattle.op_verifier.specs.LimitChecks.{has_constant_outside, has_unknown_divisor}
-use Rattle.op_verifier.specs.CountChecks.{operand_count, type_count}
-use Rattle.op_verifier.specs.OpChecks.{is_nonzero, is_nonzero_kind, is_nonzero_op, is_nonzero_ref, divides_by_constant}
+use Rattle.op_verifier.specs.CountChecks.{operand_count}
+use Rattle.op_verifier.specs.OpChecks.{is_nonzero, is_nonzero_kind, is_nonzero_op, divides_by_constant}
 use Rattle.op_verifier.proofs.SoundDesigns.{types_of}
 use Rattle.op_verifier.proofs.Unrefused.{not_false}
 use Rattle.op_verifier.proofs.Widths.{neither}
-use Rattle.verilog_expr.specs.Expressions.{constant_number, constant_of}
+use Rattle.verilog_expr.specs.Expressions.{constant_number}
 use Rattle.verilog_expr.specs.Spilling.{is_constant_kind}
 use Rattle.verilog_expr.specs.Values.{is_division, IsDivision}
 use Rattle.export_verilog.proofs.AcceptedOps.{IsTested}
@@ -168,5 +168,5 @@ division ports os all o tests fits is =
       not_zero = λ t typed. constant_worth by.by.kind by.by.types by.by.results (length by.by.operands) t by.nonzero own.form own.outside own.constant own.settled_results
           (ap (λ (x : Option Op). bind x (λ (p : Op). result_type p 0)) (sym by.there)
           ∙ second_is (type_in ports os by.dividend) (type_in ports os (result by.divisor 0)) t
-            (ap (map (type_in ports os)) (sym by.operands) ∙ division_fits o.kind o.types (map (type_in ports os) o.operands) t 0 is (fits 0 t typed)));
+          (ap (map (type_in ports os)) (sym by.operands) ∙ division_fits o.kind o.types (map (type_in ports os) o.operands) t 0 is (fits 0 t typed)));
     }

@@ -1,8 +1,7 @@
 -- An accepted design without aggregates is exportable.
-use Rattle.std.proofs.Common.{◌≡◌, ℕ, zero, suc, ◌≤◌, Bool, true, false, ◌||◌, List, [], ◌∷◌, map, length, slice_get, Option, Some, None, refl, sym, ap, ◌∙◌, subst}
+use Rattle.std.proofs.Common.{◌≡◌, ℕ, false, ◌||◌, List, [], ◌∷◌, length, slice_get, Option, Some, None, refl, ap, ◌∙◌}
 use Rattle.std.specs.Prelude.{is_some}
 use Rattle.wiring.specs.Options.{bind, omap}
-use Rattle.hw_model.specs.Types.{HwType}
 use Rattle.hw_model.specs.Kinds.{Kind}
 use Rattle.hw_model.specs.Kinds.Kind.{compreg, compreg_ce, firreg}
 use Rattle.hw_model.specs.Design.{Port, OpResult, Op, Module, Design, RegisterForm, register_form, instance_in, is_output_kind, is_instance, is_output_op, result_type}

@@ -1,24 +1,23 @@
 -- What the verifier's tests say of the operations and headers of an accepted design.
-use Rattle.std.proofs.Common.{◌≡◌, ℕ, zero, suc, Bool, true, false, cond, List, [], ◌∷◌, map, length, slice_get, Option, Some, None, option_map, refl, sym, ap, ◌∙◌, subst, inl, inr}
+use Rattle.std.proofs.Common.{◌≡◌, ℕ, zero, suc, Bool, true, false, cond, List, [], ◌∷◌, map, length, slice_get, Option, Some, None, refl, sym, ap, ◌∙◌, subst}
 use Rattle.std.specs.List.{list_any}
 use Rattle.std.proofs.lemmas.List.{length-map}
-use Rattle.wiring.specs.Wiring.{In}
 use Rattle.diag.specs.declared.cause.Cause.{Cause}
-use Rattle.diag.specs.declared.cause.Cause.TheVariants.{Redefined, WidthLimit, Field, ClockOperand}
+use Rattle.diag.specs.declared.cause.Cause.TheVariants.{Redefined, WidthLimit}
 use Rattle.hw_model.specs.Types.{HwType}
 use Rattle.hw_model.specs.Kinds.{Kind}
-use Rattle.hw_model.specs.Design.{Ref, Port, OpResult, Op, Module, Design, find_module}
+use Rattle.hw_model.specs.Design.{Port, OpResult, Op, Module, Design, find_module}
 use Rattle.design_cycles.proofs.Callees.{found_at}
 use Rattle.ir_store.specs.ResultTypes.{result_types, result_count}
 use Rattle.op_verifier.specs.Answers.{when, or_else}
-use Rattle.op_verifier.specs.TypeChecks.{is_outside, has_bad_field, is_clock}
+use Rattle.op_verifier.specs.TypeChecks.{is_outside, is_clock}
 use Rattle.op_verifier.specs.TypeLists.{settled}
 use Rattle.op_verifier.specs.OperandChecks.{has_other_form, has_mismatch}
 use Rattle.op_verifier.specs.LimitChecks.{value_types, has_type_outside, has_constant_outside, has_extract_outside, has_broken_copy, has_wide_concat, has_unknown_divisor, has_wrong_index, has_wrong_field, has_unequal_widths, has_clock_value}
 use Rattle.op_verifier.specs.CountChecks.{operand_count, type_count}
 use Rattle.op_verifier.specs.OwnChecks.{caused, own_cause}
 use Rattle.op_verifier.specs.OpChecks.{settled_type, divides_by_constant, value_cause, alone_cause, outer_cause}
-use Rattle.op_verifier.specs.Headers.{has_port, has_wrong_clock, ports_cause, names_cause}
+use Rattle.op_verifier.specs.Headers.{has_port, ports_cause, names_cause}
 use Rattle.op_verifier.specs.Verdict.{IsAccepted}
 use Rattle.op_verifier.proofs.AcceptedDesigns.{no_fault, accepted_distinct}
 use Rattle.op_verifier.proofs.Settled.{accepted, settles}

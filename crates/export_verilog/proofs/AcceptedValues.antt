@@ -1,20 +1,19 @@
 -- The values of a module of an accepted design without aggregates: their bits, their clocks, and those of its registers.
-use Rattle.std.proofs.Common.{◌≡◌, ℕ, zero, suc, ◌≤◌, ◌<◌, ◌^◌, Bool, true, false, cond, ◌||◌, not, List, [], ◌∷◌, map, length, slice_get, Option, Some, None, option_map, refl, sym, ap, ◌∙◌, subst, inl, inr, arith}
+use Rattle.std.proofs.Common.{◌≡◌, ℕ, zero, suc, ◌≤◌, ◌<◌, ◌^◌, Bool, true, false, cond, ◌||◌, List, [], ◌∷◌, map, length, slice_get, Option, Some, None, option_map, refl, sym, ap, ◌∙◌, subst, inl, inr, arith}
 use Rattle.std.specs.Prelude.{is_some}
-use Rattle.std.specs.List.{list_any}
-use Rattle.wiring.specs.Options.{bind, omap}
+use Rattle.wiring.specs.Options.{bind}
 use Rattle.wiring.specs.Wiring.{In}
-use Rattle.hw_model.specs.Types.{HwType, width}
-use Rattle.hw_model.specs.Types.HwType.{int, clock, array, struct}
+use Rattle.hw_model.specs.Types.{HwType}
+use Rattle.hw_model.specs.Types.HwType.{clock}
 use Rattle.hw_model.specs.Kinds.{Kind}
-use Rattle.hw_model.specs.Kinds.Kind.{add, mul, and, or, xor, sub, divu, modu, divs, mods, shl, shru, shrs, icmp, parity, extract, concat, replicate, mux, constant, aggregate_constant, array_create, array_concat, array_get, array_slice, array_inject, struct_create, struct_extract, struct_inject, struct_explode, bitcast, wire, instance, output, compreg, compreg_ce, firreg}
-use Rattle.hw_model.specs.Design.{Ref, Port, OpResult, Op, Module, Design, RegisterForm, instance_in, register_form, is_output_kind, is_instance, is_output_op, result_type}
+use Rattle.hw_model.specs.Kinds.Kind.{add, mul, and, or, xor, struct_explode, instance, output}
+use Rattle.hw_model.specs.Design.{Ref, Port, OpResult, Op, RegisterForm, instance_in, register_form, is_output_kind, result_type}
 use Rattle.hw_model.specs.Design.Ref.{port, result, undefined}
 use Rattle.hw_model.specs.Flat.{width_of, Register, register_parts, register_in}
 use Rattle.hw_model.specs.Sound.{input_type, type_in, OpFits}
 use Rattle.ir_store.specs.ResultTypes.{result_count}
 use Rattle.op_verifier.specs.CountChecks.{operand_count}
-use Rattle.op_verifier.specs.TypeChecks.{is_outside, is_clock}
+use Rattle.op_verifier.specs.TypeChecks.{is_clock}
 use Rattle.op_verifier.specs.LimitChecks.{value_types}
 use Rattle.op_verifier.proofs.SoundDesigns.{types_of}
 use Rattle.verilog_expr.specs.Expressions.{value_width}
@@ -22,9 +21,9 @@ use Rattle.verilog_expr.specs.Values.{is_aggregate_kind, is_variadic}
 use Rattle.export_verilog.specs.Aggregates.{is_aggregate}
 use Rattle.export_verilog.specs.Exportable.{IsClocked}
 use Rattle.export_verilog.proofs.AcceptedOps.{IsTested}
-use Rattle.export_verilog.proofs.AcceptedTypes.{none_of, IsGiven, given, given_some, given_value, HasSomeBits, within_limits}
+use Rattle.export_verilog.proofs.AcceptedTypes.{none_of, IsGiven, given, given_some, given_value, HasSomeBits}
 use Rattle.export_verilog.proofs.NoAggregates.{IsPlain}
-use Rattle.export_verilog.proofs.Registers.{AreOperands, parts_typed, form_fits}
+use Rattle.export_verilog.proofs.Registers.{parts_typed, form_fits}
 
 -- ---- how many results
 

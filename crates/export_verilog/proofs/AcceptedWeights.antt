@@ -1,14 +1,14 @@
 -- Each thing of a module that has a name weighs something: the limit on weights is one on names.
-use Rattle.std.proofs.Common.{◌≡◌, ℕ, zero, suc, ◌+◌, ◌*◌, ◌≤◌, ◌<◌, ◌^◌, Bool, true, false, cond, List, [], ◌∷◌, ◌++◌, map, length, slice_get, Option, Some, None, refl, sym, ap, ◌∙◌, subst, arith}
+use Rattle.std.proofs.Common.{◌≡◌, ℕ, suc, ◌+◌, ◌*◌, ◌≤◌, ◌<◌, ◌^◌, Bool, true, false, cond, List, [], ◌∷◌, map, length, slice_get, Some, refl, sym, ap, ◌∙◌, subst, arith}
 use Rattle.std.specs.Prelude.{nat_lt, is_some}
 use Rattle.std.specs.List.{list_any}
 use Rattle.std.proofs.lemmas.Bool.{ltb-true, ltb-false}
 use Rattle.std.proofs.lemmas.List.{length-append}
 use Rattle.hw_model.specs.Types.{Name, HwType, leaves}
 use Rattle.hw_model.specs.Types.HwType.{int, clock, array, struct}
-use Rattle.hw_model.specs.Kinds.{Kind, Instance}
+use Rattle.hw_model.specs.Kinds.{Kind}
 use Rattle.hw_model.specs.Kinds.Kind.{add, mul, and, or, xor, sub, divu, modu, divs, mods, shl, shru, shrs, icmp, parity, extract, concat, replicate, mux, constant, aggregate_constant, array_create, array_concat, array_get, array_slice, array_inject, struct_create, struct_extract, struct_inject, struct_explode, bitcast, wire, instance, output, compreg, compreg_ce, firreg}
-use Rattle.hw_model.specs.Design.{Port, OpResult, Op, Module, Design, find_module, instance_in, is_instance, is_register, is_output_op}
+use Rattle.hw_model.specs.Design.{Port, OpResult, Op, Module, Design, instance_in, is_instance, is_register, is_output_op}
 use Rattle.hw_model.specs.Design.Ref.{result}
 use Rattle.hw_model.specs.Weight.{leaf_count, reset_weight, kind_weight, body_weight, weight_of, module_weight, weight}
 use Rattle.ir_store.specs.ResultTypes.{result_count}
@@ -17,7 +17,7 @@ use Rattle.op_verifier.specs.Verdict.{IsAccepted}
 use Rattle.op_verifier.proofs.Widths.{neither}
 use Rattle.verilog_expr.specs.Spilling.{is_wire_kind, spilled}
 use Rattle.verilog_expr.specs.Values.{is_aggregate_kind}
-use Rattle.export_verilog.specs.Keys.{Key, Role, each, role_of, result_keys, keys_of, op_keys, port_keys, module_keys}
+use Rattle.export_verilog.specs.Keys.{Key, each, result_keys, keys_of, op_keys, port_keys, module_keys}
 use Rattle.export_verilog.specs.Keys.Role.{hidden, net, variable, block}
 use Rattle.export_verilog.specs.Aggregates.{is_aggregate, HasNoAggregates}
 use Rattle.export_verilog.proofs.AcceptedOps.{IsTested, found, op_tested}
@@ -133,7 +133,7 @@ keys_weigh inner ports os i o tests plain = go (is_instance o) refl
     go true e =
         let p = some_keys (is_register o) (is_output_op o) (is_wire_kind o.kind) (spilled ports os (result i 0)) i o in
         let q : length (op_keys ports os i o) ≤ 1 + length o.results =
-            subst (λ (b : Bool). length (keys_of (cond (is_register o) variable (cond b block (cond (is_output_op o) hidden (cond (is_wire_kind o.kind) net (cond (spilled ports os (result i 0)) net hidden))))) i o) ≤ 1 + length o.results) (sym e) p in
+        subst (λ (b : Bool). length (keys_of (cond (is_register o) variable (cond b block (cond (is_output_op o) hidden (cond (is_wire_kind o.kind) net (cond (spilled ports os (result i 0)) net hidden))))) i o) ≤ 1 + length o.results) (sym e) p in
         let r = instance_weighs inner o.kind o.types (length o.operands) (length o.results) e plain.types tests.results in
         omega (arith, q, r)
     go false e =
@@ -165,7 +165,7 @@ module _ (d : Design) (fine : IsAccepted d) (none : HasNoAggregates d) (n : ℕ)
   keys_within inner =
       let ports = port_leaves 0 m.ports (ports_plain d none n m there) in
       let ops = body_keys inner (op_keys m.ports m.body) 0 m.body
-          (λ j o at i. keys_weigh inner m.ports m.body i o (op_tested d fine n m there j o at) (op_plain d none n m there j o at)) in
+      (λ j o at i. keys_weigh inner m.ports m.body i o (op_tested d fine n m there j o at) (op_plain d none n m there j o at)) in
       let all = length-append (each port_keys 0 m.ports) (each (op_keys m.ports m.body) 0 m.body) in
       omega (arith, ports, ops, all)
 

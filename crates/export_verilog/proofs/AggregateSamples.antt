@@ -1,8 +1,7 @@
 -- The first header or operation with an aggregate, computed.
-use Rattle.std.proofs.Common.{◌≡◌, List, [], ◌∷◌, Some, None, refl, codes}
+use Rattle.std.proofs.Common.{◌≡◌, [], ◌∷◌, Some, refl, codes}
 use Rattle.std.proofs.Common.{pos}
 use Rattle.diag.specs.declared.cause.Cause.TheVariants.{OutsideProfile}
-use Rattle.hw_model.specs.Types.{HwType}
 use Rattle.hw_model.specs.Types.HwType.{int, clock, array}
 use Rattle.hw_model.specs.Kinds.Kind.{array_get, bitcast, constant, firreg, output}
 use Rattle.hw_model.specs.Kinds.Reset.{no_reset}
@@ -11,7 +10,6 @@ use Rattle.hw_model.specs.Design.Ref.{port, result}
 use Rattle.hw_model.proofs.Samples.{operation, in_port, out_port, module_of}
 use Rattle.op_verifier.specs.Faults.{header_refusal, op_refusal}
 use Rattle.export_verilog.specs.Aggregates.{first_aggregate, HasNoAggregates}
-use Rattle.export_verilog.specs.Room.{HasRoomToExport}
 
 -- a register of 8 bits: no aggregates
 abbrev plain_module : Module

@@ -1,5 +1,5 @@
 -- What a design without aggregates has none of.
-use Rattle.std.proofs.Common.{◌≡◌, ℕ, zero, suc, Bool, true, false, ◌||◌, List, [], ◌∷◌, slice_get, Option, Some, None, option_map, refl, sym, ap, ◌∙◌, subst}
+use Rattle.std.proofs.Common.{◌≡◌, ℕ, zero, suc, false, List, [], ◌∷◌, slice_get, Some, None, sym, ap, ◌∙◌}
 use Rattle.std.specs.List.{list_any}
 use Rattle.diag.specs.declared.cause.Cause.TheVariants.{OutsideProfile}
 use Rattle.hw_model.specs.Design.{Port, OpResult, Op, Module, Design}
