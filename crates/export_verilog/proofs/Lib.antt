@@ -37,3 +37,11 @@ pub mod Checking
 pub mod Spelled
 pub mod Behaving
 pub mod FirstAggregates
+pub mod AcceptedTypes
+pub mod AcceptedOps
+pub mod NoAggregates
+pub mod AcceptedWeights
+pub mod AcceptedDivisions
+pub mod AcceptedValues
+pub mod AcceptedExports
+pub mod AggregateSamples

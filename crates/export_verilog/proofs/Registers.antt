@@ -23,7 +23,7 @@ pub record AreOperands (type_of : Ref → Option HwType) (t : HwType) (r : Regis
   pub value : (b : ResetBy) → r.reset ≡ Some b → type_of b.value ≡ Some t
 
 module _ (type_of : Ref → Option HwType) (t : HwType) where
-  parts_typed : (e : Bool) (r : Reset) (rs : List Ref) → map type_of rs ≡ register_types e r t → (g : Register) × (register_parts e r rs ≡ Some g) × AreOperands type_of t g
+  pub parts_typed : (e : Bool) (r : Reset) (rs : List Ref) → map type_of rs ≡ register_types e r t → (g : Register) × (register_parts e r rs ≡ Some g) × AreOperands type_of t g
   parts_typed false no_reset [] is = cc
   parts_typed false no_reset (a ∷ []) is = cc
   parts_typed false no_reset (a ∷ b ∷ []) is =
@@ -79,7 +79,7 @@ module _ (type_of : Ref → Option HwType) (t : HwType) where
       )
   parts_typed true sync_reset (a ∷ b ∷ z ∷ c ∷ f ∷ g ∷ rs) is = cc
 
-form_fits : (kind : Kind) (f : RegisterForm) (ts : List HwType) (xs : List (Option HwType)) (t : HwType) (k : ℕ) → register_form kind ≡ Some f → Fits kind ts xs t k
+pub form_fits : (kind : Kind) (f : RegisterForm) (ts : List HwType) (xs : List (Option HwType)) (t : HwType) (k : ℕ) → register_form kind ≡ Some f → Fits kind ts xs t k
     → xs ≡ register_types f.has_enable f.reset t
 form_fits (compreg r) f ts xs t k is fits = fits ∙ ap (λ (z : RegisterForm). register_types z.has_enable z.reset t) (let e : record { has_enable = false; reset = r } ≡ f = cc in e)
 form_fits (compreg_ce r) f ts xs t k is fits = fits ∙ ap (λ (z : RegisterForm). register_types z.has_enable z.reset t) (let e : record { has_enable = true; reset = r } ≡ f = cc in e)

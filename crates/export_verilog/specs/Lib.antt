@@ -5,3 +5,4 @@ pub mod Layout
 pub mod Exportable
 pub mod Behaving
 pub mod Aggregates
+pub mod Room
