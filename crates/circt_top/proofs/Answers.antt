@@ -8,7 +8,7 @@ use Rattle.mlir_reader.specs.Reading.{read}
 use Rattle.op_verifier.specs.Faults.{first_fault}
 use Rattle.op_verifier.specs.Verdict.{IsAccepted, IsRefusal, unfit, recursive, too_large, cyclic}
 use Rattle.circt_top.specs.Accepting.{Accepted, IsRefused, unread, unaccepted}
-use Rattle.circt_top.specs.Exporting.{export_refusal}
+use Rattle.export_verilog.specs.Aggregates.{first_aggregate}
 use Rattle.circt_top.specs.Outcome.{IsOutcome, IsAnswered}
 
 -- what is accepted is not refused
@@ -31,7 +31,7 @@ pub answered_unrefused : (c : Command) (bytes : List ℕ) (r : Refusal) → IsAn
 answered_unrefused (opt p) bytes r a is = unrefused bytes a.design r a.accepted is
 answered_unrefused (translate p) bytes r a (inl is) = unrefused bytes a.design r a.accepted is
 answered_unrefused (translate p) bytes r a (inr is) =
-    let e : export_refusal a.design ≡ Some r = ap export_refusal (one_design bytes a.design is.design a.accepted.says is.accepted.says) ∙ is.missing in
+    let e : first_aggregate a.design ≡ Some r = ap first_aggregate (one_design bytes a.design is.design a.accepted.says is.accepted.says) ∙ is.missing in
     let f : None ≡ Some r = sym a.takes ∙ e in cc
 
 -- what gives a text is answered

@@ -8,7 +8,11 @@ use Rattle.hw_model.specs.Meaning.{machine, HasNoCycle, HasHeights}
 use Rattle.hw_model.specs.Types.{Name}
 use Rattle.command_line.specs.Line.{Command, Paths}
 use Rattle.command_line.specs.Line.Command.{opt, translate}
-use Rattle.verilog_model.specs.Behaviour.{Behaves}
+use Rattle.export_verilog.specs.Aggregates.{HasNoAggregates}
+use Rattle.export_verilog.specs.Behaving.{BehavesAs}
+use Rattle.export_verilog.specs.Exportable.{IsExportable}
+use Rattle.export_verilog.specs.Layout.{verilog_text}
+use Rattle.export_verilog.specs.Room.{HasRoomToExport}
 use Rattle.mlir_reader.specs.Reading.{text_limit, read}
 use Rattle.mlir_reader.specs.Spelling.{SpellsPlacelessly}
 use Rattle.mlir_reader.specs.ModuleViews.{ReadsDesign}
@@ -28,10 +32,8 @@ use Rattle.circt_top.specs.Outcomes.{IsTaken, unread, unverified}
 use Rattle.circt_top.specs.Exports.{Exports}
 use Rattle.circt_top.specs.Outcome.{IsOutcome, Gives}
 use Rattle.circt_top.specs.Reprint.{IsReprint, IsReadAgain}
-use Rattle.circt_top.specs.Translation.{name_kept, ports_kept}
 use Rattle.circt_top.specs.declared.outcome.OutcomeFail.{OutcomeFail}
 use Rattle.circt_top.specs.declared.outcome.OutcomeFail.TheVariants.{Refused, NoMemory}
-use Rattle.circt_top.proofs.Translated.{exported_behaves}
 
 -- what the laws of the crates below say
 pub record PrintingLaws : Type 0 where
@@ -74,17 +76,22 @@ module _ (printing : PrintingLaws) (designs : DesignLaws) (source : List ℕ) (d
     read_again = read_again;
   })
 
--- an accepted design exported is a translation, or refused for what the export does not have
-pub translated : (p : Paths) (source : List ℕ) (d : Design) (r : Result (List ℕ) OutcomeFail) → Accepted source d → Exports d r → Gives (translate p) source r
-translated p source d (Ok text) accepted h = record {
+-- what the laws of the export say
+pub record ExportLaws : Type 0 where
+  pub exportable : (d : Design) → IsAccepted d → HasNoAggregates d → HasRoomToExport d → IsExportable d
+  pub behaves : (d : Design) → IsExportable d → BehavesAs (verilog_text d) d
+
+-- an accepted design exported is a translation, or refused for its first aggregate
+pub translated : (laws : ExportLaws) (p : Paths) (source : List ℕ) (d : Design) (r : Result (List ℕ) OutcomeFail) → Accepted source d → HasRoomToExport d → Exports d r → Gives (translate p) source r
+translated laws p source d (Ok text) accepted room h = record {
   design = d;
   accepted = accepted;
   exported = h.0;
-  behaves = subst (λ t. Behaves t d name_kept ports_kept) (sym h.1) (exported_behaves d h.0);
+  behaves = subst (λ t. BehavesAs t d) (sym h.1) (laws.behaves d (laws.exportable d accepted.accepted h.0 room));
   laid_out = h.1;
 }
-translated p source d (Err (Refused r)) accepted h = inr (record { design = d; accepted = accepted; missing = h })
-translated p source d (Err NoMemory) accepted h = tt
+translated laws p source d (Err (Refused r)) accepted room h = inr (record { design = d; accepted = accepted; missing = h })
+translated laws p source d (Err NoMemory) accepted room h = tt
 
 -- what is refused is refused by each command
 pub refused_by : (c : Command) (source : List ℕ) (r : Refusal) → IsRefused source r → IsOutcome c source (Err r)

@@ -1,16 +1,11 @@
 pub mod Answer
 pub mod Codes
-pub mod Form
-pub mod Parts
-pub mod Places
-pub mod Printing
 pub mod Translation
 pub mod Words
 pub mod Outcome
 pub mod Delivery
 pub mod Runs
 pub mod Accepting
-pub mod Exporting
 pub mod Exports
 pub mod Reprint
 pub mod Outcomes

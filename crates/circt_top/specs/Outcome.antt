@@ -1,11 +1,11 @@
 -- What is made of the text of an input.
-use Rattle.std.specs.Prelude.{◌≡◌, ℕ, ◌⊎◌, List, None, Result, Ok, Err}
+use Rattle.std.specs.Prelude.{◌≡◌, ℕ, ◌⊎◌, List, Result, Ok, Err}
 use Rattle.hw_model.specs.Design.{Design}
 use Rattle.diag.specs.declared.refusal.Refusal.{Refusal}
 use Rattle.command_line.specs.Line.{Command}
 use Rattle.command_line.specs.Line.Command.{opt, translate}
 use Rattle.circt_top.specs.Accepting.{Accepted, IsRefused}
-use Rattle.circt_top.specs.Exporting.{export_refusal}
+use Rattle.export_verilog.specs.Aggregates.{HasNoAggregates}
 use Rattle.circt_top.specs.Reprint.{IsReprint}
 use Rattle.circt_top.specs.Translation.{IsTranslation, IsUnexported}
 use Rattle.circt_top.specs.declared.outcome.OutcomeFail.{OutcomeFail}
@@ -21,7 +21,7 @@ IsOutcome (translate paths) bytes (Err r) = IsRefused bytes r ⊎ IsUnexported b
 -- a command takes this design
 abbrev pub Takes : Command → Design → Type 0
 Takes (opt paths) d = Unit {0}
-Takes (translate paths) d = export_refusal d ≡ None
+Takes (translate paths) d = HasNoAggregates d
 
 -- the bytes are accepted, as a design that the command takes
 pub record IsAnswered (c : Command) (bytes : List ℕ) : Type 0 where

@@ -4,16 +4,12 @@
 #![tactic(auto)]
 
 mod delivery;
-mod exporting;
-mod form;
 #[cfg(test)]
 mod operation_tests;
 #[cfg(test)]
 mod opt_tests;
 mod outcome;
-mod port_names;
 pub mod report;
-mod reserved;
 pub mod run;
 #[cfg(test)]
 mod size_tests;
@@ -30,4 +26,3 @@ mod value_tests;
 mod whole_design_tests;
 #[cfg(test)]
 mod word_tests;
-mod writer;

@@ -2,15 +2,20 @@
 ghost use Rattle.std.specs.Prelude.{◌≡◌, IfOk};
 ghost use Rattle.ir_store.specs.Designs.{design_of};
 ghost use Rattle.command_line.specs.Invocations.{command_of};
+ghost use Rattle.command_line.specs.Line.{Paths};
+ghost use Rattle.command_line.specs.Line.Command.{translate};
 ghost use Rattle.mlir_printer.specs.Spellable.{AreBytes};
 ghost use Rattle.circt_top.specs.Accepting.{Accepted};
 ghost use Rattle.circt_top.specs.Reprint.{IsReprint};
+ghost use Rattle.circt_top.specs.Exports.{Exports};
 ghost use Rattle.circt_top.specs.Outcome.{Gives};
 ghost use Rattle.circt_top.specs.Outcomes.{IsTaken, unread, unverified};
 
-use crate::exporting::exported;
 use command_line::invocation::Invocation;
 use diag::refusal::Refusal;
+use export_verilog::aggregates::first_aggregate;
+use export_verilog::export::export;
+use export_verilog::{accepted_designs_are_exportable, exported_designs_behave, stored_designs_have_room};
 use hw_model::{heights_are_acyclic, places_decide_nothing};
 use io_edge::byte_text::Text;
 use mlir_printer::design_text::print_design;
@@ -58,7 +63,7 @@ pub fn outcome(
     };
     match invocation {
         Invocation::Opt(_) => Ok(reprinted(alloc, source, &verified)?),
-        Invocation::Translate(_) => exported(alloc, verified.design()),
+        Invocation::Translate(_) => translated(alloc, source, &verified),
     }
 }
 
@@ -110,6 +115,27 @@ fn reprinted(alloc: Global, source: &[u8], verified: &Verified) -> Result<Text, 
     places_decide_nothing();
     are_bytes(source);
     print_design(alloc, verified)
+}
+
+/// The Verilog of the accepted design that a text says, or the refusal of its first header or operation with an aggregate.
+fn translated(alloc: Global, source: &[u8], verified: &Verified) -> Result<Text, OutcomeFail>
+    requires { Accepted source.now (design_of verified.now.design) }
+    ensures { (paths : Paths) → Gives (translate paths) source.now result }
+{
+    accepted_designs_are_exportable();
+    exported_designs_behave();
+    stored_designs_have_room(verified.design());
+    exported(alloc, verified)
+}
+
+/// The Verilog text of a design without aggregates, or the refusal of its first header or operation that has one.
+fn exported(alloc: Global, verified: &Verified) -> Result<Text, OutcomeFail>
+    ensures { Exports (design_of verified.now.design) result }
+{
+    match first_aggregate(alloc, verified.design())? {
+        Some(refusal) => Err(OutcomeFail::Refused(refusal)),
+        None => Ok(export(alloc, verified)?),
+    }
 }
 
 /// Does nothing. Its clause says that bytes are numbers below 256.

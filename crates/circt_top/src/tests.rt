@@ -20,9 +20,7 @@ pub const ADDER_VERILOG: &str = "module Add8(
   input wire [7:0] b,
   output wire [7:0] c
 );
-  wire [7:0] _GEN;
-  assign _GEN = a + b;
-  assign c = _GEN;
+  assign c = a + b;
 endmodule
 ";
 

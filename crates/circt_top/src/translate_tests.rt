@@ -7,253 +7,6 @@ use std::thread::Threads;
 
 const COMMAND: &str = "translate --export-verilog";
 
-// Designs that are accepted, each with the line on the first of its headers and operations that is not exported.
-const OUTSIDE: [(&str, &str); 30] = [
-    (
-        "hw.module @T(in %a : i8, in %b : i8, out o : i8) {
-  %0 = comb.xor %a, %b : i8
-  hw.output %0 : i8
-}
-",
-        "<stdin>:2:8: error: 'comb.xor' S4: outside the profile\n",
-    ),
-    (
-        "hw.module @T(in %a : i8, in %b : i8, out o : i8) {
-  %0 = comb.add %a, %b, %a : i8
-  hw.output %0 : i8
-}
-",
-        "<stdin>:2:8: error: 'comb.add' S4: outside the profile\n",
-    ),
-    (
-        "hw.module @T(in %a : i8, in %b : i8, out o : i8) {
-  %0 = comb.add %a : i8
-  hw.output %0 : i8
-}
-",
-        "<stdin>:2:8: error: 'comb.add' S4: outside the profile\n",
-    ),
-    (
-        "hw.module @T(in %a : i8, in %b : i8, out o : i8) {
-  %0 = comb.add %a, %b {k} : i8
-  hw.output %0 : i8
-}
-",
-        "<stdin>:2:8: error: 'comb.add' S4: outside the profile\n",
-    ),
-    (
-        "hw.module @T(in %a : i8, in %b : i8, out o : i8) {
-  %0 = comb.add %a, %b {sv.namehint = \"sum\"} : i8
-  hw.output %0 : i8
-}
-",
-        "<stdin>:2:8: error: 'comb.add' S4: outside the profile\n",
-    ),
-    (
-        "hw.module @T(in %a : i8, in %b : i8, out o : i8) {
-  %0 = comb.add bin %a, %b : i8
-  hw.output %0 : i8
-}
-",
-        "<stdin>:2:8: error: 'comb.add' S4: outside the profile\n",
-    ),
-    (
-        "hw.module @T(in %a : i8, in %b : i8, out o : i8) {
-  %0 = comb.add %1, %b : i8
-  %1 = comb.add %a, %b : i8
-  hw.output %0 : i8
-}
-",
-        "<stdin>:2:8: error: 'comb.add' S4: outside the profile\n",
-    ),
-    (
-        "hw.module @T(in %a : i8, in %b : i8, out o : i8) {
-  hw.output %a : i8
-}
-",
-        "<stdin>:2:3: error: 'hw.output' S4: outside the profile\n",
-    ),
-    (
-        "hw.module @T(in %a : i8, in %b : i8, out o : i8) {
-  %0 = comb.add %a, %b : i8
-  hw.output %a : i8
-}
-",
-        "<stdin>:3:3: error: 'hw.output' S4: outside the profile\n",
-    ),
-    (
-        "hw.module @T(in %a : i8, in %b : i8, out o : i8) {
-  %0 = comb.add %a, %b : i8
-  hw.output %0 {k} : i8
-}
-",
-        "<stdin>:3:3: error: 'hw.output' S4: outside the profile\n",
-    ),
-    (
-        "hw.module @T(in %a : i8, in %b : i8, out o : i8) {
-  %0 = comb.add %a, %b : i8
-  %1 = comb.add %a, %b : i8
-  hw.output %0 : i8
-}
-",
-        "<stdin>:3:8: error: 'comb.add' S4: outside the profile\n",
-    ),
-    (
-        "hw.module @T(in %a : i8, in %b : i8, out o : i8) {
-  %0 = comb.add %a, %b : i8
-  %1 = hw.constant 3 : i8
-  %2 = comb.xor %a, %1 : i8
-  hw.output %0 : i8
-}
-",
-        "<stdin>:3:8: error: 'hw.constant' S4: outside the profile\n",
-    ),
-    (
-        "hw.module @T(in %a : i8, in %b : i8, out o : i8) {
-  %w = hw.wire %a : i8
-  hw.output %w : i8
-}
-",
-        "<stdin>:2:8: error: 'hw.wire' S4: outside the profile\n",
-    ),
-    (
-        "hw.module private @T(in %a : i8, in %b : i8, out o : i8) {
-  %0 = comb.add %a, %b : i8
-  hw.output %0 : i8
-}
-",
-        "<stdin>:1:1: error: 'hw.module' S4: outside the profile\n",
-    ),
-    (
-        "hw.module @T(in %a : i8, in %b : i8, out o : i8) attributes {k} {
-  %0 = comb.add %a, %b : i8
-  hw.output %0 : i8
-}
-",
-        "<stdin>:1:1: error: 'hw.module' S4: outside the profile\n",
-    ),
-    (
-        "hw.module @T(in %a : i8, in %b : i8, in %c : i4, out o : i8) {
-  %0 = comb.add %a, %b : i8
-  hw.output %0 : i8
-}
-",
-        "<stdin>:1:1: error: 'hw.module' S4: outside the profile\n",
-    ),
-    (
-        "hw.module @T(in %a : i8, in %b : i8, in %c : !seq.clock, out o : i8) {
-  %0 = comb.add %a, %b : i8
-  hw.output %0 : i8
-}
-",
-        "<stdin>:1:1: error: 'hw.module' S4: outside the profile\n",
-    ),
-    (
-        "hw.module @T(in %a : i8, in %b : i8, out o : i8, out p : i8) {
-  %0 = comb.add %a, %b : i8
-  hw.output %0, %0 : i8, i8
-}
-",
-        "<stdin>:1:1: error: 'hw.module' S4: outside the profile\n",
-    ),
-    (
-        "hw.module @T(in %a : i8, out o : i8, in %b : i8) {
-  %0 = comb.add %a, %b : i8
-  hw.output %0 : i8
-}
-",
-        "<stdin>:1:1: error: 'hw.module' S4: outside the profile\n",
-    ),
-    (
-        "hw.module @T(in %a : i8, in %b : i8) {
-  %0 = comb.add %a, %b : i8
-}
-",
-        "<stdin>:1:1: error: 'hw.module' S4: outside the profile\n",
-    ),
-    (
-        "hw.module @T(in %a : !hw.array<2xi8>, out o : !hw.array<2xi8>) {
-  hw.output %a : !hw.array<2xi8>
-}
-",
-        "<stdin>:1:1: error: 'hw.module' S4: outside the profile\n",
-    ),
-    (
-        "hw.module @M() {}\n",
-        "<stdin>:1:1: error: 'hw.module' S4: outside the profile\n",
-    ),
-    (
-        "hw.module @T(in %a \"reg\" : i8, in %b : i8, out o : i8) {
-  %0 = comb.add %a, %b : i8
-  hw.output %0 : i8
-}
-",
-        "<stdin>:1:1: error: 'hw.module' S4: outside the profile\n",
-    ),
-    (
-        "hw.module @T(in %a \"_GEN\" : i8, in %b : i8, out o : i8) {
-  %0 = comb.add %a, %b : i8
-  hw.output %0 : i8
-}
-",
-        "<stdin>:1:1: error: 'hw.module' S4: outside the profile\n",
-    ),
-    (
-        "hw.module @T(in %a \"x y\" : i8, in %b : i8, out o : i8) {
-  %0 = comb.add %a, %b : i8
-  hw.output %0 : i8
-}
-",
-        "<stdin>:1:1: error: 'hw.module' S4: outside the profile\n",
-    ),
-    (
-        "hw.module @T(in %a : i8, in %b : i8, out wire : i8) {
-  %0 = comb.add %a, %b : i8
-  hw.output %0 : i8
-}
-",
-        "<stdin>:1:1: error: 'hw.module' S4: outside the profile\n",
-    ),
-    (
-        "hw.module @endmodule(in %a : i8, in %b : i8, out o : i8) {
-  %0 = comb.add %a, %b : i8
-  hw.output %0 : i8
-}
-",
-        "<stdin>:1:1: error: 'hw.module' S4: outside the profile\n",
-    ),
-    (
-        "hw.module @A(in %a : i8, in %b : i8, out o : i8) {
-  %0 = comb.add %a, %b : i8
-  hw.output %0 : i8
-}
-
-hw.module @T(in %a : i8, in %b : i8, out o : i8) {
-  %0 = comb.add %a, %b : i8
-  hw.output %0 : i8
-}
-",
-        "<stdin>:6:1: error: 'hw.module' S4: outside the profile\n",
-    ),
-    (
-        "hw.module @T(in %a : i8, in %b : i8, out o : i8) {
-  %0 = comb.or %a, %b : i8
-  hw.output %0 : i8
-}
-hw.module @B() {}
-",
-        "<stdin>:2:8: error: 'comb.or' S4: outside the profile\n",
-    ),
-    (
-        "builtin.module {
-  hw.module private @B() {}
-  hw.module @C() {}
-}
-",
-        "<stdin>:2:3: error: 'hw.module' S4: outside the profile\n",
-    ),
-];
-
 // Texts that are refused before anything of them is exported.
 const WRONG: [(&str, &str); 8] = [
     (
@@ -338,9 +91,7 @@ const EXPORTED: [(&str, &str); 6] = [
   input wire b,
   output wire c
 );
-  wire _GEN;
-  assign _GEN = b + a;
-  assign c = _GEN;
+  assign c = b + a;
 endmodule
 ",
     ),
@@ -354,9 +105,7 @@ endmodule
   input wire [127:0] a,
   output wire [127:0] c
 );
-  wire [127:0] _GEN;
-  assign _GEN = a + a;
-  assign c = _GEN;
+  assign c = a + a;
 endmodule
 ",
     ),
@@ -374,9 +123,7 @@ endmodule
   input wire [1:0] q_2,
   output wire [1:0] o
 );
-  wire [1:0] _GEN;
-  assign _GEN = q_2 + p;
-  assign o = _GEN;
+  assign o = q_2 + p;
 endmodule
 ",
     ),
@@ -394,11 +141,6 @@ fn none_translated(
         assert_eq!(rt; run.code, 1, "of {source}");
     }
     Ok(())
-}
-
-#[test]
-fn the_first_thing_outside_is_told(rt: HostRuntime) -> Result<(), Fail> {
-    none_translated(&rt, &OUTSIDE)
 }
 
 #[test]

@@ -8,6 +8,7 @@ pub mod blocks;
 pub mod body_names;
 pub mod connections;
 pub mod declarations;
+pub mod export;
 pub mod instances;
 mod laws;
 pub mod legal_names;

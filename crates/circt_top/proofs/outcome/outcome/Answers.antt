@@ -1,11 +1,8 @@
-use Rattle.std.proofs.Common.{◌≡◌, sym, subst, ap, map, Ok}
-use Rattle.hw_model.specs.Design.{Design}
-use Rattle.ir_store.specs.Designs.{design_of, numbered_module}
+use Rattle.std.proofs.Common.{sym, subst, Ok}
 use Rattle.command_line.specs.Invocations.{command_of, paths_of}
 use Rattle.command_line.specs.declared.invocation.Invocation.{Invocation}
-use Rattle.circt_top.specs.Accepting.{Accepted}
 use Rattle.circt_top.specs.Outcome.{IsOutcome, Gives}
-use Rattle.circt_top.proofs.Outcomes.{translated, refused_gives}
+use Rattle.circt_top.proofs.Outcomes.{refused_gives}
 use Rattle.circt_top.proofs.outcome.outcome.Goals as goal
 
 pub returns-in-Err : goal.returns-in-Err
@@ -17,7 +14,4 @@ returns-in-Opt c =
 
 pub returns : goal.returns
 returns c =
-    let e : design_of c.design.result.now ≡ design_of c.in-Ok.verified.design = ap (map numbered_module) c.design.ensures in
-    let accepted : Accepted c.args.source.now (design_of c.design.result.now) = subst (λ (d : Design). Accepted c.args.source.now d) (sym e) c.in-Ok.ensures in
-    subst (λ (i : Invocation). Gives (command_of i) c.args.source.now c.exported.result) (sym c.in-Translate.is)
-    (translated (paths_of c.in-Translate.field-0) c.args.source.now (design_of c.design.result.now) c.exported.result accepted c.exported.ensures)
+    subst (λ (i : Invocation). Gives (command_of i) c.args.source.now c.translated.result) (sym c.in-Translate.is) (c.translated.ensures (paths_of c.in-Translate.field-0))
