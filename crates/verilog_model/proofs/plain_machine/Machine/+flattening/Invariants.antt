@@ -1,0 +1,8 @@
+use Rattle.std.proofs.Common.{◌+◌, ◌*◌}
+use Rattle.verilog_model.proofs.plain_machine.Machine.+flattening.Given as goal
+
+abbrev pub decreases-child : goal.decreases-child
+decreases-child l = 2 * l.room
+
+abbrev pub decreases-items : goal.decreases-items
+decreases-items l = 2 * l.room + 1
