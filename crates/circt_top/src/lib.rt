@@ -23,6 +23,14 @@ mod translate_tests;
 #[cfg(test)]
 mod value_tests;
 #[cfg(test)]
+mod verilog_name_tests;
+#[cfg(test)]
+mod verilog_operation_tests;
+#[cfg(test)]
+mod verilog_tests;
+#[cfg(test)]
+mod verilog_wire_tests;
+#[cfg(test)]
 mod whole_design_tests;
 #[cfg(test)]
 mod word_tests;
