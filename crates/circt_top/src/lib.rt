@@ -27,6 +27,8 @@ mod verilog_name_tests;
 #[cfg(test)]
 mod verilog_operation_tests;
 #[cfg(test)]
+mod verilog_run_tests;
+#[cfg(test)]
 mod verilog_tests;
 #[cfg(test)]
 mod verilog_wire_tests;

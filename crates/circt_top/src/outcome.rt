@@ -15,7 +15,9 @@ use command_line::invocation::Invocation;
 use diag::refusal::Refusal;
 use export_verilog::aggregates::first_aggregate;
 use export_verilog::export::export;
-use export_verilog::{accepted_designs_are_exportable, exported_designs_behave, stored_designs_have_room};
+use export_verilog::{
+    accepted_designs_are_exportable, exported_designs_behave, stored_designs_have_room,
+};
 use hw_model::{heights_are_acyclic, places_decide_nothing};
 use io_edge::byte_text::Text;
 use mlir_printer::design_text::print_design;
