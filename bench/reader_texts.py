@@ -1,8 +1,10 @@
 #!/usr/bin/env python3
-"""Writes a large text for measures of the reader to standard output.
+"""Writes a large text for measures to standard output.
 
     reader_texts.py operations [MEGABYTES]   one module of operations, 60 MB by default
     reader_texts.py modules [COUNT]          modules of eight operations each, 10,000 by default
+    reader_texts.py chain [COUNT]            one module in which each operation uses the one before it, 100,000 by default
+    reader_texts.py shared [COUNT]           one module in which each operation uses the same value, 100,000 by default
 """
 import sys
 
@@ -41,6 +43,22 @@ def many_modules(count, write):
         write("  hw.output %r : i32\n}\n")
 
 
+def chain(count, write):
+    """Operations that each use the one before it, and a port."""
+    write("hw.module @Chain(in %a : i32, in %b : i32, out o : i32) {\n  %0 = comb.sub %a, %b : i32\n")
+    for number in range(1, count):
+        write(f"  %{number} = comb.sub %{number - 1}, %b : i32\n")
+    write(f"  hw.output %{count - 1} : i32\n}}\n")
+
+
+def shared(count, write):
+    """Operations that each use the first one, and the one before it."""
+    write("hw.module @Shared(in %a : i32, in %b : i32, out o : i32) {\n  %0 = comb.mul %a, %b : i32\n")
+    for number in range(1, count):
+        write(f"  %{number} = comb.xor %{number - 1}, %0 : i32\n")
+    write(f"  hw.output %{count - 1} : i32\n}}\n")
+
+
 def main():
     """Writes the text that the words name."""
     write = sys.stdout.write
@@ -48,6 +66,10 @@ def main():
         many_modules(int(sys.argv[2]) if len(sys.argv) > 2 else 10000, write)
     elif len(sys.argv) > 1 and sys.argv[1] == "operations":
         one_module((int(sys.argv[2]) if len(sys.argv) > 2 else 60) * 1000000, write)
+    elif len(sys.argv) > 1 and sys.argv[1] == "chain":
+        chain(int(sys.argv[2]) if len(sys.argv) > 2 else 100000, write)
+    elif len(sys.argv) > 1 and sys.argv[1] == "shared":
+        shared(int(sys.argv[2]) if len(sys.argv) > 2 else 100000, write)
     else:
         sys.exit(__doc__)
 
