@@ -57,3 +57,6 @@ pub mod ValueWires
 pub mod Joining
 pub mod InstanceParts
 pub mod SameNames
+pub mod KeyWishes
+pub mod GivenNames
+pub mod ModuleNames

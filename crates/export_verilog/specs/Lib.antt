@@ -18,3 +18,4 @@ pub mod Statements
 pub mod Joined
 pub mod ScopeModules
 pub mod NamedDesigns
+pub mod PortValues
