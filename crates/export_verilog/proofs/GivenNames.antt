@@ -1,23 +1,22 @@
 -- The names that a body's things are given in one walk are those of their keys.
-use Rattle.std.proofs.Common.{◌≡◌, ℕ, zero, suc, ◌+◌, ◌<◌, ◌&&◌, ◌⊎◌, Bool, true, false, cond, is_some, nat_eq, List, [], ◌∷◌, ◌++◌, map, length, slice_get, Option, Some, None, refl, sym, ◌∙◌, ap, ap₂, subst, inl, inr, arith, add-zero, add-suc, zero-add, suc-add, add-one, eq-eqb}
-use Rattle.std.proofs.lemmas.List.{length-append}
+use Rattle.std.proofs.Common.{◌≡◌, ℕ, zero, suc, ◌+◌, ◌<◌, Bool, true, false, cond, List, [], ◌∷◌, ◌++◌, map, length, slice_get, Option, Some, None, refl, sym, ◌∙◌, ap, inl, inr, arith, add-zero, add-suc, zero-add, suc-add, add-one}
 use Rattle.wiring.specs.Wiring.{In}
 use Rattle.hw_model.specs.Types.{Name}
 use Rattle.hw_model.specs.Kinds.{Instance}
-use Rattle.hw_model.specs.Design.{Port, OpResult, Op, Module, instance_in}
+use Rattle.hw_model.specs.Design.{Port, OpResult, Op, instance_in}
 use Rattle.hw_model.proofs.Sorts.{Sort, sort_of}
 use Rattle.hw_model.proofs.Sorts.Sort.{a_register, an_instance, an_output, a_made}
 use Rattle.name_legalise.specs.Legal.{legal_name, legal_after}
 use Rattle.name_legalise.proofs.Legals.{legal_count}
-use Rattle.verilog_expr.specs.Named.{name_in, flat_name}
-use Rattle.export_verilog.specs.Keys.{Role, Key, same_key, each, role_of, result_keys, keys_of, op_keys, port_keys, name_among}
+use Rattle.verilog_expr.specs.Named.{name_in}
+use Rattle.export_verilog.specs.Keys.{Role, Key, same_key, each, role_of, result_keys, keys_of, op_keys, name_among}
 use Rattle.export_verilog.specs.Keys.Key.{port_key, value_key, instance_key}
 use Rattle.export_verilog.specs.Keys.Role.{hidden, net, variable, block}
 use Rattle.export_verilog.specs.Held.{own_wish, result_wishes, wishes_of, op_wishes, results_of, op_results, own_name_of, op_own_name}
 use Rattle.export_verilog.specs.Walks.{body_wishes, body_given}
 use Rattle.export_verilog.proofs.KeyNames.{key_self, key_from, among_key}
 use Rattle.export_verilog.proofs.KeysOf.{in_results, role_of_instance, instance_of_role}
-use Rattle.export_verilog.proofs.Lists.{FromEach, in_each}
+use Rattle.export_verilog.proofs.Lists.{in_each}
 use Rattle.export_verilog.proofs.PortNames.{legal_append}
 use Rattle.export_verilog.proofs.Adding.{wish_count}
 
@@ -77,15 +76,15 @@ result_count : (i k : ℕ) (rs : List OpResult) → length (result_keys i k rs) 
 result_count i k [] = refl
 result_count i k (r ∷ rs) = ap suc (result_count i (suc k) rs)
 
-place_in : Key → ℕ
-place_in (value_key i k) = k
-place_in _ = 0
+-- the number of a result
+abbrev result_number : Key → ℕ
+result_number (value_key i k) = k
+result_number _ = 0
 
 other_result : (i k l : ℕ) → (k ≡ l → ⊥) → same_key (value_key i k) (value_key i l) ≡ false
-unfolding place_in
 other_result i k l never = go (same_key (value_key i k) (value_key i l)) refl where
   go : (b : Bool) → same_key (value_key i k) (value_key i l) ≡ b → b ≡ false
-  go true e = absurd (never (ap place_in (key_from (value_key i k) (value_key i l) e)))
+  go true e = absurd (never (ap result_number (key_from (value_key i k) (value_key i l) e)))
   go false e = refl
 
 one_value : (i k : ℕ) (n : Name) (ls : List Key) (ms : List Name) → name_among ls ms (value_key i k) ≡ None

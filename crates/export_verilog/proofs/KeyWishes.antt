@@ -1,13 +1,12 @@
 -- The names that are wanted for the things of a body, in the order of the things.
-use Rattle.std.proofs.Common.{◌≡◌, ℕ, zero, suc, ◌+◌, Bool, true, false, cond, is_some, List, [], ◌∷◌, ◌++◌, map, length, slice_get, codes, Option, Some, None, refl, sym, ◌∙◌, ap, ap₂, add-zero, add-suc, zero-add, suc-add, add-one}
+use Rattle.std.proofs.Common.{◌≡◌, ℕ, suc, ◌+◌, true, false, cond, is_some, List, [], ◌∷◌, ◌++◌, map, length, slice_get, codes, Some, None, refl, sym, ◌∙◌, ap, ap₂, add-zero, add-suc, zero-add, suc-add, add-one}
 use Rattle.std.proofs.lemmas.List.{map-append}
 use Rattle.hw_model.specs.Types.{Name}
 use Rattle.hw_model.specs.Kinds.{Instance}
 use Rattle.hw_model.specs.Design.{Port, OpResult, Op, Module, is_register, is_instance, instance_in}
 use Rattle.name_legalise.specs.Legal.{legal, legal_after}
 use Rattle.verilog_expr.specs.Spilling.{is_wire_kind, hint_of}
-use Rattle.export_verilog.specs.Keys.{Role, Key, each, role_of, result_keys, keys_of, op_keys, port_keys, wish, value_wish, instance_wish, instance_name, op_wish, instance_result_wish, result_wish, or_name, names}
-use Rattle.export_verilog.specs.Keys.Key.{value_key, instance_key}
+use Rattle.export_verilog.specs.Keys.{Role, each, role_of, result_keys, keys_of, op_keys, port_keys, wish, value_wish, instance_wish, instance_name, op_wish, instance_result_wish, result_wish, or_name, names}
 use Rattle.export_verilog.specs.Keys.Role.{hidden, net, variable, block}
 use Rattle.export_verilog.specs.Held.{own_wish, result_wishes, wishes_of, op_wishes}
 use Rattle.export_verilog.specs.Walks.{body_wishes}

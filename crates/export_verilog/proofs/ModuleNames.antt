@@ -1,5 +1,5 @@
 -- The names of a module's things, from its ports' and what its body is given.
-use Rattle.std.proofs.Common.{◌≡◌, ℕ, zero, suc, ◌+◌, ◌⊎◌, cond, List, [], ◌∷◌, ◌++◌, map, length, slice_get, Option, Some, None, refl, sym, ◌∙◌, ap, ap₂, inl, inr, arith, zero-add}
+use Rattle.std.proofs.Common.{◌≡◌, ℕ, zero, suc, ◌+◌, ◌⊎◌, cond, List, [], ◌∷◌, map, length, slice_get, Option, Some, None, refl, sym, ◌∙◌, ap, inl, inr, arith, zero-add}
 use Rattle.std.proofs.lemmas.List.{length-map}
 use Rattle.wiring.specs.Wiring.{In}
 use Rattle.hw_model.specs.Types.{Name}
@@ -11,7 +11,7 @@ use Rattle.name_legalise.proofs.Legals.{legal_count}
 use Rattle.verilog_expr.specs.Named.{name_in, result_name, named_of}
 use Rattle.verilog_expr.specs.declared.value_names.NameList.{NameList}
 use Rattle.verilog_expr.specs.declared.value_names.ValueNames.{ValueNames}
-use Rattle.export_verilog.specs.Keys.{Key, each, port_keys, op_keys, module_keys, name_among, key_name, key_text, name_or_nothing, input_name, named}
+use Rattle.export_verilog.specs.Keys.{Key, each, port_keys, op_keys, module_keys, name_among, key_name, name_or_nothing, input_name, named}
 use Rattle.export_verilog.specs.Keys.Key.{port_key, value_key, instance_key}
 use Rattle.export_verilog.specs.Held.{op_results, op_own_name}
 use Rattle.export_verilog.specs.Walks.{body_wishes, body_given, result_lists}

@@ -1,5 +1,5 @@
 //! The names of a module's things.
-ghost use Rattle.std.specs.Prelude.{◌≡◌, ◌++◌, map, cond, Some, None, IfOk, OnOk};
+ghost use Rattle.std.specs.Prelude.{◌≡◌, ◌++◌, map, IfOk, OnOk};
 ghost use Rattle.hw_model.specs.Design.{Port as seen};
 ghost use Rattle.ir_store.specs.Designs.{port_of};
 ghost use Rattle.name_legalise.specs.Legal.{legal_after};
