@@ -57,3 +57,5 @@ pub mod ValueWires
 pub mod Joining
 pub mod InstanceParts
 pub mod SameNames
+pub mod ItemLists
+pub mod OutputItems

@@ -9,6 +9,7 @@ pub mod body_names;
 pub mod connections;
 pub mod declarations;
 pub mod instances;
+pub mod items;
 mod laws;
 pub mod legal_names;
 pub mod lines;
