@@ -39,16 +39,15 @@ module _ {A : Type 0} (f : ℕ → A → List Item) (xs : List A) where
 -- ---- the ids of a body
 
 -- the position of an id is where it stands
-pub id_place : (b : Body) (ids : List OpId) (i : ℕ) (id : OpId) → ids ≡ map op_id (ids_of b) → i < length (numbered (ops_of b)) → id ≡ get_or ids i id
-    → position_of (ids_of b) id.index ≡ i
-id_place b ids i id all lt at =
-    let within : i < length ids = subst (λ n. i < n) (sym (ids_count b ids all)) lt in
-    let there : slice_get (ids_of b) i ≡ Some id.index =
-    sym (ap (λ (l : List ℕ). slice_get l i) (ids_same ids (ids_of b) all)) ∙ index_at ids i id within ∙ ap (λ (x : OpId). Some x.index) (sym at) in
-    position_found (ids_of b) id.index i (ids_once b id.index) there
+pub id_place : (b : Body) (ids : List OpId) (i : ℕ) → ids ≡ map op_id (ids_of b) → i < length (numbered (ops_of b)) → position_of (ids_of b) (get_or ids i (op_id 0)).index ≡ i
+id_place b ids i all lt =
+    let id : ℕ = (get_or ids i (op_id 0)).index in
+    let there : slice_get (ids_of b) i ≡ Some id =
+    sym (ap (λ (l : List ℕ). slice_get l i) (ids_same ids (ids_of b) all)) ∙ index_at ids i (op_id 0) (subst (λ n. i < n) (sym (ids_count b ids all)) lt) in
+    position_found (ids_of b) id i (ids_once b id) there
 
 -- ---- the parts of a module
 
-pub items_joined : (out one two end : Text) (ds ss as : List Item) → one ≡ out ++ items_text ds [] → two ≡ one ++ items_text ss [] → end ≡ two ++ items_text as []
-    → end ≡ out ++ items_text (ds ++ (ss ++ as)) []
-items_joined out one two end ds ss as p q r = items_added out one end ds (ss ++ as) p (items_added one two end ss as q r)
+pub items_joined : (out one two end : Text) (ds ss os : List Item) → one ≡ out ++ items_text ds [] → two ≡ one ++ items_text ss [] → end ≡ two ++ items_text os []
+    → end ≡ out ++ items_text (ds ++ (ss ++ os)) []
+items_joined out one two end ds ss os p q r = items_added out one end ds (ss ++ os) p (items_added one two end ss os q r)

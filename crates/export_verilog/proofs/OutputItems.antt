@@ -40,16 +40,16 @@ module _ {A : Type 0} (m : Module) (view : A → Ref) (xs : List A) where
   outputs_left i u = items_text (output_assigns m i (drop i m.ports) (map view (drop u xs))) []
 
   module _ (i u : ℕ) (p : Port) (out whole : Text) (at : slice_get m.ports i ≡ Some p) (inv : out ++ outputs_left i u ≡ whole) where
-    rest : List Ref → List Item
+    abbrev rest : List Ref → List Item
     rest rs = output_assigns m (suc i) (drop (suc i) m.ports) rs
 
     next : i + 1 ≡ suc i
     next = omega arith
 
-    given : List Ref
+    abbrev given : List Ref
     given = map view (drop u xs)
 
-    here : Item
+    abbrev here : Item
     here = assign (key_text m (port_key i)) (expr_or_none (expression m) given)
 
     -- what is left, by the direction of the port

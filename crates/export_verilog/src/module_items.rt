@@ -1,5 +1,5 @@
 //! The items of a module.
-ghost use Rattle.std.specs.Prelude.{◌≡◌, ◌<◌, ◌+◌, ◌^◌, ◌++◌, [], map, cond, OnOk};
+ghost use Rattle.std.specs.Prelude.{◌≡◌, ◌++◌, [], map, OnOk};
 ghost use Rattle.hw_model.specs.Design.{is_output_kind, output_refs};
 ghost use Rattle.hw_model.specs.KindViews.{kind_of};
 ghost use Rattle.ir_store.specs.Bodies.{op_id};
@@ -66,7 +66,8 @@ fn push_all_declarations(
     for place in 0..scope.count() {
         let op = scope.op_at(place);
         let role = role_of(op.kind, wires.has_wire(place));
-        push_declarations(out, scope, names, ids[place], place, &op, role)?;
+        let id = ids[place];
+        push_declarations(out, scope, names, id, place, &op, role)?;
     }
     Ok(())
 }
@@ -90,7 +91,8 @@ fn push_all_statements(
     for place in 0..scope.count() {
         let op = scope.op_at(place);
         let role = role_of(op.kind, wires.has_wire(place));
-        push_statements(alloc, out, all, scope, names, ids[place], place, &op, role)?;
+        let id = ids[place];
+        push_statements(alloc, out, all, scope, names, id, place, &op, role)?;
     }
     Ok(())
 }

@@ -4,7 +4,7 @@ use Rattle.verilog_expr.specs.Scopes.{scope_ops}
 use Rattle.export_verilog.specs.Exported.{states}
 use Rattle.export_verilog.specs.ScopeModules.{scope_module}
 use Rattle.export_verilog.proofs.ItemLists.{each_left}
-use Rattle.export_verilog.proofs.items.push_all_statements.Given as goal
+use Rattle.export_verilog.proofs.module_items.push_all_statements.Given as goal
 
 abbrev pub invariant-loop-place : goal.invariant-loop-place
 invariant-loop-place l =
