@@ -60,3 +60,5 @@ pub mod SameNames
 pub mod KeyWishes
 pub mod GivenNames
 pub mod ModuleNames
+pub mod ItemLists
+pub mod OutputItems

@@ -12,6 +12,7 @@ pub mod instances;
 mod laws;
 pub mod legal_names;
 pub mod lines;
+pub mod module_items;
 pub mod module_names;
 pub mod named_design;
 pub mod op_names;
