@@ -57,3 +57,7 @@ pub mod ValueWires
 pub mod Joining
 pub mod InstanceParts
 pub mod SameNames
+pub mod SymbolPlaces
+pub mod SameConnections
+pub mod SameDeclarations
+pub mod SameStatements
