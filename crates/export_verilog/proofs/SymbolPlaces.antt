@@ -1,12 +1,17 @@
 -- The name of the module of a symbol stands where the module does.
 use Rattle.std.proofs.Common.{◌≡◌, ℕ, zero, suc, ◌<◌, Bool, true, false, cond, List, [], ◌∷◌, map, length, slice_get, Option, Some, None, refl, sym, ◌∙◌, ap, arith}
-use Rattle.std.specs.Prelude.{option_map, option_and_then}
+use Rattle.std.specs.Prelude.{option_map, option_and_then, get_or}
+use Rattle.std.proofs.lemmas.List.{length-map}
+use Rattle.std.proofs.lemmas.Option.{slice_get_read}
+use Rattle.wiring.specs.Options.{omap}
 use Rattle.hw_model.specs.Types.{Name}
-use Rattle.hw_model.specs.Design.{Module, same_name, find_module}
+use Rattle.hw_model.specs.Design.{Module, Design, same_name, find_module}
 use Rattle.hw_model.specs.Equality.{name_self, name_from}
 use Rattle.ir_store.specs.Symbols.{symbol_place}
 use Rattle.ir_store.specs.Designs.{StoredModule, numbered_module}
-use Rattle.export_verilog.specs.Exported.{symbol_among}
+use Rattle.name_legalise.proofs.Legals.{legal_count}
+use Rattle.export_verilog.specs.Exported.{symbol_names, symbol_among, symbol_name}
+use Rattle.export_verilog.proofs.Operands.{get_map}
 
 same_back : (a b : Name) → same_name a b ≡ same_name b a
 same_back a b = go (same_name a b) refl (same_name b a) refl where
@@ -61,3 +66,30 @@ no_name q (m ∷ ms) (x ∷ ns) e =
           → [] ≡ cond b x (symbol_among (map numbered_module ms) ns q)
       go true e rest = cc
       go false e rest = rest (none_suc (symbol_place q (symbols_in ms)) e)
+
+-- ---- in a design
+
+-- the names of modules are as many as the modules
+pub symbol_count : (d : Design) → length (symbol_names d) ≡ length d
+unfolding symbol_names
+symbol_count d = legal_count [] (map (λ (m : Module). m.symbol) d) ∙ length-map d (λ (m : Module). m.symbol)
+
+module _ (q : Name) (ms : List StoredModule) (n : ℕ) (place : symbol_place q (symbols_in ms) ≡ Some n) where
+  -- a list as long as the design has something at the place
+  pub within_list : {A : Type 0} (xs : List A) → length xs ≡ length (map numbered_module ms) → n < length xs
+  within_list xs count = omega (arith, count, length-map ms numbered_module, place_within q ms n place)
+
+  -- the name there is that of the symbol
+  pub symbol_at : (ns : List Name) (x : Name) → ns ≡ symbol_names (map numbered_module ms) → x ≡ get_or ns n x → x ≡ symbol_name (map numbered_module ms) q
+  symbol_at ns x are at =
+      let d = map numbered_module ms in
+      let count : length ns ≡ length d = ap length are ∙ symbol_count d in
+      let here : slice_get ns n ≡ Some x = slice_get_read ns (length ns) n x refl (within_list ns count) at in
+      let there : slice_get ns n ≡ Some (symbol_among d ns q) = name_at_place q ms ns n (count ∙ length-map ms numbered_module) place in
+      let same : x ≡ symbol_among d ns q = cc in
+      same ∙ ap (λ l. symbol_among d l q) are
+
+  -- the module there is the one that is found
+  pub module_at : (x : StoredModule) → Some x ≡ slice_get ms n → option_and_then (slice_get (map numbered_module ms)) (Some n) ≡ find_module (map numbered_module ms) q
+      → find_module (map numbered_module ms) q ≡ Some (numbered_module x)
+  module_at x at found = sym found ∙ get_map numbered_module ms n ∙ ap (omap numbered_module) (sym at)

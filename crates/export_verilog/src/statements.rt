@@ -86,6 +86,7 @@ fn callee_of<'a>(all: &'a NamedDesign<'_>, symbol: &[u8]) -> Callee<'a>
 }
 
 // Adds the instance that an operation is, where it is one.
+#[tactic(auto, unfolding(crate::specs::Layout::items_text))]
 fn push_call(
     alloc: Global,
     out: &mut Text,
@@ -122,6 +123,7 @@ fn push_call(
 
 /// Adds the statements of an operation of a role, which stands at a place of the body: an assignment, an `always` block or
 /// an instance. No value may have more than 128 bits. The error is want of memory.
+#[tactic(auto, unfolding(crate::specs::Layout::items_text))]
 pub fn push_statements(
     alloc: Global,
     out: &mut Text,
