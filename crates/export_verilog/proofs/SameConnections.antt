@@ -1,5 +1,5 @@
 -- The connections of an instance, by names that code holds, are those of its module.
-use Rattle.std.proofs.Common.{◌≡◌, ℕ, zero, suc, ◌+◌, Bool, true, false, cond, List, [], ◌∷◌, map, length, slice_get, Option, Some, None, refl, sym, ◌∙◌, ap, ap₂, arith, add-zero, add-suc, suc-add, zero-add}
+use Rattle.std.proofs.Common.{◌≡◌, ℕ, suc, ◌+◌, Bool, true, false, cond, List, [], ◌∷◌, length, slice_get, Option, Some, None, refl, sym, ◌∙◌, ap, ap₂, arith, add-one, add-zero, add-suc, suc-add, zero-add}
 use Rattle.hw_model.specs.Types.{Name}
 use Rattle.hw_model.specs.Kinds.{Instance}
 use Rattle.hw_model.specs.Design.{Ref, Port, Op, Module, Design, find_module}
@@ -12,9 +12,6 @@ use Rattle.export_verilog.specs.Keys.Key.{port_key, value_key, instance_key}
 use Rattle.export_verilog.specs.Exported.{expression, expr_or_none, others, symbol_name, connections_of, connections_to, instance_of}
 use Rattle.export_verilog.specs.Held.{ArePortNames}
 use Rattle.export_verilog.specs.Joined.{joined}
-
-one_more : (k : ℕ) → k + 1 ≡ suc k
-one_more k = omega arith
 
 module _ (m : Module) (i : ℕ) (ex : Ref → Expr) (given : ℕ → Name) (same : (r : Ref) → ex r ≡ expression m r) (results : (k : ℕ) → given k ≡ key_text m (value_key i k)) where
   operand_same : (rs : List Ref) → expr_or_none ex rs ≡ expr_or_none (expression m) rs
@@ -46,7 +43,7 @@ module _ (m : Module) (i : ℕ) (ex : Ref → Expr) (given : ℕ → Name) (same
         go true out inward =
             ap (λ z. record { port = z; value = name (given k) } ∷ joined ex given (k + 1) ns ps rs) first
             ∙ ap (λ z. record { port = key_text c (port_key j); value = name z } ∷ joined ex given (k + 1) ns ps rs) (results k)
-            ∙ ap (λ l. record { port = key_text c (port_key j); value = name (key_text m (value_key i k)) } ∷ l) (ap (λ z. joined ex given z ns ps rs) (one_more k) ∙ out)
+            ∙ ap (λ l. record { port = key_text c (port_key j); value = name (key_text m (value_key i k)) } ∷ l) (ap (λ z. joined ex given z ns ps rs) (add-one k) ∙ out)
         go false out inward =
             ap (λ z. record { port = z; value = expr_or_none ex rs } ∷ joined ex given k ns ps (others rs)) first
             ∙ ap (λ e. record { port = key_text c (port_key j); value = e } ∷ joined ex given k ns ps (others rs)) (operand_same rs)

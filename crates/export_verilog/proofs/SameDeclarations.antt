@@ -1,5 +1,5 @@
 -- The declarations of an operation, by names that code holds, are those of its module.
-use Rattle.std.proofs.Common.{◌≡◌, ℕ, zero, suc, ◌+◌, List, [], ◌∷◌, length, slice_get, Option, Some, None, refl, sym, ◌∙◌, ap, ap₂, arith, add-zero, add-suc, suc-add, zero-add}
+use Rattle.std.proofs.Common.{◌≡◌, ℕ, suc, ◌+◌, List, [], ◌∷◌, length, slice_get, Some, refl, sym, ◌∙◌, ap, ap₂, add-one, add-zero, add-suc, suc-add, zero-add}
 use Rattle.wiring.specs.Options.{bind, omap}
 use Rattle.hw_model.specs.Types.{width}
 use Rattle.hw_model.specs.Design.{Ref, OpResult, Op, result_type}
@@ -18,9 +18,6 @@ use Rattle.export_verilog.specs.Keys.Role.{hidden, net, variable, block}
 use Rattle.export_verilog.specs.Exported.{result_wires, declared_as}
 use Rattle.export_verilog.specs.ScopeModules.{scope_module}
 use Rattle.export_verilog.specs.Values.{value_wire, value_variable, value_wires, declared_items}
-
-one_more : (k : ℕ) → k + 1 ≡ suc k
-one_more k = omega arith
 
 module _ (s : Scope) (v : ValueNames) (i : ℕ) (o : Op) (there : slice_get (scope_ops s) i ≡ Some o) (values : (r : Ref) → named_of v r ≡ named (scope_module s) r) where
   width_at : (k : ℕ) → value_width (scope_ports s) (scope_ops s) (result i k) ≡ width_of (result_type o k)
@@ -41,7 +38,7 @@ module _ (s : Scope) (v : ValueNames) (i : ℕ) (o : Op) (there : slice_get (sco
       let type : result_type o k ≡ Some r.type = ap (omap (λ (x : OpResult). x.type)) (ap (slice_get o.results) (sym (add-zero k)) ∙ at 0) in
       ap (λ x. x ∷ value_wires s v i (k + 1) (length rs)) (wire_same k ∙ ap (λ t. wire (high_of (width_of t)) (key_text (scope_module s) (value_key i k))) type)
       ∙ ap (λ l. wire (high_of (width r.type)) (key_text (scope_module s) (value_key i k)) ∷ l)
-      (ap (λ n. value_wires s v i n (length rs)) (one_more k) ∙ wires_from (suc k) rs (λ j. ap (slice_get o.results) (suc-add k j ∙ sym (add-suc k j)) ∙ at (suc j)))
+      (ap (λ n. value_wires s v i n (length rs)) (add-one k) ∙ wires_from (suc k) rs (λ j. ap (slice_get o.results) (suc-add k j ∙ sym (add-suc k j)) ∙ at (suc j)))
 
   -- the declarations of an operation of a role
   pub declared_same : (r : Role) → declared_items s v i (length o.results) r ≡ declared_as (scope_module s) i o r

@@ -1,10 +1,10 @@
 -- The statements of an operation, by names that code holds, are those of its module.
-use Rattle.std.proofs.Common.{◌≡◌, ℕ, suc, List, [], ◌∷◌, Option, Some, None, refl, ◌∙◌, ap, ap₂}
+use Rattle.std.proofs.Common.{◌≡◌, ℕ, suc, [], ◌∷◌, Option, Some, None, refl, ◌∙◌, ap, ap₂}
 use Rattle.hw_model.specs.Types.{Name}
 use Rattle.hw_model.specs.Design.{Ref, Op, Design}
 use Rattle.hw_model.specs.Design.Ref.{result}
 use Rattle.hw_model.specs.Flat.{Register, ResetBy, register_in}
-use Rattle.verilog_model.specs.Tree.{Expr, Block}
+use Rattle.verilog_model.specs.Tree.{Expr}
 use Rattle.verilog_model.specs.Tree.Block.{load, if_load, if_else, if_else_if}
 use Rattle.verilog_model.specs.Tree.Item.{assign, always}
 use Rattle.verilog_expr.specs.Expressions.{own_expr}

@@ -31,7 +31,7 @@ use std::alloc::{AllocError, Global};
 use verilog_expr::scope::Scope;
 
 /// Adds the declarations of an operation of a role, which stands at a place of the body (IEEE 1364-2005, 3.2: net and
-/// variable declarations). No value may have more than 128 bits. The error is want of memory.
+/// variable declarations). No value may have more than 128 bits. The error is want of memory, as with 2^32 results or more.
 pub fn push_declarations(
     out: &mut Text,
     scope: &Scope<'_>,

@@ -1,10 +1,9 @@
-use Rattle.std.proofs.Common.{◌≡◌, ◌<◌, map, length, refl, sym, ◌∙◌, ap, subst, arith}
+use Rattle.std.proofs.Common.{map, length, refl, sym, ◌∙◌, ap, subst, arith}
 use Rattle.std.proofs.lemmas.List.{length-map}
 use Rattle.std.proofs.lemmas.Option.{slice_get_read}
-use Rattle.hw_model.specs.Design.{find_module}
 use Rattle.hw_model.specs.Sound.{ports_of}
 use Rattle.ir_store.specs.Designs.{port_of, module_of, numbered_module, modules_of, design_of}
-use Rattle.export_verilog.specs.Exported.{symbol_names, symbol_among}
+use Rattle.export_verilog.specs.Exported.{symbol_names}
 use Rattle.export_verilog.specs.Held.{ArePortNames}
 use Rattle.export_verilog.proofs.SymbolPlaces.{no_name, place_within, symbol_count, within_list, symbol_at, module_at}
 use Rattle.export_verilog.proofs.statements.callee_of.Goals as goal

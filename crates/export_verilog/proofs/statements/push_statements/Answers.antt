@@ -1,4 +1,4 @@
-use Rattle.std.proofs.Common.{◌≡◌, [], ◌++◌, sym, ◌∙◌, ap}
+use Rattle.std.proofs.Common.{[], ◌++◌, sym, ◌∙◌, ap}
 use Rattle.ir_store.specs.Designs.{design_of}
 use Rattle.ir_store.specs.Numbered.{position_of}
 use Rattle.verilog_expr.specs.Scopes.{scope_ids, op_read}
