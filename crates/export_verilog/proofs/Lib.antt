@@ -62,3 +62,7 @@ pub mod GivenNames
 pub mod ModuleNames
 pub mod ItemLists
 pub mod OutputItems
+pub mod SymbolPlaces
+pub mod SameConnections
+pub mod SameDeclarations
+pub mod SameStatements
