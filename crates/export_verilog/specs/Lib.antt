@@ -18,3 +18,5 @@ pub mod Statements
 pub mod Joined
 pub mod ScopeModules
 pub mod NamedDesigns
+pub mod ModuleTexts
+pub mod WritableDesigns
