@@ -57,3 +57,7 @@ pub mod ValueWires
 pub mod Joining
 pub mod InstanceParts
 pub mod SameNames
+pub mod SameModules
+pub mod ModuleParts
+pub mod StoredModules
+pub mod AcceptedBodies

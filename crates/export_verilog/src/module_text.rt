@@ -6,7 +6,7 @@ ghost use Rattle.ir_store.specs.Designs.{design_of, modules_of, port_of};
 ghost use Rattle.verilog_expr.specs.Scopes.{scope_ports, scope_ops, scope_ids};
 ghost use Rattle.verilog_expr.specs.Marks.{AreSmall};
 ghost use Rattle.verilog_expr.specs.PartTables.{AreWires};
-ghost use Rattle.export_verilog.specs.Exported.{vmodule};
+ghost use Rattle.export_verilog.specs.Exported.{symbol_names, vmodule};
 ghost use Rattle.export_verilog.specs.Layout.{module_text};
 ghost use Rattle.export_verilog.specs.ModuleNames.{AreModuleNames};
 ghost use Rattle.export_verilog.specs.ModuleTexts.{module_under};
@@ -54,6 +54,15 @@ fn push_under(
     Ok(())
 }
 
+// The name of a module of a design, by its number.
+fn symbol_at<'n>(all: &'n NamedDesign<'_>, number: u32) -> &'n [u8]
+    requires { number < length (modules_of all.now.design.now) }
+    ensures { slice_get (symbol_names (design_of all.now.design.now)) number ≡ Some result.now }
+{
+    let symbols = all.symbols.as_slice();
+    symbols[number as usize].as_bytes()
+}
+
 /// Adds the text of a module of a design, by its number: its header, its declarations, its statements and its end. The
 /// error comes only for want of memory, as with a body of 2^32 operations or more.
 pub fn push_module(
@@ -72,6 +81,7 @@ pub fn push_module(
     let wires = Wires::of(alloc, &scope)?;
     let ids = ids_in(alloc, &module.body)?;
     let names = module_names(alloc, &scope, &wires, ports)?;
-    let name = all.symbols[number as usize].as_bytes();
-    push_under(alloc, out, all, name, &scope, &names, &wires, ids.as_slice(), ports)
+    let name = symbol_at(all, number);
+    push_under(alloc, out, all, name, &scope, &names, &wires, ids.as_slice(), ports)?;
+    Ok(())
 }
