@@ -66,3 +66,7 @@ pub mod SymbolPlaces
 pub mod SameConnections
 pub mod SameDeclarations
 pub mod SameStatements
+pub mod SameModules
+pub mod ModuleParts
+pub mod StoredModules
+pub mod AcceptedBodies

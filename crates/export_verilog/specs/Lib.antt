@@ -19,3 +19,5 @@ pub mod Joined
 pub mod ScopeModules
 pub mod NamedDesigns
 pub mod PortValues
+pub mod ModuleTexts
+pub mod WritableDesigns
