@@ -1,5 +1,5 @@
 -- An accepted design without aggregates is exportable.
-use Rattle.std.proofs.Common.{◌≡◌, ℕ, false, ◌||◌, List, [], ◌∷◌, length, slice_get, Option, Some, None, refl, ap, ◌∙◌}
+use Rattle.std.proofs.Common.{◌≡◌, ℕ, ◌<◌, ◌^◌, false, ◌||◌, List, [], ◌∷◌, length, slice_get, Option, Some, None, refl, ap, ◌∙◌, arith}
 use Rattle.std.specs.Prelude.{is_some}
 use Rattle.wiring.specs.Options.{bind, omap}
 use Rattle.hw_model.specs.Kinds.{Kind}
@@ -12,15 +12,19 @@ use Rattle.op_verifier.proofs.AcceptedDesigns.{no_fault, accepted_distinct, acce
 use Rattle.op_verifier.proofs.Fitting.{fits}
 use Rattle.op_verifier.proofs.Settled.{settles, instance_operands, output_operands}
 use Rattle.op_verifier.proofs.SoundDesigns.{sound_design}
+use Rattle.verilog_expr.specs.Marks.{AreSmall}
 use Rattle.export_verilog.specs.Aggregates.{HasNoAggregates, is_aggregate}
 use Rattle.export_verilog.specs.Exportable.{IsClocked, IsExportableOp, IsExportableModule, IsExportable}
 use Rattle.export_verilog.specs.Room.{HasRoomToExport}
 use Rattle.export_verilog.proofs.AcceptedDivisions.{division}
 use Rattle.export_verilog.proofs.AcceptedOps.{found, op_tested, port_within, IsTested}
 use Rattle.export_verilog.proofs.AcceptedTypes.{none_of, HasSomeBits, within_limits}
-use Rattle.export_verilog.proofs.AcceptedValues.{one_result, no_result, single, nothing, some_operand, in_list, result_bits, narrow_value, clock_port, clocked}
+use Rattle.export_verilog.proofs.AcceptedValues.{one_result, no_result, single, nothing, some_operand, in_list, result_bits, small_value, clock_port, clocked}
 use Rattle.export_verilog.proofs.AcceptedWeights.{few_names}
 use Rattle.export_verilog.proofs.NoAggregates.{IsPlain, ports_plain, op_plain}
+
+below : {w : ℕ} → w < 129 → w < 2 ^ 64
+below h = omega (arith, h)
 
 pub accepted_sound : (d : Design) → IsAccepted d → Sound d
 accepted_sound d fine = sound_design (record { settles = settles; fits = fits; inputs = instance_operands; outputs = output_operands }) d (no_fault d fine)
@@ -73,12 +77,16 @@ module _ (d : Design) (fine : IsAccepted d) (plain : HasNoAggregates d) (n : ℕ
     clocked = clocked_by j o at;
   }
 
+  -- no value has more than 128 bits
+  pub small_values : AreSmall m.ports m.body
+  small_values = small_value m.ports m.body tests plain_ops port_bits
+
   exportable_module : IsExportableModule m
   exportable_module = record {
     ops = exportable_op;
     bits = λ j p at. (port_bits j p at).some;
-    narrow = narrow_value m.ports m.body tests plain_ops port_bits;
-    narrow_ports = λ j p at. (port_bits j p at).narrow;
+    narrow = λ r. below (small_values r);
+    narrow_ports = λ j p at. below (port_bits j p at).small;
     clocks = clock_port m.ports m.body tests plain_ops port_bits;
     room = few_names d fine plain n m there;
   }

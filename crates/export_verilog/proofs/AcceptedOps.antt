@@ -34,6 +34,7 @@ uncaused true c rest h = cc
 record OwnTests (kind : Kind) (ts rs : List HwType) (b : Bool) : Type 0 where
   outside : has_type_outside kind ts rs ≡ false
   constant : has_constant_outside kind ts ≡ false
+  wide : has_wide_concat kind ts ≡ false
   divisor : has_unknown_divisor kind b ≡ false
   clocks : has_clock_value kind ts ≡ false
 
@@ -51,7 +52,7 @@ own_tests kind ts rs named xs b h =
     let p11 = uncaused (has_wrong_field kind ts) _ _ p10.1 in
     let p12 = uncaused (has_unequal_widths kind ts) _ _ p11.1 in
     let p13 = uncaused (has_clock_value kind ts) _ _ p12.1 in
-    record { outside = p4.0; constant = p5.0; divisor = p9.0; clocks = p13.0 }
+    record { outside = p4.0; constant = p5.0; wide = p8.0; divisor = p9.0; clocks = p13.0 }
 
 no_clocks : (kind : Kind) (ts : List HwType) → has_clock_value kind ts ≡ false → list_any is_clock (value_types kind ts) ≡ false
 unfolding has_clock_value
@@ -64,6 +65,7 @@ pub record IsTested (ports : List Port) (os : List Op) (o : Op) : Type 0 where
   pub form : has_other_form o.kind o.types ≡ false
   pub outside : list_any is_outside o.types ≡ false
   pub constant : has_constant_outside o.kind o.types ≡ false
+  pub wide : has_wide_concat o.kind o.types ≡ false
   pub divisor : has_unknown_divisor o.kind (divides_by_constant os o.operands) ≡ false
   pub clocks : list_any is_clock (value_types o.kind o.types) ≡ false
   pub operands : length o.operands ≡ operand_count o.kind o.types (length o.operands)
@@ -83,6 +85,7 @@ tested ports os o h =
       form = counts.form;
       outside = types_within o.kind o.types rs own.outside;
       constant = own.constant;
+      wide = own.wide;
       divisor = own.divisor;
       clocks = no_clocks o.kind o.types own.clocks;
       operands = subst (λ n. n ≡ operand_count o.kind o.types n) long counts.operands;

@@ -1,6 +1,7 @@
 -- The types of the results of an operation that is not refused by itself, where it is of no aggregates: each is written, or
 -- an integer that the operation makes.
-use Rattle.std.proofs.Common.{◌≡◌, ℕ, zero, suc, ◌+◌, ◌≤◌, ◌<◌, ◌^◌, max, Bool, false, List, [], ◌∷◌, drop, length, Option, Some, None, refl, sym, ap, ◌∙◌, subst, inl, inr, arith}
+use Rattle.std.proofs.Common.{◌≡◌, ℕ, zero, suc, ◌+◌, ◌≤◌, ◌<◌, ◌==◌, nat_lt, max, Bool, false, List, [], ◌∷◌, drop, length, Option, Some, None, refl, sym, ap, ◌∙◌, subst, inl, inr, arith}
+use Rattle.std.proofs.lemmas.Bool.{ltb-false}
 use Rattle.std.specs.List.{list_any}
 use Rattle.wiring.specs.Wiring.{In}
 use Rattle.hw_model.specs.Types.{HwType, width}
@@ -8,11 +9,11 @@ use Rattle.hw_model.specs.Types.HwType.{int, clock, array, struct}
 use Rattle.hw_model.specs.Kinds.{Kind}
 use Rattle.hw_model.specs.Kinds.Kind.{add, mul, and, or, xor, sub, divu, modu, divs, mods, shl, shru, shrs, icmp, parity, extract, concat, replicate, mux, constant, aggregate_constant, array_create, array_concat, array_get, array_slice, array_inject, struct_create, struct_extract, struct_inject, struct_explode, bitcast, wire, instance, output, compreg, compreg_ce, firreg}
 use Rattle.ir_store.specs.ResultTypes.{first_type, second_type, with_width, joined_width, kept_size, as_int, result_type, result_types}
-use Rattle.op_verifier.specs.TypeChecks.{is_outside, is_clock}
+use Rattle.op_verifier.specs.TypeChecks.{has_bad_part, is_outside, is_clock}
 use Rattle.op_verifier.specs.TypeLists.{settled}
-use Rattle.op_verifier.specs.LimitChecks.{value_types}
+use Rattle.op_verifier.specs.LimitChecks.{value_types, is_too_wide, has_wide_concat}
 use Rattle.op_verifier.specs.CountChecks.{operand_count, type_count}
-use Rattle.op_verifier.proofs.Widths.{neither, bits_within}
+use Rattle.op_verifier.proofs.Widths.{neither}
 use Rattle.verilog_expr.specs.Values.{is_aggregate_kind}
 use Rattle.export_verilog.specs.Aggregates.{is_aggregate}
 
@@ -44,7 +45,7 @@ same_settled (t ∷ ts) (u ∷ us) h =
 -- the type of a result is one of the types, or an integer of some bits
 pub data IsGiven (ts : List HwType) (t : HwType) : Type 0 where
   written : In t ts → IsGiven ts t
-  made : (w : ℕ) → t ≡ int w → 1 ≤ w → w < 2 ^ 64 → IsGiven ts t
+  made : (w : ℕ) → t ≡ int w → 1 ≤ w → w < 129 → IsGiven ts t
 
 module _ (ts : List HwType) (t : HwType) where
   in_single : (x : Option HwType) (rs : List HwType) → ((u : HwType) → x ≡ Some u → IsGiven ts u) → x ∷ [] ≡ settled rs → In t rs → IsGiven ts t
@@ -85,25 +86,34 @@ some_bits (suc w) h = omega arith
 kept_some : (n : ℕ) → 1 ≤ n → 1 ≤ kept_size n
 kept_some n h = omega (arith, h)
 
-kept_narrow : (n : ℕ) → kept_size n < 2 ^ 64
-kept_narrow n = omega arith
+-- what is not above 128 bits
+at_most : (n : ℕ) → nat_lt 128 n ≡ false → n < 129
+at_most n h = let p = ltb-false 128 n h in omega (arith, p)
 
--- joined integers have some bits
-joined_given : (ts : List HwType) (us : List HwType) → 1 ≤ length us → list_any is_outside us ≡ false → (u : HwType) → as_int (joined_width us) ≡ Some u → IsGiven ts u
-joined_given ts [] some h u is = absurd (omega (arith, some))
-joined_given ts (int v ∷ us) some h u is = go (joined_width us) is
+kept_small : (n : ℕ) → nat_lt 128 n ≡ false → kept_size n < 129
+kept_small n h = let p = at_most n h in omega (arith, p)
+
+small_bits : (w : ℕ) → is_outside (int w) ≡ false → w < 129
+unfolding is_outside
+small_bits w h = at_most w (neither (w == 0) (nat_lt 128 w) (neither (has_bad_part (int w)) _ h).0).1
+
+-- joined integers that are not too wide have some bits
+joined_given : (ts : List HwType) (us : List HwType) → 1 ≤ length us → list_any is_outside us ≡ false → is_too_wide (joined_width us) ≡ false
+    → (u : HwType) → as_int (joined_width us) ≡ Some u → IsGiven ts u
+joined_given ts [] some h wide u is = absurd (omega (arith, some))
+joined_given ts (int v ∷ us) some h wide u is = go (joined_width us) wide is
   where
     outside : is_outside (int v) ≡ false
     outside = (neither (is_outside (int v)) (list_any is_outside us) h).0
 
-    go : (x : Option ℕ) → as_int (with_width (int v) x) ≡ Some u → IsGiven ts u
-    go None is = cc
-    go (Some n) is =
+    go : (x : Option ℕ) → is_too_wide (with_width (int v) x) ≡ false → as_int (with_width (int v) x) ≡ Some u → IsGiven ts u
+    go None wide is = cc
+    go (Some n) wide is =
         let e : int (kept_size (v + n)) ≡ u = cc in
-        made (kept_size (v + n)) (sym e) (kept_some (v + n) (let p = some_bits v outside in omega (arith, p))) (kept_narrow (v + n))
-joined_given ts (clock ∷ us) some h u is = cc
-joined_given ts (array n t ∷ us) some h u is = cc
-joined_given ts (struct fs ∷ us) some h u is = cc
+        made (kept_size (v + n)) (sym e) (kept_some (v + n) (let p = some_bits v outside in omega (arith, p))) (kept_small (v + n) wide)
+joined_given ts (clock ∷ us) some h wide u is = cc
+joined_given ts (array n t ∷ us) some h wide u is = cc
+joined_given ts (struct fs ∷ us) some h wide u is = cc
 
 some_joined : (k n : ℕ) → n ≡ max 1 k → k ≡ n → 1 ≤ k
 some_joined k n p q = omega (arith, p, q)
@@ -111,59 +121,59 @@ some_joined k n p q = omega (arith, p, q)
 -- ---- results
 
 pub given : (kind : Kind) (ts rs : List HwType) (n : ℕ) → is_aggregate_kind kind ≡ false → result_types kind ts n ≡ settled rs → n ≡ operand_count kind ts n → length ts ≡ type_count kind n
-    → list_any is_outside ts ≡ false → (t : HwType) → In t rs → IsGiven (value_types kind ts) t
-unfolding result_types result_type operand_count type_count
-given add ts rs n plain same operands types h t here = by_first ts t rs same here
-given mul ts rs n plain same operands types h t here = by_first ts t rs same here
-given and ts rs n plain same operands types h t here = by_first ts t rs same here
-given or ts rs n plain same operands types h t here = by_first ts t rs same here
-given xor ts rs n plain same operands types h t here = by_first ts t rs same here
-given sub ts rs n plain same operands types h t here = by_first ts t rs same here
-given divu ts rs n plain same operands types h t here = by_first ts t rs same here
-given modu ts rs n plain same operands types h t here = by_first ts t rs same here
-given divs ts rs n plain same operands types h t here = by_first ts t rs same here
-given mods ts rs n plain same operands types h t here = by_first ts t rs same here
-given shl ts rs n plain same operands types h t here = by_first ts t rs same here
-given shru ts rs n plain same operands types h t here = by_first ts t rs same here
-given shrs ts rs n plain same operands types h t here = by_first ts t rs same here
-given (icmp p) ts rs n plain same operands types h t here = in_single ts t (Some (int 1)) rs (one_bit ts t) same here
-given parity ts rs n plain same operands types h t here = in_single ts t (Some (int 1)) rs (one_bit ts t) same here
-given (extract low) ts rs n plain same operands types h t here = by_second ts t rs same here
-given concat ts rs n plain same operands types h t here =
-    in_single ts t (as_int (joined_width ts)) rs (joined_given ts ts (some_joined (length ts) n operands types) h) same here
-given replicate ts rs n plain same operands types h t here = by_second ts t rs same here
-given mux ts rs n plain same operands types h t here = by_first ts t rs same here
-given (constant z) ts rs n plain same operands types h t here = by_first ts t rs same here
-given (aggregate_constant ls) ts rs n plain same operands types h t here = cc
-given array_create ts rs n plain same operands types h t here = cc
-given array_concat ts rs n plain same operands types h t here = cc
-given array_get ts rs n plain same operands types h t here = cc
-given array_slice ts rs n plain same operands types h t here = cc
-given array_inject ts rs n plain same operands types h t here = cc
-given struct_create ts rs n plain same operands types h t here = cc
-given (struct_extract name) ts rs n plain same operands types h t here = cc
-given (struct_inject name) ts rs n plain same operands types h t here = cc
-given struct_explode ts rs n plain same operands types h t here = cc
-given bitcast ts rs n plain same operands types h t here = by_second ts t rs same here
-given wire ts rs n plain same operands types h t here = by_first ts t rs same here
-given (instance i) ts rs n plain same operands types h t here =
+    → list_any is_outside ts ≡ false → has_wide_concat kind ts ≡ false → (t : HwType) → In t rs → IsGiven (value_types kind ts) t
+unfolding result_types result_type operand_count type_count has_wide_concat
+given add ts rs n plain same operands types h wide t here = by_first ts t rs same here
+given mul ts rs n plain same operands types h wide t here = by_first ts t rs same here
+given and ts rs n plain same operands types h wide t here = by_first ts t rs same here
+given or ts rs n plain same operands types h wide t here = by_first ts t rs same here
+given xor ts rs n plain same operands types h wide t here = by_first ts t rs same here
+given sub ts rs n plain same operands types h wide t here = by_first ts t rs same here
+given divu ts rs n plain same operands types h wide t here = by_first ts t rs same here
+given modu ts rs n plain same operands types h wide t here = by_first ts t rs same here
+given divs ts rs n plain same operands types h wide t here = by_first ts t rs same here
+given mods ts rs n plain same operands types h wide t here = by_first ts t rs same here
+given shl ts rs n plain same operands types h wide t here = by_first ts t rs same here
+given shru ts rs n plain same operands types h wide t here = by_first ts t rs same here
+given shrs ts rs n plain same operands types h wide t here = by_first ts t rs same here
+given (icmp p) ts rs n plain same operands types h wide t here = in_single ts t (Some (int 1)) rs (one_bit ts t) same here
+given parity ts rs n plain same operands types h wide t here = in_single ts t (Some (int 1)) rs (one_bit ts t) same here
+given (extract low) ts rs n plain same operands types h wide t here = by_second ts t rs same here
+given concat ts rs n plain same operands types h wide t here =
+    in_single ts t (as_int (joined_width ts)) rs (joined_given ts ts (some_joined (length ts) n operands types) h wide) same here
+given replicate ts rs n plain same operands types h wide t here = by_second ts t rs same here
+given mux ts rs n plain same operands types h wide t here = by_first ts t rs same here
+given (constant z) ts rs n plain same operands types h wide t here = by_first ts t rs same here
+given (aggregate_constant ls) ts rs n plain same operands types h wide t here = cc
+given array_create ts rs n plain same operands types h wide t here = cc
+given array_concat ts rs n plain same operands types h wide t here = cc
+given array_get ts rs n plain same operands types h wide t here = cc
+given array_slice ts rs n plain same operands types h wide t here = cc
+given array_inject ts rs n plain same operands types h wide t here = cc
+given struct_create ts rs n plain same operands types h wide t here = cc
+given (struct_extract name) ts rs n plain same operands types h wide t here = cc
+given (struct_inject name) ts rs n plain same operands types h wide t here = cc
+given struct_explode ts rs n plain same operands types h wide t here = cc
+given bitcast ts rs n plain same operands types h wide t here = by_second ts t rs same here
+given wire ts rs n plain same operands types h wide t here = by_first ts t rs same here
+given (instance i) ts rs n plain same operands types h wide t here =
     written (subst (λ us. In t us) (sym (same_settled (drop (length i.inputs) ts) rs same)) here)
-given output ts [] n plain same operands types h t here = absurd here
-given output ts (r ∷ rs) n plain same operands types h t here = cc
-given (compreg r) ts rs n plain same operands types h t here = by_first ts t rs same here
-given (compreg_ce r) ts rs n plain same operands types h t here = by_first ts t rs same here
-given (firreg r) ts rs n plain same operands types h t here = by_first ts t rs same here
+given output ts [] n plain same operands types h wide t here = absurd here
+given output ts (r ∷ rs) n plain same operands types h wide t here = cc
+given (compreg r) ts rs n plain same operands types h wide t here = by_first ts t rs same here
+given (compreg_ce r) ts rs n plain same operands types h wide t here = by_first ts t rs same here
+given (firreg r) ts rs n plain same operands types h wide t here = by_first ts t rs same here
 
 -- ---- values
 
--- a type of some bits, so many as a machine counts
+-- a type of 1 to 128 bits
 pub record HasSomeBits (t : HwType) : Type 0 where
   pub some : 1 ≤ width t
-  pub narrow : width t < 2 ^ 64
+  pub small : width t < 129
 
 pub within_limits : (t : HwType) → is_aggregate t ≡ false → is_outside t ≡ false → HasSomeBits t
-within_limits (int w) plain h = record { some = some_bits w h; narrow = (let p = bits_within (int w) h in omega (arith, p)) }
-within_limits clock plain h = record { some = omega arith; narrow = omega arith }
+within_limits (int w) plain h = record { some = some_bits w h; small = small_bits w h }
+within_limits clock plain h = record { some = omega arith; small = omega arith }
 within_limits (array n t) plain h = cc
 within_limits (struct fs) plain h = cc
 
@@ -173,8 +183,8 @@ outside_among _ ts h = h
 
 pub given_some : (kind : Kind) (ts : List HwType) (t : HwType) → is_aggregate t ≡ false → list_any is_outside ts ≡ false → IsGiven (value_types kind ts) t → HasSomeBits t
 given_some kind ts t plain h (written here) = within_limits t plain (none_of is_outside (value_types kind ts) (outside_among kind ts h) t here)
-given_some kind ts t plain h (made w is some narrow) = record { some = rw is some; narrow = rw is narrow }
+given_some kind ts t plain h (made w is some small) = record { some = rw is some; small = rw is small }
 
 pub given_value : (ts : List HwType) (t : HwType) → list_any is_clock ts ≡ false → IsGiven ts t → is_clock t ≡ false
 given_value ts t h (written here) = none_of is_clock ts h t here
-given_value ts t h (made w is some narrow) = rw is refl
+given_value ts t h (made w is some small) = rw is refl

@@ -1,5 +1,5 @@
 -- The values of a module of an accepted design without aggregates: their bits, their clocks, and those of its registers.
-use Rattle.std.proofs.Common.{◌≡◌, ℕ, zero, suc, ◌≤◌, ◌<◌, ◌^◌, Bool, true, false, cond, ◌||◌, List, [], ◌∷◌, map, length, slice_get, Option, Some, None, option_map, refl, sym, ap, ◌∙◌, subst, inl, inr, arith}
+use Rattle.std.proofs.Common.{◌≡◌, ℕ, zero, suc, ◌≤◌, ◌<◌, Bool, true, false, cond, ◌||◌, List, [], ◌∷◌, map, length, slice_get, Option, Some, None, option_map, refl, sym, ap, ◌∙◌, subst, inl, inr, arith}
 use Rattle.std.specs.Prelude.{is_some}
 use Rattle.wiring.specs.Options.{bind}
 use Rattle.wiring.specs.Wiring.{In}
@@ -16,7 +16,7 @@ use Rattle.op_verifier.specs.CountChecks.{operand_count}
 use Rattle.op_verifier.specs.TypeChecks.{is_clock}
 use Rattle.op_verifier.specs.LimitChecks.{value_types}
 use Rattle.op_verifier.proofs.SoundDesigns.{types_of}
-use Rattle.verilog_expr.specs.Expressions.{value_width}
+use Rattle.verilog_expr.specs.Marks.{AreSmall}
 use Rattle.verilog_expr.specs.Values.{is_aggregate_kind, is_variadic}
 use Rattle.export_verilog.specs.Aggregates.{is_aggregate}
 use Rattle.export_verilog.specs.Exportable.{IsClocked}
@@ -82,7 +82,7 @@ from_bind f (Some a) b h = (a, refl, h)
 
 module _ (ports : List Port) (os : List Op) (o : Op) (tests : IsTested ports os o) (plain : IsPlain o) (k : ℕ) (r : OpResult) (there : slice_get o.results k ≡ Some r) where
   from_kind : IsGiven (value_types o.kind o.types) r.type
-  from_kind = given o.kind o.types (types_of o.results) (length o.operands) plain.kind tests.settled_results tests.operands tests.types tests.outside r.type (in_types o.results k r there)
+  from_kind = given o.kind o.types (types_of o.results) (length o.operands) plain.kind tests.settled_results tests.operands tests.types tests.outside tests.wide r.type (in_types o.results k r there)
 
   pub result_bits : HasSomeBits r.type
   result_bits = given_some o.kind o.types r.type (none_of (λ (x : OpResult). is_aggregate x.type) o.results plain.results r (in_list o.results k r there)) tests.outside from_kind
@@ -124,12 +124,13 @@ module _ (ports : List Port) (os : List Op)
       subst HasSomeBits r.2 (result_bits ports os o.0 (tests i o.0 o.1) (plain i o.0 o.1) k r.0 r.1)
   value_bits undefined t h = cc
 
-  pub narrow_value : (r : Ref) → value_width ports os r < 2 ^ 64
-  narrow_value r = go (type_in ports os r) refl
+  -- no value has more than 128 bits
+  pub small_value : AreSmall ports os
+  small_value r = go (type_in ports os r) refl
     where
-      go : (x : Option HwType) → type_in ports os r ≡ x → width_of x < 2 ^ 64
+      go : (x : Option HwType) → type_in ports os r ≡ x → width_of x < 129
       go None e = omega arith
-      go (Some t) e = (value_bits r t e).narrow
+      go (Some t) e = (value_bits r t e).small
 
   pub clock_port : (r : Ref) → type_in ports os r ≡ Some clock → (j : ℕ) × (r ≡ port j)
   clock_port (port j) h = (j, refl)

@@ -1,9 +1,9 @@
 -- The text of an instance, part by part.
-use Rattle.std.proofs.Common.{◌≡◌, ℕ, ◌<◌, nat_lt, Bool, true, false, cond, List, [], ◌∷◌, ◌++◌, codes, refl, sym, ◌∙◌, ap, append_assoc}
+use Rattle.std.proofs.Common.{◌≡◌, Bool, cond, List, [], ◌∷◌, ◌++◌, codes, refl, sym, ◌∙◌, ap, append_assoc}
 use Rattle.hw_model.specs.Types.{Name}
 use Rattle.verilog_model.specs.Tree.{Connection}
 use Rattle.verilog_model.specs.Tree.Item.{instance}
-use Rattle.export_verilog.specs.Layout.{Text, connection_lines, connections_text, item_text}
+use Rattle.export_verilog.specs.Layout.{Text, connections_text, item_text}
 use Rattle.export_verilog.specs.Written.{head_text, connections_end, connections_left, some_left}
 use Rattle.export_verilog.proofs.Rests.{four_parts}
 use Rattle.export_verilog.proofs.ItemRests.{lines_rest}

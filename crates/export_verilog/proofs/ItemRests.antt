@@ -1,6 +1,5 @@
 -- The rest of a text stands behind its items.
-use Rattle.std.proofs.Common.{◌≡◌, ℕ, List, [], ◌∷◌, ◌++◌, Option, Some, None, codes, refl, sym, ◌∙◌, ap, append_assoc}
-use Rattle.hw_model.specs.Types.{Name}
+use Rattle.std.proofs.Common.{◌≡◌, List, [], ◌∷◌, ◌++◌, Option, codes, refl, sym, ◌∙◌, ap, append_assoc}
 use Rattle.verilog_model.specs.Tree.{Numeral, Expr, Load, Block, Connection, Item}
 use Rattle.verilog_model.specs.Tree.Block.{load, if_load, if_else, if_else_if}
 use Rattle.verilog_model.specs.Tree.Item.{wire, reg, assign, always, instance}

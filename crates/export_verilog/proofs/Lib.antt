@@ -57,3 +57,16 @@ pub mod ValueWires
 pub mod Joining
 pub mod InstanceParts
 pub mod SameNames
+pub mod KeyWishes
+pub mod GivenNames
+pub mod ModuleNames
+pub mod ItemLists
+pub mod OutputItems
+pub mod SymbolPlaces
+pub mod SameConnections
+pub mod SameDeclarations
+pub mod SameStatements
+pub mod SameModules
+pub mod ModuleParts
+pub mod StoredModules
+pub mod AcceptedBodies

@@ -46,7 +46,7 @@ ports_among o (q ∷ ps) ks (n ∷ ns) ms (suc j) p count at =
     ∙ ports_among (suc o) ps ks ns ms j p (omega (arith, count)) at
 
 -- what is wanted for the ports
-ports_wish : (m : Module) (o : ℕ) (ps : List Port) → ((k : ℕ) → slice_get m.ports (o + k) ≡ slice_get ps k)
+pub ports_wish : (m : Module) (o : ℕ) (ps : List Port) → ((k : ℕ) → slice_get m.ports (o + k) ≡ slice_get ps k)
     → map (wish m) (each port_keys o ps) ≡ map (λ (p : Port). p.name) ps
 ports_wish m o [] at = refl
 ports_wish m o (p ∷ ps) at =

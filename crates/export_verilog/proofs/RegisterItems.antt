@@ -1,7 +1,6 @@
 -- The statement of a register whose parts are written.
-use Rattle.std.proofs.Common.{◌≡◌, List, [], ◌++◌, Option, Some, None, sym, ◌∙◌, ap, ap₂}
+use Rattle.std.proofs.Common.{◌≡◌, [], ◌++◌, Option, ◌∙◌, ap}
 use Rattle.std.specs.Prelude.{option_map}
-use Rattle.hw_model.specs.Types.{Name}
 use Rattle.hw_model.specs.Flat.{Register}
 use Rattle.verilog_model.specs.Tree.Item.{always}
 use Rattle.verilog_expr.specs.Named.{named_of}

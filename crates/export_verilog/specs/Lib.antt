@@ -18,3 +18,6 @@ pub mod Statements
 pub mod Joined
 pub mod ScopeModules
 pub mod NamedDesigns
+pub mod PortValues
+pub mod ModuleTexts
+pub mod WritableDesigns

@@ -3,14 +3,13 @@ use Rattle.std.specs.Prelude.{ℕ, zero, suc, ◌+◌, List, [], ◌∷◌}
 use Rattle.hw_model.specs.Design.{Ref}
 use Rattle.hw_model.specs.Design.Ref.{result}
 use Rattle.hw_model.specs.Flat.{ResetBy}
-use Rattle.ir_store.specs.declared.operation.Value.{Value}
 use Rattle.verilog_model.specs.Tree.{Expr, Item}
 use Rattle.verilog_model.specs.Tree.Item.{wire, reg}
 use Rattle.verilog_expr.specs.Numerals.{high_of}
 use Rattle.verilog_expr.specs.Expressions.{value_width, expr_to, own_expr}
 use Rattle.verilog_expr.specs.Spilling.{height_limit}
 use Rattle.verilog_expr.specs.Text.{expr_text}
-use Rattle.verilog_expr.specs.Scopes.{scope_ports, scope_ops, scope_ref}
+use Rattle.verilog_expr.specs.Scopes.{scope_ports, scope_ops}
 use Rattle.verilog_expr.specs.Named.{named_of}
 use Rattle.verilog_expr.specs.declared.scope.Scope.{Scope}
 use Rattle.verilog_expr.specs.declared.value_names.ValueNames.{ValueNames}

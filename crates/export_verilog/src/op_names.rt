@@ -26,8 +26,8 @@ pub struct OpNames {
     pub instance: Text,
 }
 
-// Adds the legal name of a wanted one, and gives it.
-fn add_name(alloc: Global, names: &mut Names, wanted: &[u8]) -> Result<Text, AllocError>
+/// Adds the legal name of a wanted one, and gives it. The error is want of memory, as with more than 4,000,000,000 names.
+pub(crate) fn add_name(alloc: Global, names: &mut Names, wanted: &[u8]) -> Result<Text, AllocError>
     ensures names { OnOk result (legal_names names.new ≡ legal_names names.old ++ legal_name (legal_names names.old) wanted.now ∷ []) }
     ensures name { IfOk result (λ name. name ≡ legal_name (legal_names names.old) wanted.now) }
 {

@@ -1,26 +1,37 @@
 //! The declarations and the statements of the operations of a body.
-ghost use Rattle.std.specs.Prelude.{◌≡◌, ◌++◌, [], Some, slice_get, OnOk};
-ghost use Rattle.ir_store.specs.Designs.{design_of};
+ghost use Rattle.std.specs.Prelude.{◌≡◌, ◌++◌, [], Some, length, map, slice_get, OnOk};
+ghost use Rattle.hw_model.specs.Design.{find_module, instance_in};
+ghost use Rattle.hw_model.specs.KindViews.{kind_of};
+ghost use Rattle.hw_model.specs.Sound.{ports_of};
+ghost use Rattle.ir_store.specs.Designs.{design_of, port_of};
 ghost use Rattle.ir_store.specs.Numbered.{position_of};
 ghost use Rattle.verilog_expr.specs.Scopes.{scope_ports, scope_ops, scope_ids, op_read};
 ghost use Rattle.verilog_expr.specs.Marks.{AreSmall};
+ghost use Rattle.export_verilog.specs.Held.{ArePortNames};
 ghost use Rattle.export_verilog.specs.Layout.{items_text};
-ghost use Rattle.export_verilog.specs.Exported.{declared_as, stated_as};
+ghost use Rattle.export_verilog.specs.Exported.{symbol_name, declared_as, instance_of, stated_as};
 ghost use Rattle.export_verilog.specs.ModuleNames.{AreModuleNames};
 ghost use Rattle.export_verilog.specs.RoleViews.{role_seen};
 ghost use Rattle.export_verilog.specs.ScopeModules.{scope_module};
 
+use crate::assigns::push_net;
+use crate::connections::push_instance;
+use crate::declarations::push_declared;
 use crate::module_names::ModuleNames;
 use crate::named_design::NamedDesign;
+use crate::register_blocks::push_register;
+use crate::values::name_text;
 use crate::wishes::Role;
+use hw_model::kinds::OpKind;
 use io_edge::byte_text::Text;
 use ir_store::body::Op;
-use ir_store::operation::OpId;
+use ir_store::design::Port;
+use ir_store::operation::{OpId, Value};
 use std::alloc::{AllocError, Global};
 use verilog_expr::scope::Scope;
 
 /// Adds the declarations of an operation of a role, which stands at a place of the body (IEEE 1364-2005, 3.2: net and
-/// variable declarations). No value may have more than 128 bits. The error is want of memory.
+/// variable declarations). No value may have more than 128 bits. The error is want of memory, as with 2^32 results or more.
 pub fn push_declarations(
     out: &mut Text,
     scope: &Scope<'_>,
@@ -36,12 +47,83 @@ pub fn push_declarations(
     requires id { position_of (scope_ids scope.now) id.index ≡ place }
     ensures { OnOk result (out.new ≡ out.old ++ items_text (declared_as (scope_module scope.now) place (op_read scope.now op.now) (role_seen role)) []) }
 {
-    let _ = (out, scope, names, id, place, op, role);
-    Err(AllocError)
+    let _ = place;
+    let Ok(count) = u32::try_from(op.results.results.len()) else {
+        return Err(AllocError);
+    };
+    push_declared(out, scope, &names.values, id, count, role)?;
+    Ok(())
+}
+
+// The module that an instance is of, as its text has it.
+#[derive(Drop)]
+struct Callee<'a> {
+    // the name of the module, or no bytes
+    symbol: &'a [u8],
+    ports: &'a [Port],
+    port_names: &'a [Text],
+}
+
+// The module of a symbol; where no module has it, one without a name and without ports.
+fn callee_of<'a>(all: &'a NamedDesign<'_>, symbol: &[u8]) -> Callee<'a>
+    ensures symbol { result.symbol.now ≡ symbol_name (design_of all.now.design.now) symbol.now }
+    ensures ports { map port_of result.ports.now ≡ ports_of (find_module (design_of all.now.design.now) symbol.now) }
+    ensures count { length result.port_names.now ≡ length result.ports.now }
+    ensures names { ArePortNames (ports_of (find_module (design_of all.now.design.now) symbol.now)) result.port_names.now }
+{
+    let Some(number) = all.design.find(symbol) else {
+        return Callee {
+            symbol: &[],
+            ports: &[],
+            port_names: &[],
+        };
+    };
+    Callee {
+        symbol: all.symbols[number as usize].as_bytes(),
+        ports: all.design.module(number).ports.ports.as_slice(),
+        port_names: all.ports[number as usize].names.as_slice(),
+    }
+}
+
+// Adds the instance that an operation is, where it is one.
+#[tactic(auto, unfolding(crate::specs::Layout::items_text))]
+fn push_call(
+    alloc: Global,
+    out: &mut Text,
+    all: &NamedDesign<'_>,
+    scope: &Scope<'_>,
+    names: &ModuleNames,
+    id: OpId,
+    place: usize,
+    op: &Op<'_>,
+) -> Result<(), AllocError>
+    requires small { AreSmall (scope_ports scope.now) (scope_ops scope.now) }
+    requires names { AreModuleNames (scope_module scope.now) names.now.ports.items names.now.values names.now.own.items }
+    requires there { slice_get (scope_ops scope.now) place ≡ Some (op_read scope.now op.now) }
+    requires id { position_of (scope_ids scope.now) id.index ≡ place }
+    ensures { OnOk result (out.new ≡ out.old ++ items_text (instance_of (design_of all.now.design.now) (scope_module scope.now) place (op_read scope.now op.now) (instance_in (kind_of op.now.kind.now))) []) }
+{
+    if let OpKind::Instance(instance) = op.kind {
+        let called = callee_of(all, instance.symbol.as_bytes());
+        push_instance(
+            alloc,
+            out,
+            scope,
+            &names.values,
+            id,
+            op.operands,
+            called.ports,
+            called.port_names,
+            called.symbol,
+            names.own[place].as_bytes(),
+        )?;
+    }
+    Ok(())
 }
 
 /// Adds the statements of an operation of a role, which stands at a place of the body: an assignment, an `always` block or
 /// an instance. No value may have more than 128 bits. The error is want of memory.
+#[tactic(auto, unfolding(crate::specs::Layout::items_text))]
 pub fn push_statements(
     alloc: Global,
     out: &mut Text,
@@ -59,6 +141,15 @@ pub fn push_statements(
     requires id { position_of (scope_ids scope.now) id.index ≡ place }
     ensures { OnOk result (out.new ≡ out.old ++ items_text (stated_as (design_of all.now.design.now) (scope_module scope.now) place (op_read scope.now op.now) (role_seen role)) []) }
 {
-    let _ = (alloc, out, all, scope, names, id, place, op, role);
-    Err(AllocError)
+    let value = Value::Result(id, 0);
+    match role {
+        Role::Hidden => {}
+        Role::Net => push_net(alloc, out, scope, &names.values, value)?,
+        Role::Variable => {
+            let name = name_text(scope, &names.values, value);
+            push_register(alloc, out, scope, &names.values, name, op)?;
+        }
+        Role::Block => push_call(alloc, out, all, scope, names, id, place, op)?,
+    }
+    Ok(())
 }

@@ -1,4 +1,4 @@
-use Rattle.std.proofs.Common.{◌≡◌, [], ◌++◌, ◌∙◌, ap}
+use Rattle.std.proofs.Common.{[], ◌++◌, ◌∙◌, ap}
 use Rattle.verilog_model.specs.Tree.Item.{assign}
 use Rattle.verilog_expr.specs.Expressions.{own_expr}
 use Rattle.verilog_expr.specs.Scopes.{scope_ports, scope_ops, scope_ref}

@@ -1,4 +1,4 @@
-use Rattle.std.proofs.Common.{◌≡◌, [], ◌++◌, ◌∙◌, ap, map, drop}
+use Rattle.std.proofs.Common.{[], ◌++◌, ◌∙◌, ap, map, drop}
 use Rattle.verilog_model.specs.Tree.Item.{assign}
 use Rattle.verilog_expr.specs.Scopes.{scope_ref}
 use Rattle.export_verilog.specs.Exported.{expr_or_none}

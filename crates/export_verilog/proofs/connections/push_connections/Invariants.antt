@@ -1,4 +1,4 @@
-use Rattle.std.proofs.Common.{◌≡◌, ℕ, ◌≤◌, [], ◌++◌, map}
+use Rattle.std.proofs.Common.{◌≡◌, ◌≤◌, [], ◌++◌, map}
 use Rattle.hw_model.specs.Design.Ref.{result}
 use Rattle.ir_store.specs.Designs.{port_of}
 use Rattle.ir_store.specs.Numbered.{position_of}

@@ -1,4 +1,4 @@
-use Rattle.std.proofs.Common.{◌≡◌, ℕ, [], ◌++◌, sym, map}
+use Rattle.std.proofs.Common.{ℕ, sym, map}
 use Rattle.hw_model.specs.Types.{Name}
 use Rattle.hw_model.specs.Design.Ref.{result}
 use Rattle.ir_store.specs.Designs.{port_of}

@@ -1,0 +1,53 @@
+-- The items of a body, added operation after operation, and the items of a module, added part after part.
+use Rattle.std.proofs.Common.{◌≡◌, ℕ, suc, ◌+◌, ◌<◌, ◌≤◌, List, [], ◌++◌, length, map, drop, get_or, slice_get, Some, refl, sym, ◌∙◌, ap, subst, arith}
+use Rattle.std.proofs.lemmas.List.{append-nil}
+use Rattle.wiring.proofs.Lists.{drop_some}
+use Rattle.verilog_model.specs.Tree.{Item}
+use Rattle.ir_store.specs.declared.body.Body.{Body}
+use Rattle.ir_store.specs.declared.operation.OpId.{OpId}
+use Rattle.ir_store.specs.Bodies.{ids_of, ops_of, op_id}
+use Rattle.ir_store.specs.Numbered.{position_of, numbered}
+use Rattle.ir_store.proofs.BodyLemmas.{ids_once}
+use Rattle.design_cycles.proofs.Pushing.{ids_count}
+use Rattle.verilog_expr.proofs.Placing.{index_at, ids_same, position_found}
+use Rattle.export_verilog.specs.Keys.{each}
+use Rattle.export_verilog.specs.Layout.{Text, items_text}
+use Rattle.export_verilog.proofs.Listed.{drop_none}
+use Rattle.export_verilog.proofs.ItemRests.{items_added}
+
+-- ---- what each element of a list gives
+
+module _ {A : Type 0} (f : ℕ → A → List Item) (xs : List A) where
+  -- the text of what the elements from the i-th on give
+  abbrev pub each_left : ℕ → Text
+  each_left i = items_text (each f i (drop i xs)) []
+
+  pub each_step : (i : ℕ) (x : A) (is : List Item) (out one whole : Text) → slice_get xs i ≡ Some x → is ≡ f i x → one ≡ out ++ items_text is []
+      → out ++ each_left i ≡ whole → one ++ each_left (i + 1) ≡ whole
+  each_step i x is out one whole at same e inv =
+      let next : i + 1 ≡ suc i = omega arith in
+      let rest = each f (suc i) (drop (suc i) xs) in
+      ap (λ n. one ++ items_text (each f n (drop n xs)) []) next
+      ∙ items_added out one (one ++ items_text rest []) is rest e refl
+      ∙ ap (λ l. out ++ items_text (l ++ rest) []) same
+      ∙ ap (λ l. out ++ items_text (each f i l) []) (sym (drop_some xs i x at)) ∙ inv
+
+  pub each_end : (i : ℕ) (out whole : Text) → length xs ≤ i → out ++ each_left i ≡ whole → out ≡ whole
+  unfolding items_text
+  each_end i out whole le inv = sym (append-nil out) ∙ ap (λ l. out ++ items_text (each f i l) []) (sym (drop_none xs i le)) ∙ inv
+
+-- ---- the ids of a body
+
+-- the position of an id is where it stands
+pub id_place : (b : Body) (ids : List OpId) (i : ℕ) → ids ≡ map op_id (ids_of b) → i < length (numbered (ops_of b)) → position_of (ids_of b) (get_or ids i (op_id 0)).index ≡ i
+id_place b ids i all lt =
+    let id : ℕ = (get_or ids i (op_id 0)).index in
+    let there : slice_get (ids_of b) i ≡ Some id =
+    sym (ap (λ (l : List ℕ). slice_get l i) (ids_same ids (ids_of b) all)) ∙ index_at ids i (op_id 0) (subst (λ n. i < n) (sym (ids_count b ids all)) lt) in
+    position_found (ids_of b) id i (ids_once b id) there
+
+-- ---- the parts of a module
+
+pub items_joined : (out one two end : Text) (ds ss os : List Item) → one ≡ out ++ items_text ds [] → two ≡ one ++ items_text ss [] → end ≡ two ++ items_text os []
+    → end ≡ out ++ items_text (ds ++ (ss ++ os)) []
+items_joined out one two end ds ss os p q r = items_added out one end ds (ss ++ os) p (items_added one two end ss os q r)

@@ -1,0 +1,12 @@
+use Rattle.std.proofs.Common.{◌≡◌, ◌++◌}
+use Rattle.ir_store.specs.Designs.{design_of}
+use Rattle.verilog_expr.specs.Scopes.{scope_ops}
+use Rattle.export_verilog.specs.Exported.{states}
+use Rattle.export_verilog.specs.ScopeModules.{scope_module}
+use Rattle.export_verilog.proofs.ItemLists.{each_left}
+use Rattle.export_verilog.proofs.module_items.push_all_statements.Given as goal
+
+abbrev pub invariant-loop-place : goal.invariant-loop-place
+invariant-loop-place l =
+    let f = states (design_of l.all.design.now) (scope_module l.scope) in
+    l.out ++ each_left f (scope_ops l.scope) l.place ≡ l.initial.out ++ each_left f (scope_ops l.scope) 0

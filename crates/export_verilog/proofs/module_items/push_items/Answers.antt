@@ -1,0 +1,20 @@
+use Rattle.std.proofs.Common.{ap, ◌∙◌, ◌++◌}
+use Rattle.std.specs.Prelude.{[]}
+use Rattle.hw_model.specs.Design.{output_refs}
+use Rattle.ir_store.specs.Designs.{design_of}
+use Rattle.verilog_expr.specs.Scopes.{scope_ports}
+use Rattle.export_verilog.specs.Keys.{each}
+use Rattle.export_verilog.specs.Exported.{declares, states, output_assigns}
+use Rattle.export_verilog.specs.Layout.{items_text}
+use Rattle.export_verilog.specs.ScopeModules.{scope_module}
+use Rattle.export_verilog.proofs.ItemLists.{items_joined}
+use Rattle.export_verilog.proofs.module_items.push_items.Goals as goal
+
+pub returns : goal.returns
+returns c =
+    let s = c.args.scope.now in
+    let m = scope_module s in
+    items_joined c.args.out.now c.push_all_declarations.new.out c.push_all_statements.new.out c.push_outputs.new.out
+    (each (declares m) 0 m.body) (each (states (design_of c.args.all.now.design.now) m) 0 m.body) (output_assigns m 0 m.ports (output_refs m.body))
+    c.in_ok-push_all_declarations.ensures c.in_ok-push_all_statements.ensures
+    (c.in_ok-push_outputs.ensures ∙ ap (λ rs. c.push_all_statements.new.out ++ items_text (output_assigns m 0 (scope_ports s) rs) []) c.output_operands.ensures)

@@ -1,0 +1,50 @@
+use Rattle.std.proofs.Common.{◌≡◌, suc, ◌++◌, length, slice_get, Some, ap, sym, ◌∙◌, arith}
+use Rattle.std.proofs.lemmas.List.{length-map}
+use Rattle.std.proofs.lemmas.Option.{get_or_from_slice_get}
+use Rattle.ir_store.specs.declared.design.Port.{Port}
+use Rattle.ir_store.specs.Designs.{port_of}
+use Rattle.verilog_expr.specs.Scopes.{scope_ports, scope_ops, scope_ref}
+use Rattle.verilog_expr.specs.Named.{named_of}
+use Rattle.verilog_expr.specs.Spilling.{height_limit}
+use Rattle.export_verilog.specs.Keys.{named, key_text}
+use Rattle.export_verilog.specs.Keys.Key.{port_key}
+use Rattle.export_verilog.specs.Values.{value_expr}
+use Rattle.export_verilog.specs.ScopeModules.{scope_module}
+use Rattle.export_verilog.proofs.Listed.{viewed}
+use Rattle.export_verilog.proofs.SameNames.{expr_same}
+use Rattle.export_verilog.proofs.OutputItems.{outputs_left, outputs_assigned, outputs_passed, outputs_end}
+use Rattle.export_verilog.proofs.module_items.push_outputs.Goals.{then-ports-place+in_ok-push_output, else-ports-place}
+use Rattle.export_verilog.proofs.module_items.push_outputs.Goals as goal
+
+pub loop-place-preserved : goal.loop-place-preserved
+loop-place-preserved c =
+    let s = c.args.scope.now in
+    let m = scope_module s in
+    let i = c.loop-place.place in
+    let p = port_of c.index-ports-place.result in
+    let whole = c.args.out.now ++ outputs_left m (scope_ref s) c.args.operands.now 0 0 in
+    let at : slice_get m.ports i ≡ Some p =
+    sym (ap (λ ps. slice_get ps i) c.requires.ports) ∙ viewed port_of c.args.ports.now i c.index-ports-place.result (omega (arith, c.loop-place-test.true)) c.index-ports-place.is in
+    elim c.if-ports-place.branch [
+      | then-ports-place+in_ok-push_output w ↦
+          record {
+            bytes = rw (w.out-is, w.number-is) (outputs_assigned m (scope_ref s) c.args.operands.now i c.loop-place.number p c.loop-place.out whole at c.loop-place.invariant.bytes
+                w.as_bytes-name.result.now (value_expr s c.args.names.now.values) w.push_output.new.out (ap (λ (q : Port). q.out) c.index-ports-place.is ∙ w.if-ports-place.true)
+                (w.as_bytes-name.ensures ∙ w.index.ensures ∙ get_or_from_slice_get c.args.names.now.ports.items i (key_text m (port_key i)) w.index.result.now (c.requires.names.ports_are i p at))
+                (expr_same (named_of c.args.names.now.values) (named m) (scope_ports s) (scope_ops s) c.requires.names.values_are (suc height_limit)) w.in_ok-push_output.ensures);
+            number = omega (arith, w.number-is, c.loop-place.invariant.number);
+          }
+      | else-ports-place w ↦
+          record {
+            bytes = rw (w.out-is, w.number-is) (outputs_passed m (scope_ref s) c.args.operands.now i c.loop-place.number p c.loop-place.out whole at c.loop-place.invariant.bytes
+                (ap (λ (q : Port). q.out) c.index-ports-place.is ∙ w.if-ports-place.false));
+            number = omega (arith, w.number-is, c.loop-place.invariant.number);
+          }
+    ]
+
+pub returns : goal.returns
+returns c =
+    let s = c.args.scope.now in
+    outputs_end (scope_module s) (scope_ref s) c.args.operands.now c.loop-place.place c.loop-place.number c.loop-place.out
+    (c.args.out.now ++ outputs_left (scope_module s) (scope_ref s) c.args.operands.now 0 0)
+    (omega (arith, c.loop-place-test.false, ap length c.requires.ports, length-map c.args.ports.now port_of)) c.loop-place.invariant.bytes

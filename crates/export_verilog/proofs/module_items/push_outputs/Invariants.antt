@@ -1,0 +1,13 @@
+use Rattle.std.proofs.Common.{◌≡◌, ◌≤◌, ◌++◌}
+use Rattle.verilog_expr.specs.Scopes.{scope_ref}
+use Rattle.export_verilog.specs.ScopeModules.{scope_module}
+use Rattle.export_verilog.proofs.OutputItems.{outputs_left}
+use Rattle.export_verilog.proofs.module_items.push_outputs.Given as goal
+
+abbrev pub invariant-loop-place : goal.invariant-loop-place
+invariant-loop-place l =
+    let m = scope_module l.scope in
+    record {
+      bytes : l.out ++ outputs_left m (scope_ref l.scope) l.operands l.place l.number ≡ l.initial.out ++ outputs_left m (scope_ref l.scope) l.operands 0 0;
+      number : l.number ≤ l.place;
+    }

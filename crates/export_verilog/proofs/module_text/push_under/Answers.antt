@@ -1,0 +1,21 @@
+use Rattle.std.proofs.Common.{[], ◌++◌, ap, sym, ◌∙◌}
+use Rattle.ir_store.specs.Designs.{design_of}
+use Rattle.verilog_expr.specs.Scopes.{scope_ports}
+use Rattle.export_verilog.specs.Exported.{vports, vitems}
+use Rattle.export_verilog.specs.Layout.{ports_text}
+use Rattle.export_verilog.specs.Written.{ports_named}
+use Rattle.export_verilog.specs.ScopeModules.{scope_module}
+use Rattle.export_verilog.proofs.ModuleParts.{named_ports, module_parts}
+use Rattle.export_verilog.proofs.module_text.push_under.Goals as goal
+
+pub returns : goal.returns
+returns c =
+    let m = scope_module c.args.scope.now in
+    module_parts c.args.name.now (vports m) (vitems (design_of c.args.all.now.design.now) m)
+    c.args.out.now c.push_bytes.new.self c.push_bytes-2.new.self c.push_ports.new.out c.push_items.new.out c.push_bytes-3.new.self
+    c.in_ok-push_bytes.ensures.ok c.in_ok-push_bytes-2.ensures.ok
+    (c.in_ok-push_ports.ensures
+    ∙ ap (λ ps. c.push_bytes-2.new.self ++ ports_text (ports_named c.as_slice.result.now ps) []) c.requires.ports
+    ∙ ap (λ ns. c.push_bytes-2.new.self ++ ports_text (ports_named ns (scope_ports c.args.scope.now)) []) c.as_slice.ensures.value
+    ∙ ap (λ ps. c.push_bytes-2.new.self ++ ports_text ps []) (named_ports m c.args.names.now.ports.items c.requires.names.many c.requires.names.ports_are))
+    c.in_ok-push_items.ensures c.in_ok-push_bytes-3.ensures.ok

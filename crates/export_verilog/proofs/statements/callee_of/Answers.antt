@@ -1,0 +1,62 @@
+use Rattle.std.proofs.Common.{map, length, refl, sym, ◌∙◌, ap, subst, arith}
+use Rattle.std.proofs.lemmas.List.{length-map}
+use Rattle.std.proofs.lemmas.Option.{slice_get_read}
+use Rattle.hw_model.specs.Sound.{ports_of}
+use Rattle.ir_store.specs.Designs.{port_of, module_of, numbered_module, modules_of, design_of}
+use Rattle.export_verilog.specs.Exported.{symbol_names}
+use Rattle.export_verilog.specs.Held.{ArePortNames}
+use Rattle.export_verilog.proofs.SymbolPlaces.{no_name, place_within, symbol_count, within_list, symbol_at, module_at}
+use Rattle.export_verilog.proofs.statements.callee_of.Goals as goal
+
+pub returns-in_default-clause-symbol : goal.returns-in_default-clause-symbol
+returns-in_default-clause-symbol c =
+    let d = c.args.all.now.design.now in
+    no_name c.args.symbol.now (modules_of d) (symbol_names (design_of d)) (sym c.in_default.ensures.place)
+
+pub index-requires : goal.index-requires
+index-requires c =
+    let d = c.args.all.now.design.now in
+    let ns = c.args.all.now.symbols in
+    omega (arith, ns.ok.0, within_list c.args.symbol.now (modules_of d) c.in-Some.number (sym c.in-Some.ensures.place) ns.items (ap length c.args.all.now.symbols_are ∙ symbol_count (design_of d)))
+
+pub module-requires : goal.module-requires
+module-requires c = place_within c.args.symbol.now (modules_of c.args.all.now.design.now) c.in-Some.number (sym c.in-Some.ensures.place)
+
+pub index-requires-2 : goal.index-requires-2
+index-requires-2 c =
+    let ls = c.args.all.now.ports in
+    omega (arith, ls.ok.0, within_list c.args.symbol.now (modules_of c.args.all.now.design.now) c.in-Some.number (sym c.in-Some.ensures.place) ls.items c.args.all.now.ports_are.count)
+
+pub returns-clause-symbol : goal.returns-clause-symbol
+returns-clause-symbol c =
+    c.as_bytes.ensures
+    ∙ symbol_at c.args.symbol.now (modules_of c.args.all.now.design.now) c.in-Some.number (sym c.in-Some.ensures.place) c.args.all.now.symbols.items c.index.result.now c.args.all.now.symbols_are c.index.ensures
+
+pub returns-clause-ports : goal.returns-clause-ports
+returns-clause-ports c =
+    ap (map port_of) c.as_slice.ensures.value
+    ∙ sym (ap ports_of (module_at c.args.symbol.now (modules_of c.args.all.now.design.now) c.in-Some.number (sym c.in-Some.ensures.place) (module_of c.module.result.now) c.module.ensures c.in-Some.ensures.module))
+
+pub returns-clause-count : goal.returns-clause-count
+returns-clause-count c =
+    let n = c.in-Some.number in
+    let d = c.args.all.now.design.now in
+    let ls = c.args.all.now.ports.items in
+    let x = module_of c.module.result.now in
+    let place = sym c.in-Some.ensures.place in
+    let at = c.in-Some.ensures.module ∙ module_at c.args.symbol.now (modules_of d) n place x c.module.ensures c.in-Some.ensures.module in
+    let names = slice_get_read ls (length ls) n c.index-2.result.now refl (within_list c.args.symbol.now (modules_of d) n place ls c.args.all.now.ports_are.count) c.index-2.ensures in
+    ap length c.as_slice-2.ensures.value ∙ (c.args.all.now.ports_are.named n (numbered_module x) c.index-2.result.now at names).0
+    ∙ length-map c.module.result.now.ports.ports.items port_of ∙ ap length (sym c.as_slice.ensures.value)
+
+pub returns-clause-names : goal.returns-clause-names
+returns-clause-names c =
+    let n = c.in-Some.number in
+    let d = c.args.all.now.design.now in
+    let ls = c.args.all.now.ports.items in
+    let x = module_of c.module.result.now in
+    let place = sym c.in-Some.ensures.place in
+    let found = module_at c.args.symbol.now (modules_of d) n place x c.module.ensures c.in-Some.ensures.module in
+    let names = slice_get_read ls (length ls) n c.index-2.result.now refl (within_list c.args.symbol.now (modules_of d) n place ls c.args.all.now.ports_are.count) c.index-2.ensures in
+    subst (λ ps. ArePortNames ps c.as_slice-2.result.now) (sym (ap ports_of found))
+    (subst (ArePortNames x.ports) (sym c.as_slice-2.ensures.value) (c.args.all.now.ports_are.named n (numbered_module x) c.index-2.result.now (c.in-Some.ensures.module ∙ found) names).1)

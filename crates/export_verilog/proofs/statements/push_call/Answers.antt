@@ -1,0 +1,49 @@
+use Rattle.std.proofs.Common.{◌≡◌, ℕ, [], ◌++◌, map, Some, sym, ◌∙◌, ap}
+use Rattle.std.proofs.lemmas.List.{length-map}
+use Rattle.std.proofs.lemmas.Option.{get_or_from_slice_get}
+use Rattle.hw_model.specs.Types.{Name}
+use Rattle.hw_model.specs.KindViews.{kind_of, instance_of as instance_seen}
+use Rattle.hw_model.specs.Design.{find_module, instance_in}
+use Rattle.hw_model.specs.Design.Ref.{result}
+use Rattle.ir_store.specs.Designs.{design_of, port_of}
+use Rattle.ir_store.specs.Numbered.{position_of}
+use Rattle.verilog_expr.specs.Scopes.{scope_ids, op_read}
+use Rattle.verilog_expr.specs.Named.{named_of}
+use Rattle.export_verilog.specs.Keys.{name_or_nothing, key_text}
+use Rattle.export_verilog.specs.Keys.Key.{value_key, instance_key}
+use Rattle.export_verilog.specs.Exported.{connections_to, instance_of}
+use Rattle.export_verilog.specs.Joined.{joined}
+use Rattle.export_verilog.specs.Layout.{items_text}
+use Rattle.export_verilog.specs.ScopeModules.{scope_module}
+use Rattle.export_verilog.specs.Values.{value_expr}
+use Rattle.export_verilog.proofs.SameConnections.{joined_same, instance_same}
+use Rattle.export_verilog.proofs.SameStatements.{used_same}
+use Rattle.export_verilog.proofs.statements.push_call.Goals as goal
+
+pub returns-in_ok-push_instance : goal.returns-in_ok-push_instance
+unfolding items_text
+returns-in_ok-push_instance c =
+    let s = c.args.scope.now in
+    let v = c.args.names.now.values in
+    let m = scope_module s in
+    let d = design_of c.args.all.now.design.now in
+    let i = c.args.place in
+    let j = position_of (scope_ids s) c.args.id.index in
+    let o = op_read s c.args.op.now in
+    let x = instance_seen c.deref.result.now in
+    let q = c.as_bytes.result.now in
+    let called = c.callee_of-called.result in
+    let own = c.as_bytes-in-Instance.result.now in
+    let values = c.requires.names.values_are in
+    let given : ℕ → Name = λ k. name_or_nothing (named_of v (result j k)) in
+    let kind : instance_in (kind_of c.args.op.now.kind.now) ≡ Some x = ap (λ k. instance_in (kind_of k)) c.in-Instance.is ∙ ap (λ y. Some (instance_seen y)) (sym c.deref.ensures) in
+    let own_is : own ≡ key_text m (instance_key i) =
+    c.as_bytes-in-Instance.ensures ∙ c.index.ensures ∙ get_or_from_slice_get c.args.names.now.own.items i (key_text m (instance_key i)) _ (c.requires.names.own_are i o x c.requires.there kind) in
+    let results : (k : ℕ) → given k ≡ key_text m (value_key i k) = λ k. ap (λ n. name_or_nothing (named_of v (result n k))) c.requires.id ∙ ap name_or_nothing (values (result i k)) in
+    let joins : joined (value_expr s v) given 0 called.port_names.now (map port_of called.ports.now) o.operands ≡ connections_to (find_module d q) m i o =
+    joined_same m i (value_expr s v) given (used_same s v values) results (find_module d q) o called.port_names.now (map port_of called.ports.now) c.callee_of-called.ensures.ports
+    (c.callee_of-called.ensures.count ∙ sym (length-map called.ports.now port_of)) c.callee_of-called.ensures.names in
+    c.in_ok-push_instance.ensures
+    ∙ ap (λ is. c.args.out.now ++ items_text is [])
+    (instance_same d m i o x q called.symbol.now own (joined (value_expr s v) given 0 called.port_names.now (map port_of called.ports.now) o.operands) c.as_bytes.ensures c.callee_of-called.ensures.symbol own_is joins
+    ∙ sym (ap (instance_of d m i o) kind))

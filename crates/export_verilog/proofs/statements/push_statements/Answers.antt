@@ -1,0 +1,32 @@
+use Rattle.std.proofs.Common.{[], ◌++◌, sym, ◌∙◌, ap}
+use Rattle.ir_store.specs.Designs.{design_of}
+use Rattle.ir_store.specs.Numbered.{position_of}
+use Rattle.verilog_expr.specs.Scopes.{scope_ids, op_read}
+use Rattle.export_verilog.specs.Exported.{stated_as}
+use Rattle.export_verilog.specs.Layout.{items_text}
+use Rattle.export_verilog.specs.RoleViews.{role_seen}
+use Rattle.export_verilog.specs.ScopeModules.{scope_module}
+use Rattle.export_verilog.proofs.SameStatements.{net_same, variable_same}
+use Rattle.export_verilog.proofs.statements.push_statements.Goals as goal
+
+pub returns-in_ok-push_net-in-Net : goal.returns-in_ok-push_net-in-Net
+unfolding items_text
+returns-in_ok-push_net-in-Net c =
+    let s = c.args.scope.now in
+    let d = design_of c.args.all.now.design.now in
+    let i = c.args.place in
+    let o = op_read s c.args.op.now in
+    c.in_ok-push_net-in-Net.ensures
+    ∙ ap (λ is. c.args.out.now ++ items_text is [])
+    (net_same s c.args.names.now.values c.requires.names.values_are d i (position_of (scope_ids s) c.args.id.index) o c.requires.id ∙ ap (λ r. stated_as d (scope_module s) i o (role_seen r)) (sym c.in-Net.is))
+
+pub returns-in_ok-push_register-in-Variable : goal.returns-in_ok-push_register-in-Variable
+returns-in_ok-push_register-in-Variable c =
+    let s = c.args.scope.now in
+    let d = design_of c.args.all.now.design.now in
+    let i = c.args.place in
+    let o = op_read s c.args.op.now in
+    c.in_ok-push_register-in-Variable.ensures
+    ∙ ap (λ is. c.args.out.now ++ items_text is [])
+    (variable_same s c.args.names.now.values c.requires.names.values_are d i (position_of (scope_ids s) c.args.id.index) o c.requires.id c.name_text-name.result.now c.name_text-name.ensures
+    ∙ ap (λ r. stated_as d (scope_module s) i o (role_seen r)) (sym c.in-Variable.is))
