@@ -1,8 +1,7 @@
 //! What the operations of a body are in Verilog, and the names that are wanted for them.
-ghost use Rattle.std.specs.Prelude.{◌≡◌, map, codes, slice_get, IfOk};
+ghost use Rattle.std.specs.Prelude.{◌≡◌, slice_get, IfOk};
 ghost use Rattle.hw_model.specs.KindViews.{kind_of, instance_of};
-ghost use Rattle.ir_store.specs.DictionaryViews.{entry_of, attribute_of};
-ghost use Rattle.verilog_expr.specs.Spilling.{is_wire_kind, text_of, text_at};
+ghost use Rattle.verilog_expr.specs.Spilling.{is_wire_kind};
 ghost use Rattle.export_verilog.specs.Keys.{or_name, name_or_nothing, result_wish};
 ghost use Rattle.export_verilog.specs.Held.{role_by, own_wish, op_seen};
 ghost use Rattle.export_verilog.specs.RoleViews.{role_seen};
@@ -10,8 +9,8 @@ ghost use Rattle.export_verilog.specs.RoleViews.{role_seen};
 use hw_model::kinds::{Instance, OpKind};
 use io_edge::byte_text::Text;
 use ir_store::body::Op;
-use ir_store::dictionary::{Attribute, Entry};
 use std::alloc::{AllocError, Global};
+use verilog_expr::nesting::hint_in;
 
 /// What an operation is in Verilog.
 #[derive(Clone, Copy, Debug)]
@@ -37,28 +36,6 @@ pub fn role_of(kind: &OpKind, has_wire: bool) -> Role
         OpKind::Wire => Role::Net,
         _ => { if has_wire { Role::Net } else { Role::Hidden } }
     }
-}
-
-// The text that an attribute is, or none.
-fn text_of(value: &Attribute) -> &[u8]
-    ensures { result.now ≡ text_of (attribute_of value.now) }
-{
-    match value {
-        Attribute::String(text) => text.as_bytes(),
-        _ => &[],
-    }
-}
-
-// The name that is wanted in a dictionary, or none (CIRCT, `sv.namehint`).
-fn hint_in(entries: &[Entry]) -> &[u8]
-    ensures { result.now ≡ text_at (codes "sv.namehint") (map entry_of entries.now) }
-{
-    for entry in entries {
-        if entry.key.as_bytes() == b"sv.namehint".as_slice() {
-            return text_of(&entry.value);
-        }
-    }
-    &[]
 }
 
 // A name, or another one in place of an empty one.

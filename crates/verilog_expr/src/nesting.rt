@@ -52,26 +52,33 @@ fn is_pure(kind: &OpKind) -> bool
     }
 }
 
-// Whether an attribute is a text that is not empty.
-fn is_some_text(value: &Attribute) -> bool
-    ensures { result ≡ is_nonempty (text_of (attribute_of value.now)) }
+// The text that an attribute is, or none.
+fn text_of(value: &Attribute) -> &[u8]
+    ensures { result.now ≡ text_of (attribute_of value.now) }
 {
     match value {
-        Attribute::String(text) => !text.is_empty(),
-        _ => false,
+        Attribute::String(text) => text.as_bytes(),
+        _ => &[],
     }
 }
 
-// Whether a name is wanted (CIRCT, `sv.namehint`).
-fn has_hint(entries: &[Entry]) -> bool
-    ensures { result ≡ is_nonempty (text_at (codes "sv.namehint") (map entry_of entries.now)) }
+/// The name that is wanted in a dictionary, or none (CIRCT, `sv.namehint`).
+pub fn hint_in(entries: &[Entry]) -> &[u8]
+    ensures { result.now ≡ text_at (codes "sv.namehint") (map entry_of entries.now) }
 {
     for entry in entries {
         if entry.key.as_bytes() == b"sv.namehint".as_slice() {
-            return is_some_text(&entry.value);
+            return text_of(&entry.value);
         }
     }
-    false
+    &[]
+}
+
+// Whether a name is wanted.
+fn has_hint(entries: &[Entry]) -> bool
+    ensures { result ≡ is_nonempty (text_at (codes "sv.namehint") (map entry_of entries.now)) }
+{
+    !hint_in(entries).is_empty()
 }
 
 // What an operation is, by the mark of its first result.

@@ -3,7 +3,7 @@ use Rattle.hw_model.specs.Design.{same_name}
 use Rattle.ir_store.specs.DictionaryViews.{entry_of}
 use Rattle.verilog_expr.specs.Spilling.{text_at}
 use Rattle.verilog_expr.proofs.PartsMarked.{hint_step, hint_here, hint_none}
-use Rattle.export_verilog.proofs.wishes.hint_in.Goals as goal
+use Rattle.verilog_expr.proofs.nesting.hint_in.Goals as goal
 
 pub loop-entry-preserved : goal.loop-entry-preserved
 loop-entry-preserved c =
