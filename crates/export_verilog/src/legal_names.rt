@@ -12,8 +12,8 @@ use ir_store::design::Design;
 use name_legalise::names::legal_list;
 use std::alloc::{AllocError, Global};
 
-// More names than this want more memory than there is.
-const MOST_NAMES: usize = 4_000_000_000;
+/// More names than this want more memory than there is.
+pub const MOST_NAMES: usize = 4_000_000_000;
 
 // The legal names of wanted ones, in order. The error is want of memory, as with more than 4,000,000,000 names.
 fn legal_texts(alloc: Global, wanted: &[Text]) -> Result<Vec<Text>, AllocError>

@@ -6,6 +6,7 @@ ghost use Rattle.name_legalise.specs.LegalViews.{legal_names};
 ghost use Rattle.export_verilog.specs.Held.{op_seen, result_wishes, op_wishes, op_results, op_own_name};
 ghost use Rattle.export_verilog.specs.RoleViews.{role_seen};
 
+use crate::legal_names::MOST_NAMES;
 use crate::wishes::{Role, own_wish, result_wish};
 use hw_model::kinds::{Instance, OpKind};
 use io_edge::byte_text::Text;
@@ -13,9 +14,6 @@ use ir_store::body::Op;
 use name_legalise::names::Names;
 use std::alloc::{AllocError, Global};
 use verilog_expr::value_names::NameList;
-
-// More names than this want more memory than there is.
-const MOST_NAMES: usize = 4_000_000_000;
 
 /// The names of the things of an operation.
 #[derive(Drop)]
