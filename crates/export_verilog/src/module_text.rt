@@ -82,6 +82,16 @@ pub fn push_module(
     let ids = ids_in(alloc, &module.body)?;
     let names = module_names(alloc, &scope, &wires, ports)?;
     let name = symbol_at(all, number);
-    push_under(alloc, out, all, name, &scope, &names, &wires, ids.as_slice(), ports)?;
+    push_under(
+        alloc,
+        out,
+        all,
+        name,
+        &scope,
+        &names,
+        &wires,
+        ids.as_slice(),
+        ports,
+    )?;
     Ok(())
 }
