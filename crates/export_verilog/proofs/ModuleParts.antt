@@ -8,7 +8,7 @@ use Rattle.hw_model.specs.Design.{Port, Module, Design}
 use Rattle.verilog_model.specs.Tree.{VPort, Item, VModule, Tree}
 use Rattle.export_verilog.specs.Keys.{each, key_text}
 use Rattle.export_verilog.specs.Keys.Key.{port_key}
-use Rattle.export_verilog.specs.Exported.{vport, vports, vmodule, tree_of}
+use Rattle.export_verilog.specs.Exported.{vport, vports, vmodule}
 use Rattle.export_verilog.specs.Layout.{Text, port_text, port_lines, ports_text, items_text, module_text, further_text, tree_text, verilog_text}
 use Rattle.export_verilog.specs.Written.{port_named, ports_named}
 use Rattle.export_verilog.proofs.Rests.{port_rest, four_parts}

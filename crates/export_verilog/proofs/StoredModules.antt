@@ -1,17 +1,15 @@
 -- A module of a stored design, by its number: what a scope of it is, and its text under its name.
-use Rattle.std.proofs.Common.{◌≡◌, ℕ, zero, suc, false, List, [], ◌∷◌, ◌++◌, map, length, slice_get, Some, refl, sym, ◌∙◌, ap, ap₂, subst, arith}
+use Rattle.std.proofs.Common.{◌≡◌, ℕ, zero, suc, false, List, [], ◌∷◌, ◌++◌, map, length, slice_get, Some, sym, ◌∙◌, ap, ap₂, subst}
 use Rattle.std.proofs.lemmas.List.{length-map}
 use Rattle.hw_model.specs.Types.{Name}
 use Rattle.hw_model.specs.Design.{Port, Op, Module, Design}
 use Rattle.ir_store.specs.Designs.{StoredModule, numbered_module}
 use Rattle.ir_store.specs.Numbered.{numbered}
-use Rattle.name_legalise.specs.Legal.{legal}
 use Rattle.name_legalise.proofs.Legals.{legal_count}
 use Rattle.export_verilog.specs.Exported.{symbol_names, symbol_name, vmodule}
 use Rattle.export_verilog.specs.Layout.{Text, module_text}
 use Rattle.export_verilog.specs.ModuleTexts.{module_under}
 use Rattle.export_verilog.specs.WritableDesigns.{IsWritableModule, IsWritableDesign}
-use Rattle.export_verilog.specs.Written.{AreNarrow}
 use Rattle.export_verilog.proofs.Symbols.{among_at}
 use Rattle.export_verilog.proofs.SameModules.{under_same}
 

@@ -1,10 +1,8 @@
 -- The text of a design, module by module.
-use Rattle.std.specs.Prelude.{ℕ, zero, suc, []}
 use Rattle.hw_model.specs.Types.{Name}
 use Rattle.hw_model.specs.Design.{Module, Design}
-use Rattle.verilog_model.specs.Tree.{VModule, Tree}
+use Rattle.verilog_model.specs.Tree.{VModule}
 use Rattle.export_verilog.specs.Exported.{vports, vitems}
-use Rattle.export_verilog.specs.Layout.{Text, tree_text, further_text}
 
 -- a module of a design, under a name (IEEE 1364-2005, 12.1: modules)
 abbrev pub module_under : Design → Name → Module → VModule

@@ -1,5 +1,5 @@
 //! The text of a whole design.
-ghost use Rattle.std.specs.Prelude.{◌≡◌, ◌<◌, ◌++◌, [], cond, codes, OnOk, IfOk};
+ghost use Rattle.std.specs.Prelude.{◌≡◌, ◌++◌, [], cond, codes, OnOk, IfOk};
 ghost use Rattle.ir_store.specs.Designs.{design_of};
 ghost use Rattle.export_verilog.specs.Aggregates.{HasNoAggregates};
 ghost use Rattle.export_verilog.specs.Layout.{verilog_text};

@@ -1,4 +1,4 @@
-use Rattle.std.proofs.Common.{[], ◌++◌, ap, sym, ◌∙◌}
+use Rattle.std.proofs.Common.{[], ◌++◌, ap, ◌∙◌}
 use Rattle.ir_store.specs.Designs.{design_of}
 use Rattle.verilog_expr.specs.Scopes.{scope_ports}
 use Rattle.export_verilog.specs.Exported.{vports, vitems}
