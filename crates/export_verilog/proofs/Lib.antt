@@ -50,3 +50,10 @@ pub mod Listed
 pub mod PortNames
 pub mod Adding
 pub mod Walking
+pub mod WrittenItems
+pub mod ItemRests
+pub mod RegisterItems
+pub mod ValueWires
+pub mod Joining
+pub mod InstanceParts
+pub mod SameNames

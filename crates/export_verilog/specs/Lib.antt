@@ -11,3 +11,8 @@ pub mod WrittenViews
 pub mod Held
 pub mod RoleViews
 pub mod Walks
+pub mod ModuleNames
+pub mod Values
+pub mod RegisterViews
+pub mod Statements
+pub mod Joined

@@ -3,14 +3,19 @@
 
 mod acceptance;
 pub mod aggregates;
+pub mod assigns;
 pub mod blocks;
 pub mod body_names;
+pub mod connections;
+pub mod declarations;
 pub mod instances;
 mod laws;
 pub mod legal_names;
 pub mod lines;
 pub mod op_names;
 pub mod ports;
+pub mod register_blocks;
+pub mod values;
 pub mod wishes;
 
 pub use acceptance::{accepted_designs_are_exportable, stored_designs_have_room};

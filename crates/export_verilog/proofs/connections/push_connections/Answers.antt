@@ -1,0 +1,33 @@
+use Rattle.std.proofs.Common.{◌≡◌, ℕ, ◌+◌, ◌≤◌, Bool, true, false, cond, not, [], ◌++◌, map, refl, sym, ap, arith}
+use Rattle.hw_model.specs.Types.{Name}
+use Rattle.hw_model.specs.Design.Ref.{result}
+use Rattle.ir_store.specs.Designs.{port_of}
+use Rattle.ir_store.specs.Numbered.{position_of}
+use Rattle.verilog_expr.specs.Scopes.{scope_ids, scope_ref}
+use Rattle.verilog_expr.specs.Named.{named_of}
+use Rattle.export_verilog.specs.Keys.{name_or_nothing}
+use Rattle.export_verilog.specs.Values.{value_expr}
+use Rattle.export_verilog.specs.Written.{connections_left}
+use Rattle.export_verilog.specs.Joined.{joined}
+use Rattle.export_verilog.proofs.Joining.{joined_by}
+use Rattle.export_verilog.proofs.connections.push_connections.Goals as goal
+
+counted_within : (b : Bool) (k j : ℕ) → k ≤ j → cond b (k + 1) k ≤ j + 1
+counted_within true k j le = omega (arith, le)
+counted_within false k j le = omega (arith, le)
+
+pub loop-j-preserved : goal.loop-j-preserved
+loop-j-preserved c =
+    let s = c.args.scope.now in
+    let v = c.args.names.now in
+    let i = position_of (scope_ids s) c.args.id.index in
+    let given : ℕ → Name = λ k. name_or_nothing (named_of v (result i k)) in
+    record {
+      bytes = joined_by port_of (scope_ref s) (value_expr s v) given c.args.port_names.now c.args.ports.now c.args.operands.now c.loop-j.j c.loop-j.results c.loop-j.inputs
+          c.counted-results.result c.counted-inputs.result c.index-port_names-j.result c.in_ok-value.value c.index-ports-j.result _ _ c.loop-j.out c.push_connection.new.out
+          (c.args.out.now ++ connections_left (joined (value_expr s v) given 0 c.args.port_names.now (map port_of c.args.ports.now) (map (scope_ref s) c.args.operands.now)) [])
+          (ap (λ p. p.out) (sym c.index-ports-j.is)) c.requires.count (omega (arith, c.loop-j-test.true)) c.index-port_names-j.is c.index-ports-j.is refl c.in_ok-value.ensures c.counted-results.ensures c.counted-inputs.ensures c.loop-j.invariant.bytes
+          (rw (sym c.line_end.ensures, sym c.as_bytes.ensures, sym c.as_bytes-in-loop-j.ensures) c.in_ok-push_connection.ensures);
+      results = rw c.counted-results.ensures (counted_within _ c.loop-j.results c.loop-j.j c.loop-j.invariant.results);
+      inputs = rw c.counted-inputs.ensures (counted_within _ c.loop-j.inputs c.loop-j.j c.loop-j.invariant.inputs);
+    }
