@@ -4,7 +4,7 @@ use Rattle.verilog_model.specs.Tree.{Numeral, Expr, Exprs, VPort, Load, Connecti
 use Rattle.verilog_model.specs.Tree.Expr.{name, bit_select, part_select, literal, joined, repeated, as_signed, as_unsigned, paren, odd, binary, choice}
 use Rattle.verilog_model.specs.Tree.Exprs.{last, more}
 use Rattle.verilog_model.specs.Grammar.{base_mark, direction}
-use Rattle.verilog_expr.specs.Text.{operator_text, expr_text, exprs_text}
+use Rattle.verilog_expr.specs.Text.{question_text, operator_text, expr_text, exprs_text}
 use Rattle.export_verilog.specs.Layout.{Text, range_text, port_text, load_text, if_text, connection_text}
 use Rattle.export_verilog.specs.Written.{written, written_load, otherwise_text}
 
@@ -44,9 +44,9 @@ mutual
       ∙ ap (expr_text e) (sym (append_assoc (operator_text o) (expr_text f a) b))
       ∙ expr_rest e (operator_text o ++ expr_text f a) b
   expr_rest (choice c e f) a b =
-      ap (λ x. expr_text c (codes " ? " ++ expr_text e (codes " : " ++ x))) (expr_rest f a b)
-      ∙ ap (λ x. expr_text c (codes " ? " ++ x)) (expr_rest e (codes " : " ++ expr_text f a) b)
-      ∙ expr_rest c (codes " ? " ++ expr_text e (codes " : " ++ expr_text f a)) b
+      ap (λ x. expr_text c (question_text ++ expr_text e (codes " : " ++ x))) (expr_rest f a b)
+      ∙ ap (λ x. expr_text c (question_text ++ x)) (expr_rest e (codes " : " ++ expr_text f a) b)
+      ∙ expr_rest c (question_text ++ expr_text e (codes " : " ++ expr_text f a)) b
 
   exprs_rest : (es : Exprs) (a b : Text) → exprs_text es (a ++ b) ≡ exprs_text es a ++ b
   exprs_rest (last e) a b = expr_rest e a b

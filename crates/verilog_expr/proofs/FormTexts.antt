@@ -7,7 +7,7 @@ use Rattle.verilog_model.specs.Tree.Expr.{repeated, paren, odd, binary}
 use Rattle.verilog_model.specs.Tree.Exprs.{last}
 use Rattle.verilog_model.specs.Grammar.{level, strength, primary_level}
 use Rattle.verilog_expr.specs.Building.{literal_of, unsigned, placed, unsigned_at, chained, signed_pair, unsigned_shift, signed_shift, unsigned_division, signed_division, exprs_of, concatenation, conditional}
-use Rattle.verilog_expr.specs.Text.{operator_text, expr_text, exprs_text}
+use Rattle.verilog_expr.specs.Text.{question_text, operator_text, expr_text, exprs_text}
 use Rattle.verilog_expr.specs.Forms.{operator_of, before, operand_text, form_text}
 use Rattle.verilog_expr.specs.declared.form.Operator.{Operator}
 use Rattle.verilog_expr.specs.declared.form.Form.TheVariants.{Same, Chain, SignedPair, UnsignedShift, SignedShift, UnsignedDivision, SignedDivision, Parity, Braces, Copies, Choice}
@@ -126,7 +126,7 @@ copies_text n a =
 pub choice_text : (c a b : Expr) → expr_text (conditional c a b) [] ≡ form_text Choice 0 (c ∷ a ∷ b ∷ [])
 unfolding expr_text
 choice_text c a b =
-    text_behind (placed 2 c) (codes " ? " ++ expr_text (unsigned a) (codes " : " ++ expr_text (unsigned_at 1 b) []))
-    ∙ ap (λ x. expr_text (placed 2 c) [] ++ (codes " ? " ++ x)) (text_behind (unsigned a) (codes " : " ++ expr_text (unsigned_at 1 b) []))
-    ∙ sym (ap (λ x. expr_text (placed 2 c) [] ++ (codes " ? " ++ (x ++ (codes " : " ++ expr_text (unsigned_at 1 b) [])))) (plain (unsigned a)))
-    ∙ sym (ap (λ x. expr_text (placed 2 c) [] ++ (codes " ? " ++ (expr_text (placed 0 (unsigned a)) [] ++ (codes " : " ++ x)))) (append-nil (expr_text (unsigned_at 1 b) [])))
+    text_behind (placed 2 c) (question_text ++ expr_text (unsigned a) (codes " : " ++ expr_text (unsigned_at 1 b) []))
+    ∙ ap (λ x. expr_text (placed 2 c) [] ++ (question_text ++ x)) (text_behind (unsigned a) (codes " : " ++ expr_text (unsigned_at 1 b) []))
+    ∙ sym (ap (λ x. expr_text (placed 2 c) [] ++ (question_text ++ (x ++ (codes " : " ++ expr_text (unsigned_at 1 b) [])))) (plain (unsigned a)))
+    ∙ sym (ap (λ x. expr_text (placed 2 c) [] ++ (question_text ++ (expr_text (placed 0 (unsigned a)) [] ++ (codes " : " ++ x)))) (append-nil (expr_text (unsigned_at 1 b) [])))

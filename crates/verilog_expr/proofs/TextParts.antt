@@ -3,7 +3,7 @@ use Rattle.std.proofs.Common.{◌≡◌, ℕ, List, [], ◌++◌, codes, sym, ap
 use Rattle.verilog_model.specs.Tree.{Expr, Exprs}
 use Rattle.verilog_model.specs.Tree.Expr.{name, bit_select, part_select, literal, joined, repeated, as_signed, as_unsigned, paren, odd, binary, choice}
 use Rattle.verilog_model.specs.Tree.Exprs.{last, more}
-use Rattle.verilog_expr.specs.Text.{operator_text, expr_text, exprs_text}
+use Rattle.verilog_expr.specs.Text.{question_text, operator_text, expr_text, exprs_text}
 
 -- what stands in front of any rest stands in front of a rest with more behind it
 moved : (E : List ℕ) (f : List ℕ → List ℕ) → ((x : List ℕ) → f x ≡ E ++ x) → (x bs : List ℕ) → f (x ++ bs) ≡ f x ++ bs
@@ -30,9 +30,9 @@ mutual
       ∙ sym (ap (expr_text a) (append_assoc (operator_text o) (expr_text b []) bs))
       ∙ moved (expr_text a []) (expr_text a) (text_behind a) (operator_text o ++ expr_text b []) bs
   text_behind (choice c a b) bs =
-      ap (λ x. expr_text c (codes " ? " ++ expr_text a (codes " : " ++ x))) (text_behind b bs)
-      ∙ ap (λ x. expr_text c (codes " ? " ++ x)) (moved (expr_text a []) (expr_text a) (text_behind a) (codes " : " ++ expr_text b []) bs)
-      ∙ moved (expr_text c []) (expr_text c) (text_behind c) (codes " ? " ++ expr_text a (codes " : " ++ expr_text b [])) bs
+      ap (λ x. expr_text c (question_text ++ expr_text a (codes " : " ++ x))) (text_behind b bs)
+      ∙ ap (λ x. expr_text c (question_text ++ x)) (moved (expr_text a []) (expr_text a) (text_behind a) (codes " : " ++ expr_text b []) bs)
+      ∙ moved (expr_text c []) (expr_text c) (text_behind c) (question_text ++ expr_text a (codes " : " ++ expr_text b [])) bs
 
   pub texts_behind : (es : Exprs) (bs : List ℕ) → exprs_text es bs ≡ exprs_text es [] ++ bs
   texts_behind (last e) bs = text_behind e bs

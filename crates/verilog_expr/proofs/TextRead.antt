@@ -11,7 +11,7 @@ use Rattle.verilog_model.specs.Tree.Exprs.{last, more}
 use Rattle.verilog_model.specs.Grammar.{base_mark, operator_token, expr_spelled, exprs_spelled}
 use Rattle.verilog_model.proofs.Numerals.{all_bytes-append, is_nonempty-append}
 use Rattle.verilog_model.proofs.Reread.{begins_no_word, pieces_word}
-use Rattle.verilog_expr.specs.Text.{operator_text, expr_text, exprs_text}
+use Rattle.verilog_expr.specs.Text.{question_text, operator_text, expr_text, exprs_text}
 
 -- a word: some bytes, all of words
 pub record IsWord (w : Name) : Type 0 where
@@ -130,7 +130,7 @@ mutual
       expr_read a (operator_text o ++ expr_text b rest) is.0 (operator_apart o (expr_text b rest))
       ∙ ap (expr_spelled a) (operator_read o (expr_text b rest) ∙ ap (λ ts. operator_token o ∷ ts) (expr_read b rest is.1 apart))
   expr_read (choice c a b) rest is apart =
-      expr_read c (codes " ? " ++ expr_text a (codes " : " ++ expr_text b rest)) is.0 refl
+      expr_read c (question_text ++ expr_text a (codes " : " ++ expr_text b rest)) is.0 refl
       ∙ ap (λ ts. expr_spelled c (mark 63 ∷ ts)) (expr_read a (codes " : " ++ expr_text b rest) is.1.0 refl
       ∙ ap (λ ts. expr_spelled a (mark 58 ∷ ts)) (expr_read b rest is.1.1 apart))
 

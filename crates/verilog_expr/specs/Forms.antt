@@ -5,7 +5,7 @@ use Rattle.verilog_model.specs.Tree.{Expr}
 use Rattle.verilog_model.specs.Tree.Operator.{times, over, modulo, plus, minus, left_shift, right_shift, signed_right_shift, below, at_most, above, at_least, equals, differs, bit_and, bit_xor, bit_or}
 use Rattle.verilog_model.specs.Grammar.{strength}
 use Rattle.verilog_expr.specs.Building.{literal_of, unsigned, placed}
-use Rattle.verilog_expr.specs.Text.{operator_text, expr_text}
+use Rattle.verilog_expr.specs.Text.{question_text, operator_text, expr_text}
 use Rattle.verilog_expr.specs.declared.form.Operator.{Operator}
 use Rattle.verilog_expr.specs.declared.form.Operator.TheVariants as signs
 use Rattle.verilog_expr.specs.declared.form.Form.{Form}
@@ -69,7 +69,7 @@ before (SignedDivision o w d) i = codes "$signed("
 before Parity i = codes "^"
 before Braces i = cond (i == 0) (codes "{") (codes ", ")
 before (Copies n) i = codes "{" ++ (decimal n ++ codes "{")
-before Choice i = cond (i == 0) [] (cond (i == 1) (codes " ? ") (codes " : "))
+before Choice i = cond (i == 0) [] (cond (i == 1) question_text (codes " : "))
 
 -- behind the last operand
 abbrev pub behind : Form → List ℕ

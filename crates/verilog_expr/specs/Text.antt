@@ -1,6 +1,6 @@
 -- The text of an expression: one blank on each side of a binary operator, of `?` and of `:` in `?:`, one after a comma,
 -- and none elsewhere. The rest of the text is an argument.
-use Rattle.std.specs.Prelude.{ℕ, List, ◌++◌, codes}
+use Rattle.std.specs.Prelude.{ℕ, List, [], ◌∷◌, ◌++◌, codes}
 use Rattle.verilog_model.specs.Tree.{Operator, Expr, Exprs}
 use Rattle.verilog_model.specs.Tree.Operator.{times, over, modulo, plus, minus, left_shift, right_shift, signed_right_shift, below, at_most, above, at_least, equals, differs, bit_and, bit_xor, bit_or}
 use Rattle.verilog_model.specs.Tree.Expr.{name, bit_select, part_select, literal, joined, repeated, as_signed, as_unsigned, paren, odd, binary, choice}
@@ -27,6 +27,10 @@ operator_text bit_and = codes " & "
 operator_text bit_xor = codes " ^ "
 operator_text bit_or = codes " | "
 
+-- the question mark of a choice between blanks (IEEE 1364-2005, 5.1.13: conditional operator)
+abbrev pub question_text : List ℕ
+question_text = 32 ∷ 63 ∷ 32 ∷ []
+
 unfoldable mutual
   pub expr_text : Expr → List ℕ → List ℕ
   expr_text (name n) bs = n ++ bs
@@ -40,7 +44,7 @@ unfoldable mutual
   expr_text (paren e) bs = codes "(" ++ expr_text e (codes ")" ++ bs)
   expr_text (odd e) bs = codes "^" ++ expr_text e bs
   expr_text (binary o a b) bs = expr_text a (operator_text o ++ expr_text b bs)
-  expr_text (choice c a b) bs = expr_text c (codes " ? " ++ expr_text a (codes " : " ++ expr_text b bs))
+  expr_text (choice c a b) bs = expr_text c (question_text ++ expr_text a (codes " : " ++ expr_text b bs))
 
   pub exprs_text : Exprs → List ℕ → List ℕ
   exprs_text (last e) bs = expr_text e bs
