@@ -246,8 +246,8 @@ fn is_sum_form(op: &Op<'_>, width: u32) -> bool
     ensures { result ≡ is_sum_form width (kind_of op.now.kind.now) (types_in op.now.types.now) (results_in op.now.results.now) op.now.named }
 {
     is_add(op.kind)
-        && (is_one_int(width, &op.types.types)
-            && (is_one_result(width, &op.results.results) && op.named == 1))
+        && (is_one_int(width, op.types.as_slice())
+            && (is_one_result(width, op.results.as_slice()) && op.named == 1))
 }
 
 /// Whether an operation is an output of this width.
@@ -255,7 +255,7 @@ fn is_output_form(op: &Op<'_>, width: u32) -> bool
     ensures { result ≡ is_output_form width (kind_of op.now.kind.now) (types_in op.now.types.now) (results_in op.now.results.now) op.now.named }
 {
     is_output(op.kind)
-        && (is_one_int(width, &op.types.types) && (op.results.results.is_empty() && op.named == 0))
+        && (is_one_int(width, op.types.as_slice()) && (op.results.as_slice().is_empty() && op.named == 0))
 }
 
 /// Whether an operation has no name of its own, no attributes and no mark.

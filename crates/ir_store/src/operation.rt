@@ -197,6 +197,20 @@ impl TyList {
         }
     }
 
+    /// Makes room for so many more types. The types stay.
+    pub fn reserve(&mut self, alloc: Global, more: usize) -> Result<(), AllocError>
+        ensures { OnOk result (type_items self.new ≡ type_items self.old) }
+    {
+        match self {
+            TyList::Empty => {
+                *self = TyList::with_room(alloc, more)?;
+                Ok(())
+            }
+            TyList::One(_) => Ok(()),
+            TyList::Many(types) => types.reserve(more),
+        }
+    }
+
     /// Puts a type behind the others. A first one takes no memory.
     pub fn push(&mut self, alloc: Global, ty: Ty) -> Result<(), AllocError>
         ensures { OnOk result (type_items self.new ≡ type_items self.old ++ ty ∷ []) }

@@ -41,9 +41,7 @@ impl<'s> Gathered<'s> {
     {
         Gathered {
             operands: SmallVec::new(alloc),
-            types: TyList {
-                types: Vec::new(alloc),
-            },
+            types: TyList::new(),
             extra: Extra::Nothing,
         }
     }

@@ -186,8 +186,7 @@ impl<'s> Reader<'s> {
         ensures shorter { OnOk result (length self.new ≤ length self.old) }
     {
         let truth = self.truth_text(op)?;
-        gathered.types.types.reserve_exact(1)?;
-        gathered.types.types.push(Ty::Int(1))?;
+        gathered.types.push(self.alloc(), Ty::Int(1))?;
         gathered.extra = Extra::Number(Integer::NonNegative(u128::from(truth)));
         Ok(())
     }
@@ -287,8 +286,7 @@ impl<'s> Reader<'s> {
         ensures shorter { OnOk result (length self.new ≤ length self.old) }
     {
         let ty = self.any_type(op)?;
-        gathered.types.types.reserve_exact(1)?;
-        gathered.types.types.push(ty)?;
+        gathered.types.push(self.alloc(), ty)?;
         Ok(())
     }
 
@@ -312,8 +310,8 @@ impl<'s> Reader<'s> {
             return Ok(());
         }
         let ty = self.any_type(op)?;
-        types.types.reserve_exact(count)?;
-        types.types.push(ty)?;
+        types.reserve(self.alloc(), count)?;
+        types.push(self.alloc(), ty)?;
         self.further_types(op, count - 1, types)
     }
 
@@ -343,7 +341,7 @@ impl<'s> Reader<'s> {
     {
         self.want(op, TokenKind::Comma)?;
         let ty = self.any_type(op)?;
-        types.types.push(ty)?;
+        types.push(self.alloc(), ty)?;
         Ok(())
     }
 }
