@@ -57,8 +57,8 @@ types_seen : (rs : List NewResult) → map (λ (r : OpResult). r.type) (map resu
 types_seen [] = refl
 types_seen (r ∷ rs) = ap (λ (ts : List HwType). type_of r.ty ∷ ts) (types_seen rs)
 
-pub result_types_seen : (l : NewResultList) → result_types_in l ≡ map (λ (r : NewResult). type_of r.ty) result_items l
-result_types_seen l = types_seen result_items l
+pub result_types_seen : (l : NewResultList) → result_types_in l ≡ map (λ (r : NewResult). type_of r.ty) (result_items l)
+result_types_seen l = types_seen (result_items l)
 
 -- the same of items that are a list's
 pub types_of_items : (xs : List Ty) (l : TyList) → xs ≡ type_items l → map type_of xs ≡ types_in l
