@@ -78,18 +78,6 @@ impl<'s> Reader<'s> {
         }
     }
 
-    // A token that is always the same.
-    #[tactic(auto, unfolding(crate::specs::PieceText::piece_text))]
-    fn mark_piece(&mut self, op: OpName, kind: TokenKind) -> Result<(), ReadFail>
-        ensures gives { (g : Gathering) → ReadsAs (λ (_ : Unit {0}). g) result self.new (piece_text op (piece.Mark kind) g self.old) }
-        ensures shorter { OnOk result (length self.new ≤ length self.old) }
-    {
-        match self.want(op, kind) {
-            Ok(_) => Ok(()),
-            Err(fail) => Err(fail),
-        }
-    }
-
     // A word that is always the same.
     #[tactic(auto, unfolding(crate::specs::PieceText::piece_text))]
     fn word_piece(&mut self, op: OpName, word: Keyword) -> Result<(), ReadFail>

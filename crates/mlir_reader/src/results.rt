@@ -100,11 +100,7 @@ fn marked_results(
 }
 
 // Adds a result of no type for each mark.
-fn add_untyped(
-    alloc: Global,
-    results: &mut NewResultList,
-    marks: &[bool],
-) -> Result<(), AllocError>
+fn add_untyped(alloc: Global, results: &mut NewResultList, marks: &[bool]) -> Result<(), AllocError>
     ensures { OnOk result (results_in results.new ≡ results_in results.old ++ marked_results [] marks.now) }
 {
     for again in marks {
