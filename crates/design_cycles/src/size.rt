@@ -116,7 +116,7 @@ fn weight_at(design: &Design, body: &Body, ids: &[OpId], position: usize, weight
 {
     let op = op_at(body, ids, position);
     let inner = inner_weight(weights, callee_of(design, body, ids, position));
-    op_weight(op.kind, op.types.types.as_slice(), op.operands.len(), inner)
+    op_weight(op.kind, op.types.as_slice(), op.operands.len(), inner)
 }
 
 /// The weight that is kept of a module, where there is one.

@@ -18,7 +18,7 @@ fn bits(alloc: Global, count: usize) -> Result<TyList, AllocError> {
     for _ in 0..count {
         types.push(Ty::Int(1))?;
     }
-    Ok(TyList { types })
+    Ok(TyList::of(types))
 }
 
 // so many results of one bit
@@ -30,7 +30,7 @@ fn bit_results(alloc: Global, count: usize) -> Result<NewResultList, AllocError>
             again: false,
         })?;
     }
-    Ok(NewResultList { results })
+    Ok(NewResultList::of(results))
 }
 
 // an operation on bits

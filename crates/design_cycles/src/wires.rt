@@ -85,7 +85,7 @@ fn size_at(
     let op = op_at(body, ids, position);
     match sort_of(op.kind) {
         Sort::Register | Sort::Gives => 0,
-        Sort::Made => op.results.results.len(),
+        Sort::Made => op.results.len(),
         Sort::Calls(instance) => {
             rows_at(summaries, design.find(instance.symbol.as_bytes())).len()
         }
@@ -201,7 +201,7 @@ fn push_op(
     let op = op_at(body, ids, position);
     match sort_of(op.kind) {
         Sort::Register | Sort::Gives => Ok(()),
-        Sort::Made => push_made(alloc, layout, op.operands, op.results.results.len(), graph),
+        Sort::Made => push_made(alloc, layout, op.operands, op.results.len(), graph),
         Sort::Calls(instance) => {
             let rows = rows_at(summaries, design.find(instance.symbol.as_bytes()));
             push_instance(alloc, layout, op.operands, rows, graph)

@@ -69,7 +69,7 @@ fn has_aggregate(op: &Op<'_>) -> bool
     ensures { (body : _) → result ≡ has_aggregate (op_view body op.now) }
 {
     is_aggregate_kind(op.kind)
-        || (some_aggregate(&op.types.types) || gives_aggregate(&op.results.results))
+        || (some_aggregate(op.types.as_slice()) || gives_aggregate(op.results.as_slice()))
 }
 
 /// Whether one of the ports is of a type of aggregates.

@@ -119,7 +119,7 @@ pub fn add_op(
         Role::Net | Role::Variable => add_value(alloc, names, own_wish(op)),
         Role::Block => match op.kind {
             OpKind::Instance(instance) => {
-                add_instance(alloc, names, instance, op.results.results.len())
+                add_instance(alloc, names, instance, op.results.len())
             }
             _ => Ok(no_names(alloc)),
         },

@@ -48,7 +48,7 @@ pub fn push_declarations(
     ensures { OnOk result (out.new ≡ out.old ++ items_text (declared_as (scope_module scope.now) place (op_read scope.now op.now) (role_seen role)) []) }
 {
     let _ = place;
-    let Ok(count) = u32::try_from(op.results.results.len()) else {
+    let Ok(count) = u32::try_from(op.results.len()) else {
         return Err(AllocError);
     };
     push_declared(out, scope, &names.values, id, count, role)?;

@@ -15,8 +15,8 @@ fn operation(alloc: Global, kind: OpKind, operands: &[Value]) -> Result<NewOp, A
     Ok(NewOp {
         kind,
         operands: SmallVec::from_slice(alloc, operands)?,
-        types: TyList::new(alloc),
-        results: NewResultList::new(alloc),
+        types: TyList::new(),
+        results: NewResultList::new(),
         named: 0,
         name: Text::new(alloc),
         dictionary: Dictionary::new(alloc),

@@ -144,7 +144,7 @@ fn push_results(
 ) -> Result<(), AllocError>
     ensures { OnOk result (out.new ≡ out.old ++ results_bytes (results_named (read_parts op.now) (drop first (names_held names.now)))) }
 {
-    let results = op.results.results.len();
+    let results = op.results.len();
     if !is_pack(op.kind, results) {
         push_names(out, names, first, name_count(op))?;
         return Ok(());
@@ -199,8 +199,8 @@ fn pending_of<'d>(op: &Op<'d>) -> Pending<'d>
 {
     Pending {
         operands: op.operands,
-        types: &op.types.types,
-        said: said_of(op.kind, &op.types.types),
+        types: op.types.as_slice(),
+        said: said_of(op.kind, op.types.as_slice()),
     }
 }
 

@@ -241,7 +241,7 @@ impl ValueNames {
     {
         let first = self.ids.len() as u32;
         self.take_results(alloc, op)?;
-        let results = op.results.results.len();
+        let results = op.results.len();
         let pack = is_pack(op.kind, results);
         let count = if pack { results } else { name_count(op) };
         Ok(Place { first, count, pack })
@@ -256,10 +256,10 @@ impl ValueNames {
     {
         match op.kind {
             OpKind::Constant(value) => {
-                self.take_constant(alloc, &op.types.types, *value)?;
+                self.take_constant(alloc, op.types.as_slice(), *value)?;
             }
             OpKind::StructExplode => {
-                if op.results.results.len() > 0 {
+                if op.results.len() > 0 {
                     self.take_number()?;
                 }
             }

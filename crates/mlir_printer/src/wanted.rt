@@ -47,7 +47,7 @@ pub fn name_count(op: &Op<'_>) -> usize
     ensures { result ≡ name_count (read_parts op.now) }
 {
     match op.kind {
-        OpKind::StructExplode => op.results.results.len().min(1),
+        OpKind::StructExplode => op.results.len().min(1),
         OpKind::Instance(instance) => instance.outputs.len(),
         OpKind::Output => 0,
         _ => 1,

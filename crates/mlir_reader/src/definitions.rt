@@ -47,7 +47,7 @@ pub fn define_operation<'s>(
     ensures marks { OnOk result (found.new.items ≡ found.old.items ++ marks (meanings_of names.old) (operation_definitions position (operation_of operation.now))) }
     ensures means { OnOk result (meanings_of names.new ≡ with_definitions (meanings_of names.old) (operation_definitions position (operation_of operation.now))) }
 {
-    let types = operation.gathered.types.types.as_slice();
+    let types = operation.gathered.types.as_slice();
     let own = result_count(operation.name, &operation.gathered.extra, types);
     define_results(names, position, own, &operation.results, found)
 }

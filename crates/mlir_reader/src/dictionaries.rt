@@ -57,7 +57,7 @@ fn entries_without(
 ) -> Result<Vec<Entry>, AllocError>
     ensures { IfOk result (λ kept. map entry_of kept.items ≡ without (is_dropped name) (entries_in dictionary)) }
 {
-    let mut kept = Vec::new(alloc);
+    let mut kept = Vec::with_capacity(alloc, dictionary.entries.len())?;
     for entry in dictionary.entries {
         if !is_dropped(name, &entry) {
             kept.push(entry)?;

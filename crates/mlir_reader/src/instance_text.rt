@@ -150,7 +150,7 @@ fn join_inputs<'s>(
     for input in inputs {
         names.push(input.port)?;
         gathered.operands.push(input.operand)?;
-        gathered.types.types.push(input.ty)?;
+        gathered.types.push(alloc, input.ty)?;
     }
     Ok(names)
 }
@@ -168,7 +168,7 @@ fn join_outputs<'s>(
     let mut names = Vec::with_capacity(alloc, outputs.len())?;
     for output in outputs {
         names.push(output.name)?;
-        gathered.types.types.push(output.ty)?;
+        gathered.types.push(alloc, output.ty)?;
     }
     Ok(names)
 }

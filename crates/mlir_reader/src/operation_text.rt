@@ -30,6 +30,9 @@ use std::alloc::Global;
 /// The operation that refusals name where none is open within a module.
 pub const HEADER: OpName = OpName::Listed(Listed::HwModule);
 
+// For how many operations of a body room is made at once.
+const FEW_OPERATIONS: usize = 8;
+
 impl<'s> Gathered<'s> {
     ghost use Rattle.std.specs.Prelude.{◌≡◌};
     ghost use Rattle.mlir_reader.specs.PieceText.{gathered_nothing};
@@ -41,9 +44,7 @@ impl<'s> Gathered<'s> {
     {
         Gathered {
             operands: SmallVec::new(alloc),
-            types: TyList {
-                types: Vec::new(alloc),
-            },
+            types: TyList::new(),
             extra: Extra::Nothing,
         }
     }
@@ -57,7 +58,7 @@ impl<'s> Reader<'s> {
         ensures gives { ReadsAs (λ operations. map operation_of operations.items) result self.new (operations_text (length self.old) self.old) }
         ensures shorter { OnOk result (length self.new ≤ length self.old) }
     {
-        let mut operations = Vec::new(self.alloc());
+        let mut operations = Vec::with_capacity(self.alloc(), FEW_OPERATIONS)?;
         while !self.is_next(TokenKind::RightBrace) {
             let operation = match self.operation_text() {
                 Ok(operation) => operation,

@@ -78,18 +78,6 @@ impl<'s> Reader<'s> {
         }
     }
 
-    // A token that is always the same.
-    #[tactic(auto, unfolding(crate::specs::PieceText::piece_text))]
-    fn mark_piece(&mut self, op: OpName, kind: TokenKind) -> Result<(), ReadFail>
-        ensures gives { (g : Gathering) → ReadsAs (λ (_ : Unit {0}). g) result self.new (piece_text op (piece.Mark kind) g self.old) }
-        ensures shorter { OnOk result (length self.new ≤ length self.old) }
-    {
-        match self.want(op, kind) {
-            Ok(_) => Ok(()),
-            Err(fail) => Err(fail),
-        }
-    }
-
     // A word that is always the same.
     #[tactic(auto, unfolding(crate::specs::PieceText::piece_text))]
     fn word_piece(&mut self, op: OpName, word: Keyword) -> Result<(), ReadFail>
@@ -186,8 +174,7 @@ impl<'s> Reader<'s> {
         ensures shorter { OnOk result (length self.new ≤ length self.old) }
     {
         let truth = self.truth_text(op)?;
-        gathered.types.types.reserve_exact(1)?;
-        gathered.types.types.push(Ty::Int(1))?;
+        gathered.types.push(self.alloc(), Ty::Int(1))?;
         gathered.extra = Extra::Number(Integer::NonNegative(u128::from(truth)));
         Ok(())
     }
@@ -287,8 +274,7 @@ impl<'s> Reader<'s> {
         ensures shorter { OnOk result (length self.new ≤ length self.old) }
     {
         let ty = self.any_type(op)?;
-        gathered.types.types.reserve_exact(1)?;
-        gathered.types.types.push(ty)?;
+        gathered.types.push(self.alloc(), ty)?;
         Ok(())
     }
 
@@ -312,8 +298,8 @@ impl<'s> Reader<'s> {
             return Ok(());
         }
         let ty = self.any_type(op)?;
-        types.types.reserve_exact(count)?;
-        types.types.push(ty)?;
+        types.reserve(self.alloc(), count)?;
+        types.push(self.alloc(), ty)?;
         self.further_types(op, count - 1, types)
     }
 
@@ -343,7 +329,7 @@ impl<'s> Reader<'s> {
     {
         self.want(op, TokenKind::Comma)?;
         let ty = self.any_type(op)?;
-        types.types.push(ty)?;
+        types.push(self.alloc(), ty)?;
         Ok(())
     }
 }

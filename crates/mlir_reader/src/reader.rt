@@ -1,12 +1,14 @@
 //! A text as it is read, token by token.
-ghost use Rattle.std.specs.Prelude.{◌≡◌, ◌<◌, length, cond, OnOk, IsTrue};
+ghost use Rattle.std.specs.Prelude.{◌≡◌, ◌<◌, ◌≤◌, length, cond, OnOk, IsTrue};
 ghost use Rattle.std.specs.Option.{option_map};
 ghost use Rattle.mlir_lexer.specs.Tokens.{lexeme_of};
 ghost use Rattle.mlir_reader.specs.Stream.{stream_of, tag, is_kind, is_word, first, is_next, is_first, after, refused, unexpected, refusal, cause_of_first};
 ghost use Rattle.mlir_reader.specs.Heads.{stream_left, symbols};
 ghost use Rattle.mlir_reader.specs.ModuleText.{is_end};
+ghost use Rattle.mlir_reader.specs.PieceText.{Gathered as Gathering, piece_text};
 ghost use Rattle.mlir_reader.specs.Reads.{want, want_word};
 ghost use Rattle.mlir_reader.specs.Views.{ReadsAs};
+ghost use Rattle.mlir_reader.specs.declared.pieces.Piece.TheVariants as piece;
 
 use crate::fail::ReadFail;
 use crate::head::Head;
@@ -130,6 +132,25 @@ impl<'s> Reader<'s> {
             Head::Token(token) if is_kind(token.kind, kind) => {
                 self.advance();
                 Ok(token)
+            }
+            Head::Token(_) | Head::Bad(_) | Head::End(_) => {
+                Err(ReadFail::Refused(self.unexpected(op)))
+            }
+        }
+    }
+
+    /// Passes a token that is always the same.
+    ///
+    /// Refuses everything else that stands there.
+    #[tactic(auto, unfolding(crate::specs::Reads::want, crate::specs::PieceText::piece_text))]
+    pub fn mark_piece(&mut self, op: OpName, kind: TokenKind) -> Result<(), ReadFail>
+        ensures gives { (g : Gathering) → ReadsAs (λ (_ : Unit {0}). g) result self.new (piece_text op (piece.Mark kind) g self.old) }
+        ensures shorter { OnOk result (length self.new ≤ length self.old) }
+    {
+        match self.head {
+            Head::Token(mark) if is_kind(mark.kind, kind) => {
+                self.advance();
+                Ok(())
             }
             Head::Token(_) | Head::Bad(_) | Head::End(_) => {
                 Err(ReadFail::Refused(self.unexpected(op)))

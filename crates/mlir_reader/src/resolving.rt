@@ -173,8 +173,8 @@ fn resolved_operation<'s>(
         types,
         extra,
     } = text.gathered;
-    let kind = kind_named(alloc, text.name, extra, &types.types)?;
-    let results = results_of(alloc, &kind, &types.types, operands.len(), marks)?;
+    let kind = kind_named(alloc, text.name, extra, types.as_slice())?;
+    let results = results_of(alloc, &kind, types.as_slice(), operands.len(), marks)?;
     let operands = resolved_operands(alloc, names, operands.as_slice())?;
     let dictionary = kept_entries(alloc, text.name, text.dictionary)?;
     Ok(NewOp {
@@ -273,8 +273,8 @@ fn left_out_output(alloc: Global, place: Place) -> NewOp
     NewOp {
         kind: OpKind::Output,
         operands: SmallVec::new(alloc),
-        types: TyList::new(alloc),
-        results: NewResultList::new(alloc),
+        types: TyList::new(),
+        results: NewResultList::new(),
         named: 0,
         name: Text::new(alloc),
         dictionary: Dictionary::new(alloc),

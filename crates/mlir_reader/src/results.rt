@@ -4,7 +4,7 @@ ghost use Rattle.std.specs.Option.{option_map};
 ghost use Rattle.hw_model.specs.KindViews.{kind_of};
 ghost use Rattle.hw_model.specs.TypeViews.{type_of};
 ghost use Rattle.ir_store.specs.ResultTypes.{result_types};
-ghost use Rattle.ir_store.specs.OperationViews.{result_of, results_in};
+ghost use Rattle.ir_store.specs.OperationViews.{results_in};
 ghost use Rattle.mlir_reader.specs.Resolving.{type_or_none, marked_results};
 
 use hw_model::kinds::OpKind;
@@ -68,13 +68,12 @@ fn marked_result(alloc: Global, ty: Option<Ty>, marks: &[bool]) -> Result<NewRes
     ensures { IfOk result (λ rs. results_in rs ≡ marked_results (option_map type_of ty ∷ []) marks.now) }
 {
     let (again, others) = first_mark(marks);
-    let mut results = Vec::with_capacity(alloc, marks.len().max(1))?;
-    results.push(NewResult {
+    let mut results = NewResultList::One(NewResult {
         ty: type_or_none(ty),
         again,
-    })?;
-    add_untyped(&mut results, others)?;
-    Ok(NewResultList { results })
+    });
+    add_untyped(alloc, &mut results, others)?;
+    Ok(results)
 }
 
 // Results of these types with these marks; a mark without a type has a result of no type.
@@ -85,29 +84,31 @@ fn marked_results(
 ) -> Result<NewResultList, AllocError>
     ensures { IfOk result (λ rs. results_in rs ≡ marked_results (map (option_map type_of) types.items) marks.now) }
 {
-    let mut results = Vec::with_capacity(alloc, types.len().max(marks.len()))?;
+    let mut results = NewResultList::with_room(alloc, types.len().max(marks.len()))?;
     let mut left = marks;
     for ty in types {
         let (again, others) = first_mark(left);
         left = others;
-        results.push(NewResult {
+        let one = NewResult {
             ty: type_or_none(ty),
             again,
-        })?;
+        };
+        results.push(alloc, one)?;
     }
-    add_untyped(&mut results, left)?;
-    Ok(NewResultList { results })
+    add_untyped(alloc, &mut results, left)?;
+    Ok(results)
 }
 
 // Adds a result of no type for each mark.
-fn add_untyped(results: &mut Vec<NewResult>, marks: &[bool]) -> Result<(), AllocError>
-    ensures { OnOk result (map result_of results.new.items ≡ map result_of results.old.items ++ marked_results [] marks.now) }
+fn add_untyped(alloc: Global, results: &mut NewResultList, marks: &[bool]) -> Result<(), AllocError>
+    ensures { OnOk result (results_in results.new ≡ results_in results.old ++ marked_results [] marks.now) }
 {
     for again in marks {
-        results.push(NewResult {
+        let one = NewResult {
             ty: Ty::Int(0),
             again: *again,
-        })?;
+        };
+        results.push(alloc, one)?;
     }
     Ok(())
 }

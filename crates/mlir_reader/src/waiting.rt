@@ -4,7 +4,8 @@ ghost use Rattle.mlir_reader.specs.Waiting.{waiting_of};
 
 use crate::syntax::OperationText;
 
-/// Texts of operations in order. Each is given once, and the room of those that were given is let go in steps.
+/// Texts of operations in order. Each is given once, and the room of those that were given is let go in steps, where
+/// they are many.
 #[derive(Drop)]
 pub struct Waiting<'s> {
     // The last stands first.
@@ -33,7 +34,7 @@ impl<'s> Iterator for Waiting<'s> {
 
     fn next(&mut self) -> Option<OperationText<'s>> {
         let text = self.texts.pop()?;
-        if self.texts.len() < self.texts.capacity() / 8 * 7 {
+        if self.texts.len() < self.texts.capacity() / 64 * 56 {
             self.texts.shrink_to_fit();
         }
         Some(text)

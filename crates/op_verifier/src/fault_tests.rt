@@ -45,8 +45,8 @@ pub(crate) fn operation(
     Ok(NewOp {
         kind,
         operands: SmallVec::from_slice(alloc, operands)?,
-        types: TyList { types },
-        results: NewResultList { results },
+        types: TyList::of(types),
+        results: NewResultList::of(results),
         named: u32::try_from(given.len()).unwrap_or(0),
         name: Text::new(alloc),
         dictionary: Dictionary::new(alloc),

@@ -42,7 +42,7 @@ impl<'b> BodyView<'b> {
     fn value_cause(&self, entry: &Entry<'_>) -> Option<Cause>
         ensures { result ≡ value_cause (ports_viewed self.now) (body_viewed self.now) (op_viewed self.now (op_in entry.now)) }
     {
-        let results = &entry.op.results.results;
+        let results = entry.op.results.as_slice();
         if has_again(results) {
             Some(Cause::Redefined)
         } else if self.has_undefined(entry.op.operands) {
@@ -66,7 +66,7 @@ impl<'b> BodyView<'b> {
     fn outer_cause(&self, design: &Design, entry: &Entry<'_>, last: bool) -> Option<Cause>
         ensures { result ≡ outer_cause (design_of design.now) (ports_viewed self.now) last (op_viewed self.now (op_in entry.now)) }
     {
-        let types = &entry.op.types.types;
+        let types = entry.op.types.as_slice();
         if is_output(entry.op.kind) && !are_types(types, self.ports, true) {
             return Some(Cause::OutputMismatch);
         }

@@ -32,8 +32,8 @@ pub(crate) fn own_cause(
     ensures { result ≡ own_cause (kind_of op.now.kind.now) (types_in op.now.types.now) (result_types_in op.now.results.now) op.now.named (map (option_map (λ t. type_of t.now)) operands.now) divides_by_constant }
 {
     let kind = op.kind;
-    let types = op.types.types.as_slice();
-    let results = op.results.results.as_slice();
+    let types = op.types.as_slice();
+    let results = op.results.as_slice();
     if has_mismatch(op, operands) {
         return Some(Cause::TypeMismatch);
     }
@@ -78,13 +78,13 @@ pub(crate) fn own_cause(
 fn has_mismatch(op: &Op<'_>, operands: &[Option<&Ty>]) -> bool
     ensures { result ≡ has_mismatch (kind_of op.now.kind.now) (types_in op.now.types.now) (result_types_in op.now.results.now) (map (option_map (λ t. type_of t.now)) operands.now) }
 {
-    let types = op.types.types.as_slice();
+    let types = op.types.as_slice();
     has_other_form(op.kind, types)
         || (has_other_operand(op.kind, types, operands)
             || has_other_result(
                 op.kind,
                 types,
-                op.results.results.as_slice(),
+                op.results.as_slice(),
                 operands.len(),
             ))
 }
@@ -94,8 +94,8 @@ fn has_mismatch(op: &Op<'_>, operands: &[Option<&Ty>]) -> bool
 fn has_wrong_count(op: &Op<'_>, operands: &[Option<&Ty>]) -> bool
     ensures { result ≡ has_wrong_count (kind_of op.now.kind.now) (types_in op.now.types.now) (result_types_in op.now.results.now) op.now.named (map (option_map (λ t. type_of t.now)) operands.now) }
 {
-    let types = op.types.types.as_slice();
+    let types = op.types.as_slice();
     has_wrong_operands(op.kind, types, operands.len())
-        || (has_wrong_results(op.kind, types, op.results.results.len(), op.named)
+        || (has_wrong_results(op.kind, types, op.results.len(), op.named)
             || has_miscounted_parts(op.kind, types))
 }

@@ -85,7 +85,7 @@ fn given(alloc: Global, types: &[Ty]) -> Result<NewResultList, AllocError> {
             again: false,
         })?;
     }
-    Ok(NewResultList { results })
+    Ok(NewResultList::of(results))
 }
 
 // the cause of an operation with these written types, results and operands, all results named
@@ -99,7 +99,7 @@ fn cause(
     let operands = settled(alloc, operands)?;
     let named = u32::try_from(results.len()).unwrap_or(0);
     let results = given(alloc, results)?;
-    let types = TyList { types };
+    let types = TyList::of(types);
     let name = Text::new(alloc);
     let dictionary = Dictionary::new(alloc);
     let op = Op {

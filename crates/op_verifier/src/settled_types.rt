@@ -31,8 +31,8 @@ impl<'b> Settled<'b> {
     pub(crate) fn of(alloc: Global, op: &Op<'b>) -> Result<Settled<'b>, AllocError>
         ensures { IfOk result (λ s. types_settled s ≡ result_types (kind_of op.now.kind.now) (types_in op.now.types.now) (length op.now.operands.now)) }
     {
-        let types = &op.types.types;
-        let results = &op.results.results;
+        let types = op.types.as_slice();
+        let results = op.results.as_slice();
         let operands = op.operands.len();
         if are_own(op.kind, types, results, operands) {
             return Ok(Settled::Own(results));

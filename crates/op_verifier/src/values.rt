@@ -37,7 +37,7 @@ impl<'b> BodyView<'b> {
             Value::Port(j) => input_type(self.ports.get(j as usize)).is_some(),
             Value::Result(id, k) => match self.find(id) {
                 Some(entry) => {
-                    let results = entry.op.results.results.as_slice();
+                    let results = entry.op.results.as_slice();
                     (k as usize) < results.len()
                 }
                 None => false,

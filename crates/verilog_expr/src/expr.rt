@@ -115,7 +115,7 @@ fn nothing_made<'m>() -> Made<'m>
 fn has_result(op: &Op<'_>, number: u32) -> bool
     ensures { result ≡ is_some (result_type (op_by (λ i. i) (read_op (op_id 0) op.now)) number) }
 {
-    (number as usize) < op.results.results.len()
+    (number as usize) < op.results.len()
 }
 
 // The row of a result of an operation, and the operands.

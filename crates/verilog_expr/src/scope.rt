@@ -147,7 +147,7 @@ fn input_width(port: Option<&Port>) -> u64
 pub fn result_width(op: &Op<'_>, number: u32) -> u64
     ensures { result ≡ min (width_of (result_type (op_by (λ i. i) (read_op (op_id 0) op.now)) number)) u64.MAX }
 {
-    match op.results.results.get(number as usize) {
+    match op.results.as_slice().get(number as usize) {
         Some(one) => one.ty.width(),
         None => 0,
     }

@@ -11,6 +11,6 @@ pub returns-else-has_other_operand : goal.returns-else-has_other_operand
 returns-else-has_other_operand c =
     mismatch_by_results (kind_of c.args.op.now.kind.now) (types_in c.args.op.now.types.now) _ _ (result_types_in c.args.op.now.results.now)
     (option_map (λ t. type_of t.now)) c.args.operands.now c.has_other_result.result
-    (types_of_items c.as_slice-types.result.now c.args.op.now.types.now c.as_slice-types.ensures.value)
-    (results_of_items c.as_slice.result.now c.args.op.now.results.now c.as_slice.ensures.value)
+    (types_of_items c.as_slice-types.result.now c.args.op.now.types.now c.as_slice-types.ensures)
+    (results_of_items c.as_slice.result.now c.args.op.now.results.now c.as_slice.ensures)
     c.if-has_other_form.ensures c.if-has_other_operand.ensures c.has_other_result.ensures

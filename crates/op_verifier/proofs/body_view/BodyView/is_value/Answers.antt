@@ -7,7 +7,7 @@ pub returns-in-Some : goal.returns-in-Some
 returns-in-Some c =
     let v = c.args.self.now in
     let found = copied_some c.find.result _ c.in-Some.entry c.find.ensures c.in-Some.is in
-    rw (c.in-Result.is, c.as_slice-results.ensures.value) (sym (value_there (ports_viewed v) (position_viewed v) v.entries.items (position_viewed v c.in-Result.id.index) c.in-Result.k c.in-Some.entry.now found))
+    rw (c.in-Result.is, c.as_slice-results.ensures) (sym (value_there (ports_viewed v) (position_viewed v) v.entries.items (position_viewed v c.in-Result.id.index) c.in-Result.k c.in-Some.entry.now found))
 
 pub returns-in-None : goal.returns-in-None
 returns-in-None c =
