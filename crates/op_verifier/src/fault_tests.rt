@@ -58,8 +58,10 @@ pub(crate) fn operation(
 // an operation with a mark on its results
 fn marked(op: NewOp) -> NewOp {
     let mut op = op;
-    for one in op.results.results.iter_mut() {
-        one.again = true;
+    if let NewResultList::Many(results) = &mut op.results {
+        for one in results.iter_mut() {
+            one.again = true;
+        }
     }
     op
 }
