@@ -118,9 +118,7 @@ pub fn add_op(
         Role::Hidden => Ok(no_names(alloc)),
         Role::Net | Role::Variable => add_value(alloc, names, own_wish(op)),
         Role::Block => match op.kind {
-            OpKind::Instance(instance) => {
-                add_instance(alloc, names, instance, op.results.len())
-            }
+            OpKind::Instance(instance) => { add_instance(alloc, names, instance, op.results.len()) }
             _ => Ok(no_names(alloc)),
         },
     }

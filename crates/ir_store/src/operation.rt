@@ -10,8 +10,7 @@ use hw_model::types::Ty;
 use io_edge::byte_text::Text;
 use smallvec::SmallVec;
 use std::alloc::{AllocError, Global};
-use std::mem;
-use std::slice;
+use std::{mem, slice};
 
 /// What names an operation of a body while the body has it.
 #[derive(Clone, Copy, Debug, PartialEq, Eq)]
@@ -333,13 +332,19 @@ impl NewResultList {
         match self {
             NewResultList::Empty => Ok(NewResultList::Empty),
             NewResultList::One(one) => Ok(NewResultList::One(one.try_clone(alloc)?)),
-            NewResultList::Many(results) => Ok(NewResultList::Many(copied_results(alloc, results)?)),
+            NewResultList::Many(results) => Ok(NewResultList::Many(copied_results(
+                alloc, results,
+            )?)),
         }
     }
 }
 
 /// Two results.
-fn two_results(alloc: Global, first: NewResult, second: NewResult) -> Result<Vec<NewResult>, AllocError>
+fn two_results(
+    alloc: Global,
+    first: NewResult,
+    second: NewResult,
+) -> Result<Vec<NewResult>, AllocError>
     ensures { IfOk result (λ both. both.items ≡ first ∷ second ∷ []) }
 {
     let mut results = Vec::with_capacity(alloc, 2)?;

@@ -81,12 +81,7 @@ fn has_mismatch(op: &Op<'_>, operands: &[Option<&Ty>]) -> bool
     let types = op.types.as_slice();
     has_other_form(op.kind, types)
         || (has_other_operand(op.kind, types, operands)
-            || has_other_result(
-                op.kind,
-                types,
-                op.results.as_slice(),
-                operands.len(),
-            ))
+            || has_other_result(op.kind, types, op.results.as_slice(), operands.len()))
 }
 
 /// Whether an operation has a wrong number of values.
