@@ -43,3 +43,4 @@ pub mod VerifiedDesigns
 pub mod PlacesChosen
 pub mod PrintedDesigns
 pub mod PrintableExample
+pub mod Dropping

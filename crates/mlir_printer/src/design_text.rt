@@ -32,6 +32,34 @@ pub fn print_design(alloc: Global, verified: &Verified) -> Result<Text, AllocErr
     design_text(alloc, verified.design())
 }
 
+/// The text of a verified design, which gives back the memory of each body as soon as the body is printed. The error comes
+/// only for want of memory.
+#[tactic(auto, using(std::proofs::Common::append_assoc), unfolding(crate::specs::Texts::ir_text, crate::specs::Modules::file_bytes))]
+pub fn print_and_drop(alloc: Global, verified: Verified) -> Result<Text, AllocError>
+    ensures { IfOk result (λ text. text ≡ ir_text (map numbered_module (modules_verified verified))) }
+{
+    let mut out = Text::new(alloc);
+    out.push_bytes(b"module {\n")?;
+    push_and_drop(alloc, &mut out, verified.into_design())?;
+    out.push_bytes(b"}\n")?;
+    Ok(out)
+}
+
+// Adds the modules of a design, and drops each body behind its text.
+fn push_and_drop(alloc: Global, out: &mut Text, design: Design) -> Result<(), AllocError>
+    ensures { OnOk result (out.new ≡ out.old ++ modules_bytes (modules_shown (design_of design))) }
+{
+    let mut design = design;
+    let mut names = ValueNames::empty(alloc);
+    let count = design.module_count();
+    for number in 0..count {
+        names = push_with_names(alloc, names, out, design.module(number))?;
+        let body = design.take_body(number);
+        drop(body);
+    }
+    Ok(())
+}
+
 // Adds the modules of a design.
 fn push_modules(alloc: Global, out: &mut Text, design: &Design) -> Result<(), AllocError>
     ensures { OnOk result (out.new ≡ out.old ++ modules_bytes (modules_shown (design_of design.now))) }

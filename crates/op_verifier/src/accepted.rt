@@ -23,4 +23,12 @@ impl Verified {
     {
         &self.design
     }
+
+    /// The design, to be changed or given back. It takes no memory.
+    pub fn into_design(self) -> Design
+        ensures { modules_of result ≡ modules_verified self }
+    {
+        let Verified { design } = self;
+        design
+    }
 }
