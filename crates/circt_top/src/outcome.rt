@@ -20,7 +20,7 @@ use export_verilog::{
 };
 use hw_model::{heights_are_acyclic, places_decide_nothing};
 use io_edge::byte_text::Text;
-use mlir_printer::design_text::print_design;
+use mlir_printer::design_text::print_and_drop;
 use mlir_printer::laws::{
     what_is_accepted_is_printable, what_is_printable_is_spelled, what_is_printed_is_read_again,
 };
@@ -64,7 +64,7 @@ pub fn outcome(
         Err(fail) => return Err(fail),
     };
     match invocation {
-        Invocation::Opt(_) => Ok(reprinted(alloc, source, &verified)?),
+        Invocation::Opt(_) => Ok(reprinted(alloc, source, verified)?),
         Invocation::Translate(_) => translated(alloc, source, &verified),
     }
 }
@@ -104,8 +104,8 @@ fn unverified(fail: VerifyFail) -> OutcomeFail
 }
 
 /// The text of the accepted design that a text says.
-fn reprinted(alloc: Global, source: &[u8], verified: &Verified) -> Result<Text, AllocError>
-    requires { Accepted source.now (design_of verified.now.design) }
+fn reprinted(alloc: Global, source: &[u8], verified: Verified) -> Result<Text, AllocError>
+    requires { Accepted source.now (design_of verified.design) }
     ensures { IfOk result (IsReprint source.now) }
 {
     what_is_accepted_is_printable();
@@ -116,7 +116,7 @@ fn reprinted(alloc: Global, source: &[u8], verified: &Verified) -> Result<Text, 
     heights_are_acyclic();
     places_decide_nothing();
     are_bytes(source);
-    print_design(alloc, verified)
+    print_and_drop(alloc, verified)
 }
 
 /// The Verilog of the accepted design that a text says, or the refusal of its first header or operation with an aggregate.
