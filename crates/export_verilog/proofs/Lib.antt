@@ -48,6 +48,7 @@ pub mod AggregateSamples
 pub mod Rests
 pub mod Listed
 pub mod PortNames
+pub mod PortLists
 pub mod Adding
 pub mod Walking
 pub mod WrittenItems

@@ -6,6 +6,7 @@ pub mod aggregates;
 pub mod assigns;
 pub mod blocks;
 pub mod body_names;
+pub mod called;
 pub mod connections;
 pub mod declarations;
 pub mod export;

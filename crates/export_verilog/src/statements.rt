@@ -1,5 +1,5 @@
 //! The declarations and the statements of the operations of a body.
-ghost use Rattle.std.specs.Prelude.{◌≡◌, ◌++◌, [], Some, length, map, slice_get, OnOk};
+ghost use Rattle.std.specs.Prelude.{◌≡◌, ◌++◌, [], None, Some, map, option_map, slice_get, IfOk, OnOk};
 ghost use Rattle.hw_model.specs.Design.{find_module, instance_in};
 ghost use Rattle.hw_model.specs.KindViews.{kind_of};
 ghost use Rattle.hw_model.specs.Sound.{ports_of};
@@ -7,18 +7,19 @@ ghost use Rattle.ir_store.specs.Designs.{design_of, port_of};
 ghost use Rattle.ir_store.specs.Numbered.{position_of};
 ghost use Rattle.verilog_expr.specs.Scopes.{scope_ports, scope_ops, scope_ids, op_read};
 ghost use Rattle.verilog_expr.specs.Marks.{AreSmall};
-ghost use Rattle.export_verilog.specs.Held.{ArePortNames};
 ghost use Rattle.export_verilog.specs.Layout.{items_text};
 ghost use Rattle.export_verilog.specs.Exported.{symbol_name, declared_as, instance_of, stated_as};
 ghost use Rattle.export_verilog.specs.ModuleNames.{AreModuleNames};
+ghost use Rattle.export_verilog.specs.NamedDesigns.{AreNamesOf, AreNamesWhere};
 ghost use Rattle.export_verilog.specs.RoleViews.{role_seen};
 ghost use Rattle.export_verilog.specs.ScopeModules.{scope_module};
 
 use crate::assigns::push_net;
 use crate::connections::push_instance;
 use crate::declarations::push_declared;
+use crate::legal_names::port_names;
 use crate::module_names::ModuleNames;
-use crate::named_design::NamedDesign;
+use crate::named_design::{NamedDesign, names_in};
 use crate::register_blocks::push_register;
 use crate::values::name_text;
 use crate::wishes::Role;
@@ -61,27 +62,49 @@ struct Callee<'a> {
     // the name of the module, or no bytes
     symbol: &'a [u8],
     ports: &'a [Port],
-    port_names: &'a [Text],
+    // the names of the ports, where they are there
+    port_names: Option<&'a [Text]>,
 }
 
 // The module of a symbol; where no module has it, one without a name and without ports.
 fn callee_of<'a>(all: &'a NamedDesign<'_>, symbol: &[u8]) -> Callee<'a>
     ensures symbol { result.symbol.now ≡ symbol_name (design_of all.now.design.now) symbol.now }
     ensures ports { map port_of result.ports.now ≡ ports_of (find_module (design_of all.now.design.now) symbol.now) }
-    ensures count { length result.port_names.now ≡ length result.ports.now }
-    ensures names { ArePortNames (ports_of (find_module (design_of all.now.design.now) symbol.now)) result.port_names.now }
+    ensures names { AreNamesWhere (map port_of result.ports.now) (option_map (λ (n : _). n.now) result.port_names) }
 {
     let Some(number) = all.design.find(symbol) else {
         return Callee {
             symbol: &[],
             ports: &[],
-            port_names: &[],
+            port_names: Some(&[]),
         };
     };
     Callee {
         symbol: all.symbols[number as usize].as_bytes(),
         ports: all.design.module(number).ports.ports.as_slice(),
-        port_names: all.ports[number as usize].names.as_slice(),
+        port_names: names_in(&all.ports[number as usize]),
+    }
+}
+
+// The names of the ports of a called module, made where they are not there; else no names.
+fn made_names(alloc: Global, called: &Callee<'_>) -> Result<Vec<Text>, AllocError>
+    ensures { IfOk result (λ made. called.now.port_names ≡ None → AreNamesOf (map port_of called.now.ports.now) made.items) }
+{
+    match called.port_names {
+        Some(_) => Ok(Vec::new(alloc)),
+        None => port_names(alloc, called.ports),
+    }
+}
+
+// The names of the ports of a called module: those that are there, or else those that are made.
+fn chosen_names<'a>(called: &Callee<'a>, made: &'a [Text]) -> &'a [Text]
+    requires there { AreNamesWhere (map port_of called.now.ports.now) (option_map (λ (n : _). n.now) called.now.port_names) }
+    requires made { called.now.port_names ≡ None → AreNamesOf (map port_of called.now.ports.now) made.now }
+    ensures { AreNamesOf (map port_of called.now.ports.now) result.now }
+{
+    match called.port_names {
+        Some(names) => names,
+        None => made,
     }
 }
 
@@ -105,6 +128,8 @@ fn push_call(
 {
     if let OpKind::Instance(instance) = op.kind {
         let called = callee_of(all, instance.symbol.as_bytes());
+        let made = made_names(alloc, &called)?;
+        let port_names = chosen_names(&called, made.as_slice());
         push_instance(
             alloc,
             out,
@@ -113,7 +138,7 @@ fn push_call(
             id,
             op.operands,
             called.ports,
-            called.port_names,
+            port_names,
             called.symbol,
             names.own[place].as_bytes(),
         )?;

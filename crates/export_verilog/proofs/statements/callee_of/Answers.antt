@@ -1,10 +1,9 @@
 use Rattle.std.proofs.Common.{map, length, refl, sym, ◌∙◌, ap, subst, arith}
-use Rattle.std.proofs.lemmas.List.{length-map}
 use Rattle.std.proofs.lemmas.Option.{slice_get_read}
 use Rattle.hw_model.specs.Sound.{ports_of}
 use Rattle.ir_store.specs.Designs.{port_of, module_of, numbered_module, modules_of, design_of}
 use Rattle.export_verilog.specs.Exported.{symbol_names}
-use Rattle.export_verilog.specs.Held.{ArePortNames}
+use Rattle.export_verilog.specs.NamedDesigns.{AreNamesOf}
 use Rattle.export_verilog.proofs.SymbolPlaces.{no_name, place_within, symbol_count, within_list, symbol_at, module_at}
 use Rattle.export_verilog.proofs.statements.callee_of.Goals as goal
 
@@ -37,18 +36,6 @@ returns-clause-ports c =
     ap (map port_of) c.as_slice.ensures.value
     ∙ sym (ap ports_of (module_at c.args.symbol.now (modules_of c.args.all.now.design.now) c.in-Some.number (sym c.in-Some.ensures.place) (module_of c.module.result.now) c.module.ensures c.in-Some.ensures.module))
 
-pub returns-clause-count : goal.returns-clause-count
-returns-clause-count c =
-    let n = c.in-Some.number in
-    let d = c.args.all.now.design.now in
-    let ls = c.args.all.now.ports.items in
-    let x = module_of c.module.result.now in
-    let place = sym c.in-Some.ensures.place in
-    let at = c.in-Some.ensures.module ∙ module_at c.args.symbol.now (modules_of d) n place x c.module.ensures c.in-Some.ensures.module in
-    let names = slice_get_read ls (length ls) n c.index-2.result.now refl (within_list c.args.symbol.now (modules_of d) n place ls c.args.all.now.ports_are.count) c.index-2.ensures in
-    ap length c.as_slice-2.ensures.value ∙ (c.args.all.now.ports_are.named n (numbered_module x) c.index-2.result.now at names).0
-    ∙ length-map c.module.result.now.ports.ports.items port_of ∙ ap length (sym c.as_slice.ensures.value)
-
 pub returns-clause-names : goal.returns-clause-names
 returns-clause-names c =
     let n = c.in-Some.number in
@@ -56,7 +43,6 @@ returns-clause-names c =
     let ls = c.args.all.now.ports.items in
     let x = module_of c.module.result.now in
     let place = sym c.in-Some.ensures.place in
-    let found = module_at c.args.symbol.now (modules_of d) n place x c.module.ensures c.in-Some.ensures.module in
-    let names = slice_get_read ls (length ls) n c.index-2.result.now refl (within_list c.args.symbol.now (modules_of d) n place ls c.args.all.now.ports_are.count) c.index-2.ensures in
-    subst (λ ps. ArePortNames ps c.as_slice-2.result.now) (sym (ap ports_of found))
-    (subst (ArePortNames x.ports) (sym c.as_slice-2.ensures.value) (c.args.all.now.ports_are.named n (numbered_module x) c.index-2.result.now (c.in-Some.ensures.module ∙ found) names).1)
+    let at = c.in-Some.ensures.module ∙ module_at c.args.symbol.now (modules_of d) n place x c.module.ensures c.in-Some.ensures.module in
+    let list = slice_get_read ls (length ls) n c.index-2.result.now refl (within_list c.args.symbol.now (modules_of d) n place ls c.args.all.now.ports_are.count) c.index-2.ensures in
+    λ ns e. subst (λ ps. AreNamesOf (map port_of ps) ns) (sym c.as_slice.ensures.value) (c.args.all.now.ports_are.named n (numbered_module x) c.index-2.result.now at list ns (sym c.names_in.ensures ∙ e))

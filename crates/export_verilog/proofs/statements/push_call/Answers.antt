@@ -1,5 +1,4 @@
-use Rattle.std.proofs.Common.{◌≡◌, ℕ, [], ◌++◌, map, Some, sym, ◌∙◌, ap}
-use Rattle.std.proofs.lemmas.List.{length-map}
+use Rattle.std.proofs.Common.{◌≡◌, ℕ, [], ◌++◌, map, Some, subst, sym, ◌∙◌, ap}
 use Rattle.std.proofs.lemmas.Option.{get_or_from_slice_get}
 use Rattle.hw_model.specs.Types.{Name}
 use Rattle.hw_model.specs.KindViews.{kind_of, instance_of as instance_seen}
@@ -9,6 +8,7 @@ use Rattle.ir_store.specs.Designs.{design_of, port_of}
 use Rattle.ir_store.specs.Numbered.{position_of}
 use Rattle.verilog_expr.specs.Scopes.{scope_ids, op_read}
 use Rattle.verilog_expr.specs.Named.{named_of}
+use Rattle.export_verilog.specs.Held.{ArePortNames}
 use Rattle.export_verilog.specs.Keys.{name_or_nothing, key_text}
 use Rattle.export_verilog.specs.Keys.Key.{value_key, instance_key}
 use Rattle.export_verilog.specs.Exported.{connections_to, instance_of}
@@ -33,6 +33,7 @@ returns-in_ok-push_instance c =
     let x = instance_seen c.deref.result.now in
     let q = c.as_bytes.result.now in
     let called = c.callee_of-called.result in
+    let port_names = c.chosen_names-port_names.result.now in
     let own = c.as_bytes-in-Instance.result.now in
     let values = c.requires.names.values_are in
     let given : ℕ → Name = λ k. name_or_nothing (named_of v (result j k)) in
@@ -40,10 +41,10 @@ returns-in_ok-push_instance c =
     let own_is : own ≡ key_text m (instance_key i) =
     c.as_bytes-in-Instance.ensures ∙ c.index.ensures ∙ get_or_from_slice_get c.args.names.now.own.items i (key_text m (instance_key i)) _ (c.requires.names.own_are i o x c.requires.there kind) in
     let results : (k : ℕ) → given k ≡ key_text m (value_key i k) = λ k. ap (λ n. name_or_nothing (named_of v (result n k))) c.requires.id ∙ ap name_or_nothing (values (result i k)) in
-    let joins : joined (value_expr s v) given 0 called.port_names.now (map port_of called.ports.now) o.operands ≡ connections_to (find_module d q) m i o =
-    joined_same m i (value_expr s v) given (used_same s v values) results (find_module d q) o called.port_names.now (map port_of called.ports.now) c.callee_of-called.ensures.ports
-    (c.callee_of-called.ensures.count ∙ sym (length-map called.ports.now port_of)) c.callee_of-called.ensures.names in
+    let joins : joined (value_expr s v) given 0 port_names (map port_of called.ports.now) o.operands ≡ connections_to (find_module d q) m i o =
+    joined_same m i (value_expr s v) given (used_same s v values) results (find_module d q) o port_names (map port_of called.ports.now) c.callee_of-called.ensures.ports
+    c.chosen_names-port_names.ensures.0 (subst (λ ps. ArePortNames ps port_names) c.callee_of-called.ensures.ports c.chosen_names-port_names.ensures.1) in
     c.in_ok-push_instance.ensures
     ∙ ap (λ is. c.args.out.now ++ items_text is [])
-    (instance_same d m i o x q called.symbol.now own (joined (value_expr s v) given 0 called.port_names.now (map port_of called.ports.now) o.operands) c.as_bytes.ensures c.callee_of-called.ensures.symbol own_is joins
+    (instance_same d m i o x q called.symbol.now own (joined (value_expr s v) given 0 port_names (map port_of called.ports.now) o.operands) c.as_bytes.ensures c.callee_of-called.ensures.symbol own_is joins
     ∙ sym (ap (instance_of d m i o) kind))
