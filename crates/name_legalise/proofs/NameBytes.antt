@@ -52,6 +52,10 @@ mapped_same (b ∷ w) h =
     ap (λ x. x ∷ map name_byte w) (same_byte b (and_first (is_name_byte b) (all_bytes is_name_byte w) h))
     ∙ ap (λ l. b ∷ l) (mapped_same w (and_second (is_name_byte b) (all_bytes is_name_byte w) h))
 
+-- what has the bytes of a name, and begins as one once it is cleaned, stays
+pub clean_same : (w : Name) → starts_name (map name_byte w) ≡ true → IsTrue (all_bytes is_name_byte w) → cleaned w ≡ w
+clean_same w s h = cleaned_stays w s ∙ mapped_same w h
+
 -- what has the bytes of a name, and begins as one, stays
 pub cleaned_same : (w : Name) → IsTrue (starts_name w) → IsTrue (all_bytes is_name_byte w) → cleaned w ≡ w
 cleaned_same w s h = let same = mapped_same w h in cleaned_stays w (ap starts_name same ∙ s) ∙ same

@@ -1,6 +1,7 @@
 //! Wanted names with the bytes of Verilog names alone.
-ghost use Rattle.std.specs.Prelude.{◌≡◌, ◌++◌, IfOk, map, take};
+ghost use Rattle.std.specs.Prelude.{◌≡◌, ◌++◌, IfOk, IsTrue, map, take};
 ghost use Rattle.verilog_model.specs.Tokens.{is_name_start, is_name_byte};
+ghost use Rattle.verilog_model.specs.Numerals.{all_bytes};
 ghost use Rattle.verilog_model.specs.Checks.{starts_name};
 ghost use Rattle.name_legalise.specs.Legal.{name_byte, cleaned};
 
@@ -35,6 +36,25 @@ fn starts_name(wanted: &[u8]) -> bool
         [first, ..] => is_name_start(name_byte(*first)),
         [] => false,
     }
+}
+
+/// Whether each byte may stand in a name.
+fn has_name_bytes(wanted: &[u8]) -> bool
+    ensures { result ≡ all_bytes is_name_byte wanted.now }
+{
+    for byte in wanted {
+        if !is_name_byte(*byte) {
+            return false;
+        }
+    }
+    true
+}
+
+/// Whether a wanted name is clean as it is: its bytes are those of names, and it begins with a letter or `_`.
+pub fn is_clean(wanted: &[u8]) -> bool
+    ensures { IsTrue result → cleaned wanted.now ≡ wanted.now }
+{
+    starts_name(wanted) && has_name_bytes(wanted)
 }
 
 /// The wanted name with each byte that stands in no name made `_`, and `_` in front where it does not begin with a

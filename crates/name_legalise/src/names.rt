@@ -3,9 +3,9 @@ ghost use Rattle.std.specs.Prelude.{◌≡◌, ◌+◌, ◌<◌, ◌^◌, ◌⊎
 ghost use Rattle.fresh_names.specs.Fresh.{free_name};
 ghost use Rattle.fresh_names.specs.TakenViews.{taken_names};
 ghost use Rattle.name_legalise.specs.Kept.{IsTable, with_reserved};
-ghost use Rattle.name_legalise.specs.Legal.{legal};
+ghost use Rattle.name_legalise.specs.Legal.{cleaned, legal};
 
-use crate::cleaning::cleaned;
+use crate::cleaning::{cleaned, is_clean};
 use crate::reserved::is_reserved;
 use fresh_names::taken_names as table;
 use fresh_names::taken_names::TakenNames;
@@ -43,6 +43,24 @@ fn take_unreserved(taken: &mut TakenNames, wanted: &[u8]) -> Result<table::NameI
     taken.take(wanted)
 }
 
+// Takes the free name of a wanted one once that is cleaned. It copies no name that is clean as it is.
+fn take_cleaned(
+    alloc: Global,
+    taken: &mut TakenNames,
+    wanted: &[u8],
+) -> Result<table::NameId, AllocError>
+    requires { length (with_reserved (taken_names taken.old) (cleaned wanted.now)) + 1 < 2 ^ 32 }
+    ensures ok { OnOk result (taken_names taken.new ≡ with_reserved (taken_names taken.old) (cleaned wanted.now) ++ free_name (with_reserved (taken_names taken.old) (cleaned wanted.now)) (cleaned wanted.now) ∷ []) }
+    ensures id { IfOk result (λ id. id.index ≡ length (with_reserved (taken_names taken.old) (cleaned wanted.now))) }
+    ensures err { OnErr result ((taken_names taken.new ≡ taken_names taken.old) ⊎ (taken_names taken.new ≡ with_reserved (taken_names taken.old) (cleaned wanted.now))) }
+{
+    if is_clean(wanted) {
+        return take_unreserved(taken, wanted);
+    }
+    let name = cleaned(alloc, wanted)?;
+    take_unreserved(taken, name.as_slice())
+}
+
 impl Names {
     ghost use Rattle.std.specs.Prelude.{◌≡◌, ◌+◌, ◌<◌, ◌^◌, [], ◌∷◌, ◌++◌, length, Some, slice_get, IfOk, OnOk, OnErr};
     ghost use Rattle.name_legalise.specs.Legal.{legal_name};
@@ -67,10 +85,9 @@ impl Names {
         ensures err { OnErr result (legal_names self.new ≡ legal_names self.old) }
     {
         let alloc = *self.legal.allocator();
-        let name = cleaned(alloc, wanted)?;
         let index = self.legal.len() as u32;
         self.legal.reserve(1)?;
-        let id = take_unreserved(&mut self.taken, name.as_slice())?;
+        let id = take_cleaned(alloc, &mut self.taken, wanted)?;
         self.legal.push_reserved(id);
         Ok(NameId { index })
     }
