@@ -11,7 +11,7 @@ use Rattle.verilog_model.specs.Grammar.{expr_spelled, fits}
 use Rattle.verilog_model.specs.Tokens.{tokens}
 use Rattle.verilog_expr.specs.Numerals.{hex, high_of}
 use Rattle.verilog_expr.specs.Building.{built}
-use Rattle.verilog_expr.specs.Text.{expr_text}
+use Rattle.verilog_expr.specs.Text.{question_text, expr_text}
 
 abbrev a : Expr
 a = name (codes "a")
@@ -79,7 +79,7 @@ shifted_xor_text : expr_text (of_bytes xor (shifted_down ∷ c ∷ [])) [] ≡ c
 unfolding expr_text
 shifted_xor_text = refl
 
-chosen_text : expr_text (built mux 8 (1 ∷ 8 ∷ 8 ∷ []) 0 (s ∷ shifted_down ∷ c ∷ [])) [] ≡ codes "s ? $unsigned($signed(a) >>> b) : c"
+chosen_text : expr_text (built mux 8 (1 ∷ 8 ∷ 8 ∷ []) 0 (s ∷ shifted_down ∷ c ∷ [])) [] ≡ codes "s" ++ (question_text ++ codes "$unsigned($signed(a) >>> b) : c")
 unfolding expr_text
 chosen_text = refl
 

@@ -116,7 +116,7 @@ abbrev pub concatenation : List Expr → Expr
 concatenation [] = no_expr
 concatenation (a ∷ rest) = joined (exprs_of a rest)
 
--- `c ? a : b`, where the middle needs no parentheses and the right one binds as `?:` does
+-- a choice (IEEE 1364-2005, 5.1.13), where the middle needs no parentheses and the right one binds as a choice does
 abbrev pub conditional : Expr → Expr → Expr → Expr
 conditional c a b = choice (placed (suc choice_level) c) (unsigned a) (unsigned_at choice_level b)
 
