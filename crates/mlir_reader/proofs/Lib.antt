@@ -28,6 +28,7 @@ mod KeyOrder
 mod Marks
 mod Modules
 mod Moving
+mod PlainNumbers
 mod Positions
 mod Sorting
 mod Tables

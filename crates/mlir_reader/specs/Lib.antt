@@ -18,6 +18,7 @@ pub mod Heads
 pub mod TypeHeads
 pub mod AttributeHeads
 pub mod LiteralHeads
+pub mod PlainNumbers
 pub mod Meanings
 pub mod NameClasses
 pub mod PieceHeads

@@ -1,10 +1,11 @@
 -- What the code's tables of names stand for.
-use Rattle.std.specs.Prelude.{ℕ, zero, suc, ◌+◌, ◌<◌, ◌^◌, nat_eq, List, [], ◌∷◌, map, option_map}
-use Rattle.std.specs.Cmp.Lexicographic.{pointwise}
-use Rattle.indexmap.specs.IndexMap.{get_by}
+use Rattle.std.specs.Prelude.{ℕ, zero, suc, ◌+◌, ◌<◌, ◌^◌, List, [], ◌∷◌, map, Option, Some, None, option_map, slice_get}
+use Rattle.std.specs.Option.{option_flatten}
+use Rattle.std.specs.Borrow.{Bor}
+use Rattle.std.specs.Map.{lookup}
 use Rattle.hw_model.specs.Types.{Name}
 use Rattle.hw_model.specs.KindViews.{kind_of}
-use Rattle.hw_model.specs.Design.{Op}
+use Rattle.hw_model.specs.Design.{Op, same_name}
 use Rattle.ir_store.specs.declared.operation.NewOp.{NewOp}
 use Rattle.ir_store.specs.DictionaryViews.{entries_in}
 use Rattle.ir_store.specs.OperationViews.{types_in, results_in, place_of}
@@ -12,7 +13,8 @@ use Rattle.ir_store.specs.Numbered.{ref_by}
 use Rattle.mlir_reader.specs.OperandText.{named_count}
 use Rattle.mlir_reader.specs.Views.{names_of}
 use Rattle.mlir_reader.specs.declared.syntax.OperationText.{OperationText}
-use Rattle.mlir_reader.specs.Resolving.{Defined, Definition, Meanings}
+use Rattle.mlir_reader.specs.PlainNumbers.{number_of}
+use Rattle.mlir_reader.specs.Resolving.{Defined, Definition, Meanings, known_or}
 use Rattle.mlir_reader.specs.Resolving.Defined.{is_port, are_results}
 use Rattle.mlir_reader.specs.declared.names.Defined as code
 use Rattle.mlir_reader.specs.declared.names.Defined.TheVariants.{Port, Result, Pack}
@@ -28,9 +30,26 @@ defined_of (Pack i count) = are_results i 0 count
 abbrev pub definition : Name → code.Defined → Definition
 definition name d = record { name = name; defined = defined_of d }
 
+-- what a table of names holds for each
+abbrev pub listed : List (Bor Name × code.Defined) → Meanings
+listed entries name = option_map defined_of (lookup (λ k. same_name name k.now) entries)
+
+-- what stands at the place of a number
+abbrev pub held : List (Option code.Defined) → ℕ → Option code.Defined
+held table n = option_flatten (slice_get table n)
+
+-- what a plain number stands for: what its place holds, or else what the table of those far above holds for its name
+abbrev pub number_meaning : Names → Name → ℕ → Option Defined
+number_meaning t name n = known_or (option_map defined_of (held t.numbered.items n)) (listed t.far.entries name)
+
+-- what a name stands for that is a plain number, or none
+abbrev pub meaning_by : Names → Name → Option ℕ → Option Defined
+meaning_by t name (Some n) = number_meaning t name n
+meaning_by t name None = listed t.named.entries name
+
 -- what each name of a table stands for
 unfoldable pub meanings_of : Names → Meanings
-meanings_of t name = option_map defined_of (get_by (λ (k : _). pointwise nat_eq name k.now) t.first)
+meanings_of t name = meaning_by t name (number_of name)
 
 -- fewer than 2^32 results are named
 abbrev pub HasFewNames : OperationText → Type 0

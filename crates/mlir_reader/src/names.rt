@@ -1,10 +1,15 @@
 //! What the names of a module stand for.
-ghost use Rattle.std.specs.Prelude.{◌≡◌, is_some, IfOk, OnOk};
+ghost use Rattle.std.specs.Prelude.{ℕ, ◌≡◌, ◌+◌, ◌<◌, ◌≤◌, ◌*◌, Some, None, cond, nat_eq, length, is_some, IfOk, OnOk};
+ghost use Rattle.std.specs.List.{list_all};
 ghost use Rattle.std.specs.Option.{option_map};
+ghost use Rattle.mlir_lexer.specs.Classes.{is_digit};
+ghost use Rattle.mlir_reader.specs.Numerals.{number_in};
+ghost use Rattle.mlir_reader.specs.PlainNumbers.{begins_with_zero, number_of};
 ghost use Rattle.mlir_reader.specs.Resolving.{no_meaning, with_definition};
-ghost use Rattle.mlir_reader.specs.Meanings.{defined_of, meanings_of, definition};
+ghost use Rattle.mlir_reader.specs.Meanings.{defined_of, held, listed, number_meaning, meanings_of, definition};
 
 use indexmap::IndexMap;
+use mlir_lexer::classes::{Class, Digit};
 use std::alloc::{AllocError, Global};
 
 /// What a name stands for.
@@ -21,7 +26,14 @@ pub enum Defined {
 /// Names, each with what it stood for first. Contracts see them by `meanings_of`.
 #[derive(Drop)]
 pub struct Names<'s> {
-    pub(crate) first: IndexMap<&'s [u8], Defined>,
+    // What plain numbers stand for, each at its own place.
+    pub(crate) numbered: Vec<Option<Defined>>,
+    // What plain numbers stand for that are far above those.
+    pub(crate) far: IndexMap<&'s [u8], Defined>,
+    // What all other names stand for.
+    pub(crate) named: IndexMap<&'s [u8], Defined>,
+    // How many definitions came so far, in which the table is linear.
+    count: usize,
 }
 
 impl<'s> Names<'s> {
@@ -30,8 +42,13 @@ impl<'s> Names<'s> {
     pub fn with_room(alloc: Global, count: usize) -> Result<Names<'s>, AllocError>
         ensures { IfOk result (λ names. meanings_of names ≡ no_meaning) }
     {
-        let first = IndexMap::with_capacity(alloc, count)?;
-        Ok(Names { first })
+        let named = IndexMap::with_capacity(alloc, count)?;
+        Ok(Names {
+            numbered: Vec::new(alloc),
+            far: IndexMap::new(alloc),
+            named,
+            count: 0,
+        })
     }
 
     /// What a name stands for.
@@ -39,21 +56,121 @@ impl<'s> Names<'s> {
     pub fn find(&self, name: &[u8]) -> Option<Defined>
         ensures { option_map defined_of result ≡ meanings_of self.now name.now }
     {
-        self.first.get(name).copied()
+        match number_of(name) {
+            Some(number) => self.find_number(name, number),
+            None => self.named.get(name).copied(),
+        }
+    }
+
+    // What a plain number stands for.
+    fn find_number(&self, name: &[u8], number: u32) -> Option<Defined>
+        ensures { option_map defined_of result ≡ number_meaning self.now name.now number }
+    {
+        match self.numbered.get(number as usize) {
+            Some(Some(defined)) => Some(*defined),
+            Some(None) | None => self.find_far(name),
+        }
+    }
+
+    // What a plain number stands for that is far above those with a place.
+    fn find_far(&self, name: &[u8]) -> Option<Defined>
+        ensures { option_map defined_of result ≡ listed self.now.far.entries name.now }
+    {
+        if self.far.is_empty() {
+            return None;
+        }
+        self.far.get(name).copied()
     }
 
     /// Defines a name, which keeps what it stands for already, and says whether it stands for something.
-    #[tactic(auto, unfolding(crate::specs::Meanings::meanings_of))]
     pub fn define(&mut self, name: &'s [u8], defined: Defined) -> Result<bool, AllocError>
         ensures again { IfOk result (λ again. again ≡ is_some (meanings_of self.old name.now)) }
         ensures means { OnOk result (meanings_of self.new ≡ with_definition (meanings_of self.old) (definition name.now defined)) }
     {
-        match self.first.insert(name, defined)? {
-            None => Ok(false),
-            Some(known) => {
-                self.first.insert(name, known)?;
-                Ok(true)
-            }
+        self.count = self.count.saturating_add(1);
+        match number_of(name) {
+            Some(number) => self.define_number(name, number, defined),
+            None => define_listed(&mut self.named, name, defined),
         }
     }
+
+    // Defines a plain number.
+    fn define_number(
+        &mut self,
+        name: &'s [u8],
+        number: u32,
+        defined: Defined,
+    ) -> Result<bool, AllocError>
+        requires { number_of name.now ≡ Some number }
+        ensures again { IfOk result (λ again. again ≡ is_some (meanings_of self.old name.now)) }
+        ensures means { OnOk result (meanings_of self.new ≡ with_definition (meanings_of self.old) (definition name.now defined)) }
+    {
+        if self.find_number(name, number).is_some() {
+            return Ok(true);
+        }
+        if (number as usize) < self.count.saturating_mul(4).saturating_add(64) {
+            put(&mut self.numbered, number, defined)?;
+            return Ok(false);
+        }
+        define_listed(&mut self.far, name, defined)
+    }
+}
+
+// Puts what a number stands for at its place, behind empty ones where there are fewer.
+fn put(places: &mut Vec<Option<Defined>>, number: u32, defined: Defined) -> Result<(), AllocError>
+    ensures { OnOk result ((n : ℕ) → held places.new.items n ≡ cond (nat_eq number n) (Some defined) (held places.old.items n)) }
+{
+    let place = number as usize;
+    if place < places.len() {
+        places[place] = Some(defined);
+        return Ok(());
+    }
+    places.resize(place, None)?;
+    places.push(Some(defined))?;
+    Ok(())
+}
+
+// Defines a name in a table, which keeps what the name stands for already, and says whether it stands for something.
+fn define_listed<'s>(
+    table: &mut IndexMap<&'s [u8], Defined>,
+    name: &'s [u8],
+    defined: Defined,
+) -> Result<bool, AllocError>
+    ensures again { IfOk result (λ again. again ≡ is_some (listed table.old.entries name.now)) }
+    ensures means { OnOk result (listed table.new.entries ≡ with_definition (listed table.old.entries) (definition name.now defined)) }
+{
+    match table.insert(name, defined)? {
+        None => Ok(false),
+        Some(known) => {
+            table.insert(name, known)?;
+            Ok(true)
+        }
+    }
+}
+
+// The number that a name is, where it is a plain one: one to nine digits, with no zero in front of others.
+#[tactic(auto, unfolding(crate::specs::PlainNumbers::number_of))]
+fn number_of(name: &[u8]) -> Option<u32>
+    ensures { result ≡ number_of name.now }
+{
+    match name {
+        [] | [b'0', _, ..] => None,
+        digits if digits.len() <= 9 => decimal(digits),
+        _ => None,
+    }
+}
+
+// The number that at most nine bytes are, where all are digits.
+fn decimal(bytes: &[u8]) -> Option<u32>
+    requires { length bytes.now ≤ 9 }
+    ensures { result ≡ cond (list_all is_digit bytes.now) (Some (number_in 10 0 bytes.now)) None }
+{
+    let mut number: u32 = 0;
+    for byte in bytes {
+        if !Digit::has(*byte) {
+            return None;
+        }
+        number = number * 10 + u32::from(*byte - b'0');
+    }
+    Some(number)
 }

@@ -1,28 +1,28 @@
-use Rattle.std.proofs.Common.{nat_eq, sym, ap, ◌∙◌}
-use Rattle.std.specs.Prelude.{option_map, is_some}
-use Rattle.std.specs.Cmp.Lexicographic.{pointwise}
-use Rattle.std.specs.Map.{lookup}
-use Rattle.std.proofs.Math.Path.{fun_ext}
-use Rattle.indexmap.specs.IndexMap.{insert_entry}
-use Rattle.mlir_reader.specs.Meanings.{defined_of, meanings_of, definition}
-use Rattle.mlir_reader.proofs.Tables.{insert_absent, insert_again, found_push, kept_name}
+-- A plain number and another name are defined each in tables of their own.
+use Rattle.std.proofs.Common.{◌≡◌, Bool, IfOk, is_some, sym, ap, subst, refl, ◌∙◌, None}
+use Rattle.std.proofs.lemmas.Result.{on_ok_weaker}
+use Rattle.mlir_reader.specs.Meanings.{meanings_of, definition}
+use Rattle.mlir_reader.specs.PlainNumbers.{number_of}
+use Rattle.mlir_reader.specs.Resolving.{with_definition}
+use Rattle.mlir_reader.proofs.Tables.{same_tables, at_other_name, named_put}
 use Rattle.mlir_reader.proofs.names.Names.define.Goals as goal
 
-pub returns-in-None-clause-means : goal.returns-in-None-clause-means
-unfolding meanings_of
-returns-in-None-clause-means c =
-    let none = sym c.in_ok-insert.ensures.old ∙ c.in-None.is in
-    let entries = c.in_ok-insert.ensures.entries ∙ insert_absent _ c.args.self.now.first.entries c.args.name c.args.defined none in
-    fun_ext (λ q. ap (λ es. option_map defined_of (lookup (λ k. pointwise nat_eq q k.now) es)) entries
-    ∙ found_push defined_of (λ k. pointwise nat_eq q k.now) c.args.self.now.first.entries c.args.name c.args.defined)
+pub returns-in-Some-clause-again : goal.returns-in-Some-clause-again
+returns-in-Some-clause-again c =
+    subst (λ (b : Bool). IfOk c.define_number.result (λ again. again ≡ b)) (ap (λ means. is_some (means c.args.name.now)) (same_tables c.args.self.now _ refl refl refl)) c.define_number.ensures.again
 
--- what the name stood for is put back
-pub returns-in_ok-insert-in-Some-clause-means : goal.returns-in_ok-insert-in-Some-clause-means
-unfolding meanings_of
-returns-in_ok-insert-in-Some-clause-means c =
-    let old = c.args.self.now.first.entries in
-    let there = sym c.in_ok-insert.ensures.old ∙ c.in-Some.is in
-    let entries = c.in_ok-insert-in-Some.ensures.entries ∙ ap (λ es. insert_entry (λ x y. pointwise nat_eq x.now y.now) es c.args.name c.in-Some.known) c.in_ok-insert.ensures.entries
-    ∙ insert_again (λ x y. pointwise nat_eq x.now y.now) old c.args.name c.in-Some.known c.args.defined there in
-    fun_ext (λ q. ap (λ es. option_map defined_of (lookup (λ k. pointwise nat_eq q k.now) es)) entries
-    ∙ kept_name (meanings_of c.args.self.now) (definition c.args.name.now c.args.defined) q (ap (λ o. is_some (option_map defined_of o)) there))
+pub returns-in-Some-clause-means : goal.returns-in-Some-clause-means
+returns-in-Some-clause-means c =
+    on_ok_weaker c.define_number.result
+    (λ e. e ∙ ap (λ means. with_definition means (definition c.args.name.now c.args.defined)) (same_tables c.args.self.now _ refl refl refl)) c.define_number.ensures.means
+
+other : (c : goal.After-define_listed) → number_of c.args.name.now ≡ None
+other c = sym c.number_of.ensures ∙ c.in-None.is
+
+pub returns-in-None-clause-again : goal.returns-in-None-clause-again
+returns-in-None-clause-again c =
+    subst (λ (b : Bool). IfOk c.define_listed.result (λ again. again ≡ b)) (sym (ap is_some (at_other_name c.args.self.now c.args.name.now (other c)))) c.define_listed.ensures.again
+
+pub returns-in-None-clause-means : goal.returns-in-None-clause-means
+returns-in-None-clause-means c =
+    on_ok_weaker c.define_listed.result (named_put c.args.self.now _ c.args.name.now c.args.defined (other c) refl refl) c.define_listed.ensures.means
