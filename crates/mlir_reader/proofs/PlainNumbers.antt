@@ -1,10 +1,8 @@
 -- Plain numbers: two names of one number are one name.
-use Rattle.std.proofs.Common.{◌≡◌, ℕ, ◌+◌, ◌*◌, ◌^◌, ◌≤◌, ◌<◌, ◌⊎◌, Bool, true, false, cond, not, ◌&&◌, List, [], ◌∷◌, drop, length, get_or, inl, inr, refl, sym, ap, ◌∙◌, arith, Option, Some, None}
+use Rattle.std.proofs.Common.{◌≡◌, ℕ, ◌+◌, ◌*◌, ◌^◌, ◌≤◌, ◌<◌, ◌⊎◌, true, false, not, ◌&&◌, List, [], ◌∷◌, drop, length, inl, inr, refl, sym, ap, ◌∙◌, arith, Some}
 use Rattle.std.specs.List.{list_all}
 use Rattle.std.proofs.Math.Nat.{pow-le-pow_right}
 use Rattle.std.proofs.lemmas.Bool.{and_parts, cases_order, not-true}
-use Rattle.std.proofs.lemmas.Grind.{pow_more}
-use Rattle.std.proofs.lemmas.List.{drop_more}
 use Rattle.std.proofs.lemmas.Option.{cond_some}
 use Rattle.hw_model.specs.Types.{Name}
 use Rattle.mlir_lexer.specs.Classes.{is_digit}
@@ -12,7 +10,7 @@ use Rattle.mlir_lexer.specs.Contents.{hex_value}
 use Rattle.mlir_reader.specs.Numerals.{number_in}
 use Rattle.mlir_reader.specs.PlainNumbers.{is_short, begins_with_zero, is_plain_number, number_of}
 
-pub digit_value : (b : ℕ) → is_digit b ≡ true → (hex_value b + 48 ≡ b) × (hex_value b ≤ 9)
+digit_value : (b : ℕ) → is_digit b ≡ true → (hex_value b + 48 ≡ b) × (hex_value b ≤ 9)
 digit_value b h = grind arith
 
 digits_parts : (b : ℕ) (bs : List ℕ) → list_all is_digit (b ∷ bs) ≡ true → (is_digit b ≡ true) × (list_all is_digit bs ≡ true)
@@ -30,18 +28,6 @@ pub fits_nine : (n i : ℕ) → n < 10 ^ i → i < 9 → n < 100000000
 fits_nine n i small few =
     let most : 10 ^ i ≤ 10 ^ 8 = pow-le-pow_right (omega arith) {i = i} {j = 8} (omega (arith, few)) in
     omega (arith, small, most)
-
-pub one_more_digit : (bytes : List ℕ) (n i b m : ℕ) → IsDecimalFront bytes n i → i < length bytes → b ≡ get_or bytes i 0
-    → is_digit b ≡ true → m + 48 ≡ n * 10 + b → IsDecimalFront bytes m (i + 1)
-one_more_digit bytes n i b m front more e digit sum =
-    let v = digit_value b digit in
-    let here : drop i bytes ≡ b ∷ drop (i + 1) bytes = drop_more bytes i 0 more ∙ ap (λ x. x ∷ drop (i + 1) bytes) (sym e) in
-    let value : n * 10 + hex_value b ≡ m = omega (arith, v.0, sum) in
-    record {
-      digits = front.digits ∙ ap (list_all is_digit) here ∙ rw digit refl;
-      same = front.same ∙ ap (number_in 10 n) here ∙ ap (λ k. number_in 10 k (drop (i + 1) bytes)) value;
-      small = let power = pow_more 10 i in rw power (omega (arith, front.small, v.1, value));
-    }
 
 -- ---- names of one number
 
@@ -65,10 +51,13 @@ same_digits f (x ∷ xs) (y ∷ ys) a b long same = go (cases_order (hex_value x
   where
     as_many : length xs ≡ length ys
     as_many = omega (arith, long)
+
     p : (is_digit x ≡ true) × (list_all is_digit xs ≡ true)
     p = digits_parts x xs a
+
     q : (is_digit y ≡ true) × (list_all is_digit ys ≡ true)
     q = digits_parts y ys b
+
     go : (hex_value x ≡ hex_value y) ⊎ ((hex_value x < hex_value y) ⊎ (hex_value y < hex_value x))
         → (list_all is_digit xs ≡ true → list_all is_digit ys ≡ true → length xs ≡ length ys → number_in 10 (f * 10 + hex_value x) xs ≡ number_in 10 (f * 10 + hex_value x) ys → xs ≡ ys)
         → x ∷ xs ≡ y ∷ ys
@@ -116,8 +105,10 @@ one_number x y n e f = go (cases_order (length x) (length y))
   where
     p : IsPlain x n
     p = plain x n e
+
     q : IsPlain y n
     q = plain y n f
+
     go : (length x ≡ length y) ⊎ ((length x < length y) ⊎ (length y < length x)) → x ≡ y
     go (inl long) = same_digits 0 x y p.digits q.digits long (p.number ∙ sym q.number)
     go (inr (inl less)) = let smaller = longer x y p.digits q.digits q.no_zero p.some less in absurd (omega (arith, smaller, p.number, q.number))

@@ -164,6 +164,7 @@ number_put t u name n d e h far named put = fun_ext (λ q. on q (number_of q) re
         ∙ ap (λ es. known_or (option_map defined_of (held t.numbered.items m)) (listed es q)) far
         ∙ other_name (number_meaning t q m) q name (Some (defined_of d))
         (λ same. let one : n ≡ m = some_same n m (sym e ∙ ap number_of (sym same) ∙ f) in let both : true ≡ false = sym (eq-eqb n m one) ∙ apart in cc)
+
     on : (q : Name) (o : Option ℕ) → number_of q ≡ o
         → meaning_by u q o ≡ known_or (meaning_by t q o) (cond (same_name q name) (Some (defined_of d)) None)
     on q (Some m) f = at q m (nat_eq n m) f refl
@@ -179,6 +180,7 @@ number_far t u name n d e numbered named far = fun_ext (λ q. on q (number_of q)
   where
     new : Name → Option Defined
     new q = cond (same_name q name) (Some (defined_of d)) None
+
     on : (q : Name) (o : Option ℕ) → number_of q ≡ o → meaning_by u q o ≡ known_or (meaning_by t q o) (new q)
     on q (Some m) f =
         ap (λ places. known_or (option_map defined_of (held places m)) (listed u.far.entries q)) numbered

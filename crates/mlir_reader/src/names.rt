@@ -1,10 +1,10 @@
 //! What the names of a module stand for.
-ghost use Rattle.std.specs.Prelude.{ℕ, ◌≡◌, ◌+◌, ◌<◌, ◌≤◌, ◌*◌, Some, None, cond, nat_eq, length, is_some, IfOk, OnOk};
+ghost use Rattle.std.specs.Prelude.{ℕ, ◌≡◌, ◌≤◌, Some, None, cond, nat_eq, length, is_some, IfOk, OnOk};
 ghost use Rattle.std.specs.List.{list_all};
 ghost use Rattle.std.specs.Option.{option_map};
 ghost use Rattle.mlir_lexer.specs.Classes.{is_digit};
 ghost use Rattle.mlir_reader.specs.Numerals.{number_in};
-ghost use Rattle.mlir_reader.specs.PlainNumbers.{begins_with_zero, number_of};
+ghost use Rattle.mlir_reader.specs.PlainNumbers.{number_of};
 ghost use Rattle.mlir_reader.specs.Resolving.{no_meaning, with_definition};
 ghost use Rattle.mlir_reader.specs.Meanings.{defined_of, held, listed, number_meaning, meanings_of, definition};
 
@@ -32,7 +32,7 @@ pub struct Names<'s> {
     pub(crate) far: IndexMap<&'s [u8], Defined>,
     // What all other names stand for.
     pub(crate) named: IndexMap<&'s [u8], Defined>,
-    // How many definitions came so far, in which the table is linear.
+    // How many definitions came so far.
     count: usize,
 }
 
@@ -108,7 +108,9 @@ impl<'s> Names<'s> {
         if self.find_number(name, number).is_some() {
             return Ok(true);
         }
-        if (number as usize) < self.count.saturating_mul(4).saturating_add(64) {
+        // So the table stays linear in the definitions, whatever numbers a text has.
+        let room = self.count.saturating_mul(4).saturating_add(64);
+        if (number as usize) < room {
             put(&mut self.numbered, number, defined)?;
             return Ok(false);
         }

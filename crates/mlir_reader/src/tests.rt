@@ -1,6 +1,7 @@
 //! Parts of a text, read one at a time.
 use crate::attribute_text::StringKeys;
 use crate::fail::ReadFail;
+use crate::names::{Defined, Names};
 use crate::reader::Reader;
 use crate::syntax::ResultNames;
 use crate::type_text::MOST_OPEN;
@@ -52,6 +53,14 @@ fn results_of(alloc: Global, source: &[u8]) -> Outcome {
         Ok(ResultNames::Names(_, others)) => Ok((others.len() as u64).saturating_add(1)),
         Ok(ResultNames::Pack(_, count)) => Ok(u64::from(count)),
         Err(fail) => Err(told(fail)),
+    }
+}
+
+// the position of the port that a name stands for
+fn port_of(names: &Names<'_>, name: &[u8]) -> Option<u32> {
+    match names.find(name) {
+        Some(Defined::Port(position)) => Some(position),
+        Some(Defined::Result(..) | Defined::Pack(..)) | None => None,
     }
 }
 
@@ -189,5 +198,63 @@ fn an_operand_has_a_name_and_a_number(rt: HostRuntime) -> Result<(), Fail> {
     assert_eq!(rt; first.number, 7);
     assert!(rt; reader.operand_text(OpName::File).is_err());
     assert!(rt; reader.want_word(OpName::File, b"x").is_err());
+    Ok(())
+}
+
+#[test]
+fn a_name_keeps_what_it_stood_for_first(rt: HostRuntime) -> Result<(), Fail> {
+    let mut names = Names::with_room(rt.alloc(), 0)?;
+    let given = [
+        ("0", 3),
+        ("7", 1),
+        ("00", 4),
+        ("007", 15),
+        ("12", 9),
+        ("999999999", 2),
+        ("1000000000", 6),
+        ("a", 5),
+        ("1a", 35),
+        ("63", 8),
+        ("4000", 97),
+        ("99", 93),
+        ("", 23),
+    ];
+    for (name, position) in given {
+        assert_eq!(rt; port_of(&names, name.as_bytes()), None, "in {name}");
+        let again = names.define(name.as_bytes(), Defined::Port(position))?;
+        assert!(rt; !again, "in {name}");
+    }
+    for (name, position) in given {
+        let again = names.define(name.as_bytes(), Defined::Port(1000))?;
+        assert!(rt; again, "in {name}");
+        assert_eq!(rt;
+            port_of(&names, name.as_bytes()),
+            Some(position),
+            "in {name}"
+        );
+    }
+    for name in ["1", "07", "000", "64", "1000000001", "b", "2a"] {
+        assert_eq!(rt; port_of(&names, name.as_bytes()), None, "in {name}");
+    }
+    Ok(())
+}
+
+#[test]
+fn a_number_far_above_is_kept_when_its_place_comes_near(rt: HostRuntime) -> Result<(), Fail> {
+    let mut names = Names::with_room(rt.alloc(), 4)?;
+    assert!(rt; !names.define(b"90", Defined::Port(1))?);
+    for name in ["0", "1", "2", "3", "4", "5", "6", "7", "8", "9", "91", "93"] {
+        let again = names.define(name.as_bytes(), Defined::Port(2))?;
+        assert!(rt; !again, "in {name}");
+    }
+    assert!(rt; names.define(b"90", Defined::Port(3))?);
+    for (name, wanted) in [
+        ("90", Some(1)),
+        ("91", Some(2)),
+        ("92", None),
+        ("93", Some(2)),
+    ] {
+        assert_eq!(rt; port_of(&names, name.as_bytes()), wanted, "in {name}");
+    }
     Ok(())
 }

@@ -1,6 +1,6 @@
 -- Fewer than nine digits stand for a number below 10^8.
 use Rattle.std.proofs.Common.{arith}
-use Rattle.mlir_reader.proofs.PlainNumbers.{fits_nine, digit_value, one_more_digit}
+use Rattle.mlir_reader.proofs.PlainNumbers.{fits_nine}
 use Rattle.mlir_reader.proofs.names.decimal.Goals as goal
 
 pub overflow_mul-number : goal.overflow_mul-number

@@ -1,7 +1,7 @@
 -- A plain number and another name are defined each in tables of their own.
 use Rattle.std.proofs.Common.{◌≡◌, Bool, IfOk, is_some, sym, ap, subst, refl, ◌∙◌, None}
 use Rattle.std.proofs.lemmas.Result.{on_ok_weaker}
-use Rattle.mlir_reader.specs.Meanings.{meanings_of, definition}
+use Rattle.mlir_reader.specs.Meanings.{definition}
 use Rattle.mlir_reader.specs.PlainNumbers.{number_of}
 use Rattle.mlir_reader.specs.Resolving.{with_definition}
 use Rattle.mlir_reader.proofs.Tables.{same_tables, at_other_name, named_put}

@@ -16,12 +16,12 @@ pub returns-then-is_some-clause-means : goal.returns-then-is_some-clause-means
 returns-then-is_some-clause-means c =
     fun_ext (λ q. kept_name (meanings_of c.args.self.now) (definition c.args.name.now c.args.defined) q (known c))
 
-pub returns-then-number-saturating_add-clause-again : goal.returns-then-number-saturating_add-clause-again
-returns-then-number-saturating_add-clause-again c =
+pub returns-then-number-room-clause-again : goal.returns-then-number-room-clause-again
+returns-then-number-room-clause-again c =
     sym (is_known c.args.self.now c.args.name.now c.args.number c.find_number.result c.is_some.result false c.requires c.find_number.ensures c.is_some.ensures c.if-is_some.false)
 
-pub returns-then-number-saturating_add-clause-means : goal.returns-then-number-saturating_add-clause-means
-returns-then-number-saturating_add-clause-means c =
+pub returns-then-number-room-clause-means : goal.returns-then-number-room-clause-means
+returns-then-number-room-clause-means c =
     let free = is_known c.args.self.now c.args.name.now c.args.number c.find_number.result c.is_some.result false c.requires c.find_number.ensures c.is_some.ensures c.if-is_some.false in
     number_put c.args.self.now _ c.args.name.now c.args.number c.args.defined c.requires free refl refl c.in_ok-put.ensures
 
