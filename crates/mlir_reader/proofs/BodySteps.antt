@@ -6,10 +6,7 @@ use Rattle.hw_model.specs.TypeViews.{type_of}
 use Rattle.mlir_reader.specs.ModuleText as text
 use Rattle.std.proofs.lemmas.List.{map-append}
 use Rattle.hw_model.specs.Design as hw
-use Rattle.ir_store.specs.declared.operation.OpId.{OpId}
-use Rattle.ir_store.specs.declared.operation.NewOp.{NewOp}
 use Rattle.ir_store.specs.declared.design.Port.{Port}
-use Rattle.ir_store.specs.BodyOps.{BodyOp, as_new, ids_in}
 use Rattle.ir_store.specs.Designs.{port_of}
 use Rattle.mlir_reader.specs.Resolving.{Meanings, with_definitions, port_definition, port_definitions, ports_from, is_marked}
 use Rattle.mlir_reader.specs.Views.{port_text_of}
@@ -33,10 +30,6 @@ numbers_more ids n id e h =
     let l : id ≡ 0 + n = omega (arith, count_is ids n e) in
     let s : suc n ≡ n + 1 = omega arith in
     ap (λ is. is ++ id ∷ []) e ∙ ap (λ x. numbers_below n ++ x ∷ []) l ∙ numbers_push n 0 ∙ ap numbers_below s
-
-pub ids_step : (done new : List BodyOp) (id : OpId) (op : NewOp) (n : ℕ) → new ≡ done ++ as_new id op ∷ [] → ids_in done ≡ numbers_below n → id.index ≡ length (ids_in done) →
-    ids_in new ≡ numbers_below (n + 1)
-ids_step done new id op n e i l = ap ids_in e ∙ map-append (λ (o : BodyOp). o.id) done (as_new id op ∷ []) ∙ numbers_more (ids_in done) n id.index i l
 
 -- ---- ports
 

@@ -7,38 +7,16 @@ use Rattle.hw_model.specs.Types.{Name}
 use Rattle.hw_model.specs.TypeViews.{field_of, fields_of}
 use Rattle.hw_model.specs.Sound.{field_list}
 use Rattle.hw_model.specs.declared.types.Field.{Field}
-use Rattle.mlir_reader.specs.Resolving.{Meanings, Definition, with_definition, with_definitions, operation_definitions, body_definitions, names_from, marks}
+use Rattle.mlir_reader.specs.Resolving.{Meanings, Definition, with_definition, with_definitions, names_from, marks}
 use Rattle.mlir_reader.specs.Resolving.Defined.{are_results}
-use Rattle.mlir_reader.specs.Views.{operation_of}
-use Rattle.mlir_reader.specs.declared.syntax.OperationText.{OperationText}
 
 pub definitions_append : (m : Meanings) (ds es : List Definition) → with_definitions m (ds ++ es) ≡ with_definitions (with_definitions m ds) es
 definitions_append m [] es = refl
 definitions_append m (d ∷ ds) es = definitions_append (with_definition m d) ds es
 
-pub marks_append : (m : Meanings) (ds es : List Definition) → marks m (ds ++ es) ≡ marks m ds ++ marks (with_definitions m ds) es
-marks_append m [] es = refl
-marks_append m (d ∷ ds) es = ap (λ rest. is_some (m d.name) ∷ rest) (marks_append (with_definition m d) ds es)
-
 -- what is left of a list begins with the item at the index
 pub rest_at : {X : Type 0} (xs : List X) (i : ℕ) (x : X) → i < length xs → x ≡ get_or xs i x → drop i xs ≡ x ∷ drop (i + 1) xs
 rest_at xs i x h g = drop_more xs i x h ∙ ap (λ y. y ∷ drop (i + 1) xs) (sym g)
-
-pub operations_step : (m n : Meanings) (os : List OperationText) (i : ℕ) (o : OperationText) → i < length os → o ≡ get_or os i o
-    → n ≡ with_definitions m (operation_definitions i (operation_of o))
-    → with_definitions n (body_definitions (i + 1) (map operation_of (drop (i + 1) os))) ≡ with_definitions m (body_definitions i (map operation_of (drop i os)))
-operations_step m n os i o h g e =
-    rw (rest_at os i o h g, definitions_append m (operation_definitions i (operation_of o)) (body_definitions (i + 1) (map operation_of (drop (i + 1) os))), e) refl
-
-pub operations_marks : (m n : Meanings) (os : List OperationText) (i : ℕ) (o : OperationText) (found more : List Bool) → i < length os → o ≡ get_or os i o
-    → n ≡ with_definitions m (operation_definitions i (operation_of o)) → more ≡ found ++ marks m (operation_definitions i (operation_of o))
-    → more ++ marks n (body_definitions (i + 1) (map operation_of (drop (i + 1) os))) ≡ found ++ marks m (body_definitions i (map operation_of (drop i os)))
-operations_marks m n os i o found more h g e l =
-    let ds = operation_definitions i (operation_of o) in
-    let es = body_definitions (i + 1) (map operation_of (drop (i + 1) os)) in
-    ap (λ f. more ++ marks f es) e ∙ ap (λ bs. bs ++ marks (with_definitions m ds) es) l
-    ∙ append_assoc found (marks m ds) (marks (with_definitions m ds) es) ∙ ap (λ bs. found ++ bs) (sym (marks_append m ds es))
-    ∙ ap (λ ts. found ++ marks m (body_definitions i (map operation_of ts))) (sym (rest_at os i o h g))
 
 -- the name of a result
 abbrev pub named : ℕ → ℕ → Name → Definition

@@ -12,7 +12,7 @@ use Rattle.mlir_reader.specs.ModuleText.{ModuleText, header, port_text, module_t
 use Rattle.mlir_reader.specs.ModuleViews.{designs_behind}
 use Rattle.mlir_reader.specs.EndViews.{ends_of}
 use Rattle.mlir_reader.specs.Resolving.{module_of}
-use Rattle.mlir_reader.specs.Views.{ReadsAs}
+use Rattle.mlir_reader.specs.Views.{ReadsAs, ReadsFor}
 use Rattle.mlir_reader.specs.declared.fail.ReadFail.{ReadFail}
 use Rattle.mlir_reader.specs.declared.fail.ReadFail.TheVariants.{Refused, NoMemory}
 use Rattle.mlir_reader.specs.declared.file_text.Ends.{Ends}
@@ -68,12 +68,12 @@ same_at {e = e} {got = got} {left = left} read g more_left is =
     g.same ∙ ap (designs_behind got) (modules_at e g.n left g.enough more_left ∙ ap (λ (r : Read _). on r (then_modules e (g.n - 1))) is)
 
 -- a module that is refused
-pub refused_at : {C : Type 0} {e : Ends} {front : Design} {start : List Symbol} {got : Design} {left : List Symbol} {B : Type 0} (view : B → ModuleText)
+pub refused_at : {C : Type 0} {e : Ends} {front : Design} {start : List Symbol} {got : Design} {left : List Symbol} {B : Type 0} (holds : ModuleText → B → Type 0)
     (whole : C → Design) (fail : ReadFail) (past left_over : List Symbol)
-    → Filling e front start got left → ends_of e left ≡ false → ReadsAs view (Err fail) past (module_text left)
+    → Filling e front start got left → ends_of e left ≡ false → ReadsFor holds (Err fail) past (module_text left)
     → ReadsAs whole (Err fail) left_over (designs_behind front (modules_text (ends_of e) (length start) start))
-refused_at view whole (Refused r) past left_over g more_left read = same_at (Err r) g more_left read
-refused_at view whole NoMemory past left_over g more_left read = tt
+refused_at holds whole (Refused r) past left_over g more_left read = same_at (Err r) g more_left read
+refused_at holds whole NoMemory past left_over g more_left read = tt
 
 -- the end of the modules
 pub closes_at : {e : Ends} {front : Design} {start : List Symbol} {got : Design} {left : List Symbol}

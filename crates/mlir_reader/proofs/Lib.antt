@@ -22,10 +22,11 @@ mod AgainTexts
 mod AgainTokens
 mod AgainTypes
 mod BodySteps
+mod BodyTexts
 mod Constants
 mod Defining
+mod Drafting
 mod KeyOrder
-mod Marks
 mod Modules
 mod Moving
 mod PlainNumbers

@@ -13,7 +13,6 @@ pub mod ModuleText
 pub mod Resolving
 pub mod Reading
 pub mod Views
-pub mod Waiting
 pub mod Heads
 pub mod TypeHeads
 pub mod AttributeHeads
@@ -27,3 +26,5 @@ pub mod EndViews
 pub mod Spelling
 pub mod Locality
 pub mod Marked
+pub mod Drafts
+pub mod Held

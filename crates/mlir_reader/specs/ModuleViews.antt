@@ -1,5 +1,5 @@
--- What stands behind the ports of a module in code, and designs of which modules are read.
-use Rattle.std.specs.Prelude.{◌≡◌, List, ◌++◌, map, length, Result, Ok, Err}
+-- Modules and their parts in code beside what their texts say, and designs of which modules are read.
+use Rattle.std.specs.Prelude.{◌≡◌, List, ◌++◌, length, Result, Ok, Err}
 use Rattle.diag.specs.declared.refusal.Refusal.{Refusal}
 use Rattle.diag.specs.declared.refusal.OpName.TheVariants as op
 use Rattle.mlir_lexer.specs.declared.token.TokenKind.TheVariants as kind
@@ -11,13 +11,42 @@ use Rattle.mlir_reader.specs.Stream.{is_next}
 use Rattle.mlir_reader.specs.Reads.{Read, Reads, on, want}
 use Rattle.mlir_reader.specs.ModuleText as text
 use Rattle.mlir_reader.specs.Resolving as resolving
-use Rattle.mlir_reader.specs.Views.{operation_of}
+use Rattle.mlir_reader.specs.Resolving.{Meanings, no_meaning, ports_from, has_outputs, ends_with_output}
+use Rattle.mlir_reader.specs.OperationText.{OperationText}
+use Rattle.mlir_reader.specs.Drafts.{IsBody}
+use Rattle.ir_store.specs.declared.design.Module.{Module}
+use Rattle.mlir_reader.specs.declared.operation_text.Operations.{Operations}
+use Rattle.mlir_reader.specs.declared.resolving.ModuleHead.{ModuleHead}
 use Rattle.mlir_reader.specs.declared.fail.ReadFail.{ReadFail}
 use Rattle.mlir_reader.specs.declared.fail.ReadFail.TheVariants.{Refused, NoMemory}
 use Rattle.mlir_reader.specs.declared.module_text.BodyText.{BodyText}
 
-abbrev pub body_of : BodyText → text.BodyText
-body_of b = record { dictionary = entries_in b.dictionary; operations = map operation_of b.operations.items; close = b.close }
+-- operations are those of these texts, where names stood for this in front of them
+pub record AreOperations (seen : Meanings) (os : List OperationText) (x : Operations) : Type 0 where
+  pub body : IsBody seen os x.body
+  pub ends : x.ends ≡ ends_with_output os
+
+-- what stands behind the ports of a module is that of this text
+pub record IsBodyText (seen : Meanings) (t : text.BodyText) (b : BodyText) : Type 0 where
+  pub dictionary : entries_in b.dictionary ≡ t.dictionary
+  pub operations : AreOperations seen t.operations b.operations
+  pub close : b.close ≡ t.close
+
+-- what stands in front of the operations of a module is that of this text
+pub record IsHead (t : text.ModuleText) (h : ModuleHead) : Type 0 where
+  pub symbol : h.symbol ≡ t.symbol
+  pub private : h.private ≡ t.is_private
+  pub ports : store.ports_in h.ports ≡ ports_from no_meaning 0 t.ports
+  pub outputs : h.outputs ≡ has_outputs t.ports
+  pub place : h.place ≡ t.place
+
+-- what stands behind the ports of a module's text
+abbrev pub body_in : text.ModuleText → text.BodyText
+body_in t = record { dictionary = t.dictionary; operations = t.operations; close = t.close }
+
+-- a module is that of this text
+abbrev pub IsModule : text.ModuleText → Module → Type 0
+IsModule t m = store.numbered_module (store.module_of m) ≡ resolving.module_of t
 
 -- the design of modules behind those of another
 abbrev pub designs_behind : hw.Design → Read (List text.ModuleText) → Read hw.Design

@@ -21,13 +21,18 @@ use Rattle.mlir_reader.specs.declared.syntax.Extra.TheVariants as extra
 use Rattle.mlir_reader.specs.declared.syntax.Gathered.{Gathered}
 use Rattle.mlir_reader.specs.declared.syntax.OperationText.{OperationText}
 use Rattle.mlir_reader.specs.declared.syntax.PortText.{PortText}
-use Rattle.mlir_reader.specs.declared.syntax.ModuleText.{ModuleText}
 
 -- an answer is what is read, seen by a view, and what is left is left; a refusal is the one that is read; want of memory is free
 abbrev pub ReadsAs : {A B : Type 0} → (A → B) → Result A ReadFail → List Symbol → Read B → Type 0
 ReadsAs view (Ok x) left read = read ≡ Ok (view x, left)
 ReadsAs view (Err (Refused r)) left read = read ≡ Err r
 ReadsAs view (Err NoMemory) left read = Unit {0}
+
+-- the same, where this holds of the answer beside what is read
+abbrev pub ReadsFor : {A B : Type 0} → (B → A → Type 0) → Result A ReadFail → List Symbol → Read B → Type 0
+ReadsFor {B = B} holds (Ok x) left read = (y : B) × (read ≡ Ok (y, left)) × holds y x
+ReadsFor holds (Err (Refused r)) left read = read ≡ Err r
+ReadsFor holds (Err NoMemory) left read = Unit {0}
 
 abbrev pub operand_of : OperandName → text.OperandName
 operand_of o = record { name = o.name.now; number = o.number }
@@ -62,14 +67,3 @@ operation_of o = record {
 
 abbrev pub port_text_of : PortText → file.PortText
 port_text_of p = record { value = option_map (λ (v : _). v.now) p.value; name = p.name; type = type_of p.ty }
-
-abbrev pub module_text_of : ModuleText → file.ModuleText
-module_text_of m = record {
-  symbol = m.symbol;
-  is_private = m.private;
-  ports = map port_text_of m.ports.items;
-  dictionary = entries_in m.dictionary;
-  operations = map operation_of m.operations.items;
-  place = m.place;
-  close = m.close;
-}

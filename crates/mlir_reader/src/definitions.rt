@@ -52,27 +52,6 @@ pub fn define_operation<'s>(
     define_results(names, position, own, &operation.results, found)
 }
 
-/// Defines the names of the results of operations, and says of each whether it stands for something already.
-pub fn define_operations<'s>(
-    alloc: Global,
-    names: &mut Names<'s>,
-    operations: &[OperationText<'s>],
-) -> Result<Marks, AllocError>
-    requires count { length operations.now < 2 ^ 32 }
-    requires few { All HasFewNames operations.now }
-    ensures marks { IfOk result (λ found. found.items ≡ marks (meanings_of names.old) (body_definitions 0 (map operation_of operations.now))) }
-    ensures means { OnOk result (meanings_of names.new ≡ with_definitions (meanings_of names.old) (body_definitions 0 (map operation_of operations.now))) }
-{
-    let mut found = SmallVec::new(alloc);
-    for (position, operation) in operations.iter().enumerate() {
-        match define_operation(names, position as u32, operation, &mut found) {
-            Ok(()) => {}
-            Err(fail) => return Err(fail),
-        }
-    }
-    Ok(found)
-}
-
 // How many results an operation has of its own.
 #[tactic(auto, unfolding(crate::specs::Resolving::plain_kind, crate::specs::Resolving::said_kind, ir_store::specs::ResultTypes::result_count))]
 fn result_count(name: Listed, extra: &Extra, types: &[Ty]) -> usize

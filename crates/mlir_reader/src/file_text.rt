@@ -26,7 +26,7 @@ pub enum Ends {
 }
 
 impl<'s> Reader<'s> {
-    /// A file: modules, bare or in one module of the builtin dialect, each resolved once its text is read.
+    /// A file: modules, bare or in one module of the builtin dialect, each resolved as its text is read.
     ///
     /// Refuses the first token that no file has there.
     #[tactic(auto, unfolding(crate::specs::ModuleText::file_text))]
@@ -125,7 +125,7 @@ impl<'s> Reader<'s> {
     {
         while !self.ends(ends) {
             match self.module_text() {
-                Ok(text) => put_module(self.alloc(), design, text)?,
+                Ok(module) => put_module(design, module)?,
                 Err(fail) => return Err(fail),
             }
         }

@@ -4,6 +4,9 @@
 pub mod attribute_text;
 pub mod definitions;
 pub mod dictionaries;
+pub mod draft;
+#[cfg(test)]
+mod draft_tests;
 pub mod fail;
 pub mod file_text;
 pub mod head;
@@ -34,5 +37,4 @@ pub mod syntax;
 #[cfg(test)]
 mod tests;
 pub mod type_text;
-mod waiting;
 pub mod word_text;

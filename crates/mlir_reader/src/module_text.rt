@@ -3,44 +3,48 @@ ghost use Rattle.std.specs.Prelude.{◌≡◌, ◌<◌, ◌≤◌, length, map, 
 ghost use Rattle.ir_store.specs.DictionaryViews.{entries_in};
 ghost use Rattle.hw_model.specs.TypeViews.{type_of};
 ghost use Rattle.mlir_lexer.specs.Tokens.{lexeme_of};
-ghost use Rattle.mlir_reader.specs.ModuleViews.{body_of};
+ghost use Rattle.mlir_reader.specs.Meanings.{meanings_of};
+ghost use Rattle.mlir_reader.specs.ModuleViews.{IsBodyText, IsModule};
 ghost use Rattle.mlir_reader.specs.ModuleText.{header, port_name, port_type, input_port, output_port, port_text, ports_text, attributes_text, private_text, body_text, module_behind, classed_module, module_text};
 ghost use Rattle.mlir_reader.specs.OperationText.{class_of};
 ghost use Rattle.mlir_reader.specs.Reads.{some_items};
 ghost use Rattle.mlir_reader.specs.Stream.{first};
-ghost use Rattle.mlir_reader.specs.Views.{ReadsAs, port_text_of, module_text_of};
+ghost use Rattle.mlir_reader.specs.Views.{ReadsAs, ReadsFor, port_text_of};
 
 use crate::attribute_text::StringKeys;
 use crate::fail::ReadFail;
+use crate::names::Names;
 use crate::operation_names::{NameClass, class_of};
-use crate::operation_text::HEADER;
+use crate::operation_text::{HEADER, Operations};
 use crate::reader::{Reader, is_kind};
-use crate::syntax::{ModuleText, OperationText, PortText};
+use crate::resolving::{ModuleHead, named_ports, whole_module};
+use crate::syntax::PortText;
 use diag::cause::Cause;
 use diag::refusal::{OpName, Place};
 use hw_model::types::Ty;
 use io_edge::byte_text::Text;
+use ir_store::design::Module;
 use ir_store::dictionary::Dictionary;
 use mlir_lexer::token::{Token, TokenKind};
 
 /// What stands behind the ports of a module.
 #[derive(Drop)]
-pub struct BodyText<'s> {
+pub struct BodyText {
     /// The module's dictionary, as it is written.
     pub dictionary: Dictionary,
     /// Its operations.
-    pub operations: Vec<OperationText<'s>>,
+    pub operations: Operations,
     /// The place of its closing brace.
     pub close: Place,
 }
 
 impl<'s> Reader<'s> {
-    /// A module.
+    /// A module, whose names are resolved.
     ///
     /// Refuses the first token that no module has there.
     #[tactic(auto, unfolding(crate::specs::ModuleText::module_text))]
-    pub fn module_text(&mut self) -> Result<ModuleText<'s>, ReadFail>
-        ensures gives { ReadsAs module_text_of result self.new (module_text self.old) }
+    pub fn module_text(&mut self) -> Result<Module, ReadFail>
+        ensures gives { ReadsFor IsModule result self.new (module_text self.old) }
         ensures shorter { OnOk result (length self.new < length self.old) }
     {
         match self.first() {
@@ -52,9 +56,9 @@ impl<'s> Reader<'s> {
 
     // A module whose name is the first token.
     #[tactic(auto, unfolding(crate::specs::ModuleText::classed_module))]
-    fn classed_module(&mut self, token: Token<'s>) -> Result<ModuleText<'s>, ReadFail>
+    fn classed_module(&mut self, token: Token<'s>) -> Result<Module, ReadFail>
         requires { Some (lexeme_of token) ≡ first self.old }
-        ensures gives { ReadsAs module_text_of result self.new (classed_module self.old (lexeme_of token.entry) (class_of token.entry.text.now)) }
+        ensures gives { ReadsFor IsModule result self.new (classed_module self.old (lexeme_of token.entry) (class_of token.entry.text.now)) }
         ensures shorter { OnOk result (length self.new < length self.old) }
     {
         match class_of(token.text) {
@@ -82,24 +86,23 @@ impl<'s> Reader<'s> {
     }
 
     // A module behind its name.
-    #[tactic(auto, unfolding(crate::specs::ModuleText::module_behind))]
-    fn module_behind(&mut self, place: Place) -> Result<ModuleText<'s>, ReadFail>
-        ensures gives { ReadsAs module_text_of result self.new (module_behind place self.old) }
+    fn module_behind(&mut self, place: Place) -> Result<Module, ReadFail>
+        ensures gives { ReadsFor IsModule result self.new (module_behind place self.old) }
         ensures shorter { OnOk result (length self.new ≤ length self.old) }
     {
         let private = self.private_text();
         let symbol = self.module_symbol(HEADER)?;
         let ports = self.ports_text()?;
-        let body = self.body_text()?;
-        Ok(ModuleText {
+        let ports = named_ports(self.alloc(), ports)?;
+        let body = self.body_text(ports.names)?;
+        let head = ModuleHead {
             symbol,
             private,
-            ports,
-            dictionary: body.dictionary,
-            operations: body.operations,
+            ports: ports.list,
+            outputs: ports.outputs,
             place,
-            close: body.close,
-        })
+        };
+        Ok(whole_module(self.alloc(), head, body)?)
     }
 
     // `private`, or nothing.
@@ -111,15 +114,14 @@ impl<'s> Reader<'s> {
         self.pass_word(b"private")
     }
 
-    // `[attributes {..}] { OPERATIONS }`
-    #[tactic(auto, unfolding(crate::specs::ModuleText::body_text))]
-    fn body_text(&mut self) -> Result<BodyText<'s>, ReadFail>
-        ensures gives { ReadsAs body_of result self.new (body_text self.old) }
+    // `[attributes {..}] { OPERATIONS }` behind ports whose names stand for something.
+    fn body_text(&mut self, names: Names<'s>) -> Result<BodyText, ReadFail>
+        ensures gives { ReadsFor (IsBodyText (meanings_of names.entry)) result self.new (body_text self.old) }
         ensures shorter { OnOk result (length self.new ≤ length self.old) }
     {
         let dictionary = self.header_attributes(HEADER)?;
         self.want(HEADER, TokenKind::LeftBrace)?;
-        let operations = self.operations_text()?;
+        let operations = self.operations_text(names)?;
         let close = self.want(HEADER, TokenKind::RightBrace)?;
         Ok(BodyText {
             dictionary,

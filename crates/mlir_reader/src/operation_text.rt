@@ -1,5 +1,5 @@
 //! Operations in a text, and the operations of a body (MLIR language reference: "Operations").
-ghost use Rattle.std.specs.Prelude.{◌≡◌, ◌≤◌, ◌<◌, length, map, Some, Ok, OnOk};
+ghost use Rattle.std.specs.Prelude.{◌≡◌, ◌≤◌, ◌<◌, length, Some, Ok, OnOk};
 ghost use Rattle.std.specs.Option.{option_map};
 ghost use Rattle.ir_store.specs.DictionaryViews.{entries_in};
 ghost use Rattle.mlir_lexer.specs.Tokens.{lexeme_of};
@@ -9,10 +9,14 @@ ghost use Rattle.mlir_reader.specs.NameClasses.{class_seen};
 ghost use Rattle.mlir_reader.specs.OperationText.{bin_text, string_keys, form_text, late_dictionary, named_operation, classed_operation, operation_behind, operation_text, operations_text, misplaced, no_operation, is_outside, other_name};
 ghost use Rattle.mlir_reader.specs.PieceText.{gathered_nothing};
 ghost use Rattle.mlir_reader.specs.Stream.{first, is_first};
-ghost use Rattle.mlir_reader.specs.Views.{ReadsAs, gathered_of, names_of, operation_of};
+ghost use Rattle.mlir_reader.specs.Meanings.{meanings_of};
+ghost use Rattle.mlir_reader.specs.ModuleViews.{AreOperations};
+ghost use Rattle.mlir_reader.specs.Views.{ReadsAs, ReadsFor, gathered_of, names_of, operation_of};
 
 use crate::attribute_text::StringKeys;
+use crate::draft::Draft;
 use crate::fail::ReadFail;
+use crate::names::Names;
 use crate::operation_names::{NameClass, class_of, is_last, takes_bin};
 use crate::pieces::Shape;
 use crate::reader::{Reader, is_kind};
@@ -21,6 +25,7 @@ use crate::syntax::{Extra, Gathered, OperationText, ResultNames};
 use diag::cause::Cause;
 use diag::listed::Listed;
 use diag::refusal::{OpName, Place, Refusal};
+use ir_store::body::Body;
 use ir_store::dictionary::Dictionary;
 use ir_store::operation::TyList;
 use mlir_lexer::token::{Token, TokenKind};
@@ -30,8 +35,14 @@ use std::alloc::Global;
 /// The operation that refusals name where none is open within a module.
 pub const HEADER: OpName = OpName::Listed(Listed::HwModule);
 
-// For how many operations of a body room is made at once.
-const FEW_OPERATIONS: usize = 8;
+/// The operations of a module, as they are read.
+#[derive(Drop)]
+pub struct Operations {
+    /// The body.
+    pub body: Body,
+    /// Whether one of them is the module's output.
+    pub ends: bool,
+}
 
 impl<'s> Gathered<'s> {
     ghost use Rattle.std.specs.Prelude.{◌≡◌};
@@ -51,14 +62,16 @@ impl<'s> Gathered<'s> {
 }
 
 impl<'s> Reader<'s> {
-    /// Operations up to the closing brace, which is left. `hw.output` is the last.
+    /// Operations up to the closing brace, which is left, behind ports whose names stand for something. `hw.output` is the
+    /// last.
     ///
     /// Refuses the first token that no operation has there.
-    pub fn operations_text(&mut self) -> Result<Vec<OperationText<'s>>, ReadFail>
-        ensures gives { ReadsAs (λ operations. map operation_of operations.items) result self.new (operations_text (length self.old) self.old) }
+    pub fn operations_text(&mut self, names: Names<'s>) -> Result<Operations, ReadFail>
+        ensures gives { ReadsFor (AreOperations (meanings_of names.entry)) result self.new (operations_text (length self.old) self.old) }
         ensures shorter { OnOk result (length self.new ≤ length self.old) }
     {
-        let mut operations = Vec::with_capacity(self.alloc(), FEW_OPERATIONS)?;
+        let mut draft = Draft::new(self.alloc(), names);
+        let mut ends = false;
         while !self.is_next(TokenKind::RightBrace) {
             let operation = match self.operation_text() {
                 Ok(operation) => operation,
@@ -67,9 +80,11 @@ impl<'s> Reader<'s> {
             if is_last(operation.name) && !self.is_next(TokenKind::RightBrace) {
                 return Err(ReadFail::Refused(self.unexpected(HEADER)));
             }
-            operations.push(operation)?;
+            ends = ends || is_last(operation.name);
+            draft.add(self.alloc(), operation)?;
         }
-        Ok(operations)
+        let body = draft.finish(self.alloc())?;
+        Ok(Operations { body, ends })
     }
 
     /// An operation.

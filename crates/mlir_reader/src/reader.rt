@@ -99,11 +99,16 @@ impl<'s> Reader<'s> {
     }
 
     /// Passes the first token. The end is not passed, nor is a byte that begins no token.
+    #[inline(never)]
     pub fn advance(&mut self)
         ensures { self.new ≡ after self.old }
     {
         if let Head::Token(_) = self.head {
-            self.head = next_head(&mut self.tokens);
+            match self.tokens.next() {
+                Ok(Some(token)) => self.head = Head::Token(token),
+                Ok(None) => self.head = Head::End(self.tokens.place()),
+                Err(fail) => self.head = Head::Bad(fail.place),
+            }
         }
     }
 
@@ -123,6 +128,7 @@ impl<'s> Reader<'s> {
     /// Passes a token of this kind.
     ///
     /// Refuses everything else that stands there.
+    #[inline(always)]
     #[tactic(auto, unfolding(crate::specs::Reads::want))]
     pub fn want(&mut self, op: OpName, kind: TokenKind) -> Result<Token<'s>, ReadFail>
         ensures gives { ReadsAs lexeme_of result self.new (want op kind self.old) }

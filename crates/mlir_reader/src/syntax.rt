@@ -88,22 +88,3 @@ pub struct PortText<'s> {
     /// Its type.
     pub ty: Ty,
 }
-
-/// A module as its text says it.
-#[derive(Drop)]
-pub struct ModuleText<'s> {
-    /// Its symbol.
-    pub symbol: Text,
-    /// Whether it is private.
-    pub private: bool,
-    /// Its ports.
-    pub ports: Vec<PortText<'s>>,
-    /// Its dictionary, as it is written.
-    pub dictionary: Dictionary,
-    /// Its operations.
-    pub operations: Vec<OperationText<'s>>,
-    /// The place of its name.
-    pub place: Place,
-    /// The place of its closing brace.
-    pub close: Place,
-}

@@ -1,4 +1,4 @@
-use Rattle.std.proofs.Common.{◌≡◌, [], ◌++◌, map, drop}
+use Rattle.std.proofs.Common.{◌≡◌, [], ◌++◌, drop}
 use Rattle.ir_store.specs.OperationViews.{results_in}
 use Rattle.mlir_reader.specs.Resolving.{marked_results}
 use Rattle.mlir_reader.proofs.results.add_untyped.Given as goal

@@ -1,30 +1,60 @@
--- Operations are gathered up to the closing brace.
-use Rattle.std.proofs.Common.{map, sym, ap, ◌∙◌, Err, Vec, Global}
+-- Operations are put into the draft up to the closing brace.
+use Rattle.std.proofs.Common.{sym, ◌∙◌, [], ◌∷◌, ◌++◌, refl, ap, Err, List}
+use Rattle.mlir_reader.specs.ModuleViews.{AreOperations}
+use Rattle.mlir_reader.specs.Meanings.{meanings_of}
+use Rattle.mlir_reader.specs.OperationText.{OperationText}
 use Rattle.mlir_reader.specs.Views.{operation_of}
-use Rattle.mlir_reader.specs.declared.syntax.OperationText.{OperationText}
-use Rattle.mlir_reader.proofs.Bodies.{refused_at, output_at, goes_on_at, closes_at, fine_close, fine_last}
-use Rattle.mlir_reader.proofs.reader.Reader.operations_text.Goals.{else-is_last-via-then-is_last+else-not-is_next, else-is_last-via-else-is_last}
+use Rattle.mlir_reader.proofs.Bodies.{stands, refused_at, output_at, goes_on_at, fine_close, fine_last}
+use Rattle.mlir_reader.proofs.BodyTexts.{refused_for, ends_already, ends_here, all_read}
+use Rattle.mlir_reader.proofs.reader.Reader.operations_text.Goals.{else-is_last-via-then-is_last+else-not-is_next, else-is_last-via-else-is_last, then-ends, else-ends}
 use Rattle.mlir_reader.proofs.reader.Reader.operations_text.Goals as goal
+
+-- what is read of operations is what they are
+abbrev same : List OperationText → List OperationText
+same os = os
+
+pub loop-self-init : goal.loop-self-init
+loop-self-init c = record {
+  got = [];
+  standing = stands (λ (o : OperationText). o) c.args.self.now;
+  drafts = c.new-draft.ensures;
+  ends = refl;
+}
 
 pub returns-in-Err-clause-gives : goal.returns-in-Err-clause-gives
 returns-in-Err-clause-gives c =
-    refused_at {C = Vec OperationText Global} (λ operations. map operation_of operations.items) c.in-Err.fail c.operation_text.new.self c.operation_text.new.self
-    c.loop-self.invariant (sym c.is_next.ensures ∙ c.loop-self-test.true) c.in-Err.ensures.gives
+    refused_for same (AreOperations (meanings_of c.args.names)) c.in-Err.fail c.operation_text.new.self _
+    (refused_at same c.in-Err.fail c.operation_text.new.self c.operation_text.new.self
+    c.loop-self.invariant.standing (sym c.is_next.ensures ∙ c.loop-self-test.true) c.in-Err.ensures.gives)
 
 pub returns-then-not-is_next-clause-gives : goal.returns-then-not-is_next-clause-gives
 returns-then-not-is_next-clause-gives c =
-    output_at c.in-Ok.operation c.operation_text.new.self c.loop-self.invariant (sym c.is_next.ensures ∙ c.loop-self-test.true) c.in-Ok.ensures.gives
-    (sym c.is_last.ensures ∙ c.if-is_last.true) (sym c.is_next-then-is_last.ensures ∙ c.if-not-is_next.true)
+    output_at (operation_of c.in-Ok.operation) c.operation_text.new.self c.loop-self.invariant.standing (sym c.is_next.ensures ∙ c.loop-self-test.true)
+    c.in-Ok.ensures.gives (sym c.is_last.ensures ∙ c.if-is_last.true) (sym c.is_next-then-is_last.ensures ∙ c.if-not-is_next.true)
     ∙ ap Err (sym c.unexpected.ensures)
 
 pub loop-self-preserved : goal.loop-self-preserved
 loop-self-preserved c =
-    goes_on_at c.in-Ok.operation c.push.new.self.items c.operation_text.new.self c.loop-self.invariant (sym c.is_next.ensures ∙ c.loop-self-test.true)
-    c.in-Ok.ensures.gives c.in_ok-push.ensures.items
-    (elim c.else-is_last.branch [
-      | else-is_last-via-then-is_last+else-not-is_next w ↦ fine_close _ _ (sym w.is_next-then-is_last.ensures ∙ w.if-not-is_next.false)
-      | else-is_last-via-else-is_last w ↦ fine_last _ _ (sym c.is_last.ensures ∙ w.if-is_last.false)
-    ]) c.in-Ok.ensures.shorter
+    let l = c.loop-self in
+    let o = operation_of c.in-Ok.operation in
+    record {
+      got = l.invariant.got ++ o ∷ [];
+      standing =
+          goes_on_at o (l.invariant.got ++ o ∷ []) c.operation_text.new.self l.invariant.standing (sym c.is_next.ensures ∙ c.loop-self-test.true)
+          c.in-Ok.ensures.gives refl
+          (elim c.else-is_last.branch [
+            | else-is_last-via-then-is_last+else-not-is_next w ↦ fine_close _ _ (sym w.is_next-then-is_last.ensures ∙ w.if-not-is_next.false)
+            | else-is_last-via-else-is_last w ↦ fine_last _ _ (sym c.is_last.ensures ∙ w.if-is_last.false)
+          ]) c.in-Ok.ensures.shorter;
+      drafts = c.in_ok-add.ensures (meanings_of c.args.names) l.invariant.got l.invariant.drafts;
+      ends = elim c.if-ends.branch [
+        | then-ends w ↦ ends_already l.invariant.got o l.ends c.if-ends.ends l.invariant.ends w.if-ends.true (w.ends-is ∙ w.if-ends.true)
+        | else-ends w ↦ ends_here l.invariant.got o l.ends c.if-ends.ends l.invariant.ends w.if-ends.false (w.ends-is ∙ w.is_last-ends.ensures)
+      ];
+    }
 
 pub returns-clause-gives : goal.returns-clause-gives
-returns-clause-gives c = closes_at c.loop-self.invariant (sym c.is_next.ensures ∙ c.loop-self-test.false)
+returns-clause-gives c =
+    let l = c.loop-self in
+    all_read (record { body = c.in_ok-body.body; ends = l.ends }) l.invariant.standing (sym c.is_next.ensures ∙ c.loop-self-test.false)
+    (c.in_ok-body.ensures (meanings_of c.args.names) l.invariant.got l.invariant.drafts) l.invariant.ends
