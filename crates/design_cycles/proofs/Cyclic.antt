@@ -2,7 +2,7 @@
 use Rattle.std.proofs.Common.{◌≡◌, ◌⊎◌, ◌↔◌, IsTrue, MatchBool, ℕ, zero, suc, ◌+◌, ◌<◌, ◌≤◌, Bool, true, false, List, [], ◌∷◌, length, map, get_or, slice_get, Option, Some, None, refl, sym, ap, subst, ◌∙◌, inl, inr, arith}
 use Rattle.std.proofs.lemmas.List.{length-map}
 use Rattle.std.proofs.lemmas.Option.{slice_get_within, slice_get-get_or}
-use Rattle.wiring.specs.Wiring.{In, Chain, Depends}
+use Rattle.wiring.specs.Wiring.{In, Depends}
 use Rattle.hw_model.specs.Types.{Name}
 use Rattle.hw_model.specs.Design.{Op, Module, Design, find_module}
 use Rattle.hw_model.specs.Design.Ref.{result}
@@ -25,8 +25,6 @@ use Rattle.design_cycles.specs.Nodes.{rows_by, sizes_in, AreSpans, body_lists, I
 use Rattle.design_cycles.specs.Places.{symbol_at}
 use Rattle.design_cycles.specs.Summing.{KnowsCallees}
 use Rattle.design_cycles.proofs.Marking.{lists_at, length-lists, edges_within}
-use Rattle.design_cycles.proofs.NodeValues.{span_count}
-use Rattle.design_cycles.proofs.Pushing.{sizes_count}
 use Rattle.design_cycles.proofs.Returning.{stored_at}
 use Rattle.design_cycles.proofs.Callees.{number_found, place_found, found_at}
 use Rattle.design_cycles.proofs.Known.{found, known_inner, lists_found}

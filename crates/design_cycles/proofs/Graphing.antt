@@ -1,12 +1,12 @@
 -- The graph of a body as loops make it: the lists of the ports, and then those of the results of each operation.
-use Rattle.std.proofs.Common.{◌≡◌, ℕ, zero, suc, ◌+◌, ◌<◌, ◌≤◌, ◌^◌, Bool, true, false, cond, List, [], ◌∷◌, ◌++◌, length, map, take, slice_get, Option, Some, None, option_map, refl, sym, ap, ap₂, subst, ◌∙◌, arith, append_assoc}
+use Rattle.std.proofs.Common.{◌≡◌, ℕ, zero, suc, ◌+◌, ◌<◌, ◌≤◌, ◌^◌, true, false, cond, List, [], ◌∷◌, ◌++◌, length, map, take, slice_get, Option, Some, None, refl, sym, ap, ap₂, ◌∙◌, arith, append_assoc}
 use Rattle.std.proofs.lemmas.List.{append-nil, map-append, take_all, length-map, length-append, length-take}
 use Rattle.wiring.specs.Lists.{total}
 use Rattle.wiring.proofs.Lists.{take-suc_some, slice_get_some}
-use Rattle.hw_model.specs.Types.{Name, HwType}
+use Rattle.hw_model.specs.Types.{Name}
 use Rattle.hw_model.specs.Kinds.{Instance}
 use Rattle.hw_model.specs.Design.{Ref, Op, OpResult, instance_in, is_register, is_output_op, result_type}
-use Rattle.hw_model.specs.Design.Ref.{port, result}
+use Rattle.hw_model.specs.Design.Ref.{result}
 use Rattle.wiring.specs.Options.{omap}
 use Rattle.design_cycles.specs.declared.layout.Layout.{Layout}
 use Rattle.design_cycles.specs.declared.layout.Span.{Span}

@@ -1,10 +1,9 @@
 -- Summaries of the modules of a design, kept by their numbers.
-use Rattle.std.proofs.Common.{◌≡◌, ◌⊎◌, ℕ, zero, suc, ◌+◌, ◌<◌, ◌≤◌, ◌≢◌, Bool, true, false, eqb, List, [], ◌∷◌, ◌++◌, length, map, take, get_or, set, slice_get, Option, Some, None, option_map, refl, sym, ap, ap₂, subst, ◌∙◌, inl, inr, arith, length-set}
+use Rattle.std.proofs.Common.{◌≡◌, ◌⊎◌, ℕ, zero, suc, ◌+◌, ◌<◌, ◌≤◌, ◌≢◌, Bool, true, false, eqb, List, [], ◌∷◌, length, map, take, get_or, set, slice_get, Option, Some, None, refl, sym, ap, ap₂, subst, ◌∙◌, inl, inr, arith, length-set}
 use Rattle.std.proofs.lemmas.Bool.{eqb-true, eqb-false}
 use Rattle.std.proofs.lemmas.List.{take_all, take_more, length-map}
-use Rattle.std.proofs.lemmas.Option.{slice_get_within, slice_get-get_or, slice_get-map}
+use Rattle.std.proofs.lemmas.Option.{slice_get_within, slice_get-get_or}
 use Rattle.wiring.specs.Wiring.{In}
-use Rattle.wiring.proofs.Lists.{map-map}
 use Rattle.wiring.proofs.Members.{In-append_cases}
 use Rattle.hw_model.specs.Types.{Name}
 use Rattle.hw_model.specs.Design.{Ref, Op, Module, Design, find_module, output_refs}
@@ -21,7 +20,7 @@ use Rattle.design_cycles.specs.declared.layout.Summary.{Summary}
 use Rattle.design_cycles.specs.Asked.{HasDistinctSymbols}
 use Rattle.design_cycles.specs.Calls.{symbols_in, call_lists}
 use Rattle.design_cycles.specs.Graphs.{edges, marked, AreCalled}
-use Rattle.design_cycles.specs.Local.{IsSummary, Feeds}
+use Rattle.design_cycles.specs.Local.{IsSummary}
 use Rattle.design_cycles.specs.Nodes.{rows_of, rows_at, rows_by, sizes_in, body_lists, node_ref, value_node, table_by, IsLayout}
 use Rattle.design_cycles.specs.Places.{symbol_of, symbol_at}
 use Rattle.design_cycles.specs.Summing.{inputs_from, AreOutputs, IsSummed, KnowsCallees}

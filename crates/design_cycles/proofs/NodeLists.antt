@@ -1,7 +1,7 @@
 -- Lists of nodes as loops make them.
-use Rattle.std.proofs.Common.{◌≡◌, ℕ, zero, suc, ◌+◌, ◌<◌, ◌≤◌, List, [], ◌∷◌, ◌++◌, length, map, take, get_or, slice_get, Option, Some, None, refl, sym, ap, ap₂, subst, ◌∙◌, arith, append_assoc}
+use Rattle.std.proofs.Common.{◌≡◌, ℕ, zero, suc, ◌+◌, ◌<◌, List, [], ◌∷◌, ◌++◌, length, take, get_or, slice_get, Option, Some, None, refl, sym, ap, ap₂, subst, ◌∙◌, arith, append_assoc}
 use Rattle.std.specs.Option.{option_to_list}
-use Rattle.std.proofs.lemmas.List.{take_more, append-nil, map-append, take_all, length-map}
+use Rattle.std.proofs.lemmas.List.{take_more, append-nil, map-append}
 use Rattle.wiring.specs.Options.{bind}
 use Rattle.wiring.specs.Lists.{total}
 use Rattle.wiring.proofs.Lists.{take-suc_some}

@@ -1,11 +1,10 @@
 -- Nodes of values: each value that has one stands there, and chains of the graph are chains of wires.
-use Rattle.std.proofs.Common.{◌≡◌, ◌⊎◌, ℕ, zero, suc, ◌+◌, ◌-◌, ◌<◌, ◌≤◌, Bool, true, false, cond, nat_lt, List, [], ◌∷◌, ◌++◌, length, map, get_or, slice_get, Option, Some, None, option_map, refl, sym, ap, subst, ◌∙◌, inl, inr, arith}
+use Rattle.std.proofs.Common.{◌≡◌, ◌⊎◌, ℕ, zero, suc, ◌+◌, ◌-◌, ◌<◌, ◌≤◌, Bool, true, false, cond, nat_lt, List, [], ◌∷◌, ◌++◌, length, slice_get, Option, Some, None, option_map, refl, sym, ap, subst, ◌∙◌, inl, inr, arith}
 use Rattle.std.specs.Option.{option_to_list}
-use Rattle.std.proofs.lemmas.List.{length-map}
 use Rattle.std.proofs.lemmas.Option.{slice_get-map, slice_get_within, get_or_from_slice_get}
 use Rattle.std.proofs.lemmas.Bool.Decides.{nat_tests}
-use Rattle.wiring.specs.Wiring.{In, Chain, Depends}
-use Rattle.wiring.proofs.Lists.{slice_get-append_left, slice_get-append_past, slice_get-append_right}
+use Rattle.wiring.specs.Wiring.{In, Chain}
+use Rattle.wiring.proofs.Lists.{slice_get-append_left, slice_get-append_past}
 use Rattle.wiring.proofs.Members.{In-append_left, In-append_right, In-append_cases}
 use Rattle.hw_model.specs.Types.{Name, HwType}
 use Rattle.hw_model.specs.Kinds.{Instance}

@@ -1,19 +1,12 @@
 -- The node of a value in code is that of what it stands for, and what an operation's results need in code is what they need.
-use Rattle.std.proofs.Common.{◌≡◌, ◌⊎◌, ℕ, zero, suc, ◌+◌, ◌<◌, ◌≤◌, Bool, true, false, cond, nat_lt, nat_eq, List, [], ◌∷◌, ◌++◌, length, map, slice_get, Option, Some, None, option_map, refl, sym, ap, ap₂, subst, ◌∙◌, inl, inr, arith, eq-eqb}
+use Rattle.std.proofs.Common.{◌≡◌, ◌⊎◌, ℕ, zero, suc, ◌+◌, ◌<◌, ◌≤◌, Bool, true, false, cond, nat_lt, nat_eq, List, [], ◌∷◌, ◌++◌, length, map, slice_get, Option, Some, None, option_map, refl, sym, ap, ap₂, ◌∙◌, inl, inr, arith}
 use Rattle.std.specs.Option.{option_to_list}
 use Rattle.std.proofs.lemmas.Bool.{eqb-true, eqb-false}
-use Rattle.std.proofs.lemmas.List.{map-append}
 use Rattle.std.proofs.lemmas.Option.{slice_get-map, slice_get_within}
 use Rattle.wiring.specs.Options.{bind}
-use Rattle.hw_model.specs.Types.{Name}
-use Rattle.hw_model.specs.Kinds.{Instance}
-use Rattle.hw_model.specs.Design.{Ref, Op, instance_in, is_register, is_output_op}
-use Rattle.hw_model.specs.Design.Ref.{port, result, undefined}
-use Rattle.ir_store.specs.declared.operation.OpId.{OpId}
+use Rattle.hw_model.specs.Design.{Ref}
 use Rattle.ir_store.specs.declared.operation.Value.{Value}
 use Rattle.ir_store.specs.declared.operation.Value.TheVariants.{Port, Result, Undefined}
-use Rattle.ir_store.specs.Ids.{times}
-use Rattle.ir_store.specs.Live.{AreDistinct}
 use Rattle.ir_store.specs.Numbered.{position_of, ref_by}
 use Rattle.design_cycles.specs.declared.layout.Layout.{Layout}
 use Rattle.design_cycles.specs.declared.layout.Span.{Span}

@@ -1,5 +1,5 @@
 -- A body in which each operation takes what stands before it has no result that depends on itself.
-use Rattle.std.proofs.Common.{◌≡◌, ◌⊎◌, ℕ, zero, suc, ◌+◌, ◌<◌, ◌≤◌, Bool, true, false, cond, ◌&&◌, nat_lt, nat_eq, List, [], ◌∷◌, length, map, slice_get, Option, Some, None, option_map, refl, sym, ap, subst, ◌∙◌, inl, inr, arith}
+use Rattle.std.proofs.Common.{◌≡◌, ◌⊎◌, ℕ, suc, ◌+◌, ◌<◌, ◌≤◌, Bool, true, false, cond, ◌&&◌, nat_lt, List, [], ◌∷◌, length, map, slice_get, Option, Some, None, option_map, refl, sym, ap, subst, ◌∙◌, inl, inr, arith}
 use Rattle.std.specs.List.{list_all}
 use Rattle.std.proofs.lemmas.Bool.{eqb-true}
 use Rattle.std.proofs.lemmas.Bool.Decides.{nat_tests}
@@ -26,12 +26,11 @@ use Rattle.ir_store.specs.Designs.{StoredModule, module_of, numbered_module}
 use Rattle.design_cycles.specs.declared.layout.Summary.{Summary}
 use Rattle.design_cycles.specs.Asked.{HasDistinctSymbols, IsCyclicAt}
 use Rattle.design_cycles.specs.InOrder.{StandsBefore, StandsBehind, IsInOrder, is_numbered, is_at_its_number, is_before}
-use Rattle.design_cycles.specs.Local.{picked, where_typed, op_wires, result_wires, wires}
+use Rattle.design_cycles.specs.Local.{where_typed, op_wires, result_wires, wires}
 use Rattle.design_cycles.specs.Nodes.{rows_by, table_by}
 use Rattle.design_cycles.specs.Places.{symbol_at}
 use Rattle.design_cycles.specs.Reading.{op_view}
 use Rattle.design_cycles.specs.Summing.{KnowsCallees}
-use Rattle.design_cycles.proofs.Callees.{found_at}
 use Rattle.design_cycles.proofs.Known.{found, known_inner}
 use Rattle.design_cycles.proofs.Locals.{from_In-picked, depends_wires}
 use Rattle.design_cycles.proofs.NodeValues.{position_least}

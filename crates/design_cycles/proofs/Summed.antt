@@ -1,6 +1,5 @@
 -- What the graph of a body says of the flattened module: its summary, and which results depend on themselves.
-use Rattle.std.proofs.Common.{◌≡◌, ℕ, zero, suc, ◌+◌, ◌-◌, ◌<◌, ◌≤◌, Bool, true, false, cond, nat_lt, List, [], ◌∷◌, length, map, slice_get, Option, Some, None, option_map, refl, sym, ap, subst, ◌∙◌, arith}
-use Rattle.std.proofs.lemmas.List.{length-map}
+use Rattle.std.proofs.Common.{◌≡◌, ℕ, zero, suc, ◌+◌, ◌-◌, ◌<◌, Bool, true, false, cond, nat_lt, List, [], length, map, slice_get, Option, Some, None, option_map, refl, sym, ap, ◌∙◌, arith}
 use Rattle.std.proofs.lemmas.Option.{slice_get-map, slice_get_within}
 use Rattle.std.proofs.lemmas.Bool.Decides.{nat_tests}
 use Rattle.wiring.specs.Wiring.{In, Chain, Depends as IsReached}
@@ -14,9 +13,9 @@ use Rattle.hw_model.specs.Meaning.{Depends}
 use Rattle.hw_model.specs.Sound.{body_of, ports_of}
 use Rattle.design_cycles.specs.declared.layout.Span.{Span}
 use Rattle.design_cycles.specs.Graphs.{edges, LeadsTo, ReturnsWithin}
-use Rattle.design_cycles.specs.Local.{IsInput, Feeds, IsSummary, wires}
+use Rattle.design_cycles.specs.Local.{IsInput, IsSummary, wires}
 use Rattle.design_cycles.specs.Nodes.{sizes_in, AreSpans, node_ref, span_node, table_by, body_lists}
-use Rattle.design_cycles.specs.Summing.{inputs_from, AreInputs, AreOutputs, KnowsCallees}
+use Rattle.design_cycles.specs.Summing.{inputs_from, AreOutputs, KnowsCallees}
 use Rattle.design_cycles.proofs.Marking.{edges_within}
 use Rattle.design_cycles.proofs.Locals.{FeedsLocally, feeds_from_local, feeds_to_local, depends_wires, wires_depend}
 use Rattle.design_cycles.proofs.NodeNumbers.{needing_node, nodes_chain, wires_chain}

@@ -1,6 +1,7 @@
 pub mod Asked
 pub mod Calls
 pub mod Graphs
+pub mod Hierarchies
 pub mod InOrder
 pub mod Local
 pub mod Marks

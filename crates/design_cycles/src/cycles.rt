@@ -5,12 +5,14 @@ ghost use Rattle.ir_store.specs.Designs.{design_of, modules_of};
 ghost use Rattle.wiring.specs.Wiring.{Depends};
 ghost use Rattle.design_cycles.specs.Asked.{HasDistinctSymbols, IsCyclicAt};
 ghost use Rattle.design_cycles.specs.Graphs.{lists_of, edges, marked, ReturnsWithin};
+ghost use Rattle.design_cycles.specs.Hierarchies.{IsHierarchy};
 ghost use Rattle.design_cycles.specs.Nodes.{rows_by};
 ghost use Rattle.design_cycles.specs.Places.{Finds, FindsOp, ids_at, symbol_at};
 ghost use Rattle.design_cycles.specs.Summing.{KnowsCallees};
 
-use crate::calls::{call_graph, called_modules};
+use crate::calls::called_modules;
 use crate::graph::{NodeList, is_open, reached_from};
+use crate::hierarchy::Hierarchy;
 use crate::in_order::are_in_order;
 use crate::layout::{Span, Summary};
 use crate::ops::read_ids;
@@ -25,15 +27,19 @@ use std::alloc::{AllocError, Global};
 /// The first operation in text order with a result that depends on itself in its own module's flattening, by operations
 /// that are not registers. No instance is expanded: each module that is instanced is summed up once, by the inputs that
 /// each of its outputs depends on. None where no value of any module does, at any path of instances.
-pub fn first_cycle(alloc: Global, design: &Design) -> Result<Option<OpPlace>, AllocError>
+pub fn first_cycle(
+    alloc: Global,
+    design: &Design,
+    hierarchy: &Hierarchy,
+) -> Result<Option<OpPlace>, AllocError>
     requires distinct { HasDistinctSymbols (design_of design.now) }
+    requires hierarchy { IsHierarchy (design_of design.now) hierarchy.now }
     requires finite { HasNoRecursion (design_of design.now) }
     ensures found { IfOk result (Finds (modules_of design.now) (IsCyclicAt (design_of design.now))) }
 {
-    let calls = call_graph(alloc, design)?;
-    let order = callees_first(alloc, calls.as_slice())?;
-    let called = called_modules(alloc, calls.as_slice())?;
-    let summaries = summaries_of(alloc, design, order.nodes.as_slice(), called.as_slice())?;
+    let called = called_modules(alloc, hierarchy.calls.as_slice())?;
+    let order = hierarchy.order.nodes.as_slice();
+    let summaries = summaries_of(alloc, design, order, called.as_slice())?;
     let mut room = Vec::new(alloc);
     for module in 0..design.module_count() {
         if let Some(op) = first_in_module(alloc, design, module, summaries.as_slice(), &mut room)? {

@@ -6,6 +6,7 @@
 mod calls;
 mod cycles;
 mod graph;
+mod hierarchy;
 mod in_order;
 mod layout;
 mod ops;
@@ -22,6 +23,7 @@ mod wired;
 mod wires;
 
 pub use cycles::first_cycle;
+pub use hierarchy::Hierarchy;
 pub use ops::{ids_in, op_at};
 pub use place::OpPlace;
 pub use recursion::first_recursive;

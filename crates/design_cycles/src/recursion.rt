@@ -6,12 +6,13 @@ ghost use Rattle.ir_store.specs.Designs.{design_of, modules_of};
 ghost use Rattle.design_cycles.specs.Asked.{HasDistinctSymbols, IsRecursiveAt};
 ghost use Rattle.design_cycles.specs.Calls.{call_lists};
 ghost use Rattle.design_cycles.specs.Graphs.{lists_of, LeadsTo};
+ghost use Rattle.design_cycles.specs.Hierarchies.{IsHierarchy};
 ghost use Rattle.design_cycles.specs.Places.{Finds, FindsOp, ids_at};
 
-use crate::calls::{call_graph, callee_of};
+use crate::calls::callee_of;
 use crate::graph::{NodeList, is_open, reached_from};
+use crate::hierarchy::Hierarchy;
 use crate::ops::ids_in;
-use crate::order::callees_first;
 use crate::place::OpPlace;
 use ir_store::design::Design;
 use ir_store::operation::OpId;
@@ -19,16 +20,20 @@ use std::alloc::{AllocError, Global};
 
 /// The first instance in text order that lies on a cycle of modules: its module is the one that it instances, or is
 /// within that one. None where no module is within itself.
-pub fn first_recursive(alloc: Global, design: &Design) -> Result<Option<OpPlace>, AllocError>
-    requires { HasDistinctSymbols (design_of design.now) }
+pub fn first_recursive(
+    alloc: Global,
+    design: &Design,
+    hierarchy: &Hierarchy,
+) -> Result<Option<OpPlace>, AllocError>
+    requires distinct { HasDistinctSymbols (design_of design.now) }
+    requires hierarchy { IsHierarchy (design_of design.now) hierarchy.now }
     ensures found { IfOk result (Finds (modules_of design.now) (IsRecursiveAt (design_of design.now))) }
     ensures none { IfOk result (λ place. place ≡ None → HasNoRecursion (design_of design.now)) }
 {
-    let graph = call_graph(alloc, design)?;
-    let order = callees_first(alloc, graph.as_slice())?;
+    let graph = hierarchy.calls.as_slice();
     for module in 0..design.module_count() {
-        if is_open(order.placed.as_slice(), module) {
-            if let Some(op) = first_returning(alloc, design, module, graph.as_slice())? {
+        if is_open(hierarchy.order.placed.as_slice(), module) {
+            if let Some(op) = first_returning(alloc, design, module, graph)? {
                 return Ok(Some(OpPlace { module, op }));
             }
         }

@@ -8,12 +8,13 @@ ghost use Rattle.ir_store.specs.Numbered.{numbered};
 ghost use Rattle.ir_store.specs.Designs.{ports_in, design_of, modules_of};
 ghost use Rattle.design_cycles.specs.Asked.{HasDistinctSymbols, IsTooLargeAt};
 ghost use Rattle.design_cycles.specs.Calls.{call_lists};
+ghost use Rattle.design_cycles.specs.Hierarchies.{IsHierarchy};
 ghost use Rattle.design_cycles.specs.Places.{FindsNumber};
 ghost use Rattle.design_cycles.specs.Weighing.{kept_weight, weight_by, WeighsAt, Weighs, IsWhole};
 
-use crate::calls::{call_graph, callee_of};
+use crate::calls::callee_of;
+use crate::hierarchy::Hierarchy;
 use crate::ops::{op_at, read_ids};
-use crate::order::callees_first;
 use crate::weights::op_weight;
 use ir_store::body::Body;
 use ir_store::design::{Design, PortList};
@@ -22,14 +23,17 @@ use std::alloc::{AllocError, Global};
 
 /// The first module, by its number, that is too large: its flattened weight is above 2^28. Each module is weighed once,
 /// after those that it instances.
-pub fn first_too_large(alloc: Global, design: &Design) -> Result<Option<u32>, AllocError>
+pub fn first_too_large(
+    alloc: Global,
+    design: &Design,
+    hierarchy: &Hierarchy,
+) -> Result<Option<u32>, AllocError>
     requires distinct { HasDistinctSymbols (design_of design.now) }
+    requires hierarchy { IsHierarchy (design_of design.now) hierarchy.now }
     requires finite { HasNoRecursion (design_of design.now) }
     ensures { IfOk result (FindsNumber (IsTooLargeAt (design_of design.now))) }
 {
-    let graph = call_graph(alloc, design)?;
-    let order = callees_first(alloc, graph.as_slice())?;
-    let weights = module_weights(alloc, design, order.nodes.as_slice())?;
+    let weights = module_weights(alloc, design, hierarchy.order.nodes.as_slice())?;
     Ok(first_above(weights.as_slice(), design.module_count()))
 }
 

@@ -1,5 +1,7 @@
 //! The worked examples, built by hand, and each call once with ample memory.
-use crate::{OpPlace, first_cycle, first_recursive, first_too_large, has_distinct_symbols};
+use crate::{
+    Hierarchy, OpPlace, first_cycle, first_recursive, first_too_large, has_distinct_symbols,
+};
 use diag::refusal::Place;
 use hw_model::kinds::{Instance, OpKind, Reset};
 use hw_model::types::Ty;
@@ -132,12 +134,13 @@ fn asked(alloc: Global, design: &Design) -> Result<Answers, AllocError> {
         cyclic: None,
     };
     if has_distinct_symbols(design) {
-        let recursive = first_recursive(alloc, design)?;
+        let hierarchy = Hierarchy::of(alloc, design)?;
+        let recursive = first_recursive(alloc, design, &hierarchy)?;
         match recursive {
             Some(place) => answers.recursive = Some(place),
             None => {
-                answers.too_large = first_too_large(alloc, design)?;
-                answers.cyclic = first_cycle(alloc, design)?;
+                answers.too_large = first_too_large(alloc, design, &hierarchy)?;
+                answers.cyclic = first_cycle(alloc, design, &hierarchy)?;
             }
         }
     }

@@ -8,7 +8,7 @@ ghost use Rattle.op_verifier.specs.Answered.{modules_verified, Explains, IsRefus
 use crate::accepted::Verified;
 use crate::faults::{first_fault, listed_of, refused_at};
 use crate::verify_fail::VerifyFail;
-use design_cycles::{OpPlace, first_cycle, first_recursive, first_too_large};
+use design_cycles::{Hierarchy, OpPlace, first_cycle, first_recursive, first_too_large};
 use diag::cause::Cause;
 use diag::listed::Listed;
 use diag::refusal::Refusal;
@@ -34,13 +34,14 @@ fn verdict(alloc: Global, design: &Design) -> Result<Option<Refusal>, AllocError
     if let Some(refusal) = first_fault(alloc, design)? {
         return Ok(Some(refusal));
     }
-    if let Some(place) = first_recursive(alloc, design)? {
+    let hierarchy = Hierarchy::of(alloc, design)?;
+    if let Some(place) = first_recursive(alloc, design, &hierarchy)? {
         return Ok(Some(refused_op(design, place, Cause::RecursiveInstance)));
     }
-    if let Some(number) = first_too_large(alloc, design)? {
+    if let Some(number) = first_too_large(alloc, design, &hierarchy)? {
         return Ok(Some(refused_module(design, number, Cause::TooLarge)));
     }
-    if let Some(place) = first_cycle(alloc, design)? {
+    if let Some(place) = first_cycle(alloc, design, &hierarchy)? {
         return Ok(Some(refused_op(design, place, Cause::CombinationalCycle)));
     }
     Ok(None)

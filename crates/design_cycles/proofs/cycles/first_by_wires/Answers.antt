@@ -1,17 +1,15 @@
-use Rattle.std.proofs.Common.{◌≡◌, ◌<◌, true, MatchBool, length, map, get_or, arith, ap, subst, sym, ◌∙◌}
-use Rattle.std.proofs.lemmas.List.{length-map}
+use Rattle.std.proofs.Common.{◌≡◌, ◌<◌, true, MatchBool, length, map, arith, ap, subst, sym, ◌∙◌}
 use Rattle.wiring.specs.Wiring.{Depends}
-use Rattle.ir_store.specs.Bodies.{ids_of, ops_of, op_id}
+use Rattle.ir_store.specs.Bodies.{ids_of, ops_of}
 use Rattle.ir_store.specs.Numbered.{numbered}
 use Rattle.ir_store.specs.Designs.{StoredModule, modules_of, design_of, module_of}
 use Rattle.design_cycles.specs.Asked.{IsCyclicAt}
 use Rattle.design_cycles.specs.Graphs.{lists_of, edges, marked, ReturnsWithin}
-use Rattle.design_cycles.specs.Nodes.{rows_by, sizes_in}
+use Rattle.design_cycles.specs.Nodes.{rows_by}
 use Rattle.design_cycles.specs.Places.{ids_at}
 use Rattle.design_cycles.proofs.Cyclic.{position_cyclic, position_acyclic, cyclic_within}
 use Rattle.design_cycles.proofs.Graphing.{graph_small}
 use Rattle.design_cycles.proofs.Marking.{length-lists}
-use Rattle.design_cycles.proofs.NodeValues.{span_count}
 use Rattle.design_cycles.proofs.Placing.{placed_no_cycle}
 use Rattle.design_cycles.proofs.Pushing.{ids_count, spans_below}
 use Rattle.design_cycles.proofs.Returning.{none_more, first_found, id_at_position}

@@ -1,4 +1,4 @@
-use Rattle.std.proofs.Common.{length, map, arith, ap, subst, sym, ◌∙◌}
+use Rattle.std.proofs.Common.{length, map, arith, subst, sym}
 use Rattle.ir_store.specs.Designs.{StoredModule, modules_of, design_of}
 use Rattle.design_cycles.specs.Asked.{IsCyclicAt}
 use Rattle.design_cycles.specs.Graphs.{lists_of}
@@ -13,9 +13,9 @@ use Rattle.design_cycles.proofs.cycles.first_cycle.Goals as goal
 
 pub summaries_of-requires-clause-whole : goal.summaries_of-requires-clause-whole
 summaries_of-requires-clause-whole c =
-    whole_order (modules_of c.args.design.now) 0 c.requires.distinct c.requires.finite (lists_of c.as_slice.result.now) (length c.as_slice.result.now)
-    (ap lists_of c.as_slice.ensures.value ∙ c.in_ok-calls.ensures) c.in_ok-order.order.placed.items c.in_ok-order.order.nodes.items c.as_slice-3.result.now c.in_ok-order.ensures.order
-    (length-lists c.as_slice.result.now) c.in_ok-order.ensures.longest c.as_slice-3.ensures.value
+    whole_order (modules_of c.args.design.now) 0 c.requires.distinct c.requires.finite (lists_of c.args.hierarchy.now.calls.items) (length c.args.hierarchy.now.calls.items)
+    c.requires.hierarchy.calls c.args.hierarchy.now.order.placed.items c.args.hierarchy.now.order.nodes.items c.as_slice-order.result.now c.requires.hierarchy.order
+    (length-lists c.args.hierarchy.now.calls.items) c.requires.hierarchy.longest c.as_slice-order.ensures.value
 
 pub first_in_module-requires-clause-inner : goal.first_in_module-requires-clause-inner
 first_in_module-requires-clause-inner c =

@@ -1,5 +1,3 @@
-use Rattle.std.proofs.Common.{[], refl}
-use Rattle.design_cycles.specs.Nodes.{times_over}
 use Rattle.design_cycles.proofs.NodeLists.{one_more_empty}
 use Rattle.design_cycles.proofs.order.empty_lists.Goals as goal
 

@@ -1,4 +1,4 @@
-use Rattle.std.proofs.Common.{arith, subst, ap, ◌∙◌, sym}
+use Rattle.std.proofs.Common.{arith, subst, sym}
 use Rattle.ir_store.specs.Designs.{modules_of, design_of}
 use Rattle.design_cycles.specs.Asked.{IsRecursiveAt}
 use Rattle.design_cycles.specs.Graphs.{lists_of, IsOrder}
@@ -20,8 +20,8 @@ loop-module-preserved c =
           (subst (FindsOp (IsRecursiveAt (design_of c.args.design.now) c.loop-module.module) (ids_at (modules_of c.args.design.now) c.loop-module.module)) w.in_default.is w.in_ok-op.ensures)
       | else-is_open w ↦
           no_module_more (IsRecursiveAt (design_of c.args.design.now)) c.loop-module.module c.loop-module.invariant
-          (placed_none (modules_of c.args.design.now) c.requires (lists_of c.as_slice.result.now) (ap lists_of c.as_slice.ensures.value ∙ c.in_ok-graph.ensures) c.as_slice-in-loop-module.result.now c.in_ok-order.order.nodes.items
-          (subst (λ ms. IsOrder (lists_of c.as_slice.result.now) ms c.in_ok-order.order.nodes.items) (sym c.as_slice-in-loop-module.ensures.value) c.in_ok-order.ensures.order)
+          (placed_none (modules_of c.args.design.now) c.requires.distinct (lists_of c.args.hierarchy.now.calls.items) c.requires.hierarchy.calls c.as_slice.result.now c.args.hierarchy.now.order.nodes.items
+          (subst (λ ms. IsOrder (lists_of c.args.hierarchy.now.calls.items) ms c.args.hierarchy.now.order.nodes.items) (sym c.as_slice.ensures.value) c.requires.hierarchy.order)
           c.loop-module.module (omega (arith, c.module_count-module-end.ensures, c.loop-module-test.true)) c.is_open.result c.is_open.ensures w.if-is_open.false)
     ]
 
@@ -30,4 +30,4 @@ returns-clause-found c = λ i j r. c.loop-module.invariant i (omega (arith, recu
 
 pub returns-clause-none : goal.returns-clause-none
 returns-clause-none c =
-    λ same. none_recursive (design_of c.args.design.now) c.requires (λ i j r. c.loop-module.invariant i (omega (arith, recursive_module (modules_of c.args.design.now) i j r, c.module_count-module-end.ensures, c.loop-module-test.false)) j r)
+    λ same. none_recursive (design_of c.args.design.now) c.requires.distinct (λ i j r. c.loop-module.invariant i (omega (arith, recursive_module (modules_of c.args.design.now) i j r, c.module_count-module-end.ensures, c.loop-module-test.false)) j r)

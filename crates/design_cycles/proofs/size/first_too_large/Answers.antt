@@ -1,4 +1,4 @@
-use Rattle.std.proofs.Common.{length, arith, ap, ◌∙◌}
+use Rattle.std.proofs.Common.{length, arith}
 use Rattle.ir_store.specs.Designs.{modules_of}
 use Rattle.design_cycles.specs.Graphs.{lists_of}
 use Rattle.design_cycles.proofs.Marking.{length-lists}
@@ -7,11 +7,11 @@ use Rattle.design_cycles.proofs.size.first_too_large.Goals as goal
 
 pub module_weights-requires-clause-whole : goal.module_weights-requires-clause-whole
 module_weights-requires-clause-whole c =
-    whole_order (modules_of c.args.design.now) 18446744073709551615 c.requires.distinct c.requires.finite (lists_of c.as_slice.result.now) (length c.as_slice.result.now)
-    (ap lists_of c.as_slice.ensures.value ∙ c.in_ok-graph.ensures) c.in_ok-order.order.placed.items c.in_ok-order.order.nodes.items c.as_slice-2.result.now c.in_ok-order.ensures.order
-    (length-lists c.as_slice.result.now) c.in_ok-order.ensures.longest c.as_slice-2.ensures.value
+    whole_order (modules_of c.args.design.now) 18446744073709551615 c.requires.distinct c.requires.finite (lists_of c.args.hierarchy.now.calls.items) (length c.args.hierarchy.now.calls.items)
+    c.requires.hierarchy.calls c.args.hierarchy.now.order.placed.items c.args.hierarchy.now.order.nodes.items c.as_slice.result.now c.requires.hierarchy.order
+    (length-lists c.args.hierarchy.now.calls.items) c.requires.hierarchy.longest c.as_slice.ensures.value
 
 pub returns : goal.returns
 returns c =
-    large_answer (modules_of c.args.design.now) 18446744073709551615 (omega arith) c.in_ok-weights.weights.items c.as_slice-3.result.now c.as_slice-3.ensures.value
+    large_answer (modules_of c.args.design.now) 18446744073709551615 (omega arith) c.in_ok-weights.weights.items c.as_slice-2.result.now c.as_slice-2.ensures.value
     c.in_ok-weights.ensures.each c.in_ok-weights.ensures.count c.first_above.result c.first_above.ensures

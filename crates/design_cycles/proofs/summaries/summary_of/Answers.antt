@@ -1,8 +1,7 @@
-use Rattle.std.proofs.Common.{◌≡◌, ◌^◌, map, length, arith, ap, ◌∙◌, subst, sym}
+use Rattle.std.proofs.Common.{◌^◌, map, length, arith, ap, ◌∙◌}
 use Rattle.ir_store.specs.Designs.{modules_of, port_of}
 use Rattle.design_cycles.specs.Graphs.{lists_of}
-use Rattle.design_cycles.specs.Nodes.{value_node}
-use Rattle.design_cycles.specs.Summing.{AreOutputs, inputs_from}
+use Rattle.design_cycles.specs.Summing.{inputs_from}
 use Rattle.design_cycles.proofs.Inputs.{inputs_small}
 use Rattle.design_cycles.proofs.Known.{summed_at}
 use Rattle.design_cycles.proofs.summaries.summary_of.Goals as goal

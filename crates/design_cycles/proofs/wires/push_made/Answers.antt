@@ -1,4 +1,4 @@
-use Rattle.std.proofs.Common.{◌≡◌, ◌++◌, ap, ◌∙◌, sym}
+use Rattle.std.proofs.Common.{◌++◌, ap, ◌∙◌, sym}
 use Rattle.design_cycles.specs.Graphs.{lists_of}
 use Rattle.design_cycles.specs.Nodes.{value_nodes, times_over}
 use Rattle.design_cycles.proofs.NodeLists.{row_more, times_more}

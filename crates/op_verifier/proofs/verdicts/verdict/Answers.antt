@@ -11,8 +11,8 @@ use Rattle.op_verifier.proofs.verdicts.verdict.Goals as goal
 pub returns-in-Some : goal.returns-in-Some
 returns-in-Some c = unfit c.in-Some.refusal (sym c.in_ok-refusal.ensures ∙ c.in-Some.is)
 
-pub first_recursive-requires : goal.first_recursive-requires
-first_recursive-requires c = distinct_symbols (design_of c.args.design.now) (sym c.in_ok-refusal.ensures ∙ c.in_default.is)
+pub first_recursive-requires-clause-distinct : goal.first_recursive-requires-clause-distinct
+first_recursive-requires-clause-distinct c = distinct_symbols (design_of c.args.design.now) (sym c.in_ok-refusal.ensures ∙ c.in_default.is)
 
 pub refused_op-requires-clause-within : goal.refused_op-requires-clause-within
 refused_op-requires-clause-within c =
