@@ -48,6 +48,7 @@ impl<'s> Tokens<'s> {
     /// Fails where a byte begins no token, where a string has no end on its line, and at a bad
     /// escape: with the place of that byte, or of the string's opening quote, the file as the
     /// operation, and the file's number 0. It then fails so at every later call.
+    #[inline(always)]
     pub fn next(&mut self) -> Result<Option<Token<'s>>, Refusal>
         ensures gives { Gives result (tokens_left self.old) (tokens_left self.new) }
         ensures reads { Reads result self.old self.new }

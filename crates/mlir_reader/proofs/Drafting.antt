@@ -2,7 +2,7 @@
 use Rattle.std.proofs.Common.{◌≡◌, ℕ, suc, ◌+◌, ◌<◌, ◌^◌, Bool, true, cond, List, [], ◌∷◌, ◌++◌, map, length, refl, ap, sym, subst, ◌∙◌, append_assoc, arith}
 use Rattle.std.specs.Prelude.{Option, Some, None, is_some}
 use Rattle.std.proofs.lemmas.List.{map-append, append-nil, length-append, length-map}
-use Rattle.hw_model.specs.Design.{same_name}
+use Rattle.hw_model.specs.Design.{Op, same_name}
 use Rattle.ir_store.specs.declared.body.Body.{Body}
 use Rattle.ir_store.specs.Bodies.{ops_of, ids_of, gaps}
 use Rattle.ir_store.specs.Numbered.{op_by}
@@ -95,10 +95,10 @@ module _ {A B : Type 0} (f : A → B) where
       ap (λ xs. done ++ map f xs) e ∙ ap (λ bs. done ++ bs) (map-append f rest (a ∷ [])) ∙ sym (append_assoc done (map f rest) (f a ∷ []))
 
   -- one more is done, and none waits
-  pub passes : (done new : List B) (b : B) (a : A) (rest : List A) → new ≡ done ++ b ∷ [] → b ≡ f a → rest ≡ []
-      → new ++ map f rest ≡ (done ++ map f rest) ++ f a ∷ []
-  passes done new b a rest e s r =
-      rw r (append-nil new ∙ e ∙ ap (λ x. done ++ x ∷ []) s ∙ ap (λ bs. bs ++ f a ∷ []) (sym (append-nil done)))
+  pub passes : (done new : List B) (b : B) (rest : List A) → new ≡ done ++ b ∷ [] → rest ≡ []
+      → new ++ map f rest ≡ (done ++ map f rest) ++ b ∷ []
+  passes done new b rest e r =
+      rw r (append-nil new ∙ e ∙ ap (λ bs. bs ++ b ∷ []) (sym (append-nil done)))
 
 -- none is left
 pub none_left : {A : Type 0} (xs : List A) → length xs ≡ 0 → xs ≡ []
@@ -124,12 +124,39 @@ same_then s t = record {
   numbered = λ n. t.numbered (s.numbered n);
 }
 
-pub more_then : {first second third : Draft} {d : DraftOperation} → HoldsMore first d second → HoldsSame second third → HoldsMore first d third
+pub more_then : {first second third : Draft} {op : Meanings → Op} → HoldsMore first op second → HoldsSame second third → HoldsMore first op third
 more_then s t = record {
   names = t.names ∙ s.names;
   count = t.count ∙ s.count;
   ops = λ later k. t.ops later (subst (λ (n : Names). Keeps (meanings_of n) later) (sym s.names) k) ∙ s.ops later k;
   numbered = λ n. t.numbered (s.numbered n);
+}
+
+-- an operation waits behind the others
+pub waits_more : (old new : Draft) (d : DraftOperation) (op : Meanings → Op) → new.names ≡ old.names → new.count ≡ old.count → new.body ≡ old.body
+    → new.waiting.items ≡ old.waiting.items ++ d ∷ [] → ((later : Meanings) → drafted later d ≡ op later) → HoldsMore old op new
+waits_more old new d op n c b w e = record {
+  names = n;
+  count = c;
+  ops = λ later k.
+      ap (λ (body : Body). map (op_by (λ i. i)) (ops_of body) ++ map (drafted later) new.waiting.items) b
+      ∙ waits (drafted later) (map (op_by (λ i. i)) (ops_of old.body)) d old.waiting.items new.waiting.items w
+      ∙ ap (λ o. held later old ++ o ∷ []) (e later);
+  numbered = λ before. subst IsNumbered (sym b) before;
+}
+
+-- an operation is put into the body, where none waits
+pub puts_more : (old new : Draft) (b : Op) (op : Meanings → Op) → new.names ≡ old.names → new.count ≡ old.count
+    → map (op_by (λ i. i)) (ops_of new.body) ≡ map (op_by (λ i. i)) (ops_of old.body) ++ b ∷ [] → (IsNumbered old.body → IsNumbered new.body)
+    → new.waiting.items ≡ old.waiting.items → old.waiting.items ≡ [] → ((later : Meanings) → Keeps (meanings_of old.names) later → b ≡ op later) → HoldsMore old op new
+puts_more old new b op n c added numbered same none e = record {
+  names = n;
+  count = c;
+  ops = λ later k.
+      ap (λ ds. map (op_by (λ i. i)) (ops_of new.body) ++ map (drafted later) ds) same
+      ∙ passes (drafted later) (map (op_by (λ i. i)) (ops_of old.body)) (map (op_by (λ i. i)) (ops_of new.body)) b old.waiting.items added none
+      ∙ ap (λ o. held later old ++ o ∷ []) (e later k);
+  numbered = numbered;
 }
 
 -- ---- whole drafts
@@ -140,7 +167,7 @@ counted means d =
     ∙ ap (λ n. n + length (map (drafted means) d.waiting.items)) (length-map (ops_of d.body) (op_by (λ i. i)) ∙ sym (length-map (ops_of d.body) (λ (o : BodyOp). o.id)))
     ∙ ap (λ n. length (ids_of d.body) + n) (length-map d.waiting.items (drafted means))
 
-module _ (seen : Meanings) (os : List OperationText) (o : OperationText) (old mid new : Draft) (d : DraftOperation) (found : List Bool) where
+module _ (seen : Meanings) (os : List OperationText) (o : OperationText) (old mid new : Draft) (found : List Bool) where
   -- one more operation is read, and its names are defined in front of it
   pub record IsRead : Type 0 where
     pub means : meanings_of mid.names ≡ with_definitions (meanings_of old.names) (operation_definitions old.count o)
@@ -149,17 +176,16 @@ module _ (seen : Meanings) (os : List OperationText) (o : OperationText) (old mi
     pub ops : ops_of mid.body ≡ ops_of old.body
     pub gaps : gaps mid.body ≡ gaps old.body
     pub waiting : mid.waiting.items ≡ old.waiting.items
-    pub draft : (later : Meanings) → drafted later d ≡ operation_marked later found o
     pub marked : found ≡ marks (meanings_of old.names) (operation_definitions old.count o)
 
-  means_more : Drafts seen os old → IsRead → HoldsMore mid d new → meanings_of new.names ≡ with_definitions seen (body_definitions 0 (os ++ o ∷ []))
+  means_more : Drafts seen os old → IsRead → HoldsMore mid (λ later. operation_marked later found o) new → meanings_of new.names ≡ with_definitions seen (body_definitions 0 (os ++ o ∷ []))
   means_more h r m =
       ap meanings_of m.names ∙ r.means ∙ ap (λ f. with_definitions f (operation_definitions old.count o)) h.means
       ∙ ap (λ j. with_definitions (with_definitions seen (body_definitions 0 os)) (operation_definitions j o)) (h.count ∙ from_first (length os))
       ∙ sym (definitions_append seen (body_definitions 0 os) (operation_definitions (0 + length os) o))
       ∙ ap (with_definitions seen) (sym (definitions_more 0 os o))
 
-  ops_more : Drafts seen os old → IsRead → HoldsMore mid d new → (later : Meanings) → Keeps (meanings_of new.names) later
+  ops_more : Drafts seen os old → IsRead → HoldsMore mid (λ later. operation_marked later found o) new → (later : Meanings) → Keeps (meanings_of new.names) later
       → held later new ≡ operations_from later seen 0 (os ++ o ∷ [])
   ops_more h r m later k =
       let before = meanings_of old.names in
@@ -167,7 +193,7 @@ module _ (seen : Meanings) (os : List OperationText) (o : OperationText) (old mi
       let behind : Keeps (meanings_of mid.names) later = subst (λ (n : Names). Keeps (meanings_of n) later) m.names k in
       let kept = keeps_then before (meanings_of mid.names) later defined behind in
       m.ops later behind
-      ∙ ap (λ op. held later mid ++ op ∷ []) (r.draft later ∙ ap (λ bs. operation_marked later bs o) r.marked)
+      ∙ ap (λ bs. held later mid ++ operation_marked later bs o ∷ []) r.marked
       ∙ ap (λ ops. (map (op_by (λ i. i)) ops ++ map (drafted later) mid.waiting.items) ++ operation_at later before old.count o ∷ []) r.ops
       ∙ ap (λ ds. (map (op_by (λ i. i)) (ops_of old.body) ++ map (drafted later) ds) ++ operation_at later before old.count o ∷ []) r.waiting
       ∙ ap (λ ops. ops ++ operation_at later before old.count o ∷ []) (h.ops later kept)
@@ -175,7 +201,7 @@ module _ (seen : Meanings) (os : List OperationText) (o : OperationText) (old mi
       ∙ ap (λ j. operations_from later seen 0 os ++ operation_at later (with_definitions seen (body_definitions 0 os)) j o ∷ []) (h.count ∙ from_first (length os))
       ∙ sym (operations_more later seen 0 os o)
 
-  pub drafts_more : Drafts seen os old → IsRead → HoldsMore mid d new → Drafts seen (os ++ o ∷ []) new
+  pub drafts_more : Drafts seen os old → IsRead → HoldsMore mid (λ later. operation_marked later found o) new → Drafts seen (os ++ o ∷ []) new
   drafts_more h r m =
       let means = meanings_of new.names in
       let before : IsNumbered mid.body = (ap ids_in r.ops ∙ h.ids ∙ ap (λ ops. numbers_below (length (ids_in ops))) (sym r.ops), r.gaps ∙ h.gaps) in

@@ -44,9 +44,9 @@ pub record HoldsSame (old new : Draft) : Type 0 where
   pub ops : (later : Meanings) → Keeps (meanings_of old.names) later → held later new ≡ held later old
   pub numbered : IsNumbered old.body → IsNumbered new.body
 
--- the names of a draft are those of another, and so are its operations, with one behind them
-pub record HoldsMore (old : Draft) (d : DraftOperation) (new : Draft) : Type 0 where
+-- the names of a draft are those of another, and so are its operations, with one behind them that is this where names stand for that
+pub record HoldsMore (old : Draft) (op : Meanings → Op) (new : Draft) : Type 0 where
   pub names : new.names ≡ old.names
   pub count : new.count ≡ old.count
-  pub ops : (later : Meanings) → Keeps (meanings_of old.names) later → held later new ≡ held later old ++ drafted later d ∷ []
+  pub ops : (later : Meanings) → Keeps (meanings_of old.names) later → held later new ≡ held later old ++ op later ∷ []
   pub numbered : IsNumbered old.body → IsNumbered new.body

@@ -89,9 +89,8 @@ impl<'s> Draft<'s> {
         make_room(&mut self.body, self.count)?;
         let mut marks: Marks = SmallVec::new(alloc);
         define_operation(&mut self.names, self.count, &text, &mut marks)?;
-        let operation = draft_operation(alloc, marks.as_slice(), text)?;
         self.count += 1;
-        self.put(alloc, operation)?;
+        self.put(alloc, marks.as_slice(), text)?;
         Ok(())
     }
 
@@ -109,26 +108,53 @@ impl<'s> Draft<'s> {
         let mut body = body;
         for draft in waiting {
             let operands = resolved_operands(alloc, &names, draft.operands.as_slice())?;
-            put_in(&mut body, draft.operation, operands)?;
+            put_in(&mut body, whole_operation(draft, operands))?;
         }
         Ok(body)
     }
 
-    // Puts an operation whose names are defined into the body where it need not wait, and else behind those that wait.
-    fn put(&mut self, alloc: Global, draft: DraftOperation<'s>) -> Result<(), AllocError>
-        ensures { OnOk result (HoldsMore self.old draft.entry self.new) }
+    // Puts an operation whose names are defined, and have these marks, into the body where it need not wait, and else
+    // behind those that wait.
+    fn put(
+        &mut self,
+        alloc: Global,
+        marks: &[bool],
+        text: OperationText<'s>,
+    ) -> Result<(), AllocError>
+        requires { HasFewNames text }
+        ensures { OnOk result (HoldsMore self.old (λ later. operation_marked later marks.now (operation_of text.entry)) self.new) }
     {
         if !self.waiting.is_empty() {
-            self.waiting.push_back(draft)?;
+            self.wait(alloc, marks, text)?;
             return self.settle(alloc);
         }
-        match settled_operands(alloc, &self.names, draft.operands.as_slice())? {
-            Some(operands) => put_in(&mut self.body, draft.operation, operands),
-            None => {
-                self.waiting.push_back(draft)?;
+        match settled_operands(alloc, &self.names, text.gathered.operands.as_slice())? {
+            Some(operands) => {
+                let operation = new_operation(alloc, marks, operands, text)?;
+                put_in(&mut self.body, operation)?;
                 Ok(())
             }
+            None => self.wait(alloc, marks, text),
         }
+    }
+
+    // Puts an operation whose names have these marks behind those that wait.
+    fn wait(
+        &mut self,
+        alloc: Global,
+        marks: &[bool],
+        text: OperationText<'s>,
+    ) -> Result<(), AllocError>
+        requires { HasFewNames text }
+        ensures { OnOk result (HoldsMore self.old (λ later. operation_marked later marks.now (operation_of text.entry)) self.new) }
+    {
+        let operands = SmallVec::from_slice(alloc, text.gathered.operands.as_slice())?;
+        let operation = new_operation(alloc, marks, SmallVec::new(alloc), text)?;
+        self.waiting.push_back(DraftOperation {
+            operation,
+            operands,
+        })?;
+        Ok(())
     }
 
     // Puts those that need not wait any more into the body.
@@ -168,7 +194,7 @@ impl<'s> Draft<'s> {
         match self.waiting.pop_front() {
             Some(first) => {
                 self.found = 0;
-                put_in(&mut self.body, first.operation, operands)?;
+                put_in(&mut self.body, whole_operation(first, operands))?;
                 Ok(true)
             }
             None => Ok(false),
@@ -176,28 +202,29 @@ impl<'s> Draft<'s> {
     }
 }
 
-// An operation whose names have these marks, with the names of its operands.
-fn draft_operation<'s>(
+// An operation whose names have these marks, with these operands.
+fn new_operation(
     alloc: Global,
     marks: &[bool],
-    text: OperationText<'s>,
-) -> Result<DraftOperation<'s>, AllocError>
+    operands: Operands,
+    text: OperationText<'_>,
+) -> Result<NewOp, AllocError>
     requires { HasFewNames text }
-    ensures { IfOk result (λ draft. (later : Meanings) → drafted later draft ≡ operation_marked later marks.now (operation_of text.entry)) }
+    ensures { IfOk result (λ op. (later : Meanings) → op_of op ≡ with_operands (operation_marked later marks.now (operation_of text.entry)) (map (ref_by (λ i. i)) operands.items)) }
 {
     let name = own_name(alloc, text.name, &text.results, &text.dictionary)?;
     let named = named_count(&text.results);
     let Gathered {
-        operands,
+        operands: names,
         types,
         extra,
     } = text.gathered;
     let kind = kind_named(alloc, text.name, extra, types.as_slice())?;
-    let results = results_of(alloc, &kind, types.as_slice(), operands.len(), marks)?;
+    let results = results_of(alloc, &kind, types.as_slice(), names.len(), marks)?;
     let dictionary = kept_entries(alloc, text.name, text.dictionary)?;
-    let operation = NewOp {
+    Ok(NewOp {
         kind,
-        operands: SmallVec::new(alloc),
+        operands,
         types,
         results,
         named,
@@ -205,11 +232,16 @@ fn draft_operation<'s>(
         dictionary,
         bin: text.bin,
         place: text.place,
-    };
-    Ok(DraftOperation {
-        operation,
-        operands,
     })
+}
+
+// An operation that waited, with its operands.
+fn whole_operation(draft: DraftOperation<'_>, operands: Operands) -> NewOp
+    ensures { op_of result ≡ with_operands (op_of draft.entry.operation) (map (ref_by (λ i. i)) operands.items) }
+{
+    let mut operation = draft.operation;
+    operation.operands = operands;
+    operation
 }
 
 // Makes room in a body for a few operations, where none is read.
@@ -223,17 +255,14 @@ fn make_room(body: &mut Body, read: u32) -> Result<(), AllocError>
     body.reserve(FEW_OPERATIONS, FEW_OPERANDS)
 }
 
-// Puts an operation with these operands behind those of a body. A body of 2^32 operations or more counts as want of
-// memory.
-fn put_in(body: &mut Body, operation: NewOp, operands: Operands) -> Result<(), AllocError>
-    ensures ops { OnOk result (map (op_by (λ i. i)) (ops_of body.new) ≡ map (op_by (λ i. i)) (ops_of body.old) ++ with_operands (op_of operation) (map (ref_by (λ i. i)) operands.items) ∷ []) }
+// Puts an operation behind those of a body. A body of 2^32 operations or more counts as want of memory.
+fn put_in(body: &mut Body, operation: NewOp) -> Result<(), AllocError>
+    ensures ops { OnOk result (map (op_by (λ i. i)) (ops_of body.new) ≡ map (op_by (λ i. i)) (ops_of body.old) ++ op_of operation ∷ []) }
     ensures numbered { OnOk result (IsNumbered body.old → IsNumbered body.new) }
 {
     if body.op_count() >= u32::MAX as usize {
         return Err(AllocError);
     }
-    let mut operation = operation;
-    operation.operands = operands;
     body.add_op(None, operation)?;
     Ok(())
 }

@@ -11,11 +11,10 @@ returns c seen os drafts =
     let old = c.args.self.now in
     let o = operation_of c.args.text in
     let mid : Draft = record { names = c.define_operation.new.names; count = old.count + 1; body = c.make_room.new.body; waiting = old.waiting; found = old.found } in
-    let draft = c.in_ok-operation.operation in
     let found = c.as_slice.result.now in
     let few = c.if-self.false in
     let own = marks (meanings_of old.names) (operation_definitions old.count o) in
-    let read : IsRead seen os o old mid c.put.new.self draft found =
+    let read : IsRead seen os o old mid c.put.new.self found =
     record {
       means = c.in_ok-define_operation.ensures.means;
       count = refl;
@@ -23,7 +22,6 @@ returns c seen os drafts =
       ops = c.in_ok-make_room.ensures.ops;
       gaps = c.in_ok-make_room.ensures.gaps;
       waiting = refl;
-      draft = λ later. c.in_ok-operation.ensures later;
       marked = c.as_slice.ensures ∙ c.in_ok-define_operation.ensures.marks ∙ ap (λ bs. bs ++ own) c.new-marks.ensures.items;
     } in
-    drafts_more seen os o old mid c.put.new.self draft found drafts read c.in_ok-put.ensures
+    drafts_more seen os o old mid c.put.new.self found drafts read c.in_ok-put.ensures
