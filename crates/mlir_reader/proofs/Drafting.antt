@@ -11,9 +11,8 @@ use Rattle.mlir_reader.specs.Drafts.{Keeps, Drafts, IsBody, drafted}
 use Rattle.mlir_reader.specs.Held.{held, IsNumbered, HoldsSame, HoldsMore}
 use Rattle.mlir_reader.specs.Marked.{operation_marked}
 use Rattle.mlir_reader.specs.Meanings.{meanings_of, numbers_below}
-use Rattle.mlir_reader.specs.OperandText.{OperandName}
 use Rattle.mlir_reader.specs.OperationText.{OperationText}
-use Rattle.mlir_reader.specs.Resolving.{Meanings, Defined, Definition, marks, known_or, ref_in, resolved, with_definition, with_definitions, operation_definitions, body_definitions, operation_at, operations_from}
+use Rattle.mlir_reader.specs.Resolving.{Meanings, Defined, Definition, marks, known_or, with_definition, with_definitions, operation_definitions, body_definitions, operation_at, operations_from}
 use Rattle.mlir_reader.specs.declared.draft.Draft.{Draft}
 use Rattle.mlir_reader.specs.declared.draft.DraftOperation.{DraftOperation}
 use Rattle.mlir_reader.specs.declared.names.Names.{Names}
@@ -74,10 +73,6 @@ definitions_kept means [] = keeps_all means
 definitions_kept means (d ∷ ds) =
     let one = with_definition means d in
     keeps_then means one (with_definitions one ds) (definition_kept means d) (definitions_kept one ds)
-
--- an operand whose name stands for something names the same value later
-pub resolved_kept : (means later : Meanings) (o : OperandName) → Keeps means later → is_some (means o.name) ≡ true → resolved later o ≡ resolved means o
-resolved_kept means later o k h = ap (λ d. ref_in d o.number) (k o.name h)
 
 -- ---- what a draft holds
 

@@ -30,6 +30,9 @@ const FEW_OPERATIONS: u32 = 8;
 
 const FEW_OPERANDS: u32 = 16;
 
+// For how many operations that wait room is not given back.
+const MUCH_WAITING: usize = 64;
+
 // The operands of an operation.
 type Operands = SmallVec<Value, 4, Global>;
 
@@ -194,6 +197,7 @@ impl<'s> Draft<'s> {
         match self.waiting.pop_front() {
             Some(first) => {
                 self.found = 0;
+                give_back(&mut self.waiting);
                 put_in(&mut self.body, whole_operation(first, operands))?;
                 Ok(true)
             }
@@ -265,6 +269,16 @@ fn put_in(body: &mut Body, operation: NewOp) -> Result<(), AllocError>
     }
     body.add_op(None, operation)?;
     Ok(())
+}
+
+// Gives the room of those that waited back, where it is much and more than half of it is free.
+fn give_back(waiting: &mut VecDeque<DraftOperation<'_>>)
+    ensures { waiting.new.items ≡ waiting.old.items }
+{
+    let room = waiting.capacity();
+    if room > MUCH_WAITING && waiting.len() < room / 8 * 3 {
+        waiting.shrink_to_fit();
+    }
 }
 
 // Where, from a place on, the first operand stands whose name stands for nothing, or how many operands there are.

@@ -3,6 +3,7 @@ use crate::definitions::define_port;
 use crate::draft::Draft;
 use crate::names::Names;
 use crate::reader::Reader;
+use io_edge::byte_text::Text;
 use ir_store::body::Body;
 use ir_store::operation::{OpId, Value};
 use std::alloc::{AllocError, Global};
@@ -108,5 +109,21 @@ fn a_number_counts_within_a_pack(rt: HostRuntime) -> Result<(), Fail> {
     ] {
         assert!(rt; is_used_at(&body, value, places));
     }
+    Ok(())
+}
+
+#[test]
+fn many_may_wait_for_the_last(rt: HostRuntime) -> Result<(), Fail> {
+    let mut text = Text::new(rt.alloc());
+    text.push_bytes(b"%a = comb.add %p, %z : i8\n")?;
+    for _ in 0..300 {
+        text.push_bytes(b"%b = comb.xor %p, %p : i8\n")?;
+    }
+    text.push_bytes(b"%z = comb.or %p, %a : i8\n")?;
+    let body = body_of(rt.alloc(), text.as_bytes(), 999)?;
+    assert_eq!(rt; body.op_count(), 302);
+    assert!(rt; is_used_at(&body, result(301, 0), &[(0, 1)]));
+    assert!(rt; is_used_at(&body, result(0, 0), &[(301, 1)]));
+    assert!(rt; is_used_at(&body, Value::Undefined, &[]));
     Ok(())
 }
