@@ -9,6 +9,7 @@ pub mod OperandLists
 pub mod OperationViews
 pub mod Orders
 pub mod Positions
+pub mod ShortLists
 pub mod Symbols
 pub mod Uses
 pub mod UsesLeft

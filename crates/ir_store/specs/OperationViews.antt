@@ -1,5 +1,5 @@
 -- What values of the parts of an operation stand for.
-use Rattle.std.specs.Prelude.{ℕ, Bool, List, [], ◌∷◌, map}
+use Rattle.std.specs.Prelude.{ℕ, Bool, List, map}
 use Rattle.hw_model.specs.Types.{Name, HwType}
 use Rattle.hw_model.specs.Kinds.{Kind}
 use Rattle.hw_model.specs.TypeViews.{type_of}
@@ -8,41 +8,27 @@ use Rattle.hw_model.specs.KindViews.{kind_of}
 use Rattle.hw_model.specs.Design.{OpResult, Entry as HwEntry, Place as HwPlace}
 use Rattle.diag.specs.declared.refusal.Place.{Place}
 use Rattle.ir_store.specs.declared.operation.NewResult.{NewResult}
-use Rattle.ir_store.specs.declared.operation.TyList.{TyList}
-use Rattle.ir_store.specs.declared.operation.TyList.TheVariants as types
-use Rattle.ir_store.specs.declared.operation.NewResultList.{NewResultList}
-use Rattle.ir_store.specs.declared.operation.NewResultList.TheVariants as results
+use Rattle.ir_store.specs.declared.short_list.ShortList.{ShortList}
 use Rattle.ir_store.specs.declared.operation.NewOp.{NewOp}
 use Rattle.ir_store.specs.declared.operation.Parts.{Parts}
 use Rattle.ir_store.specs.DictionaryViews.{entries_in}
+use Rattle.ir_store.specs.ShortLists.{short_items}
 
 -- a place in the source
 abbrev pub place_of : Place → HwPlace
 place_of p = record { line = p.line; col = p.col }
 
--- the types of a list, in code
-abbrev pub type_items : TyList → List Ty
-type_items types.Empty = []
-type_items (types.One ty) = ty ∷ []
-type_items (types.Many tys) = tys.items
-
 -- the types of a list
-abbrev pub types_in : TyList → List HwType
-types_in l = map type_of (type_items l)
+abbrev pub types_in : ShortList Ty → List HwType
+types_in l = map type_of (short_items l)
 
 -- a result
 abbrev pub result_of : NewResult → OpResult
 result_of r = record { type = type_of r.ty; again = r.again }
 
--- the results of a list, in code
-abbrev pub result_items : NewResultList → List NewResult
-result_items results.Empty = []
-result_items (results.One r) = r ∷ []
-result_items (results.Many rs) = rs.items
-
 -- the results of a list
-abbrev pub results_in : NewResultList → List OpResult
-results_in l = map result_of (result_items l)
+abbrev pub results_in : ShortList NewResult → List OpResult
+results_in l = map result_of (short_items l)
 
 -- an operation but for its operands
 pub record OpParts : Type 0 where

@@ -14,6 +14,7 @@ mod operands;
 pub mod operation;
 mod order;
 pub mod result_types;
+pub mod short_list;
 #[cfg(test)]
 mod tests;
 pub mod uses;

@@ -2,9 +2,11 @@
 use crate::body::Body;
 use crate::design::{Design, Module, PortList};
 use crate::dictionary::Dictionary;
-use crate::operation::{NewOp, NewResultList, OpId, TyList, UsePlace, Value};
+use crate::operation::{NewOp, NewResult, NewResultList, OpId, TyList, UsePlace, Value};
+use crate::short_list::ShortList;
 use diag::refusal::Place;
 use hw_model::kinds::OpKind;
+use hw_model::types::Ty;
 use io_edge::byte_text::Text;
 use smallvec::SmallVec;
 use std::alloc::{AllocError, Global};
@@ -278,6 +280,74 @@ fn room_that_was_reserved_lasts(rt: HostRuntime) -> Result<(), Fail> {
             }
         }
         assert_eq!(rt; body.op_count(), 0);
+    }
+    Ok(())
+}
+
+// whether the list is of integers of these widths
+fn has_widths(list: &TyList, widths: &[u64]) -> bool {
+    if list.len() != widths.len() {
+        return false;
+    }
+    for (ty, width) in list.as_slice().iter().zip(widths) {
+        if ty.width() != *width {
+            return false;
+        }
+    }
+    true
+}
+
+#[test]
+fn a_list_grows_from_none_to_many(rt: HostRuntime) -> Result<(), Fail> {
+    let alloc = rt.alloc();
+    let mut list = TyList::new();
+    assert!(rt; has_widths(&list, &[]));
+    list.push(alloc, Ty::Int(3))?;
+    assert!(rt; matches!(list, ShortList::One(_)));
+    list.reserve(alloc, 2)?;
+    assert!(rt; has_widths(&list, &[3]));
+    list.push(alloc, Ty::Int(5))?;
+    list.reserve(alloc, 2)?;
+    list.push(alloc, Ty::Int(8))?;
+    assert!(rt; has_widths(&list, &[3, 5, 8]));
+    assert!(rt; has_widths(&list.try_clone(alloc)?, &[3, 5, 8]));
+    Ok(())
+}
+
+#[test]
+fn a_list_is_made_with_room_or_of_a_vector(rt: HostRuntime) -> Result<(), Fail> {
+    let alloc = rt.alloc();
+    for room in [0, 1, 4] {
+        let mut list = TyList::with_room(alloc, room)?;
+        assert!(rt; has_widths(&list, &[]));
+        list.push(alloc, Ty::Int(2))?;
+        assert!(rt; has_widths(&list, &[2]));
+        assert!(rt; has_widths(&list.try_clone(alloc)?, &[2]));
+    }
+    let mut list = TyList::new();
+    list.reserve(alloc, 3)?;
+    list.push(alloc, Ty::Int(2))?;
+    assert!(rt; has_widths(&list, &[2]));
+    let list = TyList::of(vec![in alloc; Ty::Int(4), Ty::Int(6)]?);
+    assert!(rt; has_widths(&list, &[4, 6]));
+    Ok(())
+}
+
+#[test]
+fn results_are_copied(rt: HostRuntime) -> Result<(), Fail> {
+    let alloc = rt.alloc();
+    let mut results = NewResultList::new();
+    for (width, again) in [(1, false), (7, true)] {
+        let ty = Ty::Int(width);
+        results.push(alloc, NewResult { ty, again })?;
+    }
+    let copy = results.try_clone(alloc)?;
+    match copy.as_slice() {
+        [first, second] => {
+            assert_eq!(rt; (first.ty.width(), first.again), (1, false));
+            assert_eq!(rt; (second.ty.width(), second.again), (7, true));
+        }
+        _ => assert!(rt; false),
     }
     Ok(())
 }

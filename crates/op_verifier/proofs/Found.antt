@@ -10,7 +10,8 @@ use Rattle.hw_model.specs.Design.{Port, OpResult}
 use Rattle.hw_model.specs.Design.Ref.{result}
 use Rattle.hw_model.specs.Sound.{type_in}
 use Rattle.ir_store.specs.Numbered.{op_by, ref_by}
-use Rattle.ir_store.specs.OperationViews.{result_of, result_items}
+use Rattle.ir_store.specs.OperationViews.{result_of}
+use Rattle.ir_store.specs.ShortLists.{short_items}
 use Rattle.op_verifier.specs.declared.entries.Entry.{Entry}
 use Rattle.op_verifier.specs.Entries.{op_in, types_beside, settled_for, AreSettled}
 use Rattle.op_verifier.specs.OpChecks.{settled_type, is_nonzero_kind, is_nonzero_op}
@@ -41,8 +42,8 @@ some_below f g (x ∷ xs) (suc k) = some_below f g xs k ∙ sym (less_suc k (len
 
 -- whether a value is there
 pub value_there : (ports : List Port) (p : ℕ → ℕ) (es : List Entry) (i k : ℕ) (e : Entry) → slice_get es i ≡ Some e
-    → is_some (type_in ports (map (op_by p) (map op_in es)) (result i k)) ≡ nat_lt k (length (result_items e.op.results.now))
-value_there ports p es i k e found = rw (op_there p es i (Some e) found) (some_below (λ (r : OpResult). r.type) result_of (result_items e.op.results.now) k)
+    → is_some (type_in ports (map (op_by p) (map op_in es)) (result i k)) ≡ nat_lt k (length (short_items e.op.results.now))
+value_there ports p es i k e found = rw (op_there p es i (Some e) found) (some_below (λ (r : OpResult). r.type) result_of (short_items e.op.results.now) k)
 
 pub value_gone : (ports : List Port) (p : ℕ → ℕ) (es : List Entry) (i k : ℕ) → slice_get es i ≡ None
     → is_some (type_in ports (map (op_by p) (map op_in es)) (result i k)) ≡ false

@@ -11,11 +11,11 @@ use Rattle.hw_model.specs.Design.{OpResult}
 use Rattle.hw_model.specs.TypeViews.{NamedType, type_of, fields_of}
 use Rattle.hw_model.specs.KindViews.{literals_of}
 use Rattle.ir_store.specs.ResultTypes.{first_type}
-use Rattle.ir_store.specs.OperationViews.{type_items, types_in, result_of, result_items}
+use Rattle.ir_store.specs.OperationViews.{types_in, result_of}
+use Rattle.ir_store.specs.ShortLists.{short_items}
 use Rattle.ir_store.specs.declared.operation.NewResult.{NewResult}
 use Rattle.hw_model.specs.declared.types.Ty.{Ty}
-use Rattle.ir_store.specs.declared.operation.TyList.{TyList}
-use Rattle.ir_store.specs.declared.operation.NewResultList.{NewResultList}
+use Rattle.ir_store.specs.declared.short_list.ShortList.{ShortList}
 use Rattle.op_verifier.specs.TypeChecks.{is_without_fields}
 use Rattle.op_verifier.specs.TypeLists.{settled, settled_at, differs, differ}
 use Rattle.op_verifier.specs.LiteralChecks.{literal_count, literals_differ, are_miscounted}
@@ -57,14 +57,14 @@ types_seen : (rs : List NewResult) → map (λ (r : OpResult). r.type) (map resu
 types_seen [] = refl
 types_seen (r ∷ rs) = ap (λ (ts : List HwType). type_of r.ty ∷ ts) (types_seen rs)
 
-pub result_types_seen : (l : NewResultList) → result_types_in l ≡ map (λ (r : NewResult). type_of r.ty) (result_items l)
-result_types_seen l = types_seen (result_items l)
+pub result_types_seen : (l : ShortList NewResult) → result_types_in l ≡ map (λ (r : NewResult). type_of r.ty) (short_items l)
+result_types_seen l = types_seen (short_items l)
 
 -- the same of items that are a list's
-pub types_of_items : (xs : List Ty) (l : TyList) → xs ≡ type_items l → map type_of xs ≡ types_in l
+pub types_of_items : (xs : List Ty) (l : ShortList Ty) → xs ≡ short_items l → map type_of xs ≡ types_in l
 types_of_items xs l e = ap (map type_of) e
 
-pub results_of_items : (xs : List NewResult) (l : NewResultList) → xs ≡ result_items l → result_types_in l ≡ map (λ (r : NewResult). type_of r.ty) xs
+pub results_of_items : (xs : List NewResult) (l : ShortList NewResult) → xs ≡ short_items l → result_types_in l ≡ map (λ (r : NewResult). type_of r.ty) xs
 results_of_items xs l e = result_types_seen l ∙ ap (map (λ (r : NewResult). type_of r.ty)) (sym e)
 
 -- the type at a place of a list that is seen so

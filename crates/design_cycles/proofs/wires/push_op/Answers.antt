@@ -2,7 +2,8 @@ use Rattle.std.proofs.Common.{◌≡◌, ◌++◌, map, subst, sym, ap, ◌∙�
 use Rattle.std.specs.Result.{IfOk}
 use Rattle.std.proofs.lemmas.List.{length-map}
 use Rattle.hw_model.specs.KindViews.{instance_of}
-use Rattle.ir_store.specs.OperationViews.{result_of, result_items}
+use Rattle.ir_store.specs.OperationViews.{result_of}
+use Rattle.ir_store.specs.ShortLists.{short_items}
 use Rattle.ir_store.specs.Designs.{StoredModule, modules_of}
 use Rattle.design_cycles.specs.Graphs.{lists_of}
 use Rattle.design_cycles.specs.Nodes.{rows_by, rows_at}
@@ -14,7 +15,7 @@ returns-in-Made c =
     subst (λ rows. IfOk c.push_made.result (λ _. lists_of c.push_made.new.graph.items ≡ lists_of c.args.graph.now.items ++ rows))
     (made_need c.args.body.now c.op_at-op.result c.args.ports (rows_by (map (λ (m : StoredModule). m.symbol) (modules_of c.args.design.now)) c.args.summaries.now) c.args.position c.args.layout.now
     c.requires.layout c.op_at-op.ensures c.len.result
-    (c.len.ensures ∙ sym (length-map (result_items c.op_at-op.result.results.now) result_of))
+    (c.len.ensures ∙ sym (length-map (short_items c.op_at-op.result.results.now) result_of))
     c.in-Made.ensures.register c.in-Made.ensures.instance c.in-Made.ensures.output)
     c.push_made.ensures
 

@@ -1,6 +1,7 @@
 use Rattle.std.proofs.Common.{◌≡◌, length, [], ◌++◌, ◌∙◌, ap, arith}
 use Rattle.std.proofs.lemmas.List.{length-map}
-use Rattle.ir_store.specs.OperationViews.{result_of, result_items}
+use Rattle.ir_store.specs.OperationViews.{result_of}
+use Rattle.ir_store.specs.ShortLists.{short_items}
 use Rattle.verilog_expr.specs.Scopes.{op_read}
 use Rattle.export_verilog.specs.Layout.{items_text}
 use Rattle.export_verilog.specs.RoleViews.{role_seen}
@@ -14,7 +15,7 @@ returns c =
     let v = c.args.names.now.values in
     let o = op_read s c.args.op.now in
     let r = role_seen c.args.role in
-    let rs = result_items c.args.op.now.results.now in
+    let rs = short_items c.args.op.now.results.now in
     let count : c.in-Ok.count ≡ length o.results = omega (arith, c.in-Ok.ensures.1, c.len.ensures, length-map rs result_of) in
     c.in_ok-push_declared.ensures
     ∙ ap (λ i. c.args.out.now ++ items_text (declared_items s v i c.in-Ok.count r) []) c.requires.id
