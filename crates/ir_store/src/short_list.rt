@@ -69,8 +69,7 @@ impl<T: Drop> ShortList<T> {
 
     /// Makes room for so many more items. The items stay.
     pub fn reserve(&mut self, alloc: Global, more: usize) -> Result<(), AllocError>
-        ensures ok { OnOk result (short_items self.new ≡ short_items self.old) }
-        ensures err { OnErr result (short_items self.new ≡ short_items self.old) }
+        ensures { short_items self.new ≡ short_items self.old }
     {
         match self {
             ShortList::Empty => {
