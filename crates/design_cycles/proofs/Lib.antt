@@ -3,7 +3,6 @@ pub mod Locals
 pub mod Marking
 pub mod NodeNumbers
 pub mod NodeValues
-pub mod Tables
 pub mod NodeLists
 pub mod Graphing
 pub mod Inputs

@@ -11,27 +11,24 @@ use Rattle.ir_store.specs.BodyOps.{BodyOp}
 use Rattle.ir_store.specs.Bodies.{ids_of, ops_of, op_id}
 use Rattle.ir_store.specs.Live.{AreDistinct}
 use Rattle.ir_store.specs.Numbered.{position_of, op_by, numbered}
+use Rattle.ir_store.specs.PositionTables.{ArePositions}
 use Rattle.ir_store.proofs.BodyLemmas.{ids_once}
+use Rattle.ir_store.proofs.PositionTables.{indices, ids_same}
 use Rattle.design_cycles.specs.declared.layout.Layout.{Layout}
 use Rattle.design_cycles.specs.declared.ops.Sort.{Sort}
 use Rattle.design_cycles.specs.declared.ops.Sort.TheVariants.{Register, Calls, Gives, Made}
 use Rattle.design_cycles.specs.Sorts.{gives}
 use Rattle.design_cycles.specs.Reading.{op_view}
 use Rattle.design_cycles.specs.Local.{picked}
-use Rattle.design_cycles.specs.Nodes.{sizes_in, size_in, AreSpans, ArePositions, IsLayout, node_ref, nodes_in, value_nodes, picked_values, times_over, lists_at}
+use Rattle.design_cycles.specs.Nodes.{sizes_in, size_in, AreSpans, IsLayout, node_ref, nodes_in, value_nodes, picked_values, times_over, lists_at}
 use Rattle.design_cycles.proofs.NodeValues.{span_count, values_are, picked_are}
 use Rattle.design_cycles.proofs.Graphing.{made_lists, called_lists}
-use Rattle.design_cycles.proofs.Tables.{indices}
 
 -- ---- ids
 
-indices_back : (xs : List ℕ) → indices (map op_id xs) ≡ xs
-indices_back [] = refl
-indices_back (x ∷ xs) = ap (λ ys. x ∷ ys) (indices_back xs)
-
 module _ (b : Body) (ids : List OpId) (all : ids ≡ map op_id (ids_of b)) where
   pub indices_are : indices ids ≡ ids_of b
-  indices_are = ap indices all ∙ indices_back (ids_of b)
+  indices_are = ids_same ids (ids_of b) all
 
   pub ids_distinct : AreDistinct (indices ids)
   ids_distinct = subst AreDistinct (sym indices_are) (ids_once b)

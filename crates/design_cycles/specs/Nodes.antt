@@ -7,6 +7,7 @@ use Rattle.hw_model.specs.Design.Ref.{port, result, undefined}
 use Rattle.ir_store.specs.declared.operation.Value.{Value}
 use Rattle.ir_store.specs.declared.operation.Value.TheVariants.{Port, Result, Undefined}
 use Rattle.wiring.specs.Options.{bind}
+use Rattle.ir_store.specs.PositionTables.{ArePositions}
 use Rattle.ir_store.specs.Symbols.{symbol_place}
 use Rattle.design_cycles.specs.declared.layout.Span.{Span}
 use Rattle.design_cycles.specs.declared.layout.Summary.{Summary}
@@ -102,11 +103,6 @@ lists_of_op ports rows os j (Some o) = map (node_needs ports rows os) (op_refs j
 
 abbrev pub lists_at : ℕ → (Name → List (List ℕ)) → List Op → ℕ → List (List ℕ)
 lists_at ports rows os j = lists_of_op ports rows os j (slice_get os j)
-
--- the positions are those of the ids
-pub record ArePositions (ids positions : List ℕ) : Type 0 where
-  pub known : (j q : ℕ) → slice_get ids j ≡ Some q → slice_get positions q ≡ Some j
-  pub real : (q j : ℕ) → slice_get positions q ≡ Some j → j < length ids → slice_get ids j ≡ Some q
 
 -- the layout is that of a body with so many ports, sizes and ids
 pub record IsLayout (ports : ℕ) (sizes ids : List ℕ) (layout : Layout) : Type 0 where

@@ -1,15 +1,14 @@
 //! The graph of a body's values: what each needs, without a register between, each instance standing for what its module's
 //! outputs depend on.
-ghost use Rattle.std.specs.Prelude.{◌≡◌, ◌<◌, ◌+◌, ◌^◌, ◌++◌, ℕ, length, map, IfOk, OnOk, Some};
+ghost use Rattle.std.specs.Prelude.{◌≡◌, ◌<◌, ◌+◌, ◌^◌, ◌++◌, length, map, IfOk, OnOk};
 ghost use Rattle.std.specs.Option.{option_map};
 ghost use Rattle.wiring.specs.Options.{bind};
 ghost use Rattle.ir_store.specs.Bodies.{ids_of, ops_of, op_id};
 ghost use Rattle.ir_store.specs.Designs.{modules_of};
 ghost use Rattle.ir_store.specs.Numbered.{numbered};
 ghost use Rattle.std.specs.Prelude.{slice_get};
-ghost use Rattle.ir_store.specs.Live.{AreDistinct};
 ghost use Rattle.design_cycles.specs.Graphs.{lists_of};
-ghost use Rattle.design_cycles.specs.Nodes.{rows_at as rows_kept, rows_by, HasSize, sizes_in, AreSpans, ArePositions, IsLayout, span_node, value_node, value_nodes, picked_values, times_over, body_lists, lists_at};
+ghost use Rattle.design_cycles.specs.Nodes.{rows_at as rows_kept, rows_by, HasSize, sizes_in, AreSpans, IsLayout, span_node, value_node, value_nodes, picked_values, times_over, body_lists, lists_at};
 
 use crate::graph::NodeList;
 use crate::layout::{Layout, Span, Summary};
@@ -18,6 +17,7 @@ use crate::order::empty_lists;
 use ir_store::body::Body;
 use ir_store::design::Design;
 use ir_store::operation::{OpId, Value};
+use ir_store::position_table::positions_of;
 use std::alloc::{AllocError, Global};
 
 /// The node of a value, where it has one.
@@ -42,32 +42,6 @@ fn node_in(span: Option<&Span>, number: u32) -> Option<u32>
         Some(span) if number < span.size => Some(span.start + number),
         _ => None,
     }
-}
-
-/// The position of each id by its number.
-pub(crate) fn positions_of(alloc: Global, ids: &[OpId]) -> Result<Vec<u32>, AllocError>
-    requires { AreDistinct (map (λ (i : OpId). i.index) ids.now) }
-    ensures { IfOk result (λ ps. ArePositions (map (λ (i : OpId). i.index) ids.now) ps.items) }
-{
-    let Ok(count) = u32::try_from(ids.len()) else {
-        return Err(AllocError);
-    };
-    let mut positions = vec![in alloc; count; size_for(ids)]?;
-    for position in 0..ids.len() {
-        positions[ids[position].number() as usize] = position as u32;
-    }
-    Ok(positions)
-}
-
-/// One more than the greatest number of an id.
-fn size_for(ids: &[OpId]) -> usize
-    ensures { (j q : ℕ) → slice_get (map (λ (i : OpId). i.index) ids.now) j ≡ Some q → q < result }
-{
-    let mut size: usize = 0;
-    for id in ids {
-        size = size.max((id.number() as usize).saturating_add(1));
-    }
-    size
 }
 
 /// How many results of the operation at a position need others.

@@ -9,7 +9,7 @@ use Rattle.ir_store.specs.Bodies.{ids_of, ops_of, op_id}
 use Rattle.ir_store.specs.Numbered.{position_of, numbered}
 use Rattle.ir_store.proofs.BodyLemmas.{ids_once}
 use Rattle.design_cycles.proofs.Pushing.{ids_count}
-use Rattle.verilog_expr.proofs.Placing.{index_at, ids_same, position_found}
+use Rattle.ir_store.proofs.PositionTables.{index_at, ids_same, position_found}
 use Rattle.export_verilog.specs.Keys.{each}
 use Rattle.export_verilog.specs.Layout.{Text, items_text}
 use Rattle.export_verilog.proofs.Listed.{drop_none}

@@ -7,5 +7,6 @@ pub mod IdLemmas
 pub mod Joining
 pub mod Living
 pub mod Numbering
+pub mod PositionTables
 pub mod Samples
 pub mod UseLemmas

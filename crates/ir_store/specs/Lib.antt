@@ -8,6 +8,7 @@ pub mod Numbered
 pub mod OperandLists
 pub mod OperationViews
 pub mod Orders
+pub mod PositionTables
 pub mod Positions
 pub mod ShortLists
 pub mod Symbols

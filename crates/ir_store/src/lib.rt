@@ -13,6 +13,7 @@ mod laws;
 mod operands;
 pub mod operation;
 mod order;
+pub mod position_table;
 pub mod result_types;
 pub mod short_list;
 #[cfg(test)]

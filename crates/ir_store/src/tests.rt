@@ -1,8 +1,12 @@
 //! Bodies and designs on their happy paths, with ample memory.
+ghost use Rattle.std.specs.Prelude.{◌≡◌, map, IfOk};
+ghost use Rattle.ir_store.specs.Bodies.{ids_of, op_id};
+
 use crate::body::Body;
 use crate::design::{Design, Module, PortList};
 use crate::dictionary::Dictionary;
 use crate::operation::{NewOp, NewResult, NewResultList, OpId, TyList, UsePlace, Value};
+use crate::position_table::positions_of;
 use crate::short_list::ShortList;
 use diag::refusal::Place;
 use hw_model::kinds::OpKind;
@@ -349,5 +353,42 @@ fn results_are_copied(rt: HostRuntime) -> Result<(), Fail> {
         }
         _ => assert!(rt; false),
     }
+    Ok(())
+}
+
+// the ids of a body's operations in text order
+fn ids_in(alloc: Global, body: &Body) -> Result<Vec<OpId>, AllocError>
+    ensures { IfOk result (λ ids. ids.items ≡ map op_id (ids_of body.now)) }
+{
+    body.ops().collect(alloc)
+}
+
+// the position of each id of a body by its number
+fn positions_in(alloc: Global, body: &Body) -> Result<Vec<u32>, AllocError> {
+    let ids = ids_in(alloc, body)?;
+    positions_of(alloc, ids.as_slice())
+}
+
+#[test]
+fn positions_are_told_by_ids(rt: HostRuntime) -> Result<(), Fail> {
+    let alloc = rt.alloc();
+    let mut body = Body::new(alloc);
+    assert!(rt; positions_in(alloc, &body)?.is_empty());
+    let last = put(alloc, &mut body, None, OpKind::Output, &[])?;
+    let first = put(alloc, &mut body, last, OpKind::Add, &[])?;
+    let _ = put(alloc, &mut body, last, OpKind::Sub, &[])?;
+    assert_eq!(rt;
+        positions_in(alloc, &body)?.as_slice(),
+        [2, 0, 1].as_slice()
+    );
+    match first {
+        Some(first) => assert!(rt; erased(&mut body, first)),
+        None => assert!(rt; false),
+    }
+    // an id that is gone has as its position the number of ids
+    assert_eq!(rt;
+        positions_in(alloc, &body)?.as_slice(),
+        [1, 2, 0].as_slice()
+    );
     Ok(())
 }

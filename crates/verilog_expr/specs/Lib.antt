@@ -5,7 +5,6 @@ pub mod Expressions
 pub mod Spilling
 pub mod Text
 pub mod Values
-pub mod Tables
 pub mod Scopes
 pub mod Marks
 pub mod PartTables

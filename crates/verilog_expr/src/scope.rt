@@ -1,17 +1,17 @@
 //! A body with its ports, its operations by their positions in text order.
-ghost use Rattle.std.specs.Prelude.{◌≡◌, ◌<◌, ℕ, length, map, min, option_map, IfOk, Some, slice_get};
+ghost use Rattle.std.specs.Prelude.{◌≡◌, ◌<◌, length, map, min, option_map, IfOk, Some, slice_get};
 ghost use Rattle.hw_model.specs.Design.{result_type};
 ghost use Rattle.hw_model.specs.Flat.{width_of};
 ghost use Rattle.hw_model.specs.Sound.{input_type};
 ghost use Rattle.ir_store.specs.Designs.{port_of};
-ghost use Rattle.ir_store.specs.Live.{AreDistinct};
 ghost use Rattle.ir_store.specs.Bodies.{ids_of, ops_of, op_id, read_op};
 ghost use Rattle.ir_store.specs.Numbered.{position_of, op_by, numbered};
-ghost use Rattle.verilog_expr.specs.Tables.{ArePositions};
+ghost use Rattle.ir_store.specs.PositionTables.{ArePositions};
 
 use ir_store::body::{Body, Op};
 use ir_store::design::{Port, PortList};
 use ir_store::operation::{OpId, Value};
+use ir_store::position_table::positions_of;
 use std::alloc::{AllocError, Global};
 
 /// A body with its ports. Contracts see it by `scope_ports` and `scope_ops`.
@@ -167,30 +167,4 @@ fn op_in<'b>(body: &'b Body, ids: &[OpId], position: usize) -> Op<'b>
     ensures { slice_get (numbered (ops_of body.now)) position ≡ Some (op_by (position_of (ids_of body.now)) (read_op (op_id 0) result)) }
 {
     body.op(ids[position])
-}
-
-// The position of each id by its number.
-fn positions_of(alloc: Global, ids: &[OpId]) -> Result<Vec<u32>, AllocError>
-    requires { AreDistinct (map (λ (i : OpId). i.index) ids.now) }
-    ensures { IfOk result (λ ps. ArePositions (map (λ (i : OpId). i.index) ids.now) ps.items) }
-{
-    let Ok(count) = u32::try_from(ids.len()) else {
-        return Err(AllocError);
-    };
-    let mut positions = vec![in alloc; count; size_for(ids)]?;
-    for position in 0..ids.len() {
-        positions[ids[position].number() as usize] = position as u32;
-    }
-    Ok(positions)
-}
-
-// One more than the greatest number of an id.
-fn size_for(ids: &[OpId]) -> usize
-    ensures { (j q : ℕ) → slice_get (map (λ (i : OpId). i.index) ids.now) j ≡ Some q → q < result }
-{
-    let mut size: usize = 0;
-    for id in ids {
-        size = size.max((id.number() as usize).saturating_add(1));
-    }
-    size
 }

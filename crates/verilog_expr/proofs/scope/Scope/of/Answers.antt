@@ -2,8 +2,8 @@ use Rattle.std.proofs.Common.{subst, ap, sym, ◌∙◌}
 use Rattle.ir_store.specs.Bodies.{ids_of}
 use Rattle.ir_store.specs.Live.{AreDistinct}
 use Rattle.ir_store.proofs.BodyLemmas.{ids_once}
-use Rattle.verilog_expr.specs.Tables.{ArePositions}
-use Rattle.verilog_expr.proofs.Placing.{indices, ids_same}
+use Rattle.ir_store.specs.PositionTables.{ArePositions}
+use Rattle.ir_store.proofs.PositionTables.{indices, ids_same}
 use Rattle.verilog_expr.proofs.scope.Scope.of.Goals as goal
 
 pub positions_of-requires : goal.positions_of-requires

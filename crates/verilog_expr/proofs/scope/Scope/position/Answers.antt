@@ -2,7 +2,7 @@ use Rattle.std.proofs.Common.{length, ap, sym, arith}
 use Rattle.std.proofs.lemmas.List.{length-map}
 use Rattle.ir_store.specs.Bodies.{ids_of, op_id}
 use Rattle.ir_store.proofs.BodyLemmas.{ids_once}
-use Rattle.verilog_expr.proofs.Placing.{position_kept, position_missing}
+use Rattle.ir_store.proofs.PositionTables.{position_kept, position_missing}
 use Rattle.verilog_expr.proofs.scope.Scope.position.Goals as goal
 
 pub returns-in-Some : goal.returns-in-Some

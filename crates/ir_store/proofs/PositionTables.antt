@@ -1,12 +1,15 @@
 -- A table of the positions of distinct ids.
-use Rattle.std.proofs.Common.{◌≡◌, ◌⊎◌, ℕ, zero, suc, ◌+◌, ◌<◌, ◌≤◌, Bool, true, false, cond, eqb, nat_eq, List, [], ◌∷◌, length, map, get_or, set, replicate, slice_get, Some, option_map, refl, sym, ap, ◌∙◌, inl, inr, arith, length-set}
-use Rattle.std.proofs.lemmas.Bool.{eqb-true, eqb-false}
+use Rattle.std.proofs.Common.{◌≡◌, ◌⊎◌, ℕ, zero, suc, ◌+◌, ◌<◌, ◌≤◌, Bool, true, false, cond, eqb, nat_eq, List, [], ◌∷◌, length, map, get_or, set, replicate, slice_get, Some, None, option_map, refl, sym, ap, ◌∙◌, inl, inr, arith, length-set}
+use Rattle.std.proofs.lemmas.Bool.{eqb-true, eqb-false, ltb-true, ltb-false}
+use Rattle.std.specs.Prelude.{nat_lt, min}
+use Rattle.ir_store.specs.Bodies.{op_id}
+use Rattle.ir_store.specs.Numbered.{position_of}
 use Rattle.std.proofs.lemmas.Option.{slice_get-map, slice_get_within, slice_get-get_or}
 use Rattle.wiring.proofs.Lists.{slice_get-set_same, slice_get-set_other}
 use Rattle.ir_store.specs.Ids.{times}
 use Rattle.ir_store.specs.Live.{AreDistinct}
 use Rattle.ir_store.specs.declared.operation.OpId.{OpId}
-use Rattle.design_cycles.specs.Nodes.{ArePositions}
+use Rattle.ir_store.specs.PositionTables.{ArePositions}
 
 -- the positions of the first p ids stand in the table, and no others
 pub record IsTable (ids : List ℕ) (p : ℕ) (positions : List ℕ) : Type 0 where
@@ -110,3 +113,55 @@ size_more ids i n m d below before more last j q low at = go (grind arith)
     go : (j < i) ⊎ (j ≡ i) → q < m
     go (inl less) = let bound : q < n = before j q less at in omega arith
     go (inr same) = let e : Some (get_or ids i d).index ≡ Some q = sym (index_at ids i d below) ∙ ap (slice_get (indices ids)) (sym same) ∙ at in let f : (get_or ids i d).index ≡ q = cc in omega arith
+
+-- ---- what a table says
+
+indices_of : (xs : List ℕ) → indices (map op_id xs) ≡ xs
+indices_of [] = refl
+indices_of (x ∷ xs) = ap (λ ys. x ∷ ys) (indices_of xs)
+
+-- the ids in code are those of the body
+pub ids_same : (ids : List OpId) (xs : List ℕ) → ids ≡ map op_id xs → indices ids ≡ xs
+ids_same ids xs e = ap indices e ∙ indices_of xs
+
+pub position_found : (ids : List ℕ) (q j : ℕ) → times q ids ≤ 1 → slice_get ids j ≡ Some q → position_of ids q ≡ j
+position_found [] q j once at = cc
+position_found (x ∷ ids) q zero once at = go (nat_eq x q) refl
+  where
+    go : (b : Bool) → nat_eq x q ≡ b → cond b 0 (suc (position_of ids q)) ≡ 0
+    go true is = refl
+    go false is = let e : x ≡ q = cc in absurd (eqb-false x q is e)
+position_found (x ∷ ids) q (suc j) once at = go (nat_eq x q) refl once (position_found ids q j)
+  where
+    go : (b : Bool) → nat_eq x q ≡ b → cond b (suc (times q ids)) (times q ids) ≤ 1 → (times q ids ≤ 1 → slice_get ids j ≡ Some q → position_of ids q ≡ j)
+        → cond b 0 (suc (position_of ids q)) ≡ suc j
+    go true is few rest = let more : 0 < times q ids = counted_once ids q j at in absurd (omega arith)
+    go false is few rest = ap suc (rest few at)
+
+pub position_none : (ids : List ℕ) (q : ℕ) → ((j : ℕ) → slice_get ids j ≡ Some q → ⊥) → position_of ids q ≡ length ids
+position_none [] q none = refl
+position_none (x ∷ ids) q none = go (nat_eq x q) refl (position_none ids q (λ j at. none (suc j) at))
+  where
+    go : (b : Bool) → nat_eq x q ≡ b → position_of ids q ≡ length ids → cond b 0 (suc (position_of ids q)) ≡ suc (length ids)
+    go true is rest = absurd (none 0 (ap Some (eqb-true x q is)))
+    go false is rest = ap suc rest
+
+-- a position that the table has
+pub position_kept : (ids positions : List ℕ) (q p : ℕ) → AreDistinct ids → ArePositions ids positions → slice_get positions q ≡ Some p → min p (length ids) ≡ position_of ids q
+position_kept ids positions q p distinct table at = go (nat_lt p (length ids)) refl
+  where
+    go : (b : Bool) → nat_lt p (length ids) ≡ b → min p (length ids) ≡ position_of ids q
+    go true is =
+        let below : p < length ids = ltb-true p (length ids) is in
+        let found : position_of ids q ≡ p = position_found ids q p (distinct q) (table.real q p at below) in
+        omega arith
+    go false is =
+        let above : length ids ≤ p = ltb-false p (length ids) is in
+        let none : position_of ids q ≡ length ids = position_none ids q (λ j here.
+        let same : Some p ≡ Some j = sym at ∙ table.known j q here in
+        let e : p ≡ j = cc in
+        let bound : j < length ids = slice_get_within ids j q here in omega arith) in
+        omega arith
+
+pub position_missing : (ids positions : List ℕ) (q : ℕ) → ArePositions ids positions → slice_get positions q ≡ None → length ids ≡ position_of ids q
+position_missing ids positions q table at = sym (position_none ids q (λ j here. let e : None ≡ Some j = sym at ∙ table.known j q here in cc))

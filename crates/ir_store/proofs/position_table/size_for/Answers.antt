@@ -3,8 +3,8 @@ use Rattle.std.proofs.lemmas.List.{length-map}
 use Rattle.std.proofs.lemmas.Option.{slice_get_within}
 use Rattle.ir_store.specs.declared.operation.OpId.{OpId}
 use Rattle.ir_store.specs.Bodies.{op_id}
-use Rattle.design_cycles.proofs.Tables.{indices, size_more}
-use Rattle.design_cycles.proofs.wires.size_for.Goals as goal
+use Rattle.ir_store.proofs.PositionTables.{indices, size_more}
+use Rattle.ir_store.proofs.position_table.size_for.Goals as goal
 
 pub loop-id-preserved : goal.loop-id-preserved
 loop-id-preserved c =

@@ -2,8 +2,8 @@ use Rattle.std.proofs.Common.{◌≡◌, Some, slice_get, arith, sym, ap, ◌∙
 use Rattle.std.proofs.lemmas.List.{length-map}
 use Rattle.ir_store.specs.declared.operation.OpId.{OpId}
 use Rattle.ir_store.specs.Bodies.{op_id}
-use Rattle.verilog_expr.proofs.Placing.{indices, index_at, table_more, table_all}
-use Rattle.verilog_expr.proofs.scope.positions_of.Goals as goal
+use Rattle.ir_store.proofs.PositionTables.{indices, index_at, table_more, table_all}
+use Rattle.ir_store.proofs.position_table.positions_of.Goals as goal
 
 pub index_mut-requires : goal.index_mut-requires
 index_mut-requires c =
