@@ -25,6 +25,7 @@ pub enum Front {
 }
 
 /// What a byte and those behind it begin with.
+#[inline(always)]
 #[tactic(auto, unfolding(crate::specs::Fronts::front_of))]
 pub fn front_of(first: u8, behind: &[u8]) -> Front
     ensures { result ≡ front_of first behind.now }
