@@ -25,10 +25,8 @@ use smallvec::SmallVec;
 use std::alloc::{AllocError, Global};
 use std::collections::VecDeque;
 
-// For how many operations and operands of a body room is made at once.
-const FEW_OPERATIONS: u32 = 8;
-
-const FEW_OPERANDS: u32 = 16;
+// The most operations of a body for which room is made at once.
+const FEW_OPERATIONS: u32 = 16;
 
 // For how many operations that wait room is not given back.
 const MUCH_WAITING: usize = 64;
@@ -51,6 +49,8 @@ pub struct DraftOperation<'s> {
 pub struct Draft<'s> {
     pub(crate) names: Names<'s>,
     pub(crate) count: u32,
+    // How many operations the body will likely have.
+    pub(crate) likely: u32,
     pub(crate) body: Body,
     pub(crate) waiting: VecDeque<DraftOperation<'s>>,
     // Of the first that waits, how many operands were found to stand for something, so that no search begins with them
@@ -68,13 +68,15 @@ impl<'s> Draft<'s> {
     ghost use Rattle.mlir_reader.specs.Resolving.{Meanings};
     ghost use Rattle.mlir_reader.specs.Views.{operation_of};
 
-    /// A body of which nothing is read, behind ports whose names stand for something. It takes no memory.
-    pub fn new(alloc: Global, names: Names<'s>) -> Draft<'s>
+    /// A body of which nothing is read, behind ports whose names stand for something. It will likely have so many
+    /// operations. It takes no memory.
+    pub fn new(alloc: Global, names: Names<'s>, likely: u32) -> Draft<'s>
         ensures { Drafts (meanings_of names.entry) [] result }
     {
         Draft {
             names,
             count: 0,
+            likely,
             body: Body::new(alloc),
             waiting: VecDeque::new(alloc),
             found: 0,
@@ -89,7 +91,7 @@ impl<'s> Draft<'s> {
         if self.count >= u32::MAX - 1 || !has_few_names(&text) {
             return Err(AllocError);
         }
-        make_room(&mut self.body, self.count)?;
+        make_room(&mut self.body, self.count, self.likely)?;
         let mut marks: Marks = SmallVec::new(alloc);
         define_operation(&mut self.names, self.count, &text, &mut marks)?;
         self.count += 1;
@@ -104,6 +106,7 @@ impl<'s> Draft<'s> {
         let Draft {
             names,
             count: _,
+            likely: _,
             body,
             waiting,
             found: _,
@@ -248,15 +251,17 @@ fn whole_operation(draft: DraftOperation<'_>, operands: Operands) -> NewOp
     operation
 }
 
-// Makes room in a body for a few operations, where none is read.
-fn make_room(body: &mut Body, read: u32) -> Result<(), AllocError>
+// Makes room in a body for as many operations as it will likely have, where none is read; the lists of a body grow by
+// doubling.
+fn make_room(body: &mut Body, read: u32, likely: u32) -> Result<(), AllocError>
     ensures ops { OnOk result (ops_of body.new ≡ ops_of body.old) }
     ensures gaps { OnOk result (gaps body.new ≡ gaps body.old) }
 {
     if read > 0 {
         return Ok(());
     }
-    body.reserve(FEW_OPERATIONS, FEW_OPERANDS)
+    let few = likely.min(FEW_OPERATIONS);
+    body.reserve(few, few * 2)
 }
 
 // Puts an operation behind those of a body. A body of 2^32 operations or more counts as want of memory.

@@ -30,7 +30,7 @@ const PACKS: &[u8] = b"%s:2 = hw.struct_explode %p : !hw.struct<x: i8, y: i8>
 fn body_of(alloc: Global, text: &[u8], most: usize) -> Result<Body, AllocError> {
     let mut names = Names::with_room(alloc, 0)?;
     define_port(&mut names, 0, Some(b"p"))?;
-    let mut draft = Draft::new(alloc, names);
+    let mut draft = Draft::new(alloc, names, 8);
     let mut reader = Reader::new(alloc, text);
     for _ in 0..most {
         match reader.operation_text() {

@@ -70,7 +70,7 @@ impl<'s> Reader<'s> {
         ensures gives { ReadsFor (AreOperations (meanings_of names.entry)) result self.new (operations_text (length self.old) self.old) }
         ensures shorter { OnOk result (length self.new ≤ length self.old) }
     {
-        let mut draft = Draft::new(self.alloc(), names);
+        let mut draft = Draft::new(self.alloc(), names, self.likely());
         let mut ends = false;
         while !self.is_next(TokenKind::RightBrace) {
             let operation = match self.operation_text() {
@@ -84,6 +84,7 @@ impl<'s> Reader<'s> {
             draft.add(self.alloc(), operation)?;
         }
         let body = draft.finish(self.alloc())?;
+        self.expect(u32::try_from(body.op_count()).unwrap_or(u32::MAX));
         Ok(Operations { body, ends })
     }
 

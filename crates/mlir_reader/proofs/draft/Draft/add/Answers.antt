@@ -10,7 +10,7 @@ pub returns : goal.returns
 returns c seen os drafts =
     let old = c.args.self.now in
     let o = operation_of c.args.text in
-    let mid : Draft = record { names = c.define_operation.new.names; count = old.count + 1; body = c.make_room.new.body; waiting = old.waiting; found = old.found } in
+    let mid : Draft = record { names = c.define_operation.new.names; count = old.count + 1; likely = old.likely; body = c.make_room.new.body; waiting = old.waiting; found = old.found } in
     let found = c.as_slice.result.now in
     let few = c.if-self.false in
     let own = marks (meanings_of old.names) (operation_definitions old.count o) in

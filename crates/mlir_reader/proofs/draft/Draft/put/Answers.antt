@@ -15,7 +15,7 @@ use Rattle.mlir_reader.proofs.draft.Draft.put.Goals as goal
 pub returns-in_ok-put_in-in-Some : goal.returns-in_ok-put_in-in-Some
 returns-in_ok-put_in-in-Some c =
     let old = c.args.self.now in
-    let new : Draft = record { names = old.names; count = old.count; body = c.put_in.new.body; waiting = old.waiting; found = old.found } in
+    let new : Draft = record { names = old.names; count = old.count; likely = old.likely; body = c.put_in.new.body; waiting = old.waiting; found = old.found } in
     let refs = map (ref_by (λ i. i)) c.in-Some.operands.items in
     let settled : AreSettled (meanings_of old.names) (map operand_of c.args.text.gathered.operands.items) refs =
     subst (λ os. AreSettled (meanings_of old.names) (map operand_of os) refs) c.as_slice.ensures

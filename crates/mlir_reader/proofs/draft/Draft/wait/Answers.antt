@@ -12,7 +12,7 @@ use Rattle.mlir_reader.proofs.draft.Draft.wait.Goals as goal
 pub returns : goal.returns
 returns c =
     let old = c.args.self.now in
-    let new : Draft = record { names = old.names; count = old.count; body = old.body; waiting = c.push_back.new.self; found = old.found } in
+    let new : Draft = record { names = old.names; count = old.count; likely = old.likely; body = old.body; waiting = c.push_back.new.self; found = old.found } in
     let d : DraftOperation = record { operation = c.in_ok-operation.operation; operands = c.in_ok-operands.operands } in
     waits_more old new d (λ later. operation_marked later c.args.marks.now (operation_of c.args.text)) refl refl refl c.in_ok-push_back.ensures.items
     (λ later.
