@@ -13,6 +13,7 @@ use Rattle.mlir_lexer.specs.Classes.{is_digit, is_suffix_byte, is_name_start}
 use Rattle.mlir_lexer.specs.Runs.{run, begins}
 use Rattle.mlir_printer.specs.Strings.{stands, suffix_byte, standing}
 use Rattle.mlir_printer.specs.Naming.{wanted}
+use Rattle.mlir_printer.specs.Choices.{AreFree}
 use Rattle.mlir_printer.specs.Spellable.{IsValueName}
 use Rattle.mlir_printer.proofs.LexedNumbers.{numeral}
 
@@ -108,7 +109,7 @@ suffixes (b ∷ bs) = (go (is_suffix_byte b) refl, suffixes bs)
     go true e = e
     go false e = refl
 
-stands_word : (name : Name) → stands name ≡ true → IsWord name
+pub stands_word : (name : Name) → stands name ≡ true → IsWord name
 stands_word [] h = cc
 stands_word (b ∷ bs) h =
     let p = and_parts (not (is_digit b)) (nat_eq (run is_suffix_byte (b ∷ bs)) (length (b ∷ bs))) h in
@@ -170,11 +171,7 @@ Suits (w ∷ ws) [] = ⊥
 Suits (None ∷ ws) (n ∷ ns) = IsDigits n × Suits ws ns
 Suits (Some x ∷ ws) (n ∷ ns) = IsWord n × Suits ws ns
 
--- no number from one on is taken
-abbrev AreFree : List Name → ℕ → Type 0
-AreFree taken n = (k : ℕ) → n ≤ k → k < 2 ^ 64 → is_taken taken (decimal k) ≡ false
-
-push_free : (ts : List Name) (n q : Name) → is_taken ts q ≡ false → pointwise nat_eq n q ≡ false → is_taken (ts ++ n ∷ []) q ≡ false
+pub push_free : (ts : List Name) (n q : Name) → is_taken ts q ≡ false → pointwise nat_eq n q ≡ false → is_taken (ts ++ n ∷ []) q ≡ false
 push_free [] n q h g = cond-false (pointwise nat_eq n q) true false g
 push_free (t ∷ ts) n q h g = go (pointwise nat_eq t q) h (λ r. push_free ts n q r g)
   where
@@ -183,18 +180,21 @@ push_free (t ∷ ts) n q h g = go (pointwise nat_eq t q) h (λ r. push_free ts n
     go true e r = cc
     go false e r = r e
 
-unlike : (x y : Name) → (x ≡ y → ⊥) → pointwise nat_eq x y ≡ false
+pub unlike : (x y : Name) → (x ≡ y → ⊥) → pointwise nat_eq x y ≡ false
 unlike x y d = go (pointwise nat_eq x y) refl
   where
     go : (b : Bool) → pointwise nat_eq x y ≡ b → pointwise nat_eq x y ≡ false
     go true e = absurd (d ((bytes_decides x y).0 e))
     go false e = e
 
-word_unlike : (x : Name) (k : ℕ) → k < 2 ^ 64 → IsWord x → pointwise nat_eq x (decimal k) ≡ false
-word_unlike x k small w =
-    unlike x (decimal k) (λ e. false≢true (sym w.front ∙ ap (begins is_digit) e ∙ digits_begin (decimal k) (decimal_digits k small)))
+pub decimal_begins : (k : ℕ) → k < 2 ^ 64 → begins is_digit (decimal k) ≡ true
+decimal_begins k small = digits_begin (decimal k) (decimal_digits k small)
 
-number_unlike : (n k : ℕ) → n < k → k < 2 ^ 64 → pointwise nat_eq (decimal n) (decimal k) ≡ false
+-- what begins with no digit is no number
+pub word_unlike : (x : Name) (k : ℕ) → k < 2 ^ 64 → begins is_digit x ≡ false → pointwise nat_eq x (decimal k) ≡ false
+word_unlike x k small e = unlike x (decimal k) (λ h. false≢true (sym e ∙ ap (begins is_digit) h ∙ decimal_begins k small))
+
+pub number_unlike : (n k : ℕ) → n < k → k < 2 ^ 64 → pointwise nat_eq (decimal n) (decimal k) ≡ false
 number_unlike n k lt small =
     unlike (decimal n) (decimal k) (λ e. let s = decimal_injective n k (omega (arith, lt, small)) small e in absurd (omega (arith, s, lt)))
 
@@ -214,7 +214,7 @@ names_suit n taken (Some w ∷ ws) small few free =
     let word : IsWord x = begins_word (standing w) x (standing_word w) (free_begins taken (standing w) (omega (arith, small))) in (
       word,
       names_suit n (taken ++ x ∷ []) ws (omega (arith, one_more taken x, small)) (omega (arith, few))
-          (λ k le lt. push_free taken x (decimal k) (free k le lt) (word_unlike x k lt word)),
+          (λ k le lt. push_free taken x (decimal k) (free k le lt) (word_unlike x k lt word.front)),
     )
 
 pub given_suit : (ws : List (Option Name)) → length ws < 2 ^ 64 → Suits ws (fresh [] (wanted 0 ws))

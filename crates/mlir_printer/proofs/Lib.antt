@@ -28,6 +28,7 @@ pub mod LexedModules
 pub mod SaidForms
 pub mod SpellableExample
 pub mod GivenNames
+pub mod Choices
 pub mod KindsKept
 pub mod EntriesKept
 pub mod OperationsAgain

@@ -11,14 +11,10 @@ use Rattle.mlir_printer.proofs.Steps.{added}
 some_is : {A : Type 0} (x y : A) → Some x ≡ Some y → x ≡ y
 some_is x y e = cc
 
-mapped_at : {A B : Type 0} (f : A → B) (xs : List A) (i : ℕ) (d : A) → i < length xs → slice_get (map f xs) i ≡ Some (f (get_or xs i d))
+pub mapped_at : {A B : Type 0} (f : A → B) (xs : List A) (i : ℕ) (d : A) → i < length xs → slice_get (map f xs) i ≡ Some (f (get_or xs i d))
 mapped_at f [] i d lt = absurd (omega (arith, lt))
 mapped_at f (x ∷ xs) zero d lt = refl
 mapped_at f (x ∷ xs) (suc i) d lt = mapped_at f xs i d (omega (arith, lt))
-
--- the number of a name
-pub number_at : {A : Type 0} (f : A → ℕ) (xs : List A) (i : ℕ) (x : A) → i < length xs → x ≡ get_or xs i x → slice_get (map f xs) i ≡ Some i → f x ≡ i
-number_at f xs i x lt at e = some_is (f x) i (ap (λ y. Some (f y)) at ∙ sym (mapped_at f xs i x lt) ∙ e)
 
 -- the name of a number
 pub first_at : (n : ℕ) (xs : List Name) (x : Name) → Some x ≡ slice_get xs n → x ≡ first_name (drop n xs)
@@ -53,25 +49,25 @@ names_step f count first i xs x out one two whole lt at inv e1 e2 =
     added out one two (comma_bytes i) (f x) (items_from f (i + 1) (firsts (count - (i + 1)) (drop (first + (i + 1)) xs))) whole
     (sym (ap (λ l. out ++ items_from f i l) d) ∙ inv) e1 e2
 
-front_at : {A : Type 0} (f : A → ℕ) (xs : List A) (x : A) (i : ℕ) → i < length xs → slice_get (map f (xs ++ x ∷ [])) i ≡ slice_get (map f xs) i
+front_at : {A B : Type 0} (f : A → B) (xs : List A) (x : A) (i : ℕ) → i < length xs → slice_get (map f (xs ++ x ∷ [])) i ≡ slice_get (map f xs) i
 front_at f [] x i lt = absurd (omega (arith, lt))
 front_at f (y ∷ ys) x zero lt = refl
 front_at f (y ∷ ys) x (suc i) lt = front_at f ys x i (omega (arith, lt))
 
-last_at : {A : Type 0} (f : A → ℕ) (xs : List A) (x : A) → slice_get (map f (xs ++ x ∷ [])) (length xs) ≡ Some (f x)
+last_at : {A B : Type 0} (f : A → B) (xs : List A) (x : A) → slice_get (map f (xs ++ x ∷ [])) (length xs) ≡ Some (f x)
 last_at f [] x = refl
 last_at f (y ∷ ys) x = last_at f ys x
 
--- numbers in order, and one more
-pub in_order_push : {A : Type 0} (f : A → ℕ) (xs : List A) (x : A) → ((i : ℕ) → i < length xs → slice_get (map f xs) i ≡ Some i) → f x ≡ length xs
-    → (i : ℕ) → i < length xs + 1 → slice_get (map f (xs ++ x ∷ [])) i ≡ Some i
-in_order_push f xs x known e i lt = go (nat_lt i (length xs)) refl
+-- items that are known by their positions, and one more
+pub known_push : {A B : Type 0} (f : A → B) (g : ℕ → B) (xs : List A) (x : A) → ((i : ℕ) → i < length xs → slice_get (map f xs) i ≡ Some (g i)) → f x ≡ g (length xs)
+    → (i : ℕ) → i < length xs + 1 → slice_get (map f (xs ++ x ∷ [])) i ≡ Some (g i)
+known_push f g xs x known e i lt = go (nat_lt i (length xs)) refl
   where
-    go : (b : Bool) → nat_lt i (length xs) ≡ b → slice_get (map f (xs ++ x ∷ [])) i ≡ Some i
+    go : (b : Bool) → nat_lt i (length xs) ≡ b → slice_get (map f (xs ++ x ∷ [])) i ≡ Some (g i)
     go true t = front_at f xs x i (ltb-true i (length xs) t) ∙ known i (ltb-true i (length xs) t)
     go false t =
         let same : length xs ≡ i = omega (arith, ltb-false i (length xs) t, lt) in
-        ap (λ k. slice_get (map f (xs ++ x ∷ [])) k) (sym same) ∙ last_at f xs x ∙ ap (λ k. Some k) (e ∙ same)
+        ap (λ k. slice_get (map f (xs ++ x ∷ [])) k) (sym same) ∙ last_at f xs x ∙ ap (λ y. Some y) e ∙ ap (λ k. Some (g k)) same
 
 pub not_below : (n : ℕ) → (n < 18446744073709551616 → ⊥) → 18446744073709551616 ≤ n
 not_below n h = go (nat_lt n 18446744073709551616) refl

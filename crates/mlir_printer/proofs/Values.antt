@@ -1,7 +1,9 @@
 -- The values of a module are called as they are defined.
-use Rattle.std.proofs.Common.{◌≡◌, List, [], ◌++◌, length, refl, sym, ap, ◌∙◌, arith}
+use Rattle.std.proofs.Common.{◌≡◌, ◌<◌, ◌^◌, List, [], ◌++◌, length, refl, sym, ap, ◌∙◌, arith}
 use Rattle.std.specs.Prelude.{Option, slice_get}
+use Rattle.std.proofs.lemmas.List.{length-map}
 use Rattle.fresh_names.specs.Fresh.{fresh}
+use Rattle.fresh_names.specs.TakenViews.{taken_names}
 use Rattle.hw_model.specs.Types.{Name}
 use Rattle.hw_model.specs.Design.{Port}
 use Rattle.ir_store.specs.declared.operation.Value.{Value}
@@ -10,12 +12,17 @@ use Rattle.ir_store.specs.BodyOps.{BodyOp, ids_in}
 use Rattle.ir_store.specs.Numbered.{position_of, ref_by}
 use Rattle.mlir_printer.specs.Naming.{wanted, port_wishes, body_wishes, input_count, names_given, value_named}
 use Rattle.mlir_printer.specs.Chosen.{Chosen, with_wishes}
+use Rattle.mlir_printer.specs.Choices.{name_chosen}
 use Rattle.mlir_printer.specs.Places.{HavePlaces, port_places}
 use Rattle.mlir_printer.specs.Shown.{parts_in_body}
 use Rattle.mlir_printer.specs.Views.{names_held, value_held, place_value, port_placed}
 use Rattle.mlir_printer.specs.declared.value_names.ValueNames.{ValueNames}
 use Rattle.mlir_printer.proofs.Choosing.{wishes_append, wishes_names, wishes_length}
 use Rattle.mlir_printer.proofs.Placing.{port_called, table_called, result_called}
+
+-- there are no more names than a u32 counts
+pub names_few : (v : ValueNames) → length (names_held v) < 2 ^ 32
+names_few v = omega (arith, v.names.few, length-map v.names.choices.items (name_chosen (taken_names v.names.words)))
 
 -- the names of ports and operations, from none on
 pub all_names : (start mid end : Chosen) (ps : List Port) (ops : List BodyOp) → start.names ≡ [] → start.next ≡ 0

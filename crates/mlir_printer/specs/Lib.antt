@@ -11,6 +11,9 @@ pub mod Modules
 pub mod Naming
 pub mod Texts
 pub mod Chosen
+pub mod Spelled
+pub mod Choices
+pub mod ChosenViews
 pub mod Places
 pub mod Shown
 pub mod Views

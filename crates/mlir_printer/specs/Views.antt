@@ -3,7 +3,6 @@ use Rattle.std.specs.Prelude.{ℕ, ◌+◌, cond, nat_lt, List, map, drop, slice
 use Rattle.hw_model.specs.Types.{Name}
 use Rattle.hw_model.specs.TypeViews.{type_of}
 use Rattle.hw_model.specs.KindViews.{predicate_of, integer_of, literals_in, instance_of}
-use Rattle.fresh_names.specs.TakenViews.{taken_names}
 use Rattle.ir_store.specs.declared.operation.Value.{Value}
 use Rattle.ir_store.specs.declared.operation.Value.TheVariants.{Port, Result, Undefined}
 use Rattle.mlir_reader.specs.PieceText.{Extra}
@@ -12,6 +11,7 @@ use Rattle.mlir_printer.specs.Numbers.{shown_literals}
 use Rattle.mlir_printer.specs.Pieces.{ValueText as Shown, Pending as Left, no_value}
 use Rattle.mlir_printer.specs.Naming.{first_name, called}
 use Rattle.mlir_printer.specs.Chosen.{Chosen}
+use Rattle.mlir_printer.specs.ChosenViews.{names_in, chosen_in}
 use Rattle.mlir_printer.specs.declared.value_names.ValueText.{ValueText}
 use Rattle.mlir_printer.specs.declared.value_names.ValueNames.{ValueNames}
 use Rattle.mlir_printer.specs.declared.value_names.Place.{Place}
@@ -25,11 +25,11 @@ value_of v = record { name = v.name.now; number = v.number }
 
 -- the names of a module's values, in order
 abbrev pub names_held : ValueNames → List Name
-names_held v = taken_names v.names
+names_held v = names_in v.names
 
 -- the names, and the next number for what wants none
 abbrev pub chosen : ValueNames → Chosen
-chosen v = record { names = taken_names v.names; next = v.numbered }
+chosen v = chosen_in v.names
 
 -- result k of a place
 abbrev pub place_value : List Name → Place → ℕ → Shown

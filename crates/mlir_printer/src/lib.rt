@@ -2,6 +2,7 @@
 #![tactic(auto)]
 
 pub mod attributes;
+pub mod chosen_names;
 pub mod commas;
 pub mod design_text;
 pub mod dictionaries;
@@ -9,6 +10,7 @@ pub mod laws;
 pub mod literals;
 pub mod modules;
 pub mod numbers;
+pub mod numerals;
 pub mod operations;
 pub mod pieces;
 pub mod said;

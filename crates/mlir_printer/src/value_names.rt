@@ -1,18 +1,15 @@
 //! The names of a module's values.
-ghost use Rattle.std.specs.Prelude.{◌≡◌, ℕ, ◌+◌, ◌<◌, ◌≤◌, ◌^◌, length, map, Some, slice_get};
-ghost use Rattle.std.specs.Prelude.{cond, nat_eq, OnOk};
-ghost use Rattle.fresh_names.specs.TakenViews.{taken_names};
+ghost use Rattle.std.specs.Prelude.{◌≡◌, ℕ, cond, nat_eq, OnOk};
 ghost use Rattle.mlir_printer.specs.Places.{place_for};
 
+use crate::chosen_names::ChosenNames;
 use crate::strings::{spelled, stands};
 use crate::wanted::{constant_name, instance_name, is_pack, name_count};
-use fresh_names::taken_names::{NameId, TakenNames};
 use hw_model::kinds::{Instance, Integer, OpKind};
 use hw_model::types::Ty;
 use ir_store::body::{Body, Op};
 use ir_store::design::{Module, Port};
 use ir_store::operation::{OpId, Value};
-use itoa::Buffer;
 use std::alloc::{AllocError, Global};
 
 /// Where the names of an operation's results stand.
@@ -39,27 +36,18 @@ pub struct ValueText<'n> {
 /// the body. Contracts see them by `names_held` and `value_held`.
 #[derive(Drop)]
 pub struct ValueNames {
-    // the names that are taken
-    names: TakenNames,
-    // the same, each by its number
-    ids: Vec<NameId>,
-    // how many values wanted no name
-    numbered: u32,
+    // the names
+    names: ChosenNames,
     // of each port the number of its name, of an output none
     ports: Vec<Option<u32>>,
     // of each operation, by its number, where its names stand
     places: Vec<Place>,
-    ghost counted: { length ids.items ≡ length (taken_names names) },
-    ghost in_order: { (i : ℕ) → i < length ids.items → slice_get (map (λ (id : _). id.index) ids.items) i ≡ Some i },
-    ghost few: { length ids.items < 2 ^ 32 },
-    ghost numbers: { numbered ≤ length ids.items },
 }
 
 impl ValueNames {
     ghost use Rattle.std.specs.Prelude.{◌≡◌, ℕ, ◌+◌, ◌++◌, ◌∷◌, [], Some, None, length, map, drop, slice_get, IfOk, OnOk};
     ghost use Rattle.hw_model.specs.TypeViews.{type_of};
     ghost use Rattle.hw_model.specs.KindViews.{integer_of, instance_of};
-    ghost use Rattle.fresh_names.specs.Fresh.{free_name};
     ghost use Rattle.ir_store.specs.declared.operation.Value.{Value};
     ghost use Rattle.ir_store.specs.Bodies.{ids_of, ops_of, read_parts};
     ghost use Rattle.ir_store.specs.Designs.{port_of, ports_in};
@@ -92,14 +80,12 @@ impl ValueNames {
     /// No names. It takes no memory.
     pub fn empty(alloc: Global) -> ValueNames
         ensures names { names_held result ≡ [] }
-        ensures numbered { result.numbered ≡ 0 }
+        ensures numbered { result.names.numbered ≡ 0 }
         ensures ports { result.ports.items ≡ [] }
         ensures places { result.places.items ≡ [] }
     {
         ValueNames {
-            names: TakenNames::new(alloc),
-            ids: Vec::new(alloc),
-            numbered: 0,
+            names: ChosenNames::new(alloc),
             ports: Vec::new(alloc),
             places: Vec::new(alloc),
         }
@@ -108,47 +94,22 @@ impl ValueNames {
     // The same memory without names.
     fn emptied(self) -> ValueNames
         ensures names { names_held result ≡ [] }
-        ensures numbered { result.numbered ≡ 0 }
+        ensures numbered { result.names.numbered ≡ 0 }
         ensures ports { result.ports.items ≡ [] }
         ensures places { result.places.items ≡ [] }
     {
         let ValueNames {
-            mut names,
-            mut ids,
-            numbered: _,
+            names,
             mut ports,
             mut places,
         } = self;
-        names.clear();
-        ids.clear();
         ports.clear();
         places.clear();
         ValueNames {
-            names,
-            ids,
-            numbered: 0,
+            names: names.emptied(),
             ports,
             places,
         }
-    }
-
-    // Takes the free name of a wanted one, and gives its number.
-    fn take(&mut self, wanted: &[u8]) -> Result<u32, AllocError>
-        ensures names { OnOk result (names_held self.new ≡ names_held self.old ++ free_name (names_held self.old) wanted.now ∷ []) }
-        ensures number { IfOk result (λ n. n ≡ length (names_held self.old)) }
-        ensures more { OnOk result (length self.new.ids.items ≡ length self.old.ids.items + 1) }
-        ensures numbered { self.new.numbered ≡ self.old.numbered }
-        ensures ports { self.new.ports ≡ self.old.ports }
-        ensures places { self.new.places ≡ self.old.places }
-    {
-        let number = self.ids.len() as u32;
-        if number == u32::MAX {
-            return Err(AllocError);
-        }
-        self.ids.reserve(1)?;
-        let id = self.names.take(wanted)?;
-        self.ids.push_reserved(id);
-        Ok(number)
     }
 
     // Takes the name of a value that wants one; where it may not stand, as it is spelled then.
@@ -160,22 +121,10 @@ impl ValueNames {
         ensures places { self.new.places ≡ self.old.places }
     {
         if stands(wanted) {
-            return self.take(wanted);
+            return self.names.take_word(wanted);
         }
         let name = spelled(alloc, wanted)?;
-        self.take(name.as_bytes())
-    }
-
-    // Takes the next number.
-    fn take_number(&mut self) -> Result<u32, AllocError>
-        ensures chosen { OnOk result (chosen self.new ≡ with_wish (chosen self.old) None) }
-        ensures ports { self.new.ports ≡ self.old.ports }
-        ensures places { self.new.places ≡ self.old.places }
-    {
-        let mut buffer = Buffer::new();
-        let id = self.take(buffer.format(self.numbered).as_bytes())?;
-        self.numbered += 1;
-        Ok(id)
+        self.names.take_word(name.as_bytes())
     }
 
     // Takes the own name of a register or a wire.
@@ -185,7 +134,7 @@ impl ValueNames {
         ensures places { self.new.places ≡ self.old.places }
     {
         if own.is_empty() {
-            self.take_number()
+            self.names.take_number()
         } else {
             self.take_name(alloc, own)
         }
@@ -239,7 +188,7 @@ impl ValueNames {
         ensures ports { self.new.ports ≡ self.old.ports }
         ensures places { self.new.places ≡ self.old.places }
     {
-        let first = self.ids.len() as u32;
+        let first = self.names.count();
         self.take_results(alloc, op)?;
         let results = op.results.len();
         let pack = is_pack(op.kind, results);
@@ -260,7 +209,7 @@ impl ValueNames {
             }
             OpKind::StructExplode => {
                 if op.results.len() > 0 {
-                    self.take_number()?;
+                    self.names.take_number()?;
                 }
             }
             OpKind::Wire | OpKind::CompReg(_) | OpKind::CompRegCe(_) | OpKind::FirReg(_) => {
@@ -269,7 +218,7 @@ impl ValueNames {
             OpKind::Instance(instance) => self.take_outputs(alloc, instance)?,
             OpKind::Output => {}
             _ => {
-                self.take_number()?;
+                self.names.take_number()?;
             }
         }
         Ok(())
@@ -288,7 +237,7 @@ impl ValueNames {
     {
         match types.first() {
             Some(ty) => self.take_typed(alloc, ty, value),
-            None => self.take_number(),
+            None => self.names.take_number(),
         }
     }
 
@@ -303,7 +252,7 @@ impl ValueNames {
                 let name = constant_name(alloc, *width, value)?;
                 self.take_name(alloc, name.as_bytes())
             }
-            Ty::Clock | Ty::Array(..) | Ty::Struct(_) => self.take_number(),
+            Ty::Clock | Ty::Array(..) | Ty::Struct(_) => self.names.take_number(),
         }
     }
 
@@ -324,11 +273,7 @@ impl ValueNames {
     pub fn nth(&self, number: usize) -> &[u8]
         ensures { result.now ≡ first_name (drop number (names_held self.now)) }
     {
-        if number >= self.ids.len() {
-            return &[];
-        }
-        let id = self.ids[number];
-        self.names.name(id)
+        self.names.nth(number)
     }
 
     /// The name behind so many others and so many more; the empty one where there is none.

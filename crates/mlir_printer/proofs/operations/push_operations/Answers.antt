@@ -1,5 +1,5 @@
-use Rattle.std.proofs.Common.{◌≡◌, ◌++◌, ◌∷◌, map, drop, subst, sym, ◌∙◌, ap, List, All, Contains, arith}
-use Rattle.std.proofs.lemmas.List.Elements.{All-tail, All-contains_itself}
+use Rattle.std.proofs.Common.{◌≡◌, ◌++◌, ◌∷◌, map, drop, subst, sym, ◌∙◌, ap, List, All, Contains}
+use Rattle.std.proofs.lemmas.List.Elements.{All-head, All-tail, All-contains_itself}
 use Rattle.ir_store.specs.declared.operation.OpId.{OpId}
 use Rattle.ir_store.specs.BodyOps.{BodyOp}
 use Rattle.ir_store.specs.Bodies.{ops_of, ids_of, ids_left, op_id, read_op}
@@ -9,6 +9,7 @@ use Rattle.mlir_printer.specs.Operations.{operation_lines}
 use Rattle.mlir_printer.specs.Shown.{stored_shown}
 use Rattle.mlir_printer.specs.Views.{names_held, value_held}
 use Rattle.mlir_printer.proofs.Showing.{line_step}
+use Rattle.mlir_printer.proofs.Values.{names_few}
 use Rattle.mlir_printer.proofs.Walks.{ops_at, walk, through_all}
 use Rattle.mlir_printer.proofs.operations.push_operations.Goals as goal
 
@@ -24,6 +25,12 @@ loop-id-init c =
           (ap (ops_at (ops_of b)) left ∙ through_all (ops_of b) (ids_once b));
     }
 
+-- each id that is left is one of the body
+pub op-op-requires : goal.op-op-requires
+op-op-requires c =
+    let live = λ (i : OpId). Contains (ids_of c.args.body.now) i.index in
+    All-head live c.in-Some.id (ids_left c.next.new.self) (subst (λ (is : List OpId). All live is) c.in-Some.ensures.steps c.loop-id.invariant.live)
+
 pub loop-id-preserved : goal.loop-id-preserved
 loop-id-preserved c =
     let b = c.args.body.now in
@@ -38,5 +45,5 @@ loop-id-preserved c =
       bytes =
           line_step (value_held names) (names_held names) c.loop-id.first c.name_count.result c.moved-first.result o before after c.loop-id.out c.push_operation.new.out
           (c.args.out.now ++ operation_lines (stored_shown (value_held names) (drop c.args.start (names_held names)) (ops_of b)))
-          (omega (arith, names.few, names.counted)) steps c.name_count.ensures c.moved-first.ensures c.in_ok-push_operation.ensures c.loop-id.invariant.bytes;
+          (names_few names) steps c.name_count.ensures c.moved-first.ensures c.in_ok-push_operation.ensures c.loop-id.invariant.bytes;
     }

@@ -1,5 +1,5 @@
 use Rattle.std.proofs.Common.{◌≡◌, ◌+◌, [], ◌∷◌, ℕ, cond, nat_eq, map, length, subst, sym, ◌∙◌, ap, refl, List, All, Contains}
-use Rattle.std.proofs.lemmas.List.Elements.{All-tail, All-contains_itself}
+use Rattle.std.proofs.lemmas.List.Elements.{All-head, All-tail, All-contains_itself}
 use Rattle.ir_store.specs.declared.operation.OpId.{OpId}
 use Rattle.ir_store.specs.BodyOps.{BodyOp, ids_in}
 use Rattle.ir_store.specs.Bodies.{ops_of, ids_of, ids_left, op_id, read_op}
@@ -32,6 +32,12 @@ loop-id-init c =
           ∙ ap (λ (os : List BodyOp). place_left [] (length (names_held c.args.self.now)) os id) all
           ∙ none_kept (length (names_held c.args.self.now)) (ops_of b) id;
     }
+
+-- each id that is left is one of the body
+pub op-op-requires : goal.op-op-requires
+op-op-requires c =
+    let live = λ (i : OpId). Contains (ids_of c.args.body.now) i.index in
+    All-head live c.in-Some.id (ids_left c.next.new.self) (subst (λ (is : List OpId). All live is) c.in-Some.ensures.steps c.loop-id.invariant.live)
 
 pub loop-id-preserved : goal.loop-id-preserved
 loop-id-preserved c =
