@@ -15,7 +15,8 @@ use Rattle.mlir_reader.specs.OperandText.{ResultNames}
 use Rattle.mlir_reader.specs.Spelling.{StandsInBody}
 use Rattle.mlir_printer.specs.Pieces.{ValueText, no_value}
 use Rattle.mlir_printer.specs.Naming.{wishes, port_wish, port_wishes, input_count, body_wishes, names_given, name_count, first_name, firsts, called, is_pack, value_at, value_in, port_value, value_named, listed_names, results_named}
-use Rattle.mlir_printer.specs.Texts.{listed_of, parts_in, operation_shown, operations_shown, ports_shown, module_shown, modules_shown}
+use Rattle.op_verifier.specs.Faults.{listed_of}
+use Rattle.mlir_printer.specs.Texts.{parts_in, operation_shown, operations_shown, ports_shown, module_shown, modules_shown}
 use Rattle.mlir_printer.specs.Spellable.{Each, IsValueName, IsOperand, AreResults, MayBeValue, IsSpellableOperation, AreSpellable, IsSpellablePort, IsSpellable}
 use Rattle.mlir_printer.specs.Printable.{IsDefined, operands_written, types_written, IsPrintableOp, IsPrintablePort, EndsWithOutput, IsPrintableModule, Printable}
 use Rattle.mlir_printer.proofs.NameTables.{Among}
@@ -104,7 +105,6 @@ result_fits ns (x ∷ os) (suc i) k o suits at fit lt =
 -- ---- operations
 
 stands_in_body : (k : Kind) → StandsInBody (listed_of k)
-unfolding listed_of
 stands_in_body output = tt
 stands_in_body _ = tt
 

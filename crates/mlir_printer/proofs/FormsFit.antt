@@ -1,8 +1,8 @@
 -- The form of a printed operation takes just its operands and types.
-use Rattle.std.proofs.Common.{◌≡◌, ℕ, zero, suc, ◌+◌, ◌-◌, ◌^◌, ◌<◌, ◌≤◌, max, Bool, true, false, cond, List, [], ◌∷◌, length, refl, ap, sym, subst, arith}
+use Rattle.std.proofs.Common.{◌≡◌, ℕ, zero, suc, ◌+◌, ◌-◌, ◌^◌, ◌<◌, ◌≤◌, max, Bool, true, false, cond, List, [], ◌∷◌, length, refl, sym, subst, arith}
 use Rattle.std.proofs.lemmas.Nat.{pow_pos}
 use Rattle.std.proofs.Math.Pow.{pow_mono}
-use Rattle.std.proofs.lemmas.Bool.{and_parts, eqb-true}
+use Rattle.std.proofs.lemmas.Bool.{and_parts}
 use Rattle.std.specs.Prelude.{ℤ, pos, negsuc}
 use Rattle.hw_model.specs.Types.{Name, HwType}
 use Rattle.hw_model.specs.Types.HwType.{int, clock, array, struct}
@@ -20,9 +20,11 @@ use Rattle.mlir_reader.specs.declared.pieces.Shape.TheVariants as shape
 use Rattle.mlir_printer.specs.Numbers.{is_negative, shown_number, shown_integer, shown_by_first, shown_literal, shown_literals, is_truth, is_one_bit, is_shown_as_truth}
 use Rattle.mlir_printer.specs.Pieces.{ValueText}
 use Rattle.mlir_printer.specs.Operations.{shape_shown, output_shape, is_truth_said}
-use Rattle.mlir_printer.specs.Texts.{listed_of, extra_shown}
+use Rattle.op_verifier.specs.Faults.{listed_of}
+use Rattle.mlir_printer.specs.Texts.{extra_shown}
 use Rattle.mlir_printer.specs.Spellable.{Each, AreBytes, IsInteger, IsAnyType, IsLiteral, AreLiterals, IsOperand, IsSaidAs}
 use Rattle.mlir_printer.specs.Printable.{IsWritten, IsWrittenInstance, operands_written, types_written}
+use Rattle.mlir_printer.proofs.LexedLiterals.{one_bit}
 use Rattle.mlir_printer.proofs.KindsKept.{negative_parts}
 use Rattle.mlir_printer.proofs.SaidForms.{pending, says_variadic, says_binary, says_comparison, says_unary, says_extraction, says_joined, says_conversion, says_choice, says_truth, says_integer, says_aggregate, says_element, says_slice, says_element_change, says_struct, says_field, says_field_change, says_instance, says_nothing, says_register, says_reset_register, says_enabled, says_reset_enabled, says_clocked, says_reset_clocked}
 
@@ -240,12 +242,6 @@ mutual
   literals_shown no_literals room h = tt
   literals_shown (literal l ls) room h = (literal_shown l room h.0, literals_shown ls room h.1)
 
-one_bit : (t : HwType) → is_one_bit t ≡ true → t ≡ int 1
-one_bit (int w) h = ap int (eqb-true w 1 h)
-one_bit clock h = cc
-one_bit (array n t) h = cc
-one_bit (struct fs) h = cc
-
 -- a number of a type that is read
 constant_of : (y : ℤ) (t : HwType) (os : List ValueText) → IsInteger y → length os ≡ 0 → Each IsOperand os → Each IsAnyType (t ∷ [])
     → IsSaidAs (cond (is_shown_as_truth t y) shape.Truth shape.Integer) (pending os (t ∷ []) (number y))
@@ -279,7 +275,7 @@ pub form_fits : (k : Kind) (os : List ValueText) (ts : List HwType) → length o
     → length ts ≡ types_written k (length os)
     → IsWritten k → Each IsOperand os → Each IsAnyType ts
     → IsSaidAs (shape_shown (listed_of k) (pending os ts (extra_shown k ts))) (pending os ts (extra_shown k ts))
-unfolding shape_shown shape_of listed_of extra_shown operands_written types_written
+unfolding shape_shown shape_of extra_shown operands_written types_written
 form_fits add os ts lo lt w = variadic os ts (some_there (length os) lo) lt
 form_fits mul os ts lo lt w = variadic os ts (some_there (length os) lo) lt
 form_fits and os ts lo lt w = variadic os ts (some_there (length os) lo) lt

@@ -12,7 +12,8 @@ use Rattle.hw_model.specs.Kinds.Literals.{no_literals, literal}
 use Rattle.hw_model.specs.Kinds.Kind.{constant, aggregate_constant, compreg, compreg_ce, firreg}
 use Rattle.mlir_reader.specs.Resolving.{has_negative, kept_number, kept_integer, kept_by_first, kept_literal, kept_literals, plain_kind, said_kind, kind_named}
 use Rattle.mlir_printer.specs.Numbers.{is_negative, shown_number, shown_integer, shown_by_first, shown_literal, shown_literals}
-use Rattle.mlir_printer.specs.Texts.{listed_of, extra_shown}
+use Rattle.op_verifier.specs.Faults.{listed_of}
+use Rattle.mlir_printer.specs.Texts.{extra_shown}
 use Rattle.mlir_printer.specs.Printable.{KeepsConstants}
 
 -- ---- constants
@@ -71,7 +72,7 @@ mutual
 -- ---- kinds
 
 pub kind_again : (k : Kind) (ts : List HwType) → KeepsConstants k ts → kind_named (listed_of k) (extra_shown k ts) ts ≡ k
-unfolding listed_of extra_shown plain_kind said_kind
+unfolding extra_shown plain_kind said_kind
 kind_again (constant z) ts h = ap (λ y. constant y) (by_first_again ts z h)
 kind_again (aggregate_constant ls) ts h = ap (λ y. aggregate_constant y) (literals_again ls h)
 kind_again (compreg no_reset) ts h = refl

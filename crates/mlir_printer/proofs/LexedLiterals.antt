@@ -1,7 +1,7 @@
 -- The constants of aggregates are read as they are printed.
 use Rattle.std.proofs.Common.{◌≡◌, inl, inr, ℕ, zero, suc, ◌+◌, ◌<◌, Bool, true, false, ◌==◌, cond, List, [], ◌∷◌, ◌++◌, refl, sym, ◌∙◌, ap, arith}
 use Rattle.std.specs.Prelude.{codes, ℤ, pos, negsuc}
-use Rattle.std.proofs.lemmas.Bool.{ltb-true, eqb-true}
+use Rattle.std.proofs.lemmas.Bool.{ltb-true, eqb-true, and_parts}
 use Rattle.hw_model.specs.Types.{HwType}
 use Rattle.hw_model.specs.Types.HwType.{int, clock, array, struct}
 use Rattle.hw_model.specs.Kinds.{Literal, Literals}
@@ -16,7 +16,6 @@ use Rattle.mlir_printer.specs.Attributes.{typed_bytes}
 use Rattle.mlir_printer.specs.Literals.{leaf_bytes, literal_bytes, literals_from}
 use Rattle.mlir_printer.specs.Spellable.{Each, IsInteger, IsType, IsLiteral, AreLiterals}
 use Rattle.mlir_printer.proofs.LexedTexts.{Whole, Lexed, lexed, lexed_as, whole_as, whole_by, left_bracket, right_bracket}
-use Rattle.mlir_printer.proofs.LexedStrings.{both}
 use Rattle.mlir_printer.proofs.LexedCommas.{commas_lexed, between}
 use Rattle.mlir_printer.proofs.LexedAttributes.{truth_lexed, typed_lexed}
 
@@ -39,7 +38,7 @@ truth_is (pos n) h = go (n == 1) refl
     go false e = let none : n ≡ 0 = grind (arith, e, small) in ap pos none
 truth_is (negsuc n) h = absurd cc
 
-one_bit : (t : HwType) → is_one_bit t ≡ true → t ≡ int 1
+pub one_bit : (t : HwType) → is_one_bit t ≡ true → t ≡ int 1
 one_bit (int w) h = ap int (eqb-true w 1 h)
 one_bit clock h = absurd cc
 one_bit (array n t) h = absurd cc
@@ -51,7 +50,7 @@ leaf_lexed z t room whole type = go (is_shown_as_truth t z) refl
   where
     go : (b : Bool) → is_shown_as_truth t z ≡ b → Lexed (LeafPhrase room z t) (cond b (truth_bytes (is_one z)) (typed_bytes z t))
     go true e =
-        let (bit, truth) = both (is_one_bit t) (is_truth z) e in
+        let (bit, truth) = and_parts (is_one_bit t) (is_truth z) e in
         let same : leaf z t ≡ truth_leaf (is_one z) = ap (λ x. leaf x t) (truth_is z truth) ∙ ap (leaf (pos (cond (is_one z) 1 0))) (one_bit t bit) in
         lexed_as (λ ts p. inr (is_one z, same, p)) (truth_lexed (is_one z))
     go false e = lexed_as (λ ts p. inl p) (typed_lexed z t room whole type)

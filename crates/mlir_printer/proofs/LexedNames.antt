@@ -1,6 +1,6 @@
 -- Names are read as what they hold.
 use Rattle.std.proofs.Common.{◌≡◌, inl, inr, ℕ, suc, ◌+◌, ◌≤◌, Bool, true, false, ◌||◌, ◌==◌, cond, List, [], ◌∷◌, ◌++◌, length, refl, ◌∙◌, ap, arith, add-one}
-use Rattle.std.proofs.lemmas.Bool.{cond-true, cond-false, eqb-true}
+use Rattle.std.proofs.lemmas.Bool.{cond-true, cond-false, eqb-true, and_parts}
 use Rattle.hw_model.specs.Types.{Name}
 use Rattle.mlir_lexer.specs.Classes.{is_space, is_digit, is_name_start, is_name_byte, is_suffix_byte}
 use Rattle.mlir_lexer.specs.Runs.{run}
@@ -15,7 +15,7 @@ use Rattle.mlir_printer.specs.Strings.{is_bare, name_bytes, symbol_bytes, string
 use Rattle.mlir_printer.specs.Pieces.{value_name_bytes}
 use Rattle.mlir_printer.specs.Spellable.{AreBytes, IsValueName}
 use Rattle.mlir_printer.proofs.LexedTexts.{Stops, Lexed, one_token, lexed, lexed_as}
-use Rattle.mlir_printer.proofs.LexedStrings.{unlike_byte, both, string_lexed, symbol_string_lexed}
+use Rattle.mlir_printer.proofs.LexedStrings.{unlike_byte, string_lexed, symbol_string_lexed}
 
 -- ---- runs
 
@@ -69,7 +69,7 @@ name_front b bs h =
 pub bare_lexed : (name : Name) → is_bare name ≡ true → Lexed (Word name) name
 bare_lexed [] h = absurd cc
 bare_lexed (b ∷ bs) h =
-    let (start, whole) = both (is_name_start b) (run is_name_byte bs == length bs) h in
+    let (start, whole) = and_parts (is_name_start b) (run is_name_byte bs == length bs) h in
     record {
       lex = λ rest place at stops.
           let more = run_whole is_name_byte bs rest (eqb-true _ _ whole) (run_stops is_name_byte rest name_stops stops) in
@@ -159,7 +159,7 @@ bare_symbol : (name : Name) → is_bare name ≡ true → Lexed (Holding kind.Sy
 unfolding front_of sign_front
 bare_symbol [] h = absurd cc
 bare_symbol (b ∷ bs) h =
-    let (start, whole) = both (is_name_start b) (run is_name_byte bs == length bs) h in
+    let (start, whole) = and_parts (is_name_start b) (run is_name_byte bs == length bs) h in
     let quote = unlike_byte is_name_start b 34 refl start in
     lexed_as (λ ts p. (p.0, p.1, (p.2.0, ap (content_of kind.SymbolName) p.2.1)))
     (signed_lexed {k = kind.SymbolName} 64 (b ∷ bs) (λ rest. cond-false (b == 34) _ _ quote) (omega arith)

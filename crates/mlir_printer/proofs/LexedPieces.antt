@@ -1,5 +1,6 @@
 -- The pieces of operations are read as they are printed.
 use Rattle.std.proofs.Common.{◌≡◌, inl, inr, ℕ, ◌≤◌, Bool, true, false, ◌&&◌, ◌||◌, List, [], ◌∷◌, ◌++◌, length, map, drop, refl, ap, arith, append_assoc}
+use Rattle.std.proofs.lemmas.Bool.{and_parts}
 use Rattle.std.specs.Prelude.{codes}
 use Rattle.hw_model.specs.Types.{HwType}
 use Rattle.hw_model.specs.Types.HwType.{int}
@@ -15,7 +16,7 @@ use Rattle.mlir_printer.specs.Commas.{commas}
 use Rattle.mlir_printer.specs.Pieces.{ValueText, Pending, first_operand, first_type_bytes, operand_bytes, predicate_said, position_said, truth_said, number_said, literals_said, field_said, reset_said, instance_said, piece_bytes, left_behind, pieces_bytes}
 use Rattle.mlir_printer.specs.Spellable.{Each, IsAnyType, IsOperand, HasType, MayReset, SaysPredicate, SaysPosition, SaysTruth, SaysInteger, SaysLiterals, SaysField, SaysInstance, Needs, NeedAll, first_type, gathered_reset, gathered_with, gathered_with_all, said_operand}
 use Rattle.mlir_printer.proofs.LexedTexts.{Stops, Whole, Lexed, lexed, lexed_as, whole_as, then, then_on, then_whole, nothing, blank_behind, blank_on_whole, left_parenthesis, right_parenthesis}
-use Rattle.mlir_printer.proofs.LexedStrings.{both, string_lexed}
+use Rattle.mlir_printer.proofs.LexedStrings.{string_lexed}
 use Rattle.mlir_printer.proofs.LexedNames.{bare_lexed}
 use Rattle.mlir_printer.proofs.LexedNumbers.{count_lexed, integer_lexed}
 use Rattle.mlir_printer.proofs.LexedCommas.{comma_blank, commas_lexed, between, each_of}
@@ -184,6 +185,6 @@ pub pieces_lexed : (xs : List Piece) (p : Pending) (g : Gathered) → NeedAll xs
     → Lexed (PiecesPhrase xs g (gathered_with_all xs p g)) (pieces_bytes xs p)
 pieces_lexed [] p g h e = lexed_as (λ ts w. (refl, w)) (lexed nothing)
 pieces_lexed (x ∷ xs) p g h e =
-    let (here, later) = both (is_closed x || stops_at xs) (is_parted xs) e in
+    let (here, later) = and_parts (is_closed x || stops_at xs) (is_parted xs) e in
     let more = pieces_lexed xs (left_behind x p) (gathered_with x p g) h.1 later in
     lexed_as (λ ts w. (gathered_with x p g, w)) (parted x xs p g h (is_closed x) refl here more)

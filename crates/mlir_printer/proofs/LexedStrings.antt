@@ -3,7 +3,7 @@ use Rattle.std.proofs.Common.{◌≡◌, ℕ, zero, suc, ◌+◌, ◌-◌, ◌*�
 use Rattle.std.specs.Option.{option_map}
 use Rattle.std.proofs.lemmas.List.{length-append}
 use Rattle.std.proofs.Math.Seq.{take-append_seam}
-use Rattle.std.proofs.lemmas.Bool.{cond-true, cond-false, eqb-true}
+use Rattle.std.proofs.lemmas.Bool.{cond-true, cond-false, eqb-true, and_parts}
 use Rattle.mlir_lexer.specs.Classes.{is_hex_digit}
 use Rattle.mlir_lexer.specs.Strings.{is_escape_letter, reading_after, string_rest, string_length}
 use Rattle.mlir_lexer.specs.Contents.{hex_value, decoded, unescaped, content_of}
@@ -27,10 +27,6 @@ unlike_byte test b c h g = go (b == c) refl
     go false e = refl
     go true e = let same : b ≡ c = eqb-true b c e in absurd (cc (ap test same))
 
-pub both : (a b : Bool) → (a && b) ≡ true → (a ≡ true) × (b ≡ true)
-both true b h = (refl, h)
-both false b h = absurd cc
-
 all_below : ℕ → (ℕ → Bool) → Bool
 all_below zero test = true
 all_below (suc n) test = test n && all_below n test
@@ -43,7 +39,7 @@ of_all : (k : ℕ) (test : ℕ → Bool) → all_below k test ≡ true → (n : 
 unfolding all_below
 of_all zero test h n small = absurd (omega (arith, small))
 of_all (suc k) test h n small =
-    let (last, others) = both (test k) (all_below k test) h in of_this test k n (n == k) refl small last (λ less. of_all k test others n less)
+    let (last, others) = and_parts (test k) (all_below k test) h in of_this test k n (n == k) refl small last (λ less. of_all k test others n less)
 
 -- ---- hex digits
 
@@ -63,8 +59,8 @@ is_hex : (n : ℕ) → n < 16 → IsHex n
 unfolding is_read_back all_below
 is_hex n small =
     let all : all_below 16 is_read_back ≡ true = refl in
-    let (digit, more) = both (is_hex_digit (hex_digit n)) _ (of_all 16 is_read_back all n small) in
-    let (letter, value) = both (not (is_escape_letter (hex_digit n))) _ more in
+    let (digit, more) = and_parts (is_hex_digit (hex_digit n)) _ (of_all 16 is_read_back all n small) in
+    let (letter, value) = and_parts (not (is_escape_letter (hex_digit n))) _ more in
     record { digit = digit; letter = not_true _ letter; value = eqb-true _ _ value }
 
 -- ---- bytes of a string

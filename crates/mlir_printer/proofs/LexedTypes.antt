@@ -8,7 +8,7 @@ use Rattle.hw_model.specs.Types.HwType.{int, clock, array, struct}
 use Rattle.hw_model.specs.Types.FieldTypes.{no_fields, field}
 use Rattle.hw_model.specs.TypeViews.{NamedType, fields_of}
 use Rattle.mlir_reader.specs.Numerals.{count_limit}
-use Rattle.mlir_reader.specs.Spelling.{Phrase, Then, Commas, Between, NumberPhrase, ElementPhrase, FieldPhrase, TypeWith, TypePhrase}
+use Rattle.mlir_reader.specs.Spelling.{Phrase, Then, NumberPhrase, ElementPhrase, FieldPhrase, TypeWith, TypePhrase}
 use Rattle.mlir_printer.specs.Strings.{name_bytes}
 use Rattle.mlir_printer.specs.Numbers.{count_bytes}
 use Rattle.mlir_printer.specs.Commas.{comma_bytes, items_from}

@@ -13,10 +13,11 @@ use Rattle.ir_store.specs.ResultTypes.{first_type, fields_of, field_count, resul
 use Rattle.mlir_reader.specs.OperandText.{ResultNames, named_count}
 use Rattle.mlir_reader.specs.OperationText.{OperationText, is_last}
 use Rattle.mlir_reader.specs.Resolving as read
-use Rattle.mlir_reader.specs.Resolving.{Meanings, Definition, resolved, marks, marked_results, own_types, own_count, operation_at, operation_definitions, names_defined, kind_named, has_name, name_or, given_name, unless_digits, own_name_of, type_or_none}
+use Rattle.mlir_reader.specs.Resolving.{Meanings, Definition, resolved, marks, marked_results, own_types, own_count, operation_at, operation_definitions, has_name, name_or, given_name, unless_digits, own_name_of}
 use Rattle.mlir_printer.specs.Pieces.{ValueText}
 use Rattle.mlir_printer.specs.Naming.{wishes, wishes_of, own_wish, pack_wishes, name_count, first_name, firsts, is_pack, listed_names, results_named}
-use Rattle.mlir_printer.specs.Texts.{listed_of, parts_in, operation_shown, entries_shown}
+use Rattle.op_verifier.specs.Faults.{listed_of}
+use Rattle.mlir_printer.specs.Texts.{parts_in, operation_shown, entries_shown}
 use Rattle.mlir_printer.specs.Spellable.{Each, said_operand, said_operation}
 use Rattle.mlir_printer.specs.Printable.{IsDefined, settled_result, types_written, IsPrintableOp}
 use Rattle.mlir_printer.proofs.Listing.{instance_length}
@@ -79,7 +80,7 @@ marked_none (t ∷ ts) (d ∷ ds) h = ap (λ l. settled_result t ∷ l) (marked_
 
 named_kind : (k : Kind) (ts : List HwType) (own : Name) (n : ℕ) → has_name (listed_of k) ≡ true
     → (wishes_of k ts own n ≡ own_wish own ∷ []) × (is_pack k n ≡ false)
-unfolding wishes_of listed_of
+unfolding wishes_of
 named_kind wire ts own n h = (refl, refl)
 named_kind (compreg r) ts own n h = (refl, refl)
 named_kind (compreg_ce r) ts own n h = (refl, refl)
@@ -200,6 +201,5 @@ module _ (ports : List Port) (body : List Op) (o : Op) (p : IsPrintableOp ports 
 
 -- an operation is the last of its text where it is an output
 pub last_output : (k : Kind) → is_last (listed_of k) ≡ is_output_kind k
-unfolding listed_of
 last_output output = refl
 last_output _ = refl

@@ -1,6 +1,6 @@
 -- Steps of loops over the parts of an operation.
 use Rattle.std.proofs.Common.{◌≡◌, ℕ, zero, suc, ◌+◌, ◌<◌, ◌≤◌, List, [], ◌∷◌, ◌++◌, map, length, min, drop, get_or, refl, sym, ap, ◌∙◌, zero-add, arith}
-use Rattle.std.proofs.lemmas.List.{drop_more, append-nil}
+use Rattle.std.proofs.lemmas.List.{drop_more, append-nil, drop_all}
 use Rattle.hw_model.specs.Types.{Name, HwType}
 use Rattle.hw_model.specs.TypeViews.{type_of}
 use Rattle.mlir_reader.specs.declared.pieces.Piece.{Piece}
@@ -14,7 +14,8 @@ use Rattle.hw_model.specs.Design.{Port}
 use Rattle.mlir_printer.specs.Naming.{port_wish}
 use Rattle.mlir_printer.specs.Modules.{port_bytes}
 use Rattle.mlir_printer.specs.Texts.{port_shown, ports_shown}
-use Rattle.mlir_printer.proofs.Steps.{added, drop_none}
+use Rattle.mlir_printer.proofs.Steps.{added}
+use Rattle.mlir_printer.proofs.Entries.{map_drop}
 
 split : {A : Type 0} (xs : List A) (i : ℕ) (x : A) → i < length xs → x ≡ get_or xs i x → drop i xs ≡ x ∷ drop (i + 1) xs
 split xs i x lt at = drop_more xs i x lt ∙ ap (λ y. y ∷ drop (i + 1) xs) (sym at)
@@ -44,11 +45,6 @@ outputs_step h ps ts i p t out one two whole lp lt ap' at inv e1 e2 =
     ap (λ x. outputs_joined x (map h (drop i ts))) (split ps i p lp ap') ∙ ap (λ x. outputs_joined (p ∷ drop (i + 1) ps) (map h x)) (split ts i t lt at) in
     added out one two (comma_bytes i) (output_bytes (record { name = p; type = h t })) (items_from output_bytes (i + 1) (outputs_joined (drop (i + 1) ps) (map h (drop (i + 1) ts)))) whole
     (sym (ap (λ l. out ++ items_from output_bytes i l) d) ∙ inv) e1 e2
-
-pub map_drop : {A B : Type 0} (f : A → B) (n : ℕ) (xs : List A) → map f (drop n xs) ≡ drop n (map f xs)
-map_drop f zero xs = refl
-map_drop f (suc n) [] = refl
-map_drop f (suc n) (x ∷ xs) = map_drop f n xs
 
 -- what is left behind a piece, as it is seen
 pub pending_behind : (v : ValueNames) (p : Piece) (l m : Pending) → m.operands.now ≡ drop (operands_taken p) l.operands.now
@@ -119,4 +115,4 @@ ports_step view ns xs i first k x out one two whole lt at count inv e1 e2 =
 pub ports_end : {A : Type 0} (view : A → Port) (ms : List Name) (xs : List A) (i m : ℕ) (out whole : List ℕ) → length xs ≤ i
     → out ++ items_from port_bytes m (ports_shown ms (map view (drop i xs))) ≡ whole → out ≡ whole
 ports_end view ms xs i m out whole le h =
-    all_added port_bytes m (ports_shown ms (map view (drop i xs))) out whole (ap (λ l. ports_shown ms (map view l)) (drop_none xs i le)) h
+    all_added port_bytes m (ports_shown ms (map view (drop i xs))) out whole (ap (λ l. ports_shown ms (map view l)) (drop_all i xs le)) h

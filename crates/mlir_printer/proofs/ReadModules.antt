@@ -27,7 +27,7 @@ use Rattle.mlir_reader.specs.Spelling.{Phrase, Either, Holding, Where, Nothing, 
 use Rattle.mlir_reader.specs.declared.pieces.Piece.{Piece}
 use Rattle.mlir_reader.specs.declared.pieces.Piece.TheVariants as piece
 use Rattle.mlir_printer.specs.Naming.{wishes, wishes_of, pack_wishes, body_wishes, port_wishes}
-use Rattle.mlir_printer.specs.Texts.{listed_of, parts_in}
+use Rattle.mlir_printer.specs.Texts.{parts_in}
 use Rattle.mlir_printer.specs.Spellable.{Each, AreBytes, IsAnyType}
 use Rattle.mlir_printer.specs.Printable.{IsKeptDictionary}
 use Rattle.mlir_printer.proofs.Listing.{instance_length}
@@ -226,7 +226,7 @@ body_read At (o ∷ os) ts m earlier i texts small h =
     }
 
 left_out_read : (place : code.Place) → IsReadOp (left_out_output place)
-unfolding listed_of result_types
+unfolding result_types
 left_out_read place = record {
   again = [];
   results = refl;

@@ -28,9 +28,9 @@ use Rattle.mlir_reader.specs.Shapes.{front_pieces, type_pieces}
 use Rattle.mlir_reader.specs.declared.pieces.Shape.{Shape}
 use Rattle.mlir_reader.specs.OperationText.{OperationText, takes_bin, string_keys, given_entries}
 use Rattle.mlir_reader.specs.Resolving as read
-use Rattle.mlir_reader.specs.Resolving.{Meanings, resolved, has_negative, kept_number, kept_integer, kept_by_first, kept_literal, kept_literals, said_position, said_number, said_literals, said_field, said_instance, plain_kind, said_kind, kind_named, put_entry, sorted, without, is_dropped, has_name, is_name_entry, kept_entries, text_in, given_name, unless_digits, name_or, own_name_of, marks, marked_results, operation_definitions, operation_at}
+use Rattle.mlir_reader.specs.Resolving.{Meanings, resolved, has_negative, kept_number, kept_integer, kept_by_first, kept_literal, kept_literals, said_position, said_number, said_literals, said_field, said_instance, plain_kind, said_kind, kind_named, sorted, without, is_dropped, has_name, is_name_entry, kept_entries, text_in, given_name, unless_digits, name_or, own_name_of, marks, marked_results, operation_definitions, operation_at}
 use Rattle.mlir_reader.specs.Spelling.{Stands, AreOnce, DictionaryPhrase, EntryPhrase, MaybeDictionary, IsOneOf, FormPhrase, BinPhrase, ResultsPhrase, StandsInBody, OperationPhrase}
-use Rattle.mlir_printer.specs.Texts.{listed_of}
+use Rattle.op_verifier.specs.Faults.{listed_of}
 use Rattle.mlir_printer.specs.Spellable.{Each, AreBytes, IsInteger, IsAnyType, IsLiteral, AreLiterals, IsValue, IsEntry}
 use Rattle.mlir_printer.specs.Printable.{AreInOrder, IsKeptDictionary, KeepsConstants, IsWritten, IsWrittenInstance}
 use Rattle.mlir_printer.proofs.DictionariesFit.{put_in_order, each_put}
@@ -198,7 +198,7 @@ mutual
 -- ---- kinds
 
 listed_again : (o : Listed) (e : Extra) (ts : List HwType) → StandsInBody o → listed_of (kind_named o e ts) ≡ o
-unfolding listed_of plain_kind said_kind
+unfolding plain_kind said_kind
 listed_again listed.HwModule e ts h = absurd h
 listed_again _ e ts h = refl
 

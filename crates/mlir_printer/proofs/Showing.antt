@@ -1,6 +1,6 @@
 -- A module as it is printed is that of the definitions.
 use Rattle.std.proofs.Common.{◌≡◌, ℕ, ◌+◌, ◌<◌, ◌^◌, Bool, true, false, List, [], ◌∷◌, ◌++◌, map, length, drop, min, refl, sym, ap, ◌∙◌, append_assoc, arith}
-use Rattle.std.proofs.lemmas.List.{append-nil}
+use Rattle.std.proofs.lemmas.List.{append-nil, drop_all}
 use Rattle.std.specs.Prelude.{codes, nat_lt}
 use Rattle.std.proofs.lemmas.Bool.{ltb-true, ltb-false}
 use Rattle.hw_model.specs.Types.{Name}
@@ -16,7 +16,7 @@ use Rattle.mlir_printer.specs.Modules.{ModuleText, header_bytes, module_bytes}
 use Rattle.mlir_printer.specs.Texts.{parts_in, operation_shown, operations_shown, module_named, module_shown}
 use Rattle.mlir_printer.specs.Shown.{stored_shown, header_shown, parts_in_body}
 use Rattle.mlir_printer.proofs.Passing.{drop_again}
-use Rattle.mlir_printer.proofs.Steps.{drop_none, added_one}
+use Rattle.mlir_printer.proofs.Steps.{added_one}
 
 -- ---- at most the greatest number
 
@@ -26,7 +26,7 @@ capped_drop n xs small = go (nat_lt n 4294967295) refl
     go : (b : Bool) → nat_lt n 4294967295 ≡ b → drop (min n 4294967295) xs ≡ drop n xs
     go true e = ap (λ k. drop k xs) (omega (arith, ltb-true n 4294967295 e))
     go false e =
-        drop_none xs (min n 4294967295) (omega (arith, small, ltb-false n 4294967295 e)) ∙ sym (drop_none xs n (omega (arith, small, ltb-false n 4294967295 e)))
+        drop_all (min n 4294967295) xs (omega (arith, small, ltb-false n 4294967295 e)) ∙ sym (drop_all n xs (omega (arith, small, ltb-false n 4294967295 e)))
 
 pub moved_drop : {A : Type 0} (first count : ℕ) (xs : List A) → length xs < 2 ^ 32 → drop count (drop first xs) ≡ drop (min (first + count) 4294967295) xs
 moved_drop first count xs small = drop_again count first xs ∙ sym (capped_drop (first + count) xs small)

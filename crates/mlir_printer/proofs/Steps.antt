@@ -1,6 +1,6 @@
 -- Steps of loops that add items.
-use Rattle.std.proofs.Common.{◌≡◌, ℕ, zero, suc, ◌+◌, ◌<◌, ◌≤◌, List, [], ◌∷◌, ◌++◌, map, length, drop, get_or, refl, sym, ap, ◌∙◌, arith, append_assoc}
-use Rattle.std.proofs.lemmas.List.{drop_more, append-nil}
+use Rattle.std.proofs.Common.{◌≡◌, ℕ, ◌+◌, ◌<◌, ◌≤◌, List, [], ◌∷◌, ◌++◌, map, length, drop, get_or, refl, sym, ap, ◌∙◌, append_assoc}
+use Rattle.std.proofs.lemmas.List.{drop_more, append-nil, drop_all}
 use Rattle.hw_model.specs.TypeViews.{NamedType, fields_of}
 use Rattle.hw_model.specs.Kinds.{Literal}
 use Rattle.hw_model.specs.KindViews.{literals_of}
@@ -13,12 +13,6 @@ use Rattle.mlir_printer.specs.Types.{type_bytes, fields_from}
 use Rattle.mlir_printer.specs.Attributes.{attribute_bytes, attributes_from}
 use Rattle.mlir_printer.specs.Numbers.{shown_literal, shown_literals}
 use Rattle.mlir_printer.specs.Literals.{literal_bytes, literals_from}
-
-pub drop_none : {A : Type 0} (xs : List A) (i : ℕ) → length xs ≤ i → drop i xs ≡ []
-drop_none [] zero h = refl
-drop_none [] (suc i) h = refl
-drop_none (x ∷ xs) zero h = absurd (omega (arith, h))
-drop_none (x ∷ xs) (suc i) h = drop_none xs i (omega (arith, h))
 
 -- two parts added, one after the other
 pub added : (out one two a b rest whole : List ℕ) → out ++ (a ++ (b ++ rest)) ≡ whole → one ≡ out ++ a → two ≡ one ++ b → two ++ rest ≡ whole
@@ -41,7 +35,7 @@ items_step f m n xs i x out one two whole e lt at h p q =
 -- nothing is left
 pub items_end : {A : Type 0} (f : A → List ℕ) (m : ℕ) (xs : List A) (i : ℕ) (out whole : List ℕ) → length xs ≤ i
     → out ++ items_from f m (drop i xs) ≡ whole → out ≡ whole
-items_end f m xs i out whole le h = sym (append-nil out) ∙ sym (ap (λ l. out ++ items_from f m l) (drop_none xs i le)) ∙ h
+items_end f m xs i out whole le h = sym (append-nil out) ∙ sym (ap (λ l. out ++ items_from f m l) (drop_all i xs le)) ∙ h
 
 -- the part at a position is added, where parts stand one after another
 pub parts_step : {A : Type 0} (f : A → List ℕ) (F : List A → List ℕ) (xs : List A) (i : ℕ) (x : A) (out one whole : List ℕ)
@@ -53,7 +47,7 @@ parts_step f F xs i x out one whole more lt at h p =
 
 pub parts_end : {A : Type 0} (F : List A → List ℕ) (xs : List A) (i : ℕ) (out whole : List ℕ) → F [] ≡ [] → length xs ≤ i
     → out ++ F (drop i xs) ≡ whole → out ≡ whole
-parts_end F xs i out whole none le h = sym (append-nil out) ∙ sym (ap (λ l. out ++ l) (ap F (drop_none xs i le) ∙ none)) ∙ h
+parts_end F xs i out whole none le h = sym (append-nil out) ∙ sym (ap (λ l. out ++ l) (ap F (drop_all i xs le) ∙ none)) ∙ h
 
 -- items that are seen by a view
 pub items_map : {A B : Type 0} (f : B → List ℕ) (g : A → B) (i : ℕ) (xs : List A) → items_from (λ x. f (g x)) i xs ≡ items_from f i (map g xs)

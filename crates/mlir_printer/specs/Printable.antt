@@ -16,7 +16,8 @@ use Rattle.mlir_reader.specs.OperationText.{takes_bin, string_keys}
 use Rattle.mlir_reader.specs.ModuleText.{module_keys}
 use Rattle.mlir_reader.specs.Resolving.{kept_by_first, kept_literals, is_dropped, has_name, type_or_none}
 use Rattle.mlir_printer.specs.Naming.{is_pack, port_wishes, body_wishes}
-use Rattle.mlir_printer.specs.Texts.{listed_of, parts_in}
+use Rattle.op_verifier.specs.Faults.{listed_of}
+use Rattle.mlir_printer.specs.Texts.{parts_in}
 use Rattle.mlir_printer.specs.Spellable.{Each, AreBytes, MayBeBytes, IsInteger, IsAnyType, AreLiterals, IsEntry}
 
 -- ---- dictionaries

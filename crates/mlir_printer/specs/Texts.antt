@@ -1,14 +1,13 @@
 -- What the text of a design says: its modules with the names of values chosen.
 use Rattle.std.specs.Prelude.{ℕ, Bool, true, cond, List, [], ◌∷◌, length, map, drop, Option, Some, None, codes}
-use Rattle.diag.specs.declared.listed.Listed.{Listed}
-use Rattle.diag.specs.declared.listed.Listed.TheVariants as listed
 use Rattle.hw_model.specs.Types.{Name, HwType}
 use Rattle.hw_model.specs.Kinds.{Kind, Reset}
 use Rattle.hw_model.specs.Kinds.Reset.{no_reset, sync_reset}
-use Rattle.hw_model.specs.Kinds.Kind.{add, mul, and, or, xor, sub, divu, modu, divs, mods, shl, shru, shrs, icmp, parity, extract, concat, replicate, mux, constant, aggregate_constant, array_create, array_concat, array_get, array_slice, array_inject, struct_create, struct_extract, struct_inject, struct_explode, bitcast, wire, instance, output, compreg, compreg_ce, firreg}
+use Rattle.hw_model.specs.Kinds.Kind.{icmp, extract, constant, aggregate_constant, struct_extract, struct_inject, instance, compreg, compreg_ce, firreg}
 use Rattle.hw_model.specs.Design.{Entry, Ref, Port, Op, Module, Design, same_name}
 use Rattle.hw_model.specs.Design.Attribute.{text_value}
 use Rattle.ir_store.specs.OperationViews.{OpParts}
+use Rattle.op_verifier.specs.Faults.{listed_of}
 use Rattle.mlir_reader.specs.PieceText.{Extra}
 use Rattle.mlir_reader.specs.PieceText.Extra.{nothing, with_reset, predicate, position, number, literals, field_name, child}
 use Rattle.mlir_reader.specs.Resolving.{put_entry}
@@ -19,46 +18,6 @@ use Rattle.mlir_printer.specs.Pieces.{ValueText, Pending}
 use Rattle.mlir_printer.specs.Operations.{OperationText}
 
 -- ---- operations
-
--- the name of a kind of operation (CIRCT: operation references of HW, Comb and Seq)
-unfoldable pub listed_of : Kind → Listed
-listed_of add = listed.CombAdd
-listed_of mul = listed.CombMul
-listed_of and = listed.CombAnd
-listed_of or = listed.CombOr
-listed_of xor = listed.CombXor
-listed_of sub = listed.CombSub
-listed_of divu = listed.CombDivu
-listed_of modu = listed.CombModu
-listed_of divs = listed.CombDivs
-listed_of mods = listed.CombMods
-listed_of shl = listed.CombShl
-listed_of shru = listed.CombShru
-listed_of shrs = listed.CombShrs
-listed_of (icmp p) = listed.CombIcmp
-listed_of parity = listed.CombParity
-listed_of (extract low) = listed.CombExtract
-listed_of concat = listed.CombConcat
-listed_of replicate = listed.CombReplicate
-listed_of mux = listed.CombMux
-listed_of (constant z) = listed.HwConstant
-listed_of (aggregate_constant ls) = listed.HwAggregateConstant
-listed_of array_create = listed.HwArrayCreate
-listed_of array_concat = listed.HwArrayConcat
-listed_of array_get = listed.HwArrayGet
-listed_of array_slice = listed.HwArraySlice
-listed_of array_inject = listed.HwArrayInject
-listed_of struct_create = listed.HwStructCreate
-listed_of (struct_extract name) = listed.HwStructExtract
-listed_of (struct_inject name) = listed.HwStructInject
-listed_of struct_explode = listed.HwStructExplode
-listed_of bitcast = listed.HwBitcast
-listed_of wire = listed.HwWire
-listed_of (instance i) = listed.HwInstance
-listed_of output = listed.HwOutput
-listed_of (compreg r) = listed.SeqCompreg
-listed_of (compreg_ce r) = listed.SeqCompregCe
-listed_of (firreg r) = listed.SeqFirreg
 
 -- what a reset says
 abbrev pub reset_extra : Reset → Extra

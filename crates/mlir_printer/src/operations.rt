@@ -10,7 +10,7 @@ ghost use Rattle.mlir_printer.specs.Pieces.{value_name_bytes, pieces_bytes};
 ghost use Rattle.mlir_printer.specs.Operations.{results_bytes, bin_bytes, form_bytes, is_truth_said, shape_shown, after_blank, left_behind_all, operation_line, operation_lines, shaped_bytes};
 ghost use Rattle.mlir_reader.specs.Shapes.{front_pieces, type_pieces};
 ghost use Rattle.mlir_printer.specs.Naming.{first_name, firsts, listed_names, name_count, results_named};
-ghost use Rattle.mlir_printer.specs.Texts.{listed_of, extra_shown, entries_shown, operation_shown};
+ghost use Rattle.mlir_printer.specs.Texts.{extra_shown, entries_shown, operation_shown};
 ghost use Rattle.mlir_printer.specs.Shown.{stored_shown};
 ghost use Rattle.mlir_printer.specs.Views.{names_held, value_held, pending_of, extra_of};
 
@@ -28,53 +28,8 @@ use io_edge::byte_text::Text;
 use ir_store::body::{Body, Op};
 use mlir_reader::pieces::{Piece, Shape};
 use mlir_reader::shapes::{front_pieces, shape_of, type_pieces};
+use op_verifier::listed_of;
 use std::alloc::AllocError;
-
-// The name of a kind of operation.
-#[tactic(auto, unfolding(crate::specs::Texts::listed_of))]
-fn listed_of(kind: &OpKind) -> Listed
-    ensures { result ≡ listed_of (kind_of kind.now) }
-{
-    match kind {
-        OpKind::Add => Listed::CombAdd,
-        OpKind::Mul => Listed::CombMul,
-        OpKind::And => Listed::CombAnd,
-        OpKind::Or => Listed::CombOr,
-        OpKind::Xor => Listed::CombXor,
-        OpKind::Sub => Listed::CombSub,
-        OpKind::Divu => Listed::CombDivu,
-        OpKind::Modu => Listed::CombModu,
-        OpKind::Divs => Listed::CombDivs,
-        OpKind::Mods => Listed::CombMods,
-        OpKind::Shl => Listed::CombShl,
-        OpKind::Shru => Listed::CombShru,
-        OpKind::Shrs => Listed::CombShrs,
-        OpKind::Icmp(_) => Listed::CombIcmp,
-        OpKind::Parity => Listed::CombParity,
-        OpKind::Extract(_) => Listed::CombExtract,
-        OpKind::Concat => Listed::CombConcat,
-        OpKind::Replicate => Listed::CombReplicate,
-        OpKind::Mux => Listed::CombMux,
-        OpKind::Constant(_) => Listed::HwConstant,
-        OpKind::AggregateConstant(_) => Listed::HwAggregateConstant,
-        OpKind::ArrayCreate => Listed::HwArrayCreate,
-        OpKind::ArrayConcat => Listed::HwArrayConcat,
-        OpKind::ArrayGet => Listed::HwArrayGet,
-        OpKind::ArraySlice => Listed::HwArraySlice,
-        OpKind::ArrayInject => Listed::HwArrayInject,
-        OpKind::StructCreate => Listed::HwStructCreate,
-        OpKind::StructExtract(_) => Listed::HwStructExtract,
-        OpKind::StructInject(_) => Listed::HwStructInject,
-        OpKind::StructExplode => Listed::HwStructExplode,
-        OpKind::Bitcast => Listed::HwBitcast,
-        OpKind::Wire => Listed::HwWire,
-        OpKind::Instance(_) => Listed::HwInstance,
-        OpKind::Output => Listed::HwOutput,
-        OpKind::CompReg(_) => Listed::SeqCompreg,
-        OpKind::CompRegCe(_) => Listed::SeqCompregCe,
-        OpKind::FirReg(_) => Listed::SeqFirreg,
-    }
-}
 
 // Whether what is said of a constant is printed as `true` or `false`.
 fn is_truth_said(types: &[Ty], said: Said<'_>) -> bool

@@ -10,7 +10,8 @@ use Rattle.mlir_printer.specs.Shown.{stored_shown}
 use Rattle.mlir_printer.specs.Views.{names_held, value_held}
 use Rattle.mlir_printer.proofs.Showing.{line_step}
 use Rattle.mlir_printer.proofs.Values.{names_few}
-use Rattle.mlir_printer.proofs.Walks.{ops_at, walk, through_all}
+use Rattle.op_verifier.proofs.Walks.{ops_at, through_all}
+use Rattle.mlir_printer.proofs.Walks.{walk}
 use Rattle.mlir_printer.proofs.operations.push_operations.Goals as goal
 
 pub loop-id-init : goal.loop-id-init

@@ -13,7 +13,8 @@ use Rattle.mlir_printer.specs.Shown.{parts_in_body}
 use Rattle.mlir_printer.specs.Views.{names_held, chosen}
 use Rattle.mlir_printer.proofs.Choosing.{wishes_step, wishes_length}
 use Rattle.mlir_printer.proofs.Placing.{place_left, place_step, once_step, none_kept}
-use Rattle.mlir_printer.proofs.Walks.{ops_at, walk, through_all}
+use Rattle.op_verifier.proofs.Walks.{ops_at, through_all}
+use Rattle.mlir_printer.proofs.Walks.{walk}
 use Rattle.mlir_printer.proofs.value_names.ValueNames.add_operations.Goals as goal
 
 pub loop-id-init : goal.loop-id-init
