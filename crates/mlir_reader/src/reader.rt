@@ -49,7 +49,8 @@ impl<'s> Reader<'s> {
         ensures start { result ≡ stream_of source.now }
     {
         let mut tokens = Tokens::new(source);
-        let head = next_head(&mut tokens);
+        let mut head = Head::End(tokens.place());
+        see_next(&mut head, &mut tokens);
         Reader {
             alloc,
             tokens,
@@ -122,11 +123,7 @@ impl<'s> Reader<'s> {
         ensures { self.new ≡ after self.old }
     {
         if let Head::Token(_) = self.head {
-            match self.tokens.next() {
-                Ok(Some(token)) => self.head = Head::Token(token),
-                Ok(None) => self.head = Head::End(self.tokens.place()),
-                Err(fail) => self.head = Head::Bad(fail.place),
-            }
+            see_next(&mut self.head, &mut self.tokens);
         }
     }
 
@@ -224,14 +221,15 @@ impl<'s> Reader<'s> {
     }
 }
 
-// What is next of the tokens.
-fn next_head<'s>(tokens: &mut Tokens<'s>) -> Head<'s>
-    ensures { symbols result (stream_left tokens.new) ≡ stream_left tokens.old }
+// Sees what is next of the tokens, and puts it in the place of what was seen.
+#[inline(always)]
+fn see_next<'s>(head: &mut Head<'s>, tokens: &mut Tokens<'s>)
+    ensures { symbols head.new (stream_left tokens.new) ≡ stream_left tokens.old }
 {
     match tokens.next() {
-        Ok(Some(token)) => Head::Token(token),
-        Ok(None) => Head::End(tokens.place()),
-        Err(fail) => Head::Bad(fail.place),
+        Ok(Some(token)) => *head = Head::Token(token),
+        Ok(None) => *head = Head::End(tokens.place()),
+        Err(fail) => *head = Head::Bad(fail.place),
     }
 }
 
