@@ -8,7 +8,8 @@ use Rattle.hw_model.specs.Design.Ref.{port, result, undefined}
 use Rattle.fresh_names.proofs.Distinct.{AreFresh, fresh_are_new}
 use Rattle.fresh_names.proofs.Giving.{fresh_count}
 use Rattle.mlir_reader.specs.OperationText.{OperationText}
-use Rattle.mlir_reader.specs.Resolving.{Meanings, Defined, Definition, with_definition, with_definitions, no_meaning, resolved, port_definition, port_definitions, operation_definitions, body_definitions, operations_from, ports_from, is_marked, ends_with_output, has_outputs, left_out_output, port_meanings, meanings, module_of, design_of}
+use Rattle.mlir_reader.specs.Resolving.{Meanings, Defined, Definition, with_definitions, no_meaning, resolved, port_definition, port_definitions, operation_definitions, body_definitions, operations_from, ports_from, is_marked, ends_with_output, has_outputs, left_out_output, port_meanings, meanings, module_of, design_of}
+use Rattle.mlir_reader.proofs.Defining.{definitions_append}
 use Rattle.mlir_printer.specs.Pieces.{ValueText}
 use Rattle.mlir_printer.specs.Naming.{port_wish, port_wishes, input_count, body_wishes, wishes, wanted, names_given, name_count, first_name, firsts, value_named}
 use Rattle.mlir_printer.specs.Texts.{parts_in, operation_shown, operations_shown, port_shown, ports_shown, module_shown, modules_shown}
@@ -77,10 +78,6 @@ ports_again earlier j ns (q ∷ ps) new p =
     (new_right earlier (port_definition j value) (port_definitions (j + 1) rest) new) p.1)
 
 -- ---- modules
-
-definitions_append : (m : Meanings) (ds es : List Definition) → with_definitions m (ds ++ es) ≡ with_definitions (with_definitions m ds) es
-definitions_append m [] es = refl
-definitions_append m (d ∷ ds) es = definitions_append (with_definition m d) ds es
 
 pub each_among : {A : Type 0} (P : A → Type 0) (xs : List A) (x : A) → Each P xs → Among x xs → P x
 each_among P [] x h a = absurd a

@@ -24,7 +24,7 @@ mod AgainTypes
 mod BodySteps
 mod BodyTexts
 mod Constants
-mod Defining
+pub mod Defining
 mod Drafting
 mod KeyOrder
 mod Modules

@@ -1,6 +1,6 @@
 -- What is read of single tokens, of numbers and of lists is said by them.
-use Rattle.std.proofs.Common.{◌≡◌, ◌⊎◌, ℕ, zero, suc, ◌<◌, Bool, true, false, ◌&&◌, cond, nat_lt, List, [], ◌∷◌, ◌++◌, length, Ok, Err, refl, sym, ◌∙◌, ap, subst, inl, inr, pos}
-use Rattle.std.proofs.lemmas.Bool.{eqb-true, ltb-true}
+use Rattle.std.proofs.Common.{◌≡◌, ◌⊎◌, ℕ, zero, suc, ◌<◌, Bool, true, false, cond, nat_lt, List, [], ◌∷◌, ◌++◌, length, Ok, Err, refl, sym, ◌∙◌, ap, subst, inl, inr, pos}
+use Rattle.std.proofs.lemmas.Bool.{eqb-true, ltb-true, and_parts}
 use Rattle.std.proofs.lemmas.List.{append-nil}
 use Rattle.std.specs.Cmp.Lexicographic.{bytes_decides}
 use Rattle.diag.specs.declared.refusal.Refusal.{Refusal}
@@ -78,13 +78,9 @@ kind_back kind.Minus = refl
 pub kind_is : (a b : TokenKind) → is_kind a b ≡ true → a ≡ b
 kind_is a b h = sym (kind_back a) ∙ ap kind_of (eqb-true (tag a) (tag b) h) ∙ kind_back b
 
-pub both : (a b : Bool) → (a && b) ≡ true → (a ≡ true) × (b ≡ true)
-both true b h = (refl, h)
-both false b h = absurd cc
-
 pub word_is : (name : List ℕ) (t : Lexeme) → is_word name t ≡ true → (t.kind ≡ kind.BareName) × (t.text ≡ name)
 word_is name t h =
-    let (k, w) = both (is_kind t.kind kind.BareName) (same_name t.text name) h in
+    let (k, w) = and_parts (is_kind t.kind kind.BareName) (same_name t.text name) h in
     (kind_is t.kind kind.BareName k, (bytes_decides t.text name).0 w)
 
 pub said_word : {name : List ℕ} {t : Lexeme} → is_word name t ≡ true → Word name (t ∷ [])

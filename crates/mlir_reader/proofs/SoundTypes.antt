@@ -1,7 +1,7 @@
 -- What is read of types is said by their tokens.
 use Rattle.std.proofs.Common.{◌≡◌, ℕ, zero, suc, ◌<◌, true, ◌&&◌, ◌==◌, List, [], ◌∷◌, ◌++◌, length, Some, None, Ok, refl, sym, ◌∙◌, ap, inl, inr, arith}
 use Rattle.std.specs.Prelude.{codes}
-use Rattle.std.proofs.lemmas.Bool.{eqb-true, cond_both}
+use Rattle.std.proofs.lemmas.Bool.{eqb-true, cond_both, and_parts}
 use Rattle.std.specs.Cmp.Lexicographic.{bytes_decides}
 use Rattle.diag.specs.declared.refusal.OpName.{OpName}
 use Rattle.hw_model.specs.Types.{HwType}
@@ -20,7 +20,7 @@ use Rattle.mlir_reader.specs.TypeText.{TypeHead, width_digits, behind_x, bare_ty
 use Rattle.mlir_reader.specs.TypeText.TypeHead.{integer_type, clock_type, array_type, struct_type, foreign_type, no_type}
 use Rattle.mlir_reader.specs.Spelling.{Phrase, Then, WidthPhrase, TypeWord, ElementPhrase, FieldPhrase, PlainType, TypeWith, TypePhrase}
 use Rattle.mlir_reader.proofs.Sound.{Said, Sound, Past, ok_of, same_ok, one_more, sound_on, sound_last}
-use Rattle.mlir_reader.proofs.SoundTokens.{pair, mark, kind_is, both, limited_ok, sound_want, sound_number, sound_name, sound_until}
+use Rattle.mlir_reader.proofs.SoundTokens.{pair, mark, kind_is, limited_ok, sound_want, sound_number, sound_name, sound_until}
 
 -- ---- what a token begins a type as
 
@@ -38,7 +38,7 @@ HeadSays t no_type = Unit {0}
 digits_said : (b d : ℕ) (ds : List ℕ) → ((b == 105) && (run is_digit (d ∷ ds) == length (d ∷ ds))) ≡ true
     → (b ≡ 105) × (0 < length (d ∷ ds)) × (run is_digit (d ∷ ds) ≡ length (d ∷ ds))
 digits_said b d ds h =
-    let (e, r) = both (b == 105) (run is_digit (d ∷ ds) == length (d ∷ ds)) h in
+    let (e, r) = and_parts (b == 105) (run is_digit (d ∷ ds) == length (d ∷ ds)) h in
     (eqb-true b 105 e, omega arith, eqb-true (run is_digit (d ∷ ds)) (length (d ∷ ds)) r)
 
 bare_says : (t : Lexeme) → t.kind ≡ kind.BareName → (text : List ℕ) → t.text ≡ text → HeadSays t (bare_type (width_digits text))
