@@ -2,12 +2,13 @@
 use Rattle.std.proofs.Common.{◌≡◌, ℕ, zero, suc, ◌+◌, ◌<◌, ◌≤◌, ◌^◌, Bool, true, false, cond, nat_eq, List, [], ◌∷◌, ◌++◌, length, drop, get_or, decimal, refl, sym, ap, ◌∙◌, arith}
 use Rattle.std.specs.Prelude.{Some}
 use Rattle.std.specs.Cmp.Lexicographic.{pointwise}
-use Rattle.std.proofs.lemmas.Bool.{cond-false, false≢true}
+use Rattle.std.proofs.lemmas.Bool.{cond-false}
 use Rattle.std.proofs.lemmas.List.Elements.{All-head, All-tail, All-push, All-weaker}
 use Rattle.hw_model.specs.Types.{Name}
 use Rattle.fresh_names.specs.Fresh.{is_taken, suffixed, free_from, free_name}
 use Rattle.fresh_names.specs.declared.taken_names.NameId.{NameId}
 use Rattle.fresh_names.proofs.Free.{suffix_free, name_stays}
+use Rattle.fresh_names.proofs.Taken.{same_back}
 use Rattle.mlir_lexer.specs.Classes.{is_digit}
 use Rattle.mlir_lexer.specs.Runs.{begins}
 use Rattle.mlir_printer.specs.Naming.{first_name}
@@ -15,7 +16,7 @@ use Rattle.mlir_printer.specs.Choices.{name_chosen, names_chosen, number_of, lim
 use Rattle.mlir_printer.specs.declared.chosen_names.Choice.{Choice}
 use Rattle.mlir_printer.specs.declared.chosen_names.Choice.TheVariants.{Word, Number}
 use Rattle.mlir_printer.proofs.Numbered.{mapped_at, first_at}
-use Rattle.mlir_printer.proofs.GivenNames.{decimal_begins, push_free, unlike, word_unlike, number_unlike}
+use Rattle.mlir_printer.proofs.GivenNames.{push_free, word_unlike, number_unlike}
 
 -- ---- the names
 
@@ -73,12 +74,12 @@ known_number k n cs known =
 
 -- ---- what is taken
 
+or_false : (b : Bool) → cond b true false ≡ b
+or_false true = refl
+or_false false = refl
+
 taken_push : (ns : List Name) (x q : Name) → is_taken (ns ++ x ∷ []) q ≡ cond (is_taken ns q) true (pointwise nat_eq x q)
-taken_push [] x q = go (pointwise nat_eq x q)
-  where
-    go : (b : Bool) → cond b true false ≡ b
-    go true = refl
-    go false = refl
+taken_push [] x q = or_false (pointwise nat_eq x q)
 taken_push (n ∷ ns) x q = go (pointwise nat_eq n q) (taken_push ns x q)
   where
     go : (b : Bool) → is_taken (ns ++ x ∷ []) q ≡ cond (is_taken ns q) true (pointwise nat_eq x q)
@@ -86,19 +87,15 @@ taken_push (n ∷ ns) x q = go (pointwise nat_eq n q) (taken_push ns x q)
     go true r = refl
     go false r = r
 
-unlike_word : (x : Name) (k : ℕ) → k < 2 ^ 64 → begins is_digit x ≡ false → pointwise nat_eq (decimal k) x ≡ false
-unlike_word x k small e = unlike (decimal k) x (λ h. false≢true (sym e ∙ ap (begins is_digit) (sym h) ∙ decimal_begins k small))
-
 pub words_word : (ws ns : List Name) (x : Name) → HaveWords ws ns → HaveWords (ws ++ x ∷ []) (ns ++ x ∷ [])
 words_word ws ns x h q e = taken_push ns x q ∙ ap (λ b. cond b true (pointwise nat_eq x q)) (h q e) ∙ sym (taken_push ws x q)
 
 pub words_number : (ws ns : List Name) (n : ℕ) → n < 2 ^ 64 → HaveWords ws ns → HaveWords ws (ns ++ decimal n ∷ [])
 words_number ws ns n small h q e =
-    taken_push ns (decimal n) q ∙ ap (λ b. cond (is_taken ns q) true b) (unlike_word q n small e) ∙ go (is_taken ns q) ∙ h q e
-  where
-    go : (b : Bool) → cond b true false ≡ b
-    go true = refl
-    go false = refl
+    taken_push ns (decimal n) q
+    ∙ ap (λ b. cond (is_taken ns q) true b) (same_back (decimal n) q ∙ word_unlike q n small e)
+    ∙ or_false (is_taken ns q)
+    ∙ h q e
 
 pub free_word : (ns : List Name) (x : Name) (n : ℕ) → begins is_digit x ≡ false → AreFree ns n → AreFree (ns ++ x ∷ []) n
 free_word ns x n e free k le small = push_free ns x (decimal k) (free k le small) (word_unlike x k small e)
@@ -109,28 +106,11 @@ free_number ns n free k le small =
 
 -- ---- free names
 
--- a free name begins as what is wanted
+-- a suffixed name begins as the name
 begins_suffixed : (w : Name) (k : ℕ) → 1 ≤ length w → begins is_digit (suffixed w k) ≡ begins is_digit w
 unfolding suffixed
 begins_suffixed [] k some = absurd (omega (arith, some))
 begins_suffixed (b ∷ bs) k some = refl
-
-begins_from : (ts : List Name) (w : Name) (n k : ℕ) → 1 ≤ length w → begins is_digit (free_from ts w n k) ≡ begins is_digit w
-begins_from ts w zero k some = begins_suffixed w k some
-begins_from ts w (suc n) k some = go (is_taken ts (suffixed w k)) (begins_from ts w n (k + 1) some)
-  where
-    go : (b : Bool) → begins is_digit (free_from ts w n (k + 1)) ≡ begins is_digit w
-        → begins is_digit (cond b (free_from ts w n (k + 1)) (suffixed w k)) ≡ begins is_digit w
-    go true r = r
-    go false r = begins_suffixed w k some
-
-pub begins_free : (ts : List Name) (w : Name) → 1 ≤ length w → begins is_digit (free_name ts w) ≡ begins is_digit w
-unfolding free_name
-begins_free ts w some = go (is_taken ts w)
-  where
-    go : (b : Bool) → begins is_digit (cond b (free_from ts w (length ts) 0) w) ≡ begins is_digit w
-    go true = begins_from ts w (length ts) 0 some
-    go false = refl
 
 -- where as much is taken, what is found is found among more as well
 from_same : (xs ys : List Name) (w : Name) (n m k : ℕ) → ((j : ℕ) → is_taken xs (suffixed w j) ≡ is_taken ys (suffixed w j)) → n ≤ m

@@ -157,6 +157,10 @@ free_begins taken w small = go (is_taken taken w)
     go true = from_begins taken w (length taken) 0 (omega (arith, small))
     go false = record { more = []; whole = tt; is = sym (append-nil w) }
 
+pub begins_free : (taken : List Name) (w : Name) → 1 ≤ length w → length taken < 2 ^ 64 → begins is_digit (free_name taken w) ≡ begins is_digit w
+begins_free taken [] some small = absurd (omega (arith, some))
+begins_free taken (b ∷ bs) some small = ap (begins is_digit) (free_begins taken (b ∷ bs) small).is
+
 begins_word : (w name : Name) → IsWord w → Begins w name → IsWord name
 begins_word [] name h b = let s = h.some in absurd (omega (arith, s))
 begins_word (x ∷ w) name h b =
@@ -180,14 +184,14 @@ push_free (t ∷ ts) n q h g = go (pointwise nat_eq t q) h (λ r. push_free ts n
     go true e r = cc
     go false e r = r e
 
-pub unlike : (x y : Name) → (x ≡ y → ⊥) → pointwise nat_eq x y ≡ false
+unlike : (x y : Name) → (x ≡ y → ⊥) → pointwise nat_eq x y ≡ false
 unlike x y d = go (pointwise nat_eq x y) refl
   where
     go : (b : Bool) → pointwise nat_eq x y ≡ b → pointwise nat_eq x y ≡ false
     go true e = absurd (d ((bytes_decides x y).0 e))
     go false e = e
 
-pub decimal_begins : (k : ℕ) → k < 2 ^ 64 → begins is_digit (decimal k) ≡ true
+decimal_begins : (k : ℕ) → k < 2 ^ 64 → begins is_digit (decimal k) ≡ true
 decimal_begins k small = digits_begin (decimal k) (decimal_digits k small)
 
 -- what begins with no digit is no number

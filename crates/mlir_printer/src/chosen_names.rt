@@ -18,7 +18,8 @@ pub enum Choice {
 }
 
 /// Names that are chosen one after another: words, which begin with no digit, and numbers in order. A number is a free name
-/// whatever words are taken, so it stands in no table. Contracts see the names by `names_in`, and the next number by `next_in`.
+/// whatever words are taken, so it stands in no table. Contracts see the names by `names_in`, and with the next number by
+/// `chosen_in`.
 #[derive(Drop)]
 pub struct ChosenNames {
     // the words that are taken

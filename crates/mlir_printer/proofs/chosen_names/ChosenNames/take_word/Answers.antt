@@ -8,7 +8,8 @@ use Rattle.mlir_lexer.specs.Runs.{begins}
 use Rattle.mlir_printer.specs.ChosenViews.{names_in}
 use Rattle.mlir_printer.specs.Choices.{AreKnown, HaveWords, AreFree, names_chosen, name_chosen}
 use Rattle.mlir_printer.specs.declared.chosen_names.Choice.TheVariants.{Word}
-use Rattle.mlir_printer.proofs.Choices.{names_word, known_word, words_word, free_word, begins_free, free_same}
+use Rattle.mlir_printer.proofs.Choices.{names_word, known_word, words_word, free_word, free_same}
+use Rattle.mlir_printer.proofs.GivenNames.{begins_free}
 use Rattle.mlir_printer.proofs.chosen_names.ChosenNames.take_word.Goals as goal
 
 pub invariant_of-self-2 : goal.invariant_of-self-2
@@ -22,7 +23,8 @@ invariant_of-self-2 c =
     names_word words (taken_names c.take.new.self) self.choices.items c.push_reserved.new.self.items self.numbered x c.in_ok-id.id self.known c.in_ok-id.ensures.id c.in_ok-id.ensures.ok choices in
     let more : length c.push_reserved.new.self.items ≡ length self.choices.items + 1 = omega (arith, c.push_reserved.ensures.len, c.reserve.ensures.len) in
     let one : length (taken_names c.take.new.self) ≡ length words + 1 = ap length c.in_ok-id.ensures.ok ∙ one_more words x in
-    let word : begins is_digit x ≡ false = begins_free words c.args.wanted.now c.requires.some ∙ c.requires.word in
+    let small : length words < 2 ^ 64 = omega (arith, self.few, self.fewer) in
+    let word : begins is_digit x ≡ false = begins_free words c.args.wanted.now c.requires.some small ∙ c.requires.word in
     let count : length (names_in self) ≡ length self.choices.items = length-map self.choices.items (name_chosen words) in
     record {
       few = omega (arith, more, count, c.in_ok-number.ensures.0, c.in_ok-number.ensures.1);
