@@ -1,59 +1,19 @@
 #!/usr/bin/env python3
-"""Hands the Verilog texts of the program's tests to Icarus Verilog, and says how many it takes.
+"""Hands the Verilog texts of the examples to Icarus Verilog, and says how many it takes.
 
     verilog_texts.py [COMMAND]   the compiler, `iverilog` by default
 
-The texts are those of the tables in crates/circt_top/src/verilog_*tests.rt, as they are expected.
+The texts are the cases of the files examples/**/*.v, as they are expected. Where a file has several, a line that begins
+with `// -----` stands before each.
 """
 import pathlib
 import re
 import subprocess
 import sys
 
-SOURCES = pathlib.Path(__file__).resolve().parent.parent / "crates" / "circt_top" / "src"
+EXAMPLES = pathlib.Path(__file__).resolve().parent.parent / "examples"
 FLAGS = ["-g2005", "-gno-xtypes", "-gno-icarus-misc", "-o", "/dev/null"]
-STRING = re.compile(r'"((?:[^"\\]|\\.)*)"', re.DOTALL)
-TABLE = re.compile(r"^const (\w+): \[(.*?); \d+\] = \[\n(.*?)^\];", re.DOTALL | re.MULTILINE)
-ESCAPES = {"\\n": "\n", '\\"': '"', "\\\\": "\\"}
-BYTE = '"[7:0] "'
-OPERATION = """module T(
-  input wire [7:0] a,
-  input wire [7:0] b,
-  input wire [7:0] c,
-  input wire s,
-  output wire {}o
-);
-{}endmodule
-"""
-REGISTER = """module T(
-  input wire clk,
-  input wire rst,
-  input wire en,
-  input wire [7:0] d,
-  output wire [7:0] q
-);
-{}endmodule
-"""
-
-
-def strings(text):
-    """The string literals of a table, without its comments."""
-    text = re.sub(r"^ *//.*$", "", text, flags=re.MULTILINE)
-    found = STRING.findall(re.sub(r"\bBYTE\b", BYTE, text))
-    return [re.sub(r"\\.", lambda m: ESCAPES[m.group()], s, flags=re.DOTALL) for s in found]
-
-
-def texts():
-    """The name of each table and the Verilog texts of its rows."""
-    for source in sorted(SOURCES.glob("verilog_*tests.rt")):
-        for name, kind, body in TABLE.findall(source.read_text()):
-            parts = strings(body)
-            if kind == "Row":
-                yield name, [OPERATION.format(*row) for row in zip(parts[2::4], parts[3::4])]
-            elif name == "REGISTERS":
-                yield name, [REGISTER.format(lines) for lines in parts[1::2]]
-            elif name != "REFUSED":
-                yield name, parts[1::2]
+SEPARATOR = re.compile(r"^// -----.*\n", re.MULTILINE)
 
 
 def is_taken(command, text):
@@ -65,16 +25,16 @@ def is_taken(command, text):
 
 
 def main():
-    """Says of each table how many of its texts are taken; a text without bytes is none."""
+    """Says of each file how many of its texts are taken; a text without bytes is none."""
     command = sys.argv[1] if len(sys.argv) > 1 else "iverilog"
     version = subprocess.run([command, "-V"], text=True, capture_output=True).stdout.split("\n")[0]
     print(version)
     refused = 0
-    for name, table in texts():
-        designs = [text for text in table if text]
-        taken = sum(is_taken(command, text) for text in designs)
-        refused += len(designs) - taken
-        print(f"{name}: {taken} of {len(designs)}")
+    for file in sorted(EXAMPLES.resolve().rglob("*.v")):
+        texts = [text for text in SEPARATOR.split(file.read_text()) if text]
+        taken = sum(is_taken(command, text) for text in texts)
+        refused += len(texts) - taken
+        print(f"{file.relative_to(EXAMPLES.resolve())}: {taken} of {len(texts)}")
     sys.exit(1 if refused else 0)
 
 

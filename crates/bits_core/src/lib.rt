@@ -366,5 +366,3 @@ fn signed_bits(width: u32, negative: bool, magnitude: u128) -> Bits
     }
 }
 
-#[cfg(test)]
-mod tests;

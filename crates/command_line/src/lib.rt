@@ -4,6 +4,4 @@
 mod commands;
 pub mod invocation;
 pub mod normalise;
-#[cfg(test)]
-mod tests;
 pub mod usage;

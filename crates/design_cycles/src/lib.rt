@@ -16,8 +16,6 @@ mod recursion;
 mod size;
 mod summaries;
 mod symbols;
-#[cfg(test)]
-mod tests;
 mod weights;
 mod wired;
 mod wires;

@@ -5,5 +5,3 @@ pub mod cause;
 pub mod line;
 pub mod listed;
 pub mod refusal;
-#[cfg(test)]
-mod tests;

@@ -3,5 +3,3 @@
 
 pub mod laws;
 pub mod taken_names;
-#[cfg(test)]
-mod tests;

@@ -9,10 +9,4 @@ pub mod modules;
 pub mod nets;
 pub mod refusal;
 pub mod registers;
-#[cfg(test)]
-mod run_tests;
-#[cfg(test)]
-mod value_tests;
 pub mod values;
-#[cfg(test)]
-mod worked_tests;

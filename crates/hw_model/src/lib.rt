@@ -11,8 +11,6 @@ pub mod integer_values;
 pub mod kinds;
 mod laws;
 mod same_kinds;
-#[cfg(test)]
-mod tests;
 pub mod types;
 
 pub use laws::{

@@ -11,5 +11,3 @@ pub mod memory_sink;
 pub mod real_files;
 pub mod real_sink;
 pub mod sinks;
-#[cfg(test)]
-mod tests;

@@ -16,8 +16,6 @@ mod order;
 pub mod position_table;
 pub mod result_types;
 pub mod short_list;
-#[cfg(test)]
-mod tests;
 pub mod uses;
 
 pub use laws::{

@@ -5,7 +5,5 @@ pub mod classes;
 pub mod contents;
 pub mod fronts;
 pub mod strings;
-#[cfg(test)]
-mod tests;
 pub mod token;
 pub mod tokens;

@@ -15,8 +15,6 @@ pub mod operations;
 pub mod pieces;
 pub mod said;
 pub mod strings;
-#[cfg(test)]
-mod tests;
 pub mod types;
 pub mod value_names;
 pub mod wanted;

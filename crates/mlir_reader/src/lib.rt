@@ -5,8 +5,6 @@ pub mod attribute_text;
 pub mod definitions;
 pub mod dictionaries;
 pub mod draft;
-#[cfg(test)]
-mod draft_tests;
 pub mod fail;
 pub mod file_text;
 pub mod head;
@@ -24,17 +22,11 @@ pub mod own_names;
 pub mod piece_text;
 pub mod pieces;
 pub mod read;
-#[cfg(test)]
-mod read_tests;
 pub mod reader;
-#[cfg(test)]
-mod refusal_tests;
 pub mod resolving;
 pub mod results;
 pub mod shapes;
 pub mod sizes;
 pub mod syntax;
-#[cfg(test)]
-mod tests;
 pub mod type_text;
 pub mod word_text;

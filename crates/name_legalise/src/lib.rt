@@ -5,5 +5,3 @@ pub mod cleaning;
 pub mod laws;
 pub mod names;
 pub mod reserved;
-#[cfg(test)]
-mod tests;

@@ -5,8 +5,6 @@ mod accepted;
 mod body_view;
 mod count_checks;
 mod entries;
-#[cfg(test)]
-mod fault_tests;
 mod faults;
 mod headers;
 mod laws;
@@ -17,16 +15,12 @@ mod operations;
 mod outer_checks;
 mod own_checks;
 mod own_laws;
-#[cfg(test)]
-mod own_tests;
 mod result_checks;
 mod settled_types;
 mod type_checks;
 mod type_lists;
 mod type_parts;
 mod values;
-#[cfg(test)]
-mod verdict_tests;
 mod verdicts;
 mod verify_fail;
 

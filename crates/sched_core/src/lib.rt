@@ -13,8 +13,6 @@ mod laws;
 mod making;
 mod parts;
 mod sched;
-#[cfg(test)]
-mod tests;
 
 pub use event::Event;
 pub use laws::{each_event_keeps_soundness, every_run_is_sound};

@@ -6,8 +6,6 @@ mod plain_cursor;
 mod plain_expressions;
 pub mod plain_fault;
 pub mod plain_machine;
-#[cfg(test)]
-mod plain_tests;
 pub mod plain_text;
 pub mod plain_tokens;
 pub mod plain_tree;

@@ -1,0 +1,17 @@
+//! Tests of words, files and sinks, command lines, names and schedules, by the public calls of their crates.
+#![tactic(auto)]
+
+#[cfg(test)]
+mod invocations;
+#[cfg(test)]
+mod memory;
+#[cfg(test)]
+mod names;
+#[cfg(test)]
+mod real_files;
+#[cfg(test)]
+mod real_sinks;
+#[cfg(test)]
+mod schedules;
+#[cfg(test)]
+mod words;

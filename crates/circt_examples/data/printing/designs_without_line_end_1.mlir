@@ -1,0 +1,1 @@
+builtin.module @W attributes {a = 1} {}

@@ -1,0 +1,5 @@
+// a comment
+hw.module	@S ( in %a:i08 ,
+ out  o:i8 ){//x
+%x=comb.add %a,%a:i8
+hw.output %x:i8}

@@ -1,0 +1,1 @@
+hw.module @L(in %a : !hw.array<32xi128>, in %b : !hw.array<1024xi1>, in %c : !hw.array<0x2xi8>) {}

@@ -1,0 +1,6 @@
+module {
+  hw.module @R(in %reg : i1, in %reg_0 : i1, out c : i1) {
+    %0 = comb.and %reg, %reg_0 : i1
+    hw.output %0 : i1
+  }
+}

@@ -1,0 +1,8 @@
+module {
+  hw.module @T(in %a : i8, in %b : i8, out o : i8) {
+    %c-3_i8 = hw.constant -3 : i8
+    %0 = comb.divs %a, %c-3_i8 : i8
+    %1 = comb.shru %0, %b : i8
+    hw.output %1 : i8
+  }
+}

@@ -1,0 +1,14 @@
+//! Tests of the whole program, on files and sinks in memory: words, faults, limits, and runs of what is printed. What is
+//! printed of each form of text is checked by the crate `circt_examples`.
+#![tactic(auto)]
+
+#[cfg(test)]
+mod long_texts;
+#[cfg(test)]
+mod runs;
+#[cfg(test)]
+mod sizes;
+#[cfg(test)]
+mod verilog_runs;
+#[cfg(test)]
+mod words;

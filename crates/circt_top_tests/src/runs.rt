@@ -1,0 +1,99 @@
+//! Runs of the whole program on files and sinks in memory.
+use circt_top::run::run_circt;
+use io_edge::memory_files::{MemoryFile, MemoryFiles};
+use io_edge::memory_sink::MemorySink;
+use std::alloc::{AllocError, AllocGlobal, Global};
+use std::thread::Threads;
+
+/// A module that adds its two inputs.
+pub const ADDER: &str = "hw.module @Add8(in %a : i8, in %b : i8, out c : i8) {
+  %0 = comb.add %a, %b : i8
+  hw.output %0 : i8
+}
+";
+
+/// The adder as Verilog.
+pub const ADDER_VERILOG: &str = "module Add8(
+  input wire [7:0] a,
+  input wire [7:0] b,
+  output wire [7:0] c
+);
+  assign c = a + b;
+endmodule
+";
+
+/// The adder as it is printed.
+pub const ADDER_PRINTED: &str = "module {
+  hw.module @Add8(in %a : i8, in %b : i8, out c : i8) {
+    %0 = comb.add %a, %b : i8
+    hw.output %0 : i8
+  }
+}
+";
+
+/// What is to fail first.
+#[derive(Clone, Copy, PartialEq, Eq)]
+pub enum Failing {
+    No,
+    Read,
+    Write,
+    Put,
+    Line,
+}
+
+/// How a run ended: the exit status, the files, what is on the output and on the error output.
+#[derive(Drop)]
+pub struct Ended {
+    pub code: u8,
+    pub files: MemoryFiles,
+    pub out: MemorySink,
+    pub err: MemorySink,
+}
+
+// The words that stand between blanks.
+fn words_of(alloc: Global, line: &str) -> Result<Vec<String>, AllocError> {
+    let mut words = Vec::new(alloc);
+    for word in line.split_whitespace() {
+        words.push(String::from_str(alloc, word)?)?;
+    }
+    Ok(words)
+}
+
+// Files in memory: standard input and `a.mlir` with this text, and `x.v` with an old one.
+fn files_of(alloc: Global, input: &str, failing: Failing) -> Result<MemoryFiles, AllocError> {
+    let mut files = Vec::new(alloc);
+    files.push(MemoryFile::of(alloc, "-", input.as_bytes())?)?;
+    files.push(MemoryFile::of(alloc, "a.mlir", input.as_bytes())?)?;
+    files.push(MemoryFile::of(alloc, "x.v", b"old")?)?;
+    let reads = vec![in alloc; 0; usize::from(failing == Failing::Read)]?;
+    let writes = vec![in alloc; 0; usize::from(failing == Failing::Write)]?;
+    let files = MemoryFiles::new(alloc, files).failing_at(reads);
+    Ok(files.failing_writes_at(writes))
+}
+
+// A sink of which the first put fails, or none does.
+fn sink_of(alloc: Global, fails: bool) -> Result<MemorySink, AllocError> {
+    let failing = vec![in alloc; 0; usize::from(fails)]?;
+    Ok(MemorySink::new(alloc, 16384)?.failing_at(failing))
+}
+
+/// The run of the words that stand between the blanks of a line.
+pub fn run_words(
+    rt: &(impl Threads + Sync + AllocGlobal),
+    line: &str,
+    input: &str,
+    failing: Failing,
+) -> Result<Ended, AllocError> {
+    let alloc = rt.alloc();
+    let words = words_of(alloc, line)?;
+    let mut files = files_of(alloc, input, failing)?;
+    let mut out = sink_of(alloc, failing == Failing::Put)?;
+    let mut err = sink_of(alloc, failing == Failing::Line)?;
+    let status = run_circt(rt, alloc, words.as_slice(), &mut files, &mut out, &mut err);
+    Ok(Ended {
+        code: status.code(),
+        files,
+        out,
+        err,
+    })
+}

@@ -1,0 +1,127 @@
+use io_edge::byte_text::Text;
+use mlir_lexer::token::TokenKind;
+use mlir_lexer::tokens::Tokens;
+use std::test::Fail;
+
+// A token as a test states it: its kind, line, column, position and bytes.
+#[derive(Drop)]
+struct Wanted(TokenKind, u32, u32, u64, &'static str);
+
+#[test]
+fn a_text_is_its_tokens(rt: HostRuntime) -> Result<(), Fail> {
+    let source =
+        "hw.module @\"a\\22b\" // c\n  %x-1:02 = !seq.clock 0x1Fi8 \"\\n\\09\"\r\n\t->-#3#m<007xi8> @N.k(){}[],_9";
+    let wanted = [
+        Wanted(TokenKind::BareName, 1, 1, 0, "hw.module"),
+        Wanted(TokenKind::SymbolString, 1, 11, 10, "@\"a\\22b\""),
+        Wanted(TokenKind::ValueName, 2, 3, 26, "%x-1"),
+        Wanted(TokenKind::Colon, 2, 7, 30, ":"),
+        Wanted(TokenKind::Integer, 2, 8, 31, "02"),
+        Wanted(TokenKind::Equals, 2, 11, 34, "="),
+        Wanted(TokenKind::TypeName, 2, 13, 36, "!seq.clock"),
+        Wanted(TokenKind::Integer, 2, 24, 47, "0x1F"),
+        Wanted(TokenKind::BareName, 2, 28, 51, "i8"),
+        Wanted(TokenKind::StringLiteral, 2, 31, 54, "\"\\n\\09\""),
+        Wanted(TokenKind::Arrow, 3, 2, 64, "->"),
+        Wanted(TokenKind::Minus, 3, 4, 66, "-"),
+        Wanted(TokenKind::ResultNumber, 3, 5, 67, "#3"),
+        Wanted(TokenKind::AttributeAlias, 3, 7, 69, "#m"),
+        Wanted(TokenKind::Less, 3, 9, 71, "<"),
+        Wanted(TokenKind::Integer, 3, 10, 72, "007"),
+        Wanted(TokenKind::BareName, 3, 13, 75, "xi8"),
+        Wanted(TokenKind::Greater, 3, 16, 78, ">"),
+        Wanted(TokenKind::SymbolName, 3, 18, 80, "@N.k"),
+        Wanted(TokenKind::LeftParenthesis, 3, 22, 84, "("),
+        Wanted(TokenKind::RightParenthesis, 3, 23, 85, ")"),
+        Wanted(TokenKind::LeftBrace, 3, 24, 86, "{"),
+        Wanted(TokenKind::RightBrace, 3, 25, 87, "}"),
+        Wanted(TokenKind::LeftBracket, 3, 26, 88, "["),
+        Wanted(TokenKind::RightBracket, 3, 27, 89, "]"),
+        Wanted(TokenKind::Comma, 3, 28, 90, ","),
+        Wanted(TokenKind::BareName, 3, 29, 91, "_9"),
+    ];
+    let mut tokens = Tokens::new(source.as_bytes());
+    for Wanted(kind, line, col, at, text) in wanted {
+        let Ok(Some(token)) = tokens.next() else {
+            panic!(rt; "no token at {line}:{col}");
+        };
+        assert_eq!(rt; token.kind, kind, "at {line}:{col}");
+        assert_eq!(rt; token.place.line, line, "at {line}:{col}");
+        assert_eq!(rt; token.place.col, col, "at {line}:{col}");
+        assert_eq!(rt; token.at, at, "at {line}:{col}");
+        assert_eq!(rt; token.text, text.as_bytes(), "at {line}:{col}");
+    }
+    for _ in 0..2 {
+        assert!(rt; matches!(tokens.next(), Ok(None)));
+    }
+    assert_eq!(rt; tokens.place().col, 31);
+    Ok(())
+}
+
+#[test]
+fn a_bad_byte_is_refused_at_its_place_and_again(rt: HostRuntime) -> Result<(), Fail> {
+    for (source, before, line, col) in [
+        ("a\n = \"x\\q\"", 2, 2, 4),
+        ("a \"x\\", 1, 1, 3),
+        ("a \"x\\2g\"", 1, 1, 3),
+        ("\"ab\n\"", 0, 1, 1),
+        ("\"a\\\nb\"", 0, 1, 1),
+        ("@\"ab", 0, 1, 2),
+        ("@\"\\q\"", 0, 1, 2),
+        (" %", 0, 1, 2),
+        ("% x", 0, 1, 1),
+        ("@(", 0, 1, 1),
+        ("! hw", 0, 1, 1),
+        ("%x# 1", 1, 1, 3),
+        ("1.5", 1, 1, 2),
+        ("::", 2, 0, 0),
+        ("^bb0", 0, 1, 1),
+        ("a?", 1, 1, 2),
+        ("a *", 1, 1, 3),
+        ("a /x", 1, 1, 3),
+        ("a\r\u{c}", 1, 1, 3),
+        ("a\u{b}", 1, 1, 2),
+        ("a\u{7f}", 1, 1, 2),
+        ("\u{e9}", 0, 1, 1),
+        ("// \u{e9}\n$", 0, 2, 1),
+        ("\"\t\r\u{0}\u{e9}\" \u{0}", 1, 1, 9),
+    ] {
+        let mut tokens = Tokens::new(source.as_bytes());
+        for _ in 0..before {
+            assert!(rt; matches!(tokens.next(), Ok(Some(_))), "in {source}");
+        }
+        for _ in 0..2 {
+            match tokens.next() {
+                Err(refusal) => {
+                    assert_eq!(rt; refusal.place.line, line, "in {source}");
+                    assert_eq!(rt; refusal.place.col, col, "in {source}");
+                }
+                Ok(found) => assert!(rt; found.is_none() && line == 0, "in {source}"),
+            }
+        }
+    }
+    Ok(())
+}
+
+#[test]
+fn tokens_hold_names_and_the_content_of_strings(rt: HostRuntime) -> Result<(), Fail> {
+    for (source, content) in [
+        ("\"a\\\\\\22\\n\\t\\\"\\4aZ\"", "a\\\"\n\t\"JZ"),
+        ("\"\"", ""),
+        ("@\"x\\00 y\"", "x\u{0} y"),
+        ("%a-1", "a-1"),
+        ("@N", "N"),
+        ("#12", "12"),
+        ("!hw.array", "hw.array"),
+        ("i8", "i8"),
+        ("->", "->"),
+    ] {
+        let Ok(Some(token)) = Tokens::new(source.as_bytes()).next() else {
+            panic!(rt; "no token in {source}");
+        };
+        let mut text = Text::of(rt.alloc(), b">")?;
+        token.push_content(&mut text)?;
+        assert_eq!(rt; &text.as_bytes()[1..], content.as_bytes(), "of {source}");
+    }
+    Ok(())
+}

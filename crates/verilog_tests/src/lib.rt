@@ -1,0 +1,7 @@
+//! Tests of Verilog texts that are run, and of legal names, by the public calls of their crates.
+#![tactic(auto)]
+
+#[cfg(test)]
+mod legal_names;
+#[cfg(test)]
+mod plain_runs;
