@@ -16,7 +16,7 @@ use Rattle.circt_top.specs.Accepting.{Accepted, IsRefused, unread, unaccepted}
 use Rattle.circt_top.specs.Reprint.{IsReprint}
 use Rattle.circt_top.specs.Translation.{IsTranslation, IsUnexported}
 use Rattle.circt_top.specs.Outcome.{IsOutcome}
-use Rattle.circt_top.specs.Answer.{told_at, IsMadeOf, IsRefusalOf, IsReadOf}
+use Rattle.circt_top.specs.Answer.{told_at, IsMissing, IsMadeOf, IsRefusalOf, IsReadOf}
 
 -- so many bytes are read at most
 abbrev pub limit : ℕ
@@ -30,6 +30,12 @@ pub front_read : (name : Name) (told : Option (List (Name × Name))) (source : L
 front_read name None source read bytes h = cc
 front_read name (Some files) source read bytes h =
     let e : Some (take limit bytes) ≡ Some source = ap (option_map (take limit)) (sym h) ∙ read files refl in cc
+
+-- no file that is missing is read
+pub missing_unread : (name : Name) (told : Option (List (Name × Name))) (source : List ℕ) → IsRead name told source → IsMissing name told → ⊥
+missing_unread name None source read missing = missing
+missing_unread name (Some files) source read missing =
+    let e : None ≡ Some source = ap (option_map (take limit)) (sym missing) ∙ read files refl in cc
 
 -- a short front is the whole
 whole_read : (bytes source : List ℕ) → source ≡ take limit bytes → length source ≤ 2 ^ 26 → source ≡ bytes

@@ -5,7 +5,7 @@ use Rattle.io_edge.specs.declared.file_access.FileFail.{FileFail}
 use Rattle.io_edge.specs.declared.file_access.FileFail.TheVariants.{Failed}
 use Rattle.io_edge.specs.declared.file_access.FileFail.TheVariants as file
 use Rattle.circt_top.specs.Runs.{unread}
-use Rattle.circt_top.specs.Answer.{OnRefused, OnDone, OnWriteFault}
+use Rattle.circt_top.specs.Answer.{OnRefused, OnDone, OnWriteFault, IsReadFaultOrNoMemory}
 use Rattle.circt_top.specs.declared.status.Status.{Status}
 use Rattle.circt_top.specs.declared.status.Status.TheVariants.{Done, Refused, Usage, ReadFault, WriteFault, NoMemory}
 
@@ -47,3 +47,8 @@ front_on D P Q NoMemory f x = tt
 pub unread_refuses : (P : Refusal → Type 0) (fail : FileFail) → OnRefused (unread fail) P
 unread_refuses P Failed = tt
 unread_refuses P file.NoMemory = tt
+
+-- a run whose input was not read ends so
+pub unread_ends : (fail : FileFail) → IsReadFaultOrNoMemory (unread fail)
+unread_ends Failed = tt
+unread_ends file.NoMemory = tt

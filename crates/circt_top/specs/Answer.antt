@@ -32,6 +32,11 @@ told_at name (Some files) = file_at name files
 abbrev pub usage_of : Status → Option UsageKind
 usage_of (Usage kind) = Some kind
 usage_of _ = None
+-- files are told, and none of them has this name
+abbrev pub IsMissing : Name → Told → Type 0
+IsMissing name None = ⊥
+IsMissing name (Some files) = file_at name files ≡ None
+
 
 -- facts for some statuses
 abbrev pub OnRefused : Status → (Refusal → Type 0) → Type 0
@@ -136,6 +141,11 @@ abbrev pub IsRefusedOrNoMemory : Status → Type 0
 IsRefusedOrNoMemory (Refused refusal) = Unit {0}
 IsRefusedOrNoMemory NoMemory = Unit {0}
 IsRefusedOrNoMemory _ = ⊥
+
+abbrev pub IsReadFaultOrNoMemory : Status → Type 0
+IsReadFaultOrNoMemory ReadFault = Unit {0}
+IsReadFaultOrNoMemory NoMemory = Unit {0}
+IsReadFaultOrNoMemory _ = ⊥
 
 -- a source is what is read of the told bytes: at most one byte more than a text may have
 abbrev pub IsReadOf : Option (List ℕ) → List ℕ → Type 0

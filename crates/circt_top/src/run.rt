@@ -6,7 +6,7 @@ ghost use Rattle.command_line.specs.Invocations.{command_of, paths_of as files_o
 ghost use Rattle.circt_top.specs.Words.{input_of, output_of, paths_in, paths_named, fault_of};
 ghost use Rattle.circt_top.specs.Outcome.{IsOutcome, IsAnswered};
 ghost use Rattle.circt_top.specs.Delivery.{HasOutputFault};
-ghost use Rattle.circt_top.specs.Answer.{told_at, usage_of, IsReadOf, IsUsage, OnRefused, OnReadFault, OnWriteFault, OnDone, Unwritten, ForCommand, IsMadeOf, IsRefusalOf, Delivers, DeliversFront, IsDoneOrNoMemory, IsRefusedOrNoMemory, line_of, Reports, ReportsEnd};
+ghost use Rattle.circt_top.specs.Answer.{told_at, usage_of, IsReadOf, IsUsage, OnRefused, OnReadFault, OnWriteFault, OnDone, Unwritten, ForCommand, IsMissing, IsMadeOf, IsRefusalOf, Delivers, DeliversFront, IsDoneOrNoMemory, IsReadFaultOrNoMemory, IsRefusedOrNoMemory, line_of, Reports, ReportsEnd};
 ghost use Rattle.circt_top.specs.Runs.{IsWorked, unread};
 
 use crate::delivery::{Delivery, deliver};
@@ -54,6 +54,7 @@ pub fn run_circt<R: Threads + Sync, F: Files, O: Sink, E: Sink>(
         → ¬ HasRisen (F.read_faults files.old (input_of c)) (F.read_faults files.new (input_of c))
         → IsRefusedOrNoMemory result }
     ensures report { ReportsEnd E.told E.faults (map string_bytes words.now) (F.files files.old) result err.old err.new }
+    ensures missing { (c : _) → line (map string_bytes words.now) ≡ Ok c → IsMissing (input_of c) (F.files files.old) → IsReadFaultOrNoMemory result }
 {
     let _ = rt;
     let regular = match normalise(alloc, words) {
@@ -92,6 +93,7 @@ fn run_on<F: Files, O: Sink, E: Sink>(
     ensures done { OnDone result ((text : List ℕ) × Delivers O.puts O.told (output_of (command_of invocation.now)) out.old out.new (F.files files.old) (F.files files.new) text × IsMadeOf (command_of invocation.now) (told_at (input_of (command_of invocation.now)) (F.files files.old)) text) }
     ensures front { OnWriteFault result ((text : List ℕ) × DeliversFront O.puts O.told (output_of (command_of invocation.now)) out.old out.new (F.files files.old) (F.files files.new) text × IsMadeOf (command_of invocation.now) (told_at (input_of (command_of invocation.now)) (F.files files.old)) text) }
     ensures no_usage { usage_of result ≡ None }
+    ensures missing { IsMissing (input_of (command_of invocation.now)) (F.files files.old) → IsReadFaultOrNoMemory result }
     ensures report { (source : List ℕ) × OnRefused result (λ r. IsReadOf (told_at (input_of (command_of invocation.now)) (F.files files.old)) source) × Reports E.told E.faults err.old err.new (line_of (paths_in (command_of invocation.now)) source result) }
 {
     let paths = paths_of(invocation);

@@ -6,7 +6,7 @@ use Rattle.command_line.specs.Line.{line}
 use Rattle.command_line.specs.Invocations.{command_of}
 use Rattle.circt_top.specs.Words.{input_of, output_of}
 use Rattle.circt_top.specs.Delivery.{HasOutputFault}
-use Rattle.circt_top.specs.Answer.{told_at, OnRefused, OnReadFault, OnWriteFault, OnDone, IsRefusalOf, IsMadeOf, Delivers, DeliversFront}
+use Rattle.circt_top.specs.Answer.{told_at, IsMissing, IsReadFaultOrNoMemory, OnRefused, OnReadFault, OnWriteFault, OnDone, IsRefusalOf, IsMadeOf, Delivers, DeliversFront}
 use Rattle.circt_top.proofs.Completed.{said_is, stopped_ends, refused_for, write_fault_for, done_for, no_usage, complete, refusing, one_command}
 use Rattle.circt_top.proofs.run.run_circt.Goals as goal
 
@@ -62,6 +62,13 @@ returns-in-Ok-read_line-clause-refusing g c = λ p h bytes told outside no_read.
     (one_command (map string_bytes c.args.words.now) p (command_of c.in-Ok-read_line.invocation) (λ p. OnDone c.run_on.result ((text : List ℕ) × Delivers g.O.Sink.puts g.O.Sink.told (output_of p) c.args.out.now c.run_on.new.out (g.F.Files.files c.args.files.now) (g.F.Files.files c.run_on.new.files) text × IsMadeOf p (told_at (input_of p) (g.F.Files.files c.args.files.now)) text)) h named c.run_on.ensures.done)
     (one_command (map string_bytes c.args.words.now) p (command_of c.in-Ok-read_line.invocation) (λ p. OnWriteFault c.run_on.result ((text : List ℕ) × DeliversFront g.O.Sink.puts g.O.Sink.told (output_of p) c.args.out.now c.run_on.new.out (g.F.Files.files c.args.files.now) (g.F.Files.files c.run_on.new.files) text × IsMadeOf p (told_at (input_of p) (g.F.Files.files c.args.files.now)) text)) h named c.run_on.ensures.front)
     outside no_read)
+
+pub returns-in-Ok-read_line-clause-missing : goal.returns-in-Ok-read_line-clause-missing
+returns-in-Ok-read_line-clause-missing g c = λ p h missing.
+    (let regular : map string_bytes c.deref.result.now ≡ map string_bytes c.in-Ok.regular.items = ap (map string_bytes) c.deref.ensures.value in
+    let named : line (map string_bytes c.args.words.now) ≡ Ok (command_of c.in-Ok-read_line.invocation) =
+    said_is (map string_bytes c.args.words.now) (map string_bytes c.in-Ok.regular.items) (command_of c.in-Ok-read_line.invocation) c.in-Ok.ensures.ok (rw (sym regular) c.in-Ok-read_line.ensures) in
+    one_command (map string_bytes c.args.words.now) p (command_of c.in-Ok-read_line.invocation) (λ p. IsMissing (input_of p) (g.F.Files.files c.args.files.now) → IsReadFaultOrNoMemory c.run_on.result) h named c.run_on.ensures.missing missing)
 
 pub returns-in-Err-Usage-clause-report : goal.returns-in-Err-Usage-clause-report
 returns-in-Err-Usage-clause-report g c =

@@ -3,15 +3,25 @@ use Rattle.std.proofs.Common.{◌≡◌, sym, subst, ap, ◌∙◌, Some, Ok, op
 use Rattle.command_line.specs.Line.{Paths}
 use Rattle.command_line.specs.Invocations.{command_of}
 use Rattle.circt_top.specs.Outcome.{IsOutcome}
-use Rattle.circt_top.specs.Answer.{told_at, OnRefused, OnDone, OnWriteFault, Delivers, DeliversFront, IsMadeOf, IsRefusalOf, IsReadOf, line_of, Reports}
-use Rattle.circt_top.proofs.Answered.{IsRead, front_read, refused_whole, made_whole}
-use Rattle.circt_top.proofs.Ends.{refused_on, done_on, front_on, read_on, unread_refuses}
+use Rattle.circt_top.specs.Answer.{told_at, IsMissing, OnRefused, OnDone, OnWriteFault, Delivers, DeliversFront, IsMadeOf, IsRefusalOf, IsReadOf, line_of, Reports}
+use Rattle.circt_top.proofs.Answered.{IsRead, front_read, missing_unread, refused_whole, made_whole}
+use Rattle.circt_top.proofs.Ends.{refused_on, done_on, front_on, read_on, unread_refuses, unread_ends}
 use Rattle.circt_top.proofs.run.run_on.Goals as goal
 
 pub returns-in-Err-clause-report : goal.returns-in-Err-clause-report
 returns-in-Err-clause-report g c =
     subst (λ (p : Paths). (source : List ℕ) × OnRefused c.unread-status.result (λ r. IsReadOf (told_at p.input (g.F.Files.files c.args.files.now)) source) × Reports g.E.Sink.told g.E.Sink.faults c.args.err.now c.report.new.err (line_of p source c.unread-status.result)) c.paths_of-paths.ensures
     ([], rw c.unread-status.ensures (unread_refuses _ c.in-Err.fail), c.report.ensures)
+
+pub returns-in-Err-clause-missing : goal.returns-in-Err-clause-missing
+returns-in-Err-clause-missing g c = λ missing. rw c.unread-status.ensures (unread_ends c.in-Err.fail)
+
+pub returns-clause-missing : goal.returns-clause-missing
+returns-clause-missing g c =
+    let viewed : c.as_bytes.result.now ≡ c.in-Ok.source = cc in
+    let read : IsRead c.paths_of-paths.result.input.now (g.F.Files.files c.args.files.now) c.as_bytes.result.now = λ files told. c.in-Ok.ensures.text files told ∙ ap Some (sym viewed) in
+    λ missing. absurd (missing_unread c.paths_of-paths.result.input.now (g.F.Files.files c.args.files.now) c.as_bytes.result.now read
+    (subst (λ (p : Paths). IsMissing p.input (g.F.Files.files c.args.files.now)) (sym c.paths_of-paths.ensures) missing))
 
 pub returns-clause-refused : goal.returns-clause-refused
 returns-clause-refused g c =
