@@ -79,9 +79,8 @@ reprint_whole : (bytes source text : List ℕ) → read source ≡ read bytes �
 reprint_whole bytes source text same is = record {
   design = is.design;
   accepted = accepted_whole bytes source is.design same is.accepted;
+  said_again = is.said_again;
   laid_out = is.laid_out;
-  spelled = is.spelled;
-  read_again = is.read_again;
 }
 
 translation_whole : (bytes source text : List ℕ) → read source ≡ read bytes → IsTranslation source text → IsTranslation bytes text
