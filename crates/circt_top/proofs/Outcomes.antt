@@ -14,7 +14,7 @@ use Rattle.export_verilog.specs.Exportable.{IsExportable}
 use Rattle.export_verilog.specs.Layout.{verilog_text}
 use Rattle.export_verilog.specs.Room.{HasRoomToExport}
 use Rattle.mlir_reader.specs.Reading.{text_limit, read}
-use Rattle.mlir_reader.specs.Spelling.{SpellsPlacelessly}
+use Rattle.mlir_reader.specs.Spelling.{Spells}
 use Rattle.mlir_reader.specs.ModuleViews.{ReadsDesign}
 use Rattle.mlir_reader.specs.declared.fail.ReadFail.{ReadFail}
 use Rattle.mlir_reader.specs.declared.fail.ReadFail.TheVariants as reading
@@ -31,15 +31,14 @@ use Rattle.circt_top.specs.Accepting.{unread as unread_text}
 use Rattle.circt_top.specs.Outcomes.{IsTaken, unread, unverified}
 use Rattle.circt_top.specs.Exports.{Exports}
 use Rattle.circt_top.specs.Outcome.{IsOutcome, Gives}
-use Rattle.circt_top.specs.Reprint.{IsReprint, IsReadAgain}
+use Rattle.circt_top.specs.Reprint.{IsReprint, IsSaidAgain}
 use Rattle.circt_top.specs.declared.outcome.OutcomeFail.{OutcomeFail}
 use Rattle.circt_top.specs.declared.outcome.OutcomeFail.TheVariants.{Refused, NoMemory}
 
 -- what the laws of the crates below say
 pub record PrintingLaws : Type 0 where
   pub printable : (source : List ℕ) (d : Design) → AreBytes source → read source ≡ Ok d → first_fault d ≡ None → Printable d
-  pub spelled : (d : Design) → Printable d → SpellsPlacelessly (ir_text d) d
-  pub again : (d : Design) → Printable d → length (ir_text d) ≤ text_limit → (e : Design) × (read (ir_text d) ≡ Ok e) × IsSameDesign d e
+  pub again : (d : Design) → Printable d → (e : Design) × Spells (ir_text d) e × IsSameDesign d e × (length (ir_text d) ≤ text_limit → read (ir_text d) ≡ Ok e)
 
 pub record DesignLaws : Type 0 where
   pub finite : (d : Design) → IsAccepted d → HasNoRecursion d
@@ -56,25 +55,21 @@ module _ (printing : PrintingLaws) (designs : DesignLaws) (source : List ℕ) (d
   printable : Printable d
   printable = printing.printable source d bytes accepted.says (no_fault (first_fault d) accepted.accepted.unrefused)
 
-  read_again : length (ir_text d) ≤ text_limit → IsReadAgain d (ir_text d)
-  read_again short =
-      let found = printing.again d printable short in
+  said_again : IsSaidAgain d (ir_text d)
+  said_again =
+      let found = printing.again d printable in
       record {
         again = found.0;
-        accepted = record { says = found.1; accepted = designs.placeless d found.0 found.2 accepted.accepted };
+        spelled = found.1;
         same = found.2;
+        accepted = designs.placeless d found.0 found.2 accepted.accepted;
         behaves = λ m here. designs.same d found.0 found.2 m.symbol (designs.heights d m.symbol (designs.finite d accepted.accepted) (designs.acyclic d accepted.accepted m.symbol));
+        read_again = found.3;
       }
 
   -- an accepted design printed is a reprint
   pub reprinted : (text : List ℕ) → text ≡ ir_text d → IsReprint source text
-  reprinted text e = subst (λ t. IsReprint source t) (sym e) (record {
-    design = d;
-    accepted = accepted;
-    laid_out = refl;
-    spelled = printing.spelled d printable;
-    read_again = read_again;
-  })
+  reprinted text e = subst (λ t. IsReprint source t) (sym e) (record { design = d; accepted = accepted; said_again = said_again; laid_out = refl })
 
 -- what the laws of the export say
 pub record ExportLaws : Type 0 where

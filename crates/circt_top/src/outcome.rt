@@ -21,9 +21,7 @@ use export_verilog::{
 use hw_model::{heights_are_acyclic, places_decide_nothing};
 use io_edge::byte_text::Text;
 use mlir_printer::design_text::print_and_drop;
-use mlir_printer::laws::{
-    what_is_accepted_is_printable, what_is_printable_is_spelled, what_is_printed_is_read_again,
-};
+use mlir_printer::laws::{what_is_accepted_is_printable, what_is_printed_is_read_again};
 use mlir_reader::fail::ReadFail;
 use mlir_reader::read::read_design;
 use op_verifier::{
@@ -109,7 +107,6 @@ fn reprinted(alloc: Global, source: &[u8], verified: Verified) -> Result<Text, A
     ensures { IfOk result (IsReprint source.now) }
 {
     what_is_accepted_is_printable();
-    what_is_printable_is_spelled();
     what_is_printed_is_read_again();
     accepted_designs_are_sound();
     places_decide_no_verdict();

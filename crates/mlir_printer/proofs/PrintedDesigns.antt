@@ -17,8 +17,8 @@ printable_designs_are_spelled d p =
     let bytes = spellable_texts_are_spelled (modules_shown d) (printable_designs_are_spellable d p) in
     (map said (modules_shown d), bytes.0, bytes.1, bytes.2, printable_designs_are_said d p)
 
--- it is read as that design again, since what is spelled is read
+-- it spells one with the places of its tokens, and is read as that one, since what is spelled is read
 pub printed_designs_are_read_again : ((source : List ℕ) (d : Design) → Spells source d → length source ≤ text_limit → read source ≡ Ok d)
-    → (d : Design) → Printable d → length (ir_text d) ≤ text_limit → (e : Design) × (read (ir_text d) ≡ Ok e) × IsSameDesign d e
-printed_designs_are_read_again spelled d p small =
-    let s = placeless_is_spelled (ir_text d) d (printable_designs_are_spelled d p) in (s.0, spelled (ir_text d) s.0 s.1 small, s.2)
+    → (d : Design) → Printable d → (e : Design) × Spells (ir_text d) e × IsSameDesign d e × (length (ir_text d) ≤ text_limit → read (ir_text d) ≡ Ok e)
+printed_designs_are_read_again spelled d p =
+    let s = placeless_is_spelled (ir_text d) d (printable_designs_are_spelled d p) in (s.0, s.1, s.2, λ short. spelled (ir_text d) s.0 s.1 short)

@@ -3,7 +3,7 @@
 ghost use Rattle.std.specs.Prelude.{◌≡◌, ℕ, ◌≤◌, List, length, None, Ok};
 ghost use Rattle.hw_model.specs.Design.{Design, IsSameDesign};
 ghost use Rattle.mlir_reader.specs.Reading.{text_limit, read};
-ghost use Rattle.mlir_reader.specs.Spelling.{SpellsPlacelessly};
+ghost use Rattle.mlir_reader.specs.Spelling.{Spells, SpellsPlacelessly};
 ghost use Rattle.op_verifier.specs.Faults.{first_fault};
 ghost use Rattle.mlir_printer.specs.Modules.{ModuleText, file_bytes};
 ghost use Rattle.mlir_printer.specs.Spellable.{Each, AreBytes, IsSpellable, AreSpelled};
@@ -29,10 +29,10 @@ pub fn what_is_accepted_is_printable()
     what_is_read_is_spelled();
 }
 
-/// Does nothing. Its clause says that the text of a design that can be printed, where it is not too long, is read as that design again, but
-/// for places.
+/// Does nothing. Its clause says that the text of a design that can be printed, however long it is, spells a design that is the same but for
+/// places, and that it is read as that one, where it is not too long.
 pub fn what_is_printed_is_read_again()
-    ensures { (d : Design) → Printable d → length (ir_text d) ≤ text_limit → (e : Design) × (read (ir_text d) ≡ Ok e) × IsSameDesign d e }
+    ensures { (d : Design) → Printable d → (e : Design) × Spells (ir_text d) e × IsSameDesign d e × (length (ir_text d) ≤ text_limit → read (ir_text d) ≡ Ok e) }
 {
     what_is_spelled_is_read();
 }

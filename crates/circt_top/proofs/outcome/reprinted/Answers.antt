@@ -12,7 +12,6 @@ returns c =
     (reprinted
     (record {
       printable = c.what_is_accepted_is_printable.ensures;
-      spelled = c.what_is_printable_is_spelled.ensures;
       again = c.what_is_printed_is_read_again.ensures;
     })
     (record {
