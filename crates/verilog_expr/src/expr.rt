@@ -1,5 +1,5 @@
 //! The text of the expression of a value.
-ghost use Rattle.std.specs.Prelude.{◌≡◌, ◌++◌, ◌<◌, ◌-◌, [], ◌∷◌, map, option_map, false, None, is_some, OnOk, Some};
+ghost use Rattle.std.specs.Prelude.{◌≡◌, ◌++◌, ◌<◌, ◌-◌, [], ◌∷◌, map, option_map, false, None, is_some, OnOk, OnErr, Some};
 ghost use Rattle.hw_model.specs.Design.{result_type};
 ghost use Rattle.ir_store.specs.Bodies.{op_id, read_op};
 ghost use Rattle.ir_store.specs.Numbered.{op_by};
@@ -474,10 +474,10 @@ impl Expr {
     }
 }
 
-/// Adds an expression to a text. The error is want of memory.
+/// Adds an expression to a text. The error is want of memory; the text then stays as it was.
 pub fn write_expr(expr: &Expr, into: &mut Text) -> Result<(), AllocError>
-    ensures { OnOk result (into.new ≡ into.old ++ expr.now.text) }
+    ensures ok { OnOk result (into.new ≡ into.old ++ expr.now.text) }
+    ensures err { OnErr result (into.new ≡ into.old) }
 {
-    into.push_bytes(expr.text.as_bytes())?;
-    Ok(())
+    into.push_bytes(expr.text.as_bytes())
 }
