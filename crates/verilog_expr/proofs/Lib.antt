@@ -5,6 +5,7 @@ pub mod ReadOps
 pub mod Marking
 pub mod PartsMarked
 pub mod HeightSteps
+pub mod HeightPaths
 pub mod TextParts
 pub mod FormTexts
 pub mod FormRows

@@ -8,7 +8,6 @@ mod laws;
 pub mod literals;
 pub mod marks;
 pub mod nesting;
-mod order;
 pub mod row;
 pub mod scope;
 pub mod value_names;
