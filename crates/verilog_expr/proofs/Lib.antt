@@ -18,8 +18,12 @@ pub mod Built
 pub mod Nets
 pub mod Bodies
 pub mod Heights
+pub mod ByRule
 pub mod Depths
+pub mod Carried
 pub mod Fit
+pub mod Tight
+pub mod Signed
 pub mod TextRead
 pub mod Checked
 pub mod BodiesChecked
