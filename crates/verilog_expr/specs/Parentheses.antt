@@ -6,8 +6,8 @@ use Rattle.verilog_model.specs.Tree.Expr.{name, bit_select, part_select, literal
 use Rattle.verilog_model.specs.Tree.Exprs.{last, more}
 use Rattle.verilog_model.specs.Grammar.{strength, choice_level, primary_level, level}
 
--- in a place that asks for so much binding strength, what stands in each pair of parentheses binds less strongly than its
--- place asks
+-- whether in a place that asks for so much binding strength what stands in each pair of parentheses of an expression binds
+-- less strongly than its place asks
 abbrev mutual
   pub tight_at : ℕ → Expr → Bool
   tight_at l (name n) = true
@@ -27,7 +27,7 @@ abbrev mutual
   all_tight (last e) = tight_at 0 e
   all_tight (more e es) = tight_at 0 e && all_tight es
 
--- no parentheses of an expression can be left out
+-- whether no parentheses of an expression can be left out
 abbrev pub tight : Expr → Bool
 tight e = tight_at 0 e
 

@@ -8,7 +8,7 @@ use Rattle.verilog_model.specs.Tree.Exprs.{last, more}
 use Rattle.verilog_model.specs.Expression.{Context, context_of, is_signed}
 use Rattle.verilog_model.specs.Expression.Context.{both_operands, left_operand, no_operand}
 
--- both or none
+-- whether both hold or neither does
 abbrev pub alike : Bool → Bool → Bool
 alike true b = b
 alike false b = not b
@@ -20,7 +20,7 @@ signs_kept both_operands a b = alike a b
 signs_kept left_operand a b = true
 signs_kept no_operand a b = alike a b
 
--- what stands round an operand changes the sign of none
+-- whether what stands round an operand changes its sign nowhere in an expression
 abbrev mutual
   pub keeps_signs : Expr → Bool
   keeps_signs (name n) = true

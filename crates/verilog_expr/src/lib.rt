@@ -6,6 +6,8 @@ pub mod form;
 mod height_table;
 mod laws;
 pub mod literals;
+mod look;
+mod made;
 pub mod marks;
 pub mod nesting;
 pub mod row;
