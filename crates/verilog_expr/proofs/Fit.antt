@@ -1,26 +1,20 @@
 -- Expressions keep the precedence and association of the operators.
-use Rattle.std.proofs.Common.{◌≡◌, ℕ, zero, suc, ◌+◌, ◌-◌, Bool, true, false, cond, ◌&&◌, ◌==◌, nat_le, List, [], ◌∷◌, map, length, decimal, Option, Some, None, slice_get, refl, sym, ap, subst, ◌∙◌, inl, inr}
-use Rattle.wiring.specs.Wiring.{In, IsAcyclic}
-use Rattle.wiring.proofs.Members.{from_In-map}
-use Rattle.wiring.proofs.Settled.{by_needs}
-use Rattle.hw_model.specs.Types.{Name, HwType, width}
+use Rattle.std.proofs.Common.{◌≡◌, ℕ, suc, ◌+◌, ◌-◌, Bool, true, false, cond, ◌&&◌, ◌==◌, nat_le, List, [], ◌∷◌, decimal, Option, refl, inl, inr}
+use Rattle.wiring.specs.Wiring.{In}
+use Rattle.hw_model.specs.Types.{Name}
 use Rattle.hw_model.specs.Kinds.{Kind, Predicate}
 use Rattle.hw_model.specs.Kinds.Predicate.{eq, ne, slt, sle, sgt, sge, ult, ule, ugt, uge, ceq, cne, weq, wne}
 use Rattle.hw_model.specs.Kinds.Kind.{add, mul, and, or, xor, sub, divu, modu, divs, mods, shl, shru, shrs, icmp, parity, extract, concat, replicate, mux, constant, bitcast, wire}
-use Rattle.hw_model.specs.Design.{Ref, Port, Op, result_type}
-use Rattle.hw_model.specs.Design.Ref.{port, result, undefined}
+use Rattle.hw_model.specs.Design.{Ref, Port, Op}
 use Rattle.verilog_model.specs.Tree.{Operator, Expr}
 use Rattle.verilog_model.specs.Tree.Operator.{times, over, modulo, plus, minus, left_shift, right_shift, signed_right_shift, below, at_most, above, at_least, equals, differs, bit_and, bit_xor, bit_or}
 use Rattle.verilog_model.specs.Tree.Expr.{name, bit_select, part_select, as_signed, as_unsigned, paren, odd, binary}
 use Rattle.verilog_model.specs.Grammar.{strength, choice_level, primary_level, level, fits, all_fit}
 use Rattle.verilog_model.specs.Expression.{is_signed}
 use Rattle.verilog_model.proofs.Numerals.{and_intro}
-use Rattle.verilog_expr.specs.Building.{literal_of, unsigned, placed, unsigned_at, of_one_expr, of_two_exprs, of_three_exprs, unsigned_pair, chained, variadic, signed_pair, unsigned_shift, signed_shift, unsigned_division, signed_division, comparison, select, selected, exprs_of, concatenation, conditional, built}
-use Rattle.verilog_expr.specs.Expressions.{name_or, op_expr, typed_expr, result_expr, own_expr, AreExprs, expr_to}
-use Rattle.verilog_expr.specs.Spilling.{is_pure, inner_needs}
-use Rattle.verilog_expr.specs.Values.{IsWritable}
-use Rattle.verilog_expr.proofs.Nets.{results, IsWithin-results}
-use Rattle.verilog_expr.proofs.Bodies.{named_twice, gives_values-pure, pure_needs}
+use Rattle.verilog_expr.specs.Building.{literal_of, unsigned, placed, unsigned_at, unsigned_pair, chained, variadic, signed_pair, unsigned_shift, signed_shift, unsigned_division, signed_division, comparison, select, selected, exprs_of, concatenation, conditional, built}
+use Rattle.verilog_expr.specs.Expressions.{own_expr, expr_to}
+use Rattle.verilog_expr.proofs.Carried.{IsCarried, one_holds, two_hold, three_hold, own_carried, depth_carried}
 
 abbrev AllFit : List Expr → Type 0
 AllFit es = (e : Expr) → In e es → fits e ≡ true
@@ -154,28 +148,6 @@ conditional_fits c a b condition fit also =
     and_intro _ _ (placed_level (suc choice_level) c refl)
     (and_intro _ _ (placed_fits (suc choice_level) c condition) (and_intro _ _ (unsigned_fits a fit) (unsigned_at_fits choice_level b also)))
 
--- ---- one, two or three operands
-
-one_fits : (f : Expr → Expr) → ((a : Expr) → fits a ≡ true → fits (f a) ≡ true) → (es : List Expr) → AllFit es → fits (of_one_expr f es) ≡ true
-one_fits f each [] all = refl
-one_fits f each (a ∷ []) all = each a (all a (inl refl))
-one_fits f each (a ∷ b ∷ es) all = refl
-
-two_fit : (f : Expr → Expr → Expr) → ((a b : Expr) → fits a ≡ true → fits b ≡ true → fits (f a b) ≡ true) → (es : List Expr) → AllFit es
-    → fits (of_two_exprs f es) ≡ true
-two_fit f each [] all = refl
-two_fit f each (a ∷ []) all = refl
-two_fit f each (a ∷ b ∷ []) all = each a b (all a (inl refl)) (all b (inr (inl refl)))
-two_fit f each (a ∷ b ∷ c ∷ es) all = refl
-
-three_fit : (f : Expr → Expr → Expr → Expr) → ((a b c : Expr) → fits a ≡ true → fits b ≡ true → fits c ≡ true → fits (f a b c) ≡ true) → (es : List Expr)
-    → AllFit es → fits (of_three_exprs f es) ≡ true
-three_fit f each [] all = refl
-three_fit f each (a ∷ []) all = refl
-three_fit f each (a ∷ b ∷ []) all = refl
-three_fit f each (a ∷ b ∷ c ∷ []) all = each a b c (all a (inl refl)) (all b (inr (inl refl))) (all c (inr (inr (inl refl))))
-three_fit f each (a ∷ b ∷ c ∷ d ∷ es) all = refl
-
 -- ---- each kind
 
 pub built_fits : (kind : Kind) (w : ℕ) (ws : List ℕ) (divisor : ℕ) (es : List Expr) → ((e : Expr) → In e es → fits e ≡ true) → fits (built kind w ws divisor es) ≡ true
@@ -184,82 +156,31 @@ built_fits mul w ws divisor es all = variadic_fits times es all
 built_fits and w ws divisor es all = variadic_fits bit_and es all
 built_fits or w ws divisor es all = variadic_fits bit_or es all
 built_fits xor w ws divisor es all = variadic_fits bit_xor es all
-built_fits sub w ws divisor es all = two_fit _ (unsigned_pair_fits minus) es all
-built_fits divu w ws divisor es all = two_fit _ (λ a b fit also. unsigned_division_fits over w divisor a fit) es all
-built_fits modu w ws divisor es all = two_fit _ (λ a b fit also. unsigned_division_fits modulo w divisor a fit) es all
-built_fits divs w ws divisor es all = two_fit _ (λ a b fit also. signed_division_fits over w divisor a fit) es all
-built_fits mods w ws divisor es all = two_fit _ (λ a b fit also. signed_division_fits modulo w divisor a fit) es all
-built_fits shl w ws divisor es all = two_fit _ (unsigned_shift_fits left_shift) es all
-built_fits shru w ws divisor es all = two_fit _ (unsigned_shift_fits right_shift) es all
-built_fits shrs w ws divisor es all = two_fit _ (signed_shift_fits signed_right_shift) es all
-built_fits (icmp p) w ws divisor es all = two_fit _ (comparison_fits p) es all
-built_fits parity w ws divisor es all = one_fits _ odd_fits es all
-built_fits (extract low) w ws divisor es all = one_fits _ (λ a fit. selected_fits low _ w a fit) es all
+built_fits sub w ws divisor es all = two_hold fits refl _ (unsigned_pair_fits minus) es all
+built_fits divu w ws divisor es all = two_hold fits refl _ (λ a b fit also. unsigned_division_fits over w divisor a fit) es all
+built_fits modu w ws divisor es all = two_hold fits refl _ (λ a b fit also. unsigned_division_fits modulo w divisor a fit) es all
+built_fits divs w ws divisor es all = two_hold fits refl _ (λ a b fit also. signed_division_fits over w divisor a fit) es all
+built_fits mods w ws divisor es all = two_hold fits refl _ (λ a b fit also. signed_division_fits modulo w divisor a fit) es all
+built_fits shl w ws divisor es all = two_hold fits refl _ (unsigned_shift_fits left_shift) es all
+built_fits shru w ws divisor es all = two_hold fits refl _ (unsigned_shift_fits right_shift) es all
+built_fits shrs w ws divisor es all = two_hold fits refl _ (signed_shift_fits signed_right_shift) es all
+built_fits (icmp p) w ws divisor es all = two_hold fits refl _ (comparison_fits p) es all
+built_fits parity w ws divisor es all = one_holds fits refl _ odd_fits es all
+built_fits (extract low) w ws divisor es all = one_holds fits refl _ (λ a fit. selected_fits low _ w a fit) es all
 built_fits concat w ws divisor es all = concatenation_fits es all
-built_fits replicate w ws divisor es all = one_fits _ (λ a fit. fit) es all
-built_fits mux w ws divisor es all = three_fit _ conditional_fits es all
+built_fits replicate w ws divisor es all = one_holds fits refl _ (λ a fit. fit) es all
+built_fits mux w ws divisor es all = three_hold fits refl _ conditional_fits es all
 built_fits (constant z) w ws divisor es all = refl
-built_fits bitcast w ws divisor es all = one_fits _ (λ a fit. fit) es all
-built_fits wire w ws divisor es all = one_fits _ (λ a fit. fit) es all
+built_fits bitcast w ws divisor es all = one_holds fits refl _ (λ a fit. fit) es all
+built_fits wire w ws divisor es all = one_holds fits refl _ (λ a fit. fit) es all
 built_fits _ w ws divisor es all = refl
 
-module _ (named : Ref → Option Name) (ports : List Port) (os : List Op) where
-  op_fits : (ex : Ref → Expr) (o : Op) (w : ℕ) → ((x : Ref) → In x o.operands → fits (ex x) ≡ true) → fits (op_expr named ports os ex o w) ≡ true
-  op_fits ex o w all =
-      built_fits o.kind w _ _ (map ex o.operands)
-      (λ e here. let found = from_In-map ex e o.operands here in ap fits found.2 ∙ all found.0 found.1)
+pub fits_carried : IsCarried fits
+fits_carried = record { none = refl; called = λ n. refl; each = built_fits }
 
-  pub own_fits : (ex : Ref → Expr) → ((r : Ref) → fits (ex r) ≡ true) → (r : Ref) → fits (own_expr named ports os ex r) ≡ true
-  own_fits ex all (port j) = refl
-  own_fits ex all undefined = refl
-  own_fits ex all (result i k) = by_op (slice_get os i) where
-    by_type : (o : Op) (u : Option HwType) → fits (typed_expr named ports os ex o u) ≡ true
-    by_type o None = refl
-    by_type o (Some t) = op_fits ex o (width t) (λ x here. all x)
+pub own_fits : (named : Ref → Option Name) (ports : List Port) (os : List Op) (ex : Ref → Expr) → ((r : Ref) → fits (ex r) ≡ true)
+    → (r : Ref) → fits (own_expr named ports os ex r) ≡ true
+own_fits = own_carried fits fits_carried
 
-    by_op : (m : Option Op) → fits (result_expr named ports os ex k m) ≡ true
-    by_op None = refl
-    by_op (Some o) = by_type o (result_type o k)
-
-  named_or : (m : Option Name) (e : Expr) → fits e ≡ true → fits (name_or m e) ≡ true
-  named_or None e fit = fit
-  named_or (Some n) e fit = refl
-
-  pub depth_fits : (n : ℕ) (r : Ref) → fits (expr_to named ports os n r) ≡ true
-  unfolding expr_to
-  depth_fits zero r = refl
-  depth_fits (suc n) r =
-      named_or (named r) (own_expr named ports os (expr_to named ports os n) r) (own_fits (expr_to named ports os n) (λ x. depth_fits n x) r)
-
-  module _ (ex : Ref → Expr) (writable : IsWritable named ports os) (acyclic : IsAcyclic (inner_needs os)) (are : AreExprs named ports os ex) where
-    abbrev Fit : Ref → Type 0
-    Fit r = fits (ex r) ≡ true
-
-    unnamed_fits : (r : Ref) → named r ≡ None → ((x : Ref) → In x (inner_needs os r) → Fit x) → fits (own_expr named ports os ex r) ≡ true
-    unnamed_fits (port j) unnamed all = refl
-    unnamed_fits undefined unnamed all = refl
-    unnamed_fits (result i k) unnamed all = by_op (slice_get os i) refl where
-      by_purity : (o : Op) (t : HwType) → slice_get os i ≡ Some o → result_type o k ≡ Some t → (b : Bool) → is_pure o ≡ b
-          → fits (op_expr named ports os ex o (width t)) ≡ true
-      by_purity o t there is false impure = absurd (named_twice (named (result i k)) (writable.owned i k o t there is impure) unnamed)
-      by_purity o t there is true pure =
-          let first : k ≡ 0 = writable.one_result i k o t there (gives_values-pure o pure) is in
-          let needs : inner_needs os (result i k) ≡ o.operands = ap (λ n. inner_needs os (result i n)) first ∙ pure_needs os i o there pure in
-          op_fits ex o (width t) (λ x here. all x (subst (In x) (sym needs) here))
-
-      by_type : (o : Op) → slice_get os i ≡ Some o → (u : Option HwType) → result_type o k ≡ u → fits (typed_expr named ports os ex o u) ≡ true
-      by_type o there None is = refl
-      by_type o there (Some t) is = by_purity o t there is (is_pure o) refl
-
-      by_op : (m : Option Op) → slice_get os i ≡ m → fits (result_expr named ports os ex k m) ≡ true
-      by_op None there = refl
-      by_op (Some o) there = by_type o there (result_type o k) refl
-
-    pub body_fits : (r : Ref) → Fit r
-    body_fits = by_needs (inner_needs os) Fit step (results (length os)) (IsWithin-results os) acyclic where
-      by_name : (r : Ref) → ((x : Ref) → In x (inner_needs os r) → Fit x) → (m : Option Name) → named r ≡ m → fits (name_or m (own_expr named ports os ex r)) ≡ true
-      by_name r all None unnamed = unnamed_fits r unnamed all
-      by_name r all (Some n) is = refl
-
-      step : (r : Ref) → ((x : Ref) → In x (inner_needs os r) → Fit x) → Fit r
-      step r all = ap fits (are r) ∙ by_name r all (named r) refl
+pub depth_fits : (named : Ref → Option Name) (ports : List Port) (os : List Op) (n : ℕ) (r : Ref) → fits (expr_to named ports os n r) ≡ true
+depth_fits = depth_carried fits fits_carried

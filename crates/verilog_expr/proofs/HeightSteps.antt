@@ -12,7 +12,7 @@ use Rattle.verilog_expr.specs.declared.nesting.Part.{Part}
 use Rattle.verilog_expr.specs.declared.nesting.Part.TheVariants.{Shared, Nested}
 use Rattle.verilog_expr.specs.declared.marks.Mark.{Mark}
 use Rattle.verilog_expr.specs.Marks.{no_mark, after_ops}
-use Rattle.verilog_expr.specs.PartTables.{wired, part_seen, stands_most, IsHeightAt, height_get, AreKnown, AreAll, AreHeightsAt}
+use Rattle.verilog_expr.specs.PartTables.{wired, part_seen, stands_most, IsHeightAt, height_get, AreKnown}
 
 drop_none : {A : Type 0} (xs : List A) (i : ℕ) → length xs ≤ i → drop i xs ≡ []
 drop_none [] zero h = refl
@@ -96,6 +96,3 @@ wired_is ports os i o m p h at marked parted high =
 
 pub none_known : (ports : List Port) (os : List Op) (hs : List (Option ℕ)) → ((i : ℕ) → i < length os → height_get hs i ≡ None) → AreKnown ports os hs
 none_known ports os hs none i lt = subst (IsHeightAt ports os i) (sym (none i lt)) tt
-
-pub all_heights : (ports : List Port) (os : List Op) (hs : List (Option ℕ)) (ns : List ℕ) → length hs ≡ length os → AreKnown ports os hs → AreAll hs ns → AreHeightsAt ports os ns
-all_heights ports os hs ns count known all i lt = subst (IsHeightAt ports os i) (all i (omega (arith, lt, count))) (known i lt)

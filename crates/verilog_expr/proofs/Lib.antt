@@ -5,6 +5,7 @@ pub mod ReadOps
 pub mod Marking
 pub mod PartsMarked
 pub mod HeightSteps
+pub mod HeightPaths
 pub mod TextParts
 pub mod FormTexts
 pub mod FormRows
@@ -17,8 +18,12 @@ pub mod Built
 pub mod Nets
 pub mod Bodies
 pub mod Heights
+pub mod ByRule
 pub mod Depths
+pub mod Carried
 pub mod Fit
+pub mod Tight
+pub mod Signed
 pub mod TextRead
 pub mod Checked
 pub mod BodiesChecked

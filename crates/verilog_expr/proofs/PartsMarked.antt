@@ -21,7 +21,7 @@ two_capped n = go (nat_le 2 n) refl (nat_le 2 (min 2 (0 + n))) refl
     go true p false q = absurd (omega (arith, leb-true 2 n p, leb-false 2 (min 2 (0 + n)) q))
     go false p true q = absurd (omega (arith, leb-false 2 n p, leb-true 2 (min 2 (0 + n)) q))
 
-shared_marked : (ports : List Port) (os : List Op) (r : Ref) (o : Op) (h : Name) → hint_of o ≡ h
+pub shared_marked : (ports : List Port) (os : List Op) (r : Ref) (o : Op) (h : Name) → hint_of o ≡ h
     → is_shared ports os r o ≡ ((nat_le 2 (use_count os r) || some_op (cuts ports os r) os) || (some_op (joins r) os || is_nonempty h))
 shared_marked ports os r o [] e = rw e refl
 shared_marked ports os r o (b ∷ bs) e = rw e refl

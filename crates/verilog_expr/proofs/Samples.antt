@@ -1,10 +1,10 @@
 -- Expressions, their trees and texts, computed.
-use Rattle.std.proofs.Common.{◌≡◌, true, List, [], ◌∷◌, ◌++◌, map, Some, None, refl, codes, decimal}
+use Rattle.std.proofs.Common.{◌≡◌, true, false, List, [], ◌∷◌, ◌++◌, map, Some, None, refl, codes, decimal}
 use Rattle.hw_model.specs.Kinds.{Kind}
 use Rattle.hw_model.specs.Kinds.Predicate.{eq, slt}
 use Rattle.hw_model.specs.Kinds.Kind.{add, xor, sub, divs, shrs, shru, icmp, mux, parity, extract, concat, replicate}
 use Rattle.verilog_model.specs.Tree.{Expr}
-use Rattle.verilog_model.specs.Tree.Operator.{minus}
+use Rattle.verilog_model.specs.Tree.Operator.{plus, minus, bit_xor}
 use Rattle.verilog_model.specs.Tree.Expr.{name, bit_select, part_select, repeated, paren, binary}
 use Rattle.verilog_model.specs.Tree.Exprs.{last}
 use Rattle.verilog_model.specs.Grammar.{expr_spelled, fits}
@@ -12,6 +12,8 @@ use Rattle.verilog_model.specs.Tokens.{tokens}
 use Rattle.verilog_expr.specs.Numerals.{hex, high_of}
 use Rattle.verilog_expr.specs.Building.{built}
 use Rattle.verilog_expr.specs.Text.{question_text, expr_text}
+use Rattle.verilog_expr.specs.Parentheses.{tight, opened}
+use Rattle.verilog_expr.specs.Signs.{keeps_signs}
 
 abbrev a : Expr
 a = name (codes "a")
@@ -131,3 +133,17 @@ shifted_xor_read = refl
 
 shifted_xor_fits : fits (of_bytes xor (shifted_down ∷ c ∷ [])) ≡ true
 shifted_xor_fits = refl
+
+-- ---- parentheses and signs that do not pass
+
+-- `(a) + b` and `(a - b) - c`, but not `a - (b - c)`
+spare_parentheses : (tight (binary plus (paren a) b) ≡ false) × (tight (binary minus (paren (binary minus a b)) c) ≡ false)
+    × (tight (binary minus a (paren (binary minus b c))) ≡ true)
+spare_parentheses = (refl, refl, refl)
+
+difference_opened : opened (binary minus a (paren (binary minus b c))) ≡ binary minus a (binary minus b c) ∷ []
+difference_opened = refl
+
+-- `$signed(a) >>> b ^ c`, where the shift would be unsigned
+bare_signed_shift : (keeps_signs (binary bit_xor shifted_down c) ≡ false) × (keeps_signs (of_bytes xor (shifted_down ∷ c ∷ [])) ≡ true)
+bare_signed_shift = (refl, refl)

@@ -22,7 +22,7 @@ use Rattle.verilog_expr.specs.Named.{named_of}
 use Rattle.verilog_expr.specs.declared.value_names.ValueNames.{ValueNames}
 use Rattle.verilog_expr.specs.declared.form.Form.TheVariants.{Same}
 use Rattle.verilog_expr.specs.Made.{expr_at, exprs_at, IsOnly, sole_name, head_width, select_text, row_name, name_of_one, IsMade, IsResultOf, wrap_for, open_text, close_text}
-use Rattle.verilog_expr.specs.declared.expr.Wrap.TheVariants.{Bare, Paren}
+use Rattle.verilog_expr.specs.declared.look.Wrap.TheVariants.{Bare, Paren}
 use Rattle.verilog_expr.specs.declared.form.Form.{Form}
 use Rattle.verilog_expr.specs.declared.row.Row.{Row}
 use Rattle.verilog_expr.specs.declared.row.Row.TheVariants.{Missing, Operands}

@@ -12,3 +12,6 @@ pub mod Named
 pub mod Forms
 pub mod Rows
 pub mod Made
+pub mod Parentheses
+pub mod Signs
+pub mod WireRules

@@ -14,8 +14,8 @@ use Rattle.verilog_expr.specs.Text.{expr_text}
 use Rattle.verilog_expr.specs.Scopes.{scope_ports, scope_ops, scope_ref}
 use Rattle.verilog_expr.specs.Named.{named_of}
 use Rattle.verilog_expr.specs.Rows.{row_text, row_signed, row_level}
-use Rattle.verilog_expr.specs.declared.expr.Wrap.{Wrap}
-use Rattle.verilog_expr.specs.declared.expr.Wrap.TheVariants.{Bare, Unsigned, Paren}
+use Rattle.verilog_expr.specs.declared.look.Wrap.{Wrap}
+use Rattle.verilog_expr.specs.declared.look.Wrap.TheVariants.{Bare, Unsigned, Paren}
 use Rattle.verilog_expr.specs.declared.form.Form.{Form}
 use Rattle.verilog_expr.specs.declared.form.Form.TheVariants.{Same, UnsignedDivision, SignedDivision}
 use Rattle.verilog_expr.specs.declared.row.Row.{Row}

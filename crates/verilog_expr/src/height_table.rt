@@ -1,11 +1,13 @@
 //! Heights of a body's operations: how deep the expression of each would be.
-ghost use Rattle.std.specs.Prelude.{◌≡◌, ◌<◌, ℕ, length, map, None, IfOk, IfSome, OnOk};
+ghost use Rattle.std.specs.Prelude.{◌≡◌, ◌<◌, ◌≤◌, ℕ, length, None, Some, is_some, true, IfOk, slice_index_or};
+ghost use Rattle.wiring.specs.Wiring.{IsAcyclic};
+ghost use Rattle.hw_model.specs.Design.Ref.{result as result_of};
 ghost use Rattle.verilog_expr.specs.Scopes.{scope_ports, scope_ops, scope_ref};
-ghost use Rattle.verilog_expr.specs.Spilling.{AreHeights, height};
-ghost use Rattle.verilog_expr.specs.PartTables.{AreParts, AreKnown, AreHeightsAt, AreAll, height_get, IsHeightAt, IsWrapped, stands, stands_most};
+ghost use Rattle.verilog_expr.specs.Spilling as told;
+ghost use Rattle.verilog_expr.specs.Spilling.{AreHeights, height, inner_needs};
+ghost use Rattle.verilog_expr.specs.PartTables.{AreParts, AreKnown, AreHeightsAt, height_get, starting, IsStanding, IsWaiting, IsStep, AreStill};
 
 use crate::nesting::Part;
-use crate::order::{likely_order, text_order};
 use crate::scope::Scope;
 use ir_store::operation::Value;
 use std::alloc::{AllocError, Global};
@@ -13,159 +15,200 @@ use std::alloc::{AllocError, Global};
 // The height under which an operation without a wire stands.
 const LIMIT: u32 = 64;
 
+// How high a value stands in the expression of an operation that uses it.
+enum Stand {
+    Known(u32),
+    // not known yet: the height of the operation at this position has to be known first
+    Unknown(usize),
+}
+
+// An operation whose height waits for that of an operand.
+#[derive(Clone, Copy)]
+struct Waiting {
+    place: usize,
+    // how many of its operands are passed, and the greatest of how high these stand
+    passed: usize,
+    most: u32,
+}
+
+// What is found of an operation that waits.
+enum Step {
+    // its height
+    Height(u32),
+    // where it waits next, and the position of the operation that it waits for
+    Down(Waiting, usize),
+}
+
 // How high an operation of this height stands where it has a wire only for its height.
-fn wrapped(height: Option<u32>) -> Option<u32>
-    ensures { IsWrapped height result }
+fn wrapped(height: u32) -> u32
+    ensures { result ≡ told.height_under told.Part.nested height }
 {
-    match height {
-        Some(height) if height < LIMIT => Some(height),
-        Some(_) => Some(0),
-        None => None,
-    }
+    if height < LIMIT { height } else { 0 }
 }
 
 // How high a value stands in the expression of an operation that uses it, where that is known.
-fn standing(scope: &Scope<'_>, parts: &[Part], heights: &[Option<u32>], value: Value) -> Option<u32>
+fn standing(scope: &Scope<'_>, parts: &[Part], heights: &[Option<u32>], value: Value) -> Stand
     requires parts { AreParts (scope_ports scope.now) (scope_ops scope.now) parts.now }
     requires part_count { length parts.now ≡ length (scope_ops scope.now) }
     requires known { AreKnown (scope_ports scope.now) (scope_ops scope.now) heights.now }
     requires height_count { length heights.now ≡ length (scope_ops scope.now) }
-    ensures { IfSome result (λ n. (n ≡ stands (scope_ports scope.now) (scope_ops scope.now) (scope_ref scope.now value)) × (n < 64)) }
+    ensures { IsStanding (scope_ports scope.now) (scope_ops scope.now) heights.now (scope_ref scope.now value) result }
 {
     let Some(place) = scope.place(value) else {
-        return Some(0);
+        return Stand::Known(0);
     };
     match parts[place] {
-        Part::Flat | Part::Shared => Some(0),
-        Part::Nested => wrapped(heights[place]),
-    }
-}
-
-// The greatest of how high operands stand, where that is known of all.
-fn standing_most(
-    scope: &Scope<'_>,
-    parts: &[Part],
-    heights: &[Option<u32>],
-    operands: &[Value],
-) -> Option<u32>
-    requires parts { AreParts (scope_ports scope.now) (scope_ops scope.now) parts.now }
-    requires part_count { length parts.now ≡ length (scope_ops scope.now) }
-    requires known { AreKnown (scope_ports scope.now) (scope_ops scope.now) heights.now }
-    requires height_count { length heights.now ≡ length (scope_ops scope.now) }
-    ensures { IfSome result (λ n. (n ≡ stands_most (scope_ports scope.now) (scope_ops scope.now) (map (scope_ref scope.now) operands.now)) × (n < 64)) }
-{
-    let mut most = 0;
-    for value in operands {
-        match standing(scope, parts, heights, *value) {
-            Some(height) => most = height.max(most),
-            None => return None,
-        }
-    }
-    Some(most)
-}
-
-// The height of the operation at a position, where those of its operands are known.
-fn height_at(
-    scope: &Scope<'_>,
-    parts: &[Part],
-    heights: &[Option<u32>],
-    place: usize,
-) -> Option<u32>
-    requires within { place < length (scope_ops scope.now) }
-    requires parts { AreParts (scope_ports scope.now) (scope_ops scope.now) parts.now }
-    requires part_count { length parts.now ≡ length (scope_ops scope.now) }
-    requires known { AreKnown (scope_ports scope.now) (scope_ops scope.now) heights.now }
-    requires height_count { length heights.now ≡ length (scope_ops scope.now) }
-    requires heights { AreHeights (scope_ports scope.now) (scope_ops scope.now) (height (scope_ports scope.now) (scope_ops scope.now)) }
-    ensures { IsHeightAt (scope_ports scope.now) (scope_ops scope.now) place result }
-{
-    let op = scope.op_at(place);
-    match parts[place] {
-        Part::Flat => Some(0),
-        Part::Shared | Part::Nested => match standing_most(scope, parts, heights, op.operands) {
-            Some(most) => Some(most + 1),
-            None => None,
+        Part::Flat | Part::Shared => Stand::Known(0),
+        Part::Nested => match heights[place] {
+            Some(height) => Stand::Known(wrapped(height)),
+            None => Stand::Unknown(place),
         },
     }
 }
 
-// Finds the height of the operation at a position, where those of its operands are known.
-fn find_height(scope: &Scope<'_>, parts: &[Part], place: usize, heights: &mut [Option<u32>])
+// Goes on with an operation that waits: through the operands that are not passed, to the first whose height is not known.
+fn go_on(scope: &Scope<'_>, parts: &[Part], heights: &[Option<u32>], waiting: Waiting) -> Step
     requires parts { AreParts (scope_ports scope.now) (scope_ops scope.now) parts.now }
     requires part_count { length parts.now ≡ length (scope_ops scope.now) }
-    requires known { AreKnown (scope_ports scope.now) (scope_ops scope.now) heights.old }
-    requires height_count { length heights.old ≡ length (scope_ops scope.now) }
+    requires known { AreKnown (scope_ports scope.now) (scope_ops scope.now) heights.now }
+    requires height_count { length heights.now ≡ length (scope_ops scope.now) }
     requires heights { AreHeights (scope_ports scope.now) (scope_ops scope.now) (height (scope_ports scope.now) (scope_ops scope.now)) }
-    ensures { AreKnown (scope_ports scope.now) (scope_ops scope.now) heights.new }
+    requires waiting { IsWaiting (scope_ports scope.now) (scope_ops scope.now) waiting }
+    ensures { IsStep (scope_ports scope.now) (scope_ops scope.now) heights.now waiting result }
 {
-    if place >= heights.len() {
-        return;
-    }
-    let height = height_at(scope, parts, heights, place);
-    heights[place] = height;
-}
-
-// Finds the heights of the operations at positions, in their order, where those of their operands are known.
-fn find_heights(scope: &Scope<'_>, parts: &[Part], order: &[u32], heights: &mut [Option<u32>])
-    requires parts { AreParts (scope_ports scope.now) (scope_ops scope.now) parts.now }
-    requires part_count { length parts.now ≡ length (scope_ops scope.now) }
-    requires known { AreKnown (scope_ports scope.now) (scope_ops scope.now) heights.old }
-    requires height_count { length heights.old ≡ length (scope_ops scope.now) }
-    requires heights { AreHeights (scope_ports scope.now) (scope_ops scope.now) (height (scope_ports scope.now) (scope_ops scope.now)) }
-    ensures { AreKnown (scope_ports scope.now) (scope_ops scope.now) heights.new }
-{
-    for place in order {
-        find_height(scope, parts, *place as usize, heights);
-    }
-}
-
-// Whether each height is known.
-fn are_known(heights: &[Option<u32>]) -> bool {
-    for height in heights {
-        if height.is_none() {
-            return false;
+    let operands = scope.op_at(waiting.place).operands;
+    let mut most = waiting.most;
+    for passed in waiting.passed..operands.len() {
+        match standing(scope, parts, heights, operands[passed]) {
+            Stand::Known(height) => most = height.max(most),
+            Stand::Unknown(below) => {
+                return Step::Down(
+                    Waiting {
+                        passed,
+                        most,
+                        ..waiting
+                    },
+                    below,
+                );
+            }
         }
     }
-    true
+    Step::Height(most + 1)
 }
 
-// Finds the heights in text order, and then, where an operand stands behind its operation, in an order in which it does not.
-fn find_all(
+// An operation none of whose operands is passed.
+fn start(place: usize) -> Waiting
+    ensures { result ≡ starting place }
+{
+    Waiting {
+        place,
+        passed: 0,
+        most: 0,
+    }
+}
+
+// Finds the height of the operation at a position, and first those of the operations that it needs. A path of operations
+// that wait has room in `path`, each waiting for the next: as no value needs itself, it is no longer than the body.
+fn find_height(
+    scope: &Scope<'_>,
+    parts: &[Part],
+    place: usize,
+    heights: &mut [Option<u32>],
+    path: &mut [Waiting],
+)
+    requires parts { AreParts (scope_ports scope.now) (scope_ops scope.now) parts.now }
+    requires part_count { length parts.now ≡ length (scope_ops scope.now) }
+    requires known { AreKnown (scope_ports scope.now) (scope_ops scope.now) heights.old }
+    requires height_count { length heights.old ≡ length (scope_ops scope.now) }
+    requires heights { AreHeights (scope_ports scope.now) (scope_ops scope.now) (height (scope_ports scope.now) (scope_ops scope.now)) }
+    requires acyclic { IsAcyclic (inner_needs (scope_ops scope.now)) }
+    requires within { place < length (scope_ops scope.now) }
+    requires above { told.part (scope_ports scope.now) (scope_ops scope.now) (result_of place 0) ≡ told.Part.flat → ⊥ }
+    requires unknown { height_get heights.old place ≡ None }
+    requires room { length (scope_ops scope.now) < length path.old }
+    ensures known { AreKnown (scope_ports scope.now) (scope_ops scope.now) heights.new }
+    ensures found { is_some (height_get heights.new place) ≡ true }
+    ensures still { AreStill heights.old heights.new }
+{
+    path[0] = start(place);
+    let mut depth: usize = 1;
+    while depth > 0 {
+        match go_on(scope, parts, heights, path[depth - 1]) {
+            Step::Height(height) => {
+                depth -= 1;
+                heights[path[depth].place] = Some(height);
+            }
+            Step::Down(waiting, below) => {
+                path[depth - 1] = waiting;
+                path[depth] = start(below);
+                depth += 1;
+            }
+        }
+    }
+}
+
+// Finds the height of the operation at a position, and those of the operations that it needs.
+fn find_at(
+    scope: &Scope<'_>,
+    parts: &[Part],
+    place: usize,
+    heights: &mut [Option<u32>],
+    path: &mut [Waiting],
+)
+    requires parts { AreParts (scope_ports scope.now) (scope_ops scope.now) parts.now }
+    requires part_count { length parts.now ≡ length (scope_ops scope.now) }
+    requires known { AreKnown (scope_ports scope.now) (scope_ops scope.now) heights.old }
+    requires height_count { length heights.old ≡ length (scope_ops scope.now) }
+    requires heights { AreHeights (scope_ports scope.now) (scope_ops scope.now) (height (scope_ports scope.now) (scope_ops scope.now)) }
+    requires acyclic { IsAcyclic (inner_needs (scope_ops scope.now)) }
+    requires within { place < length (scope_ops scope.now) }
+    requires room { length (scope_ops scope.now) < length path.old }
+    ensures known { AreKnown (scope_ports scope.now) (scope_ops scope.now) heights.new }
+    ensures found { is_some (height_get heights.new place) ≡ true }
+    ensures still { AreStill heights.old heights.new }
+{
+    if heights[place].is_some() {
+        return;
+    }
+    match parts[place] {
+        Part::Flat => heights[place] = Some(0),
+        Part::Shared | Part::Nested => find_height(scope, parts, place, heights, path),
+    }
+}
+
+// Finds the height of each operation.
+fn find_all(scope: &Scope<'_>, parts: &[Part], heights: &mut [Option<u32>], path: &mut [Waiting])
+    requires parts { AreParts (scope_ports scope.now) (scope_ops scope.now) parts.now }
+    requires part_count { length parts.now ≡ length (scope_ops scope.now) }
+    requires known { AreKnown (scope_ports scope.now) (scope_ops scope.now) heights.old }
+    requires height_count { length heights.old ≡ length (scope_ops scope.now) }
+    requires heights { AreHeights (scope_ports scope.now) (scope_ops scope.now) (height (scope_ports scope.now) (scope_ops scope.now)) }
+    requires acyclic { IsAcyclic (inner_needs (scope_ops scope.now)) }
+    requires room { length (scope_ops scope.now) < length path.old }
+    ensures { AreHeightsAt (scope_ports scope.now) (scope_ops scope.now) heights.new }
+{
+    for place in 0..parts.len() {
+        find_at(scope, parts, place, heights, path);
+    }
+}
+
+/// The height of each operation, by its position. The error is want of memory.
+pub(crate) fn heights_of(
     alloc: Global,
     scope: &Scope<'_>,
     parts: &[Part],
-    heights: &mut [Option<u32>],
-) -> Result<(), AllocError>
+) -> Result<Vec<Option<u32>>, AllocError>
     requires parts { AreParts (scope_ports scope.now) (scope_ops scope.now) parts.now }
     requires part_count { length parts.now ≡ length (scope_ops scope.now) }
-    requires known { AreKnown (scope_ports scope.now) (scope_ops scope.now) heights.old }
-    requires height_count { length heights.old ≡ length (scope_ops scope.now) }
     requires heights { AreHeights (scope_ports scope.now) (scope_ops scope.now) (height (scope_ports scope.now) (scope_ops scope.now)) }
-    ensures { OnOk result (AreKnown (scope_ports scope.now) (scope_ops scope.now) heights.new) }
+    requires acyclic { IsAcyclic (inner_needs (scope_ops scope.now)) }
+    ensures count { IfOk result (λ hs. length hs.items ≡ length (scope_ops scope.now)) }
+    ensures heights { IfOk result (λ hs. AreHeightsAt (scope_ports scope.now) (scope_ops scope.now) hs.items) }
 {
-    let order = text_order(alloc, parts.len())?;
-    find_heights(scope, parts, order.as_slice(), heights);
-    if are_known(heights) {
-        return Ok(());
-    }
-    let order = likely_order(alloc, scope, parts)?;
-    find_heights(scope, parts, order.as_slice(), heights);
-    Ok(())
-}
-
-// The heights, where all are known.
-fn all_known(alloc: Global, heights: &[Option<u32>]) -> Result<Vec<u32>, AllocError>
-    ensures count { IfOk result (λ hs. length hs.items ≡ length heights.now) }
-    ensures all { IfOk result (λ hs. AreAll heights.now hs.items) }
-{
-    let mut all = Vec::with_capacity(alloc, heights.len())?;
-    for height in heights {
-        match height {
-            Some(height) => all.push(*height)?,
-            None => return Err(AllocError),
-        }
-    }
-    Ok(all)
+    let mut heights = no_heights(alloc, parts.len())?;
+    let mut path = no_path(alloc, parts.len() + 1)?;
+    find_all(scope, parts, heights.as_mut_slice(), path.as_mut_slice());
+    Ok(heights)
 }
 
 // So many heights that are not known.
@@ -180,20 +223,10 @@ fn no_heights(alloc: Global, count: usize) -> Result<Vec<Option<u32>>, AllocErro
     Ok(heights)
 }
 
-/// The height of each operation, by its position.
-pub(crate) fn heights_of(
-    alloc: Global,
-    scope: &Scope<'_>,
-    parts: &[Part],
-) -> Result<Vec<u32>, AllocError>
-    requires parts { AreParts (scope_ports scope.now) (scope_ops scope.now) parts.now }
-    requires part_count { length parts.now ≡ length (scope_ops scope.now) }
-    requires heights { AreHeights (scope_ports scope.now) (scope_ops scope.now) (height (scope_ports scope.now) (scope_ops scope.now)) }
-    ensures count { IfOk result (λ hs. length hs.items ≡ length (scope_ops scope.now)) }
-    ensures heights { IfOk result (λ hs. AreHeightsAt (scope_ports scope.now) (scope_ops scope.now) hs.items) }
+// Room for a path of so many operations.
+fn no_path(alloc: Global, count: usize) -> Result<Vec<Waiting>, AllocError>
+    ensures { IfOk result (λ path. length path.items ≡ count) }
 {
-    let mut heights = no_heights(alloc, scope.count())?;
-    find_all(alloc, scope, parts, heights.as_mut_slice())?;
-    let all = all_known(alloc, heights.as_slice())?;
-    Ok(all)
+    let path = vec![in alloc; start(0); count]?;
+    Ok(path)
 }

@@ -1,7 +1,7 @@
 //! The laws of expressions, each a clause of a function that does nothing.
 
-ghost use Rattle.std.specs.Prelude.{◌≡◌, ℕ, suc, ◌<◌, ◌≤◌, ◌^◌, Bool, true, List, [], length, map, Option, Some, None, slice_get, decimal};
-ghost use Rattle.wiring.specs.Wiring.{In, IsAcyclic};
+ghost use Rattle.std.specs.Prelude.{◌≡◌, ℕ, suc, ◌<◌, ◌≤◌, ◌^◌, ◌⊎◌, ◌↔◌, Bool, true, false, List, [], length, map, Option, Some, None, slice_get, decimal};
+ghost use Rattle.wiring.specs.Wiring.{In, greatest, IsAcyclic};
 ghost use Rattle.bits_core.specs.Word.{Word};
 ghost use Rattle.hw_model.specs.Types.{Name, HwType, width};
 ghost use Rattle.hw_model.specs.Kinds.{Kind};
@@ -13,13 +13,17 @@ ghost use Rattle.hw_model.specs.Sound.{type_in, Fits};
 ghost use Rattle.verilog_model.specs.Numerals.{decimal_number, hex_number, is_decimal, is_hex};
 ghost use Rattle.verilog_model.specs.Tree.{Expr};
 ghost use Rattle.verilog_model.specs.Grammar.{fits};
-ghost use Rattle.verilog_model.specs.Expression.{own_value, assigned};
+ghost use Rattle.verilog_model.specs.Expression.{is_signed, own_value, assigned};
 ghost use Rattle.verilog_model.specs.Hierarchy.{range_width};
 ghost use Rattle.verilog_expr.specs.Numerals.{hex, high_of};
 ghost use Rattle.verilog_expr.specs.Building.{built};
-ghost use Rattle.verilog_expr.specs.Expressions.{value_width, own_expr, AreExprs, expr_to};
-ghost use Rattle.verilog_expr.specs.Spilling.{AreHeights, height, height_limit, inner_needs};
+ghost use Rattle.verilog_expr.specs.Forms.{wanted};
+ghost use Rattle.verilog_expr.specs.Expressions.{op_at, value_width, own_expr, AreExprs, expr_to};
+ghost use Rattle.verilog_expr.specs.Spilling.{is_pure, is_constant_kind, AreHeights, height, height_limit, spilled, inner_needs};
+ghost use Rattle.verilog_expr.specs.Parentheses.{tight, opened};
+ghost use Rattle.verilog_expr.specs.Signs.{is_signed_kind, keeps_signs};
 ghost use Rattle.verilog_expr.specs.Values.{HasBits, IsBuildable, IsDividedBy, gives_values, is_division, IsWritable, AreNamed, HoldConstants};
+ghost use Rattle.verilog_expr.specs.WireRules.{IsComputed, IsCut, WantsWire, heights_without_wire};
 
 /// Does nothing. Its clauses say that numerals say their numbers again: a decimal one of a number below 2 ^ 64, a
 /// hexadecimal one of any number, and the range of a width (IEEE 1364-2005, 3.5.1).
@@ -93,4 +97,56 @@ pub fn expressions_fit()
     ensures depth { (named : Ref → Option Name) (ports : List Port) (os : List Op) (n : ℕ) (r : Ref) → fits (expr_to named ports os n r) ≡ true }
     ensures own { (named : Ref → Option Name) (ports : List Port) (os : List Op) (ex : Ref → Expr) → ((r : Ref) → fits (ex r) ≡ true)
         → (r : Ref) → fits (own_expr named ports os ex r) ≡ true }
+{}
+
+/// Does nothing. Its clauses say that no parentheses of an expression can be left out (IEEE 1364-2005, 5.1.2): where any
+/// one pair is taken from an expression that is tight, what is left does not keep the precedence and association of the
+/// operators (`left_out`). The expression of an operation is tight where those of its operands are, and so are each
+/// expression of a body, each down to a depth, and what is assigned to a name, whatever names the values have.
+pub fn parentheses_are_needed()
+    ensures left_out { (e x : Expr) → tight e ≡ true → In x (opened e) → fits x ≡ false }
+    ensures built { (kind : Kind) (w : ℕ) (ws : List ℕ) (divisor : ℕ) (es : List Expr) → ((e : Expr) → In e es → tight e ≡ true)
+        → tight (built kind w ws divisor es) ≡ true }
+    ensures body { (named : Ref → Option Name) (ports : List Port) (os : List Op) (ex : Ref → Expr) → IsWritable named ports os
+        → IsAcyclic (inner_needs os) → AreExprs named ports os ex → (r : Ref) → tight (ex r) ≡ true }
+    ensures depth { (named : Ref → Option Name) (ports : List Port) (os : List Op) (n : ℕ) (r : Ref) → tight (expr_to named ports os n r) ≡ true }
+    ensures own { (named : Ref → Option Name) (ports : List Port) (os : List Op) (ex : Ref → Expr) → ((r : Ref) → tight (ex r) ≡ true)
+        → (r : Ref) → tight (own_expr named ports os ex r) ≡ true }
+{}
+
+/// Does nothing. Its clauses say that each expression stands by its own sign (IEEE 1364-2005, 5.5): where an unsigned one is
+/// asked for, what stands is unsigned (`places`); only a signed division or shift is signed, or what stands as an operand
+/// does (`signed`, `kinds`). What stands round an operand changes its sign nowhere: in the expression of an operation where
+/// it does so in none of its operands' expressions, in each expression of a body, each down to a depth, and in what is
+/// assigned to a name, whatever names the values have.
+pub fn signs_are_kept()
+    ensures places { (l : ℕ) (e : Expr) → is_signed (wanted true l e) ≡ false }
+    ensures kinds { (kind : Kind) (w : ℕ) (ws : List ℕ) (divisor : ℕ) (es : List Expr) → is_signed_kind kind ≡ true → length es ≡ 2
+        → is_signed (built kind w ws divisor es) ≡ true }
+    ensures signed { (kind : Kind) (w : ℕ) (ws : List ℕ) (divisor : ℕ) (es : List Expr) → is_signed (built kind w ws divisor es) ≡ true
+        → (is_signed_kind kind ≡ true) ⊎ In (built kind w ws divisor es) es }
+    ensures built { (kind : Kind) (w : ℕ) (ws : List ℕ) (divisor : ℕ) (es : List Expr) → ((e : Expr) → In e es → keeps_signs e ≡ true)
+        → keeps_signs (built kind w ws divisor es) ≡ true }
+    ensures body { (named : Ref → Option Name) (ports : List Port) (os : List Op) (ex : Ref → Expr) → IsWritable named ports os
+        → IsAcyclic (inner_needs os) → AreExprs named ports os ex → (r : Ref) → keeps_signs (ex r) ≡ true }
+    ensures depth { (named : Ref → Option Name) (ports : List Port) (os : List Op) (n : ℕ) (r : Ref) → keeps_signs (expr_to named ports os n r) ≡ true }
+    ensures own { (named : Ref → Option Name) (ports : List Port) (os : List Op) (ex : Ref → Expr) → ((r : Ref) → keeps_signs (ex r) ≡ true)
+        → (r : Ref) → keeps_signs (own_expr named ports os ex r) ≡ true }
+{}
+
+/// Does nothing. Its clauses say when a value has a wire. One that is computed by a pure operation other than a constant has
+/// one exactly where it has two uses or more, or is an operand of a narrower extract or of an instance, or a name is wanted
+/// for it, or it has the limit of heights (`computed`); a constant exactly where it is an operand of a narrower extract
+/// (`constants`); nothing else has one (`others`). A value that is not computed has height 0 (`names`), and one that is has
+/// one more than the highest of its operands without a wire (`heights`), at most the limit (`limit`).
+pub fn wires_stand_by_rule()
+    ensures computed { (ports : List Port) (os : List Op) → IsAcyclic (inner_needs os) → (r : Ref) (o : Op) → IsComputed os r o
+        → (spilled ports os r ≡ true) ↔ WantsWire ports os r o }
+    ensures constants { (ports : List Port) (os : List Op) (r : Ref) (o : Op) → op_at os r ≡ Some o → is_constant_kind o.kind ≡ true
+        → (spilled ports os r ≡ true) ↔ IsCut ports os r }
+    ensures others { (ports : List Port) (os : List Op) (r : Ref) → spilled ports os r ≡ true → (o : Op) × (op_at os r ≡ Some o) × (is_pure o ≡ true) }
+    ensures names { (ports : List Port) (os : List Op) → IsAcyclic (inner_needs os) → (r : Ref) → ((o : Op) → IsComputed os r o → ⊥) → height ports os r ≡ 0 }
+    ensures heights { (ports : List Port) (os : List Op) → IsAcyclic (inner_needs os) → (r : Ref) (o : Op) → IsComputed os r o
+        → height ports os r ≡ suc (greatest (heights_without_wire ports os o.operands)) }
+    ensures limit { (ports : List Port) (os : List Op) → IsAcyclic (inner_needs os) → (r : Ref) → height ports os r ≤ height_limit }
 {}

@@ -27,7 +27,7 @@ impl Wires {
     ghost use Rattle.verilog_expr.specs.Scopes.{scope_ports, scope_ops};
     ghost use Rattle.verilog_expr.specs.PartTables.{AreWires};
 
-    /// Which values of a body have wires. No value may need itself through pure operations.
+    /// Which values of a body have wires. No value may need itself through pure operations. The error is want of memory.
     pub fn of(alloc: Global, scope: &Scope<'_>) -> Result<Wires, AllocError>
         requires small { AreSmall (scope_ports scope.now) (scope_ops scope.now) }
         requires acyclic { IsAcyclic (inner_needs (scope_ops scope.now)) }
@@ -86,7 +86,7 @@ fn wires_of(
     scope: &Scope<'_>,
     marks: &[Mark],
     parts: &[Part],
-    heights: &[u32],
+    heights: &[Option<u32>],
 ) -> Result<Vec<bool>, AllocError>
     requires mark_count { length marks.now ≡ length (scope_ops scope.now) }
     requires marks { AreMarks (scope_ports scope.now) (scope_ops scope.now) marks.now }
@@ -100,7 +100,8 @@ fn wires_of(
     let mut wires = Vec::with_capacity(alloc, count)?;
     for place in 0..count {
         let op = scope.op_at(place);
-        wires.push(is_wired(scope, &op, marks[place], parts[place], heights[place]))?;
+        let height = heights[place].unwrap_or(0);
+        wires.push(is_wired(scope, &op, marks[place], parts[place], height))?;
     }
     Ok(wires)
 }

@@ -5,7 +5,7 @@ use Rattle.verilog_expr.specs.Scopes.{scope_ports, scope_ops, scope_ref}
 use Rattle.verilog_expr.specs.Named.{named_of}
 use Rattle.verilog_expr.specs.Made.{sole_name}
 use Rattle.verilog_expr.proofs.Writing.{at_zero, at_name, seen_same, seen_other}
-use Rattle.verilog_expr.proofs.expr.+look_at.Goals as goal
+use Rattle.verilog_expr.proofs.look.+look_at.Goals as goal
 
 pub returns-then-depth-eq0 : goal.returns-then-depth-eq0
 returns-then-depth-eq0 t c =

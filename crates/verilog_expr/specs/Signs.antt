@@ -1,0 +1,51 @@
+-- Which operands stand under one sign with what stands round them (IEEE 1364-2005, 5.5: signed expressions).
+use Rattle.std.specs.Prelude.{Bool, true, false, not, ◌&&◌}
+use Rattle.hw_model.specs.Kinds.{Kind}
+use Rattle.hw_model.specs.Kinds.Kind.{divs, mods, shrs}
+use Rattle.verilog_model.specs.Tree.{Expr, Exprs}
+use Rattle.verilog_model.specs.Tree.Expr.{name, bit_select, part_select, literal, joined, repeated, as_signed, as_unsigned, paren, odd, binary, choice}
+use Rattle.verilog_model.specs.Tree.Exprs.{last, more}
+use Rattle.verilog_model.specs.Expression.{Context, context_of, is_signed}
+use Rattle.verilog_model.specs.Expression.Context.{both_operands, left_operand, no_operand}
+
+-- whether both hold or neither does
+abbrev pub alike : Bool → Bool → Bool
+alike true b = b
+alike false b = not b
+
+-- whether both operands of an operator keep their signs: those that stand in one context, or are compared, are both signed
+-- or both unsigned
+abbrev pub signs_kept : Context → Bool → Bool → Bool
+signs_kept both_operands a b = alike a b
+signs_kept left_operand a b = true
+signs_kept no_operand a b = alike a b
+
+-- whether what stands round an operand changes its sign nowhere in an expression
+abbrev mutual
+  pub keeps_signs : Expr → Bool
+  keeps_signs (name n) = true
+  keeps_signs (bit_select n k) = true
+  keeps_signs (part_select n h l) = true
+  keeps_signs (literal w s h) = true
+  keeps_signs (joined es) = all_keep_signs es
+  keeps_signs (repeated n es) = all_keep_signs es
+  keeps_signs (as_signed e) = keeps_signs e
+  keeps_signs (as_unsigned e) = keeps_signs e
+  keeps_signs (paren e) = keeps_signs e
+  keeps_signs (odd e) = keeps_signs e
+  keeps_signs (binary o a b) = signs_kept (context_of o) (is_signed a) (is_signed b) && (keeps_signs a && keeps_signs b)
+  keeps_signs (choice c a b) = alike (is_signed a) (is_signed b) && (keeps_signs c && (keeps_signs a && keeps_signs b))
+
+  pub all_keep_signs : Exprs → Bool
+  all_keep_signs (last e) = keeps_signs e
+  all_keep_signs (more e es) = keeps_signs e && all_keep_signs es
+
+-- ---- kinds
+
+-- whether the expression of an operation is signed: of a signed division or shift. An operand that stands as it is keeps its
+-- own sign
+abbrev pub is_signed_kind : Kind → Bool
+is_signed_kind divs = true
+is_signed_kind mods = true
+is_signed_kind shrs = true
+is_signed_kind _ = false
