@@ -365,4 +365,3 @@ fn signed_bits(width: u32, negative: bool, magnitude: u128) -> Bits
         Bits::truncated(width, magnitude)
     }
 }
-
