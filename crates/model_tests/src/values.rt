@@ -37,93 +37,58 @@ fn number(
     Ok(bits.value())
 }
 
-// the number of the value of an operation on integers
-fn integer(
-    alloc: Global,
+// An operation on integers with the width of its value, its operands, each a width and a number, and its value.
+#[derive(Drop)]
+struct IntegerRow {
     kind: OpKind,
     width: u32,
-    operands: &[(u32, u128)],
-) -> Result<u128, Refusal> {
-    number(alloc, &kind, &[], &Ty::Int(width), 0, operands)
+    operands: &'static [(u32, u128)],
+    value: u128,
+}
+
+fn row(kind: OpKind, width: u32, operands: &'static [(u32, u128)], value: u128) -> IntegerRow {
+    IntegerRow {
+        kind,
+        width,
+        operands,
+        value,
+    }
 }
 
 #[test]
-fn sums_and_products(rt: HostRuntime) -> Result<(), Fail> {
-    let alloc = rt.alloc();
-    let bytes = [(8, 0xcc), (8, 0xaa)];
-    assert_eq!(rt; integer(alloc, OpKind::Add, 8, &bytes)?, 0x76);
-    assert_eq!(rt; integer(alloc, OpKind::Mul, 8, &bytes)?, 0x78);
-    assert_eq!(rt; integer(alloc, OpKind::And, 8, &bytes)?, 0x88);
-    assert_eq!(rt; integer(alloc, OpKind::Or, 8, &bytes)?, 0xee);
-    assert_eq!(rt; integer(alloc, OpKind::Xor, 8, &bytes)?, 0x66);
-    assert_eq!(rt; integer(alloc, OpKind::Sub, 8, &bytes)?, 0x22);
-    Ok(())
-}
-
-#[test]
-fn quotients(rt: HostRuntime) -> Result<(), Fail> {
-    let alloc = rt.alloc();
-    let seven_by_minus_three = [(8, 0x07), (8, 0xfd)];
-    assert_eq!(rt; integer(alloc, OpKind::Divu, 8, &seven_by_minus_three)?, 0);
-    assert_eq!(rt;
-        integer(alloc, OpKind::Modu, 8, &seven_by_minus_three)?,
-        0x07
-    );
-    assert_eq!(rt;
-        integer(alloc, OpKind::Divs, 8, &seven_by_minus_three)?,
-        0xfe
-    );
-    assert_eq!(rt;
-        integer(alloc, OpKind::Mods, 8, &seven_by_minus_three)?,
-        0x01
-    );
-    Ok(())
-}
-
-#[test]
-fn shifts(rt: HostRuntime) -> Result<(), Fail> {
-    let alloc = rt.alloc();
-    let by_one = [(8, 0x81), (8, 1)];
-    assert_eq!(rt; integer(alloc, OpKind::Shl, 8, &by_one)?, 0x02);
-    assert_eq!(rt; integer(alloc, OpKind::Shru, 8, &by_one)?, 0x40);
-    assert_eq!(rt; integer(alloc, OpKind::Shrs, 8, &by_one)?, 0xc0);
-    assert_eq!(rt; integer(alloc, OpKind::Shl, 8, &[(8, 0x81), (8, 9)])?, 0);
-    Ok(())
-}
-
-#[test]
-fn parts_and_choices(rt: HostRuntime) -> Result<(), Fail> {
-    let alloc = rt.alloc();
-    let word = [(16, 0xabcd)];
-    assert_eq!(rt;
-        integer(alloc, OpKind::Icmp(Predicate::Slt), 1, &[(8, 0x80), (8, 1)])?,
-        1
-    );
-    assert_eq!(rt; integer(alloc, OpKind::Parity, 1, &[(8, 0x07)])?, 1);
-    assert_eq!(rt; integer(alloc, OpKind::Extract(8), 8, &word)?, 0xab);
-    assert_eq!(rt;
-        integer(alloc, OpKind::Concat, 16, &[(8, 0xab), (8, 0xcd)])?,
-        0xabcd
-    );
-    assert_eq!(rt; integer(alloc, OpKind::Replicate, 32, &word)?, 0xabcd_abcd);
-    assert_eq!(rt;
-        integer(alloc, OpKind::Mux, 8, &[(1, 0), (8, 1), (8, 2)])?,
-        2
-    );
-    assert_eq!(rt;
-        integer(alloc, OpKind::Constant(Integer::Negative(2)), 8, &[])?,
-        0xfd
-    );
-    Ok(())
-}
-
-#[test]
-fn widest(rt: HostRuntime) -> Result<(), Fail> {
-    let alloc = rt.alloc();
-    assert_eq!(rt;
-        integer(alloc, OpKind::Add, 128, &[(128, u128::MAX), (128, 1)])?,
-        0
-    );
+fn integers(rt: HostRuntime) -> Result<(), Fail> {
+    let rows = [
+        row(OpKind::Add, 8, &[(8, 0xcc), (8, 0xaa)], 0x76),
+        row(OpKind::Mul, 8, &[(8, 0xcc), (8, 0xaa)], 0x78),
+        row(OpKind::And, 8, &[(8, 0xcc), (8, 0xaa)], 0x88),
+        row(OpKind::Or, 8, &[(8, 0xcc), (8, 0xaa)], 0xee),
+        row(OpKind::Xor, 8, &[(8, 0xcc), (8, 0xaa)], 0x66),
+        row(OpKind::Sub, 8, &[(8, 0xcc), (8, 0xaa)], 0x22),
+        // 7 by -3
+        row(OpKind::Divu, 8, &[(8, 0x07), (8, 0xfd)], 0),
+        row(OpKind::Modu, 8, &[(8, 0x07), (8, 0xfd)], 0x07),
+        row(OpKind::Divs, 8, &[(8, 0x07), (8, 0xfd)], 0xfe),
+        row(OpKind::Mods, 8, &[(8, 0x07), (8, 0xfd)], 0x01),
+        row(OpKind::Shl, 8, &[(8, 0x81), (8, 1)], 0x02),
+        row(OpKind::Shru, 8, &[(8, 0x81), (8, 1)], 0x40),
+        row(OpKind::Shrs, 8, &[(8, 0x81), (8, 1)], 0xc0),
+        row(OpKind::Shl, 8, &[(8, 0x81), (8, 9)], 0),
+        row(OpKind::Icmp(Predicate::Slt), 1, &[(8, 0x80), (8, 1)], 1),
+        row(OpKind::Parity, 1, &[(8, 0x07)], 1),
+        row(OpKind::Extract(8), 8, &[(16, 0xabcd)], 0xab),
+        row(OpKind::Concat, 16, &[(8, 0xab), (8, 0xcd)], 0xabcd),
+        row(OpKind::Replicate, 32, &[(16, 0xabcd)], 0xabcd_abcd),
+        row(OpKind::Mux, 8, &[(1, 0), (8, 1), (8, 2)], 2),
+        row(OpKind::Constant(Integer::Negative(2)), 8, &[], 0xfd),
+        row(OpKind::Bitcast, 16, &[(16, 0xabcd)], 0xabcd),
+        row(OpKind::Wire, 16, &[(16, 0xabcd)], 0xabcd),
+        row(OpKind::Add, 128, &[(128, u128::MAX), (128, 1)], 0),
+    ];
+    for row in &rows {
+        let ty = Ty::Int(row.width);
+        let value = number(rt.alloc(), &row.kind, &[], &ty, 0, row.operands)?;
+        assert_eq!(rt; value, row.value);
+    }
     Ok(())
 }
 
@@ -131,93 +96,6 @@ fn widest(rt: HostRuntime) -> Result<(), Fail> {
 fn array(alloc: Global, length: u32) -> Result<Ty, Refusal> {
     let element = Box::new(alloc, Ty::Int(8))?;
     Ok(Ty::Array(length, element))
-}
-
-#[test]
-fn arrays(rt: HostRuntime) -> Result<(), Fail> {
-    let alloc = rt.alloc();
-    let types = [array(alloc, 3)?];
-    let (byte, two) = (Ty::Int(8), array(alloc, 2)?);
-    let elements = (24, 0x30_2010);
-    assert_eq!(rt;
-        number(
-            alloc,
-            &OpKind::ArrayGet,
-            &types,
-            &byte,
-            0,
-            &[elements, (2, 0)]
-        )?,
-        0x10
-    );
-    assert_eq!(rt;
-        number(
-            alloc,
-            &OpKind::ArrayGet,
-            &types,
-            &byte,
-            0,
-            &[elements, (2, 2)]
-        )?,
-        0x30
-    );
-    assert_eq!(rt;
-        number(
-            alloc,
-            &OpKind::ArrayGet,
-            &types,
-            &byte,
-            0,
-            &[elements, (2, 3)]
-        )?,
-        0
-    );
-    assert_eq!(rt;
-        number(
-            alloc,
-            &OpKind::ArraySlice,
-            &types,
-            &two,
-            0,
-            &[elements, (2, 1)]
-        )?,
-        0x3020
-    );
-    Ok(())
-}
-
-#[test]
-fn arrays_put_together(rt: HostRuntime) -> Result<(), Fail> {
-    let alloc = rt.alloc();
-    let types = [array(alloc, 3)?];
-    let bytes = [(8, 0x30), (8, 0x20), (8, 0x10)];
-    assert_eq!(rt;
-        number(alloc, &OpKind::ArrayCreate, &[], &types[0], 0, &bytes)?,
-        0x30_2010
-    );
-    assert_eq!(rt;
-        number(
-            alloc,
-            &OpKind::ArrayConcat,
-            &[],
-            &types[0],
-            0,
-            &[(16, 0x3020), (8, 0x10)]
-        )?,
-        0x30_2010
-    );
-    assert_eq!(rt;
-        number(
-            alloc,
-            &OpKind::ArrayInject,
-            &types,
-            &types[0],
-            0,
-            &[(24, 0x30_2010), (2, 1), (8, 0xee)]
-        )?,
-        0x30_ee10
-    );
-    Ok(())
 }
 
 // a field of an integer type
@@ -237,70 +115,116 @@ fn pair(alloc: Global) -> Result<Ty, Refusal> {
     Ok(Ty::Struct(FieldList { fields }))
 }
 
+// An operation on aggregates, with the types that it writes, the type and the number of its result, its operands, each a
+// width and a number, and its value.
+#[derive(Drop)]
+struct AggregateRow<'a> {
+    kind: OpKind,
+    types: &'a [Ty],
+    ty: &'a Ty,
+    index: u32,
+    operands: &'static [(u32, u128)],
+    value: u128,
+}
+
+// whether each row has its value
+fn have_values(alloc: Global, rows: &[AggregateRow<'_>]) -> Result<bool, Refusal> {
+    for row in rows {
+        let value = number(alloc, &row.kind, row.types, row.ty, row.index, row.operands)?;
+        if value != row.value {
+            return Ok(false);
+        }
+    }
+    Ok(true)
+}
+
 #[test]
-fn structs(rt: HostRuntime) -> Result<(), Fail> {
+fn arrays(rt: HostRuntime) -> Result<(), Fail> {
     let alloc = rt.alloc();
-    let types = [pair(alloc)?];
-    let nibble = Ty::Int(4);
-    let q = Text::of(alloc, b"q")?;
-    let extract = OpKind::StructExtract(q);
-    assert_eq!(rt;
-        number(alloc, &extract, &types, &nibble, 0, &[(12, 0xabc)])?,
-        0xc
-    );
-    assert_eq!(rt;
-        number(
-            alloc,
-            &OpKind::StructExplode,
-            &types,
-            &nibble,
-            1,
-            &[(12, 0xabc)]
-        )?,
-        0xc
-    );
-    let p = Text::of(alloc, b"p")?;
-    let inject = OpKind::StructInject(p);
-    assert_eq!(rt;
-        number(
-            alloc,
-            &inject,
-            &types,
+    let types = [array(alloc, 3)?];
+    let (byte, two) = (Ty::Int(8), array(alloc, 2)?);
+    let read = |kind, ty, operands, value| AggregateRow {
+        kind,
+        types: &types,
+        ty,
+        index: 0,
+        operands,
+        value,
+    };
+    let rows = [
+        read(OpKind::ArrayGet, &byte, &[(24, 0x30_2010), (2, 0)], 0x10),
+        read(OpKind::ArrayGet, &byte, &[(24, 0x30_2010), (2, 2)], 0x30),
+        read(OpKind::ArrayGet, &byte, &[(24, 0x30_2010), (2, 3)], 0),
+        read(OpKind::ArraySlice, &two, &[(24, 0x30_2010), (2, 1)], 0x3020),
+        read(
+            OpKind::ArrayInject,
             &types[0],
-            0,
-            &[(12, 0xabc), (8, 0x12)]
-        )?,
-        0x12c
-    );
-    assert_eq!(rt;
-        number(
-            alloc,
-            &OpKind::StructCreate,
-            &[],
+            &[(24, 0x30_2010), (2, 1), (8, 0xee)],
+            0x30_ee10,
+        ),
+        read(
+            OpKind::ArrayCreate,
             &types[0],
-            0,
-            &[(8, 0xab), (4, 0xc)]
-        )?,
-        0xabc
-    );
+            &[(8, 0x30), (8, 0x20), (8, 0x10)],
+            0x30_2010,
+        ),
+        read(
+            OpKind::ArrayConcat,
+            &types[0],
+            &[(16, 0x3020), (8, 0x10)],
+            0x30_2010,
+        ),
+    ];
+    assert!(rt; have_values(alloc, &rows)?);
     Ok(())
 }
 
 #[test]
-fn passed_words(rt: HostRuntime) -> Result<(), Fail> {
+fn structs(rt: HostRuntime) -> Result<(), Fail> {
     let alloc = rt.alloc();
-    assert_eq!(rt;
-        integer(alloc, OpKind::Bitcast, 16, &[(16, 0xabcd)])?,
-        0xabcd
-    );
-    assert_eq!(rt; integer(alloc, OpKind::Wire, 16, &[(16, 0xabcd)])?, 0xabcd);
+    let types = [pair(alloc)?];
+    let (p, q) = (Text::of(alloc, b"p")?, Text::of(alloc, b"q")?);
+    let nibble = Ty::Int(4);
+    let read = |kind, ty, index, operands, value| AggregateRow {
+        kind,
+        types: &types,
+        ty,
+        index,
+        operands,
+        value,
+    };
+    let rows = [
+        read(OpKind::StructExtract(q), &nibble, 0, &[(12, 0xabc)], 0xc),
+        read(OpKind::StructExplode, &nibble, 1, &[(12, 0xabc)], 0xc),
+        read(
+            OpKind::StructInject(p),
+            &types[0],
+            0,
+            &[(12, 0xabc), (8, 0x12)],
+            0x12c,
+        ),
+        read(
+            OpKind::StructCreate,
+            &types[0],
+            0,
+            &[(8, 0xab), (4, 0xc)],
+            0xabc,
+        ),
+    ];
+    assert!(rt; have_values(alloc, &rows)?);
+    Ok(())
+}
+
+#[test]
+fn constants_and_registers(rt: HostRuntime) -> Result<(), Fail> {
+    let alloc = rt.alloc();
     let none = value_of(alloc, &OpKind::CompReg(Reset::No), &[], &Ty::Int(8), 0, &[])?;
     assert!(rt; none.as_slice().is_empty());
     let mut literals = Vec::new(alloc);
     literals.push(Literal::Leaf(Integer::NonNegative(0xab), Ty::Int(8)))?;
     literals.push(Literal::Leaf(Integer::Negative(0), Ty::Int(4)))?;
     let kind = OpKind::AggregateConstant(LiteralList { literals });
-    assert_eq!(rt; integer(alloc, kind, 12, &[])?, 0xabf);
+    assert_eq!(rt; number(alloc, &kind, &[], &Ty::Int(12), 0, &[])?, 0xabf);
     Ok(())
 }
 
@@ -323,26 +247,44 @@ fn is_refused(
     }
 }
 
+// An operation on integers with the width of its value and its operands, and whether they suit it.
+#[derive(Drop)]
+struct SuitingRow {
+    kind: OpKind,
+    width: u32,
+    operands: &'static [(u32, u128)],
+    suits: bool,
+}
+
+fn suits(kind: OpKind, width: u32, operands: &'static [(u32, u128)], suits: bool) -> SuitingRow {
+    SuitingRow {
+        kind,
+        width,
+        operands,
+        suits,
+    }
+}
+
 #[test]
 fn integers_that_do_not_suit(rt: HostRuntime) -> Result<(), Fail> {
     let alloc = rt.alloc();
-    let cases: [(OpKind, u32, &[(u32, u128)], bool); 12] = [
-        (OpKind::Add, 8, &[(8, 1), (8, 1), (8, 1)], false),
-        (OpKind::Add, 8, &[(8, 1), (4, 1)], true),
-        (OpKind::Add, 128, &[], false),
-        (OpKind::Add, 129, &[], true),
-        (OpKind::Add, 0, &[], true),
-        (OpKind::Sub, 8, &[(8, 1), (8, 1), (8, 1)], true),
-        (OpKind::Shl, 8, &[(8, 1)], true),
-        (OpKind::Extract(4), 4, &[(8, 1)], false),
-        (OpKind::Extract(4), 5, &[(8, 1)], true),
-        (OpKind::Replicate, 12, &[(5, 1)], true),
-        (OpKind::Mux, 8, &[(1, 1), (8, 1)], true),
-        (OpKind::Concat, 200, &[], false),
+    let rows = [
+        suits(OpKind::Add, 8, &[(8, 1), (8, 1), (8, 1)], true),
+        suits(OpKind::Add, 8, &[(8, 1), (4, 1)], false),
+        suits(OpKind::Add, 128, &[], true),
+        suits(OpKind::Add, 129, &[], false),
+        suits(OpKind::Add, 0, &[], false),
+        suits(OpKind::Sub, 8, &[(8, 1), (8, 1), (8, 1)], false),
+        suits(OpKind::Shl, 8, &[(8, 1)], false),
+        suits(OpKind::Extract(4), 4, &[(8, 1)], true),
+        suits(OpKind::Extract(4), 5, &[(8, 1)], false),
+        suits(OpKind::Replicate, 12, &[(5, 1)], false),
+        suits(OpKind::Mux, 8, &[(1, 1), (8, 1)], false),
+        suits(OpKind::Concat, 200, &[], true),
     ];
-    for (kind, width, operands, expected) in &cases {
-        let refused = is_refused(alloc, kind, &[], &Ty::Int(*width), operands)?;
-        assert_eq!(rt; refused, *expected);
+    for row in &rows {
+        let refused = is_refused(alloc, &row.kind, &[], &Ty::Int(row.width), row.operands)?;
+        assert_eq!(rt; refused, !row.suits);
     }
     Ok(())
 }
