@@ -1,5 +1,5 @@
 -- What is known of the told input from what was read of it: at most one byte more than a text may have.
-use Rattle.std.proofs.Common.{◌≡◌, ℕ, ◌^◌, ◌<◌, ◌≤◌, inl, inr, min, Bool, true, false, cond, nat_lt, List, length, take, Option, Some, None, Result, Ok, Err, refl, sym, ◌∙◌, ap, arith, length-take, take_all, option_map, lt-ltb, ltb-true, ltb-false}
+use Rattle.std.proofs.Common.{◌≡◌, ℕ, ◌<◌, ◌≤◌, inl, inr, min, Bool, true, false, cond, nat_lt, List, length, take, Option, Some, None, Result, Ok, Err, refl, sym, ◌∙◌, ap, arith, length-take, take_all, option_map, lt-ltb, ltb-true, ltb-false}
 use Rattle.hw_model.specs.Types.{Name}
 use Rattle.hw_model.specs.Design.{Design}
 use Rattle.io_edge.specs.Reading.{file_at}
@@ -16,56 +16,52 @@ use Rattle.circt_top.specs.Accepting.{Accepted, IsRefused, unread, unaccepted}
 use Rattle.circt_top.specs.Reprint.{IsReprint}
 use Rattle.circt_top.specs.Translation.{IsTranslation, IsUnexported}
 use Rattle.circt_top.specs.Outcome.{IsOutcome}
-use Rattle.circt_top.specs.Answer.{told_at, IsMissing, IsMadeOf, IsRefusalOf, IsReadOf}
-
--- so many bytes are read at most
-abbrev pub limit : ℕ
-limit = 67108865
+use Rattle.circt_top.specs.Answer.{read_limit, told_at, IsMissing, IsMadeOf, IsRefusalOf, IsReadOf}
 
 -- what a read of a file says of the told files
 abbrev pub IsRead : Name → Option (List (Name × Name)) → List ℕ → Type 0
-IsRead name told source = (files : List (Name × Name)) → told ≡ Some files → option_map (take limit) (file_at name files) ≡ Some source
+IsRead name told source = (files : List (Name × Name)) → told ≡ Some files → option_map (take read_limit) (file_at name files) ≡ Some source
 
 pub front_read : (name : Name) (told : Option (List (Name × Name))) (source : List ℕ) → IsRead name told source → IsReadOf (told_at name told) source
 front_read name None source read bytes h = cc
 front_read name (Some files) source read bytes h =
-    let e : Some (take limit bytes) ≡ Some source = ap (option_map (take limit)) (sym h) ∙ read files refl in cc
+    let e : Some (take read_limit bytes) ≡ Some source = ap (option_map (take read_limit)) (sym h) ∙ read files refl in cc
 
 -- no file that is missing is read
 pub missing_unread : (name : Name) (told : Option (List (Name × Name))) (source : List ℕ) → IsRead name told source → IsMissing name told → ⊥
 missing_unread name None source read missing = missing
 missing_unread name (Some files) source read missing =
-    let e : None ≡ Some source = ap (option_map (take limit)) (sym missing) ∙ read files refl in cc
+    let e : None ≡ Some source = ap (option_map (take read_limit)) (sym missing) ∙ read files refl in cc
 
 -- a short front is the whole
-whole_read : (bytes source : List ℕ) → source ≡ take limit bytes → length source ≤ 2 ^ 26 → source ≡ bytes
+whole_read : (bytes source : List ℕ) → source ≡ take read_limit bytes → length source ≤ text_limit → source ≡ bytes
 whole_read bytes source front short =
-    let l : length (take limit bytes) ≡ min limit (length bytes) = length-take limit bytes in
-    let e : length source ≡ length (take limit bytes) = ap length front in
-    let few : length bytes ≤ limit = omega arith in
-    front ∙ take_all limit bytes few
+    let l : length (take read_limit bytes) ≡ min read_limit (length bytes) = length-take read_limit bytes in
+    let e : length source ≡ length (take read_limit bytes) = ap length front in
+    let few : length bytes ≤ read_limit = omega arith in
+    front ∙ take_all read_limit bytes few
 
 -- a long front is of a long text
-long_read : (bytes source : List ℕ) → source ≡ take limit bytes → 2 ^ 26 < length source → 2 ^ 26 < length bytes
+long_read : (bytes source : List ℕ) → source ≡ take read_limit bytes → text_limit < length source → text_limit < length bytes
 long_read bytes source front long =
-    let l : length (take limit bytes) ≡ min limit (length bytes) = length-take limit bytes in
-    let e : length source ≡ length (take limit bytes) = ap length front in
+    let l : length (take read_limit bytes) ≡ min read_limit (length bytes) = length-take read_limit bytes in
+    let e : length source ≡ length (take read_limit bytes) = ap length front in
     omega arith
 
 abbrev refused_first : Result Design Refusal
 refused_first = Err (refusal start_place op.File TooLong)
 
 -- all texts that are too long are refused alike
-too_long : (bytes source : List ℕ) → 2 ^ 26 < length bytes → 2 ^ 26 < length source → read source ≡ read bytes
+too_long : (bytes source : List ℕ) → text_limit < length bytes → text_limit < length source → read source ≡ read bytes
 too_long bytes source long also =
     ap (λ b. cond b refused_first (design_read (file_text (stream_of source)))) (lt-ltb text_limit (length source) also)
     ∙ sym (ap (λ b. cond b refused_first (design_read (file_text (stream_of bytes)))) (lt-ltb text_limit (length bytes) long))
 
 -- what is read of a front is read of the whole
-pub read_whole : (bytes source : List ℕ) → source ≡ take limit bytes → read source ≡ read bytes
+pub read_whole : (bytes source : List ℕ) → source ≡ take read_limit bytes → read source ≡ read bytes
 read_whole bytes source front = go (nat_lt text_limit (length source)) refl where
   go : (b : Bool) → nat_lt text_limit (length source) ≡ b → read source ≡ read bytes
-  go true e = let long : 2 ^ 26 < length source = ltb-true text_limit (length source) e in too_long bytes source (long_read bytes source front long) long
+  go true e = let long : text_limit < length source = ltb-true text_limit (length source) e in too_long bytes source (long_read bytes source front long) long
   go false e = ap read (whole_read bytes source front (ltb-false text_limit (length source) e))
 
 accepted_whole : (bytes source : List ℕ) (d : Design) → read source ≡ read bytes → Accepted source d → Accepted bytes d

@@ -1,5 +1,5 @@
 -- What the program answers, for its words, the files that are told, and what its sinks take.
-use Rattle.std.specs.Prelude.{◌≡◌, ℕ, ◌≤◌, Bool, true, false, List, [], ◌++◌, Option, Some, None, Ok, Err, codes, take, length, ◌⊎◌}
+use Rattle.std.specs.Prelude.{◌≡◌, ℕ, ◌+◌, ◌≤◌, Bool, true, false, List, [], ◌++◌, Option, Some, None, Ok, Err, codes, take, length, ◌⊎◌}
 use Rattle.hw_model.specs.Types.{Name}
 use Rattle.io_edge.specs.Faults.{HasRisen}
 use Rattle.io_edge.specs.Reading.{file_at}
@@ -8,6 +8,7 @@ use Rattle.io_edge.specs.Bytes.{Appends, AppendsFront}
 use Rattle.io_edge.specs.Pieces.{pieces_of, Sends}
 use Rattle.diag.specs.Line.{refusal_line, shown_name}
 use Rattle.diag.specs.declared.refusal.Refusal.{Refusal}
+use Rattle.mlir_reader.specs.Reading.{text_limit}
 use Rattle.command_line.specs.Line.{Command, Paths, line}
 use Rattle.command_line.specs.Usage.{usage_text}
 use Rattle.command_line.specs.declared.usage.UsageKind.{UsageKind}
@@ -22,21 +23,25 @@ use Rattle.circt_top.specs.declared.status.Status.TheVariants.{Done, Refused, Us
 abbrev pub Told : Type 0
 Told = Option (List (Name × List ℕ))
 
+-- how many bytes of a file are read at most: one more than a text may have
+abbrev pub read_limit : ℕ
+read_limit = text_limit + 1
+
 -- the bytes of a file, where they are told
 abbrev pub told_at : Name → Told → Option (List ℕ)
 told_at name None = None
 told_at name (Some files) = file_at name files
+
+-- files are told, and none of them has this name
+abbrev pub IsMissing : Name → Told → Type 0
+IsMissing name None = ⊥
+IsMissing name (Some files) = file_at name files ≡ None
 
 -- ---- statuses
 
 abbrev pub usage_of : Status → Option UsageKind
 usage_of (Usage kind) = Some kind
 usage_of _ = None
--- files are told, and none of them has this name
-abbrev pub IsMissing : Name → Told → Type 0
-IsMissing name None = ⊥
-IsMissing name (Some files) = file_at name files ≡ None
-
 
 -- facts for some statuses
 abbrev pub OnRefused : Status → (Refusal → Type 0) → Type 0
@@ -137,19 +142,19 @@ IsDoneOrNoMemory Done = Unit {0}
 IsDoneOrNoMemory NoMemory = Unit {0}
 IsDoneOrNoMemory _ = ⊥
 
-abbrev pub IsRefusedOrNoMemory : Status → Type 0
-IsRefusedOrNoMemory (Refused refusal) = Unit {0}
-IsRefusedOrNoMemory NoMemory = Unit {0}
-IsRefusedOrNoMemory _ = ⊥
-
 abbrev pub IsReadFaultOrNoMemory : Status → Type 0
 IsReadFaultOrNoMemory ReadFault = Unit {0}
 IsReadFaultOrNoMemory NoMemory = Unit {0}
 IsReadFaultOrNoMemory _ = ⊥
 
--- a source is what is read of the told bytes: at most one byte more than a text may have
+abbrev pub IsRefusedOrNoMemory : Status → Type 0
+IsRefusedOrNoMemory (Refused refusal) = Unit {0}
+IsRefusedOrNoMemory NoMemory = Unit {0}
+IsRefusedOrNoMemory _ = ⊥
+
+-- a source is what is read of the told bytes
 abbrev pub IsReadOf : Option (List ℕ) → List ℕ → Type 0
-IsReadOf input source = (bytes : List ℕ) → input ≡ Some bytes → source ≡ take 67108865 bytes
+IsReadOf input source = (bytes : List ℕ) → input ≡ Some bytes → source ≡ take read_limit bytes
 
 -- a fact for the ends whose line names a file
 abbrev pub OnFile : Status → Type 0 → Type 0

@@ -18,11 +18,12 @@ use command_line::normalise::{WordsFail, normalise};
 use command_line::usage::UsageKind;
 use io_edge::file_access::{FileFail, Files};
 use io_edge::sinks::Sink;
+use mlir_reader::read::MOST_BYTES;
 use std::alloc::Global;
 use std::thread::Threads;
 
-/// The greatest length of a text, in bytes, and one more: so many are read at most.
-pub const READ_LIMIT: u64 = 67_108_865;
+/// How many bytes of the input are read at most: one more than a text may have.
+pub const READ_LIMIT: u64 = MOST_BYTES as u64 + 1;
 
 /// Runs the program: `words` are those after its name, `files` are read and written by name (`-` is
 /// standard input), the output goes to `out` or to the file of `-o`, and one line on what is wrong
@@ -53,8 +54,8 @@ pub fn run_circt<R: Threads + Sync, F: Files, O: Sink, E: Sink>(
     ensures refusing { (c : _) → line (map string_bytes words.now) ≡ Ok c → (bytes : List ℕ) → told_at (input_of c) (F.files files.old) ≡ Some bytes → ¬ IsAnswered c bytes
         → ¬ HasRisen (F.read_faults files.old (input_of c)) (F.read_faults files.new (input_of c))
         → IsRefusedOrNoMemory result }
-    ensures report { ReportsEnd E.told E.faults (map string_bytes words.now) (F.files files.old) result err.old err.new }
     ensures missing { (c : _) → line (map string_bytes words.now) ≡ Ok c → IsMissing (input_of c) (F.files files.old) → IsReadFaultOrNoMemory result }
+    ensures report { ReportsEnd E.told E.faults (map string_bytes words.now) (F.files files.old) result err.old err.new }
 {
     let _ = rt;
     let regular = match normalise(alloc, words) {
@@ -92,8 +93,8 @@ fn run_on<F: Files, O: Sink, E: Sink>(
     ensures unwritten { Unwritten result ((out.new ≡ out.old) × (F.files files.new ≡ F.files files.old)) }
     ensures done { OnDone result ((text : List ℕ) × Delivers O.puts O.told (output_of (command_of invocation.now)) out.old out.new (F.files files.old) (F.files files.new) text × IsMadeOf (command_of invocation.now) (told_at (input_of (command_of invocation.now)) (F.files files.old)) text) }
     ensures front { OnWriteFault result ((text : List ℕ) × DeliversFront O.puts O.told (output_of (command_of invocation.now)) out.old out.new (F.files files.old) (F.files files.new) text × IsMadeOf (command_of invocation.now) (told_at (input_of (command_of invocation.now)) (F.files files.old)) text) }
-    ensures no_usage { usage_of result ≡ None }
     ensures missing { IsMissing (input_of (command_of invocation.now)) (F.files files.old) → IsReadFaultOrNoMemory result }
+    ensures no_usage { usage_of result ≡ None }
     ensures report { (source : List ℕ) × OnRefused result (λ r. IsReadOf (told_at (input_of (command_of invocation.now)) (F.files files.old)) source) × Reports E.told E.faults err.old err.new (line_of (paths_in (command_of invocation.now)) source result) }
 {
     let paths = paths_of(invocation);
