@@ -4,8 +4,9 @@ use Rattle.bits_core.specs.Word.{Word, bits}
 use Rattle.hw_model.specs.Types.{Name}
 use Rattle.hw_model.specs.Design.{same_name}
 use Rattle.verilog_model.specs.Tokens.{tokens}
+use Rattle.verilog_model.specs.Tokens.Piece.{word, operator, mark}
 use Rattle.verilog_model.specs.Tree.{Expr, VModule}
-use Rattle.verilog_model.specs.Tree.Operator.{plus, minus, over, right_shift, signed_right_shift, bit_xor}
+use Rattle.verilog_model.specs.Tree.Operator.{plus, minus, over, right_shift, signed_right_shift, equals, bit_xor}
 use Rattle.verilog_model.specs.Tree.Expr.{name, literal, as_signed, as_unsigned, paren, odd, binary, choice}
 use Rattle.verilog_model.specs.Tree.Item.{instance}
 use Rattle.verilog_model.specs.Grammar.{expr_spelled, fits}
@@ -54,6 +55,14 @@ bare_difference_does_not_fit = refl
 touching_texts : (tokens (codes "a+^b") ≡ expr_spelled (binary plus a (odd b)) []) × (tokens (codes "a^^b") ≡ expr_spelled (binary bit_xor a (odd b)) [])
     × (tokens (codes "a?^b:^c") ≡ expr_spelled (choice a (odd b) (odd c)) [])
 touching_texts = (refl, refl, refl)
+
+-- behind a word with a base `?` is a digit of that number, so that this is no choice
+question_digits : tokens (codes "s == 1'h1?a:b") ≡ word (codes "s") ∷ operator (codes "==") ∷ word (codes "1'h1?a") ∷ mark 58 ∷ word (codes "b") ∷ []
+question_digits = refl
+
+-- and with a blank between it is one
+question_mark : tokens (codes "s == 1'h1 ?a:b") ≡ expr_spelled (choice (binary equals (name (codes "s")) (literal (codes "1") false (codes "1"))) a b) []
+question_mark = refl
 
 -- ---- values at 8 bits
 

@@ -1,7 +1,8 @@
 -- The tokens of a Verilog text (IEEE 1364-2005, 3.1 to 3.7: lexical conventions). Bytes of words that stand together
 -- are one word (a name, a keyword, a number, `8'hFF`, `$signed`), operator bytes that stand together one operator, any
 -- other byte is a mark alone, and blanks part what they stand between. `^`, `?` and `:` are marks, since a unary operator
--- may touch what is in front of it, as in `a+^b`. Operators that no text here has, as `~^`, are parted otherwise than
+-- may touch what is in front of it, as in `a+^b`; but behind a word that has `'` in it `?` is a digit of that number
+-- (3.5.1: an alternative for z), as in `1'h1?a`. Operators that no text here has, as `~^`, are parted otherwise than
 -- in the standard: such a text is not read.
 use Rattle.std.specs.Prelude.{ℕ, Bool, true, false, cond, ◌&&◌, ◌||◌, ◌==◌, nat_le, List, [], ◌∷◌}
 use Rattle.hw_model.specs.Types.{Name}
@@ -57,10 +58,22 @@ join operator_byte b ps = operator (b ∷ []) ∷ ps
 join blank b ps = gap ∷ ps
 join mark_byte b ps = mark b ∷ ps
 
+-- the sort of a byte, in a number with a base (behind a word that has `'` in it) or elsewhere
+abbrev pub sort_in : Bool → ℕ → Sort
+sort_in based b = cond (based && b == 63) word_byte (sort_of b)
+
+-- whether a number with a base may go on behind a byte
+abbrev pub goes_on : Bool → ℕ → Bool
+goes_on based b = cond (is_word_byte b) (b == 39 || based) (based && b == 63)
+
+-- the pieces of what stands in a number with a base, or elsewhere
+abbrev pub pieces_in : Bool → List ℕ → List Piece
+pieces_in based [] = []
+pieces_in based (b ∷ bs) = join (sort_in based b) b (pieces_in (goes_on based b) bs)
+
 -- the pieces of a text
 abbrev pub pieces : List ℕ → List Piece
-pieces [] = []
-pieces (b ∷ bs) = join (sort_of b) b (pieces bs)
+pieces bs = pieces_in false bs
 
 abbrev pub without_gaps : List Piece → List Piece
 without_gaps [] = []

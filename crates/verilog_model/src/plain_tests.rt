@@ -38,7 +38,7 @@ fn only_word(stepped: Result<Stepped, Fault>) -> Option<(u32, u128)> {
 }
 
 // An expression over bytes a, b and c, the highest bit of the output that it is assigned to, the bytes, the word.
-const VALUES: [(&str, u32, [u128; 3], u128); 48] = [
+const VALUES: [(&str, u32, [u128; 3], u128); 49] = [
     ("a + b", 7, [0xff, 0x02, 0], 0x01),
     ("a + b", 8, [0xff, 0x02, 0], 0x101),
     ("a + b", 3, [0xff, 0x02, 0], 0x1),
@@ -95,6 +95,7 @@ const VALUES: [(&str, u32, [u128; 3], u128); 48] = [
     ("a[0] ? b : c", 7, [0x01, 0x12, 0x34], 0x12),
     ("a ? b : c", 7, [0x00, 0x12, 0x34], 0x34),
     ("a == b ? b : a[0] ? c : a", 7, [0x01, 0x02, 0x33], 0x33),
+    ("a == 8'h1 ?b:c", 7, [0x01, 0x12, 0x34], 0x12),
     ("a & b | c", 7, [0x0c, 0x0a, 0x01], 0x09),
     ("a ^ ^b", 7, [0xf0, 0x07, 0], 0xf1),
 ];
@@ -155,7 +156,7 @@ fn sums_of_128_bits_wrap(rt: HostRuntime) {
 }
 
 // Texts of which nothing is run, with the inputs of one byte.
-const REFUSED: [&str; 16] = [
+const REFUSED: [&str; 17] = [
     "module T(input wire [7:0] a, output wire [7:0] o); assign o = a",
     "module T(input wire [7:0] a, output wire [7:0] o);",
     "module T(input wire [7:0] a, output wire [7:0] o); assign o = b; endmodule",
@@ -165,6 +166,7 @@ const REFUSED: [&str; 16] = [
     "module T(input wire [7:0] a, output wire [7:0] o); assign o = a[8]; endmodule",
     "module T(input wire [7:0] a, output wire o); assign o = a[0][0]; endmodule",
     "module T(input wire [7:0] a, output wire [7:0] o); assign o = a ++ a; endmodule",
+    "module T(input wire [7:0] a, output wire [7:0] o); assign o = a == 8'h1?a:a; endmodule",
     "module T(input wire [7:0] a, output wire [7:0] o); assign o = o & a; endmodule",
     "module T(input wire [7:0] a, output wire [7:0] o); wire [7:0] x; assign x = o; assign o = x; endmodule",
     "module T(input wire [7:0] a, output wire [7:0] o); endmodule",

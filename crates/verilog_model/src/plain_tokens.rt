@@ -53,6 +53,16 @@ fn sort_of(byte: u8) -> Sort {
     }
 }
 
+// The sort of a byte behind the bytes that belong together: behind a word with `'` in it `?` is a digit of that number
+// (IEEE 1364-2005, 3.5.1).
+fn sort_behind(open: Sort, bytes: &[u8], byte: u8) -> Sort {
+    if byte == b'?' && open == Sort::Word && is_among(b'\'', bytes) {
+        Sort::Word
+    } else {
+        sort_of(byte)
+    }
+}
+
 // The bytes from a place to another one.
 fn piece(text: &[u8], start: usize, end: usize) -> &[u8] {
     if start <= end && end <= text.len() {
@@ -78,7 +88,7 @@ pub fn tokens(alloc: Global, text: &[u8]) -> Result<Vec<Token<'_>>, AllocError> 
     let mut start = 0;
     let mut open = Sort::Blank;
     for (at, byte) in text.iter().enumerate() {
-        let sort = sort_of(*byte);
+        let sort = sort_behind(open, piece(text, start, at), *byte);
         if sort != open || sort == Sort::Mark {
             if let Some(whole) = whole_token(open, piece(text, start, at)) {
                 all.push(whole)?;
