@@ -1,24 +1,27 @@
--- What the text of a design shows of each module: its legal name, and its ports under their legal names.
-use Rattle.std.specs.Prelude.{ℕ, List, [], ◌∷◌}
+-- What the text of a design shows of each module: its name and its ports, the names made legal.
+use Rattle.std.specs.Prelude.{ℕ, List, [], ◌∷◌, map}
 use Rattle.hw_model.specs.Types.{Name, width}
 use Rattle.hw_model.specs.Design.{Port, Module, Design}
 use Rattle.verilog_model.specs.Behaviour.{Shown, Behaves}
-use Rattle.export_verilog.specs.Keys.{each, key_text}
-use Rattle.export_verilog.specs.Keys.Key.{port_key}
-use Rattle.export_verilog.specs.Exported.{symbol_name}
+use Rattle.name_legalise.specs.Legal.{legal}
 
--- port j of a module, as Verilog shows it
-abbrev pub shown_port_of : Module → ℕ → Port → List Shown
-shown_port_of m j p = record { is_output = p.is_output; name = key_text m (port_key j); width = width p.type } ∷ []
+-- the legal names of the modules of a design, in order: its symbols made legal one after another
+abbrev pub legal_symbols : Design → List Name
+legal_symbols d = legal (map (λ (m : Module). m.symbol) d)
+
+-- the legal names of the ports of a module, in order: their own names made legal one after another
+abbrev pub legal_ports : Module → List Name
+legal_ports m = legal (map (λ (p : Port). p.name) m.ports)
+
+-- ports under these names, as Verilog shows them: directions and widths are their own
+abbrev pub shown_under : List Name → List Port → List Shown
+shown_under (n ∷ ns) (p ∷ ps) = record { is_output = p.is_output; name = n; width = width p.type } ∷ shown_under ns ps
+shown_under _ _ = []
 
 -- the ports of a module, as Verilog shows them
 abbrev pub shown_ports : Module → List Shown
-shown_ports m = each (shown_port_of m) 0 m.ports
-
--- the legal name of a module of a design
-abbrev pub shown_name : Design → Module → Name
-shown_name d m = symbol_name d m.symbol
+shown_ports m = shown_under (legal_ports m) m.ports
 
 -- the text behaves as the design, its modules and ports having their legal names
 abbrev pub BehavesAs : List ℕ → Design → Type 0
-BehavesAs text d = Behaves text d (shown_name d) shown_ports
+BehavesAs text d = Behaves text d (legal_symbols d) shown_ports

@@ -1,7 +1,7 @@
 -- What a Verilog text is, and when it behaves as a design.
 use Rattle.std.specs.Prelude.{◌≡◌, ℕ, Bool, true, false, List, [], ◌∷◌, map, Some, IsTrue}
-use Rattle.hw_model.specs.Types.{Name, width}
-use Rattle.hw_model.specs.Design.{Port, Module, Design}
+use Rattle.hw_model.specs.Types.{Name}
+use Rattle.hw_model.specs.Design.{Module, Design}
 use Rattle.hw_model.specs.Machine.{Same}
 use Rattle.hw_model.specs.Meaning.{machine}
 use Rattle.verilog_model.specs.Tree.{VPort, VModule, Tree}
@@ -26,10 +26,6 @@ pub record Shown : Type 0 where
 abbrev pub shown_port : VPort → Shown
 shown_port p = record { is_output = p.is_output; name = p.name; width = range_width p.high }
 
--- the ports that a module without aggregates and with legal names shows
-abbrev pub shown_of : Port → Shown
-shown_of p = record { is_output = p.is_output; name = p.name; width = width p.type }
-
 -- the partner of a module of the design: the module of that name in the tree, with those ports and the same behaviour
 pub record IsPartner (d : Design) (t : Tree) (m : Module) (name : Name) (ports : List Shown) : Type 0 where
   pub partner : VModule
@@ -41,13 +37,14 @@ abbrev pub UnlessPrivate : Bool → Type 0 → Type 0
 UnlessPrivate true P = Unit {0}
 UnlessPrivate false P = P
 
--- the public ones of these modules of the design have their partners, under the names and ports that `name` and `ports` say
-abbrev pub HavePartners : Design → Tree → (Module → Name) → (Module → List Shown) → List Module → Type 0
-HavePartners d t name ports [] = Unit {0}
-HavePartners d t name ports (m ∷ ms) = UnlessPrivate m.is_private (IsPartner d t m (name m) (ports m)) × HavePartners d t name ports ms
+-- the public ones of these modules of the design have their partners: each has one of these names, in order, and the ports that `ports` says
+abbrev pub HavePartners : Design → Tree → (Module → List Shown) → List Name → List Module → Type 0
+HavePartners d t ports [] [] = Unit {0}
+HavePartners d t ports (n ∷ ns) (m ∷ ms) = UnlessPrivate m.is_private (IsPartner d t m n (ports m)) × HavePartners d t ports ns ms
+HavePartners d t ports _ _ = ⊥
 
 -- the text behaves as the design: it is a tree's, in which each public module of the design has its partner
-pub record Behaves (text : List ℕ) (d : Design) (name : Module → Name) (ports : Module → List Shown) : Type 0 where
+pub record Behaves (text : List ℕ) (d : Design) (names : List Name) (ports : Module → List Shown) : Type 0 where
   pub tree : Tree
   pub is_verilog : IsVerilog text tree
-  pub partners : HavePartners d tree name ports d
+  pub partners : HavePartners d tree ports names d
