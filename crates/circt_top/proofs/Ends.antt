@@ -25,23 +25,23 @@ read_on ReadFault x = tt
 read_on WriteFault x = tt
 read_on NoMemory x = tt
 
-pub done_on : (D P Q : List ℕ → Type 0) (status : Status) → ((text : List ℕ) → P text → Q text)
-    → OnDone status ((text : List ℕ) × D text × P text) → OnDone status ((text : List ℕ) × D text × Q text)
-done_on D P Q Done f x = (x.0, x.1, f x.0 x.2)
-done_on D P Q (Refused r) f x = tt
-done_on D P Q (Usage kind) f x = tt
-done_on D P Q ReadFault f x = tt
-done_on D P Q WriteFault f x = tt
-done_on D P Q NoMemory f x = tt
+pub done_on : (D E P Q : List ℕ → Type 0) (status : Status) → ((text : List ℕ) → D text → E text) → ((text : List ℕ) → P text → Q text)
+    → OnDone status ((text : List ℕ) × D text × P text) → OnDone status ((text : List ℕ) × E text × Q text)
+done_on D E P Q Done f h x = (x.0, f x.0 x.1, h x.0 x.2)
+done_on D E P Q (Refused r) f h x = tt
+done_on D E P Q (Usage kind) f h x = tt
+done_on D E P Q ReadFault f h x = tt
+done_on D E P Q WriteFault f h x = tt
+done_on D E P Q NoMemory f h x = tt
 
-pub front_on : (D P Q : List ℕ → Type 0) (status : Status) → ((text : List ℕ) → P text → Q text)
-    → OnWriteFault status ((text : List ℕ) × D text × P text) → OnWriteFault status ((text : List ℕ) × D text × Q text)
-front_on D P Q Done f x = tt
-front_on D P Q (Refused r) f x = tt
-front_on D P Q (Usage kind) f x = tt
-front_on D P Q ReadFault f x = tt
-front_on D P Q WriteFault f x = (x.0, x.1, f x.0 x.2)
-front_on D P Q NoMemory f x = tt
+pub front_on : (D E P Q : List ℕ → Type 0) (status : Status) → ((text : List ℕ) → D text → E text) → ((text : List ℕ) → P text → Q text)
+    → OnWriteFault status ((text : List ℕ) × D text × P text) → OnWriteFault status ((text : List ℕ) × E text × Q text)
+front_on D E P Q Done f h x = tt
+front_on D E P Q (Refused r) f h x = tt
+front_on D E P Q (Usage kind) f h x = tt
+front_on D E P Q ReadFault f h x = tt
+front_on D E P Q WriteFault f h x = (x.0, f x.0 x.1, h x.0 x.2)
+front_on D E P Q NoMemory f h x = tt
 
 -- nothing is refused where nothing was read
 pub unread_refuses : (P : Refusal → Type 0) (fail : FileFail) → OnRefused (unread fail) P

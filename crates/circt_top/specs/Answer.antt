@@ -1,6 +1,8 @@
 -- What the program answers, for its words, the files that are told, and what its sinks take.
-use Rattle.std.specs.Prelude.{◌≡◌, ℕ, ◌+◌, ◌≤◌, Bool, true, false, List, [], ◌++◌, Option, Some, None, Ok, Err, codes, take, length, ◌⊎◌}
+use Rattle.std.specs.Prelude.{◌≡◌, ℕ, ◌+◌, ◌≤◌, Bool, true, false, List, [], ◌++◌, Option, Some, None, Result, Ok, Err, codes, take, length, ◌⊎◌}
 use Rattle.hw_model.specs.Types.{Name}
+use Rattle.io_edge.specs.declared.file_access.FileFail.{FileFail}
+use Rattle.io_edge.specs.declared.file_access.FileFail.TheVariants.{Failed}
 use Rattle.io_edge.specs.Faults.{HasRisen}
 use Rattle.io_edge.specs.Reading.{file_at}
 use Rattle.io_edge.specs.Writing.{with_file}
@@ -80,19 +82,23 @@ IsHalfWritten name before after text =
     (files : List (Name × List ℕ)) → before ≡ Some files
     → (after ≡ Some files) ⊎ ((count : ℕ) × (count ≤ length text) × (after ≡ Some (with_file name (take count text) files)))
 
-module _ {S : Type 0} (puts : S → List ℕ → Bool → S → Type 0) (told : S → Option (List ℕ)) where
-  -- a whole text went out: in pieces of 4,096 bytes to the output, or to the file of a name, the output staying as it is
-  abbrev pub Delivers : Option Name → S → S → Told → Told → List ℕ → Type 0
-  Delivers None before after files written text =
-      Sends puts before (pieces_of 4096 text) true after × Appends (told before) (told after) text × (written ≡ files)
-  Delivers (Some name) before after files written text =
-      (after ≡ before) × ((all : List (Name × List ℕ)) → files ≡ Some all → written ≡ Some (with_file name text all))
+module _ {F O : Type 0} (writes : F → Name → List ℕ → Result (Unit {0}) FileFail → F → Type 0) (files : F → Told) (puts : O → List ℕ → Bool → O → Type 0) (told : O → Option (List ℕ)) where
+  -- a whole text went out: in pieces of 4,096 bytes to the output, or by one write to the file of a name; nothing else changed
+  abbrev pub Delivers : Option Name → F → F → O → O → List ℕ → Type 0
+  Delivers None before after old new text = Sends puts old (pieces_of 4096 text) true new × Appends (told old) (told new) text × (after ≡ before)
+  Delivers (Some name) before after old new text =
+      writes before name text (Ok tt) after × ((all : List (Name × List ℕ)) → files before ≡ Some all → files after ≡ Some (with_file name text all)) × (new ≡ old)
 
-  -- a front of a text went out
-  abbrev pub DeliversFront : Option Name → S → S → Told → Told → List ℕ → Type 0
-  DeliversFront None before after files written text =
-      Sends puts before (pieces_of 4096 text) false after × AppendsFront (told before) (told after) text × (written ≡ files)
-  DeliversFront (Some name) before after files written text = (after ≡ before) × IsHalfWritten name files written text
+  -- a front of a text went out: in pieces of which the last was not taken, or by one write that failed; nothing else changed
+  abbrev pub DeliversFront : Option Name → F → F → O → O → List ℕ → Type 0
+  DeliversFront None before after old new text = Sends puts old (pieces_of 4096 text) false new × AppendsFront (told old) (told new) text × (after ≡ before)
+  DeliversFront (Some name) before after old new text =
+      writes before name text (Err Failed) after × IsHalfWritten name (files before) (files after) text × (new ≡ old)
+
+-- one read of the file of a name gave some bytes and changed no file, and then
+module _ {F : Type 0} (reads : F → Name → ℕ → Result (List ℕ) FileFail → F → Type 0) (files : F → Told) where
+  abbrev pub ReadsThen : F → Name → (F → Type 0) → Type 0
+  ReadsThen before name Then = (after : F) × (source : List ℕ) × reads before name read_limit (Ok source) after × (files after ≡ files before) × Then after
 
 -- a text is what the command makes of the input, where that is told
 abbrev pub IsMadeOf : Command → Option (List ℕ) → List ℕ → Type 0

@@ -27,8 +27,8 @@ pub fn deliver<F: Files, O: Sink>(
     files: &mut F,
     out: &mut O,
 ) -> Delivery
-    ensures whole { OnDelivered result (Delivers O.puts O.told (option_map (λ s. s.now) output.entry) out.old out.new (F.files files.old) (F.files files.new) text.now) }
-    ensures front { OnFault result (DeliversFront O.puts O.told (option_map (λ s. s.now) output.entry) out.old out.new (F.files files.old) (F.files files.new) text.now) }
+    ensures whole { OnDelivered result (Delivers F.writes F.files O.puts O.told (option_map (λ s. s.now) output.entry) files.old files.new out.old out.new text.now) }
+    ensures front { OnFault result (DeliversFront F.writes F.files O.puts O.told (option_map (λ s. s.now) output.entry) files.old files.new out.old out.new text.now) }
     ensures fault { OnFault result (HasOutputFault (option_map (λ s. s.now) output.entry) (O.faults out.old) (O.faults out.new) (F.write_faults files.old) (F.write_faults files.new)) }
     ensures nothing { OnNoMemory result ((out.new ≡ out.old) × (F.files files.new ≡ F.files files.old)) }
     ensures reads { F.read_faults files.new ≡ F.read_faults files.old }

@@ -6,7 +6,7 @@ ghost use Rattle.command_line.specs.Invocations.{command_of, paths_of as files_o
 ghost use Rattle.circt_top.specs.Words.{input_of, output_of, paths_in, paths_named, fault_of};
 ghost use Rattle.circt_top.specs.Outcome.{IsOutcome, IsAnswered};
 ghost use Rattle.circt_top.specs.Delivery.{HasOutputFault};
-ghost use Rattle.circt_top.specs.Answer.{told_at, usage_of, IsReadOf, IsUsage, OnRefused, OnReadFault, OnWriteFault, OnDone, Unwritten, ForCommand, IsMissing, IsMadeOf, IsRefusalOf, Delivers, DeliversFront, IsDoneOrNoMemory, IsReadFaultOrNoMemory, IsRefusedOrNoMemory, line_of, Reports, ReportsEnd};
+ghost use Rattle.circt_top.specs.Answer.{told_at, usage_of, IsReadOf, IsUsage, OnRefused, OnReadFault, OnWriteFault, OnDone, Unwritten, ForCommand, IsMissing, IsMadeOf, IsRefusalOf, ReadsThen, Delivers, DeliversFront, IsDoneOrNoMemory, IsReadFaultOrNoMemory, IsRefusedOrNoMemory, line_of, Reports, ReportsEnd};
 ghost use Rattle.circt_top.specs.Runs.{IsWorked, unread};
 
 use crate::delivery::{Delivery, deliver};
@@ -45,8 +45,9 @@ pub fn run_circt<R: Threads + Sync, F: Files, O: Sink, E: Sink>(
     ensures read_fault { OnReadFault result (ForCommand (map string_bytes words.now) (λ c. HasRisen (F.read_faults files.old (input_of c)) (F.read_faults files.new (input_of c)))) }
     ensures write_fault { OnWriteFault result (ForCommand (map string_bytes words.now) (λ c. HasOutputFault (output_of c) (O.faults out.old) (O.faults out.new) (F.write_faults files.old) (F.write_faults files.new))) }
     ensures unwritten { Unwritten result ((out.new ≡ out.old) × (F.files files.new ≡ F.files files.old)) }
-    ensures done { OnDone result (ForCommand (map string_bytes words.now) (λ c. (text : List ℕ) × Delivers O.puts O.told (output_of c) out.old out.new (F.files files.old) (F.files files.new) text × IsMadeOf c (told_at (input_of c) (F.files files.old)) text)) }
-    ensures front { OnWriteFault result (ForCommand (map string_bytes words.now) (λ c. (text : List ℕ) × DeliversFront O.puts O.told (output_of c) out.old out.new (F.files files.old) (F.files files.new) text × IsMadeOf c (told_at (input_of c) (F.files files.old)) text)) }
+    ensures read_once { OnRefused result (λ r. ForCommand (map string_bytes words.now) (λ c. ReadsThen F.reads F.files files.old (input_of c) (λ opened. files.new ≡ opened))) }
+    ensures done { OnDone result (ForCommand (map string_bytes words.now) (λ c. (text : List ℕ) × ReadsThen F.reads F.files files.old (input_of c) (λ opened. Delivers F.writes F.files O.puts O.told (output_of c) opened files.new out.old out.new text) × IsMadeOf c (told_at (input_of c) (F.files files.old)) text)) }
+    ensures front { OnWriteFault result (ForCommand (map string_bytes words.now) (λ c. (text : List ℕ) × ReadsThen F.reads F.files files.old (input_of c) (λ opened. DeliversFront F.writes F.files O.puts O.told (output_of c) opened files.new out.old out.new text) × IsMadeOf c (told_at (input_of c) (F.files files.old)) text)) }
     ensures complete { (c : _) → line (map string_bytes words.now) ≡ Ok c → (bytes : List ℕ) → told_at (input_of c) (F.files files.old) ≡ Some bytes → IsAnswered c bytes
         → ¬ HasRisen (F.read_faults files.old (input_of c)) (F.read_faults files.new (input_of c))
         → ¬ HasOutputFault (output_of c) (O.faults out.old) (O.faults out.new) (F.write_faults files.old) (F.write_faults files.new)
@@ -91,8 +92,9 @@ fn run_on<F: Files, O: Sink, E: Sink>(
     ensures read_fault { OnReadFault result (HasRisen (F.read_faults files.old (input_of (command_of invocation.now))) (F.read_faults files.new (input_of (command_of invocation.now)))) }
     ensures write_fault { OnWriteFault result (HasOutputFault (output_of (command_of invocation.now)) (O.faults out.old) (O.faults out.new) (F.write_faults files.old) (F.write_faults files.new)) }
     ensures unwritten { Unwritten result ((out.new ≡ out.old) × (F.files files.new ≡ F.files files.old)) }
-    ensures done { OnDone result ((text : List ℕ) × Delivers O.puts O.told (output_of (command_of invocation.now)) out.old out.new (F.files files.old) (F.files files.new) text × IsMadeOf (command_of invocation.now) (told_at (input_of (command_of invocation.now)) (F.files files.old)) text) }
-    ensures front { OnWriteFault result ((text : List ℕ) × DeliversFront O.puts O.told (output_of (command_of invocation.now)) out.old out.new (F.files files.old) (F.files files.new) text × IsMadeOf (command_of invocation.now) (told_at (input_of (command_of invocation.now)) (F.files files.old)) text) }
+    ensures read_once { OnRefused result (λ r. ReadsThen F.reads F.files files.old (input_of (command_of invocation.now)) (λ opened. files.new ≡ opened)) }
+    ensures done { OnDone result ((text : List ℕ) × ReadsThen F.reads F.files files.old (input_of (command_of invocation.now)) (λ opened. Delivers F.writes F.files O.puts O.told (output_of (command_of invocation.now)) opened files.new out.old out.new text) × IsMadeOf (command_of invocation.now) (told_at (input_of (command_of invocation.now)) (F.files files.old)) text) }
+    ensures front { OnWriteFault result ((text : List ℕ) × ReadsThen F.reads F.files files.old (input_of (command_of invocation.now)) (λ opened. DeliversFront F.writes F.files O.puts O.told (output_of (command_of invocation.now)) opened files.new out.old out.new text) × IsMadeOf (command_of invocation.now) (told_at (input_of (command_of invocation.now)) (F.files files.old)) text) }
     ensures missing { IsMissing (input_of (command_of invocation.now)) (F.files files.old) → IsReadFaultOrNoMemory result }
     ensures no_usage { usage_of result ≡ None }
     ensures report { (source : List ℕ) × OnRefused result (λ r. IsReadOf (told_at (input_of (command_of invocation.now)) (F.files files.old)) source) × Reports E.told E.faults err.old err.new (line_of (paths_in (command_of invocation.now)) source result) }
@@ -140,8 +142,9 @@ fn answer<F: Files, O: Sink>(
     ensures refused { OnRefused result (λ r. IsOutcome (command_of invocation.now) source.now (Err r)) }
     ensures write_fault { OnWriteFault result (HasOutputFault (option_map (λ s. s.now) output.entry) (O.faults out.old) (O.faults out.new) (F.write_faults files.old) (F.write_faults files.new)) }
     ensures unwritten { Unwritten result ((out.new ≡ out.old) × (F.files files.new ≡ F.files files.old)) }
-    ensures done { OnDone result ((text : List ℕ) × Delivers O.puts O.told (option_map (λ s. s.now) output.entry) out.old out.new (F.files files.old) (F.files files.new) text × IsOutcome (command_of invocation.now) source.now (Ok text)) }
-    ensures front { OnWriteFault result ((text : List ℕ) × DeliversFront O.puts O.told (option_map (λ s. s.now) output.entry) out.old out.new (F.files files.old) (F.files files.new) text × IsOutcome (command_of invocation.now) source.now (Ok text)) }
+    ensures untouched { OnRefused result (λ r. files.new ≡ files.old) }
+    ensures done { OnDone result ((text : List ℕ) × Delivers F.writes F.files O.puts O.told (option_map (λ s. s.now) output.entry) files.old files.new out.old out.new text × IsOutcome (command_of invocation.now) source.now (Ok text)) }
+    ensures front { OnWriteFault result ((text : List ℕ) × DeliversFront F.writes F.files O.puts O.told (option_map (λ s. s.now) output.entry) files.old files.new out.old out.new text × IsOutcome (command_of invocation.now) source.now (Ok text)) }
     ensures reads { F.read_faults files.new ≡ F.read_faults files.old }
     ensures kinds { IsWorked result }
 {

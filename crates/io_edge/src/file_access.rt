@@ -1,5 +1,5 @@
 //! Files, which are read and written by name.
-ghost use Rattle.std.specs.Prelude.{◌≡◌, ℕ, ◌≤◌, List, Option, length, IfOk};
+ghost use Rattle.std.specs.Prelude.{◌≡◌, ℕ, ◌≤◌, List, Option, Result, length, IfOk};
 ghost use Rattle.io_edge.specs.Reading.{Reads, HasNamedCause};
 ghost use Rattle.io_edge.specs.Writing.{Writes};
 
@@ -32,6 +32,8 @@ impl From<AllocError> for FileFail {
 
 /// Something that has files.
 pub trait Files {
+    ghost use Rattle.io_edge.specs.declared.file_access.FileFail.{FileFail};
+
     // The files, each a name and its bytes, where they are told. The first of a name counts.
     ghost files: { Self → Option (List (List ℕ × List ℕ)) };
 
@@ -40,6 +42,12 @@ pub trait Files {
 
     // How many faults writes of a name met, in the same way.
     ghost write_faults: { Self → List ℕ → ℕ };
+
+    // What one read may do: the files before, the name, the limit, what it answers, the files after.
+    ghost reads: { Self → List ℕ → ℕ → Result (List ℕ) FileFail → Self → Type 0 };
+
+    // What one write may do: the files before, the name, the bytes, what it answers, the files after.
+    ghost writes: { Self → List ℕ → List ℕ → Result (Unit {0}) FileFail → Self → Type 0 };
 
     /// The whole content of the file of this name, or its first `limit` bytes where it is longer:
     /// more is not read. The name `-` is standard input. It fails with `Failed` where the file
@@ -50,7 +58,8 @@ pub trait Files {
         ensures within { IfOk result (λ text. length text ≤ limit) }
         ensures unchanged { files self.new ≡ files self.old }
         ensures cause { HasNamedCause name.now (read_faults self.old) (read_faults self.new) result }
-        ensures writes { write_faults self.new ≡ write_faults self.old };
+        ensures writes { write_faults self.new ≡ write_faults self.old }
+        ensures step { reads self.old name.now limit result self.new };
 
     /// Gives the file of this name these bytes; a name that no file has gets one. It fails with
     /// `Failed` where the file cannot be written, which then is as it was or has a front of the
@@ -58,5 +67,6 @@ pub trait Files {
     fn write(&mut self, alloc: Global, name: &str, bytes: &[u8]) -> Result<(), FileFail>
         ensures files { Writes (files self.old) (files self.new) name.now bytes.now result }
         ensures cause { HasNamedCause name.now (write_faults self.old) (write_faults self.new) result }
-        ensures reads { read_faults self.new ≡ read_faults self.old };
+        ensures reads { read_faults self.new ≡ read_faults self.old }
+        ensures step { writes self.old name.now bytes.now result self.new };
 }

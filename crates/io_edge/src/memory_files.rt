@@ -125,14 +125,12 @@ impl Files for MemoryFiles {
 
     ghost write_faults = { λ state name. state.write_faults };
 
+    ghost reads = { λ state name limit answer after. IsAnswer (wanted state name limit) answer × (after ≡ after_read state name limit) };
+
+    ghost writes = { λ state name bytes answer after. IsWriteAnswer (fails_next state) answer × (after ≡ after_write state name bytes answer) };
+
     /// Fails with `Failed` exactly at a read that is to fail and at an unknown name.
-    fn read(&mut self, alloc: Global, name: &str, limit: u64) -> Result<Text, FileFail>
-        ensures text { Reads (Some self.old.files) name.now limit result }
-        ensures within { IfOk result (λ text. length text ≤ limit) }
-        ensures cause { HasNamedCause name.now (λ _. self.old.read_faults) (λ _. self.new.read_faults) result }
-        ensures answer { IsAnswer (wanted self.old name.now limit) result }
-        ensures after { self.new ≡ after_read self.old name.now limit }
-    {
+    fn read(&mut self, alloc: Global, name: &str, limit: u64) -> Result<Text, FileFail> {
         let is_to_fail = self.failing.contains(&self.reads);
         self.reads = self.reads.saturating_add(1);
         if is_to_fail {
@@ -149,12 +147,7 @@ impl Files for MemoryFiles {
     }
 
     /// Fails with `Failed` exactly at a write that is to fail, which changes no file.
-    fn write(&mut self, alloc: Global, name: &str, bytes: &[u8]) -> Result<(), FileFail>
-        ensures files { Writes (Some self.old.files) (Some self.new.files) name.now bytes.now result }
-        ensures cause { HasNamedCause name.now (λ _. self.old.write_faults) (λ _. self.new.write_faults) result }
-        ensures answer { IsWriteAnswer (fails_next self.old) result }
-        ensures after { self.new ≡ after_write self.old name.now bytes.now result }
-    {
+    fn write(&mut self, alloc: Global, name: &str, bytes: &[u8]) -> Result<(), FileFail> {
         let is_to_fail = self.failing_writes.contains(&self.writes);
         self.writes = self.writes.saturating_add(1);
         if is_to_fail {

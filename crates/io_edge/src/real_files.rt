@@ -67,6 +67,11 @@ impl<'a, R: rt::Files + Input> Files for RealFiles<'a, R> {
 
     ghost write_faults = { λ counts name. counts.writes };
 
+    // What a read and a write do to the system's files is not known beyond the clauses.
+    ghost reads = { λ counts name limit answer after. Unit {0} };
+
+    ghost writes = { λ counts name bytes answer after. Unit {0} };
+
     /// Reads to the end of the file or to `limit` bytes. A file that cannot be opened is a fault,
     /// and so is a read that fails; after an interrupted one, which counts too, the next is tried.
     fn read(&mut self, alloc: Global, name: &str, limit: u64) -> Result<Text, FileFail> {

@@ -6,7 +6,7 @@ use Rattle.command_line.specs.Line.{line}
 use Rattle.command_line.specs.Invocations.{command_of}
 use Rattle.circt_top.specs.Words.{input_of, output_of}
 use Rattle.circt_top.specs.Delivery.{HasOutputFault}
-use Rattle.circt_top.specs.Answer.{told_at, IsMissing, IsReadFaultOrNoMemory, OnRefused, OnReadFault, OnWriteFault, OnDone, IsRefusalOf, IsMadeOf, Delivers, DeliversFront}
+use Rattle.circt_top.specs.Answer.{told_at, IsMissing, IsReadFaultOrNoMemory, OnRefused, OnReadFault, OnWriteFault, OnDone, IsRefusalOf, IsMadeOf, ReadsThen, Delivers, DeliversFront}
 use Rattle.circt_top.proofs.Completed.{said_is, stopped_ends, refused_for, write_fault_for, done_for, no_usage, complete, refusing, one_command}
 use Rattle.circt_top.proofs.run.run_circt.Goals as goal
 
@@ -27,19 +27,26 @@ returns-in-Ok-read_line-clause-refused g c =
     said_is (map string_bytes c.args.words.now) (map string_bytes c.in-Ok.regular.items) (command_of c.in-Ok-read_line.invocation) c.in-Ok.ensures.ok (rw (sym regular) c.in-Ok-read_line.ensures) in
     refused_for (map string_bytes c.args.words.now) (command_of c.in-Ok-read_line.invocation) (λ p. IsRefusalOf p (told_at (input_of p) (g.F.Files.files c.args.files.now))) c.run_on.result named c.run_on.ensures.refused
 
+pub returns-in-Ok-read_line-clause-read_once : goal.returns-in-Ok-read_line-clause-read_once
+returns-in-Ok-read_line-clause-read_once g c =
+    let regular : map string_bytes c.deref.result.now ≡ map string_bytes c.in-Ok.regular.items = ap (map string_bytes) c.deref.ensures.value in
+    let named : line (map string_bytes c.args.words.now) ≡ Ok (command_of c.in-Ok-read_line.invocation) =
+    said_is (map string_bytes c.args.words.now) (map string_bytes c.in-Ok.regular.items) (command_of c.in-Ok-read_line.invocation) c.in-Ok.ensures.ok (rw (sym regular) c.in-Ok-read_line.ensures) in
+    refused_for (map string_bytes c.args.words.now) (command_of c.in-Ok-read_line.invocation) (λ p r. ReadsThen g.F.Files.reads g.F.Files.files c.args.files.now (input_of p) (λ opened. c.run_on.new.files ≡ opened)) c.run_on.result named c.run_on.ensures.read_once
+
 pub returns-in-Ok-read_line-clause-done : goal.returns-in-Ok-read_line-clause-done
 returns-in-Ok-read_line-clause-done g c =
     let regular : map string_bytes c.deref.result.now ≡ map string_bytes c.in-Ok.regular.items = ap (map string_bytes) c.deref.ensures.value in
     let named : line (map string_bytes c.args.words.now) ≡ Ok (command_of c.in-Ok-read_line.invocation) =
     said_is (map string_bytes c.args.words.now) (map string_bytes c.in-Ok.regular.items) (command_of c.in-Ok-read_line.invocation) c.in-Ok.ensures.ok (rw (sym regular) c.in-Ok-read_line.ensures) in
-    done_for (map string_bytes c.args.words.now) (command_of c.in-Ok-read_line.invocation) (λ p. (text : List ℕ) × Delivers g.O.Sink.puts g.O.Sink.told (output_of p) c.args.out.now c.run_on.new.out (g.F.Files.files c.args.files.now) (g.F.Files.files c.run_on.new.files) text × IsMadeOf p (told_at (input_of p) (g.F.Files.files c.args.files.now)) text) c.run_on.result named c.run_on.ensures.done
+    done_for (map string_bytes c.args.words.now) (command_of c.in-Ok-read_line.invocation) (λ p. (text : List ℕ) × ReadsThen g.F.Files.reads g.F.Files.files c.args.files.now (input_of p) (λ opened. Delivers g.F.Files.writes g.F.Files.files g.O.Sink.puts g.O.Sink.told (output_of p) opened c.run_on.new.files c.args.out.now c.run_on.new.out text) × IsMadeOf p (told_at (input_of p) (g.F.Files.files c.args.files.now)) text) c.run_on.result named c.run_on.ensures.done
 
 pub returns-in-Ok-read_line-clause-front : goal.returns-in-Ok-read_line-clause-front
 returns-in-Ok-read_line-clause-front g c =
     let regular : map string_bytes c.deref.result.now ≡ map string_bytes c.in-Ok.regular.items = ap (map string_bytes) c.deref.ensures.value in
     let named : line (map string_bytes c.args.words.now) ≡ Ok (command_of c.in-Ok-read_line.invocation) =
     said_is (map string_bytes c.args.words.now) (map string_bytes c.in-Ok.regular.items) (command_of c.in-Ok-read_line.invocation) c.in-Ok.ensures.ok (rw (sym regular) c.in-Ok-read_line.ensures) in
-    write_fault_for (map string_bytes c.args.words.now) (command_of c.in-Ok-read_line.invocation) (λ p. (text : List ℕ) × DeliversFront g.O.Sink.puts g.O.Sink.told (output_of p) c.args.out.now c.run_on.new.out (g.F.Files.files c.args.files.now) (g.F.Files.files c.run_on.new.files) text × IsMadeOf p (told_at (input_of p) (g.F.Files.files c.args.files.now)) text) c.run_on.result named c.run_on.ensures.front
+    write_fault_for (map string_bytes c.args.words.now) (command_of c.in-Ok-read_line.invocation) (λ p. (text : List ℕ) × ReadsThen g.F.Files.reads g.F.Files.files c.args.files.now (input_of p) (λ opened. DeliversFront g.F.Files.writes g.F.Files.files g.O.Sink.puts g.O.Sink.told (output_of p) opened c.run_on.new.files c.args.out.now c.run_on.new.out text) × IsMadeOf p (told_at (input_of p) (g.F.Files.files c.args.files.now)) text) c.run_on.result named c.run_on.ensures.front
 
 pub returns-in-Ok-read_line-clause-complete : goal.returns-in-Ok-read_line-clause-complete
 returns-in-Ok-read_line-clause-complete g c = λ p h bytes told answer no_read no_write.
@@ -57,10 +64,10 @@ returns-in-Ok-read_line-clause-refusing g c = λ p h bytes told outside no_read.
     (let regular : map string_bytes c.deref.result.now ≡ map string_bytes c.in-Ok.regular.items = ap (map string_bytes) c.deref.ensures.value in
     let named : line (map string_bytes c.args.words.now) ≡ Ok (command_of c.in-Ok-read_line.invocation) =
     said_is (map string_bytes c.args.words.now) (map string_bytes c.in-Ok.regular.items) (command_of c.in-Ok-read_line.invocation) c.in-Ok.ensures.ok (rw (sym regular) c.in-Ok-read_line.ensures) in
-    refusing (map string_bytes c.args.words.now) p (told_at (input_of p) (g.F.Files.files c.args.files.now)) (HasRisen (g.F.Files.read_faults c.args.files.now (input_of p)) (g.F.Files.read_faults c.run_on.new.files (input_of p))) (Unit {0}) (λ text. Delivers g.O.Sink.puts g.O.Sink.told (output_of p) c.args.out.now c.run_on.new.out (g.F.Files.files c.args.files.now) (g.F.Files.files c.run_on.new.files) text) (λ text. DeliversFront g.O.Sink.puts g.O.Sink.told (output_of p) c.args.out.now c.run_on.new.out (g.F.Files.files c.args.files.now) (g.F.Files.files c.run_on.new.files) text) h bytes told c.run_on.result (no_usage (map string_bytes c.args.words.now) c.run_on.result named c.run_on.ensures.no_usage)
+    refusing (map string_bytes c.args.words.now) p (told_at (input_of p) (g.F.Files.files c.args.files.now)) (HasRisen (g.F.Files.read_faults c.args.files.now (input_of p)) (g.F.Files.read_faults c.run_on.new.files (input_of p))) (Unit {0}) (λ text. ReadsThen g.F.Files.reads g.F.Files.files c.args.files.now (input_of p) (λ opened. Delivers g.F.Files.writes g.F.Files.files g.O.Sink.puts g.O.Sink.told (output_of p) opened c.run_on.new.files c.args.out.now c.run_on.new.out text)) (λ text. ReadsThen g.F.Files.reads g.F.Files.files c.args.files.now (input_of p) (λ opened. DeliversFront g.F.Files.writes g.F.Files.files g.O.Sink.puts g.O.Sink.told (output_of p) opened c.run_on.new.files c.args.out.now c.run_on.new.out text)) h bytes told c.run_on.result (no_usage (map string_bytes c.args.words.now) c.run_on.result named c.run_on.ensures.no_usage)
     (one_command (map string_bytes c.args.words.now) p (command_of c.in-Ok-read_line.invocation) (λ p. OnReadFault c.run_on.result (HasRisen (g.F.Files.read_faults c.args.files.now (input_of p)) (g.F.Files.read_faults c.run_on.new.files (input_of p)))) h named c.run_on.ensures.read_fault)
-    (one_command (map string_bytes c.args.words.now) p (command_of c.in-Ok-read_line.invocation) (λ p. OnDone c.run_on.result ((text : List ℕ) × Delivers g.O.Sink.puts g.O.Sink.told (output_of p) c.args.out.now c.run_on.new.out (g.F.Files.files c.args.files.now) (g.F.Files.files c.run_on.new.files) text × IsMadeOf p (told_at (input_of p) (g.F.Files.files c.args.files.now)) text)) h named c.run_on.ensures.done)
-    (one_command (map string_bytes c.args.words.now) p (command_of c.in-Ok-read_line.invocation) (λ p. OnWriteFault c.run_on.result ((text : List ℕ) × DeliversFront g.O.Sink.puts g.O.Sink.told (output_of p) c.args.out.now c.run_on.new.out (g.F.Files.files c.args.files.now) (g.F.Files.files c.run_on.new.files) text × IsMadeOf p (told_at (input_of p) (g.F.Files.files c.args.files.now)) text)) h named c.run_on.ensures.front)
+    (one_command (map string_bytes c.args.words.now) p (command_of c.in-Ok-read_line.invocation) (λ p. OnDone c.run_on.result ((text : List ℕ) × ReadsThen g.F.Files.reads g.F.Files.files c.args.files.now (input_of p) (λ opened. Delivers g.F.Files.writes g.F.Files.files g.O.Sink.puts g.O.Sink.told (output_of p) opened c.run_on.new.files c.args.out.now c.run_on.new.out text) × IsMadeOf p (told_at (input_of p) (g.F.Files.files c.args.files.now)) text)) h named c.run_on.ensures.done)
+    (one_command (map string_bytes c.args.words.now) p (command_of c.in-Ok-read_line.invocation) (λ p. OnWriteFault c.run_on.result ((text : List ℕ) × ReadsThen g.F.Files.reads g.F.Files.files c.args.files.now (input_of p) (λ opened. DeliversFront g.F.Files.writes g.F.Files.files g.O.Sink.puts g.O.Sink.told (output_of p) opened c.run_on.new.files c.args.out.now c.run_on.new.out text) × IsMadeOf p (told_at (input_of p) (g.F.Files.files c.args.files.now)) text)) h named c.run_on.ensures.front)
     outside no_read)
 
 pub returns-in-Ok-read_line-clause-missing : goal.returns-in-Ok-read_line-clause-missing

@@ -3,7 +3,7 @@ use Rattle.std.proofs.Common.{◌≡◌, sym, subst, ap, ◌∙◌, Some, Ok, op
 use Rattle.command_line.specs.Line.{Paths}
 use Rattle.command_line.specs.Invocations.{command_of}
 use Rattle.circt_top.specs.Outcome.{IsOutcome}
-use Rattle.circt_top.specs.Answer.{told_at, IsMissing, OnRefused, OnDone, OnWriteFault, Delivers, DeliversFront, IsMadeOf, IsRefusalOf, IsReadOf, line_of, Reports}
+use Rattle.circt_top.specs.Answer.{told_at, IsMissing, OnRefused, OnDone, OnWriteFault, ReadsThen, Delivers, DeliversFront, IsMadeOf, IsRefusalOf, IsReadOf, line_of, Reports}
 use Rattle.circt_top.proofs.Answered.{IsRead, front_read, missing_unread, refused_whole, made_whole}
 use Rattle.circt_top.proofs.Ends.{refused_on, done_on, front_on, read_on, unread_refuses, unread_ends}
 use Rattle.circt_top.proofs.run.run_on.Goals as goal
@@ -30,23 +30,34 @@ returns-clause-refused g c =
     subst (λ (p : Paths). OnRefused c.answer-status.result (IsRefusalOf (command_of c.args.invocation.now) (told_at p.input (g.F.Files.files c.args.files.now)))) c.paths_of-paths.ensures
     (refused_on _ _ c.answer-status.result (λ r. refused_whole (command_of c.args.invocation.now) c.paths_of-paths.result.input.now (g.F.Files.files c.args.files.now) c.as_bytes.result.now r read) c.answer-status.ensures.refused)
 
+pub returns-in-Err-clause-read_once : goal.returns-in-Err-clause-read_once
+returns-in-Err-clause-read_once g c = rw c.unread-status.ensures (unread_refuses _ c.in-Err.fail)
+
+pub returns-clause-read_once : goal.returns-clause-read_once
+returns-clause-read_once g c =
+    subst (λ (p : Paths). OnRefused c.answer-status.result (λ r. ReadsThen g.F.Files.reads g.F.Files.files c.args.files.now p.input (λ opened. c.answer-status.new.files ≡ opened))) c.paths_of-paths.ensures
+    (refused_on (λ r. c.answer-status.new.files ≡ c.read.new.self) (λ r. ReadsThen g.F.Files.reads g.F.Files.files c.args.files.now c.paths_of-paths.result.input.now (λ opened. c.answer-status.new.files ≡ opened)) c.answer-status.result
+    (λ r same. (c.read.new.self, c.in-Ok.source, c.in-Ok.ensures.step, c.read.ensures.unchanged, same)) c.answer-status.ensures.untouched)
+
 pub returns-clause-done : goal.returns-clause-done
 returns-clause-done g c =
     let viewed : c.as_bytes.result.now ≡ c.in-Ok.source = cc in
     let read : IsRead c.paths_of-paths.result.input.now (g.F.Files.files c.args.files.now) c.as_bytes.result.now = λ files told. c.in-Ok.ensures.text files told ∙ ap Some (sym viewed) in
-    subst (λ (p : Paths). OnDone c.answer-status.result ((text : List ℕ) × Delivers g.O.Sink.puts g.O.Sink.told p.output c.args.out.now c.answer-status.new.out (g.F.Files.files c.args.files.now) (g.F.Files.files c.answer-status.new.files) text × IsMadeOf (command_of c.args.invocation.now) (told_at p.input (g.F.Files.files c.args.files.now)) text)) c.paths_of-paths.ensures
-    (done_on (λ text. Delivers g.O.Sink.puts g.O.Sink.told (option_map (λ s. s.now) c.paths_of-paths.result.output) c.args.out.now c.answer-status.new.out (g.F.Files.files c.args.files.now) (g.F.Files.files c.answer-status.new.files) text) (λ text. IsOutcome (command_of c.args.invocation.now) c.as_bytes.result.now (Ok text)) (IsMadeOf (command_of c.args.invocation.now) (told_at c.paths_of-paths.result.input.now (g.F.Files.files c.args.files.now))) c.answer-status.result
+    subst (λ (p : Paths). OnDone c.answer-status.result ((text : List ℕ) × ReadsThen g.F.Files.reads g.F.Files.files c.args.files.now p.input (λ opened. Delivers g.F.Files.writes g.F.Files.files g.O.Sink.puts g.O.Sink.told p.output opened c.answer-status.new.files c.args.out.now c.answer-status.new.out text) × IsMadeOf (command_of c.args.invocation.now) (told_at p.input (g.F.Files.files c.args.files.now)) text)) c.paths_of-paths.ensures
+    (done_on (λ text. Delivers g.F.Files.writes g.F.Files.files g.O.Sink.puts g.O.Sink.told (option_map (λ s. s.now) c.paths_of-paths.result.output) c.read.new.self c.answer-status.new.files c.args.out.now c.answer-status.new.out text) (λ text. ReadsThen g.F.Files.reads g.F.Files.files c.args.files.now c.paths_of-paths.result.input.now (λ opened. Delivers g.F.Files.writes g.F.Files.files g.O.Sink.puts g.O.Sink.told (option_map (λ s. s.now) c.paths_of-paths.result.output) opened c.answer-status.new.files c.args.out.now c.answer-status.new.out text)) (λ text. IsOutcome (command_of c.args.invocation.now) c.as_bytes.result.now (Ok text)) (IsMadeOf (command_of c.args.invocation.now) (told_at c.paths_of-paths.result.input.now (g.F.Files.files c.args.files.now))) c.answer-status.result
+    (λ text out. (c.read.new.self, c.in-Ok.source, c.in-Ok.ensures.step, c.read.ensures.unchanged, out))
     (λ text is. made_whole (command_of c.args.invocation.now) c.paths_of-paths.result.input.now (g.F.Files.files c.args.files.now) c.as_bytes.result.now text read is)
-    (subst (λ files. OnDone c.answer-status.result ((text : List ℕ) × (Delivers g.O.Sink.puts g.O.Sink.told (option_map (λ s. s.now) c.paths_of-paths.result.output) c.args.out.now c.answer-status.new.out files (g.F.Files.files c.answer-status.new.files) text) × IsOutcome (command_of c.args.invocation.now) c.as_bytes.result.now (Ok text))) c.read.ensures.unchanged c.answer-status.ensures.done))
+    c.answer-status.ensures.done)
 
 pub returns-clause-front : goal.returns-clause-front
 returns-clause-front g c =
     let viewed : c.as_bytes.result.now ≡ c.in-Ok.source = cc in
     let read : IsRead c.paths_of-paths.result.input.now (g.F.Files.files c.args.files.now) c.as_bytes.result.now = λ files told. c.in-Ok.ensures.text files told ∙ ap Some (sym viewed) in
-    subst (λ (p : Paths). OnWriteFault c.answer-status.result ((text : List ℕ) × DeliversFront g.O.Sink.puts g.O.Sink.told p.output c.args.out.now c.answer-status.new.out (g.F.Files.files c.args.files.now) (g.F.Files.files c.answer-status.new.files) text × IsMadeOf (command_of c.args.invocation.now) (told_at p.input (g.F.Files.files c.args.files.now)) text)) c.paths_of-paths.ensures
-    (front_on (λ text. DeliversFront g.O.Sink.puts g.O.Sink.told (option_map (λ s. s.now) c.paths_of-paths.result.output) c.args.out.now c.answer-status.new.out (g.F.Files.files c.args.files.now) (g.F.Files.files c.answer-status.new.files) text) (λ text. IsOutcome (command_of c.args.invocation.now) c.as_bytes.result.now (Ok text)) (IsMadeOf (command_of c.args.invocation.now) (told_at c.paths_of-paths.result.input.now (g.F.Files.files c.args.files.now))) c.answer-status.result
+    subst (λ (p : Paths). OnWriteFault c.answer-status.result ((text : List ℕ) × ReadsThen g.F.Files.reads g.F.Files.files c.args.files.now p.input (λ opened. DeliversFront g.F.Files.writes g.F.Files.files g.O.Sink.puts g.O.Sink.told p.output opened c.answer-status.new.files c.args.out.now c.answer-status.new.out text) × IsMadeOf (command_of c.args.invocation.now) (told_at p.input (g.F.Files.files c.args.files.now)) text)) c.paths_of-paths.ensures
+    (front_on (λ text. DeliversFront g.F.Files.writes g.F.Files.files g.O.Sink.puts g.O.Sink.told (option_map (λ s. s.now) c.paths_of-paths.result.output) c.read.new.self c.answer-status.new.files c.args.out.now c.answer-status.new.out text) (λ text. ReadsThen g.F.Files.reads g.F.Files.files c.args.files.now c.paths_of-paths.result.input.now (λ opened. DeliversFront g.F.Files.writes g.F.Files.files g.O.Sink.puts g.O.Sink.told (option_map (λ s. s.now) c.paths_of-paths.result.output) opened c.answer-status.new.files c.args.out.now c.answer-status.new.out text)) (λ text. IsOutcome (command_of c.args.invocation.now) c.as_bytes.result.now (Ok text)) (IsMadeOf (command_of c.args.invocation.now) (told_at c.paths_of-paths.result.input.now (g.F.Files.files c.args.files.now))) c.answer-status.result
+    (λ text out. (c.read.new.self, c.in-Ok.source, c.in-Ok.ensures.step, c.read.ensures.unchanged, out))
     (λ text is. made_whole (command_of c.args.invocation.now) c.paths_of-paths.result.input.now (g.F.Files.files c.args.files.now) c.as_bytes.result.now text read is)
-    (subst (λ files. OnWriteFault c.answer-status.result ((text : List ℕ) × (DeliversFront g.O.Sink.puts g.O.Sink.told (option_map (λ s. s.now) c.paths_of-paths.result.output) c.args.out.now c.answer-status.new.out files (g.F.Files.files c.answer-status.new.files) text) × IsOutcome (command_of c.args.invocation.now) c.as_bytes.result.now (Ok text))) c.read.ensures.unchanged c.answer-status.ensures.front))
+    c.answer-status.ensures.front)
 
 pub returns-clause-report : goal.returns-clause-report
 returns-clause-report g c =
