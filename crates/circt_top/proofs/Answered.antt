@@ -1,5 +1,5 @@
 -- What is known of the told input from what was read of it: at most one byte more than a text may have.
-use Rattle.std.proofs.Common.{◌≡◌, ℕ, ◌^◌, ◌<◌, ◌≤◌, inl, inr, min, Bool, true, false, cond, nat_lt, List, length, take, Option, Some, None, Result, Ok, Err, refl, sym, ◌∙◌, ap, arith, length-take, take_all, option_map, lt-ltb, ltb-true, ltb-false}
+use Rattle.std.proofs.Common.{◌≡◌, ℕ, ◌<◌, ◌≤◌, inl, inr, min, Bool, true, false, cond, nat_lt, List, length, take, Option, Some, None, Result, Ok, Err, refl, sym, ◌∙◌, ap, arith, length-take, take_all, option_map, lt-ltb, ltb-true, ltb-false}
 use Rattle.hw_model.specs.Types.{Name}
 use Rattle.hw_model.specs.Design.{Design}
 use Rattle.io_edge.specs.Reading.{file_at}

@@ -36,16 +36,16 @@ returns-in-Err-clause-read_once g c = rw c.unread-status.ensures (unread_refuses
 pub returns-clause-read_once : goal.returns-clause-read_once
 returns-clause-read_once g c =
     subst (λ (p : Paths). OnRefused c.answer-status.result (λ r. ReadsThen g.F.Files.reads g.F.Files.files c.args.files.now p.input (λ opened. c.answer-status.new.files ≡ opened))) c.paths_of-paths.ensures
-    (refused_on (λ r. c.answer-status.new.files ≡ c.read.new.files) (λ r. ReadsThen g.F.Files.reads g.F.Files.files c.args.files.now c.paths_of-paths.result.input.now (λ opened. c.answer-status.new.files ≡ opened)) c.answer-status.result
-    (λ r same. (c.read.new.files, c.in-Ok.source, c.in-Ok.ensures.step, c.read.ensures.unchanged, same)) c.answer-status.ensures.untouched)
+    (refused_on (λ r. c.answer-status.new.files ≡ c.read.new.self) (λ r. ReadsThen g.F.Files.reads g.F.Files.files c.args.files.now c.paths_of-paths.result.input.now (λ opened. c.answer-status.new.files ≡ opened)) c.answer-status.result
+    (λ r same. (c.read.new.self, c.in-Ok.source, c.in-Ok.ensures.step, c.read.ensures.unchanged, same)) c.answer-status.ensures.untouched)
 
 pub returns-clause-done : goal.returns-clause-done
 returns-clause-done g c =
     let viewed : c.as_bytes.result.now ≡ c.in-Ok.source = cc in
     let read : IsRead c.paths_of-paths.result.input.now (g.F.Files.files c.args.files.now) c.as_bytes.result.now = λ files told. c.in-Ok.ensures.text files told ∙ ap Some (sym viewed) in
     subst (λ (p : Paths). OnDone c.answer-status.result ((text : List ℕ) × ReadsThen g.F.Files.reads g.F.Files.files c.args.files.now p.input (λ opened. Delivers g.F.Files.writes g.F.Files.files g.O.Sink.puts g.O.Sink.told p.output opened c.answer-status.new.files c.args.out.now c.answer-status.new.out text) × IsMadeOf (command_of c.args.invocation.now) (told_at p.input (g.F.Files.files c.args.files.now)) text)) c.paths_of-paths.ensures
-    (done_on (λ text. Delivers g.F.Files.writes g.F.Files.files g.O.Sink.puts g.O.Sink.told (option_map (λ s. s.now) c.paths_of-paths.result.output) c.read.new.files c.answer-status.new.files c.args.out.now c.answer-status.new.out text) (λ text. ReadsThen g.F.Files.reads g.F.Files.files c.args.files.now c.paths_of-paths.result.input.now (λ opened. Delivers g.F.Files.writes g.F.Files.files g.O.Sink.puts g.O.Sink.told (option_map (λ s. s.now) c.paths_of-paths.result.output) opened c.answer-status.new.files c.args.out.now c.answer-status.new.out text)) (λ text. IsOutcome (command_of c.args.invocation.now) c.as_bytes.result.now (Ok text)) (IsMadeOf (command_of c.args.invocation.now) (told_at c.paths_of-paths.result.input.now (g.F.Files.files c.args.files.now))) c.answer-status.result
-    (λ text out. (c.read.new.files, c.in-Ok.source, c.in-Ok.ensures.step, c.read.ensures.unchanged, out))
+    (done_on (λ text. Delivers g.F.Files.writes g.F.Files.files g.O.Sink.puts g.O.Sink.told (option_map (λ s. s.now) c.paths_of-paths.result.output) c.read.new.self c.answer-status.new.files c.args.out.now c.answer-status.new.out text) (λ text. ReadsThen g.F.Files.reads g.F.Files.files c.args.files.now c.paths_of-paths.result.input.now (λ opened. Delivers g.F.Files.writes g.F.Files.files g.O.Sink.puts g.O.Sink.told (option_map (λ s. s.now) c.paths_of-paths.result.output) opened c.answer-status.new.files c.args.out.now c.answer-status.new.out text)) (λ text. IsOutcome (command_of c.args.invocation.now) c.as_bytes.result.now (Ok text)) (IsMadeOf (command_of c.args.invocation.now) (told_at c.paths_of-paths.result.input.now (g.F.Files.files c.args.files.now))) c.answer-status.result
+    (λ text out. (c.read.new.self, c.in-Ok.source, c.in-Ok.ensures.step, c.read.ensures.unchanged, out))
     (λ text is. made_whole (command_of c.args.invocation.now) c.paths_of-paths.result.input.now (g.F.Files.files c.args.files.now) c.as_bytes.result.now text read is)
     c.answer-status.ensures.done)
 
@@ -54,8 +54,8 @@ returns-clause-front g c =
     let viewed : c.as_bytes.result.now ≡ c.in-Ok.source = cc in
     let read : IsRead c.paths_of-paths.result.input.now (g.F.Files.files c.args.files.now) c.as_bytes.result.now = λ files told. c.in-Ok.ensures.text files told ∙ ap Some (sym viewed) in
     subst (λ (p : Paths). OnWriteFault c.answer-status.result ((text : List ℕ) × ReadsThen g.F.Files.reads g.F.Files.files c.args.files.now p.input (λ opened. DeliversFront g.F.Files.writes g.F.Files.files g.O.Sink.puts g.O.Sink.told p.output opened c.answer-status.new.files c.args.out.now c.answer-status.new.out text) × IsMadeOf (command_of c.args.invocation.now) (told_at p.input (g.F.Files.files c.args.files.now)) text)) c.paths_of-paths.ensures
-    (front_on (λ text. DeliversFront g.F.Files.writes g.F.Files.files g.O.Sink.puts g.O.Sink.told (option_map (λ s. s.now) c.paths_of-paths.result.output) c.read.new.files c.answer-status.new.files c.args.out.now c.answer-status.new.out text) (λ text. ReadsThen g.F.Files.reads g.F.Files.files c.args.files.now c.paths_of-paths.result.input.now (λ opened. DeliversFront g.F.Files.writes g.F.Files.files g.O.Sink.puts g.O.Sink.told (option_map (λ s. s.now) c.paths_of-paths.result.output) opened c.answer-status.new.files c.args.out.now c.answer-status.new.out text)) (λ text. IsOutcome (command_of c.args.invocation.now) c.as_bytes.result.now (Ok text)) (IsMadeOf (command_of c.args.invocation.now) (told_at c.paths_of-paths.result.input.now (g.F.Files.files c.args.files.now))) c.answer-status.result
-    (λ text out. (c.read.new.files, c.in-Ok.source, c.in-Ok.ensures.step, c.read.ensures.unchanged, out))
+    (front_on (λ text. DeliversFront g.F.Files.writes g.F.Files.files g.O.Sink.puts g.O.Sink.told (option_map (λ s. s.now) c.paths_of-paths.result.output) c.read.new.self c.answer-status.new.files c.args.out.now c.answer-status.new.out text) (λ text. ReadsThen g.F.Files.reads g.F.Files.files c.args.files.now c.paths_of-paths.result.input.now (λ opened. DeliversFront g.F.Files.writes g.F.Files.files g.O.Sink.puts g.O.Sink.told (option_map (λ s. s.now) c.paths_of-paths.result.output) opened c.answer-status.new.files c.args.out.now c.answer-status.new.out text)) (λ text. IsOutcome (command_of c.args.invocation.now) c.as_bytes.result.now (Ok text)) (IsMadeOf (command_of c.args.invocation.now) (told_at c.paths_of-paths.result.input.now (g.F.Files.files c.args.files.now))) c.answer-status.result
+    (λ text out. (c.read.new.self, c.in-Ok.source, c.in-Ok.ensures.step, c.read.ensures.unchanged, out))
     (λ text is. made_whole (command_of c.args.invocation.now) c.paths_of-paths.result.input.now (g.F.Files.files c.args.files.now) c.as_bytes.result.now text read is)
     c.answer-status.ensures.front)
 
