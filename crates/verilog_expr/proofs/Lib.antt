@@ -24,6 +24,7 @@ pub mod Carried
 pub mod Fit
 pub mod Tight
 pub mod Signed
+pub mod Places
 pub mod TextRead
 pub mod Checked
 pub mod BodiesChecked

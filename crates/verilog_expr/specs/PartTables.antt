@@ -94,9 +94,12 @@ pub record IsDown (ports : List Port) (os : List Op) (hs : List (Option ℕ)) (w
   pub needed : In (result below 0) (inner_needs os (result w.place 0))
   pub unknown : IsUnknown ports os hs below
 
+-- what going on with an operation gives: its height, or what it waits for next
 abbrev pub IsStep : List Port → List Op → List (Option ℕ) → Waiting → Step → Type 0
 IsStep ports os hs w (Height n) = n ≡ height ports os (result w.place 0)
 IsStep ports os hs w (Down next below) = IsDown ports os hs w next below
+
+-- ---- wires
 
 -- whether an operation has a wire, by its mark, its part and its height
 abbrev pub wired : Op → Mark → told.Part → ℕ → Bool

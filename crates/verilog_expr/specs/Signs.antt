@@ -1,7 +1,8 @@
 -- Which operands stand under one sign with what stands round them (IEEE 1364-2005, 5.5: signed expressions).
-use Rattle.std.specs.Prelude.{Bool, true, false, not, ◌&&◌}
-use Rattle.hw_model.specs.Kinds.{Kind}
-use Rattle.hw_model.specs.Kinds.Kind.{divs, mods, shrs}
+use Rattle.std.specs.Prelude.{ℕ, Bool, true, false, not, ◌&&◌, ◌==◌}
+use Rattle.hw_model.specs.Kinds.{Kind, Predicate}
+use Rattle.hw_model.specs.Kinds.Predicate.{slt, sle, sgt, sge}
+use Rattle.hw_model.specs.Kinds.Kind.{add, mul, and, or, xor, sub, divu, modu, divs, mods, shl, shru, shrs, icmp, mux}
 use Rattle.verilog_model.specs.Tree.{Expr, Exprs}
 use Rattle.verilog_model.specs.Tree.Expr.{name, bit_select, part_select, literal, joined, repeated, as_signed, as_unsigned, paren, odd, binary, choice}
 use Rattle.verilog_model.specs.Tree.Exprs.{last, more}
@@ -49,3 +50,27 @@ is_signed_kind divs = true
 is_signed_kind mods = true
 is_signed_kind shrs = true
 is_signed_kind _ = false
+
+abbrev pub is_signed_order : Predicate → Bool
+is_signed_order slt = true
+is_signed_order sle = true
+is_signed_order sgt = true
+is_signed_order sge = true
+is_signed_order _ = false
+
+-- whether the operand of a number stands where an unsigned one is asked for: all of arithmetic and bitwise operators, of
+-- unsigned divisions and comparisons, what is shifted without its sign, and both values of a choice
+abbrev pub is_unsigned_place : Kind → ℕ → Bool
+is_unsigned_place add i = true
+is_unsigned_place mul i = true
+is_unsigned_place and i = true
+is_unsigned_place or i = true
+is_unsigned_place xor i = true
+is_unsigned_place sub i = true
+is_unsigned_place divu i = true
+is_unsigned_place modu i = true
+is_unsigned_place shl i = i == 0
+is_unsigned_place shru i = i == 0
+is_unsigned_place (icmp p) i = not (is_signed_order p)
+is_unsigned_place mux i = not (i == 0)
+is_unsigned_place _ i = false

@@ -179,7 +179,7 @@ impl Expr {
     ghost use Rattle.verilog_expr.specs.Named.{named_of};
 
     /// The expression that stands for a value where it is used: its name where it has one, or else that of its operation
-    /// (IEEE 1364-2005, 5.1). No value may have more than 128 bits. The error is want of memory.
+    /// (IEEE 1364-2005, 5.1). No value may have more than 128 bits. The error is out of memory.
     pub fn build(
         alloc: Global,
         scope: &Scope<'_>,
@@ -195,7 +195,7 @@ impl Expr {
     }
 
     /// The expression of a value's own operation, which is assigned to its name where it has one; of a wire that of its
-    /// operand. No value may have more than 128 bits. The error is want of memory.
+    /// operand. No value may have more than 128 bits. The error is out of memory.
     pub fn define(
         alloc: Global,
         scope: &Scope<'_>,
@@ -219,7 +219,7 @@ impl Expr {
     }
 }
 
-/// Adds an expression to a text. The error is want of memory; the text then stays as it was.
+/// Adds an expression to a text. The error is out of memory; the text then stays as it was.
 pub fn write_expr(expr: &Expr, into: &mut Text) -> Result<(), AllocError>
     ensures ok { OnOk result (into.new ≡ into.old ++ expr.now.text) }
     ensures err { OnErr result (into.new ≡ into.old) }

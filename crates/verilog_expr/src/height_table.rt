@@ -192,7 +192,7 @@ fn find_all(scope: &Scope<'_>, parts: &[Part], heights: &mut [Option<u32>], path
     }
 }
 
-/// The height of each operation, by its position. The error is want of memory.
+/// The height of each operation, by its position. The error is out of memory.
 pub(crate) fn heights_of(
     alloc: Global,
     scope: &Scope<'_>,

@@ -9,7 +9,7 @@ use io_edge::byte_text::Text;
 use itoa::Buffer;
 use std::alloc::AllocError;
 
-/// Adds a number in decimal. The error is want of memory.
+/// Adds a number in decimal. The error is out of memory.
 pub fn push_decimal(out: &mut Text, n: u128) -> Result<(), AllocError>
     ensures { OnOk result (out.new ≡ out.old ++ decimal n) }
 {
@@ -26,7 +26,7 @@ fn hex_byte(n: u8) -> u8
     if n < 10 { 48 + n } else { 55 + n }
 }
 
-/// Adds a number in hexadecimal, with capital letters and no leading zeros. The error is want of memory; a part of the
+/// Adds a number in hexadecimal, with capital letters and no leading zeros. The error is out of memory; a part of the
 /// number may then stand in the text.
 pub fn push_hex(out: &mut Text, n: u128) -> Result<(), AllocError>
     ensures { OnOk result (out.new ≡ out.old ++ hex n) }
@@ -47,7 +47,7 @@ fn base_mark(is_signed: bool) -> &'static [u8]
     if is_signed { b"'sh" } else { b"'h" }
 }
 
-/// Adds the literal of a number in so many bits, marked `s` where it is signed. The error is want of memory; a part of the
+/// Adds the literal of a number in so many bits, marked `s` where it is signed. The error is out of memory; a part of the
 /// literal may then stand in the text.
 pub fn push_literal(out: &mut Text, width: u64, is_signed: bool, n: u128) -> Result<(), AllocError>
     ensures { OnOk result (out.new ≡ out.old ++ expr_text (literal_of width is_signed n) []) }

@@ -27,7 +27,7 @@ impl Wires {
     ghost use Rattle.verilog_expr.specs.Scopes.{scope_ports, scope_ops};
     ghost use Rattle.verilog_expr.specs.PartTables.{AreWires};
 
-    /// Which values of a body have wires. No value may need itself through pure operations. The error is want of memory.
+    /// Which values of a body have wires. No value may need itself through pure operations. The error is out of memory.
     pub fn of(alloc: Global, scope: &Scope<'_>) -> Result<Wires, AllocError>
         requires small { AreSmall (scope_ports scope.now) (scope_ops scope.now) }
         requires acyclic { IsAcyclic (inner_needs (scope_ops scope.now)) }

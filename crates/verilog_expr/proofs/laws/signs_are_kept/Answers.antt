@@ -1,7 +1,11 @@
 use Rattle.verilog_expr.specs.Signs.{keeps_signs}
 use Rattle.verilog_expr.proofs.Carried.{own_carried, depth_carried, body_carried}
+use Rattle.verilog_expr.proofs.Places.{places_asked}
 use Rattle.verilog_expr.proofs.Signed.{unsigned_at_signed, signed_kinds, signed_only, built_keeps, signs_carried}
 use Rattle.verilog_expr.proofs.laws.signs_are_kept.Goals as goal
+
+pub returns-clause-asked : goal.returns-clause-asked
+returns-clause-asked c = places_asked
 
 pub returns-clause-places : goal.returns-clause-places
 returns-clause-places c = unsigned_at_signed

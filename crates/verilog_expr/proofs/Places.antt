@@ -1,0 +1,81 @@
+-- The places of operands that ask for unsigned expressions are those of the kinds.
+use Rattle.std.proofs.Common.{◌≡◌, ℕ, ◌/◌, Bool, true, false, cond, not, ◌&&◌, ◌==◌, refl, sym, ap, ◌∙◌}
+use Rattle.hw_model.specs.Kinds.{Kind, Predicate}
+use Rattle.hw_model.specs.Kinds.Predicate.{eq, ne, slt, sle, sgt, sge, ult, ule, ugt, uge, ceq, cne, weq, wne}
+use Rattle.hw_model.specs.Kinds.Kind.{add, mul, and, or, xor, sub, divu, modu, divs, mods, shl, shru, shrs, icmp, parity, extract, concat, replicate, mux, constant, bitcast, wire}
+use Rattle.verilog_expr.specs.Forms.{asks_unsigned}
+use Rattle.verilog_expr.specs.Rows.{chain_row, row_of_count, comparison_form, extract_row, row_for}
+use Rattle.verilog_expr.specs.Signs.{is_signed_order, is_unsigned_place}
+use Rattle.verilog_expr.specs.declared.form.Operator.{Operator}
+use Rattle.verilog_expr.specs.declared.form.Operator.TheVariants as signs
+use Rattle.verilog_expr.specs.declared.form.Form.{Form}
+use Rattle.verilog_expr.specs.declared.form.Form.TheVariants.{Same, Chain, UnsignedShift, SignedShift, UnsignedDivision, SignedDivision, Parity, Braces, Copies, Choice}
+use Rattle.verilog_expr.specs.declared.row.Row.TheVariants.{Missing, Select, Operands}
+
+module _ (f : Form) (i : ℕ) (other : f ≡ Same → ⊥) where
+  of_chain : (n : ℕ) (o : Operator) → chain_row n o ≡ Operands f → asks_unsigned f i ≡ true
+  of_chain n o is = go (n == 0) (n == 1) is where
+    go : (b c : Bool) → cond b Missing (cond c (Operands Same) (Operands (Chain o))) ≡ Operands f → asks_unsigned f i ≡ true
+    go true c e = cc
+    go false true e = let same : Same ≡ f = cc in absurd (other (sym same))
+    go false false e = let same : Chain o ≡ f = cc in ap (λ g. asks_unsigned g i) (sym same)
+
+  of_count : (n m : ℕ) (g : Form) → row_of_count n m g ≡ Operands f → asks_unsigned f i ≡ asks_unsigned g i
+  of_count n m g is = go (n == m) is where
+    go : (b : Bool) → cond b (Operands g) Missing ≡ Operands f → asks_unsigned f i ≡ asks_unsigned g i
+    go true e = let same : g ≡ f = cc in ap (λ h. asks_unsigned h i) (sym same)
+    go false e = cc
+
+  of_some : (n : ℕ) (g : Form) → cond (n == 0) Missing (Operands g) ≡ Operands f → asks_unsigned f i ≡ asks_unsigned g i
+  of_some n g is = go (n == 0) is where
+    go : (b : Bool) → cond b Missing (Operands g) ≡ Operands f → asks_unsigned f i ≡ asks_unsigned g i
+    go true e = cc
+    go false e = let same : g ≡ f = cc in ap (λ h. asks_unsigned h i) (sym same)
+
+  of_extract : (n low w v : ℕ) → extract_row n low w v ≡ Operands f → asks_unsigned f i ≡ false
+  of_extract n low w v is = go (n == 1) (low == 0 && w == v) is where
+    go : (b c : Bool) → cond b (cond c (Operands Same) (Select low w)) Missing ≡ Operands f → asks_unsigned f i ≡ false
+    go true true e = let same : Same ≡ f = cc in absurd (other (sym same))
+    go true false e = cc
+    go false c e = cc
+
+  compared : (p : Predicate) → asks_unsigned (comparison_form p) i ≡ not (is_signed_order p)
+  compared eq = refl
+  compared ne = refl
+  compared slt = refl
+  compared sle = refl
+  compared sgt = refl
+  compared sge = refl
+  compared ult = refl
+  compared ule = refl
+  compared ugt = refl
+  compared uge = refl
+  compared ceq = refl
+  compared cne = refl
+  compared weq = refl
+  compared wne = refl
+
+pub places_asked : (kind : Kind) (w v divisor n i : ℕ) (f : Form) → row_for kind w v divisor n ≡ Operands f → (f ≡ Same → ⊥) → asks_unsigned f i ≡ is_unsigned_place kind i
+places_asked add w v divisor n i f is other = of_chain f i other n signs.Plus is
+places_asked mul w v divisor n i f is other = of_chain f i other n signs.Times is
+places_asked and w v divisor n i f is other = of_chain f i other n signs.BitAnd is
+places_asked or w v divisor n i f is other = of_chain f i other n signs.BitOr is
+places_asked xor w v divisor n i f is other = of_chain f i other n signs.BitXor is
+places_asked sub w v divisor n i f is other = of_count f i other n 2 (Chain signs.Minus) is
+places_asked divu w v divisor n i f is other = of_count f i other n 2 (UnsignedDivision signs.Over w divisor) is
+places_asked modu w v divisor n i f is other = of_count f i other n 2 (UnsignedDivision signs.Modulo w divisor) is
+places_asked divs w v divisor n i f is other = of_count f i other n 2 (SignedDivision signs.Over w divisor) is
+places_asked mods w v divisor n i f is other = of_count f i other n 2 (SignedDivision signs.Modulo w divisor) is
+places_asked shl w v divisor n i f is other = of_count f i other n 2 (UnsignedShift signs.LeftShift) is
+places_asked shru w v divisor n i f is other = of_count f i other n 2 (UnsignedShift signs.RightShift) is
+places_asked shrs w v divisor n i f is other = of_count f i other n 2 (SignedShift signs.SignedRightShift) is
+places_asked (icmp p) w v divisor n i f is other = of_count f i other n 2 (comparison_form p) is ∙ compared f i other p
+places_asked parity w v divisor n i f is other = of_count f i other n 1 Parity is
+places_asked (extract low) w v divisor n i f is other = of_extract f i other n low w v is
+places_asked concat w v divisor n i f is other = of_some f i other n Braces is
+places_asked replicate w v divisor n i f is other = of_count f i other n 1 (Copies (w / v)) is
+places_asked mux w v divisor n i f is other = of_count f i other n 3 Choice is
+places_asked (constant z) w v divisor n i f is other = cc
+places_asked bitcast w v divisor n i f is other = of_count f i other n 1 Same is
+places_asked wire w v divisor n i f is other = of_count f i other n 1 Same is
+places_asked _ w v divisor n i f is other = cc
