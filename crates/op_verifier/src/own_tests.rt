@@ -189,6 +189,40 @@ fn clocked(alloc: Global, kind: &OpKind) -> Result<Option<Cause>, AllocError> {
     cause(alloc, kind, types, operands.as_slice(), operands.as_slice())
 }
 
+// of an operation with these written types, on clocks behind integers of these widths, that gives integers
+fn clocks_taken(
+    alloc: Global,
+    kind: &OpKind,
+    types: Vec<Ty>,
+    taken: &[u32],
+    clocks: usize,
+    given: &[u32],
+) -> Result<Option<Cause>, AllocError> {
+    let mut operands = ints(alloc, taken)?;
+    for _ in 0..clocks {
+        operands.push(Ty::Clock)?;
+    }
+    let results = ints(alloc, given)?;
+    cause(alloc, kind, types, results.as_slice(), operands.as_slice())
+}
+
+// of `hw.struct_create` of a struct of two bytes, by integers of these widths and clocks behind them
+fn constructed(alloc: Global, taken: &[u32], clocks: usize) -> Result<Option<Cause>, AllocError> {
+    let mut operands = ints(alloc, taken)?;
+    for _ in 0..clocks {
+        operands.push(Ty::Clock)?;
+    }
+    let results = pair(alloc, b"a".as_slice(), b"b".as_slice())?;
+    let types = pair(alloc, b"a".as_slice(), b"b".as_slice())?;
+    cause(
+        alloc,
+        &OpKind::StructCreate,
+        types,
+        results.as_slice(),
+        operands.as_slice(),
+    )
+}
+
 // of a register of bytes, clocked by a clock
 fn register(alloc: Global) -> Result<Option<Cause>, AllocError> {
     let mut operands = ints(alloc, &[8])?;
@@ -342,6 +376,50 @@ fn clocks_are_for_registers(rt: HostRuntime) -> Result<(), Fail> {
     assert_eq!(rt; register(alloc)?, None);
     assert_eq!(rt; clocked(alloc, &OpKind::Wire)?, Some(Cause::ClockOperand));
     assert_eq!(rt; clocked(alloc, &OpKind::Add)?, Some(Cause::TypeMismatch));
+    Ok(())
+}
+
+#[test]
+fn a_clock_is_no_operand(rt: HostRuntime) -> Result<(), Fail> {
+    let alloc = rt.alloc();
+    let clock = Some(Cause::ClockOperand);
+    let mismatch = Some(Cause::TypeMismatch);
+    // more operands than fields: told as a clock where one of them is one, before the count
+    assert_eq!(rt; constructed(alloc, &[8, 8], 0)?, None);
+    assert_eq!(rt; constructed(alloc, &[8, 8, 8], 0)?, Some(Cause::Arity));
+    assert_eq!(rt; constructed(alloc, &[8, 8], 1)?, clock);
+    assert_eq!(rt; constructed(alloc, &[8], 1)?, mismatch);
+    // where the form takes any type, the written type is a clock
+    let kinds = [OpKind::Wire, OpKind::ArrayCreate, OpKind::Output];
+    for kind in &kinds {
+        let types = one(alloc, Ty::Clock)?;
+        assert_eq!(rt; clocks_taken(alloc, kind, types, &[], 1, &[])?, clock);
+    }
+    let types = one(alloc, Ty::Clock)?;
+    assert_eq!(rt;
+        clocks_taken(alloc, &OpKind::Mux, types, &[1], 2, &[])?,
+        clock
+    );
+    let mut types = one(alloc, Ty::Clock)?;
+    types.push(Ty::Int(1))?;
+    assert_eq!(rt;
+        clocks_taken(alloc, &OpKind::Bitcast, types, &[], 1, &[1])?,
+        clock
+    );
+    let types = one(alloc, Ty::Clock)?;
+    let register = OpKind::CompReg(Reset::No);
+    assert_eq!(rt; clocks_taken(alloc, &register, types, &[], 2, &[])?, clock);
+    // where it takes integers, or the operand is no clock as it is written
+    let types = one(alloc, Ty::Clock)?;
+    assert_eq!(rt;
+        clocks_taken(alloc, &OpKind::Concat, types, &[], 1, &[])?,
+        mismatch
+    );
+    let types = ints(alloc, &[1])?;
+    assert_eq!(rt;
+        clocks_taken(alloc, &OpKind::Output, types, &[], 1, &[])?,
+        mismatch
+    );
     Ok(())
 }
 
