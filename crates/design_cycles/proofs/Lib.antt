@@ -1,6 +1,8 @@
 pub mod Inside
 pub mod Locals
 pub mod Marking
+pub mod BitRows
+pub mod Chunks
 pub mod NodeNumbers
 pub mod NodeValues
 pub mod NodeLists

@@ -135,21 +135,21 @@ module _ (nodes : List ℕ) (i : ℕ) (below : i < length nodes) (old new : List
       rw (take_more nodes i 0 below, same, also)
       (marks_mark (take i nodes) (get_or nodes i 0) old new waited waiting marks (says.0 given).0 (says.0 given).1)
 
--- a list that a slice of it was written back to
-pub written_back : (n : ℕ) (new old : List Bool) → n ≡ length old → length new ≡ length old → take n (new ++ drop (length new) old) ≡ new
-written_back n new old size same =
-    let none : drop (length new) old ≡ [] = ap (λ k. drop k old) same ∙ drop-all old in
-    rw (none, append-nil new, size) (take_whole (length old) new (omega arith))
-  where
-    drop-all : (ms : List Bool) → drop (length ms) ms ≡ []
-    drop-all [] = refl
-    drop-all (m ∷ ms) = drop-all ms
+take_whole : {A : Type 0} (k : ℕ) (ms : List A) → length ms ≤ k → take k ms ≡ ms
+take_whole zero [] bound = refl
+take_whole zero (m ∷ ms) bound = absurd (omega arith)
+take_whole (suc k) [] bound = refl
+take_whole (suc k) (m ∷ ms) bound = ap (λ z. m ∷ z) (take_whole k ms (omega arith))
 
-    take_whole : (k : ℕ) (ms : List Bool) → length ms ≤ k → take k ms ≡ ms
-    take_whole zero [] bound = refl
-    take_whole zero (m ∷ ms) bound = absurd (omega arith)
-    take_whole (suc k) [] bound = refl
-    take_whole (suc k) (m ∷ ms) bound = ap (λ z. m ∷ z) (take_whole k ms (omega arith))
+drop_whole : {A : Type 0} (ms : List A) → drop (length ms) ms ≡ []
+drop_whole [] = refl
+drop_whole (m ∷ ms) = drop_whole ms
+
+-- a list that a slice of it was written back to
+pub written_back : {A : Type 0} (n : ℕ) (new old : List A) → n ≡ length old → length new ≡ length old → take n (new ++ drop (length new) old) ≡ new
+written_back n new old size same =
+    let none : drop (length new) old ≡ [] = ap (λ k. drop k old) same ∙ drop_whole old in
+    rw (none, append-nil new, size) (take_whole (length old) new (omega arith))
 
 -- ---- a search
 
@@ -286,13 +286,28 @@ module _ (graph : List NodeList) (starts : List ℕ) (old new : List Bool) (n : 
       (subst (λ ns. MarksAll ns old new rest waiting) (are ∙ sym (lists_at graph v x below)) (subst (λ ms. MarksAll nodes ms new rest waiting) is all)))
 
 -- the marks of what some list of a graph in code names
+-- what the nodes before a place need has its mark
+pub record HasCalled (graph : List NodeList) (i : ℕ) (marks : List Bool) : Type 0 where
+  pub count : length marks ≡ length graph
+  pub sound : (v : ℕ) → marked marks v ≡ true → (k : ℕ) × In v (edges (lists_of graph) k)
+  pub all : (k v : ℕ) → k < i → In v (edges (lists_of graph) k) → v < length (lists_of graph) → marked marks v ≡ true
+
+pub calls_none : (graph : List NodeList) (n : ℕ) (marks : List Bool) → length marks ≡ length graph → marks ≡ replicate n false → HasCalled graph 0 marks
+calls_none graph n marks count fresh = record {
+  count = count;
+  sound = λ v is. let none : marked marks v ≡ false = ap (λ ms. marked ms v) fresh ∙ none_marked n v in cc;
+  all = λ k v lower here within. absurd (omega arith);
+}
+
 module _ (graph : List NodeList) (old new : List Bool) (n : ℕ) (size : n ≡ length old) (same : length new ≡ length old) where
   pub calls_more : (i : ℕ) (x : NodeList) (nodes : List ℕ) (lent : List Bool) (waited waiting : List ℕ) → i < length graph → x ≡ get_or graph i x → nodes ≡ x.nodes.items → lent ≡ old
-      → (length old ≡ length graph) × ((k v : ℕ) → k < i → In v (edges (lists_of graph) k) → v < length (lists_of graph) → marked old v ≡ true) → MarksAll nodes lent new waited waiting
-      → (length (take n (new ++ drop (length new) old)) ≡ length graph)
-      × ((k v : ℕ) → k < i + 1 → In v (edges (lists_of graph) k) → v < length (lists_of graph) → marked (take n (new ++ drop (length new) old)) v ≡ true)
+      → HasCalled graph i old → MarksAll nodes lent new waited waiting → HasCalled graph (i + 1) (take n (new ++ drop (length new) old))
   calls_more i x nodes lent waited waiting below is are lent_is before all =
-      rw (written_back n new old size same) (same ∙ before.0, λ k v lower here within. go k v (grind arith) here within)
+      rw (written_back n new old size same) (record {
+        count = same ∙ before.count;
+        sound = λ v mark. sound v (all'.cases v mark);
+        all = λ k v lower here within. go k v (grind arith) here within;
+      })
     where
       all' : MarksAll nodes old new waited waiting
       all' = subst (λ ms. MarksAll nodes ms new waited waiting) lent_is all
@@ -300,15 +315,19 @@ module _ (graph : List NodeList) (old new : List Bool) (n : ℕ) (size : n ≡ l
       nodes_are : nodes ≡ edges (lists_of graph) i
       nodes_are = are ∙ ap (λ (y : NodeList). y.nodes.items) is ∙ sym (lists_at graph i x below)
 
+      sound : (v : ℕ) → (marked old v ≡ true) ⊎ (In v nodes × In v waiting) → (k : ℕ) × In v (edges (lists_of graph) k)
+      sound v (inl had) = before.sound v had
+      sound v (inr both) = (i, subst (In v) nodes_are both.0)
+
       go : (k v : ℕ) → (k < i) ⊎ (k ≡ i) → In v (edges (lists_of graph) k) → v < length (lists_of graph) → marked new v ≡ true
-      go k v (inl lower) here within = all'.kept v (before.1 k v lower here within)
+      go k v (inl lower) here within = all'.kept v (before.all k v lower here within)
       go k v (inr equal) here within =
           all'.all v (subst (In v) (sym nodes_are) (subst (λ m. In v (edges (lists_of graph) m)) equal here))
-          (let count : length old ≡ length graph = before.0 in let whole : length (lists_of graph) ≡ length graph = length-lists graph in omega arith)
+          (let count : length old ≡ length graph = before.count in let whole : length (lists_of graph) ≡ length graph = length-lists graph in omega arith)
 
-pub calls_end : (graph : List NodeList) (marks : List Bool) (i : ℕ) → length graph ≤ i
-    → (length marks ≡ length graph) × ((k v : ℕ) → k < i → In v (edges (lists_of graph) k) → v < length (lists_of graph) → marked marks v ≡ true) → AreCalled (lists_of graph) marks
-calls_end graph marks i all each = record {
-  count = each.0 ∙ sym (length-lists graph);
-  all = λ k v here within. each.1 k v (let below : k < length (lists_of graph) = edges_within (lists_of graph) k v here in let whole : length (lists_of graph) ≡ length graph = length-lists graph in omega arith) here within;
+pub calls_end : (graph : List NodeList) (marks : List Bool) (i : ℕ) → length graph ≤ i → HasCalled graph i marks → AreCalled (lists_of graph) marks
+calls_end graph marks i all has = record {
+  count = has.count ∙ sym (length-lists graph);
+  sound = has.sound;
+  all = λ k v here within. has.all k v (let below : k < length (lists_of graph) = edges_within (lists_of graph) k v here in let whole : length (lists_of graph) ≡ length graph = length-lists graph in omega arith) here within;
 }

@@ -1,5 +1,6 @@
 -- A body in which each operation takes what stands before it has no result that depends on itself.
 use Rattle.std.proofs.Common.{◌≡◌, ◌⊎◌, ℕ, suc, ◌+◌, ◌<◌, ◌≤◌, Bool, true, false, cond, ◌&&◌, nat_lt, List, [], ◌∷◌, length, map, slice_get, Option, Some, None, option_map, refl, sym, ap, subst, ◌∙◌, inl, inr, arith}
+use Rattle.std.specs.Prelude.{MatchBool}
 use Rattle.std.specs.List.{list_all}
 use Rattle.std.proofs.lemmas.Bool.{eqb-true}
 use Rattle.std.proofs.lemmas.Bool.Decides.{nat_tests}
@@ -25,10 +26,13 @@ use Rattle.ir_store.specs.Numbered.{position_of, ref_by, numbered}
 use Rattle.ir_store.specs.Designs.{StoredModule, module_of, numbered_module}
 use Rattle.design_cycles.specs.declared.layout.Summary.{Summary}
 use Rattle.design_cycles.specs.Asked.{HasDistinctSymbols, IsCyclicAt}
-use Rattle.design_cycles.specs.InOrder.{StandsBefore, StandsBehind, IsInOrder, is_numbered, is_at_its_number, is_before}
+use Rattle.design_cycles.specs.InOrder.{StandsBefore, StandsBehind, IsInOrder, is_numbered, is_at_its_number, is_before, IsLate}
 use Rattle.design_cycles.specs.Local.{where_typed, op_wires, result_wires, wires}
 use Rattle.design_cycles.specs.Nodes.{rows_by, table_by}
 use Rattle.design_cycles.specs.Places.{symbol_at}
+use Rattle.design_cycles.specs.declared.ops.Sort.{Sort}
+use Rattle.design_cycles.specs.declared.ops.Sort.TheVariants.{Register, Calls, Gives, Made}
+use Rattle.design_cycles.specs.Sorts.{holds}
 use Rattle.design_cycles.specs.Reading.{op_view}
 use Rattle.design_cycles.specs.Summing.{KnowsCallees}
 use Rattle.design_cycles.proofs.Known.{found, known_inner}
@@ -86,6 +90,30 @@ behind_operands b o all j are at each x there plain r here =
     let same : Some x ≡ Some (op_view b o) = sym there ∙ at in
     let is : x ≡ op_view b o = cc in
     operands_before (ids_of b) all j o.operands.now are each r (subst (λ (y : Op). In r y.operands) is here)
+
+pub not_register : (b : Body) (o : CodeOp) (s : Sort) → (s ≡ Register → ⊥) → holds s ≡ is_register (op_view b o) → is_register (op_view b o) ≡ false
+not_register b o s other is = sym is ∙ go s other
+  where
+    go : (s : Sort) → (s ≡ Register → ⊥) → holds s ≡ false
+    go Register other = absurd (other refl)
+    go (Calls i) other = refl
+    go Gives other = refl
+    go Made other = refl
+
+pub behind_or_late : (b : Body) (o : CodeOp) (all : List OpId) (j : ℕ) (r : Bool) → all ≡ map op_id (ids_of b) → slice_get (numbered (ops_of b)) j ≡ Some (op_view b o)
+    → is_register (op_view b o) ≡ false → r ≡ list_all (is_before all j) o.operands.now → MatchBool r (StandsBehind (numbered (ops_of b)) j) (IsLate b all j)
+behind_or_late b o all j true are at plain is = behind_operands b o all j are at (sym is)
+behind_or_late b o all j false are at plain is = record { op_there = o; has_op = at; plain = plain; late = sym is }
+
+pub register_behind : (b : Body) (o : CodeOp) (j : ℕ) → slice_get (numbered (ops_of b)) j ≡ Some (op_view b o) → is_register (op_view b o) ≡ true → StandsBehind (numbered (ops_of b)) j
+register_behind b o j at is x there plain r here =
+    let same : Some x ≡ Some (op_view b o) = sym there ∙ at in
+    let one : x ≡ op_view b o = cc in
+    let kept : is_register x ≡ true = ap is_register one ∙ is in cc
+
+pub if_true : (A B : Type 0) (r : Bool) → r ≡ true → MatchBool r A B → A
+if_true A B true is h = h
+if_true A B false is h = cc
 
 pub one_behind : (os : List Op) (n : ℕ) → ((j : ℕ) → j < n → StandsBehind os j) → StandsBehind os n → (j : ℕ) → j < n + 1 → StandsBehind os j
 one_behind os n before here j low = go (grind arith)

@@ -32,9 +32,10 @@ pub record IsOrder (lists : List (List ℕ)) (placed : List Bool) (nodes : List 
 abbrev pub LeadsTo : List (List ℕ) → Option ℕ → ℕ → Type 0
 LeadsTo lists from v = (a : ℕ) × (from ≡ Some a) × ((k : ℕ) × Chain (edges lists) k a v)
 
--- what some node needs and is there has its mark
+-- what some node needs and is there has its mark, and nothing else has
 pub record AreCalled (lists : List (List ℕ)) (marks : List Bool) : Type 0 where
   pub count : length marks ≡ length lists
+  pub sound : (v : ℕ) → marked marks v ≡ true → (i : ℕ) × In v (edges lists i)
   pub all : (i v : ℕ) → In v (edges lists i) → v < length lists → marked marks v ≡ true
 
 -- one of so many nodes from one on depends on itself

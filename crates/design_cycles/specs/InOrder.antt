@@ -1,11 +1,17 @@
 -- Bodies in which each operation takes what stands before it.
 use Rattle.std.specs.Prelude.{◌≡◌, ℕ, ◌<◌, Bool, true, false, ◌&&◌, nat_eq, nat_lt, List, Option, Some, None, slice_get}
+use Rattle.std.specs.List.{list_all}
 use Rattle.wiring.specs.Wiring.{In}
 use Rattle.hw_model.specs.Design.{Ref, Op, is_register}
 use Rattle.hw_model.specs.Design.Ref.{port, result, undefined}
+use Rattle.ir_store.specs.declared.body.Body.{Body}
+use Rattle.ir_store.specs.declared.body.Op.{Op as CodeOp}
 use Rattle.ir_store.specs.declared.operation.OpId.{OpId}
 use Rattle.ir_store.specs.declared.operation.Value.{Value}
 use Rattle.ir_store.specs.declared.operation.Value.TheVariants.{Port, Result, Undefined}
+use Rattle.ir_store.specs.Bodies.{ops_of}
+use Rattle.ir_store.specs.Numbered.{numbered}
+use Rattle.design_cycles.specs.Reading.{op_view}
 
 -- a value that is no result of an operation from a position on
 abbrev pub StandsBefore : ℕ → Ref → Type 0
@@ -37,3 +43,10 @@ abbrev pub is_before : List OpId → ℕ → Value → Bool
 is_before ids j (Port p) = true
 is_before ids j (Result id k) = nat_lt id.index j && is_at_its_number ids id.index
 is_before ids j Undefined = true
+
+-- the operation at a position is no register, and one of its operands is not told to stand before it
+pub record IsLate (b : Body) (ids : List OpId) (j : ℕ) : Type 0 where
+  pub op_there : CodeOp
+  pub has_op : slice_get (numbered (ops_of b)) j ≡ Some (op_view b op_there)
+  pub plain : is_register (op_view b op_there) ≡ false
+  pub late : list_all (is_before ids j) op_there.operands.now ≡ false

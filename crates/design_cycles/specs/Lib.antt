@@ -8,6 +8,7 @@ pub mod Marks
 pub mod Nodes
 pub mod Places
 pub mod Reading
+pub mod Rows
 pub mod Sizes
 pub mod Sorts
 pub mod Summing

@@ -1,19 +1,20 @@
 //! Bodies in which each operation takes what stands before it.
-ghost use Rattle.std.specs.Prelude.{◌≡◌, ◌<◌, length, map, true};
+ghost use Rattle.std.specs.Prelude.{◌≡◌, ◌<◌, ℕ, length, map, MatchBool};
 ghost use Rattle.std.specs.List.{list_all};
 ghost use Rattle.ir_store.specs.Bodies.{ids_of, ops_of, op_id};
 ghost use Rattle.ir_store.specs.Numbered.{numbered};
-ghost use Rattle.design_cycles.specs.InOrder.{is_at_its_number, is_before, StandsBehind, IsInOrder};
+ghost use Rattle.design_cycles.specs.InOrder.{is_at_its_number, is_before, StandsBehind, IsInOrder, IsLate};
 
 use crate::ops::{Sort, op_at, sort_of};
 use ir_store::body::Body;
 use ir_store::operation::{OpId, Value};
 
 /// Whether each operation but a register takes ports and results of operations before it alone, `ids` being those of all.
-/// A body whose ids are not numbered in text order may be told otherwise.
+/// Where it says no, an operation has an operand that is not told to stand before it: in a body whose ids are not numbered
+/// in text order it may.
 pub(crate) fn are_in_order(body: &Body, ids: &[OpId]) -> bool
     requires { ids.now ≡ map op_id (ids_of body.now) }
-    ensures { result ≡ true → IsInOrder (numbered (ops_of body.now)) }
+    ensures { MatchBool result (IsInOrder (numbered (ops_of body.now))) ((j : ℕ) × IsLate body.now ids.now j) }
 {
     for position in 0..ids.len() {
         if !stands_behind(body, ids, position) {
@@ -27,13 +28,13 @@ pub(crate) fn are_in_order(body: &Body, ids: &[OpId]) -> bool
 fn stands_behind(body: &Body, ids: &[OpId], position: usize) -> bool
     requires all { ids.now ≡ map op_id (ids_of body.now) }
     requires within { position < length ids.now }
-    ensures { result ≡ true → StandsBehind (numbered (ops_of body.now)) position }
+    ensures { MatchBool result (StandsBehind (numbered (ops_of body.now)) position) (IsLate body.now ids.now position) }
 {
     let op = op_at(body, ids, position);
-    match sort_of(op.kind) {
-        Sort::Register => true,
-        Sort::Calls(_) | Sort::Gives | Sort::Made => are_before(op.operands, ids, position),
+    if let Sort::Register = sort_of(op.kind) {
+        return true;
     }
+    are_before(op.operands, ids, position)
 }
 
 /// Whether each value is none of the results of the operations from a position on.

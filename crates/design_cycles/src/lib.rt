@@ -13,6 +13,8 @@ mod ops;
 mod order;
 mod place;
 mod recursion;
+mod row_lists;
+mod rows;
 mod size;
 mod summaries;
 mod symbols;

@@ -101,7 +101,7 @@ fn are_marked(nodes: &[u32], marks: &[bool]) -> bool
 }
 
 /// The numbers below `count`.
-fn all_numbers(alloc: Global, count: u32) -> Result<Vec<u32>, AllocError>
+pub(crate) fn all_numbers(alloc: Global, count: u32) -> Result<Vec<u32>, AllocError>
     ensures { IfOk result (λ numbers. (v : ℕ) → v < count → In v numbers.items) }
 {
     let mut numbers = Vec::with_capacity(alloc, count as usize)?;
@@ -113,7 +113,7 @@ fn all_numbers(alloc: Global, count: u32) -> Result<Vec<u32>, AllocError>
 
 /// A guess at such an order, by counting for each node what of its needs is not placed (A. B. Kahn, Topological sorting
 /// of large networks, 1962). Nothing is promised of it.
-fn likely_order(alloc: Global, graph: &[NodeList]) -> Result<Vec<u32>, AllocError> {
+pub(crate) fn likely_order(alloc: Global, graph: &[NodeList]) -> Result<Vec<u32>, AllocError> {
     let users = users_of(alloc, graph)?;
     let mut missing = need_counts(alloc, graph)?;
     let mut order = free_nodes(alloc, missing.as_slice())?;

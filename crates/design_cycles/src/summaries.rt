@@ -14,9 +14,13 @@ ghost use Rattle.design_cycles.specs.Nodes.{rows_by, value_node};
 ghost use Rattle.design_cycles.specs.Summing.{inputs_from, reached_numbers, AreInputs, AreOutputs, KnowsCallees, IsSummed};
 
 use crate::graph::{NodeList, is_marked, reached_from};
+use crate::in_order::are_in_order;
 use crate::layout::{Layout, Summary};
 use crate::ops::{Sort, op_at, sort_of};
-use crate::wired::wires_of;
+use crate::order::likely_order;
+use crate::row_lists::row_lists;
+use crate::rows::ROW_BITS;
+use crate::wired::{Wired, wires_of};
 use crate::wires::node_of;
 use ir_store::body::Body;
 use ir_store::design::{Design, Port};
@@ -74,14 +78,46 @@ fn summary_of(
     let wired = wires_of(alloc, design, module, summaries)?;
     let inputs = input_ports(alloc, module.ports.ports.as_slice())?;
     let given = outputs_of(&module.body, wired.ids.as_slice());
-    let outputs = output_lists(
-        alloc,
-        wired.graph.as_slice(),
-        &wired.layout,
-        inputs.as_slice(),
-        given,
-    )?;
+    let outputs = lists_of_outputs(alloc, &module.body, &wired, inputs.as_slice(), given)?;
     Ok(Summary { outputs })
+}
+
+/// Of each value of a body the numbers of the inputs that it depends on or is: from each value on, or where they are many
+/// by rows of bits, so that the body is gone over once for each of them, or for each 64 inputs.
+fn lists_of_outputs(
+    alloc: Global,
+    body: &Body,
+    wired: &Wired,
+    inputs: &[u32],
+    values: &[Value],
+) -> Result<Vec<NodeList>, AllocError>
+    requires ids { wired.now.ids.items ≡ map op_id (ids_of body.now) }
+    requires nodes { length wired.now.graph.items < 2 ^ 32 }
+    requires small { length inputs.now < 2 ^ 32 }
+    ensures { IfOk result (λ lists. AreOutputs (lists_of wired.now.graph.items) inputs.now (map (value_node wired.now.layout) values.now) (lists_of lists.items)) }
+{
+    let graph = wired.graph.as_slice();
+    if are_few(values.len(), inputs.len()) {
+        return output_lists(alloc, graph, &wired.layout, inputs, values);
+    }
+    let guess = if are_in_order(body, wired.ids.as_slice()) {
+        Vec::new(alloc)
+    } else {
+        likely_order(alloc, graph)?
+    };
+    row_lists(
+        alloc,
+        graph,
+        &wired.layout,
+        guess.as_slice(),
+        inputs,
+        values,
+    )
+}
+
+/// Whether so many values are walked from sooner one by one than the body is gone over for each row of inputs.
+fn are_few(values: usize, inputs: usize) -> bool {
+    values / 4 <= inputs / ROW_BITS
 }
 
 /// The values that a module gives to its outputs: the operands of its first `hw.output`.

@@ -31,14 +31,14 @@ uncaused : (b : Bool) (c : Cause) (rest : Option Cause) → caused b c rest ≡ 
 uncaused false c rest h = (refl, h)
 uncaused true c rest h = cc
 
-record OwnTests (kind : Kind) (ts rs : List HwType) (b : Bool) : Type 0 where
+record OwnTests (kind : Kind) (ts rs : List HwType) (xs : List (Option HwType)) (b : Bool) : Type 0 where
   outside : has_type_outside kind ts rs ≡ false
   constant : has_constant_outside kind ts ≡ false
   wide : has_wide_concat kind ts ≡ false
   divisor : has_unknown_divisor kind b ≡ false
-  clocks : has_clock_value kind ts ≡ false
+  clocks : has_clock_value kind ts xs ≡ false
 
-own_tests : (kind : Kind) (ts rs : List HwType) (named : ℕ) (xs : List (Option HwType)) (b : Bool) → own_cause kind ts rs named xs b ≡ None → OwnTests kind ts rs b
+own_tests : (kind : Kind) (ts rs : List HwType) (named : ℕ) (xs : List (Option HwType)) (b : Bool) → own_cause kind ts rs named xs b ≡ None → OwnTests kind ts rs xs b
 unfolding own_cause
 own_tests kind ts rs named xs b h =
     let p3 = uncaused (has_mismatch kind ts rs xs) _ _ h in
@@ -51,12 +51,12 @@ own_tests kind ts rs named xs b h =
     let p10 = uncaused (has_wrong_index kind ts xs) _ _ p9.1 in
     let p11 = uncaused (has_wrong_field kind ts) _ _ p10.1 in
     let p12 = uncaused (has_unequal_widths kind ts) _ _ p11.1 in
-    let p13 = uncaused (has_clock_value kind ts) _ _ p12.1 in
+    let p13 = uncaused (has_clock_value kind ts xs) _ _ p12.1 in
     record { outside = p4.0; constant = p5.0; wide = p8.0; divisor = p9.0; clocks = p13.0 }
 
-no_clocks : (kind : Kind) (ts : List HwType) → has_clock_value kind ts ≡ false → list_any is_clock (value_types kind ts) ≡ false
+no_clocks : (kind : Kind) (ts : List HwType) (xs : List (Option HwType)) → has_clock_value kind ts xs ≡ false → list_any is_clock (value_types kind ts) ≡ false
 unfolding has_clock_value
-no_clocks kind ts h = (neither _ (list_any is_clock (value_types kind ts)) h).1
+no_clocks kind ts xs h = (neither (list_any is_clock (value_types kind ts)) _ (neither (list_any _ ts) _ h).1).0
 
 -- ---- an operation of a body
 
@@ -87,7 +87,7 @@ tested ports os o h =
       constant = own.constant;
       wide = own.wide;
       divisor = own.divisor;
-      clocks = no_clocks o.kind o.types own.clocks;
+      clocks = no_clocks o.kind o.types xs own.clocks;
       operands = subst (λ n. n ≡ operand_count o.kind o.types n) long counts.operands;
       types = counts.types ∙ ap (type_count o.kind) long;
       results = sym (length-map o.results (λ (r : OpResult). r.type)) ∙ counts.results;

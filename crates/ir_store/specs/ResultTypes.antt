@@ -1,10 +1,11 @@
 -- The types of an operation's results, by its kind and the types that it writes (CIRCT: operation references of HW, Comb and Seq).
-use Rattle.std.specs.Prelude.{ℕ, ◌+◌, ◌-◌, ◌^◌, min, List, [], ◌∷◌, map, drop, length, Option, Some, None}
+use Rattle.std.specs.Prelude.{ℕ, ◌+◌, ◌-◌, ◌^◌, min, cond, List, [], ◌∷◌, map, drop, length, Option, Some, None}
 use Rattle.hw_model.specs.Types.{Name, HwType, FieldTypes}
 use Rattle.hw_model.specs.Types.HwType.{int, clock, array, struct}
 use Rattle.hw_model.specs.Types.FieldTypes.{no_fields, field}
 use Rattle.hw_model.specs.Kinds.{Kind, Instance}
 use Rattle.hw_model.specs.Kinds.Kind.{add, mul, and, or, xor, sub, divu, modu, divs, mods, shl, shru, shrs, icmp, parity, extract, concat, replicate, mux, constant, aggregate_constant, array_create, array_concat, array_get, array_slice, array_inject, struct_create, struct_extract, struct_inject, struct_explode, bitcast, wire, instance, output, compreg, compreg_ce, firreg}
+use Rattle.hw_model.specs.SameType.{same_type}
 use Rattle.hw_model.specs.Sound.{field_list, field_type}
 
 -- the first of the types, the second
@@ -43,14 +44,23 @@ abbrev pub element_of : Option HwType → Option HwType
 element_of (Some (array n t)) = Some t
 element_of _ = None
 
--- how many elements the arrays have together
-abbrev pub with_length : HwType → Option ℕ → Option ℕ
-with_length (array n t) (Some m) = Some (n + m)
-with_length _ _ = None
+-- how many elements of a type an array has: what is no array of such elements settles nothing
+abbrev pub elements_in : Option HwType → HwType → Option ℕ
+elements_in (Some e) (array n t) = cond (same_type t e) (Some n) None
+elements_in _ _ = None
 
-abbrev pub joined_length : List HwType → Option ℕ
-joined_length [] = Some 0
-joined_length (t ∷ ts) = with_length t (joined_length ts)
+abbrev pub sum_of : Option ℕ → Option ℕ → Option ℕ
+sum_of (Some n) (Some m) = Some (n + m)
+sum_of _ _ = None
+
+-- how many elements of a type arrays have together
+abbrev pub length_joined : Option HwType → List HwType → Option ℕ
+length_joined e [] = Some 0
+length_joined e (t ∷ ts) = sum_of (elements_in e t) (length_joined e ts)
+
+-- how many elements the arrays have together, all of the first one's type of elements
+unfoldable pub joined_length : List HwType → Option ℕ
+joined_length ts = length_joined (element_of (first_type ts)) ts
 
 abbrev pub array_of : Option ℕ → Option HwType → Option HwType
 array_of (Some n) (Some t) = Some (array (kept_size n) t)

@@ -6,7 +6,7 @@ ghost use Rattle.hw_model.specs.Types.HwType.{struct};
 ghost use Rattle.hw_model.specs.TypeViews.{type_of, field_of as field_view, fields_of};
 ghost use Rattle.hw_model.specs.KindViews.{kind_of};
 ghost use Rattle.hw_model.specs.Sound.{field_type, field_list};
-ghost use Rattle.ir_store.specs.ResultTypes.{result_type, result_types, first_type, second_type, joined_width, joined_length, as_int, as_array, array_of, element_of, field_of as field_in, fields_of as fields_in, kept_size};
+ghost use Rattle.ir_store.specs.ResultTypes.{result_type, result_types, first_type, second_type, joined_width, elements_in, length_joined, joined_length, as_int, as_array, array_of, element_of, field_of as field_in, fields_of as fields_in, kept_size};
 
 use hw_model::kinds::OpKind;
 use hw_model::types::{Field, Ty};
@@ -93,18 +93,36 @@ pub fn joined_width(types: &[Ty]) -> Option<u32>
     Some(width)
 }
 
-/// The length of joined arrays, at most 2^32 - 1; None where a type is none.
+/// The length of joined arrays, at most 2^32 - 1; None where a type is none, or an array of other elements than the first.
+#[tactic(auto, unfolding(crate::specs::ResultTypes::joined_length))]
 pub fn joined_length(types: &[Ty]) -> Option<u32>
     ensures { result ≡ option_map kept_size (joined_length (map type_of types.now)) }
 {
+    length_joined(element_of(types.first()), types)
+}
+
+/// The length of joined arrays of elements of a type, at most 2^32 - 1; None where a type is no such array.
+fn length_joined(element: Option<&Ty>, types: &[Ty]) -> Option<u32>
+    ensures { result ≡ option_map kept_size (length_joined (option_map (λ t. type_of t.now) element.entry) (map type_of types.now)) }
+{
     let mut length: u32 = 0;
     for ty in types {
-        match ty {
-            Ty::Array(more, _) => length = length.saturating_add(*more),
-            Ty::Clock | Ty::Int(_) | Ty::Struct(_) => return None,
+        match elements_in(element, ty) {
+            Some(more) => length = length.saturating_add(more),
+            None => return None,
         }
     }
     Some(length)
+}
+
+/// The length of an array of elements of a type.
+fn elements_in(element: Option<&Ty>, ty: &Ty) -> Option<u32>
+    ensures { result ≡ elements_in (option_map (λ t. type_of t.now) element.entry) (type_of ty.now) }
+{
+    match (ty, element) {
+        (Ty::Array(length, own), Some(element)) if **own == *element => Some(*length),
+        (Ty::Array(..), _) | (Ty::Clock | Ty::Int(_) | Ty::Struct(_), _) => None,
+    }
 }
 
 /// An array of so many elements of a type.

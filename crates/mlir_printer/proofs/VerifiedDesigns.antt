@@ -56,7 +56,7 @@ right_count kind ts rs named xs b h =
     let p8 = uncaused (has_wrong_index kind ts xs) _ _ p7.1 in
     let p9 = uncaused (has_wrong_field kind ts) _ _ p8.1 in
     let p10 = uncaused (has_unequal_widths kind ts) _ _ p9.1 in
-    let p11 = uncaused (has_clock_value kind ts) _ _ p10.1 in
+    let p11 = uncaused (has_clock_value kind ts xs) _ _ p10.1 in
     (uncaused (has_wrong_count kind ts rs named xs) _ _ p11.1).0
 
 -- the counts of an operation that is not refused

@@ -1,6 +1,6 @@
 -- Operations on arrays without a cause fit.
-use Rattle.std.proofs.Common.{◌≡◌, ℕ, zero, suc, ◌*◌, ◌≤◌, ◌==◌, false, ◌||◌, List, [], ◌∷◌, map, length, refl, sym, ap, subst, ◌∙◌, arith}
-use Rattle.std.specs.Prelude.{Option, Some, slice_get, nat_lt}
+use Rattle.std.proofs.Common.{◌≡◌, ℕ, zero, suc, ◌*◌, ◌≤◌, ◌==◌, false, cond, ◌||◌, List, [], ◌∷◌, map, length, refl, sym, ap, subst, ◌∙◌, arith}
+use Rattle.std.specs.Prelude.{Option, Some, None, slice_get, nat_lt}
 use Rattle.std.specs.List.{list_any}
 use Rattle.std.proofs.lemmas.Bool.Decides.{nat_tests}
 use Rattle.std.proofs.lemmas.List.{length-map}
@@ -8,15 +8,16 @@ use Rattle.wiring.specs.Lists.{total}
 use Rattle.hw_model.specs.Types.{HwType, FieldTypes, width, width_of_fields}
 use Rattle.hw_model.specs.Types.HwType.{int, clock, array, struct}
 use Rattle.hw_model.specs.Types.FieldTypes.{no_fields, field}
+use Rattle.hw_model.specs.SameType.{same_type}
 use Rattle.hw_model.specs.Sound.{AllAre}
 use Rattle.hw_model.specs.Value.{written}
-use Rattle.ir_store.specs.ResultTypes.{first_type, second_type, joined_length, as_array, array_of, element_of, kept_size}
+use Rattle.ir_store.specs.ResultTypes.{first_type, second_type, elements_in, sum_of, length_joined, joined_length, as_array, array_of, element_of, kept_size}
 use Rattle.op_verifier.specs.TypeChecks.{has_bad_part, has_bad_part_among, is_without_fields, is_outside}
 use Rattle.op_verifier.specs.TypeLists.{settled, is_no_array, is_no_int, differs, any_differs, differ, differ_in_three, settled_at}
 use Rattle.op_verifier.specs.OperandChecks.{is_no_array_of, has_other_array}
 use Rattle.op_verifier.specs.LimitChecks.{of_type}
 use Rattle.op_verifier.proofs.Widths.{neither, bits_within}
-use Rattle.op_verifier.proofs.Agreeing.{agreed, all_agreed, pairwise_agreed, single}
+use Rattle.op_verifier.proofs.Agreeing.{not_false, agreed, all_agreed, pairwise_agreed, single}
 use Rattle.op_verifier.proofs.FitIntegers.{apart, three_agreed}
 
 product_of_ones : (a b : ℕ) → 1 ≤ a → 1 ≤ b → 1 ≤ a * b
@@ -77,15 +78,16 @@ creation (u ∷ v ∷ ts) rs us k t n m h w d e = absurd (omega arith)
 
 -- arrays of one type of elements
 arrays_of : (e : HwType) (ts : List HwType) → list_any (is_no_array_of (Some e)) ts ≡ false
-    → (ns : List ℕ) × (ts ≡ map (λ (n : ℕ). array n e) ns) × (joined_length ts ≡ Some (total ns))
+    → (ns : List ℕ) × (ts ≡ map (λ (n : ℕ). array n e) ns) × (length_joined (Some e) ts ≡ Some (total ns))
 arrays_of e [] h = ([], refl, refl)
 arrays_of e (array n u ∷ ts) h =
     let p = neither (differs (Some u) (Some e)) _ h in
     let same : u ≡ e = agreed u e p.0 in
     let rest = arrays_of e ts p.1 in
     let all : ts ≡ map (λ (n : ℕ). array n e) rest.0 = rest.1 in
-    let sum : joined_length ts ≡ Some (total rest.0) = rest.2 in
-    (n ∷ rest.0, cc, rw sum refl)
+    let sum : length_joined (Some e) ts ≡ Some (total rest.0) = rest.2 in
+    let one : elements_in (Some e) (array n u) ≡ Some n = ap (λ b. cond b (Some n) None) (not_false (same_type u e) p.0) in
+    (n ∷ rest.0, cc, ap (λ m. sum_of m (length_joined (Some e) ts)) one ∙ ap (sum_of (Some n)) sum)
 arrays_of e (int w ∷ ts) h = absurd (apart h)
 arrays_of e (clock ∷ ts) h = absurd (apart h)
 arrays_of e (struct fs ∷ ts) h = absurd (apart h)
@@ -99,6 +101,7 @@ pub joining : (ts rs us : List HwType) (k : ℕ) (t : HwType) → 1 ≤ length t
     → differ (settled us) (settled ts) ≡ false → of_type is_outside (first_type rs) ≡ false
     → differ (settled rs) (array_of (joined_length ts) (element_of (first_type ts)) ∷ []) ≡ false → slice_get rs k ≡ Some t
     → (e : HwType) × (ns : List ℕ) × (settled us ≡ map (λ (n : ℕ). Some (array n e)) ns) × (t ≡ array (total ns) e)
+unfolding joined_length
 joining [] rs us k t l n m f h w d e = absurd (omega arith)
 joining (array n0 u ∷ ts) rs us k t l n m f h w d e =
     let same : us ≡ array n0 u ∷ ts = pairwise_agreed us (array n0 u ∷ ts) n h in

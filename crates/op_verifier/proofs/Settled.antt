@@ -1,5 +1,5 @@
 -- The types that an operation settles for its results, where nothing is refused of it by itself: they are those of its results.
-use Rattle.std.proofs.Common.{◌≡◌, ℕ, ◌+◌, ◌≤◌, max, Bool, true, false, not, List, [], ◌∷◌, take, drop, length, nat_eq, is_none, Option, Some, None, refl, sym, ap, ◌∙◌, arith}
+use Rattle.std.proofs.Common.{◌≡◌, ℕ, ◌+◌, ◌≤◌, max, Bool, true, false, cond, not, List, [], ◌∷◌, take, drop, length, nat_eq, is_none, Option, Some, None, refl, sym, ap, ◌∙◌, arith}
 use Rattle.std.specs.List.{list_any}
 use Rattle.std.proofs.lemmas.List.{length-map, length-drop}
 use Rattle.diag.specs.declared.cause.Cause.{Cause}
@@ -9,7 +9,7 @@ use Rattle.hw_model.specs.Kinds.{Kind, Instance}
 use Rattle.hw_model.specs.Kinds.Kind.{add, mul, and, or, xor, sub, divu, modu, divs, mods, shl, shru, shrs, icmp, parity, extract, concat, replicate, mux, constant, aggregate_constant, array_create, array_concat, array_get, array_slice, array_inject, struct_create, struct_extract, struct_inject, struct_explode, bitcast, wire, instance, output, compreg, compreg_ce, firreg}
 use Rattle.hw_model.specs.Sound.{field_list}
 use Rattle.hw_model.specs.SameType.{same_type, type_from}
-use Rattle.ir_store.specs.ResultTypes.{first_type, second_type, with_width, joined_width, with_length, joined_length, kept_size, as_int, as_array, array_of, element_of, field_of, fields_of, field_count, result_type, result_types, result_count}
+use Rattle.ir_store.specs.ResultTypes.{first_type, second_type, with_width, joined_width, elements_in, sum_of, length_joined, joined_length, kept_size, as_int, as_array, array_of, element_of, field_of, fields_of, field_count, result_type, result_types, result_count}
 use Rattle.op_verifier.specs.TypeChecks.{is_int}
 use Rattle.op_verifier.specs.TypeLists.{settled, is_no_int, is_no_array, differs, differ}
 use Rattle.op_verifier.specs.OperandChecks.{is_no_array_of, has_other_array, has_other_form, has_other_operand, has_other_result, has_mismatch}
@@ -48,7 +48,7 @@ accepted kind ts rs named xs b h =
     let p10 = uncaused (has_wrong_index kind ts xs) _ _ p9.1 in
     let p11 = uncaused (has_wrong_field kind ts) _ _ p10.1 in
     let p12 = uncaused (has_unequal_widths kind ts) _ _ p11.1 in
-    let p13 = uncaused (has_clock_value kind ts) _ _ p12.1 in
+    let p13 = uncaused (has_clock_value kind ts xs) _ _ p12.1 in
     let p14 = uncaused (has_wrong_count kind ts rs named xs) _ _ p13.1 in
     let m = neither (has_other_form kind ts) _ p3.0 in
     let o = neither (has_other_operand kind ts xs) _ m.1 in
@@ -109,11 +109,13 @@ width_known (array n t ∷ ts) h = cc
 width_known (struct fs ∷ ts) h = cc
 
 -- joined arrays
-length_known : (e : Option HwType) (ts : List HwType) → list_any (is_no_array_of e) ts ≡ false → (w : ℕ) × (joined_length ts ≡ Some w)
+length_known : (e : HwType) (ts : List HwType) → list_any (is_no_array_of (Some e)) ts ≡ false → (w : ℕ) × (length_joined (Some e) ts ≡ Some w)
 length_known e [] h = (0, refl)
 length_known e (array n t ∷ ts) h =
-    let rest = length_known e ts (neither (is_no_array_of e (array n t)) (list_any (is_no_array_of e) ts) h).1 in
-    (n + rest.0, ap (with_length (array n t)) rest.1)
+    let split = neither (is_no_array_of (Some e) (array n t)) (list_any (is_no_array_of (Some e)) ts) h in
+    let one : elements_in (Some e) (array n t) ≡ Some n = ap (λ b. cond b (Some n) None) (not_false (same_type t e) split.0) in
+    let rest = length_known e ts split.1 in
+    (n + rest.0, ap (λ m. sum_of m (length_joined (Some e) ts)) one ∙ ap (sum_of (Some n)) rest.1)
 length_known e (int w ∷ ts) h = cc
 length_known e (clock ∷ ts) h = cc
 length_known e (struct fs ∷ ts) h = cc
@@ -126,14 +128,14 @@ element_known (Some (struct fs)) t e h = cc
 element_known None t e h = cc
 
 joined_arrays : (ts : List HwType) (n : ℕ) → n ≡ max 1 (length ts) → length ts ≡ n → has_other_array ts ≡ false → Settles (array_of (joined_length ts) (element_of (first_type ts)) ∷ []) 1
+unfolding joined_length
 joined_arrays [] n some count h = absurd (omega (arith, some, count))
-joined_arrays (t ∷ ts) n some count h =
-    let e = element_of (Some t) in
-    let split = neither (is_no_array_of e t) (list_any (is_no_array_of e) ts) h in
-    let u = element_known (Some t) t refl (neither (is_no_array (Some t)) (differs (element_of (Some t)) e) split.0).0 in
-    let w = length_known e (t ∷ ts) h in
-    one (array_of (joined_length (t ∷ ts)) e) (array (kept_size w.0) u.0)
-    (ap (λ (x : Option ℕ). array_of x e) w.1 ∙ ap (array_of (Some w.0)) u.1)
+joined_arrays (array c e ∷ ts) n some count h =
+    let w = length_known e (array c e ∷ ts) h in
+    one (array_of (joined_length (array c e ∷ ts)) (Some e)) (array (kept_size w.0) e) (ap (λ (x : Option ℕ). array_of x (Some e)) w.1)
+joined_arrays (int w ∷ ts) n some count h = cc
+joined_arrays (clock ∷ ts) n some count h = cc
+joined_arrays (struct fs ∷ ts) n some count h = cc
 
 field_known : (x : Option HwType) → is_none x ≡ false → (t : HwType) × (x ≡ Some t)
 field_known None h = cc

@@ -3,7 +3,7 @@ use Rattle.std.specs.Prelude.{ℕ, ◌+◌, ◌-◌, ◌^◌, ◌%◌, Bool, fal
 use Rattle.std.specs.List.{list_any}
 use Rattle.hw_model.specs.Types.{HwType, width}
 use Rattle.hw_model.specs.Kinds.{Kind}
-use Rattle.hw_model.specs.Kinds.Kind.{divu, modu, divs, mods, extract, concat, replicate, constant, aggregate_constant, array_create, array_concat, array_get, array_slice, array_inject, struct_extract, struct_inject, bitcast, instance}
+use Rattle.hw_model.specs.Kinds.Kind.{divu, modu, divs, mods, extract, concat, replicate, constant, aggregate_constant, array_create, array_concat, array_get, array_slice, array_inject, struct_extract, struct_inject, bitcast, instance, compreg, compreg_ce, firreg}
 use Rattle.ir_store.specs.ResultTypes.{first_type, second_type, field_of, joined_width}
 use Rattle.op_verifier.specs.TypeChecks.{is_outside, has_bad_field, has_clock_part, is_clock}
 use Rattle.op_verifier.specs.TypeLists.{int_width, array_length, settled_at}
@@ -123,8 +123,19 @@ abbrev pub value_types : Kind → List HwType → List HwType
 value_types (instance i) ts = drop (length i.inputs) ts
 value_types kind ts = ts
 
--- whether a clock stands where a value is wanted: as an operand other than a register's clock or an instance's, as a
--- result, as the type of a register, or within an aggregate. A result of clock type has a written one, or is a part of
--- one.
-unfoldable pub has_clock_value : Kind → List HwType → Bool
-has_clock_value kind ts = list_any has_clock_part ts || list_any is_clock (value_types kind ts)
+-- whether a register has a clock for another operand than its clock, the second
+abbrev pub has_other_clock : List (Option HwType) → Bool
+has_other_clock xs = of_type is_clock (settled_at xs 0) || list_any (of_type is_clock) (drop 2 xs)
+
+-- whether a clock is an operand, other than a register's clock or an instance's operand
+unfoldable pub has_clock_operand : Kind → List (Option HwType) → Bool
+has_clock_operand (instance i) xs = false
+has_clock_operand (compreg r) xs = has_other_clock xs
+has_clock_operand (compreg_ce r) xs = has_other_clock xs
+has_clock_operand (firreg r) xs = has_other_clock xs
+has_clock_operand kind xs = list_any (of_type is_clock) xs
+
+-- whether a clock stands where a value is wanted: within an aggregate, as a written type, so as a result or the type of a
+-- register, or as an operand. A result of clock type has a written one, or is a part of one.
+unfoldable pub has_clock_value : Kind → List HwType → List (Option HwType) → Bool
+has_clock_value kind ts xs = list_any has_clock_part ts || (list_any is_clock (value_types kind ts) || has_clock_operand kind xs)

@@ -26,5 +26,5 @@ own_cause kind ts rs named xs is_known =
     (caused (has_wrong_index kind ts xs) cause.IndexWidth
     (caused (has_wrong_field kind ts) cause.Field
     (caused (has_unequal_widths kind ts) cause.BitcastWidth
-    (caused (has_clock_value kind ts) cause.ClockOperand
+    (caused (has_clock_value kind ts xs) cause.ClockOperand
     (caused (has_wrong_count kind ts rs named xs) cause.Arity None)))))))))))

@@ -7,12 +7,13 @@ ghost use Rattle.hw_model.specs.KindViews.{kind_of, integer_of};
 ghost use Rattle.op_verifier.specs.LiteralChecks.{is_outside_type};
 ghost use Rattle.op_verifier.specs.TypeChecks.{is_outside};
 ghost use Rattle.op_verifier.specs.TypeLists.{int_width, array_length};
-ghost use Rattle.op_verifier.specs.LimitChecks.{of_type, of_both, has_outside_array, has_outside_leaf, has_type_outside, has_constant_outside, reaches_past, has_extract_outside, is_no_multiple, has_broken_copy, has_wide_concat, has_unknown_divisor, is_width_of_index, is_no_index, is_longer, has_wrong_index, has_unknown_field, has_wrong_field, are_unequal, has_unequal_widths, value_types, has_clock_value};
+ghost use Rattle.op_verifier.specs.LimitChecks.{of_type, of_both, has_outside_array, has_outside_leaf, has_type_outside, has_constant_outside, reaches_past, has_extract_outside, is_no_multiple, has_broken_copy, has_wide_concat, has_unknown_divisor, is_width_of_index, is_no_index, is_longer, has_wrong_index, has_unknown_field, has_wrong_field, are_unequal, has_unequal_widths, value_types, has_other_clock, has_clock_operand, has_clock_value};
 
 use crate::literal_checks::{LeafTest, any_failing_leaf, is_outside_type};
 use crate::type_checks::is_outside;
 use crate::type_lists::{
-    any_bad_field, any_clock, any_clock_part, any_outside, array_length, int_width, settled_at,
+    any_bad_field, any_clock, any_clock_part, any_outside, any_settled_clock, array_length,
+    int_width, is_settled_clock, settled_at,
 };
 use hw_model::kinds::{Integer, OpKind};
 use hw_model::types::{Ty, index_width};
@@ -220,10 +221,31 @@ fn are_unequal(from: Option<&Ty>, to: Option<&Ty>) -> bool
 
 /// Whether a clock stands where a value is wanted.
 #[tactic(auto, unfolding(crate::specs::LimitChecks::has_clock_value))]
-pub(crate) fn has_clock_value(kind: &OpKind, types: &[Ty]) -> bool
-    ensures { result ≡ has_clock_value (kind_of kind.now) (map type_of types.now) }
+pub(crate) fn has_clock_value(kind: &OpKind, types: &[Ty], operands: &[Option<&Ty>]) -> bool
+    ensures { result ≡ has_clock_value (kind_of kind.now) (map type_of types.now) (map (option_map (λ t. type_of t.now)) operands.now) }
 {
-    any_clock_part(types) || any_clock(value_types(kind, types))
+    any_clock_part(types)
+        || (any_clock(value_types(kind, types)) || has_clock_operand(kind, operands))
+}
+
+/// Whether a clock is an operand, other than a register's clock or an instance's operand.
+#[tactic(auto, unfolding(crate::specs::LimitChecks::has_clock_operand))]
+fn has_clock_operand(kind: &OpKind, operands: &[Option<&Ty>]) -> bool
+    ensures { result ≡ has_clock_operand (kind_of kind.now) (map (option_map (λ t. type_of t.now)) operands.now) }
+{
+    match kind {
+        OpKind::Instance(_) => false,
+        OpKind::CompReg(_) | OpKind::CompRegCe(_) | OpKind::FirReg(_) => has_other_clock(operands),
+        _ => any_settled_clock(operands),
+    }
+}
+
+/// Whether a register has a clock for another operand than its clock, the second.
+fn has_other_clock(operands: &[Option<&Ty>]) -> bool
+    ensures { result ≡ has_other_clock (map (option_map (λ t. type_of t.now)) operands.now) }
+{
+    is_settled_clock(settled_at(operands, 0))
+        || any_settled_clock(operands.split_at(2.min(operands.len())).1)
 }
 
 /// The written types that may not be the clock's: all but those of an instance's operands.

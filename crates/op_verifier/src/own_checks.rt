@@ -64,7 +64,7 @@ pub(crate) fn own_cause(
     if has_unequal_widths(kind, types) {
         return Some(Cause::BitcastWidth);
     }
-    if has_clock_value(kind, types) {
+    if has_clock_value(kind, types, operands) {
         return Some(Cause::ClockOperand);
     }
     if has_wrong_count(op, operands) {

@@ -4,6 +4,7 @@ ghost use Rattle.std.specs.List.{list_any};
 ghost use Rattle.std.specs.Option.{option_map};
 ghost use Rattle.hw_model.specs.TypeViews.{type_of, field_of, fields_of};
 ghost use Rattle.hw_model.specs.Sound.{field_list};
+ghost use Rattle.op_verifier.specs.LimitChecks.{of_type};
 ghost use Rattle.op_verifier.specs.TypeChecks.{is_outside, has_bad_field, has_clock_part, is_clock, is_int};
 ghost use Rattle.op_verifier.specs.TypeLists.{settled, is_no_int, is_no_array, is_no_struct, int_width, array_length, differs, any_differs, differ, settled_at, differ_in_two, differ_in_three};
 
@@ -53,6 +54,28 @@ pub(crate) fn any_clock(types: &[Ty]) -> bool
 {
     for ty in types {
         if is_clock(ty) {
+            return true;
+        }
+    }
+    false
+}
+
+/// Whether the type is there and is the clock's.
+pub(crate) fn is_settled_clock(ty: Option<&Ty>) -> bool
+    ensures { result ≡ of_type is_clock (option_map (λ t. type_of t.now) ty.entry) }
+{
+    match ty {
+        Some(ty) => is_clock(ty),
+        None => false,
+    }
+}
+
+/// Whether one of the types is there and is the clock's.
+pub(crate) fn any_settled_clock(types: &[Option<&Ty>]) -> bool
+    ensures { result ≡ list_any (of_type is_clock) (map (option_map (λ t. type_of t.now)) types.now) }
+{
+    for ty in types {
+        if is_settled_clock(*ty) {
             return true;
         }
     }

@@ -289,6 +289,35 @@ fn a_type_outside_the_limits_is_compared(rt: HostRuntime) -> Result<(), Fail> {
     Ok(())
 }
 
+// `hw.array_concat` on a line, of an array of one integer for each of these widths
+fn joined(alloc: Global, line: u32, widths: &[u32]) -> Result<NewOp, AllocError> {
+    let mut types = Vec::with_capacity(alloc, widths.len())?;
+    for width in widths {
+        types.push(Ty::Array(1, Box::new(alloc, Ty::Int(*width))?))?;
+    }
+    let mut op = operation(alloc, line, OpKind::ArrayConcat, &[A, B], &[], &[0])?;
+    op.types = TyList::of(types);
+    Ok(op)
+}
+
+#[test]
+fn arrays_of_other_elements_settle_no_type(rt: HostRuntime) -> Result<(), Fail> {
+    let alloc = rt.alloc();
+    for (second, line) in [(4, 3), (8, 2)] {
+        let ops = three(
+            alloc,
+            operation(alloc, 2, OpKind::Xor, &[result(1), A], &[8], &[8])?,
+            joined(alloc, 3, &[8, second])?,
+            output(alloc, 4, result(0), 8)?,
+        )?;
+        assert_eq!(rt;
+            of_one(alloc, top(alloc, ops)?)?,
+            Some((line, Cause::TypeMismatch))
+        );
+    }
+    Ok(())
+}
+
 // the division of a port by a constant, which stands behind it
 fn division(alloc: Global, divisor: u128) -> Result<Option<(u32, Cause)>, AllocError> {
     let constant = OpKind::Constant(Integer::NonNegative(divisor));

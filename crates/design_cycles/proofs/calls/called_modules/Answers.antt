@@ -1,4 +1,5 @@
-use Rattle.design_cycles.proofs.Marking.{calls_more, calls_end}
+use Rattle.std.proofs.Common.{length, arith}
+use Rattle.design_cycles.proofs.Marking.{calls_none, calls_more, calls_end}
 use Rattle.design_cycles.proofs.calls.called_modules.Goals as goal
 
 pub loop-list-preserved : goal.loop-list-preserved
@@ -9,3 +10,7 @@ loop-list-preserved c =
 
 pub returns : goal.returns
 returns c = calls_end c.args.calls.now c.loop-list.marks.items c.loop-list.list-index c.loop-list-test.false c.loop-list.invariant
+
+pub loop-list-init : goal.loop-list-init
+loop-list-init c =
+    calls_none c.args.calls.now (length c.args.calls.now) c.in_ok-marks.marks.items (omega (arith, c.in_ok-marks.ensures.len, c.in_ok-marks.marks.ok.0)) (c.in_ok-marks.ensures.items_if_clones_equal (λ y e. e))

@@ -3,16 +3,16 @@ use Rattle.std.proofs.lemmas.List.{length-map}
 use Rattle.ir_store.specs.BodyOps.{BodyOp}
 use Rattle.ir_store.specs.Bodies.{ids_of, ops_of, op_id}
 use Rattle.ir_store.specs.Numbered.{numbered, op_by, position_of}
-use Rattle.design_cycles.proofs.Ordered.{one_behind, all_behind}
+use Rattle.design_cycles.proofs.Ordered.{if_true, one_behind, all_behind}
 use Rattle.design_cycles.proofs.in_order.are_in_order.Goals as goal
 
 pub loop-position-preserved : goal.loop-position-preserved
 loop-position-preserved c =
-    one_behind (numbered (ops_of c.args.body.now)) c.loop-position.position c.loop-position.invariant (c.stands_behind.ensures c.if-not-stands_behind.false)
+    one_behind (numbered (ops_of c.args.body.now)) c.loop-position.position c.loop-position.invariant (if_true _ _ c.stands_behind.result c.if-not-stands_behind.false c.stands_behind.ensures)
 
 pub returns : goal.returns
 returns c =
-    λ _. all_behind (numbered (ops_of c.args.body.now)) c.loop-position.position
+    all_behind (numbered (ops_of c.args.body.now)) c.loop-position.position
     (omega (
       arith,
       c.loop-position-test.false,

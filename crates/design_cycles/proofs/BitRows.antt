@@ -1,0 +1,430 @@
+-- Rows of bits: what a pass over nodes does to them, and what they say once nothing changes.
+use Rattle.std.proofs.Common.{◌≡◌, ◌⊎◌, w64, ℕ, zero, suc, ◌+◌, ◌-◌, ◌*◌, ◌%◌, ◌^◌, ◌<◌, ◌≤◌, ◌≢◌, Bool, true, false, eqb, max, bit_or, List, [], ◌∷◌, ◌++◌, length, get_or, set, take, drop, replicate, slice_get, Option, Some, None, refl, sym, ap, subst, ◌∙◌, inl, inr, arith, length-set}
+use Rattle.std.specs.Int.{bit_at}
+use Rattle.std.proofs.lemmas.Nat.{le_or_l, or_lt}
+use Rattle.std.proofs.lemmas.Nat.Bits.{bit_at_or, bit_at-lt, bit_at-zero, bit_at_set_same, bit_at_set_other}
+use Rattle.std.proofs.lemmas.Bool.{eqb-true, eqb-false}
+use Rattle.std.proofs.lemmas.List.{get_or-set_same, get_or-set_other, take_more, take_all, length-take-le}
+use Rattle.std.specs.Prelude.{MatchBool}
+use Rattle.std.proofs.lemmas.Option.{slice_get_within}
+use Rattle.wiring.specs.Wiring.{In, Chain}
+use Rattle.wiring.proofs.Members.{In-append_left, In-append_right, In-append_cases}
+use Rattle.wiring.proofs.Lists.{slice_get-append_left, slice_get-append_at, slice_get-append_past}
+use Rattle.design_cycles.specs.Graphs.{lists_of, edges}
+use Rattle.design_cycles.specs.declared.graph.NodeList.{NodeList}
+use Rattle.design_cycles.specs.Rows.{row_at, IsSet, LeadsToInput, AreSound, AreRows, GivesBits, JoinsRows, HasNeeds, room_left, Spreads, Settles}
+use Rattle.design_cycles.proofs.Marking.{edges_within, lists_at, length-lists, written_back}
+
+-- ---- bits
+
+none_set : (x : ℕ) → IsSet 0 x → ⊥
+none_set x is = let e : bit_at 0 x ≡ 0 = bit_at-zero x in let f : bit_at 0 x ≡ 1 = is.is_one in cc
+
+pub set_left : (a b x : ℕ) → IsSet a x → IsSet (bit_or a b) x
+set_left a b x is =
+    let e : bit_at a x ≡ 1 = is.is_one in
+    let both : bit_at (bit_or a b) x ≡ max (bit_at a x) (bit_at b x) = bit_at_or a b x in
+    let small : bit_at b x < 2 = bit_at-lt b x in
+    record { is_one = omega arith }
+
+pub set_right : (a b x : ℕ) → IsSet b x → IsSet (bit_or a b) x
+set_right a b x is =
+    let e : bit_at b x ≡ 1 = is.is_one in
+    let both : bit_at (bit_or a b) x ≡ max (bit_at a x) (bit_at b x) = bit_at_or a b x in
+    let small : bit_at a x < 2 = bit_at-lt a x in
+    record { is_one = omega arith }
+
+pub set_cases : (a b x : ℕ) → IsSet (bit_or a b) x → IsSet a x ⊎ IsSet b x
+set_cases a b x is = go (choose (bit_at a x) (bit_at b x) both (bit_at-lt a x) (bit_at-lt b x))
+  where
+    both : max (bit_at a x) (bit_at b x) ≡ 1
+    both = sym (bit_at_or a b x) ∙ is.is_one
+
+    choose : (m n : ℕ) → max m n ≡ 1 → m < 2 → n < 2 → (m ≡ 1) ⊎ (n ≡ 1)
+    choose m n e f g = grind arith
+
+    go : (bit_at a x ≡ 1) ⊎ (bit_at b x ≡ 1) → IsSet a x ⊎ IsSet b x
+    go (inl e) = inl (record { is_one = e })
+    go (inr e) = inr (record { is_one = e })
+
+-- ---- rows with one written
+
+row_same : (rows : List ℕ) (v r : ℕ) → v < length rows → row_at (set rows v r) v ≡ r
+row_same rows v r below = get_or-set_same rows v r 0 below
+
+row_other : (rows : List ℕ) (v w r : ℕ) → w ≢ v → row_at (set rows v r) w ≡ row_at rows w
+row_other rows v w r other = get_or-set_other rows v w r 0 other
+
+-- a row that got more bits
+module _ (rows : List ℕ) (v : ℕ) (below : v < length rows) (more : ℕ) where
+  abbrev row : ℕ
+  row = bit_or (row_at rows v) more
+
+  abbrev written : List ℕ
+  written = set rows v row
+
+  pub written_cases : (w x : ℕ) → IsSet (row_at written w) x → IsSet (row_at rows w) x ⊎ ((w ≡ v) × IsSet more x)
+  written_cases w x is = go (eqb w v) refl
+    where
+      at_node : w ≡ v → IsSet (row_at rows v) x ⊎ IsSet more x → IsSet (row_at rows w) x ⊎ ((w ≡ v) × IsSet more x)
+      at_node same (inl had) = inl (subst (λ z. IsSet (row_at rows z) x) (sym same) had)
+      at_node same (inr new) = inr (same, new)
+
+      go : (b : Bool) → eqb w v ≡ b → IsSet (row_at rows w) x ⊎ ((w ≡ v) × IsSet more x)
+      go true e =
+          let same : w ≡ v = eqb-true w v e in
+          let here : row_at written w ≡ row = ap (row_at written) same ∙ row_same rows v row below in
+          at_node same (set_cases (row_at rows v) more x (subst (λ r. IsSet r x) here is))
+      go false e = inl (subst (λ r. IsSet r x) (row_other rows v w row (eqb-false w v e)) is)
+
+  pub written_kept : (w x : ℕ) → IsSet (row_at rows w) x → IsSet (row_at written w) x
+  written_kept w x is = go (eqb w v) refl
+    where
+      go : (b : Bool) → eqb w v ≡ b → IsSet (row_at written w) x
+      go true e =
+          let same : w ≡ v = eqb-true w v e in
+          let here : row_at written w ≡ row = ap (row_at written) same ∙ row_same rows v row below in
+          subst (λ r. IsSet r x) (sym here) (set_left (row_at rows v) more x (subst (λ z. IsSet (row_at rows z) x) same is))
+      go false e = subst (λ r. IsSet r x) (sym (row_other rows v w row (eqb-false w v e))) is
+
+  pub written_new : (x : ℕ) → IsSet more x → IsSet (row_at written v) x
+  written_new x is = subst (λ r. IsSet r x) (sym (row_same rows v row below)) (set_right (row_at rows v) more x is)
+
+room_less : (rows : List ℕ) (v r : ℕ) → v < length rows → row_at rows v < r → r < 2 ^ 64 → room_left (set rows v r) < room_left rows
+room_less [] v r below more fits = absurd (omega arith)
+room_less (x ∷ rows) zero r below more fits = omega arith
+room_less (x ∷ rows) (suc v) r below more fits = let rest : room_left (set rows v r) < room_left rows = room_less rows v r (omega arith) more fits in omega arith
+
+-- ---- a pass over nodes
+
+pub spreads_none : (lists : List (List ℕ)) (rows : List ℕ) → Spreads lists [] rows rows false
+spreads_none lists rows = record {
+  count = refl;
+  sound = λ inputs sound. sound;
+  kept = λ v x is. is;
+  progress = (refl, λ v here. absurd here);
+}
+
+-- a node that needs nothing, or has all that it needs
+pub spreads_same : (lists : List (List ℕ)) (rows : List ℕ) (v : ℕ) → HasNeeds lists rows v → Spreads lists (v ∷ []) rows rows false
+spreads_same lists rows v has = record {
+  count = refl;
+  sound = λ inputs sound. sound;
+  kept = λ w x is. is;
+  progress = (refl, λ w here. go w here);
+}
+  where
+    go : (w : ℕ) → In w (v ∷ []) → HasNeeds lists rows w
+    go w (inl same) = subst (HasNeeds lists rows) (sym same) has
+    go w (inr never) = absurd never
+
+module _ (lists : List (List ℕ)) (rows : List ℕ) (v more : ℕ) (joins : JoinsRows rows (edges lists v) more) where
+  pub needs_there : bit_or (row_at rows v) more ≡ row_at rows v → HasNeeds lists rows v
+  needs_there same w x need is =
+      subst (λ r. IsSet r x) same (set_right (row_at rows v) more x (joins.all w x need is))
+
+  pub spreads_row : v < length rows → bit_or (row_at rows v) more < 2 ^ 64 → (bit_or (row_at rows v) more ≡ row_at rows v → ⊥)
+      → Spreads lists (v ∷ []) rows (set rows v (bit_or (row_at rows v) more)) true
+  spreads_row below fits differs = record {
+    count = length-set rows v (bit_or (row_at rows v) more);
+    sound = λ inputs sound w x is. go inputs sound w x (written_cases rows v below more w x is);
+    kept = written_kept rows v below more;
+    progress = room_less rows v (bit_or (row_at rows v) more) below (above (le_or_l (row_at rows v) more) differs) fits;
+  }
+    where
+      above : {a b : ℕ} → a ≤ b → (b ≡ a → ⊥) → a < b
+      above low apart = grind arith
+
+      step : (inputs : List ℕ) → AreSound lists inputs rows → (x : ℕ) → ((w : ℕ) × In w (edges lists v) × IsSet (row_at rows w) x) → LeadsToInput lists inputs v x
+      step inputs sound x (w, need, is) =
+          let leads = sound w x is in
+          (leads.0, leads.1, (suc leads.2.0, (w, need, leads.2.1)))
+
+      go : (inputs : List ℕ) → AreSound lists inputs rows → (w x : ℕ) → IsSet (row_at rows w) x ⊎ ((w ≡ v) × IsSet more x) → LeadsToInput lists inputs w x
+      go inputs sound w x (inl had) = sound w x had
+      go inputs sound w x (inr new) = subst (λ z. LeadsToInput lists inputs z x) (sym new.0) (step inputs sound x (joins.from x new.1))
+
+-- one more node
+module _ (lists : List (List ℕ)) (xs : List ℕ) (v : ℕ) (old mid new : List ℕ) (c : Bool) (first : Spreads lists xs old mid c) where
+  pub spreads_changed : Spreads lists (v ∷ []) mid new true → Spreads lists (xs ++ v ∷ []) old new true
+  spreads_changed next = record {
+    count = next.count ∙ first.count;
+    sound = λ inputs sound. next.sound inputs (first.sound inputs sound);
+    kept = λ w x is. next.kept w x (first.kept w x is);
+    progress = go c first.progress;
+  }
+    where
+      less : room_left new < room_left mid
+      less = next.progress
+
+      go : (b : Bool) → MatchBool b (room_left mid < room_left old) ((mid ≡ old) × ((w : ℕ) → In w xs → HasNeeds lists old w)) → room_left new < room_left old
+      go true fewer = omega arith
+      go false both = let e : room_left mid ≡ room_left old = ap room_left both.0 in omega arith
+
+  pub spreads_unchanged : Spreads lists (v ∷ []) mid new false → Spreads lists (xs ++ v ∷ []) old new c
+  spreads_unchanged next = record {
+    count = next.count ∙ first.count;
+    sound = λ inputs sound. next.sound inputs (first.sound inputs sound);
+    kept = λ w x is. next.kept w x (first.kept w x is);
+    progress = go c first.progress;
+  }
+    where
+      same : new ≡ mid
+      same = next.progress.0
+
+      each : mid ≡ old → ((w : ℕ) → In w xs → HasNeeds lists old w) → (w : ℕ) → In w xs ⊎ In w (v ∷ []) → HasNeeds lists old w
+      each is before w (inl here) = before w here
+      each is before w (inr here) = subst (λ rows. HasNeeds lists rows w) is (next.progress.1 w here)
+
+      go : (b : Bool) → MatchBool b (room_left mid < room_left old) ((mid ≡ old) × ((w : ℕ) → In w xs → HasNeeds lists old w))
+          → MatchBool b (room_left new < room_left old) ((new ≡ old) × ((w : ℕ) → In w (xs ++ v ∷ []) → HasNeeds lists old w))
+      go true fewer = let e : room_left new ≡ room_left mid = ap room_left same in omega arith
+      go false both = (same ∙ both.0, λ w here. each both.0 both.1 w (In-append_cases w xs (v ∷ []) here))
+
+-- ---- passes until nothing changes
+
+pub record HasSpread (lists : List (List ℕ)) (old new : List ℕ) : Type 0 where
+  pub count : length new ≡ length old
+  pub sound : (inputs : List ℕ) → AreSound lists inputs old → AreSound lists inputs new
+  pub kept : (v x : ℕ) → IsSet (row_at old v) x → IsSet (row_at new v) x
+
+pub has_spread : (lists : List (List ℕ)) (nodes old new : List ℕ) (c : Bool) → Spreads lists nodes old new c → HasSpread lists old new
+has_spread lists nodes old new c s = record { count = s.count; sound = s.sound; kept = s.kept }
+
+pub spread_on : (lists : List (List ℕ)) (nodes old mid new : List ℕ) (c : Bool) → HasSpread lists old mid → Spreads lists nodes mid new c → HasSpread lists old new
+spread_on lists nodes old mid new c h s = record {
+  count = s.count ∙ h.count;
+  sound = λ inputs sound. s.sound inputs (h.sound inputs sound);
+  kept = λ v x is. s.kept v x (h.kept v x is);
+}
+
+pub spread_less : (lists : List (List ℕ)) (nodes old new : List ℕ) (c : Bool) → c ≡ true → Spreads lists nodes old new c → room_left new < room_left old
+spread_less lists nodes old new true is s = s.progress
+spread_less lists nodes old new false is s = cc
+
+pub settled : (lists : List (List ℕ)) (nodes old mid new : List ℕ) (c : Bool) → c ≡ false → ((v : ℕ) → v < length lists → In v nodes) → HasSpread lists old mid → Spreads lists nodes mid new c
+    → Settles lists old new
+settled lists nodes old mid new true is all h s = cc
+settled lists nodes old mid new false is all h s = record {
+  count = s.count ∙ h.count;
+  sound = λ inputs sound. s.sound inputs (h.sound inputs sound);
+  kept = λ v x set. s.kept v x (h.kept v x set);
+  closed = λ v w x need. subst (λ rows. IsSet (row_at rows w) x → IsSet (row_at rows v) x) (sym s.progress.0) (s.progress.1 v (all v (edges_within lists v w need)) w x need);
+}
+
+-- ---- rows of one node after another, joined
+
+pub joins_none : (rows : List ℕ) → JoinsRows rows [] 0
+joins_none rows = record { from = λ x is. absurd (none_set x is); all = λ w x here. absurd here }
+
+pub joins_more : (rows nodes : List ℕ) (v row : ℕ) → JoinsRows rows nodes row → JoinsRows rows (nodes ++ v ∷ []) (bit_or row (row_at rows v))
+joins_more rows nodes v row joins = record {
+  from = λ x is. from x (set_cases row (row_at rows v) x is);
+  all = λ w x here is. all w x is (In-append_cases w nodes (v ∷ []) here);
+}
+  where
+    from : (x : ℕ) → IsSet row x ⊎ IsSet (row_at rows v) x → (w : ℕ) × In w (nodes ++ v ∷ []) × IsSet (row_at rows w) x
+    from x (inl had) = let found = joins.from x had in (found.0, In-append_left found.0 nodes (v ∷ []) found.1, found.2)
+    from x (inr new) = (v, In-append_right v nodes (v ∷ []) (inl refl), new)
+
+    all : (w x : ℕ) → IsSet (row_at rows w) x → In w nodes ⊎ In w (v ∷ []) → IsSet (bit_or row (row_at rows v)) x
+    all w x is (inl here) = set_left row (row_at rows v) x (joins.all w x here is)
+    all w x is (inr (inl same)) = set_right row (row_at rows v) x (subst (λ z. IsSet (row_at rows z) x) same is)
+    all w x is (inr (inr never)) = absurd never
+
+-- ---- the bits of inputs
+
+pub gives_none : (rows : List ℕ) → GivesBits [] rows rows
+gives_none rows = record {
+  count = refl;
+  from = λ v x is. inl is;
+  kept = λ v x is. is;
+  all = λ v x at. cc;
+}
+
+module _ (inputs : List ℕ) (v : ℕ) (old mid : List ℕ) (gives : GivesBits inputs old mid) (few : length inputs < 64) where
+  abbrev number : ℕ
+  number = length inputs
+
+  last_or_before : (w x : ℕ) → slice_get (inputs ++ v ∷ []) x ≡ Some w → (slice_get inputs x ≡ Some w) ⊎ ((x ≡ number) × (w ≡ v))
+  last_or_before w x at = go (grind arith)
+    where
+      go : (x < number) ⊎ (number ≤ x) → (slice_get inputs x ≡ Some w) ⊎ ((x ≡ number) × (w ≡ v))
+      go (inl before) = inl (sym (slice_get-append_left inputs (v ∷ []) x before) ∙ at)
+      go (inr past) = by_rest (x - number) refl (sym (slice_get-append_past inputs (v ∷ []) x past) ∙ at)
+        where
+          by_rest : (n : ℕ) → x - number ≡ n → slice_get (v ∷ []) n ≡ Some w → (slice_get inputs x ≡ Some w) ⊎ ((x ≡ number) × (w ≡ v))
+          by_rest zero is e = let same : w ≡ v = cc in inr (omega arith, same)
+          by_rest (suc n) is e = cc
+
+  here_or_later : (w x : ℕ) → slice_get inputs x ≡ Some w → slice_get (inputs ++ v ∷ []) x ≡ Some w
+  here_or_later w x at = slice_get-append_left inputs (v ∷ []) x (slice_get_within inputs x w at) ∙ at
+
+  -- an input that is no node
+  pub gives_past : length mid ≤ v → GivesBits (inputs ++ v ∷ []) old mid
+  gives_past far = record {
+    count = gives.count;
+    from = λ w x is. from w x (gives.from w x is);
+    kept = gives.kept;
+    all = λ w x at below. all w x below (last_or_before w x at);
+  }
+    where
+      from : (w x : ℕ) → IsSet (row_at old w) x ⊎ (slice_get inputs x ≡ Some w) → IsSet (row_at old w) x ⊎ (slice_get (inputs ++ v ∷ []) x ≡ Some w)
+      from w x (inl had) = inl had
+      from w x (inr at) = inr (here_or_later w x at)
+
+      all : (w x : ℕ) → w < length old → (slice_get inputs x ≡ Some w) ⊎ ((x ≡ number) × (w ≡ v)) → IsSet (row_at mid w) x
+      all w x below (inl at) = gives.all w x at below
+      all w x below (inr last) = let count : length mid ≡ length old = gives.count in let same : w ≡ v = last.1 in absurd (omega arith)
+
+  -- and one that is
+  abbrev bit : ℕ
+  bit = 1 * 2 ^ number % 2 ^ 64
+
+  abbrev new : List ℕ
+  new = set mid v (bit_or (row_at mid v) bit)
+
+  bit_cases : (x : ℕ) → IsSet bit x → x ≡ number
+  bit_cases x is = go (eqb x number) refl
+    where
+      go : (b : Bool) → eqb x number ≡ b → x ≡ number
+      go true e = eqb-true x number e
+      go false e =
+          let none : bit_at (bit_or 0 bit) x ≡ bit_at 0 x = bit_at_set_other w64 0 number few x (eqb-false x number e) in
+          absurd (none_set x (record { is_one = sym none ∙ (set_right 0 bit x is).is_one }))
+
+  pub gives_bit : v < length mid → GivesBits (inputs ++ v ∷ []) old new
+  gives_bit below = record {
+    count = length-set mid v (bit_or (row_at mid v) bit) ∙ gives.count;
+    from = λ w x is. from w x (written_cases mid v below bit w x is);
+    kept = λ w x is. written_kept mid v below bit w x (gives.kept w x is);
+    all = λ w x at within. all w x within (last_or_before w x at);
+  }
+    where
+      earlier : (w x : ℕ) → IsSet (row_at old w) x ⊎ (slice_get inputs x ≡ Some w) → IsSet (row_at old w) x ⊎ (slice_get (inputs ++ v ∷ []) x ≡ Some w)
+      earlier w x (inl had) = inl had
+      earlier w x (inr at) = inr (here_or_later w x at)
+
+      from : (w x : ℕ) → IsSet (row_at mid w) x ⊎ ((w ≡ v) × IsSet bit x) → IsSet (row_at old w) x ⊎ (slice_get (inputs ++ v ∷ []) x ≡ Some w)
+      from w x (inl had) = earlier w x (gives.from w x had)
+      from w x (inr own) =
+          let place : x ≡ number = bit_cases x own.1 in
+          inr (ap (slice_get (inputs ++ v ∷ [])) place ∙ slice_get-append_at inputs v [] ∙ ap Some (sym own.0))
+
+      own_bit : IsSet bit number
+      own_bit = record { is_one = sym (bit_at_clean number) ∙ bit_at_set_same w64 0 number few }
+        where
+          bit_at_clean : (x : ℕ) → bit_at (bit_or 0 bit) x ≡ bit_at bit x
+          bit_at_clean x =
+              let both : bit_at (bit_or 0 bit) x ≡ max (bit_at 0 x) (bit_at bit x) = bit_at_or 0 bit x in
+              let none : bit_at 0 x ≡ 0 = bit_at-zero x in
+              omega arith
+
+      all : (w x : ℕ) → w < length old → (slice_get inputs x ≡ Some w) ⊎ ((x ≡ number) × (w ≡ v)) → IsSet (row_at new w) x
+      all w x within (inl at) = written_kept mid v below bit w x (gives.all w x at within)
+      all w x within (inr last) =
+          subst (λ n. IsSet (row_at new w) n) (sym last.0) (subst (λ z. IsSet (row_at new z) number) (sym last.1) (written_new mid v below bit number own_bit))
+
+-- ---- what rows say at the end
+
+pub rows_end : (lists : List (List ℕ)) (inputs old given new : List ℕ) → length old ≡ length lists → ((v : ℕ) → row_at old v ≡ 0) → GivesBits inputs old given → Settles lists given new
+    → AreRows lists inputs new
+rows_end lists inputs old given new count empty gives settles = record {
+  sound = settles.sound inputs (λ v x is. start v x (gives.from v x is));
+  complete = λ v x w k at below chain. go k v x w at below chain;
+}
+  where
+    start : (v x : ℕ) → IsSet (row_at old v) x ⊎ (slice_get inputs x ≡ Some v) → LeadsToInput lists inputs v x
+    start v x (inl had) = absurd (none_set x (subst (λ r. IsSet r x) (empty v) had))
+    start v x (inr at) = (v, at, (zero, refl))
+
+    go : (k v x w : ℕ) → slice_get inputs x ≡ Some w → w < length lists → Chain (edges lists) k v w → IsSet (row_at new v) x
+    go zero v x w at below same = subst (λ z. IsSet (row_at new z) x) (sym same) (settles.kept w x (gives.all w x at (subst (λ n. w < n) (sym count) below)))
+    go (suc k) v x w at below (t, need, chain) = settles.closed v t x need (go k t x w at below chain)
+
+pub rows_empty : (n : ℕ) (rows : List ℕ) → rows ≡ replicate n 0 → (v : ℕ) → row_at rows v ≡ 0
+rows_empty n rows is v = ap (λ rs. row_at rs v) is ∙ go n v
+  where
+    go : (n v : ℕ) → row_at (replicate n 0) v ≡ 0
+    go zero v = refl
+    go (suc n) zero = refl
+    go (suc n) (suc v) = go n v
+
+-- ---- steps of loops
+
+pub joins_step : (rows nodes : List ℕ) (i row r : ℕ) → i < length nodes → JoinsRows rows (take i nodes) row → r ≡ row_at rows (get_or nodes i 0) → JoinsRows rows (take (i + 1) nodes) (bit_or row r)
+joins_step rows nodes i row r below joins is =
+    subst (λ xs. JoinsRows rows xs (bit_or row r)) (sym (take_more nodes i 0 below))
+    (subst (λ q. JoinsRows rows (take i nodes ++ get_or nodes i 0 ∷ []) (bit_or row q)) (sym is) (joins_more rows (take i nodes) (get_or nodes i 0) row joins))
+
+pub joins_all : (rows nodes : List ℕ) (i row : ℕ) → length nodes ≤ i → JoinsRows rows (take i nodes) row → JoinsRows rows nodes row
+joins_all rows nodes i row all joins = subst (λ xs. JoinsRows rows xs row) (take_all i nodes all) joins
+
+module _ (lists : List (List ℕ)) (nodes : List ℕ) (i : ℕ) (old mid new : List ℕ) (c d e : Bool) (below : i < length nodes) (first : Spreads lists (take i nodes) old mid c)
+    (next : Spreads lists (get_or nodes i 0 ∷ []) mid new d) where
+  pub spread_changed : d ≡ true → e ≡ true → Spreads lists (take (i + 1) nodes) old new e
+  spread_changed is now =
+      subst (λ xs. Spreads lists xs old new e) (sym (take_more nodes i 0 below))
+      (subst (Spreads lists (take i nodes ++ get_or nodes i 0 ∷ []) old new) (sym now)
+      (spreads_changed lists (take i nodes) (get_or nodes i 0) old mid new c first (subst (Spreads lists (get_or nodes i 0 ∷ []) mid new) is next)))
+
+  pub spread_unchanged : d ≡ false → e ≡ c → Spreads lists (take (i + 1) nodes) old new e
+  spread_unchanged is now =
+      subst (λ xs. Spreads lists xs old new e) (sym (take_more nodes i 0 below))
+      (subst (Spreads lists (take i nodes ++ get_or nodes i 0 ∷ []) old new) (sym now)
+      (spreads_unchanged lists (take i nodes) (get_or nodes i 0) old mid new c first (subst (Spreads lists (get_or nodes i 0 ∷ []) mid new) is next)))
+
+pub spread_all : (lists : List (List ℕ)) (nodes : List ℕ) (i : ℕ) (old new : List ℕ) (c : Bool) → length nodes ≤ i → Spreads lists (take i nodes) old new c → Spreads lists nodes old new c
+spread_all lists nodes i old new c all s = subst (λ xs. Spreads lists xs old new c) (take_all i nodes all) s
+
+module _ (inputs : List ℕ) (i : ℕ) (old mid new : List ℕ) (below : i < length inputs) (few : length inputs ≤ 64) (gives : GivesBits (take i inputs) old mid) where
+  taken : length (take i inputs) ≡ i
+  taken = length-take-le i inputs (omega arith)
+
+  pub gives_more : get_or inputs i 0 < length mid → new ≡ set mid (get_or inputs i 0) (bit_or (row_at mid (get_or inputs i 0)) (1 * 2 ^ i % 2 ^ 64)) → GivesBits (take (i + 1) inputs) old new
+  gives_more within now =
+      subst (λ xs. GivesBits xs old new) (sym (take_more inputs i 0 below))
+      (subst (GivesBits (take i inputs ++ get_or inputs i 0 ∷ []) old)
+      (ap (λ n. set mid (get_or inputs i 0) (bit_or (row_at mid (get_or inputs i 0)) (1 * 2 ^ n % 2 ^ 64))) taken ∙ sym now)
+      (gives_bit (take i inputs) (get_or inputs i 0) old mid gives (let size : length (take i inputs) ≡ i = taken in omega arith) within))
+
+  pub gives_no_more : length mid ≤ get_or inputs i 0 → new ≡ mid → GivesBits (take (i + 1) inputs) old new
+  gives_no_more far now =
+      subst (λ xs. GivesBits xs old new) (sym (take_more inputs i 0 below))
+      (subst (GivesBits (take i inputs ++ get_or inputs i 0 ∷ []) old) (sym now)
+      (gives_past (take i inputs) (get_or inputs i 0) old mid gives (let size : length (take i inputs) ≡ i = taken in omega arith) far))
+
+pub gives_all : (inputs old new : List ℕ) (i : ℕ) → length inputs ≤ i → GivesBits (take i inputs) old new → GivesBits inputs old new
+gives_all inputs old new i all gives = subst (λ xs. GivesBits xs old new) (take_all i inputs all) gives
+
+-- ---- a node that is found in a graph in code
+
+module _ (graph : List NodeList) (rows : List ℕ) (v : ℕ) (x : NodeList) (nodes : List ℕ) (more : ℕ) (below : v < length graph) (at : x ≡ get_or graph v x) (are : nodes ≡ x.nodes.items) (joins : JoinsRows rows nodes more) where
+  needs_are : nodes ≡ edges (lists_of graph) v
+  needs_are = are ∙ ap (λ (y : NodeList). y.nodes.items) at ∙ sym (lists_at graph v x below)
+
+  joins' : JoinsRows rows (edges (lists_of graph) v) more
+  joins' = subst (λ ns. JoinsRows rows ns more) needs_are joins
+
+  module _ (own : ℕ) (own_is : own ≡ row_at rows v) where
+    pub spreads_found_same : bit_or own more ≡ own → Spreads (lists_of graph) (v ∷ []) rows rows false
+    spreads_found_same same =
+        spreads_same (lists_of graph) rows v (needs_there (lists_of graph) rows v more joins' (subst (λ r. bit_or r more ≡ r) own_is same))
+
+    pub spreads_found : length rows ≡ length graph → own < 2 ^ 64 → more < 2 ^ 64 → (bit_or own more ≡ own → ⊥) → Spreads (lists_of graph) (v ∷ []) rows (set rows v (bit_or own more)) true
+    spreads_found count small little differs =
+        subst (λ r. Spreads (lists_of graph) (v ∷ []) rows (set rows v (bit_or r more)) true) (sym own_is)
+        (spreads_row (lists_of graph) rows v more joins' (subst (λ n. v < n) (sym count) below) (or_lt 64 (row_at rows v) more (subst (λ r. r < 2 ^ 64) own_is small) little)
+        (subst (λ r. bit_or r more ≡ r → ⊥) own_is differs))
+
+-- rows as they are made, given to one function after another, and written back
+pub rows_given : (graph : List NodeList) (inputs old lent given again new : List ℕ) (n : ℕ) → n ≡ length old → length old ≡ length graph → old ≡ replicate (length graph) 0
+    → lent ≡ old → again ≡ take n (given ++ drop (length given) old) → GivesBits inputs lent given → Settles (lists_of graph) again new
+    → AreRows (lists_of graph) inputs (take n (new ++ drop (length new) (take n (given ++ drop (length given) old))))
+rows_given graph inputs old lent given again new n size count fresh is next gives settles =
+    let gives' : GivesBits inputs old given = subst (λ rs. GivesBits inputs rs given) is gives in
+    let first : take n (given ++ drop (length given) old) ≡ given = written_back n given old size gives'.count in
+    let settles' : Settles (lists_of graph) given new = subst (λ rs. Settles (lists_of graph) rs new) (next ∙ first) settles in
+    let second : take n (new ++ drop (length new) given) ≡ new = written_back n new given (size ∙ sym gives'.count) settles'.count in
+    subst (AreRows (lists_of graph) inputs) (sym (ap (λ rs. take n (new ++ drop (length new) rs)) first ∙ second))
+    (rows_end (lists_of graph) inputs old given new (count ∙ sym (length-lists graph)) (rows_empty (length graph) old fresh) gives' settles')

@@ -1,0 +1,10 @@
+use Rattle.std.proofs.Common.{◌<◌, length, subst}
+use Rattle.design_cycles.specs.Graphs.{lists_of}
+use Rattle.design_cycles.proofs.BitRows.{settled}
+use Rattle.design_cycles.proofs.Marking.{length-lists}
+use Rattle.design_cycles.proofs.rows.settle.Goals as goal
+
+pub returns-then-not-spread : goal.returns-then-not-spread
+returns-then-not-spread c =
+    settled (lists_of c.args.graph.now) c.args.all.now c.args.rows.now c.loop.rows c.spread-in-loop.new.rows c.spread-in-loop.result c.if-not-spread.true
+    (λ v below. c.requires.all v (subst (λ n. v < n) (length-lists c.args.graph.now) below)) c.loop.invariant c.spread-in-loop.ensures
