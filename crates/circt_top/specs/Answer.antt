@@ -95,10 +95,10 @@ module _ {F O : Type 0} (writes : F → Name → List ℕ → Result (Unit {0}) 
   DeliversFront (Some name) before after old new text =
       writes before name text (Err Failed) after × IsHalfWritten name (files before) (files after) text × (new ≡ old)
 
--- one read of the file of a name gave some bytes and changed no file, and then
 module _ {F : Type 0} (reads : F → Name → ℕ → Result (List ℕ) FileFail → F → Type 0) (files : F → Told) where
+  -- one read of the file of a name gave some bytes and changed no file, and what follows holds of the files behind it
   abbrev pub ReadsThen : F → Name → (F → Type 0) → Type 0
-  ReadsThen before name Then = (after : F) × (source : List ℕ) × reads before name read_limit (Ok source) after × (files after ≡ files before) × Then after
+  ReadsThen before name Follows = (after : F) × (source : List ℕ) × reads before name read_limit (Ok source) after × (files after ≡ files before) × Follows after
 
 -- a text is what the command makes of the input, where that is told
 abbrev pub IsMadeOf : Command → Option (List ℕ) → List ℕ → Type 0
