@@ -1,14 +1,15 @@
 -- Names that stand for one thing each are found again.
-use Rattle.std.proofs.Common.{◌≡◌, Bool, true, false, cond, List, [], ◌∷◌, ◌++◌, map, refl, ap, ◌∙◌, sym, subst, inl, inr, ◌⊎◌}
+use Rattle.std.proofs.Common.{◌≡◌, ℕ, ◌+◌, replicate, Bool, true, false, cond, List, [], ◌∷◌, ◌++◌, map, refl, ap, ◌∙◌, sym, subst, inl, inr, ◌⊎◌}
 use Rattle.std.specs.Prelude.{nat_eq, Option, Some, None, is_some}
 use Rattle.std.specs.Cmp.Lexicographic.{pointwise}
 use Rattle.std.proofs.lemmas.Cmp.{nat_list_eq_equiv}
+use Rattle.std.proofs.lemmas.List.{replicate-append-replicate}
 use Rattle.hw_model.specs.Types.{Name}
 use Rattle.hw_model.specs.Design.{same_name}
 use Rattle.hw_model.specs.Equality.{name_self}
 use Rattle.fresh_names.specs.Fresh.{is_taken}
 use Rattle.fresh_names.proofs.Distinct.{AreFresh}
-use Rattle.mlir_reader.specs.Resolving.{Meanings, Defined, Definition, known_or, with_definition, with_definitions, no_meaning, marks}
+use Rattle.mlir_reader.specs.Resolving.{Meanings, Defined, Definition, known_or, with_definition, with_definitions, no_meaning, mark_count, marks}
 
 -- one of a list
 abbrev pub Among : {A : Type 0} → A → List A → Type 0
@@ -65,11 +66,17 @@ found m (x ∷ ds) new d (inl e) =
 found m (x ∷ ds) new d (inr h) = found (with_definition m x) ds new.1 d h
 
 -- no new name was defined earlier
-pub no_marks : (m : Meanings) (ds : List Definition) → AreNew m ds → marks m ds ≡ map (λ d. false) ds
+-- how many marks definitions have
+abbrev pub marks_in : List Definition → ℕ
+marks_in [] = 0
+marks_in (d ∷ ds) = mark_count d.defined + marks_in ds
+
+pub no_marks : (m : Meanings) (ds : List Definition) → AreNew m ds → marks m ds ≡ replicate (marks_in ds) false
 no_marks m [] new = refl
 no_marks m (d ∷ ds) new =
-    ap (λ b. b ∷ marks (with_definition m d) ds) (ap (λ (o : Option Defined). is_some o) new.0) ∙ ap (λ bs. false ∷ bs)
-    (no_marks (with_definition m d) ds new.1)
+    ap (λ b. replicate (mark_count d.defined) b ++ marks (with_definition m d) ds) (ap (λ (o : Option Defined). is_some o) new.0)
+    ∙ ap (λ bs. replicate (mark_count d.defined) false ++ bs) (no_marks (with_definition m d) ds new.1)
+    ∙ replicate-append-replicate (mark_count d.defined) (marks_in ds) false
 
 -- ---- names that are given once are new
 

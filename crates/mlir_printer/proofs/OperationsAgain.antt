@@ -1,7 +1,7 @@
 -- A printed operation says the operation that it was.
-use Rattle.std.proofs.Common.{◌≡◌, ℕ, zero, suc, ◌≤◌, Bool, true, false, cond, List, [], ◌∷◌, map, length, drop, refl, ap, ◌∙◌, sym, subst, arith, length-drop}
+use Rattle.std.proofs.Common.{◌≡◌, ℕ, zero, suc, ◌+◌, ◌≤◌, min, max, replicate, Bool, true, false, cond, List, [], ◌∷◌, map, length, drop, refl, ap, ◌∙◌, sym, subst, arith, length-drop}
 use Rattle.std.proofs.lemmas.List.{length-map}
-use Rattle.std.specs.Prelude.{Option, Some, None}
+use Rattle.std.specs.Prelude.{◌==◌, Option, Some, None}
 use Rattle.std.proofs.lemmas.Bool.{cond-true, cond-false, ltb-false}
 use Rattle.hw_model.specs.Types.{Name, HwType}
 use Rattle.hw_model.specs.Types.HwType.{int, clock, array, struct}
@@ -11,9 +11,11 @@ use Rattle.hw_model.specs.Sound.{field_list}
 use Rattle.hw_model.specs.Design.{Ref, Port, Op, is_output_kind, op_without_place}
 use Rattle.ir_store.specs.ResultTypes.{first_type, fields_of, field_count, result_types, result_count}
 use Rattle.mlir_reader.specs.OperandText.{ResultNames, named_count}
+use Rattle.mlir_reader.specs.OperandText.ResultNames.{no_names, names, pack}
 use Rattle.mlir_reader.specs.OperationText.{OperationText, is_last}
 use Rattle.mlir_reader.specs.Resolving as read
-use Rattle.mlir_reader.specs.Resolving.{Meanings, Definition, resolved, marks, marked_results, own_types, own_count, operation_at, operation_definitions, has_name, name_or, given_name, unless_digits, own_name_of}
+use Rattle.mlir_reader.specs.Resolving.Defined.{are_results}
+use Rattle.mlir_reader.specs.Resolving.{Meanings, Definition, resolved, marks, marked_results, names_from, names_defined, own_types, own_count, operation_at, operation_definitions, has_name, name_or, given_name, unless_digits, own_name_of}
 use Rattle.mlir_printer.specs.Pieces.{ValueText}
 use Rattle.mlir_printer.specs.Naming.{wishes, wishes_of, own_wish, pack_wishes, name_count, first_name, firsts, is_pack, listed_names, results_named}
 use Rattle.op_verifier.specs.Faults.{listed_of}
@@ -21,7 +23,7 @@ use Rattle.mlir_printer.specs.Texts.{parts_in, operation_shown, entries_shown}
 use Rattle.mlir_printer.specs.Spellable.{Each, said_operand, said_operation}
 use Rattle.mlir_printer.specs.Printable.{IsDefined, settled_result, types_written, IsPrintableOp}
 use Rattle.mlir_printer.proofs.Listing.{instance_length}
-use Rattle.mlir_printer.proofs.NameTables.{AreNew, no_marks}
+use Rattle.mlir_printer.proofs.NameTables.{AreNew, marks_in, no_marks}
 use Rattle.mlir_printer.proofs.NamedDefinitions.{name_of, results_names, firsts_length, pack_kind, pack_named}
 use Rattle.mlir_printer.proofs.ValuesFound.{AreCounted}
 use Rattle.mlir_printer.proofs.GivenNames.{Suits}
@@ -69,12 +71,27 @@ operands_again m means Defined [] f h = refl
 operands_again m means Defined (r ∷ rs) f h =
     ap (λ x. x ∷ map (resolved m) (map said_operand (map means rs))) (f r h.0) ∙ ap (λ l. r ∷ l) (operands_again m means Defined rs f h.1)
 
-marked_none : (ts : List (Option HwType)) (ds : List Definition) → length ds ≤ length ts
-    → marked_results ts (map (λ d. false) ds) ≡ map settled_result ts
-marked_none [] [] h = refl
-marked_none [] (d ∷ ds) h = absurd (omega (arith, h))
-marked_none (t ∷ ts) [] h = ap (λ l. settled_result t ∷ l) (marked_none ts [] (omega arith))
-marked_none (t ∷ ts) (d ∷ ds) h = ap (λ l. settled_result t ∷ l) (marked_none ts ds (omega (arith, h)))
+marked_none : (ts : List (Option HwType)) (n : ℕ) → n ≤ length ts → marked_results ts (replicate n false) ≡ map settled_result ts
+marked_none [] zero h = refl
+marked_none [] (suc n) h = absurd (omega (arith, h))
+marked_none (t ∷ ts) zero h = ap (λ l. settled_result t ∷ l) (marked_none ts zero (omega arith))
+marked_none (t ∷ ts) (suc n) h = ap (λ l. settled_result t ∷ l) (marked_none ts n (omega (arith, h)))
+
+-- names have one mark each, and a pack no more than the operation has results
+marks_listed : (i k : ℕ) (ns : List Name) → marks_in (names_from i k ns) ≡ length (names_from i k ns)
+marks_listed i k [] = refl
+marks_listed i k (n ∷ ns) =
+    let rest : marks_in (names_from i (k + 1) ns) ≡ length (names_from i (k + 1) ns) = marks_listed i (k + 1) ns in
+    omega arith
+
+marks_few : (i own : ℕ) (rs : ResultNames) → marks_in (names_defined i own rs) ≤ max (length (names_defined i own rs)) own
+marks_few i own no_names = omega arith
+marks_few i own (names n ns) = omega (arith, marks_listed i 0 (n ∷ ns))
+marks_few i own (pack n k) = go (k == 0)
+  where
+    go : (b : Bool) → marks_in (cond b [] (record { name = n; defined = are_results i 0 (min k own) } ∷ [])) ≤ max (length {A = Definition} (cond b [] (record { name = n; defined = are_results i 0 (min k own) } ∷ []))) own
+    go true = omega arith
+    go false = omega arith
 
 -- ---- own names
 
@@ -137,9 +154,18 @@ module _ (ports : List Port) (body : List Op) (o : Op) (p : IsPrintableOp ports 
         types_counted o.kind o.types (length o.operands),
         results_length,
       ) in
+      let within : marks_in ds ≤ length (result_types o.kind o.types (length o.operands)) =
+      omega (
+        arith,
+        marks_few i (own_count (shown means ns)) (shown means ns).results,
+        few,
+        (are_counted means ns).counted,
+        types_counted o.kind o.types (length o.operands),
+        results_length,
+      ) in
       ap (λ ts. marked_results ts (marks earlier ds)) (own_types_are means ns)
       ∙ ap (λ bs. marked_results (result_types o.kind o.types (length o.operands)) bs) (no_marks earlier ds new)
-      ∙ marked_none (result_types o.kind o.types (length o.operands)) ds few
+      ∙ marked_none (result_types o.kind o.types (length o.operands)) (marks_in ds) within
       ∙ sym p.results
 
   named_again : (ns : List Name) → named_count (results_named (parts_in o) ns) ≡ o.named

@@ -1,5 +1,5 @@
 -- From what a text says to the design: kinds, dictionaries, and the values that names stand for.
-use Rattle.std.specs.Prelude.{ℕ, ◌+◌, ◌-◌, ◌^◌, Bool, true, false, cond, ◌&&◌, ◌==◌, nat_lt, not, min, List, [], ◌∷◌, ◌++◌, length, map, Option, Some, None, is_some, codes, ℤ, pos, negsuc}
+use Rattle.std.specs.Prelude.{ℕ, ◌+◌, ◌-◌, ◌^◌, Bool, true, false, cond, ◌&&◌, ◌==◌, nat_lt, not, min, max, replicate as times, List, [], ◌∷◌, ◌++◌, length, map, Option, Some, None, is_some, codes, ℤ, pos, negsuc}
 use Rattle.std.specs.Ordering.{nat_cmp, is_lt}
 use Rattle.std.specs.Cmp.Lexicographic.{slice_cmp}
 use Rattle.diag.specs.declared.refusal.Place as code
@@ -301,10 +301,15 @@ resolved means o = ref_in (means o.name) o.number
 
 -- ---- marks of names that were defined earlier
 
--- of each definition, whether its name stands for something earlier
+-- how many results have the mark of a name: those that it speaks for, and one where it speaks for none
+abbrev pub mark_count : Defined → ℕ
+mark_count (is_port j) = 1
+mark_count (are_results i k count) = max 1 count
+
+-- of each result that definitions speak for, whether its name stands for something earlier
 abbrev pub marks : Meanings → List Definition → List Bool
 marks earlier [] = []
-marks earlier (d ∷ ds) = is_some (earlier d.name) ∷ marks (with_definition earlier d) ds
+marks earlier (d ∷ ds) = times (mark_count d.defined) (is_some (earlier d.name)) ++ marks (with_definition earlier d) ds
 
 -- a result's type that its operation does not settle
 abbrev pub type_or_none : Option HwType → HwType

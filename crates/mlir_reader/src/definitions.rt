@@ -1,5 +1,5 @@
 //! The names that a module's text defines, in order.
-ghost use Rattle.std.specs.Prelude.{◌≡◌, ◌<◌, ◌+◌, ◌^◌, ◌++◌, ◌∷◌, length, map, IfOk, OnOk, All};
+ghost use Rattle.std.specs.Prelude.{◌≡◌, ◌<◌, ◌+◌, ◌^◌, ◌++◌, ◌∷◌, replicate, length, map, IfOk, OnOk, All};
 ghost use Rattle.std.specs.Option.{option_map};
 ghost use Rattle.hw_model.specs.TypeViews.{type_of, field_of, fields_of};
 ghost use Rattle.hw_model.specs.Sound.{field_list};
@@ -17,7 +17,7 @@ use hw_model::types::{Field, Ty};
 use smallvec::SmallVec;
 use std::alloc::{AllocError, Global};
 
-/// Of each name of a result in order, whether it stands for something earlier.
+/// Of each result that a name is given to, in order, whether that name stands for something earlier.
 pub type Marks = SmallVec<bool, 24, Global>;
 
 /// Defines the value name of a port, where it has one, and says whether it stands for something already.
@@ -148,7 +148,17 @@ fn define_pack<'s>(
         return Ok(());
     }
     let own = u32::try_from(own).unwrap_or(u32::MAX);
-    let again = names.define(name, Defined::Pack(position, count.min(own)))?;
-    found.push(again)?;
+    let count = count.min(own);
+    let again = names.define(name, Defined::Pack(position, count))?;
+    push_marks(found, count.max(1), again)
+}
+
+// Puts a mark behind others, so many times.
+fn push_marks(found: &mut Marks, count: u32, again: bool) -> Result<(), AllocError>
+    ensures { OnOk result (found.new.items ≡ found.old.items ++ replicate count again) }
+{
+    for _ in 0..count {
+        found.push(again)?;
+    }
     Ok(())
 }

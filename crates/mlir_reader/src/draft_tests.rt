@@ -26,6 +26,14 @@ const PACKS: &[u8] = b"%s:2 = hw.struct_explode %p : !hw.struct<x: i8, y: i8>
 %a = comb.and %q, %q#1, %a, %p#1 : i8
 ";
 
+// a pack whose name is new, and then packs of two, of more results than there are, of none, and one behind a sum
+const PACKS_AGAIN: &[u8] = b"%s:2 = hw.struct_explode %p : !hw.struct<x: i8, y: i8, z: i8>
+%s:2 = hw.struct_explode %p : !hw.struct<x: i8, y: i8, z: i8>
+%s:5 = hw.struct_explode %p : !hw.struct<x: i8, y: i8, z: i8>
+%s:0 = hw.struct_explode %p : !hw.struct<x: i8, y: i8, z: i8>
+%s:4 = comb.add %p, %p : i8
+";
+
 // the body of at most so many operations that a text begins with, behind one port `p`
 fn body_of(alloc: Global, text: &[u8], most: usize) -> Result<Body, AllocError> {
     let mut names = Names::with_room(alloc, 0)?;
@@ -108,6 +116,38 @@ fn a_number_counts_within_a_pack(rt: HostRuntime) -> Result<(), Fail> {
         ),
     ] {
         assert!(rt; is_used_at(&body, value, places));
+    }
+    Ok(())
+}
+
+// whether the results of an operation have these marks
+fn are_marked(body: &Body, op: u32, marks: &[bool]) -> bool {
+    let id = OpId::nth(op);
+    if !body.contains(id) {
+        return false;
+    }
+    let mut left = marks;
+    for one in body.op(id).results.as_slice() {
+        match left.split_first() {
+            Some((first, others)) if *first == one.again => left = others,
+            Some(_) | None => return false,
+        }
+    }
+    left.is_empty()
+}
+
+#[test]
+fn each_result_of_a_pack_has_its_mark(rt: HostRuntime) -> Result<(), Fail> {
+    let body = body_of(rt.alloc(), PACKS_AGAIN, 9)?;
+    assert_eq!(rt; body.op_count(), 5);
+    for (op, marks) in [
+        (0, [false, false, false].as_slice()),
+        (1, [true, true, false].as_slice()),
+        (2, [true, true, true].as_slice()),
+        (3, [false, false, false].as_slice()),
+        (4, [true].as_slice()),
+    ] {
+        assert!(rt; are_marked(&body, op, marks));
     }
     Ok(())
 }
