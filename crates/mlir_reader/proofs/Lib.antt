@@ -25,6 +25,7 @@ mod BodySteps
 mod BodyTexts
 mod Constants
 pub mod Defining
+pub mod Unfound
 mod Drafting
 mod KeyOrder
 mod Modules

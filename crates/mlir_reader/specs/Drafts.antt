@@ -1,11 +1,12 @@
 -- A body whose operations are read one by one, and put into it once the names of their operands stand for something.
-use Rattle.std.specs.Prelude.{◌≡◌, ◌+◌, ◌<◌, ◌^◌, true, List, ◌++◌, length, map, is_some}
+use Rattle.std.specs.Prelude.{◌≡◌, ℕ, suc, ◌+◌, ◌<◌, ◌^◌, true, cond, List, [], ◌∷◌, ◌++◌, length, map, is_some}
 use Rattle.hw_model.specs.Types.{Name}
 use Rattle.hw_model.specs.Design.{Op}
 use Rattle.ir_store.specs.Bodies.{ops_of, ids_of, gaps}
 use Rattle.ir_store.specs.Numbered.{op_by}
 use Rattle.ir_store.specs.declared.body.Body.{Body}
 use Rattle.mlir_reader.specs.Meanings.{meanings_of, op_of, numbers_below}
+use Rattle.mlir_reader.specs.OperandText.{OperandName}
 use Rattle.mlir_reader.specs.OperationText.{OperationText}
 use Rattle.mlir_reader.specs.Resolving.{Meanings, resolved, with_definitions, body_definitions, operations_from}
 use Rattle.mlir_reader.specs.Views.{operand_of}
@@ -15,6 +16,11 @@ use Rattle.mlir_reader.specs.declared.draft.DraftOperation.{DraftOperation}
 -- an operation whose operands are names, where names stand for this
 abbrev pub drafted : Meanings → DraftOperation → Op
 drafted means d = record (op_of d.operation) { operands = map (resolved means) (map operand_of d.operands.items) }
+
+-- how many operands stand in front of the first whose name stands for nothing
+abbrev pub found_count : Meanings → List OperandName → ℕ
+found_count means [] = 0
+found_count means (o ∷ os) = cond (is_some (means o.name)) (suc (found_count means os)) 0
 
 -- what stands for something stands for the same later
 abbrev pub Keeps : Meanings → Meanings → Type 0

@@ -1,9 +1,9 @@
 //! The body of a module while its text is read.
-ghost use Rattle.std.specs.Prelude.{◌≡◌, ◌∷◌, ◌++◌, [], length, map, IfOk, IfSome, OnOk};
+ghost use Rattle.std.specs.Prelude.{◌≡◌, ◌≤◌, ◌+◌, ◌∷◌, ◌++◌, [], drop, length, map, IfOk, IfSome, OnOk};
 ghost use Rattle.hw_model.specs.Design.{Op};
 ghost use Rattle.ir_store.specs.Bodies.{ops_of, gaps};
 ghost use Rattle.ir_store.specs.Numbered.{ref_by, op_by};
-ghost use Rattle.mlir_reader.specs.Drafts.{drafted};
+ghost use Rattle.mlir_reader.specs.Drafts.{drafted, found_count};
 ghost use Rattle.mlir_reader.specs.Held.{IsNumbered, IsSettled, AreSettled, with_operands};
 ghost use Rattle.mlir_reader.specs.Marked.{operation_marked};
 ghost use Rattle.mlir_reader.specs.Meanings.{meanings_of, op_of, HasFewNames};
@@ -287,7 +287,9 @@ fn give_back(waiting: &mut VecDeque<DraftOperation<'_>>)
 }
 
 // Where, from a place on, the first operand stands whose name stands for nothing, or how many operands there are.
-fn first_unfound(names: &Names<'_>, operands: &[OperandName<'_>], from: usize) -> usize {
+fn first_unfound(names: &Names<'_>, operands: &[OperandName<'_>], from: usize) -> usize
+    ensures { from ≤ length operands.now → result ≡ from + found_count (meanings_of names.now) (drop from (map operand_of operands.now)) }
+{
     for place in from..operands.len() {
         if names.find(operands[place].name).is_none() {
             return place;

@@ -16,6 +16,9 @@ use diag::refusal::OpName;
 use ir_store::design::Design;
 use mlir_lexer::token::TokenKind;
 
+// How many operations the first body will likely have.
+const FIRST_LIKELY: u32 = 8;
+
 /// Where the modules of a file end.
 #[derive(Clone, Copy, Debug)]
 pub enum Ends {
@@ -118,14 +121,18 @@ impl<'s> Reader<'s> {
         }
     }
 
-    // Modules up to where they end, put behind those of a design.
+    // Modules up to where they end, put behind those of a design. Each will likely have as many operations as the one before.
     fn modules_text(&mut self, ends: Ends, design: &mut Design) -> Result<(), ReadFail>
         ensures gives { ReadsAs (λ (_ : Unit {0}). design_of design.new) result self.new (designs_behind (design_of design.old) (modules_text (ends_of ends) (length self.old) self.old)) }
         ensures shorter { OnOk result (length self.new ≤ length self.old) }
     {
+        let mut likely = FIRST_LIKELY;
         while !self.ends(ends) {
-            match self.module_text() {
-                Ok(module) => put_module(design, module)?,
+            match self.module_text(likely) {
+                Ok(module) => {
+                    likely = u32::try_from(module.body.op_count()).unwrap_or(u32::MAX);
+                    put_module(design, module)?;
+                }
                 Err(fail) => return Err(fail),
             }
         }

@@ -39,16 +39,18 @@ pub struct BodyText {
 }
 
 impl<'s> Reader<'s> {
-    /// A module, whose names are resolved.
+    /// A module, whose names are resolved. It will likely have so many operations, for which room is made.
     ///
     /// Refuses the first token that no module has there.
     #[tactic(auto, unfolding(crate::specs::ModuleText::module_text))]
-    pub fn module_text(&mut self) -> Result<Module, ReadFail>
+    pub fn module_text(&mut self, likely: u32) -> Result<Module, ReadFail>
         ensures gives { ReadsFor IsModule result self.new (module_text self.old) }
         ensures shorter { OnOk result (length self.new < length self.old) }
     {
         match self.first() {
-            Some(token) if is_kind(token.kind, TokenKind::BareName) => self.classed_module(token),
+            Some(token) if is_kind(token.kind, TokenKind::BareName) => self.classed_module(
+                token, likely,
+            ),
             Some(_) => Err(ReadFail::Refused(self.no_operation(OpName::File))),
             None => Err(ReadFail::Refused(self.no_operation(OpName::File))),
         }
@@ -56,7 +58,7 @@ impl<'s> Reader<'s> {
 
     // A module whose name is the first token.
     #[tactic(auto, unfolding(crate::specs::ModuleText::classed_module))]
-    fn classed_module(&mut self, token: Token<'s>) -> Result<Module, ReadFail>
+    fn classed_module(&mut self, token: Token<'s>, likely: u32) -> Result<Module, ReadFail>
         requires { Some (lexeme_of token) ≡ first self.old }
         ensures gives { ReadsFor IsModule result self.new (classed_module self.old (lexeme_of token.entry) (class_of token.entry.text.now)) }
         ensures shorter { OnOk result (length self.new < length self.old) }
@@ -64,7 +66,7 @@ impl<'s> Reader<'s> {
         match class_of(token.text) {
             NameClass::Module => {
                 self.advance();
-                self.module_behind(token.place)
+                self.module_behind(token.place, likely)
             }
             NameClass::Operation(name) => {
                 let class = NameClass::Operation(name);
@@ -86,7 +88,7 @@ impl<'s> Reader<'s> {
     }
 
     // A module behind its name.
-    fn module_behind(&mut self, place: Place) -> Result<Module, ReadFail>
+    fn module_behind(&mut self, place: Place, likely: u32) -> Result<Module, ReadFail>
         ensures gives { ReadsFor IsModule result self.new (module_behind place self.old) }
         ensures shorter { OnOk result (length self.new ≤ length self.old) }
     {
@@ -94,7 +96,7 @@ impl<'s> Reader<'s> {
         let symbol = self.module_symbol(HEADER)?;
         let ports = self.ports_text()?;
         let ports = named_ports(self.alloc(), ports)?;
-        let body = self.body_text(ports.names)?;
+        let body = self.body_text(ports.names, likely)?;
         let head = ModuleHead {
             symbol,
             private,
@@ -115,13 +117,13 @@ impl<'s> Reader<'s> {
     }
 
     // `[attributes {..}] { OPERATIONS }` behind ports whose names stand for something.
-    fn body_text(&mut self, names: Names<'s>) -> Result<BodyText, ReadFail>
+    fn body_text(&mut self, names: Names<'s>, likely: u32) -> Result<BodyText, ReadFail>
         ensures gives { ReadsFor (IsBodyText (meanings_of names.entry)) result self.new (body_text self.old) }
         ensures shorter { OnOk result (length self.new ≤ length self.old) }
     {
         let dictionary = self.header_attributes(HEADER)?;
         self.want(HEADER, TokenKind::LeftBrace)?;
-        let operations = self.operations_text(names)?;
+        let operations = self.operations_text(names, likely)?;
         let close = self.want(HEADER, TokenKind::RightBrace)?;
         Ok(BodyText {
             dictionary,

@@ -63,14 +63,14 @@ impl<'s> Gathered<'s> {
 
 impl<'s> Reader<'s> {
     /// Operations up to the closing brace, which is left, behind ports whose names stand for something. `hw.output` is the
-    /// last.
+    /// last. There will likely be so many, for which room is made.
     ///
     /// Refuses the first token that no operation has there.
-    pub fn operations_text(&mut self, names: Names<'s>) -> Result<Operations, ReadFail>
+    pub fn operations_text(&mut self, names: Names<'s>, likely: u32) -> Result<Operations, ReadFail>
         ensures gives { ReadsFor (AreOperations (meanings_of names.entry)) result self.new (operations_text (length self.old) self.old) }
         ensures shorter { OnOk result (length self.new ≤ length self.old) }
     {
-        let mut draft = Draft::new(self.alloc(), names, self.likely());
+        let mut draft = Draft::new(self.alloc(), names, likely);
         let mut ends = false;
         while !self.is_next(TokenKind::RightBrace) {
             let operation = match self.operation_text() {
@@ -84,7 +84,6 @@ impl<'s> Reader<'s> {
             draft.add(self.alloc(), operation)?;
         }
         let body = draft.finish(self.alloc())?;
-        self.expect(u32::try_from(body.op_count()).unwrap_or(u32::MAX));
         Ok(Operations { body, ends })
     }
 

@@ -19,9 +19,6 @@ use mlir_lexer::tokens::Tokens;
 use std::alloc::Global;
 use std::marker::Model;
 
-// How many operations the first body will likely have.
-const FIRST_LIKELY: u32 = 8;
-
 /// A text that is being read, of which the first token that is left is seen. Contracts see it as the
 /// tokens that are left. It takes no memory.
 #[derive(Drop)]
@@ -29,8 +26,6 @@ pub struct Reader<'s> {
     alloc: Global,
     tokens: Tokens<'s>,
     head: Head<'s>,
-    // How many operations the next body will likely have: as many as the one before.
-    likely: u32,
 }
 
 impl<'s> Model for Reader<'s> {
@@ -55,20 +50,7 @@ impl<'s> Reader<'s> {
             alloc,
             tokens,
             head,
-            likely: FIRST_LIKELY,
         }
-    }
-
-    /// How many operations the next body will likely have.
-    pub fn likely(&self) -> u32 {
-        self.likely
-    }
-
-    /// Says how many operations the next body will likely have. Nothing is read.
-    pub fn expect(&mut self, likely: u32)
-        ensures { self.new ≡ self.old }
-    {
-        self.likely = likely;
     }
 
     /// Where memory is taken from.

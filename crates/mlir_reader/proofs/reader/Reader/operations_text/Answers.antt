@@ -56,6 +56,5 @@ loop-self-preserved c =
 pub returns-clause-gives : goal.returns-clause-gives
 returns-clause-gives c =
     let l = c.loop-self in
-    rw c.expect.ensures
-    (all_read (record { body = c.in_ok-body.body; ends = l.ends }) l.invariant.standing (sym c.is_next.ensures ∙ c.loop-self-test.false)
-    (c.in_ok-body.ensures (meanings_of c.args.names) l.invariant.got l.invariant.drafts) l.invariant.ends)
+    all_read (record { body = c.in_ok-body.body; ends = l.ends }) l.invariant.standing (sym c.is_next.ensures ∙ c.loop-self-test.false)
+    (c.in_ok-body.ensures (meanings_of c.args.names) l.invariant.got l.invariant.drafts) l.invariant.ends

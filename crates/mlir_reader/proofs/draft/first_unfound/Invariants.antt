@@ -1,0 +1,10 @@
+use Rattle.std.proofs.Common.{◌≡◌, ◌+◌, map, drop}
+use Rattle.mlir_reader.specs.Drafts.{found_count}
+use Rattle.mlir_reader.specs.Meanings.{meanings_of}
+use Rattle.mlir_reader.specs.Views.{operand_of}
+use Rattle.mlir_reader.proofs.draft.first_unfound.Given as goal
+
+abbrev pub invariant-loop-place : goal.invariant-loop-place
+invariant-loop-place l =
+    l.from + found_count (meanings_of l.names) (drop l.from (map operand_of l.operands))
+    ≡ l.place + found_count (meanings_of l.names) (drop l.place (map operand_of l.operands))
