@@ -80,14 +80,16 @@ marked_none (t ∷ ts) (suc n) h = ap (λ l. settled_result t ∷ l) (marked_non
 -- names have one mark each, and a pack no more than the operation has results
 marks_listed : (i k : ℕ) (ns : List Name) → marks_in (names_from i k ns) ≡ length (names_from i k ns)
 marks_listed i k [] = refl
-marks_listed i k (n ∷ ns) = ap suc (marks_listed i (k + 1) ns)
+marks_listed i k (n ∷ ns) =
+    let rest : marks_in (names_from i (k + 1) ns) ≡ length (names_from i (k + 1) ns) = marks_listed i (k + 1) ns in
+    omega arith
 
 marks_few : (i own : ℕ) (rs : ResultNames) → marks_in (names_defined i own rs) ≤ max (length (names_defined i own rs)) own
 marks_few i own no_names = omega arith
 marks_few i own (names n ns) = omega (arith, marks_listed i 0 (n ∷ ns))
 marks_few i own (pack n k) = go (k == 0)
   where
-    go : (b : Bool) → marks_in (cond b [] (record { name = n; defined = are_results i 0 (min k own) } ∷ [])) ≤ max (length (cond b [] (record { name = n; defined = are_results i 0 (min k own) } ∷ []))) own
+    go : (b : Bool) → marks_in (cond b [] (record { name = n; defined = are_results i 0 (min k own) } ∷ [])) ≤ max (length {A = Definition} (cond b [] (record { name = n; defined = are_results i 0 (min k own) } ∷ []))) own
     go true = omega arith
     go false = omega arith
 
