@@ -83,7 +83,8 @@ fn summary_of(
 }
 
 /// Of each value of a body the numbers of the inputs that it depends on or is: from each value on, or where they are many
-/// by rows of bits, so that the body is gone over once for each of them, or for each 64 inputs.
+/// by rows of bits, so that the body is gone over once for each of them, or for each 64 inputs. A body with a cycle, which has
+/// no order, is gone over from each value on, since rows might change in as many passes as it has nodes.
 fn lists_of_outputs(
     alloc: Global,
     body: &Body,
@@ -100,16 +101,18 @@ fn lists_of_outputs(
     if are_few(values.len(), inputs.len()) {
         return output_lists(alloc, graph, &wired.layout, inputs, values);
     }
-    let guess = if are_in_order(body, wired.ids.as_slice()) {
-        Vec::new(alloc)
-    } else {
-        likely_order(alloc, graph)?
-    };
+    if are_in_order(body, wired.ids.as_slice()) {
+        return row_lists(alloc, graph, &wired.layout, &[], inputs, values);
+    }
+    let order = likely_order(alloc, graph)?;
+    if order.len() < graph.len() {
+        return output_lists(alloc, graph, &wired.layout, inputs, values);
+    }
     row_lists(
         alloc,
         graph,
         &wired.layout,
-        guess.as_slice(),
+        order.as_slice(),
         inputs,
         values,
     )
