@@ -5,6 +5,8 @@
     reader_texts.py modules [COUNT]          modules of eight operations each, 10,000 by default
     reader_texts.py chain [COUNT]            one module in which each operation uses the one before it, 100,000 by default
     reader_texts.py shared [COUNT]           one module in which each operation uses the same value, 100,000 by default
+    reader_texts.py outputs [COUNT]          a chain of which each operation is an output, instanced once, 16,000 by default
+    reader_texts.py wide [COUNT]             so many inputs and outputs, each output of two inputs, instanced once, 16,000 by default
 """
 import sys
 
@@ -59,6 +61,31 @@ def shared(count, write):
     write(f"  hw.output %{count - 1} : i32\n}}\n")
 
 
+def instanced(count, inputs, operation, write):
+    """A module of operations of which each is an output, and a module that instances it once."""
+    ports = ", ".join(f"in %a{i} : i8" for i in range(inputs))
+    outputs = ", ".join(f"out o{i} : i8" for i in range(count))
+    write(f"hw.module private @N({ports}, {outputs}) {{\n")
+    for i in range(count):
+        write(f"  %{i} = comb.sub {operation(i)} : i8\n")
+    values = ", ".join(f"%{i}" for i in range(count))
+    write(f"  hw.output {values} : {', '.join(['i8'] * count)}\n}}\n")
+    operands = ", ".join(f"a{i}: %a{i}: i8" for i in range(inputs))
+    results = ", ".join(f"o{i}: i8" for i in range(count))
+    write(f"hw.module @T({ports}, out o : i8) {{\n")
+    write(f'  %u:{count} = hw.instance "u" @N({operands}) -> ({results})\n  hw.output %u#0 : i8\n}}\n')
+
+
+def outputs(count, write):
+    """A chain of operations of which each is an output, of one input."""
+    instanced(count, 1, lambda i: f"%{i - 1}, %a0" if i else "%a0, %a0", write)
+
+
+def wide(count, write):
+    """As many inputs as outputs, each output of an input and the next one."""
+    instanced(count, count, lambda i: f"%a{i}, %a{(i + 1) % count}", write)
+
+
 def main():
     """Writes the text that the words name."""
     write = sys.stdout.write
@@ -70,6 +97,10 @@ def main():
         chain(int(sys.argv[2]) if len(sys.argv) > 2 else 100000, write)
     elif len(sys.argv) > 1 and sys.argv[1] == "shared":
         shared(int(sys.argv[2]) if len(sys.argv) > 2 else 100000, write)
+    elif len(sys.argv) > 1 and sys.argv[1] == "outputs":
+        outputs(int(sys.argv[2]) if len(sys.argv) > 2 else 16000, write)
+    elif len(sys.argv) > 1 and sys.argv[1] == "wide":
+        wide(int(sys.argv[2]) if len(sys.argv) > 2 else 16000, write)
     else:
         sys.exit(__doc__)
 
