@@ -71,3 +71,4 @@ pub mod SameModules
 pub mod ModuleParts
 pub mod StoredModules
 pub mod AcceptedBodies
+pub mod Marks

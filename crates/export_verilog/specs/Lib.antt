@@ -21,3 +21,4 @@ pub mod NamedDesigns
 pub mod PortValues
 pub mod ModuleTexts
 pub mod WritableDesigns
+pub mod Called

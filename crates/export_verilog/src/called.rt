@@ -1,19 +1,35 @@
-//! Which modules of a design instances call. It is a guess that saves work: no contract rests on it.
+//! Which modules of a design instances call: those are the modules whose ports are named beforehand. Naming is right
+//! whatever the marks are.
+ghost use Rattle.std.specs.Prelude.{◌≡◌, [], ◌∷◌, map, option_to_list, IfOk, OnOk};
+ghost use Rattle.hw_model.specs.Design.{instance_in};
+ghost use Rattle.hw_model.specs.KindViews.{kind_of};
+ghost use Rattle.hw_model.specs.Hierarchy.{called};
+ghost use Rattle.ir_store.specs.Bodies.{ops_of};
+ghost use Rattle.ir_store.specs.Numbered.{numbered};
+ghost use Rattle.ir_store.specs.Designs.{design_of, modules_of};
+ghost use Rattle.design_cycles.specs.Calls.{call_lists, callee_number, numbers_of};
+ghost use Rattle.design_cycles.specs.Graphs.{marked, AreCalled};
+ghost use Rattle.export_verilog.specs.Called.{with_marks};
+
 use design_cycles::{ids_in, op_at};
 use hw_model::kinds::OpKind;
 use ir_store::body::Body;
 use ir_store::design::Design;
 use std::alloc::{AllocError, Global};
 
-// Marks a module by its number.
-fn mark(marks: &mut Vec<bool>, number: usize) {
+// Marks a module by its number, where there is one.
+fn mark(marks: &mut Vec<bool>, number: usize)
+    ensures { marks.new.items ≡ with_marks (number ∷ []) marks.old.items }
+{
     if number < marks.len() {
         marks[number] = true;
     }
 }
 
 // Marks the module that an operation of a kind calls.
-fn mark_called(design: &Design, kind: &OpKind, marks: &mut Vec<bool>) {
+fn mark_called(design: &Design, kind: &OpKind, marks: &mut Vec<bool>)
+    ensures { marks.new.items ≡ with_marks (option_to_list (callee_number (map (λ m. m.symbol) (modules_of design.now)) (instance_in (kind_of kind.now)))) marks.old.items }
+{
     if let OpKind::Instance(instance) = kind {
         if let Some(number) = design.find(instance.symbol.as_bytes()) {
             mark(marks, number as usize);
@@ -27,7 +43,9 @@ fn mark_body(
     design: &Design,
     body: &Body,
     marks: &mut Vec<bool>,
-) -> Result<(), AllocError> {
+) -> Result<(), AllocError>
+    ensures { OnOk result (marks.new.items ≡ with_marks (numbers_of (map (λ m. m.symbol) (modules_of design.now)) (called (numbered (ops_of body.now)))) marks.old.items) }
+{
     let ids = ids_in(alloc, body)?;
     for place in 0..ids.len() {
         mark_called(design, op_at(body, ids.as_slice(), place).kind, marks);
@@ -35,8 +53,11 @@ fn mark_body(
     Ok(())
 }
 
-/// Of each module of a design whether an instance calls it. The error comes only for want of memory.
-pub fn called_modules(alloc: Global, design: &Design) -> Result<Vec<bool>, AllocError> {
+/// Of each module of a design, in order, whether an instance of some module calls it. Of modules with the same symbol the
+/// first is called. The error comes only for want of memory.
+pub fn called_modules(alloc: Global, design: &Design) -> Result<Vec<bool>, AllocError>
+    ensures { IfOk result (λ marks. AreCalled (call_lists (design_of design.now)) marks.items) }
+{
     let mut marks = vec![in alloc; false; design.module_count() as usize]?;
     for number in 0..design.module_count() {
         mark_body(alloc, design, &design.module(number).body, &mut marks)?;
@@ -45,7 +66,9 @@ pub fn called_modules(alloc: Global, design: &Design) -> Result<Vec<bool>, Alloc
 }
 
 /// Whether a module is marked.
-pub fn is_marked(marks: &[bool], number: u32) -> bool {
+pub fn is_marked(marks: &[bool], number: u32) -> bool
+    ensures { result ≡ marked marks.now number }
+{
     match marks.get(number as usize) {
         Some(marked) => *marked,
         None => false,
