@@ -11,3 +11,8 @@ pub mod Lessons
 pub mod Laws
 pub mod Counting
 pub mod Keeping
+pub mod Rows
+pub mod Tables
+pub mod Covering
+pub mod Visiting
+pub mod Adding

@@ -12,3 +12,6 @@ pub mod Proof
 pub mod Activity
 pub mod Search
 pub mod Answer
+pub mod Watching
+pub mod Table
+pub mod Watcher

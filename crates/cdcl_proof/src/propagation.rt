@@ -80,7 +80,7 @@ fn pass_over(store: &Store, trail: &mut Trail) -> Result<Pass, AllocError>
     Ok(if moved { Pass::Moved } else { Pass::Quiet })
 }
 
-fn state_of(trail: &Trail, clause: &[Literal]) -> State
+pub(crate) fn state_of(trail: &Trail, clause: &[Literal]) -> State
     requires { is_within trail.now.variables clause.now ≡ true }
     ensures { IsState (literals trail.now.entries) clause.now result }
 {
