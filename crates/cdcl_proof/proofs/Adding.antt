@@ -1,18 +1,21 @@
 -- A clause that is added while literals are held.
-use Rattle.std.proofs.Common.{◌≡◌, ◌≢◌, ℕ, zero, suc, ◌+◌, ◌-◌, ◌<◌, ◌≤◌, Bool, true, false, not, List, [], ◌∷◌, ◌++◌, length, get_or, take, drop, refl, sym, ◌∙◌, ap, subst, inl, inr, ◌⊎◌, arith}
-use Rattle.std.proofs.lemmas.List.{get_or_append_left, get_or-take, get_or-drop, length-drop, length-take-le, length_push, take-append-le, take_at, get_or_push}
-use Rattle.std.proofs.lemmas.Bool.{false≢true, cases_eq, both_ways, not-true}
+use Rattle.std.proofs.Common.{◌≡◌, ◌≢◌, ℕ, zero, suc, ◌+◌, ◌-◌, ◌<◌, ◌≤◌, Bool, true, false, not, List, [], ◌∷◌, ◌++◌, length, get_or, take, drop, refl, sym, ◌∙◌, ap, subst, inl, inr, ◌⊎◌, arith, Option, MatchOption}
+use Rattle.std.proofs.lemmas.List.{get_or_append_left, get_or-take, get_or-drop, length-drop, length-take-le, length_push, take-append-le, take_at, take-take, get_or_push}
+use Rattle.std.proofs.lemmas.Bool.{true≢false, false≢true, cases_eq, both_ways, not-true}
 use Rattle.cdcl_proof.specs.declared.literal.Literal.{Literal}
 use Rattle.cdcl_proof.specs.declared.trail.Entry.{Entry}
 use Rattle.cdcl_proof.specs.Literal.{negation, holds, mentions}
-use Rattle.cdcl_proof.specs.Fresh.{is_free}
+use Rattle.cdcl_proof.specs.Fresh.{is_free, is_closed, is_empty}
 use Rattle.cdcl_proof.specs.Replay.{is_number, clause_at}
-use Rattle.cdcl_proof.proofs.Sound.{is_number_at}
-use Rattle.cdcl_proof.specs.Trail.{literals, entry_at, no_entry, AreApart, is_after}
-use Rattle.cdcl_proof.specs.Watching.{AreShort, AreMarks, IsCovered, AreCovered, is_satisfied, row_at, literal_at}
+use Rattle.cdcl_proof.proofs.Sound.{is_number_at, clause_within}
+use Rattle.cdcl_proof.specs.Clause.{is_among}
+use Rattle.cdcl_proof.specs.Formula.{are_clauses}
+use Rattle.cdcl_proof.specs.Trail.{literals, entry_at, no_entry, AreApart, IsSound, Stands, Implies, is_after}
+use Rattle.cdcl_proof.specs.Watching.{Propagates, AreShort, AreMarks, IsCovered, AreCovered, is_satisfied, row_at, literal_at}
 use Rattle.cdcl_proof.specs.Watcher.{IsProgress}
-use Rattle.cdcl_proof.proofs.Sets.{any_from, mentions_from}
+use Rattle.cdcl_proof.proofs.Sets.{all_at, any_from, mentions_from}
 use Rattle.cdcl_proof.proofs.Entries.{entry_of_mentions}
+use Rattle.cdcl_proof.proofs.Resolution.{cases_le}
 use Rattle.cdcl_proof.proofs.Lessons.{free_before}
 use Rattle.cdcl_proof.proofs.Rows.{holds_at}
 use Rattle.cdcl_proof.proofs.Tables.{same_push}
@@ -109,3 +112,24 @@ clause_last old new c n e is =
     let len = ap length e in
     let m = length_push old c in
     ap (λ (x : List (List Literal)). get_or x (n - 1) []) e ∙ get_or_push old c [] (n - 1) (omega (arith, is, len, m))
+
+-- a sound trail stays so when propagation adds to it
+pub sound_propagates : (variables : ℕ) (known : List (List Literal)) (old new : List Entry) → are_clauses variables known ≡ true → IsSound variables known old → Propagates known old new → IsSound variables known new
+sound_propagates variables known old new clauses sound p k l =
+    elim (cases_le (length old) k) as (λ _. Stands variables known (take k new) (entry_at new k)) [
+      | inl late ↦
+          let i = p.implied k late l in
+          record {
+            among = all_at (is_among variables) (clause_at known i.0) (entry_at new k).literal (clause_within variables known i.0 clauses) i.2.within;
+            free = p.free k late l;
+            why = subst (λ (o : Option ℕ). MatchOption o (is_closed (literals (take k new)) known ≡ true) (λ n. Implies known n (literals (take k new)) (entry_at new k).literal)) (sym i.1) i.2;
+          }
+      | inr early ↦
+          let at : entry_at old k ≡ entry_at new k = ap (λ (x : List Entry). entry_at x k) (sym p.kept) ∙ get_or-take (length old) new k no_entry early in
+          let front : take k old ≡ take k new = ap (take k) (sym p.kept) ∙ take-take k (length old) new (omega (arith, early)) in
+          rw (← at, ← front) (sound k early)
+    ]
+
+pub not_empty : (c : List Literal) → is_empty c ≡ false → 0 < length c
+not_empty [] h = absurd (true≢false h)
+not_empty (x ∷ xs) h = omega arith

@@ -150,16 +150,20 @@ progress_push rows short es e head marks settled base p = record {
 
 -- what propagation adds
 pub propagates_none : (clauses : List (List Literal)) (es : List Entry) → Propagates clauses es es
-propagates_none clauses es = record { longer = omega arith; kept = take_all (length es) es (omega arith); implied = λ k low l. absurd (omega (arith, low, l)) }
+propagates_none clauses es = record { longer = omega arith; kept = take_all (length es) es (omega arith); implied = λ k low l. absurd (omega (arith, low, l)); free = λ k low l. absurd (omega (arith, low, l)) }
 
-pub propagates_push : (clauses : List (List Literal)) (es : List Entry) (e : Entry) (n : ℕ) → e.reason ≡ Some n → Implies clauses n (literals es) e.literal → Propagates clauses es (es ++ e ∷ [])
-propagates_push clauses es e n reason implies = record {
+pub propagates_push : (clauses : List (List Literal)) (es : List Entry) (e : Entry) (n : ℕ) → e.reason ≡ Some n → Implies clauses n (literals es) e.literal → is_free (literals es) e.literal ≡ true → Propagates clauses es (es ++ e ∷ [])
+propagates_push clauses es e n reason implies free = record {
   longer = let m = length_push es e in omega (arith, m);
   kept = take_at es (e ∷ []) (length es) refl;
   implied = λ k low l.
       let m = length_push es e in
       let at : k ≡ length es = omega (arith, m, low, l) in
       rw (take_at es (e ∷ []) k (sym at), entry_at-push_new es e k at) (n, reason, implies);
+  free = λ k low l.
+      let m = length_push es e in
+      let at : k ≡ length es = omega (arith, m, low, l) in
+      rw (take_at es (e ∷ []) k (sym at), entry_at-push_new es e k at) free;
 }
 
 pub propagates_then : (clauses : List (List Literal)) (a b c : List Entry) → Propagates clauses a b → Propagates clauses b c → Propagates clauses a c
@@ -172,6 +176,13 @@ propagates_then clauses a b c p q = record {
         let at : entry_at b k ≡ entry_at c k = ap (λ (x : List Entry). entry_at x k) (sym q.kept) ∙ get_or-take (length b) c k no_entry early in
         let front : take k b ≡ take k c = ap (take k) (sym q.kept) ∙ take-take k (length b) c (omega (arith, early)) in
         rw (← at, ← front) (p.implied k low early)
+  ];
+  free = λ k low l. elim (cases_le (length b) k) as (λ _. is_free (literals (take k c)) (entry_at c k).literal ≡ true) [
+    | inl late ↦ q.free k late l
+    | inr early ↦
+        let at : entry_at b k ≡ entry_at c k = ap (λ (x : List Entry). entry_at x k) (sym q.kept) ∙ get_or-take (length b) c k no_entry early in
+        let front : take k b ≡ take k c = ap (take k) (sym q.kept) ∙ take-take k (length b) c (omega (arith, early)) in
+        rw (← at, ← front) (p.free k low early)
   ];
 }
 

@@ -1,5 +1,5 @@
 -- What conflict analysis keeps while it resolves.
-use Rattle.std.specs.Prelude.{ℕ, zero, suc, Bool, true, false, ◌≡◌, ◌<◌, ◌≤◌, ◌||◌, ◌&&◌, ◌==◌, ◌++◌, ◌∷◌, not, List, [], length, take, drop}
+use Rattle.std.specs.Prelude.{ℕ, zero, suc, Bool, true, false, ◌≡◌, ◌<◌, ◌≤◌, ◌||◌, ◌&&◌, ◌==◌, ◌++◌, ◌∷◌, ◌-◌, not, List, [], length, take, drop}
 use Rattle.cdcl_proof.specs.declared.literal.Literal.{Literal}
 use Rattle.cdcl_proof.specs.declared.log.Hint.{Hint}
 use Rattle.cdcl_proof.specs.declared.log.Step.{Step}
@@ -7,7 +7,8 @@ use Rattle.cdcl_proof.specs.declared.trail.Entry.{Entry}
 use Rattle.cdcl_proof.specs.Literal.{mentions}
 use Rattle.cdcl_proof.specs.Clause.{is_clause}
 use Rattle.cdcl_proof.specs.Replay.{names_chain, chain_of, derives}
-use Rattle.cdcl_proof.specs.Fresh.{IsFresh, is_closed, is_empty}
+use Rattle.cdcl_proof.specs.Fresh.{IsFresh, is_closed, is_empty, is_free, is_unit}
+use Rattle.cdcl_proof.specs.Watching.{literal_at}
 use Rattle.cdcl_proof.specs.Trail.{literals, entry_at, IsSound}
 use Rattle.cdcl_proof.specs.Learning.{is_seen, is_seen_entry, count_seen, Represents}
 
@@ -43,6 +44,8 @@ pub record IsLesson (variables : ℕ) (known : List (List Literal)) (es : List E
   pub full : is_empty step.clause ≡ false
   pub short : place ≤ length es
   pub sound : IsSound variables (known ++ step.clause ∷ []) (take place es)
+  pub free : is_free (literals (take place es)) (literal_at step.clause (length step.clause - 1)) ≡ true
+  pub others : is_unit (literals (take place es)) (literal_at step.clause (length step.clause - 1)) step.clause ≡ true
 
 -- the analysis with the entries from the place on done: `count` literals from the floor on are left
 pub record IsAnalysis (variables : ℕ) (known : List (List Literal)) (es : List Entry) (floor keep place count : ℕ) (hints : List Hint) (seen : List Bool) : Type 0 where

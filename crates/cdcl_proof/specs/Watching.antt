@@ -6,6 +6,7 @@ use Rattle.cdcl_proof.specs.declared.literal.Literal.{Literal}
 use Rattle.cdcl_proof.specs.declared.row.Watch.{Watch}
 use Rattle.cdcl_proof.specs.declared.trail.Entry.{Entry}
 use Rattle.cdcl_proof.specs.Literal.{negation, holds, slot_of}
+use Rattle.cdcl_proof.specs.Fresh.{is_free}
 use Rattle.cdcl_proof.specs.Trail.{literals, entry_at, Implies}
 
 -- clauses, numbered from 1, and the literals held with their reasons, in order
@@ -100,6 +101,7 @@ pub record Propagates (clauses : List (List Literal)) (old new : List Entry) : T
   pub longer : length old ≤ length new
   pub kept : take (length old) new ≡ old
   pub implied : (k : ℕ) → length old ≤ k → k < length new → (n : ℕ) × ((entry_at new k).reason ≡ Some n) × Implies clauses n (literals (take k new)) (entry_at new k).literal
+  pub free : (k : ℕ) → length old ≤ k → k < length new → is_free (literals (take k new)) (entry_at new k).literal ≡ true
 
 -- the first watches of a list are of clauses that the set satisfies
 abbrev pub AreVisited : List Literal → List (List Literal) → List Watch → ℕ → Type 0

@@ -11,13 +11,13 @@ ghost use Rattle.cdcl_proof.specs.Search.{IsSearching, IsBest};
 
 use crate::activity::Activity;
 use crate::assignment::Assignment;
+use crate::clause::Clause;
 use crate::cnf::Cnf;
 use crate::learning::{learn, refute};
 use crate::literal::Literal;
 use crate::log::{Log, Step};
-use crate::propagation::propagate;
 use crate::store::Store;
-use crate::trail::{Entry, Trail};
+use crate::watched::Watched;
 use std::alloc::{AllocError, Global};
 
 /// What the solver found of a formula.
@@ -41,7 +41,7 @@ pub fn solve(alloc: Global, cnf: &Cnf, budget: u64) -> Result<Answer, AllocError
     let mut search = Search::new(alloc, cnf)?;
     loop {
         match search.propagate()? {
-            Some(conflict) => match search.trail.last_decision() {
+            Some(conflict) => match search.watched.trail().last_decision() {
                 Some(floor) => {
                     search.meet_conflict(alloc, conflict, floor)?;
                     if search.store.learnt_count() == budget {
@@ -54,7 +54,7 @@ pub fn solve(alloc: Global, cnf: &Cnf, budget: u64) -> Result<Answer, AllocError
                 }
             },
             None => match search.most_active() {
-                Some(variable) => search.decide(variable)?,
+                Some(variable) => search.decide(variable),
                 None => return search.satisfied(alloc),
             },
         }
@@ -66,7 +66,7 @@ pub fn solve(alloc: Global, cnf: &Cnf, budget: u64) -> Result<Answer, AllocError
 #[derive(Drop)]
 pub(crate) struct Search<'a> {
     store: Store<'a>,
-    trail: Trail,
+    watched: Watched,
     activity: Activity,
     seen: Vec<bool>,
 }
@@ -79,7 +79,7 @@ impl<'a> Search<'a> {
         let variables = cnf.variables();
         Ok(Search {
             store: Store::new(alloc, cnf),
-            trail: Trail::new(alloc, variables)?,
+            watched: Watched::new(alloc, cnf)?,
             activity: Activity::new(alloc, variables)?,
             seen: vec![in alloc; false; variables as usize]?,
         })
@@ -90,10 +90,11 @@ impl<'a> Search<'a> {
         requires { IsSearching self.old }
         ensures searching { IfOk result (λ _. IsSearching self.new) }
         ensures store { IfOk result (λ _. self.new.store ≡ self.old.store) }
-        ensures longer { IfOk result (λ _. length self.old.trail.entries ≤ length self.new.trail.entries) }
-        ensures outcome { IfOk result (IsOutcome (known self.new.store) (literals self.new.trail.entries)) }
+        ensures longer { IfOk result (λ _. length self.old.watched.entries ≤ length self.new.watched.entries) }
+        ensures outcome { IfOk result (IsOutcome (known self.new.store) (literals self.new.watched.entries)) }
     {
-        propagate(&self.store, &mut self.trail)
+        let conflict = self.watched.propagate()?;
+        Ok(conflict)
     }
 
     /// Learns a clause from the conflict, and goes back to the highest level of its literals but for the newest.
@@ -104,10 +105,10 @@ impl<'a> Search<'a> {
         floor: usize,
     ) -> Result<(), AllocError>
         requires searching { IsSearching self.old }
-        requires conflict { IsConflict (known self.old.store) (literals self.old.trail.entries) conflict }
-        requires floor { floor < length self.old.trail.entries }
-        requires decision { IsNone (entry_at self.old.trail.entries floor).reason }
-        requires newest { NoDecision self.old.trail.entries (floor + 1) (length self.old.trail.entries) }
+        requires conflict { IsConflict (known self.old.store) (literals self.old.watched.entries) conflict }
+        requires floor { floor < length self.old.watched.entries }
+        requires decision { IsNone (entry_at self.old.watched.entries floor).reason }
+        requires newest { NoDecision self.old.watched.entries (floor + 1) (length self.old.watched.entries) }
         ensures searching { IfOk result (λ _. IsSearching self.new) }
         ensures formula { IfOk result (λ _. self.new.store.formula ≡ self.old.store.formula) }
         ensures learnt { IfOk result (λ _. length self.new.store.steps ≡ length self.old.store.steps + 1) }
@@ -115,56 +116,61 @@ impl<'a> Search<'a> {
         let lesson = learn(
             alloc,
             &self.store,
-            &self.trail,
+            self.watched.trail(),
             &mut self.seen,
             conflict,
             floor,
         )?;
         self.activity.lift_all(lesson.step.clause.as_slice());
-        self.trail.cut(lesson.place);
+        self.watched.back_to(lesson.place as u64);
+        let clause = Clause::copy(alloc, &lesson.step.clause)?;
         self.store.push(lesson.step)?;
+        self.watched.learn(clause)?;
         Ok(())
     }
 
     /// The step that ends a refutation: no decision is left to take back.
     fn refute(&mut self, alloc: Global, conflict: u64) -> Result<Step, AllocError>
         requires searching { IsSearching self.old }
-        requires conflict { IsConflict (known self.old.store) (literals self.old.trail.entries) conflict }
-        requires decisions { NoDecision self.old.trail.entries 0 (length self.old.trail.entries) }
+        requires conflict { IsConflict (known self.old.store) (literals self.old.watched.entries) conflict }
+        requires decisions { NoDecision self.old.watched.entries 0 (length self.old.watched.entries) }
         ensures store { self.new.store ≡ self.old.store }
         ensures empty { IfOk result (λ s. s.clause ≡ []) }
         ensures derived { IfOk result (λ s. derives (known self.old.store) s.hints [] ≡ true) }
     {
-        refute(alloc, &self.store, &self.trail, &mut self.seen, conflict)
+        refute(
+            alloc,
+            &self.store,
+            self.watched.trail(),
+            &mut self.seen,
+            conflict,
+        )
     }
 
     /// Assumes that the variable is false.
-    fn decide(&mut self, variable: u64) -> Result<(), AllocError>
+    fn decide(&mut self, variable: u64)
         requires searching { IsSearching self.old }
         requires positive { 1 ≤ variable }
-        requires among { variable ≤ self.old.trail.variables }
-        requires free { mentions (literals self.old.trail.entries) variable ≡ false }
-        requires closed { is_closed (literals self.old.trail.entries) (known self.old.store) ≡ true }
-        ensures searching { IfOk result (λ _. IsSearching self.new) }
-        ensures store { IfOk result (λ _. self.new.store ≡ self.old.store) }
-        ensures longer { IfOk result (λ _. length self.new.trail.entries ≡ length self.old.trail.entries + 1) }
-        ensures room { IfOk result (λ _. length self.new.trail.entries ≤ self.new.trail.variables) }
+        requires among { variable ≤ self.old.watched.variables }
+        requires free { mentions (literals self.old.watched.entries) variable ≡ false }
+        requires closed { is_closed (literals self.old.watched.entries) (known self.old.store) ≡ true }
+        ensures searching { IsSearching self.new }
+        ensures store { self.new.store ≡ self.old.store }
+        ensures longer { length self.new.watched.entries ≡ length self.old.watched.entries + 1 }
+        ensures room { length self.new.watched.entries ≤ self.new.watched.variables }
     {
-        self.trail.push(Entry {
-            literal: Literal {
-                variable,
-                positive: false,
-            },
-            reason: None,
-        })
+        self.watched.assume(Literal {
+            variable,
+            positive: false,
+        });
     }
 
     /// The unassigned variable of the highest score, of these the first.
     fn most_active(&self) -> Option<u64>
-        ensures { IsBest self.now self.now.trail.variables result }
+        ensures { IsBest self.now self.now.watched.variables result }
     {
         let mut best: Option<u64> = None;
-        for index in 0..self.trail.variables() {
+        for index in 0..self.watched.trail().variables() {
             best = self.better(best, index + 1);
         }
         best
@@ -173,11 +179,11 @@ impl<'a> Search<'a> {
     /// The best of the variables up to this one, where `best` is that of those before it.
     fn better(&self, best: Option<u64>, variable: u64) -> Option<u64>
         requires positive { 1 ≤ variable }
-        requires among { variable ≤ self.now.trail.variables }
+        requires among { variable ≤ self.now.watched.variables }
         requires best { IsBest self.now (variable - 1) best }
         ensures { IsBest self.now variable result }
     {
-        if !self.trail.is_assigned(variable) && self.activity.is_higher(variable, best) {
+        if !self.watched.trail().is_assigned(variable) && self.activity.is_higher(variable, best) {
             Some(variable)
         } else {
             best
@@ -187,11 +193,11 @@ impl<'a> Search<'a> {
     /// The assignment of a trail that has a value for each variable.
     fn satisfied(self, alloc: Global) -> Result<Answer, AllocError>
         requires searching { IsSearching self }
-        requires closed { is_closed (literals self.trail.entries) (known self.store) ≡ true }
-        requires total { IsTotal self.trail.variables (literals self.trail.entries) }
+        requires closed { is_closed (literals self.watched.entries) (known self.store) ≡ true }
+        requires total { IsTotal self.watched.variables (literals self.watched.entries) }
         ensures { IfOk result (IsSatisfied self.entry.store.formula) }
     {
-        Ok(Answer::Satisfied(Assignment::from_vec(self.trail.values(alloc)?)))
+        Ok(Answer::Satisfied(Assignment::from_vec(self.watched.trail().values(alloc)?)))
     }
 }
 

@@ -43,13 +43,6 @@ impl<'a> Store<'a> {
         }
     }
 
-    /// How many clauses are known.
-    pub(crate) fn len(&self) -> usize
-        ensures { result ≡ length (known self.now) }
-    {
-        self.cnf.clauses().len() + self.steps.len()
-    }
-
     /// How many clauses were learnt.
     pub(crate) fn learnt_count(&self) -> u64
         ensures count { result ≡ length self.now.steps }

@@ -126,17 +126,6 @@ impl Trail {
         }
     }
 
-    /// Adds an entry of a variable that has none.
-    pub(crate) fn push(&mut self, entry: Entry) -> Result<(), AllocError>
-        requires among { is_among self.old.variables entry.literal ≡ true }
-        requires free { is_free (literals self.old.entries) entry.literal ≡ true }
-        ensures ok { OnOk result (self.new ≡ record self.old { entries = self.old.entries ++ entry ∷ [] }) }
-        ensures room { OnOk result (length self.new.entries ≤ self.new.variables) }
-    {
-        self.add(entry);
-        Ok(())
-    }
-
     /// Adds an entry of a variable that has none. It takes no memory.
     pub(crate) fn add(&mut self, entry: Entry)
         requires among { is_among self.old.variables entry.literal ≡ true }

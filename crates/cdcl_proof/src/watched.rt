@@ -1,6 +1,7 @@
 // Clauses with literals held, for unit propagation by watched literals.
 ghost use Rattle.std.specs.Prelude.{◌≡◌, ◌≤◌, ◌<◌, ◌+◌, ◌-◌, ◌++◌, ◌∷◌, [], true, length, take, IfOk, OnOk, OnErr, None};
 ghost use Rattle.cdcl_proof.specs.Clause.{is_among, is_clause};
+ghost use Rattle.cdcl_proof.specs.Formula.{are_clauses};
 ghost use Rattle.cdcl_proof.specs.Fresh.{is_free, is_unit};
 ghost use Rattle.cdcl_proof.specs.Trail.{literals};
 ghost use Rattle.cdcl_proof.specs.Propagation.{IsOutcome};
@@ -62,7 +63,8 @@ impl Watched {
     pub fn assume(&mut self, literal: Literal)
         requires among { is_among self.old.variables literal ≡ true }
         requires free { is_free (literals self.old.entries) literal ≡ true }
-        ensures { self.new ≡ record self.old { entries = self.old.entries ++ record { literal = literal; reason = None } ∷ [] } }
+        ensures held { self.new ≡ record self.old { entries = self.old.entries ++ record { literal = literal; reason = None } ∷ [] } }
+        ensures room { length self.new.entries ≤ self.new.variables }
     {
         self.watcher.assume(literal);
     }
@@ -81,6 +83,7 @@ impl Watched {
     pub fn propagate(&mut self) -> Result<Option<u64>, AllocError>
         ensures variables { self.new.variables ≡ self.old.variables }
         ensures clauses { self.new.clauses ≡ self.old.clauses }
+        ensures within { are_clauses self.new.variables self.new.clauses ≡ true }
 
         // Each literal added is the one literal of some clause that is not false.
         ensures propagates { Propagates self.new.clauses self.old.entries self.new.entries }
@@ -99,6 +102,7 @@ impl Watched {
         requires others { is_unit (literals self.old.entries) (literal_at clause (length clause - 1)) clause ≡ true }
         ensures variables { OnOk result (self.new.variables ≡ self.old.variables) }
         ensures clauses { OnOk result (self.new.clauses ≡ self.old.clauses ++ clause ∷ []) }
+        ensures within { are_clauses self.new.variables self.new.clauses ≡ true }
         ensures propagates { OnOk result (Propagates self.new.clauses self.old.entries self.new.entries) }
         ensures longer { OnOk result (length self.new.entries ≡ length self.old.entries + 1) }
     {

@@ -19,4 +19,4 @@ returns-clause-watching c =
     rw c.add.ensures.added (record { table = w.table; variables = w.variables; progress = p })
 
 pub returns-clause-propagates : goal.returns-clause-propagates
-returns-clause-propagates c = rw c.add.ensures.added (propagates_push c.args.self.now.table.clauses.items c.args.self.now.trail.entries (record { literal = c.args.literal; reason = Some c.args.number }) c.args.number refl c.requires.implied)
+returns-clause-propagates c = rw c.add.ensures.added (propagates_push c.args.self.now.table.clauses.items c.args.self.now.trail.entries (record { literal = c.args.literal; reason = Some c.args.number }) c.args.number refl c.requires.implied c.requires.free)

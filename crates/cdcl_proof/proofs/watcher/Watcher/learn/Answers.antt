@@ -110,4 +110,4 @@ returns-clause-held c =
       within = subst (λ (x : List Literal). holds x c.literal-literal.result ≡ true) (sym own) (subst (λ (l : Literal). holds c.args.clause l ≡ true) is_last (holds_at c.args.clause (length c.args.clause - 1) (let f = c.requires.full in omega (arith, f))));
       others = subst (λ (x : List Literal). is_unit (literals c.args.self.now.trail.entries) c.literal-literal.result x ≡ true) (sym own) (subst (λ (l : Literal). is_unit (literals c.args.self.now.trail.entries) l c.args.clause ≡ true) is_last c.requires.others);
     } in
-    rw c.add-2.ensures.added (propagates_push c.add.new.self.clauses.items c.args.self.now.trail.entries (record { literal = c.literal-literal.result; reason = Some c.len-number.result }) c.len-number.result refl implies)
+    rw c.add-2.ensures.added (propagates_push c.add.new.self.clauses.items c.args.self.now.trail.entries (record { literal = c.literal-literal.result; reason = Some c.len-number.result }) c.len-number.result refl implies (subst (λ (l : Literal). is_free (literals c.args.self.now.trail.entries) l ≡ true) is_last c.requires.free))
