@@ -350,6 +350,7 @@ module _ (variables : ℕ) (known : List (List Literal)) (es : List Entry) (soun
           let parts = and_parts (is_seen seen l.variable) (holds (literals es) (negation l)) (sym (holds-seen_negations seen es l) ∙ h) in
           all_at (is_among variables) (literals es) (negation l) (apart_once variables es apart).1 parts.1));
       derived = derived;
+      regular = resolving.regular;
       fresh = is_fresh;
       full = full (seen_negations seen es) (negated tip tip_in tip_marked);
       short = omega (arith, high, floor_in);

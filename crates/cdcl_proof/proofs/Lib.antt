@@ -5,6 +5,7 @@ pub mod Satisfying
 pub mod Scanning
 pub mod Sound
 pub mod Chains
+pub mod Regularity
 pub mod Marking
 pub mod Resolution
 pub mod Lessons

@@ -3,6 +3,7 @@ pub mod Clause
 pub mod Formula
 pub mod Replay
 pub mod Fresh
+pub mod Regular
 pub mod Trail
 pub mod Learning
 pub mod Store

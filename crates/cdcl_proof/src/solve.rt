@@ -2,6 +2,7 @@
 ghost use Rattle.std.specs.Prelude.{ℕ, ◌≡◌, ◌≤◌, ◌<◌, ◌+◌, ◌-◌, ◌^◌, [], IfOk, IsNone, true, false, length};
 ghost use Rattle.cdcl_proof.specs.Literal.{mentions};
 ghost use Rattle.cdcl_proof.specs.Replay.{derives};
+ghost use Rattle.cdcl_proof.specs.Regular.{is_regular};
 ghost use Rattle.cdcl_proof.specs.Fresh.{is_closed};
 ghost use Rattle.cdcl_proof.specs.Trail.{literals, entry_at, NoDecision, IsTotal};
 ghost use Rattle.cdcl_proof.specs.Store.{known};
@@ -137,6 +138,7 @@ impl<'a> Search<'a> {
         ensures store { self.new.store ≡ self.old.store }
         ensures empty { IfOk result (λ s. s.clause ≡ []) }
         ensures derived { IfOk result (λ s. derives (known self.old.store) s.hints [] ≡ true) }
+        ensures regular { IfOk result (λ s. is_regular (known self.old.store) s.hints ≡ true) }
     {
         refute(
             alloc,
@@ -200,6 +202,3 @@ impl<'a> Search<'a> {
         Ok(Answer::Satisfied(Assignment::from_vec(self.watched.trail().values(alloc)?)))
     }
 }
-
-#[cfg(test)]
-mod tests;

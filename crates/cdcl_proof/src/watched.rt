@@ -1,5 +1,5 @@
 // Clauses with literals held, for unit propagation by watched literals.
-ghost use Rattle.std.specs.Prelude.{◌≡◌, ◌≤◌, ◌<◌, ◌+◌, ◌-◌, ◌++◌, ◌∷◌, [], true, length, take, IfOk, OnOk, OnErr, None};
+ghost use Rattle.std.specs.Prelude.{◌≡◌, ◌≤◌, ◌<◌, ◌+◌, ◌-◌, ◌++◌, ◌∷◌, [], true, length, take, IfOk, OnOk, OnErr, None, IsTrue, ◌↔◌, ◌&&◌};
 ghost use Rattle.cdcl_proof.specs.Clause.{is_among, is_clause};
 ghost use Rattle.cdcl_proof.specs.Formula.{are_clauses};
 ghost use Rattle.cdcl_proof.specs.Fresh.{is_free, is_unit};
@@ -116,10 +116,38 @@ impl Watched {
         &self.watcher.trail
     }
 
+    /// How many literals are held.
+    pub fn len(&self) -> u64
+        ensures { result ≡ length self.now.entries }
+    {
+        self.trail().len() as u64
+    }
+
+    /// Whether no literal is held.
+    pub fn is_empty(&self) -> bool
+        ensures { IsTrue result ↔ (length self.now.entries ≡ 0) }
+    {
+        self.trail().len() == 0
+    }
+
+    /// Whether the literal's variable is one of the formula's, and not held.
+    pub fn is_open(&self, literal: Literal) -> bool
+        ensures { result ≡ (is_among self.now.variables literal && is_free (literals self.now.entries) literal) }
+    {
+        is_variable(self.trail(), literal) && !self.trail().is_assigned(literal.variable)
+    }
+
     /// The clauses in order: clause number 1 comes first.
     pub fn clauses(&self) -> &[Clause]
         ensures { result.now ≡ self.now.clauses }
     {
         &self.watcher.table.clauses
     }
+}
+
+/// Whether the literal's variable is one of those of the trail.
+fn is_variable(trail: &Trail, literal: Literal) -> bool
+    ensures { result ≡ is_among trail.now.variables literal }
+{
+    1 <= literal.variable && literal.variable <= trail.variables()
 }
