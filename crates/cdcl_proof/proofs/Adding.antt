@@ -13,10 +13,10 @@ use Rattle.cdcl_proof.specs.Formula.{are_clauses}
 use Rattle.cdcl_proof.specs.Trail.{literals, entry_at, no_entry, AreApart, IsSound, Stands, Implies, is_after}
 use Rattle.cdcl_proof.specs.Watching.{Propagates, AreShort, AreMarks, IsCovered, AreCovered, is_satisfied, row_at, literal_at}
 use Rattle.cdcl_proof.specs.Watcher.{IsProgress}
-use Rattle.cdcl_proof.proofs.Sets.{all_at, any_from, mentions_from}
+use Rattle.cdcl_proof.proofs.Sets.{all_at, any_from, mentions_from, holds_from_mentions}
 use Rattle.cdcl_proof.proofs.Entries.{entry_of_mentions}
 use Rattle.cdcl_proof.proofs.Resolution.{cases_le}
-use Rattle.cdcl_proof.proofs.Lessons.{free_before}
+use Rattle.cdcl_proof.proofs.Lessons.{free_before, holds_before}
 use Rattle.cdcl_proof.proofs.Rows.{holds_at}
 use Rattle.cdcl_proof.proofs.Tables.{same_push}
 use Rattle.cdcl_proof.proofs.Covering.{covered_more, held_kept, held_take, held_last}
@@ -133,3 +133,14 @@ sound_propagates variables known old new clauses sound p k l =
 pub not_empty : (c : List Literal) → is_empty c ≡ false → 0 < length c
 not_empty [] h = absurd (true≢false h)
 not_empty (x ∷ xs) h = omega arith
+
+pub mentions_kept : (old new : List Entry) (v : ℕ) → take (length old) new ≡ old → mentions (literals old) v ≡ true → mentions (literals new) v ≡ true
+mentions_kept old new v kept h =
+    let l = holds_from_mentions (literals old) v h in
+    subst (λ (w : ℕ). mentions (literals new) w ≡ true) l.2 (mentions_from (literals new) l.0 (held_kept old new l.0 kept l.1))
+
+pub before_or_from : (k place : ℕ) → (k < place) ⊎ (place ≤ k)
+before_or_from k place = elim (cases_le place k) as (λ _. (k < place) ⊎ (place ≤ k)) [ inl from ↦ inr from | inr before ↦ inl before ]
+
+pub mentions_before : (es : List Entry) (place k v : ℕ) → k < place → k < length es → (entry_at es k).literal.variable ≡ v → mentions (literals (take place es)) v ≡ true
+mentions_before es place k v before inside e = subst (λ (w : ℕ). mentions (literals (take place es)) w ≡ true) e (mentions_from (literals (take place es)) (entry_at es k).literal (holds_before es place k before inside))

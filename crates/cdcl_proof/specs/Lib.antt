@@ -10,7 +10,7 @@ pub mod Store
 pub mod Propagation
 pub mod Resolving
 pub mod Proof
-pub mod Activity
+pub mod Order
 pub mod Search
 pub mod Answer
 pub mod Watching

@@ -1,13 +1,13 @@
 // A solver for clause lists whose every learnt clause is proved.
 #![tactic(auto)]
 
-mod activity;
 pub mod assignment;
 pub mod clause;
 pub mod cnf;
 mod learning;
 pub mod literal;
 pub mod log;
+mod order;
 mod packed;
 mod propagation;
 pub mod replay;

@@ -1,6 +1,8 @@
 // The solver: conflict-driven clause learning with a log of its resolutions.
-ghost use Rattle.std.specs.Prelude.{ℕ, ◌≡◌, ◌≤◌, ◌<◌, ◌+◌, ◌-◌, ◌^◌, [], IfOk, IsNone, true, false, length};
+ghost use Rattle.std.specs.Prelude.{ℕ, ◌≡◌, ◌≤◌, ◌<◌, ◌+◌, ◌-◌, ◌^◌, [], IfOk, OnOk, IfSome, IfNone, IsTrue, IsNone, true, false, length};
 ghost use Rattle.cdcl_proof.specs.Literal.{mentions};
+ghost use Rattle.cdcl_proof.specs.Clause.{is_among};
+ghost use Rattle.cdcl_proof.specs.Order.{Waits, KeepsWaiting};
 ghost use Rattle.cdcl_proof.specs.Replay.{derives};
 ghost use Rattle.cdcl_proof.specs.Regular.{is_regular};
 ghost use Rattle.cdcl_proof.specs.Fresh.{is_closed};
@@ -8,15 +10,15 @@ ghost use Rattle.cdcl_proof.specs.Trail.{literals, entry_at, NoDecision, IsTotal
 ghost use Rattle.cdcl_proof.specs.Store.{known};
 ghost use Rattle.cdcl_proof.specs.Propagation.{IsConflict, IsOutcome};
 ghost use Rattle.cdcl_proof.specs.Answer.{Answers, IsDecided, IsSatisfied};
-ghost use Rattle.cdcl_proof.specs.Search.{IsSearching, IsBest};
+ghost use Rattle.cdcl_proof.specs.Search.{IsSearching, AllWait, WaitFrom, OthersWait};
 
-use crate::activity::Activity;
 use crate::assignment::Assignment;
 use crate::clause::Clause;
 use crate::cnf::Cnf;
 use crate::learning::{learn, refute};
 use crate::literal::Literal;
 use crate::log::{Log, Step};
+use crate::order::Order;
 use crate::store::Store;
 use crate::watched::Watched;
 use std::alloc::{AllocError, Global};
@@ -54,34 +56,41 @@ pub fn solve(alloc: Global, cnf: &Cnf, budget: u64) -> Result<Answer, AllocError
                     return Ok(Answer::Refuted(search.store.ended_by(step)?));
                 }
             },
-            None => match search.most_active() {
-                Some(variable) => search.decide(variable),
-                None => return search.satisfied(alloc),
-            },
+            None => {
+                if !search.decide() {
+                    return search.satisfied(alloc);
+                }
+            }
         }
     }
 }
 
-/// A search: the clauses known, the literals assumed or implied, the variables' activity, and marks for the analysis
-/// of a conflict.
+/// A search: the clauses known, the literals held, the order of decisions, the signs that variables had last, and
+/// marks for the analysis of a conflict.
 #[derive(Drop)]
 pub(crate) struct Search<'a> {
     store: Store<'a>,
     watched: Watched,
-    activity: Activity,
+    order: Order,
+    phases: Vec<bool>,
     seen: Vec<bool>,
 }
 
 impl<'a> Search<'a> {
     fn new(alloc: Global, cnf: &'a Cnf) -> Result<Search<'a>, AllocError>
         ensures searching { IfOk result IsSearching }
+        ensures waiting { IfOk result AllWait }
         ensures formula { IfOk result (λ s. s.store ≡ record { formula = cnf.now; steps = [] }) }
     {
         let variables = cnf.variables();
+        if variables >= 0x8000_0000 {
+            return Err(AllocError);
+        }
         Ok(Search {
             store: Store::new(alloc, cnf),
             watched: Watched::new(alloc, cnf)?,
-            activity: Activity::new(alloc, variables)?,
+            order: Order::new(alloc, variables)?,
+            phases: vec![in alloc; false; variables as usize]?,
             seen: vec![in alloc; false; variables as usize]?,
         })
     }
@@ -90,6 +99,7 @@ impl<'a> Search<'a> {
     fn propagate(&mut self) -> Result<Option<u64>, AllocError>
         requires { IsSearching self.old }
         ensures searching { IfOk result (λ _. IsSearching self.new) }
+        ensures waiting { AllWait self.old → IfOk result (λ _. AllWait self.new) }
         ensures store { IfOk result (λ _. self.new.store ≡ self.old.store) }
         ensures longer { IfOk result (λ _. length self.old.watched.entries ≤ length self.new.watched.entries) }
         ensures outcome { IfOk result (IsOutcome (known self.new.store) (literals self.new.watched.entries)) }
@@ -106,11 +116,13 @@ impl<'a> Search<'a> {
         floor: usize,
     ) -> Result<(), AllocError>
         requires searching { IsSearching self.old }
+        requires waiting { AllWait self.old }
         requires conflict { IsConflict (known self.old.store) (literals self.old.watched.entries) conflict }
         requires floor { floor < length self.old.watched.entries }
         requires decision { IsNone (entry_at self.old.watched.entries floor).reason }
         requires newest { NoDecision self.old.watched.entries (floor + 1) (length self.old.watched.entries) }
         ensures searching { IfOk result (λ _. IsSearching self.new) }
+        ensures waiting { IfOk result (λ _. AllWait self.new) }
         ensures formula { IfOk result (λ _. self.new.store.formula ≡ self.old.store.formula) }
         ensures learnt { IfOk result (λ _. length self.new.store.steps ≡ length self.old.store.steps + 1) }
     {
@@ -122,7 +134,8 @@ impl<'a> Search<'a> {
             conflict,
             floor,
         )?;
-        self.activity.lift_all(lesson.step.clause.as_slice());
+        self.order.lift_all(lesson.step.clause.as_slice());
+        self.release(lesson.place)?;
         self.watched.back_to(lesson.place as u64);
         let clause = Clause::copy(alloc, &lesson.step.clause)?;
         self.store.push(lesson.step)?;
@@ -149,47 +162,79 @@ impl<'a> Search<'a> {
         )
     }
 
-    /// Assumes that the variable is false.
-    fn decide(&mut self, variable: u64)
+    /// Lets the variables of the literals from the place on wait again, and keeps their signs in mind.
+    fn release(&mut self, place: usize) -> Result<(), AllocError>
         requires searching { IsSearching self.old }
-        requires positive { 1 ≤ variable }
-        requires among { variable ≤ self.old.watched.variables }
-        requires free { mentions (literals self.old.watched.entries) variable ≡ false }
-        requires closed { is_closed (literals self.old.watched.entries) (known self.old.store) ≡ true }
+        requires waiting { AllWait self.old }
+        requires place { place ≤ length self.old.watched.entries }
         ensures searching { IsSearching self.new }
         ensures store { self.new.store ≡ self.old.store }
-        ensures longer { length self.new.watched.entries ≡ length self.old.watched.entries + 1 }
-        ensures room { length self.new.watched.entries ≤ self.new.watched.variables }
+        ensures watched { self.new.watched ≡ self.old.watched }
+        ensures waiting { OnOk result (WaitFrom self.new place) }
     {
-        self.watched.assume(Literal {
-            variable,
-            positive: false,
-        });
+        for index in place..self.watched.trail().len() {
+            let entry = self.watched.trail().entry(index);
+            self.release_variable(entry.literal)?;
+        }
+        Ok(())
     }
 
-    /// The unassigned variable of the highest score, of these the first.
-    fn most_active(&self) -> Option<u64>
-        ensures { IsBest self.now self.now.watched.variables result }
+    /// Lets the variable of the literal wait again, and keeps its sign in mind.
+    fn release_variable(&mut self, literal: Literal) -> Result<(), AllocError>
+        requires searching { IsSearching self.old }
+        requires among { is_among self.old.watched.variables literal ≡ true }
+        ensures searching { IsSearching self.new }
+        ensures store { self.new.store ≡ self.old.store }
+        ensures watched { self.new.watched ≡ self.old.watched }
+        ensures waits { OnOk result (Waits self.new.order.heap.items literal.variable) }
+        ensures kept { KeepsWaiting self.old.order.heap.items self.new.order.heap.items }
     {
-        let mut best: Option<u64> = None;
-        for index in 0..self.watched.trail().variables() {
-            best = self.better(best, index + 1);
-        }
-        best
+        self.order.insert(literal.variable)?;
+        self.phases[literal.variable as usize - 1] = literal.positive;
+        Ok(())
     }
 
-    /// The best of the variables up to this one, where `best` is that of those before it.
-    fn better(&self, best: Option<u64>, variable: u64) -> Option<u64>
-        requires positive { 1 ≤ variable }
-        requires among { variable ≤ self.now.watched.variables }
-        requires best { IsBest self.now (variable - 1) best }
-        ensures { IsBest self.now variable result }
+    /// Assumes a literal of the variable of the highest score among those that are not held, with the sign that it had
+    /// last. The result is whether there was one.
+    fn decide(&mut self) -> bool
+        requires searching { IsSearching self.old }
+        requires waiting { AllWait self.old }
+        requires closed { is_closed (literals self.old.watched.entries) (known self.old.store) ≡ true }
+        ensures searching { IsSearching self.new }
+        ensures waiting { AllWait self.new }
+        ensures store { self.new.store ≡ self.old.store }
+        ensures longer { IsTrue result → length self.new.watched.entries ≡ length self.old.watched.entries + 1 }
+        ensures room { IsTrue result → length self.new.watched.entries ≤ self.new.watched.variables }
+        ensures same { result ≡ false → self.new.watched ≡ self.old.watched }
+        ensures total { result ≡ false → IsTotal self.new.watched.variables (literals self.new.watched.entries) }
     {
-        if !self.watched.trail().is_assigned(variable) && self.activity.is_higher(variable, best) {
-            Some(variable)
-        } else {
-            best
+        match self.open_variable() {
+            Some(variable) => {
+                let positive = self.phases[variable as usize - 1];
+                self.watched.assume(Literal { variable, positive });
+                true
+            }
+            None => false,
         }
+    }
+
+    /// Takes the variable of the highest score that is not held out of those that wait.
+    fn open_variable(&mut self) -> Option<u64>
+        requires searching { IsSearching self.old }
+        requires waiting { AllWait self.old }
+        ensures searching { IsSearching self.new }
+        ensures store { self.new.store ≡ self.old.store }
+        ensures watched { self.new.watched ≡ self.old.watched }
+        ensures some { IfSome result (λ v. (1 ≤ v) × (v ≤ self.new.watched.variables) × (mentions (literals self.new.watched.entries) v ≡ false)) }
+        ensures others { IfSome result (OthersWait self.new) }
+        ensures none { IfNone result (IsTotal self.new.watched.variables (literals self.new.watched.entries)) }
+    {
+        while let Some(variable) = self.order.pop() {
+            if !self.watched.trail().is_assigned(variable) {
+                return Some(variable);
+            }
+        }
+        None
     }
 
     /// The assignment of a trail that has a value for each variable.

@@ -1,10 +1,12 @@
-use Rattle.std.proofs.Common.{ℕ, true, ◌≡◌, List, subst, sym, ◌∙◌}
+use Rattle.std.proofs.Common.{ℕ, true, ◌≡◌, ◌≤◌, ◌⊎◌, inl, inr, List, subst, sym, ◌∙◌, arith}
 use Rattle.cdcl_proof.specs.declared.literal.Literal.{Literal}
 use Rattle.cdcl_proof.specs.Formula.{are_clauses}
-use Rattle.cdcl_proof.specs.Trail.{IsSound}
+use Rattle.cdcl_proof.specs.Literal.{mentions}
+use Rattle.cdcl_proof.specs.Trail.{IsSound, literals}
+use Rattle.cdcl_proof.specs.Order.{IsOrder, Waits}
 use Rattle.cdcl_proof.specs.Store.{known}
 use Rattle.cdcl_proof.specs.Watching.{Propagates}
-use Rattle.cdcl_proof.proofs.Adding.{sound_propagates}
+use Rattle.cdcl_proof.proofs.Adding.{sound_propagates, mentions_kept}
 use Rattle.cdcl_proof.proofs.solve.Search.propagate.Goals as goal
 
 pub returns-clause-searching : goal.returns-clause-searching
@@ -20,5 +22,14 @@ returns-clause-searching c =
       clauses = same_clauses;
       sound = subst (λ (n : ℕ). IsSound n (known c.args.self.now.store) c.propagate.new.self.entries) (sym e.variables) sound;
       seen = s.seen ∙ sym e.variables;
-      scores = s.scores ∙ sym e.variables;
+      order = subst (λ (n : ℕ). IsOrder n c.args.self.now.order) (sym e.variables) s.order;
+      phases = s.phases ∙ sym e.variables;
     }
+
+pub returns-clause-waiting : goal.returns-clause-waiting
+returns-clause-waiting c all v low high =
+    let e = c.in_ok-conflict.ensures in
+    elim (all v low (let n = e.variables in omega (arith, n, high))) as (λ _. Waits c.args.self.now.order.heap.items v ⊎ (mentions (literals c.propagate.new.self.entries) v ≡ true)) [
+      | inl w ↦ inl w
+      | inr m ↦ inr (mentions_kept c.args.self.now.watched.entries c.propagate.new.self.entries v e.propagates.kept m)
+    ]
