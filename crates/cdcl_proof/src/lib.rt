@@ -11,6 +11,7 @@ mod order;
 mod packed;
 mod propagation;
 pub mod replay;
+mod restarts;
 mod row;
 pub mod solve;
 mod store;

@@ -19,6 +19,7 @@ use crate::learning::{learn, refute};
 use crate::literal::Literal;
 use crate::log::{Log, Step};
 use crate::order::Order;
+use crate::restarts::Restarts;
 use crate::store::Store;
 use crate::watched::Watched;
 use std::alloc::{AllocError, Global};
@@ -50,6 +51,7 @@ pub fn solve(alloc: Global, cnf: &Cnf, budget: u64) -> Result<Answer, AllocError
                     if search.store.learnt_count() == budget {
                         return Ok(Answer::Spent(Log::from_vec(search.store.into_steps())));
                     }
+                    search.rest()?;
                 }
                 None => {
                     let step = search.refute(alloc, conflict)?;
@@ -73,6 +75,7 @@ pub(crate) struct Search<'a> {
     watched: Watched,
     order: Order,
     phases: Vec<bool>,
+    restarts: Restarts,
     seen: Vec<bool>,
 }
 
@@ -91,6 +94,7 @@ impl<'a> Search<'a> {
             watched: Watched::new(alloc, cnf)?,
             order: Order::new(alloc, variables)?,
             phases: vec![in alloc; false; variables as usize]?,
+            restarts: Restarts::new(),
             seen: vec![in alloc; false; variables as usize]?,
         })
     }
@@ -141,6 +145,28 @@ impl<'a> Search<'a> {
         self.store.push(lesson.step)?;
         self.watched.learn(clause)?;
         Ok(())
+    }
+
+    /// Takes all decisions back, if it is time to start again.
+    fn rest(&mut self) -> Result<(), AllocError>
+        requires searching { IsSearching self.old }
+        requires waiting { AllWait self.old }
+        ensures searching { IfOk result (λ _. IsSearching self.new) }
+        ensures waiting { IfOk result (λ _. AllWait self.new) }
+        ensures store { self.new.store ≡ self.old.store }
+    {
+        if !self.restarts.is_due() {
+            return Ok(());
+        }
+        match self.watched.trail().last_decision() {
+            Some(last) => {
+                let first = self.watched.trail().decision_from(0, last);
+                self.release(first)?;
+                self.watched.back_to(first as u64);
+                Ok(())
+            }
+            None => Ok(()),
+        }
     }
 
     /// The step that ends a refutation: no decision is left to take back.
