@@ -4,7 +4,7 @@ use Rattle.std.specs.List.{swap_remove, list_all}
 use Rattle.std.proofs.lemmas.List.Folds.{list_all-append}
 use Rattle.std.proofs.lemmas.List.{get_or-set_same, get_or-set_other, length-set, take_at, length-take, get_or_read, get_or-take, get_or_append_left, get_or_push, length_push, set-set, set-get_or}
 use Rattle.std.proofs.lemmas.List.Edits.{length-swap}
-use Rattle.std.proofs.lemmas.List.Sums.{sum_by-swap_remove, sum_by_push, get_or-le-sum_by}
+use Rattle.std.proofs.lemmas.List.Sums.{sum_by-swap_remove, sum_by-set, sum_by_push, get_or-le-sum_by}
 use Rattle.std.proofs.lemmas.Bool.{cases_eq, eq-eqb, ne_eqb, false≢true, and_parts, and_from}
 use Rattle.cdcl_proof.specs.declared.literal.Literal.{Literal}
 use Rattle.cdcl_proof.specs.declared.row.Watch.{Watch}
@@ -13,7 +13,7 @@ use Rattle.cdcl_proof.specs.Clause.{is_among, is_within, is_clause}
 use Rattle.cdcl_proof.specs.Formula.{are_clauses}
 use Rattle.cdcl_proof.specs.declared.table.Table.{Table}
 use Rattle.cdcl_proof.specs.Table.{IsTable, IsEntered}
-use Rattle.cdcl_proof.specs.Watching.{IsRow, AreRows, AreWatched, ArePermuted, HaveBlockers, AreShort, count_of, wanted, added_lists, row_at, list_at, watch_at, literal_at, no_literal, no_watch}
+use Rattle.cdcl_proof.specs.Watching.{IsRow, AreRows, AreWatched, ArePermuted, HaveBlockers, AreShort, HasSameClauses, count_of, wanted, added_lists, row_at, list_at, watch_at, literal_at, no_literal, no_watch}
 use Rattle.cdcl_proof.proofs.Sets.{literal_ext, all_at}
 use Rattle.cdcl_proof.proofs.Resolution.{cases_le}
 use Rattle.cdcl_proof.proofs.Entries.{among_high}
@@ -658,3 +658,52 @@ list_inside lists s k h =
       | inl out ↦ let e : length (list_at lists s) ≡ 0 = ap length (past lists s [] out) in absurd (omega (arith, h, e))
       | inr within ↦ within
     ]
+
+same_of : (j : ℕ) (a b : Watch) → a.clause ≡ b.clause → of_clause j a ≡ of_clause j b
+same_of j a b e = rw e refl
+
+-- a watch gets another literal of its clause
+module _ (rows : List (List Literal)) (lists : List (List Watch)) (slot place : ℕ) (w : Watch) (low : slot < length lists) (inside : place < length (list_at lists slot)) (same : w.clause ≡ (watch_at (list_at lists slot) place).clause) (blocks : holds (row_at rows w.clause) w.blocker ≡ true) where
+  abbrev refreshed : List Watch
+  refreshed = set (list_at lists slot) place w
+
+  pub refreshed_same : HasSameClauses (list_at lists slot) (set (list_at lists slot) place w)
+  refreshed_same = record {
+    len = length-set (list_at lists slot) place w;
+    same = λ k. elim (cases_eq k place) as (λ _. (watch_at (set (list_at lists slot) place w) k).clause ≡ (watch_at (list_at lists slot) k).clause) [
+      | inl e ↦ ap (λ (n : ℕ). (watch_at (set (list_at lists slot) place w) n).clause) e ∙ ap (λ (x : Watch). x.clause) (get_or-set_same (list_at lists slot) place w no_watch inside) ∙ same ∙ ap (λ (n : ℕ). (watch_at (list_at lists slot) n).clause) (sym e)
+      | inr ne ↦ ap (λ (x : Watch). x.clause) (get_or-set_other (list_at lists slot) place k w no_watch ne)
+    ];
+  }
+
+  at_list : (m : ℕ) → m ≡ slot → list_at (set lists slot (set (list_at lists slot) place w)) m ≡ set (list_at lists slot) place w
+  at_list m e = ap (list_at (set lists slot (set (list_at lists slot) place w))) e ∙ get_or-set_same lists slot (set (list_at lists slot) place w) [] low
+
+  off_list : (m : ℕ) → m ≢ slot → list_at (set lists slot (set (list_at lists slot) place w)) m ≡ list_at lists m
+  off_list m ne = get_or-set_other lists slot m (set (list_at lists slot) place w) [] ne
+
+  pub refreshed_watched : AreWatched rows lists → AreWatched rows (set lists slot (set (list_at lists slot) place w))
+  refreshed_watched watched j m lm =
+      let lm0 : m < length lists = let n = length-set lists slot (set (list_at lists slot) place w) in omega (arith, n, lm) in
+      elim (cases_eq m slot) as (λ _. count_of j (list_at (set lists slot (set (list_at lists slot) place w)) m) ≡ wanted (row_at rows j) m) [
+        | inl e ↦
+            let whole : count_of j (list_at (set lists slot (set (list_at lists slot) place w)) m) ≡ count_of j (set (list_at lists slot) place w) = ap (count_of j) (at_list m e) in
+            let change = sum_by-set (λ (q : Watch). cond (eqb q.clause j) 1 0) (list_at lists slot) place w no_watch inside in
+            let part = same_of j w (watch_at (list_at lists slot) place) same in
+            let old : count_of j (list_at lists slot) ≡ wanted (row_at rows j) m = ap (λ (n : ℕ). count_of j (list_at lists n)) (sym e) ∙ watched j m lm0 in
+            omega (arith, whole, change, part, old)
+        | inr ne ↦ ap (count_of j) (off_list m ne) ∙ watched j m lm0
+      ]
+
+  pub refreshed_blockers : HaveBlockers rows lists → HaveBlockers rows (set lists slot (set (list_at lists slot) place w))
+  refreshed_blockers blockers m n lm ln =
+      let lm0 : m < length lists = let c = length-set lists slot (set (list_at lists slot) place w) in omega (arith, c, lm) in
+      elim (cases_eq m slot) as (λ _. Blocks rows (list_at (set lists slot (set (list_at lists slot) place w)) m) n) [
+        | inl e ↦
+            let ln2 = subst (λ (xs : List Watch). n < length xs) (at_list m e) ln in
+            subst (λ (xs : List Watch). Blocks rows xs n) (sym (at_list m e)) (elim (cases_eq n place) as (λ _. Blocks rows (set (list_at lists slot) place w) n) [
+              | inl here ↦ subst (λ (q : Watch). holds (row_at rows q.clause) q.blocker ≡ true) (sym (ap (watch_at (set (list_at lists slot) place w)) here ∙ get_or-set_same (list_at lists slot) place w no_watch inside)) blocks
+              | inr there ↦ subst (λ (q : Watch). holds (row_at rows q.clause) q.blocker ≡ true) (sym (get_or-set_other (list_at lists slot) place n w no_watch there)) (blockers slot n low (let c = length-set (list_at lists slot) place w in omega (arith, c, ln2)))
+            ])
+        | inr ne ↦ subst (λ (xs : List Watch). Blocks rows xs n) (sym (off_list m ne)) (blockers m n lm0 (subst (λ (xs : List Watch). n < length xs) (off_list m ne) ln))
+      ]

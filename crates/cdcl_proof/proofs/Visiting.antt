@@ -14,7 +14,7 @@ use Rattle.cdcl_proof.specs.Clause.{is_among, is_within}
 use Rattle.cdcl_proof.specs.Trail.{literals, entry_at, no_entry}
 use Rattle.cdcl_proof.specs.Table.{IsTable}
 use Rattle.cdcl_proof.specs.Watcher.{IsProgress}
-use Rattle.cdcl_proof.specs.Watching.{wanted, count_of, AreVisited, AreCovered, IsCovered, ArePermuted, is_satisfied, row_at, list_at, watch_at, literal_at, no_literal, no_watch}
+use Rattle.cdcl_proof.specs.Watching.{wanted, count_of, AreVisited, AreCovered, IsCovered, ArePermuted, HasSameClauses, is_satisfied, row_at, list_at, watch_at, literal_at, no_literal, no_watch}
 use Rattle.cdcl_proof.proofs.Sets.{negation-negation, all_from, any_from}
 use Rattle.cdcl_proof.proofs.Entries.{holds_entry, among_high}
 use Rattle.cdcl_proof.proofs.Resolution.{holds_take}
@@ -79,9 +79,9 @@ module _ (rows : List (List Literal)) (i first k : ℕ) (i_in : i < length rows)
       not_before n = false_from_ne_true (holds (literals (take n es)) (negation (literal_at (row_at rows i) k))) (λ h. both_ways (holds (literals es) (negation (literal_at (row_at rows i) k))) not_false (held_take es n (negation (literal_at (row_at rows i) k)) h))
 
 -- what was read stays satisfied
-pub visited_stays : (old new : List Entry) (rows rows2 : List (List Literal)) (list list2 : List Watch) (place : ℕ) → take (length old) new ≡ old → rows2 ≡ rows → list2 ≡ list → AreVisited (literals old) rows list place → is_satisfied (literals new) (row_at rows (watch_at list place).clause) ≡ true → AreVisited (literals new) rows2 list2 (place + 1)
+pub visited_stays : (old new : List Entry) (rows rows2 : List (List Literal)) (list list2 : List Watch) (place : ℕ) → take (length old) new ≡ old → rows2 ≡ rows → HasSameClauses list list2 → AreVisited (literals old) rows list place → is_satisfied (literals new) (row_at rows (watch_at list place).clause) ≡ true → AreVisited (literals new) rows2 list2 (place + 1)
 visited_stays old new rows rows2 list list2 place kept er el v here k lk =
-    rw (er, el) (elim (cases_eq k place) as (λ _. is_satisfied (literals new) (row_at rows (watch_at list k).clause) ≡ true) [
+    rw (er, el.same k) (elim (cases_eq k place) as (λ _. is_satisfied (literals new) (row_at rows (watch_at list k).clause) ≡ true) [
       | inl e ↦ subst (λ (x : ℕ). is_satisfied (literals new) (row_at rows (watch_at list x).clause) ≡ true) (sym e) here
       | inr ne ↦ satisfied_more (literals old) (literals new) (row_at rows (watch_at list k).clause) (λ l h. held_kept old new l kept h) (v k (omega (arith, lk, ne)))
     ])
@@ -154,3 +154,9 @@ slot_low t table l among =
     let n = table.slots in
     let bit = bit_small l.positive in
     omega (arith, high, n, bit)
+
+pub same_clauses : (list : List Watch) → HasSameClauses list list
+same_clauses list = record { len = refl; same = λ k. refl }
+
+pub same_from : (old new : List Watch) → new ≡ old → HasSameClauses old new
+same_from old new e = record { len = ap length e; same = λ k. ap (λ (x : List Watch). (watch_at x k).clause) e }

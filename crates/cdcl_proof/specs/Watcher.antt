@@ -13,7 +13,7 @@ use Rattle.cdcl_proof.specs.Learning.{falsifies}
 use Rattle.cdcl_proof.specs.Propagation.{IsConflict}
 use Rattle.cdcl_proof.specs.Trail.{literals}
 use Rattle.cdcl_proof.specs.Table.{IsTable}
-use Rattle.cdcl_proof.specs.Watching.{AreCovered, AreMarks, ArePermuted, is_satisfied, row_at, list_at, watch_at, literal_at, no_watch}
+use Rattle.cdcl_proof.specs.Watching.{AreCovered, AreMarks, ArePermuted, HasSameClauses, is_satisfied, row_at, list_at, watch_at, literal_at, no_watch}
 
 -- how far propagation has come: up to the head each false watch is covered, and the first short clauses are true
 pub record IsProgress (rows : List (List Literal)) (short : List ℕ) (entries : List Entry) (head : ℕ) (marks : List ℕ) (settled base : ℕ) : Type 0 where
@@ -40,7 +40,7 @@ IsLook s row False = falsifies s row ≡ true
 -- what a visit of the watch at the place leaves
 abbrev pub IsVisit : Watcher → Watcher → ℕ → ℕ → Visit → Type 0
 IsVisit old new slot place Stays =
-    (new.table.rows.items ≡ old.table.rows.items) × (list_at new.table.lists.items slot ≡ list_at old.table.lists.items slot)
+    (new.table.rows.items ≡ old.table.rows.items) × HasSameClauses (list_at old.table.lists.items slot) (list_at new.table.lists.items slot)
     × (is_satisfied (literals new.trail.entries) (row_at old.table.rows.items (watch_at (list_at old.table.lists.items slot) place).clause) ≡ true)
 IsVisit old new slot place Moved =
     ArePermuted old.table.rows.items new.table.rows.items × (list_at new.table.lists.items slot ≡ swap_remove (list_at old.table.lists.items slot) place no_watch)

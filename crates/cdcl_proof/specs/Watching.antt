@@ -86,6 +86,11 @@ pub record AreShort (rows : List (List Literal)) (short : List ℕ) : Type 0 whe
   pub each : (i : ℕ) → i < length rows → length (row_at rows i) < 2 → (j : ℕ) × (j < length short) × (slice_index_or short j 0 ≡ i)
   pub only : (j : ℕ) → j < length short → (slice_index_or short j 0 < length rows) × (length (row_at rows (slice_index_or short j 0)) < 2)
 
+-- the watches are of the same clauses
+pub record HasSameClauses (old new : List Watch) : Type 0 where
+  pub len : length new ≡ length old
+  pub same : (k : ℕ) → (watch_at new k).clause ≡ (watch_at old k).clause
+
 -- the rows have the same literals
 abbrev pub ArePermuted : List (List Literal) → List (List Literal) → Type 0
 ArePermuted old new = (i : ℕ) (l : Literal) → holds (row_at new i) l ≡ holds (row_at old i) l

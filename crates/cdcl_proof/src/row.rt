@@ -1,5 +1,5 @@
 // Clauses and watch lists as propagation works on them.
-ghost use Rattle.std.specs.Prelude.{ℕ, ◌≡◌, ◌<◌, ◌≤◌, ◌++◌, ◌∷◌, ◌-◌, ◌^◌, true, [], length, take, swap, swap_remove, OnOk, OnErr, IfOk, slice_index_or};
+ghost use Rattle.std.specs.Prelude.{ℕ, ◌≡◌, ◌<◌, ◌≤◌, ◌++◌, ◌∷◌, ◌-◌, ◌^◌, true, [], length, take, swap, swap_remove, OnOk, OnErr, IfOk, slice_index_or, slice_set};
 ghost use Rattle.cdcl_proof.specs.Clause.{is_within};
 ghost use Rattle.cdcl_proof.specs.Watching.{no_watch};
 
@@ -104,6 +104,14 @@ impl WatchList {
     {
         self.watches.push(watch)?;
         Ok(())
+    }
+
+    /// Gives the watch at the place another literal of its clause.
+    pub(crate) fn refresh(&mut self, place: usize, blocker: PackedLiteral)
+        requires { place < length self.old }
+        ensures { self.new ≡ slice_set self.old place (record { clause = (slice_index_or self.old place no_watch).clause; blocker = blocker }) }
+    {
+        self.watches[place].blocker = blocker;
     }
 
     /// Takes off the newest.

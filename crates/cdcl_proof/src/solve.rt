@@ -37,6 +37,9 @@ pub enum Answer {
 
 /// Decides the formula by conflict-driven clause learning (Marques-Silva and Sakallah, GRASP, 1996; the activity
 /// order after Moskewicz et al., Chaff, 2001), learning at most `budget` clauses. The only error is want of memory.
+///
+/// Nothing is taken out of the log, so memory grows with it: 40 bytes for each literal of a learnt clause (16 in the
+/// log, 24 to propagate with) and 16 for each hint, besides about 150 for the clause itself.
 pub fn solve(alloc: Global, cnf: &Cnf, budget: u64) -> Result<Answer, AllocError>
     requires { 1 ≤ budget }
     ensures answers { IfOk result (Answers cnf.now budget) }

@@ -1,8 +1,8 @@
 // Clauses with their rows and watch lists.
 ghost use Rattle.std.specs.Prelude.{ℕ, ◌≡◌, ◌≢◌, ◌<◌, ◌≤◌, ◌++◌, ◌∷◌, ◌^◌, true, [], length, swap, swap_remove, slice_set, OnOk, OnErr, IfOk};
-ghost use Rattle.cdcl_proof.specs.Literal.{slot_of};
+ghost use Rattle.cdcl_proof.specs.Literal.{holds, slot_of};
 ghost use Rattle.cdcl_proof.specs.Clause.{is_clause};
-ghost use Rattle.cdcl_proof.specs.Watching.{literal_at, watch_at, list_at, row_at, no_watch, added_lists, IsRow};
+ghost use Rattle.cdcl_proof.specs.Watching.{literal_at, watch_at, list_at, row_at, no_watch, added_lists, HasSameClauses, IsRow};
 ghost use Rattle.cdcl_proof.specs.Table.{IsTable, HasAdded, IsUnchanged, IsEntered};
 
 use crate::clause::Clause;
@@ -79,6 +79,23 @@ impl Table {
         let row = &mut self.rows[clause as usize];
         row.swap(first, k);
         Ok(())
+    }
+
+    /// Gives the watch at the place of a list another literal of its clause.
+    pub(crate) fn refresh(&mut self, slot: usize, place: usize, blocker: PackedLiteral)
+        requires table { IsTable self.old }
+        requires slot { slot < length self.old.lists.items }
+        requires place { place < length (list_at self.old.lists.items slot) }
+        requires blocks { holds (row_at self.old.rows.items (watch_at (list_at self.old.lists.items slot) place).clause) blocker ≡ true }
+        ensures table { IsTable self.new }
+        ensures variables { self.new.variables ≡ self.old.variables }
+        ensures clauses { self.new.clauses ≡ self.old.clauses }
+        ensures rows { self.new.rows ≡ self.old.rows }
+        ensures short { self.new.short ≡ self.old.short }
+        ensures list { HasSameClauses (list_at self.old.lists.items slot) (list_at self.new.lists.items slot) }
+    {
+        let list = &mut self.lists[slot];
+        list.refresh(place, blocker);
     }
 
     /// Adds a clause with its row.

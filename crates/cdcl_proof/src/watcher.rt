@@ -290,8 +290,12 @@ impl Watcher {
         let clause = watch.clause;
         let row = self.table.rows[clause as usize].as_slice();
         let first = watched_place(row, slot);
+        let other = row[1 - first];
         match read_row(&self.trail, row, first) {
-            Look::Satisfied => Ok(Visit::Stays),
+            Look::Satisfied => {
+                self.table.refresh(slot, place, other);
+                Ok(Visit::Stays)
+            }
             Look::Open(k) => {
                 self.table.move_watch(slot, place, first, k)?;
                 Ok(Visit::Moved)

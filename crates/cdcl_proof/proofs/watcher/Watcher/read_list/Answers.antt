@@ -38,7 +38,7 @@ loop-place-preserved-in-Ok-Stays c =
       more = omega (arith, more, e.head);
       slot = slot;
       low = let v = e.variables in let l = i.low in omega (arith, old_slots, new_slots, old_variables, new_variables, v, l);
-      within = let v = rw c.in-Ok-Stays.field-0-is at c.in-Ok-Stays.ensures.visit in let n = ap length v.1 in omega (arith, n, inside);
+      within = let v = rw c.in-Ok-Stays.field-0-is at c.in-Ok-Stays.ensures.visit in let n = v.1.len in omega (arith, n, inside);
       visited = let v = rw c.in-Ok-Stays.field-0-is at c.in-Ok-Stays.ensures.visit in visited_stays c.loop-place.self.trail.entries c.visit.new.self.trail.entries c.loop-place.self.table.rows.items c.visit.new.self.table.rows.items (list_at c.loop-place.self.table.lists.items c.args.slot) (list_at c.visit.new.self.table.lists.items c.args.slot) c.loop-place.place kept v.0 v.1 i.visited v.2;
     }
 
