@@ -1,28 +1,25 @@
 -- What is known of the rows while their watches are read.
-use Rattle.std.proofs.Common.{◌≡◌, ◌≢◌, ℕ, zero, suc, ◌+◌, ◌-◌, ◌<◌, ◌≤◌, Bool, true, false, not, ◌&&◌, ◌||◌, cond, List, [], ◌∷◌, ◌++◌, length, get_or, set, swap, take, drop, leb, refl, sym, ◌∙◌, ap, subst, inl, inr, ◌⊎◌, arith, Option, Some, None}
+use Rattle.std.proofs.Common.{◌≡◌, ◌≢◌, ℕ, zero, suc, ◌+◌, ◌-◌, ◌<◌, ◌≤◌, Bool, true, false, ◌||◌, cond, List, [], ◌∷◌, ◌++◌, length, get_or, swap, take, leb, refl, sym, ◌∙◌, ap, subst, inl, inr, arith, Some}
 use Rattle.std.specs.List.{list_any}
 use Rattle.std.proofs.lemmas.List.{get_or-take, get_or_append_left, take-append-le, take_at, take-take, length-take-le, length_push, take_all, get_or_push, get_or_read}
-use Rattle.std.proofs.lemmas.List.Edits.{length-swap}
-use Rattle.std.proofs.lemmas.List.Folds.{list_all-append}
-use Rattle.std.proofs.lemmas.Bool.{and_parts, and_from, or_cases, or_left, or_right, false≢true, cases_eq, both_ways, not_from_false, not-true, false_from_ne_true, leb-true, le-leb}
+use Rattle.std.proofs.lemmas.Bool.{and_from, or_cases, or_left, or_right, false≢true, cases_eq, both_ways, not_from_false, leb-true, le-leb}
 use Rattle.cdcl_proof.specs.declared.literal.Literal.{Literal}
 use Rattle.cdcl_proof.specs.declared.trail.Entry.{Entry}
-use Rattle.cdcl_proof.specs.Literal.{negation, same, holds, mentions, slot_of}
+use Rattle.cdcl_proof.specs.Literal.{negation, same, holds, mentions}
 use Rattle.cdcl_proof.specs.Fresh.{is_free, count_free, is_closed, is_closed_at, is_unit}
 use Rattle.cdcl_proof.specs.Learning.{falsifies}
-use Rattle.cdcl_proof.specs.Replay.{is_number, clause_at}
-use Rattle.cdcl_proof.specs.Trail.{literals, entry_at, no_entry, AreApart, Implies}
+use Rattle.cdcl_proof.specs.Replay.{is_number}
+use Rattle.cdcl_proof.specs.Trail.{literals, entry_at, no_entry, Implies}
 use Rattle.cdcl_proof.specs.Propagation.{IsConflict}
-use Rattle.cdcl_proof.specs.Watching.{IsRow, AreRows, AreShort, AreMarks, ArePermuted, IsCovered, AreCovered, Propagates, is_satisfied, row_at, literal_at, no_literal}
+use Rattle.cdcl_proof.specs.Watching.{IsRow, AreRows, AreShort, AreMarks, IsCovered, AreCovered, Propagates, is_satisfied, row_at, literal_at}
 use Rattle.cdcl_proof.specs.Watcher.{IsProgress}
-use Rattle.cdcl_proof.proofs.Sets.{same-true, same-refl, negation-negation, all_at, all_from, any_at, any_from, mentions_from, holds_from_mentions}
-use Rattle.cdcl_proof.proofs.Entries.{holds_entry, entry_of_holds, entry_at-push_new}
+use Rattle.cdcl_proof.proofs.Sets.{same-refl, all_at, all_from, any_at, any_from}
+use Rattle.cdcl_proof.proofs.Entries.{holds_entry, entry_at-push_new}
 use Rattle.cdcl_proof.proofs.Scanning.{free_from}
 use Rattle.cdcl_proof.proofs.Resolution.{cases_le, holds_take}
-use Rattle.cdcl_proof.proofs.Lessons.{two_free, holds_before}
+use Rattle.cdcl_proof.proofs.Lessons.{two_free}
 use Rattle.cdcl_proof.proofs.Sound.{is_number_at, clause_at-next}
 use Rattle.cdcl_proof.proofs.Rows.{holds_at, place_of, swap_first, swap_other}
-use Rattle.cdcl_proof.proofs.Tables.{past, row_inside}
 
 -- two of the first places of a row
 other_place : (place m : ℕ) → place < 2 → m < 2 → m ≢ place → m ≡ 1 - place

@@ -2,12 +2,12 @@
 use Rattle.std.proofs.Common.{◌≡◌, ℕ, true, false, not, ◌&&◌, List, [], ◌∷◌, ◌++◌, length, refl, sym, ◌∙◌, ap, arith, append_assoc}
 use Rattle.std.specs.List.{list_all}
 use Rattle.std.proofs.lemmas.List.Folds.{list_all-append}
-use Rattle.std.proofs.lemmas.Bool.{and_parts, and_from, not_from_false, false_from_ne_true, false≢true}
+use Rattle.std.proofs.lemmas.Bool.{and_parts, and_from, not_from_false, false≢true}
 use Rattle.cdcl_proof.specs.declared.literal.Literal.{Literal}
 use Rattle.cdcl_proof.specs.declared.log.Step.{Step}
 use Rattle.cdcl_proof.specs.Literal.{is_once}
 use Rattle.cdcl_proof.specs.Clause.{is_clause}
-use Rattle.cdcl_proof.specs.Formula.{Formula, are_clauses, makes_true, satisfies}
+use Rattle.cdcl_proof.specs.Formula.{Formula, are_clauses, makes_true}
 use Rattle.cdcl_proof.specs.Replay.{learnt, derives, replay}
 use Rattle.cdcl_proof.specs.Regular.{is_regular, is_regular_log}
 use Rattle.cdcl_proof.specs.Fresh.{IsFresh, is_empty, has_no_empty}

@@ -1,18 +1,15 @@
 -- How a sound trail and a pass over the clauses go on.
-use Rattle.std.proofs.Common.{◌≡◌, ℕ, zero, suc, ◌+◌, ◌-◌, ◌<◌, ◌≤◌, Bool, true, List, [], ◌∷◌, ◌++◌, length, get_or, take, leb, refl, sym, ◌∙◌, ap, subst, inl, inr, arith, Some}
+use Rattle.std.proofs.Common.{◌≡◌, ℕ, zero, suc, ◌+◌, ◌-◌, ◌<◌, ◌≤◌, Bool, true, List, [], ◌∷◌, ◌++◌, length, get_or, take, leb, refl, sym, ap, inl, inr, arith}
 use Rattle.std.specs.List.{list_all}
-use Rattle.std.proofs.lemmas.List.{take-append-le, take_at, take-take, get_or-take, length-take-le, length_push}
-use Rattle.std.proofs.lemmas.List.Folds.{list_all_more}
-use Rattle.std.proofs.lemmas.Bool.{and_parts, and_from, true≢false, le-leb}
+use Rattle.std.proofs.lemmas.List.{take-append-le, take_at, take-take, get_or-take, length-take-le}
+use Rattle.std.proofs.lemmas.Bool.{and_parts, and_from, le-leb}
 use Rattle.cdcl_proof.specs.declared.literal.Literal.{Literal}
 use Rattle.cdcl_proof.specs.declared.trail.Entry.{Entry}
-use Rattle.cdcl_proof.specs.Literal.{holds, is_once}
-use Rattle.cdcl_proof.specs.Clause.{is_among, is_within, is_clause}
+use Rattle.cdcl_proof.specs.Literal.{is_once}
+use Rattle.cdcl_proof.specs.Clause.{is_within, is_clause}
 use Rattle.cdcl_proof.specs.Formula.{are_clauses}
 use Rattle.cdcl_proof.specs.Replay.{is_number, clause_at}
-use Rattle.cdcl_proof.specs.Fresh.{is_free, is_closed_at, is_unit}
-use Rattle.cdcl_proof.specs.Trail.{Path, IsSound, Stands, Implies, literals, entry_at, no_entry}
-use Rattle.cdcl_proof.proofs.Sets.{all_at}
+use Rattle.cdcl_proof.specs.Trail.{IsSound, Stands, entry_at, no_entry}
 use Rattle.cdcl_proof.proofs.Entries.{cases_push, entry_at-push_old, entry_at-push_new}
 
 -- a fact of each clause holds at each number, if it holds of the empty clause

@@ -1,10 +1,9 @@
 -- A visit of a watch.
-use Rattle.std.proofs.Common.{◌≡◌, ◌≢◌, ℕ, zero, suc, ◌+◌, ◌-◌, ◌*◌, ◌<◌, ◌≤◌, Bool, true, false, not, ◌&&◌, cond, eqb, List, [], ◌∷◌, ◌++◌, length, get_or, set, swap, take, refl, sym, ◌∙◌, ap, subst, inl, inr, ◌⊎◌, arith, Option, Some, None}
+use Rattle.std.proofs.Common.{◌≡◌, ℕ, zero, suc, ◌+◌, ◌<◌, ◌≤◌, true, false, cond, eqb, List, [], ◌∷◌, length, get_or, set, swap, take, refl, sym, ◌∙◌, ap, subst, inl, inr, ◌⊎◌, arith}
 use Rattle.std.specs.List.{swap_remove}
 use Rattle.std.proofs.lemmas.List.{get_or_read, get_or-take}
 use Rattle.std.proofs.lemmas.List.Sums.{sum_by-cons}
-use Rattle.std.proofs.lemmas.List.Edits.{length-swap}
-use Rattle.std.proofs.lemmas.Bool.{cases_eq, ne_eqb, false_from_ne_true, both_ways}
+use Rattle.std.proofs.lemmas.Bool.{cases_eq, false_from_ne_true, both_ways}
 use Rattle.cdcl_proof.specs.declared.literal.Literal.{Literal}
 use Rattle.cdcl_proof.specs.declared.row.Watch.{Watch}
 use Rattle.cdcl_proof.specs.declared.table.Table.{Table}
@@ -14,14 +13,14 @@ use Rattle.cdcl_proof.specs.Clause.{is_among, is_within}
 use Rattle.cdcl_proof.specs.Trail.{literals, entry_at, no_entry}
 use Rattle.cdcl_proof.specs.Table.{IsTable}
 use Rattle.cdcl_proof.specs.Watcher.{IsProgress}
-use Rattle.cdcl_proof.specs.Watching.{wanted, count_of, AreVisited, AreCovered, IsCovered, ArePermuted, HasSameClauses, is_satisfied, row_at, list_at, watch_at, literal_at, no_literal, no_watch}
-use Rattle.cdcl_proof.proofs.Sets.{negation-negation, all_from, any_from}
+use Rattle.cdcl_proof.specs.Watching.{wanted, count_of, AreVisited, AreCovered, IsCovered, ArePermuted, HasSameClauses, is_satisfied, row_at, list_at, watch_at, literal_at, no_watch}
+use Rattle.cdcl_proof.proofs.Sets.{negation-negation, all_from}
 use Rattle.cdcl_proof.proofs.Entries.{holds_entry, among_high}
 use Rattle.cdcl_proof.proofs.Resolution.{holds_take}
 use Rattle.cdcl_proof.proofs.Lessons.{holds_before}
 use Rattle.cdcl_proof.proofs.Rows.{holds-swap}
-use Rattle.cdcl_proof.proofs.Tables.{bit_small, slot_same, of_other, at_slot, at_same, wanted_by, wanted_long, wanted_where, watch_wanted, row_inside, among_row, same_rows, permuted_set, slot_in, swap_remove_before, length-swap_remove}
-use Rattle.cdcl_proof.proofs.Covering.{held_take, held_kept, satisfied_more, satisfied_row, covered_swap, covered_more}
+use Rattle.cdcl_proof.proofs.Tables.{bit_small, slot_same, of_other, at_slot, at_same, wanted_by, wanted_long, wanted_where, watch_wanted, row_inside, among_row, same_rows, permuted_set, swap_remove_before}
+use Rattle.cdcl_proof.proofs.Covering.{held_take, held_kept, satisfied_more, satisfied_row, covered_swap}
 
 -- what is known of a watch of a list and of its row
 pub record Visits (t : Table) (slot : ℕ) (w : Watch) (row : List Literal) : Type 0 where

@@ -1,5 +1,5 @@
 -- What the state of propagation keeps.
-use Rattle.std.specs.Prelude.{ℕ, Bool, true, false, ◌≡◌, ◌<◌, ◌≤◌, ◌+◌, List, [], ◌∷◌, length, slice_index_or, take, swap_remove}
+use Rattle.std.specs.Prelude.{ℕ, true, false, ◌≡◌, ◌<◌, ◌≤◌, ◌+◌, List, length, slice_index_or, take, swap_remove}
 use Rattle.cdcl_proof.specs.declared.literal.Literal.{Literal}
 use Rattle.cdcl_proof.specs.declared.trail.Entry.{Entry}
 use Rattle.cdcl_proof.specs.declared.watcher.Watcher.{Watcher}

@@ -1,6 +1,6 @@
 -- Watched literals (Moskewicz et al., Chaff, 2001): propagation reads a clause only when a literal that it watches
 -- has become false.
-use Rattle.std.specs.Prelude.{ℕ, Bool, true, false, ◌≡◌, ◌<◌, ◌≤◌, cond, ◌==◌, ◌&&◌, ◌+◌, ◌*◌, ◌^◌, ◌++◌, List, [], ◌∷◌, Option, Some, None, length, slice_index_or, slice_set, take, sum_by}
+use Rattle.std.specs.Prelude.{ℕ, Bool, true, false, ◌≡◌, ◌<◌, ◌≤◌, cond, ◌==◌, ◌+◌, ◌++◌, List, [], ◌∷◌, Some, length, slice_index_or, slice_set, take, sum_by}
 use Rattle.std.specs.List.{list_any}
 use Rattle.cdcl_proof.specs.declared.literal.Literal.{Literal}
 use Rattle.cdcl_proof.specs.declared.row.Watch.{Watch}

@@ -137,6 +137,13 @@ impl Watched {
         is_variable(self.trail(), literal) && !self.trail().is_assigned(literal.variable)
     }
 
+    /// The number of variables.
+    pub fn variables(&self) -> u64
+        ensures { result ≡ self.now.variables }
+    {
+        self.trail().variables()
+    }
+
     /// The clauses in order: clause number 1 comes first.
     pub fn clauses(&self) -> &[Clause]
         ensures { result.now ≡ self.now.clauses }

@@ -1,4 +1,4 @@
-use Rattle.std.proofs.Common.{ℕ, refl, ◌≡◌, ◌<◌, ◌-◌, length, swap, ap, subst, sym, ◌∙◌, arith, List}
+use Rattle.std.proofs.Common.{ℕ, refl, ◌-◌, length, swap, ap, subst, sym, ◌∙◌, arith, List}
 use Rattle.std.proofs.lemmas.List.Edits.{length-swap}
 use Rattle.cdcl_proof.specs.declared.literal.Literal.{Literal}
 use Rattle.cdcl_proof.specs.Watching.{IsRow, literal_at}

@@ -1,4 +1,4 @@
-use Rattle.std.proofs.Common.{◌≡◌, ◌<◌, ◌-◌, length}
+use Rattle.std.proofs.Common.{◌≡◌, ◌<◌, length}
 use Rattle.cdcl_proof.specs.Order.{IsOrder, KeepsWaiting}
 use Rattle.cdcl_proof.proofs.order.Order.climb.Given as goal
 

@@ -1,4 +1,4 @@
-use Rattle.std.proofs.Common.{ℕ, ◌≡◌, ◌<◌, ◌≤◌, ◌+◌, length, get_or}
+use Rattle.std.proofs.Common.{ℕ, ◌≡◌, ◌<◌, ◌+◌, length, get_or}
 use Rattle.cdcl_proof.proofs.order.Order.new.Given as goal
 
 abbrev pub invariant-loop-index : goal.invariant-loop-index

@@ -1,15 +1,13 @@
-use Rattle.std.proofs.Common.{ℕ, true, ◌≡◌, ◌≤◌, ◌⊎◌, inl, inr, ◌<◌, ◌+◌, ◌-◌, ◌++◌, ◌∷◌, [], List, length, take, ap, subst, sym, ◌∙◌, append_assoc, arith}
+use Rattle.std.proofs.Common.{ℕ, true, ◌≡◌, ◌⊎◌, inl, inr, ◌++◌, ◌∷◌, [], List, take, ap, subst, sym, ◌∙◌, append_assoc, arith}
 use Rattle.cdcl_proof.specs.declared.literal.Literal.{Literal}
 use Rattle.cdcl_proof.specs.declared.trail.Entry.{Entry}
-use Rattle.cdcl_proof.specs.Clause.{is_clause}
 use Rattle.cdcl_proof.specs.Formula.{are_clauses}
-use Rattle.cdcl_proof.specs.Fresh.{is_free, is_unit}
 use Rattle.cdcl_proof.specs.Trail.{Path, IsSound, literals}
 use Rattle.cdcl_proof.specs.Literal.{mentions}
 use Rattle.cdcl_proof.specs.Order.{IsOrder, Waits}
 use Rattle.cdcl_proof.specs.Replay.{learnt}
 use Rattle.cdcl_proof.specs.Store.{Archive, known}
-use Rattle.cdcl_proof.specs.Watching.{Watching, Propagates, literal_at}
+use Rattle.cdcl_proof.specs.Watching.{Watching, Propagates}
 use Rattle.cdcl_proof.specs.Resolving.{IsLesson}
 use Rattle.cdcl_proof.proofs.Laws.{learnt-push}
 use Rattle.cdcl_proof.proofs.Adding.{sound_propagates, not_empty, mentions_kept}

@@ -1,4 +1,4 @@
-use Rattle.std.proofs.Common.{ℕ, ◌≡◌, ◌≤◌, ap, ◌∙◌, inl, arith}
+use Rattle.std.proofs.Common.{ap, inl, arith}
 use Rattle.cdcl_proof.specs.Watching.{Watching}
 use Rattle.cdcl_proof.proofs.solve.Search.new.Goals as goal
 

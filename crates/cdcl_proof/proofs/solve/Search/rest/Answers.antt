@@ -1,4 +1,4 @@
-use Rattle.std.proofs.Common.{◌≡◌, ◌<◌, ◌≤◌, length, ap, arith}
+use Rattle.std.proofs.Common.{◌≤◌, length, ap, arith}
 use Rattle.cdcl_proof.specs.Store.{known}
 use Rattle.cdcl_proof.specs.Trail.{Path}
 use Rattle.cdcl_proof.specs.Watching.{Watching}

@@ -1,4 +1,4 @@
-use Rattle.std.proofs.Common.{refl, [], ◌∷◌, ◌++◌, ◌≡◌, ◌≢◌, ◌<◌, ◌≤◌, ◌-◌, ℕ, true, List, length, get_or, set, swap, ap, subst, sym, ◌∙◌, arith}
+use Rattle.std.proofs.Common.{refl, [], ◌∷◌, ◌++◌, ◌≡◌, ◌≢◌, ◌<◌, ◌-◌, true, List, length, set, swap, ap, subst, sym, ◌∙◌, arith}
 use Rattle.std.specs.List.{swap_remove}
 use Rattle.std.proofs.lemmas.List.{length-set, get_or_read}
 use Rattle.cdcl_proof.specs.declared.literal.Literal.{Literal}

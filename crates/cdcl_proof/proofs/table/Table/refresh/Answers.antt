@@ -1,7 +1,7 @@
-use Rattle.std.proofs.Common.{[], true, ◌≡◌, List, length, set, get_or, ap, subst, sym, ◌∙◌, refl}
+use Rattle.std.proofs.Common.{[], ◌≡◌, List, set, ap, subst, sym, ◌∙◌, refl}
 use Rattle.std.proofs.lemmas.List.{get_or_read, length-set, get_or-set_same}
 use Rattle.cdcl_proof.specs.declared.row.Watch.{Watch}
-use Rattle.cdcl_proof.specs.Watching.{list_at, watch_at, no_watch, HasSameClauses, AreWatched, HaveBlockers}
+use Rattle.cdcl_proof.specs.Watching.{list_at, watch_at, HasSameClauses, AreWatched, HaveBlockers}
 use Rattle.cdcl_proof.proofs.Tables.{refreshed_same, refreshed_watched, refreshed_blockers}
 use Rattle.cdcl_proof.proofs.table.Table.refresh.Goals as goal
 

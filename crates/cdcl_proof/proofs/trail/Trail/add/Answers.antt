@@ -1,4 +1,4 @@
-use Rattle.std.proofs.Common.{◌≡◌, ◌<◌, length, set, ◌-◌, Some, rules, arith, vec_len}
+use Rattle.std.proofs.Common.{◌≡◌, length, set, ◌-◌, Some, rules, arith, vec_len}
 use Rattle.std.proofs.lemmas.Bool.{not-true}
 use Rattle.std.proofs.lemmas.List.{length-set, length_push}
 use Rattle.cdcl_proof.specs.declared.trail.Mark.{Mark}

@@ -1,4 +1,4 @@
-use Rattle.std.proofs.Common.{◌≡◌, ◌-◌, length, arith, None}
+use Rattle.std.proofs.Common.{◌-◌, arith, None}
 use Rattle.std.proofs.lemmas.List.{length-set}
 use Rattle.cdcl_proof.proofs.Entries.{tied_pop}
 use Rattle.cdcl_proof.proofs.trail.Trail.pop.Goals as goal

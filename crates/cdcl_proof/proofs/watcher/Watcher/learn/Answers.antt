@@ -1,13 +1,12 @@
-use Rattle.std.proofs.Common.{Global, rules, refl, ℕ, true, false, ◌≡◌, ◌<◌, ◌≤◌, ◌+◌, ◌-◌, ◌++◌, ◌∷◌, [], Some, List, length, get_or, take, ap, subst, sym, ◌∙◌, arith}
+use Rattle.std.proofs.Common.{rules, refl, ℕ, true, ◌≡◌, ◌<◌, ◌≤◌, ◌-◌, ◌++◌, ◌∷◌, [], Some, List, length, get_or, take, ap, subst, sym, ◌∙◌, arith}
 use Rattle.std.proofs.lemmas.Bool.{and_parts}
 use Rattle.std.proofs.lemmas.List.{get_or_read, length_push}
 use Rattle.cdcl_proof.specs.declared.literal.Literal.{Literal}
-use Rattle.cdcl_proof.specs.declared.trail.Entry.{Entry}
 use Rattle.cdcl_proof.specs.Literal.{holds, is_once}
 use Rattle.cdcl_proof.specs.Clause.{is_among, is_within}
 use Rattle.cdcl_proof.specs.Fresh.{is_free, is_unit}
 use Rattle.cdcl_proof.specs.Trail.{literals, is_after, Implies}
-use Rattle.cdcl_proof.specs.Watching.{IsRow, Propagates, literal_at, no_literal}
+use Rattle.cdcl_proof.specs.Watching.{IsRow, literal_at, no_literal}
 use Rattle.cdcl_proof.specs.Watcher.{IsProgress}
 use Rattle.cdcl_proof.specs.Replay.{clause_at}
 use Rattle.cdcl_proof.proofs.Sets.{all_at, all_from}

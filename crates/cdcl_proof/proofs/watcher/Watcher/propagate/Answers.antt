@@ -1,4 +1,4 @@
-use Rattle.std.proofs.Common.{Global, ℕ, true, ◌≡◌, ◌<◌, ◌≤◌, ◌+◌, ◌-◌, [], List, length, ap, subst, sym, ◌∙◌, arith}
+use Rattle.std.proofs.Common.{Global, ℕ, length, ap, subst, sym, ◌∙◌, arith}
 use Rattle.std.specs.declared.vec.Vec.{Vec}
 use Rattle.cdcl_proof.specs.declared.clause.Clause.{Clause}
 use Rattle.cdcl_proof.specs.Watching.{Propagates}

@@ -1,8 +1,7 @@
-use Rattle.std.proofs.Common.{Global, ℕ, true, ◌≡◌, ◌<◌, ◌≤◌, ◌+◌, ◌-◌, ◌*◌, [], List, length, get_or, ap, subst, sym, ◌∙◌, refl, arith}
+use Rattle.std.proofs.Common.{Global, ℕ, ◌≡◌, ◌<◌, [], length, ap, subst, sym, ◌∙◌, arith}
 use Rattle.std.proofs.lemmas.List.{get_or_read}
 use Rattle.std.specs.declared.vec.Vec.{Vec}
 use Rattle.cdcl_proof.specs.declared.clause.Clause.{Clause}
-use Rattle.cdcl_proof.specs.declared.row.Watch.{Watch}
 use Rattle.cdcl_proof.specs.declared.trail.Entry.{Entry}
 use Rattle.cdcl_proof.specs.Literal.{negation, slot_of}
 use Rattle.cdcl_proof.specs.Trail.{entry_at}

@@ -1,4 +1,4 @@
-use Rattle.std.proofs.Common.{ℕ, true, ◌≡◌, ◌<◌, ◌≤◌, ◌-◌, length}
+use Rattle.std.proofs.Common.{◌≡◌, ◌<◌, ◌≤◌, ◌-◌, length}
 use Rattle.cdcl_proof.specs.Literal.{negation, slot_of}
 use Rattle.cdcl_proof.specs.Trail.{literals, entry_at}
 use Rattle.cdcl_proof.specs.Watcher.{IsWatching}

@@ -1,4 +1,4 @@
-use Rattle.std.proofs.Common.{Global, ℕ, true, false, ◌≡◌, ◌<◌, ◌≤◌, ◌+◌, ◌-◌, ◌++◌, ◌∷◌, [], Some, List, length, get_or, set, swap, ap, subst, sym, ◌∙◌, refl, arith}
+use Rattle.std.proofs.Common.{Global, ℕ, true, false, ◌≡◌, ◌<◌, ◌+◌, ◌-◌, Some, List, length, ap, subst, sym, ◌∙◌, refl, arith}
 use Rattle.std.specs.declared.vec.Vec.{Vec}
 use Rattle.cdcl_proof.specs.declared.row.Row.{Row}
 use Rattle.cdcl_proof.specs.declared.literal.Literal.{Literal}
@@ -6,8 +6,7 @@ use Rattle.cdcl_proof.specs.declared.row.Watch.{Watch}
 use Rattle.cdcl_proof.specs.declared.trail.Entry.{Entry}
 use Rattle.cdcl_proof.specs.declared.table.Table.{Table}
 use Rattle.cdcl_proof.specs.Literal.{negation, holds, slot_of}
-use Rattle.cdcl_proof.specs.Clause.{is_among, is_within}
-use Rattle.cdcl_proof.specs.Trail.{Path, literals, Implies}
+use Rattle.cdcl_proof.specs.Trail.{Path, literals}
 use Rattle.cdcl_proof.specs.Fresh.{is_unit}
 use Rattle.cdcl_proof.specs.Learning.{falsifies}
 use Rattle.cdcl_proof.specs.Propagation.{IsConflict}
