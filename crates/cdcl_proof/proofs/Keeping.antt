@@ -2,30 +2,33 @@
 use Rattle.std.proofs.Common.{◌≡◌, ℕ, true, false, not, ◌&&◌, List, [], ◌∷◌, ◌++◌, length, refl, sym, ◌∙◌, ap, arith, append_assoc}
 use Rattle.std.specs.List.{list_all}
 use Rattle.std.proofs.lemmas.List.Folds.{list_all-append}
-use Rattle.std.proofs.lemmas.Bool.{and_parts, and_from, not_from_false, false_from_ne_true, false≢true}
+use Rattle.std.proofs.lemmas.Bool.{and_parts, and_from, not_from_false, false≢true}
 use Rattle.cdcl_proof.specs.declared.literal.Literal.{Literal}
 use Rattle.cdcl_proof.specs.declared.log.Step.{Step}
 use Rattle.cdcl_proof.specs.Literal.{is_once}
 use Rattle.cdcl_proof.specs.Clause.{is_clause}
-use Rattle.cdcl_proof.specs.Formula.{Formula, are_clauses, makes_true, satisfies}
+use Rattle.cdcl_proof.specs.Formula.{Formula, are_clauses, makes_true}
 use Rattle.cdcl_proof.specs.Replay.{learnt, derives, replay}
+use Rattle.cdcl_proof.specs.Regular.{is_regular, is_regular_log}
 use Rattle.cdcl_proof.specs.Fresh.{IsFresh, is_empty, has_no_empty}
 use Rattle.cdcl_proof.specs.Store.{IsKept}
 use Rattle.cdcl_proof.specs.Proof.{IsProof, Refutes, Exhausts}
 use Rattle.cdcl_proof.proofs.Laws.{clauses_once, follows, fresh_new_from, replays_from-push, fresh_push, learnt-push}
+use Rattle.cdcl_proof.proofs.Regularity.{regular_from-push}
 use Rattle.cdcl_proof.proofs.Counting.{fewer_than}
 
 given_clauses : (f : Formula) (steps : List Step) → IsKept f steps → (are_clauses f.variables f.clauses ≡ true) × (are_clauses f.variables (learnt steps) ≡ true)
 given_clauses f steps k = and_parts (are_clauses f.variables f.clauses) (are_clauses f.variables (learnt steps)) (sym (list_all-append (is_clause f.variables) f.clauses (learnt steps)) ∙ k.clauses)
 
 -- one more learnt clause
-pub kept_push : (f : Formula) (steps : List Step) (s : Step) → IsKept f steps → is_clause f.variables s.clause ≡ true → derives (f.clauses ++ learnt steps) s.hints s.clause ≡ true → IsFresh (f.clauses ++ learnt steps) s.clause → is_empty s.clause ≡ false → IsKept f (steps ++ s ∷ [])
-kept_push f steps s k clause derived fresh full = record {
+pub kept_push : (f : Formula) (steps : List Step) (s : Step) → IsKept f steps → is_clause f.variables s.clause ≡ true → derives (f.clauses ++ learnt steps) s.hints s.clause ≡ true → is_regular (f.clauses ++ learnt steps) s.hints ≡ true → IsFresh (f.clauses ++ learnt steps) s.clause → is_empty s.clause ≡ false → IsKept f (steps ++ s ∷ [])
+kept_push f steps s k clause derived regular fresh full = record {
   clauses =
       let parts : f.clauses ++ learnt (steps ++ s ∷ []) ≡ (f.clauses ++ learnt steps) ++ s.clause ∷ [] = ap (λ (cs : List (List Literal)). f.clauses ++ cs) (learnt-push steps s) ∙ sym (append_assoc f.clauses (learnt steps) (s.clause ∷ [])) in
       ap (are_clauses f.variables) parts ∙ list_all-append (is_clause f.variables) (f.clauses ++ learnt steps) (s.clause ∷ []) ∙ and_from (are_clauses f.variables (f.clauses ++ learnt steps)) (is_clause f.variables s.clause && true) k.clauses (and_from (is_clause f.variables s.clause) true clause refl);
   replays = replays_from-push f.clauses steps s ∙ and_from (replay f steps) (derives (f.clauses ++ learnt steps) s.hints s.clause) k.replays derived;
   fresh = fresh_push f.clauses steps s k.fresh (λ e. fresh);
+  regular = regular_from-push f.clauses steps s ∙ and_from (is_regular_log f steps) (is_regular (f.clauses ++ learnt steps) s.hints) k.regular regular;
   none_empty = list_all-append (λ (t : Step). not (is_empty t.clause)) steps (s ∷ []) ∙ and_from (has_no_empty steps) (not (is_empty s.clause) && true) k.none_empty (and_from (not (is_empty s.clause)) true (not_from_false (is_empty s.clause) full) refl);
 }
 
@@ -38,13 +41,14 @@ kept_proof f steps k =
     record {
       replays = k.replays;
       fresh = k.fresh;
+      regular = k.regular;
       follows = follows f steps once more k.replays;
       new = fresh_new_from f.clauses steps once more k.fresh;
     }
 
 -- and with the empty clause a refutation
-pub kept_refutes : (f : Formula) (steps : List Step) (s : Step) → IsKept f steps → derives (f.clauses ++ learnt steps) s.hints s.clause ≡ true → s.clause ≡ [] → Refutes f (steps ++ s ∷ [])
-kept_refutes f steps s k derived empty =
+pub kept_refutes : (f : Formula) (steps : List Step) (s : Step) → IsKept f steps → derives (f.clauses ++ learnt steps) s.hints s.clause ≡ true → is_regular (f.clauses ++ learnt steps) s.hints ≡ true → s.clause ≡ [] → Refutes f (steps ++ s ∷ [])
+kept_refutes f steps s k derived regular empty =
     let given = given_clauses f steps k in
     let once = clauses_once f.variables f.clauses given.0 in
     let more : list_all is_once (learnt (steps ++ s ∷ [])) ≡ true =
@@ -54,7 +58,7 @@ kept_refutes f steps s k derived empty =
     let fresh = fresh_push f.clauses steps s k.fresh (λ e. absurd (false≢true (sym e ∙ ap is_empty empty))) in
     let true_all = follows f (steps ++ s ∷ []) once more replays in
     record {
-      proof = record { replays = replays; fresh = fresh; follows = true_all; new = fresh_new_from f.clauses (steps ++ s ∷ []) once more fresh };
+      proof = record { replays = replays; fresh = fresh; regular = regular_from-push f.clauses steps s ∙ and_from (is_regular_log f steps) (is_regular (f.clauses ++ learnt steps) s.hints) k.regular regular; follows = true_all; new = fresh_new_from f.clauses (steps ++ s ∷ []) once more fresh };
       ends = record { earlier = steps; last = s; parts = refl; empty = empty };
       unsatisfiable = λ bits h.
           let all = true_all bits h in

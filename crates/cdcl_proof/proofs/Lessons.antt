@@ -15,6 +15,7 @@ use Rattle.cdcl_proof.specs.Fresh.{is_free, count_free, is_closed, is_closed_at,
 use Rattle.cdcl_proof.specs.Trail.{literals, entry_at, no_entry, AreApart, IsSound, Implies, NoDecision}
 use Rattle.cdcl_proof.specs.Learning.{is_seen, is_seen_entry, count_seen, seen_negations}
 use Rattle.cdcl_proof.specs.Resolving.{IsResolving, IsLesson}
+use Rattle.cdcl_proof.specs.Watching.{literal_at}
 use Rattle.cdcl_proof.proofs.Sets.{same-true, same-refl, negation-negation, all_at, all_from, mentions_from, holds_from_mentions}
 use Rattle.cdcl_proof.proofs.Entries.{variable_at, holds_entry, entry_of_holds, mentions_entry}
 use Rattle.cdcl_proof.proofs.Sound.{sound_take}
@@ -129,6 +130,40 @@ only_seen seen (e ∷ es) h = go (is_seen_entry seen e) refl h (λ one. only_see
         later : (j : ℕ) → j < length (e ∷ es) → is_seen_entry seen (entry_at (e ∷ es) j) ≡ true → (r : OnlySeen seen es) → j ≡ suc r.place
         later zero l s r = absurd (both_ways (is_seen_entry seen e) p s)
         later (suc j) l s r = ap suc (r.only j (omega (arith, l)) s)
+
+-- the negation of the newest marked entry comes last
+none_seen : (seen : List Bool) (es : List Entry) → ((k : ℕ) → k < length es → is_seen_entry seen (entry_at es k) ≡ false) → seen_negations seen es ≡ []
+none_seen seen [] h = refl
+none_seen seen (e ∷ es) h = go (is_seen_entry seen e) (h zero (omega arith)) (none_seen seen es (λ k l. h (suc k) (omega (arith, l))))
+  where
+    go : (b : Bool) → b ≡ false → seen_negations seen es ≡ [] → map (λ (x : Entry). negation x.literal) (cond b (e ∷ filter (is_seen_entry seen) es) (filter (is_seen_entry seen) es)) ≡ []
+    go true p ih = absurd (true≢false p)
+    go false p ih = ih
+
+last_cons : (x : Literal) (xs : List Literal) → 0 < length xs → literal_at (x ∷ xs) (length (x ∷ xs) - 1) ≡ literal_at xs (length xs - 1)
+last_cons x [] h = absurd (omega (arith, h))
+last_cons x (y ∷ ys) h = let e : length (x ∷ y ∷ ys) - 1 ≡ suc (length (y ∷ ys) - 1) = omega arith in ap (λ (n : ℕ). literal_at (x ∷ y ∷ ys) n) e
+
+-- the list ends in the literal
+record LastOf (xs : List Literal) (x : Literal) : Type 0 where
+  some : 0 < length xs
+  last : literal_at xs (length xs - 1) ≡ x
+
+last_more : (y : Literal) (xs : List Literal) (x : Literal) → LastOf xs x → LastOf (y ∷ xs) x
+last_more y xs x h = record { some = omega arith; last = last_cons y xs h.some ∙ h.last }
+
+last_seen : (seen : List Bool) (es : List Entry) (tip : ℕ) → tip < length es → is_seen_entry seen (entry_at es tip) ≡ true → ((k : ℕ) → tip < k → k < length es → is_seen_entry seen (entry_at es k) ≡ false) → LastOf (seen_negations seen es) (negation (entry_at es tip).literal)
+last_seen seen [] tip l m none = absurd (omega (arith, l))
+last_seen seen (e ∷ es) zero l m none = go (is_seen_entry seen e) m (none_seen seen es (λ k lk. none (suc k) (omega arith) (omega (arith, lk))))
+  where
+    go : (b : Bool) → b ≡ true → seen_negations seen es ≡ [] → LastOf (map (λ (x : Entry). negation x.literal) (cond b (e ∷ filter (is_seen_entry seen) es) (filter (is_seen_entry seen) es))) (negation e.literal)
+    go true p ih = subst (λ (xs : List Literal). LastOf (negation e.literal ∷ xs) (negation e.literal)) (sym ih) (record { some = omega arith; last = refl })
+    go false p ih = absurd (false≢true p)
+last_seen seen (e ∷ es) (suc tip) l m none = go (is_seen_entry seen e) (last_seen seen es tip (omega (arith, l)) m (λ k low lk. none (suc k) (omega (arith, low)) (omega (arith, lk))))
+  where
+    go : (b : Bool) → LastOf (seen_negations seen es) (negation (entry_at es tip).literal) → LastOf (map (λ (x : Entry). negation x.literal) (cond b (e ∷ filter (is_seen_entry seen) es) (filter (is_seen_entry seen) es))) (negation (entry_at es tip).literal)
+    go true ih = last_more (negation e.literal) (seen_negations seen es) (negation (entry_at es tip).literal) ih
+    go false ih = ih
 
 -- literals of a clause that a set leaves free
 one_free : (t xs : List Literal) (a : Literal) → holds xs a ≡ true → is_free t a ≡ true → 1 ≤ count_free t xs
@@ -304,16 +339,23 @@ module _ (variables : ℕ) (known : List (List Literal)) (es : List Entry) (soun
         early_one (inl late) = absurd (true≢false (sym (before k late k_below) ∙ ap is_some none))
         early_one (inr early) = early
 
+    ends : LastOf (seen_negations seen es) (negation (entry_at es tip).literal)
+    ends = last_seen seen es tip tip_in tip_marked (λ k low l. false_from_ne_true (is_seen_entry seen (entry_at es k)) (λ m. let t = tip_above in let one = tip_only k (omega (arith, low, t)) l m in omega (arith, one, low)))
+
     pub lesson : IsLesson variables known es (record { clause = seen_negations seen es; hints = hints }) place
+    unfolding is_fresh
     lesson = record {
       clause = and_from (is_once (seen_negations seen es)) (is_within variables (seen_negations seen es)) (once-seen_negations seen es (apart_once variables es apart).0)
           (all_from (is_among variables) (seen_negations seen es) (λ l h.
           let parts = and_parts (is_seen seen l.variable) (holds (literals es) (negation l)) (sym (holds-seen_negations seen es l) ∙ h) in
           all_at (is_among variables) (literals es) (negation l) (apart_once variables es apart).1 parts.1));
       derived = derived;
+      regular = resolving.regular;
       fresh = is_fresh;
       full = full (seen_negations seen es) (negated tip tip_in tip_marked);
       short = omega (arith, high, floor_in);
+      free = rw ends.last is_fresh.free;
+      others = rw ends.last is_fresh.others;
       sound = sound_more variables known (seen_negations seen es) (take place es) (sound_take variables known es place (omega (arith, high, floor_in)) sound) closed_in;
     }
       where

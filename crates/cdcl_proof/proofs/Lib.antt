@@ -5,9 +5,15 @@ pub mod Satisfying
 pub mod Scanning
 pub mod Sound
 pub mod Chains
+pub mod Regularity
 pub mod Marking
 pub mod Resolution
 pub mod Lessons
 pub mod Laws
 pub mod Counting
 pub mod Keeping
+pub mod Rows
+pub mod Tables
+pub mod Covering
+pub mod Visiting
+pub mod Adding

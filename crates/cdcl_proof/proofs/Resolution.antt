@@ -10,15 +10,16 @@ use Rattle.cdcl_proof.specs.declared.log.Hint.{Hint}
 use Rattle.cdcl_proof.specs.declared.trail.Entry.{Entry}
 use Rattle.cdcl_proof.specs.Literal.{negation, same, is_on, holds, mentions, is_once}
 use Rattle.cdcl_proof.specs.Clause.{is_among, without, resolvent}
-use Rattle.cdcl_proof.specs.Replay.{is_number, clause_at, opposes, is_clash, fits, chain_of}
+use Rattle.cdcl_proof.specs.Replay.{survives, is_number, clause_at, opposes, is_clash, fits, chain_of}
 use Rattle.cdcl_proof.specs.Fresh.{is_free, count_free, is_closed, is_closed_at}
 use Rattle.cdcl_proof.specs.Trail.{literals, entry_at, no_entry, AreApart, IsSound, Implies}
 use Rattle.cdcl_proof.specs.Learning.{is_seen, is_seen_entry, count_seen, Represents}
 use Rattle.cdcl_proof.specs.Propagation.{IsConflict}
-use Rattle.cdcl_proof.specs.Resolving.{Resolves, NoneSeen, IsAnalysis, IsLevel}
+use Rattle.cdcl_proof.specs.Resolving.{Resolves, NoneSeen, ArePivotsFrom, IsAnalysis, IsLevel}
 use Rattle.cdcl_proof.proofs.Sets.{same-true, same-refl, negation-negation, all_at, all_from, any_at, mentions_from, holds_from_mentions, once_same, once_apart, holds-resolvent}
 use Rattle.cdcl_proof.proofs.Entries.{variable_at, among_low, holds_entry, entry_of_holds, mentions_entry}
 use Rattle.cdcl_proof.proofs.Chains.{names_chain-push, chain_of-push}
+use Rattle.cdcl_proof.proofs.Regularity.{regular_more, pivots_more, pivots_later, survives_from}
 use Rattle.cdcl_proof.proofs.Marking.{apart_once, count_between, count_seen-pos}
 
 pub mentions-without : (p : ℕ) (c : List Literal) (v : ℕ) → mentions (without p c) v ≡ (not (eqb v p) && mentions c v)
@@ -256,6 +257,13 @@ module _ (variables : ℕ) (known : List (List Literal)) (es : List Entry) (soun
             ]) in
             marks (variable_at es k) v_low ∙ (let t : (not (eqb (variable_at es k) p) && (is_seen old (variable_at es k) || mentions (clause_at known reason) (variable_at es k))) ≡ false = rw (e, unseen, absent) refl in t)
 
+    reason_survives : (gs : List Hint) → ArePivotsFrom es (place + 1) gs → (l : Literal) → holds (clause_at known reason) l ≡ true → survives gs l ≡ true
+    reason_survives gs p l h =
+        elim (of_reason l h) as (λ _. survives gs l ≡ true) [
+          | inl one ↦ survives_from variables es place gs l place apart p (omega arith) inside (ap (λ (m : Literal). m.variable) (sym one))
+          | inr k ↦ survives_from variables es place gs l k.0 apart p (let b = k.1 in omega (arith, b)) k.2 (ap (λ (m : Literal). m.variable) k.3)
+        ]
+
     pub resolve_step : (floor keep count result : ℕ) (hints : List Hint) (old new : List Bool) → is_seen_entry old (entry_at es place) ≡ true → IsAnalysis variables known es floor keep (place + 1) count hints old → keep < count → Resolves (variable_at es place) (clause_at known reason) old new → result ≡ count_seen new (drop floor es) → count ≤ result + 1 → length new ≡ length old → IsAnalysis variables known es floor keep place result (hints ++ record { clause = reason; pivot = variable_at es place } ∷ []) new
     resolve_step floor keep count result hints old new marked a more marks counted fewer len =
         let r = chain_of known hints in
@@ -265,11 +273,13 @@ module _ (variables : ℕ) (known : List (List Literal)) (es : List Entry) (soun
         record {
           resolving = record {
             chain = names_chain-push known hints h a.resolving.chain fit;
+            regular = regular_more known es place hints h a.resolving.regular a.pivots (λ gs p. all_from (survives gs) (clause_at known reason) (λ l held. reason_survives gs p l held));
             marks = subst (λ (c : List Literal). Represents new (literals es) c) (sym (chain_of-push known hints h a.resolving.chain)) (still_represents r old rep marked new marks);
           };
           counted = counted;
           kept = omega (arith, more, fewer);
           none = none_left old new a.none marks;
+          pivots = pivots_more es place hints h a.pivots inside refl;
           short = omega (arith, inside);
           len = len ∙ a.len;
         }
@@ -316,6 +326,7 @@ module _ (variables : ℕ) (known : List (List Literal)) (es : List Entry) (soun
     analysis_start floor keep count level counted len = record {
       resolving = record {
         chain = and_from (is_number known conflict) true false_clause.0 refl;
+        regular = refl;
         marks = represents_from (literals es) trail_once (clause_at known conflict) seen
             (λ l h. all_at (λ m. holds (literals es) (negation m)) (clause_at known conflict) l false_clause.1 h)
             (λ l h. marks l.variable (among_low variables (negation l) (all_at (is_among variables) (literals es) (negation l) ((apart_once variables es apart).1) h)));
@@ -323,6 +334,7 @@ module _ (variables : ℕ) (known : List (List Literal)) (es : List Entry) (soun
       counted = counted;
       kept = enough keep level;
       none = λ k low l. absurd (omega (arith, low, l));
+      pivots = tt;
       short = omega arith;
       len = len;
     }
@@ -333,3 +345,18 @@ module _ (variables : ℕ) (known : List (List Literal)) (es : List Entry) (soun
             let closed = all_clauses_closed known (literals (take floor es)) conflict false_clause.0 lv.1 in
             let one = some_after floor closed in
             omega (arith, one, counted, lv.0)
+
+-- an entry that is not marked is passed over
+pub analysis_down : (variables : ℕ) (known : List (List Literal)) (es : List Entry) (floor keep place count : ℕ) (hints : List Hint) (seen : List Bool) → place < length es → is_seen_entry seen (entry_at es place) ≡ false → IsAnalysis variables known es floor keep (place + 1) count hints seen → IsAnalysis variables known es floor keep place count hints seen
+analysis_down variables known es floor keep place count hints seen inside unmarked a = record {
+  resolving = a.resolving;
+  counted = a.counted;
+  kept = a.kept;
+  none = λ k low l. elim (cases_le (place + 1) k) as (λ _. is_seen_entry seen (entry_at es k) ≡ false) [
+    | inl above ↦ a.none k above l
+    | inr below ↦ let one : k ≡ place = omega (arith, low, below) in subst (λ (n : ℕ). is_seen_entry seen (entry_at es n) ≡ false) (sym one) unmarked
+  ];
+  pivots = pivots_later es place hints a.pivots;
+  short = omega (arith, inside);
+  len = a.len;
+}

@@ -137,3 +137,21 @@ step_two s c i d (Some u) l h e v = scan_two s c i d u l h (value_none s (get_or
 pub step_open : (s c : List Literal) (i : ℕ) (d : Literal) (o : Option Literal) → i < length c → IsScan s (take i c) o → false ≡ is_some o → None ≡ value_of s (get_or c i d) → IsScan s (take (i + 1) c) (Some (get_or c i d))
 step_open s c i d None l h e v = scan_open s c i d l h (value_none s (get_or c i d) v)
 step_open s c i d (Some u) l h e v = absurd (false≢true e)
+
+-- whether a literal is held, by its value
+pub value_holds : (s : List Literal) (l : Literal) (b : Bool) → Some b ≡ value_of s l → b ≡ holds s l
+value_holds s l b e =
+    elim (value_cases (holds s l) (holds s (negation l)) (Some b) e) as (λ _. b ≡ holds s l) [
+      | inl a ↦ the_value b true a.0 ∙ sym a.1
+      | inr r ↦ elim r as (λ _. b ≡ holds s l) [ inl f ↦ the_value b false f.0 ∙ sym f.1 | inr n ↦ absurd (none_some b (sym n.0)) ]
+    ]
+  where
+    the_value : (x y : Bool) → Some x ≡ Some y → x ≡ y
+    the_value x y h = cc
+
+pub none_holds : (s : List Literal) (l : Literal) → None ≡ value_of s l → false ≡ holds s l
+none_holds s l e =
+    elim (value_cases (holds s l) (holds s (negation l)) None e) as (λ _. false ≡ holds s l) [
+      | inl a ↦ absurd (none_some true a.0)
+      | inr r ↦ elim r as (λ _. false ≡ holds s l) [ inl f ↦ absurd (none_some false f.0) | inr n ↦ sym n.1 ]
+    ]

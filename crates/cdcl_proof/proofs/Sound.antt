@@ -1,19 +1,15 @@
 -- How a sound trail and a pass over the clauses go on.
-use Rattle.std.proofs.Common.{◌≡◌, ℕ, zero, suc, ◌+◌, ◌-◌, ◌<◌, ◌≤◌, Bool, true, List, [], ◌∷◌, ◌++◌, length, get_or, take, leb, refl, sym, ◌∙◌, ap, subst, inl, inr, arith, Some}
+use Rattle.std.proofs.Common.{◌≡◌, ℕ, zero, suc, ◌+◌, ◌-◌, ◌<◌, ◌≤◌, Bool, true, List, [], ◌∷◌, ◌++◌, length, get_or, take, leb, refl, sym, ap, inl, inr, arith}
 use Rattle.std.specs.List.{list_all}
-use Rattle.std.proofs.lemmas.List.{take-append-le, take_at, take-take, get_or-take, length-take-le, length_push}
-use Rattle.std.proofs.lemmas.List.Folds.{list_all_more}
-use Rattle.std.proofs.lemmas.Bool.{and_parts, and_from, true≢false, le-leb}
+use Rattle.std.proofs.lemmas.List.{take-append-le, take_at, take-take, get_or-take, length-take-le}
+use Rattle.std.proofs.lemmas.Bool.{and_parts, and_from, le-leb}
 use Rattle.cdcl_proof.specs.declared.literal.Literal.{Literal}
 use Rattle.cdcl_proof.specs.declared.trail.Entry.{Entry}
-use Rattle.cdcl_proof.specs.Literal.{holds, is_once}
-use Rattle.cdcl_proof.specs.Clause.{is_among, is_within, is_clause}
+use Rattle.cdcl_proof.specs.Literal.{is_once}
+use Rattle.cdcl_proof.specs.Clause.{is_within, is_clause}
 use Rattle.cdcl_proof.specs.Formula.{are_clauses}
 use Rattle.cdcl_proof.specs.Replay.{is_number, clause_at}
-use Rattle.cdcl_proof.specs.Fresh.{is_free, is_closed_at, is_unit}
-use Rattle.cdcl_proof.specs.Trail.{Path, IsSound, Stands, Implies, literals, entry_at, no_entry}
-use Rattle.cdcl_proof.specs.Propagation.{IsPassing}
-use Rattle.cdcl_proof.proofs.Sets.{all_at}
+use Rattle.cdcl_proof.specs.Trail.{IsSound, Stands, entry_at, no_entry}
 use Rattle.cdcl_proof.proofs.Entries.{cases_push, entry_at-push_old, entry_at-push_new}
 
 -- a fact of each clause holds at each number, if it holds of the empty clause
@@ -49,32 +45,3 @@ is_number_at known i h = and_from (leb 1 (i + 1)) (leb (i + 1) (length known)) (
 
 pub clause_at-next : (known : List (List Literal)) (i : ℕ) → clause_at known (i + 1) ≡ get_or known i []
 clause_at-next known i = let back : i + 1 - 1 ≡ i = omega arith in ap (λ (k : ℕ). get_or known k []) back
-
--- a clause that is closed
-pub pass_closed : (known : List (List Literal)) (old new : Path) (i : ℕ) (moved : Bool) → i < length known → IsPassing known old new i moved → is_closed_at (literals new.entries) (clause_at known (i + 1)) ≡ true → IsPassing known old new (i + 1) moved
-pass_closed known old new i moved l h closed = record {
-  variables = h.variables;
-  sound = h.sound;
-  longer = h.longer;
-  moves = h.moves;
-  rests = λ m.
-      let before = h.rests m in
-      let at : is_closed_at (literals new.entries) (get_or known i []) ≡ true = subst (λ (c : List Literal). is_closed_at (literals new.entries) c ≡ true) (clause_at-next known i) closed in
-      (before.0, list_all_more (is_closed_at (literals new.entries)) known i [] l ∙ and_from _ _ before.1 at);
-}
-
--- a clause that implies a literal
-pub pass_push : (known : List (List Literal)) (old new : Path) (i : ℕ) (moved : Bool) (u : Literal) → i < length known → IsPassing known old new i moved → are_clauses new.variables known ≡ true → (holds (clause_at known (i + 1)) u ≡ true) × (is_free (literals new.entries) u ≡ true) × (is_unit (literals new.entries) u (clause_at known (i + 1)) ≡ true) → length (new.entries ++ record { literal = u; reason = Some (i + 1) } ∷ []) ≤ new.variables → IsPassing known old (record { variables = new.variables; entries = new.entries ++ record { literal = u; reason = Some (i + 1) } ∷ [] }) (i + 1) true
-pass_push known old new i moved u l h clauses state room =
-    let e : Entry = record { literal = u; reason = Some (i + 1) } in
-    let implies : Implies known (i + 1) (literals new.entries) u = record { number = is_number_at known i l; within = state.0; others = state.2 } in
-    let among : is_among new.variables u ≡ true = all_at (is_among new.variables) (clause_at known (i + 1)) u (clause_within new.variables known (i + 1) clauses) state.0 in
-    let stands : Stands new.variables known new.entries e = record { among = among; free = state.1; why = implies } in
-    let len = length_push new.entries e in
-    record {
-      variables = h.variables;
-      sound = sound_push new.variables known new.entries e h.sound stands;
-      longer = omega (arith, len, h.longer);
-      moves = λ _. (omega (arith, len, h.longer), room);
-      rests = λ m. absurd (true≢false m);
-    }

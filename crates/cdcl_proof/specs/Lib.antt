@@ -3,12 +3,16 @@ pub mod Clause
 pub mod Formula
 pub mod Replay
 pub mod Fresh
+pub mod Regular
 pub mod Trail
 pub mod Learning
 pub mod Store
 pub mod Propagation
 pub mod Resolving
 pub mod Proof
-pub mod Activity
+pub mod Order
 pub mod Search
 pub mod Answer
+pub mod Watching
+pub mod Table
+pub mod Watcher

@@ -1,5 +1,5 @@
 -- Literals and sets of literals. A set is a list: its order and repetitions say nothing.
-use Rattle.std.specs.Prelude.{ℕ, Bool, true, not, ◌==◌, ◌&&◌, List, [], ◌∷◌}
+use Rattle.std.specs.Prelude.{ℕ, Bool, true, not, cond, ◌==◌, ◌&&◌, ◌+◌, ◌*◌, List, [], ◌∷◌}
 use Rattle.std.proofs.Math.Bool.{beq}
 use Rattle.std.specs.List.{list_any}
 use Rattle.cdcl_proof.specs.declared.literal.Literal.{Literal}
@@ -28,3 +28,7 @@ mentions s v = list_any (λ k. is_on v k) s
 abbrev pub is_once : List Literal → Bool
 is_once [] = true
 is_once (l ∷ ls) = not (mentions ls l.variable) && is_once ls
+
+-- the place of the literal's list among the watch lists
+abbrev pub slot_of : Literal → ℕ
+slot_of l = 2 * l.variable + cond l.positive 1 0

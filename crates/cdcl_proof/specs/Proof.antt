@@ -3,6 +3,7 @@ use Rattle.std.specs.Prelude.{ℕ, Bool, ◌≡◌, ◌++◌, ◌<◌, ◌^◌, 
 use Rattle.cdcl_proof.specs.declared.log.Step.{Step}
 use Rattle.cdcl_proof.specs.Formula.{Formula, satisfies}
 use Rattle.cdcl_proof.specs.Replay.{replay, Follows}
+use Rattle.cdcl_proof.specs.Regular.{is_regular_log}
 use Rattle.cdcl_proof.specs.Fresh.{Fresh, has_no_empty, is_new_from}
 
 -- the last step's clause is empty
@@ -12,10 +13,11 @@ pub record EndsEmpty (log : List Step) : Type 0 where
   pub parts : log ≡ earlier ++ last ∷ []
   pub empty : last.clause ≡ []
 
--- the log replays and is fresh
+-- the log replays, is fresh and is regular
 pub record IsProof (f : Formula) (log : List Step) : Type 0 where
   pub replays : IsTrue (replay f log)
   pub fresh : Fresh f log
+  pub regular : IsTrue (is_regular_log f log)
   pub follows : Follows f log
   pub new : IsTrue (is_new_from f.clauses log)
 

@@ -1,15 +1,12 @@
 -- What propagation finds.
-use Rattle.std.specs.Prelude.{ℕ, Bool, true, false, ◌≡◌, ◌<◌, ◌≤◌, List, Option, Some, None, length, take}
+use Rattle.std.specs.Prelude.{ℕ, true, ◌≡◌, ◌≤◌, List, Option, Some, None}
 use Rattle.cdcl_proof.specs.declared.literal.Literal.{Literal}
 use Rattle.cdcl_proof.specs.declared.propagation.State.{State}
 use Rattle.cdcl_proof.specs.declared.propagation.State.TheVariants.{Closed, Open, False}
-use Rattle.cdcl_proof.specs.declared.propagation.Pass.{Pass}
-use Rattle.cdcl_proof.specs.declared.propagation.Pass.TheVariants.{Conflict, Moved, Quiet}
 use Rattle.cdcl_proof.specs.Literal.{holds}
 use Rattle.cdcl_proof.specs.Replay.{is_number, clause_at}
 use Rattle.cdcl_proof.specs.Fresh.{is_closed, is_closed_at, is_unit, is_free, count_free}
 use Rattle.cdcl_proof.specs.Learning.{falsifies}
-use Rattle.cdcl_proof.specs.Trail.{Path, literals, IsSound}
 
 -- the clause under the set: closed, or with one literal left open, or false
 abbrev pub IsState : List Literal → List Literal → State → Type 0
@@ -26,21 +23,7 @@ abbrev pub IsOutcome : List (List Literal) → List Literal → Option ℕ → T
 IsOutcome known s (Some n) = IsConflict known s n
 IsOutcome known s None = is_closed s known ≡ true
 
--- what a pass over the clauses leaves
-abbrev pub IsPass : List (List Literal) → Path → Path → Pass → Type 0
-IsPass known old new (Conflict n) = (length old.entries ≤ length new.entries) × IsConflict known (literals new.entries) n
-IsPass known old new Moved = (length old.entries < length new.entries) × (length new.entries ≤ new.variables)
-IsPass known old new Quiet = (new.entries ≡ old.entries) × (is_closed (literals new.entries) known ≡ true)
-
 -- what the literals read so far are: all false, or all but one that is left open
 abbrev pub IsScan : List Literal → List Literal → Option Literal → Type 0
 IsScan s c None = falsifies s c ≡ true
 IsScan s c (Some u) = (holds c u ≡ true) × (is_free s u ≡ true) × (is_unit s u c ≡ true) × (1 ≤ count_free s c)
-
--- a pass that has read the clauses before the index
-pub record IsPassing (known : List (List Literal)) (old new : Path) (index : ℕ) (moved : Bool) : Type 0 where
-  pub variables : new.variables ≡ old.variables
-  pub sound : IsSound new.variables known new.entries
-  pub longer : length old.entries ≤ length new.entries
-  pub moves : moved ≡ true → (length old.entries < length new.entries) × (length new.entries ≤ new.variables)
-  pub rests : moved ≡ false → (new.entries ≡ old.entries) × (is_closed (literals new.entries) (take index known) ≡ true)

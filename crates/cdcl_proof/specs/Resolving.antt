@@ -1,5 +1,5 @@
 -- What conflict analysis keeps while it resolves.
-use Rattle.std.specs.Prelude.{ℕ, zero, suc, Bool, true, false, ◌≡◌, ◌<◌, ◌≤◌, ◌||◌, ◌&&◌, ◌==◌, ◌++◌, ◌∷◌, not, List, [], length, take, drop}
+use Rattle.std.specs.Prelude.{ℕ, zero, suc, Bool, true, false, ◌≡◌, ◌<◌, ◌≤◌, ◌||◌, ◌&&◌, ◌==◌, ◌++◌, ◌∷◌, ◌-◌, not, List, [], length, take, drop}
 use Rattle.cdcl_proof.specs.declared.literal.Literal.{Literal}
 use Rattle.cdcl_proof.specs.declared.log.Hint.{Hint}
 use Rattle.cdcl_proof.specs.declared.log.Step.{Step}
@@ -7,7 +7,9 @@ use Rattle.cdcl_proof.specs.declared.trail.Entry.{Entry}
 use Rattle.cdcl_proof.specs.Literal.{mentions}
 use Rattle.cdcl_proof.specs.Clause.{is_clause}
 use Rattle.cdcl_proof.specs.Replay.{names_chain, chain_of, derives}
-use Rattle.cdcl_proof.specs.Fresh.{IsFresh, is_closed, is_empty}
+use Rattle.cdcl_proof.specs.Regular.{is_regular}
+use Rattle.cdcl_proof.specs.Fresh.{IsFresh, is_closed, is_empty, is_free, is_unit}
+use Rattle.cdcl_proof.specs.Watching.{literal_at}
 use Rattle.cdcl_proof.specs.Trail.{literals, entry_at, IsSound}
 use Rattle.cdcl_proof.specs.Learning.{is_seen, is_seen_entry, count_seen, Represents}
 
@@ -30,19 +32,33 @@ IsLevel known s (suc n) = (n ≡ 0) × (is_closed s known ≡ true)
 abbrev pub NoneSeen : List Bool → List Entry → ℕ → Type 0
 NoneSeen seen es place = (k : ℕ) → place ≤ k → k < length es → is_seen_entry seen (entry_at es k) ≡ false
 
+-- each hint resolves on the variable of an entry from the place on
+abbrev pub ArePivotsFrom : List Entry → ℕ → List Hint → Type 0
+ArePivotsFrom es place [] = Unit {0}
+ArePivotsFrom es place (h ∷ hs) = ((k : ℕ) × (place ≤ k) × (k < length es) × ((entry_at es k).literal.variable ≡ h.pivot)) × ArePivotsFrom es place hs
+
+-- each hint but the first does
+abbrev pub HasPivotsFrom : List Entry → ℕ → List Hint → Type 0
+HasPivotsFrom es place [] = Unit {0}
+HasPivotsFrom es place (h ∷ hs) = ArePivotsFrom es place hs
+
 -- the hints name a chain, and the marks tell the variables of the clause that it gives
 pub record IsResolving (known : List (List Literal)) (es : List Entry) (hints : List Hint) (seen : List Bool) : Type 0 where
   pub chain : names_chain known hints ≡ true
+  pub regular : is_regular known hints ≡ true
   pub marks : Represents seen (literals es) (chain_of known hints)
 
 -- a learnt clause with its chain, and the place up to which the trail stays
 pub record IsLesson (variables : ℕ) (known : List (List Literal)) (es : List Entry) (step : Step) (place : ℕ) : Type 0 where
   pub clause : is_clause variables step.clause ≡ true
   pub derived : derives known step.hints step.clause ≡ true
+  pub regular : is_regular known step.hints ≡ true
   pub fresh : IsFresh known step.clause
   pub full : is_empty step.clause ≡ false
   pub short : place ≤ length es
   pub sound : IsSound variables (known ++ step.clause ∷ []) (take place es)
+  pub free : is_free (literals (take place es)) (literal_at step.clause (length step.clause - 1)) ≡ true
+  pub others : is_unit (literals (take place es)) (literal_at step.clause (length step.clause - 1)) step.clause ≡ true
 
 -- the analysis with the entries from the place on done: `count` literals from the floor on are left
 pub record IsAnalysis (variables : ℕ) (known : List (List Literal)) (es : List Entry) (floor keep place count : ℕ) (hints : List Hint) (seen : List Bool) : Type 0 where
@@ -50,5 +66,6 @@ pub record IsAnalysis (variables : ℕ) (known : List (List Literal)) (es : List
   pub counted : count ≡ count_seen seen (drop floor es)
   pub kept : keep ≤ count
   pub none : NoneSeen seen es place
+  pub pivots : HasPivotsFrom es place hints
   pub short : place ≤ length es
   pub len : length seen ≡ variables

@@ -1,10 +1,10 @@
 // Clauses: sets of literals with no variable twice.
-ghost use Rattle.std.specs.Prelude.{◌≡◌, ◌↔◌, List, [], IsTrue, IsSome, IfSome};
+ghost use Rattle.std.specs.Prelude.{◌≡◌, ◌↔◌, List, [], IsTrue, IsSome, IfSome, IfOk};
 ghost use Rattle.cdcl_proof.specs.Literal.{holds, mentions, is_once};
 ghost use Rattle.cdcl_proof.specs.Clause.{is_within, is_subset};
 
 use crate::literal::Literal;
-use std::alloc::Global;
+use std::alloc::{AllocError, Global};
 use std::marker::Model;
 
 /// A set of literals in which no variable stands twice, as a list. It is true where one of its literals is.
@@ -53,6 +53,17 @@ impl Clause {
         ensures { result ≡ literals.items }
     {
         Clause { literals }
+    }
+
+    /// The clause of the same literals.
+    pub fn copy(alloc: Global, clause: &Clause) -> Result<Clause, AllocError>
+        ensures { IfOk result (λ c. c ≡ clause.now) }
+    {
+        let mut literals = Vec::with_capacity(alloc, clause.literals.len())?;
+        for literal in &clause.literals {
+            literals.push(*literal)?;
+        }
+        Ok(Clause { literals })
     }
 
     /// The literals, with no copy.

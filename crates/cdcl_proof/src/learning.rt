@@ -2,6 +2,7 @@
 ghost use Rattle.std.specs.Prelude.{ℕ, ◌≡◌, ◌<◌, ◌≤◌, ◌+◌, ◌-◌, true, false, [], length, take, drop, IfOk, Some, IsNone, slice_set};
 ghost use Rattle.cdcl_proof.specs.Clause.{is_within};
 ghost use Rattle.cdcl_proof.specs.Replay.{derives, clause_at};
+ghost use Rattle.cdcl_proof.specs.Regular.{is_regular};
 ghost use Rattle.cdcl_proof.specs.Literal.{mentions};
 ghost use Rattle.cdcl_proof.specs.Trail.{IsSound, literals, entry_at, NoDecision};
 ghost use Rattle.cdcl_proof.specs.Learning.{is_seen, is_seen_entry, count_seen};
@@ -69,6 +70,7 @@ pub(crate) fn refute(
     requires decisions { NoDecision trail.now.entries 0 (length trail.now.entries) }
     ensures empty { IfOk result (λ s. s.clause ≡ []) }
     ensures derived { IfOk result (λ s. derives (known store.now) s.hints [] ≡ true) }
+    ensures regular { IfOk result (λ s. is_regular (known store.now) s.hints ≡ true) }
 {
     let hints = resolve_down(alloc, store, trail, seen, conflict, 0, 0)?;
     Ok(Step {

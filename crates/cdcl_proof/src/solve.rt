@@ -1,23 +1,27 @@
 // The solver: conflict-driven clause learning with a log of its resolutions.
-ghost use Rattle.std.specs.Prelude.{ℕ, ◌≡◌, ◌≤◌, ◌<◌, ◌+◌, ◌-◌, ◌^◌, [], IfOk, IsNone, true, false, length};
+ghost use Rattle.std.specs.Prelude.{ℕ, ◌≡◌, ◌≤◌, ◌<◌, ◌+◌, ◌-◌, ◌^◌, [], IfOk, OnOk, IfSome, IfNone, IsTrue, IsNone, true, false, length};
 ghost use Rattle.cdcl_proof.specs.Literal.{mentions};
+ghost use Rattle.cdcl_proof.specs.Clause.{is_among};
+ghost use Rattle.cdcl_proof.specs.Order.{Waits, KeepsWaiting};
 ghost use Rattle.cdcl_proof.specs.Replay.{derives};
+ghost use Rattle.cdcl_proof.specs.Regular.{is_regular};
 ghost use Rattle.cdcl_proof.specs.Fresh.{is_closed};
 ghost use Rattle.cdcl_proof.specs.Trail.{literals, entry_at, NoDecision, IsTotal};
 ghost use Rattle.cdcl_proof.specs.Store.{known};
 ghost use Rattle.cdcl_proof.specs.Propagation.{IsConflict, IsOutcome};
 ghost use Rattle.cdcl_proof.specs.Answer.{Answers, IsDecided, IsSatisfied};
-ghost use Rattle.cdcl_proof.specs.Search.{IsSearching, IsBest};
+ghost use Rattle.cdcl_proof.specs.Search.{IsSearching, AllWait, WaitFrom, OthersWait};
 
-use crate::activity::Activity;
 use crate::assignment::Assignment;
+use crate::clause::Clause;
 use crate::cnf::Cnf;
 use crate::learning::{learn, refute};
 use crate::literal::Literal;
 use crate::log::{Log, Step};
-use crate::propagation::propagate;
+use crate::order::Order;
+use crate::restarts::Restarts;
 use crate::store::Store;
-use crate::trail::{Entry, Trail};
+use crate::watched::Watched;
 use std::alloc::{AllocError, Global};
 
 /// What the solver found of a formula.
@@ -33,6 +37,9 @@ pub enum Answer {
 
 /// Decides the formula by conflict-driven clause learning (Marques-Silva and Sakallah, GRASP, 1996; the activity
 /// order after Moskewicz et al., Chaff, 2001), learning at most `budget` clauses. The only error is want of memory.
+///
+/// Nothing is taken out of the log, so memory grows with it: 40 bytes for each literal of a learnt clause (16 in the
+/// log, 24 to propagate with) and 16 for each hint, besides about 150 for the clause itself.
 pub fn solve(alloc: Global, cnf: &Cnf, budget: u64) -> Result<Answer, AllocError>
     requires { 1 ≤ budget }
     ensures answers { IfOk result (Answers cnf.now budget) }
@@ -41,46 +48,56 @@ pub fn solve(alloc: Global, cnf: &Cnf, budget: u64) -> Result<Answer, AllocError
     let mut search = Search::new(alloc, cnf)?;
     loop {
         match search.propagate()? {
-            Some(conflict) => match search.trail.last_decision() {
+            Some(conflict) => match search.watched.trail().last_decision() {
                 Some(floor) => {
                     search.meet_conflict(alloc, conflict, floor)?;
                     if search.store.learnt_count() == budget {
                         return Ok(Answer::Spent(Log::from_vec(search.store.into_steps())));
                     }
+                    search.rest()?;
                 }
                 None => {
                     let step = search.refute(alloc, conflict)?;
                     return Ok(Answer::Refuted(search.store.ended_by(step)?));
                 }
             },
-            None => match search.most_active() {
-                Some(variable) => search.decide(variable)?,
-                None => return search.satisfied(alloc),
-            },
+            None => {
+                if !search.decide() {
+                    return search.satisfied(alloc);
+                }
+            }
         }
     }
 }
 
-/// A search: the clauses known, the literals assumed or implied, the variables' activity, and marks for the analysis
-/// of a conflict.
+/// A search: the clauses known, the literals held, the order of decisions, the signs that variables had last, and
+/// marks for the analysis of a conflict.
 #[derive(Drop)]
 pub(crate) struct Search<'a> {
     store: Store<'a>,
-    trail: Trail,
-    activity: Activity,
+    watched: Watched,
+    order: Order,
+    phases: Vec<bool>,
+    restarts: Restarts,
     seen: Vec<bool>,
 }
 
 impl<'a> Search<'a> {
     fn new(alloc: Global, cnf: &'a Cnf) -> Result<Search<'a>, AllocError>
         ensures searching { IfOk result IsSearching }
+        ensures waiting { IfOk result AllWait }
         ensures formula { IfOk result (λ s. s.store ≡ record { formula = cnf.now; steps = [] }) }
     {
         let variables = cnf.variables();
+        if variables >= 0x8000_0000 {
+            return Err(AllocError);
+        }
         Ok(Search {
             store: Store::new(alloc, cnf),
-            trail: Trail::new(alloc, variables)?,
-            activity: Activity::new(alloc, variables)?,
+            watched: Watched::new(alloc, cnf)?,
+            order: Order::new(alloc, variables)?,
+            phases: vec![in alloc; false; variables as usize]?,
+            restarts: Restarts::new(),
             seen: vec![in alloc; false; variables as usize]?,
         })
     }
@@ -89,11 +106,13 @@ impl<'a> Search<'a> {
     fn propagate(&mut self) -> Result<Option<u64>, AllocError>
         requires { IsSearching self.old }
         ensures searching { IfOk result (λ _. IsSearching self.new) }
+        ensures waiting { AllWait self.old → IfOk result (λ _. AllWait self.new) }
         ensures store { IfOk result (λ _. self.new.store ≡ self.old.store) }
-        ensures longer { IfOk result (λ _. length self.old.trail.entries ≤ length self.new.trail.entries) }
-        ensures outcome { IfOk result (IsOutcome (known self.new.store) (literals self.new.trail.entries)) }
+        ensures longer { IfOk result (λ _. length self.old.watched.entries ≤ length self.new.watched.entries) }
+        ensures outcome { IfOk result (IsOutcome (known self.new.store) (literals self.new.watched.entries)) }
     {
-        propagate(&self.store, &mut self.trail)
+        let conflict = self.watched.propagate()?;
+        Ok(conflict)
     }
 
     /// Learns a clause from the conflict, and goes back to the highest level of its literals but for the newest.
@@ -104,96 +123,156 @@ impl<'a> Search<'a> {
         floor: usize,
     ) -> Result<(), AllocError>
         requires searching { IsSearching self.old }
-        requires conflict { IsConflict (known self.old.store) (literals self.old.trail.entries) conflict }
-        requires floor { floor < length self.old.trail.entries }
-        requires decision { IsNone (entry_at self.old.trail.entries floor).reason }
-        requires newest { NoDecision self.old.trail.entries (floor + 1) (length self.old.trail.entries) }
+        requires waiting { AllWait self.old }
+        requires conflict { IsConflict (known self.old.store) (literals self.old.watched.entries) conflict }
+        requires floor { floor < length self.old.watched.entries }
+        requires decision { IsNone (entry_at self.old.watched.entries floor).reason }
+        requires newest { NoDecision self.old.watched.entries (floor + 1) (length self.old.watched.entries) }
         ensures searching { IfOk result (λ _. IsSearching self.new) }
+        ensures waiting { IfOk result (λ _. AllWait self.new) }
         ensures formula { IfOk result (λ _. self.new.store.formula ≡ self.old.store.formula) }
         ensures learnt { IfOk result (λ _. length self.new.store.steps ≡ length self.old.store.steps + 1) }
     {
         let lesson = learn(
             alloc,
             &self.store,
-            &self.trail,
+            self.watched.trail(),
             &mut self.seen,
             conflict,
             floor,
         )?;
-        self.activity.lift_all(lesson.step.clause.as_slice());
-        self.trail.cut(lesson.place);
+        self.order.lift_all(lesson.step.clause.as_slice());
+        self.release(lesson.place)?;
+        self.watched.back_to(lesson.place as u64);
+        let clause = Clause::copy(alloc, &lesson.step.clause)?;
         self.store.push(lesson.step)?;
+        self.watched.learn(clause)?;
         Ok(())
+    }
+
+    /// Takes all decisions back, if it is time to start again.
+    fn rest(&mut self) -> Result<(), AllocError>
+        requires searching { IsSearching self.old }
+        requires waiting { AllWait self.old }
+        ensures searching { IfOk result (λ _. IsSearching self.new) }
+        ensures waiting { IfOk result (λ _. AllWait self.new) }
+        ensures store { self.new.store ≡ self.old.store }
+    {
+        if !self.restarts.is_due() {
+            return Ok(());
+        }
+        match self.watched.trail().last_decision() {
+            Some(last) => {
+                let first = self.watched.trail().decision_from(0, last);
+                self.release(first)?;
+                self.watched.back_to(first as u64);
+                Ok(())
+            }
+            None => Ok(()),
+        }
     }
 
     /// The step that ends a refutation: no decision is left to take back.
     fn refute(&mut self, alloc: Global, conflict: u64) -> Result<Step, AllocError>
         requires searching { IsSearching self.old }
-        requires conflict { IsConflict (known self.old.store) (literals self.old.trail.entries) conflict }
-        requires decisions { NoDecision self.old.trail.entries 0 (length self.old.trail.entries) }
+        requires conflict { IsConflict (known self.old.store) (literals self.old.watched.entries) conflict }
+        requires decisions { NoDecision self.old.watched.entries 0 (length self.old.watched.entries) }
         ensures store { self.new.store ≡ self.old.store }
         ensures empty { IfOk result (λ s. s.clause ≡ []) }
         ensures derived { IfOk result (λ s. derives (known self.old.store) s.hints [] ≡ true) }
+        ensures regular { IfOk result (λ s. is_regular (known self.old.store) s.hints ≡ true) }
     {
-        refute(alloc, &self.store, &self.trail, &mut self.seen, conflict)
+        refute(
+            alloc,
+            &self.store,
+            self.watched.trail(),
+            &mut self.seen,
+            conflict,
+        )
     }
 
-    /// Assumes that the variable is false.
-    fn decide(&mut self, variable: u64) -> Result<(), AllocError>
+    /// Lets the variables of the literals from the place on wait again, and keeps their signs in mind.
+    fn release(&mut self, place: usize) -> Result<(), AllocError>
         requires searching { IsSearching self.old }
-        requires positive { 1 ≤ variable }
-        requires among { variable ≤ self.old.trail.variables }
-        requires free { mentions (literals self.old.trail.entries) variable ≡ false }
-        requires closed { is_closed (literals self.old.trail.entries) (known self.old.store) ≡ true }
-        ensures searching { IfOk result (λ _. IsSearching self.new) }
-        ensures store { IfOk result (λ _. self.new.store ≡ self.old.store) }
-        ensures longer { IfOk result (λ _. length self.new.trail.entries ≡ length self.old.trail.entries + 1) }
-        ensures room { IfOk result (λ _. length self.new.trail.entries ≤ self.new.trail.variables) }
+        requires waiting { AllWait self.old }
+        requires place { place ≤ length self.old.watched.entries }
+        ensures searching { IsSearching self.new }
+        ensures store { self.new.store ≡ self.old.store }
+        ensures watched { self.new.watched ≡ self.old.watched }
+        ensures waiting { OnOk result (WaitFrom self.new place) }
     {
-        self.trail.push(Entry {
-            literal: Literal {
-                variable,
-                positive: false,
-            },
-            reason: None,
-        })
+        for index in place..self.watched.trail().len() {
+            let entry = self.watched.trail().entry(index);
+            self.release_variable(entry.literal)?;
+        }
+        Ok(())
     }
 
-    /// The unassigned variable of the highest score, of these the first.
-    fn most_active(&self) -> Option<u64>
-        ensures { IsBest self.now self.now.trail.variables result }
+    /// Lets the variable of the literal wait again, and keeps its sign in mind.
+    fn release_variable(&mut self, literal: Literal) -> Result<(), AllocError>
+        requires searching { IsSearching self.old }
+        requires among { is_among self.old.watched.variables literal ≡ true }
+        ensures searching { IsSearching self.new }
+        ensures store { self.new.store ≡ self.old.store }
+        ensures watched { self.new.watched ≡ self.old.watched }
+        ensures waits { OnOk result (Waits self.new.order.heap.items literal.variable) }
+        ensures kept { KeepsWaiting self.old.order.heap.items self.new.order.heap.items }
     {
-        let mut best: Option<u64> = None;
-        for index in 0..self.trail.variables() {
-            best = self.better(best, index + 1);
-        }
-        best
+        self.order.insert(literal.variable)?;
+        self.phases[literal.variable as usize - 1] = literal.positive;
+        Ok(())
     }
 
-    /// The best of the variables up to this one, where `best` is that of those before it.
-    fn better(&self, best: Option<u64>, variable: u64) -> Option<u64>
-        requires positive { 1 ≤ variable }
-        requires among { variable ≤ self.now.trail.variables }
-        requires best { IsBest self.now (variable - 1) best }
-        ensures { IsBest self.now variable result }
+    /// Assumes a literal of the variable of the highest score among those that are not held, with the sign that it had
+    /// last. The result is whether there was one.
+    fn decide(&mut self) -> bool
+        requires searching { IsSearching self.old }
+        requires waiting { AllWait self.old }
+        requires closed { is_closed (literals self.old.watched.entries) (known self.old.store) ≡ true }
+        ensures searching { IsSearching self.new }
+        ensures waiting { AllWait self.new }
+        ensures store { self.new.store ≡ self.old.store }
+        ensures longer { IsTrue result → length self.new.watched.entries ≡ length self.old.watched.entries + 1 }
+        ensures room { IsTrue result → length self.new.watched.entries ≤ self.new.watched.variables }
+        ensures same { result ≡ false → self.new.watched ≡ self.old.watched }
+        ensures total { result ≡ false → IsTotal self.new.watched.variables (literals self.new.watched.entries) }
     {
-        if !self.trail.is_assigned(variable) && self.activity.is_higher(variable, best) {
-            Some(variable)
-        } else {
-            best
+        match self.open_variable() {
+            Some(variable) => {
+                let positive = self.phases[variable as usize - 1];
+                self.watched.assume(Literal { variable, positive });
+                true
+            }
+            None => false,
         }
+    }
+
+    /// Takes the variable of the highest score that is not held out of those that wait.
+    fn open_variable(&mut self) -> Option<u64>
+        requires searching { IsSearching self.old }
+        requires waiting { AllWait self.old }
+        ensures searching { IsSearching self.new }
+        ensures store { self.new.store ≡ self.old.store }
+        ensures watched { self.new.watched ≡ self.old.watched }
+        ensures some { IfSome result (λ v. (1 ≤ v) × (v ≤ self.new.watched.variables) × (mentions (literals self.new.watched.entries) v ≡ false)) }
+        ensures others { IfSome result (OthersWait self.new) }
+        ensures none { IfNone result (IsTotal self.new.watched.variables (literals self.new.watched.entries)) }
+    {
+        while let Some(variable) = self.order.pop() {
+            if !self.watched.trail().is_assigned(variable) {
+                return Some(variable);
+            }
+        }
+        None
     }
 
     /// The assignment of a trail that has a value for each variable.
     fn satisfied(self, alloc: Global) -> Result<Answer, AllocError>
         requires searching { IsSearching self }
-        requires closed { is_closed (literals self.trail.entries) (known self.store) ≡ true }
-        requires total { IsTotal self.trail.variables (literals self.trail.entries) }
+        requires closed { is_closed (literals self.watched.entries) (known self.store) ≡ true }
+        requires total { IsTotal self.watched.variables (literals self.watched.entries) }
         ensures { IfOk result (IsSatisfied self.entry.store.formula) }
     {
-        Ok(Answer::Satisfied(Assignment::from_vec(self.trail.values(alloc)?)))
+        Ok(Answer::Satisfied(Assignment::from_vec(self.watched.trail().values(alloc)?)))
     }
 }
-
-#[cfg(test)]
-mod tests;

@@ -3,6 +3,7 @@ ghost use Rattle.std.specs.Prelude.{◌≡◌, ◌++◌, ◌∷◌, [], true, fa
 ghost use Rattle.cdcl_proof.specs.Literal.{is_once};
 ghost use Rattle.cdcl_proof.specs.Clause.{is_clause};
 ghost use Rattle.cdcl_proof.specs.Replay.{learnt, is_number, clause_at, derives};
+ghost use Rattle.cdcl_proof.specs.Regular.{is_regular};
 ghost use Rattle.cdcl_proof.specs.Fresh.{IsFresh, is_empty};
 ghost use Rattle.cdcl_proof.specs.Store.{Archive, known, IsKept};
 ghost use Rattle.cdcl_proof.specs.Proof.{Refutes};
@@ -14,8 +15,8 @@ use crate::replay::clause_of;
 use std::alloc::{AllocError, Global};
 use std::marker::Model;
 
-/// The formula's clauses and the learnt ones, numbered from 1 in this order. Its steps replay and are fresh, and
-/// none of their clauses is empty.
+/// The formula's clauses and the learnt ones, numbered from 1 in this order. Its steps replay, are fresh and regular,
+/// and none of their clauses is empty.
 #[derive(Drop)]
 pub(crate) struct Store<'a> {
     cnf: &'a Cnf,
@@ -43,13 +44,6 @@ impl<'a> Store<'a> {
         }
     }
 
-    /// How many clauses are known.
-    pub(crate) fn len(&self) -> usize
-        ensures { result ≡ length (known self.now) }
-    {
-        self.cnf.clauses().len() + self.steps.len()
-    }
-
     /// How many clauses were learnt.
     pub(crate) fn learnt_count(&self) -> u64
         ensures count { result ≡ length self.now.steps }
@@ -71,6 +65,7 @@ impl<'a> Store<'a> {
     pub(crate) fn push(&mut self, step: Step) -> Result<(), AllocError>
         requires clause { is_clause self.old.formula.variables step.clause ≡ true }
         requires derived { derives (known self.old) step.hints step.clause ≡ true }
+        requires regular { is_regular (known self.old) step.hints ≡ true }
         requires fresh { IsFresh (known self.old) step.clause }
         requires full { is_empty step.clause ≡ false }
         ensures ok { OnOk result (self.new ≡ record self.old { steps = self.old.steps ++ step ∷ [] }) }
@@ -83,6 +78,7 @@ impl<'a> Store<'a> {
     /// The log that ends in a step of the empty clause.
     pub(crate) fn ended_by(self, step: Step) -> Result<Log, AllocError>
         requires derived { derives (known self) step.hints step.clause ≡ true }
+        requires regular { is_regular (known self) step.hints ≡ true }
         requires empty { step.clause ≡ [] }
         ensures { IfOk result (Refutes self.entry.formula) }
     {

@@ -36,14 +36,14 @@ pub(crate) struct Trail {
 }
 
 impl Model for Trail {
-    ghost use Rattle.std.specs.Prelude.{length};
+    ghost use Rattle.std.specs.Prelude.{length, vec_capacity, ◌≤◌};
     ghost use Rattle.cdcl_proof.specs.Trail.{Path, IsTied};
 
     ghost Value = { Path };
 
     ghost view = { λ t. record { variables = length t.marks.items; entries = t.entries.items } };
 
-    ghost invariant = { λ t. IsTied t.marks.items t.entries.items };
+    ghost invariant = { λ t. IsTied t.marks.items t.entries.items × (length t.marks.items ≤ vec_capacity t.entries) };
 }
 
 impl Trail {
@@ -53,7 +53,7 @@ impl Trail {
         let unassigned: Option<Mark> = None;
         let marks = vec![in alloc; unassigned; variables as usize]?;
         Ok(Trail {
-            entries: Vec::new(alloc),
+            entries: Vec::with_capacity(alloc, variables as usize)?,
             marks,
         })
     }
@@ -66,7 +66,8 @@ impl Trail {
     }
 
     pub(crate) fn variables(&self) -> u64
-        ensures { result ≡ self.now.variables }
+        ensures count { result ≡ self.now.variables }
+        ensures apart { AreApart self.now.variables self.now.entries }
     {
         self.marks.len() as u64
     }
@@ -88,6 +89,17 @@ impl Trail {
         match self.marks[literal.variable as usize - 1] {
             Some(mark) => Some(mark.positive == literal.positive),
             None => None,
+        }
+    }
+
+    /// Whether the literal is held.
+    pub(crate) fn is_true(&self, literal: Literal) -> bool
+        requires { is_among self.now.variables literal ≡ true }
+        ensures { result ≡ holds (literals self.now.entries) literal }
+    {
+        match self.value(literal) {
+            Some(value) => value,
+            None => false,
         }
     }
 
@@ -114,20 +126,19 @@ impl Trail {
         }
     }
 
-    /// Adds an entry of a variable that has none.
-    pub(crate) fn push(&mut self, entry: Entry) -> Result<(), AllocError>
+    /// Adds an entry of a variable that has none. It takes no memory.
+    pub(crate) fn add(&mut self, entry: Entry)
         requires among { is_among self.old.variables entry.literal ≡ true }
         requires free { is_free (literals self.old.entries) entry.literal ≡ true }
-        ensures ok { OnOk result (self.new ≡ record self.old { entries = self.old.entries ++ entry ∷ [] }) }
-        ensures room { OnOk result (length self.new.entries ≤ self.new.variables) }
+        ensures added { self.new ≡ record self.old { entries = self.old.entries ++ entry ∷ [] } }
+        ensures room { length self.new.entries ≤ self.new.variables }
     {
         let place = self.entries.len();
-        self.entries.push(entry)?;
+        self.entries.push_reserved(entry);
         self.marks[entry.literal.variable as usize - 1] = Some(Mark {
             positive: entry.literal.positive,
             place,
         });
-        Ok(())
     }
 
     /// Takes off the newest entry.

@@ -1,4 +1,5 @@
-use Rattle.std.proofs.Common.{◌∙◌, arith}
+use Rattle.std.proofs.Common.{ℕ, ◌≡◌, ◌+◌, ◌-◌, subst, ◌∙◌, arith}
+use Rattle.cdcl_proof.specs.Resolving.{IsAnalysis}
 use Rattle.cdcl_proof.specs.Store.{known}
 use Rattle.cdcl_proof.proofs.Resolution.{analysis_start, place_above}
 use Rattle.cdcl_proof.proofs.learning.resolve_down.Goals as goal
@@ -23,3 +24,9 @@ pub loop-count-smaller : goal.loop-count-smaller
 loop-count-smaller c =
     let above = place_above _ _ _ _ _ _ _ _ _ c.loop-count.invariant c.loop-count-test.true in
     omega (arith, above)
+
+pub resolve_entry-requires-clause-analysis : goal.resolve_entry-requires-clause-analysis
+resolve_entry-requires-clause-analysis c =
+    let above = place_above _ _ _ _ _ _ _ _ _ c.loop-count.invariant c.loop-count-test.true in
+    let back : c.loop-count.place ≡ c.loop-count.place - 1 + 1 = omega (arith, above) in
+    subst (λ (n : ℕ). IsAnalysis c.args.trail.now.variables (known c.args.store.now) c.args.trail.now.entries c.args.floor c.args.keep n c.loop-count.count c.loop-count.hints.items c.loop-count.seen) back c.loop-count.invariant

@@ -5,5 +5,6 @@ pub invariant_of-self-2 : goal.invariant_of-self-2
 invariant_of-self-2 c =
     let clause = rw (← c.self.view_is) at c.requires.clause in
     let derived = rw (← c.self.view_is) at c.requires.derived in
+    let regular = rw (← c.self.view_is) at c.requires.regular in
     let fresh = rw (← c.self.view_is) at c.requires.fresh in
-    rw c.in_ok-push.ensures.items (kept_push c.self.inside.cnf.now c.self.inside.steps.items c.args.step c.self.invariant clause derived fresh c.requires.full)
+    rw c.in_ok-push.ensures.items (kept_push c.self.inside.cnf.now c.self.inside.steps.items c.args.step c.self.invariant clause derived regular fresh c.requires.full)

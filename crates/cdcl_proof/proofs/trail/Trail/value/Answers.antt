@@ -8,7 +8,7 @@ returns-in-Some c =
     let low = among_low _ c.args.literal among in
     let high = among_high _ c.args.literal among in
     let read = mark_read c.self.inside.marks.items c.args.literal.variable c.index.result.now low high c.index.ensures in
-    rw (← c.self.view_is) (value_by_mark _ _ c.self.invariant c.args.literal c.in-Some.mark low (read ∙ c.in-Some.is))
+    rw (← c.self.view_is) (value_by_mark _ _ c.self.invariant.0 c.args.literal c.in-Some.mark low (read ∙ c.in-Some.is))
 
 pub returns-in-None : goal.returns-in-None
 returns-in-None c =
@@ -16,4 +16,4 @@ returns-in-None c =
     let low = among_low _ c.args.literal among in
     let high = among_high _ c.args.literal among in
     let read = mark_read c.self.inside.marks.items c.args.literal.variable c.index.result.now low high c.index.ensures in
-    rw (← c.self.view_is) (none_by_mark _ _ c.self.invariant c.args.literal (read ∙ c.in-None.is))
+    rw (← c.self.view_is) (none_by_mark _ _ c.self.invariant.0 c.args.literal (read ∙ c.in-None.is))

@@ -1,0 +1,63 @@
+-- Why a conflict's resolutions are regular: each pivot stands after all variables of the reasons that come later.
+use Rattle.std.proofs.Common.{◌≡◌, ℕ, ◌+◌, ◌<◌, ◌≤◌, Bool, true, not, ◌&&◌, List, [], ◌∷◌, ◌++◌, length, refl, sym, ◌∙◌, ap, arith, append_assoc}
+use Rattle.std.proofs.lemmas.Bool.{and_from, ne_eqb, not_from_false}
+use Rattle.cdcl_proof.specs.declared.literal.Literal.{Literal}
+use Rattle.cdcl_proof.specs.declared.log.Hint.{Hint}
+use Rattle.cdcl_proof.specs.declared.log.Step.{Step}
+use Rattle.cdcl_proof.specs.declared.trail.Entry.{Entry}
+use Rattle.cdcl_proof.specs.Literal.{is_on}
+use Rattle.cdcl_proof.specs.Replay.{clause_at, learnt, survives}
+use Rattle.cdcl_proof.specs.Regular.{avoids, is_regular_after, is_regular, is_regular_from}
+use Rattle.cdcl_proof.specs.Resolving.{ArePivotsFrom, HasPivotsFrom}
+use Rattle.cdcl_proof.specs.Trail.{entry_at, AreApart}
+use Rattle.cdcl_proof.proofs.Chains.{and-true, and-assoc}
+
+pub regular_after-push : (known : List (List Literal)) (e gs : List Hint) (h : Hint) → is_regular_after known e (gs ++ h ∷ []) ≡ (is_regular_after known e gs && avoids (e ++ gs) (clause_at known h.clause))
+regular_after-push known e [] h = and-true (avoids e (clause_at known h.clause)) ∙ ap (λ (x : List Hint). avoids x (clause_at known h.clause)) (sym (append_none e))
+  where
+    append_none : (xs : List Hint) → xs ++ [] ≡ xs
+    append_none [] = refl
+    append_none (x ∷ xs) = ap (λ (ys : List Hint). x ∷ ys) (append_none xs)
+regular_after-push known e (g ∷ gs) h =
+    ap (λ (b : Bool). avoids e (clause_at known g.clause) && b) (regular_after-push known (e ++ g ∷ []) gs h ∙ ap (λ (x : List Hint). is_regular_after known (e ++ g ∷ []) gs && avoids x (clause_at known h.clause)) (append_assoc e (g ∷ []) gs))
+    ∙ sym (and-assoc (avoids e (clause_at known g.clause)) (is_regular_after known (e ++ g ∷ []) gs) (avoids (e ++ (g ∷ gs)) (clause_at known h.clause)))
+
+-- one step more
+pub regular_from-push : (known : List (List Literal)) (log : List Step) (s : Step) → is_regular_from known (log ++ s ∷ []) ≡ (is_regular_from known log && is_regular (known ++ learnt log) s.hints)
+regular_from-push known [] s = and-true (is_regular known s.hints) ∙ ap (λ (k : List (List Literal)). is_regular k s.hints) (sym (append_none known))
+  where
+    append_none : (xs : List (List Literal)) → xs ++ [] ≡ xs
+    append_none [] = refl
+    append_none (x ∷ xs) = ap (λ (ys : List (List Literal)). x ∷ ys) (append_none xs)
+regular_from-push known (t ∷ ts) s =
+    ap (λ (b : Bool). is_regular known t.hints && b) (regular_from-push (known ++ t.clause ∷ []) ts s ∙ ap (λ (k : List (List Literal)). is_regular_from (known ++ t.clause ∷ []) ts && is_regular k s.hints) (append_assoc known (t.clause ∷ []) (learnt ts)))
+    ∙ sym (and-assoc (is_regular known t.hints) (is_regular_from (known ++ t.clause ∷ []) ts) (is_regular (known ++ (t.clause ∷ learnt ts)) s.hints))
+
+pub pivots_down : (es : List Entry) (place : ℕ) (hs : List Hint) → ArePivotsFrom es (place + 1) hs → ArePivotsFrom es place hs
+pivots_down es place [] p = tt
+pivots_down es place (h ∷ hs) p = ((p.0.0, omega (arith, p.0.1), p.0.2, p.0.3), pivots_down es place hs p.1)
+
+pivots_push : (es : List Entry) (place : ℕ) (hs : List Hint) (h : Hint) → ArePivotsFrom es place hs → place < length es → (entry_at es place).literal.variable ≡ h.pivot → ArePivotsFrom es place (hs ++ h ∷ [])
+pivots_push es place [] h p l e = ((place, omega arith, l, e), tt)
+pivots_push es place (g ∷ gs) h p l e = (p.0, pivots_push es place gs h p.1 l e)
+
+-- a variable of an entry up to the place is none of the pivots
+pub survives_from : (variables : ℕ) (es : List Entry) (place : ℕ) (hs : List Hint) (l : Literal) (m : ℕ) → AreApart variables es → ArePivotsFrom es (place + 1) hs → m ≤ place → m < length es → (entry_at es m).literal.variable ≡ l.variable → survives hs l ≡ true
+survives_from variables es place [] l m apart p low inside e = refl
+survives_from variables es place (h ∷ hs) l m apart p low inside e =
+    and_from (not (is_on h.pivot l)) (survives hs l)
+    (not_from_false (is_on h.pivot l) (ne_eqb l.variable h.pivot (λ q. (let one : m ≡ p.0.0 = apart.apart m p.0.0 inside p.0.2 (e ∙ q ∙ sym p.0.3) in let up = p.0.1 in let bad : ⊥ = omega (arith, one, up, low) in bad))))
+    (survives_from variables es place hs l m apart p.1 low inside e)
+
+pub pivots_later : (es : List Entry) (place : ℕ) (hs : List Hint) → HasPivotsFrom es (place + 1) hs → HasPivotsFrom es place hs
+pivots_later es place [] p = tt
+pivots_later es place (h ∷ hs) p = pivots_down es place hs p
+
+pub pivots_more : (es : List Entry) (place : ℕ) (hs : List Hint) (h : Hint) → HasPivotsFrom es (place + 1) hs → place < length es → (entry_at es place).literal.variable ≡ h.pivot → HasPivotsFrom es place (hs ++ h ∷ [])
+pivots_more es place [] h p l e = tt
+pivots_more es place (g ∷ gs) h p l e = pivots_push es place gs h (pivots_down es place gs p) l e
+
+-- the reason of an entry at the place is regular after the hints so far
+pub regular_more : (known : List (List Literal)) (es : List Entry) (place : ℕ) (hs : List Hint) (h : Hint) → is_regular known hs ≡ true → HasPivotsFrom es (place + 1) hs → ((gs : List Hint) → ArePivotsFrom es (place + 1) gs → avoids gs (clause_at known h.clause) ≡ true) → is_regular known (hs ++ h ∷ []) ≡ true
+regular_more known es place [] h r p a = refl
+regular_more known es place (g ∷ gs) h r p a = regular_after-push known [] gs h ∙ and_from (is_regular_after known [] gs) (avoids gs (clause_at known h.clause)) r (a gs p)

@@ -1,0 +1,158 @@
+-- Rows: the literals of a clause in another order.
+use Rattle.std.proofs.Common.{◌≡◌, ◌≢◌, ℕ, zero, suc, ◌<◌, Bool, true, false, not, List, [], ◌∷◌, length, get_or, set, swap, refl, sym, ◌∙◌, ap, subst, inl, inr, ◌⊎◌, arith}
+use Rattle.std.proofs.lemmas.List.{get_or-set_same, get_or-set_other, length-set}
+use Rattle.std.proofs.lemmas.List.Edits.{length-swap, swap_is}
+use Rattle.std.proofs.lemmas.Bool.{and_parts, or_cases, or_left, or_right, false≢true, cases_eq, both_ways, not-true}
+use Rattle.cdcl_proof.specs.declared.literal.Literal.{Literal}
+use Rattle.cdcl_proof.specs.Literal.{same, holds, mentions, is_once}
+use Rattle.cdcl_proof.specs.Watching.{IsRow, literal_at, no_literal}
+use Rattle.cdcl_proof.proofs.Sets.{same-true, same-refl, mentions_from}
+
+pub holds_at : (row : List Literal) (k : ℕ) → k < length row → holds row (literal_at row k) ≡ true
+holds_at [] k l = absurd (omega (arith, l))
+holds_at (x ∷ xs) zero l = or_left (same x x) (holds xs x) (same-refl x)
+holds_at (x ∷ xs) (suc k) l = or_right (same x (literal_at xs k)) (holds xs (literal_at xs k)) (holds_at xs k (omega (arith, l)))
+
+pub place_of : (row : List Literal) (l : Literal) → holds row l ≡ true → (k : ℕ) × (k < length row) × (literal_at row k ≡ l)
+place_of [] l h = absurd (false≢true h)
+place_of (x ∷ xs) l h =
+    elim (or_cases (same x l) (holds xs l) h) as (λ _. (k : ℕ) × (k < length (x ∷ xs)) × (literal_at (x ∷ xs) k ≡ l)) [
+      | inl here ↦ (zero, omega arith, same-true x l here)
+      | inr there ↦ let r = place_of xs l there in (suc r.0, omega (arith, r.1), r.2)
+    ]
+
+-- the place from which a literal comes
+moved : ℕ → ℕ → ℕ → ℕ
+moved i j m = elim (cases_eq m j) [ inl here ↦ i | inr other ↦ elim (cases_eq m i) [ inl there ↦ j | inr apart ↦ m ] ]
+
+moved_second : (i j m : ℕ) → m ≡ j → moved i j m ≡ i
+unfolding moved
+moved_second i j m e = go (cases_eq m j)
+  where
+    go : (c : (m ≡ j) ⊎ (m ≡ j → ⊥)) → elim c as (λ _. ℕ) [ inl here ↦ i | inr other ↦ elim (cases_eq m i) as (λ _. ℕ) [ inl there ↦ j | inr apart ↦ m ] ] ≡ i
+    go (inl h) = refl
+    go (inr h) = absurd (h e)
+
+moved_first : (i j m : ℕ) → m ≡ i → moved i j m ≡ j
+unfolding moved
+moved_first i j m e = go (cases_eq m j) (cases_eq m i)
+  where
+    go : (c : (m ≡ j) ⊎ (m ≡ j → ⊥)) (d : (m ≡ i) ⊎ (m ≡ i → ⊥)) → elim c as (λ _. ℕ) [ inl here ↦ i | inr other ↦ elim d as (λ _. ℕ) [ inl there ↦ j | inr apart ↦ m ] ] ≡ j
+    go (inl h) d = sym e ∙ h
+    go (inr h) (inl g) = refl
+    go (inr h) (inr g) = absurd (g e)
+
+moved_other : (i j m : ℕ) → m ≢ i → m ≢ j → moved i j m ≡ m
+unfolding moved
+moved_other i j m ni nj = go (cases_eq m j) (cases_eq m i)
+  where
+    go : (c : (m ≡ j) ⊎ (m ≡ j → ⊥)) (d : (m ≡ i) ⊎ (m ≡ i → ⊥)) → elim c as (λ _. ℕ) [ inl here ↦ i | inr other ↦ elim d as (λ _. ℕ) [ inl there ↦ j | inr apart ↦ m ] ] ≡ m
+    go (inl h) d = absurd (nj h)
+    go (inr h) (inl g) = absurd (ni g)
+    go (inr h) (inr g) = refl
+
+-- what became of a place
+record Moves (i j m : ℕ) : Type 0 where
+  back : moved i j (moved i j m) ≡ m
+  inside : (n : ℕ) → i < n → j < n → m < n → moved i j m < n
+
+moves : (i j m : ℕ) → Moves i j m
+moves i j m =
+    elim (cases_eq m j) as (λ _. Moves i j m) [
+      | inl second ↦
+          let one = moved_second i j m second in
+          record { back = ap (moved i j) one ∙ moved_first i j i refl ∙ sym second; inside = λ n li lj lm. omega (arith, one, li) }
+      | inr not_second ↦ elim (cases_eq m i) as (λ _. Moves i j m) [
+        | inl first ↦
+            let one = moved_first i j m first in
+            record { back = ap (moved i j) one ∙ moved_second i j j refl ∙ sym first; inside = λ n li lj lm. omega (arith, one, lj) }
+        | inr not_first ↦
+            let one = moved_other i j m not_first not_second in
+            record { back = ap (moved i j) one ∙ one; inside = λ n li lj lm. omega (arith, one, lm) }
+      ]
+    ]
+
+at_swap : (row : List Literal) (i j m : ℕ) → i < length row → j < length row → literal_at (swap row i j) m ≡ literal_at row (moved i j m)
+at_swap row i j m li lj =
+    let is = swap_is row i j no_literal li lj in
+    let xs = set row i (get_or row j no_literal) in
+    let long : j < length xs = let n = length-set row i (get_or row j no_literal) in omega (arith, n, lj) in
+    ap (λ (r : List Literal). literal_at r m) (sym is)
+    ∙ (elim (cases_eq m j) as (λ _. literal_at (set xs j (get_or row i no_literal)) m ≡ literal_at row (moved i j m)) [
+      | inl second ↦
+          ap (λ (p : ℕ). get_or (set xs j (get_or row i no_literal)) p no_literal) second ∙ get_or-set_same xs j (get_or row i no_literal) no_literal long
+          ∙ sym (ap (λ (p : ℕ). literal_at row p) (moved_second i j m second))
+      | inr not_second ↦ get_or-set_other xs j m (get_or row i no_literal) no_literal not_second ∙ elim (cases_eq m i) as (λ _. literal_at xs m ≡ literal_at row (moved i j m)) [
+        | inl first ↦
+            ap (λ (p : ℕ). get_or (set row i (get_or row j no_literal)) p no_literal) first ∙ get_or-set_same row i (get_or row j no_literal) no_literal li
+            ∙ sym (ap (λ (p : ℕ). literal_at row p) (moved_first i j m first))
+        | inr not_first ↦
+            get_or-set_other row i m (get_or row j no_literal) no_literal not_first
+            ∙ sym (ap (λ (p : ℕ). literal_at row p) (moved_other i j m not_first not_second))
+      ]
+    ])
+
+pub swap_first : (row : List Literal) (i j m : ℕ) → i < length row → j < length row → m ≡ i → literal_at (swap row i j) m ≡ literal_at row j
+swap_first row i j m li lj e = at_swap row i j m li lj ∙ ap (λ (p : ℕ). literal_at row p) (moved_first i j m e)
+
+pub swap_other : (row : List Literal) (i j m : ℕ) → i < length row → j < length row → m ≢ i → m ≢ j → literal_at (swap row i j) m ≡ literal_at row m
+swap_other row i j m li lj ni nj = at_swap row i j m li lj ∙ ap (λ (p : ℕ). literal_at row p) (moved_other i j m ni nj)
+
+pub bool_same : (a b : Bool) → (a ≡ true → b ≡ true) → (b ≡ true → a ≡ true) → a ≡ b
+bool_same true true f g = refl
+bool_same false false f g = refl
+bool_same true false f g = sym (f refl)
+bool_same false true f g = g refl
+
+pub holds-swap : (row : List Literal) (i j : ℕ) → i < length row → j < length row → (l : Literal) → holds (swap row i j) l ≡ holds row l
+holds-swap row i j li lj l = bool_same (holds (swap row i j) l) (holds row l) there back
+  where
+    len : length (swap row i j) ≡ length row
+    len = length-swap row i j
+
+    there : holds (swap row i j) l ≡ true → holds row l ≡ true
+    there h =
+        let p = place_of (swap row i j) l h in
+        let low : p.0 < length row = omega (arith, len, p.1) in
+        let m = (moves i j p.0).inside (length row) li lj low in
+        subst (λ (x : Literal). holds row x ≡ true) (sym (at_swap row i j p.0 li lj) ∙ p.2) (holds_at row (moved i j p.0) m)
+
+    back : holds row l ≡ true → holds (swap row i j) l ≡ true
+    back h =
+        let p = place_of row l h in
+        let m : moved i j p.0 < length (swap row i j) = let q = (moves i j p.0).inside (length row) li lj p.1 in omega (arith, len, q) in
+        subst (λ (x : Literal). holds (swap row i j) x ≡ true) (at_swap row i j (moved i j p.0) li lj ∙ ap (λ (k : ℕ). literal_at row k) (moves i j p.0).back ∙ p.2) (holds_at (swap row i j) (moved i j p.0) m)
+
+pub row_swap : (clause row : List Literal) (i j : ℕ) → i < length row → j < length row → IsRow clause row → IsRow clause (swap row i j)
+row_swap clause row i j li lj r = record {
+  len = len ∙ r.len;
+  same = λ l. holds-swap row i j li lj l ∙ r.same l;
+  apart = λ a b la lb e.
+      let low_a : a < length row = omega (arith, len, la) in
+      let low_b : b < length row = omega (arith, len, lb) in
+      let one = r.apart (moved i j a) (moved i j b) ((moves i j a).inside (length row) li lj low_a) ((moves i j b).inside (length row) li lj low_b)
+      (ap (λ (l : Literal). l.variable) (sym (at_swap row i j a li lj)) ∙ e ∙ ap (λ (l : Literal). l.variable) (at_swap row i j b li lj)) in
+      sym (moves i j a).back ∙ ap (moved i j) one ∙ (moves i j b).back;
+}
+  where
+    len : length (swap row i j) ≡ length row
+    len = length-swap row i j
+
+-- a clause is a row of its own
+apart_of : (c : List Literal) → is_once c ≡ true → (j k : ℕ) → j < length c → k < length c → (literal_at c j).variable ≡ (literal_at c k).variable → j ≡ k
+apart_of [] once j k lj lk e = absurd (omega (arith, lj))
+apart_of (x ∷ xs) once j k lj lk e =
+    let parts = and_parts (not (mentions xs x.variable)) (is_once xs) once in
+    go j k lj lk e (not-true (mentions xs x.variable) parts.0) (λ a b la lb f. apart_of xs parts.1 a b la lb f)
+  where
+    found : (k : ℕ) → k < length xs → mentions xs x.variable ≡ false → x.variable ≡ (literal_at xs k).variable → ⊥
+    found k l none e = both_ways (mentions xs x.variable) none (subst (λ (v : ℕ). mentions xs v ≡ true) (sym e) (mentions_from xs (literal_at xs k) (holds_at xs k l)))
+
+    go : (j k : ℕ) → j < length (x ∷ xs) → k < length (x ∷ xs) → (literal_at (x ∷ xs) j).variable ≡ (literal_at (x ∷ xs) k).variable → mentions xs x.variable ≡ false → ((a b : ℕ) → a < length xs → b < length xs → (literal_at xs a).variable ≡ (literal_at xs b).variable → a ≡ b) → j ≡ k
+    go zero zero lj lk e none ih = refl
+    go zero (suc k) lj lk e none ih = absurd (found k (omega (arith, lk)) none e)
+    go (suc j) zero lj lk e none ih = absurd (found j (omega (arith, lj)) none (sym e))
+    go (suc j) (suc k) lj lk e none ih = ap suc (ih j k (omega (arith, lj)) (omega (arith, lk)) e)
+
+pub row_of : (clause : List Literal) → is_once clause ≡ true → IsRow clause clause
+row_of clause once = record { len = refl; same = λ l. refl; apart = apart_of clause once }

@@ -1,0 +1,14 @@
+use Rattle.std.proofs.Common.{◌≡◌, length}
+use Rattle.cdcl_proof.specs.Search.{IsSearching, AllWait}
+use Rattle.cdcl_proof.proofs.solve.Search.open_variable.Given as goal
+
+abbrev pub invariant-loop-variable : goal.invariant-loop-variable
+invariant-loop-variable l = record {
+  searching : IsSearching l.self;
+  store : l.self.store ≡ l.fn.self.store;
+  watched : l.self.watched ≡ l.fn.self.watched;
+  waiting : AllWait l.self;
+}
+
+abbrev pub decreases-loop-variable : goal.decreases-loop-variable
+decreases-loop-variable l = length l.self.order.heap.items

@@ -1,0 +1,37 @@
+-- What a table of clauses keeps.
+use Rattle.std.specs.Prelude.{ℕ, true, ◌≡◌, ◌<◌, ◌≤◌, ◌+◌, ◌*◌, ◌^◌, ◌++◌, List, [], ◌∷◌, length, slice_index_or}
+use Rattle.cdcl_proof.specs.declared.literal.Literal.{Literal}
+use Rattle.cdcl_proof.specs.declared.row.Watch.{Watch}
+use Rattle.cdcl_proof.specs.declared.table.Table.{Table}
+use Rattle.cdcl_proof.specs.Literal.{slot_of}
+use Rattle.cdcl_proof.specs.Formula.{are_clauses}
+use Rattle.cdcl_proof.specs.Watching.{AreRows, AreWatched, HaveBlockers, AreShort, added_lists, literal_at}
+
+-- the rows are those of the clauses, and each clause is watched or short
+pub record IsTable (t : Table) : Type 0 where
+  pub small : t.variables < 2 ^ 31
+  pub many : length t.rows.items < 2 ^ 32
+  pub clauses : are_clauses t.variables t.clauses.items ≡ true
+  pub rows : AreRows t.clauses.items t.rows.items
+  pub slots : length t.lists.items ≡ 2 * t.variables + 2
+  pub watched : AreWatched t.rows.items t.lists.items
+  pub blockers : HaveBlockers t.rows.items t.lists.items
+  pub short : AreShort t.rows.items t.short.items
+
+-- a clause has come into the lists of its first two literals, or into the list of short ones
+pub record IsEntered (old new : List (List Watch)) (old_short new_short : List ℕ) (i : ℕ) (row : List Literal) : Type 0 where
+  pub watched : 2 ≤ length row → (new ≡ added_lists old (slot_of (literal_at row 0)) (slot_of (literal_at row 1)) i (literal_at row 0) (literal_at row 1)) × (new_short ≡ old_short)
+  pub listed : length row < 2 → (new ≡ old) × (new_short ≡ old_short ++ i ∷ [])
+
+-- one clause more
+pub record HasAdded (old new : Table) (clause row : List Literal) : Type 0 where
+  pub clauses : new.clauses.items ≡ old.clauses.items ++ clause ∷ []
+  pub rows : new.rows.items ≡ old.rows.items ++ row ∷ []
+  pub short : (j : ℕ) → j < length old.short.items → slice_index_or new.short.items j 0 ≡ slice_index_or old.short.items j 0
+  pub longer : length old.short.items ≤ length new.short.items
+
+-- the clauses, their rows and those that are short are as before
+pub record IsUnchanged (old new : Table) : Type 0 where
+  pub clauses : new.clauses.items ≡ old.clauses.items
+  pub rows : new.rows.items ≡ old.rows.items
+  pub short : new.short.items ≡ old.short.items

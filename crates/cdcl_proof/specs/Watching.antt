@@ -1,0 +1,113 @@
+-- Watched literals (Moskewicz et al., Chaff, 2001): propagation reads a clause only when a literal that it watches
+-- has become false.
+use Rattle.std.specs.Prelude.{ℕ, Bool, true, false, ◌≡◌, ◌<◌, ◌≤◌, cond, ◌==◌, ◌+◌, ◌++◌, List, [], ◌∷◌, Some, length, slice_index_or, slice_set, take, sum_by}
+use Rattle.std.specs.List.{list_any}
+use Rattle.cdcl_proof.specs.declared.literal.Literal.{Literal}
+use Rattle.cdcl_proof.specs.declared.row.Watch.{Watch}
+use Rattle.cdcl_proof.specs.declared.trail.Entry.{Entry}
+use Rattle.cdcl_proof.specs.Literal.{negation, holds, slot_of}
+use Rattle.cdcl_proof.specs.Fresh.{is_free}
+use Rattle.cdcl_proof.specs.Trail.{literals, entry_at, Implies}
+
+-- clauses, numbered from 1, and the literals held with their reasons, in order
+pub record Watching : Type 0 where
+  pub variables : ℕ
+  pub clauses : List (List Literal)
+  pub entries : List Entry
+
+-- a literal for no place
+abbrev pub no_literal : Literal
+no_literal = record { variable = 0; positive = false }
+
+-- a watch for no place
+abbrev pub no_watch : Watch
+no_watch = record { clause = 0; blocker = no_literal }
+
+-- the literal of the row at a place
+abbrev pub literal_at : List Literal → ℕ → Literal
+literal_at row k = slice_index_or row k no_literal
+
+-- the row, the list and the watch at a place
+abbrev pub row_at : List (List Literal) → ℕ → List Literal
+row_at rows i = slice_index_or rows i []
+
+abbrev pub list_at : List (List Watch) → ℕ → List Watch
+list_at lists s = slice_index_or lists s []
+
+abbrev pub watch_at : List Watch → ℕ → Watch
+watch_at ws k = slice_index_or ws k no_watch
+
+-- the row has the literals of the clause, in any order, no variable twice
+pub record IsRow (clause row : List Literal) : Type 0 where
+  pub len : length row ≡ length clause
+  pub same : (l : Literal) → holds row l ≡ holds clause l
+  pub apart : (j k : ℕ) → j < length row → k < length row → (literal_at row j).variable ≡ (literal_at row k).variable → j ≡ k
+
+-- there is a row for each clause
+pub record AreRows (clauses rows : List (List Literal)) : Type 0 where
+  pub count : length rows ≡ length clauses
+  pub each : (i : ℕ) → i < length clauses → IsRow (row_at clauses i) (row_at rows i)
+
+-- how often the clause of the index stands in a list
+abbrev pub count_of : ℕ → List Watch → ℕ
+count_of i ws = sum_by (λ (w : Watch). cond (w.clause == i) 1 0) ws
+
+-- how often a clause is to stand in the list at a slot: once in those of its first two literals
+abbrev pub wanted : List Literal → ℕ → ℕ
+wanted [] s = 0
+wanted (a ∷ []) s = 0
+wanted (a ∷ b ∷ rest) s = cond (slot_of a == s) 1 0 + cond (slot_of b == s) 1 0
+
+-- each clause of two literals or more stands in the lists of exactly two of its literals
+abbrev pub AreWatched : List (List Literal) → List (List Watch) → Type 0
+AreWatched rows lists = (i s : ℕ) → s < length lists → count_of i (list_at lists s) ≡ wanted (row_at rows i) s
+
+-- each watch names a literal of its clause
+abbrev pub HaveBlockers : List (List Literal) → List (List Watch) → Type 0
+HaveBlockers rows lists = (s k : ℕ) → s < length lists → k < length (list_at lists s) → holds (row_at rows (watch_at (list_at lists s) k).clause) (watch_at (list_at lists s) k).blocker ≡ true
+
+-- the lists once a clause has come into two of them
+abbrev pub added_lists : List (List Watch) → ℕ → ℕ → ℕ → Literal → Literal → List (List Watch)
+added_lists lists a b i x y = slice_set (slice_set lists a (list_at lists a ++ record { clause = i; blocker = y } ∷ [])) b (list_at lists b ++ record { clause = i; blocker = x } ∷ [])
+
+-- a literal of the row is true
+abbrev pub is_satisfied : List Literal → List Literal → Bool
+is_satisfied s row = list_any (holds s) row
+
+-- where the first set falsifies a watched literal, the second satisfies the row
+abbrev pub IsCovered : List Literal → List Literal → List Literal → Type 0
+IsCovered before all row = (k : ℕ) → k < 2 → 2 ≤ length row → holds before (negation (literal_at row k)) ≡ true → is_satisfied all row ≡ true
+
+abbrev pub AreCovered : List Literal → List Literal → List (List Literal) → Type 0
+AreCovered before all rows = (i : ℕ) → IsCovered before all (row_at rows i)
+
+-- the clauses of fewer than two literals are in the list, and only these
+pub record AreShort (rows : List (List Literal)) (short : List ℕ) : Type 0 where
+  pub each : (i : ℕ) → i < length rows → length (row_at rows i) < 2 → (j : ℕ) × (j < length short) × (slice_index_or short j 0 ≡ i)
+  pub only : (j : ℕ) → j < length short → (slice_index_or short j 0 < length rows) × (length (row_at rows (slice_index_or short j 0)) < 2)
+
+-- the watches are of the same clauses
+pub record HasSameClauses (old new : List Watch) : Type 0 where
+  pub len : length new ≡ length old
+  pub same : (k : ℕ) → (watch_at new k).clause ≡ (watch_at old k).clause
+
+-- the rows have the same literals
+abbrev pub ArePermuted : List (List Literal) → List (List Literal) → Type 0
+ArePermuted old new = (i : ℕ) (l : Literal) → holds (row_at new i) l ≡ holds (row_at old i) l
+
+-- the places up to which propagation was complete, in order: nothing before such a place needs to be read again
+pub record AreMarks (rows : List (List Literal)) (entries : List Entry) (head : ℕ) (marks : List ℕ) : Type 0 where
+  pub sorted : (j k : ℕ) → j ≤ k → k < length marks → slice_index_or marks j 0 ≤ slice_index_or marks k 0
+  pub below : (j : ℕ) → j < length marks → slice_index_or marks j 0 ≤ head
+  pub covered : (j : ℕ) → j < length marks → AreCovered (literals (take (slice_index_or marks j 0) entries)) (literals (take (slice_index_or marks j 0) entries)) rows
+
+-- the entries after the old ones are each implied by a clause, which is their reason
+pub record Propagates (clauses : List (List Literal)) (old new : List Entry) : Type 0 where
+  pub longer : length old ≤ length new
+  pub kept : take (length old) new ≡ old
+  pub implied : (k : ℕ) → length old ≤ k → k < length new → (n : ℕ) × ((entry_at new k).reason ≡ Some n) × Implies clauses n (literals (take k new)) (entry_at new k).literal
+  pub free : (k : ℕ) → length old ≤ k → k < length new → is_free (literals (take k new)) (entry_at new k).literal ≡ true
+
+-- the first watches of a list are of clauses that the set satisfies
+abbrev pub AreVisited : List Literal → List (List Literal) → List Watch → ℕ → Type 0
+AreVisited s rows list place = (k : ℕ) → k < place → is_satisfied s (row_at rows (watch_at list k).clause) ≡ true

@@ -1,0 +1,231 @@
+// The order of decisions: variables by their activity, in a heap.
+ghost use Rattle.std.specs.Prelude.{ℕ, ◌≡◌, ◌≢◌, ◌<◌, ◌≤◌, ◌+◌, ◌^◌, length, IfOk, IfSome, IfNone, OnOk, IsTrue, true};
+ghost use Rattle.cdcl_proof.specs.Clause.{is_within};
+ghost use Rattle.cdcl_proof.specs.Order.{IsOrder, Waits, KeepsWaiting};
+
+use crate::literal::Literal;
+use std::alloc::{AllocError, Global};
+
+/// A score for each variable, and what a conflict adds to it, which grows from conflict to conflict; the variables
+/// that wait for a decision, as a binary heap by score; and where each of them stands in the heap.
+#[derive(Drop)]
+pub(crate) struct Order {
+    scores: Vec<u64>,
+    increment: u64,
+    heap: Vec<u64>,
+    places: Vec<usize>,
+}
+
+/// Scores are scaled down once the increment is at this bound.
+const BOUND: u64 = 0x1000_0000_0000_0000;
+
+impl Order {
+    /// All variables wait, with no score.
+    pub(crate) fn new(alloc: Global, variables: u64) -> Result<Order, AllocError>
+        requires { variables < 2 ^ 31 }
+        ensures order { IfOk result (IsOrder variables) }
+        ensures all { IfOk result (λ o. (v : ℕ) → 1 ≤ v → v ≤ variables → Waits o.heap.items v) }
+    {
+        let mut heap = Vec::new(alloc);
+        let mut places = Vec::new(alloc);
+        for index in 0..variables {
+            heap.push(index + 1)?;
+            places.push(index as usize)?;
+        }
+        Ok(Order {
+            scores: vec![in alloc; 0u64; variables as usize]?,
+            increment: 1024,
+            heap,
+            places,
+        })
+    }
+
+    /// Whether the variable stands in the heap.
+    fn is_waiting(&self, variable: u64) -> bool
+        requires order { IsOrder (length self.now.scores.items) self.now }
+        requires positive { 1 ≤ variable }
+        requires among { variable ≤ length self.now.scores.items }
+        ensures { IsTrue result → Waits self.now.heap.items variable }
+    {
+        let place = self.places[variable as usize - 1];
+        place < self.heap.len() && self.heap[place] == variable
+    }
+
+    /// Lets the variable wait.
+    pub(crate) fn insert(&mut self, variable: u64) -> Result<(), AllocError>
+        requires order { IsOrder (length self.old.scores.items) self.old }
+        requires positive { 1 ≤ variable }
+        requires among { variable ≤ length self.old.scores.items }
+        ensures order { IsOrder (length self.old.scores.items) self.new }
+        ensures waits { OnOk result (Waits self.new.heap.items variable) }
+        ensures kept { KeepsWaiting self.old.heap.items self.new.heap.items }
+    {
+        if self.is_waiting(variable) {
+            return Ok(());
+        }
+        let place = self.heap.len();
+        self.heap.push(variable)?;
+        self.places[variable as usize - 1] = place;
+        self.climb(place);
+        Ok(())
+    }
+
+    /// Takes the variable of the highest score out.
+    pub(crate) fn pop(&mut self) -> Option<u64>
+        requires { IsOrder (length self.old.scores.items) self.old }
+        ensures order { IsOrder (length self.old.scores.items) self.new }
+        ensures none { IfNone result (length self.old.heap.items ≡ 0) }
+        ensures shorter { IfSome result (λ _. length self.new.heap.items + 1 ≡ length self.old.heap.items) }
+        ensures among { IfSome result (λ v. (1 ≤ v) × (v ≤ length self.old.scores.items)) }
+        ensures kept { IfSome result (λ v. (w : ℕ) → w ≢ v → Waits self.old.heap.items w → Waits self.new.heap.items w) }
+    {
+        if self.heap.is_empty() {
+            return None;
+        }
+        let top = self.heap.swap_remove(0);
+        self.settle_top();
+        Some(top)
+    }
+
+    /// Lets the first variable of the heap go down to its place.
+    fn settle_top(&mut self)
+        requires { IsOrder (length self.old.scores.items) self.old }
+        ensures order { IsOrder (length self.old.scores.items) self.new }
+        ensures len { length self.new.heap.items ≡ length self.old.heap.items }
+        ensures kept { KeepsWaiting self.old.heap.items self.new.heap.items }
+    {
+        if self.heap.is_empty() {
+            return;
+        }
+        let first = self.heap[0];
+        self.places[first as usize - 1] = 0;
+        self.sink();
+    }
+
+    /// Exchanges two places of the heap.
+    fn exchange(&mut self, i: usize, j: usize)
+        requires order { IsOrder (length self.old.scores.items) self.old }
+        requires first { i < length self.old.heap.items }
+        requires second { j < length self.old.heap.items }
+        ensures order { IsOrder (length self.old.scores.items) self.new }
+        ensures len { length self.new.heap.items ≡ length self.old.heap.items }
+        ensures kept { KeepsWaiting self.old.heap.items self.new.heap.items }
+    {
+        let first = self.heap[i];
+        let second = self.heap[j];
+        self.places[first as usize - 1] = j;
+        self.places[second as usize - 1] = i;
+        self.heap.swap(i, j);
+    }
+
+    /// Whether the variable at the first place has a higher score than that at the second.
+    fn is_higher(&self, i: usize, j: usize) -> bool
+        requires order { IsOrder (length self.now.scores.items) self.now }
+        requires first { i < length self.now.heap.items }
+        requires second { j < length self.now.heap.items }
+    {
+        self.scores[self.heap[j] as usize - 1] < self.scores[self.heap[i] as usize - 1]
+    }
+
+    /// Lets the variable at the place go up to its place.
+    fn climb(&mut self, start: usize)
+        requires order { IsOrder (length self.old.scores.items) self.old }
+        requires start { start < length self.old.heap.items }
+        ensures order { IsOrder (length self.old.scores.items) self.new }
+        ensures len { length self.new.heap.items ≡ length self.old.heap.items }
+        ensures kept { KeepsWaiting self.old.heap.items self.new.heap.items }
+    {
+        let mut at = start;
+        while at > 0 {
+            let parent = (at - 1) / 2;
+            if !self.is_higher(at, parent) {
+                return;
+            }
+            self.exchange(at, parent);
+            at = parent;
+        }
+    }
+
+    /// The place of the higher child of the place, or the place itself where no child is higher.
+    fn higher_child(&self, at: usize) -> usize
+        requires order { IsOrder (length self.now.scores.items) self.now }
+        requires within { at < length self.now.heap.items }
+        ensures within { result < length self.now.heap.items }
+        ensures below { at ≤ result }
+    {
+        let left = 2 * at + 1;
+        if left >= self.heap.len() {
+            return at;
+        }
+        let right = left + 1;
+        let child = if right < self.heap.len() && self.is_higher(right, left) {
+            right
+        } else {
+            left
+        };
+        if self.is_higher(child, at) { child } else { at }
+    }
+
+    /// Lets the first variable go down to its place.
+    fn sink(&mut self)
+        requires order { IsOrder (length self.old.scores.items) self.old }
+        requires some { 0 < length self.old.heap.items }
+        ensures order { IsOrder (length self.old.scores.items) self.new }
+        ensures len { length self.new.heap.items ≡ length self.old.heap.items }
+        ensures kept { KeepsWaiting self.old.heap.items self.new.heap.items }
+    {
+        let mut at = 0;
+        loop {
+            let child = self.higher_child(at);
+            if child <= at {
+                return;
+            }
+            self.exchange(at, child);
+            at = child;
+        }
+    }
+
+    /// Lifts the variable.
+    fn lift(&mut self, variable: u64)
+        requires order { IsOrder (length self.old.scores.items) self.old }
+        requires positive { 1 ≤ variable }
+        requires among { variable ≤ length self.old.scores.items }
+        ensures order { IsOrder (length self.old.scores.items) self.new }
+        ensures kept { KeepsWaiting self.old.heap.items self.new.heap.items }
+    {
+        let index = variable as usize - 1;
+        self.scores[index] = self.scores[index].saturating_add(self.increment);
+        let place = self.places[index];
+        if place < self.heap.len() {
+            self.climb(place);
+        }
+    }
+
+    /// Makes later conflicts weigh more than earlier ones.
+    fn decay(&mut self)
+        requires { IsOrder (length self.old.scores.items) self.old }
+        ensures order { IsOrder (length self.old.scores.items) self.new }
+        ensures heap { self.new.heap ≡ self.old.heap }
+    {
+        if self.increment >= BOUND {
+            for score in self.scores.iter_mut() {
+                *score >>= 40;
+            }
+            self.increment >>= 40;
+        }
+        self.increment = self.increment.saturating_add(self.increment / 16);
+    }
+
+    /// Lifts the variables of the literals, and makes later conflicts weigh more.
+    pub(crate) fn lift_all(&mut self, literals: &[Literal])
+        requires order { IsOrder (length self.old.scores.items) self.old }
+        requires within { is_within (length self.old.scores.items) literals.now ≡ true }
+        ensures order { IsOrder (length self.old.scores.items) self.new }
+        ensures kept { KeepsWaiting self.old.heap.items self.new.heap.items }
+    {
+        for literal in literals {
+            self.lift(literal.variable);
+        }
+        self.decay();
+    }
+}

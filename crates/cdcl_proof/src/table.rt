@@ -1,0 +1,199 @@
+// Clauses with their rows and watch lists.
+ghost use Rattle.std.specs.Prelude.{ℕ, ◌≡◌, ◌≢◌, ◌<◌, ◌≤◌, ◌++◌, ◌∷◌, ◌^◌, true, [], length, swap, swap_remove, slice_set, OnOk, OnErr, IfOk};
+ghost use Rattle.cdcl_proof.specs.Literal.{holds, slot_of};
+ghost use Rattle.cdcl_proof.specs.Clause.{is_clause};
+ghost use Rattle.cdcl_proof.specs.Watching.{literal_at, watch_at, list_at, row_at, no_watch, added_lists, HasSameClauses, IsRow};
+ghost use Rattle.cdcl_proof.specs.Table.{IsTable, HasAdded, IsUnchanged, IsEntered};
+
+use crate::clause::Clause;
+use crate::packed::PackedLiteral;
+use crate::row::{Row, Watch, WatchList};
+use std::alloc::{AllocError, Global};
+
+/// The most clauses that a table can have.
+const MOST: usize = 0xffff_ffff;
+
+/// Clauses, each with a row of its literals, and the lists of watches by literals. The clauses of fewer than two
+/// literals are in no list, but in `short`.
+#[derive(Drop)]
+pub(crate) struct Table {
+    pub(crate) variables: u64,
+    pub(crate) clauses: Vec<Clause>,
+    pub(crate) rows: Vec<Row>,
+    pub(crate) lists: Vec<WatchList>,
+    pub(crate) short: Vec<usize>,
+}
+
+impl Table {
+    /// A table without clauses.
+    pub(crate) fn new(alloc: Global, variables: u64) -> Result<Table, AllocError>
+        requires { variables < 2 ^ 31 }
+        ensures table { IfOk result IsTable }
+        ensures variables { IfOk result (λ t. t.variables ≡ variables) }
+        ensures clauses { IfOk result (λ t. t.clauses.items ≡ []) }
+        ensures short { IfOk result (λ t. t.short.items ≡ []) }
+    {
+        Ok(Table {
+            variables,
+            clauses: Vec::new(alloc),
+            rows: Vec::new(alloc),
+            lists: empty_lists(alloc, 2 * variables as usize + 2)?,
+            short: Vec::new(alloc),
+        })
+    }
+
+    /// Watches the literal at `k` of the row in place of the one at `first`, whose list is that of the slot.
+    pub(crate) fn move_watch(
+        &mut self,
+        slot: usize,
+        place: usize,
+        first: usize,
+        k: usize,
+    ) -> Result<(), AllocError>
+        requires table { IsTable self.old }
+        requires slot { slot < length self.old.lists.items }
+        requires place { place < length (list_at self.old.lists.items slot) }
+        requires first { first < 2 }
+        requires later { 2 ≤ k }
+        requires inside { k < length (row_at self.old.rows.items (watch_at (list_at self.old.lists.items slot) place).clause) }
+        requires watched { slot_of (literal_at (row_at self.old.rows.items (watch_at (list_at self.old.lists.items slot) place).clause) first) ≡ slot }
+        ensures table { IsTable self.new }
+        ensures variables { self.new.variables ≡ self.old.variables }
+        ensures clauses { self.new.clauses ≡ self.old.clauses }
+        ensures short { self.new.short ≡ self.old.short }
+        ensures rows { OnOk result (self.new.rows.items ≡ slice_set self.old.rows.items (watch_at (list_at self.old.lists.items slot) place).clause (swap (row_at self.old.rows.items (watch_at (list_at self.old.lists.items slot) place).clause) first k)) }
+        ensures list { OnOk result (list_at self.new.lists.items slot ≡ swap_remove (list_at self.old.lists.items slot) place no_watch) }
+        ensures err { OnErr result (self.new.rows ≡ self.old.rows) }
+    {
+        let clause = self.lists[slot].at(place).clause;
+        let row = self.rows[clause as usize].as_slice();
+        let blocker = row[1 - first];
+        let target = row[k].slot();
+        shift(
+            &mut self.lists,
+            slot,
+            place,
+            target,
+            Watch { clause, blocker },
+        )?;
+        let row = &mut self.rows[clause as usize];
+        row.swap(first, k);
+        Ok(())
+    }
+
+    /// Gives the watch at the place of a list another literal of its clause.
+    pub(crate) fn refresh(&mut self, slot: usize, place: usize, blocker: PackedLiteral)
+        requires table { IsTable self.old }
+        requires slot { slot < length self.old.lists.items }
+        requires place { place < length (list_at self.old.lists.items slot) }
+        requires blocks { holds (row_at self.old.rows.items (watch_at (list_at self.old.lists.items slot) place).clause) blocker ≡ true }
+        ensures table { IsTable self.new }
+        ensures variables { self.new.variables ≡ self.old.variables }
+        ensures clauses { self.new.clauses ≡ self.old.clauses }
+        ensures rows { self.new.rows ≡ self.old.rows }
+        ensures short { self.new.short ≡ self.old.short }
+        ensures list { HasSameClauses (list_at self.old.lists.items slot) (list_at self.new.lists.items slot) }
+    {
+        let list = &mut self.lists[slot];
+        list.refresh(place, blocker);
+    }
+
+    /// Adds a clause with its row.
+    pub(crate) fn add(&mut self, clause: Clause, row: Row) -> Result<(), AllocError>
+        requires table { IsTable self.old }
+        requires clause { is_clause self.old.variables clause ≡ true }
+        requires row { IsRow clause row }
+        ensures table { IsTable self.new }
+        ensures variables { self.new.variables ≡ self.old.variables }
+        ensures ok { OnOk result (HasAdded self.old self.new clause row) }
+        ensures err { OnErr result (IsUnchanged self.old self.new) }
+    {
+        let index = self.rows.len();
+        if index >= MOST {
+            return Err(AllocError);
+        }
+        self.clauses.reserve(1)?;
+        self.rows.reserve(1)?;
+        enter(&mut self.lists, &mut self.short, index, row.as_slice())?;
+        self.rows.push_reserved(row);
+        self.clauses.push_reserved(clause);
+        Ok(())
+    }
+}
+
+/// So many empty lists.
+fn empty_lists(alloc: Global, count: usize) -> Result<Vec<WatchList>, AllocError>
+    ensures len { IfOk result (λ v. length v.items ≡ count) }
+    ensures empty { IfOk result (λ v. (k : ℕ) → list_at v.items k ≡ []) }
+{
+    let mut lists = Vec::new(alloc);
+    for _slot in 0..count {
+        lists.push(WatchList::new(alloc))?;
+    }
+    Ok(lists)
+}
+
+/// Puts the watch into one list and takes the one at the place off another.
+fn shift(
+    lists: &mut Vec<WatchList>,
+    from: usize,
+    place: usize,
+    to: usize,
+    watch: Watch,
+) -> Result<(), AllocError>
+    requires from { from < length lists.old.items }
+    requires to { to < length lists.old.items }
+    requires other { to ≢ from }
+    requires place { place < length (list_at lists.old.items from) }
+    ensures ok { OnOk result (lists.new.items ≡ slice_set (slice_set lists.old.items to (list_at lists.old.items to ++ watch ∷ [])) from (swap_remove (list_at lists.old.items from) place no_watch)) }
+    ensures err { OnErr result (lists.new.items ≡ lists.old.items) }
+{
+    lists[to].push(watch)?;
+    lists[from].remove(place);
+    Ok(())
+}
+
+/// Puts a clause into the lists of its first two literals, or, if it has fewer, into the list of short ones.
+fn enter(
+    lists: &mut Vec<WatchList>,
+    short: &mut Vec<usize>,
+    index: usize,
+    row: &[PackedLiteral],
+) -> Result<(), AllocError>
+    requires index { index < 2 ^ 32 }
+    requires slots { (k : ℕ) → k < length row.now → slot_of (literal_at row.now k) < length lists.old.items }
+    requires other { 2 ≤ length row.now → slot_of (literal_at row.now 0) ≢ slot_of (literal_at row.now 1) }
+    ensures ok { OnOk result (IsEntered lists.old.items lists.new.items short.old.items short.new.items index row.now) }
+    ensures lists { OnErr result (lists.new.items ≡ lists.old.items) }
+    ensures short { OnErr result (short.new.items ≡ short.old.items) }
+{
+    if row.len() < 2 {
+        short.push(index)?;
+        Ok(())
+    } else {
+        attach(lists, index as u32, row[0], row[1])
+    }
+}
+
+/// Puts a clause that watches `a` and `b` into their lists.
+fn attach(
+    lists: &mut Vec<WatchList>,
+    clause: u32,
+    a: PackedLiteral,
+    b: PackedLiteral,
+) -> Result<(), AllocError>
+    requires first { slot_of a < length lists.old.items }
+    requires second { slot_of b < length lists.old.items }
+    requires other { slot_of a ≢ slot_of b }
+    ensures ok { OnOk result (lists.new.items ≡ added_lists lists.old.items (slot_of a) (slot_of b) clause a b) }
+    ensures err { OnErr result (lists.new.items ≡ lists.old.items) }
+{
+    lists[a.slot()].push(Watch { clause, blocker: b })?;
+    match lists[b.slot()].push(Watch { clause, blocker: a }) {
+        Ok(()) => Ok(()),
+        Err(fail) => {
+            lists[a.slot()].pop();
+            Err(fail)
+        }
+    }
+}

@@ -1,0 +1,160 @@
+// Clauses with literals held, for unit propagation by watched literals.
+ghost use Rattle.std.specs.Prelude.{◌≡◌, ◌≤◌, ◌<◌, ◌+◌, ◌-◌, ◌++◌, ◌∷◌, [], true, length, take, IfOk, OnOk, OnErr, None, IsTrue, ◌↔◌, ◌&&◌};
+ghost use Rattle.cdcl_proof.specs.Clause.{is_among, is_clause};
+ghost use Rattle.cdcl_proof.specs.Formula.{are_clauses};
+ghost use Rattle.cdcl_proof.specs.Fresh.{is_free, is_unit};
+ghost use Rattle.cdcl_proof.specs.Trail.{literals};
+ghost use Rattle.cdcl_proof.specs.Propagation.{IsOutcome};
+ghost use Rattle.cdcl_proof.specs.Watching.{literal_at, Propagates};
+
+use crate::clause::Clause;
+use crate::cnf::Cnf;
+use crate::literal::Literal;
+use crate::trail::Trail;
+use crate::watcher::Watcher;
+use std::alloc::{AllocError, Global};
+use std::marker::Model;
+
+/// Clauses, numbered from 1, and literals that are held, in order, no variable twice. Each clause of two literals or
+/// more stands in the lists of exactly two of its literals, so that propagation reads it only when one of these has
+/// become false (Moskewicz et al., Chaff, 2001). Clauses are never taken away.
+///
+/// The memory that a clause takes: 48 bytes, 24 for each literal, and 24 or more for its two watches. A variable
+/// takes 96 bytes or more.
+#[derive(Drop)]
+pub struct Watched {
+    watcher: Watcher,
+}
+
+impl Model for Watched {
+    ghost use Rattle.cdcl_proof.specs.Watching.{Watching};
+    ghost use Rattle.cdcl_proof.specs.Watcher.{IsWatching};
+
+    ghost Value = { Watching };
+
+    ghost view = { λ w. record { variables = w.watcher.trail.variables; clauses = w.watcher.table.clauses.items; entries = w.watcher.trail.entries } };
+
+    ghost invariant = { λ w. IsWatching w.watcher };
+}
+
+impl Watched {
+    /// The formula's clauses, with nothing held. Besides memory that is wanting, a formula of 2^31 variables or more,
+    /// or of 2^32 clauses or more, is an error: no memory would do for it.
+    pub fn new(alloc: Global, cnf: &Cnf) -> Result<Watched, AllocError>
+        ensures { IfOk result (λ w. w ≡ record { variables = cnf.now.variables; clauses = cnf.now.clauses; entries = [] }) }
+    {
+        let mut watcher = Watcher::new(alloc, cnf.variables())?;
+        for clause in cnf.clauses() {
+            watcher.add_clause(Clause::copy(alloc, clause)?)?;
+        }
+        Ok(Watched { watcher })
+    }
+
+    /// Puts the clause last. If it fails, nothing has changed.
+    pub fn add_clause(&mut self, clause: Clause) -> Result<(), AllocError>
+        requires { is_clause self.old.variables clause ≡ true }
+        ensures ok { OnOk result (self.new ≡ record self.old { clauses = self.old.clauses ++ clause ∷ [] }) }
+        ensures err { OnErr result (self.new ≡ self.old) }
+    {
+        self.watcher.add_clause(clause)
+    }
+
+    /// Holds the literal last, whose variable is not held. It takes no memory.
+    pub fn assume(&mut self, literal: Literal)
+        requires among { is_among self.old.variables literal ≡ true }
+        requires free { is_free (literals self.old.entries) literal ≡ true }
+        ensures held { self.new ≡ record self.old { entries = self.old.entries ++ record { literal = literal; reason = None } ∷ [] } }
+        ensures room { length self.new.entries ≤ self.new.variables }
+    {
+        self.watcher.assume(literal);
+    }
+
+    /// Holds the first `n` literals alone. It takes no memory.
+    pub fn back_to(&mut self, n: u64)
+        requires { n ≤ length self.old.entries }
+        ensures { self.new ≡ record self.old { entries = take n self.old.entries } }
+    {
+        self.watcher.back_to(n as usize);
+    }
+
+    /// Propagates: while some clause has one literal that is not false, and which is not held, that literal is held.
+    /// The result is the number of a false clause, or `None` where nothing more follows. If it fails, some literals
+    /// may have been added.
+    pub fn propagate(&mut self) -> Result<Option<u64>, AllocError>
+        ensures variables { self.new.variables ≡ self.old.variables }
+        ensures clauses { self.new.clauses ≡ self.old.clauses }
+        ensures within { are_clauses self.new.variables self.new.clauses ≡ true }
+
+        // Each literal added is the one literal of some clause that is not false.
+        ensures propagates { Propagates self.new.clauses self.old.entries self.new.entries }
+
+        // A false clause, or the literals held are closed for all clauses.
+        ensures outcome { IfOk result (IsOutcome self.new.clauses (literals self.new.entries)) }
+    {
+        self.watcher.propagate()
+    }
+
+    /// Puts a clause last whose last literal is open and whose other literals are false, and holds that literal.
+    pub(crate) fn learn(&mut self, clause: Clause) -> Result<(), AllocError>
+        requires clause { is_clause self.old.variables clause ≡ true }
+        requires full { 0 < length clause }
+        requires free { is_free (literals self.old.entries) (literal_at clause (length clause - 1)) ≡ true }
+        requires others { is_unit (literals self.old.entries) (literal_at clause (length clause - 1)) clause ≡ true }
+        ensures variables { OnOk result (self.new.variables ≡ self.old.variables) }
+        ensures clauses { OnOk result (self.new.clauses ≡ self.old.clauses ++ clause ∷ []) }
+        ensures within { are_clauses self.new.variables self.new.clauses ≡ true }
+        ensures propagates { OnOk result (Propagates self.new.clauses self.old.entries self.new.entries) }
+        ensures longer { OnOk result (length self.new.entries ≡ length self.old.entries + 1) }
+    {
+        self.watcher.learn(clause)
+    }
+
+    /// The literals held with their reasons.
+    pub(crate) fn trail(&self) -> &Trail
+        ensures { result.now ≡ record { variables = self.now.variables; entries = self.now.entries } }
+    {
+        &self.watcher.trail
+    }
+
+    /// How many literals are held.
+    pub fn len(&self) -> u64
+        ensures { result ≡ length self.now.entries }
+    {
+        self.trail().len() as u64
+    }
+
+    /// Whether no literal is held.
+    pub fn is_empty(&self) -> bool
+        ensures { IsTrue result ↔ (length self.now.entries ≡ 0) }
+    {
+        self.trail().len() == 0
+    }
+
+    /// Whether the literal's variable is one of the formula's, and not held.
+    pub fn is_open(&self, literal: Literal) -> bool
+        ensures { result ≡ (is_among self.now.variables literal && is_free (literals self.now.entries) literal) }
+    {
+        is_variable(self.trail(), literal) && !self.trail().is_assigned(literal.variable)
+    }
+
+    /// The number of variables.
+    pub fn variables(&self) -> u64
+        ensures { result ≡ self.now.variables }
+    {
+        self.trail().variables()
+    }
+
+    /// The clauses in order: clause number 1 comes first.
+    pub fn clauses(&self) -> &[Clause]
+        ensures { result.now ≡ self.now.clauses }
+    {
+        &self.watcher.table.clauses
+    }
+}
+
+/// Whether the literal's variable is one of those of the trail.
+fn is_variable(trail: &Trail, literal: Literal) -> bool
+    ensures { result ≡ is_among trail.now.variables literal }
+{
+    1 <= literal.variable && literal.variable <= trail.variables()
+}

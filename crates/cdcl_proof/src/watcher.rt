@@ -1,0 +1,451 @@
+// Propagation by watched literals: a clause is read only when a literal that it watches has become false.
+ghost use Rattle.std.specs.Prelude.{ℕ, List, ◌⊎◌, ◌≡◌, ◌<◌, ◌≤◌, ◌+◌, ◌-◌, ◌++◌, ◌∷◌, true, [], length, take, IfOk, OnOk, OnErr, IfSome, IfNone, Some, None, slice_index_or};
+ghost use Rattle.cdcl_proof.specs.declared.literal.Literal.{Literal};
+ghost use Rattle.cdcl_proof.specs.Literal.{negation, holds, slot_of};
+ghost use Rattle.cdcl_proof.specs.Clause.{is_among, is_within, is_clause};
+ghost use Rattle.cdcl_proof.specs.Fresh.{is_free, is_unit};
+ghost use Rattle.cdcl_proof.specs.Trail.{literals, entry_at, is_after, Implies};
+ghost use Rattle.cdcl_proof.specs.Propagation.{IsConflict, IsOutcome};
+ghost use Rattle.cdcl_proof.specs.Watching.{literal_at, watch_at, list_at, AreVisited, Propagates, IsRow};
+ghost use Rattle.cdcl_proof.specs.Watcher.{IsWatching, IsLook, IsVisit};
+
+use crate::clause::Clause;
+use crate::literal::Literal;
+use crate::packed::PackedLiteral;
+use crate::propagation::{State, state_of};
+use crate::row::{Row, Watch};
+use crate::table::Table;
+use crate::trail::{Entry, Trail};
+use std::alloc::{AllocError, Global};
+
+/// Clauses and the literals held, with the lists of watches. `head` is the place of the first literal held whose
+/// list is to be read yet; `marks` are places up to which propagation was complete. The first `settled` of the
+/// clauses of fewer than two literals are true by the first `base` literals held.
+#[derive(Drop)]
+pub(crate) struct Watcher {
+    pub(crate) alloc: Global,
+    pub(crate) table: Table,
+    pub(crate) trail: Trail,
+    pub(crate) head: usize,
+    pub(crate) marks: Vec<usize>,
+    pub(crate) settled: usize,
+    pub(crate) base: usize,
+}
+
+/// What a clause is under the literals held, when one of its two watched literals is false.
+#[derive(Clone, Copy)]
+pub(crate) enum Look {
+    /// The other watched literal is true.
+    Satisfied,
+    /// The literal at this place is not false.
+    Open(usize),
+    /// All literals but this one, which is open, are false.
+    Implied(Literal),
+    /// All literals are false.
+    False,
+}
+
+/// What became of a watch.
+#[derive(Clone, Copy)]
+pub(crate) enum Visit {
+    /// It stays, since its clause is true.
+    Stays,
+    /// It went to another list.
+    Moved,
+    /// Its clause is false.
+    Conflict,
+}
+
+impl Watcher {
+    /// Nothing held, no clauses.
+    pub(crate) fn new(alloc: Global, variables: u64) -> Result<Watcher, AllocError>
+        ensures watching { IfOk result IsWatching }
+        ensures clauses { IfOk result (λ w. w.table.clauses.items ≡ []) }
+        ensures trail { IfOk result (λ w. w.trail ≡ record { variables = variables; entries = [] }) }
+    {
+        if variables >= 0x8000_0000 {
+            return Err(AllocError);
+        }
+        Ok(Watcher {
+            alloc,
+            table: Table::new(alloc, variables)?,
+            trail: Trail::new(alloc, variables)?,
+            head: 0,
+            marks: Vec::with_capacity(alloc, variables as usize)?,
+            settled: 0,
+            base: 0,
+        })
+    }
+
+    /// Holds one literal more.
+    pub(crate) fn assume(&mut self, literal: Literal)
+        requires watching { IsWatching self.old }
+        requires among { is_among self.old.trail.variables literal ≡ true }
+        requires free { is_free (literals self.old.trail.entries) literal ≡ true }
+        ensures watching { IsWatching self.new }
+        ensures clauses { self.new.table.clauses ≡ self.old.table.clauses }
+        ensures trail { self.new.trail ≡ record self.old.trail { entries = self.old.trail.entries ++ record { literal = literal; reason = None } ∷ [] } }
+        ensures room { length self.new.trail.entries ≤ self.new.trail.variables }
+    {
+        self.mark();
+        self.trail.add(Entry {
+            literal,
+            reason: None,
+        });
+    }
+
+    /// Keeps in mind that propagation is complete, if it is and there is room.
+    fn mark(&mut self)
+        requires { IsWatching self.old }
+        ensures watching { IsWatching self.new }
+        ensures table { self.new.table ≡ self.old.table }
+        ensures trail { self.new.trail ≡ self.old.trail }
+    {
+        if self.head < self.trail.len() {
+            return;
+        }
+        if self.marks.len() < self.marks.capacity() {
+            self.marks.push_reserved(self.head);
+        }
+    }
+
+    /// Holds the first `n` literals alone.
+    pub(crate) fn back_to(&mut self, n: usize)
+        requires watching { IsWatching self.old }
+        requires held { n ≤ length self.old.trail.entries }
+        ensures watching { IsWatching self.new }
+        ensures clauses { self.new.table.clauses ≡ self.old.table.clauses }
+        ensures trail { self.new.trail ≡ record self.old.trail { entries = take n self.old.trail.entries } }
+    {
+        self.unsettle(n);
+        let kept = marks_up_to(&self.marks, n);
+        let head = mark_before(&self.marks, kept);
+        self.marks.truncate(kept);
+        self.head = head;
+        self.trail.cut(n);
+    }
+
+    /// Lets the short clauses be read again, if they are true by a literal from the place on.
+    fn unsettle(&mut self, place: usize)
+        requires { IsWatching self.old }
+        ensures watching { IsWatching self.new }
+        ensures table { self.new.table ≡ self.old.table }
+        ensures trail { self.new.trail ≡ self.old.trail }
+        ensures marks { self.new.marks ≡ self.old.marks }
+        ensures head { self.new.head ≡ self.old.head }
+        ensures base { self.new.base ≤ place }
+    {
+        if self.base <= place {
+            return;
+        }
+        self.settled = 0;
+        self.base = 0;
+    }
+
+    /// Propagates until nothing more follows. The result is the number of a false clause, if there is one.
+    pub(crate) fn propagate(&mut self) -> Result<Option<u64>, AllocError>
+        requires { IsWatching self.old }
+        ensures watching { IsWatching self.new }
+        ensures clauses { self.new.table.clauses ≡ self.old.table.clauses }
+        ensures variables { self.new.trail.variables ≡ self.old.trail.variables }
+        ensures propagates { Propagates self.new.table.clauses.items self.old.trail.entries self.new.trail.entries }
+        ensures outcome { IfOk result (IsOutcome self.new.table.clauses.items (literals self.new.trail.entries)) }
+    {
+        while self.settled < self.table.short.len() {
+            if let Some(conflict) = self.settle() {
+                return Ok(Some(conflict));
+            }
+        }
+        while self.head < self.trail.len() {
+            match self.read_next() {
+                Ok(None) => {}
+                other => return other,
+            }
+        }
+        Ok(None)
+    }
+
+    /// Makes the next clause of fewer than two literals true. The result is its number, if it is false.
+    fn settle(&mut self) -> Option<u64>
+        requires watching { IsWatching self.old }
+        requires more { self.old.settled < length self.old.table.short.items }
+        ensures watching { IsWatching self.new }
+        ensures clauses { self.new.table.clauses ≡ self.old.table.clauses }
+        ensures short { self.new.table.short ≡ self.old.table.short }
+        ensures variables { self.new.trail.variables ≡ self.old.trail.variables }
+        ensures propagates { Propagates self.new.table.clauses.items self.old.trail.entries self.new.trail.entries }
+        ensures conflict { IfSome result (IsConflict self.new.table.clauses.items (literals self.new.trail.entries)) }
+        ensures next { IfNone result (self.new.settled ≡ self.old.settled + 1) }
+    {
+        let index = self.table.short[self.settled];
+        let number = index as u64 + 1;
+        let clause = self.table.clauses[index].as_slice();
+        match state_of(&self.trail, clause) {
+            State::Closed => {
+                self.settled += 1;
+                self.base = self.trail.len();
+                None
+            }
+            State::Open(literal) => {
+                self.imply(literal, number);
+                self.settled += 1;
+                self.base = self.trail.len();
+                None
+            }
+            State::False => Some(number),
+        }
+    }
+
+    /// Holds the literal that the clause of the number implies.
+    fn imply(&mut self, literal: Literal, number: u64)
+        requires watching { IsWatching self.old }
+        requires free { is_free (literals self.old.trail.entries) literal ≡ true }
+        requires implied { Implies self.old.table.clauses.items number (literals self.old.trail.entries) literal }
+        ensures watching { IsWatching self.new }
+        ensures table { self.new.table ≡ self.old.table }
+        ensures head { self.new.head ≡ self.old.head }
+        ensures settled { self.new.settled ≡ self.old.settled }
+        ensures trail { self.new.trail ≡ record self.old.trail { entries = self.old.trail.entries ++ record { literal = literal; reason = Some number } ∷ [] } }
+        ensures propagates { Propagates self.new.table.clauses.items self.old.trail.entries self.new.trail.entries }
+    {
+        self.trail.add(Entry {
+            literal,
+            reason: Some(number),
+        });
+    }
+
+    /// Reads the list of the negation of the next literal held.
+    fn read_next(&mut self) -> Result<Option<u64>, AllocError>
+        requires watching { IsWatching self.old }
+        requires more { self.old.head < length self.old.trail.entries }
+        ensures watching { IsWatching self.new }
+        ensures clauses { self.new.table.clauses ≡ self.old.table.clauses }
+        ensures short { self.new.table.short ≡ self.old.table.short }
+        ensures settled { self.new.settled ≡ self.old.settled }
+        ensures variables { self.new.trail.variables ≡ self.old.trail.variables }
+        ensures propagates { Propagates self.new.table.clauses.items self.old.trail.entries self.new.trail.entries }
+        ensures conflict { IfOk result (λ o. IfSome o (IsConflict self.new.table.clauses.items (literals self.new.trail.entries))) }
+        ensures next { IfOk result (λ o. IfNone o (self.new.head ≡ self.old.head + 1)) }
+    {
+        let entry = self.trail.entry(self.head);
+        let slot = PackedLiteral::new(entry.literal.negation()).slot();
+        match self.read_list(slot) {
+            Ok(None) => {
+                self.head += 1;
+                Ok(None)
+            }
+            other => other,
+        }
+    }
+
+    /// Visits the watches of the list of the slot. The result is the number of a false clause, if there is one.
+    fn read_list(&mut self, slot: usize) -> Result<Option<u64>, AllocError>
+        requires watching { IsWatching self.old }
+        requires more { self.old.head < length self.old.trail.entries }
+        requires slot { slot ≡ slot_of (negation (entry_at self.old.trail.entries self.old.head).literal) }
+        requires low { slot < length self.old.table.lists.items }
+        ensures watching { IsWatching self.new }
+        ensures clauses { self.new.table.clauses ≡ self.old.table.clauses }
+        ensures short { self.new.table.short ≡ self.old.table.short }
+        ensures settled { self.new.settled ≡ self.old.settled }
+        ensures head { self.new.head ≡ self.old.head }
+        ensures variables { self.new.trail.variables ≡ self.old.trail.variables }
+        ensures propagates { Propagates self.new.table.clauses.items self.old.trail.entries self.new.trail.entries }
+        ensures conflict { IfOk result (λ o. IfSome o (IsConflict self.new.table.clauses.items (literals self.new.trail.entries))) }
+        ensures visited { IfOk result (λ o. IfNone o (AreVisited (literals self.new.trail.entries) self.new.table.rows.items (list_at self.new.table.lists.items slot) (length (list_at self.new.table.lists.items slot)))) }
+    {
+        let mut place = 0;
+        while place < self.table.lists[slot].len() {
+            let watch = self.table.lists[slot].at(place);
+            let clause = watch.clause;
+            match self.visit(slot, place, watch) {
+                Ok(Visit::Stays) => place += 1,
+                Ok(Visit::Moved) => {}
+                Ok(Visit::Conflict) => return Ok(Some(u64::from(clause) + 1)),
+                Err(fail) => return Err(fail),
+            }
+        }
+        Ok(None)
+    }
+
+    /// Visits one watch.
+    fn visit(&mut self, slot: usize, place: usize, watch: Watch) -> Result<Visit, AllocError>
+        requires watching { IsWatching self.old }
+        requires head { self.old.head < length self.old.trail.entries }
+        requires slot { slot ≡ slot_of (negation (entry_at self.old.trail.entries self.old.head).literal) }
+        requires place { place < length (list_at self.old.table.lists.items slot) }
+        requires watch { watch ≡ watch_at (list_at self.old.table.lists.items slot) place }
+        ensures watching { IsWatching self.new }
+        ensures clauses { self.new.table.clauses ≡ self.old.table.clauses }
+        ensures short { self.new.table.short ≡ self.old.table.short }
+        ensures settled { self.new.settled ≡ self.old.settled }
+        ensures head { self.new.head ≡ self.old.head }
+        ensures variables { self.new.trail.variables ≡ self.old.trail.variables }
+        ensures propagates { Propagates self.new.table.clauses.items self.old.trail.entries self.new.trail.entries }
+        ensures visit { IfOk result (IsVisit self.old self.new slot place) }
+    {
+        if self.trail.is_true(watch.blocker.literal()) {
+            return Ok(Visit::Stays);
+        }
+        let clause = watch.clause;
+        let row = self.table.rows[clause as usize].as_slice();
+        let first = watched_place(row, slot);
+        let other = row[1 - first];
+        match read_row(&self.trail, row, first) {
+            Look::Satisfied => {
+                self.table.refresh(slot, place, other);
+                Ok(Visit::Stays)
+            }
+            Look::Open(k) => {
+                self.table.move_watch(slot, place, first, k)?;
+                Ok(Visit::Moved)
+            }
+            Look::Implied(literal) => {
+                self.imply(literal, u64::from(clause) + 1);
+                Ok(Visit::Stays)
+            }
+            Look::False => Ok(Visit::Conflict),
+        }
+    }
+
+    /// Adds a clause.
+    pub(crate) fn add_clause(&mut self, clause: Clause) -> Result<(), AllocError>
+        requires watching { IsWatching self.old }
+        requires clause { is_clause self.old.trail.variables clause ≡ true }
+        ensures watching { IsWatching self.new }
+        ensures trail { self.new.trail ≡ self.old.trail }
+        ensures ok { OnOk result (self.new.table.clauses.items ≡ self.old.table.clauses.items ++ clause ∷ []) }
+        ensures err { OnErr result (self.new.table.clauses.items ≡ self.old.table.clauses.items) }
+    {
+        let row = Row::new(self.alloc, clause.as_slice(), self.trail.variables())?;
+        self.table.add(clause, row)?;
+        self.head = 0;
+        self.marks.clear();
+        Ok(())
+    }
+
+    /// Adds a clause whose last literal is open and whose other literals are false, and holds that literal.
+    pub(crate) fn learn(&mut self, clause: Clause) -> Result<(), AllocError>
+        requires watching { IsWatching self.old }
+        requires clause { is_clause self.old.trail.variables clause ≡ true }
+        requires full { 0 < length clause }
+        requires free { is_free (literals self.old.trail.entries) (literal_at clause (length clause - 1)) ≡ true }
+        requires others { is_unit (literals self.old.trail.entries) (literal_at clause (length clause - 1)) clause ≡ true }
+        ensures watching { IsWatching self.new }
+        ensures variables { self.new.trail.variables ≡ self.old.trail.variables }
+        ensures ok { OnOk result (self.new.table.clauses.items ≡ self.old.table.clauses.items ++ clause ∷ []) }
+        ensures held { OnOk result (Propagates self.new.table.clauses.items self.old.trail.entries self.new.trail.entries) }
+        ensures longer { OnOk result (length self.new.trail.entries ≡ length self.old.trail.entries + 1) }
+    {
+        let mut row = Row::new(self.alloc, clause.as_slice(), self.trail.variables())?;
+        bring_last(&mut row);
+        let literals = row.as_slice();
+        let literal = literals[0].literal();
+        let kept = marks_kept(&self.trail, &self.marks, literals);
+        self.table.add(clause, row)?;
+        self.marks.truncate(kept);
+        let number = self.table.rows.len() as u64;
+        self.trail.add(Entry {
+            literal,
+            reason: Some(number),
+        });
+        Ok(())
+    }
+}
+
+/// The place of the literal that the list of the slot watches, of the first two.
+fn watched_place(row: &[PackedLiteral], slot: usize) -> usize
+    requires { 1 ≤ length row.now }
+    ensures low { result < 2 }
+    ensures watched { (slot_of (literal_at row.now 0) ≡ slot) ⊎ (slot_of (literal_at row.now 1) ≡ slot) → slot_of (literal_at row.now result) ≡ slot }
+{
+    if row[0].slot() == slot { 0 } else { 1 }
+}
+
+/// What the row is, of which the watched literal at the place is false.
+fn read_row(trail: &Trail, row: &[PackedLiteral], place: usize) -> Look
+    requires within { is_within trail.now.variables row.now ≡ true }
+    requires long { 2 ≤ length row.now }
+    requires place { place < 2 }
+    requires watched { holds (literals trail.now.entries) (negation (literal_at row.now place)) ≡ true }
+    ensures { IsLook (literals trail.now.entries) row.now result }
+{
+    let other = row[1 - place].literal();
+    if trail.is_true(other) {
+        return Look::Satisfied;
+    }
+    for k in 2..row.len() {
+        let literal = row[k].literal();
+        if !trail.is_true(literal.negation()) {
+            return Look::Open(k);
+        }
+    }
+    if trail.is_true(other.negation()) {
+        Look::False
+    } else {
+        Look::Implied(other)
+    }
+}
+
+/// Puts the last two literals first, the last one foremost.
+fn bring_last(row: &mut Row)
+    requires { 0 < length row.old }
+    ensures same { (clause : List Literal) → IsRow clause row.old → IsRow clause row.new }
+    ensures first { literal_at row.new 0 ≡ literal_at row.old (length row.old - 1) }
+{
+    let len = row.as_slice().len();
+    if len > 2 {
+        row.swap(0, len - 1);
+        row.swap(1, len - 2);
+    } else if len > 1 {
+        row.swap(0, 1);
+    }
+}
+
+/// How many of the marks are at most the place.
+fn marks_up_to(marks: &[usize], place: usize) -> usize
+    ensures within { result ≤ length marks.now }
+    ensures last { 0 < result → slice_index_or marks.now (result - 1) 0 ≤ place }
+{
+    let mut count = marks.len();
+    while count > 0 && marks[count - 1] > place {
+        count -= 1;
+    }
+    count
+}
+
+/// The last of the first marks, or 0 where there is none.
+fn mark_before(marks: &[usize], count: usize) -> usize
+    requires { count ≤ length marks.now }
+    ensures none { count ≡ 0 → result ≡ 0 }
+    ensures last { 0 < count → result ≡ slice_index_or marks.now (count - 1) 0 }
+{
+    if count > 0 { marks[count - 1] } else { 0 }
+}
+
+/// How many of the marks stand before the entry of the row's second literal or at it.
+fn marks_kept(trail: &Trail, marks: &[usize], row: &[PackedLiteral]) -> usize
+    requires { is_within trail.now.variables row.now ≡ true }
+    ensures within { result ≤ length marks.now }
+    ensures last { 0 < result → 1 < length row.now → is_after trail.now.entries (slice_index_or marks.now (result - 1) 0) (literal_at row.now 1).variable ≡ true }
+{
+    if row.len() > 1 {
+        marks_before(trail, marks, row[1].literal().variable)
+    } else {
+        marks.len()
+    }
+}
+
+/// How many of the marks stand before the entry of the variable or at it.
+fn marks_before(trail: &Trail, marks: &[usize], variable: u64) -> usize
+    requires positive { 1 ≤ variable }
+    requires among { variable ≤ trail.now.variables }
+    ensures within { result ≤ length marks.now }
+    ensures last { 0 < result → is_after trail.now.entries (slice_index_or marks.now (result - 1) 0) variable ≡ true }
+{
+    let mut count = marks.len();
+    while count > 0 && !trail.is_at_least(variable, marks[count - 1]) {
+        count -= 1;
+    }
+    count
+}
