@@ -1,0 +1,11 @@
+// Tests of the solver and of its propagation, by their public calls.
+#![tactic(auto)]
+
+#[cfg(test)]
+mod formulas;
+#[cfg(test)]
+mod replaying;
+#[cfg(test)]
+mod solving;
+#[cfg(test)]
+mod watching;
