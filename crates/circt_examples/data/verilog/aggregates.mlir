@@ -23,7 +23,7 @@ hw.module @T() {
 hw.module @T(in %a : i8) {
   %0 = hw.struct_create (%a) : !hw.struct<x: i8>
 }
-// ----- the operation that uses the aggregate stands in front of the one that makes it
+// ----- the operation that uses the aggregate stands before the one that makes it
 hw.module @T(in %a : i8) {
   %w = hw.wire %0 : !hw.struct<x: i8>
   %0 = hw.struct_create (%a) : !hw.struct<x: i8>
@@ -49,7 +49,7 @@ hw.module @A(in %a : i8, out o : i8) {
   hw.output %a : i8
 }
 hw.module @B(in %r : !hw.array<2xi8>) {}
-// ----- the instance stands in front of its module's header
+// ----- the instance stands before its module's header
 hw.module @P() {
   %u.o = hw.instance "u" @C() -> (o: !hw.array<1xi1>)
 }

@@ -12,7 +12,7 @@ hw.module @Child() {}
 hw.module @P() {
   hw.instance "u" @Child() -> ()
 }
-// ----- an instance in front of its module's text
+// ----- an instance before its module's text
 hw.module @P() {
   hw.instance "module" @B() -> ()
 }
