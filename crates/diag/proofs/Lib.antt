@@ -1,3 +1,2 @@
 -- Lemmas that several proofs of this crate share.
 pub mod Sending
-pub mod Names

@@ -1,5 +1,4 @@
 -- The words of this crate's contracts.
 pub mod Place
-pub mod Listed
 pub mod Cause
 pub mod Line

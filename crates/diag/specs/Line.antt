@@ -1,7 +1,7 @@
 -- The line of a refusal.
 use Rattle.std.specs.Prelude.{ℕ, ◌+◌, ◌≤◌, List, ◌++◌, length, slice_range, codes, decimal, nat_eq, ⊤, if◌then◌else◌}
 use Rattle.std.specs.Cmp.Lexicographic.{pointwise}
-use Rattle.diag.specs.Listed.{name_of_listed}
+use Rattle.opcode.specs.Listed.{name_of_listed}
 use Rattle.diag.specs.Cause.{code_of, text_of}
 use Rattle.diag.specs.declared.refusal.Refusal.{Refusal}
 use Rattle.diag.specs.declared.refusal.OpName.{OpName}

@@ -3,5 +3,4 @@
 
 pub mod cause;
 pub mod line;
-pub mod listed;
 pub mod refusal;

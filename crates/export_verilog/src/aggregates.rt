@@ -14,7 +14,7 @@ ghost use Rattle.export_verilog.specs.Aggregates.{is_aggregate, has_aggregate_po
 
 use design_cycles::{ids_in, op_at};
 use diag::cause::Cause;
-use diag::listed::Listed;
+use opcode::listed::Listed;
 use diag::refusal::Refusal;
 use hw_model::kinds::OpKind;
 use hw_model::types::Ty;

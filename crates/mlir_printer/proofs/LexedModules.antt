@@ -4,8 +4,8 @@ use Rattle.std.specs.Prelude.{codes}
 use Rattle.std.specs.Cmp.Lexicographic.{bytes_decides}
 use Rattle.std.proofs.lemmas.List.{append-nil}
 use Rattle.diag.specs.Place.{start_place}
-use Rattle.diag.specs.Listed.{name_of_listed}
-use Rattle.diag.specs.declared.listed.Listed.TheVariants as listed
+use Rattle.opcode.specs.Listed.{name_of_listed}
+use Rattle.opcode.specs.declared.listed.Listed.TheVariants as listed
 use Rattle.hw_model.specs.Types.{Name, HwType}
 use Rattle.hw_model.specs.Design.{Entry, same_name}
 use Rattle.mlir_lexer.specs.Tokens.{Lexeme, tokens_behind}

@@ -2,10 +2,10 @@
 use Rattle.std.proofs.Common.{◌≡◌, inl, ℕ, Bool, true, false, cond, List, [], ◌∷◌, ◌++◌, map, Option, Some, None, refl, ap, subst, append_assoc}
 use Rattle.std.specs.Prelude.{codes}
 use Rattle.diag.specs.Place.{start_place}
-use Rattle.diag.specs.Listed.{name_of_listed}
+use Rattle.opcode.specs.Listed.{name_of_listed}
 use Rattle.diag.specs.declared.refusal.Place.{Place}
-use Rattle.diag.specs.declared.listed.Listed.{Listed}
-use Rattle.diag.specs.declared.listed.Listed.TheVariants as listed
+use Rattle.opcode.specs.declared.listed.Listed.{Listed}
+use Rattle.opcode.specs.declared.listed.Listed.TheVariants as listed
 use Rattle.hw_model.specs.Types.{Name}
 use Rattle.hw_model.specs.Design.{Entry}
 use Rattle.mlir_lexer.specs.Tokens.{Lexeme}

@@ -1,7 +1,7 @@
 -- A module that can be spelled: two values are added.
 use Rattle.std.proofs.Common.{false, [], ◌∷◌, Some, None, refl, arith}
 use Rattle.std.specs.Prelude.{codes}
-use Rattle.diag.specs.declared.listed.Listed.TheVariants as listed
+use Rattle.opcode.specs.declared.listed.Listed.TheVariants as listed
 use Rattle.hw_model.specs.Types.{Name, HwType}
 use Rattle.hw_model.specs.Types.HwType.{int}
 use Rattle.mlir_reader.specs.OperandText.ResultNames.{no_names, names}

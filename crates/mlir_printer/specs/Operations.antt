@@ -1,8 +1,8 @@
 -- How operations are printed: one line each.
 use Rattle.std.specs.Prelude.{ℕ, Bool, false, cond, List, [], ◌∷◌, ◌++◌, None, codes}
-use Rattle.diag.specs.declared.listed.Listed.{Listed}
-use Rattle.diag.specs.declared.listed.Listed.TheVariants as listed
-use Rattle.diag.specs.Listed.{name_of_listed}
+use Rattle.opcode.specs.declared.listed.Listed.{Listed}
+use Rattle.opcode.specs.declared.listed.Listed.TheVariants as listed
+use Rattle.opcode.specs.Listed.{name_of_listed}
 use Rattle.hw_model.specs.Types.{HwType}
 use Rattle.mlir_reader.specs.OperandText.{ResultNames}
 use Rattle.mlir_reader.specs.OperandText.ResultNames.{no_names, names, pack}

@@ -21,7 +21,7 @@ use crate::pieces::{push_pieces, push_value_name};
 use crate::said::{Pending, Said, said_of};
 use crate::value_names::ValueNames;
 use crate::wanted::{is_pack, name_count};
-use diag::listed::Listed;
+use opcode::listed::Listed;
 use hw_model::kinds::OpKind;
 use hw_model::types::Ty;
 use io_edge::byte_text::Text;

@@ -5,8 +5,8 @@ use Rattle.diag.specs.Place.{place_of}
 use Rattle.diag.specs.declared.refusal.Place.{Place}
 use Rattle.diag.specs.declared.refusal.OpName.{OpName}
 use Rattle.diag.specs.declared.refusal.OpName.TheVariants as op
-use Rattle.diag.specs.declared.listed.Listed.TheVariants as listed
-use Rattle.diag.specs.Listed.{name_of_listed}
+use Rattle.opcode.specs.declared.listed.Listed.TheVariants as listed
+use Rattle.opcode.specs.Listed.{name_of_listed}
 use Rattle.hw_model.specs.Types.{Name, HwType}
 use Rattle.hw_model.specs.Design.{Entry}
 use Rattle.mlir_lexer.specs.Tokens.{Lexeme, tokens}

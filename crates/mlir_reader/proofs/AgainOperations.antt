@@ -2,9 +2,9 @@
 use Rattle.std.proofs.Common.{◌≡◌, ◌⊎◌, ℕ, zero, suc, ◌≤◌, Bool, true, false, cond, List, [], ◌∷◌, ◌++◌, length, Ok, Err, refl, sym, ◌∙◌, ap, ap₂, subst, inl, inr, arith}
 use Rattle.std.specs.Prelude.{codes}
 use Rattle.diag.specs.declared.refusal.OpName.TheVariants as op
-use Rattle.diag.specs.declared.listed.Listed.{Listed}
-use Rattle.diag.specs.declared.listed.Listed.TheVariants as listed
-use Rattle.diag.specs.Listed.{name_of_listed}
+use Rattle.opcode.specs.declared.listed.Listed.{Listed}
+use Rattle.opcode.specs.declared.listed.Listed.TheVariants as listed
+use Rattle.opcode.specs.Listed.{name_of_listed}
 use Rattle.hw_model.specs.Design.{same_name}
 use Rattle.mlir_lexer.specs.Tokens.{Lexeme}
 use Rattle.mlir_lexer.specs.declared.token.TokenKind.{TokenKind}

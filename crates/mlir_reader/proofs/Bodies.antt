@@ -1,7 +1,7 @@
 -- Operations of a body, one after another.
 use Rattle.std.proofs.Common.{◌≡◌, ℕ, zero, suc, ◌-◌, ◌≤◌, ◌<◌, Bool, true, false, cond, not, ◌&&◌, List, [], ◌∷◌, ◌++◌, map, length, Ok, Err, Some, refl, sym, ap, ◌∙◌, arith}
 use Rattle.std.proofs.lemmas.List.{map_push, append-nil}
-use Rattle.diag.specs.declared.listed.Listed.TheVariants as listed
+use Rattle.opcode.specs.declared.listed.Listed.TheVariants as listed
 use Rattle.diag.specs.declared.refusal.OpName.TheVariants as op
 use Rattle.mlir_lexer.specs.Tokens.{Lexeme}
 use Rattle.mlir_lexer.specs.declared.token.TokenKind.TheVariants as kind

@@ -3,9 +3,9 @@ use Rattle.std.proofs.Common.{◌≡◌, ◌≢◌, ℕ, Bool, true, false, cond
 use Rattle.mlir_lexer.specs.Runs.{run}
 use Rattle.mlir_reader.specs.AttributeText.{is_among}
 use Rattle.std.specs.Cmp.Lexicographic.{pointwise, bytes_decides}
-use Rattle.diag.specs.Listed.{name_of_listed, first_named}
-use Rattle.diag.specs.declared.listed.Listed.{Listed}
-use Rattle.diag.specs.declared.listed.Listed.TheVariants as listed
+use Rattle.opcode.specs.Listed.{name_of_listed, first_named}
+use Rattle.opcode.specs.declared.listed.Listed.{Listed}
+use Rattle.opcode.specs.declared.listed.Listed.TheVariants as listed
 use Rattle.mlir_reader.specs.OperationText.{operations, class_of, class_by, dialect, known_dialects, is_foreign, class_of_listed, class_of_other}
 
 -- a listed operation is the first of its name

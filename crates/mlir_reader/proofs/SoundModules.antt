@@ -7,8 +7,8 @@ use Rattle.diag.specs.declared.refusal.Place.{Place}
 use Rattle.diag.specs.declared.refusal.Refusal.{Refusal}
 use Rattle.diag.specs.declared.refusal.OpName.{OpName}
 use Rattle.diag.specs.declared.refusal.OpName.TheVariants as op
-use Rattle.diag.specs.declared.listed.Listed.TheVariants as listed
-use Rattle.diag.specs.Listed.{name_of_listed}
+use Rattle.opcode.specs.declared.listed.Listed.TheVariants as listed
+use Rattle.opcode.specs.Listed.{name_of_listed}
 use Rattle.hw_model.specs.Types.{Name}
 use Rattle.hw_model.specs.Design.{Design}
 use Rattle.mlir_lexer.specs.Contents.{content_of}

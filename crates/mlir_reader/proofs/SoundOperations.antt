@@ -5,10 +5,10 @@ use Rattle.std.proofs.lemmas.Bool.{cond_both}
 use Rattle.diag.specs.declared.refusal.Place.{Place}
 use Rattle.diag.specs.declared.refusal.OpName.{OpName}
 use Rattle.diag.specs.declared.refusal.OpName.TheVariants as op
-use Rattle.diag.specs.declared.listed.Listed.{Listed}
-use Rattle.diag.specs.declared.listed.Listed.TheVariants as listed
-use Rattle.diag.specs.Listed.{name_of_listed, first_named}
-use Rattle.diag.proofs.Names.{first_named-name}
+use Rattle.opcode.specs.declared.listed.Listed.{Listed}
+use Rattle.opcode.specs.declared.listed.Listed.TheVariants as listed
+use Rattle.opcode.specs.Listed.{name_of_listed, first_named}
+use Rattle.opcode.proofs.Names.{first_named-name}
 use Rattle.hw_model.specs.Types.{Name}
 use Rattle.hw_model.specs.Design.{Entry, same_name}
 use Rattle.mlir_lexer.specs.Tokens.{Lexeme}

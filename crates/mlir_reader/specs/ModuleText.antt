@@ -4,7 +4,7 @@ use Rattle.diag.specs.declared.refusal.Place.{Place}
 use Rattle.diag.specs.declared.refusal.OpName.{OpName}
 use Rattle.diag.specs.declared.refusal.OpName.TheVariants as op
 use Rattle.diag.specs.declared.cause.Cause.TheVariants.{OutsideProfile}
-use Rattle.diag.specs.declared.listed.Listed.TheVariants as listed
+use Rattle.opcode.specs.declared.listed.Listed.TheVariants as listed
 use Rattle.hw_model.specs.Types.{Name, HwType}
 use Rattle.hw_model.specs.Design.{Entry}
 use Rattle.mlir_lexer.specs.Contents.{content_of}

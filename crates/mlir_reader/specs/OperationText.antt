@@ -5,9 +5,9 @@ use Rattle.diag.specs.declared.refusal.Refusal.{Refusal}
 use Rattle.diag.specs.declared.refusal.OpName.{OpName}
 use Rattle.diag.specs.declared.refusal.OpName.TheVariants as op
 use Rattle.diag.specs.declared.cause.Cause.TheVariants.{Unexpected, UnknownOperation, OutsideProfile}
-use Rattle.diag.specs.declared.listed.Listed.{Listed}
-use Rattle.diag.specs.declared.listed.Listed.TheVariants as listed
-use Rattle.diag.specs.Listed.{first_named}
+use Rattle.opcode.specs.declared.listed.Listed.{Listed}
+use Rattle.opcode.specs.declared.listed.Listed.TheVariants as listed
+use Rattle.opcode.specs.Listed.{first_named}
 use Rattle.hw_model.specs.Types.{Name}
 use Rattle.hw_model.specs.Design.{Entry, same_name}
 use Rattle.mlir_lexer.specs.Runs.{run}
@@ -107,7 +107,7 @@ no_operation around s = cond (is_first is_outside s) (refused OutsideProfile aro
 
 -- whether `bin` may stand behind the name
 abbrev pub takes_bin : Listed → Bool
-takes_bin o = same_name (dialect (Rattle.diag.specs.Listed.name_of_listed o)) (codes "comb")
+takes_bin o = same_name (dialect (Rattle.opcode.specs.Listed.name_of_listed o)) (codes "comb")
 
 -- `bin`, or nothing
 unfoldable pub bin_text : Listed → Reads Bool

@@ -3,8 +3,8 @@ use Rattle.std.specs.Prelude.{ℕ, ◌+◌, ◌-◌, ◌^◌, Bool, true, false,
 use Rattle.std.specs.Ordering.{nat_cmp, is_lt}
 use Rattle.std.specs.Cmp.Lexicographic.{slice_cmp}
 use Rattle.diag.specs.declared.refusal.Place as code
-use Rattle.diag.specs.declared.listed.Listed.{Listed}
-use Rattle.diag.specs.declared.listed.Listed.TheVariants as listed
+use Rattle.opcode.specs.declared.listed.Listed.{Listed}
+use Rattle.opcode.specs.declared.listed.Listed.TheVariants as listed
 use Rattle.hw_model.specs.Types.{Name, HwType}
 use Rattle.hw_model.specs.Types.HwType.{int}
 use Rattle.hw_model.specs.Kinds.{Kind, Predicate, Reset, Literal, Literals, Instance}

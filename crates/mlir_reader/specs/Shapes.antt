@@ -1,8 +1,8 @@
 -- The forms of operations: which pieces stand behind a name, in front of and behind a dictionary that stands before the types
 -- (CIRCT: assembly formats of the operations of HW, Comb and Seq).
 use Rattle.std.specs.Prelude.{Bool, false, cond, List, [], ◌∷◌, Option, Some, None, codes, ℕ}
-use Rattle.diag.specs.declared.listed.Listed.{Listed}
-use Rattle.diag.specs.declared.listed.Listed.TheVariants as op
+use Rattle.opcode.specs.declared.listed.Listed.{Listed}
+use Rattle.opcode.specs.declared.listed.Listed.TheVariants as op
 use Rattle.mlir_lexer.specs.declared.token.TokenKind.{TokenKind}
 use Rattle.mlir_lexer.specs.declared.token.TokenKind.TheVariants as kind
 use Rattle.mlir_lexer.specs.Tokens.{Lexeme}

@@ -12,7 +12,7 @@ ghost use Rattle.mlir_reader.specs.Meanings.{meanings_of, HasFewNames};
 
 use crate::names::{Defined, Names};
 use crate::syntax::{Extra, OperationText, ResultNames};
-use diag::listed::Listed;
+use opcode::listed::Listed;
 use hw_model::types::{Field, Ty};
 use smallvec::SmallVec;
 use std::alloc::{AllocError, Global};

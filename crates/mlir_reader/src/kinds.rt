@@ -8,7 +8,7 @@ ghost use Rattle.mlir_reader.specs.PieceText.Extra.{nothing};
 ghost use Rattle.mlir_reader.specs.Views.{extra_of};
 
 use crate::syntax::Extra;
-use diag::listed::Listed;
+use opcode::listed::Listed;
 use hw_model::kinds::{Instance, Integer, Literal, LiteralList, OpKind, Predicate, Reset};
 use hw_model::types::Ty;
 use io_edge::byte_text::Text;

@@ -1,12 +1,12 @@
 //! Names of operations in a text.
 ghost use Rattle.std.specs.Prelude.{◌≡◌, ◌≢◌, List, ℕ, map, IfSome, IfNone};
-ghost use Rattle.diag.specs.Listed.{name_of_listed};
+ghost use Rattle.opcode.specs.Listed.{name_of_listed};
 ghost use Rattle.hw_model.specs.Design.{same_name};
 ghost use Rattle.mlir_reader.specs.AttributeText.{is_among};
 ghost use Rattle.mlir_reader.specs.OperationText.{class_of, class_of_listed, class_of_other, dialect, is_foreign, takes_bin, is_last};
 ghost use Rattle.mlir_reader.specs.NameClasses.{class_seen};
 
-use diag::listed::Listed;
+use opcode::listed::Listed;
 use mlir_lexer::classes::{Class, run_of};
 
 /// What a name means in an operation's or a module's place.

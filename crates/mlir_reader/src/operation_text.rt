@@ -23,7 +23,7 @@ use crate::reader::{Reader, is_kind};
 use crate::shapes::{front_pieces, shape_of, type_pieces};
 use crate::syntax::{Extra, Gathered, OperationText, ResultNames};
 use diag::cause::Cause;
-use diag::listed::Listed;
+use opcode::listed::Listed;
 use diag::refusal::{OpName, Place, Refusal};
 use ir_store::body::Body;
 use ir_store::dictionary::Dictionary;

@@ -7,7 +7,7 @@ ghost use Rattle.mlir_reader.specs.Views.{names_of};
 
 use crate::dictionaries::{has_name, is_name_entry};
 use crate::syntax::ResultNames;
-use diag::listed::Listed;
+use opcode::listed::Listed;
 use io_edge::byte_text::Text;
 use ir_store::dictionary::{Attribute, Dictionary};
 use mlir_lexer::classes::{Digit, run_of};

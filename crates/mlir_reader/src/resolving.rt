@@ -15,7 +15,7 @@ use crate::dictionaries::kept_entries;
 use crate::module_text::BodyText;
 use crate::names::{Defined, Names};
 use crate::syntax::{OperandName, PortText, ResultNames};
-use diag::listed::Listed;
+use opcode::listed::Listed;
 use diag::refusal::Place;
 use hw_model::kinds::OpKind;
 use io_edge::byte_text::Text;

@@ -7,7 +7,7 @@ ghost use Rattle.mlir_reader.specs.Shapes.{shape_of, is_of, front_pieces, type_p
 
 use crate::pieces::{Keyword, Piece, Shape};
 use crate::reader::is_kind;
-use diag::listed::Listed;
+use opcode::listed::Listed;
 use mlir_lexer::token::{Token, TokenKind};
 
 const COMMA: Piece = Piece::Mark(TokenKind::Comma);

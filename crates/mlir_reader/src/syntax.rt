@@ -1,5 +1,5 @@
 //! What a text says, before names are resolved. Names of values borrow the text.
-use diag::listed::Listed;
+use opcode::listed::Listed;
 use diag::refusal::Place;
 use hw_model::kinds::{Instance, Integer, LiteralList, Predicate};
 use hw_model::types::Ty;

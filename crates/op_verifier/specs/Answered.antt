@@ -1,7 +1,7 @@
 -- What is answered for a design.
 use Rattle.std.specs.Prelude.{◌≡◌, ℕ, List, Some, slice_get}
 use Rattle.diag.specs.declared.cause.Cause.{Cause}
-use Rattle.diag.specs.declared.listed.Listed.TheVariants as listed
+use Rattle.opcode.specs.declared.listed.Listed.TheVariants as listed
 use Rattle.diag.specs.declared.refusal.Refusal.{Refusal}
 use Rattle.hw_model.specs.Design.{Design}
 use Rattle.ir_store.specs.BodyOps.{BodyOp, op_at}

@@ -10,7 +10,7 @@ ghost use Rattle.op_verifier.specs.Faults.{listed_of, refused_at, body_fault, mo
 use crate::body_view::BodyView;
 use crate::headers::{names_cause, ports_cause};
 use diag::cause::Cause;
-use diag::listed::Listed;
+use opcode::listed::Listed;
 use diag::refusal::{OpName, Place, Refusal};
 use hw_model::kinds::OpKind;
 use ir_store::design::{Design, Module};

@@ -10,7 +10,7 @@ use crate::faults::{first_fault, listed_of, refused_at};
 use crate::verify_fail::VerifyFail;
 use design_cycles::{Hierarchy, OpPlace, first_cycle, first_recursive, first_too_large};
 use diag::cause::Cause;
-use diag::listed::Listed;
+use opcode::listed::Listed;
 use diag::refusal::Refusal;
 use ir_store::design::Design;
 use std::alloc::{AllocError, Global};

@@ -1,6 +1,6 @@
 use diag::cause::Cause;
 use diag::line::refusal_text;
-use diag::listed::Listed;
+use opcode::listed::Listed;
 use diag::refusal::{OpName, Place, Refusal};
 use io_edge::memory_sink::MemorySink;
 use std::test::Fail;

@@ -1,6 +1,6 @@
 use Rattle.std.proofs.Common.{sym, ap, ◌∙◌}
 use Rattle.diag.specs.declared.cause.Cause.TheVariants.{OutsideProfile}
-use Rattle.diag.specs.declared.listed.Listed.{Listed}
+use Rattle.opcode.specs.declared.listed.Listed.{Listed}
 use Rattle.ir_store.specs.Bodies.{ops_of}
 use Rattle.ir_store.specs.Numbered.{numbered}
 use Rattle.ir_store.specs.OperationViews.{place_of}

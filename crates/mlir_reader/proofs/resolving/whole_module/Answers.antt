@@ -5,7 +5,7 @@ use Rattle.ir_store.specs.Bodies.{ops_of}
 use Rattle.ir_store.specs.Designs.{ports_in}
 use Rattle.ir_store.specs.DictionaryViews.{entries_in}
 use Rattle.ir_store.specs.Numbered.{op_by}
-use Rattle.diag.specs.declared.listed.Listed.TheVariants as listed
+use Rattle.opcode.specs.declared.listed.Listed.TheVariants as listed
 use Rattle.mlir_reader.specs.Resolving.{no_meaning, port_meanings, meanings, kept_entries, ends_with_output, has_outputs, left_out_output}
 use Rattle.mlir_reader.proofs.Modules.{module_is}
 use Rattle.mlir_reader.proofs.resolving.whole_module.Goals.{then-body, else-body}

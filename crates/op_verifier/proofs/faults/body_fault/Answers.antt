@@ -1,5 +1,5 @@
 use Rattle.std.proofs.Common.{◌≡◌, ◌<◌, ◌+◌, length, drop, get_or, nat_eq, sym, ap, ◌∙◌}
-use Rattle.diag.specs.declared.listed.Listed.{Listed}
+use Rattle.opcode.specs.declared.listed.Listed.{Listed}
 use Rattle.ir_store.specs.Designs.{design_of}
 use Rattle.ir_store.specs.OperationViews.{place_of}
 use Rattle.op_verifier.specs.Entries.{op_in}

@@ -1,5 +1,5 @@
 use Rattle.std.proofs.Common.{ap, ◌∙◌}
-use Rattle.diag.specs.declared.listed.Listed.TheVariants as listed
+use Rattle.opcode.specs.declared.listed.Listed.TheVariants as listed
 use Rattle.ir_store.specs.Designs.{StoredModule}
 use Rattle.op_verifier.specs.Faults.{refused_at}
 use Rattle.op_verifier.proofs.WholeDesigns.{some_from}

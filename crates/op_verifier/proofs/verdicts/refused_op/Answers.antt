@@ -1,5 +1,5 @@
 use Rattle.std.proofs.Common.{◌≡◌, ap, ◌∙◌, sym, subst, Option, Contains}
-use Rattle.diag.specs.declared.listed.Listed.{Listed}
+use Rattle.opcode.specs.declared.listed.Listed.{Listed}
 use Rattle.ir_store.specs.BodyOps.{BodyOp, op_at}
 use Rattle.ir_store.specs.Bodies.{read_op}
 use Rattle.ir_store.specs.OperationViews.{place_of}

@@ -1,8 +1,8 @@
 -- The listed operations: their names, and the one of a name.
 use Rattle.std.specs.Prelude.{ℕ, List, [], ◌∷◌, Option, None, Some, nat_eq, codes, if◌then◌else◌}
 use Rattle.std.specs.Cmp.Lexicographic.{pointwise}
-use Rattle.diag.specs.declared.listed.Listed.{Listed}
-use Rattle.diag.specs.declared.listed.Listed.TheVariants.{HwModule, CombAdd, CombMul, CombAnd, CombOr, CombXor, CombSub, CombDivu, CombModu, CombDivs, CombMods, CombShl, CombShru, CombShrs, CombIcmp, CombParity, CombExtract, CombConcat, CombReplicate, CombMux, HwConstant, HwAggregateConstant, HwArrayCreate, HwArrayConcat, HwArrayGet, HwArraySlice, HwArrayInject, HwStructCreate, HwStructExtract, HwStructInject, HwStructExplode, HwBitcast, HwWire, HwInstance, HwOutput, SeqCompreg, SeqCompregCe, SeqFirreg}
+use Rattle.opcode.specs.declared.listed.Listed.{Listed}
+use Rattle.opcode.specs.declared.listed.Listed.TheVariants.{HwModule, CombAdd, CombMul, CombAnd, CombOr, CombXor, CombSub, CombDivu, CombModu, CombDivs, CombMods, CombShl, CombShru, CombShrs, CombIcmp, CombParity, CombExtract, CombConcat, CombReplicate, CombMux, HwConstant, HwAggregateConstant, HwArrayCreate, HwArrayConcat, HwArrayGet, HwArraySlice, HwArrayInject, HwStructCreate, HwStructExtract, HwStructInject, HwStructExplode, HwBitcast, HwWire, HwInstance, HwOutput, SeqCompreg, SeqCompregCe, SeqFirreg}
 
 -- the name of an operation (CIRCT's operation references of hw, comb and seq)
 unfoldable pub name_of_listed : Listed → List ℕ

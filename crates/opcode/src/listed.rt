@@ -1,7 +1,7 @@
-//! The operations that this project reads, by their names.
+//! The opcodes of the operations that this project reads, by their names.
 ghost use Rattle.std.specs.Prelude.{◌≡◌, ◌≢◌, IfSome, IfNone};
-ghost use Rattle.diag.specs.Listed.{name_of_listed, first_named};
-ghost use Rattle.diag.specs.declared.listed.Listed.{Listed};
+ghost use Rattle.opcode.specs.Listed.{name_of_listed, first_named};
+ghost use Rattle.opcode.specs.declared.listed.Listed.{Listed};
 
 /// An operation of the dialects hw, comb and seq that this project reads, or the module itself
 /// (CIRCT's operation references of the three dialects).
