@@ -16,8 +16,8 @@ use Rattle.export_verilog.specs.Room.{HasRoomToExport}
 use Rattle.mlir_reader.specs.Reading.{text_limit, read}
 use Rattle.mlir_reader.specs.Spelling.{Spells}
 use Rattle.mlir_reader.specs.ModuleViews.{ReadsDesign}
-use Rattle.mlir_reader.specs.declared.fail.ReadFail.{ReadFail}
-use Rattle.mlir_reader.specs.declared.fail.ReadFail.TheVariants as reading
+use Rattle.mlir_syntax.specs.declared.fail.ReadFail.{ReadFail}
+use Rattle.mlir_syntax.specs.declared.fail.ReadFail.TheVariants as reading
 use Rattle.op_verifier.specs.declared.verify_fail.VerifyFail.{VerifyFail}
 use Rattle.op_verifier.specs.declared.verify_fail.VerifyFail.TheVariants as verifying
 use Rattle.op_verifier.specs.Answered.{Explains}

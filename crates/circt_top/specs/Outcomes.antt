@@ -3,8 +3,8 @@ use Rattle.std.specs.Prelude.{ℕ, List, Result, Ok, Err}
 use Rattle.ir_store.specs.Designs.{design_of}
 use Rattle.op_verifier.specs.declared.accepted.Verified.{Verified}
 use Rattle.circt_top.specs.Accepting.{Accepted, IsRefused}
-use Rattle.mlir_reader.specs.declared.fail.ReadFail.{ReadFail}
-use Rattle.mlir_reader.specs.declared.fail.ReadFail.TheVariants as read
+use Rattle.mlir_syntax.specs.declared.fail.ReadFail.{ReadFail}
+use Rattle.mlir_syntax.specs.declared.fail.ReadFail.TheVariants as read
 use Rattle.op_verifier.specs.declared.verify_fail.VerifyFail.{VerifyFail}
 use Rattle.op_verifier.specs.declared.verify_fail.VerifyFail.TheVariants as verify
 use Rattle.circt_top.specs.declared.outcome.OutcomeFail.{OutcomeFail}

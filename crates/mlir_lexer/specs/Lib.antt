@@ -7,3 +7,4 @@ pub mod Cursor
 pub mod Flat
 pub mod Tokens
 pub mod Contents
+pub mod TokenKinds

@@ -60,3 +60,40 @@ pub struct Token<'s> {
     pub at: u64,
     pub text: &'s [u8],
 }
+
+/// Whether two kinds of tokens are the same.
+pub fn is_kind(a: TokenKind, b: TokenKind) -> bool
+    ensures { result ≡ is_kind a b }
+{
+    tag(a) == tag(b)
+}
+
+// A number for each kind.
+fn tag(kind: TokenKind) -> u8
+    ensures { result ≡ tag kind }
+{
+    match kind {
+        TokenKind::BareName => 0,
+        TokenKind::ValueName => 1,
+        TokenKind::SymbolName => 2,
+        TokenKind::SymbolString => 3,
+        TokenKind::Integer => 4,
+        TokenKind::StringLiteral => 5,
+        TokenKind::ResultNumber => 6,
+        TokenKind::AttributeAlias => 7,
+        TokenKind::TypeName => 8,
+        TokenKind::Arrow => 9,
+        TokenKind::LeftParenthesis => 10,
+        TokenKind::RightParenthesis => 11,
+        TokenKind::LeftBrace => 12,
+        TokenKind::RightBrace => 13,
+        TokenKind::LeftBracket => 14,
+        TokenKind::RightBracket => 15,
+        TokenKind::Less => 16,
+        TokenKind::Greater => 17,
+        TokenKind::Colon => 18,
+        TokenKind::Comma => 19,
+        TokenKind::Equals => 20,
+        TokenKind::Minus => 21,
+    }
+}

@@ -10,9 +10,9 @@ use Rattle.hw_model.specs.Kinds.Kind.{output}
 use Rattle.hw_model.specs.Design.{Ref, Port, Op, Module, Design}
 use Rattle.hw_model.specs.Design.Ref.{port, result, undefined}
 use Rattle.ir_store.specs.OperationViews.{OpParts}
-use Rattle.mlir_reader.specs.Numerals.{count_limit}
-use Rattle.mlir_reader.specs.OperandText.{ResultNames}
-use Rattle.mlir_reader.specs.Spelling.{StandsInBody}
+use Rattle.mlir_syntax.specs.Numerals.{count_limit}
+use Rattle.mlir_syntax.specs.OperandText.{ResultNames}
+use Rattle.mlir_syntax.specs.Spelling.{StandsInBody}
 use Rattle.mlir_printer.specs.Pieces.{ValueText, no_value}
 use Rattle.mlir_printer.specs.Naming.{wishes, port_wish, port_wishes, input_count, body_wishes, names_given, name_count, first_name, firsts, called, is_pack, value_at, value_in, port_value, value_named, listed_names, results_named}
 use Rattle.op_verifier.specs.Faults.{listed_of}

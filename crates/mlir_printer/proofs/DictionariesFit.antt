@@ -14,8 +14,8 @@ use Rattle.opcode.specs.declared.listed.Listed.{Listed}
 use Rattle.hw_model.specs.Types.{Name}
 use Rattle.hw_model.specs.Design.{Entry, same_name}
 use Rattle.hw_model.specs.Equality.{name_from, name_self}
-use Rattle.mlir_reader.specs.AttributeText.{is_among}
-use Rattle.mlir_reader.specs.Spelling.{AreOnce}
+use Rattle.mlir_syntax.specs.AttributeText.{is_among}
+use Rattle.mlir_syntax.specs.Spelling.{AreOnce}
 use Rattle.mlir_reader.specs.Resolving.{put_entry, has_name}
 use Rattle.mlir_printer.specs.Texts.{name_entry, named_entries, entries_shown}
 use Rattle.mlir_printer.specs.Spellable.{Each, AreBytes, IsEntry, IsDictionary}

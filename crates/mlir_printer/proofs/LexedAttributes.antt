@@ -9,9 +9,9 @@ use Rattle.hw_model.specs.Design.Attribute.{unit_value, text_value, symbol_value
 use Rattle.hw_model.specs.Design.Attributes.{no_attributes, attribute}
 use Rattle.mlir_lexer.specs.Tokens.{Lexeme}
 use Rattle.mlir_lexer.specs.declared.token.TokenKind.TheVariants as kind
-use Rattle.mlir_reader.specs.TypeText.{most_open}
-use Rattle.mlir_reader.specs.AttributeText.{is_among, is_stored, in_order}
-use Rattle.mlir_reader.specs.Spelling.{Phrase, Mark, Then, IntegerPhrase, TypePhrase, TruthWord, IntegerType, AttributePhrase, EntryPhrase, DictionaryPhrase}
+use Rattle.mlir_syntax.specs.TypeText.{most_open}
+use Rattle.mlir_syntax.specs.AttributeText.{is_among, is_stored, in_order}
+use Rattle.mlir_syntax.specs.Spelling.{Phrase, Mark, Then, IntegerPhrase, TypePhrase, TruthWord, IntegerType, AttributePhrase, EntryPhrase, DictionaryPhrase}
 use Rattle.mlir_printer.specs.Strings.{name_bytes}
 use Rattle.mlir_printer.specs.Numbers.{truth_bytes}
 use Rattle.mlir_printer.specs.Commas.{comma_bytes, items_from, commas}

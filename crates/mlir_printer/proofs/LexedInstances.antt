@@ -6,11 +6,11 @@ use Rattle.hw_model.specs.Types.{Name, HwType}
 use Rattle.hw_model.specs.TypeViews.{NamedType}
 use Rattle.hw_model.specs.Kinds.{Instance}
 use Rattle.mlir_lexer.specs.declared.token.TokenKind.TheVariants as kind
-use Rattle.mlir_reader.specs.TypeText.{most_open}
-use Rattle.mlir_reader.specs.OperandText.{OperandName}
-use Rattle.mlir_reader.specs.PieceText.{Gathered, Joined, instance_with, with_instance, with_extra, with_types, with_operands}
-use Rattle.mlir_reader.specs.PieceText.Extra.{child}
-use Rattle.mlir_reader.specs.Spelling.{Phrase, Mark, Then, Commas, Between, TypePhrase, InputPhrase, OutputPhrase, InnerSymbol, InstancePhrase}
+use Rattle.mlir_syntax.specs.TypeText.{most_open}
+use Rattle.mlir_syntax.specs.OperandText.{OperandName}
+use Rattle.mlir_syntax.specs.PieceText.{Gathered, Joined, instance_with, with_instance, with_extra, with_types, with_operands}
+use Rattle.mlir_syntax.specs.PieceText.Extra.{child}
+use Rattle.mlir_syntax.specs.Spelling.{Phrase, Mark, Then, Commas, Between, TypePhrase, InputPhrase, OutputPhrase, InnerSymbol, InstancePhrase}
 use Rattle.mlir_printer.specs.Strings.{symbol_bytes, string_bytes}
 use Rattle.mlir_printer.specs.Commas.{commas}
 use Rattle.mlir_printer.specs.Pieces.{ValueText, InputText, input_bytes, output_bytes, inputs_joined, outputs_joined, inner_bytes, instance_head, connections_bytes, instance_bytes}

@@ -8,8 +8,8 @@ use Rattle.hw_model.specs.Kinds.{Literal, Literals}
 use Rattle.hw_model.specs.Kinds.Literal.{leaf, parts}
 use Rattle.hw_model.specs.Kinds.Literals.{no_literals, literal}
 use Rattle.mlir_lexer.specs.declared.token.TokenKind.TheVariants as kind
-use Rattle.mlir_reader.specs.LiteralText.{literals_in_order, truth_leaf}
-use Rattle.mlir_reader.specs.Spelling.{Phrase, Mark, Then, Either, IntegerPhrase, TypePhrase, TruthWord, LiteralPhrase, PartsPhrase, AggregatePhrase}
+use Rattle.mlir_syntax.specs.LiteralText.{literals_in_order, truth_leaf}
+use Rattle.mlir_syntax.specs.Spelling.{Phrase, Mark, Then, Either, IntegerPhrase, TypePhrase, TruthWord, LiteralPhrase, PartsPhrase, AggregatePhrase}
 use Rattle.mlir_printer.specs.Numbers.{truth_bytes, is_truth, is_one_bit, is_shown_as_truth, is_one}
 use Rattle.mlir_printer.specs.Commas.{comma_bytes, items_from}
 use Rattle.mlir_printer.specs.Attributes.{typed_bytes}

@@ -12,8 +12,8 @@ use Rattle.mlir_lexer.specs.Fronts.{suffix_length, front_of, sign_front, number_
 use Rattle.mlir_lexer.specs.Tokens.{Lexeme}
 use Rattle.mlir_lexer.specs.declared.token.TokenKind.TheVariants as kind
 use Rattle.mlir_lexer.specs.declared.fronts.Front.TheVariants.{LineEnd, Token}
-use Rattle.mlir_reader.specs.Numerals.{number_in, number_of, count_limit, number_limit, negative}
-use Rattle.mlir_reader.specs.Spelling.{One, Mark, Then, AreDigits, WidthPhrase, NumberPhrase, IntegerPhrase}
+use Rattle.mlir_syntax.specs.Numerals.{number_in, number_of, count_limit, number_limit, negative}
+use Rattle.mlir_syntax.specs.Spelling.{One, Mark, Then, AreDigits, WidthPhrase, NumberPhrase, IntegerPhrase}
 use Rattle.mlir_printer.specs.Strings.{is_bare}
 use Rattle.mlir_printer.specs.Numbers.{count_bytes, further_bytes, integer_bytes}
 use Rattle.mlir_printer.specs.Spellable.{IsInteger}

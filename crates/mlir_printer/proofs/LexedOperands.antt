@@ -7,11 +7,11 @@ use Rattle.hw_model.specs.Kinds.Predicate.{eq, ne, slt, sle, sgt, sge, ult, ule,
 use Rattle.mlir_lexer.specs.Tokens.{Lexeme}
 use Rattle.mlir_lexer.specs.declared.token.TokenKind.{TokenKind}
 use Rattle.mlir_lexer.specs.declared.token.TokenKind.TheVariants as kind
-use Rattle.mlir_reader.specs.Shapes.{text_of_keyword}
-use Rattle.mlir_reader.specs.PieceText.{predicate_named}
-use Rattle.mlir_reader.specs.Spelling.{Phrase, Mark, Word, Commas, OperandPhrase}
-use Rattle.mlir_reader.specs.declared.pieces.Keyword.{Keyword}
-use Rattle.mlir_reader.specs.declared.pieces.Keyword.TheVariants.{From, Clock}
+use Rattle.assembly_format.specs.Shapes.{text_of_keyword}
+use Rattle.mlir_syntax.specs.PieceText.{predicate_named}
+use Rattle.mlir_syntax.specs.Spelling.{Phrase, Mark, Word, Commas, OperandPhrase}
+use Rattle.assembly_format.specs.declared.pieces.Keyword.{Keyword}
+use Rattle.assembly_format.specs.declared.pieces.Keyword.TheVariants.{From, Clock}
 use Rattle.mlir_printer.specs.Strings.{is_bare}
 use Rattle.mlir_printer.specs.Commas.{commas}
 use Rattle.mlir_printer.specs.Pieces.{ValueText, value_name_bytes, pack_number_bytes, operand_bytes, mark_bytes, word_bytes, predicate_bytes}

@@ -11,15 +11,15 @@ use Rattle.hw_model.specs.Design.{Entry}
 use Rattle.mlir_lexer.specs.Tokens.{Lexeme}
 use Rattle.mlir_lexer.specs.declared.token.TokenKind.{TokenKind}
 use Rattle.mlir_lexer.specs.declared.token.TokenKind.TheVariants as kind
-use Rattle.mlir_reader.specs.OperandText.{ResultNames}
-use Rattle.mlir_reader.specs.OperandText.ResultNames.{no_names, names, pack}
-use Rattle.mlir_reader.specs.Shapes.{shape_of, front_pieces, type_pieces}
-use Rattle.mlir_reader.specs.PieceText.{Gathered, gathered_nothing}
-use Rattle.mlir_reader.specs.OperationText.{string_keys, takes_bin}
-use Rattle.mlir_reader.specs.Spelling.{One, Stands, ResultsPhrase, PiecesPhrase, MaybeDictionary, IsOneOf, FormPhrase, BinPhrase, MayHaveShape, OperationPhrase, OperationsPhrase, ValueName}
-use Rattle.mlir_reader.specs.declared.pieces.Piece.{Piece}
-use Rattle.mlir_reader.specs.declared.pieces.Shape.{Shape}
-use Rattle.mlir_reader.specs.declared.pieces.Shape.TheVariants as shape
+use Rattle.mlir_syntax.specs.OperandText.{ResultNames}
+use Rattle.mlir_syntax.specs.OperandText.ResultNames.{no_names, names, pack}
+use Rattle.assembly_format.specs.Shapes.{shape_of, front_pieces, type_pieces}
+use Rattle.mlir_syntax.specs.PieceText.{Gathered, gathered_nothing}
+use Rattle.mlir_syntax.specs.OperationText.{string_keys, takes_bin}
+use Rattle.mlir_syntax.specs.Spelling.{One, Stands, ResultsPhrase, PiecesPhrase, MaybeDictionary, IsOneOf, FormPhrase, BinPhrase, MayHaveShape, OperationPhrase, OperationsPhrase, ValueName}
+use Rattle.assembly_format.specs.declared.pieces.Piece.{Piece}
+use Rattle.assembly_format.specs.declared.pieces.Shape.{Shape}
+use Rattle.assembly_format.specs.declared.pieces.Shape.TheVariants as shape
 use Rattle.mlir_printer.specs.Strings.{is_bare}
 use Rattle.mlir_printer.specs.Attributes.{dictionary_bytes}
 use Rattle.mlir_printer.specs.Pieces.{Pending, ValueText, value_name_bytes, pieces_bytes}

@@ -12,7 +12,7 @@ use Rattle.mlir_lexer.specs.declared.token.TokenKind.TheVariants as kind
 use Rattle.mlir_lexer.specs.declared.strings.Reading.TheVariants.{Plain, Escape, HexPair, Closed}
 use Rattle.mlir_lexer.specs.declared.contents.Pending.TheVariants.{Nothing as NothingPending}
 use Rattle.mlir_lexer.proofs.StringEnds.{string_rest-closed}
-use Rattle.mlir_reader.specs.Spelling.{Holding}
+use Rattle.mlir_syntax.specs.Spelling.{Holding}
 use Rattle.mlir_printer.specs.Strings.{is_plain, hex_digit, escaped_byte, escaped_bytes, string_bytes}
 use Rattle.mlir_printer.specs.Spellable.{AreBytes}
 use Rattle.mlir_printer.proofs.LexedTexts.{Whole, one_token}

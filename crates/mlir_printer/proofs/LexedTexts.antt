@@ -14,7 +14,7 @@ use Rattle.mlir_lexer.specs.Tokens.{Lexeme, told, tokens_behind}
 use Rattle.mlir_lexer.specs.declared.token.TokenKind.{TokenKind}
 use Rattle.mlir_lexer.specs.declared.token.TokenKind.TheVariants as kind
 use Rattle.mlir_lexer.specs.declared.fronts.Front.TheVariants.{LineEnd, Gap, Token}
-use Rattle.mlir_reader.specs.Spelling.{Phrase, One, Mark, Nothing, Then, token_of}
+use Rattle.mlir_syntax.specs.Spelling.{Phrase, One, Mark, Nothing, Then, token_of}
 
 -- ---- where a token ends
 

@@ -7,8 +7,8 @@ use Rattle.hw_model.specs.Types.{HwType, FieldTypes}
 use Rattle.hw_model.specs.Types.HwType.{int, clock, array, struct}
 use Rattle.hw_model.specs.Types.FieldTypes.{no_fields, field}
 use Rattle.hw_model.specs.TypeViews.{NamedType, fields_of}
-use Rattle.mlir_reader.specs.Numerals.{count_limit}
-use Rattle.mlir_reader.specs.Spelling.{Phrase, Then, NumberPhrase, ElementPhrase, FieldPhrase, TypeWith, TypePhrase}
+use Rattle.mlir_syntax.specs.Numerals.{count_limit}
+use Rattle.mlir_syntax.specs.Spelling.{Phrase, Then, NumberPhrase, ElementPhrase, FieldPhrase, TypeWith, TypePhrase}
 use Rattle.mlir_printer.specs.Strings.{name_bytes}
 use Rattle.mlir_printer.specs.Numbers.{count_bytes}
 use Rattle.mlir_printer.specs.Commas.{comma_bytes, items_from}
@@ -91,7 +91,7 @@ struct_lexed Inner fs each =
 
 -- ---- types
 
-clock_lexed : Lexed (Rattle.mlir_reader.specs.Spelling.TypeWord (codes "seq.clock")) (codes "!seq.clock")
+clock_lexed : Lexed (Rattle.mlir_syntax.specs.Spelling.TypeWord (codes "seq.clock")) (codes "!seq.clock")
 clock_lexed = type_word_lexed (codes "seq.clock") (omega arith) refl
 
 mutual

@@ -3,7 +3,7 @@ use Rattle.std.proofs.Common.{◌≡◌, ℕ, zero, suc, ◌+◌, ◌<◌, ◌�
 use Rattle.std.proofs.lemmas.List.{drop_more, append-nil, drop_all}
 use Rattle.hw_model.specs.Types.{Name, HwType}
 use Rattle.hw_model.specs.TypeViews.{type_of}
-use Rattle.mlir_reader.specs.declared.pieces.Piece.{Piece}
+use Rattle.assembly_format.specs.declared.pieces.Piece.{Piece}
 use Rattle.mlir_printer.specs.Commas.{comma_bytes, items_from}
 use Rattle.mlir_printer.specs.Pieces.{ValueText, input_bytes, output_bytes, inputs_joined, outputs_joined, operands_taken, types_taken, left_behind}
 use Rattle.mlir_printer.specs.Views.{value_held, pending_of, extra_of}

@@ -22,11 +22,11 @@ use Rattle.mlir_lexer.specs.declared.fronts.Front.{Front}
 use Rattle.mlir_lexer.specs.declared.fronts.Front.TheVariants.{LineEnd, Gap, Token, Bad}
 use Rattle.mlir_lexer.specs.declared.token.TokenKind.{TokenKind}
 use Rattle.mlir_lexer.specs.declared.token.TokenKind.TheVariants as kind
-use Rattle.mlir_reader.specs.Numerals.{number_limit, negative}
-use Rattle.mlir_reader.specs.TypeText.{most_open}
-use Rattle.mlir_reader.specs.AttributeText.{is_among, in_order}
-use Rattle.mlir_reader.specs.LiteralText.{literals_in_order, truth_leaf}
-use Rattle.mlir_reader.specs.Spelling.{Phrase, Commas, Holding, NamePhrase, SymbolPhrase, IntegerPhrase, ElementPhrase, FieldPhrase, TypeWith, TypePhrase, IntegerType, AttributePhrase, ValuePhrase, EntryPhrase, LiteralWith, PartsPhrase, LiteralPhrase, AggregatePhrase, token_of}
+use Rattle.mlir_syntax.specs.Numerals.{number_limit, negative}
+use Rattle.mlir_syntax.specs.TypeText.{most_open}
+use Rattle.mlir_syntax.specs.AttributeText.{is_among, in_order}
+use Rattle.mlir_syntax.specs.LiteralText.{literals_in_order, truth_leaf}
+use Rattle.mlir_syntax.specs.Spelling.{Phrase, Commas, Holding, NamePhrase, SymbolPhrase, IntegerPhrase, ElementPhrase, FieldPhrase, TypeWith, TypePhrase, IntegerType, AttributePhrase, ValuePhrase, EntryPhrase, LiteralWith, PartsPhrase, LiteralPhrase, AggregatePhrase, token_of}
 use Rattle.mlir_printer.specs.Spellable.{Each, AreBytes, IsInteger, IsType, AreFields, IsLiteral, AreLiterals, IsAttribute, AreAttributes, IsValue, IsEntry}
 
 -- ---- the tokens of bytes

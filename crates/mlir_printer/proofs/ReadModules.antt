@@ -13,19 +13,20 @@ use Rattle.hw_model.specs.Design.{Entry, Port, Op, Module, Design}
 use Rattle.ir_store.specs.ResultTypes.{result_types}
 use Rattle.mlir_lexer.specs.Tokens.{Lexeme}
 use Rattle.mlir_lexer.specs.declared.token.TokenKind.TheVariants as kind
-use Rattle.mlir_reader.specs.Numerals.{count_limit}
-use Rattle.mlir_reader.specs.TypeText.{most_open}
-use Rattle.mlir_reader.specs.OperandText.{ResultNames, named_count}
-use Rattle.mlir_reader.specs.OperandText.ResultNames.{no_names, names, pack}
-use Rattle.mlir_reader.specs.PieceText.{Extra, Gathered, gathered_nothing}
-use Rattle.mlir_reader.specs.PieceText.Extra.{child}
-use Rattle.mlir_reader.specs.Shapes.{front_pieces, type_pieces}
-use Rattle.mlir_reader.specs.OperationText.{OperationText}
-use Rattle.mlir_reader.specs.ModuleText.{PortText, ModuleText, module_keys}
+use Rattle.mlir_syntax.specs.Numerals.{count_limit}
+use Rattle.mlir_syntax.specs.TypeText.{most_open}
+use Rattle.mlir_syntax.specs.OperandText.{ResultNames, named_count}
+use Rattle.mlir_syntax.specs.OperandText.ResultNames.{no_names, names, pack}
+use Rattle.mlir_syntax.specs.PieceText.{Extra, Gathered, gathered_nothing}
+use Rattle.mlir_syntax.specs.PieceText.Extra.{child}
+use Rattle.assembly_format.specs.Shapes.{front_pieces, type_pieces}
+use Rattle.mlir_syntax.specs.OperationText.{OperationText}
+use Rattle.mlir_syntax.specs.ModuleText.{PortText, ModuleText, module_keys}
 use Rattle.mlir_reader.specs.Resolving.{Meanings, said_instance, plain_kind, said_kind, kind_named, with_definitions, operation_definitions, operation_at, operations_from, port_definition, ports_from, no_meaning, port_meanings, meanings, ends_with_output, has_outputs, left_out_output, completed, module_of, design_of}
-use Rattle.mlir_reader.specs.Spelling.{Phrase, Either, Holding, Where, Nothing, Stands, IsPlaceOf, Commas, ValueName, OutputPhrase, PiecePhrase, PiecesPhrase, ResultsPhrase, OperationPhrase, OperationsPhrase, PortPhrase, AttributesPhrase, ModulePhrase, ModulesPhrase, FilePhrase, Spells}
-use Rattle.mlir_reader.specs.declared.pieces.Piece.{Piece}
-use Rattle.mlir_reader.specs.declared.pieces.Piece.TheVariants as piece
+use Rattle.mlir_syntax.specs.Spelling.{Phrase, Either, Holding, Where, Nothing, Stands, IsPlaceOf, Commas, ValueName, OutputPhrase, PiecePhrase, PiecesPhrase, ResultsPhrase, OperationPhrase, OperationsPhrase, PortPhrase, AttributesPhrase, ModulePhrase, ModulesPhrase, FilePhrase}
+use Rattle.mlir_reader.specs.Spelling.{Spells}
+use Rattle.assembly_format.specs.declared.pieces.Piece.{Piece}
+use Rattle.assembly_format.specs.declared.pieces.Piece.TheVariants as piece
 use Rattle.mlir_printer.specs.Naming.{wishes, wishes_of, pack_wishes, body_wishes, port_wishes}
 use Rattle.mlir_printer.specs.Texts.{parts_in}
 use Rattle.mlir_printer.specs.Spellable.{Each, AreBytes, IsAnyType}

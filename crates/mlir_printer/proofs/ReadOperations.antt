@@ -18,18 +18,18 @@ use Rattle.mlir_lexer.specs.Classes.{is_digit}
 use Rattle.mlir_lexer.specs.Runs.{run}
 use Rattle.mlir_lexer.specs.Tokens.{Lexeme}
 use Rattle.mlir_lexer.specs.declared.token.TokenKind.TheVariants as kind
-use Rattle.mlir_reader.specs.Numerals.{count_limit}
-use Rattle.mlir_reader.specs.AttributeText.{is_among}
-use Rattle.mlir_reader.specs.OperandText.{ResultNames}
-use Rattle.mlir_reader.specs.OperandText.ResultNames.{no_names, names, pack}
-use Rattle.mlir_reader.specs.PieceText.{Extra, Gathered, gathered_nothing}
-use Rattle.mlir_reader.specs.PieceText.Extra.{position, number, literals, field_name, child}
-use Rattle.mlir_reader.specs.Shapes.{front_pieces, type_pieces}
-use Rattle.mlir_reader.specs.declared.pieces.Shape.{Shape}
-use Rattle.mlir_reader.specs.OperationText.{OperationText, takes_bin, string_keys, given_entries}
+use Rattle.mlir_syntax.specs.Numerals.{count_limit}
+use Rattle.mlir_syntax.specs.AttributeText.{is_among}
+use Rattle.mlir_syntax.specs.OperandText.{ResultNames}
+use Rattle.mlir_syntax.specs.OperandText.ResultNames.{no_names, names, pack}
+use Rattle.mlir_syntax.specs.PieceText.{Extra, Gathered, gathered_nothing}
+use Rattle.mlir_syntax.specs.PieceText.Extra.{position, number, literals, field_name, child}
+use Rattle.assembly_format.specs.Shapes.{front_pieces, type_pieces}
+use Rattle.assembly_format.specs.declared.pieces.Shape.{Shape}
+use Rattle.mlir_syntax.specs.OperationText.{OperationText, takes_bin, string_keys, given_entries}
 use Rattle.mlir_reader.specs.Resolving as read
 use Rattle.mlir_reader.specs.Resolving.{Meanings, resolved, has_negative, kept_number, kept_integer, kept_by_first, kept_literal, kept_literals, said_position, said_number, said_literals, said_field, said_instance, plain_kind, said_kind, kind_named, sorted, without, is_dropped, has_name, is_name_entry, kept_entries, text_in, given_name, unless_digits, name_or, own_name_of, marks, marked_results, operation_definitions, operation_at}
-use Rattle.mlir_reader.specs.Spelling.{Stands, AreOnce, DictionaryPhrase, EntryPhrase, MaybeDictionary, IsOneOf, FormPhrase, BinPhrase, ResultsPhrase, StandsInBody, OperationPhrase}
+use Rattle.mlir_syntax.specs.Spelling.{Stands, AreOnce, DictionaryPhrase, EntryPhrase, MaybeDictionary, IsOneOf, FormPhrase, BinPhrase, ResultsPhrase, StandsInBody, OperationPhrase}
 use Rattle.op_verifier.specs.Faults.{listed_of}
 use Rattle.mlir_printer.specs.Spellable.{Each, AreBytes, IsInteger, IsAnyType, IsLiteral, AreLiterals, IsValue, IsEntry}
 use Rattle.mlir_printer.specs.Printable.{AreInOrder, IsKeptDictionary, KeepsConstants, IsWritten, IsWrittenInstance}

@@ -6,13 +6,13 @@ use Rattle.hw_model.specs.Types.HwType.{int}
 use Rattle.hw_model.specs.TypeViews.{NamedType}
 use Rattle.mlir_lexer.specs.Tokens.{Lexeme}
 use Rattle.mlir_lexer.specs.declared.token.TokenKind.TheVariants as kind
-use Rattle.mlir_reader.specs.Numerals.{count_limit}
-use Rattle.mlir_reader.specs.TypeText.{most_open}
-use Rattle.mlir_reader.specs.PieceText.{Extra, Gathered, Joined, truth_number}
-use Rattle.mlir_reader.specs.PieceText.Extra.{position, number, literals, field_name, child}
-use Rattle.mlir_reader.specs.Spelling.{Phrase, InputPhrase, OutputPhrase, InnerSymbol, InstancePhrase, ResetPhrase, TypePhrase, PiecePhrase, PiecesPhrase}
-use Rattle.mlir_reader.specs.declared.pieces.Piece.{Piece}
-use Rattle.mlir_reader.specs.declared.pieces.Piece.TheVariants as piece
+use Rattle.mlir_syntax.specs.Numerals.{count_limit}
+use Rattle.mlir_syntax.specs.TypeText.{most_open}
+use Rattle.mlir_syntax.specs.PieceText.{Extra, Gathered, Joined, truth_number}
+use Rattle.mlir_syntax.specs.PieceText.Extra.{position, number, literals, field_name, child}
+use Rattle.mlir_syntax.specs.Spelling.{Phrase, InputPhrase, OutputPhrase, InnerSymbol, InstancePhrase, ResetPhrase, TypePhrase, PiecePhrase, PiecesPhrase}
+use Rattle.assembly_format.specs.declared.pieces.Piece.{Piece}
+use Rattle.assembly_format.specs.declared.pieces.Piece.TheVariants as piece
 use Rattle.mlir_printer.specs.Spellable.{Each, AreBytes, MayBeBytes, IsInteger, IsAnyType, AreLiterals}
 use Rattle.mlir_printer.specs.Printable.{IsWrittenInstance}
 use Rattle.mlir_printer.proofs.ReadBytes.{AreTexts, parts_of, held_bytes, name_bytes_read, symbol_bytes_read, each_read, integer_read, type_read, field_read, aggregate_read}

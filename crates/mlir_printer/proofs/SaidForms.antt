@@ -5,11 +5,11 @@ use Rattle.std.proofs.lemmas.List.{length-map}
 use Rattle.hw_model.specs.Types.{Name, HwType}
 use Rattle.hw_model.specs.Types.HwType.{int}
 use Rattle.hw_model.specs.Kinds.{Predicate, Literals, Instance}
-use Rattle.mlir_reader.specs.Numerals.{count_limit}
-use Rattle.mlir_reader.specs.Shapes.{front_pieces, type_pieces}
-use Rattle.mlir_reader.specs.PieceText.{Extra}
-use Rattle.mlir_reader.specs.PieceText.Extra.{nothing, with_reset, predicate, position, number, literals, field_name, child}
-use Rattle.mlir_reader.specs.declared.pieces.Shape.TheVariants as shape
+use Rattle.mlir_syntax.specs.Numerals.{count_limit}
+use Rattle.assembly_format.specs.Shapes.{front_pieces, type_pieces}
+use Rattle.mlir_syntax.specs.PieceText.{Extra}
+use Rattle.mlir_syntax.specs.PieceText.Extra.{nothing, with_reset, predicate, position, number, literals, field_name, child}
+use Rattle.assembly_format.specs.declared.pieces.Shape.TheVariants as shape
 use Rattle.mlir_printer.specs.Numbers.{is_truth}
 use Rattle.mlir_printer.specs.Pieces.{ValueText, Pending}
 use Rattle.mlir_printer.specs.Spellable.{Each, AreBytes, IsAnyType, IsInteger, AreLiterals, IsOperand, IsInstance, IsSaidAs}

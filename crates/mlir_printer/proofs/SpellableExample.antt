@@ -4,9 +4,9 @@ use Rattle.std.specs.Prelude.{codes}
 use Rattle.opcode.specs.declared.listed.Listed.TheVariants as listed
 use Rattle.hw_model.specs.Types.{Name, HwType}
 use Rattle.hw_model.specs.Types.HwType.{int}
-use Rattle.mlir_reader.specs.OperandText.ResultNames.{no_names, names}
-use Rattle.mlir_reader.specs.Shapes.{shape_of}
-use Rattle.mlir_reader.specs.PieceText.Extra.{nothing}
+use Rattle.mlir_syntax.specs.OperandText.ResultNames.{no_names, names}
+use Rattle.assembly_format.specs.Shapes.{shape_of}
+use Rattle.mlir_syntax.specs.PieceText.Extra.{nothing}
 use Rattle.mlir_printer.specs.Pieces.{ValueText}
 use Rattle.mlir_printer.specs.Operations.{OperationText, shape_shown}
 use Rattle.mlir_printer.specs.Modules.{ModuleText, file_bytes}

@@ -16,10 +16,10 @@ use Rattle.ir_store.specs.ResultTypes.{result_types, result_count}
 use Rattle.diag.specs.Place.{start_place}
 use Rattle.diag.specs.declared.refusal.OpName.TheVariants as op
 use Rattle.diag.specs.declared.cause.Cause.TheVariants.{TooLong}
-use Rattle.mlir_reader.specs.Stream.{stream_of, refusal}
-use Rattle.mlir_reader.specs.ModuleText.{file_text}
+use Rattle.mlir_syntax.specs.Stream.{stream_of, refusal}
+use Rattle.mlir_syntax.specs.ModuleText.{file_text}
 use Rattle.mlir_reader.specs.Reading.{text_limit, design_read, read}
-use Rattle.mlir_reader.specs.Numerals.{count_limit}
+use Rattle.mlir_syntax.specs.Numerals.{count_limit}
 use Rattle.mlir_reader.specs.Resolving.{marked_results, type_or_none}
 use Rattle.mlir_reader.specs.Spelling.{Spells}
 use Rattle.op_verifier.specs.CountChecks.{operand_count, type_count, has_wrong_operands, has_wrong_results, has_wrong_count}

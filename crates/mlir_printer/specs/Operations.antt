@@ -4,15 +4,15 @@ use Rattle.opcode.specs.declared.listed.Listed.{Listed}
 use Rattle.opcode.specs.declared.listed.Listed.TheVariants as listed
 use Rattle.opcode.specs.Listed.{name_of_listed}
 use Rattle.hw_model.specs.Types.{HwType}
-use Rattle.mlir_reader.specs.OperandText.{ResultNames}
-use Rattle.mlir_reader.specs.OperandText.ResultNames.{no_names, names, pack}
-use Rattle.mlir_reader.specs.PieceText.{Extra}
-use Rattle.mlir_reader.specs.PieceText.Extra.{number}
+use Rattle.mlir_syntax.specs.OperandText.{ResultNames}
+use Rattle.mlir_syntax.specs.OperandText.ResultNames.{no_names, names, pack}
+use Rattle.mlir_syntax.specs.PieceText.{Extra}
+use Rattle.mlir_syntax.specs.PieceText.Extra.{number}
 use Rattle.hw_model.specs.Design.{Entry}
-use Rattle.mlir_reader.specs.Shapes.{shape_of, front_pieces, type_pieces}
-use Rattle.mlir_reader.specs.declared.pieces.Piece.{Piece}
-use Rattle.mlir_reader.specs.declared.pieces.Shape.{Shape}
-use Rattle.mlir_reader.specs.declared.pieces.Shape.TheVariants as shape
+use Rattle.assembly_format.specs.Shapes.{shape_of, front_pieces, type_pieces}
+use Rattle.assembly_format.specs.declared.pieces.Piece.{Piece}
+use Rattle.assembly_format.specs.declared.pieces.Shape.{Shape}
+use Rattle.assembly_format.specs.declared.pieces.Shape.TheVariants as shape
 use Rattle.mlir_printer.specs.Numbers.{count_bytes, is_shown_as_truth}
 use Rattle.mlir_printer.specs.Pieces.{ValueText, Pending, value_name_bytes, pieces_bytes, left_behind}
 use Rattle.mlir_printer.specs.Attributes.{dictionary_bytes}

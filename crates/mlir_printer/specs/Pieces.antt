@@ -6,12 +6,12 @@ use Rattle.hw_model.specs.Kinds.{Predicate, Instance}
 use Rattle.hw_model.specs.Kinds.Predicate.{eq, ne, slt, sle, sgt, sge, ult, ule, ugt, uge, ceq, cne, weq, wne}
 use Rattle.mlir_lexer.specs.declared.token.TokenKind.{TokenKind}
 use Rattle.mlir_lexer.specs.declared.token.TokenKind.TheVariants as kind
-use Rattle.mlir_reader.specs.PieceText.{Extra}
-use Rattle.mlir_reader.specs.PieceText.Extra.{with_reset, predicate, position, number, literals, field_name, child}
-use Rattle.mlir_reader.specs.declared.pieces.Keyword.{Keyword}
-use Rattle.mlir_reader.specs.declared.pieces.Keyword.TheVariants.{From, Clock}
-use Rattle.mlir_reader.specs.declared.pieces.Piece.{Piece}
-use Rattle.mlir_reader.specs.declared.pieces.Piece.TheVariants as piece
+use Rattle.mlir_syntax.specs.PieceText.{Extra}
+use Rattle.mlir_syntax.specs.PieceText.Extra.{with_reset, predicate, position, number, literals, field_name, child}
+use Rattle.assembly_format.specs.declared.pieces.Keyword.{Keyword}
+use Rattle.assembly_format.specs.declared.pieces.Keyword.TheVariants.{From, Clock}
+use Rattle.assembly_format.specs.declared.pieces.Piece.{Piece}
+use Rattle.assembly_format.specs.declared.pieces.Piece.TheVariants as piece
 use Rattle.mlir_printer.specs.Strings.{string_bytes, name_bytes, symbol_bytes}
 use Rattle.mlir_printer.specs.Numbers.{count_bytes, integer_bytes, truth_bytes, is_one}
 use Rattle.mlir_printer.specs.Types.{type_bytes}

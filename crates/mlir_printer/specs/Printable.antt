@@ -11,9 +11,9 @@ use Rattle.hw_model.specs.Kinds.Kind.{add, mul, and, or, xor, parity, extract, c
 use Rattle.hw_model.specs.Design.{Entry, Ref, Port, OpResult, Op, Module, Design, is_output_op}
 use Rattle.hw_model.specs.Design.Ref.{port, result, undefined}
 use Rattle.ir_store.specs.ResultTypes.{result_types}
-use Rattle.mlir_reader.specs.Numerals.{count_limit}
-use Rattle.mlir_reader.specs.OperationText.{takes_bin, string_keys}
-use Rattle.mlir_reader.specs.ModuleText.{module_keys}
+use Rattle.mlir_syntax.specs.Numerals.{count_limit}
+use Rattle.mlir_syntax.specs.OperationText.{takes_bin, string_keys}
+use Rattle.mlir_syntax.specs.ModuleText.{module_keys}
 use Rattle.mlir_reader.specs.Resolving.{kept_by_first, kept_literals, is_dropped, has_name, type_or_none}
 use Rattle.mlir_printer.specs.Naming.{is_pack, port_wishes, body_wishes}
 use Rattle.op_verifier.specs.Faults.{listed_of}

@@ -14,20 +14,20 @@ use Rattle.mlir_lexer.specs.Fronts.{suffix_length}
 use Rattle.mlir_lexer.specs.Tokens.{Lexeme, tokens}
 use Rattle.mlir_lexer.specs.declared.token.TokenKind.{TokenKind}
 use Rattle.mlir_lexer.specs.declared.token.TokenKind.TheVariants as kind
-use Rattle.mlir_reader.specs.Numerals.{count_limit, number_limit}
-use Rattle.mlir_reader.specs.TypeText.{most_open}
-use Rattle.mlir_reader.specs.AttributeText.{is_among, is_stored}
-use Rattle.mlir_reader.specs.OperandText.{OperandName, ResultNames}
-use Rattle.mlir_reader.specs.OperandText.ResultNames.{no_names, names, pack}
-use Rattle.mlir_reader.specs.Shapes.{front_pieces, type_pieces}
-use Rattle.mlir_reader.specs.PieceText.{Extra, Gathered, gathered_nothing, with_operands, with_types, with_extra}
-use Rattle.mlir_reader.specs.PieceText.Extra.{with_reset, predicate, position, number, literals, field_name, child}
-use Rattle.mlir_reader.specs.OperationText.{OperationText as OperationSaid, takes_bin, string_keys, is_last}
-use Rattle.mlir_reader.specs.ModuleText.{PortText as PortSaid, ModuleText as ModuleSaid, module_keys}
-use Rattle.mlir_reader.specs.Spelling.{AreOnce, StandsInBody, FilePhrase, token_of}
-use Rattle.mlir_reader.specs.declared.pieces.Piece.{Piece}
-use Rattle.mlir_reader.specs.declared.pieces.Piece.TheVariants as piece
-use Rattle.mlir_reader.specs.declared.pieces.Shape.{Shape}
+use Rattle.mlir_syntax.specs.Numerals.{count_limit, number_limit}
+use Rattle.mlir_syntax.specs.TypeText.{most_open}
+use Rattle.mlir_syntax.specs.AttributeText.{is_among, is_stored}
+use Rattle.mlir_syntax.specs.OperandText.{OperandName, ResultNames}
+use Rattle.mlir_syntax.specs.OperandText.ResultNames.{no_names, names, pack}
+use Rattle.assembly_format.specs.Shapes.{front_pieces, type_pieces}
+use Rattle.mlir_syntax.specs.PieceText.{Extra, Gathered, gathered_nothing, with_operands, with_types, with_extra}
+use Rattle.mlir_syntax.specs.PieceText.Extra.{with_reset, predicate, position, number, literals, field_name, child}
+use Rattle.mlir_syntax.specs.OperationText.{OperationText as OperationSaid, takes_bin, string_keys, is_last}
+use Rattle.mlir_syntax.specs.ModuleText.{PortText as PortSaid, ModuleText as ModuleSaid, module_keys}
+use Rattle.mlir_syntax.specs.Spelling.{AreOnce, StandsInBody, FilePhrase, token_of}
+use Rattle.assembly_format.specs.declared.pieces.Piece.{Piece}
+use Rattle.assembly_format.specs.declared.pieces.Piece.TheVariants as piece
+use Rattle.assembly_format.specs.declared.pieces.Shape.{Shape}
 use Rattle.mlir_printer.specs.Numbers.{is_truth}
 use Rattle.mlir_printer.specs.Pieces.{ValueText, Pending, first_operand, left_behind}
 use Rattle.mlir_printer.specs.Operations.{OperationText, shape_shown, left_behind_all}

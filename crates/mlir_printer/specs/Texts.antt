@@ -8,8 +8,8 @@ use Rattle.hw_model.specs.Design.{Entry, Ref, Port, Op, Module, Design, same_nam
 use Rattle.hw_model.specs.Design.Attribute.{text_value}
 use Rattle.ir_store.specs.OperationViews.{OpParts}
 use Rattle.op_verifier.specs.Faults.{listed_of}
-use Rattle.mlir_reader.specs.PieceText.{Extra}
-use Rattle.mlir_reader.specs.PieceText.Extra.{nothing, with_reset, predicate, position, number, literals, field_name, child}
+use Rattle.mlir_syntax.specs.PieceText.{Extra}
+use Rattle.mlir_syntax.specs.PieceText.Extra.{nothing, with_reset, predicate, position, number, literals, field_name, child}
 use Rattle.mlir_reader.specs.Resolving.{put_entry}
 use Rattle.mlir_printer.specs.Numbers.{shown_by_first, shown_literals}
 use Rattle.mlir_printer.specs.Naming.{name_count, input_count, port_wish, names_given, first_name, value_named, results_named}

@@ -21,7 +21,7 @@ use hw_model::types::Ty;
 use io_edge::byte_text::Text;
 use ir_store::operation::Value;
 use mlir_lexer::token::TokenKind;
-use mlir_reader::pieces::{Keyword, Piece};
+use assembly_format::pieces::{Keyword, Piece};
 use std::alloc::AllocError;
 
 // A mark with the blanks round it.

@@ -10,7 +10,7 @@ use crate::numbers::shown_by_first;
 use hw_model::kinds::{Instance, Integer, LiteralList, OpKind, Predicate, Reset};
 use hw_model::types::Ty;
 use ir_store::operation::Value;
-use mlir_reader::pieces::Piece;
+use assembly_format::pieces::Piece;
 
 /// What an operation says besides its operands and types.
 #[derive(Clone, Copy)]

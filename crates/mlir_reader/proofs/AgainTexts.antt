@@ -3,13 +3,13 @@ use Rattle.std.proofs.Common.{◌≡◌, ℕ, ◌≤◌, List, [], ◌∷◌, �
 use Rattle.diag.specs.declared.refusal.Refusal.{Refusal}
 use Rattle.hw_model.specs.Design.{Design}
 use Rattle.mlir_lexer.specs.Tokens.{Lexeme, tokens}
-use Rattle.mlir_reader.specs.Stream.{Symbol, token, bad, end, stream_of}
-use Rattle.mlir_reader.specs.Reads.{Read}
-use Rattle.mlir_reader.specs.ModuleText.{ModuleText, file_text}
+use Rattle.mlir_syntax.specs.Stream.{Symbol, token, bad, end, stream_of}
+use Rattle.mlir_syntax.specs.Reads.{Read}
+use Rattle.mlir_syntax.specs.ModuleText.{ModuleText, file_text}
 use Rattle.mlir_reader.specs.Reading.{text_limit, design_read, read}
 use Rattle.mlir_reader.specs.Locality.{symbol_place, IsUnspelledFront}
 use Rattle.mlir_reader.specs.Spelling.{Spells}
-use Rattle.mlir_reader.proofs.Local.{Whole, Same, Given, Near, place_first, whole_behind}
+use Rattle.mlir_syntax.proofs.Local.{Whole, Same, Given, Near, place_first, whole_behind}
 use Rattle.mlir_reader.proofs.LocalModules.{whole_stream, read_is, local_file}
 use Rattle.mlir_reader.proofs.AgainModules.{file_read}
 

@@ -5,14 +5,14 @@ use Rattle.opcode.specs.declared.listed.Listed.TheVariants as listed
 use Rattle.diag.specs.declared.refusal.OpName.TheVariants as op
 use Rattle.mlir_lexer.specs.Tokens.{Lexeme}
 use Rattle.mlir_lexer.specs.declared.token.TokenKind.TheVariants as kind
-use Rattle.mlir_reader.specs.Stream.{Symbol, token, bad, end, first, is_next, after, unexpected}
-use Rattle.mlir_reader.specs.Reads.{Read, Reads, on}
-use Rattle.mlir_reader.specs.OperationText.{OperationText, operation_text, operation_behind, no_operation, operations_text, is_last}
-use Rattle.mlir_reader.specs.OperandText.{maybe_results}
-use Rattle.mlir_reader.specs.Views.{ReadsAs}
-use Rattle.mlir_reader.specs.declared.fail.ReadFail.{ReadFail}
-use Rattle.mlir_reader.specs.declared.fail.ReadFail.TheVariants.{Refused, NoMemory}
-use Rattle.mlir_reader.proofs.Lists.{with_front, with_front-nothing, with_front-more}
+use Rattle.mlir_syntax.specs.Stream.{Symbol, token, bad, end, first, is_next, after, unexpected}
+use Rattle.mlir_syntax.specs.Reads.{Read, Reads, on}
+use Rattle.mlir_syntax.specs.OperationText.{OperationText, operation_text, operation_behind, no_operation, operations_text, is_last}
+use Rattle.mlir_syntax.specs.OperandText.{maybe_results}
+use Rattle.mlir_syntax.specs.Views.{ReadsAs}
+use Rattle.mlir_syntax.specs.declared.fail.ReadFail.{ReadFail}
+use Rattle.mlir_syntax.specs.declared.fail.ReadFail.TheVariants.{Refused, NoMemory}
+use Rattle.mlir_syntax.proofs.Lists.{with_front, with_front-nothing, with_front-more}
 
 -- behind a first token less is left
 pub passed-shorter : (s : List Symbol) (t : Lexeme) → Some t ≡ first s → length (after s) < length s

@@ -7,14 +7,14 @@ use Rattle.ir_store.specs.declared.body.Body.{Body}
 use Rattle.mlir_lexer.specs.declared.token.TokenKind.TheVariants as kind
 use Rattle.mlir_reader.specs.Drafts.{IsBody}
 use Rattle.mlir_reader.specs.ModuleViews.{AreOperations}
-use Rattle.mlir_reader.specs.OperationText.{OperationText, operations_text, is_last}
-use Rattle.mlir_reader.specs.Reads.{Read, Reads, on}
+use Rattle.mlir_syntax.specs.OperationText.{OperationText, operations_text, is_last}
+use Rattle.mlir_syntax.specs.Reads.{Read, Reads, on}
 use Rattle.mlir_reader.specs.Resolving.{Meanings, ends_with_output}
-use Rattle.mlir_reader.specs.Stream.{Symbol, is_next}
-use Rattle.mlir_reader.specs.Views.{ReadsAs, ReadsFor}
-use Rattle.mlir_reader.specs.declared.fail.ReadFail.{ReadFail}
-use Rattle.mlir_reader.specs.declared.fail.ReadFail.TheVariants.{Refused, NoMemory}
-use Rattle.mlir_reader.specs.declared.operation_text.Operations.{Operations}
+use Rattle.mlir_syntax.specs.Stream.{Symbol, is_next}
+use Rattle.mlir_syntax.specs.Views.{ReadsAs, ReadsFor}
+use Rattle.mlir_syntax.specs.declared.fail.ReadFail.{ReadFail}
+use Rattle.mlir_syntax.specs.declared.fail.ReadFail.TheVariants.{Refused, NoMemory}
+use Rattle.mlir_reader.specs.declared.body_text.Operations.{Operations}
 use Rattle.mlir_reader.proofs.Bodies.{Standing, closes_at}
 use Rattle.mlir_reader.proofs.BodySteps.{count_is}
 

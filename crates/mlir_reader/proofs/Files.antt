@@ -1,27 +1,22 @@
--- Ports in a list, and modules of a file, one after another.
+-- Modules of a file, one after another.
 use Rattle.std.proofs.Common.{◌≡◌, Result, ℕ, zero, suc, ◌-◌, ◌≤◌, ◌<◌, Bool, true, false, cond, List, [], ◌∷◌, ◌++◌, map, length, Ok, Err, refl, sym, ap, ◌∙◌, arith, append_assoc}
 use Rattle.std.proofs.lemmas.List.{append-nil}
 use Rattle.hw_model.specs.Design.{Design}
 use Rattle.mlir_lexer.specs.declared.token.TokenKind.TheVariants as kind
 use Rattle.diag.specs.declared.refusal.OpName.TheVariants as op
 use Rattle.mlir_lexer.specs.Tokens.{Lexeme}
-use Rattle.mlir_reader.specs.Stream.{Symbol, unexpected}
-use Rattle.mlir_reader.specs.Reads.{Read, Reads, on, want}
-use Rattle.mlir_reader.specs.OperationText.{no_operation}
-use Rattle.mlir_reader.specs.ModuleText.{ModuleText, header, port_text, module_text, modules_text, is_end, want_end}
+use Rattle.mlir_syntax.specs.Stream.{Symbol, unexpected}
+use Rattle.mlir_syntax.specs.Reads.{Read, Reads, on, want}
+use Rattle.mlir_syntax.specs.OperationText.{no_operation}
+use Rattle.mlir_syntax.specs.ModuleText.{ModuleText, module_text, modules_text, is_end, want_end}
 use Rattle.mlir_reader.specs.ModuleViews.{designs_behind}
 use Rattle.mlir_reader.specs.EndViews.{ends_of}
 use Rattle.mlir_reader.specs.Resolving.{module_of}
-use Rattle.mlir_reader.specs.Views.{ReadsAs, ReadsFor}
-use Rattle.mlir_reader.specs.declared.fail.ReadFail.{ReadFail}
-use Rattle.mlir_reader.specs.declared.fail.ReadFail.TheVariants.{Refused, NoMemory}
+use Rattle.mlir_syntax.specs.Views.{ReadsAs, ReadsFor}
+use Rattle.mlir_syntax.specs.declared.fail.ReadFail.{ReadFail}
+use Rattle.mlir_syntax.specs.declared.fail.ReadFail.TheVariants.{Refused, NoMemory}
 use Rattle.mlir_reader.specs.declared.file_text.Ends.{Ends}
 use Rattle.mlir_reader.specs.declared.file_text.Ends.TheVariants.{Brace, Text}
-use Rattle.mlir_reader.proofs.Lists.{IsItem}
-
-pub is_port : IsItem header port_text
-unfolding port_text
-is_port = refl
 
 -- a module, and further ones behind it
 abbrev then_modules : Ends → ℕ → ModuleText → Reads (List ModuleText)

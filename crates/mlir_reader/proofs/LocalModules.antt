@@ -17,26 +17,27 @@ use Rattle.hw_model.specs.Design.{Entry}
 use Rattle.mlir_lexer.specs.Contents.{content_of}
 use Rattle.mlir_lexer.specs.Tokens.{Lexeme, tokens}
 use Rattle.mlir_lexer.specs.declared.token.TokenKind.TheVariants as kind
-use Rattle.mlir_reader.specs.Stream.{Symbol, token, bad, end, stream, stream_of, first, is_first, is_next, is_kind, is_word, refusal, cause_of_first}
-use Rattle.mlir_reader.specs.Reads.{Read, Reads}
-use Rattle.mlir_reader.specs.Numerals.{count_limit}
-use Rattle.mlir_reader.specs.TypeText.{any_type, most_open}
-use Rattle.mlir_reader.specs.AttributeText.{is_symbol}
-use Rattle.mlir_reader.specs.OperandText.{ResultNames}
-use Rattle.mlir_reader.specs.Shapes.{text_of_keyword, shape_of, front_pieces, type_pieces}
-use Rattle.mlir_reader.specs.PieceText.{Gathered, gathered_nothing, with_operands, with_types, with_extra, predicate_named, bare_text, as_known, predicate_text, truth_named, truth_text, truth_number, string_text, group_text, further_types, types_text, reset_operands, reset_text, want_sync, sync_reset_text, input_text, output_text, inner_symbol, module_symbol, inputs_text, outputs_text, instance_with, with_instance, instance_text, piece_text, pieces_text}
-use Rattle.mlir_reader.specs.PieceText.Extra.{with_reset, predicate, position, number, literals, field_name}
-use Rattle.mlir_reader.specs.OperationText.{NameClass, operation, module_name, file_name, locations, outside, unknown, class_of, misplaced, is_outside, no_operation, takes_bin, bin_text, string_keys, OperationText, given_entries, late_dictionary, form_text, named_operation, classed_operation, operation_behind, operation_text, is_last, operations_text}
-use Rattle.mlir_reader.specs.ModuleText.{header, port_name, port_type, input_port, output_port, port_text, ports_text, ModuleText, module_keys, attributes_text, private_text, body_text, module_behind, classed_module, module_text, is_end, modules_text, file_symbol, want_end, wrapped_text, is_file_name, file_text}
+use Rattle.mlir_syntax.specs.Stream.{Symbol, token, bad, end, stream, stream_of, first, is_first, is_next, is_word, refusal, cause_of_first}
+use Rattle.mlir_lexer.specs.TokenKinds.{is_kind}
+use Rattle.mlir_syntax.specs.Reads.{Read, Reads}
+use Rattle.mlir_syntax.specs.Numerals.{count_limit}
+use Rattle.mlir_syntax.specs.TypeText.{any_type, most_open}
+use Rattle.mlir_syntax.specs.AttributeText.{is_symbol}
+use Rattle.mlir_syntax.specs.OperandText.{ResultNames}
+use Rattle.assembly_format.specs.Shapes.{text_of_keyword, shape_of, front_pieces, type_pieces}
+use Rattle.mlir_syntax.specs.PieceText.{Gathered, gathered_nothing, with_operands, with_types, with_extra, predicate_named, bare_text, as_known, predicate_text, truth_named, truth_text, truth_number, string_text, group_text, further_types, types_text, reset_operands, reset_text, want_sync, sync_reset_text, input_text, output_text, inner_symbol, module_symbol, inputs_text, outputs_text, instance_with, with_instance, instance_text, piece_text, pieces_text}
+use Rattle.mlir_syntax.specs.PieceText.Extra.{with_reset, predicate, position, number, literals, field_name}
+use Rattle.mlir_syntax.specs.OperationText.{NameClass, operation, module_name, file_name, locations, outside, unknown, class_of, misplaced, is_outside, no_operation, takes_bin, bin_text, string_keys, OperationText, given_entries, late_dictionary, form_text, named_operation, classed_operation, operation_behind, operation_text, is_last, operations_text}
+use Rattle.mlir_syntax.specs.ModuleText.{header, port_name, port_type, input_port, output_port, port_text, ports_text, ModuleText, module_keys, attributes_text, private_text, body_text, module_behind, classed_module, module_text, is_end, modules_text, file_symbol, want_end, wrapped_text, is_file_name, file_text}
 use Rattle.mlir_reader.specs.Reading.{text_limit, design_read, read}
 use Rattle.mlir_reader.specs.Locality.{symbol_place, IsOfItsSymbol}
-use Rattle.mlir_reader.specs.declared.pieces.Piece.{Piece}
-use Rattle.mlir_reader.specs.declared.pieces.Piece.TheVariants as piece
-use Rattle.mlir_reader.specs.declared.pieces.Shape.{Shape}
-use Rattle.mlir_reader.proofs.SoundOperations.{sound_operation}
+use Rattle.assembly_format.specs.declared.pieces.Piece.{Piece}
+use Rattle.assembly_format.specs.declared.pieces.Piece.TheVariants as piece
+use Rattle.assembly_format.specs.declared.pieces.Shape.{Shape}
+use Rattle.mlir_syntax.proofs.SoundOperations.{sound_operation}
 use Rattle.mlir_reader.proofs.SoundModules.{sound_module}
-use Rattle.mlir_reader.proofs.Local.{Whole, Same, place_first, whole_behind, same_of, same_is_first, Given, Near, Loc, Local, loc_same, loc_on, loc_on_less, loc_if, loc_next, loc_cond, loc_first, loc_after, loc_give, loc_err, loc_refused, loc_unexpected, loc_zero, loc_step, local_all}
-use Rattle.mlir_reader.proofs.LocalParts.{local_want, local_word, local_name, local_symbol, local_number, local_integer, local_some, local_until, local_type, local_field, local_dictionary, local_maybe, local_aggregate, local_value_name, local_operand, local_maybe_results}
+use Rattle.mlir_syntax.proofs.Local.{Whole, Same, place_first, whole_behind, same_of, same_is_first, Given, Near, Loc, Local, loc_same, loc_on, loc_on_less, loc_if, loc_next, loc_cond, loc_first, loc_after, loc_give, loc_err, loc_refused, loc_unexpected, loc_zero, loc_step, local_all}
+use Rattle.mlir_syntax.proofs.LocalParts.{local_want, local_word, local_name, local_symbol, local_number, local_integer, local_some, local_until, local_type, local_field, local_dictionary, local_maybe, local_aggregate, local_value_name, local_operand, local_maybe_results}
 
 -- ---- pieces
 

@@ -7,7 +7,7 @@ use Rattle.std.proofs.lemmas.Option.{cond_some}
 use Rattle.hw_model.specs.Types.{Name}
 use Rattle.mlir_lexer.specs.Classes.{is_digit}
 use Rattle.mlir_lexer.specs.Contents.{hex_value}
-use Rattle.mlir_reader.specs.Numerals.{number_in}
+use Rattle.mlir_syntax.specs.Numerals.{number_in}
 use Rattle.mlir_reader.specs.PlainNumbers.{is_short, begins_with_zero, is_plain_number, number_of}
 
 digit_value : (b : ℕ) → is_digit b ≡ true → (hex_value b + 48 ≡ b) × (hex_value b ≤ 9)

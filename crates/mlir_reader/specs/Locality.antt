@@ -4,7 +4,7 @@ use Rattle.diag.specs.declared.refusal.Place.{Place}
 use Rattle.diag.specs.declared.refusal.Refusal.{Refusal}
 use Rattle.hw_model.specs.Design.{Design}
 use Rattle.mlir_lexer.specs.Tokens.{Lexeme}
-use Rattle.mlir_reader.specs.Stream.{Symbol, token, bad, end, stream_of}
+use Rattle.mlir_syntax.specs.Stream.{Symbol, token, bad, end, stream_of}
 use Rattle.mlir_reader.specs.Reading.{text_limit, read}
 use Rattle.mlir_reader.specs.Spelling.{Spells}
 

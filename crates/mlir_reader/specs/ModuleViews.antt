@@ -7,19 +7,19 @@ use Rattle.hw_model.specs.Design as hw
 use Rattle.ir_store.specs.Designs as store
 use Rattle.ir_store.specs.DictionaryViews.{entries_in}
 use Rattle.ir_store.specs.declared.design.Design.{Design}
-use Rattle.mlir_reader.specs.Stream.{is_next}
-use Rattle.mlir_reader.specs.Reads.{Read, Reads, on, want}
-use Rattle.mlir_reader.specs.ModuleText as text
+use Rattle.mlir_syntax.specs.Stream.{is_next}
+use Rattle.mlir_syntax.specs.Reads.{Read, Reads, on, want}
+use Rattle.mlir_syntax.specs.ModuleText as text
 use Rattle.mlir_reader.specs.Resolving as resolving
 use Rattle.mlir_reader.specs.Resolving.{Meanings, no_meaning, ports_from, has_outputs, ends_with_output}
-use Rattle.mlir_reader.specs.OperationText.{OperationText}
+use Rattle.mlir_syntax.specs.OperationText.{OperationText}
 use Rattle.mlir_reader.specs.Drafts.{IsBody}
 use Rattle.ir_store.specs.declared.design.Module.{Module}
-use Rattle.mlir_reader.specs.declared.operation_text.Operations.{Operations}
+use Rattle.mlir_reader.specs.declared.body_text.Operations.{Operations}
 use Rattle.mlir_reader.specs.declared.resolving.ModuleHead.{ModuleHead}
-use Rattle.mlir_reader.specs.declared.fail.ReadFail.{ReadFail}
-use Rattle.mlir_reader.specs.declared.fail.ReadFail.TheVariants.{Refused, NoMemory}
-use Rattle.mlir_reader.specs.declared.module_text.BodyText.{BodyText}
+use Rattle.mlir_syntax.specs.declared.fail.ReadFail.{ReadFail}
+use Rattle.mlir_syntax.specs.declared.fail.ReadFail.TheVariants.{Refused, NoMemory}
+use Rattle.mlir_reader.specs.declared.body_text.BodyText.{BodyText}
 
 -- operations are those of these texts, where names stood for this in front of them
 pub record AreOperations (seen : Meanings) (os : List OperationText) (x : Operations) : Type 0 where

@@ -3,7 +3,7 @@ use Rattle.std.specs.Prelude.{ℕ, Bool, false, cond, ◌&&◌, ◌==◌, not, n
 use Rattle.std.specs.List.{list_all}
 use Rattle.hw_model.specs.Types.{Name}
 use Rattle.mlir_lexer.specs.Classes.{is_digit}
-use Rattle.mlir_reader.specs.Numerals.{number_in}
+use Rattle.mlir_syntax.specs.Numerals.{number_in}
 
 -- whether there are one to nine bytes
 abbrev pub is_short : Name → Bool

@@ -5,9 +5,9 @@ use Rattle.diag.specs.declared.refusal.Refusal.{Refusal}
 use Rattle.diag.specs.declared.refusal.OpName.TheVariants as op
 use Rattle.diag.specs.declared.cause.Cause.TheVariants.{TooLong}
 use Rattle.hw_model.specs.Design.{Design}
-use Rattle.mlir_reader.specs.Stream.{stream_of, refusal}
-use Rattle.mlir_reader.specs.Reads.{Read}
-use Rattle.mlir_reader.specs.ModuleText.{ModuleText, file_text}
+use Rattle.mlir_syntax.specs.Stream.{stream_of, refusal}
+use Rattle.mlir_syntax.specs.Reads.{Read}
+use Rattle.mlir_syntax.specs.ModuleText.{ModuleText, file_text}
 use Rattle.mlir_reader.specs.Resolving.{design_of}
 
 -- how many bytes a text may have

@@ -4,16 +4,16 @@ ghost use Rattle.std.specs.Option.{option_map};
 ghost use Rattle.hw_model.specs.TypeViews.{type_of, field_of, fields_of};
 ghost use Rattle.hw_model.specs.Sound.{field_list};
 ghost use Rattle.ir_store.specs.ResultTypes.{first_type, field_count, result_count};
-ghost use Rattle.mlir_reader.specs.OperandText.{named_count};
-ghost use Rattle.mlir_reader.specs.OperandText.ResultNames.{pack};
+ghost use Rattle.mlir_syntax.specs.OperandText.{named_count};
+ghost use Rattle.mlir_syntax.specs.OperandText.ResultNames.{pack};
 ghost use Rattle.mlir_reader.specs.Resolving.{kind_named, said_instance, names_from, with_definitions, port_definition, names_defined, operation_definitions, body_definitions, marks, is_marked};
-ghost use Rattle.mlir_reader.specs.Views.{names_of, extra_of, operation_of};
+ghost use Rattle.mlir_syntax.specs.Views.{names_of, extra_of, operation_of};
 ghost use Rattle.mlir_reader.specs.Meanings.{meanings_of, HasFewNames};
 
 use crate::names::{Defined, Names};
-use crate::syntax::{Extra, OperationText, ResultNames};
-use opcode::listed::Listed;
 use hw_model::types::{Field, Ty};
+use mlir_syntax::syntax::{Extra, OperationText, ResultNames};
+use opcode::listed::Listed;
 use smallvec::SmallVec;
 use std::alloc::{AllocError, Global};
 

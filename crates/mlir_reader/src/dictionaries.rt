@@ -3,9 +3,9 @@ ghost use Rattle.std.specs.Prelude.{◌≡◌, ◌++◌, map, IfOk, Some};
 ghost use Rattle.ir_store.specs.DictionaryViews.{attribute_of, entry_of, entries_in};
 ghost use Rattle.mlir_reader.specs.Resolving.{is_empty_text, is_empty_hint, is_name_entry, has_name, is_dropped, without, kept_entries, kept_module_entries, sorted};
 
-use opcode::listed::Listed;
 use io_edge::byte_text::Text;
 use ir_store::dictionary::{Attribute, Dictionary, Entry};
+use opcode::listed::Listed;
 use std::alloc::{AllocError, Global};
 
 // Whether an attribute is the empty string.

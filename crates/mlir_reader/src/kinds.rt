@@ -4,14 +4,14 @@ ghost use Rattle.std.specs.Box.{box_value};
 ghost use Rattle.hw_model.specs.TypeViews.{type_of};
 ghost use Rattle.hw_model.specs.KindViews.{kind_of, integer_of, predicate_of, reset_of, literal_of, literals_in, instance_of};
 ghost use Rattle.mlir_reader.specs.Resolving.{has_negative, kept_number, kept_integer, kept_by_first, kept_literal, kept_literals, kind_named, plain_kind, said_kind, said_predicate, said_position, said_number, said_literals, said_field, said_instance, said_reset};
-ghost use Rattle.mlir_reader.specs.PieceText.Extra.{nothing};
-ghost use Rattle.mlir_reader.specs.Views.{extra_of};
+ghost use Rattle.mlir_syntax.specs.PieceText.Extra.{nothing};
+ghost use Rattle.mlir_syntax.specs.Views.{extra_of};
 
-use crate::syntax::Extra;
-use opcode::listed::Listed;
 use hw_model::kinds::{Instance, Integer, Literal, LiteralList, OpKind, Predicate, Reset};
 use hw_model::types::Ty;
 use io_edge::byte_text::Text;
+use mlir_syntax::syntax::Extra;
+use opcode::listed::Listed;
 use std::alloc::{AllocError, Global};
 
 /// The kind of an operation of a name, from what its text says besides operands, and from its types.

@@ -3,7 +3,7 @@ ghost use Rattle.std.specs.Prelude.{ℕ, ◌≡◌, ◌≤◌, Some, None, cond,
 ghost use Rattle.std.specs.List.{list_all};
 ghost use Rattle.std.specs.Option.{option_map};
 ghost use Rattle.mlir_lexer.specs.Classes.{is_digit};
-ghost use Rattle.mlir_reader.specs.Numerals.{number_in};
+ghost use Rattle.mlir_syntax.specs.Numerals.{number_in};
 ghost use Rattle.mlir_reader.specs.PlainNumbers.{number_of};
 ghost use Rattle.mlir_reader.specs.Resolving.{no_meaning, with_definition};
 ghost use Rattle.mlir_reader.specs.Meanings.{defined_of, held, listed, number_meaning, meanings_of, definition};

@@ -2,11 +2,12 @@
 ghost use Rattle.mlir_reader.specs.ModuleViews.{ReadsDesign};
 ghost use Rattle.mlir_reader.specs.Reading.{read};
 
-use crate::fail::ReadFail;
-use crate::reader::Reader;
+use crate::file_text::file_text;
 use diag::cause::Cause;
 use diag::refusal::{OpName, Place, Refusal};
 use ir_store::design::Design;
+use mlir_syntax::fail::ReadFail;
+use mlir_syntax::reader::Reader;
 use std::alloc::Global;
 
 /// How many bytes a text may have.
@@ -27,5 +28,6 @@ pub fn read_design(alloc: Global, source: &[u8]) -> Result<Design, ReadFail>
             cause: Cause::TooLong,
         }));
     }
-    Reader::new(alloc, source).file_text()
+    let mut reader = Reader::new(alloc, source);
+    file_text(&mut reader)
 }

@@ -3,8 +3,8 @@ ghost use Rattle.std.specs.Prelude.{◌≡◌, ◌++◌, ◌∷◌, [], IsTrue, 
 ghost use Rattle.ir_store.specs.Designs.{design_of, module_of, numbered_module};
 ghost use Rattle.mlir_reader.specs.Meanings.{HasFewNames};
 
-use crate::syntax::{OperationText, ResultNames};
 use ir_store::design::{Design, Module};
+use mlir_syntax::syntax::{OperationText, ResultNames};
 use std::alloc::AllocError;
 
 /// Puts a module behind those of a design. On an error the design may be thrown away. A design of 2^32 modules or more,

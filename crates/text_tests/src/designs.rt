@@ -1,5 +1,5 @@
 //! Texts that are read: how many modules and operations they give.
-use mlir_reader::fail::ReadFail;
+use mlir_syntax::fail::ReadFail;
 use mlir_reader::read::{MOST_BYTES, read_design};
 use std::alloc::Global;
 use std::test::Fail;

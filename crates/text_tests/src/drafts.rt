@@ -5,7 +5,7 @@ use ir_store::operation::{OpId, Value};
 use mlir_reader::definitions::define_port;
 use mlir_reader::draft::Draft;
 use mlir_reader::names::Names;
-use mlir_reader::reader::Reader;
+use mlir_syntax::reader::Reader;
 use std::alloc::{AllocError, Global};
 use std::test::Fail;
 

@@ -1,7 +1,7 @@
 //! Texts that are read and printed.
 use io_edge::byte_text::Text;
 use mlir_printer::design_text::design_text;
-use mlir_reader::fail::ReadFail;
+use mlir_syntax::fail::ReadFail;
 use mlir_reader::read::read_design;
 use std::alloc::Global;
 use std::test::Fail;

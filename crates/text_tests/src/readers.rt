@@ -2,12 +2,12 @@
 use diag::cause::Cause;
 use diag::refusal::OpName;
 use io_edge::byte_text::Text;
-use mlir_reader::attribute_text::StringKeys;
-use mlir_reader::fail::ReadFail;
+use mlir_syntax::attribute_text::StringKeys;
+use mlir_syntax::fail::ReadFail;
 use mlir_reader::names::{Defined, Names};
-use mlir_reader::reader::Reader;
-use mlir_reader::syntax::ResultNames;
-use mlir_reader::type_text::MOST_OPEN;
+use mlir_syntax::reader::Reader;
+use mlir_syntax::syntax::ResultNames;
+use mlir_syntax::type_text::MOST_OPEN;
 use std::alloc::{AllocError, Global};
 use std::test::Fail;
 

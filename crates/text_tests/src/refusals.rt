@@ -1,7 +1,7 @@
 //! Texts that are refused, each with its place, the operation and the cause.
 use diag::cause::Cause;
 use diag::refusal::{OpName, Refusal};
-use mlir_reader::fail::ReadFail;
+use mlir_syntax::fail::ReadFail;
 use mlir_reader::read::read_design;
 use std::alloc::Global;
 use std::test::Fail;

@@ -1,5 +1,0 @@
-use Rattle.mlir_reader.proofs.Digits.{IsFront}
-use Rattle.mlir_reader.proofs.numerals.number_in.Given as goal
-
-abbrev pub invariant-loop-digit : goal.invariant-loop-digit
-invariant-loop-digit l = IsFront l.base l.digits l.number l.digit-index

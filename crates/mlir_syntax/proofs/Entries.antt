@@ -1,0 +1,96 @@
+-- The entries of a dictionary, which are read one by one while their keys are noted.
+use Rattle.std.proofs.Common.{◌≡◌, ℕ, zero, suc, ◌-◌, ◌≤◌, ◌<◌, Bool, true, false, cond, List, [], ◌∷◌, ◌++◌, map, length, Ok, Err, refl, sym, ap, ◌∙◌, arith}
+use Rattle.std.proofs.lemmas.List.{map_push}
+use Rattle.diag.specs.declared.refusal.OpName.{OpName}
+use Rattle.hw_model.specs.Types.{Name}
+use Rattle.hw_model.specs.Design as design
+use Rattle.hw_model.specs.Design.{same_name}
+use Rattle.indexmap.specs.IndexSet.{insert_key}
+use Rattle.ir_store.specs.DictionaryViews.{entry_of}
+use Rattle.ir_store.specs.declared.dictionary.Entry.{Entry}
+use Rattle.mlir_lexer.specs.declared.token.TokenKind.TheVariants as kind
+use Rattle.mlir_syntax.specs.Stream.{Symbol, is_next, after}
+use Rattle.mlir_syntax.specs.Reads.{Read, Reads, on}
+use Rattle.mlir_syntax.specs.TypeText.{name_text}
+use Rattle.mlir_syntax.specs.AttributeText.{entries, entry_text, new_key, is_among}
+use Rattle.mlir_syntax.specs.Views.{ReadsAs}
+use Rattle.mlir_syntax.specs.declared.fail.ReadFail.{ReadFail}
+use Rattle.mlir_syntax.specs.declared.fail.ReadFail.TheVariants.{Refused, NoMemory}
+use Rattle.mlir_syntax.proofs.Lists.{with_front, with_front-nothing, with_front-more}
+use Rattle.mlir_syntax.proofs.Keys.{insert_new}
+
+-- some entries are read from the start on, and what is left gives the rest, where these keys are taken
+pub record Gathering (op : OpName) (strings : List Name) (start : List Symbol) (got : List Entry) (keys : List Name) (left : List Symbol) : Type 0 where
+  pub n : ℕ
+  pub enough : length left ≤ n
+  pub shorter : length left ≤ length start
+  pub same : entries 32 op strings [] (length start) start ≡ with_front (map entry_of got) (entries 32 op strings keys n left)
+
+-- an entry, and further ones behind a comma, so many at most
+abbrev then_more : OpName → List Name → List Name → ℕ → design.Entry → Reads (List design.Entry)
+then_more op strings keys n e left =
+    cond (is_next kind.Comma left) (on (entries 32 op strings (keys ++ e.key ∷ []) n (after left)) (λ es behind. Ok (e ∷ es, behind))) (Ok (e ∷ [], left))
+
+entries_at : (op : OpName) (strings keys : List Name) (n : ℕ) (left : List Symbol) → length left ≤ n
+    → entries 32 op strings keys n left ≡ on (entry_text 32 op strings keys left) (then_more op strings keys (n - 1))
+unfolding entries entry_text new_key name_text
+entries_at op strings keys zero [] enough = refl
+entries_at op strings keys zero (s ∷ ss) enough = absurd (omega (arith, enough))
+entries_at op strings keys (suc n) left enough = let e : suc n - 1 ≡ n = omega arith in rw e refl
+
+pub begins : (op : OpName) (strings : List Name) (start : List Symbol) → Gathering op strings start [] [] start
+begins op strings start =
+    record { n = length start; enough = omega arith; shorter = omega arith; same = sym (with_front-nothing (entries 32 op strings [] (length start) start)) }
+
+same_at : {op : OpName} {strings : List Name} {start : List Symbol} {got : List Entry} {keys : List Name} {left : List Symbol} (read : Read design.Entry)
+    → (g : Gathering op strings start got keys left) → entry_text 32 op strings keys left ≡ read
+    → entries 32 op strings [] (length start) start ≡ with_front (map entry_of got) (on read (then_more op strings keys (g.n - 1)))
+same_at {op = op} {strings = strings} {got = got} {keys = keys} {left = left} read g e =
+    g.same ∙ ap (with_front (map entry_of got)) (entries_at op strings keys g.n left g.enough ∙ ap (λ (r : Read design.Entry). on r (then_more op strings keys (g.n - 1))) e)
+
+-- an entry that is refused
+pub fails : {C : Type 0} {op : OpName} {strings : List Name} {start : List Symbol} {got : List Entry} {keys : List Name} {left : List Symbol}
+    (whole : C → List design.Entry) (fail : ReadFail) (behind left_over : List Symbol)
+    → Gathering op strings start got keys left → ReadsAs entry_of (Err fail) behind (entry_text 32 op strings keys left)
+    → ReadsAs whole (Err fail) left_over (entries 32 op strings [] (length start) start)
+fails whole (Refused r) behind left_over g read = same_at (Err r) g read
+fails whole NoMemory behind left_over g read = tt
+
+-- an entry behind which no comma stands
+pub ends : {op : OpName} {strings : List Name} {start : List Symbol} {got : List Entry} {keys : List Name} {left : List Symbol}
+    (x : Entry) (xs : List Entry) (behind new : List Symbol) (passed : Bool)
+    → Gathering op strings start got keys left → entry_text 32 op strings keys left ≡ Ok (entry_of x, behind) → xs ≡ got ++ x ∷ []
+    → passed ≡ is_next kind.Comma behind → new ≡ cond passed (after behind) behind → passed ≡ false
+    → entries 32 op strings [] (length start) start ≡ Ok (map entry_of xs, new)
+ends {got = got} x xs behind new passed g read pushed is moved no_comma =
+    same_at (Ok (entry_of x, behind)) g read ∙ rw (sym is, moved, no_comma, pushed, map_push entry_of got x) refl
+
+pub ends-shorter : {op : OpName} {strings : List Name} {start : List Symbol} {got : List Entry} {keys : List Name} {left : List Symbol}
+    (behind new : List Symbol) (passed : Bool)
+    → Gathering op strings start got keys left → new ≡ cond passed (after behind) behind → passed ≡ false → length behind ≤ length left
+    → length new ≤ length start
+ends-shorter behind new passed g moved no_comma within =
+    let before = g.shorter in
+    let same : new ≡ behind = moved ∙ ap (λ b. cond b (after behind) behind) no_comma in
+    rw same (omega (arith, before, within))
+
+-- an entry behind which a comma stands, and whose key is noted
+pub goes_on : {op : OpName} {strings : List Name} {start : List Symbol} {got : List Entry} {keys : List Name} {left : List Symbol}
+    (x : Entry) (xs : List Entry) (key : Name) (noted : List Name) (behind new : List Symbol) (passed : Bool)
+    → Gathering op strings start got keys left → entry_text 32 op strings keys left ≡ Ok (entry_of x, behind) → xs ≡ got ++ x ∷ []
+    → passed ≡ is_next kind.Comma behind → new ≡ cond passed (after behind) behind → passed ≡ true
+    → length behind ≤ length left → length new < length behind
+    → is_among x.key keys ≡ false → key ≡ x.key → noted ≡ insert_key same_name keys key → Gathering op strings start xs noted new
+goes_on {op = op} {strings = strings} {got = got} {keys = keys} x xs key noted behind new passed g read pushed is moved comma within less fresh copied noted_is =
+    let most = g.enough in
+    let before = g.shorter in
+    let all : noted ≡ keys ++ x.key ∷ [] = noted_is ∙ (ap (insert_key same_name keys) copied ∙ insert_new x.key keys fresh) in
+    record {
+      n = g.n - 1;
+      enough = omega (arith, most, within, less);
+      shorter = omega (arith, before, within, less);
+      same =
+          same_at (Ok (entry_of x, behind)) g read
+          ∙ rw (sym is, moved, comma, pushed, all, map_push entry_of got x)
+          (with_front-more (map entry_of got) (entry_of x) (entries 32 op strings (keys ++ x.key ∷ []) (g.n - 1) (after behind)));
+    }

@@ -1,0 +1,11 @@
+use Rattle.std.proofs.Common.{length}
+use Rattle.mlir_syntax.specs.PieceText.{input_text}
+use Rattle.mlir_syntax.specs.PieceHeads.{joined_of}
+use Rattle.mlir_syntax.proofs.Lists.{Gathering}
+use Rattle.mlir_syntax.proofs.reader.Reader.some_inputs.Given as goal
+
+abbrev pub invariant-loop-input : goal.invariant-loop-input
+invariant-loop-input l = Gathering joined_of l.op (input_text l.op) l.fn.self l.inputs.items l.self
+
+abbrev pub decreases-loop-input : goal.decreases-loop-input
+decreases-loop-input l = length l.self

@@ -1,0 +1,18 @@
+-- What a reader has in front of it: the first thing that is left, and what stands behind it.
+use Rattle.std.specs.Prelude.{List, [], ◌∷◌, length}
+use Rattle.diag.specs.Place.{place_of}
+use Rattle.mlir_lexer.specs.Cursor.{Cursor}
+use Rattle.mlir_lexer.specs.Tokens.{tokens_left, lexeme_of}
+use Rattle.mlir_syntax.specs.Stream.{Symbol, token, bad, end, stream}
+use Rattle.mlir_syntax.specs.declared.head.Head.{Head}
+use Rattle.mlir_syntax.specs.declared.head.Head.TheVariants as head
+
+-- the tokens from a position of a text on
+abbrev pub stream_left : Cursor → List Symbol
+stream_left cursor = stream (place_of cursor.source (length cursor.source)) (tokens_left cursor)
+
+-- a head and what stands behind it; nothing stands behind the end
+abbrev pub symbols : Head → List Symbol → List Symbol
+symbols (head.Token t) behind = token (lexeme_of t) ∷ behind
+symbols (head.Bad p) behind = bad p ∷ []
+symbols (head.End p) behind = end p ∷ []

@@ -1,0 +1,19 @@
+-- The words of this crate's contracts.
+pub mod Stream
+pub mod Reads
+pub mod Numerals
+pub mod TypeText
+pub mod AttributeText
+pub mod LiteralText
+pub mod OperandText
+pub mod PieceText
+pub mod OperationText
+pub mod ModuleText
+pub mod Views
+pub mod Heads
+pub mod TypeHeads
+pub mod AttributeHeads
+pub mod LiteralHeads
+pub mod NameClasses
+pub mod PieceHeads
+pub mod Spelling

@@ -1,0 +1,174 @@
+//! Instances in a text (CIRCT, HW dialect: `hw.instance`).
+ghost use Rattle.std.specs.Prelude.{◌≡◌, ◌≤◌, ◌++◌, map, length, OnOk, IfOk};
+ghost use Rattle.hw_model.specs.TypeViews.{field_of, type_of};
+ghost use Rattle.hw_model.specs.KindViews.{instance_of};
+ghost use Rattle.ir_store.specs.OperationViews.{types_in};
+ghost use Rattle.mlir_lexer.specs.declared.token.TokenKind.TheVariants as kind;
+ghost use Rattle.mlir_syntax.specs.Reads.{some_items, items_until};
+ghost use Rattle.mlir_syntax.specs.PieceText.{input_text, inputs_text, output_text, outputs_text, instance_text, instance_with, with_instance, piece_text};
+ghost use Rattle.mlir_syntax.specs.PieceHeads.{joined_of};
+ghost use Rattle.mlir_syntax.specs.Views.{ReadsAs, gathered_of, operand_of};
+ghost use Rattle.assembly_format.specs.declared.pieces.Piece.TheVariants as piece;
+
+use crate::fail::ReadFail;
+use crate::reader::Reader;
+use crate::syntax::{Extra, Gathered, OperandName};
+use crate::type_text::MOST_OPEN;
+use diag::refusal::OpName;
+use hw_model::kinds::Instance;
+use hw_model::types::{Field, Ty};
+use io_edge::byte_text::Text;
+use mlir_lexer::token::TokenKind;
+use std::alloc::{AllocError, Global};
+
+/// An operand of an instance: the name of its port, and its type.
+#[derive(Drop)]
+pub struct Joined<'s> {
+    /// The name of the port.
+    pub port: Text,
+    /// The operand.
+    pub operand: OperandName<'s>,
+    /// Its type.
+    pub ty: Ty,
+}
+
+impl<'s> Reader<'s> {
+    /// `"u" [sym @s] @N(p: %v: T, ..) -> (q: T, ..)`, whose operands and types are put behind those
+    /// that are gathered in front.
+    ///
+    /// Refuses the first token that no instance has there.
+    #[tactic(auto, unfolding(crate::specs::PieceText::piece_text, crate::specs::PieceText::instance_text))]
+    pub fn instance_piece(
+        &mut self,
+        op: OpName,
+        gathered: &mut Gathered<'s>,
+    ) -> Result<(), ReadFail>
+        ensures gives { ReadsAs (λ (_ : Unit {0}). gathered_of gathered.new) result self.new (piece_text op piece.Instance (gathered_of gathered.old) self.old) }
+        ensures shorter { OnOk result (length self.new ≤ length self.old) }
+    {
+        let name = self.string_text(op)?;
+        let inner_symbol = self.inner_symbol(op)?;
+        let symbol = self.module_symbol(op)?;
+        let operands = self.inputs_text(op)?;
+        let results = self.outputs_text(op)?;
+        let alloc = self.alloc();
+        let inputs = join_inputs(alloc, operands, gathered)?;
+        let outputs = join_outputs(alloc, results, gathered)?;
+        let instance = Instance {
+            name,
+            inner_symbol,
+            symbol,
+            inputs,
+            outputs,
+        };
+        gathered.extra = Extra::Child(Box::new(alloc, instance)?);
+        Ok(())
+    }
+
+    // `(p: %v: T, ..)`
+    #[tactic(auto, unfolding(crate::specs::PieceText::inputs_text, crate::specs::Reads::items_until))]
+    fn inputs_text(&mut self, op: OpName) -> Result<Vec<Joined<'s>>, ReadFail>
+        ensures gives { ReadsAs (λ joined. map joined_of joined.items) result self.new (inputs_text op self.old) }
+        ensures shorter { OnOk result (length self.new ≤ length self.old) }
+    {
+        self.want(op, TokenKind::LeftParenthesis)?;
+        if self.pass(TokenKind::RightParenthesis) {
+            return Ok(Vec::new(self.alloc()));
+        }
+        let inputs = self.some_inputs(op)?;
+        self.want(op, TokenKind::RightParenthesis)?;
+        Ok(inputs)
+    }
+
+    // One operand or more.
+    fn some_inputs(&mut self, op: OpName) -> Result<Vec<Joined<'s>>, ReadFail>
+        ensures gives { ReadsAs (λ joined. map joined_of joined.items) result self.new (some_items op (input_text op) self.old) }
+        ensures shorter { OnOk result (length self.new ≤ length self.old) }
+    {
+        let mut inputs = Vec::new(self.alloc());
+        loop {
+            match self.input_text(op) {
+                Ok(input) => inputs.push(input)?,
+                Err(fail) => return Err(fail),
+            }
+            if !self.pass(TokenKind::Comma) {
+                return Ok(inputs);
+            }
+        }
+    }
+
+    // `p: %v: T`
+    #[tactic(auto, unfolding(crate::specs::PieceText::input_text))]
+    fn input_text(&mut self, op: OpName) -> Result<Joined<'s>, ReadFail>
+        ensures gives { ReadsAs joined_of result self.new (input_text op self.old) }
+        ensures shorter { OnOk result (length self.new ≤ length self.old) }
+    {
+        let port = self.name_text(op)?;
+        self.want(op, TokenKind::Colon)?;
+        let operand = self.operand_text(op)?;
+        self.want(op, TokenKind::Colon)?;
+        let ty = self.any_type(op)?;
+        Ok(Joined { port, operand, ty })
+    }
+
+    // `-> (q: T, ..)`
+    #[tactic(auto, unfolding(crate::specs::PieceText::outputs_text, crate::specs::Reads::items_until))]
+    fn outputs_text(&mut self, op: OpName) -> Result<Vec<Field>, ReadFail>
+        ensures gives { ReadsAs (λ fields. map field_of fields.items) result self.new (outputs_text op self.old) }
+        ensures shorter { OnOk result (length self.new ≤ length self.old) }
+    {
+        self.want(op, TokenKind::Arrow)?;
+        self.want(op, TokenKind::LeftParenthesis)?;
+        if self.pass(TokenKind::RightParenthesis) {
+            return Ok(Vec::new(self.alloc()));
+        }
+        let outputs = self.some_outputs(op)?;
+        self.want(op, TokenKind::RightParenthesis)?;
+        Ok(outputs)
+    }
+
+    // One result or more.
+    fn some_outputs(&mut self, op: OpName) -> Result<Vec<Field>, ReadFail>
+        ensures gives { ReadsAs (λ fields. map field_of fields.items) result self.new (some_items op (output_text op) self.old) }
+        ensures shorter { OnOk result (length self.new ≤ length self.old) }
+    {
+        self.some_fields(op, MOST_OPEN)
+    }
+}
+
+// Puts operands and their types behind those that there are, and gives the names of their ports.
+fn join_inputs<'s>(
+    alloc: Global,
+    inputs: Vec<Joined<'s>>,
+    gathered: &mut Gathered<'s>,
+) -> Result<Vec<Text>, AllocError>
+    ensures names { IfOk result (λ names. names.items ≡ map (λ (j : _). j.port) (map joined_of inputs.entry.items)) }
+    ensures operands { OnOk result (map operand_of gathered.new.operands.items ≡ map operand_of gathered.old.operands.items ++ map (λ (j : _). j.operand) (map joined_of inputs.entry.items)) }
+    ensures types { OnOk result (types_in gathered.new.types ≡ types_in gathered.old.types ++ map (λ (j : _). j.type) (map joined_of inputs.entry.items)) }
+{
+    let mut names = Vec::with_capacity(alloc, inputs.len())?;
+    for input in inputs {
+        names.push(input.port)?;
+        gathered.operands.push(input.operand)?;
+        gathered.types.push(alloc, input.ty)?;
+    }
+    Ok(names)
+}
+
+// Puts the types of results behind those that there are, and gives their names.
+fn join_outputs<'s>(
+    alloc: Global,
+    outputs: Vec<Field>,
+    gathered: &mut Gathered<'s>,
+) -> Result<Vec<Text>, AllocError>
+    ensures names { IfOk result (λ names. names.items ≡ map (λ (t : _). t.name) (map field_of outputs.items)) }
+    ensures operands { OnOk result (gathered.new.operands.items ≡ gathered.old.operands.items) }
+    ensures types { OnOk result (types_in gathered.new.types ≡ types_in gathered.old.types ++ map (λ (t : _). t.type) (map field_of outputs.items)) }
+{
+    let mut names = Vec::with_capacity(alloc, outputs.len())?;
+    for output in outputs {
+        names.push(output.name)?;
+        gathered.types.push(alloc, output.ty)?;
+    }
+    Ok(names)
+}
