@@ -5,9 +5,9 @@ use std::alloc::{AllocError, AllocGlobal, Global};
 use std::process::Abort;
 use std::test::Fail;
 use std::thread::Threads;
-use verilog_model::plain_fault::Fault;
-use verilog_model::plain_machine::{Machine, Stepped};
-use verilog_model::plain_text::modules;
+use verilog_interpreter::fault::Fault;
+use verilog_interpreter::machine::{Machine, Stepped};
+use verilog_interpreter::text::modules;
 
 const COMMAND: &str = "translate --export-verilog";
 

@@ -4,4 +4,4 @@
 #[cfg(test)]
 mod legal_names;
 #[cfg(test)]
-mod plain_runs;
+mod text_runs;

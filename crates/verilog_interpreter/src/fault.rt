@@ -1,7 +1,7 @@
 //! Why a text is not run.
 use std::alloc::{AllocError, AllocFailed};
 
-/// Why the plain reader or the plain machine gives nothing.
+/// Why the reader or the machine gives nothing.
 #[derive(Clone, Copy, Debug, PartialEq, Eq)]
 pub enum Fault {
     /// There is not enough memory.
@@ -13,7 +13,7 @@ pub enum Fault {
 
 impl From<AllocError> for Fault {
     ghost use Rattle.std.specs.Prelude.{◌≡◌};
-    ghost use Rattle.verilog_model.specs.declared.plain_fault.Fault.TheVariants.{NoMemory};
+    ghost use Rattle.verilog_interpreter.specs.declared.fault.Fault.TheVariants.{NoMemory};
 
     ghost from_gives = { λ _ fail. fail ≡ NoMemory };
 
@@ -24,7 +24,7 @@ impl From<AllocError> for Fault {
 
 impl<T: Drop> From<AllocFailed<T>> for Fault {
     ghost use Rattle.std.specs.Prelude.{◌≡◌};
-    ghost use Rattle.verilog_model.specs.declared.plain_fault.Fault.TheVariants.{NoMemory};
+    ghost use Rattle.verilog_interpreter.specs.declared.fault.Fault.TheVariants.{NoMemory};
 
     ghost from_gives = { λ _ fail. fail ≡ NoMemory };
 

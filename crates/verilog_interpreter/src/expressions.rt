@@ -1,8 +1,8 @@
 //! Expressions of a text (IEEE 1364-2005, Annex A.8: expressions; 5.1.2: precedence of operators).
-use crate::plain_cursor::Cursor;
-use crate::plain_fault::{Fault, must, there};
-use crate::plain_tokens::{Token, decimal, hexadecimal, literal_parts};
-use crate::plain_tree::{Declared, Expression, Node, Operator, place_of};
+use crate::cursor::Cursor;
+use crate::fault::{Fault, must, there};
+use crate::tokens::{Token, decimal, hexadecimal, literal_parts};
+use crate::tree::{Declared, Expression, Node, Operator, place_of};
 use bits_core::Bits;
 
 /// How deeply expressions nest at most.

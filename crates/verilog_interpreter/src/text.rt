@@ -1,9 +1,9 @@
 //! Reads a Verilog text of the subset that is printed (IEEE 1364-2005, Annex A), for tests. That it reads by the grammar
 //! of `specs/` is not proved, only that it is safe and ends.
-use crate::plain_cursor::Cursor;
-use crate::plain_fault::{Fault, must, there};
-use crate::plain_tokens::{Token, tokens};
-use crate::plain_tree::{
+use crate::cursor::Cursor;
+use crate::fault::{Fault, must, there};
+use crate::tokens::{Token, tokens};
+use crate::tree::{
     Always, Branch, Connection, Declared, Expression, Instance, Item, Module, Role, place_of,
 };
 use std::alloc::Global;

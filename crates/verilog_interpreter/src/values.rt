@@ -2,8 +2,8 @@
 //! the whole, then from the whole to the parts that stand in its context, then values. Words have 1 to 128 bits.
 ghost use Rattle.std.specs.Prelude.{◌≡◌, length};
 
-use crate::plain_fault::{Fault, must, there};
-use crate::plain_tree::{Context, Expression, Node, Operator};
+use crate::fault::{Fault, must, there};
+use crate::tree::{Context, Expression, Node, Operator};
 use bits_core::Bits;
 use std::alloc::Global;
 use std::cmp::Ordering;

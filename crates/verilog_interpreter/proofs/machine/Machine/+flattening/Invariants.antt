@@ -1,5 +1,5 @@
 use Rattle.std.proofs.Common.{◌+◌, ◌*◌}
-use Rattle.verilog_model.proofs.plain_machine.Machine.+flattening.Given as goal
+use Rattle.verilog_interpreter.proofs.machine.Machine.+flattening.Given as goal
 
 abbrev pub decreases-child : goal.decreases-child
 decreases-child l = 2 * l.room

@@ -1,14 +1,12 @@
 //! Runs the modules of a Verilog text by cycles, for tests (IEEE 1364-2005, 6.1: continuous assignments; 9.2.2:
 //! nonblocking assignments; 12.3: ports): nets are settled by passes over what drives them until all have values. That
 //! it does what `specs/` says is not proved, only that it is safe and ends.
-use crate::plain_fault::{Fault, must, there};
-use crate::plain_tree::{
+use crate::fault::{Fault, must, there};
+use crate::tree::{
     Always, Branch, Connection, Declared, Expression, Instance, Item, Module, Node, Role,
     find_module, place_of,
 };
-use crate::plain_values::{
-    Scope, Shape, assigned, extended, is_known, is_true, lowest, value_under,
-};
+use crate::values::{Scope, Shape, assigned, extended, is_known, is_true, lowest, value_under};
 use bits_core::Bits;
 use std::alloc::Global;
 

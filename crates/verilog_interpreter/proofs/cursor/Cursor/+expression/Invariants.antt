@@ -1,5 +1,5 @@
 use Rattle.std.proofs.Common.{◌+◌, ◌*◌}
-use Rattle.verilog_model.proofs.plain_cursor.Cursor.+expression.Given as goal
+use Rattle.verilog_interpreter.proofs.cursor.Cursor.+expression.Given as goal
 
 abbrev pub decreases-primary : goal.decreases-primary
 decreases-primary l = 6 * l.room

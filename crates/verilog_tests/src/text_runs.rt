@@ -5,9 +5,9 @@ use bits_core::Bits;
 use std::alloc::{AllocGlobal, Global};
 use std::process::Abort;
 use std::test::Fail;
-use verilog_model::plain_fault::Fault;
-use verilog_model::plain_machine::{Machine, Stepped};
-use verilog_model::plain_text::modules;
+use verilog_interpreter::fault::Fault;
+use verilog_interpreter::machine::{Machine, Stepped};
+use verilog_interpreter::text::modules;
 
 // The step of the module of a name in a text.
 fn step(

@@ -1,6 +1,6 @@
 //! The tokens that are left of a text.
-use crate::plain_fault::{Fault, must, there};
-use crate::plain_tokens::{Token, begins_name, decimal, is_name_byte};
+use crate::fault::{Fault, must, there};
+use crate::tokens::{Token, begins_name, decimal, is_name_byte};
 use std::alloc::Global;
 
 /// The tokens that are left, and where memory is taken from.
