@@ -3,13 +3,6 @@ use Rattle.std.proofs.Common.{◌≡◌, ℕ, suc, ◌+◌, ◌<◌, ◌≤◌, 
 use Rattle.std.proofs.lemmas.List.{append-nil}
 use Rattle.wiring.proofs.Lists.{drop_some}
 use Rattle.verilog_model.specs.Tree.{Item}
-use Rattle.ir_store.specs.declared.body.Body.{Body}
-use Rattle.ir_store.specs.declared.operation.OpId.{OpId}
-use Rattle.ir_store.specs.Bodies.{ids_of, ops_of, op_id}
-use Rattle.ir_store.specs.Numbered.{position_of, numbered}
-use Rattle.ir_store.proofs.BodyLemmas.{ids_once}
-use Rattle.design_cycles.proofs.Pushing.{ids_count}
-use Rattle.ir_store.proofs.PositionTables.{index_at, ids_same, position_found}
 use Rattle.export_verilog.specs.Keys.{each}
 use Rattle.export_verilog.specs.Layout.{Text, items_text}
 use Rattle.export_verilog.proofs.Listed.{drop_none}
@@ -35,16 +28,6 @@ module _ {A : Type 0} (f : ℕ → A → List Item) (xs : List A) where
   pub each_end : (i : ℕ) (out whole : Text) → length xs ≤ i → out ++ each_left i ≡ whole → out ≡ whole
   unfolding items_text
   each_end i out whole le inv = sym (append-nil out) ∙ ap (λ l. out ++ items_text (each f i l) []) (sym (drop_none xs i le)) ∙ inv
-
--- ---- the ids of a body
-
--- the position of an id is where it stands
-pub id_place : (b : Body) (ids : List OpId) (i : ℕ) → ids ≡ map op_id (ids_of b) → i < length (numbered (ops_of b)) → position_of (ids_of b) (get_or ids i (op_id 0)).index ≡ i
-id_place b ids i all lt =
-    let id : ℕ = (get_or ids i (op_id 0)).index in
-    let there : slice_get (ids_of b) i ≡ Some id =
-    sym (ap (λ (l : List ℕ). slice_get l i) (ids_same ids (ids_of b) all)) ∙ index_at ids i (op_id 0) (subst (λ n. i < n) (sym (ids_count b ids all)) lt) in
-    position_found (ids_of b) id i (ids_once b id) there
 
 -- ---- the parts of a module
 

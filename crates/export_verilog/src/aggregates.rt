@@ -14,7 +14,6 @@ ghost use Rattle.export_verilog.specs.Aggregates.{is_aggregate, has_aggregate_po
 
 use design_cycles::{ids_in, op_at};
 use diag::cause::Cause;
-use opcode::listed::Listed;
 use diag::refusal::Refusal;
 use hw_model::kinds::OpKind;
 use hw_model::types::Ty;
@@ -22,6 +21,7 @@ use ir_store::body::{Body, Op};
 use ir_store::design::{Design, Module, Port};
 use ir_store::operation::NewResult;
 use op_verifier::{listed_of, refused_at};
+use opcode::listed::Listed;
 use std::alloc::{AllocError, Global};
 
 /// The refusal of the first header or operation of a design that has an array or a struct, in text order, each header

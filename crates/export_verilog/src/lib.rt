@@ -17,6 +17,7 @@ mod lines;
 mod module_items;
 mod module_names;
 mod module_text;
+mod module_writer;
 mod named_design;
 mod op_names;
 mod ports;

@@ -4,7 +4,6 @@ ghost use Rattle.hw_model.specs.Design.{Module};
 ghost use Rattle.ir_store.specs.Bodies.{op_id};
 ghost use Rattle.ir_store.specs.Designs.{design_of, modules_of, port_of};
 ghost use Rattle.verilog_expr.specs.Scopes.{scope_ports, scope_ops, scope_ids};
-ghost use Rattle.verilog_expr.specs.Marks.{AreSmall};
 ghost use Rattle.verilog_expr.specs.PartTables.{AreWires};
 ghost use Rattle.export_verilog.specs.Exported.{symbol_names, vmodule};
 ghost use Rattle.export_verilog.specs.Layout.{module_text};
@@ -15,41 +14,24 @@ ghost use Rattle.export_verilog.specs.WritableDesigns.{IsWritableDesign};
 ghost use Rattle.export_verilog.specs.Written.{AreNarrow};
 
 use crate::module_items::push_items;
-use crate::module_names::{ModuleNames, module_names};
+use crate::module_names::module_names;
+use crate::module_writer::ModuleWriter;
 use crate::named_design::NamedDesign;
 use crate::ports::push_ports;
-use design_cycles::ids_in;
 use io_edge::byte_text::Text;
-use ir_store::design::Port;
-use ir_store::operation::OpId;
 use std::alloc::{AllocError, Global};
 use verilog_expr::scope::Scope;
 use verilog_expr::wires::Wires;
 
-// Adds the text of a module of a body and its ports, under a name (IEEE 1364-2005, 12.1: modules).
-fn push_under(
-    alloc: Global,
-    out: &mut Text,
-    all: &NamedDesign<'_>,
-    name: &[u8],
-    scope: &Scope<'_>,
-    names: &ModuleNames,
-    wires: &Wires,
-    ids: &[OpId],
-    ports: &[Port],
-) -> Result<(), AllocError>
-    requires small { AreSmall (scope_ports scope.now) (scope_ops scope.now) }
-    requires wires { AreWires (scope_ports scope.now) (scope_ops scope.now) wires.now.wires.items }
-    requires names { AreModuleNames (scope_module scope.now) names.now.ports.items names.now.values names.now.own.items }
-    requires ids { ids.now ≡ map op_id (scope_ids scope.now) }
-    requires ports { map port_of ports.now ≡ scope_ports scope.now }
-    requires narrow { AreNarrow (map port_of ports.now) }
-    ensures { OnOk result (out.new ≡ out.old ++ module_text (module_under (design_of all.now.design.now) name.now (scope_module scope.now)) []) }
+// Adds the text of a module under a name (IEEE 1364-2005, 12.1: modules).
+fn push_under(writer: &ModuleWriter<'_>, out: &mut Text, name: &[u8]) -> Result<(), AllocError>
+    requires { AreNarrow (map port_of writer.now.ports.now) }
+    ensures { OnOk result (out.new ≡ out.old ++ module_text (module_under (design_of writer.now.design.now.design.now) name.now (scope_module writer.now.scope)) []) }
 {
     out.push_bytes(b"module ")?;
     out.push_bytes(name)?;
-    push_ports(out, names.ports.as_slice(), ports)?;
-    push_items(alloc, out, all, scope, names, wires, ids, ports)?;
+    push_ports(out, writer.names.ports.as_slice(), writer.ports)?;
+    push_items(writer, out)?;
     out.push_bytes(b"endmodule\n")?;
     Ok(())
 }
@@ -64,7 +46,7 @@ fn symbol_at<'n>(all: &'n NamedDesign<'_>, number: u32) -> &'n [u8]
 }
 
 /// Adds the text of a module of a design, by its number: its header, its declarations, its statements and its end. The
-/// error comes only for want of memory, as with a body of 2^32 operations or more.
+/// error is out of memory, as with a body of 2^32 operations or more.
 pub fn push_module(
     alloc: Global,
     out: &mut Text,
@@ -79,19 +61,14 @@ pub fn push_module(
     let ports = module.ports.ports.as_slice();
     let scope = Scope::of(alloc, &module.ports, &module.body)?;
     let wires = Wires::of(alloc, &scope)?;
-    let ids = ids_in(alloc, &module.body)?;
     let names = module_names(alloc, &scope, &wires, ports)?;
-    let name = symbol_at(all, number);
-    push_under(
+    let writer = ModuleWriter {
         alloc,
-        out,
-        all,
-        name,
-        &scope,
-        &names,
-        &wires,
-        ids.as_slice(),
+        design: all,
         ports,
-    )?;
-    Ok(())
+        scope,
+        wires,
+        names,
+    };
+    push_under(&writer, out, symbol_at(all, number))
 }

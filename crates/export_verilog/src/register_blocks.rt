@@ -3,8 +3,8 @@ ghost use Rattle.std.specs.Prelude.{◌≡◌, ◌++◌, [], None, true, false, 
 ghost use Rattle.hw_model.specs.KindViews.{reset_of as reset_kind};
 ghost use Rattle.hw_model.specs.Flat.{register_in, register_parts};
 ghost use Rattle.verilog_model.specs.Tree.Item.{always};
-ghost use Rattle.verilog_expr.specs.Scopes.{scope_ports, scope_ops, scope_ref, op_read};
-ghost use Rattle.verilog_expr.specs.Marks.{AreSmall};
+ghost use Rattle.verilog_expr.specs.Scopes.{scope_ref, op_read};
+ghost use Rattle.verilog_expr.specs.declared.scope.Scope.{Scope};
 ghost use Rattle.verilog_expr.specs.Named.{named_of};
 ghost use Rattle.export_verilog.specs.Layout.{item_text, items_text};
 ghost use Rattle.export_verilog.specs.Written.{written_block};
@@ -13,15 +13,14 @@ ghost use Rattle.export_verilog.specs.RegisterViews.{reset_seen, register_seen};
 ghost use Rattle.export_verilog.specs.Statements.{register_item, register_items};
 
 use crate::blocks::{Clocked, Reset, push_always};
+use crate::module_writer::ModuleWriter;
 use crate::values::{name_text, used_text};
 use hw_model::kinds;
 use hw_model::kinds::OpKind;
 use io_edge::byte_text::Text;
 use ir_store::body::Op;
 use ir_store::operation::Value;
-use std::alloc::{AllocError, Global};
-use verilog_expr::scope::Scope;
-use verilog_expr::value_names::ValueNames;
+use std::alloc::AllocError;
 
 /// What resets a register, and to what.
 #[derive(Clone, Copy)]
@@ -58,10 +57,9 @@ fn unreset(next: Value, clock: Value, enable: Option<Value>) -> Register
 }
 
 // A register without an enable, by its operands.
-fn plain_register(scope: &Scope<'_>, reset: kinds::Reset, operands: &[Value]) -> Option<Register>
-    ensures { option_map (register_seen scope.now) result ≡ register_parts false (reset_kind reset) (map (scope_ref scope.now) operands.now) }
+fn plain_register(reset: kinds::Reset, operands: &[Value]) -> Option<Register>
+    ensures { (scope : Scope) → option_map (register_seen scope) result ≡ register_parts false (reset_kind reset) (map (scope_ref scope) operands.now) }
 {
-    let _ = scope;
     match reset {
         kinds::Reset::No => match operands {
             [next, clock] => Some(unreset(*next, *clock, None)),
@@ -83,10 +81,9 @@ fn plain_register(scope: &Scope<'_>, reset: kinds::Reset, operands: &[Value]) ->
 }
 
 // A register with an enable, by its operands.
-fn enabled_register(scope: &Scope<'_>, reset: kinds::Reset, operands: &[Value]) -> Option<Register>
-    ensures { option_map (register_seen scope.now) result ≡ register_parts true (reset_kind reset) (map (scope_ref scope.now) operands.now) }
+fn enabled_register(reset: kinds::Reset, operands: &[Value]) -> Option<Register>
+    ensures { (scope : Scope) → option_map (register_seen scope) result ≡ register_parts true (reset_kind reset) (map (scope_ref scope) operands.now) }
 {
-    let _ = scope;
     match reset {
         kinds::Reset::No => match operands {
             [next, clock, enable] => Some(unreset(*next, *clock, Some(*enable))),
@@ -108,34 +105,27 @@ fn enabled_register(scope: &Scope<'_>, reset: kinds::Reset, operands: &[Value]) 
 }
 
 /// The register that an operation of a body is.
-pub fn register_in(scope: &Scope<'_>, op: &Op<'_>) -> Option<Register>
-    ensures { option_map (register_seen scope.now) result ≡ register_in (op_read scope.now op.now) }
+pub fn register_in(op: &Op<'_>) -> Option<Register>
+    ensures { (scope : Scope) → option_map (register_seen scope) result ≡ register_in (op_read scope op.now) }
 {
     match op.kind {
-        OpKind::CompReg(reset) | OpKind::FirReg(reset) => plain_register(
-            scope,
-            *reset,
-            op.operands,
-        ),
-        OpKind::CompRegCe(reset) => enabled_register(scope, *reset, op.operands),
+        OpKind::CompReg(reset) | OpKind::FirReg(reset) => plain_register(*reset, op.operands),
+        OpKind::CompRegCe(reset) => enabled_register(*reset, op.operands),
         _ => None,
     }
 }
 
 // Adds the block of a register of which all but the reset is written.
 fn push_reset<'t>(
-    alloc: Global,
+    writer: &ModuleWriter<'_>,
     out: &mut Text,
-    scope: &Scope<'_>,
-    names: &ValueNames,
     clock: &[u8],
     target: &'t [u8],
     next: &'t [u8],
     enable: Option<&'t [u8]>,
     reset: Option<ResetBy>,
 ) -> Result<(), AllocError>
-    requires { AreSmall (scope_ports scope.now) (scope_ops scope.now) }
-    ensures { OnOk result (out.new ≡ out.old ++ item_text (always clock.now (written_block target.now next.now (option_map (λ e. e.now) enable.entry) (option_map (reset_text scope.now names.now) (option_map (reset_seen scope.now) reset)))) []) }
+    ensures { OnOk result (out.new ≡ out.old ++ item_text (always clock.now (written_block target.now next.now (option_map (λ e. e.now) enable.entry) (option_map (reset_text writer.now.scope writer.now.names.values) (option_map (reset_seen writer.now.scope) reset)))) []) }
 {
     match reset {
         None => push_always(
@@ -149,8 +139,8 @@ fn push_reset<'t>(
             },
         )?,
         Some(by) => {
-            let signal = used_text(alloc, scope, names, by.signal)?;
-            let value = used_text(alloc, scope, names, by.value)?;
+            let signal = used_text(writer, by.signal)?;
+            let value = used_text(writer, by.value)?;
             let written = Reset {
                 signal: signal.as_bytes(),
                 value: value.as_bytes(),
@@ -172,24 +162,19 @@ fn push_reset<'t>(
 
 // Adds the block of a register under its name.
 fn push_parts(
-    alloc: Global,
+    writer: &ModuleWriter<'_>,
     out: &mut Text,
-    scope: &Scope<'_>,
-    names: &ValueNames,
     target: &[u8],
     register: &Register,
 ) -> Result<(), AllocError>
-    requires { AreSmall (scope_ports scope.now) (scope_ops scope.now) }
-    ensures { OnOk result (out.new ≡ out.old ++ item_text (register_item (named_of names.now) (value_expr scope.now names.now) target.now (register_seen scope.now register.now)) []) }
+    ensures { OnOk result (out.new ≡ out.old ++ item_text (register_item (named_of writer.now.names.values) (value_expr writer.now.scope writer.now.names.values) target.now (register_seen writer.now.scope register.now)) []) }
 {
-    let clock = name_text(scope, names, register.clock);
-    let next = used_text(alloc, scope, names, register.next)?;
+    let clock = name_text(writer, register.clock);
+    let next = used_text(writer, register.next)?;
     match register.enable {
         None => push_reset(
-            alloc,
+            writer,
             out,
-            scope,
-            names,
             clock,
             target,
             next.as_bytes(),
@@ -197,12 +182,10 @@ fn push_parts(
             register.reset,
         )?,
         Some(value) => {
-            let enable = used_text(alloc, scope, names, value)?;
+            let enable = used_text(writer, value)?;
             push_reset(
-                alloc,
+                writer,
                 out,
-                scope,
-                names,
                 clock,
                 target,
                 next.as_bytes(),
@@ -215,21 +198,18 @@ fn push_parts(
 }
 
 /// Adds the statement of an operation that is a register, under its name (IEEE 1364-2005, 9.2.2: nonblocking
-/// assignments). No value may have more than 128 bits. The error is want of memory.
+/// assignments). The error is out of memory.
 #[tactic(auto, unfolding(crate::specs::Layout::items_text))]
 pub fn push_register(
-    alloc: Global,
+    writer: &ModuleWriter<'_>,
     out: &mut Text,
-    scope: &Scope<'_>,
-    names: &ValueNames,
     target: &[u8],
     op: &Op<'_>,
 ) -> Result<(), AllocError>
-    requires { AreSmall (scope_ports scope.now) (scope_ops scope.now) }
-    ensures { OnOk result (out.new ≡ out.old ++ items_text (register_items (named_of names.now) (value_expr scope.now names.now) target.now (register_in (op_read scope.now op.now))) []) }
+    ensures { OnOk result (out.new ≡ out.old ++ items_text (register_items (named_of writer.now.names.values) (value_expr writer.now.scope writer.now.names.values) target.now (register_in (op_read writer.now.scope op.now))) []) }
 {
-    if let Some(register) = register_in(scope, op) {
-        push_parts(alloc, out, scope, names, target, &register)?;
+    if let Some(register) = register_in(op) {
+        push_parts(writer, out, target, &register)?;
     }
     Ok(())
 }

@@ -5,20 +5,18 @@ ghost use Rattle.hw_model.specs.KindViews.{kind_of};
 ghost use Rattle.hw_model.specs.Sound.{ports_of};
 ghost use Rattle.ir_store.specs.Designs.{design_of, port_of};
 ghost use Rattle.ir_store.specs.Numbered.{position_of};
-ghost use Rattle.verilog_expr.specs.Scopes.{scope_ports, scope_ops, scope_ids, op_read};
-ghost use Rattle.verilog_expr.specs.Marks.{AreSmall};
+ghost use Rattle.verilog_expr.specs.Scopes.{scope_ops, scope_ids, op_read};
 ghost use Rattle.export_verilog.specs.Layout.{items_text};
 ghost use Rattle.export_verilog.specs.Exported.{symbol_name, declared_as, instance_of, stated_as};
-ghost use Rattle.export_verilog.specs.ModuleNames.{AreModuleNames};
 ghost use Rattle.export_verilog.specs.NamedDesigns.{AreNamesOf, AreNamesWhere};
 ghost use Rattle.export_verilog.specs.RoleViews.{role_seen};
 ghost use Rattle.export_verilog.specs.ScopeModules.{scope_module};
 
 use crate::assigns::push_net;
-use crate::connections::push_instance;
+use crate::connections::{InstanceHead, push_instance};
 use crate::declarations::push_declared;
 use crate::legal_names::port_names;
-use crate::module_names::ModuleNames;
+use crate::module_writer::ModuleWriter;
 use crate::named_design::{NamedDesign, names_in};
 use crate::register_blocks::push_register;
 use crate::values::name_text;
@@ -29,30 +27,23 @@ use ir_store::body::Op;
 use ir_store::design::Port;
 use ir_store::operation::{OpId, Value};
 use std::alloc::{AllocError, Global};
-use verilog_expr::scope::Scope;
 
 /// Adds the declarations of an operation of a role, which stands at a place of the body (IEEE 1364-2005, 3.2: net and
-/// variable declarations). No value may have more than 128 bits. The error is want of memory, as with 2^32 results or more.
+/// variable declarations). The error is out of memory, as with 2^32 results or more.
 pub fn push_declarations(
+    writer: &ModuleWriter<'_>,
     out: &mut Text,
-    scope: &Scope<'_>,
-    names: &ModuleNames,
     id: OpId,
-    place: usize,
     op: &Op<'_>,
     role: Role,
 ) -> Result<(), AllocError>
-    requires small { AreSmall (scope_ports scope.now) (scope_ops scope.now) }
-    requires names { AreModuleNames (scope_module scope.now) names.now.ports.items names.now.values names.now.own.items }
-    requires there { slice_get (scope_ops scope.now) place ≡ Some (op_read scope.now op.now) }
-    requires id { position_of (scope_ids scope.now) id.index ≡ place }
-    ensures { OnOk result (out.new ≡ out.old ++ items_text (declared_as (scope_module scope.now) place (op_read scope.now op.now) (role_seen role)) []) }
+    requires { slice_get (scope_ops writer.now.scope) (position_of (scope_ids writer.now.scope) id.index) ≡ Some (op_read writer.now.scope op.now) }
+    ensures { OnOk result (out.new ≡ out.old ++ items_text (declared_as (scope_module writer.now.scope) (position_of (scope_ids writer.now.scope) id.index) (op_read writer.now.scope op.now) (role_seen role)) []) }
 {
-    let _ = place;
     let Ok(count) = u32::try_from(op.results.len()) else {
         return Err(AllocError);
     };
-    push_declared(out, scope, &names.values, id, count, role)?;
+    push_declared(writer, out, id, count, role)?;
     Ok(())
 }
 
@@ -111,70 +102,61 @@ fn chosen_names<'a>(called: &Callee<'a>, made: &'a [Text]) -> &'a [Text]
 // Adds the instance that an operation is, where it is one.
 #[tactic(auto, unfolding(crate::specs::Layout::items_text))]
 fn push_call(
-    alloc: Global,
+    writer: &ModuleWriter<'_>,
     out: &mut Text,
-    all: &NamedDesign<'_>,
-    scope: &Scope<'_>,
-    names: &ModuleNames,
     id: OpId,
     place: usize,
     op: &Op<'_>,
 ) -> Result<(), AllocError>
-    requires small { AreSmall (scope_ports scope.now) (scope_ops scope.now) }
-    requires names { AreModuleNames (scope_module scope.now) names.now.ports.items names.now.values names.now.own.items }
-    requires there { slice_get (scope_ops scope.now) place ≡ Some (op_read scope.now op.now) }
-    requires id { position_of (scope_ids scope.now) id.index ≡ place }
-    ensures { OnOk result (out.new ≡ out.old ++ items_text (instance_of (design_of all.now.design.now) (scope_module scope.now) place (op_read scope.now op.now) (instance_in (kind_of op.now.kind.now))) []) }
+    requires there { slice_get (scope_ops writer.now.scope) place ≡ Some (op_read writer.now.scope op.now) }
+    requires id { position_of (scope_ids writer.now.scope) id.index ≡ place }
+    ensures { OnOk result (out.new ≡ out.old ++ items_text (instance_of (design_of writer.now.design.now.design.now) (scope_module writer.now.scope) place (op_read writer.now.scope op.now) (instance_in (kind_of op.now.kind.now))) []) }
 {
     if let OpKind::Instance(instance) = op.kind {
-        let called = callee_of(all, instance.symbol.as_bytes());
-        let made = made_names(alloc, &called)?;
+        let called = callee_of(writer.design, instance.symbol.as_bytes());
+        let made = made_names(writer.alloc, &called)?;
         let port_names = chosen_names(&called, made.as_slice());
+        let head = InstanceHead {
+            module: called.symbol,
+            name: writer.names.own[place].as_bytes(),
+        };
         push_instance(
-            alloc,
+            writer,
             out,
-            scope,
-            &names.values,
             id,
             op.operands,
             called.ports,
             port_names,
-            called.symbol,
-            names.own[place].as_bytes(),
+            &head,
         )?;
     }
     Ok(())
 }
 
 /// Adds the statements of an operation of a role, which stands at a place of the body: an assignment, an `always` block or
-/// an instance. No value may have more than 128 bits. The error is want of memory.
+/// an instance. The error is out of memory.
 #[tactic(auto, unfolding(crate::specs::Layout::items_text))]
 pub fn push_statements(
-    alloc: Global,
+    writer: &ModuleWriter<'_>,
     out: &mut Text,
-    all: &NamedDesign<'_>,
-    scope: &Scope<'_>,
-    names: &ModuleNames,
     id: OpId,
     place: usize,
     op: &Op<'_>,
     role: Role,
 ) -> Result<(), AllocError>
-    requires small { AreSmall (scope_ports scope.now) (scope_ops scope.now) }
-    requires names { AreModuleNames (scope_module scope.now) names.now.ports.items names.now.values names.now.own.items }
-    requires there { slice_get (scope_ops scope.now) place ≡ Some (op_read scope.now op.now) }
-    requires id { position_of (scope_ids scope.now) id.index ≡ place }
-    ensures { OnOk result (out.new ≡ out.old ++ items_text (stated_as (design_of all.now.design.now) (scope_module scope.now) place (op_read scope.now op.now) (role_seen role)) []) }
+    requires there { slice_get (scope_ops writer.now.scope) place ≡ Some (op_read writer.now.scope op.now) }
+    requires id { position_of (scope_ids writer.now.scope) id.index ≡ place }
+    ensures { OnOk result (out.new ≡ out.old ++ items_text (stated_as (design_of writer.now.design.now.design.now) (scope_module writer.now.scope) place (op_read writer.now.scope op.now) (role_seen role)) []) }
 {
     let value = Value::Result(id, 0);
     match role {
         Role::Hidden => {}
-        Role::Net => push_net(alloc, out, scope, &names.values, value)?,
+        Role::Net => push_net(writer, out, value)?,
         Role::Variable => {
-            let name = name_text(scope, &names.values, value);
-            push_register(alloc, out, scope, &names.values, name, op)?;
+            let name = name_text(writer, value);
+            push_register(writer, out, name, op)?;
         }
-        Role::Block => push_call(alloc, out, all, scope, names, id, place, op)?,
+        Role::Block => push_call(writer, out, id, place, op)?,
     }
     Ok(())
 }

@@ -14,6 +14,7 @@ use Rattle.ir_store.specs.Bodies.{ids_of, ops_of, op_id, read_op}
 use Rattle.ir_store.specs.Numbered.{position_of, op_by, numbered}
 use Rattle.ir_store.proofs.BodyLemmas.{ids_once}
 use Rattle.ir_store.proofs.IdLemmas.{contained_times}
+use Rattle.ir_store.proofs.PositionTables.{index_at, ids_same, position_found}
 
 -- ---- the operation of an id that stands once
 
@@ -94,3 +95,14 @@ module _ (b : Body) (ids : List OpId) (all : ids ≡ map op_id (ids_of b)) (j : 
       let once : op_at (ops_of b) there.0.id ≡ Some there.0 = op_once (ops_of b) j there.0 there.1 (ids_once b there.0.id) in
       let same : Some there.0 ≡ Some (read_op (get_or ids j (op_id 0)) o) = sym once ∙ ap (op_at (ops_of b)) (sym index) ∙ found in
       slice_get-map (op_by (position_of (ids_of b))) (ops_of b) j ∙ ap (option_map (op_by (position_of (ids_of b)))) (there.1 ∙ same)
+
+  pub position_at : position_of (ids_of b) (get_or ids j (op_id 0)).index ≡ j
+  position_at =
+      let same = ids_same ids (ids_of b) all in
+      let there : slice_get (ids_of b) j ≡ Some (get_or ids j (op_id 0)).index = sym (ap (λ (l : List ℕ). slice_get l j) same) ∙ index_at ids j (op_id 0) within in
+      position_found (ids_of b) (get_or ids j (op_id 0)).index j (ids_once b) there
+
+-- as many ids as operations
+pub ids_numbered : (b : Body) (ids : List OpId) → ids ≡ map op_id (ids_of b) → length ids ≡ length (numbered (ops_of b))
+ids_numbered b ids all =
+    ap length all ∙ length-map (ids_of b) op_id ∙ length-map (ops_of b) (λ (o : BodyOp). o.id) ∙ sym (length-map (ops_of b) (op_by (position_of (ids_of b))))

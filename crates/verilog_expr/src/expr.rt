@@ -4,7 +4,6 @@ ghost use Rattle.verilog_expr.specs.Building.{no_expr};
 ghost use Rattle.verilog_expr.specs.Expressions.{own_expr};
 ghost use Rattle.verilog_expr.specs.Text.{expr_text};
 ghost use Rattle.verilog_expr.specs.Scopes.{scope_ports, scope_ops, scope_ref};
-ghost use Rattle.verilog_expr.specs.Marks.{AreSmall};
 ghost use Rattle.verilog_expr.specs.Forms.{wanted, form_text};
 ghost use Rattle.verilog_expr.specs.Rows.{row_text};
 ghost use Rattle.verilog_expr.specs.Made.{expr_at, exprs_at, select_text, shown_values};
@@ -72,8 +71,7 @@ fn push_value(
     level: u8,
     depth: usize,
 ) -> Result<(), AllocError>
-    requires small { AreSmall (scope_ports scope.now) (scope_ops scope.now) }
-    requires low { level < 12 }
+    requires { level < 12 }
     ensures { OnOk result (out.new ≡ out.old ++ expr_text (wanted unsigned level (expr_at scope.now names.now depth value)) []) }
 {
     let wrap = wrap_for(unsigned, level, &look_at(scope, names, value, depth));
@@ -92,7 +90,6 @@ fn push_bare(
     value: Value,
     depth: usize,
 ) -> Result<(), AllocError>
-    requires { AreSmall (scope_ports scope.now) (scope_ops scope.now) }
     ensures { OnOk result (out.new ≡ out.old ++ expr_text (expr_at scope.now names.now depth value) []) }
 {
     if depth == 0 {
@@ -118,7 +115,6 @@ fn push_row(
     operands: &[Value],
     depth: usize,
 ) -> Result<(), AllocError>
-    requires { AreSmall (scope_ports scope.now) (scope_ops scope.now) }
     ensures { OnOk result (out.new ≡ out.old ++ row_text row (exprs_at scope.now names.now depth operands.now)) }
 {
     match row {
@@ -144,7 +140,6 @@ fn push_form(
     operands: &[Value],
     depth: usize,
 ) -> Result<(), AllocError>
-    requires { AreSmall (scope_ports scope.now) (scope_ops scope.now) }
     ensures { OnOk result (out.new ≡ out.old ++ form_text form 0 (exprs_at scope.now names.now depth operands.now)) }
 {
     for (i, operand) in operands.iter().enumerate() {
@@ -186,7 +181,6 @@ impl Expr {
         names: &ValueNames,
         value: Value,
     ) -> Result<Expr, AllocError>
-        requires { AreSmall (scope_ports scope.now) (scope_ops scope.now) }
         ensures { IfOk result (λ e. e.text ≡ expr_text (expr_to (named_of names.now) (scope_ports scope.now) (scope_ops scope.now) (suc height_limit) (scope_ref scope.now value)) []) }
     {
         let mut text = Text::new(alloc);
@@ -202,7 +196,6 @@ impl Expr {
         names: &ValueNames,
         value: Value,
     ) -> Result<Expr, AllocError>
-        requires { AreSmall (scope_ports scope.now) (scope_ops scope.now) }
         ensures { IfOk result (λ e. e.text ≡ expr_text (own_expr (named_of names.now) (scope_ports scope.now) (scope_ops scope.now) (λ r. expr_to (named_of names.now) (scope_ports scope.now) (scope_ops scope.now) (suc height_limit) r) (scope_ref scope.now value)) []) }
     {
         let mut text = Text::new(alloc);

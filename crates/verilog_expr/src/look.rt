@@ -3,7 +3,6 @@ ghost use Rattle.std.specs.Prelude.{◌≡◌, ◌++◌, [], option_map, false, 
 ghost use Rattle.verilog_model.specs.Grammar.{level};
 ghost use Rattle.verilog_model.specs.Expression.{is_signed};
 ghost use Rattle.verilog_expr.specs.Scopes.{scope_ports, scope_ops};
-ghost use Rattle.verilog_expr.specs.Marks.{AreSmall};
 ghost use Rattle.verilog_expr.specs.Rows.{row_signed, row_level, form_signed, form_level};
 ghost use Rattle.verilog_expr.specs.Made.{expr_at, exprs_at, sole_name, IsOnly, name_of_one, wrap_for, open_text, close_text};
 
@@ -72,7 +71,6 @@ pub(crate) fn look_at<'n>(
     value: Value,
     depth: usize,
 ) -> Look<'n>
-    requires { AreSmall (scope_ports scope.now) (scope_ops scope.now) }
     ensures name { option_map (λ n. n.now) result.name ≡ sole_name (expr_at scope.now names.now depth value) }
     ensures signed { result.is_signed ≡ is_signed (expr_at scope.now names.now depth value) }
     ensures level { result.level ≡ level (expr_at scope.now names.now depth value) }
@@ -136,7 +134,6 @@ pub(crate) fn only_name<'n>(
     operands: &[Value],
     depth: usize,
 ) -> Option<&'n [u8]>
-    requires { AreSmall (scope_ports scope.now) (scope_ops scope.now) }
     ensures { option_map (λ n. n.now) result ≡ name_of_one (exprs_at scope.now names.now depth operands.now) }
 {
     match operands {

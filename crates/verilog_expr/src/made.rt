@@ -5,7 +5,6 @@ ghost use Rattle.ir_store.specs.Bodies.{op_id, read_op};
 ghost use Rattle.ir_store.specs.Numbered.{op_by};
 ghost use Rattle.verilog_expr.specs.Expressions.{constant_of, divisor_in, op_at};
 ghost use Rattle.verilog_expr.specs.Scopes.{scope_ports, scope_ops, scope_ref, op_read};
-ghost use Rattle.verilog_expr.specs.Marks.{AreSmall};
 ghost use Rattle.verilog_expr.specs.Made.{IsMade, IsResultOf, head_width};
 ghost use Rattle.verilog_expr.specs.declared.row.Row.TheVariants.{Missing};
 
@@ -51,7 +50,6 @@ fn divisor_in(scope: &Scope<'_>, operands: &[Value], width: u64) -> u128
 
 // The bits of the first of operands, or 0.
 fn head_width(scope: &Scope<'_>, operands: &[Value]) -> u64
-    requires { AreSmall (scope_ports scope.now) (scope_ops scope.now) }
     ensures { result ≡ head_width (scope_ports scope.now) (scope_ops scope.now) (map (scope_ref scope.now) operands.now) }
 {
     match operands.first() {
@@ -62,7 +60,6 @@ fn head_width(scope: &Scope<'_>, operands: &[Value]) -> u64
 
 /// The row of a value's own operation, and its operands.
 pub(crate) fn made_at<'m>(scope: &Scope<'m>, value: Value) -> Made<'m>
-    requires { AreSmall (scope_ports scope.now) (scope_ops scope.now) }
     ensures { IsMade scope.now (scope_ref scope.now value) result.row result.operands.now }
 {
     let Value::Result(id, number) = value else {
@@ -94,8 +91,7 @@ fn has_result(op: &Op<'_>, number: u32) -> bool
 
 // The row of a result of an operation, and the operands.
 fn made_of<'m>(scope: &Scope<'m>, op: &Op<'m>, number: u32, value: Value) -> Made<'m>
-    requires small { AreSmall (scope_ports scope.now) (scope_ops scope.now) }
-    requires there { IsResultOf scope.now (op_read scope.now op.now) number (scope_ref scope.now value) }
+    requires { IsResultOf scope.now (op_read scope.now op.now) number (scope_ref scope.now value) }
     ensures { IsMade scope.now (scope_ref scope.now value) result.row result.operands.now }
 {
     let _ = value;

@@ -7,7 +7,7 @@ ghost use Rattle.hw_model.specs.KindViews.{kind_of};
 ghost use Rattle.verilog_expr.specs.Spilling.{is_narrower};
 ghost use Rattle.verilog_expr.specs.Expressions.{value_width};
 ghost use Rattle.verilog_expr.specs.Scopes.{scope_ports, scope_ops, scope_ref};
-ghost use Rattle.verilog_expr.specs.Marks.{AreSmall, AreMarks, mark_at, noted, one_use, after_operands};
+ghost use Rattle.verilog_expr.specs.Marks.{AreMarks, mark_at, noted, one_use, after_operands};
 
 use crate::scope::{Scope, result_width};
 use hw_model::kinds::OpKind;
@@ -60,7 +60,6 @@ fn noted(mark: Mark, cut: bool, joined: bool) -> Mark
 
 // Notes one use of a value by an operation with a result of so many bits.
 fn mark_value(scope: &Scope<'_>, value: Value, kind: &OpKind, width: u64, marks: &mut [Mark])
-    requires small { AreSmall (scope_ports scope.now) (scope_ops scope.now) }
     requires count { length marks.old ≡ length (scope_ops scope.now) }
     requires few { (i : ℕ) → (mark_at marks.old i).uses < 3 }
     ensures marks { (i : ℕ) → i < length marks.old → mark_at marks.new i ≡ one_use (result_of i 0) (is_narrower (kind_of kind.now) width (value_width (scope_ports scope.now) (scope_ops scope.now) (result_of i 0))) (is_some (instance_in (kind_of kind.now))) (scope_ref scope.now value) (mark_at marks.old i) }
@@ -80,7 +79,6 @@ fn mark_operands(
     width: u64,
     marks: &mut [Mark],
 )
-    requires small { AreSmall (scope_ports scope.now) (scope_ops scope.now) }
     requires count { length marks.old ≡ length (scope_ops scope.now) }
     requires few { (i : ℕ) → (mark_at marks.old i).uses < 3 }
     ensures marks { (i : ℕ) → i < length marks.old → mark_at marks.new i ≡ after_operands (result_of i 0) (is_narrower (kind_of kind.now) width (value_width (scope_ports scope.now) (scope_ops scope.now) (result_of i 0))) (is_some (instance_in (kind_of kind.now))) (map (scope_ref scope.now) operands.now) (mark_at marks.old i) }
@@ -93,7 +91,6 @@ fn mark_operands(
 
 /// The mark of each operation's first result, by its position.
 pub fn marks_of(alloc: Global, scope: &Scope<'_>) -> Result<Vec<Mark>, AllocError>
-    requires { AreSmall (scope_ports scope.now) (scope_ops scope.now) }
     ensures count { IfOk result (λ ms. length ms.items ≡ length (scope_ops scope.now)) }
     ensures marks { IfOk result (λ ms. AreMarks (scope_ports scope.now) (scope_ops scope.now) ms.items) }
 {

@@ -3,10 +3,11 @@ ghost use Rattle.std.specs.Prelude.{◌≡◌, ◌<◌, length, map, min, option
 ghost use Rattle.hw_model.specs.Design.{result_type};
 ghost use Rattle.hw_model.specs.Flat.{width_of};
 ghost use Rattle.hw_model.specs.Sound.{input_type};
-ghost use Rattle.ir_store.specs.Designs.{port_of};
+ghost use Rattle.ir_store.specs.Designs.{port_of, ports_in};
 ghost use Rattle.ir_store.specs.Bodies.{ids_of, ops_of, op_id, read_op};
 ghost use Rattle.ir_store.specs.Numbered.{position_of, op_by, numbered};
 ghost use Rattle.ir_store.specs.PositionTables.{ArePositions};
+ghost use Rattle.verilog_expr.specs.Marks.{AreSmall};
 
 use ir_store::body::{Body, Op};
 use ir_store::design::{Port, PortList};
@@ -25,6 +26,7 @@ pub struct Scope<'m> {
     positions: Vec<u32>,
     ghost all: { ids.items ≡ map op_id (ids_of body.now) },
     ghost known: { ArePositions (ids_of body.now) positions.items },
+    ghost small: { AreSmall (ports_in ports.now) (numbered (ops_of body.now)) },
 }
 
 impl<'m> Scope<'m> {
@@ -33,11 +35,13 @@ impl<'m> Scope<'m> {
     ghost use Rattle.ir_store.specs.Designs.{ports_in};
     ghost use Rattle.ir_store.specs.Numbered.{position_of, numbered};
     ghost use Rattle.verilog_expr.specs.Expressions.{value_width};
-    ghost use Rattle.verilog_expr.specs.Marks.{first_place, AreSmall};
-    ghost use Rattle.verilog_expr.specs.Scopes.{scope_ports, scope_ops, scope_ref, op_read};
+    ghost use Rattle.verilog_expr.specs.Marks.{first_place};
+    ghost use Rattle.verilog_expr.specs.Scopes.{scope_ports, scope_ops, scope_ids, scope_ref, op_read};
 
-    /// A body with its ports. One of 2^32 operations or more wants more memory than there is.
+    /// A body with its ports, in which no value has more than 128 bits. One of 2^32 operations or more wants more memory than
+    /// there is.
     pub fn of(alloc: Global, ports: &'m PortList, body: &'m Body) -> Result<Scope<'m>, AllocError>
+        requires small { AreSmall (ports_in ports.now) (numbered (ops_of body.now)) }
         ensures ports { IfOk result (λ s. ports_in s.ports.now ≡ ports_in ports.now) }
         ensures ops { IfOk result (λ s. numbered (ops_of s.body.now) ≡ numbered (ops_of body.now)) }
         ensures ids { IfOk result (λ s. ids_of s.body.now ≡ ids_of body.now) }
@@ -65,6 +69,14 @@ impl<'m> Scope<'m> {
         ensures { slice_get (scope_ops self.now) position ≡ Some (op_read self.now result) }
     {
         op_in(self.body, self.ids.as_slice(), position)
+    }
+
+    /// The id of the operation at a position.
+    pub fn id_at(&self, position: usize) -> OpId
+        requires { position < length (scope_ops self.now) }
+        ensures { position_of (scope_ids self.now) result.index ≡ position }
+    {
+        self.ids[position]
     }
 
     /// The position of the operation of an id; of one that is not there, the number of operations.
@@ -112,7 +124,6 @@ impl<'m> Scope<'m> {
 
     /// The bits of a value.
     pub fn width(&self, value: Value) -> u64
-        requires { AreSmall (scope_ports self.now) (scope_ops self.now) }
         ensures { result ≡ value_width (scope_ports self.now) (scope_ops self.now) (scope_ref self.now value) }
     {
         match value {

@@ -22,15 +22,13 @@ pub struct Wires {
 impl Wires {
     ghost use Rattle.std.specs.Prelude.{◌≡◌, ◌<◌, false, slice_index_or, IfOk};
     ghost use Rattle.wiring.specs.Wiring.{IsAcyclic};
-    ghost use Rattle.verilog_expr.specs.Marks.{AreSmall};
     ghost use Rattle.verilog_expr.specs.Spilling.{inner_needs};
     ghost use Rattle.verilog_expr.specs.Scopes.{scope_ports, scope_ops};
     ghost use Rattle.verilog_expr.specs.PartTables.{AreWires};
 
     /// Which values of a body have wires. No value may need itself through pure operations. The error is out of memory.
     pub fn of(alloc: Global, scope: &Scope<'_>) -> Result<Wires, AllocError>
-        requires small { AreSmall (scope_ports scope.now) (scope_ops scope.now) }
-        requires acyclic { IsAcyclic (inner_needs (scope_ops scope.now)) }
+        requires { IsAcyclic (inner_needs (scope_ops scope.now)) }
         ensures { IfOk result (λ w. AreWires (scope_ports scope.now) (scope_ops scope.now) w.wires.items) }
     {
         let marks = marks_of(alloc, scope)?;

@@ -12,8 +12,8 @@ use Rattle.export_verilog.proofs.assigns.push_net.Goals as goal
 
 pub returns : goal.returns
 returns c =
-    let s = c.args.scope.now in
-    let v = c.args.names.now in
+    let s = c.args.writer.now.scope in
+    let v = c.args.writer.now.names.values in
     let r = scope_ref s c.args.value in
     let n = name_or_nothing (named_of v r) in
     c.in_ok-push_assign.ensures ∙ ap (λ x. c.args.out.now ++ item_text (assign x (written c.as_bytes.result.now)) []) c.name_text-name.ensures

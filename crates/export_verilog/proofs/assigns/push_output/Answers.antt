@@ -10,8 +10,8 @@ use Rattle.export_verilog.proofs.assigns.push_output.Goals as goal
 
 pub returns : goal.returns
 returns c =
-    let s = c.args.scope.now in
-    let v = c.args.names.now in
+    let s = c.args.writer.now.scope in
+    let v = c.args.writer.now.names.values in
     c.in_ok-push_assign.ensures
     ∙ ap (λ x. c.args.out.now ++ item_text (assign c.args.name.now (written x)) []) (c.as_bytes.ensures ∙ c.in_ok-text.ensures)
     ∙ ap (λ x. c.args.out.now ++ x) (assign_same c.args.name.now (expr_or_none (value_expr s v) (map (scope_ref s) (drop c.args.number c.args.operands.now))) [])

@@ -13,10 +13,10 @@ use Rattle.export_verilog.proofs.connections.push_connections.Given as goal
 
 abbrev pub invariant-loop-j : goal.invariant-loop-j
 invariant-loop-j l = record {
-  bytes : l.out ++ joined_left port_of (scope_ref l.scope) (value_expr l.scope l.names) (λ k. name_or_nothing (named_of l.names (result (position_of (scope_ids l.scope) l.id.index) k)))
+  bytes : l.out ++ joined_left port_of (scope_ref l.writer.scope) (value_expr l.writer.scope l.writer.names.values) (λ k. name_or_nothing (named_of l.writer.names.values (result (position_of (scope_ids l.writer.scope) l.id.index) k)))
       l.port_names l.ports l.operands l.j l.results l.inputs
-      ≡ l.initial.out ++ connections_left (joined (value_expr l.scope l.names) (λ k. name_or_nothing (named_of l.names (result (position_of (scope_ids l.scope) l.id.index) k)))
-      0 l.port_names (map port_of l.ports) (map (scope_ref l.scope) l.operands)) [];
+      ≡ l.initial.out ++ connections_left (joined (value_expr l.writer.scope l.writer.names.values) (λ k. name_or_nothing (named_of l.writer.names.values (result (position_of (scope_ids l.writer.scope) l.id.index) k)))
+      0 l.port_names (map port_of l.ports) (map (scope_ref l.writer.scope) l.operands)) [];
   results : l.results ≤ l.j;
   inputs : l.inputs ≤ l.j;
 }

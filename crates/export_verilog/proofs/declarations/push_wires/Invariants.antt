@@ -6,5 +6,5 @@ use Rattle.export_verilog.proofs.declarations.push_wires.Given as goal
 
 abbrev pub invariant-loop-number : goal.invariant-loop-number
 invariant-loop-number l =
-    let i = position_of (scope_ids l.scope) l.id.index in
-    l.out ++ wires_left l.scope l.names i l.number l.count ≡ l.initial.out ++ wires_left l.scope l.names i 0 l.count
+    let i = position_of (scope_ids l.writer.scope) l.id.index in
+    l.out ++ wires_left l.writer.scope l.writer.names.values i l.number l.count ≡ l.initial.out ++ wires_left l.writer.scope l.writer.names.values i 0 l.count

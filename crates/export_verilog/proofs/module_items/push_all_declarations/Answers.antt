@@ -1,27 +1,24 @@
-use Rattle.std.proofs.Common.{◌≡◌, ◌<◌, ◌++◌, length, ap, ◌∙◌, arith}
+use Rattle.std.specs.Prelude.{[]}
+use Rattle.std.proofs.Common.{◌≡◌, ◌<◌, ◌++◌, length, slice_get, ap, ◌∙◌, arith}
 use Rattle.hw_model.specs.KindViews.{kind_of}
 use Rattle.verilog_expr.specs.Scopes.{scope_ports, scope_ops, op_read}
 use Rattle.export_verilog.specs.Keys.{role_of}
 use Rattle.export_verilog.specs.RoleViews.{role_seen}
 use Rattle.export_verilog.specs.Held.{role_by}
 use Rattle.export_verilog.specs.Exported.{declares, declared_as}
+use Rattle.export_verilog.specs.Layout.{items_text}
 use Rattle.export_verilog.specs.ScopeModules.{scope_module}
-use Rattle.export_verilog.proofs.ItemLists.{each_left, each_step, each_end, id_place}
+use Rattle.export_verilog.proofs.ItemLists.{each_left, each_step, each_end}
 use Rattle.export_verilog.proofs.module_items.push_all_declarations.Goals as goal
 
 pub push_declarations-requires : goal.push_declarations-requires
 push_declarations-requires c =
-    let s = c.args.scope.now in
-    record {
-      small = c.requires.small;
-      names = c.requires.names;
-      there = c.op_at-op.ensures;
-      id = id_place s.body.now c.args.ids.now c.loop-place.place c.requires.ids (omega (arith, c.loop-place-test.true, c.count-place-end.ensures));
-    }
+    let s = c.args.writer.now.scope in
+    ap (slice_get (scope_ops s)) c.id_at.ensures ∙ c.op_at-op.ensures
 
 pub loop-place-preserved : goal.loop-place-preserved
 loop-place-preserved c =
-    let s = c.args.scope.now in
+    let s = c.args.writer.now.scope in
     let m = scope_module s in
     let O = scope_ops s in
     let i = c.loop-place.place in
@@ -29,12 +26,12 @@ loop-place-preserved c =
     let x = op_read s o in
     let r = role_seen c.role_of-role.result in
     let lt : i < length O = omega (arith, c.loop-place-test.true, c.count-place-end.ensures) in
-    let role : r ≡ role_of (scope_ports s) O i x = c.role_of-role.ensures ∙ ap (λ b. role_by b (kind_of o.kind.now)) (c.has_wire.ensures ∙ c.requires.wires i lt) in
+    let role : r ≡ role_of (scope_ports s) O i x = c.role_of-role.ensures ∙ ap (λ b. role_by b (kind_of o.kind.now)) (c.has_wire.ensures ∙ c.args.writer.now.wires_are i lt) in
     each_step (declares m) O i x (declared_as m i x r) c.loop-place.out c.push_declarations.new.out (c.args.out.now ++ each_left (declares m) O 0) c.op_at-op.ensures
-    (ap (declared_as m i x) role) c.in_ok-push_declarations.ensures c.loop-place.invariant
+    (ap (declared_as m i x) role) (c.in_ok-push_declarations.ensures ∙ ap (λ j. c.loop-place.out ++ items_text (declared_as m j x r) []) c.id_at.ensures) c.loop-place.invariant
 
 pub returns : goal.returns
 returns c =
-    let s = c.args.scope.now in
+    let s = c.args.writer.now.scope in
     let f = declares (scope_module s) in
     each_end f (scope_ops s) c.loop-place.place c.loop-place.out (c.args.out.now ++ each_left f (scope_ops s) 0) (omega (arith, c.loop-place-test.false, c.count-place-end.ensures)) c.loop-place.invariant

@@ -7,5 +7,5 @@ use Rattle.export_verilog.proofs.module_items.push_all_declarations.Given as goa
 
 abbrev pub invariant-loop-place : goal.invariant-loop-place
 invariant-loop-place l =
-    let m = scope_module l.scope in
-    l.out ++ each_left (declares m) (scope_ops l.scope) l.place ≡ l.initial.out ++ each_left (declares m) (scope_ops l.scope) 0
+    let m = scope_module l.writer.scope in
+    l.out ++ each_left (declares m) (scope_ops l.writer.scope) l.place ≡ l.initial.out ++ each_left (declares m) (scope_ops l.writer.scope) 0

@@ -7,23 +7,16 @@ use Rattle.export_verilog.specs.RoleViews.{role_seen}
 use Rattle.export_verilog.specs.Held.{role_by}
 use Rattle.export_verilog.specs.Exported.{states, stated_as}
 use Rattle.export_verilog.specs.ScopeModules.{scope_module}
-use Rattle.export_verilog.proofs.ItemLists.{each_left, each_step, each_end, id_place}
+use Rattle.export_verilog.proofs.ItemLists.{each_left, each_step, each_end}
 use Rattle.export_verilog.proofs.module_items.push_all_statements.Goals as goal
 
 pub push_statements-requires : goal.push_statements-requires
-push_statements-requires c =
-    let s = c.args.scope.now in
-    record {
-      small = c.requires.small;
-      names = c.requires.names;
-      there = c.op_at-op.ensures;
-      id = id_place s.body.now c.args.ids.now c.loop-place.place c.requires.ids (omega (arith, c.loop-place-test.true, c.count-place-end.ensures));
-    }
+push_statements-requires c = record { there = c.op_at-op.ensures; id = c.id_at.ensures }
 
 pub loop-place-preserved : goal.loop-place-preserved
 loop-place-preserved c =
-    let s = c.args.scope.now in
-    let d = design_of c.args.all.now.design.now in
+    let s = c.args.writer.now.scope in
+    let d = design_of c.args.writer.now.design.now.design.now in
     let m = scope_module s in
     let O = scope_ops s in
     let i = c.loop-place.place in
@@ -31,12 +24,12 @@ loop-place-preserved c =
     let x = op_read s o in
     let r = role_seen c.role_of-role.result in
     let lt : i < length O = omega (arith, c.loop-place-test.true, c.count-place-end.ensures) in
-    let role : r ≡ role_of (scope_ports s) O i x = c.role_of-role.ensures ∙ ap (λ b. role_by b (kind_of o.kind.now)) (c.has_wire.ensures ∙ c.requires.wires i lt) in
+    let role : r ≡ role_of (scope_ports s) O i x = c.role_of-role.ensures ∙ ap (λ b. role_by b (kind_of o.kind.now)) (c.has_wire.ensures ∙ c.args.writer.now.wires_are i lt) in
     each_step (states d m) O i x (stated_as d m i x r) c.loop-place.out c.push_statements.new.out (c.args.out.now ++ each_left (states d m) O 0) c.op_at-op.ensures
     (ap (stated_as d m i x) role) c.in_ok-push_statements.ensures c.loop-place.invariant
 
 pub returns : goal.returns
 returns c =
-    let s = c.args.scope.now in
-    let f = states (design_of c.args.all.now.design.now) (scope_module s) in
+    let s = c.args.writer.now.scope in
+    let f = states (design_of c.args.writer.now.design.now.design.now) (scope_module s) in
     each_end f (scope_ops s) c.loop-place.place c.loop-place.out (c.args.out.now ++ each_left f (scope_ops s) 0) (omega (arith, c.loop-place-test.false, c.count-place-end.ensures)) c.loop-place.invariant

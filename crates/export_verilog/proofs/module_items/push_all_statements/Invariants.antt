@@ -8,5 +8,5 @@ use Rattle.export_verilog.proofs.module_items.push_all_statements.Given as goal
 
 abbrev pub invariant-loop-place : goal.invariant-loop-place
 invariant-loop-place l =
-    let f = states (design_of l.all.design.now) (scope_module l.scope) in
-    l.out ++ each_left f (scope_ops l.scope) l.place ≡ l.initial.out ++ each_left f (scope_ops l.scope) 0
+    let f = states (design_of l.writer.design.now.design.now) (scope_module l.writer.scope) in
+    l.out ++ each_left f (scope_ops l.writer.scope) l.place ≡ l.initial.out ++ each_left f (scope_ops l.writer.scope) 0

@@ -18,20 +18,20 @@ use Rattle.export_verilog.proofs.module_items.push_outputs.Goals as goal
 
 pub loop-place-preserved : goal.loop-place-preserved
 loop-place-preserved c =
-    let s = c.args.scope.now in
+    let s = c.args.writer.now.scope in
     let m = scope_module s in
     let i = c.loop-place.place in
     let p = port_of c.index-ports-place.result in
     let whole = c.args.out.now ++ outputs_left m (scope_ref s) c.args.operands.now 0 0 in
     let at : slice_get m.ports i ≡ Some p =
-    sym (ap (λ ps. slice_get ps i) c.requires.ports) ∙ viewed port_of c.args.ports.now i c.index-ports-place.result (omega (arith, c.loop-place-test.true)) c.index-ports-place.is in
+    sym (ap (λ ps. slice_get ps i) c.args.writer.now.ports_are) ∙ viewed port_of c.args.writer.now.ports.now i c.index-ports-place.result (omega (arith, c.loop-place-test.true)) c.index-ports-place.is in
     elim c.if-ports-place.branch [
       | then-ports-place+in_ok-push_output w ↦
           record {
             bytes = rw (w.out-is, w.number-is) (outputs_assigned m (scope_ref s) c.args.operands.now i c.loop-place.number p c.loop-place.out whole at c.loop-place.invariant.bytes
-                w.as_bytes-name.result.now (value_expr s c.args.names.now.values) w.push_output.new.out (ap (λ (q : Port). q.out) c.index-ports-place.is ∙ w.if-ports-place.true)
-                (w.as_bytes-name.ensures ∙ w.index.ensures ∙ get_or_from_slice_get c.args.names.now.ports.items i (key_text m (port_key i)) w.index.result.now (c.requires.names.ports_are i p at))
-                (expr_same (named_of c.args.names.now.values) (named m) (scope_ports s) (scope_ops s) c.requires.names.values_are (suc height_limit)) w.in_ok-push_output.ensures);
+                w.as_bytes-name.result.now (value_expr s c.args.writer.now.names.values) w.push_output.new.out (ap (λ (q : Port). q.out) c.index-ports-place.is ∙ w.if-ports-place.true)
+                (w.as_bytes-name.ensures ∙ w.index.ensures ∙ get_or_from_slice_get c.args.writer.now.names.ports.items i (key_text m (port_key i)) w.index.result.now (c.args.writer.now.names_are.ports_are i p at))
+                (expr_same (named_of c.args.writer.now.names.values) (named m) (scope_ports s) (scope_ops s) c.args.writer.now.names_are.values_are (suc height_limit)) w.in_ok-push_output.ensures);
             number = omega (arith, w.number-is, c.loop-place.invariant.number);
           }
       | else-ports-place w ↦
@@ -44,7 +44,7 @@ loop-place-preserved c =
 
 pub returns : goal.returns
 returns c =
-    let s = c.args.scope.now in
+    let s = c.args.writer.now.scope in
     outputs_end (scope_module s) (scope_ref s) c.args.operands.now c.loop-place.place c.loop-place.number c.loop-place.out
     (c.args.out.now ++ outputs_left (scope_module s) (scope_ref s) c.args.operands.now 0 0)
-    (omega (arith, c.loop-place-test.false, ap length c.requires.ports, length-map c.args.ports.now port_of)) c.loop-place.invariant.bytes
+    (omega (arith, c.loop-place-test.false, ap length c.args.writer.now.ports_are, length-map c.args.writer.now.ports.now port_of)) c.loop-place.invariant.bytes

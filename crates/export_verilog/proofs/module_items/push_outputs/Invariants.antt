@@ -6,8 +6,8 @@ use Rattle.export_verilog.proofs.module_items.push_outputs.Given as goal
 
 abbrev pub invariant-loop-place : goal.invariant-loop-place
 invariant-loop-place l =
-    let m = scope_module l.scope in
+    let m = scope_module l.writer.scope in
     record {
-      bytes : l.out ++ outputs_left m (scope_ref l.scope) l.operands l.place l.number ≡ l.initial.out ++ outputs_left m (scope_ref l.scope) l.operands 0 0;
+      bytes : l.out ++ outputs_left m (scope_ref l.writer.scope) l.operands l.place l.number ≡ l.initial.out ++ outputs_left m (scope_ref l.writer.scope) l.operands 0 0;
       number : l.number ≤ l.place;
     }

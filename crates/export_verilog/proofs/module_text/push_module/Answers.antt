@@ -1,33 +1,38 @@
-use Rattle.std.proofs.Common.{◌∙◌, map, sym, ap, subst}
-use Rattle.ir_store.specs.Designs.{modules_of, module_of, port_of}
+use Rattle.std.proofs.Common.{◌∙◌, map, refl, sym, ap, subst}
+use Rattle.ir_store.specs.Bodies.{ops_of}
+use Rattle.ir_store.specs.Designs.{modules_of, module_of, port_of, ports_in}
+use Rattle.ir_store.specs.Numbered.{numbered}
 use Rattle.verilog_expr.specs.Scopes.{scope_ports, scope_ops}
 use Rattle.export_verilog.specs.Written.{AreNarrow}
 use Rattle.export_verilog.proofs.StoredModules.{scope_writable, scope_text}
 use Rattle.export_verilog.proofs.module_text.push_module.Goals as goal
 
-pub of-requires-2-clause-small : goal.of-requires-2-clause-small
-of-requires-2-clause-small c =
-    (scope_writable (modules_of c.args.all.now.design.now) c.requires.writable c.args.number (module_of c.module-module.result.now) c.module-module.ensures
-    (scope_ports c.in_ok-scope.scope) (scope_ops c.in_ok-scope.scope) c.in_ok-scope.ensures.ports c.in_ok-scope.ensures.ops).small
+pub of-requires : goal.of-requires
+of-requires c =
+    let x = c.module-module.result.now in
+    (scope_writable (modules_of c.args.all.now.design.now) c.requires.writable c.args.number (module_of x) c.module-module.ensures
+    (ports_in x.ports) (numbered (ops_of x.body)) refl refl).small
 
-pub of-requires-2-clause-acyclic : goal.of-requires-2-clause-acyclic
-of-requires-2-clause-acyclic c =
+pub of-requires-2 : goal.of-requires-2
+of-requires-2 c =
     (scope_writable (modules_of c.args.all.now.design.now) c.requires.writable c.args.number (module_of c.module-module.result.now) c.module-module.ensures
     (scope_ports c.in_ok-scope.scope) (scope_ops c.in_ok-scope.scope) c.in_ok-scope.ensures.ports c.in_ok-scope.ensures.ops).acyclic
 
-pub push_under-requires-clause-small : goal.push_under-requires-clause-small
-push_under-requires-clause-small c =
-    (scope_writable (modules_of c.args.all.now.design.now) c.requires.writable c.args.number (module_of c.module-module.result.now) c.module-module.ensures
-    (scope_ports c.in_ok-scope.scope) (scope_ops c.in_ok-scope.scope) c.in_ok-scope.ensures.ports c.in_ok-scope.ensures.ops).small
+pub invariant_of-writer : goal.invariant_of-writer
+invariant_of-writer c = record {
+  wires_are = c.in_ok-wires.ensures;
+  names_are = c.in_ok-names.ensures;
+  ports_are = ap (map port_of) c.as_slice-ports.ensures.value ∙ sym c.in_ok-scope.ensures.ports;
+}
 
 pub returns : goal.returns
 returns c =
     scope_text (modules_of c.args.all.now.design.now) c.requires.writable c.args.number (module_of c.module-module.result.now) c.module-module.ensures
     (scope_ports c.in_ok-scope.scope) (scope_ops c.in_ok-scope.scope) c.in_ok-scope.ensures.ports c.in_ok-scope.ensures.ops
-    c.symbol_at-name.result.now c.args.out.now c.push_under.new.out c.symbol_at-name.ensures c.in_ok-push_under.ensures
+    c.symbol_at.result.now c.args.out.now c.push_under.new.out c.symbol_at.ensures c.push_under.ensures
 
-pub push_under-requires-clause-narrow : goal.push_under-requires-clause-narrow
-push_under-requires-clause-narrow c =
+pub push_under-requires : goal.push_under-requires
+push_under-requires c =
     subst AreNarrow (c.in_ok-scope.ensures.ports ∙ sym (ap (map port_of) c.as_slice-ports.ensures.value))
     (scope_writable (modules_of c.args.all.now.design.now) c.requires.writable c.args.number (module_of c.module-module.result.now) c.module-module.ensures
     (scope_ports c.in_ok-scope.scope) (scope_ops c.in_ok-scope.scope) c.in_ok-scope.ensures.ports c.in_ok-scope.ensures.ops).narrow

@@ -10,12 +10,12 @@ use Rattle.export_verilog.proofs.module_text.push_under.Goals as goal
 
 pub returns : goal.returns
 returns c =
-    let m = scope_module c.args.scope.now in
-    module_parts c.args.name.now (vports m) (vitems (design_of c.args.all.now.design.now) m)
+    let m = scope_module c.args.writer.now.scope in
+    module_parts c.args.name.now (vports m) (vitems (design_of c.args.writer.now.design.now.design.now) m)
     c.args.out.now c.push_bytes.new.self c.push_bytes-2.new.self c.push_ports.new.out c.push_items.new.out c.push_bytes-3.new.self
     c.in_ok-push_bytes.ensures.ok c.in_ok-push_bytes-2.ensures.ok
     (c.in_ok-push_ports.ensures
-    ∙ ap (λ ps. c.push_bytes-2.new.self ++ ports_text (ports_named c.as_slice.result.now ps) []) c.requires.ports
-    ∙ ap (λ ns. c.push_bytes-2.new.self ++ ports_text (ports_named ns (scope_ports c.args.scope.now)) []) c.as_slice.ensures.value
-    ∙ ap (λ ps. c.push_bytes-2.new.self ++ ports_text ps []) (named_ports m c.args.names.now.ports.items c.requires.names.many c.requires.names.ports_are))
+    ∙ ap (λ ps. c.push_bytes-2.new.self ++ ports_text (ports_named c.as_slice.result.now ps) []) c.args.writer.now.ports_are
+    ∙ ap (λ ns. c.push_bytes-2.new.self ++ ports_text (ports_named ns (scope_ports c.args.writer.now.scope)) []) c.as_slice.ensures.value
+    ∙ ap (λ ps. c.push_bytes-2.new.self ++ ports_text ps []) (named_ports m c.args.writer.now.names.ports.items c.args.writer.now.names_are.many c.args.writer.now.names_are.ports_are))
     c.in_ok-push_items.ensures c.in_ok-push_bytes-3.ensures.ok

@@ -10,8 +10,8 @@ use Rattle.export_verilog.proofs.register_blocks.push_parts.Goals as goal
 
 pub returns : goal.returns
 returns c =
-    let s = c.args.scope.now in
-    let v = c.args.names.now in
+    let s = c.args.writer.now.scope in
+    let v = c.args.writer.now.names.values in
     let enabled = λ (z : Option Value). option_map (used_text s v) (option_map (scope_ref s) z) in
     elim c.match-register.branch [
       | in-None+in_ok-push_reset-in-None w ↦

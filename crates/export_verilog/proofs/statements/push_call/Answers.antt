@@ -23,10 +23,10 @@ use Rattle.export_verilog.proofs.statements.push_call.Goals as goal
 pub returns-in_ok-push_instance : goal.returns-in_ok-push_instance
 unfolding items_text
 returns-in_ok-push_instance c =
-    let s = c.args.scope.now in
-    let v = c.args.names.now.values in
+    let s = c.args.writer.now.scope in
+    let v = c.args.writer.now.names.values in
     let m = scope_module s in
-    let d = design_of c.args.all.now.design.now in
+    let d = design_of c.args.writer.now.design.now.design.now in
     let i = c.args.place in
     let j = position_of (scope_ids s) c.args.id.index in
     let o = op_read s c.args.op.now in
@@ -35,11 +35,11 @@ returns-in_ok-push_instance c =
     let called = c.callee_of-called.result in
     let port_names = c.chosen_names-port_names.result.now in
     let own = c.as_bytes-in-Instance.result.now in
-    let values = c.requires.names.values_are in
+    let values = c.args.writer.now.names_are.values_are in
     let given : ℕ → Name = λ k. name_or_nothing (named_of v (result j k)) in
     let kind : instance_in (kind_of c.args.op.now.kind.now) ≡ Some x = ap (λ k. instance_in (kind_of k)) c.in-Instance.is ∙ ap (λ y. Some (instance_seen y)) (sym c.deref.ensures) in
     let own_is : own ≡ key_text m (instance_key i) =
-    c.as_bytes-in-Instance.ensures ∙ c.index.ensures ∙ get_or_from_slice_get c.args.names.now.own.items i (key_text m (instance_key i)) _ (c.requires.names.own_are i o x c.requires.there kind) in
+    c.as_bytes-in-Instance.ensures ∙ c.index.ensures ∙ get_or_from_slice_get c.args.writer.now.names.own.items i (key_text m (instance_key i)) _ (c.args.writer.now.names_are.own_are i o x c.requires.there kind) in
     let results : (k : ℕ) → given k ≡ key_text m (value_key i k) = λ k. ap (λ n. name_or_nothing (named_of v (result n k))) c.requires.id ∙ ap name_or_nothing (values (result i k)) in
     let joins : joined (value_expr s v) given 0 port_names (map port_of called.ports.now) o.operands ≡ connections_to (find_module d q) m i o =
     joined_same m i (value_expr s v) given (used_same s v values) results (find_module d q) o port_names (map port_of called.ports.now) c.callee_of-called.ensures.ports

@@ -12,21 +12,21 @@ use Rattle.export_verilog.proofs.statements.push_statements.Goals as goal
 pub returns-in_ok-push_net-in-Net : goal.returns-in_ok-push_net-in-Net
 unfolding items_text
 returns-in_ok-push_net-in-Net c =
-    let s = c.args.scope.now in
-    let d = design_of c.args.all.now.design.now in
+    let s = c.args.writer.now.scope in
+    let d = design_of c.args.writer.now.design.now.design.now in
     let i = c.args.place in
     let o = op_read s c.args.op.now in
     c.in_ok-push_net-in-Net.ensures
     ∙ ap (λ is. c.args.out.now ++ items_text is [])
-    (net_same s c.args.names.now.values c.requires.names.values_are d i (position_of (scope_ids s) c.args.id.index) o c.requires.id ∙ ap (λ r. stated_as d (scope_module s) i o (role_seen r)) (sym c.in-Net.is))
+    (net_same s c.args.writer.now.names.values c.args.writer.now.names_are.values_are d i (position_of (scope_ids s) c.args.id.index) o c.requires.id ∙ ap (λ r. stated_as d (scope_module s) i o (role_seen r)) (sym c.in-Net.is))
 
 pub returns-in_ok-push_register-in-Variable : goal.returns-in_ok-push_register-in-Variable
 returns-in_ok-push_register-in-Variable c =
-    let s = c.args.scope.now in
-    let d = design_of c.args.all.now.design.now in
+    let s = c.args.writer.now.scope in
+    let d = design_of c.args.writer.now.design.now.design.now in
     let i = c.args.place in
     let o = op_read s c.args.op.now in
     c.in_ok-push_register-in-Variable.ensures
     ∙ ap (λ is. c.args.out.now ++ items_text is [])
-    (variable_same s c.args.names.now.values c.requires.names.values_are d i (position_of (scope_ids s) c.args.id.index) o c.requires.id c.name_text-name.result.now c.name_text-name.ensures
+    (variable_same s c.args.writer.now.names.values c.args.writer.now.names_are.values_are d i (position_of (scope_ids s) c.args.id.index) o c.requires.id c.name_text-name.result.now c.name_text-name.ensures
     ∙ ap (λ r. stated_as d (scope_module s) i o (role_seen r)) (sym c.in-Variable.is))

@@ -43,4 +43,4 @@ push_value-returns t c =
     three c.args.out.now c.push_open.new.out c.push_bare.new.out c.push_close.new.out (open_text w) (expr_text e []) (close_text w)
     (c.in_ok-push_open.ensures ∙ ap (λ x. c.args.out.now ++ open_text x) same) c.in_ok-push_bare.ensures
     (c.in_ok-push_close.ensures ∙ ap (λ x. c.push_bare.new.out ++ close_text x) same)
-    ∙ ap (λ b. c.args.out.now ++ b) (wrapped c.args.unsigned c.args.level e c.requires.low)
+    ∙ ap (λ b. c.args.out.now ++ b) (wrapped c.args.unsigned c.args.level e c.requires)

@@ -10,7 +10,7 @@ divisor_in-divisor-requires c =
     omega (
       arith,
       c.result_width-width.ensures,
-      width_result (scope_ports c.args.scope.now) (scope_ops c.args.scope.now) c.requires.there.place c.args.number (op_read c.args.scope.now c.args.op.now) c.requires.there.there c.requires.small,
+      width_result (scope_ports c.args.scope.now) (scope_ops c.args.scope.now) c.requires.place c.args.number (op_read c.args.scope.now c.args.op.now) c.requires.there c.args.scope.now.small,
     )
 
 pub row_for-requires : goal.row_for-requires
@@ -18,14 +18,14 @@ row_for-requires c =
     omega (
       arith,
       c.result_width-width.ensures,
-      width_result (scope_ports c.args.scope.now) (scope_ops c.args.scope.now) c.requires.there.place c.args.number (op_read c.args.scope.now c.args.op.now) c.requires.there.there c.requires.small,
+      width_result (scope_ports c.args.scope.now) (scope_ops c.args.scope.now) c.requires.place c.args.number (op_read c.args.scope.now c.args.op.now) c.requires.there c.args.scope.now.small,
     )
 
 pub returns : goal.returns
 returns c =
     let o = op_read c.args.scope.now c.args.op.now in
-    let small = width_result (scope_ports c.args.scope.now) (scope_ops c.args.scope.now) c.requires.there.place c.args.number o c.requires.there.there c.requires.small in
+    let small = width_result (scope_ports c.args.scope.now) (scope_ops c.args.scope.now) c.requires.place c.args.number o c.requires.there c.args.scope.now.small in
     let wide : c.result_width-width.result ≡ width_of (result_type o c.args.number) = omega (arith, c.result_width-width.ensures, small) in
-    made_is c.args.scope.now o c.args.number (scope_ref c.args.scope.now c.args.value) c.requires.there c.row_for.result c.args.op.now.operands.now
+    made_is c.args.scope.now o c.args.number (scope_ref c.args.scope.now c.args.value) c.requires c.row_for.result c.args.op.now.operands.now
     c.result_width-width.result c.divisor_in-divisor.result c.head_width-head.result (length c.args.op.now.operands.now)
     (sym c.has_result.ensures ∙ c.if-not-has_result.false) refl wide c.head_width-head.ensures c.divisor_in-divisor.ensures refl c.row_for.ensures

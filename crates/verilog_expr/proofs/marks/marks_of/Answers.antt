@@ -21,7 +21,6 @@ loop-position-init c =
 
 pub mark_operands-requires : goal.mark_operands-requires
 mark_operands-requires c = record {
-  small = c.requires;
   count = ap length c.as_mut_slice.ensures.value ∙ c.loop-position.invariant.count;
   few = λ i. subst (λ ms. (mark_at ms i).uses < 3) (sym c.as_mut_slice.ensures.value) (c.loop-position.invariant.few i);
 }
@@ -33,7 +32,7 @@ loop-position-preserved c =
     let o = op_read c.args.scope.now c.op_at-op.result in
     let same_length : length c.mark_operands.new.marks ≡ length c.loop-position.marks.items = omega (arith, c.mark_operands.auto.marks, ap length c.as_mut_slice.ensures.value) in
     let back = written_back c.loop-position.marks.len c.mark_operands.new.marks c.loop-position.marks.items same_length c.loop-position.marks.ok.0 in
-    let narrow : width_of (result_type o 0) < 129 = width_there ports os c.loop-position.position o c.op_at-op.ensures c.requires in
+    let narrow : width_of (result_type o 0) < 129 = width_there ports os c.loop-position.position o c.op_at-op.ensures c.args.scope.now.small in
     let width : c.result_width.result ≡ width_of (result_type o 0) = omega (arith, c.result_width.ensures, narrow) in
     record {
       count = ap length back ∙ same_length ∙ c.loop-position.invariant.count;

@@ -15,8 +15,8 @@ pub heights_of-requires : goal.heights_of-requires
 heights_of-requires c = record {
   parts = subst (AreParts (scope_ports c.args.scope.now) (scope_ops c.args.scope.now)) (sym c.as_slice-2.ensures.value) c.in_ok-parts.ensures.parts;
   part_count = ap length c.as_slice-2.ensures.value ∙ c.in_ok-parts.ensures.count;
-  heights = heights_hold (scope_ports c.args.scope.now) (scope_ops c.args.scope.now) c.requires.acyclic;
-  acyclic = c.requires.acyclic;
+  heights = heights_hold (scope_ports c.args.scope.now) (scope_ops c.args.scope.now) c.requires;
+  acyclic = c.requires;
 }
 
 pub wires_of-requires : goal.wires_of-requires
