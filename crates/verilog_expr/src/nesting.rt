@@ -8,6 +8,7 @@ ghost use Rattle.verilog_expr.specs.Scopes.{scope_ports, scope_ops, op_read};
 ghost use Rattle.verilog_expr.specs.Marks.{AreMarks};
 ghost use Rattle.verilog_expr.specs.PartTables.{part_seen, part_marked, AreParts};
 ghost use Rattle.verilog_expr.specs.Spilling.{is_constant_kind, is_wire_kind, text_of, text_at};
+ghost use Rattle.verilog_expr.specs.declared.scope.Scope.{Scope as ScopeSeen};
 
 use crate::marks::Mark;
 use crate::scope::Scope;
@@ -82,10 +83,9 @@ fn has_hint(entries: &[Entry]) -> bool
 }
 
 // What an operation is, by the mark of its first result.
-fn part_of(scope: &Scope<'_>, op: &Op<'_>, mark: Mark) -> Part
-    ensures { part_seen result ≡ part_marked (op_read scope.now op.now) mark }
+fn part_of(op: &Op<'_>, mark: Mark) -> Part
+    ensures { (scope : ScopeSeen) → part_seen result ≡ part_marked (op_read scope op.now) mark }
 {
-    let _ = scope;
     if !is_pure(op.kind) || is_constant(op.kind) {
         return Part::Flat;
     }
@@ -106,7 +106,7 @@ pub fn parts_of(alloc: Global, scope: &Scope<'_>, marks: &[Mark]) -> Result<Vec<
     let mut parts = Vec::with_capacity(alloc, count)?;
     for position in 0..count {
         let op = scope.op_at(position);
-        parts.push(part_of(scope, &op, marks[position]))?;
+        parts.push(part_of(&op, marks[position]))?;
     }
     Ok(parts)
 }

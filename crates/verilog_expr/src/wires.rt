@@ -4,6 +4,7 @@ ghost use Rattle.verilog_expr.specs.Scopes.{scope_ports, scope_ops, op_read};
 ghost use Rattle.verilog_expr.specs.Spilling.{has_wire};
 ghost use Rattle.verilog_expr.specs.Marks.{AreMarks};
 ghost use Rattle.verilog_expr.specs.PartTables.{part_seen, AreParts, AreHeightsAt, wired, AreWires};
+ghost use Rattle.verilog_expr.specs.declared.scope.Scope.{Scope as ScopeSeen};
 
 use crate::height_table::heights_of;
 use crate::marks::{Mark, marks_of};
@@ -67,10 +68,9 @@ fn has_wire(part: Part, height: u32) -> bool
 }
 
 // Whether the first result of an operation has a wire.
-fn is_wired(scope: &Scope<'_>, op: &Op<'_>, mark: Mark, part: Part, height: u32) -> bool
-    ensures { result ≡ wired (op_read scope.now op.now) mark (part_seen part) height }
+fn is_wired(op: &Op<'_>, mark: Mark, part: Part, height: u32) -> bool
+    ensures { (scope : ScopeSeen) → result ≡ wired (op_read scope op.now) mark (part_seen part) height }
 {
-    let _ = scope;
     if is_constant(op.kind) {
         mark.cut
     } else {
@@ -99,7 +99,7 @@ fn wires_of(
     for place in 0..count {
         let op = scope.op_at(place);
         let height = heights[place].unwrap_or(0);
-        wires.push(is_wired(scope, &op, marks[place], parts[place], height))?;
+        wires.push(is_wired(&op, marks[place], parts[place], height))?;
     }
     Ok(wires)
 }

@@ -21,7 +21,7 @@ loop-position-preserved c =
       count = length_grown c.loop-position.parts.items c.push.new.self.items c.loop-position.position c.part_of.result c.loop-position.invariant.count c.in_ok-push.ensures.items;
       parts = table_grown (λ i p. part_seen p ≡ told.part ports os (result_of i 0)) c.loop-position.parts.items c.push.new.self.items c.loop-position.position c.part_of.result Flat
           c.loop-position.invariant.count c.in_ok-push.ensures.items c.loop-position.invariant.parts
-          (c.part_of.ensures
+          (c.part_of.ensures c.args.scope.now
           ∙ part_is ports os c.loop-position.position (op_read c.args.scope.now c.op_at-op.result) _ c.op_at-op.ensures
           (c.requires.marks c.loop-position.position (omega (arith, c.loop-position-test.true, c.count-count.ensures))));
     }

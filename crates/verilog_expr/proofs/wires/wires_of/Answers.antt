@@ -22,7 +22,7 @@ loop-place-preserved c =
       count = length_grown c.loop-place.wires.items c.push.new.self.items c.loop-place.place c.is_wired.result c.loop-place.invariant.count c.in_ok-push.ensures.items;
       wires = table_grown (λ i b. b ≡ spilled ports os (result_of i 0)) c.loop-place.wires.items c.push.new.self.items c.loop-place.place c.is_wired.result false
           c.loop-place.invariant.count c.in_ok-push.ensures.items c.loop-place.invariant.wires
-          (c.is_wired.ensures ∙ wired_is ports os c.loop-place.place (op_read c.args.scope.now c.op_at-op.result) _ _ _ c.op_at-op.ensures
+          (c.is_wired.ensures c.args.scope.now ∙ wired_is ports os c.loop-place.place (op_read c.args.scope.now c.op_at-op.result) _ _ _ c.op_at-op.ensures
           (c.requires.marks c.loop-place.place within) (c.requires.parts c.loop-place.place within) high);
     }
 
