@@ -129,7 +129,7 @@ fn is_aggregate_kind(kind: &OpKind) -> bool
 
 /// The same, by the family.
 fn is_aggregate_family(family: Family<'_>) -> bool
-    ensures { result ≡ is_aggregate_kind (family_of family) }
+    ensures { result ≡ is_aggregate_kind (family_of family.entry) }
 {
     match family {
         Family::AggregateConstant(_) | Family::Array(_) | Family::Struct(_) => true,

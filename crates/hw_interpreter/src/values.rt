@@ -51,9 +51,9 @@ fn family_word(
     index: u32,
     operands: &[BitString],
 ) -> Result<BitString, Refusal>
-    ensures value { IfOk result (λ word. word ≡ op_value (family_of family) (map type_of types.now) (type_of ty.now) index operands.now) }
-    ensures suits { OnOk result (Suits (family_of family) (map type_of types.now) (type_of ty.now) operands.now) }
-    ensures refuses { IsErrOf result NotFitting → ¬ Suits (family_of family) (map type_of types.now) (type_of ty.now) operands.now }
+    ensures value { IfOk result (λ word. word ≡ op_value (family_of family.entry) (map type_of types.now) (type_of ty.now) index operands.now) }
+    ensures suits { OnOk result (Suits (family_of family.entry) (map type_of types.now) (type_of ty.now) operands.now) }
+    ensures refuses { IsErrOf result NotFitting → ¬ Suits (family_of family.entry) (map type_of types.now) (type_of ty.now) operands.now }
 {
     match family {
         Family::AggregateConstant(list) => literals_word(alloc, list),
@@ -99,9 +99,9 @@ fn struct_word(
     index: u32,
     operands: &[BitString],
 ) -> Result<BitString, Refusal>
-    ensures value { IfOk result (λ word. word ≡ struct_value (struct_op_of op) (fields (written (map type_of types.now) 0)) index operands.now) }
-    ensures suits { OnOk result (StructSuits (struct_op_of op) (map type_of types.now) operands.now) }
-    ensures refuses { IsErrOf result NotFitting → ¬ StructSuits (struct_op_of op) (map type_of types.now) operands.now }
+    ensures value { IfOk result (λ word. word ≡ struct_value (struct_op_of op.entry) (fields (written (map type_of types.now) 0)) index operands.now) }
+    ensures suits { OnOk result (StructSuits (struct_op_of op.entry) (map type_of types.now) operands.now) }
+    ensures refuses { IsErrOf result NotFitting → ¬ StructSuits (struct_op_of op.entry) (map type_of types.now) operands.now }
 {
     match op {
         StructOp::Create => {
@@ -123,10 +123,10 @@ fn integer_value(
     ty: &Ty,
     operands: &[BitString],
 ) -> Result<BitString, Refusal>
-    ensures value { IfOk result (λ word. TakesWords (family_of family) (width (type_of ty.now)) operands.now
-        × (word ≡ op_value (family_of family) [] (int (width (type_of ty.now))) 0 operands.now)) }
-    ensures suits { OnOk result (SuitIntegers (family_of family) (width (type_of ty.now)) operands.now) }
-    ensures refuses { IsErrOf result NotFitting → IsOnIntegers (family_of family) → ¬ SuitIntegers (family_of family) (width (type_of ty.now)) operands.now }
+    ensures value { IfOk result (λ word. TakesWords (family_of family.entry) (width (type_of ty.now)) operands.now
+        × (word ≡ op_value (family_of family.entry) [] (int (width (type_of ty.now))) 0 operands.now)) }
+    ensures suits { OnOk result (SuitIntegers (family_of family.entry) (width (type_of ty.now)) operands.now) }
+    ensures refuses { IsErrOf result NotFitting → IsOnIntegers (family_of family.entry) → ¬ SuitIntegers (family_of family.entry) (width (type_of ty.now)) operands.now }
 {
     let width = integer_width(ty)?;
     let words = integer_words(alloc, operands)?;
@@ -163,8 +163,8 @@ fn integer_words(alloc: Global, operands: &[BitString]) -> Result<Vec<Bits>, Ref
 
 // whether the kind is one of integers that takes these words
 fn takes_words(family: Family<'_>, width: u32, words: &[Bits]) -> bool
-    ensures only { IsTrue result → TakesWords (family_of family) width words.now }
-    ensures every { IsOnIntegers (family_of family) → TakesWords (family_of family) width words.now → IsTrue result }
+    ensures only { IsTrue result → TakesWords (family_of family.entry) width words.now }
+    ensures every { IsOnIntegers (family_of family.entry) → TakesWords (family_of family.entry) width words.now → IsTrue result }
 {
     match family {
         Family::Variadic(_) => all_have(width, words),

@@ -33,7 +33,7 @@ pub fn family_value(family: Family<'_>, width: u32, operands: &[Bits]) -> Bits
     requires least { 1 ≤ width }
     requires most { width ≤ 128 }
     requires words { TakesWords (family_of family) width operands.now }
-    ensures { result ≡ op_value (family_of family) [] (int width) 0 operands.now }
+    ensures { result ≡ op_value (family_of family.entry) [] (int width) 0 operands.now }
 {
     match family {
         Family::Variadic(op) => variadic_value(op, width, operands),

@@ -16,7 +16,7 @@ use hw_model::types::Ty;
 /// Whether an operation has too few or too many operands, or written types.
 #[tactic(auto, unfolding(crate::specs::CountChecks::has_wrong_operands))]
 pub(crate) fn has_wrong_operands(family: Family<'_>, types: &[Ty], operands: usize) -> bool
-    ensures { result ≡ has_wrong_operands (family_of family) (map type_of types.now) operands }
+    ensures { result ≡ has_wrong_operands (family_of family.entry) (map type_of types.now) operands }
 {
     operands != operand_count(family, types, operands) || !has_type_count(family, types, operands)
 }
@@ -24,7 +24,7 @@ pub(crate) fn has_wrong_operands(family: Family<'_>, types: &[Ty], operands: usi
 /// How many operands an operation takes: of some kinds any number from 1 on.
 #[tactic(auto, unfolding(crate::specs::CountChecks::operand_count))]
 fn operand_count(family: Family<'_>, types: &[Ty], operands: usize) -> usize
-    ensures { result ≡ operand_count (family_of family) (map type_of types.now) operands }
+    ensures { result ≡ operand_count (family_of family.entry) (map type_of types.now) operands }
 {
     match family {
         Family::Variadic(_) | Family::Array(ArrayOp::Create) => operands.max(1),
@@ -79,7 +79,7 @@ fn struct_size(ty: Option<&Ty>) -> usize
 /// Whether an operation has as many written types as its form.
 #[tactic(auto, unfolding(crate::specs::CountChecks::type_count))]
 fn has_type_count(family: Family<'_>, types: &[Ty], operands: usize) -> bool
-    ensures { result ≡ nat_eq (length types.now) (type_count (family_of family) operands) }
+    ensures { result ≡ nat_eq (length types.now) (type_count (family_of family.entry) operands) }
 {
     match family {
         Family::Concat | Family::Array(ArrayOp::Concat) | Family::Output => types.len() == operands,
@@ -112,7 +112,7 @@ pub(crate) fn has_wrong_results(
     results: usize,
     named: u32,
 ) -> bool
-    ensures { result ≡ has_wrong_results (family_of family) (map type_of types.now) results named }
+    ensures { result ≡ has_wrong_results (family_of family.entry) (map type_of types.now) results named }
 {
     let count = result_count(family, types);
     named as usize != count || results != count
@@ -121,7 +121,7 @@ pub(crate) fn has_wrong_results(
 /// How many results an operation has.
 #[tactic(auto, unfolding(ir_store::specs::ResultTypes::result_count))]
 fn result_count(family: Family<'_>, types: &[Ty]) -> usize
-    ensures { result ≡ result_count (family_of family) (map type_of types.now) }
+    ensures { result ≡ result_count (family_of family.entry) (map type_of types.now) }
 {
     match family {
         Family::Output => 0,
@@ -134,7 +134,7 @@ fn result_count(family: Family<'_>, types: &[Ty]) -> usize
 /// Whether an aggregate constant, or a list in it, is shorter or longer than its type.
 #[tactic(auto, unfolding(crate::specs::CountChecks::has_miscounted_parts))]
 pub(crate) fn has_miscounted_parts(family: Family<'_>, types: &[Ty]) -> bool
-    ensures { result ≡ has_miscounted_parts (family_of family) (map type_of types.now) }
+    ensures { result ≡ has_miscounted_parts (family_of family.entry) (map type_of types.now) }
 {
     match family {
         Family::AggregateConstant(list) => parts_miscounted(list, types.first()),

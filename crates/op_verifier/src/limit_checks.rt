@@ -25,13 +25,13 @@ use ir_store::result_types::{field_of, joined_width};
 /// Whether a written type or a result's is outside the limits; the result of `comb.concat` is not asked.
 #[tactic(auto, unfolding(crate::specs::LimitChecks::has_type_outside))]
 pub(crate) fn has_type_outside(family: Family<'_>, types: &[Ty], results: &[NewResult]) -> bool
-    ensures { result ≡ has_type_outside (family_of family) (map type_of types.now) (map (λ r. type_of r.ty) results.now) }
+    ensures { result ≡ has_type_outside (family_of family.entry) (map type_of types.now) (map (λ r. type_of r.ty) results.now) }
 {
     any_outside(types) || (has_outside_leaf(family) || has_outside_array(family, results))
 }
 
 fn has_outside_leaf(family: Family<'_>) -> bool
-    ensures { result ≡ has_outside_leaf (family_of family) }
+    ensures { result ≡ has_outside_leaf (family_of family.entry) }
 {
     match family {
         Family::AggregateConstant(list) => any_failing_leaf(LeafTest::Width, &list.literals),
@@ -40,7 +40,7 @@ fn has_outside_leaf(family: Family<'_>) -> bool
 }
 
 fn has_outside_array(family: Family<'_>, results: &[NewResult]) -> bool
-    ensures { result ≡ has_outside_array (family_of family) (map (λ r. type_of r.ty) results.now) }
+    ensures { result ≡ has_outside_array (family_of family.entry) (map (λ r. type_of r.ty) results.now) }
 {
     match family {
         Family::Array(ArrayOp::Create) | Family::Array(ArrayOp::Concat) => match results.first() {
@@ -54,7 +54,7 @@ fn has_outside_array(family: Family<'_>, results: &[NewResult]) -> bool
 /// Whether a constant is out of the range of its type.
 #[tactic(auto, unfolding(crate::specs::LimitChecks::has_constant_outside))]
 pub(crate) fn has_constant_outside(family: Family<'_>, types: &[Ty]) -> bool
-    ensures { result ≡ has_constant_outside (family_of family) (map type_of types.now) }
+    ensures { result ≡ has_constant_outside (family_of family.entry) (map type_of types.now) }
 {
     match family {
         Family::Constant(value) => is_outside_first(value, types.first()),
@@ -75,7 +75,7 @@ fn is_outside_first(value: Integer, ty: Option<&Ty>) -> bool
 /// Whether an extract reaches past its operand.
 #[tactic(auto, unfolding(crate::specs::LimitChecks::has_extract_outside))]
 pub(crate) fn has_extract_outside(family: Family<'_>, types: &[Ty]) -> bool
-    ensures { result ≡ has_extract_outside (family_of family) (map type_of types.now) }
+    ensures { result ≡ has_extract_outside (family_of family.entry) (map type_of types.now) }
 {
     match family {
         Family::Extract(low) => reaches_past(low, types.first(), types.get(1)),
@@ -95,7 +95,7 @@ fn reaches_past(low: u32, from: Option<&Ty>, to: Option<&Ty>) -> bool
 /// Whether a replicate's width is no positive multiple of its operand's.
 #[tactic(auto, unfolding(crate::specs::LimitChecks::has_broken_copy))]
 pub(crate) fn has_broken_copy(family: Family<'_>, types: &[Ty]) -> bool
-    ensures { result ≡ has_broken_copy (family_of family) (map type_of types.now) }
+    ensures { result ≡ has_broken_copy (family_of family.entry) (map type_of types.now) }
 {
     match family {
         Family::Replicate => is_no_multiple(types.first(), types.get(1)),
@@ -115,7 +115,7 @@ fn is_no_multiple(from: Option<&Ty>, to: Option<&Ty>) -> bool
 /// Whether a concat is wider than 128 bits.
 #[tactic(auto, unfolding(crate::specs::LimitChecks::has_wide_concat))]
 pub(crate) fn has_wide_concat(family: Family<'_>, types: &[Ty]) -> bool
-    ensures { result ≡ has_wide_concat (family_of family) (map type_of types.now) }
+    ensures { result ≡ has_wide_concat (family_of family.entry) (map type_of types.now) }
 {
     match family {
         Family::Concat => match joined_width(types) {
@@ -129,7 +129,7 @@ pub(crate) fn has_wide_concat(family: Family<'_>, types: &[Ty]) -> bool
 /// Whether a division's divisor is not known to be a nonzero constant.
 #[tactic(auto, unfolding(crate::specs::LimitChecks::has_unknown_divisor))]
 pub(crate) fn has_unknown_divisor(family: Family<'_>, divides_by_constant: bool) -> bool
-    ensures { result ≡ has_unknown_divisor (family_of family) divides_by_constant }
+    ensures { result ≡ has_unknown_divisor (family_of family.entry) divides_by_constant }
 {
     match family {
         Family::Division(_) => !divides_by_constant,
@@ -140,7 +140,7 @@ pub(crate) fn has_unknown_divisor(family: Family<'_>, divides_by_constant: bool)
 /// Whether an index has another width than its array asks for, or a slice is longer than its array.
 #[tactic(auto, unfolding(crate::specs::LimitChecks::has_wrong_index))]
 pub(crate) fn has_wrong_index(family: Family<'_>, types: &[Ty], operands: &[Option<&Ty>]) -> bool
-    ensures { result ≡ has_wrong_index (family_of family) (map type_of types.now) (map (option_map (λ t. type_of t.now)) operands.now) }
+    ensures { result ≡ has_wrong_index (family_of family.entry) (map type_of types.now) (map (option_map (λ t. type_of t.now)) operands.now) }
 {
     match family {
         Family::Array(ArrayOp::Get) | Family::Array(ArrayOp::Inject) => is_no_index(
@@ -184,13 +184,13 @@ fn is_longer(array: Option<&Ty>, slice: Option<&Ty>) -> bool
 /// Whether a field is unknown, or its name stands twice in a written type.
 #[tactic(auto, unfolding(crate::specs::LimitChecks::has_wrong_field))]
 pub(crate) fn has_wrong_field(family: Family<'_>, types: &[Ty]) -> bool
-    ensures { result ≡ has_wrong_field (family_of family) (map type_of types.now) }
+    ensures { result ≡ has_wrong_field (family_of family.entry) (map type_of types.now) }
 {
     any_bad_field(types) || has_unknown_field(family, types)
 }
 
 fn has_unknown_field(family: Family<'_>, types: &[Ty]) -> bool
-    ensures { result ≡ has_unknown_field (family_of family) (map type_of types.now) }
+    ensures { result ≡ has_unknown_field (family_of family.entry) (map type_of types.now) }
 {
     match family {
         Family::Struct(StructOp::Extract(name)) | Family::Struct(StructOp::Inject(name)) => {
@@ -204,7 +204,7 @@ fn has_unknown_field(family: Family<'_>, types: &[Ty]) -> bool
 #[tactic(auto, unfolding(crate::specs::LimitChecks::has_unequal_widths))]
 pub(crate) fn has_unequal_widths(family: Family<'_>, types: &[Ty]) -> bool
     requires { list_any is_outside (map type_of types.now) ≡ false }
-    ensures { result ≡ has_unequal_widths (family_of family) (map type_of types.now) }
+    ensures { result ≡ has_unequal_widths (family_of family.entry) (map type_of types.now) }
 {
     match family {
         Family::Bitcast => are_unequal(types.first(), types.get(1)),
@@ -227,7 +227,7 @@ fn are_unequal(from: Option<&Ty>, to: Option<&Ty>) -> bool
 /// Whether a clock stands where a value is wanted.
 #[tactic(auto, unfolding(crate::specs::LimitChecks::has_clock_value))]
 pub(crate) fn has_clock_value(family: Family<'_>, types: &[Ty], operands: &[Option<&Ty>]) -> bool
-    ensures { result ≡ has_clock_value (family_of family) (map type_of types.now) (map (option_map (λ t. type_of t.now)) operands.now) }
+    ensures { result ≡ has_clock_value (family_of family.entry) (map type_of types.now) (map (option_map (λ t. type_of t.now)) operands.now) }
 {
     any_clock_part(types)
         || (any_clock(value_types(family, types)) || has_clock_operand(family, operands))
@@ -236,7 +236,7 @@ pub(crate) fn has_clock_value(family: Family<'_>, types: &[Ty], operands: &[Opti
 /// Whether a clock is an operand, other than a register's clock or an instance's operand.
 #[tactic(auto, unfolding(crate::specs::LimitChecks::has_clock_operand))]
 fn has_clock_operand(family: Family<'_>, operands: &[Option<&Ty>]) -> bool
-    ensures { result ≡ has_clock_operand (family_of family) (map (option_map (λ t. type_of t.now)) operands.now) }
+    ensures { result ≡ has_clock_operand (family_of family.entry) (map (option_map (λ t. type_of t.now)) operands.now) }
 {
     match family {
         Family::Instance(_) => false,
@@ -255,7 +255,7 @@ fn has_other_clock(operands: &[Option<&Ty>]) -> bool
 
 /// The written types that may not be the clock's: all but those of an instance's operands.
 fn value_types<'t>(family: Family<'_>, types: &'t [Ty]) -> &'t [Ty]
-    ensures { map type_of result.now ≡ value_types (family_of family) (map type_of types.now) }
+    ensures { map type_of result.now ≡ value_types (family_of family.entry) (map type_of types.now) }
 {
     match family {
         Family::Instance(instance) => types.split_at(instance.inputs.len().min(types.len())).1,

@@ -22,7 +22,7 @@ use ir_store::result_types::{element_of, field_of};
 /// Whether a written type is of a kind that the form does not take.
 #[tactic(auto, unfolding(crate::specs::OperandChecks::has_other_form))]
 pub(crate) fn has_other_form(family: Family<'_>, types: &[Ty]) -> bool
-    ensures { result ≡ has_other_form (family_of family) (map type_of types.now) }
+    ensures { result ≡ has_other_form (family_of family.entry) (map type_of types.now) }
 {
     match family {
         Family::AggregateConstant(list) => any_failing_leaf(LeafTest::Kind, &list.literals),
@@ -74,7 +74,7 @@ fn any_other_array(element: Option<&Ty>, types: &[Ty]) -> bool
 /// its parts are none of its type.
 #[tactic(auto, unfolding(crate::specs::OperandChecks::has_other_operand))]
 pub(crate) fn has_other_operand(family: Family<'_>, types: &[Ty], operands: &[Option<&Ty>]) -> bool
-    ensures { result ≡ has_other_operand (family_of family) (map type_of types.now) (map (option_map (λ t. type_of t.now)) operands.now) }
+    ensures { result ≡ has_other_operand (family_of family.entry) (map type_of types.now) (map (option_map (λ t. type_of t.now)) operands.now) }
 {
     let first = types.first();
     match family {

@@ -43,7 +43,7 @@ fn family_cause(
     operands: &[Option<&Ty>],
     divides_by_constant: bool,
 ) -> Option<Cause>
-    ensures { result ≡ own_cause (family_of family) (types_in op.now.types.now) (result_types_in op.now.results.now) op.now.named (map (option_map (λ t. type_of t.now)) operands.now) divides_by_constant }
+    ensures { result ≡ own_cause (family_of family.entry) (types_in op.now.types.now) (result_types_in op.now.results.now) op.now.named (map (option_map (λ t. type_of t.now)) operands.now) divides_by_constant }
 {
     let types = op.types.as_slice();
     let results = op.results.as_slice();
@@ -89,7 +89,7 @@ fn family_cause(
 /// Whether the types of an operation do not match.
 #[tactic(auto, unfolding(crate::specs::OperandChecks::has_mismatch))]
 fn has_mismatch(family: Family<'_>, op: &Op<'_>, operands: &[Option<&Ty>]) -> bool
-    ensures { result ≡ has_mismatch (family_of family) (types_in op.now.types.now) (result_types_in op.now.results.now) (map (option_map (λ t. type_of t.now)) operands.now) }
+    ensures { result ≡ has_mismatch (family_of family.entry) (types_in op.now.types.now) (result_types_in op.now.results.now) (map (option_map (λ t. type_of t.now)) operands.now) }
 {
     let types = op.types.as_slice();
     has_other_form(family, types)
@@ -100,7 +100,7 @@ fn has_mismatch(family: Family<'_>, op: &Op<'_>, operands: &[Option<&Ty>]) -> bo
 /// Whether an operation has a wrong number of values.
 #[tactic(auto, unfolding(crate::specs::CountChecks::has_wrong_count), using(crate::proofs::Lists::result_types_seen))]
 fn has_wrong_count(family: Family<'_>, op: &Op<'_>, operands: &[Option<&Ty>]) -> bool
-    ensures { result ≡ has_wrong_count (family_of family) (types_in op.now.types.now) (result_types_in op.now.results.now) op.now.named (map (option_map (λ t. type_of t.now)) operands.now) }
+    ensures { result ≡ has_wrong_count (family_of family.entry) (types_in op.now.types.now) (result_types_in op.now.results.now) op.now.named (map (option_map (λ t. type_of t.now)) operands.now) }
 {
     let types = op.types.as_slice();
     has_wrong_operands(family, types, operands.len())

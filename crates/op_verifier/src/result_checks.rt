@@ -23,7 +23,7 @@ pub(crate) fn has_other_result(
     results: &[NewResult],
     operands: usize,
 ) -> bool
-    ensures { result ≡ has_other_result (family_of family) (map type_of types.now) (map (λ r. type_of r.ty) results.now) operands }
+    ensures { result ≡ has_other_result (family_of family.entry) (map type_of types.now) (map (λ r. type_of r.ty) results.now) operands }
 {
     match family {
         Family::Output => false,
@@ -43,7 +43,7 @@ pub(crate) fn single_differs(
     results: &[NewResult],
     operands: usize,
 ) -> bool
-    ensures { result ≡ differ (settled (map (λ r. type_of r.ty) results.now)) (result_type (family_of family) (map type_of types.now) operands ∷ []) }
+    ensures { result ≡ differ (settled (map (λ r. type_of r.ty) results.now)) (result_type (family_of family.entry) (map type_of types.now) operands ∷ []) }
 {
     match results.first() {
         Some(first) => has_other_type(family, types, &first.ty, operands),
@@ -54,7 +54,7 @@ pub(crate) fn single_differs(
 /// Whether the result of an operation that has one has another type than it gives.
 #[tactic(auto, unfolding(ir_store::specs::ResultTypes::result_type))]
 fn has_other_type(family: Family<'_>, types: &[Ty], own: &Ty, operands: usize) -> bool
-    ensures { result ≡ differs (Some (type_of own.now)) (result_type (family_of family) (map type_of types.now) operands) }
+    ensures { result ≡ differs (Some (type_of own.now)) (result_type (family_of family.entry) (map type_of types.now) operands) }
 {
     match family {
         Family::Icmp(_) | Family::Parity => *own != Ty::Int(1),

@@ -74,7 +74,7 @@ fn made_type(types: &[Option<Ty>], k: usize) -> Option<&Ty>
 /// Whether the types that an operation settles are found to be those of its results. Of a few kinds this is not asked.
 #[tactic(auto, unfolding(ir_store::specs::ResultTypes::result_types))]
 fn are_own(family: Family<'_>, types: &[Ty], results: &[NewResult], operands: usize) -> bool
-    ensures { result ≡ true → result_types (family_of family) (map type_of types.now) operands ≡ settled (map (λ r. type_of r.ty) results.now) }
+    ensures { result ≡ true → result_types (family_of family.entry) (map type_of types.now) operands ≡ settled (map (λ r. type_of r.ty) results.now) }
 {
     match family {
         Family::Output => results.is_empty(),
@@ -85,7 +85,7 @@ fn are_own(family: Family<'_>, types: &[Ty], results: &[NewResult], operands: us
 
 /// Whether the type of the result of an operation that has one is that of its only result.
 fn is_own(family: Family<'_>, types: &[Ty], results: &[NewResult], operands: usize) -> bool
-    ensures { result ≡ true → result_type (family_of family) (map type_of types.now) operands ∷ [] ≡ settled (map (λ r. type_of r.ty) results.now) }
+    ensures { result ≡ true → result_type (family_of family.entry) (map type_of types.now) operands ∷ [] ≡ settled (map (λ r. type_of r.ty) results.now) }
 {
     results.len() == 1
         && (is_settled(family, types, operands)
@@ -95,7 +95,7 @@ fn is_own(family: Family<'_>, types: &[Ty], results: &[NewResult], operands: usi
 /// Whether the type of the result of an operation that has one is settled.
 #[tactic(auto, unfolding(ir_store::specs::ResultTypes::result_type))]
 fn is_settled(family: Family<'_>, types: &[Ty], operands: usize) -> bool
-    ensures { result ≡ is_some (result_type (family_of family) (map type_of types.now) operands) }
+    ensures { result ≡ is_some (result_type (family_of family.entry) (map type_of types.now) operands) }
 {
     match family {
         Family::Icmp(_) | Family::Parity => true,

@@ -156,7 +156,7 @@ fn family_row(
     count: usize,
 ) -> Row
     requires { width < 129 }
-    ensures { result ≡ row_for (family_of family) width operand_width divisor count }
+    ensures { result ≡ row_for (family_of family.entry) width operand_width divisor count }
 {
     match family {
         Family::Variadic(op) => chain_row(count, variadic_operator(op)),
