@@ -11,7 +11,7 @@ use Rattle.wiring.specs.Options.{bind}
 use Rattle.hw_model.specs.Types.{HwType, width}
 use Rattle.hw_model.specs.Types.HwType.{int, clock, array, struct}
 use Rattle.hw_model.specs.Kinds.{Kind}
-use Rattle.hw_model.specs.Kinds.Kind.{divu, modu, divs, mods, constant}
+use Rattle.hw_model.specs.Kinds.Kind.{division, constant}
 use Rattle.hw_model.specs.Design.{Ref, Port, OpResult, Op, result_type}
 use Rattle.hw_model.specs.Design.Ref.{port, result, undefined}
 use Rattle.hw_model.specs.Sound.{type_in, Fits, OpFits}
@@ -92,25 +92,16 @@ constant_worth kind ts rs n t nonzero form outside range same is = cc
 
 known_divisor : (kind : Kind) (b : Bool) → is_division kind ≡ true → has_unknown_divisor kind b ≡ false → b ≡ true
 unfolding has_unknown_divisor
-known_divisor divu b h e = not_false b e
-known_divisor modu b h e = not_false b e
-known_divisor divs b h e = not_false b e
-known_divisor mods b h e = not_false b e
+known_divisor (division d) b h e = not_false b e
 known_divisor kind b h e = cc
 
 two_operands : (kind : Kind) (ts : List HwType) (n : ℕ) → is_division kind ≡ true → n ≡ operand_count kind ts n → n ≡ 2
 unfolding operand_count
-two_operands divu ts n h e = e
-two_operands modu ts n h e = e
-two_operands divs ts n h e = e
-two_operands mods ts n h e = e
+two_operands (division d) ts n h e = e
 two_operands kind ts n h e = cc
 
 division_fits : (kind : Kind) (ts : List HwType) (xs : List (Option HwType)) (t : HwType) (k : ℕ) → is_division kind ≡ true → Fits kind ts xs t k → xs ≡ Some t ∷ Some t ∷ []
-division_fits divu ts xs t k h fits = fits
-division_fits modu ts xs t k h fits = fits
-division_fits divs ts xs t k h fits = fits
-division_fits mods ts xs t k h fits = fits
+division_fits (division d) ts xs t k h fits = fits
 division_fits kind ts xs t k h fits = cc
 
 -- two operands, of which the second is the result of a nonzero constant

@@ -3,7 +3,7 @@ use Rattle.std.proofs.Common.{◌≡◌, ℕ, ◌<◌, ◌^◌, false, ◌||◌,
 use Rattle.std.specs.Prelude.{is_some}
 use Rattle.wiring.specs.Options.{bind, omap}
 use Rattle.hw_model.specs.Kinds.{Kind}
-use Rattle.hw_model.specs.Kinds.Kind.{compreg, compreg_ce, firreg}
+use Rattle.hw_model.specs.Kinds.Kind.{register}
 use Rattle.hw_model.specs.Design.{Port, OpResult, Op, Module, Design, RegisterForm, register_form, instance_in, is_output_kind, is_instance, is_output_op, result_type}
 use Rattle.hw_model.specs.Flat.{Register, register_in, register_parts}
 use Rattle.hw_model.specs.Sound.{type_in, OpFits, Sound}
@@ -31,9 +31,7 @@ accepted_sound d fine = sound_design (record { settles = settles; fits = fits; i
 
 -- a register is no instance and no output
 register_alone : (kind : Kind) (f : RegisterForm) → register_form kind ≡ Some f → (is_some (instance_in kind) || is_output_kind kind) ≡ false
-register_alone (compreg r) f h = refl
-register_alone (compreg_ce r) f h = refl
-register_alone (firreg r) f h = refl
+register_alone (register g r) f h = refl
 register_alone _ f h = cc
 
 register_kind : (o : Op) (r : Register) → register_in o ≡ Some r → (f : RegisterForm) × (register_form o.kind ≡ Some f)

@@ -7,7 +7,7 @@ use Rattle.wiring.specs.Wiring.{In}
 use Rattle.hw_model.specs.Types.{HwType, width}
 use Rattle.hw_model.specs.Types.HwType.{int, clock, array, struct}
 use Rattle.hw_model.specs.Kinds.{Kind}
-use Rattle.hw_model.specs.Kinds.Kind.{add, mul, and, or, xor, sub, divu, modu, divs, mods, shl, shru, shrs, icmp, parity, extract, concat, replicate, mux, constant, aggregate_constant, array_create, array_concat, array_get, array_slice, array_inject, struct_create, struct_extract, struct_inject, struct_explode, bitcast, wire, instance, output, compreg, compreg_ce, firreg}
+use Rattle.hw_model.specs.Kinds.Kind.{variadic, sub, division, shift, icmp, parity, extract, concat, replicate, mux, constant, aggregate_constant, on_array, on_struct, bitcast, wire, instance, output, register}
 use Rattle.ir_store.specs.ResultTypes.{first_type, second_type, with_width, joined_width, kept_size, as_int, result_type, result_types}
 use Rattle.op_verifier.specs.TypeChecks.{has_bad_part, is_outside, is_clock}
 use Rattle.op_verifier.specs.TypeLists.{settled}
@@ -123,19 +123,10 @@ some_joined k n p q = omega (arith, p, q)
 pub given : (kind : Kind) (ts rs : List HwType) (n : ℕ) → is_aggregate_kind kind ≡ false → result_types kind ts n ≡ settled rs → n ≡ operand_count kind ts n → length ts ≡ type_count kind n
     → list_any is_outside ts ≡ false → has_wide_concat kind ts ≡ false → (t : HwType) → In t rs → IsGiven (value_types kind ts) t
 unfolding result_types result_type operand_count type_count has_wide_concat
-given add ts rs n plain same operands types h wide t here = by_first ts t rs same here
-given mul ts rs n plain same operands types h wide t here = by_first ts t rs same here
-given and ts rs n plain same operands types h wide t here = by_first ts t rs same here
-given or ts rs n plain same operands types h wide t here = by_first ts t rs same here
-given xor ts rs n plain same operands types h wide t here = by_first ts t rs same here
+given (variadic v) ts rs n plain same operands types h wide t here = by_first ts t rs same here
 given sub ts rs n plain same operands types h wide t here = by_first ts t rs same here
-given divu ts rs n plain same operands types h wide t here = by_first ts t rs same here
-given modu ts rs n plain same operands types h wide t here = by_first ts t rs same here
-given divs ts rs n plain same operands types h wide t here = by_first ts t rs same here
-given mods ts rs n plain same operands types h wide t here = by_first ts t rs same here
-given shl ts rs n plain same operands types h wide t here = by_first ts t rs same here
-given shru ts rs n plain same operands types h wide t here = by_first ts t rs same here
-given shrs ts rs n plain same operands types h wide t here = by_first ts t rs same here
+given (division d) ts rs n plain same operands types h wide t here = by_first ts t rs same here
+given (shift s) ts rs n plain same operands types h wide t here = by_first ts t rs same here
 given (icmp p) ts rs n plain same operands types h wide t here = in_single ts t (Some (int 1)) rs (one_bit ts t) same here
 given parity ts rs n plain same operands types h wide t here = in_single ts t (Some (int 1)) rs (one_bit ts t) same here
 given (extract low) ts rs n plain same operands types h wide t here = by_second ts t rs same here
@@ -145,24 +136,15 @@ given replicate ts rs n plain same operands types h wide t here = by_second ts t
 given mux ts rs n plain same operands types h wide t here = by_first ts t rs same here
 given (constant z) ts rs n plain same operands types h wide t here = by_first ts t rs same here
 given (aggregate_constant ls) ts rs n plain same operands types h wide t here = cc
-given array_create ts rs n plain same operands types h wide t here = cc
-given array_concat ts rs n plain same operands types h wide t here = cc
-given array_get ts rs n plain same operands types h wide t here = cc
-given array_slice ts rs n plain same operands types h wide t here = cc
-given array_inject ts rs n plain same operands types h wide t here = cc
-given struct_create ts rs n plain same operands types h wide t here = cc
-given (struct_extract name) ts rs n plain same operands types h wide t here = cc
-given (struct_inject name) ts rs n plain same operands types h wide t here = cc
-given struct_explode ts rs n plain same operands types h wide t here = cc
+given (on_array a) ts rs n plain same operands types h wide t here = cc
+given (on_struct s) ts rs n plain same operands types h wide t here = cc
 given bitcast ts rs n plain same operands types h wide t here = by_second ts t rs same here
 given wire ts rs n plain same operands types h wide t here = by_first ts t rs same here
 given (instance i) ts rs n plain same operands types h wide t here =
     written (subst (λ us. In t us) (sym (same_settled (drop (length i.inputs) ts) rs same)) here)
 given output ts [] n plain same operands types h wide t here = absurd here
 given output ts (r ∷ rs) n plain same operands types h wide t here = cc
-given (compreg r) ts rs n plain same operands types h wide t here = by_first ts t rs same here
-given (compreg_ce r) ts rs n plain same operands types h wide t here = by_first ts t rs same here
-given (firreg r) ts rs n plain same operands types h wide t here = by_first ts t rs same here
+given (register f r) ts rs n plain same operands types h wide t here = by_first ts t rs same here
 
 -- ---- values
 

@@ -6,7 +6,7 @@ use Rattle.wiring.specs.Wiring.{In}
 use Rattle.hw_model.specs.Types.{HwType}
 use Rattle.hw_model.specs.Types.HwType.{clock}
 use Rattle.hw_model.specs.Kinds.{Kind}
-use Rattle.hw_model.specs.Kinds.Kind.{add, mul, and, or, xor, struct_explode, instance, output}
+use Rattle.hw_model.specs.Kinds.Kind.{variadic, on_struct, instance, output}
 use Rattle.hw_model.specs.Design.{Ref, Port, OpResult, Op, RegisterForm, instance_in, register_form, is_output_kind, result_type}
 use Rattle.hw_model.specs.Design.Ref.{port, result, undefined}
 use Rattle.hw_model.specs.Flat.{width_of, Register, register_parts, register_in}
@@ -29,7 +29,7 @@ use Rattle.export_verilog.proofs.Registers.{parts_typed, form_fits}
 
 pub one_result : (kind : Kind) (ts : List HwType) → is_aggregate_kind kind ≡ false → (is_some (instance_in kind) || is_output_kind kind) ≡ false → result_count kind ts ≡ 1
 unfolding result_count
-one_result struct_explode ts plain h = cc
+one_result (on_struct s) ts plain h = cc
 one_result (instance i) ts plain h = cc
 one_result output ts plain h = cc
 one_result _ ts plain h = refl
@@ -51,11 +51,7 @@ nothing (x ∷ xs) h = absurd (omega (arith, h))
 -- an operation of any number of operands has one at least
 pub some_operand : (kind : Kind) (ts : List HwType) (n : ℕ) → is_variadic kind ≡ true → n ≡ operand_count kind ts n → 1 ≤ n
 unfolding operand_count
-some_operand add ts n h e = omega (arith, e)
-some_operand mul ts n h e = omega (arith, e)
-some_operand and ts n h e = omega (arith, e)
-some_operand or ts n h e = omega (arith, e)
-some_operand xor ts n h e = omega (arith, e)
+some_operand (variadic v) ts n h e = omega (arith, e)
 some_operand _ ts n h e = cc
 
 -- ---- members

@@ -6,11 +6,12 @@ use Rattle.std.proofs.lemmas.Bool.{ltb-true, ltb-false}
 use Rattle.std.proofs.lemmas.List.{length-append}
 use Rattle.hw_model.specs.Types.{Name, HwType, leaves}
 use Rattle.hw_model.specs.Types.HwType.{int, clock, array, struct}
-use Rattle.hw_model.specs.Kinds.{Kind}
-use Rattle.hw_model.specs.Kinds.Kind.{add, mul, and, or, xor, sub, divu, modu, divs, mods, shl, shru, shrs, icmp, parity, extract, concat, replicate, mux, constant, aggregate_constant, array_create, array_concat, array_get, array_slice, array_inject, struct_create, struct_extract, struct_inject, struct_explode, bitcast, wire, instance, output, compreg, compreg_ce, firreg}
+use Rattle.hw_model.specs.Kinds.{Kind, RegisterOp}
+use Rattle.hw_model.specs.Kinds.RegisterOp.{compreg}
+use Rattle.hw_model.specs.Kinds.Kind.{variadic, sub, division, shift, icmp, parity, extract, concat, replicate, mux, constant, aggregate_constant, on_array, on_struct, bitcast, wire, instance, output, register}
 use Rattle.hw_model.specs.Design.{Port, OpResult, Op, Module, Design, instance_in, is_instance, is_register, is_output_op}
 use Rattle.hw_model.specs.Design.Ref.{result}
-use Rattle.hw_model.specs.Weight.{leaf_count, reset_weight, kind_weight, body_weight, weight_of, module_weight, weight}
+use Rattle.hw_model.specs.Weight.{leaf_count, reset_weight, register_weight, kind_weight, body_weight, weight_of, module_weight, weight}
 use Rattle.ir_store.specs.ResultTypes.{result_count}
 use Rattle.op_verifier.specs.CountChecks.{type_count}
 use Rattle.op_verifier.specs.Verdict.{IsAccepted}
@@ -54,23 +55,18 @@ port_leaves i (p ∷ ps) h =
 some_times : (c k : ℕ) → 1 ≤ c → k ≡ 1 → 1 ≤ c * k
 some_times c k some is = rw is (omega (arith, some))
 
+register_weighs : (f : RegisterOp) → 1 ≤ register_weight f
+register_weighs compreg = omega arith
+register_weighs _ = omega arith
+
 module _ (inner : Name → ℕ) where
   weighs : (kind : Kind) (ts : List HwType) (n : ℕ) → is_aggregate_kind kind ≡ false → list_any is_aggregate ts ≡ false → length ts ≡ type_count kind n
       → 1 ≤ kind_weight inner kind ts n
   unfolding type_count
-  weighs add ts n kind plain types = omega arith
-  weighs mul ts n kind plain types = omega arith
-  weighs and ts n kind plain types = omega arith
-  weighs or ts n kind plain types = omega arith
-  weighs xor ts n kind plain types = omega arith
+  weighs (variadic v) ts n kind plain types = omega arith
   weighs sub ts n kind plain types = omega arith
-  weighs divu ts n kind plain types = omega arith
-  weighs modu ts n kind plain types = omega arith
-  weighs divs ts n kind plain types = omega arith
-  weighs mods ts n kind plain types = omega arith
-  weighs shl ts n kind plain types = omega arith
-  weighs shru ts n kind plain types = omega arith
-  weighs shrs ts n kind plain types = omega arith
+  weighs (division d) ts n kind plain types = omega arith
+  weighs (shift s) ts n kind plain types = omega arith
   weighs (icmp p) ts n kind plain types = omega arith
   weighs parity ts n kind plain types = omega arith
   weighs (extract low) ts n kind plain types = omega arith
@@ -79,22 +75,14 @@ module _ (inner : Name → ℕ) where
   weighs mux ts n kind plain types = some_times 4 (leaf_count ts) (omega arith) (leaves_of_all ts plain ∙ types)
   weighs (constant z) ts n kind plain types = omega arith
   weighs (aggregate_constant ls) ts n kind plain types = cc
-  weighs array_create ts n kind plain types = cc
-  weighs array_concat ts n kind plain types = cc
-  weighs array_get ts n kind plain types = cc
-  weighs array_slice ts n kind plain types = cc
-  weighs array_inject ts n kind plain types = cc
-  weighs struct_create ts n kind plain types = cc
-  weighs (struct_extract name) ts n kind plain types = cc
-  weighs (struct_inject name) ts n kind plain types = cc
-  weighs struct_explode ts n kind plain types = cc
+  weighs (on_array a) ts n kind plain types = cc
+  weighs (on_struct s) ts n kind plain types = cc
   weighs bitcast ts n kind plain types = omega arith
   weighs wire ts n kind plain types = some_times 2 (leaf_count ts) (omega arith) (leaves_of_all ts plain ∙ types)
   weighs (instance i) ts n kind plain types = omega arith
   weighs output ts n kind plain types = omega arith
-  weighs (compreg r) ts n kind plain types = some_times (3 + reset_weight r) (leaf_count ts) (omega arith) (leaves_of_all ts plain ∙ types)
-  weighs (compreg_ce r) ts n kind plain types = some_times (7 + reset_weight r) (leaf_count ts) (omega arith) (leaves_of_all ts plain ∙ types)
-  weighs (firreg r) ts n kind plain types = some_times (3 + reset_weight r) (leaf_count ts) (omega arith) (leaves_of_all ts plain ∙ types)
+  weighs (register f r) ts n kind plain types =
+      some_times (register_weight f + reset_weight r) (leaf_count ts) (let some = register_weighs f in omega (arith, some)) (leaves_of_all ts plain ∙ types)
 
   -- an instance weighs more than its results are
   instance_weighs : (kind : Kind) (ts : List HwType) (n count : ℕ) → is_some (instance_in kind) ≡ true → list_any is_aggregate ts ≡ false → count ≡ result_count kind ts

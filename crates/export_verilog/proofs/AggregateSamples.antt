@@ -3,7 +3,9 @@ use Rattle.std.proofs.Common.{◌≡◌, [], ◌∷◌, Some, refl, codes}
 use Rattle.std.proofs.Common.{pos}
 use Rattle.diag.specs.declared.cause.Cause.TheVariants.{OutsideProfile}
 use Rattle.hw_model.specs.Types.HwType.{int, clock, array}
-use Rattle.hw_model.specs.Kinds.Kind.{array_get, bitcast, constant, firreg, output}
+use Rattle.hw_model.specs.Kinds.ArrayOp.{array_get}
+use Rattle.hw_model.specs.Kinds.RegisterOp.{firreg}
+use Rattle.hw_model.specs.Kinds.Kind.{constant, on_array, bitcast, output, register}
 use Rattle.hw_model.specs.Kinds.Reset.{no_reset}
 use Rattle.hw_model.specs.Design.{Op, Module}
 use Rattle.hw_model.specs.Design.Ref.{port, result}
@@ -15,7 +17,7 @@ use Rattle.export_verilog.specs.Aggregates.{first_aggregate, HasNoAggregates}
 abbrev plain_module : Module
 plain_module =
     module_of (codes "Plain") (in_port (codes "clk") clock ∷ in_port (codes "d") (int 8) ∷ out_port (codes "q") (int 8) ∷ [])
-    (operation (firreg no_reset) (port 1 ∷ port 0 ∷ []) (int 8 ∷ []) (int 8 ∷ []) ∷ operation output (result 0 0 ∷ []) (int 8 ∷ []) [] ∷ [])
+    (operation (register firreg no_reset) (port 1 ∷ port 0 ∷ []) (int 8 ∷ []) (int 8 ∷ []) ∷ operation output (result 0 0 ∷ []) (int 8 ∷ []) [] ∷ [])
 
 -- bits read as an array, and an element of it
 abbrev as_array : Op
@@ -26,7 +28,7 @@ inner_module =
     module_of (codes "Inner") (in_port (codes "a") (int 8) ∷ out_port (codes "y") (int 4) ∷ [])
     (operation (constant (pos 1)) [] (int 1 ∷ []) (int 1 ∷ [])
     ∷ as_array
-    ∷ operation array_get (result 1 0 ∷ result 0 0 ∷ []) (array 2 (int 4) ∷ int 1 ∷ []) (int 4 ∷ [])
+    ∷ operation (on_array array_get) (result 1 0 ∷ result 0 0 ∷ []) (array 2 (int 4) ∷ int 1 ∷ []) (int 4 ∷ [])
     ∷ operation output (result 2 0 ∷ []) (int 4 ∷ []) [] ∷ [])
 
 -- a port that is an array

@@ -5,8 +5,8 @@ use Rattle.hw_model.specs.Types.{Name, HwType}
 use Rattle.hw_model.specs.Types.HwType.{int, clock}
 use Rattle.hw_model.specs.Kinds.{Kind, Reset}
 use Rattle.hw_model.specs.Kinds.Reset.{no_reset, sync_reset}
-use Rattle.hw_model.specs.Kinds.Kind.{compreg, compreg_ce, firreg}
-use Rattle.hw_model.specs.Design.{Ref, OpResult, Op, Module, Design, RegisterForm, find_module, register_form, result_type}
+use Rattle.hw_model.specs.Kinds.Kind.{register}
+use Rattle.hw_model.specs.Design.{Ref, OpResult, Op, Module, Design, RegisterForm, takes_enable, find_module, register_form, result_type}
 use Rattle.hw_model.specs.Flat.{Register, ResetBy, register_parts, register_in}
 use Rattle.hw_model.specs.Sound.{type_in, register_types, Fits}
 use Rattle.export_verilog.specs.Keys.{role_of}
@@ -81,9 +81,8 @@ module _ (type_of : Ref → Option HwType) (t : HwType) where
 
 pub form_fits : (kind : Kind) (f : RegisterForm) (ts : List HwType) (xs : List (Option HwType)) (t : HwType) (k : ℕ) → register_form kind ≡ Some f → Fits kind ts xs t k
     → xs ≡ register_types f.has_enable f.reset t
-form_fits (compreg r) f ts xs t k is fits = fits ∙ ap (λ (z : RegisterForm). register_types z.has_enable z.reset t) (let e : record { has_enable = false; reset = r } ≡ f = cc in e)
-form_fits (compreg_ce r) f ts xs t k is fits = fits ∙ ap (λ (z : RegisterForm). register_types z.has_enable z.reset t) (let e : record { has_enable = true; reset = r } ≡ f = cc in e)
-form_fits (firreg r) f ts xs t k is fits = fits ∙ ap (λ (z : RegisterForm). register_types z.has_enable z.reset t) (let e : record { has_enable = false; reset = r } ≡ f = cc in e)
+form_fits (register g r) f ts xs t k is fits =
+    fits ∙ ap (λ (z : RegisterForm). register_types z.has_enable z.reset t) (let e : record { has_enable = takes_enable g; reset = r } ≡ f = cc in e)
 form_fits kind f ts xs t k is fits = cc
 
 module _ (d : Design) (x : Setting d) (s : Name) (m : Module) (is : find_module d s ≡ Some m) where

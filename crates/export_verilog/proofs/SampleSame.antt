@@ -4,7 +4,8 @@ use Rattle.wiring.specs.Wiring.{In}
 use Rattle.wiring.specs.Options.{bind}
 use Rattle.hw_model.specs.Types.{Name, HwType, width}
 use Rattle.hw_model.specs.Types.HwType.{int, clock}
-use Rattle.hw_model.specs.Kinds.Kind.{constant, output, compreg_ce}
+use Rattle.hw_model.specs.Kinds.RegisterOp.{compreg_ce}
+use Rattle.hw_model.specs.Kinds.Kind.{constant, output, register}
 use Rattle.hw_model.specs.Kinds.Reset.{sync_reset}
 use Rattle.hw_model.specs.Design.{Ref, Port, OpResult, Op, Module, Design, same_name, find_module, callee}
 use Rattle.hw_model.specs.Design.Ref.{port, result, undefined}
@@ -30,7 +31,7 @@ abbrev nine_op : Op
 nine_op = operation (constant (pos 9)) [] (int 8 ∷ []) (int 8 ∷ [])
 
 abbrev register_op : Op
-register_op = operation (compreg_ce sync_reset) (port 3 ∷ port 0 ∷ port 2 ∷ port 1 ∷ result 0 0 ∷ []) (int 8 ∷ []) (int 8 ∷ [])
+register_op = operation (register compreg_ce sync_reset) (port 3 ∷ port 0 ∷ port 2 ∷ port 1 ∷ result 0 0 ∷ []) (int 8 ∷ []) (int 8 ∷ [])
 
 abbrev output_op : Op
 output_op = operation output (result 1 0 ∷ []) (int 8 ∷ []) []

@@ -3,7 +3,8 @@ use Rattle.std.proofs.Common.{◌≡◌, ℕ, List, [], ◌∷◌, ◌++◌, ref
 use Rattle.hw_model.specs.Types.{Name}
 use Rattle.std.proofs.Common.{pos, None}
 use Rattle.hw_model.specs.Types.HwType.{int, clock}
-use Rattle.hw_model.specs.Kinds.Kind.{constant, instance, output, compreg_ce}
+use Rattle.hw_model.specs.Kinds.RegisterOp.{compreg_ce}
+use Rattle.hw_model.specs.Kinds.Kind.{constant, instance, output, register}
 use Rattle.hw_model.specs.Kinds.Reset.{sync_reset}
 use Rattle.hw_model.specs.Design.{Ref, Port, Op, Module, Design}
 use Rattle.hw_model.specs.Design.Ref.{port, result}
@@ -26,7 +27,7 @@ abbrev pub register_module : Module
 register_module =
     module_of (codes "Reg") (register_ports ++ out_port (codes "q") (int 8) ∷ [])
     (operation (constant (pos 9)) [] (int 8 ∷ []) (int 8 ∷ [])
-    ∷ operation (compreg_ce sync_reset) (port 3 ∷ port 0 ∷ port 2 ∷ port 1 ∷ result 0 0 ∷ []) (int 8 ∷ []) (int 8 ∷ [])
+    ∷ operation (register compreg_ce sync_reset) (port 3 ∷ port 0 ∷ port 2 ∷ port 1 ∷ result 0 0 ∷ []) (int 8 ∷ []) (int 8 ∷ [])
     ∷ operation output (result 1 0 ∷ []) (int 8 ∷ []) [] ∷ [])
 
 abbrev instance_of : Name → List Ref → Op

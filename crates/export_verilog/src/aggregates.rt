@@ -3,6 +3,7 @@ ghost use Rattle.std.specs.Prelude.{◌≡◌, map, IfOk};
 ghost use Rattle.std.specs.List.{list_any};
 ghost use Rattle.hw_model.specs.TypeViews.{type_of};
 ghost use Rattle.hw_model.specs.KindViews.{kind_of};
+ghost use Rattle.hw_model.specs.FamilyViews.{family_of};
 ghost use Rattle.hw_model.specs.Design.{Port as HwPort, OpResult};
 ghost use Rattle.ir_store.specs.Bodies.{ops_of};
 ghost use Rattle.ir_store.specs.Designs.{design_of, module_of, numbered_module, port_of};
@@ -15,12 +16,13 @@ ghost use Rattle.export_verilog.specs.Aggregates.{is_aggregate, has_aggregate_po
 use design_cycles::{ids_in, op_at};
 use diag::cause::Cause;
 use diag::refusal::Refusal;
+use hw_model::families::Family;
 use hw_model::kinds::OpKind;
 use hw_model::types::Ty;
 use ir_store::body::{Body, Op};
 use ir_store::design::{Design, Module, Port};
 use ir_store::operation::NewResult;
-use op_verifier::{listed_of, refused_at};
+use op_verifier::refused_at;
 use opcode::listed::Listed;
 use std::alloc::{AllocError, Global};
 
@@ -57,7 +59,7 @@ fn body_aggregate(alloc: Global, body: &Body) -> Result<Option<Refusal>, AllocEr
     for place in 0..ids.len() {
         let op = op_at(body, ids.as_slice(), place);
         if has_aggregate(&op) {
-            let refusal = refused_at(op.place, listed_of(op.kind), Cause::OutsideProfile);
+            let refusal = refused_at(op.place, op.kind.listed(), Cause::OutsideProfile);
             return Ok(Some(refusal));
         }
     }
@@ -122,43 +124,15 @@ fn is_aggregate(ty: &Ty) -> bool
 fn is_aggregate_kind(kind: &OpKind) -> bool
     ensures { result ≡ is_aggregate_kind (kind_of kind.now) }
 {
-    match kind {
-        OpKind::AggregateConstant(_)
-        | OpKind::ArrayCreate
-        | OpKind::ArrayConcat
-        | OpKind::ArrayGet
-        | OpKind::ArraySlice
-        | OpKind::ArrayInject
-        | OpKind::StructCreate
-        | OpKind::StructExtract(_)
-        | OpKind::StructInject(_)
-        | OpKind::StructExplode => true,
-        OpKind::Add
-        | OpKind::Mul
-        | OpKind::And
-        | OpKind::Or
-        | OpKind::Xor
-        | OpKind::Sub
-        | OpKind::Divu
-        | OpKind::Modu
-        | OpKind::Divs
-        | OpKind::Mods
-        | OpKind::Shl
-        | OpKind::Shru
-        | OpKind::Shrs
-        | OpKind::Icmp(_)
-        | OpKind::Parity
-        | OpKind::Extract(_)
-        | OpKind::Concat
-        | OpKind::Replicate
-        | OpKind::Mux
-        | OpKind::Constant(_)
-        | OpKind::Bitcast
-        | OpKind::Wire
-        | OpKind::Instance(_)
-        | OpKind::Output
-        | OpKind::CompReg(_)
-        | OpKind::CompRegCe(_)
-        | OpKind::FirReg(_) => false,
+    is_aggregate_family(kind.family())
+}
+
+/// The same, by the family.
+fn is_aggregate_family(family: Family<'_>) -> bool
+    ensures { result ≡ is_aggregate_kind (family_of family.entry) }
+{
+    match family {
+        Family::AggregateConstant(_) | Family::Array(_) | Family::Struct(_) => true,
+        _ => false,
     }
 }

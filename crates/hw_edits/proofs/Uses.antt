@@ -8,7 +8,8 @@ use Rattle.wiring.proofs.Members.{In-map}
 use Rattle.bits_core.specs.Word.{Word, bits_of_ℤ}
 use Rattle.hw_model.specs.Types.{HwType, width}
 use Rattle.hw_model.specs.Kinds.Reset.{no_reset}
-use Rattle.hw_model.specs.Kinds.Kind.{wire, constant, mux, compreg, compreg_ce}
+use Rattle.hw_model.specs.Kinds.RegisterOp.{compreg, compreg_ce}
+use Rattle.hw_model.specs.Kinds.Kind.{mux, constant, wire, register}
 use Rattle.hw_model.specs.Types.HwType.{int, clock}
 use Rattle.hw_model.specs.Design.{Ref, Op, Module, Design, find_module, nowhere_place, result_type}
 use Rattle.hw_model.specs.Design.Ref.{result}
@@ -174,12 +175,12 @@ copy_out d m md i j o copy t valid at_m there also other plain kinds types opera
 
 -- a register with an enable that has a choice of its data and its own value at hand takes that choice in place of both
 pub enable_out : (d : Design) (m : ℕ) (md : Module) (i j : ℕ) (o choice : Op) (t : HwType) (x c e : Ref) → Valid d → slice_get d m ≡ Some md
-    → find_module d md.symbol ≡ Some md → slice_get md.body i ≡ Some o → o.kind ≡ compreg_ce no_reset → o.operands ≡ x ∷ c ∷ e ∷ []
+    → find_module d md.symbol ≡ Some md → slice_get md.body i ≡ Some o → o.kind ≡ register compreg_ce no_reset → o.operands ≡ x ∷ c ∷ e ∷ []
     → result_type o 0 ≡ Some t → ((k : ℕ) → result_type o (suc k) ≡ None)
     → slice_get md.body j ≡ Some choice → choice.kind ≡ mux → choice.operands ≡ e ∷ x ∷ result i 0 ∷ [] → result_type choice 0 ≡ Some t
-    → Follows d (with_body d m md (set md.body i (record o { kind = compreg no_reset; operands = result j 0 ∷ c ∷ [] })))
+    → Follows d (with_body d m md (set md.body i (record o { kind = register compreg no_reset; operands = result j 0 ∷ c ∷ [] })))
 enable_out d m md i j o choice t x c e valid at_m found there kind operands typed no_more chosen is_mux chosen_from chosen_type =
-    register_follows d m md i o (record o { kind = compreg no_reset; operands = result j 0 ∷ c ∷ [] }) valid at_m (record {
+    register_follows d m md i o (record o { kind = register compreg no_reset; operands = result j 0 ∷ c ∷ [] }) valid at_m (record {
       there = there;
       old_register = rw kind refl;
       new_register = refl;
@@ -188,9 +189,9 @@ enable_out d m md i j o choice t x c e valid at_m found there kind operands type
       loads = loads;
     })
   where
-    old_fits : Fits (compreg_ce no_reset) o.types (map (type_in md.ports md.body) (x ∷ c ∷ e ∷ [])) t 0
+    old_fits : Fits (register compreg_ce no_reset) o.types (map (type_in md.ports md.body) (x ∷ c ∷ e ∷ [])) t 0
     old_fits =
-        subst (λ rs. Fits (compreg_ce no_reset) o.types (map (type_in md.ports md.body) rs) t 0) operands
+        subst (λ rs. Fits (register compreg_ce no_reset) o.types (map (type_in md.ports md.body) rs) t 0) operands
         (subst (λ z. Fits z o.types (map (type_in md.ports md.body) o.operands) t 0) kind ((valid.sound md.symbol md found).ops i o there 0 t typed))
 
     clock_type : type_in md.ports md.body c ≡ Some clock
@@ -200,7 +201,7 @@ enable_out d m md i j o choice t x c e valid at_m found there kind operands type
     choice_type : type_in md.ports md.body (result j 0) ≡ Some t
     choice_type = ap (λ z. bind z (λ (y : Op). result_type y 0)) chosen ∙ chosen_type
 
-    fits : OpFits (type_in md.ports md.body) (record o { kind = compreg no_reset; operands = result j 0 ∷ c ∷ [] })
+    fits : OpFits (type_in md.ports md.body) (record o { kind = register compreg no_reset; operands = result j 0 ∷ c ∷ [] })
     fits zero u is =
         let both : Some t ≡ Some u = sym typed ∙ is in
         let same : t ≡ u = cc in
@@ -211,7 +212,7 @@ enable_out d m md i j o choice t x c e valid at_m found there kind operands type
     plain = rw is_mux refl
 
     loads : (τ : Ref → Word) → Holds md.body τ → Wide md.ports md.body τ → (old : Word) → τ (result i 0) ≡ old
-        → loaded (register_in (record o { kind = compreg no_reset; operands = result j 0 ∷ c ∷ [] })) τ old ≡ loaded (register_in o) τ old
+        → loaded (register_in (record o { kind = register compreg no_reset; operands = result j 0 ∷ c ∷ [] })) τ old ≡ loaded (register_in o) τ old
     loads τ holds wide old is =
         let says : word_of τ 0 (slice_get md.body j) ≡ Some (cond (is_high (τ e)) (τ x) (τ (result i 0))) =
         ap (word_of τ 0) chosen ∙ plain_word τ 0 choice plain

@@ -7,7 +7,9 @@ use Rattle.hw_model.specs.Types.HwType.{int, array, struct}
 use Rattle.hw_model.specs.Types.FieldTypes.{no_fields}
 use Rattle.hw_model.specs.Kinds.Literal.{leaf, parts}
 use Rattle.hw_model.specs.Kinds.Literals.{no_literals, literal}
-use Rattle.hw_model.specs.Kinds.Kind.{constant, mux, aggregate_constant, array_get, array_slice, array_inject, struct_extract, wire, output}
+use Rattle.hw_model.specs.Kinds.ArrayOp.{array_get, array_slice, array_inject}
+use Rattle.hw_model.specs.Kinds.StructOp.{struct_extract}
+use Rattle.hw_model.specs.Kinds.Kind.{mux, constant, aggregate_constant, on_array, on_struct, wire, output}
 use Rattle.hw_model.specs.Design.{Ref, Module, Design}
 use Rattle.hw_model.specs.Design.Ref.{port, result, undefined}
 use Rattle.hw_model.specs.Flat.{Net, Path, net, module_at, source}
@@ -41,27 +43,27 @@ suits_no_empty_part : ¬ Suits (aggregate_constant (literal (leaf (pos 1) (int 0
 suits_no_empty_part suit = absurd (omega (arith, suit.0.0))
 
 -- an element of an array is taken by an index of one bit, and by none without bits
-suits_element : Suits array_get (array 2 (int 8) ∷ []) (int 8) ([] ∷ (true ∷ []) ∷ [])
+suits_element : Suits (on_array array_get) (array 2 (int 8) ∷ []) (int 8) ([] ∷ (true ∷ []) ∷ [])
 suits_element = (omega arith, (omega arith, omega arith))
 
-suits_no_element : ¬ Suits array_get (array 2 (int 8) ∷ []) (int 8) ([] ∷ [] ∷ [])
+suits_no_element : ¬ Suits (on_array array_get) (array 2 (int 8) ∷ []) (int 8) ([] ∷ [] ∷ [])
 suits_no_element suit = absurd (omega (arith, suit.1.0))
 
-suits_no_array : ¬ Suits array_get (int 8 ∷ []) (int 8) ([] ∷ (true ∷ []) ∷ [])
+suits_no_array : ¬ Suits (on_array array_get) (int 8 ∷ []) (int 8) ([] ∷ (true ∷ []) ∷ [])
 suits_no_array suit = suit.0
 
 -- a slice of an array type
-suits_slice : Suits array_slice (array 4 (int 8) ∷ []) (array 2 (int 8)) ([] ∷ (true ∷ []) ∷ [])
+suits_slice : Suits (on_array array_slice) (array 4 (int 8) ∷ []) (array 2 (int 8)) ([] ∷ (true ∷ []) ∷ [])
 suits_slice = (omega arith, ((omega arith, omega arith), omega arith))
 
-suits_put : Suits array_inject (array 4 (int 8) ∷ []) (array 4 (int 8)) ([] ∷ (true ∷ []) ∷ [] ∷ [])
+suits_put : Suits (on_array array_inject) (array 4 (int 8) ∷ []) (array 4 (int 8)) ([] ∷ (true ∷ []) ∷ [] ∷ [])
 suits_put = (omega arith, (omega arith, omega arith))
 
 -- a field of a struct is taken of one word, and of no other type
-suits_field : Suits (struct_extract []) (struct no_fields ∷ []) (int 8) ([] ∷ [])
+suits_field : Suits (on_struct (struct_extract [])) (struct no_fields ∷ []) (int 8) ([] ∷ [])
 suits_field = (tt, refl)
 
-suits_no_struct : ¬ Suits (struct_extract []) [] (int 8) ([] ∷ [])
+suits_no_struct : ¬ Suits (on_struct (struct_extract [])) [] (int 8) ([] ∷ [])
 suits_no_struct suit = suit.0
 
 -- the largest number that is counted

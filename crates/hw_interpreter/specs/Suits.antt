@@ -3,10 +3,12 @@ use Rattle.std.specs.Prelude.{◌≡◌, ℕ, ◌+◌, ◌-◌, ◌^◌, ◌≤�
 use Rattle.bits_core.specs.Word.{Word, number}
 use Rattle.hw_model.specs.Types.{HwType, width}
 use Rattle.hw_model.specs.Types.HwType.{array, struct}
-use Rattle.hw_model.specs.Kinds.{Kind, Literal, Literals}
+use Rattle.hw_model.specs.Kinds.{Kind, Literal, Literals, ArrayOp, StructOp}
 use Rattle.hw_model.specs.Kinds.Literal.{leaf, parts}
 use Rattle.hw_model.specs.Kinds.Literals.{no_literals, literal}
-use Rattle.hw_model.specs.Kinds.Kind.{concat, mux, aggregate_constant, array_create, array_concat, array_get, array_slice, array_inject, struct_create, struct_extract, struct_inject, struct_explode, bitcast, wire, instance, output, compreg, compreg_ce, firreg}
+use Rattle.hw_model.specs.Kinds.ArrayOp.{array_create, array_concat, array_get, array_slice, array_inject}
+use Rattle.hw_model.specs.Kinds.StructOp.{struct_create, struct_extract, struct_inject, struct_explode}
+use Rattle.hw_model.specs.Kinds.Kind.{concat, mux, aggregate_constant, on_array, on_struct, bitcast, wire, instance, output, register}
 use Rattle.hw_model.specs.IntegerKinds.{TakesWords, OfTwo}
 
 -- a width that integers have
@@ -65,25 +67,31 @@ IsOnIntegers _ = ⊤
 abbrev pub SuitIntegers : Kind → ℕ → List Word → Type 0
 SuitIntegers kind w xs = IsIntegerWidth w × All IsInteger xs × TakesWords kind w xs
 
+-- an operation on arrays that writes the types `ts`, with a result of type t, takes the words
+abbrev pub ArraySuits : ArrayOp → List HwType → HwType → List Word → Type 0
+ArraySuits array_create ts t xs = ⊤
+ArraySuits array_concat ts t xs = ⊤
+ArraySuits array_get ts t xs = OnFirst IsArray ts × OfTwo (λ a i. IsInteger i) xs
+ArraySuits array_slice ts t xs = OnFirst IsArray ts × OfTwo (λ a i. IsInteger i × ReachesFrom (number i) t) xs
+ArraySuits array_inject ts t xs = OnFirst IsArray ts × OfThree (λ a i v. IsInteger i) xs
+
+-- an operation on structs
+abbrev pub StructSuits : StructOp → List HwType → List Word → Type 0
+StructSuits struct_create ts xs = ⊤
+StructSuits (struct_extract name) ts xs = OnFirst IsStruct ts × (length xs ≡ 1)
+StructSuits (struct_inject name) ts xs = OnFirst IsStruct ts × (length xs ≡ 2)
+StructSuits struct_explode ts xs = OnFirst IsStruct ts × (length xs ≡ 1)
+
 -- an operation that writes the types `ts`, with a result of type t, takes the words
 abbrev pub Suits : Kind → List HwType → HwType → List Word → Type 0
 Suits (aggregate_constant ls) ts t xs = HaveIntegers ls
 Suits concat ts t xs = ⊤
-Suits array_create ts t xs = ⊤
-Suits array_concat ts t xs = ⊤
-Suits struct_create ts t xs = ⊤
 Suits mux ts t xs = length xs ≡ 3
 Suits bitcast ts t xs = length xs ≡ 1
 Suits wire ts t xs = length xs ≡ 1
-Suits array_get ts t xs = OnFirst IsArray ts × OfTwo (λ a i. IsInteger i) xs
-Suits array_slice ts t xs = OnFirst IsArray ts × OfTwo (λ a i. IsInteger i × ReachesFrom (number i) t) xs
-Suits array_inject ts t xs = OnFirst IsArray ts × OfThree (λ a i v. IsInteger i) xs
-Suits (struct_extract name) ts t xs = OnFirst IsStruct ts × (length xs ≡ 1)
-Suits (struct_inject name) ts t xs = OnFirst IsStruct ts × (length xs ≡ 2)
-Suits struct_explode ts t xs = OnFirst IsStruct ts × (length xs ≡ 1)
+Suits (on_array a) ts t xs = ArraySuits a ts t xs
+Suits (on_struct s) ts t xs = StructSuits s ts xs
 Suits (instance i) ts t xs = ⊤
 Suits output ts t xs = ⊤
-Suits (compreg r) ts t xs = ⊤
-Suits (compreg_ce r) ts t xs = ⊤
-Suits (firreg r) ts t xs = ⊤
+Suits (register f r) ts t xs = ⊤
 Suits kind ts t xs = SuitIntegers kind (width t) xs

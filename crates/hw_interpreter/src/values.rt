@@ -6,15 +6,17 @@ ghost use Rattle.hw_model.specs.Types.{width};
 ghost use Rattle.hw_model.specs.Types.HwType.{int, array};
 ghost use Rattle.hw_model.specs.TypeViews.{type_of, field_of as named_type, fields_of, fields_in};
 ghost use Rattle.hw_model.specs.KindViews.{kind_of, literal_of, literals_in, literals_of, integer_of};
+ghost use Rattle.hw_model.specs.FamilyViews.{family_of, array_op_of, struct_op_of};
 ghost use Rattle.hw_model.specs.IntegerKinds.{TakesWords, AllHave, OfOne, OfTwo};
-ghost use Rattle.hw_model.specs.Value.{op_value, joined, of_one, of_two, of_three, is_high, word_of_literal, word_of_literals, element, elements_from, slice_of, injected_below, injected, field_of, with_field, field_at, fields, written};
-ghost use Rattle.hw_interpreter.specs.Suits.{IsIntegerWidth, IsInteger, IsCounted, HasIntegers, HaveIntegers, OfThree, OnFirst, IsArray, IsStruct, ReachesFrom, IsOnIntegers, SuitIntegers, Suits};
+ghost use Rattle.hw_model.specs.Value.{op_value, array_value, struct_value, joined, of_one, of_two, of_three, is_high, word_of_literal, word_of_literals, element, elements_from, slice_of, injected_below, injected, field_of, with_field, field_at, fields, written};
+ghost use Rattle.hw_interpreter.specs.Suits.{IsIntegerWidth, IsInteger, IsCounted, HasIntegers, HaveIntegers, OfThree, OnFirst, IsArray, IsStruct, ReachesFrom, IsOnIntegers, SuitIntegers, ArraySuits, StructSuits, Suits};
 ghost use Rattle.hw_interpreter.specs.declared.refusal.Refusal.TheVariants.{NotFitting};
 
 use crate::bit_string::{BitString, bits_of};
 use crate::refusal::Refusal;
 use bits_core::Bits;
-use hw_model::integer_values::op_value;
+use hw_model::families::{ArrayOp, Family, StructOp};
+use hw_model::integer_values::family_value;
 use hw_model::kinds::{Integer, Literal, LiteralList, OpKind};
 use hw_model::types::{Field, Ty};
 use std::alloc::{AllocError, Global};
@@ -37,26 +39,78 @@ pub fn value_of(
     ensures suits { OnOk result (Suits (kind_of kind.now) (map type_of types.now) (type_of ty.now) operands.now) }
     ensures refuses { IsErrOf result NotFitting → ¬ Suits (kind_of kind.now) (map type_of types.now) (type_of ty.now) operands.now }
 {
-    match kind {
-        OpKind::AggregateConstant(list) => literals_word(alloc, list),
-        OpKind::Concat | OpKind::ArrayCreate | OpKind::ArrayConcat | OpKind::StructCreate => {
+    family_word(alloc, kind.family(), types, ty, index, operands)
+}
+
+// the same, by the family
+fn family_word(
+    alloc: Global,
+    family: Family<'_>,
+    types: &[Ty],
+    ty: &Ty,
+    index: u32,
+    operands: &[BitString],
+) -> Result<BitString, Refusal>
+    ensures value { IfOk result (λ word. word ≡ op_value (family_of family.entry) (map type_of types.now) (type_of ty.now) index operands.now) }
+    ensures suits { OnOk result (Suits (family_of family.entry) (map type_of types.now) (type_of ty.now) operands.now) }
+    ensures refuses { IsErrOf result NotFitting → ¬ Suits (family_of family.entry) (map type_of types.now) (type_of ty.now) operands.now }
+{
+    match family {
+        Family::AggregateConstant(list) => literals_word(alloc, list),
+        Family::Concat => {
             let word = joined(alloc, operands)?;
             Ok(word)
         }
-        OpKind::Mux => chosen(alloc, operands),
-        OpKind::Bitcast | OpKind::Wire => passed(alloc, operands),
-        OpKind::ArrayGet => element_got(alloc, types, operands),
-        OpKind::ArraySlice => slice_got(alloc, types, ty, operands),
-        OpKind::ArrayInject => element_put(alloc, types, operands),
-        OpKind::StructExtract(name) => field_got(alloc, types, name.as_bytes(), operands),
-        OpKind::StructInject(name) => field_put(alloc, types, name.as_bytes(), operands),
-        OpKind::StructExplode => field_numbered(alloc, types, index, operands),
-        OpKind::Instance(_)
-        | OpKind::Output
-        | OpKind::CompReg(_)
-        | OpKind::CompRegCe(_)
-        | OpKind::FirReg(_) => Ok(BitString::new(alloc)),
-        _ => integer_value(alloc, kind, ty, operands),
+        Family::Mux => chosen(alloc, operands),
+        Family::Bitcast | Family::Wire => passed(alloc, operands),
+        Family::Array(op) => array_word(alloc, op, types, ty, operands),
+        Family::Struct(op) => struct_word(alloc, op, types, index, operands),
+        Family::Instance(_) | Family::Output | Family::Register(_, _) => Ok(BitString::new(alloc)),
+        _ => integer_value(alloc, family, ty, operands),
+    }
+}
+
+fn array_word(
+    alloc: Global,
+    op: ArrayOp,
+    types: &[Ty],
+    ty: &Ty,
+    operands: &[BitString],
+) -> Result<BitString, Refusal>
+    ensures value { IfOk result (λ word. word ≡ array_value (array_op_of op) (written (map type_of types.now) 0) (type_of ty.now) operands.now) }
+    ensures suits { OnOk result (ArraySuits (array_op_of op) (map type_of types.now) (type_of ty.now) operands.now) }
+    ensures refuses { IsErrOf result NotFitting → ¬ ArraySuits (array_op_of op) (map type_of types.now) (type_of ty.now) operands.now }
+{
+    match op {
+        ArrayOp::Create | ArrayOp::Concat => {
+            let word = joined(alloc, operands)?;
+            Ok(word)
+        }
+        ArrayOp::Get => element_got(alloc, types, operands),
+        ArrayOp::Slice => slice_got(alloc, types, ty, operands),
+        ArrayOp::Inject => element_put(alloc, types, operands),
+    }
+}
+
+fn struct_word(
+    alloc: Global,
+    op: StructOp<'_>,
+    types: &[Ty],
+    index: u32,
+    operands: &[BitString],
+) -> Result<BitString, Refusal>
+    ensures value { IfOk result (λ word. word ≡ struct_value (struct_op_of op.entry) (fields (written (map type_of types.now) 0)) index operands.now) }
+    ensures suits { OnOk result (StructSuits (struct_op_of op.entry) (map type_of types.now) operands.now) }
+    ensures refuses { IsErrOf result NotFitting → ¬ StructSuits (struct_op_of op.entry) (map type_of types.now) operands.now }
+{
+    match op {
+        StructOp::Create => {
+            let word = joined(alloc, operands)?;
+            Ok(word)
+        }
+        StructOp::Extract(name) => field_got(alloc, types, name.as_bytes(), operands),
+        StructOp::Inject(name) => field_put(alloc, types, name.as_bytes(), operands),
+        StructOp::Explode => field_numbered(alloc, types, index, operands),
     }
 }
 
@@ -65,21 +119,21 @@ pub fn value_of(
 // the value of an operation on integers that takes these words
 fn integer_value(
     alloc: Global,
-    kind: &OpKind,
+    family: Family<'_>,
     ty: &Ty,
     operands: &[BitString],
 ) -> Result<BitString, Refusal>
-    ensures value { IfOk result (λ word. TakesWords (kind_of kind.now) (width (type_of ty.now)) operands.now
-        × (word ≡ op_value (kind_of kind.now) [] (int (width (type_of ty.now))) 0 operands.now)) }
-    ensures suits { OnOk result (SuitIntegers (kind_of kind.now) (width (type_of ty.now)) operands.now) }
-    ensures refuses { IsErrOf result NotFitting → IsOnIntegers (kind_of kind.now) → ¬ SuitIntegers (kind_of kind.now) (width (type_of ty.now)) operands.now }
+    ensures value { IfOk result (λ word. TakesWords (family_of family.entry) (width (type_of ty.now)) operands.now
+        × (word ≡ op_value (family_of family.entry) [] (int (width (type_of ty.now))) 0 operands.now)) }
+    ensures suits { OnOk result (SuitIntegers (family_of family.entry) (width (type_of ty.now)) operands.now) }
+    ensures refuses { IsErrOf result NotFitting → IsOnIntegers (family_of family.entry) → ¬ SuitIntegers (family_of family.entry) (width (type_of ty.now)) operands.now }
 {
     let width = integer_width(ty)?;
     let words = integer_words(alloc, operands)?;
-    if !takes_words(kind, width, words.as_slice()) {
+    if !takes_words(family, width, words.as_slice()) {
         return Err(Refusal::NotFitting);
     }
-    let word = BitString::from_bits(alloc, &op_value(kind, width, words.as_slice()))?;
+    let word = BitString::from_bits(alloc, &family_value(family, width, words.as_slice()))?;
     Ok(word)
 }
 
@@ -108,21 +162,18 @@ fn integer_words(alloc: Global, operands: &[BitString]) -> Result<Vec<Bits>, Ref
 }
 
 // whether the kind is one of integers that takes these words
-fn takes_words(kind: &OpKind, width: u32, words: &[Bits]) -> bool
-    ensures only { IsTrue result → TakesWords (kind_of kind.now) width words.now }
-    ensures every { IsOnIntegers (kind_of kind.now) → TakesWords (kind_of kind.now) width words.now → IsTrue result }
+fn takes_words(family: Family<'_>, width: u32, words: &[Bits]) -> bool
+    ensures only { IsTrue result → TakesWords (family_of family.entry) width words.now }
+    ensures every { IsOnIntegers (family_of family.entry) → TakesWords (family_of family.entry) width words.now → IsTrue result }
 {
-    match kind {
-        OpKind::Add | OpKind::Mul | OpKind::And | OpKind::Or | OpKind::Xor => all_have(
-            width, words,
-        ),
-        OpKind::Sub | OpKind::Divu | OpKind::Modu | OpKind::Divs | OpKind::Mods | OpKind::Icmp(_) =>
-            are_two_alike(words),
-        OpKind::Shl | OpKind::Shru | OpKind::Shrs => words.len() == 2,
-        OpKind::Parity => words.len() == 1,
-        OpKind::Extract(low) => is_one_reaching(u64::from(*low) + u64::from(width), words),
-        OpKind::Replicate => is_one_dividing(width, words),
-        OpKind::Constant(_) => words.is_empty(),
+    match family {
+        Family::Variadic(_) => all_have(width, words),
+        Family::Sub | Family::Division(_) | Family::Icmp(_) => are_two_alike(words),
+        Family::Shift(_) => words.len() == 2,
+        Family::Parity => words.len() == 1,
+        Family::Extract(low) => is_one_reaching(u64::from(low) + u64::from(width), words),
+        Family::Replicate => is_one_dividing(width, words),
+        Family::Constant(_) => words.is_empty(),
         _ => false,
     }
 }
@@ -331,7 +382,7 @@ fn leaf_word(alloc: Global, value: Integer, ty: &Ty) -> Result<BitString, Refusa
     ensures refuses { IsErrOf result NotFitting → ¬ IsIntegerWidth (width (type_of ty.now)) }
 {
     let width = integer_width(ty)?;
-    let word = op_value(&OpKind::Constant(value), width, &[]);
+    let word = family_value(Family::Constant(value), width, &[]);
     let word = BitString::from_bits(alloc, &word)?;
     Ok(word)
 }

@@ -7,7 +7,12 @@ use Rattle.hw_model.specs.Types.HwType.{int, clock, array, struct}
 use Rattle.hw_model.specs.Types.FieldTypes.{no_fields, field}
 use Rattle.hw_model.specs.Kinds.{Kind}
 use Rattle.hw_model.specs.Kinds.Reset.{sync_reset}
-use Rattle.hw_model.specs.Kinds.Kind.{add, xor, divs, shl, shru, shrs, constant, array_get, bitcast, instance, output, compreg_ce}
+use Rattle.hw_model.specs.Kinds.Variadic.{add, xor}
+use Rattle.hw_model.specs.Kinds.Division.{divs}
+use Rattle.hw_model.specs.Kinds.Shift.{shl, shru, shrs}
+use Rattle.hw_model.specs.Kinds.ArrayOp.{array_get}
+use Rattle.hw_model.specs.Kinds.RegisterOp.{compreg_ce}
+use Rattle.hw_model.specs.Kinds.Kind.{variadic, division, shift, constant, on_array, bitcast, instance, output, register}
 use Rattle.hw_model.specs.Design.{Ref, Port, Op, Module, Design, nowhere_place}
 use Rattle.hw_model.specs.Design.Ref.{port, result}
 use Rattle.hw_model.specs.Machine.{Run}
@@ -54,7 +59,7 @@ abbrev register_ports : List Port
 register_ports = in_port (codes "clk") clock ∷ in_port (codes "rst") (int 1) ∷ in_port (codes "en") (int 1) ∷ in_port (codes "d") (int 8) ∷ []
 
 abbrev register_of : Ref → Ref → Op
-register_of next nine = operation (compreg_ce sync_reset) (next ∷ port 0 ∷ port 2 ∷ port 1 ∷ nine ∷ []) (int 8 ∷ []) (int 8 ∷ [])
+register_of next nine = operation (register compreg_ce sync_reset) (next ∷ port 0 ∷ port 2 ∷ port 1 ∷ nine ∷ []) (int 8 ∷ []) (int 8 ∷ [])
 
 abbrev nine : Op
 nine = operation (constant (pos 9)) [] (int 8 ∷ []) (int 8 ∷ [])
@@ -134,7 +139,7 @@ abbrev bitcasts : Design
 bitcasts = only_module (in_port (codes "x") (int 16) ∷ out_port (codes "h") (int 8) ∷ out_port (codes "s") pair ∷ [])
     (operation (constant (negsuc 0)) [] (int 1 ∷ []) (int 1 ∷ [])
     ∷ operation bitcast (port 0 ∷ []) (int 16 ∷ array 2 (int 8) ∷ []) (array 2 (int 8) ∷ [])
-    ∷ operation array_get (result 1 0 ∷ result 0 0 ∷ []) (array 2 (int 8) ∷ int 1 ∷ []) (int 8 ∷ [])
+    ∷ operation (on_array array_get) (result 1 0 ∷ result 0 0 ∷ []) (array 2 (int 8) ∷ int 1 ∷ []) (int 8 ∷ [])
     ∷ operation bitcast (port 0 ∷ []) (int 16 ∷ pair ∷ []) (pair ∷ [])
     ∷ operation output (result 2 0 ∷ result 3 0 ∷ []) (int 8 ∷ pair ∷ []) [] ∷ [])
 
@@ -145,7 +150,7 @@ bitcast_run outs run = run_value bitcasts (codes "M") 5 refl [] (bits 16 0xabcd 
 
 abbrev pick : Design
 pick = only_module (in_port (codes "a") (array 3 (int 8)) ∷ in_port (codes "i") (int 2) ∷ out_port (codes "c") (int 8) ∷ [])
-    (operation array_get (port 0 ∷ port 1 ∷ []) (array 3 (int 8) ∷ int 2 ∷ []) (int 8 ∷ []) ∷ operation output (result 0 0 ∷ []) (int 8 ∷ []) [] ∷ [])
+    (operation (on_array array_get) (port 0 ∷ port 1 ∷ []) (array 3 (int 8) ∷ int 2 ∷ []) (int 8 ∷ []) ∷ operation output (result 0 0 ∷ []) (int 8 ∷ []) [] ∷ [])
 
 abbrev elements : Word
 elements = byte 0x30 ++ byte 0x20 ++ byte 0x10
@@ -161,8 +166,8 @@ bytes = int 8 ∷ []
 
 abbrev signed_division : Design
 signed_division = only_module (in_port (codes "a") (int 8) ∷ in_port (codes "b") (int 8) ∷ out_port (codes "c") (int 8) ∷ [])
-    (operation (constant (negsuc 2)) [] bytes bytes ∷ operation divs (port 0 ∷ result 0 0 ∷ []) bytes bytes
-    ∷ operation shru (result 1 0 ∷ port 1 ∷ []) bytes bytes ∷ operation output (result 2 0 ∷ []) bytes [] ∷ [])
+    (operation (constant (negsuc 2)) [] bytes bytes ∷ operation (division divs) (port 0 ∷ result 0 0 ∷ []) bytes bytes
+    ∷ operation (shift shru) (result 1 0 ∷ port 1 ∷ []) bytes bytes ∷ operation output (result 2 0 ∷ []) bytes [] ∷ [])
 
 signed_division_run : (outs : List Word) → Run (machine signed_division (codes "M")) [] ((byte 7 ++ byte 1) ∷ []) outs → outs ≡ byte 0x7f ∷ []
 signed_division_run outs run = run_value signed_division (codes "M") 5 refl [] ((byte 7 ++ byte 1) ∷ []) outs run
@@ -171,7 +176,7 @@ signed_division_run outs run = run_value signed_division (codes "M") 5 refl [] (
 
 abbrev arithmetic_shift : Design
 arithmetic_shift = only_module (in_port (codes "a") (int 8) ∷ in_port (codes "b") (int 8) ∷ in_port (codes "c") (int 8) ∷ out_port (codes "o") (int 8) ∷ [])
-    (operation shrs (port 0 ∷ port 1 ∷ []) bytes bytes ∷ operation xor (result 0 0 ∷ port 2 ∷ []) bytes bytes ∷ operation output (result 1 0 ∷ []) bytes [] ∷ [])
+    (operation (shift shrs) (port 0 ∷ port 1 ∷ []) bytes bytes ∷ operation (variadic xor) (result 0 0 ∷ port 2 ∷ []) bytes bytes ∷ operation output (result 1 0 ∷ []) bytes [] ∷ [])
 
 arithmetic_shift_run : (outs : List Word) → Run (machine arithmetic_shift (codes "M")) [] ((byte 0x80 ++ byte 1 ++ byte 0) ∷ []) outs → outs ≡ byte 0xc0 ∷ []
 arithmetic_shift_run outs run = run_value arithmetic_shift (codes "M") 5 refl [] ((byte 0x80 ++ byte 1 ++ byte 0) ∷ []) outs run
@@ -180,8 +185,8 @@ arithmetic_shift_run outs run = run_value arithmetic_shift (codes "M") 5 refl []
 
 abbrev widest : Design
 widest = only_module (in_port (codes "a") (int 128) ∷ in_port (codes "b") (int 128) ∷ out_port (codes "s") (int 128) ∷ out_port (codes "t") (int 128) ∷ [])
-    (operation add (port 0 ∷ port 1 ∷ []) (int 128 ∷ []) (int 128 ∷ []) ∷ operation (constant (pos 200)) [] (int 128 ∷ []) (int 128 ∷ [])
-    ∷ operation shl (port 0 ∷ result 1 0 ∷ []) (int 128 ∷ []) (int 128 ∷ []) ∷ operation output (result 0 0 ∷ result 2 0 ∷ []) (int 128 ∷ int 128 ∷ []) [] ∷ [])
+    (operation (variadic add) (port 0 ∷ port 1 ∷ []) (int 128 ∷ []) (int 128 ∷ []) ∷ operation (constant (pos 200)) [] (int 128 ∷ []) (int 128 ∷ [])
+    ∷ operation (shift shl) (port 0 ∷ result 1 0 ∷ []) (int 128 ∷ []) (int 128 ∷ []) ∷ operation output (result 0 0 ∷ result 2 0 ∷ []) (int 128 ∷ int 128 ∷ []) [] ∷ [])
 
 widest_run : (outs : List Word) → Run (machine widest (codes "M")) [] ((bits 128 (2 ^ 128 - 1) ++ bits 128 1) ∷ []) outs → outs ≡ (bits 128 0 ++ bits 128 0) ∷ []
 widest_run outs run = run_value widest (codes "M") 5 refl [] ((bits 128 (2 ^ 128 - 1) ++ bits 128 1) ∷ []) outs run

@@ -1,8 +1,8 @@
 -- What an operation is to its module: a register, an instance, an output, or made of its operands.
 use Rattle.std.proofs.Common.{◌≡◌, ℕ, zero, suc, true, false, List, [], ◌∷◌, length, take, slice_get, Some, None, refl, ap, ◌∙◌}
 use Rattle.hw_model.specs.Kinds.{Kind, Instance}
-use Rattle.hw_model.specs.Kinds.Kind.{instance, output, compreg, compreg_ce, firreg}
-use Rattle.hw_model.specs.Design.{Op, RegisterForm, instance_in, register_form, is_output_kind}
+use Rattle.hw_model.specs.Kinds.Kind.{instance, output, register}
+use Rattle.hw_model.specs.Design.{Op, RegisterForm, takes_enable, instance_in, register_form, is_output_kind}
 use Rattle.hw_model.specs.Flat.{instances}
 
 -- what a kind is: a register, an instance, an output, or an operation whose results are made of its operands
@@ -15,9 +15,7 @@ pub data Sort (k : Kind) : Type 0 where
 pub sort_of : (k : Kind) → Sort k
 sort_of (instance i) = an_instance i refl refl refl
 sort_of output = an_output refl refl refl
-sort_of (compreg r) = a_register (record { has_enable = false; reset = r }) refl refl refl
-sort_of (compreg_ce r) = a_register (record { has_enable = true; reset = r }) refl refl refl
-sort_of (firreg r) = a_register (record { has_enable = false; reset = r }) refl refl refl
+sort_of (register f r) = a_register (record { has_enable = takes_enable f; reset = r }) refl refl refl
 sort_of k = a_made refl refl refl
 
 -- an instance stands, among the instances, behind those before it

@@ -9,7 +9,12 @@ use Rattle.hw_model.specs.Kinds.{Kind, Predicate}
 use Rattle.hw_model.specs.Kinds.Predicate.{eq, ne, slt, sle, sgt, sge, ult, ule, ugt, uge, ceq, cne, weq, wne}
 use Rattle.hw_model.specs.Kinds.Literal.{leaf, parts}
 use Rattle.hw_model.specs.Kinds.Literals.{no_literals, literal}
-use Rattle.hw_model.specs.Kinds.Kind.{add, mul, and, or, xor, sub, divu, modu, divs, mods, shl, shru, shrs, icmp, parity, extract, concat, replicate, mux, constant, aggregate_constant, array_create, array_concat, array_get, array_slice, array_inject, struct_create, struct_extract, struct_inject, struct_explode, bitcast, wire, instance, output}
+use Rattle.hw_model.specs.Kinds.Variadic.{add, mul, and, or, xor}
+use Rattle.hw_model.specs.Kinds.Division.{divu, modu, divs, mods}
+use Rattle.hw_model.specs.Kinds.Shift.{shl, shru, shrs}
+use Rattle.hw_model.specs.Kinds.ArrayOp.{array_create, array_concat, array_get, array_slice, array_inject}
+use Rattle.hw_model.specs.Kinds.StructOp.{struct_create, struct_extract, struct_inject, struct_explode}
+use Rattle.hw_model.specs.Kinds.Kind.{variadic, sub, division, shift, icmp, parity, extract, concat, replicate, mux, constant, aggregate_constant, on_array, on_struct, bitcast, wire, instance, output}
 use Rattle.hw_model.specs.Design.{Ref, Op, Module, Design}
 use Rattle.hw_model.specs.Design.Ref.{port, result}
 use Rattle.hw_model.specs.Value.{op_value}
@@ -22,52 +27,52 @@ use Rattle.hw_model.proofs.Samples.{operation, in_port, out_port, module_of, byt
 abbrev value_of_bytes : Kind → List ℕ → Word
 value_of_bytes kind ns = op_value kind (int 8 ∷ []) (int 8) 0 (map byte ns)
 
-sum : value_of_bytes add (200 ∷ 100 ∷ 1 ∷ []) ≡ byte 45
+sum : value_of_bytes (variadic add) (200 ∷ 100 ∷ 1 ∷ []) ≡ byte 45
 sum = refl
 
-product : value_of_bytes mul (16 ∷ 17 ∷ []) ≡ byte 16
+product : value_of_bytes (variadic mul) (16 ∷ 17 ∷ []) ≡ byte 16
 product = refl
 
-all_ones : value_of_bytes and (0xcc ∷ 0xaa ∷ 0xf0 ∷ []) ≡ byte 0x80
+all_ones : value_of_bytes (variadic and) (0xcc ∷ 0xaa ∷ 0xf0 ∷ []) ≡ byte 0x80
 all_ones = refl
 
-any_one : value_of_bytes or (0x0c ∷ 0x0a ∷ 0x10 ∷ []) ≡ byte 0x1e
+any_one : value_of_bytes (variadic or) (0x0c ∷ 0x0a ∷ 0x10 ∷ []) ≡ byte 0x1e
 any_one = refl
 
-odd_ones : value_of_bytes xor (0xcc ∷ 0xaa ∷ 0x01 ∷ []) ≡ byte 0x67
+odd_ones : value_of_bytes (variadic xor) (0xcc ∷ 0xaa ∷ 0x01 ∷ []) ≡ byte 0x67
 odd_ones = refl
 
 difference : value_of_bytes sub (1 ∷ 2 ∷ []) ≡ byte 0xff
 difference = refl
 
-unsigned_quotient : value_of_bytes divu (0xf9 ∷ 3 ∷ []) ≡ byte 0x53
+unsigned_quotient : value_of_bytes (division divu) (0xf9 ∷ 3 ∷ []) ≡ byte 0x53
 unsigned_quotient = refl
 
-unsigned_rest : value_of_bytes modu (0xf9 ∷ 4 ∷ []) ≡ byte 1
+unsigned_rest : value_of_bytes (division modu) (0xf9 ∷ 4 ∷ []) ≡ byte 1
 unsigned_rest = refl
 
-least_by_minus_one : value_of_bytes divs (0x80 ∷ 0xff ∷ []) ≡ byte 0x80
+least_by_minus_one : value_of_bytes (division divs) (0x80 ∷ 0xff ∷ []) ≡ byte 0x80
 least_by_minus_one = refl
 
-rest_has_sign_of_dividend : value_of_bytes mods (0xf9 ∷ 3 ∷ []) ≡ byte 0xff
+rest_has_sign_of_dividend : value_of_bytes (division mods) (0xf9 ∷ 3 ∷ []) ≡ byte 0xff
 rest_has_sign_of_dividend = refl
 
-shift_up : value_of_bytes shl (0x81 ∷ 1 ∷ []) ≡ byte 0x02
+shift_up : value_of_bytes (shift shl) (0x81 ∷ 1 ∷ []) ≡ byte 0x02
 shift_up = refl
 
-shift_up_out : value_of_bytes shl (0x81 ∷ 9 ∷ []) ≡ byte 0
+shift_up_out : value_of_bytes (shift shl) (0x81 ∷ 9 ∷ []) ≡ byte 0
 shift_up_out = refl
 
-shift_down : value_of_bytes shru (0x81 ∷ 1 ∷ []) ≡ byte 0x40
+shift_down : value_of_bytes (shift shru) (0x81 ∷ 1 ∷ []) ≡ byte 0x40
 shift_down = refl
 
-shift_down_out : value_of_bytes shru (0x80 ∷ 8 ∷ []) ≡ byte 0
+shift_down_out : value_of_bytes (shift shru) (0x80 ∷ 8 ∷ []) ≡ byte 0
 shift_down_out = refl
 
-shift_down_signed : value_of_bytes shrs (0x81 ∷ 1 ∷ []) ≡ byte 0xc0
+shift_down_signed : value_of_bytes (shift shrs) (0x81 ∷ 1 ∷ []) ≡ byte 0xc0
 shift_down_signed = refl
 
-shift_down_signed_out : value_of_bytes shrs (0x80 ∷ 9 ∷ []) ≡ byte 0xff
+shift_down_signed_out : value_of_bytes (shift shrs) (0x80 ∷ 9 ∷ []) ≡ byte 0xff
 shift_down_signed_out = refl
 
 -- whether a predicate holds of two bytes
@@ -125,40 +130,40 @@ constant_array = refl
 nested_constant : op_value (aggregate_constant (literal (parts (literal (leaf (pos 5) (int 4)) no_literals)) (literal (leaf (pos 3) (int 2)) no_literals))) [] (struct no_fields) 0 [] ≡ bits 4 5 ++ bits 2 3
 nested_constant = refl
 
-array_of_three : op_value array_create (int 8 ∷ []) three_bytes 0 (byte 0x30 ∷ byte 0x20 ∷ byte 0x10 ∷ []) ≡ three
+array_of_three : op_value (on_array array_create) (int 8 ∷ []) three_bytes 0 (byte 0x30 ∷ byte 0x20 ∷ byte 0x10 ∷ []) ≡ three
 array_of_three = refl
 
-arrays_joined : op_value array_concat (array 1 (int 8) ∷ array 2 (int 8) ∷ []) three_bytes 0 (byte 0x30 ∷ (byte 0x20 ++ byte 0x10) ∷ []) ≡ three
+arrays_joined : op_value (on_array array_concat) (array 1 (int 8) ∷ array 2 (int 8) ∷ []) three_bytes 0 (byte 0x30 ∷ (byte 0x20 ++ byte 0x10) ∷ []) ≡ three
 arrays_joined = refl
 
-element_one : op_value array_get (three_bytes ∷ int 2 ∷ []) (int 8) 0 (three ∷ bits 2 1 ∷ []) ≡ byte 0x20
+element_one : op_value (on_array array_get) (three_bytes ∷ int 2 ∷ []) (int 8) 0 (three ∷ bits 2 1 ∷ []) ≡ byte 0x20
 element_one = refl
 
-element_past_the_end : op_value array_get (three_bytes ∷ int 2 ∷ []) (int 8) 0 (three ∷ bits 2 3 ∷ []) ≡ byte 0
+element_past_the_end : op_value (on_array array_get) (three_bytes ∷ int 2 ∷ []) (int 8) 0 (three ∷ bits 2 3 ∷ []) ≡ byte 0
 element_past_the_end = refl
 
-elements_one_and_two : op_value array_slice (three_bytes ∷ array 2 (int 8) ∷ []) (array 2 (int 8)) 0 (three ∷ bits 2 1 ∷ []) ≡ byte 0x30 ++ byte 0x20
+elements_one_and_two : op_value (on_array array_slice) (three_bytes ∷ array 2 (int 8) ∷ []) (array 2 (int 8)) 0 (three ∷ bits 2 1 ∷ []) ≡ byte 0x30 ++ byte 0x20
 elements_one_and_two = refl
 
-elements_two_and_past : op_value array_slice (three_bytes ∷ array 2 (int 8) ∷ []) (array 2 (int 8)) 0 (three ∷ bits 2 2 ∷ []) ≡ byte 0 ++ byte 0x30
+elements_two_and_past : op_value (on_array array_slice) (three_bytes ∷ array 2 (int 8) ∷ []) (array 2 (int 8)) 0 (three ∷ bits 2 2 ∷ []) ≡ byte 0 ++ byte 0x30
 elements_two_and_past = refl
 
-element_replaced : op_value array_inject (three_bytes ∷ int 2 ∷ []) three_bytes 0 (three ∷ bits 2 1 ∷ byte 0xff ∷ []) ≡ byte 0x30 ++ byte 0xff ++ byte 0x10
+element_replaced : op_value (on_array array_inject) (three_bytes ∷ int 2 ∷ []) three_bytes 0 (three ∷ bits 2 1 ∷ byte 0xff ∷ []) ≡ byte 0x30 ++ byte 0xff ++ byte 0x10
 element_replaced = refl
 
-element_past_replaced : op_value array_inject (three_bytes ∷ int 2 ∷ []) three_bytes 0 (three ∷ bits 2 3 ∷ byte 0xff ∷ []) ≡ three
+element_past_replaced : op_value (on_array array_inject) (three_bytes ∷ int 2 ∷ []) three_bytes 0 (three ∷ bits 2 3 ∷ byte 0xff ∷ []) ≡ three
 element_past_replaced = refl
 
-struct_of_two : op_value struct_create (pair ∷ []) pair 0 (byte 0xab ∷ byte 0xcd ∷ []) ≡ bits 16 0xabcd
+struct_of_two : op_value (on_struct struct_create) (pair ∷ []) pair 0 (byte 0xab ∷ byte 0xcd ∷ []) ≡ bits 16 0xabcd
 struct_of_two = refl
 
-field_q : op_value (struct_extract (codes "q")) (pair ∷ []) (int 8) 0 (bits 16 0xabcd ∷ []) ≡ byte 0xcd
+field_q : op_value (on_struct (struct_extract (codes "q"))) (pair ∷ []) (int 8) 0 (bits 16 0xabcd ∷ []) ≡ byte 0xcd
 field_q = refl
 
-field_p_replaced : op_value (struct_inject (codes "p")) (pair ∷ []) pair 0 (bits 16 0xabcd ∷ byte 0x11 ∷ []) ≡ bits 16 0x11cd
+field_p_replaced : op_value (on_struct (struct_inject (codes "p"))) (pair ∷ []) pair 0 (bits 16 0xabcd ∷ byte 0x11 ∷ []) ≡ bits 16 0x11cd
 field_p_replaced = refl
 
-fields_apart : map (λ k. op_value struct_explode (pair ∷ []) (int 8) k (bits 16 0xabcd ∷ [])) (0 ∷ 1 ∷ []) ≡ byte 0xab ∷ byte 0xcd ∷ []
+fields_apart : map (λ k. op_value (on_struct struct_explode) (pair ∷ []) (int 8) k (bits 16 0xabcd ∷ [])) (0 ∷ 1 ∷ []) ≡ byte 0xab ∷ byte 0xcd ∷ []
 fields_apart = refl
 
 same_bits : op_value bitcast (int 16 ∷ pair ∷ []) pair 0 (bits 16 0xabcd ∷ []) ≡ bits 16 0xabcd

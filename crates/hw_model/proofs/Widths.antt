@@ -14,13 +14,18 @@ use Rattle.bits_core.proofs.Shifts.{length-shift_left, length-shift_right, lengt
 use Rattle.hw_model.specs.Types.{Name, HwType, FieldTypes, width, width_of_fields}
 use Rattle.hw_model.specs.Types.HwType.{int, array, struct}
 use Rattle.hw_model.specs.Types.FieldTypes.{no_fields, field}
-use Rattle.hw_model.specs.Kinds.{Kind, Literal, Literals}
+use Rattle.hw_model.specs.Kinds.{Kind, Literal, Literals, Variadic, Division, Shift, ArrayOp, StructOp}
 use Rattle.hw_model.specs.Kinds.Literal.{leaf, parts}
 use Rattle.hw_model.specs.Kinds.Literals.{no_literals, literal}
-use Rattle.hw_model.specs.Kinds.Kind.{add, mul, and, or, xor, sub, divu, modu, divs, mods, shl, shru, shrs, icmp, parity, extract, concat, replicate, mux, constant, aggregate_constant, array_create, array_concat, array_get, array_slice, array_inject, struct_create, struct_extract, struct_inject, struct_explode, bitcast, wire, instance, output, compreg, compreg_ce, firreg}
+use Rattle.hw_model.specs.Kinds.Variadic.{add, mul, and, or, xor}
+use Rattle.hw_model.specs.Kinds.Division.{divu, modu, divs, mods}
+use Rattle.hw_model.specs.Kinds.Shift.{shl, shru, shrs}
+use Rattle.hw_model.specs.Kinds.ArrayOp.{array_create, array_concat, array_get, array_slice, array_inject}
+use Rattle.hw_model.specs.Kinds.StructOp.{struct_create, struct_extract, struct_inject, struct_explode}
+use Rattle.hw_model.specs.Kinds.Kind.{variadic, sub, division, shift, icmp, parity, extract, concat, replicate, mux, constant, aggregate_constant, on_array, on_struct, bitcast, wire, instance, output, register}
 use Rattle.hw_model.specs.Design.{instance_in, register_form, same_name}
-use Rattle.hw_model.specs.Value.{joined, is_high, and_all, or_all, xor_all, of_one, of_two, of_three, word_of_literal, word_of_literals, element, elements_from, slice_of, injected_below, injected, field_of, with_field, field_at, fields, written, op_value}
-use Rattle.hw_model.specs.Sound.{HasWidth, HaveWidths, field_list, field_type, literal_width, literals_width, AllAre, Fits}
+use Rattle.hw_model.specs.Value.{joined, is_high, and_all, or_all, xor_all, of_one, of_two, of_three, word_of_literal, word_of_literals, element, elements_from, slice_of, injected_below, injected, field_of, with_field, field_at, fields, written, variadic_value, division_value, shift_value, array_value, struct_value, op_value}
+use Rattle.hw_model.specs.Sound.{HasWidth, HaveWidths, field_list, field_type, literal_width, literals_width, AllAre, ArrayFits, StructFits, Fits}
 
 -- ---- operands of one type
 
@@ -240,21 +245,58 @@ chosen_width : (n : ℕ) (b : Bool) (x y : Word) → length x ≡ n → length y
 chosen_width n true x y first second = first
 chosen_width n false x y first second = second
 
+length-division : (d : Division) (x y : Word) → length (division_value d x y) ≡ length x
+length-division divu = length-quotient
+length-division modu = length-rest
+length-division divs = length-signed_quotient
+length-division mods = length-signed_rest
+
+length-shift : (s : Shift) (x : Word) (n : ℕ) → length (shift_value s x n) ≡ length x
+length-shift shl = length-shift_left
+length-shift shru = length-shift_right
+length-shift shrs = length-shift_right_signed
+
+variadic_width : (v : Variadic) (t : HwType) (ws : List Word) → ((w : Word) → In w ws → length w ≡ width t) → length (variadic_value v (width t) ws) ≡ width t
+variadic_width add t ws all = length-bits (width t) _
+variadic_width mul t ws all = length-bits (width t) _
+variadic_width and t ws all = and_width (width t) ws all
+variadic_width or t ws all = or_width (width t) ws all
+variadic_width xor t ws all = xor_width (width t) ws all
+
+array_width : (a : ArrayOp) (ts : List HwType) (xs : List (Option HwType)) (t : HwType) (ws : List Word) → ArrayFits a ts xs t → HaveWidths xs ws
+    → length (array_value a (written ts 0) t ws) ≡ width t
+array_width array_create ts xs t ws (e, is, all) have = elements_width e xs ws all have ∙ sym (ap width is)
+array_width array_concat ts xs t ws (e, ns, is, sum) have = arrays_width e ns ws (subst (λ ys. HaveWidths ys ws) is have) ∙ sym (ap width sum)
+array_width array_get ts xs t ws (n, u, is, wrote) have =
+    two_width (λ a j. element (written ts 0) a (number j)) (width t) (Some (array n t)) (Some u) xs ws is have
+    (λ a b x y. get_width (written ts 0) t n a (number b) wrote x)
+array_width array_slice ts xs t ws (n, m, e, u, is, wrote, is') have =
+    two_width (λ a j. slice_of (written ts 0) a (number j) t) (width t) (Some (array n e)) (Some u) xs ws is have
+    (λ a b x y. slice_width (written ts 0) t n m e a (number b) wrote is' x)
+array_width array_inject ts xs t ws (n, e, u, is, wrote, is') have =
+    three_width (λ a j v. injected (written ts 0) a (number j) v) (width t) (Some t) (Some u) (Some e) xs ws is have
+    (λ a b c x y z. injected_width (written ts 0) t n e a (number b) c wrote is' x z)
+
+struct_width : (s : StructOp) (ts : List HwType) (xs : List (Option HwType)) (t : HwType) (k : ℕ) (ws : List Word) → StructFits s ts xs t k → HaveWidths xs ws
+    → length (struct_value s (fields (written ts 0)) k ws) ≡ width t
+struct_width struct_create ts xs t k ws (fs, is, all) have =
+    joined_width (field_list fs) ws (subst (λ ys. HaveWidths ys ws) all have) ∙ fields_total fs ∙ sym (ap width is)
+struct_width (struct_extract name) ts xs t k ws (fs, is, wrote, found) have =
+    one_width (field_of (fields (written ts 0)) name) (width t) (Some (struct fs)) xs ws is have
+    (λ a x. struct_field_width (written ts 0) fs name t a wrote found x)
+struct_width (struct_inject name) ts xs t k ws (fs, e, is, wrote, is', found) have =
+    two_width (with_field (fields (written ts 0)) name) (width t) (Some t) (Some e) xs ws is have
+    (λ a b x y. struct_with_width (written ts 0) t fs name e a b wrote is' found x y)
+struct_width struct_explode ts xs t k ws (fs, is, wrote, found) have =
+    one_width (field_at (fields (written ts 0)) k) (width t) (Some (struct fs)) xs ws is have
+    (λ a x. struct_at_width (written ts 0) fs k t a wrote found x)
+
 pub fits_width : (kind : Kind) (ts : List HwType) (xs : List (Option HwType)) (t : HwType) (k : ℕ) (ws : List Word)
     → register_form kind ≡ None → instance_in kind ≡ None → Fits kind ts xs t k → HaveWidths xs ws → length (op_value kind ts t k ws) ≡ width t
-fits_width add ts xs t k ws r i fits have = length-bits (width t) _
-fits_width mul ts xs t k ws r i fits have = length-bits (width t) _
-fits_width and ts xs t k ws r i fits have = and_width (width t) ws (all_widths t xs ws fits have)
-fits_width or ts xs t k ws r i fits have = or_width (width t) ws (all_widths t xs ws fits have)
-fits_width xor ts xs t k ws r i fits have = xor_width (width t) ws (all_widths t xs ws fits have)
+fits_width (variadic v) ts xs t k ws r i fits have = variadic_width v t ws (all_widths t xs ws fits have)
 fits_width sub ts xs t k ws r i fits have = two_width _ (width t) (Some t) (Some t) xs ws fits have (λ a b x y. length-sub a b ∙ x)
-fits_width divu ts xs t k ws r i fits have = two_width _ (width t) (Some t) (Some t) xs ws fits have (λ a b x y. length-quotient a b ∙ x)
-fits_width modu ts xs t k ws r i fits have = two_width _ (width t) (Some t) (Some t) xs ws fits have (λ a b x y. length-rest a b ∙ x)
-fits_width divs ts xs t k ws r i fits have = two_width _ (width t) (Some t) (Some t) xs ws fits have (λ a b x y. length-signed_quotient a b ∙ x)
-fits_width mods ts xs t k ws r i fits have = two_width _ (width t) (Some t) (Some t) xs ws fits have (λ a b x y. length-signed_rest a b ∙ x)
-fits_width shl ts xs t k ws r i fits have = two_width _ (width t) (Some t) (Some t) xs ws fits have (λ a b x y. length-shift_left a (number b) ∙ x)
-fits_width shru ts xs t k ws r i fits have = two_width _ (width t) (Some t) (Some t) xs ws fits have (λ a b x y. length-shift_right a (number b) ∙ x)
-fits_width shrs ts xs t k ws r i fits have = two_width _ (width t) (Some t) (Some t) xs ws fits have (λ a b x y. length-shift_right_signed a (number b) ∙ x)
+fits_width (division d) ts xs t k ws r i fits have = two_width _ (width t) (Some t) (Some t) xs ws fits have (λ a b x y. length-division d a b ∙ x)
+fits_width (shift s) ts xs t k ws r i fits have = two_width _ (width t) (Some t) (Some t) xs ws fits have (λ a b x y. length-shift s a (number b) ∙ x)
 fits_width (icmp p) ts xs t k ws r i (u, is, one) have = two_width _ (width t) (Some u) (Some u) xs ws is have (λ a b x y. sym (ap width one))
 fits_width parity ts xs t k ws r i (u, is, one) have = one_width _ (width t) (Some u) xs ws is have (λ a x. sym (ap width one))
 fits_width (extract low) ts xs t k ws r i (u, is, room) have =
@@ -267,32 +309,10 @@ fits_width mux ts xs t k ws r i fits have =
     (λ a b c x y z. chosen_width (width t) (is_high a) b c y z)
 fits_width (constant v) ts xs t k ws r i fits have = length-bits_of_ℤ (width t) v
 fits_width (aggregate_constant ls) ts xs t k ws r i (none, sum) have = literals_length ls ∙ sum
-fits_width array_create ts xs t k ws r i (e, is, all) have = elements_width e xs ws all have ∙ sym (ap width is)
-fits_width array_concat ts xs t k ws r i (e, ns, is, sum) have = arrays_width e ns ws (subst (λ ys. HaveWidths ys ws) is have) ∙ sym (ap width sum)
-fits_width array_get ts xs t k ws r i (n, u, is, wrote) have =
-    two_width (λ a j. element (written ts 0) a (number j)) (width t) (Some (array n t)) (Some u) xs ws is have
-    (λ a b x y. get_width (written ts 0) t n a (number b) wrote x)
-fits_width array_slice ts xs t k ws r i (n, m, e, u, is, wrote, is') have =
-    two_width (λ a j. slice_of (written ts 0) a (number j) t) (width t) (Some (array n e)) (Some u) xs ws is have
-    (λ a b x y. slice_width (written ts 0) t n m e a (number b) wrote is' x)
-fits_width array_inject ts xs t k ws r i (n, e, u, is, wrote, is') have =
-    three_width (λ a j v. injected (written ts 0) a (number j) v) (width t) (Some t) (Some u) (Some e) xs ws is have
-    (λ a b c x y z. injected_width (written ts 0) t n e a (number b) c wrote is' x z)
-fits_width struct_create ts xs t k ws r i (fs, is, all) have =
-    joined_width (field_list fs) ws (subst (λ ys. HaveWidths ys ws) all have) ∙ fields_total fs ∙ sym (ap width is)
-fits_width (struct_extract name) ts xs t k ws r i (fs, is, wrote, found) have =
-    one_width (field_of (fields (written ts 0)) name) (width t) (Some (struct fs)) xs ws is have
-    (λ a x. struct_field_width (written ts 0) fs name t a wrote found x)
-fits_width (struct_inject name) ts xs t k ws r i (fs, e, is, wrote, is', found) have =
-    two_width (with_field (fields (written ts 0)) name) (width t) (Some t) (Some e) xs ws is have
-    (λ a b x y. struct_with_width (written ts 0) t fs name e a b wrote is' found x y)
-fits_width struct_explode ts xs t k ws r i (fs, is, wrote, found) have =
-    one_width (field_at (fields (written ts 0)) k) (width t) (Some (struct fs)) xs ws is have
-    (λ a x. struct_at_width (written ts 0) fs k t a wrote found x)
+fits_width (on_array a) ts xs t k ws r i fits have = array_width a ts xs t ws fits have
+fits_width (on_struct s) ts xs t k ws r i fits have = struct_width s ts xs t k ws fits have
 fits_width bitcast ts xs t k ws r i (u, is, same) have = one_width _ (width t) (Some u) xs ws is have (λ a x. x ∙ same)
 fits_width wire ts xs t k ws r i fits have = one_width _ (width t) (Some t) xs ws fits have (λ a x. x)
 fits_width (instance x) ts xs t k ws r i fits have = cc
 fits_width output ts xs t k ws r i fits have = absurd fits
-fits_width (compreg x) ts xs t k ws r i fits have = cc
-fits_width (compreg_ce x) ts xs t k ws r i fits have = cc
-fits_width (firreg x) ts xs t k ws r i fits have = cc
+fits_width (register f x) ts xs t k ws r i fits have = cc

@@ -4,25 +4,17 @@ use Rattle.bits_core.specs.Word.{Word}
 use Rattle.hw_model.specs.Types.{HwType, width}
 use Rattle.hw_model.specs.Types.HwType.{int}
 use Rattle.hw_model.specs.Kinds.{Kind}
-use Rattle.hw_model.specs.Kinds.Kind.{add, mul, and, or, xor, sub, divu, modu, divs, mods, shl, shru, shrs, icmp, parity, extract, concat, replicate, mux, constant}
+use Rattle.hw_model.specs.Kinds.Variadic.{add, mul, and, or, xor}
+use Rattle.hw_model.specs.Kinds.Kind.{variadic, sub, division, shift, icmp, parity, extract, concat, replicate, mux, constant}
 use Rattle.hw_model.specs.IntegerKinds.{TakesWords}
 use Rattle.hw_model.specs.Value.{op_value}
 
 pub value_by_width : (kind : Kind) (ts : List HwType) (t : HwType) (k : ℕ) (xs : List Word) → TakesWords kind (width t) xs
     → op_value kind ts t k xs ≡ op_value kind [] (int (width t)) 0 xs
-value_by_width add ts t k xs h = refl
-value_by_width mul ts t k xs h = refl
-value_by_width and ts t k xs h = refl
-value_by_width or ts t k xs h = refl
-value_by_width xor ts t k xs h = refl
+value_by_width (variadic v) ts t k xs h = refl
 value_by_width sub ts t k xs h = refl
-value_by_width divu ts t k xs h = refl
-value_by_width modu ts t k xs h = refl
-value_by_width divs ts t k xs h = refl
-value_by_width mods ts t k xs h = refl
-value_by_width shl ts t k xs h = refl
-value_by_width shru ts t k xs h = refl
-value_by_width shrs ts t k xs h = refl
+value_by_width (division d) ts t k xs h = refl
+value_by_width (shift s) ts t k xs h = refl
 value_by_width (icmp p) ts t k xs h = refl
 value_by_width parity ts t k xs h = refl
 value_by_width (extract low) ts t k xs h = refl

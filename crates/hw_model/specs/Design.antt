@@ -4,8 +4,9 @@ use Rattle.std.specs.Prelude.{◌≡◌, ℕ, ℤ, Bool, true, false, List, [], 
 use Rattle.std.specs.Cmp.Lexicographic.{pointwise}
 use Rattle.wiring.specs.Options.{bind, omap}
 use Rattle.hw_model.specs.Types.{Name, HwType}
-use Rattle.hw_model.specs.Kinds.{Kind, Instance, Reset}
-use Rattle.hw_model.specs.Kinds.Kind.{output, instance, compreg, compreg_ce, firreg}
+use Rattle.hw_model.specs.Kinds.{Kind, Instance, Reset, RegisterOp}
+use Rattle.hw_model.specs.Kinds.RegisterOp.{compreg, compreg_ce, firreg}
+use Rattle.hw_model.specs.Kinds.Kind.{instance, output, register}
 
 -- a place in the source: its line and its column in bytes, both from 1
 pub record Place : Type 0 where
@@ -112,6 +113,12 @@ abbrev pub is_output_kind : Kind → Bool
 is_output_kind output = true
 is_output_kind _ = false
 
+-- whether a register has an enable
+abbrev pub takes_enable : RegisterOp → Bool
+takes_enable compreg = false
+takes_enable compreg_ce = true
+takes_enable firreg = false
+
 -- the form of a register: whether it has an enable, and its reset
 pub record RegisterForm : Type 0 where
   pub has_enable : Bool
@@ -119,9 +126,7 @@ pub record RegisterForm : Type 0 where
 
 -- the form of the register that a kind is
 abbrev pub register_form : Kind → Option RegisterForm
-register_form (compreg r) = Some (record { has_enable = false; reset = r })
-register_form (compreg_ce r) = Some (record { has_enable = true; reset = r })
-register_form (firreg r) = Some (record { has_enable = false; reset = r })
+register_form (register f r) = Some (record { has_enable = takes_enable f; reset = r })
 register_form _ = None
 
 -- whether an operation is an instance, a register, a module's output

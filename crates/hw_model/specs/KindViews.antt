@@ -3,6 +3,12 @@ use Rattle.std.specs.Prelude.{ℤ, pos, negsuc, List, [], ◌∷◌}
 use Rattle.std.specs.Box.{box_value}
 use Rattle.hw_model.specs.TypeViews.{type_of}
 use Rattle.hw_model.specs.Kinds.{Kind as HwKind, Predicate as HwPredicate, Reset as HwReset, Literal as HwLiteral, Literals, Instance as HwInstance}
+use Rattle.hw_model.specs.Kinds.Variadic.{add, mul, and, or, xor}
+use Rattle.hw_model.specs.Kinds.Division.{divu, modu, divs, mods}
+use Rattle.hw_model.specs.Kinds.Shift.{shl, shru, shrs}
+use Rattle.hw_model.specs.Kinds.ArrayOp.{array_create, array_concat, array_get, array_slice, array_inject}
+use Rattle.hw_model.specs.Kinds.StructOp.{struct_create, struct_extract, struct_inject, struct_explode}
+use Rattle.hw_model.specs.Kinds.RegisterOp.{compreg, compreg_ce, firreg}
 use Rattle.hw_model.specs.declared.kinds.Predicate.{Predicate}
 use Rattle.hw_model.specs.declared.kinds.Predicate.TheVariants.{Eq, Ne, Slt, Sle, Sgt, Sge, Ult, Ule, Ugt, Uge, Ceq, Cne, Weq, Wne}
 use Rattle.hw_model.specs.declared.kinds.Reset.{Reset}
@@ -64,19 +70,19 @@ abbrev pub instance_of : Instance → HwInstance
 instance_of i = record { name = i.name; inner_symbol = i.inner_symbol; symbol = i.symbol; inputs = i.inputs.items; outputs = i.outputs.items }
 
 abbrev pub kind_of : OpKind → HwKind
-kind_of kinds.Add = HwKind.add
-kind_of kinds.Mul = HwKind.mul
-kind_of kinds.And = HwKind.and
-kind_of kinds.Or = HwKind.or
-kind_of kinds.Xor = HwKind.xor
+kind_of kinds.Add = HwKind.variadic add
+kind_of kinds.Mul = HwKind.variadic mul
+kind_of kinds.And = HwKind.variadic and
+kind_of kinds.Or = HwKind.variadic or
+kind_of kinds.Xor = HwKind.variadic xor
 kind_of kinds.Sub = HwKind.sub
-kind_of kinds.Divu = HwKind.divu
-kind_of kinds.Modu = HwKind.modu
-kind_of kinds.Divs = HwKind.divs
-kind_of kinds.Mods = HwKind.mods
-kind_of kinds.Shl = HwKind.shl
-kind_of kinds.Shru = HwKind.shru
-kind_of kinds.Shrs = HwKind.shrs
+kind_of kinds.Divu = HwKind.division divu
+kind_of kinds.Modu = HwKind.division modu
+kind_of kinds.Divs = HwKind.division divs
+kind_of kinds.Mods = HwKind.division mods
+kind_of kinds.Shl = HwKind.shift shl
+kind_of kinds.Shru = HwKind.shift shru
+kind_of kinds.Shrs = HwKind.shift shrs
 kind_of (kinds.Icmp p) = HwKind.icmp (predicate_of p)
 kind_of kinds.Parity = HwKind.parity
 kind_of (kinds.Extract low) = HwKind.extract low
@@ -85,19 +91,19 @@ kind_of kinds.Replicate = HwKind.replicate
 kind_of kinds.Mux = HwKind.mux
 kind_of (kinds.Constant z) = HwKind.constant (integer_of z)
 kind_of (kinds.AggregateConstant ls) = HwKind.aggregate_constant (literals_in ls)
-kind_of kinds.ArrayCreate = HwKind.array_create
-kind_of kinds.ArrayConcat = HwKind.array_concat
-kind_of kinds.ArrayGet = HwKind.array_get
-kind_of kinds.ArraySlice = HwKind.array_slice
-kind_of kinds.ArrayInject = HwKind.array_inject
-kind_of kinds.StructCreate = HwKind.struct_create
-kind_of (kinds.StructExtract name) = HwKind.struct_extract name
-kind_of (kinds.StructInject name) = HwKind.struct_inject name
-kind_of kinds.StructExplode = HwKind.struct_explode
+kind_of kinds.ArrayCreate = HwKind.on_array array_create
+kind_of kinds.ArrayConcat = HwKind.on_array array_concat
+kind_of kinds.ArrayGet = HwKind.on_array array_get
+kind_of kinds.ArraySlice = HwKind.on_array array_slice
+kind_of kinds.ArrayInject = HwKind.on_array array_inject
+kind_of kinds.StructCreate = HwKind.on_struct struct_create
+kind_of (kinds.StructExtract name) = HwKind.on_struct (struct_extract name)
+kind_of (kinds.StructInject name) = HwKind.on_struct (struct_inject name)
+kind_of kinds.StructExplode = HwKind.on_struct struct_explode
 kind_of kinds.Bitcast = HwKind.bitcast
 kind_of kinds.Wire = HwKind.wire
 kind_of (kinds.Instance i) = HwKind.instance (instance_of (box_value i))
 kind_of kinds.Output = HwKind.output
-kind_of (kinds.CompReg r) = HwKind.compreg (reset_of r)
-kind_of (kinds.CompRegCe r) = HwKind.compreg_ce (reset_of r)
-kind_of (kinds.FirReg r) = HwKind.firreg (reset_of r)
+kind_of (kinds.CompReg r) = HwKind.register compreg (reset_of r)
+kind_of (kinds.CompRegCe r) = HwKind.register compreg_ce (reset_of r)
+kind_of (kinds.FirReg r) = HwKind.register firreg (reset_of r)

@@ -29,20 +29,46 @@ pub record Instance : Type 0 where
   pub inputs : List Name
   pub outputs : List Name
 
--- the kinds of operations
+-- comb operations of any number of operands of one type, from one on (CIRCT, Comb dialect: variadic operations)
+pub data Variadic : Type 0 where
+  add mul and or xor : Variadic
+
+-- quotients and remainders, without and with sign (CIRCT, Comb dialect: comb.divu, comb.modu, comb.divs, comb.mods)
+pub data Division : Type 0 where
+  divu modu divs mods : Division
+
+-- shifts to the left, to the right, and to the right with the sign (CIRCT, Comb dialect: comb.shl, comb.shru, comb.shrs)
+pub data Shift : Type 0 where
+  shl shru shrs : Shift
+
+-- operations on arrays (CIRCT, HW dialect: hw.array_create and its like)
+pub data ArrayOp : Type 0 where
+  array_create array_concat array_get array_slice array_inject : ArrayOp
+
+-- operations on structs, with the name of a field (CIRCT, HW dialect: hw.struct_create and its like)
+pub data StructOp : Type 0 where
+  struct_create struct_explode : StructOp
+  struct_extract struct_inject : Name → StructOp
+
+-- registers (CIRCT, Seq dialect: seq.compreg, seq.compreg.ce, seq.firreg)
+pub data RegisterOp : Type 0 where
+  compreg compreg_ce firreg : RegisterOp
+
+-- the kinds of operations, by families
 pub data Kind : Type 0 where
-  add mul and or xor : Kind
-  sub divu modu divs mods shl shru shrs : Kind
+  variadic : Variadic → Kind
+  sub : Kind
+  division : Division → Kind
+  shift : Shift → Kind
   icmp : Predicate → Kind
   parity : Kind
   extract : ℕ → Kind
   concat replicate mux : Kind
   constant : ℤ → Kind
   aggregate_constant : Literals → Kind
-  array_create array_concat array_get array_slice array_inject : Kind
-  struct_create : Kind
-  struct_extract struct_inject : Name → Kind
-  struct_explode bitcast wire : Kind
+  on_array : ArrayOp → Kind
+  on_struct : StructOp → Kind
+  bitcast wire : Kind
   instance : Instance → Kind
   output : Kind
-  compreg compreg_ce firreg : Reset → Kind
+  register : RegisterOp → Reset → Kind

@@ -4,15 +4,26 @@ use Rattle.std.proofs.Common.{sym, ap, ◌∙◌, arith, inl, inr}
 use Rattle.std.specs.Cmp.Lexicographic.{pointwise}
 use Rattle.std.specs.Cmp.{IsPartialEquivalence, IsEquivalence, partial_equiv_from_equiv}
 use Rattle.hw_model.specs.Types.{Name}
-use Rattle.hw_model.specs.Kinds.{Kind, Predicate, Reset, Literal, Literals, Instance}
+use Rattle.opcode.specs.Listed.{name_of_listed, first_named}
+use Rattle.opcode.specs.declared.listed.Listed.{Listed}
+use Rattle.opcode.proofs.Names.{listed_operations}
+use Rattle.opcode.specs.declared.listed.Listed.TheVariants as listed
+use Rattle.hw_model.specs.Kinds.{Kind, Predicate, Reset, Literal, Literals, Instance, RegisterOp}
 use Rattle.hw_model.specs.Kinds.Predicate.{eq, ne, slt, sle, sgt, sge, ult, ule, ugt, uge, ceq, cne, weq, wne}
 use Rattle.hw_model.specs.Kinds.Reset.{no_reset, sync_reset}
 use Rattle.hw_model.specs.Kinds.Literal.{leaf, parts}
 use Rattle.hw_model.specs.Kinds.Literals.{no_literals, literal}
-use Rattle.hw_model.specs.Kinds.Kind.{add, mul, and, or, xor, sub, divu, modu, divs, mods, shl, shru, shrs, icmp, parity, extract, concat, replicate, mux, constant, aggregate_constant, array_create, array_concat, array_get, array_slice, array_inject, struct_create, struct_extract, struct_inject, struct_explode, bitcast, wire, instance, output, compreg, compreg_ce, firreg}
+use Rattle.hw_model.specs.Kinds.Variadic.{add}
+use Rattle.hw_model.specs.Kinds.Division.{divu}
+use Rattle.hw_model.specs.Kinds.Shift.{shl}
+use Rattle.hw_model.specs.Kinds.ArrayOp.{array_create}
+use Rattle.hw_model.specs.Kinds.StructOp.{struct_extract, struct_inject}
+use Rattle.hw_model.specs.Kinds.RegisterOp.{compreg, compreg_ce, firreg}
+use Rattle.hw_model.specs.Kinds.Kind.{variadic, variadic, division, division, shift, shift, icmp, extract, constant, aggregate_constant, on_array, on_array, on_struct, on_struct, instance, register, register}
 use Rattle.hw_model.specs.Design.{same_name}
+use Rattle.hw_model.specs.Opcodes.{register_opcode, opcode_of, kind_named_by}
 use Rattle.hw_model.specs.SameType.{same_type, type_self, type_from}
-use Rattle.hw_model.specs.SameKind.{predicate_number, plain_number, same_predicate, same_reset, same_integer, same_literal, same_literals, same_optional_name, same_instance, is_icmp, is_extract, is_constant, is_aggregate_constant, is_struct_extract, is_struct_inject, is_instance, is_compreg, is_compreg_ce, is_firreg, same_kind}
+use Rattle.hw_model.specs.SameKind.{predicate_number, same_predicate, same_reset, same_integer, same_literal, same_literals, same_optional_name, same_instance, is_icmp, is_extract, is_constant, is_aggregate_constant, is_struct_extract, is_struct_inject, is_instance, is_register, same_opcode, same_kind}
 use Rattle.hw_model.specs.Equality.{TellsApart, by_view, both, both_of, number_self, number_from, name_self, name_from}
 use Rattle.hw_model.specs.KindViews.{predicate_of, reset_of, integer_of, literals_in, kind_of}
 use Rattle.hw_model.specs.declared.kinds.Predicate.{Predicate as OwnPredicate}
@@ -160,82 +171,74 @@ is_aggregate_constant_from : (own : Literals) (k : Kind) → is_aggregate_consta
 is_aggregate_constant_from own (aggregate_constant other) h = ap aggregate_constant (literals_from own other h)
 is_aggregate_constant_from own _ h = cc
 
-is_struct_extract_from : (own : Name) (k : Kind) → is_struct_extract own k ≡ true → struct_extract own ≡ k
-is_struct_extract_from own (struct_extract other) h = ap struct_extract (name_from own other h)
+is_struct_extract_from : (own : Name) (k : Kind) → is_struct_extract own k ≡ true → on_struct (struct_extract own) ≡ k
+is_struct_extract_from own (on_struct (struct_extract other)) h = ap (λ name. on_struct (struct_extract name)) (name_from own other h)
 is_struct_extract_from own _ h = cc
 
-is_struct_inject_from : (own : Name) (k : Kind) → is_struct_inject own k ≡ true → struct_inject own ≡ k
-is_struct_inject_from own (struct_inject other) h = ap struct_inject (name_from own other h)
+is_struct_inject_from : (own : Name) (k : Kind) → is_struct_inject own k ≡ true → on_struct (struct_inject own) ≡ k
+is_struct_inject_from own (on_struct (struct_inject other)) h = ap (λ name. on_struct (struct_inject name)) (name_from own other h)
 is_struct_inject_from own _ h = cc
 
 is_instance_from : (own : Instance) (k : Kind) → is_instance own k ≡ true → instance own ≡ k
 is_instance_from own (instance other) h = ap instance (instance_from own other h)
 is_instance_from own _ h = cc
 
-is_compreg_from : (own : Reset) (k : Kind) → is_compreg own k ≡ true → compreg own ≡ k
-is_compreg_from own (compreg other) h = ap compreg (reset_from own other h)
-is_compreg_from own _ h = cc
+-- an opcode is found by its name
+opcode_found : (a : Listed) → first_named (name_of_listed a) listed_operations ≡ Some a
+unfolding name_of_listed
+opcode_found listed.HwModule = refl
+opcode_found _ = refl
 
-is_compreg_ce_from : (own : Reset) (k : Kind) → is_compreg_ce own k ≡ true → compreg_ce own ≡ k
-is_compreg_ce_from own (compreg_ce other) h = ap compreg_ce (reset_from own other h)
-is_compreg_ce_from own _ h = cc
+opcode_self : (a : Listed) → same_opcode a a ≡ true
+opcode_self a = name_self (name_of_listed a)
 
-is_firreg_from : (own : Reset) (k : Kind) → is_firreg own k ≡ true → firreg own ≡ k
-is_firreg_from own (firreg other) h = ap firreg (reset_from own other h)
-is_firreg_from own _ h = cc
+opcode_from : (a b : Listed) → same_opcode a b ≡ true → a ≡ b
+opcode_from a b h =
+    let e : Some a ≡ Some b = sym (opcode_found a) ∙ ap (λ name. first_named name listed_operations) (name_from (name_of_listed a) (name_of_listed b) h) ∙ opcode_found b in cc
 
--- the kind without attributes of a number
-abbrev numbered_kind : ℕ → Kind
-numbered_kind n = cond (n == 1) add (cond (n == 2) mul (cond (n == 3) and (cond (n == 4) or (cond (n == 5) xor (cond (n == 6) sub (cond (n == 7) divu (cond (n == 8) modu (cond (n == 9) divs (cond (n == 10) mods (cond (n == 11) shl (cond (n == 12) shru (cond (n == 13) shrs (cond (n == 14) parity (cond (n == 15) concat (cond (n == 16) replicate (cond (n == 17) mux (cond (n == 18) array_create (cond (n == 19) array_concat (cond (n == 20) array_get (cond (n == 21) array_slice (cond (n == 22) array_inject (cond (n == 23) struct_create (cond (n == 24) struct_explode (cond (n == 25) bitcast (cond (n == 26) wire (output))))))))))))))))))))))))))
+registers_from : (f g : RegisterOp) → register_opcode f ≡ register_opcode g → f ≡ g
+registers_from compreg compreg e = refl
+registers_from compreg_ce compreg_ce e = refl
+registers_from firreg firreg e = refl
+registers_from _ _ e = cc
 
-kind_back : (k : Kind) → (plain_number k ≡ 0) ⊎ (numbered_kind (plain_number k) ≡ k)
-kind_back add = inr refl
-kind_back mul = inr refl
-kind_back and = inr refl
-kind_back or = inr refl
-kind_back xor = inr refl
-kind_back sub = inr refl
-kind_back divu = inr refl
-kind_back modu = inr refl
-kind_back divs = inr refl
-kind_back mods = inr refl
-kind_back shl = inr refl
-kind_back shru = inr refl
-kind_back shrs = inr refl
-kind_back parity = inr refl
-kind_back concat = inr refl
-kind_back replicate = inr refl
-kind_back mux = inr refl
-kind_back array_create = inr refl
-kind_back array_concat = inr refl
-kind_back array_get = inr refl
-kind_back array_slice = inr refl
-kind_back array_inject = inr refl
-kind_back struct_create = inr refl
-kind_back struct_explode = inr refl
-kind_back bitcast = inr refl
-kind_back wire = inr refl
-kind_back output = inr refl
-kind_back (icmp p) = inl refl
-kind_back (extract low) = inl refl
-kind_back (constant z) = inl refl
-kind_back (aggregate_constant ls) = inl refl
-kind_back (struct_extract name) = inl refl
-kind_back (struct_inject name) = inl refl
-kind_back (instance i) = inl refl
-kind_back (compreg r) = inl refl
-kind_back (compreg_ce r) = inl refl
-kind_back (firreg r) = inl refl
+is_register_from : (f : RegisterOp) (own : Reset) (k : Kind) → is_register (register_opcode f) own k ≡ true → register f own ≡ k
+is_register_from f own (register g other) h =
+    let p = both_of (same_opcode (register_opcode f) (register_opcode g)) (same_reset own other) h in
+    let e : f ≡ g = registers_from f g (opcode_from (register_opcode f) (register_opcode g) p.0) in
+    let r : own ≡ other = reset_from own other p.1 in cc
+is_register_from f own _ h = cc
 
-plain_from : (j k : Kind) → 0 < plain_number j → nat_eq (plain_number j) (plain_number k) ≡ true → j ≡ k
-plain_from j k some h =
-    let e : plain_number j ≡ plain_number k = number_from (plain_number j) (plain_number k) h in
-    elim (kind_back j) as (λ _. j ≡ k) [
-      | inl z ↦ absurd (omega (arith, z, some))
-      | inr f ↦ elim (kind_back k) as (λ _. j ≡ k) [
-        | inl z ↦ absurd (omega (arith, z, e, some))
-        | inr g ↦ sym f ∙ ap numbered_kind e ∙ g
-      ]
+-- an operation whose opcode alone tells its kind is found again by it
+pub kind_found : (k : Kind) → (kind_named_by (opcode_of k) ≡ Some k) ⊎ (kind_named_by (opcode_of k) ≡ None)
+kind_found (variadic add) = inl refl
+kind_found (variadic _) = inl refl
+kind_found (division divu) = inl refl
+kind_found (division _) = inl refl
+kind_found (shift shl) = inl refl
+kind_found (shift _) = inl refl
+kind_found (on_array array_create) = inl refl
+kind_found (on_array _) = inl refl
+kind_found (on_struct (struct_extract name)) = inr refl
+kind_found (on_struct (struct_inject name)) = inr refl
+kind_found (on_struct _) = inl refl
+kind_found (icmp p) = inr refl
+kind_found (extract low) = inr refl
+kind_found (constant z) = inr refl
+kind_found (aggregate_constant ls) = inr refl
+kind_found (instance i) = inr refl
+kind_found (register compreg r) = inr refl
+kind_found (register _ r) = inr refl
+kind_found _ = inl refl
+
+-- so two kinds of one opcode are one, where the opcode alone tells the first
+plain_from : (j k : Kind) → kind_named_by (opcode_of j) ≡ Some j → same_opcode (opcode_of j) (opcode_of k) ≡ true → j ≡ k
+plain_from j k found h =
+    let e : opcode_of j ≡ opcode_of k = opcode_from (opcode_of j) (opcode_of k) h in
+    let f : kind_named_by (opcode_of k) ≡ Some j = ap kind_named_by (sym e) ∙ found in
+    elim (kind_found k) as (λ _. j ≡ k) [
+      | inl g ↦ (let s : Some j ≡ Some k = sym f ∙ g in cc)
+      | inr g ↦ (let s : Some j ≡ None = sym f ∙ g in cc)
     ]
 
 kind_self : (k : Kind) → same_kind k k ≡ true
@@ -243,26 +246,30 @@ kind_self (icmp p) = predicate_self p
 kind_self (extract low) = number_self low
 kind_self (constant z) = integer_self z
 kind_self (aggregate_constant ls) = literals_self ls
-kind_self (struct_extract name) = name_self name
-kind_self (struct_inject name) = name_self name
+kind_self (on_struct (struct_extract name)) = name_self name
+kind_self (on_struct (struct_inject name)) = name_self name
 kind_self (instance i) = instance_self i
-kind_self (compreg r) = reset_self r
-kind_self (compreg_ce r) = reset_self r
-kind_self (firreg r) = reset_self r
-kind_self k = refl
+kind_self (register f r) = both (same_opcode (register_opcode f) (register_opcode f)) (same_reset r r) (opcode_self (register_opcode f)) (reset_self r)
+kind_self k = opcode_self (opcode_of k)
 
 kind_from : (j k : Kind) → same_kind j k ≡ true → j ≡ k
 kind_from (icmp p) k h = is_icmp_from p k h
 kind_from (extract low) k h = is_extract_from low k h
 kind_from (constant z) k h = is_constant_from z k h
 kind_from (aggregate_constant ls) k h = is_aggregate_constant_from ls k h
-kind_from (struct_extract name) k h = is_struct_extract_from name k h
-kind_from (struct_inject name) k h = is_struct_inject_from name k h
+kind_from (on_struct (struct_extract name)) k h = is_struct_extract_from name k h
+kind_from (on_struct (struct_inject name)) k h = is_struct_inject_from name k h
 kind_from (instance i) k h = is_instance_from i k h
-kind_from (compreg r) k h = is_compreg_from r k h
-kind_from (compreg_ce r) k h = is_compreg_ce_from r k h
-kind_from (firreg r) k h = is_firreg_from r k h
-kind_from j k h = plain_from j k (omega arith) h
+kind_from (register f r) k h = is_register_from f r k h
+kind_from (variadic add) k h = plain_from (variadic add) k refl h
+kind_from (variadic v) k h = plain_from (variadic v) k refl h
+kind_from (division divu) k h = plain_from (division divu) k refl h
+kind_from (division d) k h = plain_from (division d) k refl h
+kind_from (shift shl) k h = plain_from (shift shl) k refl h
+kind_from (shift s) k h = plain_from (shift s) k refl h
+kind_from (on_array array_create) k h = plain_from (on_array array_create) k refl h
+kind_from (on_array a) k h = plain_from (on_array a) k refl h
+kind_from j k h = plain_from j k refl h
 
 pub predicates_apart : TellsApart same_predicate
 predicates_apart = record { self = predicate_self; from = predicate_from }

@@ -11,8 +11,10 @@ pub mod Hierarchy
 pub mod Indices
 pub mod Equality
 pub mod SameType
+pub mod Opcodes
 pub mod SameKind
 pub mod IntegerKinds
 pub mod TypeViews
 pub mod KindViews
+pub mod FamilyViews
 pub mod KindsApart

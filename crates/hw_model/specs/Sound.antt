@@ -8,12 +8,14 @@ use Rattle.bits_core.specs.Word.{Word}
 use Rattle.hw_model.specs.Types.{Name, HwType, FieldTypes, width}
 use Rattle.hw_model.specs.Types.HwType.{int, clock, array, struct}
 use Rattle.hw_model.specs.Types.FieldTypes.{no_fields, field}
-use Rattle.hw_model.specs.Kinds.{Kind, Instance, Reset, Literal, Literals}
+use Rattle.hw_model.specs.Kinds.{Kind, Instance, Reset, Literal, Literals, ArrayOp, StructOp}
 use Rattle.hw_model.specs.Kinds.Reset.{no_reset, sync_reset}
 use Rattle.hw_model.specs.Kinds.Literal.{leaf, parts}
 use Rattle.hw_model.specs.Kinds.Literals.{no_literals, literal}
-use Rattle.hw_model.specs.Kinds.Kind.{add, mul, and, or, xor, sub, divu, modu, divs, mods, shl, shru, shrs, icmp, parity, extract, concat, replicate, mux, constant, aggregate_constant, array_create, array_concat, array_get, array_slice, array_inject, struct_create, struct_extract, struct_inject, struct_explode, bitcast, wire, instance, output, compreg, compreg_ce, firreg}
-use Rattle.hw_model.specs.Design.{Ref, Port, OpResult, Op, Module, Design, same_name, find_module, instance_in, result_type, output_refs}
+use Rattle.hw_model.specs.Kinds.ArrayOp.{array_create, array_concat, array_get, array_slice, array_inject}
+use Rattle.hw_model.specs.Kinds.StructOp.{struct_create, struct_extract, struct_inject, struct_explode}
+use Rattle.hw_model.specs.Kinds.Kind.{variadic, sub, division, shift, icmp, parity, extract, concat, replicate, mux, constant, aggregate_constant, on_array, on_struct, bitcast, wire, instance, output, register}
+use Rattle.hw_model.specs.Design.{Ref, Port, OpResult, Op, Module, Design, same_name, find_module, instance_in, takes_enable, result_type, output_refs}
 use Rattle.hw_model.specs.Design.Ref.{port, result, undefined}
 use Rattle.hw_model.specs.Value.{written}
 
@@ -96,21 +98,27 @@ abbrev pub register_types : Bool → Reset → HwType → List (Option HwType)
 register_types false r t = Some t ∷ Some clock ∷ reset_types r t
 register_types true r t = Some t ∷ Some clock ∷ Some (int 1) ∷ reset_types r t
 
+-- an operation on arrays that writes the types `ts`, with operands of the types `xs`, may have a result of type t
+abbrev pub ArrayFits : ArrayOp → List HwType → List (Option HwType) → HwType → Type 0
+ArrayFits array_create ts xs t = (e : HwType) × (t ≡ array (length xs) e) × AllAre e xs
+ArrayFits array_concat ts xs t = (e : HwType) × (ns : List ℕ) × (xs ≡ map (λ (n : ℕ). Some (array n e)) ns) × (t ≡ array (total ns) e)
+ArrayFits array_get ts xs t = (n : ℕ) × (u : HwType) × (xs ≡ Some (array n t) ∷ Some u ∷ []) × (written ts 0 ≡ array n t)
+ArrayFits array_slice ts xs t = (n : ℕ) × (m : ℕ) × (e : HwType) × (u : HwType) × (xs ≡ Some (array n e) ∷ Some u ∷ []) × (written ts 0 ≡ array n e) × (t ≡ array m e)
+ArrayFits array_inject ts xs t = (n : ℕ) × (e : HwType) × (u : HwType) × (xs ≡ Some t ∷ Some u ∷ Some e ∷ []) × (written ts 0 ≡ t) × (t ≡ array n e)
+
+-- an operation on structs, its k-th result
+abbrev pub StructFits : StructOp → List HwType → List (Option HwType) → HwType → ℕ → Type 0
+StructFits struct_create ts xs t k = (fs : FieldTypes) × (t ≡ struct fs) × (xs ≡ map (λ (u : HwType). Some u) (field_list fs))
+StructFits (struct_extract name) ts xs t k = (fs : FieldTypes) × (xs ≡ Some (struct fs) ∷ []) × (written ts 0 ≡ struct fs) × (field_type fs name ≡ Some t)
+StructFits (struct_inject name) ts xs t k = (fs : FieldTypes) × (e : HwType) × (xs ≡ Some t ∷ Some e ∷ []) × (written ts 0 ≡ t) × (t ≡ struct fs) × (field_type fs name ≡ Some e)
+StructFits struct_explode ts xs t k = (fs : FieldTypes) × (xs ≡ Some (struct fs) ∷ []) × (written ts 0 ≡ struct fs) × (slice_get (field_list fs) k ≡ Some t)
+
 -- an operation that writes the types `ts`, with operands of the types `xs`, may have a k-th result of type t
 abbrev pub Fits : Kind → List HwType → List (Option HwType) → HwType → ℕ → Type 0
-Fits add ts xs t k = AllAre t xs
-Fits mul ts xs t k = AllAre t xs
-Fits and ts xs t k = AllAre t xs
-Fits or ts xs t k = AllAre t xs
-Fits xor ts xs t k = AllAre t xs
+Fits (variadic v) ts xs t k = AllAre t xs
 Fits sub ts xs t k = xs ≡ Some t ∷ Some t ∷ []
-Fits divu ts xs t k = xs ≡ Some t ∷ Some t ∷ []
-Fits modu ts xs t k = xs ≡ Some t ∷ Some t ∷ []
-Fits divs ts xs t k = xs ≡ Some t ∷ Some t ∷ []
-Fits mods ts xs t k = xs ≡ Some t ∷ Some t ∷ []
-Fits shl ts xs t k = xs ≡ Some t ∷ Some t ∷ []
-Fits shru ts xs t k = xs ≡ Some t ∷ Some t ∷ []
-Fits shrs ts xs t k = xs ≡ Some t ∷ Some t ∷ []
+Fits (division d) ts xs t k = xs ≡ Some t ∷ Some t ∷ []
+Fits (shift s) ts xs t k = xs ≡ Some t ∷ Some t ∷ []
 Fits (icmp p) ts xs t k = (u : HwType) × (xs ≡ Some u ∷ Some u ∷ []) × (t ≡ int 1)
 Fits parity ts xs t k = (u : HwType) × (xs ≡ Some u ∷ []) × (t ≡ int 1)
 Fits (extract low) ts xs t k = (u : HwType) × (xs ≡ Some u ∷ []) × (low + width t ≤ width u)
@@ -119,22 +127,13 @@ Fits replicate ts xs t k = (u : HwType) × (n : ℕ) × (xs ≡ Some u ∷ []) �
 Fits mux ts xs t k = xs ≡ Some (int 1) ∷ Some t ∷ Some t ∷ []
 Fits (constant z) ts xs t k = xs ≡ []
 Fits (aggregate_constant ls) ts xs t k = (xs ≡ []) × (literals_width ls ≡ width t)
-Fits array_create ts xs t k = (e : HwType) × (t ≡ array (length xs) e) × AllAre e xs
-Fits array_concat ts xs t k = (e : HwType) × (ns : List ℕ) × (xs ≡ map (λ (n : ℕ). Some (array n e)) ns) × (t ≡ array (total ns) e)
-Fits array_get ts xs t k = (n : ℕ) × (u : HwType) × (xs ≡ Some (array n t) ∷ Some u ∷ []) × (written ts 0 ≡ array n t)
-Fits array_slice ts xs t k = (n : ℕ) × (m : ℕ) × (e : HwType) × (u : HwType) × (xs ≡ Some (array n e) ∷ Some u ∷ []) × (written ts 0 ≡ array n e) × (t ≡ array m e)
-Fits array_inject ts xs t k = (n : ℕ) × (e : HwType) × (u : HwType) × (xs ≡ Some t ∷ Some u ∷ Some e ∷ []) × (written ts 0 ≡ t) × (t ≡ array n e)
-Fits struct_create ts xs t k = (fs : FieldTypes) × (t ≡ struct fs) × (xs ≡ map (λ (u : HwType). Some u) (field_list fs))
-Fits (struct_extract name) ts xs t k = (fs : FieldTypes) × (xs ≡ Some (struct fs) ∷ []) × (written ts 0 ≡ struct fs) × (field_type fs name ≡ Some t)
-Fits (struct_inject name) ts xs t k = (fs : FieldTypes) × (e : HwType) × (xs ≡ Some t ∷ Some e ∷ []) × (written ts 0 ≡ t) × (t ≡ struct fs) × (field_type fs name ≡ Some e)
-Fits struct_explode ts xs t k = (fs : FieldTypes) × (xs ≡ Some (struct fs) ∷ []) × (written ts 0 ≡ struct fs) × (slice_get (field_list fs) k ≡ Some t)
+Fits (on_array a) ts xs t k = ArrayFits a ts xs t
+Fits (on_struct s) ts xs t k = StructFits s ts xs t k
 Fits bitcast ts xs t k = (u : HwType) × (xs ≡ Some u ∷ []) × (width u ≡ width t)
 Fits wire ts xs t k = xs ≡ Some t ∷ []
 Fits (instance i) ts xs t k = Unit {0}
 Fits output ts xs t k = ⊥
-Fits (compreg r) ts xs t k = xs ≡ register_types false r t
-Fits (compreg_ce r) ts xs t k = xs ≡ register_types true r t
-Fits (firreg r) ts xs t k = xs ≡ register_types false r t
+Fits (register f r) ts xs t k = xs ≡ register_types (takes_enable f) r t
 
 -- each result of the operation fits its operands; an output has no result
 abbrev pub OpFits : (Ref → Option HwType) → Op → Type 0

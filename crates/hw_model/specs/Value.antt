@@ -6,11 +6,16 @@ use Rattle.bits_core.specs.Word.{Word, number, bits, bits_of_ℤ, zeros, ones, f
 use Rattle.hw_model.specs.Types.{Name, HwType, FieldTypes, width}
 use Rattle.hw_model.specs.Types.HwType.{array, struct}
 use Rattle.hw_model.specs.Types.FieldTypes.{no_fields, field}
-use Rattle.hw_model.specs.Kinds.{Kind, Predicate, Literal, Literals}
+use Rattle.hw_model.specs.Kinds.{Kind, Predicate, Literal, Literals, Variadic, Division, Shift, ArrayOp, StructOp}
 use Rattle.hw_model.specs.Kinds.Predicate.{eq, ne, slt, sle, sgt, sge, ult, ule, ugt, uge, ceq, cne, weq, wne}
 use Rattle.hw_model.specs.Kinds.Literal.{leaf, parts}
 use Rattle.hw_model.specs.Kinds.Literals.{no_literals, literal}
-use Rattle.hw_model.specs.Kinds.Kind.{add, mul, and, or, xor, sub, divu, modu, divs, mods, shl, shru, shrs, icmp, parity, extract, concat, replicate, mux, constant, aggregate_constant, array_create, array_concat, array_get, array_slice, array_inject, struct_create, struct_extract, struct_inject, struct_explode, bitcast, wire, instance, output, compreg, compreg_ce, firreg}
+use Rattle.hw_model.specs.Kinds.Variadic.{add, mul, and, or, xor}
+use Rattle.hw_model.specs.Kinds.Division.{divu, modu, divs, mods}
+use Rattle.hw_model.specs.Kinds.Shift.{shl, shru, shrs}
+use Rattle.hw_model.specs.Kinds.ArrayOp.{array_create, array_concat, array_get, array_slice, array_inject}
+use Rattle.hw_model.specs.Kinds.StructOp.{struct_create, struct_extract, struct_inject, struct_explode}
+use Rattle.hw_model.specs.Kinds.Kind.{variadic, sub, division, shift, icmp, parity, extract, concat, replicate, mux, constant, aggregate_constant, on_array, on_struct, bitcast, wire, instance, output, register}
 use Rattle.hw_model.specs.Design.{same_name}
 
 -- the words joined, the first most significant
@@ -139,24 +144,52 @@ written [] n = struct no_fields
 written (t ∷ ts) zero = t
 written (t ∷ ts) (suc n) = written ts n
 
+-- ---- families
+
+-- the result of w bits of an operation of any number of operands
+abbrev pub variadic_value : Variadic → ℕ → List Word → Word
+variadic_value add w xs = bits w (total (map number xs))
+variadic_value mul w xs = bits w (product (map number xs))
+variadic_value and w xs = and_all w xs
+variadic_value or w xs = or_all w xs
+variadic_value xor w xs = xor_all w xs
+
+abbrev pub division_value : Division → Word → Word → Word
+division_value divu = quotient
+division_value modu = rest
+division_value divs = signed_quotient
+division_value mods = signed_rest
+
+-- a word shifted by a number
+abbrev pub shift_value : Shift → Word → ℕ → Word
+shift_value shl = shift_left
+shift_value shru = shift_right
+shift_value shrs = shift_right_signed
+
+-- the result of type t of an operation on arrays that writes a type `a` first
+abbrev pub array_value : ArrayOp → HwType → HwType → List Word → Word
+array_value array_create a t xs = joined xs
+array_value array_concat a t xs = joined xs
+array_value array_get a t xs = of_two (λ x i. element a x (number i)) xs
+array_value array_slice a t xs = of_two (λ x i. slice_of a x (number i) t) xs
+array_value array_inject a t xs = of_three (λ x i v. injected a x (number i) v) xs
+
+-- the k-th result of an operation on structs that writes a struct of these fields first
+abbrev pub struct_value : StructOp → FieldTypes → ℕ → List Word → Word
+struct_value struct_create fs k xs = joined xs
+struct_value (struct_extract name) fs k xs = of_one (field_of fs name) xs
+struct_value (struct_inject name) fs k xs = of_two (with_field fs name) xs
+struct_value struct_explode fs k xs = of_one (field_at fs k) xs
+
 -- ---- the value
 
 -- the k-th result of an operation that writes the types `ts`, of type t, from its operands' words `xs`.
 -- Registers, instances and outputs have no value of this kind.
 abbrev pub op_value : Kind → List HwType → HwType → ℕ → List Word → Word
-op_value add ts t k xs = bits (width t) (total (map number xs))
-op_value mul ts t k xs = bits (width t) (product (map number xs))
-op_value and ts t k xs = and_all (width t) xs
-op_value or ts t k xs = or_all (width t) xs
-op_value xor ts t k xs = xor_all (width t) xs
+op_value (variadic v) ts t k xs = variadic_value v (width t) xs
 op_value sub ts t k xs = of_two difference xs
-op_value divu ts t k xs = of_two quotient xs
-op_value modu ts t k xs = of_two rest xs
-op_value divs ts t k xs = of_two signed_quotient xs
-op_value mods ts t k xs = of_two signed_rest xs
-op_value shl ts t k xs = of_two (λ x y. shift_left x (number y)) xs
-op_value shru ts t k xs = of_two (λ x y. shift_right x (number y)) xs
-op_value shrs ts t k xs = of_two (λ x y. shift_right_signed x (number y)) xs
+op_value (division d) ts t k xs = of_two (division_value d) xs
+op_value (shift s) ts t k xs = of_two (λ x y. shift_value s x (number y)) xs
 op_value (icmp p) ts t k xs = of_two (λ x y. flag (compare p x y)) xs
 op_value parity ts t k xs = of_one (λ x. flag (odd x)) xs
 op_value (extract low) ts t k xs = of_one (bits_from low (width t)) xs
@@ -165,19 +198,10 @@ op_value replicate ts t k xs = of_one (λ x. copies (width t / length x) x) xs
 op_value mux ts t k xs = of_three (λ c x y. cond (is_high c) x y) xs
 op_value (constant z) ts t k xs = bits_of_ℤ (width t) z
 op_value (aggregate_constant ls) ts t k xs = word_of_literals ls
-op_value array_create ts t k xs = joined xs
-op_value array_concat ts t k xs = joined xs
-op_value array_get ts t k xs = of_two (λ a i. element (written ts 0) a (number i)) xs
-op_value array_slice ts t k xs = of_two (λ a i. slice_of (written ts 0) a (number i) t) xs
-op_value array_inject ts t k xs = of_three (λ a i v. injected (written ts 0) a (number i) v) xs
-op_value struct_create ts t k xs = joined xs
-op_value (struct_extract name) ts t k xs = of_one (field_of (fields (written ts 0)) name) xs
-op_value (struct_inject name) ts t k xs = of_two (with_field (fields (written ts 0)) name) xs
-op_value struct_explode ts t k xs = of_one (field_at (fields (written ts 0)) k) xs
+op_value (on_array a) ts t k xs = array_value a (written ts 0) t xs
+op_value (on_struct s) ts t k xs = struct_value s (fields (written ts 0)) k xs
 op_value bitcast ts t k xs = of_one (λ x. x) xs
 op_value wire ts t k xs = of_one (λ x. x) xs
 op_value (instance i) ts t k xs = []
 op_value output ts t k xs = []
-op_value (compreg r) ts t k xs = []
-op_value (compreg_ce r) ts t k xs = []
-op_value (firreg r) ts t k xs = []
+op_value (register f r) ts t k xs = []

@@ -3,11 +3,13 @@ use Rattle.std.specs.Prelude.{ℕ, zero, suc, ◌+◌, ◌*◌, List, [], ◌∷
 use Rattle.wiring.specs.Lists.{total}
 use Rattle.hw_model.specs.Types.{Name, HwType, leaves}
 use Rattle.hw_model.specs.Types.HwType.{array}
-use Rattle.hw_model.specs.Kinds.{Kind, Reset, Literal, Literals}
+use Rattle.hw_model.specs.Kinds.{Kind, Reset, Literal, Literals, ArrayOp, RegisterOp}
 use Rattle.hw_model.specs.Kinds.Literal.{leaf, parts}
 use Rattle.hw_model.specs.Kinds.Literals.{no_literals, literal}
 use Rattle.hw_model.specs.Kinds.Reset.{no_reset, sync_reset}
-use Rattle.hw_model.specs.Kinds.Kind.{mux, constant, aggregate_constant, array_get, array_slice, array_inject, bitcast, wire, instance, output, compreg, compreg_ce, firreg}
+use Rattle.hw_model.specs.Kinds.ArrayOp.{array_get, array_slice, array_inject}
+use Rattle.hw_model.specs.Kinds.RegisterOp.{compreg, compreg_ce, firreg}
+use Rattle.hw_model.specs.Kinds.Kind.{mux, constant, aggregate_constant, on_array, bitcast, wire, instance, output, register}
 use Rattle.hw_model.specs.Design.{Port, Op, Module, Design, find_module}
 use Rattle.hw_model.specs.Value.{written}
 
@@ -42,21 +44,30 @@ abbrev pub reset_weight : Reset → ℕ
 reset_weight no_reset = 0
 reset_weight sync_reset = 4
 
+-- an operation on arrays that writes the types `ts` and has n operands
+abbrev pub array_weight : ArrayOp → List HwType → ℕ → ℕ
+array_weight array_get ts n = choice_weight (element_count (written ts 0)) (element_leaves (written ts 0)) 1
+array_weight array_slice ts n = choice_weight (element_count (written ts 0)) (element_leaves (written ts 0)) (element_count (written ts 1))
+array_weight array_inject ts n = 4 * element_count (written ts 0) + 4 * (element_count (written ts 0) * element_leaves (written ts 0))
+array_weight _ ts n = 1 + n
+
+-- a register, for each leaf, without its reset
+abbrev pub register_weight : RegisterOp → ℕ
+register_weight compreg = 3
+register_weight compreg_ce = 7
+register_weight firreg = 3
+
 -- the weight of an operation that writes the types `ts` and has `n` operands, `inner` giving that of the module of a symbol
 abbrev pub kind_weight : (Name → ℕ) → Kind → List HwType → ℕ → ℕ
 kind_weight inner (constant z) ts n = 1
 kind_weight inner (aggregate_constant ls) ts n = literals_leaves ls
 kind_weight inner mux ts n = 4 * leaf_count ts
-kind_weight inner array_get ts n = choice_weight (element_count (written ts 0)) (element_leaves (written ts 0)) 1
-kind_weight inner array_slice ts n = choice_weight (element_count (written ts 0)) (element_leaves (written ts 0)) (element_count (written ts 1))
-kind_weight inner array_inject ts n = 4 * element_count (written ts 0) + 4 * (element_count (written ts 0) * element_leaves (written ts 0))
+kind_weight inner (on_array a) ts n = array_weight a ts n
 kind_weight inner bitcast ts n = 1 + 4 * leaf_count ts
 kind_weight inner wire ts n = 2 * leaf_count ts
 kind_weight inner (instance i) ts n = 1 + leaf_count ts + inner i.symbol
 kind_weight inner output ts n = 1 + leaf_count ts
-kind_weight inner (compreg r) ts n = (3 + reset_weight r) * leaf_count ts
-kind_weight inner (compreg_ce r) ts n = (7 + reset_weight r) * leaf_count ts
-kind_weight inner (firreg r) ts n = (3 + reset_weight r) * leaf_count ts
+kind_weight inner (register f r) ts n = (register_weight f + reset_weight r) * leaf_count ts
 kind_weight inner _ ts n = 1 + n
 
 abbrev pub body_weight : (Name → ℕ) → List Op → ℕ

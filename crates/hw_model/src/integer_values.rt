@@ -1,13 +1,15 @@
 //! The values of operations on integers.
 ghost use Rattle.std.specs.Prelude.{◌≡◌, ◌+◌, ◌*◌, ◌/◌, ◌%◌, ◌≤◌, ◌∷◌, [], length, map, cond, true, false, IsTrue, ◌↔◌};
 ghost use Rattle.wiring.specs.Lists.{total};
-ghost use Rattle.bits_core.specs.Word.{number, bits, bits_of_ℤ, flag, copies, sub, quotient, rest, signed_quotient, signed_rest, shift_left, shift_right, shift_right_signed, same_word, less, signed_less, order, parity};
+ghost use Rattle.bits_core.specs.Word.{number, bits, bits_of_ℤ, flag, copies, sub, same_word, less, signed_less, order, parity};
 ghost use Rattle.bits_core.specs.Word.{extract as bits_from};
 ghost use Rattle.hw_model.specs.Types.HwType.{int};
 ghost use Rattle.hw_model.specs.KindViews.{kind_of, predicate_of, integer_of};
+ghost use Rattle.hw_model.specs.FamilyViews.{family_of, variadic_of, division_of, shift_of};
 ghost use Rattle.hw_model.specs.IntegerKinds.{TakesWords, AllHave, OfOne, OfTwo};
-ghost use Rattle.hw_model.specs.Value.{op_value, joined, product, and_all, or_all, xor_all, of_one, of_two, of_three, is_high, compare};
+ghost use Rattle.hw_model.specs.Value.{op_value, variadic_value, division_value, shift_value, joined, product, and_all, or_all, xor_all, of_one, of_two, of_three, is_high, compare};
 
+use crate::families::{Division, Family, Shift, Variadic};
 use crate::kinds::{Integer, OpKind, Predicate};
 use bits_core::Bits;
 use std::cmp::Ordering;
@@ -23,28 +25,69 @@ pub fn op_value(kind: &OpKind, width: u32, operands: &[Bits]) -> Bits
     requires words { TakesWords (kind_of kind.now) width operands.now }
     ensures { result ≡ op_value (kind_of kind.now) [] (int width) 0 operands.now }
 {
-    match kind {
-        OpKind::Add => sum(width, operands),
-        OpKind::Mul => multiplied(width, operands),
-        OpKind::And => all_and(width, operands),
-        OpKind::Or => all_or(width, operands),
-        OpKind::Xor => all_xor(width, operands),
-        OpKind::Sub => difference(operands),
-        OpKind::Divu => quotient(operands),
-        OpKind::Modu => rest(operands),
-        OpKind::Divs => signed_quotient(operands),
-        OpKind::Mods => signed_rest(operands),
-        OpKind::Shl => shifted_left(operands),
-        OpKind::Shru => shifted_right(operands),
-        OpKind::Shrs => shifted_right_signed(operands),
-        OpKind::Icmp(predicate) => compared(*predicate, operands),
-        OpKind::Parity => one(operands).parity(),
-        OpKind::Extract(low) => extracted(*low, width, operands),
-        OpKind::Concat => concatenated(operands),
-        OpKind::Replicate => replicated(width, operands),
-        OpKind::Mux => chosen(operands),
-        OpKind::Constant(value) => constant(width, *value),
-        _ => Bits::from(false),
+    family_value(kind.family(), width, operands)
+}
+
+/// The value of an operation on integers, by its family. The kind of the family is as `op_value` asks.
+pub fn family_value(family: Family<'_>, width: u32, operands: &[Bits]) -> Bits
+    requires least { 1 ≤ width }
+    requires most { width ≤ 128 }
+    requires words { TakesWords (family_of family) width operands.now }
+    ensures { result ≡ op_value (family_of family.entry) [] (int width) 0 operands.now }
+{
+    match family {
+        Family::Variadic(op) => variadic_value(op, width, operands),
+        Family::Sub => difference(operands),
+        Family::Division(op) => division_value(op, operands),
+        Family::Shift(op) => shift_value(op, operands),
+        Family::Icmp(predicate) => compared(predicate, operands),
+        Family::Parity => one(operands).parity(),
+        Family::Extract(low) => extracted(low, width, operands),
+        Family::Concat => concatenated(operands),
+        Family::Replicate => replicated(width, operands),
+        Family::Mux => chosen(operands),
+        Family::Constant(value) => constant(width, value),
+        _ => unreachable!(),
+    }
+}
+
+fn variadic_value(op: Variadic, width: u32, operands: &[Bits]) -> Bits
+    requires least { 1 ≤ width }
+    requires most { width ≤ 128 }
+    requires words { AllHave width operands.now }
+    ensures { result ≡ variadic_value (variadic_of op) width operands.now }
+{
+    match op {
+        Variadic::Add => sum(width, operands),
+        Variadic::Mul => multiplied(width, operands),
+        Variadic::And => all_and(width, operands),
+        Variadic::Or => all_or(width, operands),
+        Variadic::Xor => all_xor(width, operands),
+    }
+}
+
+fn division_value(op: Division, operands: &[Bits]) -> Bits
+    requires { OfTwo (λ x y. length x ≡ length y) operands.now }
+    ensures { result ≡ of_two (division_value (division_of op)) operands.now }
+{
+    let (a, b) = pair(operands);
+    match op {
+        Division::Divu => a.divu(&b),
+        Division::Modu => a.modu(&b),
+        Division::Divs => a.divs(&b),
+        Division::Mods => a.mods(&b),
+    }
+}
+
+fn shift_value(op: Shift, operands: &[Bits]) -> Bits
+    requires { length operands.now ≡ 2 }
+    ensures { result ≡ of_two (λ x y. shift_value (shift_of op) x (number y)) operands.now }
+{
+    let (a, b) = pair(operands);
+    match op {
+        Shift::Shl => a.shl(&b),
+        Shift::Shru => a.shru(&b),
+        Shift::Shrs => a.shrs(&b),
     }
 }
 
@@ -76,62 +119,6 @@ fn difference(operands: &[Bits]) -> Bits
 {
     let (a, b) = pair(operands);
     a.sub(&b)
-}
-
-fn quotient(operands: &[Bits]) -> Bits
-    requires { OfTwo (λ x y. length x ≡ length y) operands.now }
-    ensures { result ≡ of_two quotient operands.now }
-{
-    let (a, b) = pair(operands);
-    a.divu(&b)
-}
-
-fn rest(operands: &[Bits]) -> Bits
-    requires { OfTwo (λ x y. length x ≡ length y) operands.now }
-    ensures { result ≡ of_two rest operands.now }
-{
-    let (a, b) = pair(operands);
-    a.modu(&b)
-}
-
-fn signed_quotient(operands: &[Bits]) -> Bits
-    requires { OfTwo (λ x y. length x ≡ length y) operands.now }
-    ensures { result ≡ of_two signed_quotient operands.now }
-{
-    let (a, b) = pair(operands);
-    a.divs(&b)
-}
-
-fn signed_rest(operands: &[Bits]) -> Bits
-    requires { OfTwo (λ x y. length x ≡ length y) operands.now }
-    ensures { result ≡ of_two signed_rest operands.now }
-{
-    let (a, b) = pair(operands);
-    a.mods(&b)
-}
-
-fn shifted_left(operands: &[Bits]) -> Bits
-    requires { length operands.now ≡ 2 }
-    ensures { result ≡ of_two (λ x y. shift_left x (number y)) operands.now }
-{
-    let (a, b) = pair(operands);
-    a.shl(&b)
-}
-
-fn shifted_right(operands: &[Bits]) -> Bits
-    requires { length operands.now ≡ 2 }
-    ensures { result ≡ of_two (λ x y. shift_right x (number y)) operands.now }
-{
-    let (a, b) = pair(operands);
-    a.shru(&b)
-}
-
-fn shifted_right_signed(operands: &[Bits]) -> Bits
-    requires { length operands.now ≡ 2 }
-    ensures { result ≡ of_two (λ x y. shift_right_signed x (number y)) operands.now }
-{
-    let (a, b) = pair(operands);
-    a.shrs(&b)
 }
 
 fn compared(predicate: Predicate, operands: &[Bits]) -> Bits

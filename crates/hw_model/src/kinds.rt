@@ -235,46 +235,25 @@ impl OpKind {
     pub fn try_clone(&self, alloc: Global) -> Result<OpKind, AllocError>
         ensures { IfOk result (λ copy. kind_of copy ≡ kind_of self.now) }
     {
-        Ok(match self {
-            OpKind::Add => OpKind::Add,
-            OpKind::Mul => OpKind::Mul,
-            OpKind::And => OpKind::And,
-            OpKind::Or => OpKind::Or,
-            OpKind::Xor => OpKind::Xor,
-            OpKind::Sub => OpKind::Sub,
-            OpKind::Divu => OpKind::Divu,
-            OpKind::Modu => OpKind::Modu,
-            OpKind::Divs => OpKind::Divs,
-            OpKind::Mods => OpKind::Mods,
-            OpKind::Shl => OpKind::Shl,
-            OpKind::Shru => OpKind::Shru,
-            OpKind::Shrs => OpKind::Shrs,
-            OpKind::Parity => OpKind::Parity,
-            OpKind::Concat => OpKind::Concat,
-            OpKind::Replicate => OpKind::Replicate,
-            OpKind::Mux => OpKind::Mux,
-            OpKind::ArrayCreate => OpKind::ArrayCreate,
-            OpKind::ArrayConcat => OpKind::ArrayConcat,
-            OpKind::ArrayGet => OpKind::ArrayGet,
-            OpKind::ArraySlice => OpKind::ArraySlice,
-            OpKind::ArrayInject => OpKind::ArrayInject,
-            OpKind::StructCreate => OpKind::StructCreate,
-            OpKind::StructExplode => OpKind::StructExplode,
-            OpKind::Bitcast => OpKind::Bitcast,
-            OpKind::Wire => OpKind::Wire,
-            OpKind::Output => OpKind::Output,
-            OpKind::Icmp(predicate) => OpKind::Icmp(*predicate),
-            OpKind::Extract(low) => OpKind::Extract(*low),
-            OpKind::Constant(value) => OpKind::Constant(*value),
-            OpKind::AggregateConstant(list) => OpKind::AggregateConstant(list.try_clone(alloc)?),
-            OpKind::StructExtract(name) => OpKind::StructExtract(name.try_clone(alloc)?),
-            OpKind::StructInject(name) => OpKind::StructInject(name.try_clone(alloc)?),
+        if let Some(plain) = OpKind::of_listed(self.listed()) {
+            return Ok(plain);
+        }
+        match self {
+            OpKind::Icmp(predicate) => Ok(OpKind::Icmp(*predicate)),
+            OpKind::Extract(low) => Ok(OpKind::Extract(*low)),
+            OpKind::Constant(value) => Ok(OpKind::Constant(*value)),
+            OpKind::AggregateConstant(list) => Ok(OpKind::AggregateConstant(list.try_clone(
+                alloc,
+            )?)),
+            OpKind::StructExtract(name) => Ok(OpKind::StructExtract(name.try_clone(alloc)?)),
+            OpKind::StructInject(name) => Ok(OpKind::StructInject(name.try_clone(alloc)?)),
             OpKind::Instance(instance) => {
-                OpKind::Instance(Box::new(alloc, instance.try_clone(alloc)?)?)
+                Ok(OpKind::Instance(Box::new(alloc, instance.try_clone(alloc)?)?))
             }
-            OpKind::CompReg(reset) => OpKind::CompReg(*reset),
-            OpKind::CompRegCe(reset) => OpKind::CompRegCe(*reset),
-            OpKind::FirReg(reset) => OpKind::FirReg(*reset),
-        })
+            OpKind::CompReg(reset) => Ok(OpKind::CompReg(*reset)),
+            OpKind::CompRegCe(reset) => Ok(OpKind::CompRegCe(*reset)),
+            OpKind::FirReg(reset) => Ok(OpKind::FirReg(*reset)),
+            _ => unreachable!(),
+        }
     }
 }

@@ -2,11 +2,13 @@
 ghost use Rattle.std.specs.Prelude.{◌≡◌, map};
 ghost use Rattle.std.specs.Cmp.Lexicographic.{pointwise};
 ghost use Rattle.hw_model.specs.Design.{same_name};
+ghost use Rattle.hw_model.specs.Opcodes.{opcode_of};
 ghost use Rattle.hw_model.specs.KindViews.{kind_of, predicate_of, reset_of, integer_of, literal_of, literals_of, literals_in, instance_of};
-ghost use Rattle.hw_model.specs.SameKind.{predicate_number, plain_number, same_literal, same_literals, same_optional_name, same_instance, is_icmp, is_extract, is_constant, is_aggregate_constant, is_struct_extract, is_struct_inject, is_instance, is_compreg, is_compreg_ce, is_firreg};
+ghost use Rattle.hw_model.specs.SameKind.{predicate_number, same_opcode, same_literal, same_literals, same_optional_name, same_instance, is_icmp, is_extract, is_constant, is_aggregate_constant, is_struct_extract, is_struct_inject, is_instance, is_register};
 
 use crate::kinds::{Instance, Integer, Literal, LiteralList, OpKind, Predicate, Reset};
 use io_edge::byte_text::Text;
+use opcode::listed::Listed;
 
 impl PartialEq for Predicate {
     ghost use Rattle.hw_model.specs.KindViews.{predicate_of};
@@ -114,10 +116,10 @@ impl PartialEq for OpKind {
             OpKind::StructExtract(name) => is_struct_extract(name, other),
             OpKind::StructInject(name) => is_struct_inject(name, other),
             OpKind::Instance(instance) => is_instance(instance, other),
-            OpKind::CompReg(reset) => is_compreg(*reset, other),
-            OpKind::CompRegCe(reset) => is_compreg_ce(*reset, other),
-            OpKind::FirReg(reset) => is_firreg(*reset, other),
-            _ => plain_number(self) == plain_number(other),
+            OpKind::CompReg(reset) | OpKind::CompRegCe(reset) | OpKind::FirReg(reset) => {
+                is_register(self.listed(), *reset, other)
+            }
+            _ => same_opcode(self.listed(), other.listed()),
         }
     }
 }
@@ -150,40 +152,11 @@ fn predicate_number(predicate: Predicate) -> u32
     }
 }
 
-// the place of a kind without attributes in a row of all such, from 1; 0 for others
-fn plain_number(kind: &OpKind) -> u32
-    ensures { result ≡ plain_number (kind_of kind.now) }
+// whether two opcodes are one
+fn same_opcode(a: Listed, b: Listed) -> bool
+    ensures { result ≡ same_opcode a b }
 {
-    match kind {
-        OpKind::Add => 1,
-        OpKind::Mul => 2,
-        OpKind::And => 3,
-        OpKind::Or => 4,
-        OpKind::Xor => 5,
-        OpKind::Sub => 6,
-        OpKind::Divu => 7,
-        OpKind::Modu => 8,
-        OpKind::Divs => 9,
-        OpKind::Mods => 10,
-        OpKind::Shl => 11,
-        OpKind::Shru => 12,
-        OpKind::Shrs => 13,
-        OpKind::Parity => 14,
-        OpKind::Concat => 15,
-        OpKind::Replicate => 16,
-        OpKind::Mux => 17,
-        OpKind::ArrayCreate => 18,
-        OpKind::ArrayConcat => 19,
-        OpKind::ArrayGet => 20,
-        OpKind::ArraySlice => 21,
-        OpKind::ArrayInject => 22,
-        OpKind::StructCreate => 23,
-        OpKind::StructExplode => 24,
-        OpKind::Bitcast => 25,
-        OpKind::Wire => 26,
-        OpKind::Output => 27,
-        _ => 0,
-    }
+    a == b
 }
 
 #[cycle(same_literal)]
@@ -305,29 +278,14 @@ fn is_instance(instance: &Instance, kind: &OpKind) -> bool
     }
 }
 
-fn is_compreg(reset: Reset, kind: &OpKind) -> bool
-    ensures { result ≡ is_compreg (reset_of reset) (kind_of kind.now) }
+// whether a kind is the register of an opcode, with a reset
+fn is_register(own: Listed, reset: Reset, kind: &OpKind) -> bool
+    ensures { result ≡ is_register own (reset_of reset) (kind_of kind.now) }
 {
     match kind {
-        OpKind::CompReg(other) => reset == *other,
-        _ => false,
-    }
-}
-
-fn is_compreg_ce(reset: Reset, kind: &OpKind) -> bool
-    ensures { result ≡ is_compreg_ce (reset_of reset) (kind_of kind.now) }
-{
-    match kind {
-        OpKind::CompRegCe(other) => reset == *other,
-        _ => false,
-    }
-}
-
-fn is_firreg(reset: Reset, kind: &OpKind) -> bool
-    ensures { result ≡ is_firreg (reset_of reset) (kind_of kind.now) }
-{
-    match kind {
-        OpKind::FirReg(other) => reset == *other,
+        OpKind::CompReg(other) | OpKind::CompRegCe(other) | OpKind::FirReg(other) => {
+            same_opcode(own, kind.listed()) && reset == *other
+        }
         _ => false,
     }
 }

@@ -3,8 +3,10 @@ use Rattle.std.specs.Prelude.{ℕ, ◌+◌, ◌-◌, ◌^◌, min, cond, List, [
 use Rattle.hw_model.specs.Types.{Name, HwType, FieldTypes}
 use Rattle.hw_model.specs.Types.HwType.{int, clock, array, struct}
 use Rattle.hw_model.specs.Types.FieldTypes.{no_fields, field}
-use Rattle.hw_model.specs.Kinds.{Kind, Instance}
-use Rattle.hw_model.specs.Kinds.Kind.{add, mul, and, or, xor, sub, divu, modu, divs, mods, shl, shru, shrs, icmp, parity, extract, concat, replicate, mux, constant, aggregate_constant, array_create, array_concat, array_get, array_slice, array_inject, struct_create, struct_extract, struct_inject, struct_explode, bitcast, wire, instance, output, compreg, compreg_ce, firreg}
+use Rattle.hw_model.specs.Kinds.{Kind, Instance, ArrayOp, StructOp}
+use Rattle.hw_model.specs.Kinds.ArrayOp.{array_create, array_concat, array_get, array_slice, array_inject}
+use Rattle.hw_model.specs.Kinds.StructOp.{struct_create, struct_extract, struct_inject, struct_explode}
+use Rattle.hw_model.specs.Kinds.Kind.{variadic, sub, division, shift, icmp, parity, extract, concat, replicate, mux, constant, aggregate_constant, on_array, on_struct, bitcast, wire, instance, output, register}
 use Rattle.hw_model.specs.SameType.{same_type}
 use Rattle.hw_model.specs.Sound.{field_list, field_type}
 
@@ -76,21 +78,26 @@ abbrev pub fields_of : Option HwType → List (Option HwType)
 fields_of (Some (struct fs)) = map (λ (t : HwType). Some t) (field_list fs)
 fields_of _ = []
 
+-- the type of the result of an operation on arrays, on structs: None where the operation does not settle it
+abbrev pub array_result : ArrayOp → List HwType → ℕ → Option HwType
+array_result array_create ts n = as_array n (first_type ts)
+array_result array_concat ts n = array_of (joined_length ts) (element_of (first_type ts))
+array_result array_get ts n = element_of (first_type ts)
+array_result array_slice ts n = second_type ts
+array_result array_inject ts n = first_type ts
+
+abbrev pub struct_result : StructOp → List HwType → Option HwType
+struct_result struct_create ts = first_type ts
+struct_result (struct_extract name) ts = field_of (first_type ts) name
+struct_result (struct_inject name) ts = first_type ts
+struct_result struct_explode ts = None
+
 -- the type of the result of an operation that has one: None where the operation does not settle it
 unfoldable pub result_type : Kind → List HwType → ℕ → Option HwType
-result_type add ts n = first_type ts
-result_type mul ts n = first_type ts
-result_type and ts n = first_type ts
-result_type or ts n = first_type ts
-result_type xor ts n = first_type ts
+result_type (variadic v) ts n = first_type ts
 result_type sub ts n = first_type ts
-result_type divu ts n = first_type ts
-result_type modu ts n = first_type ts
-result_type divs ts n = first_type ts
-result_type mods ts n = first_type ts
-result_type shl ts n = first_type ts
-result_type shru ts n = first_type ts
-result_type shrs ts n = first_type ts
+result_type (division d) ts n = first_type ts
+result_type (shift s) ts n = first_type ts
 result_type (icmp p) ts n = Some (int 1)
 result_type parity ts n = Some (int 1)
 result_type (extract low) ts n = second_type ts
@@ -99,27 +106,18 @@ result_type replicate ts n = second_type ts
 result_type mux ts n = first_type ts
 result_type (constant z) ts n = first_type ts
 result_type (aggregate_constant ls) ts n = first_type ts
-result_type array_create ts n = as_array n (first_type ts)
-result_type array_concat ts n = array_of (joined_length ts) (element_of (first_type ts))
-result_type array_get ts n = element_of (first_type ts)
-result_type array_slice ts n = second_type ts
-result_type array_inject ts n = first_type ts
-result_type struct_create ts n = first_type ts
-result_type (struct_extract name) ts n = field_of (first_type ts) name
-result_type (struct_inject name) ts n = first_type ts
-result_type struct_explode ts n = None
+result_type (on_array a) ts n = array_result a ts n
+result_type (on_struct s) ts n = struct_result s ts
 result_type bitcast ts n = second_type ts
 result_type wire ts n = first_type ts
 result_type (instance i) ts n = None
 result_type output ts n = None
-result_type (compreg r) ts n = first_type ts
-result_type (compreg_ce r) ts n = first_type ts
-result_type (firreg r) ts n = first_type ts
+result_type (register f r) ts n = first_type ts
 
 -- the types of an operation's results, one for each
 unfoldable pub result_types : Kind → List HwType → ℕ → List (Option HwType)
 result_types output ts n = []
-result_types struct_explode ts n = fields_of (first_type ts)
+result_types (on_struct struct_explode) ts n = fields_of (first_type ts)
 result_types (instance i) ts n = map (λ (t : HwType). Some t) (drop (length i.inputs) ts)
 result_types kind ts n = result_type kind ts n ∷ []
 
@@ -131,6 +129,6 @@ field_count _ = 0
 -- how many results an operation has
 unfoldable pub result_count : Kind → List HwType → ℕ
 result_count output ts = 0
-result_count struct_explode ts = field_count (first_type ts)
+result_count (on_struct struct_explode) ts = field_count (first_type ts)
 result_count (instance i) ts = length ts - length i.inputs
 result_count kind ts = 1

@@ -6,7 +6,13 @@ use Rattle.std.proofs.lemmas.Bool.{false≢true, lt-ltb}
 use Rattle.opcode.specs.declared.listed.Listed.TheVariants as listed
 use Rattle.hw_model.specs.Types.{Name}
 use Rattle.hw_model.specs.Kinds.{Kind}
-use Rattle.hw_model.specs.Kinds.Kind.{output}
+use Rattle.hw_model.specs.Kinds.Variadic.{add}
+use Rattle.hw_model.specs.Kinds.Division.{divu}
+use Rattle.hw_model.specs.Kinds.Shift.{shl}
+use Rattle.hw_model.specs.Kinds.ArrayOp.{array_create}
+use Rattle.hw_model.specs.Kinds.StructOp.{struct_create}
+use Rattle.hw_model.specs.Kinds.RegisterOp.{compreg}
+use Rattle.hw_model.specs.Kinds.Kind.{variadic, division, shift, on_array, on_struct, output, register}
 use Rattle.hw_model.specs.Design.{Ref, Port, Op, Module, Design}
 use Rattle.hw_model.specs.Design.Ref.{port, result, undefined}
 use Rattle.ir_store.specs.OperationViews.{OpParts}
@@ -106,6 +112,18 @@ result_fits ns (x ∷ os) (suc i) k o suits at fit lt =
 
 stands_in_body : (k : Kind) → StandsInBody (listed_of k)
 stands_in_body output = tt
+stands_in_body (variadic add) = tt
+stands_in_body (variadic _) = tt
+stands_in_body (division divu) = tt
+stands_in_body (division _) = tt
+stands_in_body (shift shl) = tt
+stands_in_body (shift _) = tt
+stands_in_body (on_array array_create) = tt
+stands_in_body (on_array _) = tt
+stands_in_body (on_struct struct_create) = tt
+stands_in_body (on_struct _) = tt
+stands_in_body (register compreg r) = tt
+stands_in_body (register _ r) = tt
 stands_in_body _ = tt
 
 operands_fit : (means : Ref → ValueText) (Defined : Ref → Type 0) (rs : List Ref) → ((r : Ref) → Defined r → IsOperand (means r)) → Each Defined rs

@@ -10,7 +10,13 @@ use Rattle.hw_model.specs.Kinds.{Kind, Predicate, Literal, Literals, Instance}
 use Rattle.hw_model.specs.Kinds.Reset.{no_reset, sync_reset}
 use Rattle.hw_model.specs.Kinds.Literal.{leaf, parts}
 use Rattle.hw_model.specs.Kinds.Literals.{no_literals, literal}
-use Rattle.hw_model.specs.Kinds.Kind.{add, mul, and, or, xor, sub, divu, modu, divs, mods, shl, shru, shrs, icmp, parity, extract, concat, replicate, mux, constant, aggregate_constant, array_create, array_concat, array_get, array_slice, array_inject, struct_create, struct_extract, struct_inject, struct_explode, bitcast, wire, instance, output, compreg, compreg_ce, firreg}
+use Rattle.hw_model.specs.Kinds.Variadic.{add, mul, and, or, xor}
+use Rattle.hw_model.specs.Kinds.Division.{divu, modu, divs, mods}
+use Rattle.hw_model.specs.Kinds.Shift.{shl, shru, shrs}
+use Rattle.hw_model.specs.Kinds.ArrayOp.{array_create, array_concat, array_get, array_slice, array_inject}
+use Rattle.hw_model.specs.Kinds.StructOp.{struct_create, struct_extract, struct_inject, struct_explode}
+use Rattle.hw_model.specs.Kinds.RegisterOp.{compreg, compreg_ce, firreg}
+use Rattle.hw_model.specs.Kinds.Kind.{variadic, sub, division, shift, icmp, parity, extract, concat, replicate, mux, constant, aggregate_constant, on_array, on_struct, bitcast, wire, instance, output, register}
 use Rattle.mlir_syntax.specs.Numerals.{count_limit}
 use Rattle.mlir_syntax.specs.PieceText.{Extra}
 use Rattle.mlir_syntax.specs.PieceText.Extra.{nothing, with_reset, predicate, position, number, literals, field_name, child}
@@ -60,8 +66,8 @@ of_five P h (x ∷ xs) e = of_four (λ r. P (x ∷ r)) (h x) xs (omega (arith, e
 abbrev Fit : Shape → Extra → List ValueText → List HwType → Type 0
 Fit s e os ts = Each IsOperand os → Each IsAnyType ts → IsSaidAs s (pending os ts e)
 
-variadic : (os : List ValueText) (ts : List HwType) → 1 ≤ length os → length ts ≡ 1 → Fit shape.Variadic nothing os ts
-variadic os ts lo lt = of_one (λ ts. Fit shape.Variadic nothing os ts) (λ t ho ht. says_variadic os t lo ho ht.0) ts lt
+variadic_form : (os : List ValueText) (ts : List HwType) → 1 ≤ length os → length ts ≡ 1 → Fit shape.Variadic nothing os ts
+variadic_form os ts lo lt = of_one (λ ts. Fit shape.Variadic nothing os ts) (λ t ho ht. says_variadic os t lo ho ht.0) ts lt
 
 binary : (os : List ValueText) (ts : List HwType) → length os ≡ 2 → length ts ≡ 1 → Fit shape.Binary nothing os ts
 binary os ts lo lt =
@@ -157,8 +163,8 @@ no_values os ts lo lt =
     of_none (λ os. Fit shape.Nothing nothing os ts)
     (of_none (λ ts. Fit shape.Nothing nothing [] ts) (λ ho ht. says_nothing) ts lt) os lo
 
-register : (os : List ValueText) (ts : List HwType) → length os ≡ 2 → length ts ≡ 1 → Fit shape.Register nothing os ts
-register os ts lo lt =
+plain_register : (os : List ValueText) (ts : List HwType) → length os ≡ 2 → length ts ≡ 1 → Fit shape.Register nothing os ts
+plain_register os ts lo lt =
     of_two (λ os. Fit shape.Register nothing os ts)
     (λ a b. of_one (λ ts. Fit shape.Register nothing (a ∷ b ∷ []) ts)
     (λ t ho ht. says_register a b t ho.0 ho.1.0 ht.0) ts lt) os lo
@@ -276,19 +282,19 @@ pub form_fits : (k : Kind) (os : List ValueText) (ts : List HwType) → length o
     → IsWritten k → Each IsOperand os → Each IsAnyType ts
     → IsSaidAs (shape_shown (listed_of k) (pending os ts (extra_shown k ts))) (pending os ts (extra_shown k ts))
 unfolding shape_shown shape_of extra_shown operands_written types_written
-form_fits add os ts lo lt w = variadic os ts (some_there (length os) lo) lt
-form_fits mul os ts lo lt w = variadic os ts (some_there (length os) lo) lt
-form_fits and os ts lo lt w = variadic os ts (some_there (length os) lo) lt
-form_fits or os ts lo lt w = variadic os ts (some_there (length os) lo) lt
-form_fits xor os ts lo lt w = variadic os ts (some_there (length os) lo) lt
+form_fits (variadic add) os ts lo lt w = variadic_form os ts (some_there (length os) lo) lt
+form_fits (variadic mul) os ts lo lt w = variadic_form os ts (some_there (length os) lo) lt
+form_fits (variadic and) os ts lo lt w = variadic_form os ts (some_there (length os) lo) lt
+form_fits (variadic or) os ts lo lt w = variadic_form os ts (some_there (length os) lo) lt
+form_fits (variadic xor) os ts lo lt w = variadic_form os ts (some_there (length os) lo) lt
 form_fits sub os ts lo lt w = binary os ts lo lt
-form_fits divu os ts lo lt w = binary os ts lo lt
-form_fits modu os ts lo lt w = binary os ts lo lt
-form_fits divs os ts lo lt w = binary os ts lo lt
-form_fits mods os ts lo lt w = binary os ts lo lt
-form_fits shl os ts lo lt w = binary os ts lo lt
-form_fits shru os ts lo lt w = binary os ts lo lt
-form_fits shrs os ts lo lt w = binary os ts lo lt
+form_fits (division divu) os ts lo lt w = binary os ts lo lt
+form_fits (division modu) os ts lo lt w = binary os ts lo lt
+form_fits (division divs) os ts lo lt w = binary os ts lo lt
+form_fits (division mods) os ts lo lt w = binary os ts lo lt
+form_fits (shift shl) os ts lo lt w = binary os ts lo lt
+form_fits (shift shru) os ts lo lt w = binary os ts lo lt
+form_fits (shift shrs) os ts lo lt w = binary os ts lo lt
 form_fits (icmp p) os ts lo lt w = comparison p os ts lo lt
 form_fits parity os ts lo lt w = unary os ts lo lt
 form_fits (extract low) os ts lo lt w = extraction low os ts w lo lt
@@ -297,22 +303,22 @@ form_fits replicate os ts lo lt w = conversion os ts lo lt
 form_fits mux os ts lo lt w = choice os ts lo lt
 form_fits (constant z) os ts lo lt w = constant_fits z os ts w lo lt
 form_fits (aggregate_constant ls) os ts lo lt w = aggregate (shown_literals ls) os ts (literals_shown ls 31 w) lo lt
-form_fits array_create os ts lo lt w = variadic os ts (some_there (length os) lo) lt
-form_fits array_concat os ts lo lt w = joined os ts (some_there (length os) lo) lt
-form_fits array_get os ts lo lt w = element os ts lo lt
-form_fits array_slice os ts lo lt w = slice os ts lo lt
-form_fits array_inject os ts lo lt w = element_change os ts lo lt
-form_fits struct_create os ts lo lt w = group os ts lt
-form_fits (struct_extract name) os ts lo lt w = field_taken name os ts w lo lt
-form_fits (struct_inject name) os ts lo lt w = field_change name os ts w lo lt
-form_fits struct_explode os ts lo lt w = unary os ts lo lt
+form_fits (on_array array_create) os ts lo lt w = variadic_form os ts (some_there (length os) lo) lt
+form_fits (on_array array_concat) os ts lo lt w = joined os ts (some_there (length os) lo) lt
+form_fits (on_array array_get) os ts lo lt w = element os ts lo lt
+form_fits (on_array array_slice) os ts lo lt w = slice os ts lo lt
+form_fits (on_array array_inject) os ts lo lt w = element_change os ts lo lt
+form_fits (on_struct struct_create) os ts lo lt w = group os ts lt
+form_fits (on_struct (struct_extract name)) os ts lo lt w = field_taken name os ts w lo lt
+form_fits (on_struct (struct_inject name)) os ts lo lt w = field_change name os ts w lo lt
+form_fits (on_struct struct_explode) os ts lo lt w = unary os ts lo lt
 form_fits bitcast os ts lo lt w = conversion os ts lo lt
 form_fits wire os ts lo lt w = unary os ts lo lt
 form_fits (instance i) os ts lo lt w = call i os ts w lo lt
 form_fits output os ts lo lt w = output_fits os ts lt
-form_fits (compreg no_reset) os ts lo lt w = register os ts lo lt
-form_fits (compreg sync_reset) os ts lo lt w = reset_register os ts lo lt
-form_fits (compreg_ce no_reset) os ts lo lt w = enabled_register os ts lo lt
-form_fits (compreg_ce sync_reset) os ts lo lt w = enabled_reset_register os ts lo lt
-form_fits (firreg no_reset) os ts lo lt w = clocked_register os ts lo lt
-form_fits (firreg sync_reset) os ts lo lt w = clocked_reset_register os ts lo lt
+form_fits (register compreg no_reset) os ts lo lt w = plain_register os ts lo lt
+form_fits (register compreg sync_reset) os ts lo lt w = reset_register os ts lo lt
+form_fits (register compreg_ce no_reset) os ts lo lt w = enabled_register os ts lo lt
+form_fits (register compreg_ce sync_reset) os ts lo lt w = enabled_reset_register os ts lo lt
+form_fits (register firreg no_reset) os ts lo lt w = clocked_register os ts lo lt
+form_fits (register firreg sync_reset) os ts lo lt w = clocked_reset_register os ts lo lt

@@ -9,7 +9,13 @@ use Rattle.hw_model.specs.Kinds.{Kind, Literal, Literals}
 use Rattle.hw_model.specs.Kinds.Reset.{no_reset, sync_reset}
 use Rattle.hw_model.specs.Kinds.Literal.{leaf, parts}
 use Rattle.hw_model.specs.Kinds.Literals.{no_literals, literal}
-use Rattle.hw_model.specs.Kinds.Kind.{constant, aggregate_constant, compreg, compreg_ce, firreg}
+use Rattle.hw_model.specs.Kinds.Variadic.{add}
+use Rattle.hw_model.specs.Kinds.Division.{divu}
+use Rattle.hw_model.specs.Kinds.Shift.{shl}
+use Rattle.hw_model.specs.Kinds.ArrayOp.{array_create}
+use Rattle.hw_model.specs.Kinds.StructOp.{struct_create}
+use Rattle.hw_model.specs.Kinds.RegisterOp.{compreg, compreg_ce, firreg}
+use Rattle.hw_model.specs.Kinds.Kind.{variadic, division, shift, constant, aggregate_constant, on_array, on_struct, register}
 use Rattle.mlir_reader.specs.Resolving.{has_negative, kept_number, kept_integer, kept_by_first, kept_literal, kept_literals, plain_kind, said_kind, kind_named}
 use Rattle.mlir_printer.specs.Numbers.{is_negative, shown_number, shown_integer, shown_by_first, shown_literal, shown_literals}
 use Rattle.op_verifier.specs.Faults.{listed_of}
@@ -75,10 +81,20 @@ pub kind_again : (k : Kind) (ts : List HwType) → KeepsConstants k ts → kind_
 unfolding extra_shown plain_kind said_kind
 kind_again (constant z) ts h = ap (λ y. constant y) (by_first_again ts z h)
 kind_again (aggregate_constant ls) ts h = ap (λ y. aggregate_constant y) (literals_again ls h)
-kind_again (compreg no_reset) ts h = refl
-kind_again (compreg sync_reset) ts h = refl
-kind_again (compreg_ce no_reset) ts h = refl
-kind_again (compreg_ce sync_reset) ts h = refl
-kind_again (firreg no_reset) ts h = refl
-kind_again (firreg sync_reset) ts h = refl
+kind_again (register compreg no_reset) ts h = refl
+kind_again (register compreg sync_reset) ts h = refl
+kind_again (register compreg_ce no_reset) ts h = refl
+kind_again (register compreg_ce sync_reset) ts h = refl
+kind_again (register firreg no_reset) ts h = refl
+kind_again (register firreg sync_reset) ts h = refl
+kind_again (variadic add) ts h = refl
+kind_again (variadic _) ts h = refl
+kind_again (division divu) ts h = refl
+kind_again (division _) ts h = refl
+kind_again (shift shl) ts h = refl
+kind_again (shift _) ts h = refl
+kind_again (on_array array_create) ts h = refl
+kind_again (on_array _) ts h = refl
+kind_again (on_struct struct_create) ts h = refl
+kind_again (on_struct _) ts h = refl
 kind_again _ ts h = refl

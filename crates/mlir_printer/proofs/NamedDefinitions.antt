@@ -5,7 +5,8 @@ use Rattle.std.proofs.lemmas.Bool.{ltb-true, eqb-true}
 use Rattle.std.proofs.Math.Seq.{drop-nil}
 use Rattle.hw_model.specs.Types.{Name, HwType}
 use Rattle.hw_model.specs.Kinds.{Kind}
-use Rattle.hw_model.specs.Kinds.Kind.{struct_explode}
+use Rattle.hw_model.specs.Kinds.StructOp.{struct_explode}
+use Rattle.hw_model.specs.Kinds.Kind.{on_struct}
 use Rattle.hw_model.specs.Design.{Ref, Port, Op}
 use Rattle.ir_store.specs.OperationViews.{OpParts}
 use Rattle.mlir_syntax.specs.OperandText.{ResultNames}
@@ -54,8 +55,8 @@ listed_defined i own [] = refl
 listed_defined i own (n ∷ ns) = refl
 
 -- a pack is that of a struct with two fields or more
-pub pack_kind : (k : Kind) (n : ℕ) → is_pack k n ≡ true → (k ≡ struct_explode) × (1 < n)
-pack_kind struct_explode n h = (refl, ltb-true 1 n h)
+pub pack_kind : (k : Kind) (n : ℕ) → is_pack k n ≡ true → (k ≡ (on_struct struct_explode)) × (1 < n)
+pack_kind (on_struct struct_explode) n h = (refl, ltb-true 1 n h)
 pack_kind _ n h = cc
 
 pub pack_named : (k : Kind) (ts : List HwType) (own : Name) (n : ℕ) → is_pack k n ≡ true → length (wishes_of k ts own n) ≡ 1

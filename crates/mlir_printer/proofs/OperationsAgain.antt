@@ -6,7 +6,13 @@ use Rattle.std.proofs.lemmas.Bool.{cond-true, cond-false, ltb-false}
 use Rattle.hw_model.specs.Types.{Name, HwType}
 use Rattle.hw_model.specs.Types.HwType.{int, clock, array, struct}
 use Rattle.hw_model.specs.Kinds.{Kind}
-use Rattle.hw_model.specs.Kinds.Kind.{struct_explode, wire, instance, output, compreg, compreg_ce, firreg}
+use Rattle.hw_model.specs.Kinds.Variadic.{add}
+use Rattle.hw_model.specs.Kinds.Division.{divu}
+use Rattle.hw_model.specs.Kinds.Shift.{shl}
+use Rattle.hw_model.specs.Kinds.ArrayOp.{array_create}
+use Rattle.hw_model.specs.Kinds.StructOp.{struct_explode, struct_create}
+use Rattle.hw_model.specs.Kinds.RegisterOp.{compreg, compreg_ce, firreg}
+use Rattle.hw_model.specs.Kinds.Kind.{variadic, division, shift, on_array, on_struct, wire, instance, output, register}
 use Rattle.hw_model.specs.Sound.{field_list}
 use Rattle.hw_model.specs.Design.{Ref, Port, Op, is_output_kind, op_without_place}
 use Rattle.ir_store.specs.ResultTypes.{first_type, fields_of, field_count, result_types, result_count}
@@ -35,7 +41,7 @@ use Rattle.mlir_printer.proofs.EntriesKept.{shown_kept, none_given, own_again, S
 pub types_counted : (k : Kind) (ts : List HwType) (n : ℕ) → length (result_types k ts n) ≡ result_count k ts
 unfolding result_types result_count
 types_counted output ts n = refl
-types_counted struct_explode ts n = fields (first_type ts)
+types_counted (on_struct struct_explode) ts n = fields (first_type ts)
   where
     fields : (t : Option HwType) → length (fields_of t) ≡ field_count t
     fields None = refl
@@ -50,9 +56,9 @@ names_counted : (k : Kind) (ts : List HwType) (own : Name) (n c : ℕ) → n ≡
     → length (wishes_of k ts own n) ≡ n
 unfolding wishes_of result_count types_written
 names_counted output ts own n c e t h = sym e
-names_counted struct_explode ts own n c e t h = few n h
+names_counted (on_struct struct_explode) ts own n c e t h = few n h
   where
-    few : (n : ℕ) → is_pack struct_explode n ≡ false → length (pack_wishes n) ≡ n
+    few : (n : ℕ) → is_pack (on_struct struct_explode) n ≡ false → length (pack_wishes n) ≡ n
     few zero h = refl
     few (suc n) h = let le : suc n ≤ 1 = ltb-false 1 (suc n) h in omega (arith, le)
 names_counted (instance i) ts own n c e t h = instance_length i.name i.outputs ∙ omega (arith, e, t)
@@ -99,9 +105,19 @@ named_kind : (k : Kind) (ts : List HwType) (own : Name) (n : ℕ) → has_name (
     → (wishes_of k ts own n ≡ own_wish own ∷ []) × (is_pack k n ≡ false)
 unfolding wishes_of
 named_kind wire ts own n h = (refl, refl)
-named_kind (compreg r) ts own n h = (refl, refl)
-named_kind (compreg_ce r) ts own n h = (refl, refl)
-named_kind (firreg r) ts own n h = (refl, refl)
+named_kind (register compreg r) ts own n h = (refl, refl)
+named_kind (register compreg_ce r) ts own n h = (refl, refl)
+named_kind (register firreg r) ts own n h = (refl, refl)
+named_kind (variadic add) ts own n h = cc
+named_kind (variadic _) ts own n h = cc
+named_kind (division divu) ts own n h = cc
+named_kind (division _) ts own n h = cc
+named_kind (shift shl) ts own n h = cc
+named_kind (shift _) ts own n h = cc
+named_kind (on_array array_create) ts own n h = cc
+named_kind (on_array _) ts own n h = cc
+named_kind (on_struct struct_create) ts own n h = cc
+named_kind (on_struct _) ts own n h = cc
 named_kind _ ts own n h = cc
 
 suits_own : (own : Name) (ns : List Name) → Suits (own_wish own ∷ []) ns → SuitsOwn own (first_name ns)
@@ -228,4 +244,16 @@ module _ (ports : List Port) (body : List Op) (o : Op) (p : IsPrintableOp ports 
 -- an operation is the last of its text where it is an output
 pub last_output : (k : Kind) → is_last (listed_of k) ≡ is_output_kind k
 last_output output = refl
+last_output (variadic add) = refl
+last_output (variadic _) = refl
+last_output (division divu) = refl
+last_output (division _) = refl
+last_output (shift shl) = refl
+last_output (shift _) = refl
+last_output (on_array array_create) = refl
+last_output (on_array _) = refl
+last_output (on_struct struct_create) = refl
+last_output (on_struct _) = refl
+last_output (register compreg r) = refl
+last_output (register _ r) = refl
 last_output _ = refl

@@ -2,7 +2,8 @@
 use Rattle.std.proofs.Common.{true, false, [], ◌∷◌, codes, refl, arith}
 use Rattle.hw_model.specs.Types.{Name, HwType}
 use Rattle.hw_model.specs.Types.HwType.{int}
-use Rattle.hw_model.specs.Kinds.Kind.{add, output}
+use Rattle.hw_model.specs.Kinds.Variadic.{add}
+use Rattle.hw_model.specs.Kinds.Kind.{variadic, output}
 use Rattle.hw_model.specs.Design.{Port, Module, nowhere_place}
 use Rattle.hw_model.specs.Design.Ref.{port, result}
 use Rattle.ir_store.specs.ResultTypes.{result_types, result_type}
@@ -26,7 +27,7 @@ adder = record {
   dictionary = [];
   body =
       record {
-        kind = add;
+        kind = (variadic add);
         operands = port 0 ∷ port 1 ∷ [];
         types = byte ∷ [];
         results = record { type = byte; again = false } ∷ [];

@@ -8,7 +8,8 @@ use Rattle.opcode.specs.declared.listed.Listed.TheVariants as listed
 use Rattle.hw_model.specs.Types.{Name, HwType}
 use Rattle.hw_model.specs.TypeViews.{NamedType}
 use Rattle.hw_model.specs.Kinds.{Kind}
-use Rattle.hw_model.specs.Kinds.Kind.{struct_explode, instance, output}
+use Rattle.hw_model.specs.Kinds.StructOp.{struct_explode}
+use Rattle.hw_model.specs.Kinds.Kind.{on_struct, instance, output}
 use Rattle.hw_model.specs.Design.{Entry, Port, Op, Module, Design}
 use Rattle.ir_store.specs.ResultTypes.{result_types}
 use Rattle.mlir_lexer.specs.Tokens.{Lexeme}
@@ -98,7 +99,7 @@ kind_outputs _ e ts = omega arith
 wishes_few : (k : Kind) (ts : List HwType) (own : Name) (n m : ℕ) → 1 ≤ m → outputs_of k ≤ m → length (wishes_of k ts own n) ≤ m
 unfolding wishes_of
 wishes_few output ts own n m some few = omega arith
-wishes_few struct_explode ts own n m some few = go n
+wishes_few (on_struct struct_explode) ts own n m some few = go n
   where
     go : (n : ℕ) → length (pack_wishes n) ≤ m
     go zero = omega arith

@@ -8,7 +8,10 @@ use Rattle.diag.specs.declared.cause.Cause.{Cause}
 use Rattle.hw_model.specs.Types.{HwType}
 use Rattle.hw_model.specs.Kinds.{Kind}
 use Rattle.hw_model.specs.Kinds.Reset.{no_reset, sync_reset}
-use Rattle.hw_model.specs.Kinds.Kind.{concat, array_concat, struct_create, output, compreg, compreg_ce, firreg}
+use Rattle.hw_model.specs.Kinds.ArrayOp.{array_concat}
+use Rattle.hw_model.specs.Kinds.StructOp.{struct_create}
+use Rattle.hw_model.specs.Kinds.RegisterOp.{compreg, compreg_ce, firreg}
+use Rattle.hw_model.specs.Kinds.Kind.{concat, on_array, on_struct, output, register}
 use Rattle.hw_model.specs.Sound.{type_in, input_type}
 use Rattle.hw_model.specs.Design.{Ref, Port, OpResult, Op, Module, Design, is_output_op, result_type}
 use Rattle.hw_model.specs.Design.Ref.{port, result, undefined}
@@ -89,15 +92,15 @@ counts_written : (k : Kind) (ts : List HwType) (n : ℕ) → n ≡ operand_count
     → (n ≡ operands_written k n) × (length ts ≡ types_written k n)
 unfolding operand_count type_count operands_written types_written
 counts_written concat ts n h g = (h ∙ ap (λ m. max 1 m) g, g)
-counts_written array_concat ts n h g = (h ∙ ap (λ m. max 1 m) g, g)
-counts_written struct_create ts n h g = (refl, g)
+counts_written (on_array array_concat) ts n h g = (h ∙ ap (λ m. max 1 m) g, g)
+counts_written (on_struct struct_create) ts n h g = (refl, g)
 counts_written output ts n h g = (refl, g)
-counts_written (compreg no_reset) ts n h g = (h, g)
-counts_written (compreg sync_reset) ts n h g = (h, g)
-counts_written (compreg_ce no_reset) ts n h g = (h, g)
-counts_written (compreg_ce sync_reset) ts n h g = (h, g)
-counts_written (firreg no_reset) ts n h g = (h, g)
-counts_written (firreg sync_reset) ts n h g = (h, g)
+counts_written (register compreg no_reset) ts n h g = (h, g)
+counts_written (register compreg sync_reset) ts n h g = (h, g)
+counts_written (register compreg_ce no_reset) ts n h g = (h, g)
+counts_written (register compreg_ce sync_reset) ts n h g = (h, g)
+counts_written (register firreg no_reset) ts n h g = (h, g)
+counts_written (register firreg sync_reset) ts n h g = (h, g)
 counts_written _ ts n h g = (h, g)
 
 -- ---- results

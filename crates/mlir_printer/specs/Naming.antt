@@ -3,7 +3,8 @@ use Rattle.std.specs.Prelude.{ℕ, zero, suc, ◌+◌, Bool, false, cond, nat_lt
 use Rattle.hw_model.specs.Types.{Name, HwType}
 use Rattle.hw_model.specs.Types.HwType.{int}
 use Rattle.hw_model.specs.Kinds.{Kind}
-use Rattle.hw_model.specs.Kinds.Kind.{constant, struct_explode, wire, instance, output, compreg, compreg_ce, firreg}
+use Rattle.hw_model.specs.Kinds.StructOp.{struct_explode}
+use Rattle.hw_model.specs.Kinds.Kind.{constant, on_struct, wire, instance, output, register}
 use Rattle.hw_model.specs.Design.{Ref, Port}
 use Rattle.hw_model.specs.Design.Ref.{port, result, undefined}
 use Rattle.fresh_names.specs.Fresh.{fresh}
@@ -48,13 +49,11 @@ pack_wishes (suc n) = None ∷ []
 -- what the results of an operation want, a pack one name
 unfoldable pub wishes_of : Kind → List HwType → Name → ℕ → List (Option Name)
 wishes_of (constant z) ts own n = constant_wish ts z ∷ []
-wishes_of struct_explode ts own n = pack_wishes n
+wishes_of (on_struct struct_explode) ts own n = pack_wishes n
 wishes_of wire ts own n = own_wish own ∷ []
 wishes_of (instance i) ts own n = instance_wishes i.name i.outputs
 wishes_of output ts own n = []
-wishes_of (compreg r) ts own n = own_wish own ∷ []
-wishes_of (compreg_ce r) ts own n = own_wish own ∷ []
-wishes_of (firreg r) ts own n = own_wish own ∷ []
+wishes_of (register f r) ts own n = own_wish own ∷ []
 wishes_of _ ts own n = None ∷ []
 
 -- what the results of an operation want
@@ -110,7 +109,7 @@ firsts (suc n) ns = first_name ns ∷ firsts n (drop 1 ns)
 
 -- whether the results of an operation are a pack: those of a struct with two fields or more
 abbrev pub is_pack : Kind → ℕ → Bool
-is_pack struct_explode n = nat_lt 1 n
+is_pack (on_struct struct_explode) n = nat_lt 1 n
 is_pack _ n = false
 
 -- result k of an operation whose names begin so

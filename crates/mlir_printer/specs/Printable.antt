@@ -7,7 +7,10 @@ use Rattle.opcode.specs.declared.listed.Listed.TheVariants as listed
 use Rattle.hw_model.specs.Types.{Name, HwType}
 use Rattle.hw_model.specs.Kinds.{Kind, Reset, Instance}
 use Rattle.hw_model.specs.Kinds.Reset.{no_reset, sync_reset}
-use Rattle.hw_model.specs.Kinds.Kind.{add, mul, and, or, xor, parity, extract, concat, replicate, mux, constant, aggregate_constant, array_create, array_concat, array_get, array_slice, array_inject, struct_create, struct_extract, struct_inject, struct_explode, bitcast, wire, instance, output, compreg, compreg_ce, firreg}
+use Rattle.hw_model.specs.Kinds.ArrayOp.{array_create, array_concat, array_get, array_slice, array_inject}
+use Rattle.hw_model.specs.Kinds.StructOp.{struct_create, struct_extract, struct_inject, struct_explode}
+use Rattle.hw_model.specs.Kinds.RegisterOp.{compreg, compreg_ce, firreg}
+use Rattle.hw_model.specs.Kinds.Kind.{variadic, parity, extract, concat, replicate, mux, constant, aggregate_constant, on_array, on_struct, bitcast, wire, instance, output, register}
 use Rattle.hw_model.specs.Design.{Entry, Ref, Port, OpResult, Op, Module, Design, is_output_op}
 use Rattle.hw_model.specs.Design.Ref.{port, result, undefined}
 use Rattle.ir_store.specs.ResultTypes.{result_types}
@@ -75,8 +78,8 @@ abbrev pub IsWritten : Kind → Type 0
 IsWritten (extract low) = low < count_limit
 IsWritten (constant z) = IsInteger z
 IsWritten (aggregate_constant ls) = AreLiterals ls 31
-IsWritten (struct_extract name) = AreBytes name
-IsWritten (struct_inject name) = AreBytes name
+IsWritten (on_struct (struct_extract name)) = AreBytes name
+IsWritten (on_struct (struct_inject name)) = AreBytes name
 IsWritten (instance i) = IsWrittenInstance i
 IsWritten _ = ⊤
 
@@ -87,11 +90,7 @@ reset_operands sync_reset = 2
 
 -- how many operands are written of an operation that has n: of some kinds any number, of some any from 1 on
 unfoldable pub operands_written : Kind → ℕ → ℕ
-operands_written add n = max 1 n
-operands_written mul n = max 1 n
-operands_written and n = max 1 n
-operands_written or n = max 1 n
-operands_written xor n = max 1 n
+operands_written (variadic v) n = max 1 n
 operands_written parity n = 1
 operands_written (extract low) n = 1
 operands_written concat n = max 1 n
@@ -99,19 +98,19 @@ operands_written replicate n = 1
 operands_written mux n = 3
 operands_written (constant z) n = 0
 operands_written (aggregate_constant ls) n = 0
-operands_written array_create n = max 1 n
-operands_written array_concat n = max 1 n
-operands_written array_inject n = 3
-operands_written struct_create n = n
-operands_written (struct_extract name) n = 1
-operands_written struct_explode n = 1
+operands_written (on_array array_create) n = max 1 n
+operands_written (on_array array_concat) n = max 1 n
+operands_written (on_array array_inject) n = 3
+operands_written (on_struct struct_create) n = n
+operands_written (on_struct (struct_extract name)) n = 1
+operands_written (on_struct struct_explode) n = 1
 operands_written bitcast n = 1
 operands_written wire n = 1
 operands_written (instance i) n = length i.inputs
 operands_written output n = n
-operands_written (compreg r) n = 2 + reset_operands r
-operands_written (compreg_ce r) n = 3 + reset_operands r
-operands_written (firreg r) n = 2 + reset_operands r
+operands_written (register compreg r) n = 2 + reset_operands r
+operands_written (register compreg_ce r) n = 3 + reset_operands r
+operands_written (register firreg r) n = 2 + reset_operands r
 operands_written kind n = 2
 
 -- how many types are written of an operation with n operands
@@ -119,10 +118,10 @@ unfoldable pub types_written : Kind → ℕ → ℕ
 types_written (extract low) n = 2
 types_written concat n = n
 types_written replicate n = 2
-types_written array_concat n = n
-types_written array_get n = 2
-types_written array_slice n = 2
-types_written array_inject n = 2
+types_written (on_array array_concat) n = n
+types_written (on_array array_get) n = 2
+types_written (on_array array_slice) n = 2
+types_written (on_array array_inject) n = 2
 types_written bitcast n = 2
 types_written (instance i) n = length i.inputs + length i.outputs
 types_written output n = n

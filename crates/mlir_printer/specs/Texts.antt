@@ -3,7 +3,8 @@ use Rattle.std.specs.Prelude.{ℕ, Bool, true, cond, List, [], ◌∷◌, length
 use Rattle.hw_model.specs.Types.{Name, HwType}
 use Rattle.hw_model.specs.Kinds.{Kind, Reset}
 use Rattle.hw_model.specs.Kinds.Reset.{no_reset, sync_reset}
-use Rattle.hw_model.specs.Kinds.Kind.{icmp, extract, constant, aggregate_constant, struct_extract, struct_inject, instance, compreg, compreg_ce, firreg}
+use Rattle.hw_model.specs.Kinds.StructOp.{struct_extract, struct_inject}
+use Rattle.hw_model.specs.Kinds.Kind.{icmp, extract, constant, aggregate_constant, on_struct, instance, register}
 use Rattle.hw_model.specs.Design.{Entry, Ref, Port, Op, Module, Design, same_name}
 use Rattle.hw_model.specs.Design.Attribute.{text_value}
 use Rattle.ir_store.specs.OperationViews.{OpParts}
@@ -30,12 +31,10 @@ extra_shown (icmp p) ts = predicate p
 extra_shown (extract low) ts = position low
 extra_shown (constant z) ts = number (shown_by_first ts z)
 extra_shown (aggregate_constant ls) ts = literals (shown_literals ls)
-extra_shown (struct_extract name) ts = field_name name
-extra_shown (struct_inject name) ts = field_name name
+extra_shown (on_struct (struct_extract name)) ts = field_name name
+extra_shown (on_struct (struct_inject name)) ts = field_name name
 extra_shown (instance i) ts = child i
-extra_shown (compreg r) ts = reset_extra r
-extra_shown (compreg_ce r) ts = reset_extra r
-extra_shown (firreg r) ts = reset_extra r
+extra_shown (register f r) ts = reset_extra r
 extra_shown _ ts = nothing
 
 -- the entry that gives an operation its name

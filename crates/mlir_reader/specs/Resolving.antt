@@ -12,7 +12,13 @@ use Rattle.hw_model.specs.Kinds.Predicate.{eq}
 use Rattle.hw_model.specs.Kinds.Reset.{no_reset, sync_reset}
 use Rattle.hw_model.specs.Kinds.Literal.{leaf, parts}
 use Rattle.hw_model.specs.Kinds.Literals.{no_literals, literal}
-use Rattle.hw_model.specs.Kinds.Kind.{add, mul, and, or, xor, sub, divu, modu, divs, mods, shl, shru, shrs, icmp, parity, extract, concat, replicate, mux, constant, aggregate_constant, array_create, array_concat, array_get, array_slice, array_inject, struct_create, struct_extract, struct_inject, struct_explode, bitcast, wire, instance, output, compreg, compreg_ce, firreg}
+use Rattle.hw_model.specs.Kinds.Variadic.{add, mul, and, or, xor}
+use Rattle.hw_model.specs.Kinds.Division.{divu, modu, divs, mods}
+use Rattle.hw_model.specs.Kinds.Shift.{shl, shru, shrs}
+use Rattle.hw_model.specs.Kinds.ArrayOp.{array_create, array_concat, array_get, array_slice, array_inject}
+use Rattle.hw_model.specs.Kinds.StructOp.{struct_create, struct_extract, struct_inject, struct_explode}
+use Rattle.hw_model.specs.Kinds.RegisterOp.{compreg, compreg_ce, firreg}
+use Rattle.hw_model.specs.Kinds.Kind.{variadic, sub, division, shift, icmp, parity, extract, concat, replicate, mux, constant, aggregate_constant, on_array, on_struct, bitcast, wire, instance, output, register}
 use Rattle.hw_model.specs.Design.{Attribute, Entry, Ref, Port, OpResult, Op, Module, Design, same_name}
 use Rattle.hw_model.specs.Design.Attribute.{text_value}
 use Rattle.hw_model.specs.Design.Ref.{port, result, undefined}
@@ -90,30 +96,30 @@ said_reset _ = no_reset
 -- the kind of an operation that its name alone tells
 unfoldable pub plain_kind : Listed → Option Kind
 plain_kind listed.HwModule = Some output
-plain_kind listed.CombAdd = Some add
-plain_kind listed.CombMul = Some mul
-plain_kind listed.CombAnd = Some and
-plain_kind listed.CombOr = Some or
-plain_kind listed.CombXor = Some xor
+plain_kind listed.CombAdd = Some (variadic add)
+plain_kind listed.CombMul = Some (variadic mul)
+plain_kind listed.CombAnd = Some (variadic and)
+plain_kind listed.CombOr = Some (variadic or)
+plain_kind listed.CombXor = Some (variadic xor)
 plain_kind listed.CombSub = Some sub
-plain_kind listed.CombDivu = Some divu
-plain_kind listed.CombModu = Some modu
-plain_kind listed.CombDivs = Some divs
-plain_kind listed.CombMods = Some mods
-plain_kind listed.CombShl = Some shl
-plain_kind listed.CombShru = Some shru
-plain_kind listed.CombShrs = Some shrs
+plain_kind listed.CombDivu = Some (division divu)
+plain_kind listed.CombModu = Some (division modu)
+plain_kind listed.CombDivs = Some (division divs)
+plain_kind listed.CombMods = Some (division mods)
+plain_kind listed.CombShl = Some (shift shl)
+plain_kind listed.CombShru = Some (shift shru)
+plain_kind listed.CombShrs = Some (shift shrs)
 plain_kind listed.CombParity = Some parity
 plain_kind listed.CombConcat = Some concat
 plain_kind listed.CombReplicate = Some replicate
 plain_kind listed.CombMux = Some mux
-plain_kind listed.HwArrayCreate = Some array_create
-plain_kind listed.HwArrayConcat = Some array_concat
-plain_kind listed.HwArrayGet = Some array_get
-plain_kind listed.HwArraySlice = Some array_slice
-plain_kind listed.HwArrayInject = Some array_inject
-plain_kind listed.HwStructCreate = Some struct_create
-plain_kind listed.HwStructExplode = Some struct_explode
+plain_kind listed.HwArrayCreate = Some (on_array array_create)
+plain_kind listed.HwArrayConcat = Some (on_array array_concat)
+plain_kind listed.HwArrayGet = Some (on_array array_get)
+plain_kind listed.HwArraySlice = Some (on_array array_slice)
+plain_kind listed.HwArrayInject = Some (on_array array_inject)
+plain_kind listed.HwStructCreate = Some (on_struct struct_create)
+plain_kind listed.HwStructExplode = Some (on_struct struct_explode)
 plain_kind listed.HwBitcast = Some bitcast
 plain_kind listed.HwWire = Some wire
 plain_kind listed.HwOutput = Some output
@@ -125,12 +131,12 @@ said_kind listed.CombIcmp e ts = icmp (said_predicate e)
 said_kind listed.CombExtract e ts = extract (said_position e)
 said_kind listed.HwConstant e ts = constant (kept_by_first ts (said_number e))
 said_kind listed.HwAggregateConstant e ts = aggregate_constant (kept_literals (said_literals e))
-said_kind listed.HwStructExtract e ts = struct_extract (said_field e)
-said_kind listed.HwStructInject e ts = struct_inject (said_field e)
+said_kind listed.HwStructExtract e ts = on_struct (struct_extract (said_field e))
+said_kind listed.HwStructInject e ts = on_struct (struct_inject (said_field e))
 said_kind listed.HwInstance e ts = instance (said_instance e)
-said_kind listed.SeqCompreg e ts = compreg (said_reset e)
-said_kind listed.SeqCompregCe e ts = compreg_ce (said_reset e)
-said_kind listed.SeqFirreg e ts = firreg (said_reset e)
+said_kind listed.SeqCompreg e ts = register compreg (said_reset e)
+said_kind listed.SeqCompregCe e ts = register compreg_ce (said_reset e)
+said_kind listed.SeqFirreg e ts = register firreg (said_reset e)
 said_kind _ e ts = output
 
 abbrev pub kind_or : Option Kind → Kind → Kind

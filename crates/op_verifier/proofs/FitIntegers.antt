@@ -23,21 +23,21 @@ none_left [] n = refl
 none_left (u ∷ us) n = absurd (omega arith)
 
 -- operands that all are of the written type, which is the result's too
-pub variadic : (ts rs us : List HwType) (k : ℕ) (t : HwType) → length ts ≡ 1 → length rs ≡ 1 → any_differs (settled us) (first_type ts) ≡ false
+pub variadic_fits : (ts rs us : List HwType) (k : ℕ) (t : HwType) → length ts ≡ 1 → length rs ≡ 1 → any_differs (settled us) (first_type ts) ≡ false
     → differ (settled rs) (first_type ts ∷ []) ≡ false → slice_get rs k ≡ Some t → AllAre t (settled us)
-variadic [] rs us k t n m h d e = absurd (omega arith)
-variadic (u ∷ []) rs us k t n m h d e =
+variadic_fits [] rs us k t n m h d e = absurd (omega arith)
+variadic_fits (u ∷ []) rs us k t n m h d e =
     let f : t ≡ u = single rs u t k m d e in
     let P : HwType → Type 0 = λ v. AllAre v (settled us) in subst P (sym f) (all_agreed us u h)
-variadic (u ∷ v ∷ ts) rs us k t n m h d e = absurd (omega arith)
+variadic_fits (u ∷ v ∷ ts) rs us k t n m h d e = absurd (omega arith)
 
 pub binary : (ts rs us : List HwType) (k : ℕ) (t : HwType) → length ts ≡ 1 → length rs ≡ 1 → length us ≡ 2 → any_differs (settled us) (first_type ts) ≡ false
     → differ (settled rs) (first_type ts ∷ []) ≡ false → slice_get rs k ≡ Some t → settled us ≡ Some t ∷ Some t ∷ []
-binary ts rs us k t n m o h d e = two_agreed us t o (variadic ts rs us k t n m h d e)
+binary ts rs us k t n m o h d e = two_agreed us t o (variadic_fits ts rs us k t n m h d e)
 
 pub unary : (ts rs us : List HwType) (k : ℕ) (t : HwType) → length ts ≡ 1 → length rs ≡ 1 → length us ≡ 1 → any_differs (settled us) (first_type ts) ≡ false
     → differ (settled rs) (first_type ts ∷ []) ≡ false → slice_get rs k ≡ Some t → settled us ≡ Some t ∷ []
-unary ts rs us k t n m o h d e = one_agreed us t o (variadic ts rs us k t n m h d e)
+unary ts rs us k t n m o h d e = one_agreed us t o (variadic_fits ts rs us k t n m h d e)
 
 -- a comparison and a parity give one bit
 pub comparison : (ts rs us : List HwType) (k : ℕ) (t : HwType) → length ts ≡ 1 → length rs ≡ 1 → length us ≡ 2 → any_differs (settled us) (first_type ts) ≡ false

@@ -3,7 +3,10 @@ use Rattle.std.proofs.Common.{◌≡◌, ℕ, ◌+◌, ◌≤◌, max, Bool, fal
 use Rattle.std.specs.Prelude.{Option, Some, None, slice_get}
 use Rattle.hw_model.specs.Types.{HwType, width}
 use Rattle.hw_model.specs.Kinds.{Kind, Instance}
-use Rattle.hw_model.specs.Kinds.Kind.{add, mul, and, or, xor, sub, divu, modu, divs, mods, shl, shru, shrs, icmp, parity, extract, concat, replicate, mux, constant, aggregate_constant, array_create, array_concat, array_get, array_slice, array_inject, struct_create, struct_extract, struct_inject, struct_explode, bitcast, wire, instance, output, compreg, compreg_ce, firreg}
+use Rattle.hw_model.specs.Kinds.ArrayOp.{array_create, array_concat, array_get, array_slice, array_inject}
+use Rattle.hw_model.specs.Kinds.StructOp.{struct_create, struct_extract, struct_inject, struct_explode}
+use Rattle.hw_model.specs.Kinds.RegisterOp.{compreg, compreg_ce, firreg}
+use Rattle.hw_model.specs.Kinds.Kind.{variadic, sub, division, shift, icmp, parity, extract, concat, replicate, mux, constant, aggregate_constant, on_array, on_struct, bitcast, wire, instance, output, register}
 use Rattle.hw_model.specs.Sound.{Fits}
 use Rattle.ir_store.specs.ResultTypes.{first_type, second_type, result_type, result_types, result_count}
 use Rattle.op_verifier.specs.TypeLists.{settled}
@@ -18,7 +21,7 @@ use Rattle.op_verifier.proofs.Agreeing.{same_number, pairwise_agreed, prefix_agr
 use Rattle.op_verifier.proofs.FitArrays.{creation, joining, element, slicing, injection}
 use Rattle.op_verifier.proofs.NoCause.{NoCause, no_cause}
 use Rattle.op_verifier.proofs.FitStructs.{aggregate, construction, selection, exchange, explosion, plain_register, enabled_register, without_results}
-use Rattle.op_verifier.proofs.FitIntegers.{variadic, binary, unary, comparison, parities, extraction, replication, concatenation, choice, recast, none_left}
+use Rattle.op_verifier.proofs.FitIntegers.{variadic_fits, binary, unary, comparison, parities, extraction, replication, concatenation, choice, recast, none_left}
 
 -- the widths of two types that are there
 equal_widths : (x y : Option HwType) (u v : HwType) → are_unequal x y ≡ false → x ≡ Some u → y ≡ Some v → width u ≡ width v
@@ -47,19 +50,10 @@ field_known kind ts h = (neither (list_any has_bad_field ts) _ h).1
 
 fits_by : (kind : Kind) (ts rs us : List HwType) → NoCause kind ts rs us → (k : ℕ) (t : HwType) → slice_get rs k ≡ Some t → Fits kind ts (settled us) t k
 unfolding has_other_form has_other_operand operand_count type_count result_type result_types result_count has_extract_outside has_broken_copy has_wide_concat has_unequal_widths has_miscounted_parts
-fits_by add ts rs us h k t e = variadic ts rs us k t h.types h.results h.operand h.result e
-fits_by mul ts rs us h k t e = variadic ts rs us k t h.types h.results h.operand h.result e
-fits_by and ts rs us h k t e = variadic ts rs us k t h.types h.results h.operand h.result e
-fits_by or ts rs us h k t e = variadic ts rs us k t h.types h.results h.operand h.result e
-fits_by xor ts rs us h k t e = variadic ts rs us k t h.types h.results h.operand h.result e
+fits_by (variadic v) ts rs us h k t e = variadic_fits ts rs us k t h.types h.results h.operand h.result e
 fits_by sub ts rs us h k t e = binary ts rs us k t h.types h.results h.operands h.operand h.result e
-fits_by divu ts rs us h k t e = binary ts rs us k t h.types h.results h.operands h.operand h.result e
-fits_by modu ts rs us h k t e = binary ts rs us k t h.types h.results h.operands h.operand h.result e
-fits_by divs ts rs us h k t e = binary ts rs us k t h.types h.results h.operands h.operand h.result e
-fits_by mods ts rs us h k t e = binary ts rs us k t h.types h.results h.operands h.operand h.result e
-fits_by shl ts rs us h k t e = binary ts rs us k t h.types h.results h.operands h.operand h.result e
-fits_by shru ts rs us h k t e = binary ts rs us k t h.types h.results h.operands h.operand h.result e
-fits_by shrs ts rs us h k t e = binary ts rs us k t h.types h.results h.operands h.operand h.result e
+fits_by (division d) ts rs us h k t e = binary ts rs us k t h.types h.results h.operands h.operand h.result e
+fits_by (shift s) ts rs us h k t e = binary ts rs us k t h.types h.results h.operands h.operand h.result e
 fits_by (icmp p) ts rs us h k t e = comparison ts rs us k t h.types h.results h.operands h.operand h.result e
 fits_by parity ts rs us h k t e = parities ts rs us k t h.types h.results h.operands h.operand h.result e
 fits_by (extract low) ts rs us h k t e = extraction low ts rs us k t h.types h.results h.operands h.form h.operand h.extract h.result e
@@ -68,22 +62,22 @@ fits_by replicate ts rs us h k t e = replication ts rs us k t h.types h.results 
 fits_by mux ts rs us h k t e = choice ts rs us k t h.types h.results h.operands h.operand h.result e
 fits_by (constant z) ts rs us h k t e = none_left us h.operands
 fits_by (aggregate_constant ls) ts rs us h k t e = aggregate ls ts rs us k t h.types h.operands h.results h.operand h.parts h.result e
-fits_by array_create ts rs us h k t e = creation ts rs us k t h.types h.results h.operand (array_within array_create ts rs h.limit) h.result e
-fits_by array_concat ts rs us h k t e = joining ts rs us k t (some_joined (length ts) (length us) h.operands h.types) (joined_count (length ts) (length us) h.operands h.types) h.results h.form h.operand (array_within array_concat ts rs h.limit) h.result e
-fits_by array_get ts rs us h k t e = element ts rs us k t h.types h.operands h.results h.form h.operand h.result e
-fits_by array_slice ts rs us h k t e = slicing ts rs us k t h.types h.operands h.results h.form h.operand h.result e
-fits_by array_inject ts rs us h k t e = injection ts rs us k t h.types h.operands h.results h.form h.operand h.result e
-fits_by struct_create ts rs us h k t e = construction ts rs us k t h.types h.operands h.results h.form h.operand h.result e
-fits_by (struct_extract name) ts rs us h k t e = selection name ts rs us k t h.types h.operands h.results h.form h.operand (field_known (struct_extract name) ts h.field) h.result e
-fits_by (struct_inject name) ts rs us h k t e = exchange name ts rs us k t h.types h.operands h.results h.form h.operand (field_known (struct_inject name) ts h.field) h.result e
-fits_by struct_explode ts rs us h k t e = explosion ts rs us k t h.types h.operands h.results h.form h.operand h.result e
+fits_by (on_array array_create) ts rs us h k t e = creation ts rs us k t h.types h.results h.operand (array_within (on_array array_create) ts rs h.limit) h.result e
+fits_by (on_array array_concat) ts rs us h k t e = joining ts rs us k t (some_joined (length ts) (length us) h.operands h.types) (joined_count (length ts) (length us) h.operands h.types) h.results h.form h.operand (array_within (on_array array_concat) ts rs h.limit) h.result e
+fits_by (on_array array_get) ts rs us h k t e = element ts rs us k t h.types h.operands h.results h.form h.operand h.result e
+fits_by (on_array array_slice) ts rs us h k t e = slicing ts rs us k t h.types h.operands h.results h.form h.operand h.result e
+fits_by (on_array array_inject) ts rs us h k t e = injection ts rs us k t h.types h.operands h.results h.form h.operand h.result e
+fits_by (on_struct struct_create) ts rs us h k t e = construction ts rs us k t h.types h.operands h.results h.form h.operand h.result e
+fits_by (on_struct (struct_extract name)) ts rs us h k t e = selection name ts rs us k t h.types h.operands h.results h.form h.operand (field_known (on_struct (struct_extract name)) ts h.field) h.result e
+fits_by (on_struct (struct_inject name)) ts rs us h k t e = exchange name ts rs us k t h.types h.operands h.results h.form h.operand (field_known (on_struct (struct_inject name)) ts h.field) h.result e
+fits_by (on_struct struct_explode) ts rs us h k t e = explosion ts rs us k t h.types h.operands h.results h.form h.operand h.result e
 fits_by bitcast ts rs us h k t e = recast ts rs us k t h.types h.results h.operands h.operand (λ u v. equal_widths (first_type ts) (second_type ts) u v h.widths) h.result e
 fits_by wire ts rs us h k t e = unary ts rs us k t h.types h.results h.operands h.operand h.result e
 fits_by (instance i) ts rs us h k t e = tt
 fits_by output ts rs us h k t e = without_results rs k t h.results e
-fits_by (compreg r) ts rs us h k t e = plain_register r ts rs us k t h.types h.operands h.results h.operand h.result e
-fits_by (compreg_ce r) ts rs us h k t e = enabled_register r ts rs us k t h.types h.operands h.results h.operand h.result e
-fits_by (firreg r) ts rs us h k t e = plain_register r ts rs us k t h.types h.operands h.results h.operand h.result e
+fits_by (register compreg r) ts rs us h k t e = plain_register r ts rs us k t h.types h.operands h.results h.operand h.result e
+fits_by (register compreg_ce r) ts rs us h k t e = enabled_register r ts rs us k t h.types h.operands h.results h.operand h.result e
+fits_by (register firreg r) ts rs us h k t e = plain_register r ts rs us k t h.types h.operands h.results h.operand h.result e
 
 pub fits : (kind : Kind) (ts rs : List HwType) (named : ℕ) (us : List HwType) (is_known : Bool) → own_cause kind ts rs named (settled us) is_known ≡ None
     → (k : ℕ) (t : HwType) → slice_get rs k ≡ Some t → Fits kind ts (settled us) t k

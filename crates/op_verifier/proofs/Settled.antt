@@ -6,7 +6,9 @@ use Rattle.diag.specs.declared.cause.Cause.{Cause}
 use Rattle.hw_model.specs.Types.{HwType}
 use Rattle.hw_model.specs.Types.HwType.{int, clock, array, struct}
 use Rattle.hw_model.specs.Kinds.{Kind, Instance}
-use Rattle.hw_model.specs.Kinds.Kind.{add, mul, and, or, xor, sub, divu, modu, divs, mods, shl, shru, shrs, icmp, parity, extract, concat, replicate, mux, constant, aggregate_constant, array_create, array_concat, array_get, array_slice, array_inject, struct_create, struct_extract, struct_inject, struct_explode, bitcast, wire, instance, output, compreg, compreg_ce, firreg}
+use Rattle.hw_model.specs.Kinds.ArrayOp.{array_create, array_concat, array_get, array_slice, array_inject}
+use Rattle.hw_model.specs.Kinds.StructOp.{struct_create, struct_extract, struct_inject, struct_explode}
+use Rattle.hw_model.specs.Kinds.Kind.{variadic, sub, division, shift, icmp, parity, extract, concat, replicate, mux, constant, aggregate_constant, on_array, on_struct, bitcast, wire, instance, output, register}
 use Rattle.hw_model.specs.Sound.{field_list}
 use Rattle.hw_model.specs.SameType.{same_type, type_from}
 use Rattle.ir_store.specs.ResultTypes.{first_type, second_type, with_width, joined_width, elements_in, sum_of, length_joined, joined_length, kept_size, as_int, as_array, array_of, element_of, field_of, fields_of, field_count, result_type, result_types, result_count}
@@ -151,47 +153,36 @@ fields_known (Some (struct fs)) = record { us = field_list fs; same = refl; numb
 settles_all : (kind : Kind) (ts : List HwType) (n : ℕ) → has_other_form kind ts ≡ false → has_unknown_field kind ts ≡ false → n ≡ operand_count kind ts n → length ts ≡ type_count kind n
     → Settles (result_types kind ts n) (result_count kind ts)
 unfolding result_types result_type result_count type_count operand_count has_other_form
-settles_all add ts n form field operands types = by_first ts types
-settles_all mul ts n form field operands types = by_first ts types
-settles_all and ts n form field operands types = by_first ts types
-settles_all or ts n form field operands types = by_first ts types
-settles_all xor ts n form field operands types = by_first ts types
+settles_all (variadic v) ts n form field operands types = by_first ts types
 settles_all sub ts n form field operands types = by_first ts types
-settles_all divu ts n form field operands types = by_first ts types
-settles_all modu ts n form field operands types = by_first ts types
-settles_all divs ts n form field operands types = by_first ts types
-settles_all mods ts n form field operands types = by_first ts types
-settles_all shl ts n form field operands types = by_first ts types
-settles_all shru ts n form field operands types = by_first ts types
-settles_all shrs ts n form field operands types = by_first ts types
+settles_all (division d) ts n form field operands types = by_first ts types
+settles_all (shift s) ts n form field operands types = by_first ts types
 settles_all mux ts n form field operands types = by_first ts types
 settles_all (constant z) ts n form field operands types = by_first ts types
 settles_all (aggregate_constant ls) ts n form field operands types = by_first ts types
-settles_all struct_create ts n form field operands types = by_first ts types
-settles_all (struct_inject name) ts n form field operands types = by_first ts types
+settles_all (on_struct struct_create) ts n form field operands types = by_first ts types
+settles_all (on_struct (struct_inject name)) ts n form field operands types = by_first ts types
 settles_all wire ts n form field operands types = by_first ts types
-settles_all (compreg r) ts n form field operands types = by_first ts types
-settles_all (compreg_ce r) ts n form field operands types = by_first ts types
-settles_all (firreg r) ts n form field operands types = by_first ts types
+settles_all (register f r) ts n form field operands types = by_first ts types
 settles_all (extract low) ts n form field operands types = by_second ts types
 settles_all replicate ts n form field operands types = by_second ts types
-settles_all array_slice ts n form field operands types = by_second ts types
+settles_all (on_array array_slice) ts n form field operands types = by_second ts types
 settles_all bitcast ts n form field operands types = by_second ts types
 settles_all (icmp p) ts n form field operands types = one (Some (int 1)) (int 1) refl
 settles_all parity ts n form field operands types = one (Some (int 1)) (int 1) refl
 settles_all concat ts n form field operands types =
     let w = width_known ts form in one (as_int (joined_width ts)) (int (kept_size w.0)) (ap as_int w.1)
-settles_all array_create ts n form field operands types =
+settles_all (on_array array_create) ts n form field operands types =
     let t = first_of_one ts types in one (as_array n (first_type ts)) (array (kept_size n) t.0) (ap (as_array n) t.1)
-settles_all array_concat ts n form field operands types = joined_arrays ts n operands types form
-settles_all array_get ts n form field operands types =
+settles_all (on_array array_concat) ts n form field operands types = joined_arrays ts n operands types form
+settles_all (on_array array_get) ts n form field operands types =
     let t = first_of_two ts types in
     let u = element_known (first_type ts) t.0 t.1 (neither (is_no_array (first_type ts)) (is_no_int (second_type ts)) form).0 in
     one (element_of (first_type ts)) u.0 u.1
-settles_all array_inject ts n form field operands types = let t = first_of_two ts types in one (first_type ts) t.0 t.1
-settles_all (struct_extract name) ts n form field operands types =
+settles_all (on_array array_inject) ts n form field operands types = let t = first_of_two ts types in one (first_type ts) t.0 t.1
+settles_all (on_struct (struct_extract name)) ts n form field operands types =
     let t = field_known (field_of (first_type ts) name) field in one (field_of (first_type ts) name) t.0 t.1
-settles_all struct_explode ts n form field operands types = fields_known (first_type ts)
+settles_all (on_struct struct_explode) ts n form field operands types = fields_known (first_type ts)
 settles_all (instance i) ts n form field operands types =
     record { us = drop (length i.inputs) ts; same = refl; number = length-drop (length i.inputs) ts }
 settles_all output ts n form field operands types = record { us = []; same = refl; number = refl }

@@ -10,7 +10,8 @@ use Rattle.design_cycles.specs.declared.place.OpPlace.{OpPlace}
 use Rattle.op_verifier.specs.declared.accepted.Verified.{Verified}
 use Rattle.op_verifier.specs.declared.verify_fail.VerifyFail.{VerifyFail}
 use Rattle.op_verifier.specs.declared.verify_fail.VerifyFail.TheVariants.{Refused, NoMemory}
-use Rattle.op_verifier.specs.Faults.{listed_of, refused_at}
+use Rattle.hw_model.specs.Opcodes.{opcode_of}
+use Rattle.op_verifier.specs.Faults.{refused_at}
 use Rattle.op_verifier.specs.Verdict.{IsRefusal}
 
 -- the modules of a design that is verified
@@ -28,4 +29,4 @@ IsRefusedModule modules n cause r = (m : StoredModule) → slice_get modules n �
 
 abbrev pub IsRefusedOp : List StoredModule → OpPlace → Cause → Refusal → Type 0
 IsRefusedOp modules place cause r = (m : StoredModule) (o : BodyOp) → slice_get modules place.module ≡ Some m → op_at m.ops place.op.index ≡ Some o
-    → r ≡ refused_at o.parts.place (listed_of o.parts.kind) cause
+    → r ≡ refused_at o.parts.place (opcode_of o.parts.kind) cause

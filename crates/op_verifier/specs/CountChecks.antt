@@ -3,10 +3,13 @@
 -- hw.aggregate_constant can be too few or too many.
 use Rattle.std.specs.Prelude.{ℕ, ◌+◌, max, Bool, false, not, ◌||◌, nat_eq, List, length, Option, Some, None}
 use Rattle.hw_model.specs.Types.{HwType}
-use Rattle.hw_model.specs.Kinds.{Kind, Reset, Literals}
+use Rattle.hw_model.specs.Kinds.{Kind, Reset, Literals, ArrayOp, StructOp, RegisterOp}
 use Rattle.hw_model.specs.Kinds.Reset.{no_reset, sync_reset}
 use Rattle.hw_model.specs.Kinds.Literal.{parts}
-use Rattle.hw_model.specs.Kinds.Kind.{add, mul, and, or, xor, parity, extract, concat, replicate, mux, constant, aggregate_constant, array_create, array_concat, array_get, array_slice, array_inject, struct_create, struct_extract, struct_explode, bitcast, wire, instance, output, compreg, compreg_ce, firreg}
+use Rattle.hw_model.specs.Kinds.ArrayOp.{array_create, array_concat, array_get, array_slice, array_inject}
+use Rattle.hw_model.specs.Kinds.StructOp.{struct_create, struct_extract, struct_inject, struct_explode}
+use Rattle.hw_model.specs.Kinds.RegisterOp.{compreg, compreg_ce, firreg}
+use Rattle.hw_model.specs.Kinds.Kind.{variadic, parity, extract, concat, replicate, mux, constant, aggregate_constant, on_array, on_struct, bitcast, wire, instance, output, register}
 use Rattle.ir_store.specs.ResultTypes.{first_type, field_count, result_count}
 use Rattle.op_verifier.specs.LiteralChecks.{is_miscounted}
 
@@ -15,13 +18,28 @@ abbrev pub reset_operands : Reset → ℕ
 reset_operands no_reset = 0
 reset_operands sync_reset = 2
 
+-- those of a register without its reset
+abbrev pub register_operands : RegisterOp → ℕ
+register_operands compreg = 2
+register_operands compreg_ce = 3
+register_operands firreg = 2
+
+abbrev pub array_operands : ArrayOp → List HwType → ℕ → ℕ
+array_operands array_create ts n = max 1 n
+array_operands array_concat ts n = max 1 (length ts)
+array_operands array_get ts n = 2
+array_operands array_slice ts n = 2
+array_operands array_inject ts n = 3
+
+abbrev pub struct_operands : StructOp → List HwType → ℕ
+struct_operands struct_create ts = field_count (first_type ts)
+struct_operands (struct_extract name) ts = 1
+struct_operands (struct_inject name) ts = 2
+struct_operands struct_explode ts = 1
+
 -- how many operands an operation takes that writes these types and has n operands: of some kinds any number from 1 on
 unfoldable pub operand_count : Kind → List HwType → ℕ → ℕ
-operand_count add ts n = max 1 n
-operand_count mul ts n = max 1 n
-operand_count and ts n = max 1 n
-operand_count or ts n = max 1 n
-operand_count xor ts n = max 1 n
+operand_count (variadic v) ts n = max 1 n
 operand_count parity ts n = 1
 operand_count (extract low) ts n = 1
 operand_count concat ts n = max 1 (length ts)
@@ -29,30 +47,27 @@ operand_count replicate ts n = 1
 operand_count mux ts n = 3
 operand_count (constant z) ts n = 0
 operand_count (aggregate_constant ls) ts n = 0
-operand_count array_create ts n = max 1 n
-operand_count array_concat ts n = max 1 (length ts)
-operand_count array_inject ts n = 3
-operand_count struct_create ts n = field_count (first_type ts)
-operand_count (struct_extract name) ts n = 1
-operand_count struct_explode ts n = 1
+operand_count (on_array a) ts n = array_operands a ts n
+operand_count (on_struct s) ts n = struct_operands s ts
 operand_count bitcast ts n = 1
 operand_count wire ts n = 1
 operand_count (instance i) ts n = length i.inputs
 operand_count output ts n = length ts
-operand_count (compreg r) ts n = 2 + reset_operands r
-operand_count (compreg_ce r) ts n = 3 + reset_operands r
-operand_count (firreg r) ts n = 2 + reset_operands r
+operand_count (register f r) ts n = register_operands f + reset_operands r
 operand_count kind ts n = 2
+
+-- how many types an operation on arrays writes
+abbrev pub array_types : ArrayOp → ℕ → ℕ
+array_types array_create n = 1
+array_types array_concat n = n
+array_types _ n = 2
 
 -- how many types it writes
 unfoldable pub type_count : Kind → ℕ → ℕ
 type_count (extract low) n = 2
 type_count concat n = n
 type_count replicate n = 2
-type_count array_concat n = n
-type_count array_get n = 2
-type_count array_slice n = 2
-type_count array_inject n = 2
+type_count (on_array a) n = array_types a n
 type_count bitcast n = 2
 type_count (instance i) n = length i.inputs + length i.outputs
 type_count output n = n

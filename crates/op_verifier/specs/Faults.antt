@@ -7,51 +7,15 @@ use Rattle.opcode.specs.declared.listed.Listed.TheVariants as listed
 use Rattle.diag.specs.declared.refusal.OpName.TheVariants as name
 use Rattle.diag.specs.declared.refusal.Refusal.{Refusal}
 use Rattle.hw_model.specs.Kinds.{Kind}
-use Rattle.hw_model.specs.Kinds.Kind.{add, mul, and, or, xor, sub, divu, modu, divs, mods, shl, shru, shrs, icmp, parity, extract, concat, replicate, mux, constant, aggregate_constant, array_create, array_concat, array_get, array_slice, array_inject, struct_create, struct_extract, struct_inject, struct_explode, bitcast, wire, instance, output, compreg, compreg_ce, firreg}
+use Rattle.hw_model.specs.Opcodes.{opcode_of}
 use Rattle.hw_model.specs.Design.{Place, Port, Op, Module, Design}
 use Rattle.op_verifier.specs.Answers.{or_else}
 use Rattle.op_verifier.specs.OpChecks.{op_cause}
 use Rattle.op_verifier.specs.Headers.{header_cause}
 
--- the operation's name
+-- the opcode of a kind, for the printer alone
 abbrev pub listed_of : Kind → Listed
-listed_of add = listed.CombAdd
-listed_of mul = listed.CombMul
-listed_of and = listed.CombAnd
-listed_of or = listed.CombOr
-listed_of xor = listed.CombXor
-listed_of sub = listed.CombSub
-listed_of divu = listed.CombDivu
-listed_of modu = listed.CombModu
-listed_of divs = listed.CombDivs
-listed_of mods = listed.CombMods
-listed_of shl = listed.CombShl
-listed_of shru = listed.CombShru
-listed_of shrs = listed.CombShrs
-listed_of (icmp p) = listed.CombIcmp
-listed_of parity = listed.CombParity
-listed_of (extract low) = listed.CombExtract
-listed_of concat = listed.CombConcat
-listed_of replicate = listed.CombReplicate
-listed_of mux = listed.CombMux
-listed_of (constant z) = listed.HwConstant
-listed_of (aggregate_constant ls) = listed.HwAggregateConstant
-listed_of array_create = listed.HwArrayCreate
-listed_of array_concat = listed.HwArrayConcat
-listed_of array_get = listed.HwArrayGet
-listed_of array_slice = listed.HwArraySlice
-listed_of array_inject = listed.HwArrayInject
-listed_of struct_create = listed.HwStructCreate
-listed_of (struct_extract field) = listed.HwStructExtract
-listed_of (struct_inject field) = listed.HwStructInject
-listed_of struct_explode = listed.HwStructExplode
-listed_of bitcast = listed.HwBitcast
-listed_of wire = listed.HwWire
-listed_of (instance i) = listed.HwInstance
-listed_of output = listed.HwOutput
-listed_of (compreg r) = listed.SeqCompreg
-listed_of (compreg_ce r) = listed.SeqCompregCe
-listed_of (firreg r) = listed.SeqFirreg
+listed_of kind = opcode_of kind
 
 -- a refusal of the design's text
 abbrev pub refused_at : Place → Listed → Cause → Refusal
@@ -62,7 +26,7 @@ abbrev pub header_refusal : Module → Cause → Refusal
 header_refusal m cause = refused_at m.place listed.HwModule cause
 
 abbrev pub op_refusal : Op → Cause → Refusal
-op_refusal o cause = refused_at o.place (listed_of o.kind) cause
+op_refusal o cause = refused_at o.place (opcode_of o.kind) cause
 
 abbrev pub is_empty : List Op → Bool
 is_empty [] = true

@@ -3,7 +3,9 @@ use Rattle.std.specs.Prelude.{ℕ, ◌+◌, ◌-◌, ◌^◌, ◌%◌, Bool, fal
 use Rattle.std.specs.List.{list_any}
 use Rattle.hw_model.specs.Types.{HwType, width}
 use Rattle.hw_model.specs.Kinds.{Kind}
-use Rattle.hw_model.specs.Kinds.Kind.{divu, modu, divs, mods, extract, concat, replicate, constant, aggregate_constant, array_create, array_concat, array_get, array_slice, array_inject, struct_extract, struct_inject, bitcast, instance, compreg, compreg_ce, firreg}
+use Rattle.hw_model.specs.Kinds.ArrayOp.{array_create, array_concat, array_get, array_slice, array_inject}
+use Rattle.hw_model.specs.Kinds.StructOp.{struct_extract, struct_inject}
+use Rattle.hw_model.specs.Kinds.Kind.{division, extract, concat, replicate, constant, aggregate_constant, on_array, on_struct, bitcast, instance, register}
 use Rattle.ir_store.specs.ResultTypes.{first_type, second_type, field_of, joined_width}
 use Rattle.op_verifier.specs.TypeChecks.{is_outside, has_bad_field, has_clock_part, is_clock}
 use Rattle.op_verifier.specs.TypeLists.{int_width, array_length, settled_at}
@@ -23,8 +25,8 @@ of_both p _ _ = false
 -- whether the array that an operation makes of its parts is outside the limits: every other result's type is a written
 -- type, i1 or a part of one, but that of comb.concat, which has a limit of its own
 abbrev pub has_outside_array : Kind → List HwType → Bool
-has_outside_array array_create rs = of_type is_outside (first_type rs)
-has_outside_array array_concat rs = of_type is_outside (first_type rs)
+has_outside_array (on_array array_create) rs = of_type is_outside (first_type rs)
+has_outside_array (on_array array_concat) rs = of_type is_outside (first_type rs)
 has_outside_array kind rs = false
 
 -- whether a leaf of an aggregate constant writes a type outside the limits
@@ -72,10 +74,7 @@ has_wide_concat kind ts = false
 
 -- whether a division's divisor is not known to be a nonzero constant
 unfoldable pub has_unknown_divisor : Kind → Bool → Bool
-has_unknown_divisor divu is_known = not is_known
-has_unknown_divisor modu is_known = not is_known
-has_unknown_divisor divs is_known = not is_known
-has_unknown_divisor mods is_known = not is_known
+has_unknown_divisor (division d) is_known = not is_known
 has_unknown_divisor kind is_known = false
 
 -- whether k is the width of the indices of an array of n elements: the least of at least 1 with n ≤ 2^k
@@ -92,15 +91,15 @@ is_longer a b = of_both nat_lt (array_length a) (array_length b)
 
 -- whether an index has another width than its array asks for, or a slice is longer than its array
 unfoldable pub has_wrong_index : Kind → List HwType → List (Option HwType) → Bool
-has_wrong_index array_get ts xs = is_no_index (first_type ts) (second_type ts)
-has_wrong_index array_slice ts xs = is_no_index (first_type ts) (settled_at xs 1) || is_longer (first_type ts) (second_type ts)
-has_wrong_index array_inject ts xs = is_no_index (first_type ts) (second_type ts)
+has_wrong_index (on_array array_get) ts xs = is_no_index (first_type ts) (second_type ts)
+has_wrong_index (on_array array_slice) ts xs = is_no_index (first_type ts) (settled_at xs 1) || is_longer (first_type ts) (second_type ts)
+has_wrong_index (on_array array_inject) ts xs = is_no_index (first_type ts) (second_type ts)
 has_wrong_index kind ts xs = false
 
 -- whether an operation's field is not in its struct
 abbrev pub has_unknown_field : Kind → List HwType → Bool
-has_unknown_field (struct_extract name) ts = is_none (field_of (first_type ts) name)
-has_unknown_field (struct_inject name) ts = is_none (field_of (first_type ts) name)
+has_unknown_field (on_struct (struct_extract name)) ts = is_none (field_of (first_type ts) name)
+has_unknown_field (on_struct (struct_inject name)) ts = is_none (field_of (first_type ts) name)
 has_unknown_field kind ts = false
 
 -- whether a field is unknown, or its name stands twice in a written type; the parts of a result's type are those of
@@ -130,9 +129,7 @@ has_other_clock xs = of_type is_clock (settled_at xs 0) || list_any (of_type is_
 -- whether a clock is an operand, other than a register's clock or an instance's operand
 unfoldable pub has_clock_operand : Kind → List (Option HwType) → Bool
 has_clock_operand (instance i) xs = false
-has_clock_operand (compreg r) xs = has_other_clock xs
-has_clock_operand (compreg_ce r) xs = has_other_clock xs
-has_clock_operand (firreg r) xs = has_other_clock xs
+has_clock_operand (register f r) xs = has_other_clock xs
 has_clock_operand kind xs = list_any (of_type is_clock) xs
 
 -- whether a clock stands where a value is wanted: within an aggregate, as a written type, so as a result or the type of a

@@ -2,47 +2,57 @@
 ghost use Rattle.std.specs.Prelude.{◌≡◌, ◌+◌, map, length, nat_eq};
 ghost use Rattle.std.specs.Option.{option_map};
 ghost use Rattle.hw_model.specs.TypeViews.{type_of};
-ghost use Rattle.hw_model.specs.KindViews.{kind_of, reset_of, literals_in};
+ghost use Rattle.hw_model.specs.FamilyViews.{family_of, register_op_of};
+ghost use Rattle.hw_model.specs.KindViews.{reset_of, literals_in};
 ghost use Rattle.ir_store.specs.ResultTypes.{field_count, result_count};
-ghost use Rattle.op_verifier.specs.CountChecks.{reset_operands, operand_count, type_count, parts_miscounted, has_miscounted_parts, has_wrong_operands, has_wrong_results};
+ghost use Rattle.op_verifier.specs.CountChecks.{register_operands, reset_operands, operand_count, type_count, parts_miscounted, has_miscounted_parts, has_wrong_operands, has_wrong_results};
 
 use crate::literal_checks::are_parts_miscounted;
 use crate::type_parts::field_count;
-use hw_model::kinds::{Instance, LiteralList, OpKind, Reset};
+use hw_model::families::{ArrayOp, Family, RegisterOp, StructOp};
+use hw_model::kinds::{Instance, LiteralList, Reset};
 use hw_model::types::Ty;
 
 /// Whether an operation has too few or too many operands, or written types.
 #[tactic(auto, unfolding(crate::specs::CountChecks::has_wrong_operands))]
-pub(crate) fn has_wrong_operands(kind: &OpKind, types: &[Ty], operands: usize) -> bool
-    ensures { result ≡ has_wrong_operands (kind_of kind.now) (map type_of types.now) operands }
+pub(crate) fn has_wrong_operands(family: Family<'_>, types: &[Ty], operands: usize) -> bool
+    ensures { result ≡ has_wrong_operands (family_of family.entry) (map type_of types.now) operands }
 {
-    operands != operand_count(kind, types, operands) || !has_type_count(kind, types, operands)
+    operands != operand_count(family, types, operands) || !has_type_count(family, types, operands)
 }
 
 /// How many operands an operation takes: of some kinds any number from 1 on.
 #[tactic(auto, unfolding(crate::specs::CountChecks::operand_count))]
-fn operand_count(kind: &OpKind, types: &[Ty], operands: usize) -> usize
-    ensures { result ≡ operand_count (kind_of kind.now) (map type_of types.now) operands }
+fn operand_count(family: Family<'_>, types: &[Ty], operands: usize) -> usize
+    ensures { result ≡ operand_count (family_of family.entry) (map type_of types.now) operands }
 {
-    match kind {
-        OpKind::Add | OpKind::Mul | OpKind::And | OpKind::Or | OpKind::Xor | OpKind::ArrayCreate =>
-            operands.max(1),
-        OpKind::Concat | OpKind::ArrayConcat => types.len().max(1),
-        OpKind::Constant(_) | OpKind::AggregateConstant(_) => 0,
-        OpKind::Parity
-        | OpKind::Extract(_)
-        | OpKind::Replicate
-        | OpKind::StructExtract(_)
-        | OpKind::StructExplode
-        | OpKind::Bitcast
-        | OpKind::Wire => 1,
-        OpKind::Mux | OpKind::ArrayInject => 3,
-        OpKind::StructCreate => struct_size(types.first()),
-        OpKind::Instance(instance) => instance.inputs.len(),
-        OpKind::Output => types.len(),
-        OpKind::CompReg(reset) | OpKind::FirReg(reset) => 2 + reset_operands(*reset),
-        OpKind::CompRegCe(reset) => 3 + reset_operands(*reset),
+    match family {
+        Family::Variadic(_) | Family::Array(ArrayOp::Create) => operands.max(1),
+        Family::Concat | Family::Array(ArrayOp::Concat) => types.len().max(1),
+        Family::Constant(_) | Family::AggregateConstant(_) => 0,
+        Family::Parity
+        | Family::Extract(_)
+        | Family::Replicate
+        | Family::Struct(StructOp::Extract(_))
+        | Family::Struct(StructOp::Explode)
+        | Family::Bitcast
+        | Family::Wire => 1,
+        Family::Mux | Family::Array(ArrayOp::Inject) => 3,
+        Family::Struct(StructOp::Create) => struct_size(types.first()),
+        Family::Instance(instance) => instance.inputs.len(),
+        Family::Output => types.len(),
+        Family::Register(op, reset) => register_operands(op) + reset_operands(reset),
         _ => 2,
+    }
+}
+
+/// The operands of a register but those of its reset.
+fn register_operands(op: RegisterOp) -> usize
+    ensures { result ≡ register_operands (register_op_of op) }
+{
+    match op {
+        RegisterOp::CompReg | RegisterOp::FirReg => 2,
+        RegisterOp::CompRegCe => 3,
     }
 }
 
@@ -68,18 +78,18 @@ fn struct_size(ty: Option<&Ty>) -> usize
 
 /// Whether an operation has as many written types as its form.
 #[tactic(auto, unfolding(crate::specs::CountChecks::type_count))]
-fn has_type_count(kind: &OpKind, types: &[Ty], operands: usize) -> bool
-    ensures { result ≡ nat_eq (length types.now) (type_count (kind_of kind.now) operands) }
+fn has_type_count(family: Family<'_>, types: &[Ty], operands: usize) -> bool
+    ensures { result ≡ nat_eq (length types.now) (type_count (family_of family.entry) operands) }
 {
-    match kind {
-        OpKind::Concat | OpKind::ArrayConcat | OpKind::Output => types.len() == operands,
-        OpKind::Extract(_)
-        | OpKind::Replicate
-        | OpKind::ArrayGet
-        | OpKind::ArraySlice
-        | OpKind::ArrayInject
-        | OpKind::Bitcast => types.len() == 2,
-        OpKind::Instance(instance) => has_port_types(instance, types),
+    match family {
+        Family::Concat | Family::Array(ArrayOp::Concat) | Family::Output => types.len() == operands,
+        Family::Extract(_)
+        | Family::Replicate
+        | Family::Array(ArrayOp::Get)
+        | Family::Array(ArrayOp::Slice)
+        | Family::Array(ArrayOp::Inject)
+        | Family::Bitcast => types.len() == 2,
+        Family::Instance(instance) => has_port_types(instance, types),
         _ => types.len() == 1,
     }
 }
@@ -96,33 +106,38 @@ fn has_port_types(instance: &Instance, types: &[Ty]) -> bool
 
 /// Whether an operation has too few or too many results, or names too few or too many.
 #[tactic(auto, unfolding(crate::specs::CountChecks::has_wrong_results))]
-pub(crate) fn has_wrong_results(kind: &OpKind, types: &[Ty], results: usize, named: u32) -> bool
-    ensures { result ≡ has_wrong_results (kind_of kind.now) (map type_of types.now) results named }
+pub(crate) fn has_wrong_results(
+    family: Family<'_>,
+    types: &[Ty],
+    results: usize,
+    named: u32,
+) -> bool
+    ensures { result ≡ has_wrong_results (family_of family.entry) (map type_of types.now) results named }
 {
-    let count = result_count(kind, types);
+    let count = result_count(family, types);
     named as usize != count || results != count
 }
 
 /// How many results an operation has.
 #[tactic(auto, unfolding(ir_store::specs::ResultTypes::result_count))]
-fn result_count(kind: &OpKind, types: &[Ty]) -> usize
-    ensures { result ≡ result_count (kind_of kind.now) (map type_of types.now) }
+fn result_count(family: Family<'_>, types: &[Ty]) -> usize
+    ensures { result ≡ result_count (family_of family.entry) (map type_of types.now) }
 {
-    match kind {
-        OpKind::Output => 0,
-        OpKind::StructExplode => struct_size(types.first()),
-        OpKind::Instance(instance) => types.len().saturating_sub(instance.inputs.len()),
+    match family {
+        Family::Output => 0,
+        Family::Struct(StructOp::Explode) => struct_size(types.first()),
+        Family::Instance(instance) => types.len().saturating_sub(instance.inputs.len()),
         _ => 1,
     }
 }
 
 /// Whether an aggregate constant, or a list in it, is shorter or longer than its type.
 #[tactic(auto, unfolding(crate::specs::CountChecks::has_miscounted_parts))]
-pub(crate) fn has_miscounted_parts(kind: &OpKind, types: &[Ty]) -> bool
-    ensures { result ≡ has_miscounted_parts (kind_of kind.now) (map type_of types.now) }
+pub(crate) fn has_miscounted_parts(family: Family<'_>, types: &[Ty]) -> bool
+    ensures { result ≡ has_miscounted_parts (family_of family.entry) (map type_of types.now) }
 {
-    match kind {
-        OpKind::AggregateConstant(list) => parts_miscounted(list, types.first()),
+    match family {
+        Family::AggregateConstant(list) => parts_miscounted(list, types.first()),
         _ => false,
     }
 }

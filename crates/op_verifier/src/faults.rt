@@ -10,10 +10,10 @@ ghost use Rattle.op_verifier.specs.Faults.{listed_of, refused_at, body_fault, mo
 use crate::body_view::BodyView;
 use crate::headers::{names_cause, ports_cause};
 use diag::cause::Cause;
-use opcode::listed::Listed;
 use diag::refusal::{OpName, Place, Refusal};
 use hw_model::kinds::OpKind;
 use ir_store::design::{Design, Module};
+use opcode::listed::Listed;
 use std::alloc::{AllocError, Global};
 
 /// The first refusal of a header or an operation, in text order, but for those that look at the design as a whole: those
@@ -63,7 +63,7 @@ fn body_fault(
     for (place, entry) in view.entries.iter().enumerate() {
         match view.op_cause(alloc, design, entry, place + 1 == count)? {
             Some(cause) => {
-                let name = listed_of(entry.op.kind);
+                let name = entry.op.kind.listed();
                 return Ok(Some(refused_at(entry.op.place, name, cause)));
             }
             None => {}
@@ -84,47 +84,9 @@ pub fn refused_at(place: Place, listed: Listed, cause: Cause) -> Refusal
     }
 }
 
-/// The listed name of a kind.
+/// The opcode of a kind, for the printer alone.
 pub fn listed_of(kind: &OpKind) -> Listed
     ensures { result ≡ listed_of (kind_of kind.now) }
 {
-    match kind {
-        OpKind::Add => Listed::CombAdd,
-        OpKind::Mul => Listed::CombMul,
-        OpKind::And => Listed::CombAnd,
-        OpKind::Or => Listed::CombOr,
-        OpKind::Xor => Listed::CombXor,
-        OpKind::Sub => Listed::CombSub,
-        OpKind::Divu => Listed::CombDivu,
-        OpKind::Modu => Listed::CombModu,
-        OpKind::Divs => Listed::CombDivs,
-        OpKind::Mods => Listed::CombMods,
-        OpKind::Shl => Listed::CombShl,
-        OpKind::Shru => Listed::CombShru,
-        OpKind::Shrs => Listed::CombShrs,
-        OpKind::Icmp(_) => Listed::CombIcmp,
-        OpKind::Parity => Listed::CombParity,
-        OpKind::Extract(_) => Listed::CombExtract,
-        OpKind::Concat => Listed::CombConcat,
-        OpKind::Replicate => Listed::CombReplicate,
-        OpKind::Mux => Listed::CombMux,
-        OpKind::Constant(_) => Listed::HwConstant,
-        OpKind::AggregateConstant(_) => Listed::HwAggregateConstant,
-        OpKind::ArrayCreate => Listed::HwArrayCreate,
-        OpKind::ArrayConcat => Listed::HwArrayConcat,
-        OpKind::ArrayGet => Listed::HwArrayGet,
-        OpKind::ArraySlice => Listed::HwArraySlice,
-        OpKind::ArrayInject => Listed::HwArrayInject,
-        OpKind::StructCreate => Listed::HwStructCreate,
-        OpKind::StructExtract(_) => Listed::HwStructExtract,
-        OpKind::StructInject(_) => Listed::HwStructInject,
-        OpKind::StructExplode => Listed::HwStructExplode,
-        OpKind::Bitcast => Listed::HwBitcast,
-        OpKind::Wire => Listed::HwWire,
-        OpKind::Instance(_) => Listed::HwInstance,
-        OpKind::Output => Listed::HwOutput,
-        OpKind::CompReg(_) => Listed::SeqCompreg,
-        OpKind::CompRegCe(_) => Listed::SeqCompregCe,
-        OpKind::FirReg(_) => Listed::SeqFirreg,
-    }
+    kind.listed()
 }

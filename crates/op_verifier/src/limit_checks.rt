@@ -3,7 +3,8 @@ ghost use Rattle.std.specs.Prelude.{◌≡◌, false, map};
 ghost use Rattle.std.specs.List.{list_any};
 ghost use Rattle.std.specs.Option.{option_map};
 ghost use Rattle.hw_model.specs.TypeViews.{type_of};
-ghost use Rattle.hw_model.specs.KindViews.{kind_of, integer_of};
+ghost use Rattle.hw_model.specs.FamilyViews.{family_of};
+ghost use Rattle.hw_model.specs.KindViews.{integer_of};
 ghost use Rattle.op_verifier.specs.LiteralChecks.{is_outside_type};
 ghost use Rattle.op_verifier.specs.TypeChecks.{is_outside};
 ghost use Rattle.op_verifier.specs.TypeLists.{int_width, array_length};
@@ -15,33 +16,34 @@ use crate::type_lists::{
     any_bad_field, any_clock, any_clock_part, any_outside, any_settled_clock, array_length,
     int_width, is_settled_clock, settled_at,
 };
-use hw_model::kinds::{Integer, OpKind};
+use hw_model::families::{ArrayOp, Family, StructOp};
+use hw_model::kinds::Integer;
 use hw_model::types::{Ty, index_width};
 use ir_store::operation::NewResult;
 use ir_store::result_types::{field_of, joined_width};
 
 /// Whether a written type or a result's is outside the limits; the result of `comb.concat` is not asked.
 #[tactic(auto, unfolding(crate::specs::LimitChecks::has_type_outside))]
-pub(crate) fn has_type_outside(kind: &OpKind, types: &[Ty], results: &[NewResult]) -> bool
-    ensures { result ≡ has_type_outside (kind_of kind.now) (map type_of types.now) (map (λ r. type_of r.ty) results.now) }
+pub(crate) fn has_type_outside(family: Family<'_>, types: &[Ty], results: &[NewResult]) -> bool
+    ensures { result ≡ has_type_outside (family_of family.entry) (map type_of types.now) (map (λ r. type_of r.ty) results.now) }
 {
-    any_outside(types) || (has_outside_leaf(kind) || has_outside_array(kind, results))
+    any_outside(types) || (has_outside_leaf(family) || has_outside_array(family, results))
 }
 
-fn has_outside_leaf(kind: &OpKind) -> bool
-    ensures { result ≡ has_outside_leaf (kind_of kind.now) }
+fn has_outside_leaf(family: Family<'_>) -> bool
+    ensures { result ≡ has_outside_leaf (family_of family.entry) }
 {
-    match kind {
-        OpKind::AggregateConstant(list) => any_failing_leaf(LeafTest::Width, &list.literals),
+    match family {
+        Family::AggregateConstant(list) => any_failing_leaf(LeafTest::Width, &list.literals),
         _ => false,
     }
 }
 
-fn has_outside_array(kind: &OpKind, results: &[NewResult]) -> bool
-    ensures { result ≡ has_outside_array (kind_of kind.now) (map (λ r. type_of r.ty) results.now) }
+fn has_outside_array(family: Family<'_>, results: &[NewResult]) -> bool
+    ensures { result ≡ has_outside_array (family_of family.entry) (map (λ r. type_of r.ty) results.now) }
 {
-    match kind {
-        OpKind::ArrayCreate | OpKind::ArrayConcat => match results.first() {
+    match family {
+        Family::Array(ArrayOp::Create) | Family::Array(ArrayOp::Concat) => match results.first() {
             Some(first) => is_outside(&first.ty),
             None => false,
         },
@@ -51,12 +53,12 @@ fn has_outside_array(kind: &OpKind, results: &[NewResult]) -> bool
 
 /// Whether a constant is out of the range of its type.
 #[tactic(auto, unfolding(crate::specs::LimitChecks::has_constant_outside))]
-pub(crate) fn has_constant_outside(kind: &OpKind, types: &[Ty]) -> bool
-    ensures { result ≡ has_constant_outside (kind_of kind.now) (map type_of types.now) }
+pub(crate) fn has_constant_outside(family: Family<'_>, types: &[Ty]) -> bool
+    ensures { result ≡ has_constant_outside (family_of family.entry) (map type_of types.now) }
 {
-    match kind {
-        OpKind::Constant(value) => is_outside_first(*value, types.first()),
-        OpKind::AggregateConstant(list) => any_failing_leaf(LeafTest::Range, &list.literals),
+    match family {
+        Family::Constant(value) => is_outside_first(value, types.first()),
+        Family::AggregateConstant(list) => any_failing_leaf(LeafTest::Range, &list.literals),
         _ => false,
     }
 }
@@ -72,11 +74,11 @@ fn is_outside_first(value: Integer, ty: Option<&Ty>) -> bool
 
 /// Whether an extract reaches past its operand.
 #[tactic(auto, unfolding(crate::specs::LimitChecks::has_extract_outside))]
-pub(crate) fn has_extract_outside(kind: &OpKind, types: &[Ty]) -> bool
-    ensures { result ≡ has_extract_outside (kind_of kind.now) (map type_of types.now) }
+pub(crate) fn has_extract_outside(family: Family<'_>, types: &[Ty]) -> bool
+    ensures { result ≡ has_extract_outside (family_of family.entry) (map type_of types.now) }
 {
-    match kind {
-        OpKind::Extract(low) => reaches_past(*low, types.first(), types.get(1)),
+    match family {
+        Family::Extract(low) => reaches_past(low, types.first(), types.get(1)),
         _ => false,
     }
 }
@@ -92,11 +94,11 @@ fn reaches_past(low: u32, from: Option<&Ty>, to: Option<&Ty>) -> bool
 
 /// Whether a replicate's width is no positive multiple of its operand's.
 #[tactic(auto, unfolding(crate::specs::LimitChecks::has_broken_copy))]
-pub(crate) fn has_broken_copy(kind: &OpKind, types: &[Ty]) -> bool
-    ensures { result ≡ has_broken_copy (kind_of kind.now) (map type_of types.now) }
+pub(crate) fn has_broken_copy(family: Family<'_>, types: &[Ty]) -> bool
+    ensures { result ≡ has_broken_copy (family_of family.entry) (map type_of types.now) }
 {
-    match kind {
-        OpKind::Replicate => is_no_multiple(types.first(), types.get(1)),
+    match family {
+        Family::Replicate => is_no_multiple(types.first(), types.get(1)),
         _ => false,
     }
 }
@@ -112,11 +114,11 @@ fn is_no_multiple(from: Option<&Ty>, to: Option<&Ty>) -> bool
 
 /// Whether a concat is wider than 128 bits.
 #[tactic(auto, unfolding(crate::specs::LimitChecks::has_wide_concat))]
-pub(crate) fn has_wide_concat(kind: &OpKind, types: &[Ty]) -> bool
-    ensures { result ≡ has_wide_concat (kind_of kind.now) (map type_of types.now) }
+pub(crate) fn has_wide_concat(family: Family<'_>, types: &[Ty]) -> bool
+    ensures { result ≡ has_wide_concat (family_of family.entry) (map type_of types.now) }
 {
-    match kind {
-        OpKind::Concat => match joined_width(types) {
+    match family {
+        Family::Concat => match joined_width(types) {
             Some(width) => width > 128,
             None => false,
         },
@@ -126,23 +128,26 @@ pub(crate) fn has_wide_concat(kind: &OpKind, types: &[Ty]) -> bool
 
 /// Whether a division's divisor is not known to be a nonzero constant.
 #[tactic(auto, unfolding(crate::specs::LimitChecks::has_unknown_divisor))]
-pub(crate) fn has_unknown_divisor(kind: &OpKind, divides_by_constant: bool) -> bool
-    ensures { result ≡ has_unknown_divisor (kind_of kind.now) divides_by_constant }
+pub(crate) fn has_unknown_divisor(family: Family<'_>, divides_by_constant: bool) -> bool
+    ensures { result ≡ has_unknown_divisor (family_of family.entry) divides_by_constant }
 {
-    match kind {
-        OpKind::Divu | OpKind::Modu | OpKind::Divs | OpKind::Mods => !divides_by_constant,
+    match family {
+        Family::Division(_) => !divides_by_constant,
         _ => false,
     }
 }
 
 /// Whether an index has another width than its array asks for, or a slice is longer than its array.
 #[tactic(auto, unfolding(crate::specs::LimitChecks::has_wrong_index))]
-pub(crate) fn has_wrong_index(kind: &OpKind, types: &[Ty], operands: &[Option<&Ty>]) -> bool
-    ensures { result ≡ has_wrong_index (kind_of kind.now) (map type_of types.now) (map (option_map (λ t. type_of t.now)) operands.now) }
+pub(crate) fn has_wrong_index(family: Family<'_>, types: &[Ty], operands: &[Option<&Ty>]) -> bool
+    ensures { result ≡ has_wrong_index (family_of family.entry) (map type_of types.now) (map (option_map (λ t. type_of t.now)) operands.now) }
 {
-    match kind {
-        OpKind::ArrayGet | OpKind::ArrayInject => is_no_index(types.first(), types.get(1)),
-        OpKind::ArraySlice => {
+    match family {
+        Family::Array(ArrayOp::Get) | Family::Array(ArrayOp::Inject) => is_no_index(
+            types.first(),
+            types.get(1),
+        ),
+        Family::Array(ArrayOp::Slice) => {
             is_no_index(types.first(), settled_at(operands, 1))
                 || is_longer(types.first(), types.get(1))
         }
@@ -178,17 +183,17 @@ fn is_longer(array: Option<&Ty>, slice: Option<&Ty>) -> bool
 
 /// Whether a field is unknown, or its name stands twice in a written type.
 #[tactic(auto, unfolding(crate::specs::LimitChecks::has_wrong_field))]
-pub(crate) fn has_wrong_field(kind: &OpKind, types: &[Ty]) -> bool
-    ensures { result ≡ has_wrong_field (kind_of kind.now) (map type_of types.now) }
+pub(crate) fn has_wrong_field(family: Family<'_>, types: &[Ty]) -> bool
+    ensures { result ≡ has_wrong_field (family_of family.entry) (map type_of types.now) }
 {
-    any_bad_field(types) || has_unknown_field(kind, types)
+    any_bad_field(types) || has_unknown_field(family, types)
 }
 
-fn has_unknown_field(kind: &OpKind, types: &[Ty]) -> bool
-    ensures { result ≡ has_unknown_field (kind_of kind.now) (map type_of types.now) }
+fn has_unknown_field(family: Family<'_>, types: &[Ty]) -> bool
+    ensures { result ≡ has_unknown_field (family_of family.entry) (map type_of types.now) }
 {
-    match kind {
-        OpKind::StructExtract(name) | OpKind::StructInject(name) => {
+    match family {
+        Family::Struct(StructOp::Extract(name)) | Family::Struct(StructOp::Inject(name)) => {
             field_of(types.first(), name).is_none()
         }
         _ => false,
@@ -197,12 +202,12 @@ fn has_unknown_field(kind: &OpKind, types: &[Ty]) -> bool
 
 /// Whether a bitcast's types, which are within the limits, differ in width.
 #[tactic(auto, unfolding(crate::specs::LimitChecks::has_unequal_widths))]
-pub(crate) fn has_unequal_widths(kind: &OpKind, types: &[Ty]) -> bool
+pub(crate) fn has_unequal_widths(family: Family<'_>, types: &[Ty]) -> bool
     requires { list_any is_outside (map type_of types.now) ≡ false }
-    ensures { result ≡ has_unequal_widths (kind_of kind.now) (map type_of types.now) }
+    ensures { result ≡ has_unequal_widths (family_of family.entry) (map type_of types.now) }
 {
-    match kind {
-        OpKind::Bitcast => are_unequal(types.first(), types.get(1)),
+    match family {
+        Family::Bitcast => are_unequal(types.first(), types.get(1)),
         _ => false,
     }
 }
@@ -221,21 +226,21 @@ fn are_unequal(from: Option<&Ty>, to: Option<&Ty>) -> bool
 
 /// Whether a clock stands where a value is wanted.
 #[tactic(auto, unfolding(crate::specs::LimitChecks::has_clock_value))]
-pub(crate) fn has_clock_value(kind: &OpKind, types: &[Ty], operands: &[Option<&Ty>]) -> bool
-    ensures { result ≡ has_clock_value (kind_of kind.now) (map type_of types.now) (map (option_map (λ t. type_of t.now)) operands.now) }
+pub(crate) fn has_clock_value(family: Family<'_>, types: &[Ty], operands: &[Option<&Ty>]) -> bool
+    ensures { result ≡ has_clock_value (family_of family.entry) (map type_of types.now) (map (option_map (λ t. type_of t.now)) operands.now) }
 {
     any_clock_part(types)
-        || (any_clock(value_types(kind, types)) || has_clock_operand(kind, operands))
+        || (any_clock(value_types(family, types)) || has_clock_operand(family, operands))
 }
 
 /// Whether a clock is an operand, other than a register's clock or an instance's operand.
 #[tactic(auto, unfolding(crate::specs::LimitChecks::has_clock_operand))]
-fn has_clock_operand(kind: &OpKind, operands: &[Option<&Ty>]) -> bool
-    ensures { result ≡ has_clock_operand (kind_of kind.now) (map (option_map (λ t. type_of t.now)) operands.now) }
+fn has_clock_operand(family: Family<'_>, operands: &[Option<&Ty>]) -> bool
+    ensures { result ≡ has_clock_operand (family_of family.entry) (map (option_map (λ t. type_of t.now)) operands.now) }
 {
-    match kind {
-        OpKind::Instance(_) => false,
-        OpKind::CompReg(_) | OpKind::CompRegCe(_) | OpKind::FirReg(_) => has_other_clock(operands),
+    match family {
+        Family::Instance(_) => false,
+        Family::Register(_, _) => has_other_clock(operands),
         _ => any_settled_clock(operands),
     }
 }
@@ -249,11 +254,11 @@ fn has_other_clock(operands: &[Option<&Ty>]) -> bool
 }
 
 /// The written types that may not be the clock's: all but those of an instance's operands.
-fn value_types<'t>(kind: &OpKind, types: &'t [Ty]) -> &'t [Ty]
-    ensures { map type_of result.now ≡ value_types (kind_of kind.now) (map type_of types.now) }
+fn value_types<'t>(family: Family<'_>, types: &'t [Ty]) -> &'t [Ty]
+    ensures { map type_of result.now ≡ value_types (family_of family.entry) (map type_of types.now) }
 {
-    match kind {
-        OpKind::Instance(instance) => types.split_at(instance.inputs.len().min(types.len())).1,
+    match family {
+        Family::Instance(instance) => types.split_at(instance.inputs.len().min(types.len())).1,
         _ => types,
     }
 }

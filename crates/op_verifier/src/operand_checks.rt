@@ -3,7 +3,9 @@ ghost use Rattle.std.specs.Prelude.{◌≡◌, ◌<◌, map};
 ghost use Rattle.std.specs.Option.{option_map};
 ghost use Rattle.std.specs.List.{list_any};
 ghost use Rattle.hw_model.specs.TypeViews.{type_of};
-ghost use Rattle.hw_model.specs.KindViews.{kind_of, reset_of, literals_in};
+ghost use Rattle.hw_model.specs.FamilyViews.{family_of, register_op_of};
+ghost use Rattle.hw_model.specs.KindViews.{reset_of, literals_in};
+ghost use Rattle.hw_model.specs.Design.{takes_enable};
 ghost use Rattle.op_verifier.specs.OperandChecks.{is_no_array_of, has_other_array, has_other_form, enable_differs, reset_differs, register_differs, parts_differ, has_other_operand};
 
 use crate::literal_checks::{LeafTest, any_failing_leaf, parts_differ as list_differs};
@@ -12,34 +14,33 @@ use crate::type_lists::{
     differ_in_two, differs, is_no_array, is_no_int, is_no_struct, settled_at,
 };
 use crate::type_parts::fields_in;
-use hw_model::kinds::{LiteralList, OpKind, Reset};
+use hw_model::families::{ArrayOp, Family, RegisterOp, StructOp};
+use hw_model::kinds::{LiteralList, Reset};
 use hw_model::types::Ty;
 use ir_store::result_types::{element_of, field_of};
 
 /// Whether a written type is of a kind that the form does not take.
 #[tactic(auto, unfolding(crate::specs::OperandChecks::has_other_form))]
-pub(crate) fn has_other_form(kind: &OpKind, types: &[Ty]) -> bool
-    ensures { result ≡ has_other_form (kind_of kind.now) (map type_of types.now) }
+pub(crate) fn has_other_form(family: Family<'_>, types: &[Ty]) -> bool
+    ensures { result ≡ has_other_form (family_of family.entry) (map type_of types.now) }
 {
-    match kind {
-        OpKind::AggregateConstant(list) => any_failing_leaf(LeafTest::Kind, &list.literals),
-        OpKind::ArrayConcat | OpKind::ArraySlice => has_other_array(types),
-        OpKind::ArrayGet | OpKind::ArrayInject => {
+    match family {
+        Family::AggregateConstant(list) => any_failing_leaf(LeafTest::Kind, &list.literals),
+        Family::Array(ArrayOp::Concat) | Family::Array(ArrayOp::Slice) => has_other_array(types),
+        Family::Array(ArrayOp::Get) | Family::Array(ArrayOp::Inject) => {
             is_no_array(types.first()) || is_no_int(types.get(1))
         }
-        OpKind::StructCreate
-        | OpKind::StructExtract(_)
-        | OpKind::StructInject(_)
-        | OpKind::StructExplode => is_no_struct(types.first()),
-        OpKind::Mux
-        | OpKind::ArrayCreate
-        | OpKind::Bitcast
-        | OpKind::Wire
-        | OpKind::Instance(_)
-        | OpKind::Output
-        | OpKind::CompReg(_)
-        | OpKind::CompRegCe(_)
-        | OpKind::FirReg(_) => false,
+        Family::Struct(StructOp::Create)
+        | Family::Struct(StructOp::Extract(_))
+        | Family::Struct(StructOp::Inject(_))
+        | Family::Struct(StructOp::Explode) => is_no_struct(types.first()),
+        Family::Mux
+        | Family::Array(ArrayOp::Create)
+        | Family::Bitcast
+        | Family::Wire
+        | Family::Instance(_)
+        | Family::Output
+        | Family::Register(_, _) => false,
         _ => any_other_than_int(types),
     }
 }
@@ -72,28 +73,34 @@ fn any_other_array(element: Option<&Ty>, types: &[Ty]) -> bool
 /// Whether an operand's type is not the written or required one, where it is settled; of an aggregate constant, whether
 /// its parts are none of its type.
 #[tactic(auto, unfolding(crate::specs::OperandChecks::has_other_operand))]
-pub(crate) fn has_other_operand(kind: &OpKind, types: &[Ty], operands: &[Option<&Ty>]) -> bool
-    ensures { result ≡ has_other_operand (kind_of kind.now) (map type_of types.now) (map (option_map (λ t. type_of t.now)) operands.now) }
+pub(crate) fn has_other_operand(family: Family<'_>, types: &[Ty], operands: &[Option<&Ty>]) -> bool
+    ensures { result ≡ has_other_operand (family_of family.entry) (map type_of types.now) (map (option_map (λ t. type_of t.now)) operands.now) }
 {
     let first = types.first();
-    match kind {
-        OpKind::Concat
-        | OpKind::ArrayConcat
-        | OpKind::ArrayGet
-        | OpKind::Instance(_)
-        | OpKind::Output => differ_from_types(operands, types),
-        OpKind::Mux => differ_in_three(operands, Some(&Ty::Int(1)), first, first),
-        OpKind::AggregateConstant(list) => parts_differ(list, first),
-        OpKind::ArraySlice => {
+    match family {
+        Family::Concat
+        | Family::Array(ArrayOp::Concat)
+        | Family::Array(ArrayOp::Get)
+        | Family::Instance(_)
+        | Family::Output => differ_from_types(operands, types),
+        Family::Mux => differ_in_three(operands, Some(&Ty::Int(1)), first, first),
+        Family::AggregateConstant(list) => parts_differ(list, first),
+        Family::Array(ArrayOp::Slice) => {
             differs(settled_at(operands, 0), first) || is_no_int(settled_at(operands, 1))
         }
-        OpKind::ArrayInject => differ_in_three(operands, first, types.get(1), element_of(first)),
-        OpKind::StructCreate => differ_from_fields(operands, fields_in(first)),
-        OpKind::StructInject(name) => differ_in_two(operands, first, field_of(first, name)),
-        OpKind::CompReg(reset) | OpKind::FirReg(reset) => {
-            register_differs(false, *reset, first, operands)
-        }
-        OpKind::CompRegCe(reset) => register_differs(true, *reset, first, operands),
+        Family::Array(ArrayOp::Inject) => differ_in_three(
+            operands,
+            first,
+            types.get(1),
+            element_of(first),
+        ),
+        Family::Struct(StructOp::Create) => differ_from_fields(operands, fields_in(first)),
+        Family::Struct(StructOp::Inject(name)) => differ_in_two(
+            operands,
+            first,
+            field_of(first, name),
+        ),
+        Family::Register(op, reset) => register_differs(takes_enable(op), reset, first, operands),
         _ => any_differs(operands, first),
     }
 }
@@ -105,6 +112,16 @@ fn parts_differ(list: &LiteralList, ty: Option<&Ty>) -> bool
     match ty {
         Some(ty) => list_differs(list, ty),
         None => false,
+    }
+}
+
+/// Whether a register has an enable.
+fn takes_enable(op: RegisterOp) -> bool
+    ensures { result ≡ takes_enable (register_op_of op) }
+{
+    match op {
+        RegisterOp::CompReg | RegisterOp::FirReg => false,
+        RegisterOp::CompRegCe => true,
     }
 }
 

@@ -2,14 +2,14 @@
 ghost use Rattle.std.specs.Prelude.{◌≡◌, ◌∷◌, [], map, drop, length, Some};
 ghost use Rattle.std.specs.Option.{option_map};
 ghost use Rattle.hw_model.specs.TypeViews.{type_of};
-ghost use Rattle.hw_model.specs.KindViews.{kind_of};
+ghost use Rattle.hw_model.specs.FamilyViews.{family_of};
 ghost use Rattle.ir_store.specs.ResultTypes.{result_type, result_types, as_int, array_of, kept_size};
 ghost use Rattle.op_verifier.specs.TypeLists.{settled, differs, differ};
 ghost use Rattle.op_verifier.specs.OperandChecks.{has_other_result};
 
 use crate::type_lists::{differs, results_differ_from_fields, results_differ_from_types};
 use crate::type_parts::fields_in;
-use hw_model::kinds::OpKind;
+use hw_model::families::{ArrayOp, Family, StructOp};
 use hw_model::types::Ty;
 use ir_store::operation::NewResult;
 use ir_store::result_types::{element_of, field_of, joined_length, joined_width, kept_size};
@@ -18,52 +18,65 @@ use ir_store::result_types::{element_of, field_of, joined_length, joined_width, 
 /// the operation has.
 #[tactic(auto, unfolding(ir_store::specs::ResultTypes::result_types, crate::specs::OperandChecks::has_other_result), using(crate::proofs::Lists::none_differ))]
 pub(crate) fn has_other_result(
-    kind: &OpKind,
+    family: Family<'_>,
     types: &[Ty],
     results: &[NewResult],
     operands: usize,
 ) -> bool
-    ensures { result ≡ has_other_result (kind_of kind.now) (map type_of types.now) (map (λ r. type_of r.ty) results.now) operands }
+    ensures { result ≡ has_other_result (family_of family.entry) (map type_of types.now) (map (λ r. type_of r.ty) results.now) operands }
 {
-    match kind {
-        OpKind::Output => false,
-        OpKind::StructExplode => results_differ_from_fields(results, fields_in(types.first())),
-        OpKind::Instance(instance) => differ_behind(results, types, instance.inputs.len()),
-        _ => single_differs(kind, types, results, operands),
+    match family {
+        Family::Output => false,
+        Family::Struct(StructOp::Explode) => results_differ_from_fields(
+            results,
+            fields_in(types.first()),
+        ),
+        Family::Instance(instance) => differ_behind(results, types, instance.inputs.len()),
+        _ => single_differs(family, types, results, operands),
     }
 }
 
 /// Whether the first result of an operation that has one has another type than it gives.
 pub(crate) fn single_differs(
-    kind: &OpKind,
+    family: Family<'_>,
     types: &[Ty],
     results: &[NewResult],
     operands: usize,
 ) -> bool
-    ensures { result ≡ differ (settled (map (λ r. type_of r.ty) results.now)) (result_type (kind_of kind.now) (map type_of types.now) operands ∷ []) }
+    ensures { result ≡ differ (settled (map (λ r. type_of r.ty) results.now)) (result_type (family_of family.entry) (map type_of types.now) operands ∷ []) }
 {
     match results.first() {
-        Some(first) => has_other_type(kind, types, &first.ty, operands),
+        Some(first) => has_other_type(family, types, &first.ty, operands),
         None => false,
     }
 }
 
 /// Whether the result of an operation that has one has another type than it gives.
 #[tactic(auto, unfolding(ir_store::specs::ResultTypes::result_type))]
-fn has_other_type(kind: &OpKind, types: &[Ty], own: &Ty, operands: usize) -> bool
-    ensures { result ≡ differs (Some (type_of own.now)) (result_type (kind_of kind.now) (map type_of types.now) operands) }
+fn has_other_type(family: Family<'_>, types: &[Ty], own: &Ty, operands: usize) -> bool
+    ensures { result ≡ differs (Some (type_of own.now)) (result_type (family_of family.entry) (map type_of types.now) operands) }
 {
-    match kind {
-        OpKind::Icmp(_) | OpKind::Parity => *own != Ty::Int(1),
-        OpKind::Extract(_) | OpKind::Replicate | OpKind::ArraySlice | OpKind::Bitcast => {
-            differs(Some(own), types.get(1))
-        }
-        OpKind::Concat => is_no_int_of(own, joined_width(types)),
-        OpKind::ArrayCreate => is_no_array_of(own, Some(kept_size(operands)), types.first()),
-        OpKind::ArrayConcat => is_no_array_of(own, joined_length(types), element_of(types.first())),
-        OpKind::ArrayGet => differs(Some(own), element_of(types.first())),
-        OpKind::StructExtract(name) => differs(Some(own), field_of(types.first(), name)),
-        OpKind::StructExplode | OpKind::Instance(_) | OpKind::Output => false,
+    match family {
+        Family::Icmp(_) | Family::Parity => *own != Ty::Int(1),
+        Family::Extract(_) | Family::Replicate | Family::Array(ArrayOp::Slice) | Family::Bitcast =>
+            { differs(Some(own), types.get(1)) }
+        Family::Concat => is_no_int_of(own, joined_width(types)),
+        Family::Array(ArrayOp::Create) => is_no_array_of(
+            own,
+            Some(kept_size(operands)),
+            types.first(),
+        ),
+        Family::Array(ArrayOp::Concat) => is_no_array_of(
+            own,
+            joined_length(types),
+            element_of(types.first()),
+        ),
+        Family::Array(ArrayOp::Get) => differs(Some(own), element_of(types.first())),
+        Family::Struct(StructOp::Extract(name)) => differs(
+            Some(own),
+            field_of(types.first(), name),
+        ),
+        Family::Struct(StructOp::Explode) | Family::Instance(_) | Family::Output => false,
         _ => differs(Some(own), types.first()),
     }
 }

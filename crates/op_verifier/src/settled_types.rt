@@ -2,12 +2,12 @@
 //! and a few kinds, and are then not written again.
 ghost use Rattle.std.specs.Prelude.{◌≡◌, ◌∷◌, [], true, map, length, IfOk, is_some, option_map, slice_index_or, None};
 ghost use Rattle.hw_model.specs.TypeViews.{type_of};
-ghost use Rattle.hw_model.specs.KindViews.{kind_of};
+ghost use Rattle.hw_model.specs.FamilyViews.{family_of};
 ghost use Rattle.ir_store.specs.ResultTypes.{result_type, result_types};
 ghost use Rattle.op_verifier.specs.TypeLists.{settled};
 
 use crate::result_checks::single_differs;
-use hw_model::kinds::OpKind;
+use hw_model::families::{ArrayOp, Family, StructOp};
 use hw_model::types::Ty;
 use ir_store::body::Op;
 use ir_store::operation::NewResult;
@@ -34,7 +34,7 @@ impl<'b> Settled<'b> {
         let types = op.types.as_slice();
         let results = op.results.as_slice();
         let operands = op.operands.len();
-        if are_own(op.kind, types, results, operands) {
+        if are_own(op.kind.family(), types, results, operands) {
             return Ok(Settled::Own(results));
         }
         Ok(Settled::Made(result_types(alloc, op.kind, types, operands)?))
@@ -73,41 +73,41 @@ fn made_type(types: &[Option<Ty>], k: usize) -> Option<&Ty>
 
 /// Whether the types that an operation settles are found to be those of its results. Of a few kinds this is not asked.
 #[tactic(auto, unfolding(ir_store::specs::ResultTypes::result_types))]
-fn are_own(kind: &OpKind, types: &[Ty], results: &[NewResult], operands: usize) -> bool
-    ensures { result ≡ true → result_types (kind_of kind.now) (map type_of types.now) operands ≡ settled (map (λ r. type_of r.ty) results.now) }
+fn are_own(family: Family<'_>, types: &[Ty], results: &[NewResult], operands: usize) -> bool
+    ensures { result ≡ true → result_types (family_of family.entry) (map type_of types.now) operands ≡ settled (map (λ r. type_of r.ty) results.now) }
 {
-    match kind {
-        OpKind::Output => results.is_empty(),
-        OpKind::StructExplode | OpKind::Instance(_) => false,
-        _ => is_own(kind, types, results, operands),
+    match family {
+        Family::Output => results.is_empty(),
+        Family::Struct(StructOp::Explode) | Family::Instance(_) => false,
+        _ => is_own(family, types, results, operands),
     }
 }
 
 /// Whether the type of the result of an operation that has one is that of its only result.
-fn is_own(kind: &OpKind, types: &[Ty], results: &[NewResult], operands: usize) -> bool
-    ensures { result ≡ true → result_type (kind_of kind.now) (map type_of types.now) operands ∷ [] ≡ settled (map (λ r. type_of r.ty) results.now) }
+fn is_own(family: Family<'_>, types: &[Ty], results: &[NewResult], operands: usize) -> bool
+    ensures { result ≡ true → result_type (family_of family.entry) (map type_of types.now) operands ∷ [] ≡ settled (map (λ r. type_of r.ty) results.now) }
 {
     results.len() == 1
-        && (is_settled(kind, types, operands) && !single_differs(kind, types, results, operands))
+        && (is_settled(family, types, operands)
+            && !single_differs(family, types, results, operands))
 }
 
 /// Whether the type of the result of an operation that has one is settled.
 #[tactic(auto, unfolding(ir_store::specs::ResultTypes::result_type))]
-fn is_settled(kind: &OpKind, types: &[Ty], operands: usize) -> bool
-    ensures { result ≡ is_some (result_type (kind_of kind.now) (map type_of types.now) operands) }
+fn is_settled(family: Family<'_>, types: &[Ty], operands: usize) -> bool
+    ensures { result ≡ is_some (result_type (family_of family.entry) (map type_of types.now) operands) }
 {
-    match kind {
-        OpKind::Icmp(_) | OpKind::Parity => true,
-        OpKind::Extract(_) | OpKind::Replicate | OpKind::ArraySlice | OpKind::Bitcast => {
-            types.get(1).is_some()
-        }
-        OpKind::Concat => joined_width(types).is_some(),
-        OpKind::ArrayCreate => types.first().is_some(),
-        OpKind::ArrayConcat => joined_length(types).is_some()
+    match family {
+        Family::Icmp(_) | Family::Parity => true,
+        Family::Extract(_) | Family::Replicate | Family::Array(ArrayOp::Slice) | Family::Bitcast =>
+            { types.get(1).is_some() }
+        Family::Concat => joined_width(types).is_some(),
+        Family::Array(ArrayOp::Create) => types.first().is_some(),
+        Family::Array(ArrayOp::Concat) => joined_length(types).is_some()
             && element_of(types.first()).is_some(),
-        OpKind::ArrayGet => element_of(types.first()).is_some(),
-        OpKind::StructExtract(name) => field_of(types.first(), name).is_some(),
-        OpKind::StructExplode | OpKind::Instance(_) | OpKind::Output => false,
+        Family::Array(ArrayOp::Get) => element_of(types.first()).is_some(),
+        Family::Struct(StructOp::Extract(name)) => field_of(types.first(), name).is_some(),
+        Family::Struct(StructOp::Explode) | Family::Instance(_) | Family::Output => false,
         _ => types.first().is_some(),
     }
 }

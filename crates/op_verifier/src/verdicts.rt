@@ -6,13 +6,13 @@ ghost use Rattle.op_verifier.specs.Verdict.{IsVerdict};
 ghost use Rattle.op_verifier.specs.Answered.{modules_verified, Explains, IsRefusedModule, IsRefusedOp};
 
 use crate::accepted::Verified;
-use crate::faults::{first_fault, listed_of, refused_at};
+use crate::faults::{first_fault, refused_at};
 use crate::verify_fail::VerifyFail;
 use design_cycles::{Hierarchy, OpPlace, first_cycle, first_recursive, first_too_large};
 use diag::cause::Cause;
-use opcode::listed::Listed;
 use diag::refusal::Refusal;
 use ir_store::design::Design;
+use opcode::listed::Listed;
 use std::alloc::{AllocError, Global};
 
 /// Takes a design of which nothing is refused. It is dropped where something is, and where memory is wanting.
@@ -62,5 +62,5 @@ fn refused_op(design: &Design, at: OpPlace, cause: Cause) -> Refusal
     ensures { IsRefusedOp (modules_of design.now) at cause result }
 {
     let op = design.module(at.module).body.op(at.op);
-    refused_at(op.place, listed_of(op.kind), cause)
+    refused_at(op.place, op.kind.listed(), cause)
 }

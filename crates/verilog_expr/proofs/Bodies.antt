@@ -9,7 +9,7 @@ use Rattle.bits_core.specs.Word.{Word, number, bits, bits_of_ℤ}
 use Rattle.bits_core.proofs.Complement.{length-bits_of_ℤ}
 use Rattle.hw_model.specs.Types.{Name, HwType, width}
 use Rattle.hw_model.specs.Kinds.{Kind}
-use Rattle.hw_model.specs.Kinds.Kind.{divu, modu, divs, mods, constant}
+use Rattle.hw_model.specs.Kinds.Kind.{division, constant}
 use Rattle.hw_model.specs.Design.{Ref, Port, Op, is_instance, is_register, is_output_op, result_type}
 use Rattle.hw_model.specs.Design.Ref.{port, result, undefined}
 use Rattle.hw_model.specs.Value.{op_value}
@@ -42,10 +42,7 @@ constant_kind _ is = absurd (false≢true is)
 
 division_types : (kind : Kind) (ts : List HwType) (xs : List (Option HwType)) (t : HwType) (k : ℕ) → is_division kind ≡ true → Fits kind ts xs t k
     → xs ≡ Some t ∷ Some t ∷ []
-division_types divu ts xs t k is fits = fits
-division_types modu ts xs t k is fits = fits
-division_types divs ts xs t k is fits = fits
-division_types mods ts xs t k is fits = fits
+division_types (division d) ts xs t k is fits = fits
 division_types _ ts xs t k is fits = absurd (false≢true is)
 
 -- what gives values is no register, instance or output

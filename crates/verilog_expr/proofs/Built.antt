@@ -11,9 +11,12 @@ use Rattle.bits_core.proofs.Complement.{length-bits_of_ℤ}
 use Rattle.bits_core.proofs.Shifts.{length-shift_left, length-shift_right, length-shift_right_signed}
 use Rattle.hw_model.specs.Types.{Name, HwType, width}
 use Rattle.hw_model.specs.Types.HwType.{int}
-use Rattle.hw_model.specs.Kinds.{Kind}
-use Rattle.hw_model.specs.Kinds.Kind.{add, mul, and, or, xor, sub, divu, modu, divs, mods, shl, shru, shrs, icmp, parity, extract, concat, replicate, mux, constant, aggregate_constant, array_create, array_concat, array_get, array_slice, array_inject, struct_create, struct_extract, struct_inject, struct_explode, bitcast, wire, instance, output, compreg, compreg_ce, firreg}
-use Rattle.hw_model.specs.Value.{product, and_all, or_all, xor_all, of_one, of_two, of_three, compare, op_value}
+use Rattle.hw_model.specs.Kinds.{Kind, Variadic, Division, Shift}
+use Rattle.hw_model.specs.Kinds.Variadic.{add, mul, and, or, xor}
+use Rattle.hw_model.specs.Kinds.Division.{divu, modu, divs, mods}
+use Rattle.hw_model.specs.Kinds.Shift.{shl, shru, shrs}
+use Rattle.hw_model.specs.Kinds.Kind.{variadic, sub, division, shift, icmp, parity, extract, concat, replicate, mux, constant, aggregate_constant, on_array, on_struct, bitcast, wire, instance, output, register}
+use Rattle.hw_model.specs.Value.{product, and_all, or_all, xor_all, of_one, of_two, of_three, compare, variadic_value, division_value, shift_value, op_value}
 use Rattle.hw_model.specs.Flat.{width_of}
 use Rattle.hw_model.specs.Sound.{AllAre, Fits}
 use Rattle.verilog_model.specs.Tree.{Operator, Expr}
@@ -23,7 +26,7 @@ use Rattle.verilog_model.specs.Tree.Exprs.{last}
 use Rattle.verilog_model.specs.Grammar.{strength, primary_level}
 use Rattle.verilog_model.specs.Expression.{context_of, arithmetic, shifted, own_value}
 use Rattle.verilog_model.specs.Expression.Context.{both_operands, left_operand}
-use Rattle.verilog_expr.specs.Building.{literal_of, placed, unsigned_at, of_one_expr, of_two_exprs, of_three_exprs, unsigned_pair, variadic, unsigned_shift, signed_shift, unsigned_division, signed_division, comparison, selected, first_width, conditional, built}
+use Rattle.verilog_expr.specs.Building.{literal_of, placed, unsigned_at, of_one_expr, of_two_exprs, of_three_exprs, unsigned_pair, variadic_expr, unsigned_shift, signed_shift, unsigned_division, signed_division, comparison, selected, first_width, conditional, built, division_expr, shift_expr, variadic_operator, division_operator, shift_operator, is_signed_division, is_signed_shift}
 use Rattle.verilog_expr.specs.Values.{HasBits, HaveBits, IsBuildable, IsDividedBy}
 use Rattle.verilog_expr.proofs.Own.{Is, Is-own, HasBits-Is, placed_own, unsigned_at_is, signed_is, literal_is, both_is, shift_is}
 use Rattle.verilog_expr.proofs.Rows.{Gives, gives, AllBits, folded, added, multiplied, from_right, variadic_gives, comparison_gives, odd_gives}
@@ -92,7 +95,7 @@ module _ (widths : Name → ℕ) (ρ : Name → Word) where
       → ((x y : Word) → length x ≡ width t → length y ≡ width t → length (arithmetic o false x y) ≡ width t)
       → ((x : Word) (ys : List Word) → length x ≡ width t → ((y : Word) → In y ys → length y ≡ width t) → folded (arithmetic o false) x ys ≡ op (x ∷ ys))
       → (xs : List (Option HwType)) (es : List Expr) → AllAre t xs → 1 ≤ length xs → HaveBits widths ρ xs es
-      → Gives widths ρ P (width t) (variadic o es) (op (map (own_value widths ρ) es))
+      → Gives widths ρ P (width t) (variadic_expr o es) (op (map (own_value widths ρ) es))
   row P o t op context keeps folds xs es fits some have =
       variadic_gives widths ρ P o (width t) op context keeps folds es (all_bits t xs es fits have)
       (let same : length xs ≡ length es = as_many xs es have in omega arith)
@@ -165,52 +168,56 @@ module _ (widths : Name → ℕ) (ρ : Name → Word) where
       gives widths ρ P w false (literal_of w false (number x)) (bits w (number x)) x (literal_is widths ρ w false (number x) small)
       (ap (λ k. bits k (number x)) (sym size) ∙ bits-number x)
 
+  -- ---- families
+
+  variadic_built : {P : Type 0} (v : Variadic) (t : HwType) (xs : List (Option HwType)) (es : List Expr) → AllAre t xs → 1 ≤ length xs → HaveBits widths ρ xs es
+      → Gives widths ρ P (width t) (variadic_expr (variadic_operator v) es) (variadic_value v (width t) (map (own_value widths ρ) es))
+  variadic_built add t xs es fits some have =
+      row _ plus t (λ ys. bits (width t) (total (map number ys))) refl (λ x y first second. length-add x y ∙ first) (λ x ys size sizes. added (width t) x ys size) xs es fits some have
+  variadic_built mul t xs es fits some have =
+      row _ times t (λ ys. bits (width t) (product (map number ys))) refl (λ x y first second. length-mul x y ∙ first) (λ x ys size sizes. multiplied (width t) x ys size) xs es fits some have
+  variadic_built and t xs es fits some have =
+      row _ bit_and t (and_all (width t)) refl (bitwise_keeps _ (width t))
+      (from_right and_words (and_all (width t)) (width t) and_words_assoc (λ x size. ap (λ n. and_words x (ones n)) (sym size) ∙ and_words-ones x) (λ y ys. refl) (bitwise_keeps _ (width t)))
+      xs es fits some have
+  variadic_built or t xs es fits some have =
+      row _ bit_or t (or_all (width t)) refl (bitwise_keeps _ (width t))
+      (from_right or_words (or_all (width t)) (width t) or_words_assoc (λ x size. ap (λ n. or_words x (zeros n)) (sym size) ∙ or_words-zeros x) (λ y ys. refl) (bitwise_keeps _ (width t)))
+      xs es fits some have
+  variadic_built xor t xs es fits some have =
+      row _ bit_xor t (xor_all (width t)) refl (bitwise_keeps _ (width t))
+      (from_right xor_words (xor_all (width t)) (width t) xor_words_assoc (λ x size. ap (λ n. xor_words x (zeros n)) (sym size) ∙ xor_words-zeros x) (λ y ys. refl) (bitwise_keeps _ (width t)))
+      xs es fits some have
+
+  division_gives : (P : Type 0) (d : Division) (w divisor : ℕ) (a b : Expr) → w < 2 ^ 64 → HasBits widths ρ w a → (P → own_value widths ρ b ≡ bits w divisor)
+      → Gives widths ρ P w (division_expr (is_signed_division d) (division_operator d) w divisor a) (division_value d (own_value widths ρ a) (own_value widths ρ b))
+  division_gives P divu w divisor a b small first always = unsigned_division_gives P over w divisor a b refl length-quotient small first always
+  division_gives P modu w divisor a b small first always = unsigned_division_gives P modulo w divisor a b refl length-rest small first always
+  division_gives P divs w divisor a b small first always = signed_division_gives P over w divisor a b refl length-signed_quotient small first always
+  division_gives P mods w divisor a b small first always = signed_division_gives P modulo w divisor a b refl length-signed_rest small first always
+
+  shift_gives : (P : Type 0) (s : Shift) (w : ℕ) (a b : Expr) → HasBits widths ρ w a
+      → Gives widths ρ P w (shift_expr (is_signed_shift s) (shift_operator s) a b) (shift_value s (own_value widths ρ a) (number (own_value widths ρ b)))
+  shift_gives P shl w a b first = unsigned_shift_gives P left_shift w a b refl length-shift_left first
+  shift_gives P shru w a b first = unsigned_shift_gives P right_shift w a b refl length-shift_right first
+  shift_gives P shrs w a b first = signed_shift_gives P signed_right_shift w a b refl length-shift_right_signed first
+
   -- ---- each kind
 
   pub built_gives : (kind : Kind) (ts : List HwType) (xs : List (Option HwType)) (t : HwType) (k divisor : ℕ) (es : List Expr)
       → Fits kind ts xs t k → IsBuildable widths ρ kind xs t es
       → Gives widths ρ (IsDividedBy widths ρ kind (width t) divisor es) (width t) (built kind (width t) (map width_of xs) divisor es)
       (op_value kind ts t k (map (own_value widths ρ) es))
-  built_gives add ts xs t k divisor es fits can =
-      row _ plus t (λ ys. bits (width t) (total (map number ys))) refl (λ x y first second. length-add x y ∙ first) (λ x ys size sizes. added (width t) x ys size) xs es fits (can.filled refl) can.operands
-  built_gives mul ts xs t k divisor es fits can =
-      row _ times t (λ ys. bits (width t) (product (map number ys))) refl (λ x y first second. length-mul x y ∙ first) (λ x ys size sizes. multiplied (width t) x ys size) xs es fits (can.filled refl) can.operands
-  built_gives and ts xs t k divisor es fits can =
-      row _ bit_and t (and_all (width t)) refl (bitwise_keeps _ (width t))
-      (from_right and_words (and_all (width t)) (width t) and_words_assoc (λ x size. ap (λ n. and_words x (ones n)) (sym size) ∙ and_words-ones x) (λ y ys. refl) (bitwise_keeps _ (width t)))
-      xs es fits (can.filled refl) can.operands
-  built_gives or ts xs t k divisor es fits can =
-      row _ bit_or t (or_all (width t)) refl (bitwise_keeps _ (width t))
-      (from_right or_words (or_all (width t)) (width t) or_words_assoc (λ x size. ap (λ n. or_words x (zeros n)) (sym size) ∙ or_words-zeros x) (λ y ys. refl) (bitwise_keeps _ (width t)))
-      xs es fits (can.filled refl) can.operands
-  built_gives xor ts xs t k divisor es fits can =
-      row _ bit_xor t (xor_all (width t)) refl (bitwise_keeps _ (width t))
-      (from_right xor_words (xor_all (width t)) (width t) xor_words_assoc (λ x size. ap (λ n. xor_words x (zeros n)) (sym size) ∙ xor_words-zeros x) (λ y ys. refl) (bitwise_keeps _ (width t)))
-      xs es fits (can.filled refl) can.operands
+  built_gives (variadic v) ts xs t k divisor es fits can = variadic_built v t xs es fits (can.filled refl) can.operands
   built_gives sub ts xs t k divisor es fits can =
       two_give _ (width t) (unsigned_pair minus) difference (Some t) (Some t) xs es fits can.operands
       (λ a b same first second. pair_gives _ minus (width t) a b refl length-sub first second)
-  built_gives divu ts xs t k divisor es fits can =
-      two_give _ (width t) _ quotient (Some t) (Some t) xs es fits can.operands
-      (λ a b same first second. unsigned_division_gives _ over (width t) divisor a b refl length-quotient can.narrow first (λ d. d refl a b same))
-  built_gives modu ts xs t k divisor es fits can =
-      two_give _ (width t) _ rest (Some t) (Some t) xs es fits can.operands
-      (λ a b same first second. unsigned_division_gives _ modulo (width t) divisor a b refl length-rest can.narrow first (λ d. d refl a b same))
-  built_gives divs ts xs t k divisor es fits can =
-      two_give _ (width t) _ signed_quotient (Some t) (Some t) xs es fits can.operands
-      (λ a b same first second. signed_division_gives _ over (width t) divisor a b refl length-signed_quotient can.narrow first (λ d. d refl a b same))
-  built_gives mods ts xs t k divisor es fits can =
-      two_give _ (width t) _ signed_rest (Some t) (Some t) xs es fits can.operands
-      (λ a b same first second. signed_division_gives _ modulo (width t) divisor a b refl length-signed_rest can.narrow first (λ d. d refl a b same))
-  built_gives shl ts xs t k divisor es fits can =
-      two_give _ (width t) (unsigned_shift left_shift) (λ x y. shift_left x (number y)) (Some t) (Some t) xs es fits can.operands
-      (λ a b same first second. unsigned_shift_gives _ left_shift (width t) a b refl length-shift_left first)
-  built_gives shru ts xs t k divisor es fits can =
-      two_give _ (width t) (unsigned_shift right_shift) (λ x y. shift_right x (number y)) (Some t) (Some t) xs es fits can.operands
-      (λ a b same first second. unsigned_shift_gives _ right_shift (width t) a b refl length-shift_right first)
-  built_gives shrs ts xs t k divisor es fits can =
-      two_give _ (width t) (signed_shift signed_right_shift) (λ x y. shift_right_signed x (number y)) (Some t) (Some t) xs es fits can.operands
-      (λ a b same first second. signed_shift_gives _ signed_right_shift (width t) a b refl length-shift_right_signed first)
+  built_gives (division d) ts xs t k divisor es fits can =
+      two_give _ (width t) _ (division_value d) (Some t) (Some t) xs es fits can.operands
+      (λ a b same first second. division_gives _ d (width t) divisor a b can.narrow first (λ by. by refl a b same))
+  built_gives (shift s) ts xs t k divisor es fits can =
+      two_give _ (width t) (shift_expr (is_signed_shift s) (shift_operator s)) (λ x y. shift_value s x (number y)) (Some t) (Some t) xs es fits can.operands
+      (λ a b same first second. shift_gives _ s (width t) a b first)
   built_gives (icmp p) ts xs t k divisor es (u, is, one) can =
       widened _ 1 (width t) _ _ (sym (ap width one))
       (two_give _ 1 (comparison p) (λ x y. flag (compare p x y)) (Some u) (Some u) xs es is can.operands
@@ -244,20 +251,11 @@ module _ (widths : Name → ℕ) (ρ : Name → Word) where
   built_gives wire ts xs t k divisor es fits can =
       one_gives _ (width t) (λ a. a) (λ x. x) (Some t) xs es fits can.operands (λ a e first. record { bits = first; worth = λ p. refl })
   built_gives (aggregate_constant ls) ts xs t k divisor es fits can = absurd (true≢false can.integers)
-  built_gives array_create ts xs t k divisor es fits can = absurd (true≢false can.integers)
-  built_gives array_concat ts xs t k divisor es fits can = absurd (true≢false can.integers)
-  built_gives array_get ts xs t k divisor es fits can = absurd (true≢false can.integers)
-  built_gives array_slice ts xs t k divisor es fits can = absurd (true≢false can.integers)
-  built_gives array_inject ts xs t k divisor es fits can = absurd (true≢false can.integers)
-  built_gives struct_create ts xs t k divisor es fits can = absurd (true≢false can.integers)
-  built_gives (struct_extract name) ts xs t k divisor es fits can = absurd (true≢false can.integers)
-  built_gives (struct_inject name) ts xs t k divisor es fits can = absurd (true≢false can.integers)
-  built_gives struct_explode ts xs t k divisor es fits can = absurd (true≢false can.integers)
+  built_gives (on_array a) ts xs t k divisor es fits can = absurd (true≢false can.integers)
+  built_gives (on_struct s) ts xs t k divisor es fits can = absurd (true≢false can.integers)
   built_gives (instance i) ts xs t k divisor es fits can = absurd (true≢false can.values)
   built_gives output ts xs t k divisor es fits can = absurd fits
-  built_gives (compreg r) ts xs t k divisor es fits can = absurd (true≢false can.values)
-  built_gives (compreg_ce r) ts xs t k divisor es fits can = absurd (true≢false can.values)
-  built_gives (firreg r) ts xs t k divisor es fits can = absurd (true≢false can.values)
+  built_gives (register f r) ts xs t k divisor es fits can = absurd (true≢false can.values)
 
   pub built_bits : (kind : Kind) (ts : List HwType) (xs : List (Option HwType)) (t : HwType) (k divisor : ℕ) (es : List Expr)
       → Fits kind ts xs t k → IsBuildable widths ρ kind xs t es → HasBits widths ρ (width t) (built kind (width t) (map width_of xs) divisor es)

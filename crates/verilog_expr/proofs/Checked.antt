@@ -9,7 +9,7 @@ use Rattle.hw_model.specs.Types.{Name, HwType, width}
 use Rattle.hw_model.specs.Types.HwType.{int}
 use Rattle.hw_model.specs.Kinds.{Kind, Predicate}
 use Rattle.hw_model.specs.Kinds.Predicate.{eq, ne, slt, sle, sgt, sge, ult, ule, ugt, uge, ceq, cne, weq, wne}
-use Rattle.hw_model.specs.Kinds.Kind.{add, mul, and, or, xor, sub, divu, modu, divs, mods, shl, shru, shrs, icmp, parity, extract, concat, replicate, mux, constant, aggregate_constant, array_create, array_concat, array_get, array_slice, array_inject, struct_create, struct_extract, struct_inject, struct_explode, bitcast, wire, instance, output, compreg, compreg_ce, firreg}
+use Rattle.hw_model.specs.Kinds.Kind.{variadic, sub, division, shift, icmp, parity, extract, concat, replicate, mux, constant, aggregate_constant, on_array, on_struct, bitcast, wire, instance, output, register}
 use Rattle.hw_model.specs.Flat.{width_of}
 use Rattle.hw_model.specs.Sound.{Fits}
 use Rattle.verilog_model.specs.Tokens.{is_word_byte, is_digit, is_between}
@@ -23,10 +23,11 @@ use Rattle.verilog_model.specs.Expression.{is_signed}
 use Rattle.verilog_model.specs.Checks.{Declared, find_declared, has_bit, is_divisor, divides, expr_checks, exprs_check}
 use Rattle.verilog_model.proofs.Numerals.{and_intro, and_first, and_second, decimal_number-decimal, is_decimal-decimal, all_bytes_weaker}
 use Rattle.verilog_model.proofs.Reread.{all_digits_are_word}
-use Rattle.verilog_expr.specs.Building.{literal_of, unsigned, placed, unsigned_at, of_one_expr, of_two_exprs, of_three_exprs, unsigned_pair, chained, variadic, signed_pair, unsigned_shift, signed_shift, unsigned_division, signed_division, comparison, select, selected, exprs_of, concatenation, conditional, built}
+use Rattle.verilog_expr.specs.Building.{literal_of, unsigned, placed, unsigned_at, of_one_expr, of_two_exprs, of_three_exprs, unsigned_pair, chained, variadic_expr, signed_pair, unsigned_shift, signed_shift, unsigned_division, signed_division, comparison, select, selected, exprs_of, concatenation, conditional, built, division_expr, shift_expr, variadic_operator, division_operator, shift_operator, is_signed_division, is_signed_shift}
 use Rattle.verilog_expr.specs.Values.{is_aggregate_kind, is_division, is_variadic, is_item_kind}
 use Rattle.verilog_expr.specs.Spilling.{is_narrower}
 use Rattle.verilog_expr.specs.Numerals.{hex}
+use Rattle.verilog_expr.proofs.Operators.{plain_operator, plain_shift}
 use Rattle.verilog_expr.proofs.Numerals.{hex_number-hex, is_hex-hex}
 use Rattle.verilog_expr.proofs.TextRead.{IsWord, IsSpellable, AreSpellable}
 
@@ -149,7 +150,7 @@ module _ (known : List Declared) where
       well_chained o (binary o a (unsigned_at (suc (strength o)) e)) es plain
       (well_binary o a (unsigned_at (suc (strength o)) e) plain x (well_unsigned_at (suc (strength o)) e (are e (inl refl)))) (λ f h. are f (inr h))
 
-  well_variadic : (o : Operator) (es : List Expr) → divides o ≡ false → 1 ≤ length es → AllWell es → IsWell (variadic o es)
+  well_variadic : (o : Operator) (es : List Expr) → divides o ≡ false → 1 ≤ length es → AllWell es → IsWell (variadic_expr o es)
   unfolding AllWell
   well_variadic o [] plain some are = absurd (omega (arith, some))
   well_variadic o (a ∷ []) plain some are = are a (inl refl)
@@ -286,10 +287,20 @@ module _ (known : List Declared) where
   as_many (x ∷ xs) (e ∷ es) are = let rest : length es ≡ length xs = as_many xs es are.1 in omega (arith, rest)
 
   all_variadic : (o : Operator) (t : HwType) (xs : List (Option HwType)) (es : List Expr) → divides o ≡ false → 1 ≤ length xs
-      → ((x : Option HwType) → In x xs → x ≡ Some t) → HaveWell xs es → IsWell (variadic o es)
+      → ((x : Option HwType) → In x xs → x ≡ Some t) → HaveWell xs es → IsWell (variadic_expr o es)
   all_variadic o t xs es plain some fits are =
       let many : length es ≡ length xs = as_many xs es are in
       well_variadic o es plain (omega (arith, some, many)) (all_well xs es (λ x h. some_is x t (fits x h)) are)
+
+  well_division : (s : Bool) (o : Operator) (w divisor : ℕ) (a : Expr) → 1 ≤ w → w < 2 ^ 64 → 0 < divisor % 2 ^ w → IsWell a → IsWell (division_expr s o w divisor a)
+  well_division false o w divisor a some small positive x =
+      well_divided o (unsigned_at (strength o) a) (literal_of w false divisor) (divisor_literal w divisor false small positive) (well_unsigned_at (strength o) a x) (well_literal w divisor false some small)
+  well_division true o w divisor a some small positive x =
+      well_divided o (as_signed a) (literal_of w true divisor) (divisor_literal w divisor true small positive) (well_signed a x) (well_literal w divisor true some small)
+
+  either_shift_well : (s : Bool) (o : Operator) (a b : Expr) → divides o ≡ false → IsWell a → IsWell b → IsWell (shift_expr s o a b)
+  either_shift_well false o a b plain x y = well_shift o a b plain x y
+  either_shift_well true o a b plain x y = well_signed_shift o a b plain x y
 
   well_comparison : (p : Predicate) (a b : Expr) → IsWell a → IsWell b → IsWell (comparison p a b)
   well_comparison eq a b x y = well_pair equals a b refl x y
@@ -369,28 +380,13 @@ module _ (known : List Declared) where
       → ((x : Option HwType) → In x xs → width_of x < 2 ^ 64) → HaveWell xs es → IsDivided kind (width t) divisor → IsCut kind (width t) xs es
       → IsWell (built kind (width t) (map width_of xs) divisor es)
   unfolding IsDivided IsCut
-  built_well add ts xs t k divisor es fits whole values filled some small narrow are divided cut = all_variadic plus t xs es refl (filled refl) fits are
-  built_well mul ts xs t k divisor es fits whole values filled some small narrow are divided cut = all_variadic times t xs es refl (filled refl) fits are
-  built_well and ts xs t k divisor es fits whole values filled some small narrow are divided cut = all_variadic bit_and t xs es refl (filled refl) fits are
-  built_well or ts xs t k divisor es fits whole values filled some small narrow are divided cut = all_variadic bit_or t xs es refl (filled refl) fits are
-  built_well xor ts xs t k divisor es fits whole values filled some small narrow are divided cut = all_variadic bit_xor t xs es refl (filled refl) fits are
+  built_well (variadic v) ts xs t k divisor es fits whole values filled some small narrow are divided cut = all_variadic (variadic_operator v) t xs es (plain_operator v) (filled refl) fits are
   built_well sub ts xs t k divisor es fits whole values filled some small narrow are divided cut = two_well (unsigned_pair minus) t t xs es fits are (λ a b x y. well_pair minus a b refl x y)
-  built_well divu ts xs t k divisor es fits whole values filled some small narrow are divided cut =
-      two_well (λ a b. unsigned_division over (width t) divisor a) t t xs es fits are
-      (λ a b x y. well_divided over (unsigned_at (strength over) a) (literal_of (width t) false divisor) (divisor_literal (width t) divisor false small (divided refl)) (well_unsigned_at (strength over) a x) (well_literal (width t) divisor false some small))
-  built_well modu ts xs t k divisor es fits whole values filled some small narrow are divided cut =
-      two_well (λ a b. unsigned_division modulo (width t) divisor a) t t xs es fits are
-      (λ a b x y. well_divided modulo (unsigned_at (strength modulo) a) (literal_of (width t) false divisor) (divisor_literal (width t) divisor false small (divided refl)) (well_unsigned_at (strength modulo) a x) (well_literal (width t) divisor false some small))
-  built_well divs ts xs t k divisor es fits whole values filled some small narrow are divided cut =
-      two_well (λ a b. signed_division over (width t) divisor a) t t xs es fits are
-      (λ a b x y. well_divided over (as_signed a) (literal_of (width t) true divisor) (divisor_literal (width t) divisor true small (divided refl)) (well_signed a x) (well_literal (width t) divisor true some small))
-  built_well mods ts xs t k divisor es fits whole values filled some small narrow are divided cut =
-      two_well (λ a b. signed_division modulo (width t) divisor a) t t xs es fits are
-      (λ a b x y. well_divided modulo (as_signed a) (literal_of (width t) true divisor) (divisor_literal (width t) divisor true small (divided refl)) (well_signed a x) (well_literal (width t) divisor true some small))
-  built_well shl ts xs t k divisor es fits whole values filled some small narrow are divided cut = two_well (unsigned_shift left_shift) t t xs es fits are (λ a b x y. well_shift left_shift a b refl x y)
-  built_well shru ts xs t k divisor es fits whole values filled some small narrow are divided cut = two_well (unsigned_shift right_shift) t t xs es fits are (λ a b x y. well_shift right_shift a b refl x y)
-  built_well shrs ts xs t k divisor es fits whole values filled some small narrow are divided cut =
-      two_well (signed_shift signed_right_shift) t t xs es fits are (λ a b x y. well_signed_shift signed_right_shift a b refl x y)
+  built_well (division d) ts xs t k divisor es fits whole values filled some small narrow are divided cut =
+      two_well (λ a b. division_expr (is_signed_division d) (division_operator d) (width t) divisor a) t t xs es fits are
+      (λ a b x y. well_division (is_signed_division d) (division_operator d) (width t) divisor a some small (divided refl) x)
+  built_well (shift s) ts xs t k divisor es fits whole values filled some small narrow are divided cut =
+      two_well (shift_expr (is_signed_shift s) (shift_operator s)) t t xs es fits are (λ a b x y. either_shift_well (is_signed_shift s) (shift_operator s) a b (plain_shift s) x y)
   built_well (icmp p) ts xs t k divisor es (u, is, one) whole values filled some small narrow are divided cut = two_well (comparison p) u u xs es is are (λ a b x y. well_comparison p a b x y)
   built_well parity ts xs t k divisor es (u, is, one) whole values filled some small narrow are divided cut = one_well (λ a. odd (placed primary_level a)) u xs es is are (λ a e x. well_odd a x)
   built_well (extract low) ts xs t k divisor es (u, is, within) whole values filled some small narrow are divided cut =
@@ -406,17 +402,8 @@ module _ (known : List Declared) where
   built_well bitcast ts xs t k divisor es (u, is, same) whole values filled some small narrow are divided cut = one_well (λ a. a) u xs es is are (λ a e x. x)
   built_well wire ts xs t k divisor es fits whole values filled some small narrow are divided cut = one_well (λ a. a) t xs es fits are (λ a e x. x)
   built_well (aggregate_constant ls) ts xs t k divisor es fits whole values filled some small narrow are divided cut = cc
-  built_well array_create ts xs t k divisor es fits whole values filled some small narrow are divided cut = cc
-  built_well array_concat ts xs t k divisor es fits whole values filled some small narrow are divided cut = cc
-  built_well array_get ts xs t k divisor es fits whole values filled some small narrow are divided cut = cc
-  built_well array_slice ts xs t k divisor es fits whole values filled some small narrow are divided cut = cc
-  built_well array_inject ts xs t k divisor es fits whole values filled some small narrow are divided cut = cc
-  built_well struct_create ts xs t k divisor es fits whole values filled some small narrow are divided cut = cc
-  built_well (struct_extract f) ts xs t k divisor es fits whole values filled some small narrow are divided cut = cc
-  built_well (struct_inject f) ts xs t k divisor es fits whole values filled some small narrow are divided cut = cc
-  built_well struct_explode ts xs t k divisor es fits whole values filled some small narrow are divided cut = cc
+  built_well (on_array a) ts xs t k divisor es fits whole values filled some small narrow are divided cut = cc
+  built_well (on_struct s) ts xs t k divisor es fits whole values filled some small narrow are divided cut = cc
   built_well (instance i) ts xs t k divisor es fits whole values filled some small narrow are divided cut = cc
   built_well output ts xs t k divisor es fits whole values filled some small narrow are divided cut = cc
-  built_well (compreg r) ts xs t k divisor es fits whole values filled some small narrow are divided cut = cc
-  built_well (compreg_ce r) ts xs t k divisor es fits whole values filled some small narrow are divided cut = cc
-  built_well (firreg r) ts xs t k divisor es fits whole values filled some small narrow are divided cut = cc
+  built_well (register f r) ts xs t k divisor es fits whole values filled some small narrow are divided cut = cc

@@ -4,7 +4,7 @@ use Rattle.wiring.specs.Wiring.{In}
 use Rattle.hw_model.specs.Types.{Name}
 use Rattle.hw_model.specs.Kinds.{Kind, Predicate}
 use Rattle.hw_model.specs.Kinds.Predicate.{eq, ne, slt, sle, sgt, sge, ult, ule, ugt, uge, ceq, cne, weq, wne}
-use Rattle.hw_model.specs.Kinds.Kind.{add, mul, and, or, xor, sub, divu, modu, divs, mods, shl, shru, shrs, icmp, parity, extract, concat, replicate, mux, constant, bitcast, wire}
+use Rattle.hw_model.specs.Kinds.Kind.{variadic, sub, division, shift, icmp, parity, extract, concat, replicate, mux, constant, bitcast, wire}
 use Rattle.hw_model.specs.Design.{Ref, Port, Op}
 use Rattle.verilog_model.specs.Tree.{Operator, Expr}
 use Rattle.verilog_model.specs.Tree.Operator.{times, over, modulo, plus, minus, left_shift, right_shift, signed_right_shift, below, at_most, above, at_least, equals, differs, bit_and, bit_xor, bit_or}
@@ -12,7 +12,7 @@ use Rattle.verilog_model.specs.Tree.Expr.{name, bit_select, part_select, as_sign
 use Rattle.verilog_model.specs.Grammar.{strength, choice_level, primary_level, level, fits, all_fit}
 use Rattle.verilog_model.specs.Expression.{is_signed}
 use Rattle.verilog_model.proofs.Numerals.{and_intro}
-use Rattle.verilog_expr.specs.Building.{literal_of, unsigned, placed, unsigned_at, unsigned_pair, chained, variadic, signed_pair, unsigned_shift, signed_shift, unsigned_division, signed_division, comparison, select, selected, exprs_of, concatenation, conditional, built}
+use Rattle.verilog_expr.specs.Building.{literal_of, unsigned, placed, unsigned_at, unsigned_pair, chained, variadic_expr, signed_pair, unsigned_shift, signed_shift, unsigned_division, signed_division, comparison, select, selected, exprs_of, concatenation, conditional, built, division_expr, shift_expr, variadic_operator, division_operator, shift_operator, is_signed_division, is_signed_shift}
 use Rattle.verilog_expr.specs.Expressions.{own_expr, expr_to}
 use Rattle.verilog_expr.proofs.Carried.{IsCarried, one_holds, two_hold, three_hold, own_carried, depth_carried}
 
@@ -76,7 +76,7 @@ chained_fits o a (b ∷ bs) binds fit all =
     (unsigned_at_fits (suc (strength o)) b (all b (inl refl))))
     (λ e here. all e (inr here))
 
-variadic_fits : (o : Operator) (es : List Expr) → AllFit es → fits (variadic o es) ≡ true
+variadic_fits : (o : Operator) (es : List Expr) → AllFit es → fits (variadic_expr o es) ≡ true
 variadic_fits o [] all = refl
 variadic_fits o (a ∷ []) all = all a (inl refl)
 variadic_fits o (a ∷ b ∷ bs) all =
@@ -102,6 +102,14 @@ unsigned_division_fits o w divisor a fit =
 
 signed_division_fits : (o : Operator) (w divisor : ℕ) (a : Expr) → fits a ≡ true → fits (signed_division o w divisor a) ≡ true
 signed_division_fits o w divisor a fit = binary_fits o (as_signed a) (literal_of w true divisor) (strong_left o) (strong o) fit refl
+
+division_fits : (b : Bool) (o : Operator) (w divisor : ℕ) (a : Expr) → fits a ≡ true → fits (division_expr b o w divisor a) ≡ true
+division_fits false o w divisor a fit = unsigned_division_fits o w divisor a fit
+division_fits true o w divisor a fit = signed_division_fits o w divisor a fit
+
+either_shift_fits : (s : Bool) (o : Operator) (a b : Expr) → fits a ≡ true → fits b ≡ true → fits (shift_expr s o a b) ≡ true
+either_shift_fits false o a b fit also = unsigned_shift_fits o a b fit also
+either_shift_fits true o a b fit also = signed_shift_fits o a b fit also
 
 comparison_fits : (p : Predicate) (a b : Expr) → fits a ≡ true → fits b ≡ true → fits (comparison p a b) ≡ true
 comparison_fits eq a b fit also = unsigned_pair_fits equals a b fit also
@@ -151,19 +159,10 @@ conditional_fits c a b condition fit also =
 -- ---- each kind
 
 pub built_fits : (kind : Kind) (w : ℕ) (ws : List ℕ) (divisor : ℕ) (es : List Expr) → ((e : Expr) → In e es → fits e ≡ true) → fits (built kind w ws divisor es) ≡ true
-built_fits add w ws divisor es all = variadic_fits plus es all
-built_fits mul w ws divisor es all = variadic_fits times es all
-built_fits and w ws divisor es all = variadic_fits bit_and es all
-built_fits or w ws divisor es all = variadic_fits bit_or es all
-built_fits xor w ws divisor es all = variadic_fits bit_xor es all
+built_fits (variadic v) w ws divisor es all = variadic_fits (variadic_operator v) es all
 built_fits sub w ws divisor es all = two_hold fits refl _ (unsigned_pair_fits minus) es all
-built_fits divu w ws divisor es all = two_hold fits refl _ (λ a b fit also. unsigned_division_fits over w divisor a fit) es all
-built_fits modu w ws divisor es all = two_hold fits refl _ (λ a b fit also. unsigned_division_fits modulo w divisor a fit) es all
-built_fits divs w ws divisor es all = two_hold fits refl _ (λ a b fit also. signed_division_fits over w divisor a fit) es all
-built_fits mods w ws divisor es all = two_hold fits refl _ (λ a b fit also. signed_division_fits modulo w divisor a fit) es all
-built_fits shl w ws divisor es all = two_hold fits refl _ (unsigned_shift_fits left_shift) es all
-built_fits shru w ws divisor es all = two_hold fits refl _ (unsigned_shift_fits right_shift) es all
-built_fits shrs w ws divisor es all = two_hold fits refl _ (signed_shift_fits signed_right_shift) es all
+built_fits (division d) w ws divisor es all = two_hold fits refl _ (λ a b fit also. division_fits (is_signed_division d) (division_operator d) w divisor a fit) es all
+built_fits (shift s) w ws divisor es all = two_hold fits refl _ (either_shift_fits (is_signed_shift s) (shift_operator s)) es all
 built_fits (icmp p) w ws divisor es all = two_hold fits refl _ (comparison_fits p) es all
 built_fits parity w ws divisor es all = one_holds fits refl _ odd_fits es all
 built_fits (extract low) w ws divisor es all = one_holds fits refl _ (λ a fit. selected_fits low _ w a fit) es all

@@ -1,8 +1,8 @@
 -- The expression of an operation, by the row of its kind.
 use Rattle.std.proofs.Common.{◌≡◌, ℕ, suc, ◌+◌, ◌-◌, ◌/◌, ◌≤◌, ◌≢◌, Bool, true, false, cond, ◌&&◌, ◌==◌, nat_le, List, [], ◌∷◌, length, None, decimal, refl, sym, ap, subst, ◌∙◌, arith, ne_eqb}
-use Rattle.hw_model.specs.Kinds.{Kind, Predicate}
+use Rattle.hw_model.specs.Kinds.{Kind, Predicate, Variadic, Division, Shift}
 use Rattle.hw_model.specs.Kinds.Predicate.{eq, ne, slt, sle, sgt, sge, ult, ule, ugt, uge, ceq, cne, weq, wne}
-use Rattle.hw_model.specs.Kinds.Kind.{add, mul, and, or, xor, sub, divu, modu, divs, mods, shl, shru, shrs, icmp, parity, extract, concat, replicate, mux, constant, bitcast, wire}
+use Rattle.hw_model.specs.Kinds.Kind.{variadic, sub, division, shift, icmp, parity, extract, concat, replicate, mux, constant, bitcast, wire}
 use Rattle.verilog_model.specs.Tree as tree
 use Rattle.verilog_model.specs.Tree.{Expr}
 use Rattle.verilog_model.specs.Tree.Expr.{name, bit_select, part_select, literal, joined, repeated, as_signed, as_unsigned, paren, odd, binary, choice}
@@ -10,10 +10,10 @@ use Rattle.verilog_model.specs.Tree.Exprs.{last}
 use Rattle.verilog_model.specs.Grammar.{level, strength, primary_level}
 use Rattle.verilog_model.specs.Expression.{Context, is_signed, context_of, binary_signed}
 use Rattle.verilog_model.specs.Expression.Context.{both_operands, left_operand, no_operand}
-use Rattle.verilog_expr.specs.Building.{no_expr, literal_of, unsigned, placed, unsigned_at, of_one_expr, of_two_exprs, of_three_exprs, unsigned_pair, chained, variadic, signed_pair, unsigned_shift, signed_shift, unsigned_division, signed_division, comparison, select, selected, concatenation, conditional, first_width, built}
+use Rattle.verilog_expr.specs.Building.{no_expr, literal_of, unsigned, placed, unsigned_at, of_one_expr, of_two_exprs, of_three_exprs, unsigned_pair, chained, variadic_expr, signed_pair, unsigned_shift, signed_shift, unsigned_division, signed_division, comparison, select, selected, concatenation, conditional, first_width, built, division_expr, shift_expr, variadic_operator, division_operator, shift_operator, is_signed_division, is_signed_shift}
 use Rattle.verilog_expr.specs.Text.{expr_text}
-use Rattle.verilog_expr.specs.Forms.{operator_of}
-use Rattle.verilog_expr.specs.Rows.{chain_row, row_of_count, comparison_form, extract_row, row_for, row_text, row_signed, row_level}
+use Rattle.verilog_expr.specs.Forms.{operator_of, operator_in_code}
+use Rattle.verilog_expr.specs.Rows.{chain_row, row_of_count, division_form, shift_form, comparison_form, extract_row, row_for, row_text, row_signed, row_level}
 use Rattle.verilog_expr.specs.Made.{sole_name, row_name}
 use Rattle.verilog_expr.specs.declared.form.Operator.{Operator}
 use Rattle.verilog_expr.specs.declared.form.Operator.TheVariants as signs
@@ -21,6 +21,7 @@ use Rattle.verilog_expr.specs.declared.form.Form.{Form}
 use Rattle.verilog_expr.specs.declared.form.Form.TheVariants.{Same, Chain, SignedPair, UnsignedShift, SignedShift, UnsignedDivision, SignedDivision, Parity, Braces, Copies, Choice}
 use Rattle.verilog_expr.specs.declared.row.Row.{Row}
 use Rattle.verilog_expr.specs.declared.row.Row.TheVariants.{Missing, Select, Operands}
+use Rattle.verilog_expr.proofs.Operators.{division_context, shift_context, operator_back}
 use Rattle.verilog_expr.proofs.FormTexts.{same_text, chain_text, signed_pair_text, unsigned_shift_text, signed_shift_text, unsigned_division_text, signed_division_text, parity_text, braces_text, copies_text, choice_text}
 
 -- an expression is that of a row over others
@@ -91,10 +92,10 @@ many o n some =
     ap (λ b. cond b Missing (cond (n == 1) (Operands Same) (Operands (Chain o)))) (ne_eqb n 0 (λ e. omega (arith, e, some)))
     ∙ ap (λ b. cond b (Operands Same) (Operands (Chain o))) (ne_eqb n 1 (λ e. omega (arith, e, some)))
 
-variadic_is : (o : Operator) (es : List Expr) → IsRow (variadic (operator_of o) es) (chain_row (length es) o) es
+variadic_is : (o : Operator) (es : List Expr) → IsRow (variadic_expr (operator_of o) es) (chain_row (length es) o) es
 variadic_is o [] = missing_is []
 variadic_is o (a ∷ []) = same_is a
-variadic_is o (a ∷ b ∷ bs) = subst (λ r. IsRow (variadic (operator_of o) (a ∷ b ∷ bs)) r (a ∷ b ∷ bs)) (sym (many o (suc (suc (length bs))) (omega arith))) (chain_is o a b bs)
+variadic_is o (a ∷ b ∷ bs) = subst (λ r. IsRow (variadic_expr (operator_of o) (a ∷ b ∷ bs)) r (a ∷ b ∷ bs)) (sym (many o (suc (suc (length bs))) (omega arith))) (chain_is o a b bs)
 
 -- ---- so many operands
 
@@ -216,24 +217,52 @@ concat_is (a ∷ rest) =
     subst (λ r. IsRow (concatenation (a ∷ rest)) r (a ∷ rest)) (sym (ap (λ t. cond t Missing (Operands Braces)) (ne_eqb (suc (length rest)) 0 (λ e. omega (arith, e)))))
     (record { text = braces_text a rest; signed = refl; level_is = refl; called = refl })
 
+-- ---- families
+
+either_division_is : (b : Bool) (o : Operator) (w d : ℕ) (x y : Expr) → context_of (operator_of o) ≡ both_operands
+    → IsRow (division_expr b (operator_of o) w d x) (Operands (division_form b o w d)) (x ∷ y ∷ [])
+either_division_is false o w d x y is = division_is o w d x y
+either_division_is true o w d x y is = signed_division_is o w d x y (ap (λ c. binary_signed c true true) is)
+
+either_shift_is : (b : Bool) (o : Operator) (x y : Expr) → context_of (operator_of o) ≡ left_operand
+    → IsRow (shift_expr b (operator_of o) x y) (Operands (shift_form b o)) (x ∷ y ∷ [])
+either_shift_is false o x y is = shift_is o x y
+either_shift_is true o x y is = record {
+  text = signed_shift_text o x y;
+  signed = ap (λ c. binary_signed c true (is_signed (placed (suc (strength (operator_of o))) y))) is;
+  level_is = refl;
+  called = refl;
+}
+
+variadic_row : (v : Variadic) (es : List Expr) → IsRow (variadic_expr (variadic_operator v) es) (chain_row (length es) (operator_in_code (variadic_operator v))) es
+variadic_row v es =
+    subst (λ o. IsRow (variadic_expr o es) (chain_row (length es) (operator_in_code (variadic_operator v))) es) (operator_back (variadic_operator v))
+    (variadic_is (operator_in_code (variadic_operator v)) es)
+
+division_row : (v : Division) (w d : ℕ) (x y : Expr)
+    → IsRow (division_expr (is_signed_division v) (division_operator v) w d x) (Operands (division_form (is_signed_division v) (operator_in_code (division_operator v)) w d)) (x ∷ y ∷ [])
+division_row v w d x y =
+    subst (λ o. IsRow (division_expr (is_signed_division v) o w d x) (Operands (division_form (is_signed_division v) (operator_in_code (division_operator v)) w d)) (x ∷ y ∷ []))
+    (operator_back (division_operator v))
+    (either_division_is (is_signed_division v) (operator_in_code (division_operator v)) w d x y (ap context_of (operator_back (division_operator v)) ∙ division_context v))
+
+shift_row : (v : Shift) (x y : Expr)
+    → IsRow (shift_expr (is_signed_shift v) (shift_operator v) x y) (Operands (shift_form (is_signed_shift v) (operator_in_code (shift_operator v)))) (x ∷ y ∷ [])
+shift_row v x y =
+    subst (λ o. IsRow (shift_expr (is_signed_shift v) o x y) (Operands (shift_form (is_signed_shift v) (operator_in_code (shift_operator v)))) (x ∷ y ∷ []))
+    (operator_back (shift_operator v))
+    (either_shift_is (is_signed_shift v) (operator_in_code (shift_operator v)) x y (ap context_of (operator_back (shift_operator v)) ∙ shift_context v))
+
 -- ---- kinds
 
 pub built_is : (kind : Kind) (w : ℕ) (ws : List ℕ) (d : ℕ) (es : List Expr) → IsRow (built kind w ws d es) (row_for kind w (first_width ws) d (length es)) es
-built_is add w ws d es = variadic_is signs.Plus es
-built_is mul w ws d es = variadic_is signs.Times es
-built_is and w ws d es = variadic_is signs.BitAnd es
-built_is or w ws d es = variadic_is signs.BitOr es
-built_is xor w ws d es = variadic_is signs.BitXor es
+built_is (variadic v) w ws d es = variadic_row v es
 built_is sub w ws d es = two_is (Chain signs.Minus) (unsigned_pair tree.Operator.minus) (pair_is signs.Minus) es
-built_is divu w ws d es = two_is (UnsignedDivision signs.Over w d) (λ a b. unsigned_division tree.Operator.over w d a) (division_is signs.Over w d) es
-built_is modu w ws d es = two_is (UnsignedDivision signs.Modulo w d) (λ a b. unsigned_division tree.Operator.modulo w d a) (division_is signs.Modulo w d) es
-built_is divs w ws d es = two_is (SignedDivision signs.Over w d) (λ a b. signed_division tree.Operator.over w d a) (λ a b. signed_division_is signs.Over w d a b refl) es
-built_is mods w ws d es = two_is (SignedDivision signs.Modulo w d) (λ a b. signed_division tree.Operator.modulo w d a) (λ a b. signed_division_is signs.Modulo w d a b refl) es
-built_is shl w ws d es = two_is (UnsignedShift signs.LeftShift) (unsigned_shift tree.Operator.left_shift) (shift_is signs.LeftShift) es
-built_is shru w ws d es = two_is (UnsignedShift signs.RightShift) (unsigned_shift tree.Operator.right_shift) (shift_is signs.RightShift) es
-built_is shrs w ws d es =
-    two_is (SignedShift signs.SignedRightShift) (signed_shift tree.Operator.signed_right_shift)
-    (λ a b. record { text = signed_shift_text signs.SignedRightShift a b; signed = refl; level_is = refl; called = refl }) es
+built_is (division v) w ws d es =
+    two_is (division_form (is_signed_division v) (operator_in_code (division_operator v)) w d)
+    (λ a b. division_expr (is_signed_division v) (division_operator v) w d a) (division_row v w d) es
+built_is (shift v) w ws d es =
+    two_is (shift_form (is_signed_shift v) (operator_in_code (shift_operator v))) (shift_expr (is_signed_shift v) (shift_operator v)) (shift_row v) es
 built_is (icmp p) w ws d es = comparison_is p es
 built_is parity w ws d es = one_is Parity (λ a. odd (placed primary_level a)) (λ a. record { text = parity_text a; signed = refl; level_is = refl; called = refl }) es
 built_is (extract low) w ws d es = extract_is low w (first_width ws) es

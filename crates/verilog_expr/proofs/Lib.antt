@@ -20,6 +20,7 @@ pub mod Bodies
 pub mod Heights
 pub mod ByRule
 pub mod Depths
+pub mod Operators
 pub mod Carried
 pub mod Fit
 pub mod Tight

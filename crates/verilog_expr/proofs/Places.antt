@@ -2,9 +2,10 @@
 use Rattle.std.proofs.Common.{◌≡◌, ℕ, ◌/◌, Bool, true, false, cond, not, ◌&&◌, ◌==◌, refl, sym, ap, ◌∙◌}
 use Rattle.hw_model.specs.Kinds.{Kind, Predicate}
 use Rattle.hw_model.specs.Kinds.Predicate.{eq, ne, slt, sle, sgt, sge, ult, ule, ugt, uge, ceq, cne, weq, wne}
-use Rattle.hw_model.specs.Kinds.Kind.{add, mul, and, or, xor, sub, divu, modu, divs, mods, shl, shru, shrs, icmp, parity, extract, concat, replicate, mux, constant, bitcast, wire}
-use Rattle.verilog_expr.specs.Forms.{asks_unsigned}
-use Rattle.verilog_expr.specs.Rows.{chain_row, row_of_count, comparison_form, extract_row, row_for}
+use Rattle.hw_model.specs.Kinds.Kind.{variadic, sub, division, shift, icmp, parity, extract, concat, replicate, mux, constant, bitcast, wire}
+use Rattle.verilog_expr.specs.Building.{variadic_operator, division_operator, shift_operator, is_signed_division, is_signed_shift}
+use Rattle.verilog_expr.specs.Forms.{asks_unsigned, operator_in_code}
+use Rattle.verilog_expr.specs.Rows.{chain_row, row_of_count, division_form, shift_form, comparison_form, extract_row, row_for}
 use Rattle.verilog_expr.specs.Signs.{is_signed_order, is_unsigned_place}
 use Rattle.verilog_expr.specs.declared.form.Operator.{Operator}
 use Rattle.verilog_expr.specs.declared.form.Operator.TheVariants as signs
@@ -55,20 +56,23 @@ module _ (f : Form) (i : ℕ) (other : f ≡ Same → ⊥) where
   compared weq = refl
   compared wne = refl
 
+division_place : (b : Bool) (o : Operator) (w divisor i : ℕ) → asks_unsigned (division_form b o w divisor) i ≡ not b
+division_place false o w divisor i = refl
+division_place true o w divisor i = refl
+
+shift_place : (b : Bool) (o : Operator) (i : ℕ) → asks_unsigned (shift_form b o) i ≡ (not b && (i == 0))
+shift_place false o i = refl
+shift_place true o i = refl
+
 pub places_asked : (kind : Kind) (w v divisor n i : ℕ) (f : Form) → row_for kind w v divisor n ≡ Operands f → (f ≡ Same → ⊥) → asks_unsigned f i ≡ is_unsigned_place kind i
-places_asked add w v divisor n i f is other = of_chain f i other n signs.Plus is
-places_asked mul w v divisor n i f is other = of_chain f i other n signs.Times is
-places_asked and w v divisor n i f is other = of_chain f i other n signs.BitAnd is
-places_asked or w v divisor n i f is other = of_chain f i other n signs.BitOr is
-places_asked xor w v divisor n i f is other = of_chain f i other n signs.BitXor is
+places_asked (variadic o) w v divisor n i f is other = of_chain f i other n (operator_in_code (variadic_operator o)) is
 places_asked sub w v divisor n i f is other = of_count f i other n 2 (Chain signs.Minus) is
-places_asked divu w v divisor n i f is other = of_count f i other n 2 (UnsignedDivision signs.Over w divisor) is
-places_asked modu w v divisor n i f is other = of_count f i other n 2 (UnsignedDivision signs.Modulo w divisor) is
-places_asked divs w v divisor n i f is other = of_count f i other n 2 (SignedDivision signs.Over w divisor) is
-places_asked mods w v divisor n i f is other = of_count f i other n 2 (SignedDivision signs.Modulo w divisor) is
-places_asked shl w v divisor n i f is other = of_count f i other n 2 (UnsignedShift signs.LeftShift) is
-places_asked shru w v divisor n i f is other = of_count f i other n 2 (UnsignedShift signs.RightShift) is
-places_asked shrs w v divisor n i f is other = of_count f i other n 2 (SignedShift signs.SignedRightShift) is
+places_asked (division d) w v divisor n i f is other =
+    of_count f i other n 2 (division_form (is_signed_division d) (operator_in_code (division_operator d)) w divisor) is
+    ∙ division_place (is_signed_division d) (operator_in_code (division_operator d)) w divisor i
+places_asked (shift s) w v divisor n i f is other =
+    of_count f i other n 2 (shift_form (is_signed_shift s) (operator_in_code (shift_operator s))) is
+    ∙ shift_place (is_signed_shift s) (operator_in_code (shift_operator s)) i
 places_asked (icmp p) w v divisor n i f is other = of_count f i other n 2 (comparison_form p) is ∙ compared f i other p
 places_asked parity w v divisor n i f is other = of_count f i other n 1 Parity is
 places_asked (extract low) w v divisor n i f is other = of_extract f i other n low w v is

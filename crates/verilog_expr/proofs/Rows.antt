@@ -16,7 +16,7 @@ use Rattle.verilog_model.specs.Tree.Expr.{as_signed, odd, binary}
 use Rattle.verilog_model.specs.Grammar.{strength}
 use Rattle.verilog_model.specs.Expression.{context_of, arithmetic, compared, own_value}
 use Rattle.verilog_model.specs.Expression.Context.{both_operands, no_operand}
-use Rattle.verilog_expr.specs.Building.{placed, unsigned_at, unsigned_pair, chained, variadic, signed_pair, comparison}
+use Rattle.verilog_expr.specs.Building.{placed, unsigned_at, unsigned_pair, chained, variadic_expr, signed_pair, comparison}
 use Rattle.verilog_expr.specs.Values.{HasBits}
 use Rattle.verilog_expr.proofs.Own.{extended_full, Is, Is-own, HasBits-Is, placed_own, unsigned_at_is, signed_is, both_is, compare_is}
 
@@ -91,7 +91,7 @@ module _ (widths : Name → ℕ) (ρ : Name → Word) where
   pub variadic_gives : (P : Type 0) (o : Operator) (w : ℕ) (op : List Word → Word) → context_of o ≡ both_operands
       → ((x y : Word) → length x ≡ w → length y ≡ w → length (arithmetic o false x y) ≡ w)
       → ((x : Word) (ys : List Word) → length x ≡ w → ((y : Word) → In y ys → length y ≡ w) → folded (arithmetic o false) x ys ≡ op (x ∷ ys))
-      → (es : List Expr) → AllBits w es → 1 ≤ length es → Gives widths ρ P w (variadic o es) (op (map (own_value widths ρ) es))
+      → (es : List Expr) → AllBits w es → 1 ≤ length es → Gives widths ρ P w (variadic_expr o es) (op (map (own_value widths ρ) es))
   variadic_gives P o w op context keeps folds [] all some = absurd (omega arith)
   variadic_gives P o w op context keeps folds (a ∷ []) all some =
       let has : HasBits widths ρ w a = all a (inl refl) in

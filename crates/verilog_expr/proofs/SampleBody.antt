@@ -6,7 +6,9 @@ use Rattle.wiring.proofs.Chains.{IsAcyclic-falling}
 use Rattle.hw_model.specs.Types.{Name, HwType, width}
 use Rattle.hw_model.specs.Types.HwType.{int}
 use Rattle.hw_model.specs.Kinds.{Kind}
-use Rattle.hw_model.specs.Kinds.Kind.{constant, divs, shru}
+use Rattle.hw_model.specs.Kinds.Division.{divs}
+use Rattle.hw_model.specs.Kinds.Shift.{shru}
+use Rattle.hw_model.specs.Kinds.Kind.{division, shift, constant}
 use Rattle.hw_model.specs.Design.{Ref, Port, Op, result_type}
 use Rattle.hw_model.specs.Design.Ref.{port, result, undefined}
 use Rattle.hw_model.specs.Flat.{width_of}
@@ -38,13 +40,13 @@ abbrev divisor : Op
 divisor = of_byte (constant (pos 253)) []
 
 abbrev quotient : Op
-quotient = of_byte divs (port 0 ∷ result 0 0 ∷ [])
+quotient = of_byte (division divs) (port 0 ∷ result 0 0 ∷ [])
 
-abbrev shift : Op
-shift = of_byte shru (result 1 0 ∷ port 0 ∷ [])
+abbrev shifted : Op
+shifted = of_byte (shift shru) (result 1 0 ∷ port 0 ∷ [])
 
 abbrev body : List Op
-body = divisor ∷ quotient ∷ shift ∷ []
+body = divisor ∷ quotient ∷ shifted ∷ []
 
 abbrev named : Ref → Option Name
 named (port zero) = Some (codes "a")
@@ -60,22 +62,22 @@ last_height : height ports body (result 2 0) ≡ 2
 unfolding height
 last_height = refl
 
-each_op : (P : ℕ → Op → Type 0) → P 0 divisor → P 1 quotient → P 2 shift → (i : ℕ) (o : Op) → slice_get body i ≡ Some o → P i o
+each_op : (P : ℕ → Op → Type 0) → P 0 divisor → P 1 quotient → P 2 shifted → (i : ℕ) (o : Op) → slice_get body i ≡ Some o → P i o
 each_op P first second third zero o is = let same : divisor ≡ o = cc in subst (P 0) same first
 each_op P first second third (suc zero) o is = let same : quotient ≡ o = cc in subst (P 1) same second
-each_op P first second third (suc (suc zero)) o is = let same : shift ≡ o = cc in subst (P 2) same third
+each_op P first second third (suc (suc zero)) o is = let same : shifted ≡ o = cc in subst (P 2) same third
 each_op P first second third (suc (suc (suc i))) o is = absurd (let bad : true ≡ false = cc in true≢false bad)
 
 its_result : (P : ℕ → HwType → Type 0) (kind : Kind) (rs : List Ref) → P 0 (int 8) → (k : ℕ) (t : HwType) → result_type (of_byte kind rs) k ≡ Some t → P k t
 its_result P kind rs holds zero t is = let same : int 8 ≡ t = cc in subst (P 0) same holds
 its_result P kind rs holds (suc k) t is = absurd (let bad : true ≡ false = cc in true≢false bad)
 
-each_result : (P : ℕ → ℕ → Op → HwType → Type 0) → P 0 0 divisor (int 8) → P 1 0 quotient (int 8) → P 2 0 shift (int 8)
+each_result : (P : ℕ → ℕ → Op → HwType → Type 0) → P 0 0 divisor (int 8) → P 1 0 quotient (int 8) → P 2 0 shifted (int 8)
     → (i k : ℕ) (o : Op) (t : HwType) → slice_get body i ≡ Some o → result_type o k ≡ Some t → P i k o t
 each_result P first second third i k o t there is =
     each_op (λ j q. (k : ℕ) (t : HwType) → result_type q k ≡ Some t → P j k q t)
-    (its_result (λ k t. P 0 k divisor t) (constant (pos 253)) [] first) (its_result (λ k t. P 1 k quotient t) divs (port 0 ∷ result 0 0 ∷ []) second)
-    (its_result (λ k t. P 2 k shift t) shru (result 1 0 ∷ port 0 ∷ []) third) i o there k t is
+    (its_result (λ k t. P 0 k divisor t) (constant (pos 253)) [] first) (its_result (λ k t. P 1 k quotient t) (division divs) (port 0 ∷ result 0 0 ∷ []) second)
+    (its_result (λ k t. P 2 k shifted t) (shift shru) (result 1 0 ∷ port 0 ∷ []) third) i o there k t is
 
 input_named : (j : ℕ) (t : HwType) → type_in ports body (port j) ≡ Some t → is_some (named (port j)) ≡ true
 input_named zero t is = refl
@@ -97,14 +99,14 @@ body_writable : IsWritable named ports body
 unfolding spilled height
 body_writable = record {
   fits = each_op (λ i o. OpFits (type_in ports body) o) (λ k t is. refl)
-      (its_result (λ k t. type_in ports body (port 0) ∷ type_in ports body (result 0 0) ∷ [] ≡ Some t ∷ Some t ∷ []) divs (port 0 ∷ result 0 0 ∷ []) refl)
-      (its_result (λ k t. type_in ports body (result 1 0) ∷ type_in ports body (port 0) ∷ [] ≡ Some t ∷ Some t ∷ []) shru (result 1 0 ∷ port 0 ∷ []) refl);
+      (its_result (λ k t. type_in ports body (port 0) ∷ type_in ports body (result 0 0) ∷ [] ≡ Some t ∷ Some t ∷ []) (division divs) (port 0 ∷ result 0 0 ∷ []) refl)
+      (its_result (λ k t. type_in ports body (result 1 0) ∷ type_in ports body (port 0) ∷ [] ≡ Some t ∷ Some t ∷ []) (shift shru) (result 1 0 ∷ port 0 ∷ []) refl);
   integers = each_op (λ i o. is_aggregate_kind o.kind ≡ false) refl refl refl;
   filled = each_op (λ i o. is_variadic o.kind ≡ true → 1 ≤ length o.operands) (λ v. absurd (false≢true v)) (λ v. absurd (false≢true v)) (λ v. absurd (false≢true v));
   bits = each_result (λ i k o t. 1 ≤ width t) (omega arith) (omega arith) (omega arith);
   narrow = narrow_values;
   divisions = each_op (λ i o. is_division o.kind ≡ true → IsDivision body o) (λ d. absurd (false≢true d))
-      (λ d. record { dividend = port 0; divisor = 0; operands = refl; by = divisor; there = refl; constant = refl; not_zero = λ t is. its_result (λ k t. 0 < constant_of (Some divisor) (width t)) divs (port 0 ∷ result 0 0 ∷ []) (omega arith) 0 t is })
+      (λ d. record { dividend = port 0; divisor = 0; operands = refl; by = divisor; there = refl; constant = refl; not_zero = λ t is. its_result (λ k t. 0 < constant_of (Some divisor) (width t)) (division divs) (port 0 ∷ result 0 0 ∷ []) (omega arith) 0 t is })
       (λ d. absurd (false≢true d));
   inputs = input_named;
   owned = λ i k o t there is. each_result (λ i k o t. is_pure o ≡ false → is_some (named (result i k)) ≡ true) (λ p. absurd (true≢false p)) (λ p. absurd (true≢false p)) (λ p. absurd (true≢false p)) i k o t there is;

@@ -2,7 +2,10 @@
 use Rattle.std.proofs.Common.{◌≡◌, true, false, List, [], ◌∷◌, ◌++◌, map, Some, None, refl, codes, decimal}
 use Rattle.hw_model.specs.Kinds.{Kind}
 use Rattle.hw_model.specs.Kinds.Predicate.{eq, slt}
-use Rattle.hw_model.specs.Kinds.Kind.{add, xor, sub, divs, shrs, shru, icmp, mux, parity, extract, concat, replicate}
+use Rattle.hw_model.specs.Kinds.Variadic.{add, xor}
+use Rattle.hw_model.specs.Kinds.Division.{divs}
+use Rattle.hw_model.specs.Kinds.Shift.{shrs, shru}
+use Rattle.hw_model.specs.Kinds.Kind.{variadic, sub, division, shift, icmp, parity, extract, concat, replicate, mux}
 use Rattle.verilog_model.specs.Tree.{Expr}
 use Rattle.verilog_model.specs.Tree.Operator.{plus, minus, bit_xor}
 use Rattle.verilog_model.specs.Tree.Expr.{name, bit_select, part_select, repeated, paren, binary}
@@ -59,25 +62,25 @@ two_minuses_text : expr_text (of_bytes sub (of_bytes sub (a ∷ b ∷ []) ∷ c 
 unfolding expr_text
 two_minuses_text = refl
 
-sum_of_three_text : expr_text (of_bytes add (a ∷ b ∷ c ∷ [])) [] ≡ codes "a + b + c"
+sum_of_three_text : expr_text (of_bytes (variadic add) (a ∷ b ∷ c ∷ [])) [] ≡ codes "a + b + c"
 unfolding expr_text
 sum_of_three_text = refl
 
-sum_alone : of_bytes add (a ∷ []) ≡ a
+sum_alone : of_bytes (variadic add) (a ∷ []) ≡ a
 sum_alone = refl
 
 -- ---- signs
 
 -- `a` shifted with copies of its top bit
 abbrev shifted_down : Expr
-shifted_down = of_bytes shrs (a ∷ b ∷ [])
+shifted_down = of_bytes (shift shrs) (a ∷ b ∷ [])
 
 shifted_text : expr_text shifted_down [] ≡ codes "$signed(a) >>> b"
 unfolding expr_text
 shifted_text = refl
 
 -- where it stands with others, its sign is taken off
-shifted_xor_text : expr_text (of_bytes xor (shifted_down ∷ c ∷ [])) [] ≡ codes "$unsigned($signed(a) >>> b) ^ c"
+shifted_xor_text : expr_text (of_bytes (variadic xor) (shifted_down ∷ c ∷ [])) [] ≡ codes "$unsigned($signed(a) >>> b) ^ c"
 unfolding expr_text
 shifted_xor_text = refl
 
@@ -94,7 +97,7 @@ unfolding expr_text
 signed_compared_text = refl
 
 -- a quotient by 253 of 8 bits, which is -3; decimal numerals do not compute
-divided_text : expr_text (of_bytes shru (built divs 8 (8 ∷ 8 ∷ []) 253 (a ∷ c ∷ []) ∷ b ∷ [])) []
+divided_text : expr_text (of_bytes (shift shru) (built (division divs) 8 (8 ∷ 8 ∷ []) 253 (a ∷ c ∷ []) ∷ b ∷ [])) []
     ≡ codes "$unsigned($signed(a) / " ++ (decimal 8 ++ codes "'shFD) >> b")
 unfolding expr_text hex
 divided_text = refl
@@ -127,11 +130,11 @@ minus_difference_read : tokens (expr_text (of_bytes sub (a ∷ of_bytes sub (b �
 unfolding expr_text
 minus_difference_read = refl
 
-shifted_xor_read : tokens (expr_text (of_bytes xor (shifted_down ∷ c ∷ [])) []) ≡ expr_spelled (of_bytes xor (shifted_down ∷ c ∷ [])) []
+shifted_xor_read : tokens (expr_text (of_bytes (variadic xor) (shifted_down ∷ c ∷ [])) []) ≡ expr_spelled (of_bytes (variadic xor) (shifted_down ∷ c ∷ [])) []
 unfolding expr_text
 shifted_xor_read = refl
 
-shifted_xor_fits : fits (of_bytes xor (shifted_down ∷ c ∷ [])) ≡ true
+shifted_xor_fits : fits (of_bytes (variadic xor) (shifted_down ∷ c ∷ [])) ≡ true
 shifted_xor_fits = refl
 
 -- ---- parentheses and signs that do not pass
@@ -145,5 +148,5 @@ difference_opened : opened (binary minus a (paren (binary minus b c))) ≡ binar
 difference_opened = refl
 
 -- `$signed(a) >>> b ^ c`, where the shift would be unsigned
-bare_signed_shift : (keeps_signs (binary bit_xor shifted_down c) ≡ false) × (keeps_signs (of_bytes xor (shifted_down ∷ c ∷ [])) ≡ true)
+bare_signed_shift : (keeps_signs (binary bit_xor shifted_down c) ≡ false) × (keeps_signs (of_bytes (variadic xor) (shifted_down ∷ c ∷ [])) ≡ true)
 bare_signed_shift = (refl, refl)

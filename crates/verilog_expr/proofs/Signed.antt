@@ -3,7 +3,7 @@ use Rattle.std.proofs.Common.{◌≡◌, ℕ, suc, ◌+◌, ◌-◌, Bool, true,
 use Rattle.wiring.specs.Wiring.{In}
 use Rattle.hw_model.specs.Kinds.{Kind, Predicate}
 use Rattle.hw_model.specs.Kinds.Predicate.{eq, ne, slt, sle, sgt, sge, ult, ule, ugt, uge, ceq, cne, weq, wne}
-use Rattle.hw_model.specs.Kinds.Kind.{add, mul, and, or, xor, sub, divu, modu, divs, mods, shl, shru, shrs, icmp, parity, extract, concat, replicate, mux, constant, bitcast, wire}
+use Rattle.hw_model.specs.Kinds.Kind.{variadic, sub, division, shift, icmp, parity, extract, concat, replicate, mux, constant, bitcast, wire}
 use Rattle.verilog_model.specs.Tree.{Operator, Expr}
 use Rattle.verilog_model.specs.Tree.Operator.{times, over, modulo, plus, minus, left_shift, right_shift, signed_right_shift, below, at_most, above, at_least, equals, differs, bit_and, bit_xor, bit_or}
 use Rattle.verilog_model.specs.Tree.Expr.{name, bit_select, part_select, as_signed, as_unsigned, paren, binary}
@@ -11,8 +11,9 @@ use Rattle.verilog_model.specs.Grammar.{strength, choice_level, primary_level, l
 use Rattle.verilog_model.specs.Expression.{Context, context_of, binary_signed, is_signed}
 use Rattle.verilog_model.specs.Expression.Context.{both_operands, left_operand, no_operand}
 use Rattle.verilog_model.proofs.Numerals.{and_intro}
-use Rattle.verilog_expr.specs.Building.{literal_of, unsigned, placed, unsigned_at, of_one_expr, of_two_exprs, of_three_exprs, unsigned_pair, chained, variadic, signed_pair, unsigned_division, signed_division, comparison, select, selected, exprs_of, concatenation, conditional, built}
+use Rattle.verilog_expr.specs.Building.{literal_of, unsigned, placed, unsigned_at, of_one_expr, of_two_exprs, of_three_exprs, unsigned_pair, chained, variadic_expr, signed_pair, unsigned_division, signed_division, comparison, select, selected, exprs_of, concatenation, conditional, built, division_expr, shift_expr, variadic_operator, division_operator, shift_operator, is_signed_division, is_signed_shift}
 use Rattle.verilog_expr.specs.Signs.{alike, signs_kept, keeps_signs, all_keep_signs, is_signed_kind}
+use Rattle.verilog_expr.proofs.Operators.{division_context, shift_context}
 use Rattle.verilog_expr.proofs.Carried.{IsCarried, one_holds, two_hold, three_hold}
 
 abbrev Keep : List Expr → Type 0
@@ -104,7 +105,7 @@ chained_keeps o a (b ∷ bs) is first all =
     (unsigned_keep o a (unsigned_at (suc (strength o)) b) is (unsigned_at_signed (suc (strength o)) b) first (unsigned_at_keeps (suc (strength o)) b (all b (inl refl))))
     (λ e here. all e (inr here))
 
-variadic_keeps : (o : Operator) (es : List Expr) → Keep es → keeps_signs (variadic o es) ≡ true
+variadic_keeps : (o : Operator) (es : List Expr) → Keep es → keeps_signs (variadic_expr o es) ≡ true
 variadic_keeps o [] all = refl
 variadic_keeps o (a ∷ []) all = all a (inl refl)
 variadic_keeps o (a ∷ b ∷ bs) all =
@@ -116,6 +117,15 @@ unsigned_division_keeps o w divisor a h =
 
 signed_division_keeps : (o : Operator) (w divisor : ℕ) (a : Expr) → keeps_signs a ≡ true → keeps_signs (signed_division o w divisor a) ≡ true
 signed_division_keeps o w divisor a h = signed_keep o (as_signed a) (literal_of w true divisor) refl refl h refl
+
+division_keeps : (b : Bool) (o : Operator) (w divisor : ℕ) (a : Expr) → keeps_signs a ≡ true → keeps_signs (division_expr b o w divisor a) ≡ true
+division_keeps false o w divisor a h = unsigned_division_keeps o w divisor a h
+division_keeps true o w divisor a h = signed_division_keeps o w divisor a h
+
+either_shift_keeps : (s : Bool) (o : Operator) (a b : Expr) → context_of o ≡ left_operand → keeps_signs a ≡ true → keeps_signs b ≡ true → keeps_signs (shift_expr s o a b) ≡ true
+either_shift_keeps false o a b is first second =
+    shift_keeps o (unsigned_at (strength o) a) (placed (suc (strength o)) b) is (unsigned_at_keeps (strength o) a first) (placed_keeps (suc (strength o)) b second)
+either_shift_keeps true o a b is first second = shift_keeps o (as_signed a) (placed (suc (strength o)) b) is first (placed_keeps (suc (strength o)) b second)
 
 comparison_keeps : (p : Predicate) (a b : Expr) → keeps_signs a ≡ true → keeps_signs b ≡ true → keeps_signs (comparison p a b) ≡ true
 comparison_keeps eq a b first second = unsigned_pair_keeps equals a b first second
@@ -164,21 +174,11 @@ conditional_keeps c a b condition first second =
 -- ---- each kind
 
 pub built_keeps : (kind : Kind) (w : ℕ) (ws : List ℕ) (divisor : ℕ) (es : List Expr) → ((e : Expr) → In e es → keeps_signs e ≡ true) → keeps_signs (built kind w ws divisor es) ≡ true
-built_keeps add w ws divisor es all = variadic_keeps plus es all
-built_keeps mul w ws divisor es all = variadic_keeps times es all
-built_keeps and w ws divisor es all = variadic_keeps bit_and es all
-built_keeps or w ws divisor es all = variadic_keeps bit_or es all
-built_keeps xor w ws divisor es all = variadic_keeps bit_xor es all
+built_keeps (variadic v) w ws divisor es all = variadic_keeps (variadic_operator v) es all
 built_keeps sub w ws divisor es all = two_hold keeps_signs refl _ (unsigned_pair_keeps minus) es all
-built_keeps divu w ws divisor es all = two_hold keeps_signs refl _ (λ a b h also. unsigned_division_keeps over w divisor a h) es all
-built_keeps modu w ws divisor es all = two_hold keeps_signs refl _ (λ a b h also. unsigned_division_keeps modulo w divisor a h) es all
-built_keeps divs w ws divisor es all = two_hold keeps_signs refl _ (λ a b h also. signed_division_keeps over w divisor a h) es all
-built_keeps mods w ws divisor es all = two_hold keeps_signs refl _ (λ a b h also. signed_division_keeps modulo w divisor a h) es all
-built_keeps shl w ws divisor es all =
-    two_hold keeps_signs refl _ (λ a b h also. shift_keeps left_shift (unsigned_at 7 a) (placed 8 b) refl (unsigned_at_keeps 7 a h) (placed_keeps 8 b also)) es all
-built_keeps shru w ws divisor es all =
-    two_hold keeps_signs refl _ (λ a b h also. shift_keeps right_shift (unsigned_at 7 a) (placed 8 b) refl (unsigned_at_keeps 7 a h) (placed_keeps 8 b also)) es all
-built_keeps shrs w ws divisor es all = two_hold keeps_signs refl _ (λ a b h also. shift_keeps signed_right_shift (as_signed a) (placed 8 b) refl h (placed_keeps 8 b also)) es all
+built_keeps (division d) w ws divisor es all = two_hold keeps_signs refl _ (λ a b h also. division_keeps (is_signed_division d) (division_operator d) w divisor a h) es all
+built_keeps (shift s) w ws divisor es all =
+    two_hold keeps_signs refl _ (λ a b h also. either_shift_keeps (is_signed_shift s) (shift_operator s) a b (shift_context s) h also) es all
 built_keeps (icmp p) w ws divisor es all = two_hold keeps_signs refl _ (comparison_keeps p) es all
 built_keeps parity w ws divisor es all = one_holds keeps_signs refl _ (λ a h. placed_keeps primary_level a h) es all
 built_keeps (extract low) w ws divisor es all = one_holds keeps_signs refl _ (λ a h. selected_keeps low _ w a h) es all
@@ -203,7 +203,7 @@ chained_unsigned o a (b ∷ bs) is = chained_unsigned o (binary o a (unsigned_at
 abbrev IsPlain : Expr → List Expr → Type 0
 IsPlain e es = (is_signed e ≡ false) ⊎ In e es
 
-variadic_plain : (o : Operator) (es : List Expr) → IsPlain (variadic o es) es
+variadic_plain : (o : Operator) (es : List Expr) → IsPlain (variadic_expr o es) es
 variadic_plain o [] = inl refl
 variadic_plain o (a ∷ []) = inr (inl refl)
 variadic_plain o (a ∷ b ∷ bs) = inl (chained_unsigned o (unsigned_at (strength o) a) (b ∷ bs) (unsigned_at_signed (strength o) a))
@@ -261,20 +261,19 @@ selected_plain low v w a = go (low == 0 && w == v) where
 conditional_unsigned : (c a b : Expr) → is_signed (conditional c a b) ≡ false
 conditional_unsigned c a b = ap (λ s. s && is_signed (unsigned_at choice_level b)) (unsigned_signed a)
 
+division_plain : (b : Bool) (o : Operator) (w divisor : ℕ) (a : Expr) → b ≡ false → is_signed (division_expr b o w divisor a) ≡ false
+division_plain false o w divisor a is = first_unsigned o (strength o) a (literal_of w false divisor)
+division_plain true o w divisor a is = cc
+
+shift_plain : (s : Bool) (o : Operator) (a b : Expr) → s ≡ false → is_signed (shift_expr s o a b) ≡ false
+shift_plain false o a b is = first_unsigned o (strength o) a (placed (suc (strength o)) b)
+shift_plain true o a b is = cc
+
 built_plain : (kind : Kind) (w : ℕ) (ws : List ℕ) (divisor : ℕ) (es : List Expr) → is_signed_kind kind ≡ false → IsPlain (built kind w ws divisor es) es
-built_plain add w ws divisor es is = variadic_plain plus es
-built_plain mul w ws divisor es is = variadic_plain times es
-built_plain and w ws divisor es is = variadic_plain bit_and es
-built_plain or w ws divisor es is = variadic_plain bit_or es
-built_plain xor w ws divisor es is = variadic_plain bit_xor es
+built_plain (variadic v) w ws divisor es is = variadic_plain (variadic_operator v) es
 built_plain sub w ws divisor es is = two_plain _ (λ a b. first_unsigned minus 8 a (unsigned_at 9 b)) es
-built_plain divu w ws divisor es is = two_plain _ (λ a b. first_unsigned over 9 a (literal_of w false divisor)) es
-built_plain modu w ws divisor es is = two_plain _ (λ a b. first_unsigned modulo 9 a (literal_of w false divisor)) es
-built_plain divs w ws divisor es is = cc
-built_plain mods w ws divisor es is = cc
-built_plain shl w ws divisor es is = two_plain _ (λ a b. first_unsigned left_shift 7 a (placed 8 b)) es
-built_plain shru w ws divisor es is = two_plain _ (λ a b. first_unsigned right_shift 7 a (placed 8 b)) es
-built_plain shrs w ws divisor es is = cc
+built_plain (division d) w ws divisor es is = two_plain _ (λ a b. division_plain (is_signed_division d) (division_operator d) w divisor a is) es
+built_plain (shift s) w ws divisor es is = two_plain _ (λ a b. shift_plain (is_signed_shift s) (shift_operator s) a b is) es
 built_plain (icmp p) w ws divisor es is = two_plain _ (comparison_unsigned p) es
 built_plain parity w ws divisor es is = one_plain _ (λ a. inl refl) es
 built_plain (extract low) w ws divisor es is = one_plain _ (selected_plain low _ w) es
@@ -305,8 +304,16 @@ two_signed f each (a ∷ []) two = absurd (omega (arith, two))
 two_signed f each (a ∷ b ∷ []) two = each a b
 two_signed f each (a ∷ b ∷ c ∷ es) two = absurd (omega (arith, two))
 
+division_signed : (b : Bool) (o : Operator) (w divisor : ℕ) (a : Expr) → context_of o ≡ both_operands → b ≡ true → is_signed (division_expr b o w divisor a) ≡ true
+division_signed true o w divisor a is h = ap (λ x. binary_signed x true true) is
+division_signed false o w divisor a is h = cc
+
+shift_signed : (s : Bool) (o : Operator) (a b : Expr) → context_of o ≡ left_operand → s ≡ true → is_signed (shift_expr s o a b) ≡ true
+shift_signed true o a b is h = ap (λ x. binary_signed x true (is_signed (placed (suc (strength o)) b))) is
+shift_signed false o a b is h = cc
+
 pub signed_kinds : (kind : Kind) (w : ℕ) (ws : List ℕ) (divisor : ℕ) (es : List Expr) → is_signed_kind kind ≡ true → length es ≡ 2 → is_signed (built kind w ws divisor es) ≡ true
-signed_kinds divs w ws divisor es is two = two_signed _ (λ a b. refl) es two
-signed_kinds mods w ws divisor es is two = two_signed _ (λ a b. refl) es two
-signed_kinds shrs w ws divisor es is two = two_signed _ (λ a b. refl) es two
+signed_kinds (division d) w ws divisor es is two =
+    two_signed _ (λ a b. division_signed (is_signed_division d) (division_operator d) w divisor a (division_context d) is) es two
+signed_kinds (shift s) w ws divisor es is two = two_signed _ (λ a b. shift_signed (is_signed_shift s) (shift_operator s) a b (shift_context s) is) es two
 signed_kinds _ w ws divisor es is two = cc

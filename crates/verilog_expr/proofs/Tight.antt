@@ -5,7 +5,7 @@ use Rattle.wiring.specs.Wiring.{In}
 use Rattle.wiring.proofs.Members.{In-append_cases, from_In-map}
 use Rattle.hw_model.specs.Kinds.{Kind, Predicate}
 use Rattle.hw_model.specs.Kinds.Predicate.{eq, ne, slt, sle, sgt, sge, ult, ule, ugt, uge, ceq, cne, weq, wne}
-use Rattle.hw_model.specs.Kinds.Kind.{add, mul, and, or, xor, sub, divu, modu, divs, mods, shl, shru, shrs, icmp, parity, extract, concat, replicate, mux, constant, bitcast, wire}
+use Rattle.hw_model.specs.Kinds.Kind.{variadic, sub, division, shift, icmp, parity, extract, concat, replicate, mux, constant, bitcast, wire}
 use Rattle.verilog_model.specs.Tree.{Operator, Expr, Exprs}
 use Rattle.verilog_model.specs.Tree.Operator.{times, over, modulo, plus, minus, left_shift, right_shift, signed_right_shift, below, at_most, above, at_least, equals, differs, bit_and, bit_xor, bit_or}
 use Rattle.verilog_model.specs.Tree.Expr.{name, bit_select, part_select, literal, joined, repeated, as_signed, as_unsigned, paren, odd, binary, choice}
@@ -13,7 +13,7 @@ use Rattle.verilog_model.specs.Tree.Exprs.{last, more}
 use Rattle.verilog_model.specs.Grammar.{strength, choice_level, primary_level, level, fits, all_fit}
 use Rattle.verilog_model.specs.Expression.{is_signed}
 use Rattle.verilog_model.proofs.Numerals.{and_intro, and_first, and_second}
-use Rattle.verilog_expr.specs.Building.{literal_of, unsigned, placed, unsigned_at, unsigned_pair, chained, variadic, signed_pair, unsigned_shift, signed_shift, unsigned_division, signed_division, comparison, select, selected, exprs_of, concatenation, conditional, built}
+use Rattle.verilog_expr.specs.Building.{literal_of, unsigned, placed, unsigned_at, unsigned_pair, chained, variadic_expr, signed_pair, unsigned_shift, signed_shift, unsigned_division, signed_division, comparison, select, selected, exprs_of, concatenation, conditional, built, division_expr, shift_expr, variadic_operator, division_operator, shift_operator, is_signed_division, is_signed_shift}
 use Rattle.verilog_expr.specs.Parentheses.{tight_at, all_tight, tight, opened, opened_parts}
 use Rattle.verilog_expr.proofs.Carried.{IsCarried, one_holds, two_hold, three_hold}
 
@@ -77,7 +77,7 @@ chained_tight o a (b ∷ bs) first own all =
     pair_tight o a (unsigned_at (suc (strength o)) b) first (unsigned_at_tight (suc (strength o)) b (all b (inl refl))) in
     chained_tight o (binary o a (unsigned_at (suc (strength o)) b)) bs both both (λ e here. all e (inr here))
 
-variadic_tight : (o : Operator) (es : List Expr) → AreTight es → tight (variadic o es) ≡ true
+variadic_tight : (o : Operator) (es : List Expr) → AreTight es → tight (variadic_expr o es) ≡ true
 variadic_tight o [] all = refl
 variadic_tight o (a ∷ []) all = all a (inl refl)
 variadic_tight o (a ∷ b ∷ bs) all =
@@ -97,6 +97,14 @@ unsigned_division_tight o w divisor a h = pair_tight o (unsigned_at (strength o)
 
 signed_division_tight : (o : Operator) (w divisor : ℕ) (a : Expr) → tight a ≡ true → tight (signed_division o w divisor a) ≡ true
 signed_division_tight o w divisor a h = pair_tight o (as_signed a) (literal_of w true divisor) h refl
+
+division_tight : (b : Bool) (o : Operator) (w divisor : ℕ) (a : Expr) → tight a ≡ true → tight (division_expr b o w divisor a) ≡ true
+division_tight false o w divisor a h = unsigned_division_tight o w divisor a h
+division_tight true o w divisor a h = signed_division_tight o w divisor a h
+
+shift_tight : (s : Bool) (o : Operator) (a b : Expr) → tight a ≡ true → tight b ≡ true → tight (shift_expr s o a b) ≡ true
+shift_tight false o a b first second = unsigned_shift_tight o a b first second
+shift_tight true o a b first second = signed_shift_tight o a b first second
 
 comparison_tight : (p : Predicate) (a b : Expr) → tight a ≡ true → tight b ≡ true → tight (comparison p a b) ≡ true
 comparison_tight eq a b first second = unsigned_pair_tight equals a b first second
@@ -142,19 +150,10 @@ conditional_tight c a b condition first second =
 -- ---- each kind
 
 pub built_tight : (kind : Kind) (w : ℕ) (ws : List ℕ) (divisor : ℕ) (es : List Expr) → AreTight es → tight (built kind w ws divisor es) ≡ true
-built_tight add w ws divisor es all = variadic_tight plus es all
-built_tight mul w ws divisor es all = variadic_tight times es all
-built_tight and w ws divisor es all = variadic_tight bit_and es all
-built_tight or w ws divisor es all = variadic_tight bit_or es all
-built_tight xor w ws divisor es all = variadic_tight bit_xor es all
+built_tight (variadic v) w ws divisor es all = variadic_tight (variadic_operator v) es all
 built_tight sub w ws divisor es all = two_hold tight refl _ (unsigned_pair_tight minus) es all
-built_tight divu w ws divisor es all = two_hold tight refl _ (λ a b h also. unsigned_division_tight over w divisor a h) es all
-built_tight modu w ws divisor es all = two_hold tight refl _ (λ a b h also. unsigned_division_tight modulo w divisor a h) es all
-built_tight divs w ws divisor es all = two_hold tight refl _ (λ a b h also. signed_division_tight over w divisor a h) es all
-built_tight mods w ws divisor es all = two_hold tight refl _ (λ a b h also. signed_division_tight modulo w divisor a h) es all
-built_tight shl w ws divisor es all = two_hold tight refl _ (unsigned_shift_tight left_shift) es all
-built_tight shru w ws divisor es all = two_hold tight refl _ (unsigned_shift_tight right_shift) es all
-built_tight shrs w ws divisor es all = two_hold tight refl _ (signed_shift_tight signed_right_shift) es all
+built_tight (division d) w ws divisor es all = two_hold tight refl _ (λ a b h also. division_tight (is_signed_division d) (division_operator d) w divisor a h) es all
+built_tight (shift s) w ws divisor es all = two_hold tight refl _ (shift_tight (is_signed_shift s) (shift_operator s)) es all
 built_tight (icmp p) w ws divisor es all = two_hold tight refl _ (comparison_tight p) es all
 built_tight parity w ws divisor es all = one_holds tight refl _ (λ a h. placed_tight primary_level a h) es all
 built_tight (extract low) w ws divisor es all = one_holds tight refl _ (λ a h. selected_tight low _ w a h) es all

@@ -3,9 +3,12 @@
 -- other operand stands as it is. Parentheses stand only where the precedence of operators asks for them (5.1.2).
 use Rattle.std.specs.Prelude.{ℕ, suc, ◌+◌, ◌-◌, ◌/◌, Bool, true, false, cond, ◌&&◌, ◌==◌, nat_le, List, [], ◌∷◌, decimal, codes}
 use Rattle.bits_core.specs.Word.{number, bits_of_ℤ}
-use Rattle.hw_model.specs.Kinds.{Kind, Predicate}
+use Rattle.hw_model.specs.Kinds.{Kind, Predicate, Variadic, Division, Shift}
 use Rattle.hw_model.specs.Kinds.Predicate.{eq, ne, slt, sle, sgt, sge, ult, ule, ugt, uge, ceq, cne, weq, wne}
-use Rattle.hw_model.specs.Kinds.Kind.{add, mul, and, or, xor, sub, divu, modu, divs, mods, shl, shru, shrs, icmp, parity, extract, concat, replicate, mux, constant, bitcast, wire}
+use Rattle.hw_model.specs.Kinds.Variadic.{add, mul, and, or, xor}
+use Rattle.hw_model.specs.Kinds.Division.{divu, modu, divs, mods}
+use Rattle.hw_model.specs.Kinds.Shift.{shl, shru, shrs}
+use Rattle.hw_model.specs.Kinds.Kind.{variadic, sub, division, shift, icmp, parity, extract, concat, replicate, mux, constant, bitcast, wire}
 use Rattle.verilog_model.specs.Tree.{Operator, Expr, Exprs}
 use Rattle.verilog_model.specs.Tree.Operator.{times, over, modulo, plus, minus, left_shift, right_shift, signed_right_shift, below, at_most, above, at_least, equals, differs, bit_and, bit_xor, bit_or}
 use Rattle.verilog_model.specs.Tree.Expr.{name, bit_select, part_select, literal, joined, repeated, as_signed, as_unsigned, paren, odd, binary, choice}
@@ -59,10 +62,10 @@ chained o a [] = a
 chained o a (b ∷ bs) = chained o (binary o a (unsigned_at (suc (strength o)) b)) bs
 
 -- one operand stands as it is
-abbrev pub variadic : Operator → List Expr → Expr
-variadic o [] = no_expr
-variadic o (a ∷ []) = a
-variadic o (a ∷ b ∷ bs) = chained o (unsigned_at (strength o) a) (b ∷ bs)
+abbrev pub variadic_expr : Operator → List Expr → Expr
+variadic_expr o [] = no_expr
+variadic_expr o (a ∷ []) = a
+variadic_expr o (a ∷ b ∷ bs) = chained o (unsigned_at (strength o) a) (b ∷ bs)
 
 -- an operator between two operands made signed
 abbrev pub signed_pair : Operator → Expr → Expr → Expr
@@ -81,6 +84,15 @@ unsigned_division o w divisor a = binary o (unsigned_at (strength o) a) (literal
 
 abbrev pub signed_division : Operator → ℕ → ℕ → Expr → Expr
 signed_division o w divisor a = binary o (as_signed a) (literal_of w true divisor)
+
+-- either, signed or not
+abbrev pub division_expr : Bool → Operator → ℕ → ℕ → Expr → Expr
+division_expr false o w divisor a = unsigned_division o w divisor a
+division_expr true o w divisor a = signed_division o w divisor a
+
+abbrev pub shift_expr : Bool → Operator → Expr → Expr → Expr
+shift_expr false o a b = unsigned_shift o a b
+shift_expr true o a b = signed_shift o a b
 
 abbrev pub comparison : Predicate → Expr → Expr → Expr
 comparison eq a b = unsigned_pair equals a b
@@ -124,22 +136,45 @@ abbrev pub first_width : List ℕ → ℕ
 first_width [] = 0
 first_width (w ∷ ws) = w
 
+-- ---- the operators of families (IEEE 1364-2005, 5.1)
+
+abbrev pub variadic_operator : Variadic → Operator
+variadic_operator add = plus
+variadic_operator mul = times
+variadic_operator and = bit_and
+variadic_operator or = bit_or
+variadic_operator xor = bit_xor
+
+abbrev pub division_operator : Division → Operator
+division_operator divu = over
+division_operator modu = modulo
+division_operator divs = over
+division_operator mods = modulo
+
+abbrev pub shift_operator : Shift → Operator
+shift_operator shl = left_shift
+shift_operator shru = right_shift
+shift_operator shrs = signed_right_shift
+
+-- whether the operands are made signed
+abbrev pub is_signed_division : Division → Bool
+is_signed_division divs = true
+is_signed_division mods = true
+is_signed_division _ = false
+
+abbrev pub is_signed_shift : Shift → Bool
+is_signed_shift shrs = true
+is_signed_shift _ = false
+
+-- ---- kinds
+
 -- the expression of an operation of a kind with a result of w bits, its operands' widths and expressions being `ws` and
 -- `es`, and `divisor` the number of the constant that it divides by
 abbrev pub built : Kind → ℕ → List ℕ → ℕ → List Expr → Expr
-built add w ws divisor es = variadic plus es
-built mul w ws divisor es = variadic times es
-built and w ws divisor es = variadic bit_and es
-built or w ws divisor es = variadic bit_or es
-built xor w ws divisor es = variadic bit_xor es
+built (variadic v) w ws divisor es = variadic_expr (variadic_operator v) es
 built sub w ws divisor es = of_two_exprs (unsigned_pair minus) es
-built divu w ws divisor es = of_two_exprs (λ a b. unsigned_division over w divisor a) es
-built modu w ws divisor es = of_two_exprs (λ a b. unsigned_division modulo w divisor a) es
-built divs w ws divisor es = of_two_exprs (λ a b. signed_division over w divisor a) es
-built mods w ws divisor es = of_two_exprs (λ a b. signed_division modulo w divisor a) es
-built shl w ws divisor es = of_two_exprs (unsigned_shift left_shift) es
-built shru w ws divisor es = of_two_exprs (unsigned_shift right_shift) es
-built shrs w ws divisor es = of_two_exprs (signed_shift signed_right_shift) es
+built (division d) w ws divisor es = of_two_exprs (λ a b. division_expr (is_signed_division d) (division_operator d) w divisor a) es
+built (shift s) w ws divisor es = of_two_exprs (shift_expr (is_signed_shift s) (shift_operator s)) es
 built (icmp p) w ws divisor es = of_two_exprs (comparison p) es
 built parity w ws divisor es = of_one_expr (λ a. odd (placed primary_level a)) es
 built (extract low) w ws divisor es = of_one_expr (selected low (first_width ws) w) es

@@ -31,6 +31,26 @@ operator_of signs.BitAnd = bit_and
 operator_of signs.BitXor = bit_xor
 operator_of signs.BitOr = bit_or
 
+-- the value of code that stands for an operator
+abbrev pub operator_in_code : tree.Operator → Operator
+operator_in_code times = signs.Times
+operator_in_code over = signs.Over
+operator_in_code modulo = signs.Modulo
+operator_in_code plus = signs.Plus
+operator_in_code minus = signs.Minus
+operator_in_code left_shift = signs.LeftShift
+operator_in_code right_shift = signs.RightShift
+operator_in_code signed_right_shift = signs.SignedRightShift
+operator_in_code below = signs.Below
+operator_in_code at_most = signs.AtMost
+operator_in_code above = signs.Above
+operator_in_code at_least = signs.AtLeast
+operator_in_code equals = signs.Equals
+operator_in_code differs = signs.Differs
+operator_in_code bit_and = signs.BitAnd
+operator_in_code bit_xor = signs.BitXor
+operator_in_code bit_or = signs.BitOr
+
 -- ---- the places of operands
 
 -- whether the operand of a number is to be unsigned

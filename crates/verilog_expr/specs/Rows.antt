@@ -3,13 +3,13 @@ use Rattle.std.specs.Prelude.{ℕ, ◌/◌, Bool, true, false, cond, ◌&&◌, �
 use Rattle.bits_core.specs.Word.{number, bits_of_ℤ}
 use Rattle.hw_model.specs.Kinds.{Kind, Predicate}
 use Rattle.hw_model.specs.Kinds.Predicate.{eq, ne, slt, sle, sgt, sge, ult, ule, ugt, uge, ceq, cne, weq, wne}
-use Rattle.hw_model.specs.Kinds.Kind.{add, mul, and, or, xor, sub, divu, modu, divs, mods, shl, shru, shrs, icmp, parity, extract, concat, replicate, mux, constant, bitcast, wire}
+use Rattle.hw_model.specs.Kinds.Kind.{variadic, sub, division, shift, icmp, parity, extract, concat, replicate, mux, constant, bitcast, wire}
 use Rattle.verilog_model.specs.Tree.{Expr}
 use Rattle.verilog_model.specs.Grammar.{level, strength}
 use Rattle.verilog_model.specs.Expression.{is_signed}
-use Rattle.verilog_expr.specs.Building.{no_expr, literal_of, of_one_expr, select}
+use Rattle.verilog_expr.specs.Building.{no_expr, literal_of, of_one_expr, select, variadic_operator, division_operator, shift_operator, is_signed_division, is_signed_shift}
 use Rattle.verilog_expr.specs.Text.{expr_text}
-use Rattle.verilog_expr.specs.Forms.{operator_of, form_text}
+use Rattle.verilog_expr.specs.Forms.{operator_of, operator_in_code, form_text}
 use Rattle.verilog_expr.specs.declared.form.Operator.{Operator}
 use Rattle.verilog_expr.specs.declared.form.Operator.TheVariants as signs
 use Rattle.verilog_expr.specs.declared.form.Form.{Form}
@@ -41,6 +41,14 @@ comparison_form cne = Chain signs.Differs
 comparison_form weq = Chain signs.Equals
 comparison_form wne = Chain signs.Differs
 
+abbrev pub division_form : Bool → Operator → ℕ → ℕ → Form
+division_form false o w divisor = UnsignedDivision o w divisor
+division_form true o w divisor = SignedDivision o w divisor
+
+abbrev pub shift_form : Bool → Operator → Form
+shift_form false o = UnsignedShift o
+shift_form true o = SignedShift o
+
 -- all bits of an operand are the operand, fewer are a select of its name
 abbrev pub extract_row : ℕ → ℕ → ℕ → ℕ → Row
 extract_row n low w operand_width = cond (n == 1) (cond (low == 0 && w == operand_width) (Operands Same) (Select low w)) Missing
@@ -48,19 +56,10 @@ extract_row n low w operand_width = cond (n == 1) (cond (low == 0 && w == operan
 -- the row of an operation of a kind with a result of w bits and n operands, of which the first has v bits, and `divisor`
 -- the number of the constant that it divides by
 abbrev pub row_for : Kind → ℕ → ℕ → ℕ → ℕ → Row
-row_for add w v divisor n = chain_row n signs.Plus
-row_for mul w v divisor n = chain_row n signs.Times
-row_for and w v divisor n = chain_row n signs.BitAnd
-row_for or w v divisor n = chain_row n signs.BitOr
-row_for xor w v divisor n = chain_row n signs.BitXor
+row_for (variadic o) w v divisor n = chain_row n (operator_in_code (variadic_operator o))
 row_for sub w v divisor n = row_of_count n 2 (Chain signs.Minus)
-row_for divu w v divisor n = row_of_count n 2 (UnsignedDivision signs.Over w divisor)
-row_for modu w v divisor n = row_of_count n 2 (UnsignedDivision signs.Modulo w divisor)
-row_for divs w v divisor n = row_of_count n 2 (SignedDivision signs.Over w divisor)
-row_for mods w v divisor n = row_of_count n 2 (SignedDivision signs.Modulo w divisor)
-row_for shl w v divisor n = row_of_count n 2 (UnsignedShift signs.LeftShift)
-row_for shru w v divisor n = row_of_count n 2 (UnsignedShift signs.RightShift)
-row_for shrs w v divisor n = row_of_count n 2 (SignedShift signs.SignedRightShift)
+row_for (division d) w v divisor n = row_of_count n 2 (division_form (is_signed_division d) (operator_in_code (division_operator d)) w divisor)
+row_for (shift s) w v divisor n = row_of_count n 2 (shift_form (is_signed_shift s) (operator_in_code (shift_operator s)))
 row_for (icmp p) w v divisor n = row_of_count n 2 (comparison_form p)
 row_for parity w v divisor n = row_of_count n 1 Parity
 row_for (extract low) w v divisor n = extract_row n low w v

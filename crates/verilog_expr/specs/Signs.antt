@@ -2,11 +2,12 @@
 use Rattle.std.specs.Prelude.{ℕ, Bool, true, false, not, ◌&&◌, ◌==◌}
 use Rattle.hw_model.specs.Kinds.{Kind, Predicate}
 use Rattle.hw_model.specs.Kinds.Predicate.{slt, sle, sgt, sge}
-use Rattle.hw_model.specs.Kinds.Kind.{add, mul, and, or, xor, sub, divu, modu, divs, mods, shl, shru, shrs, icmp, mux}
+use Rattle.hw_model.specs.Kinds.Kind.{variadic, sub, division, shift, icmp, mux}
 use Rattle.verilog_model.specs.Tree.{Expr, Exprs}
 use Rattle.verilog_model.specs.Tree.Expr.{name, bit_select, part_select, literal, joined, repeated, as_signed, as_unsigned, paren, odd, binary, choice}
 use Rattle.verilog_model.specs.Tree.Exprs.{last, more}
 use Rattle.verilog_model.specs.Expression.{Context, context_of, is_signed}
+use Rattle.verilog_expr.specs.Building.{is_signed_division, is_signed_shift}
 use Rattle.verilog_model.specs.Expression.Context.{both_operands, left_operand, no_operand}
 
 -- whether both hold or neither does
@@ -46,9 +47,8 @@ abbrev mutual
 -- whether the expression of an operation is signed: of a signed division or shift. An operand that stands as it is keeps its
 -- own sign
 abbrev pub is_signed_kind : Kind → Bool
-is_signed_kind divs = true
-is_signed_kind mods = true
-is_signed_kind shrs = true
+is_signed_kind (division d) = is_signed_division d
+is_signed_kind (shift s) = is_signed_shift s
 is_signed_kind _ = false
 
 abbrev pub is_signed_order : Predicate → Bool
@@ -61,16 +61,10 @@ is_signed_order _ = false
 -- whether the operand of a number stands where an unsigned one is asked for: all of arithmetic and bitwise operators, of
 -- unsigned divisions and comparisons, what is shifted without its sign, and both values of a choice
 abbrev pub is_unsigned_place : Kind → ℕ → Bool
-is_unsigned_place add i = true
-is_unsigned_place mul i = true
-is_unsigned_place and i = true
-is_unsigned_place or i = true
-is_unsigned_place xor i = true
+is_unsigned_place (variadic v) i = true
 is_unsigned_place sub i = true
-is_unsigned_place divu i = true
-is_unsigned_place modu i = true
-is_unsigned_place shl i = i == 0
-is_unsigned_place shru i = i == 0
+is_unsigned_place (division d) i = not (is_signed_division d)
+is_unsigned_place (shift s) i = not (is_signed_shift s) && (i == 0)
 is_unsigned_place (icmp p) i = not (is_signed_order p)
 is_unsigned_place mux i = not (i == 0)
 is_unsigned_place _ i = false

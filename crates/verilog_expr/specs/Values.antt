@@ -4,7 +4,7 @@ use Rattle.wiring.specs.Wiring.{In}
 use Rattle.bits_core.specs.Word.{Word, bits, bits_of_ℤ}
 use Rattle.hw_model.specs.Types.{Name, HwType, width}
 use Rattle.hw_model.specs.Kinds.{Kind}
-use Rattle.hw_model.specs.Kinds.Kind.{add, mul, and, or, xor, divu, modu, divs, mods, constant, aggregate_constant, array_create, array_concat, array_get, array_slice, array_inject, struct_create, struct_extract, struct_inject, struct_explode}
+use Rattle.hw_model.specs.Kinds.Kind.{variadic, division, constant, aggregate_constant, on_array, on_struct}
 use Rattle.hw_model.specs.Design.{Ref, Port, Op, instance_in, is_output_kind, register_form, is_instance, is_register, is_output_op, result_type}
 use Rattle.hw_model.specs.Design.Ref.{port, result}
 use Rattle.hw_model.specs.Flat.{width_of}
@@ -38,31 +38,17 @@ pub record IsWholeName (widths : Name → ℕ) (ρ : Name → Word) (e : Expr) :
 -- whether a kind is of aggregates
 abbrev pub is_aggregate_kind : Kind → Bool
 is_aggregate_kind (aggregate_constant ls) = true
-is_aggregate_kind array_create = true
-is_aggregate_kind array_concat = true
-is_aggregate_kind array_get = true
-is_aggregate_kind array_slice = true
-is_aggregate_kind array_inject = true
-is_aggregate_kind struct_create = true
-is_aggregate_kind (struct_extract f) = true
-is_aggregate_kind (struct_inject f) = true
-is_aggregate_kind struct_explode = true
+is_aggregate_kind (on_array a) = true
+is_aggregate_kind (on_struct s) = true
 is_aggregate_kind _ = false
 
 abbrev pub is_division : Kind → Bool
-is_division divu = true
-is_division modu = true
-is_division divs = true
-is_division mods = true
+is_division (division d) = true
 is_division _ = false
 
 -- whether a kind takes any number of operands, from one on, of its result's type
 abbrev pub is_variadic : Kind → Bool
-is_variadic add = true
-is_variadic mul = true
-is_variadic and = true
-is_variadic or = true
-is_variadic xor = true
+is_variadic (variadic v) = true
 is_variadic _ = false
 
 -- whether a kind gives no value from its operands' values: a register's, an instance's, a module's output

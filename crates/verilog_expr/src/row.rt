@@ -2,10 +2,14 @@
 ghost use Rattle.std.specs.Prelude.{◌≡◌, ◌<◌, ◌/◌};
 ghost use Rattle.bits_core.specs.Word.{number, bits_of_ℤ};
 ghost use Rattle.hw_model.specs.KindViews.{kind_of, predicate_of, integer_of};
-ghost use Rattle.verilog_expr.specs.Rows.{chain_row, row_of_count, comparison_form, extract_row, row_for};
+ghost use Rattle.hw_model.specs.FamilyViews.{family_of, variadic_of, division_of, shift_of};
+ghost use Rattle.verilog_expr.specs.Building.{variadic_operator, division_operator, shift_operator, is_signed_division, is_signed_shift};
+ghost use Rattle.verilog_expr.specs.Forms.{operator_in_code};
+ghost use Rattle.verilog_expr.specs.Rows.{chain_row, row_of_count, division_form, shift_form, comparison_form, extract_row, row_for};
 
 use crate::form::{Form, Operator};
-use hw_model::integer_values::op_value;
+use hw_model::families::{Division, Family, Shift, Variadic};
+use hw_model::integer_values::family_value;
 use hw_model::kinds::{Integer, OpKind, Predicate};
 
 /// What an operation's expression is.
@@ -29,7 +33,7 @@ pub fn constant_number(width: u64, value: Integer) -> u128
     if width == 0 {
         return 0;
     }
-    op_value(&OpKind::Constant(value), width as u32, &[]).value()
+    family_value(Family::Constant(value), width as u32, &[]).value()
 }
 
 // An operator between any number of operands.
@@ -53,6 +57,42 @@ fn row_of_count(count: usize, wanted: usize, form: Form) -> Row
         Row::Operands(form)
     } else {
         Row::Missing
+    }
+}
+
+// The operator of any number of operands.
+fn variadic_operator(op: Variadic) -> Operator
+    ensures { result ≡ operator_in_code (variadic_operator (variadic_of op)) }
+{
+    match op {
+        Variadic::Add => Operator::Plus,
+        Variadic::Mul => Operator::Times,
+        Variadic::And => Operator::BitAnd,
+        Variadic::Or => Operator::BitOr,
+        Variadic::Xor => Operator::BitXor,
+    }
+}
+
+// The form of a division by a number.
+fn division_form(op: Division, width: u64, divisor: u128) -> Form
+    ensures { result ≡ division_form (is_signed_division (division_of op)) (operator_in_code (division_operator (division_of op))) width divisor }
+{
+    match op {
+        Division::Divu => Form::UnsignedDivision(Operator::Over, width, divisor),
+        Division::Modu => Form::UnsignedDivision(Operator::Modulo, width, divisor),
+        Division::Divs => Form::SignedDivision(Operator::Over, width, divisor),
+        Division::Mods => Form::SignedDivision(Operator::Modulo, width, divisor),
+    }
+}
+
+// The form of a shift.
+fn shift_form(op: Shift) -> Form
+    ensures { result ≡ shift_form (is_signed_shift (shift_of op)) (operator_in_code (shift_operator (shift_of op))) }
+{
+    match op {
+        Shift::Shl => Form::UnsignedShift(Operator::LeftShift),
+        Shift::Shru => Form::UnsignedShift(Operator::RightShift),
+        Shift::Shrs => Form::SignedShift(Operator::SignedRightShift),
     }
 }
 
@@ -104,58 +144,39 @@ pub fn row_for(kind: &OpKind, width: u64, operand_width: u64, divisor: u128, cou
     requires { width < 129 }
     ensures { result ≡ row_for (kind_of kind.now) width operand_width divisor count }
 {
-    match kind {
-        OpKind::Add => chain_row(count, Operator::Plus),
-        OpKind::Mul => chain_row(count, Operator::Times),
-        OpKind::And => chain_row(count, Operator::BitAnd),
-        OpKind::Or => chain_row(count, Operator::BitOr),
-        OpKind::Xor => chain_row(count, Operator::BitXor),
-        OpKind::Sub => row_of_count(count, 2, Form::Chain(Operator::Minus)),
-        OpKind::Divu => {
-            row_of_count(
-                count,
-                2,
-                Form::UnsignedDivision(Operator::Over, width, divisor),
-            )
-        }
-        OpKind::Modu => {
-            row_of_count(
-                count,
-                2,
-                Form::UnsignedDivision(Operator::Modulo, width, divisor),
-            )
-        }
-        OpKind::Divs => {
-            row_of_count(
-                count,
-                2,
-                Form::SignedDivision(Operator::Over, width, divisor),
-            )
-        }
-        OpKind::Mods => {
-            row_of_count(
-                count,
-                2,
-                Form::SignedDivision(Operator::Modulo, width, divisor),
-            )
-        }
-        OpKind::Shl => row_of_count(count, 2, Form::UnsignedShift(Operator::LeftShift)),
-        OpKind::Shru => row_of_count(count, 2, Form::UnsignedShift(Operator::RightShift)),
-        OpKind::Shrs => row_of_count(count, 2, Form::SignedShift(Operator::SignedRightShift)),
-        OpKind::Icmp(predicate) => row_of_count(count, 2, comparison_form(*predicate)),
-        OpKind::Parity => row_of_count(count, 1, Form::Parity),
-        OpKind::Extract(low) => extract_row(count, *low, width, operand_width),
-        OpKind::Concat => {
+    family_row(kind.family(), width, operand_width, divisor, count)
+}
+
+// The same, by the family.
+fn family_row(
+    family: Family<'_>,
+    width: u64,
+    operand_width: u64,
+    divisor: u128,
+    count: usize,
+) -> Row
+    requires { width < 129 }
+    ensures { result ≡ row_for (family_of family.entry) width operand_width divisor count }
+{
+    match family {
+        Family::Variadic(op) => chain_row(count, variadic_operator(op)),
+        Family::Sub => row_of_count(count, 2, Form::Chain(Operator::Minus)),
+        Family::Division(op) => row_of_count(count, 2, division_form(op, width, divisor)),
+        Family::Shift(op) => row_of_count(count, 2, shift_form(op)),
+        Family::Icmp(predicate) => row_of_count(count, 2, comparison_form(predicate)),
+        Family::Parity => row_of_count(count, 1, Form::Parity),
+        Family::Extract(low) => extract_row(count, low, width, operand_width),
+        Family::Concat => {
             if count == 0 {
                 Row::Missing
             } else {
                 Row::Operands(Form::Braces)
             }
         }
-        OpKind::Replicate => row_of_count(count, 1, Form::Copies(copies(width, operand_width))),
-        OpKind::Mux => row_of_count(count, 3, Form::Choice),
-        OpKind::Constant(value) => Row::Number(width, constant_number(width, *value)),
-        OpKind::Bitcast | OpKind::Wire => row_of_count(count, 1, Form::Same),
+        Family::Replicate => row_of_count(count, 1, Form::Copies(copies(width, operand_width))),
+        Family::Mux => row_of_count(count, 3, Form::Choice),
+        Family::Constant(value) => Row::Number(width, constant_number(width, value)),
+        Family::Bitcast | Family::Wire => row_of_count(count, 1, Form::Same),
         _ => Row::Missing,
     }
 }

@@ -13,7 +13,7 @@ pub returns-then-has_aggregate : goal.returns-then-has_aggregate
 returns-then-has_aggregate c =
     let o = op_view c.args.body.now c.op_at-op.result in
     body_refused (numbered (ops_of c.args.body.now)) c.loop-place.place o c.refused_at-refusal.result _ c.op_at-op.ensures (sym (c.has_aggregate.ensures c.args.body.now) ∙ c.if-has_aggregate.true)
-    (c.refused_at-refusal.ensures ∙ ap (λ (l : Listed). refused_at (place_of c.op_at-op.result.place) l OutsideProfile) c.listed_of.ensures) c.loop-place.invariant
+    (c.refused_at-refusal.ensures ∙ ap (λ (l : Listed). refused_at (place_of c.op_at-op.result.place) l OutsideProfile) c.listed.ensures) c.loop-place.invariant
 
 pub loop-place-preserved : goal.loop-place-preserved
 loop-place-preserved c =

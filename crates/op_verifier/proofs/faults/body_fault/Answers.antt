@@ -23,7 +23,7 @@ returns-in-Some c =
     (from_here (position_viewed v) v.entries.items i e less is)
     (is_last (position_viewed v) v.entries.items i c.len-count.result less all)
     (sym c.in_ok-cause.ensures ∙ c.in-Some.is)
-    (c.refused_at.ensures ∙ ap (λ (l : Listed). refused_at (place_of e.op.place) l c.in-Some.cause) c.listed_of-name.ensures)
+    (c.refused_at.ensures ∙ ap (λ (l : Listed). refused_at (place_of e.op.place) l c.in-Some.cause) c.listed-name.ensures)
     c.loop-place.invariant
 
 pub loop-place-preserved : goal.loop-place-preserved

@@ -1,7 +1,7 @@
 use Rattle.std.proofs.Common.{map, sym, ◌∙◌}
 use Rattle.std.proofs.lemmas.List.{length-map}
 use Rattle.hw_model.specs.TypeViews.{type_of}
-use Rattle.hw_model.specs.KindViews.{kind_of}
+use Rattle.hw_model.specs.FamilyViews.{family_of}
 use Rattle.ir_store.specs.declared.operation.NewResult.{NewResult}
 use Rattle.ir_store.specs.ResultTypes.{result_type}
 use Rattle.op_verifier.proofs.Owned.{one_owned, denied}
@@ -9,6 +9,6 @@ use Rattle.op_verifier.proofs.settled_types.is_own.Goals as goal
 
 pub returns-then-is_settled : goal.returns-then-is_settled
 returns-then-is_settled c =
-    λ each. one_owned (map (λ (r : NewResult). type_of r.ty) c.args.results.now) (result_type (kind_of c.args.kind.now) (map type_of c.args.types.now) c.args.operands)
+    λ each. one_owned (map (λ (r : NewResult). type_of r.ty) c.args.results.now) (result_type (family_of c.args.family) (map type_of c.args.types.now) c.args.operands)
     (length-map c.args.results.now (λ (r : NewResult). type_of r.ty) ∙ c.if-results-eq1.true) (sym c.is_settled.ensures ∙ c.if-is_settled.true)
     (sym c.single_differs.ensures ∙ denied c.single_differs.result each)

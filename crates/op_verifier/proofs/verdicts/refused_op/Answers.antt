@@ -5,7 +5,8 @@ use Rattle.ir_store.specs.Bodies.{read_op}
 use Rattle.ir_store.specs.OperationViews.{place_of}
 use Rattle.ir_store.specs.Designs.{StoredModule, module_of}
 use Rattle.design_cycles.specs.Places.{ids_of_module}
-use Rattle.op_verifier.specs.Faults.{refused_at, listed_of}
+use Rattle.hw_model.specs.Opcodes.{opcode_of}
+use Rattle.op_verifier.specs.Faults.{refused_at}
 use Rattle.op_verifier.proofs.WholeDesigns.{some_from}
 use Rattle.op_verifier.proofs.verdicts.refused_op.Goals as goal
 
@@ -16,5 +17,5 @@ pub returns : goal.returns
 returns c = λ m o there is.
     let e : module_of c.module.result.now ≡ m = some_from (c.module.ensures ∙ there) in
     let f : read_op c.args.at.op c.op-op.result ≡ o = some_from (sym c.op-op.ensures ∙ ap (λ (x : StoredModule). op_at x.ops c.args.at.op.index) e ∙ is) in
-    c.refused_at.ensures ∙ ap (λ (l : Listed). refused_at (place_of c.op-op.result.place) l c.args.cause) c.listed_of.ensures
-    ∙ ap (λ (x : BodyOp). refused_at x.parts.place (listed_of x.parts.kind) c.args.cause) f
+    c.refused_at.ensures ∙ ap (λ (l : Listed). refused_at (place_of c.op-op.result.place) l c.args.cause) c.listed.ensures
+    ∙ ap (λ (x : BodyOp). refused_at x.parts.place (opcode_of x.parts.kind) c.args.cause) f

@@ -1,0 +1,77 @@
+#!/usr/bin/env python3
+"""How many places name an operation.
+
+usage: python3 bench/operation_rows.py [FOLDER]     (FOLDER: a checkout, by default this one)
+
+For each of three operations (a shift, the comparison, one of structs) it counts the files and the rows that name it, in
+code (src/*.rt), definitions (specs/*.antt) and proofs (proofs/**/*.antt). A row is a line that is no comment and no import
+(`use`); crates of tests, of examples and of words (`bits_core`, whose calls have the operations' names) do not count. Beside
+each number of rows stands how many of them do more than list the operation or give its name: neither a line of an enum or
+of a data type, nor one of the crate `opcode`.
+"""
+import os
+import re
+import sys
+
+TOP = sys.argv[1] if len(sys.argv) > 1 else os.path.join(os.path.dirname(os.path.abspath(__file__)), "..")
+
+# what names each operation: in code, in definitions, in texts
+OPERATIONS = {
+    "comb.shl": r"\bShl\b|\bCombShl\b|(?<![\w.\-])shl(?![\w\-(])",
+    "comb.icmp": r"\bIcmp\b|\bCombIcmp\b|(?<![\w.\-])icmp(?![\w\-(])",
+    "hw.struct_extract": r"\bStructExtract\b|\bHwStructExtract\b|\bStructOp::Extract\b|\bstructs\.Extract\b|(?<![\w.\-])struct_extract(?![\w\-(])",
+}
+
+# a line that only lists names: a variant, constructors of a data type, an entry of a list of opcodes
+LISTED = re.compile(r"^\s*(\w+(\([^)]*\))?,|[a-z_ ]+ : [A-Z]\w*( → [A-Z]\w*)*|\w+ : .* → \w+|Listed::\w+,)$")
+
+
+def is_counted(crate):
+    return not (crate.endswith("_tests") or crate in ("circt_examples", "bits_core"))
+
+
+def files():
+    crates = os.path.join(TOP, "crates")
+    for crate in sorted(os.listdir(crates)):
+        if not is_counted(crate):
+            continue
+        for part, ending in (("src", ".rt"), ("specs", ".antt"), ("proofs", ".antt")):
+            for folder, _, names in os.walk(os.path.join(crates, crate, part)):
+                for name in sorted(names):
+                    if name.endswith(ending):
+                        yield crate, part, os.path.join(folder, name)
+
+
+def rows(path):
+    with open(path, encoding="utf-8") as text:
+        for line in text:
+            line = line.rstrip("\n")
+            bare = line.strip()
+            if bare.startswith(("--", "//", "use ", "ghost use ", "pub use ")):
+                continue
+            yield line
+
+
+def main():
+    print(f"{'operation':20}{'files':>7}{'rows':>7}{'acting':>8}   by part: rows (acting)")
+    for operation, pattern in OPERATIONS.items():
+        named = re.compile(pattern)
+        where, total, acting = set(), 0, 0
+        parts = {"src": [0, 0], "specs": [0, 0], "proofs": [0, 0]}
+        for crate, part, path in files():
+            for line in rows(path):
+                if not named.search(line):
+                    continue
+                where.add(path)
+                total += 1
+                parts[part][0] += 1
+                if crate != "opcode" and not path.endswith("diag/src/listed.rt") and not path.endswith("diag/specs/Listed.antt") and not LISTED.match(line):
+                    acting += 1
+                    parts[part][1] += 1
+                    if "-v" in sys.argv:
+                        print(f"    {os.path.relpath(path, TOP)}: {line.strip()[:140]}")
+        said = ", ".join(f"{name} {a} ({b})" for name, (a, b) in parts.items())
+        print(f"{operation:20}{len(where):>7}{total:>7}{acting:>8}   {said}")
+
+
+main()
