@@ -21,14 +21,14 @@ use crate::pieces::{push_pieces, push_value_name};
 use crate::said::{Pending, Said, said_of};
 use crate::value_names::ValueNames;
 use crate::wanted::{is_pack, name_count};
-use opcode::listed::Listed;
+use assembly_format::pieces::{Piece, Shape};
+use assembly_format::shapes::{front_pieces, shape_of, type_pieces};
 use hw_model::kinds::OpKind;
 use hw_model::types::Ty;
 use io_edge::byte_text::Text;
 use ir_store::body::{Body, Op};
-use assembly_format::pieces::{Piece, Shape};
-use assembly_format::shapes::{front_pieces, shape_of, type_pieces};
 use op_verifier::listed_of;
+use opcode::listed::Listed;
 use std::alloc::AllocError;
 
 // Whether what is said of a constant is printed as `true` or `false`.

@@ -16,12 +16,12 @@ use crate::said::{Pending, Said};
 use crate::strings::{push_name, push_string, push_symbol};
 use crate::types::{push_type, push_types};
 use crate::value_names::ValueNames;
+use assembly_format::pieces::{Keyword, Piece};
 use hw_model::kinds::{Instance, Predicate};
 use hw_model::types::Ty;
 use io_edge::byte_text::Text;
 use ir_store::operation::Value;
 use mlir_lexer::token::TokenKind;
-use assembly_format::pieces::{Keyword, Piece};
 use std::alloc::AllocError;
 
 // A mark with the blanks round it.

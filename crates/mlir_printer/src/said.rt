@@ -7,10 +7,10 @@ ghost use Rattle.mlir_printer.specs.Texts.{reset_extra, extra_shown};
 ghost use Rattle.mlir_printer.specs.Views.{extra_of};
 
 use crate::numbers::shown_by_first;
+use assembly_format::pieces::Piece;
 use hw_model::kinds::{Instance, Integer, LiteralList, OpKind, Predicate, Reset};
 use hw_model::types::Ty;
 use ir_store::operation::Value;
-use assembly_format::pieces::Piece;
 
 /// What an operation says besides its operands and types.
 #[derive(Clone, Copy)]

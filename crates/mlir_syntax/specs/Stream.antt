@@ -1,5 +1,5 @@
 -- A text as a reader meets it: tokens, and behind the last one the end of the text, or a byte that begins no token.
-use Rattle.std.specs.Prelude.{ℕ, Bool, false, cond, ◌&&◌, nat_eq, List, [], ◌∷◌, length, Option, Some, None, Result, Ok, Err, codes}
+use Rattle.std.specs.Prelude.{ℕ, Bool, false, cond, ◌&&◌, List, [], ◌∷◌, length, Option, Some, None, Result, Ok, Err, codes}
 use Rattle.diag.specs.Place.{place_of}
 use Rattle.diag.specs.declared.refusal.Place.{Place}
 use Rattle.diag.specs.declared.refusal.Refusal.{Refusal}
@@ -8,6 +8,7 @@ use Rattle.diag.specs.declared.cause.Cause.{Cause}
 use Rattle.diag.specs.declared.cause.Cause.TheVariants.{BadByte, Unexpected, OutsideProfile}
 use Rattle.hw_model.specs.Design.{same_name}
 use Rattle.mlir_lexer.specs.Tokens.{Lexeme, tokens}
+use Rattle.mlir_lexer.specs.TokenKinds.{is_kind}
 use Rattle.mlir_lexer.specs.declared.token.TokenKind.{TokenKind}
 use Rattle.mlir_lexer.specs.declared.token.TokenKind.TheVariants as kind
 
