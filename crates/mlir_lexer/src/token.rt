@@ -1,4 +1,7 @@
 //! A token, and its kinds.
+ghost use Rattle.std.specs.Prelude.{◌≡◌};
+ghost use Rattle.mlir_lexer.specs.TokenKinds.{is_kind, tag};
+
 use diag::refusal::Place;
 
 /// The kinds of tokens (MLIR language reference, "Lexical conventions" and "Identifiers").
