@@ -13,6 +13,7 @@ pub mod Operands
 pub mod SameLiterals
 pub mod Samples
 mod Values
+pub mod Opcodes
 pub mod Places
 pub mod Weights
 pub mod Content

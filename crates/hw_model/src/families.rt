@@ -1,7 +1,8 @@
 //! The families of operations, and the opcode of each.
 ghost use Rattle.std.specs.Prelude.{◌≡◌, option_map};
+ghost use Rattle.hw_model.specs.Design.{takes_enable};
 ghost use Rattle.hw_model.specs.KindViews.{kind_of};
-ghost use Rattle.hw_model.specs.FamilyViews.{family_of};
+ghost use Rattle.hw_model.specs.FamilyViews.{family_of, register_op_of};
 ghost use Rattle.hw_model.specs.Opcodes.{opcode_of, kind_named_by};
 
 use crate::kinds::{Instance, Integer, LiteralList, OpKind, Predicate, Reset};
@@ -84,6 +85,18 @@ pub enum RegisterOp {
     CompRegCe,
     /// `seq.firreg`
     FirReg,
+}
+
+impl RegisterOp {
+    /// Whether the register has an enable.
+    pub fn takes_enable(self) -> bool
+        ensures { result ≡ takes_enable (register_op_of self) }
+    {
+        match self {
+            RegisterOp::CompReg | RegisterOp::FirReg => false,
+            RegisterOp::CompRegCe => true,
+        }
+    }
 }
 
 /// The family of an operation: what its types, operands and text have in common with those of others, with what its

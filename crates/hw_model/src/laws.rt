@@ -1,9 +1,11 @@
 //! The laws on what a design means, each a clause of a function that does nothing.
 
-ghost use Rattle.std.specs.Prelude.{◌≡◌, ℕ, List, Option, Some, None, length, ◌≤◌};
+ghost use Rattle.std.specs.Prelude.{◌≡◌, ◌⊎◌, ℕ, List, Option, Some, None, length, ◌≤◌};
 ghost use Rattle.bits_core.specs.Word.{Word};
 ghost use Rattle.hw_model.specs.Types.{Name, HwType, width};
+ghost use Rattle.opcode.specs.declared.listed.Listed.{Listed};
 ghost use Rattle.hw_model.specs.Kinds.{Kind};
+ghost use Rattle.hw_model.specs.Opcodes.{opcode_of, kind_named_by};
 ghost use Rattle.hw_model.specs.Design.{Ref, Module, Design, IsSameDesign, find_module, instance_in, register_form};
 ghost use Rattle.hw_model.specs.Value.{op_value};
 ghost use Rattle.hw_model.specs.Flat.{Path, Net, net, module_at, state};
@@ -72,4 +74,11 @@ pub fn weights_follow_bodies()
     ensures { (d e : Design) → length e ≡ length d
         → ((s : Name) (inner : Name → ℕ) → weight_of inner (find_module e s) ≤ weight_of inner (find_module d s))
         → (s : Name) → weight e s ≤ weight d s }
+{}
+
+/// Does nothing. Its clauses say that an operation whose opcode alone tells its kind is found again by it, and that a kind
+/// that is told by an opcode has that opcode.
+pub fn opcodes_tell_kinds()
+    ensures found { (kind : Kind) → (kind_named_by (opcode_of kind) ≡ Some kind) ⊎ (kind_named_by (opcode_of kind) ≡ None) }
+    ensures opcode { (listed : Listed) (kind : Kind) → kind_named_by listed ≡ Some kind → opcode_of kind ≡ listed }
 {}

@@ -16,6 +16,6 @@ mod same_kinds;
 pub mod types;
 
 pub use laws::{
-    heights_are_acyclic, one_map_settles, places_decide_nothing, same_behaviour,
-    weights_follow_bodies, widths_fit_types,
+    heights_are_acyclic, one_map_settles, opcodes_tell_kinds, places_decide_nothing,
+    same_behaviour, weights_follow_bodies, widths_fit_types,
 };

@@ -152,11 +152,11 @@ fn predicate_number(predicate: Predicate) -> u32
     }
 }
 
-// whether two opcodes are one
+// whether two opcodes are one: whether they have one name
 fn same_opcode(a: Listed, b: Listed) -> bool
     ensures { result ≡ same_opcode a b }
 {
-    a == b
+    a.name() == b.name()
 }
 
 #[cycle(same_literal)]

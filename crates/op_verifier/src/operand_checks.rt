@@ -3,9 +3,8 @@ ghost use Rattle.std.specs.Prelude.{◌≡◌, ◌<◌, map};
 ghost use Rattle.std.specs.Option.{option_map};
 ghost use Rattle.std.specs.List.{list_any};
 ghost use Rattle.hw_model.specs.TypeViews.{type_of};
-ghost use Rattle.hw_model.specs.FamilyViews.{family_of, register_op_of};
+ghost use Rattle.hw_model.specs.FamilyViews.{family_of};
 ghost use Rattle.hw_model.specs.KindViews.{reset_of, literals_in};
-ghost use Rattle.hw_model.specs.Design.{takes_enable};
 ghost use Rattle.op_verifier.specs.OperandChecks.{is_no_array_of, has_other_array, has_other_form, enable_differs, reset_differs, register_differs, parts_differ, has_other_operand};
 
 use crate::literal_checks::{LeafTest, any_failing_leaf, parts_differ as list_differs};
@@ -14,7 +13,7 @@ use crate::type_lists::{
     differ_in_two, differs, is_no_array, is_no_int, is_no_struct, settled_at,
 };
 use crate::type_parts::fields_in;
-use hw_model::families::{ArrayOp, Family, RegisterOp, StructOp};
+use hw_model::families::{ArrayOp, Family, StructOp};
 use hw_model::kinds::{LiteralList, Reset};
 use hw_model::types::Ty;
 use ir_store::result_types::{element_of, field_of};
@@ -100,7 +99,7 @@ pub(crate) fn has_other_operand(family: Family<'_>, types: &[Ty], operands: &[Op
             first,
             field_of(first, name),
         ),
-        Family::Register(op, reset) => register_differs(takes_enable(op), reset, first, operands),
+        Family::Register(op, reset) => register_differs(op.takes_enable(), reset, first, operands),
         _ => any_differs(operands, first),
     }
 }
@@ -112,16 +111,6 @@ fn parts_differ(list: &LiteralList, ty: Option<&Ty>) -> bool
     match ty {
         Some(ty) => list_differs(list, ty),
         None => false,
-    }
-}
-
-/// Whether a register has an enable.
-fn takes_enable(op: RegisterOp) -> bool
-    ensures { result ≡ takes_enable (register_op_of op) }
-{
-    match op {
-        RegisterOp::CompReg | RegisterOp::FirReg => false,
-        RegisterOp::CompRegCe => true,
     }
 }
 
