@@ -23,7 +23,7 @@ use Rattle.mlir_syntax.specs.PieceText.Extra.{child}
 use Rattle.assembly_format.specs.Shapes.{front_pieces, type_pieces}
 use Rattle.mlir_syntax.specs.OperationText.{OperationText}
 use Rattle.mlir_syntax.specs.ModuleText.{PortText, ModuleText, module_keys}
-use Rattle.mlir_reader.specs.Resolving.{Meanings, said_instance, plain_kind, said_kind, kind_named, with_definitions, operation_definitions, operation_at, operations_from, port_definition, ports_from, no_meaning, port_meanings, meanings, ends_with_output, has_outputs, left_out_output, completed, module_of, design_of}
+use Rattle.mlir_reader.specs.Resolving.{Meanings, said_instance, said_kind, kind_named, with_definitions, operation_definitions, operation_at, operations_from, port_definition, ports_from, no_meaning, port_meanings, meanings, ends_with_output, has_outputs, left_out_output, completed, module_of, design_of}
 use Rattle.mlir_syntax.specs.Spelling.{Phrase, Either, Holding, Where, Nothing, Stands, IsPlaceOf, Commas, ValueName, OutputPhrase, PiecePhrase, PiecesPhrase, ResultsPhrase, OperationPhrase, OperationsPhrase, PortPhrase, AttributesPhrase, ModulePhrase, ModulesPhrase, FilePhrase}
 use Rattle.mlir_reader.specs.Spelling.{Spells}
 use Rattle.assembly_format.specs.declared.pieces.Piece.{Piece}
@@ -92,7 +92,7 @@ instance_outputs (child i) = omega arith
 instance_outputs _ = omega arith
 
 kind_outputs : (o : Listed) (e : Extra) (ts : List HwType) → outputs_of (kind_named o e ts) ≤ outputs_said e
-unfolding plain_kind said_kind
+unfolding said_kind
 kind_outputs listed.HwInstance e ts = instance_outputs e
 kind_outputs _ e ts = omega arith
 

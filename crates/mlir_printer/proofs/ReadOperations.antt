@@ -28,7 +28,7 @@ use Rattle.assembly_format.specs.Shapes.{front_pieces, type_pieces}
 use Rattle.assembly_format.specs.declared.pieces.Shape.{Shape}
 use Rattle.mlir_syntax.specs.OperationText.{OperationText, takes_bin, string_keys, given_entries}
 use Rattle.mlir_reader.specs.Resolving as read
-use Rattle.mlir_reader.specs.Resolving.{Meanings, resolved, has_negative, kept_number, kept_integer, kept_by_first, kept_literal, kept_literals, said_position, said_number, said_literals, said_field, said_instance, plain_kind, said_kind, kind_named, sorted, without, is_dropped, has_name, is_name_entry, kept_entries, text_in, given_name, unless_digits, name_or, own_name_of, marks, marked_results, operation_definitions, operation_at}
+use Rattle.mlir_reader.specs.Resolving.{Meanings, resolved, has_negative, kept_number, kept_integer, kept_by_first, kept_literal, kept_literals, said_position, said_number, said_literals, said_field, said_instance, said_kind, kind_named, sorted, without, is_dropped, has_name, is_name_entry, kept_entries, text_in, given_name, unless_digits, name_or, own_name_of, marks, marked_results, operation_definitions, operation_at}
 use Rattle.mlir_syntax.specs.Spelling.{Stands, AreOnce, DictionaryPhrase, EntryPhrase, MaybeDictionary, IsOneOf, FormPhrase, BinPhrase, ResultsPhrase, StandsInBody, OperationPhrase}
 use Rattle.op_verifier.specs.Faults.{listed_of}
 use Rattle.mlir_printer.specs.Spellable.{Each, AreBytes, IsInteger, IsAnyType, IsLiteral, AreLiterals, IsValue, IsEntry}
@@ -198,12 +198,12 @@ mutual
 -- ---- kinds
 
 listed_again : (o : Listed) (e : Extra) (ts : List HwType) → StandsInBody o → listed_of (kind_named o e ts) ≡ o
-unfolding plain_kind said_kind
+unfolding said_kind
 listed_again listed.HwModule e ts h = absurd h
 listed_again _ e ts h = refl
 
 constants_kept : (o : Listed) (e : Extra) (ts : List HwType) → KeepsConstants (kind_named o e ts) ts
-unfolding plain_kind said_kind
+unfolding said_kind
 constants_kept listed.HwConstant e ts = by_first_kept ts (said_number e)
 constants_kept listed.HwAggregateConstant e ts = literals_kept (said_literals e)
 constants_kept _ e ts = tt
@@ -229,7 +229,7 @@ instance_written (child i) h = h
 instance_written _ h = record { name = tt; inner = tt; symbol = tt; inputs = tt; outputs = tt }
 
 kind_written : (o : Listed) (e : Extra) (ts : List HwType) → IsReadExtra e → IsWritten (kind_named o e ts)
-unfolding plain_kind said_kind
+unfolding said_kind
 kind_written listed.CombExtract e ts h = position_written e h
 kind_written listed.HwConstant e ts h = by_first_small ts (said_number e) (number_written e h)
 kind_written listed.HwAggregateConstant e ts h = literals_small (said_literals e) 31 (literals_written e h)

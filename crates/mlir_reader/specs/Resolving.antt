@@ -12,13 +12,10 @@ use Rattle.hw_model.specs.Kinds.Predicate.{eq}
 use Rattle.hw_model.specs.Kinds.Reset.{no_reset, sync_reset}
 use Rattle.hw_model.specs.Kinds.Literal.{leaf, parts}
 use Rattle.hw_model.specs.Kinds.Literals.{no_literals, literal}
-use Rattle.hw_model.specs.Kinds.Variadic.{add, mul, and, or, xor}
-use Rattle.hw_model.specs.Kinds.Division.{divu, modu, divs, mods}
-use Rattle.hw_model.specs.Kinds.Shift.{shl, shru, shrs}
-use Rattle.hw_model.specs.Kinds.ArrayOp.{array_create, array_concat, array_get, array_slice, array_inject}
-use Rattle.hw_model.specs.Kinds.StructOp.{struct_create, struct_extract, struct_inject, struct_explode}
+use Rattle.hw_model.specs.Kinds.StructOp.{struct_extract, struct_inject}
 use Rattle.hw_model.specs.Kinds.RegisterOp.{compreg, compreg_ce, firreg}
-use Rattle.hw_model.specs.Kinds.Kind.{variadic, sub, division, shift, icmp, parity, extract, concat, replicate, mux, constant, aggregate_constant, on_array, on_struct, bitcast, wire, instance, output, register}
+use Rattle.hw_model.specs.Kinds.Kind.{icmp, extract, constant, aggregate_constant, on_struct, instance, output, register}
+use Rattle.hw_model.specs.Opcodes.{kind_named_by}
 use Rattle.hw_model.specs.Design.{Attribute, Entry, Ref, Port, OpResult, Op, Module, Design, same_name}
 use Rattle.hw_model.specs.Design.Attribute.{text_value}
 use Rattle.hw_model.specs.Design.Ref.{port, result, undefined}
@@ -93,38 +90,6 @@ abbrev pub said_reset : Extra → Reset
 said_reset with_reset = sync_reset
 said_reset _ = no_reset
 
--- the kind of an operation that its name alone tells
-unfoldable pub plain_kind : Listed → Option Kind
-plain_kind listed.HwModule = Some output
-plain_kind listed.CombAdd = Some (variadic add)
-plain_kind listed.CombMul = Some (variadic mul)
-plain_kind listed.CombAnd = Some (variadic and)
-plain_kind listed.CombOr = Some (variadic or)
-plain_kind listed.CombXor = Some (variadic xor)
-plain_kind listed.CombSub = Some sub
-plain_kind listed.CombDivu = Some (division divu)
-plain_kind listed.CombModu = Some (division modu)
-plain_kind listed.CombDivs = Some (division divs)
-plain_kind listed.CombMods = Some (division mods)
-plain_kind listed.CombShl = Some (shift shl)
-plain_kind listed.CombShru = Some (shift shru)
-plain_kind listed.CombShrs = Some (shift shrs)
-plain_kind listed.CombParity = Some parity
-plain_kind listed.CombConcat = Some concat
-plain_kind listed.CombReplicate = Some replicate
-plain_kind listed.CombMux = Some mux
-plain_kind listed.HwArrayCreate = Some (on_array array_create)
-plain_kind listed.HwArrayConcat = Some (on_array array_concat)
-plain_kind listed.HwArrayGet = Some (on_array array_get)
-plain_kind listed.HwArraySlice = Some (on_array array_slice)
-plain_kind listed.HwArrayInject = Some (on_array array_inject)
-plain_kind listed.HwStructCreate = Some (on_struct struct_create)
-plain_kind listed.HwStructExplode = Some (on_struct struct_explode)
-plain_kind listed.HwBitcast = Some bitcast
-plain_kind listed.HwWire = Some wire
-plain_kind listed.HwOutput = Some output
-plain_kind _ = None
-
 -- the kind of an operation that its name and the rest of its text tell
 unfoldable pub said_kind : Listed → Extra → List HwType → Kind
 said_kind listed.CombIcmp e ts = icmp (said_predicate e)
@@ -145,7 +110,7 @@ kind_or (Some k) other = k
 
 -- the kind of an operation
 abbrev pub kind_named : Listed → Extra → List HwType → Kind
-kind_named o e ts = kind_or (plain_kind o) (said_kind o e ts)
+kind_named o e ts = kind_or (kind_named_by o) (said_kind o e ts)
 
 -- ---- dictionaries and names
 

@@ -53,7 +53,7 @@ pub fn define_operation<'s>(
 }
 
 // How many results an operation has of its own.
-#[tactic(auto, unfolding(crate::specs::Resolving::plain_kind, crate::specs::Resolving::said_kind, ir_store::specs::ResultTypes::result_count))]
+#[tactic(auto, unfolding(crate::specs::Resolving::said_kind, ir_store::specs::ResultTypes::result_count))]
 fn result_count(name: Listed, extra: &Extra, types: &[Ty]) -> usize
     ensures { result ≡ result_count (kind_named name (extra_of extra.now) (map type_of types.now)) (map type_of types.now) }
 {

@@ -1,9 +1,9 @@
 //! The kinds of operations, from what their texts say.
-ghost use Rattle.std.specs.Prelude.{◌≡◌, ◌-◌, ◌^◌, true, map, option_map, IfOk};
+ghost use Rattle.std.specs.Prelude.{◌≡◌, ◌-◌, ◌^◌, true, map, IfOk};
 ghost use Rattle.std.specs.Box.{box_value};
 ghost use Rattle.hw_model.specs.TypeViews.{type_of};
 ghost use Rattle.hw_model.specs.KindViews.{kind_of, integer_of, predicate_of, reset_of, literal_of, literals_in, instance_of};
-ghost use Rattle.mlir_reader.specs.Resolving.{has_negative, kept_number, kept_integer, kept_by_first, kept_literal, kept_literals, kind_named, plain_kind, said_kind, said_predicate, said_position, said_number, said_literals, said_field, said_instance, said_reset};
+ghost use Rattle.mlir_reader.specs.Resolving.{has_negative, kept_number, kept_integer, kept_by_first, kept_literal, kept_literals, kind_named, said_kind, said_predicate, said_position, said_number, said_literals, said_field, said_instance, said_reset};
 ghost use Rattle.mlir_syntax.specs.PieceText.Extra.{nothing};
 ghost use Rattle.mlir_syntax.specs.Views.{extra_of};
 
@@ -23,47 +23,10 @@ pub fn kind_named(
 ) -> Result<OpKind, AllocError>
     ensures { IfOk result (λ kind. kind_of kind ≡ kind_named name (extra_of extra) (map type_of types.now)) }
 {
-    match plain_kind(name) {
+    match OpKind::of_listed(name) {
         Some(kind) => Ok(kind),
         None => said_kind(alloc, name, extra, types),
     }
-}
-
-// The kind of an operation that its name alone tells.
-#[tactic(auto, unfolding(crate::specs::Resolving::plain_kind))]
-fn plain_kind(name: Listed) -> Option<OpKind>
-    ensures { option_map kind_of result ≡ plain_kind name }
-{
-    Some(match name {
-        Listed::HwModule | Listed::HwOutput => OpKind::Output,
-        Listed::CombAdd => OpKind::Add,
-        Listed::CombMul => OpKind::Mul,
-        Listed::CombAnd => OpKind::And,
-        Listed::CombOr => OpKind::Or,
-        Listed::CombXor => OpKind::Xor,
-        Listed::CombSub => OpKind::Sub,
-        Listed::CombDivu => OpKind::Divu,
-        Listed::CombModu => OpKind::Modu,
-        Listed::CombDivs => OpKind::Divs,
-        Listed::CombMods => OpKind::Mods,
-        Listed::CombShl => OpKind::Shl,
-        Listed::CombShru => OpKind::Shru,
-        Listed::CombShrs => OpKind::Shrs,
-        Listed::CombParity => OpKind::Parity,
-        Listed::CombConcat => OpKind::Concat,
-        Listed::CombReplicate => OpKind::Replicate,
-        Listed::CombMux => OpKind::Mux,
-        Listed::HwArrayCreate => OpKind::ArrayCreate,
-        Listed::HwArrayConcat => OpKind::ArrayConcat,
-        Listed::HwArrayGet => OpKind::ArrayGet,
-        Listed::HwArraySlice => OpKind::ArraySlice,
-        Listed::HwArrayInject => OpKind::ArrayInject,
-        Listed::HwStructCreate => OpKind::StructCreate,
-        Listed::HwStructExplode => OpKind::StructExplode,
-        Listed::HwBitcast => OpKind::Bitcast,
-        Listed::HwWire => OpKind::Wire,
-        _ => return None,
-    })
 }
 
 // The kind of an operation that its name and the rest of its text tell.
