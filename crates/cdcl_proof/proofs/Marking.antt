@@ -1,5 +1,6 @@
 -- Marks of variables, and how many entries of a trail they mark.
 use Rattle.std.proofs.Common.{◌≡◌, ◌≢◌, ℕ, zero, suc, ◌+◌, ◌-◌, ◌<◌, ◌≤◌, Bool, true, false, not, ◌&&◌, ◌||◌, cond, List, [], ◌∷◌, length, get_or, take, drop, set, replicate, eqb, refl, sym, ◌∙◌, ap, subst, arith}
+use Rattle.std.specs.List.{list_all}
 use Rattle.std.proofs.lemmas.List.{take_more, get_or-set_same, get_or-set_other, get_or-drop, length-drop}
 use Rattle.std.proofs.lemmas.List.Folds.{list_any-append}
 use Rattle.std.proofs.lemmas.Bool.{and_parts, and_from, or_parts, false≢true, eqb-true, eqb-false, ne_eqb, not_from_false, not-true, false_from_ne_true}
@@ -8,8 +9,9 @@ use Rattle.cdcl_proof.specs.declared.trail.Entry.{Entry}
 use Rattle.cdcl_proof.specs.Literal.{is_on, mentions, is_once}
 use Rattle.cdcl_proof.specs.Clause.{is_among, is_within}
 use Rattle.cdcl_proof.specs.Trail.{literals, entry_at, no_entry, AreApart, is_after}
-use Rattle.cdcl_proof.specs.Learning.{is_seen, is_seen_entry, count_seen}
+use Rattle.cdcl_proof.specs.Learning.{is_seen, is_seen_entry, is_seen_literal, count_seen}
 use Rattle.cdcl_proof.specs.Resolving.{AddsMarks, Resolves, NoneSeen}
+use Rattle.cdcl_proof.proofs.Sets.{all_at, holds_from_mentions}
 use Rattle.cdcl_proof.proofs.Entries.{variable_at, among_low, among_high, entry_of_mentions, mentions_entry}
 
 pub seen-set_same : (seen : List Bool) (v : ℕ) (b : Bool) → 1 ≤ v → v ≤ length seen → is_seen (set seen (v - 1) b) v ≡ b
@@ -245,3 +247,31 @@ pub get_or-replicate_false : (n k : ℕ) → get_or (replicate n false) k false 
 get_or-replicate_false zero k = refl
 get_or-replicate_false (suc n) zero = refl
 get_or-replicate_false (suc n) (suc k) = get_or-replicate_false n k
+
+-- a mark taken off where all variables of the clause are marked
+pub resolves_off : (old : List Bool) (pivot : ℕ) (c : List Literal) → 1 ≤ pivot → pivot ≤ length old → list_all (is_seen_literal old) c ≡ true → Resolves pivot c old (set old (pivot - 1) false)
+resolves_off old pivot c plow phigh all = resolves_from old (set old (pivot - 1) false) pivot c plow phigh (λ v low. go v low (eqb v pivot) refl (mentions c v) refl)
+  where
+    kept : (b : Bool) → b ≡ (b || false)
+    kept true = refl
+    kept false = refl
+
+    go : (v : ℕ) → 1 ≤ v → (b : Bool) → eqb v pivot ≡ b → (m : Bool) → mentions c v ≡ m → is_seen (set old (pivot - 1) false) v ≡ (is_seen (set old (pivot - 1) false) v || (not b && m))
+    go v low true at m held = kept (is_seen (set old (pivot - 1) false) v)
+    go v low false at false held = kept (is_seen (set old (pivot - 1) false) v)
+    go v low false at true held =
+        let l = holds_from_mentions c v held in
+        let marked : is_seen old v ≡ true = subst (λ (w : ℕ). is_seen old w ≡ true) l.2 (all_at (is_seen_literal old) c l.0 all l.1) in
+        let here : is_seen (set old (pivot - 1) false) v ≡ true = seen-set_other old pivot v false plow low (eqb-false v pivot at) ∙ marked in
+        rw here refl
+
+-- a mark of an earlier entry is not counted
+pub count_seen-before : (variables : ℕ) (seen : List Bool) (es : List Entry) (floor place : ℕ) → AreApart variables es → place < length es → place < floor → count_seen (set seen (variable_at es place - 1) false) (drop floor es) ≡ count_seen seen (drop floor es)
+count_seen-before variables seen es floor place apart inside below =
+    let tidy = apart_once variables es apart in
+    count_seen-set_off variables seen (variable_at es place) false (drop floor es) (among_low variables (entry_at es place).literal (apart.among place inside)) (within_drop variables floor es tidy.1) (false_from_ne_true (is_after es floor (variable_at es place)) (λ m.
+    let r = entry_of_mentions (drop floor es) (variable_at es place) m in
+    let n = length-drop floor es in
+    let there : floor + r.0 < length es = omega (arith, n, r.1) in
+    let one : floor + r.0 ≡ place = apart.apart (floor + r.0) place there inside (ap (λ (x : Entry). x.literal.variable) (sym (get_or-drop floor es r.0 no_entry)) ∙ r.2) in
+    omega (arith, one, below)))

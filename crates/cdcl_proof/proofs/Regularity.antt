@@ -57,6 +57,14 @@ pub pivots_more : (es : List Entry) (place : ℕ) (hs : List Hint) (h : Hint) �
 pivots_more es place [] h p l e = tt
 pivots_more es place (g ∷ gs) h p l e = pivots_push es place gs h (pivots_down es place gs p) l e
 
+pub pivots_above : (es : List Entry) (low high : ℕ) (hs : List Hint) → low ≤ high → HasPivotsFrom es high hs → HasPivotsFrom es low hs
+pivots_above es low high [] l p = tt
+pivots_above es low high (h ∷ hs) l p = go hs p
+  where
+    go : (gs : List Hint) → ArePivotsFrom es high gs → ArePivotsFrom es low gs
+    go [] p = tt
+    go (g ∷ gs) p = ((p.0.0, omega (arith, l, p.0.1), p.0.2, p.0.3), go gs p.1)
+
 -- the reason of an entry at the place is regular after the hints so far
 pub regular_more : (known : List (List Literal)) (es : List Entry) (place : ℕ) (hs : List Hint) (h : Hint) → is_regular known hs ≡ true → HasPivotsFrom es (place + 1) hs → ((gs : List Hint) → ArePivotsFrom es (place + 1) gs → avoids gs (clause_at known h.clause) ≡ true) → is_regular known (hs ++ h ∷ []) ≡ true
 regular_more known es place [] h r p a = refl

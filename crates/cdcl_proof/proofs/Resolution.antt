@@ -1,7 +1,7 @@
 -- Conflict analysis, resolution by resolution.
-use Rattle.std.proofs.Common.{◌≡◌, ℕ, zero, suc, ◌+◌, ◌-◌, ◌<◌, ◌≤◌, Bool, true, false, not, ◌&&◌, ◌||◌, cond, List, [], ◌∷◌, ◌++◌, length, get_or, take, drop, eqb, leb, refl, sym, ◌∙◌, ap, subst, inl, inr, ◌⊎◌, arith, Option, Some, MatchOption}
+use Rattle.std.proofs.Common.{◌≡◌, ℕ, zero, suc, ◌+◌, ◌-◌, ◌<◌, ◌≤◌, Bool, true, false, not, ◌&&◌, ◌||◌, cond, List, [], ◌∷◌, ◌++◌, length, get_or, take, drop, set, eqb, leb, refl, sym, ◌∙◌, ap, subst, inl, inr, ◌⊎◌, arith, Option, Some, MatchOption}
 use Rattle.std.proofs.Math.Bool.{beq}
-use Rattle.std.specs.List.{list_any}
+use Rattle.std.specs.List.{list_all, list_any}
 use Rattle.std.proofs.lemmas.List.{get_or-take, length-take, length-drop, get_or-drop}
 use Rattle.std.proofs.lemmas.List.Folds.{list_any-append}
 use Rattle.std.proofs.lemmas.Bool.{and_parts, and_from, or_cases, or_left, or_right, eqb-true, eqb-false, eq-eqb, ne_eqb, both_ways, not-true, false_from_ne_true, leb-true, leb-false}
@@ -13,14 +13,14 @@ use Rattle.cdcl_proof.specs.Clause.{is_among, without, resolvent}
 use Rattle.cdcl_proof.specs.Replay.{survives, is_number, clause_at, opposes, is_clash, fits, chain_of}
 use Rattle.cdcl_proof.specs.Fresh.{is_free, count_free, is_closed, is_closed_at}
 use Rattle.cdcl_proof.specs.Trail.{literals, entry_at, no_entry, AreApart, IsSound, Implies}
-use Rattle.cdcl_proof.specs.Learning.{is_seen, is_seen_entry, count_seen, Represents}
+use Rattle.cdcl_proof.specs.Learning.{is_seen, is_seen_entry, is_seen_literal, count_seen, Represents}
 use Rattle.cdcl_proof.specs.Propagation.{IsConflict}
-use Rattle.cdcl_proof.specs.Resolving.{Resolves, NoneSeen, ArePivotsFrom, IsAnalysis, IsLevel}
+use Rattle.cdcl_proof.specs.Resolving.{Resolves, NoneSeen, ArePivotsFrom, HasPivotsFrom, IsResolving, IsAnalysis, IsLevel}
 use Rattle.cdcl_proof.proofs.Sets.{same-true, same-refl, negation-negation, all_at, all_from, any_at, mentions_from, holds_from_mentions, once_same, once_apart, holds-resolvent}
-use Rattle.cdcl_proof.proofs.Entries.{variable_at, among_low, holds_entry, entry_of_holds, mentions_entry}
+use Rattle.cdcl_proof.proofs.Entries.{variable_at, among_low, among_high, holds_entry, entry_of_holds, mentions_entry}
 use Rattle.cdcl_proof.proofs.Chains.{names_chain-push, chain_of-push}
 use Rattle.cdcl_proof.proofs.Regularity.{regular_more, pivots_more, pivots_later, survives_from}
-use Rattle.cdcl_proof.proofs.Marking.{apart_once, count_between, count_seen-pos}
+use Rattle.cdcl_proof.proofs.Marking.{apart_once, count_between, count_seen-pos, resolves_off}
 
 pub mentions-without : (p : ℕ) (c : List Literal) (v : ℕ) → mentions (without p c) v ≡ (not (eqb v p) && mentions c v)
 mentions-without p [] v = go (eqb v p)
@@ -264,25 +264,33 @@ module _ (variables : ℕ) (known : List (List Literal)) (es : List Entry) (soun
           | inr k ↦ survives_from variables es place gs l k.0 apart p (let b = k.1 in omega (arith, b)) k.2 (ap (λ (m : Literal). m.variable) k.3)
         ]
 
-    pub resolve_step : (floor keep count result : ℕ) (hints : List Hint) (old new : List Bool) → is_seen_entry old (entry_at es place) ≡ true → IsAnalysis variables known es floor keep (place + 1) count hints old → keep < count → Resolves (variable_at es place) (clause_at known reason) old new → result ≡ count_seen new (drop floor es) → count ≤ result + 1 → length new ≡ length old → IsAnalysis variables known es floor keep place result (hints ++ record { clause = reason; pivot = variable_at es place } ∷ []) new
-    resolve_step floor keep count result hints old new marked a more marks counted fewer len =
-        let r = chain_of known hints in
+    -- one resolution more, with the reason of a marked entry
+    pub resolving_more : (hints : List Hint) (old new : List Bool) → is_seen_entry old (entry_at es place) ≡ true → IsResolving known es hints old → HasPivotsFrom es (place + 1) hints → Resolves (variable_at es place) (clause_at known reason) old new → IsResolving known es (hints ++ record { clause = reason; pivot = variable_at es place } ∷ []) new
+    resolving_more hints old new marked resolving pivots marks =
         let h : Hint = record { clause = reason; pivot = variable_at es place } in
-        let rep = a.resolving.marks in
-        let fit = fitting r old rep marked in
         record {
-          resolving = record {
-            chain = names_chain-push known hints h a.resolving.chain fit;
-            regular = regular_more known es place hints h a.resolving.regular a.pivots (λ gs p. all_from (survives gs) (clause_at known reason) (λ l held. reason_survives gs p l held));
-            marks = subst (λ (c : List Literal). Represents new (literals es) c) (sym (chain_of-push known hints h a.resolving.chain)) (still_represents r old rep marked new marks);
-          };
-          counted = counted;
-          kept = omega (arith, more, fewer);
-          none = none_left old new a.none marks;
-          pivots = pivots_more es place hints h a.pivots inside refl;
-          short = omega (arith, inside);
-          len = len ∙ a.len;
+          chain = names_chain-push known hints h resolving.chain (fitting (chain_of known hints) old resolving.marks marked);
+          regular = regular_more known es place hints h resolving.regular pivots (λ gs p. all_from (survives gs) (clause_at known reason) (λ l held. reason_survives gs p l held));
+          marks = subst (λ (c : List Literal). Represents new (literals es) c) (sym (chain_of-push known hints h resolving.chain)) (still_represents (chain_of known hints) old resolving.marks marked new marks);
         }
+
+    -- a reason that adds no literal
+    pub subsumed : (hints : List Hint) (old : List Bool) → length old ≡ variables → is_seen_entry old (entry_at es place) ≡ true → list_all (is_seen_literal old) (clause_at known reason) ≡ true → IsResolving known es hints old → HasPivotsFrom es (place + 1) hints → IsResolving known es (hints ++ record { clause = reason; pivot = variable_at es place } ∷ []) (set old (variable_at es place - 1) false)
+    subsumed hints old len marked all resolving pivots =
+        let among = apart.among place inside in
+        let high = among_high variables (entry_at es place).literal among in
+        resolving_more hints old (set old (variable_at es place - 1) false) marked resolving pivots (resolves_off old (variable_at es place) (clause_at known reason) (among_low variables (entry_at es place).literal among) (omega (arith, high, len)) all)
+
+    pub resolve_step : (floor keep count result : ℕ) (hints : List Hint) (old new : List Bool) → is_seen_entry old (entry_at es place) ≡ true → IsAnalysis variables known es floor keep (place + 1) count hints old → keep < count → Resolves (variable_at es place) (clause_at known reason) old new → result ≡ count_seen new (drop floor es) → count ≤ result + 1 → length new ≡ length old → IsAnalysis variables known es floor keep place result (hints ++ record { clause = reason; pivot = variable_at es place } ∷ []) new
+    resolve_step floor keep count result hints old new marked a more marks counted fewer len = record {
+      resolving = resolving_more hints old new marked a.resolving a.pivots marks;
+      counted = counted;
+      kept = omega (arith, more, fewer);
+      none = none_left old new a.none marks;
+      pivots = pivots_more es place hints (record { clause = reason; pivot = variable_at es place }) a.pivots inside refl;
+      short = omega (arith, inside);
+      len = len ∙ a.len;
+    }
 
   module _ (conflict : ℕ) (false_clause : IsConflict known (literals es) conflict) (seen : List Bool) (marks : (v : ℕ) → 1 ≤ v → is_seen seen v ≡ mentions (clause_at known conflict) v) where
     -- a clause that the set before the floor closes and the whole falsifies has a literal from the floor on

@@ -13,6 +13,10 @@ is_seen seen v = slice_index_or seen (v - 1) false
 abbrev pub is_seen_entry : List Bool → Entry → Bool
 is_seen_entry seen e = is_seen seen e.literal.variable
 
+-- the literal's variable is marked
+abbrev pub is_seen_literal : List Bool → Literal → Bool
+is_seen_literal seen l = is_seen seen l.variable
+
 -- how many of the entries have a marked variable
 abbrev pub count_seen : List Bool → List Entry → ℕ
 count_seen seen [] = 0

@@ -1,14 +1,15 @@
 // Conflict analysis: the clause that a conflict teaches, by resolution back to the first unique implication point.
 ghost use Rattle.std.specs.Prelude.{ℕ, ◌≡◌, ◌<◌, ◌≤◌, ◌+◌, ◌-◌, true, false, [], length, take, drop, IfOk, Some, IsNone, slice_set};
+ghost use Rattle.std.specs.List.{list_all};
 ghost use Rattle.cdcl_proof.specs.Clause.{is_within};
 ghost use Rattle.cdcl_proof.specs.Replay.{derives, clause_at};
 ghost use Rattle.cdcl_proof.specs.Regular.{is_regular};
 ghost use Rattle.cdcl_proof.specs.Literal.{mentions};
 ghost use Rattle.cdcl_proof.specs.Trail.{IsSound, literals, entry_at, NoDecision};
-ghost use Rattle.cdcl_proof.specs.Learning.{is_seen, is_seen_entry, count_seen};
+ghost use Rattle.cdcl_proof.specs.Learning.{is_seen, is_seen_entry, is_seen_literal, count_seen};
 ghost use Rattle.cdcl_proof.specs.Store.{known};
 ghost use Rattle.cdcl_proof.specs.Propagation.{IsConflict};
-ghost use Rattle.cdcl_proof.specs.Resolving.{AddsMarks, IsResolving, IsAnalysis, IsLesson, IsLevel, Resolves};
+ghost use Rattle.cdcl_proof.specs.Resolving.{AddsMarks, HasPivotsFrom, IsResolving, IsAnalysis, IsLesson, IsLevel, Resolves};
 
 use crate::clause::Clause;
 use crate::literal::Literal;
@@ -42,7 +43,8 @@ pub(crate) fn learn(
     requires newest { NoDecision trail.now.entries (floor + 1) (length trail.now.entries) }
     ensures lesson { IfOk result (λ l. IsLesson trail.now.variables (known store.now) trail.now.entries l.step l.place) }
 {
-    let hints = resolve_down(alloc, store, trail, seen, conflict, floor, 1)?;
+    let mut hints = resolve_down(alloc, store, trail, seen, conflict, floor, 1)?;
+    minimise(store, trail, seen, &mut hints, floor)?;
     let literals = trail.marked_negations(alloc, seen)?;
     let start = trail.after_marked(seen, floor);
     let place = trail.decision_from(start, floor);
@@ -97,6 +99,7 @@ fn resolve_down(
     requires implied { NoDecision trail.now.entries (floor + keep) (length trail.now.entries) }
     requires level { IsLevel (known store.now) (literals (take floor trail.now.entries)) keep }
     ensures resolving { IfOk result (λ h. IsResolving (known store.now) trail.now.entries h.items seen.new) }
+    ensures pivots { 0 < keep → IfOk result (λ h. HasPivotsFrom trail.now.entries floor h.items) }
     ensures count { IfOk result (λ _. count_seen seen.new (drop floor trail.now.entries) ≡ keep) }
     ensures len { IfOk result (λ _. length seen.new ≡ length seen.old) }
 {
@@ -112,6 +115,88 @@ fn resolve_down(
         count = resolve_entry(store, trail, seen, &mut hints, place, floor, keep, count)?;
     }
     Ok(hints)
+}
+
+/// Takes literals off the clause of the marks by self-subsumption (Sörensson and Biere, Minimizing learned clauses,
+/// 2009): one of an entry before `floor` whose reason has, besides it, only literals that are negated by marked
+/// entries. From the newest to the oldest, so that no reason holds the variable of an earlier pivot.
+fn minimise(
+    store: &Store,
+    trail: &Trail,
+    seen: &mut [bool],
+    hints: &mut Vec<Hint>,
+    floor: usize,
+) -> Result<(), AllocError>
+    requires variables { trail.now.variables ≡ store.now.formula.variables }
+    requires seen { length seen.old ≡ trail.now.variables }
+    requires sound { IsSound trail.now.variables (known store.now) trail.now.entries }
+    requires floor { floor ≤ length trail.now.entries }
+    requires resolving { IsResolving (known store.now) trail.now.entries hints.old.items seen.old }
+    requires pivots { HasPivotsFrom trail.now.entries floor hints.old.items }
+    ensures resolving { IfOk result (λ _. IsResolving (known store.now) trail.now.entries hints.new.items seen.new) }
+    ensures count { IfOk result (λ _. count_seen seen.new (drop floor trail.now.entries) ≡ count_seen seen.old (drop floor trail.now.entries)) }
+    ensures len { IfOk result (λ _. length seen.new ≡ length seen.old) }
+{
+    let mut place = floor;
+    while place > 0 {
+        place -= 1;
+        subsume(store, trail, seen, hints, place)?;
+    }
+    Ok(())
+}
+
+/// Takes the literal of the entry at the place off the clause of the marks, if its reason adds none.
+fn subsume(
+    store: &Store,
+    trail: &Trail,
+    seen: &mut [bool],
+    hints: &mut Vec<Hint>,
+    place: usize,
+) -> Result<(), AllocError>
+    requires variables { trail.now.variables ≡ store.now.formula.variables }
+    requires seen { length seen.old ≡ trail.now.variables }
+    requires sound { IsSound trail.now.variables (known store.now) trail.now.entries }
+    requires place { place < length trail.now.entries }
+    requires resolving { IsResolving (known store.now) trail.now.entries hints.old.items seen.old }
+    requires pivots { HasPivotsFrom trail.now.entries (place + 1) hints.old.items }
+    ensures resolving { IfOk result (λ _. IsResolving (known store.now) trail.now.entries hints.new.items seen.new) }
+    ensures pivots { IfOk result (λ _. HasPivotsFrom trail.now.entries place hints.new.items) }
+    ensures count { IfOk result (λ _. (floor : ℕ) → place < floor → count_seen seen.new (drop floor trail.now.entries) ≡ count_seen seen.old (drop floor trail.now.entries)) }
+    ensures len { IfOk result (λ _. length seen.new ≡ length seen.old) }
+{
+    let entry = trail.entry(place);
+    let pivot = entry.literal.variable;
+    if !seen[pivot as usize - 1] {
+        return Ok(());
+    }
+    match entry.reason {
+        Some(number) => {
+            if !are_marked(seen, store.clause(number)) {
+                return Ok(());
+            }
+            hints.push(Hint {
+                clause: number,
+                pivot,
+            })?;
+            seen[pivot as usize - 1] = false;
+            Ok(())
+        }
+        None => Ok(()),
+    }
+}
+
+/// Whether each variable of the clause is marked.
+fn are_marked(seen: &[bool], clause: &[Literal]) -> bool
+    ensures { result ≡ list_all (is_seen_literal seen.now) clause.now }
+{
+    clause.iter().all(|l| is_marked(seen, *l))
+}
+
+fn is_marked(seen: &[bool], literal: Literal) -> bool
+    ensures { result ≡ is_seen_literal seen.now literal }
+{
+    let index = literal.variable.saturating_sub(1) as usize;
+    seen.get(index).copied().unwrap_or(false)
 }
 
 /// Marks the variables of the false clause alone.

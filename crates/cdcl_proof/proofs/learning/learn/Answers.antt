@@ -1,3 +1,4 @@
+use Rattle.std.proofs.Common.{◌∙◌}
 use Rattle.cdcl_proof.specs.Store.{known}
 use Rattle.cdcl_proof.proofs.Marking.{apart_once}
 use Rattle.cdcl_proof.proofs.Lessons.{lesson, once-seen_negations, none_is}
@@ -5,11 +6,11 @@ use Rattle.cdcl_proof.proofs.learning.learn.Goals as goal
 
 pub from_distinct-requires : goal.from_distinct-requires
 from_distinct-requires c =
-    rw c.in_ok-literals.ensures.negations (once-seen_negations c.resolve_down.new.seen c.args.trail.now.entries (apart_once c.args.trail.now.variables c.args.trail.now.entries c.in_ok-literals.ensures.apart).0)
+    rw c.in_ok-literals.ensures.negations (once-seen_negations c.minimise.new.seen c.args.trail.now.entries (apart_once c.args.trail.now.variables c.args.trail.now.entries c.in_ok-literals.ensures.apart).0)
 
 pub returns : goal.returns
 returns c =
-    let taught = lesson c.args.trail.now.variables (known c.args.store.now) c.args.trail.now.entries c.requires.sound c.in_ok-literals.ensures.apart c.in_ok-hints.hints.items c.resolve_down.new.seen c.in_ok-hints.ensures.resolving
-    c.args.floor c.after_marked-start.result c.decision_from-place.result c.in_ok-hints.ensures.count c.requires.floor c.decision_from-place.ensures.start c.decision_from-place.ensures.last
+    let taught = lesson c.args.trail.now.variables (known c.args.store.now) c.args.trail.now.entries c.requires.sound c.in_ok-literals.ensures.apart c.minimise.new.hints.items c.minimise.new.seen c.in_ok-minimise.ensures.resolving
+    c.args.floor c.after_marked-start.result c.decision_from-place.result (c.in_ok-minimise.ensures.count ∙ c.in_ok-hints.ensures.count) c.requires.floor c.decision_from-place.ensures.start c.decision_from-place.ensures.last
     c.after_marked-start.ensures.above c.after_marked-start.ensures.marked (none_is _ c.decision_from-place.ensures.decision) c.decision_from-place.ensures.before in
     record { lesson = rw (c.from_distinct.ensures, c.in_ok-literals.ensures.negations, c.from_vec.ensures) taught }

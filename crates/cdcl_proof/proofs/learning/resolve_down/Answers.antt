@@ -2,6 +2,8 @@ use Rattle.std.proofs.Common.{ℕ, ◌≡◌, ◌+◌, ◌-◌, subst, ◌∙◌
 use Rattle.cdcl_proof.specs.Resolving.{IsAnalysis}
 use Rattle.cdcl_proof.specs.Store.{known}
 use Rattle.cdcl_proof.proofs.Resolution.{analysis_start, place_above}
+use Rattle.cdcl_proof.proofs.Marking.{count_between}
+use Rattle.cdcl_proof.proofs.Regularity.{pivots_above}
 use Rattle.cdcl_proof.proofs.learning.resolve_down.Goals as goal
 
 pub loop-count-init : goal.loop-count-init
@@ -30,3 +32,11 @@ resolve_entry-requires-clause-analysis c =
     let above = place_above _ _ _ _ _ _ _ _ _ c.loop-count.invariant c.loop-count-test.true in
     let back : c.loop-count.place ≡ c.loop-count.place - 1 + 1 = omega (arith, above) in
     subst (λ (n : ℕ). IsAnalysis c.args.trail.now.variables (known c.args.store.now) c.args.trail.now.entries c.args.floor c.args.keep n c.loop-count.count c.loop-count.hints.items c.loop-count.seen) back c.loop-count.invariant
+
+pub returns-clause-pivots : goal.returns-clause-pivots
+returns-clause-pivots c some =
+    let a = c.loop-count.invariant in
+    let bound = count_between c.loop-count.seen c.args.trail.now.entries c.args.floor c.loop-count.place a.none in
+    let counted = a.counted in
+    let kept = a.kept in
+    pivots_above c.args.trail.now.entries c.args.floor c.loop-count.place c.loop-count.hints.items (omega (arith, bound, counted, kept, some)) a.pivots
