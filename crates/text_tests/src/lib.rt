@@ -12,6 +12,4 @@ mod printed_texts;
 #[cfg(test)]
 mod readers;
 #[cfg(test)]
-mod refusals;
-#[cfg(test)]
 mod tokens;
