@@ -216,3 +216,13 @@ hw.module @T(in %clk : !seq.clock, in %a : i1) {
   %1 = comb.or %2, %a : i1
   %2 = comb.and %1, %r : i1
 }
+// ----- modules in each other, the first of them in another
+hw.module @T() {
+  hw.instance "t" @A() -> ()
+}
+hw.module @A() {
+  hw.instance "b" @B() -> ()
+}
+hw.module @B() {
+  hw.instance "a" @A() -> ()
+}
