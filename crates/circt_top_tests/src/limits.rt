@@ -1,9 +1,8 @@
-//! The limit on the size of a design.
+//! The limits on the length of a text and on the size of a design.
 use crate::runs::{Failing, run_words};
-use std::alloc::{AllocError, Global};
+use std::alloc::{AllocError, AllocGlobal, Global};
 use std::test::Fail;
-
-const REFUSED: &str = "<stdin>:124:1: error: 'hw.module' V22: design too large\n";
+use std::thread::Threads;
 
 // Modules of which each has two instances of the one before, up to the one of a number.
 fn doubling(alloc: Global, most: usize) -> Result<String, AllocError> {
@@ -26,30 +25,7 @@ fn doubling(alloc: Global, most: usize) -> Result<String, AllocError> {
     Ok(text)
 }
 
-// The first module that is too large is told at once, whatever is asked of the text.
-#[test]
-fn a_design_that_is_too_large_is_refused(rt: HostRuntime) -> Result<(), Fail> {
-    let text = doubling(rt.alloc(), 30)?;
-    for words in ["opt", "translate --export-verilog"] {
-        let run = run_words(&rt, words, text.as_str(), Failing::No)?;
-        assert_eq!(rt; run.err.held(), REFUSED.as_bytes(), "of {words}");
-        assert_eq!(rt; run.out.held(), b"".as_slice(), "of {words}");
-        assert_eq!(rt; run.code, 1, "of {words}");
-    }
-    Ok(())
-}
-
-// The first module of fewer is within the limit.
-#[test]
-fn a_design_below_the_limit_is_accepted(rt: HostRuntime) -> Result<(), Fail> {
-    let text = doubling(rt.alloc(), 24)?;
-    let run = run_words(&rt, "opt", text.as_str(), Failing::No)?;
-    assert_eq!(rt; run.err.held(), b"".as_slice());
-    assert_eq!(rt; run.code, 0);
-    Ok(())
-}
-
-// A module behind the first 25 that has so many of them that it is 25 below the limit.
+// A module after the first 25 that has so many of them that it is 25 below the limit.
 const FILLED: &str =
     "hw.module @T(in %a : i1, in %clk : !seq.clock, in %s : !hw.struct<x: i1, y: i1>) {
   %u0.b = hw.instance \"u\" @M24(a: %a: i1) -> (b: i1)
@@ -119,21 +95,55 @@ const REST: [&str; 9] = [
 ",
 ];
 
+// The pieces, joined.
+fn joined(alloc: Global, pieces: &[&str]) -> Result<String, AllocError> {
+    let mut text = String::new(alloc);
+    for piece in pieces {
+        text.push_str(piece)?;
+    }
+    Ok(text)
+}
+
+// Whether `opt` ends with a status and an error message on a text.
+fn ends_with(
+    rt: &(impl Threads + Sync + AllocGlobal),
+    text: &str,
+    code: u8,
+    message: &str,
+) -> Result<bool, AllocError> {
+    let run = run_words(rt, "opt", text, Failing::No)?;
+    Ok(
+        run.code == code
+            && run.err.held() == message.as_bytes()
+            && run.out.held().is_empty() == (code != 0),
+    )
+}
+
 // With these operations a module is at the limit, and accepted; with one constant more it is not.
 #[test]
 fn sizes_are_told_exactly(rt: HostRuntime) -> Result<(), Fail> {
-    let alloc = rt.alloc();
-    let modules = doubling(alloc, 24)?;
-    let filled = FILLED;
+    let modules = doubling(rt.alloc(), 24)?;
     for rest in REST {
-        let most = format!(in alloc; "{modules}{filled}{rest}}}\n")?;
-        let run = run_words(&rt, "opt", most.as_str(), Failing::No)?;
-        assert_eq!(rt; run.err.held(), b"".as_slice(), "of {rest}");
-        assert_eq!(rt; run.code, 0, "of {rest}");
-        let more = format!(in alloc; "{modules}{filled}{rest}  %z = hw.constant true\n}}\n")?;
-        let run = run_words(&rt, "opt", more.as_str(), Failing::No)?;
-        assert_eq!(rt; run.err.held(), REFUSED.as_bytes(), "of {rest}");
-        assert_eq!(rt; run.code, 1, "of {rest}");
+        for (end, code, message) in [
+            ("}\n", 0, ""),
+            (
+                "  %z = hw.constant true\n}\n",
+                1,
+                "<stdin>:124:1: error: 'hw.module' V22: design too large\n",
+            ),
+        ] {
+            let text = joined(rt.alloc(), &[modules.as_str(), FILLED, rest, end])?;
+            assert!(rt; ends_with(&rt, text.as_str(), code, message)?, "of {rest}");
+        }
     }
+    Ok(())
+}
+
+// A text one byte longer than a text may be is refused without reading more.
+#[test]
+fn a_text_that_is_too_long_is_refused(rt: HostRuntime) -> Result<(), Fail> {
+    let text = vec![in rt.alloc(); b' '; (1usize << 26) + 1]?;
+    let message = "<stdin>:1:1: error: 'builtin.module' S7: text too long\n";
+    assert!(rt; ends_with(&rt, str::from_utf8(text.as_slice())?, 1, message)?);
     Ok(())
 }
