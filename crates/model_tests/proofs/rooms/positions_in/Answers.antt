@@ -3,7 +3,7 @@ use Rattle.ir_store.specs.Bodies.{ids_of}
 use Rattle.ir_store.specs.Live.{AreDistinct}
 use Rattle.ir_store.proofs.BodyLemmas.{ids_once}
 use Rattle.ir_store.proofs.PositionTables.{indices, ids_same}
-use Rattle.model_tests.proofs.bodies.positions_in.Goals as goal
+use Rattle.model_tests.proofs.rooms.positions_in.Goals as goal
 
 pub positions_of-requires : goal.positions_of-requires
 positions_of-requires c =
