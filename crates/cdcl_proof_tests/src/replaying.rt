@@ -100,11 +100,18 @@ const CASES: [Case; 8] = [
     },
 ];
 
+/// The first case that does otherwise, by its position.
+fn first_other(alloc: Global, rt: &impl Abort, cases: &[Case]) -> Result<Option<usize>, Fail> {
+    for (at, case) in cases.iter().enumerate() {
+        if one_step(alloc, rt, case.clause, case.second, case.pivot)? != case.replays {
+            return Ok(Some(at));
+        }
+    }
+    Ok(None)
+}
+
 #[test]
 fn a_changed_log_does_not_replay(rt: HostRuntime) -> Result<(), Fail> {
-    for (case, at) in CASES.iter().zip(0..) {
-        let does = one_step(rt.alloc(), &rt, case.clause, case.second, case.pivot)?;
-        assert_eq!(rt; does, case.replays, "case {at}");
-    }
+    assert_eq!(rt; first_other(rt.alloc(), &rt, &CASES)?, None);
     Ok(())
 }

@@ -6,6 +6,7 @@ use cdcl_proof::log::Log;
 use cdcl_proof::replay::replays;
 use cdcl_proof::solve::{Answer, solve};
 use std::alloc::{AllocError, Global};
+use std::process::Abort;
 use std::test::Fail;
 
 /// What the solver says of a formula.
@@ -126,13 +127,20 @@ const CASES: [Case; 12] = [
     },
 ];
 
+/// The first case with another verdict, by its position.
+fn first_other(alloc: Global, rt: &impl Abort, cases: &[Case]) -> Result<Option<usize>, Fail> {
+    for (at, case) in cases.iter().enumerate() {
+        let cnf = formula(alloc, rt, case.variables, case.clauses)?;
+        if verdict_on(alloc, &cnf, case.budget)? != case.verdict {
+            return Ok(Some(at));
+        }
+    }
+    Ok(None)
+}
+
 #[test]
 fn small_formulas(rt: HostRuntime) -> Result<(), Fail> {
-    for (case, at) in CASES.iter().zip(0..) {
-        let cnf = formula(rt.alloc(), &rt, case.variables, case.clauses)?;
-        let found = verdict_on(rt.alloc(), &cnf, case.budget)?;
-        assert_eq!(rt; found, case.verdict, "case {at}");
-    }
+    assert_eq!(rt; first_other(rt.alloc(), &rt, &CASES)?, None);
     Ok(())
 }
 

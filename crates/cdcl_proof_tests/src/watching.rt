@@ -120,17 +120,22 @@ fn is_answered(
     Ok(true)
 }
 
+/// The first call of a run that answers otherwise, by its position.
+fn first_other(alloc: Global, rt: &impl Abort, run: &Run) -> Result<Option<usize>, Fail> {
+    let cnf = formula(alloc, rt, run.variables, run.clauses)?;
+    let mut watched = Watched::new(alloc, &cnf)?;
+    for (at, call) in run.calls.iter().enumerate() {
+        if !is_answered(alloc, rt, &mut watched, *call)? {
+            return Ok(Some(at));
+        }
+    }
+    Ok(None)
+}
+
 #[test]
 fn literals_are_watched(rt: HostRuntime) -> Result<(), Fail> {
     for run in &RUNS {
-        let cnf = formula(rt.alloc(), &rt, run.variables, run.clauses)?;
-        let mut watched = Watched::new(rt.alloc(), &cnf)?;
-        for (call, at) in run.calls.iter().zip(0..) {
-            assert!(rt;
-                is_answered(rt.alloc(), &rt, &mut watched, *call)?,
-                "call {at}"
-            );
-        }
+        assert_eq!(rt; first_other(rt.alloc(), &rt, run)?, None);
     }
     Ok(())
 }

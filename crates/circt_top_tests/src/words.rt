@@ -346,7 +346,7 @@ fn is_answered(group: &Group, run: &Ended) -> bool {
 }
 
 // The first of the words of a group that has another answer.
-fn first_other(
+fn other_words(
     rt: &(impl Threads + Sync + AllocGlobal),
     group: &Group,
 ) -> Result<Option<&'static str>, AllocError> {
@@ -359,11 +359,22 @@ fn first_other(
     Ok(None)
 }
 
+// The first of the words of all groups that has another answer.
+fn first_other(
+    rt: &(impl Threads + Sync + AllocGlobal),
+    groups: &[Group],
+) -> Result<Option<&'static str>, AllocError> {
+    for group in groups {
+        if let Some(words) = other_words(rt, group)? {
+            return Ok(Some(words));
+        }
+    }
+    Ok(None)
+}
+
 #[test]
 fn words_have_their_answers(rt: HostRuntime) -> Result<(), Fail> {
-    for group in &GROUPS {
-        assert_eq!(rt; first_other(&rt, group)?, None);
-    }
+    assert_eq!(rt; first_other(&rt, &GROUPS)?, None);
     Ok(())
 }
 

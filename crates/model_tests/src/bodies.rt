@@ -52,16 +52,21 @@ pub(crate) fn put(
     before: Option<u32>,
     operands: &[Value],
 ) -> Result<bool, AllocError> {
-    let before = before.map(OpId::nth);
     if body.op_count() >= 1000 {
         return Ok(false);
     }
-    if let Some(other) = before {
-        if !body.contains(other) {
-            return Ok(false);
+    match before {
+        Some(number) => {
+            let other = OpId::nth(number);
+            if !body.contains(other) {
+                return Ok(false);
+            }
+            let _ = body.add_op(Some(other), operation(alloc, operands)?)?;
+        }
+        None => {
+            let _ = body.add_op(None, operation(alloc, operands)?)?;
         }
     }
-    let _ = body.add_op(before, operation(alloc, operands)?)?;
     Ok(true)
 }
 
@@ -179,10 +184,24 @@ fn is_well(alloc: Global, run: &Run) -> Result<bool, AllocError> {
     Ok(is_given(alloc, run, &body)? && is_given(alloc, run, &copy)?)
 }
 
-#[test]
-fn bodies_change_as_they_are_told(rt: HostRuntime) -> Result<(), Fail> {
-    for (run, at) in OPERANDS.iter().chain(&ORDERS).zip(0..) {
-        assert!(rt; is_well(rt.alloc(), run)?, "run {at}");
+// the first run that gives something else, by its position
+fn first_other(alloc: Global, runs: &[Run]) -> Result<Option<usize>, AllocError> {
+    for (at, run) in runs.iter().enumerate() {
+        if !is_well(alloc, run)? {
+            return Ok(Some(at));
+        }
     }
+    Ok(None)
+}
+
+#[test]
+fn operands_change_where_they_are_named(rt: HostRuntime) -> Result<(), Fail> {
+    assert_eq!(rt; first_other(rt.alloc(), &OPERANDS)?, None);
+    Ok(())
+}
+
+#[test]
+fn operations_stand_in_text_order(rt: HostRuntime) -> Result<(), Fail> {
+    assert_eq!(rt; first_other(rt.alloc(), &ORDERS)?, None);
     Ok(())
 }

@@ -16,19 +16,21 @@ use std::test::Fail;
 // Puts an operation to the end where room is left for it and two operands.
 fn put_in_room(alloc: Global, body: &mut Body) -> Result<bool, AllocError> {
     let (ops, uses) = body.spare();
-    Ok(ops >= 1 && uses >= 2 && put(alloc, body, None, &[Value::Port(0), Value::Port(1)])?)
+    if ops < 1 || uses < 2 {
+        return Ok(false);
+    }
+    put(alloc, body, None, &[Value::Port(0), Value::Port(1)])
 }
 
 // Erases the first operation. It gives back room for it and its two operands.
 fn erase_first(body: &mut Body) -> bool {
-    let (ops, uses) = body.spare();
-    match body.ops().next() {
-        Some(op) if erased(body, op) => {
-            let spare = body.spare();
-            spare.0.saturating_sub(ops) >= 1 && spare.1.saturating_sub(uses) >= 2
-        }
-        Some(_) | None => false,
-    }
+    let before = body.spare();
+    let Some(op) = body.ops().next() else {
+        return false;
+    };
+    let is_erased = erased(body, op);
+    let after = body.spare();
+    is_erased && after.0.saturating_sub(before.0) >= 1 && after.1.saturating_sub(before.1) >= 2
 }
 
 // adds and erases 1,000 operations ten times over

@@ -99,11 +99,19 @@ fn are(words: &[BitString], numbers: &[u128]) -> Result<bool, Refusal> {
     Ok(words.len() == numbers.len())
 }
 
+// The first run that gives other outputs, by its position.
+fn first_other(alloc: Global, runs: &[Run]) -> Result<Option<usize>, Refusal> {
+    for (at, run) in runs.iter().enumerate() {
+        let outputs = outputs_of(alloc, run)?;
+        if !are(outputs.as_slice(), run.outputs)? {
+            return Ok(Some(at));
+        }
+    }
+    Ok(None)
+}
+
 #[test]
 fn designs_run(rt: HostRuntime) -> Result<(), Fail> {
-    for (run, at) in RUNS.iter().zip(0..) {
-        let outputs = outputs_of(rt.alloc(), run)?;
-        assert!(rt; are(outputs.as_slice(), run.outputs)?, "run {at}");
-    }
+    assert_eq!(rt; first_other(rt.alloc(), &RUNS)?, None);
     Ok(())
 }

@@ -72,10 +72,10 @@ fn results_are_copied(rt: HostRuntime) -> Result<(), Fail> {
         results.push(rt.alloc(), NewResult { ty, again })?;
     }
     let copy = results.try_clone(rt.alloc())?;
-    let parts = copy
-        .as_slice()
-        .iter()
-        .map(|one| (one.ty.width(), one.again));
-    assert!(rt; parts.eq([(1, false), (7, true)]));
+    let [first, second] = copy.as_slice() else {
+        panic!(rt; "two results");
+    };
+    assert_eq!(rt; (first.ty.width(), first.again), (1, false));
+    assert_eq!(rt; (second.ty.width(), second.again), (7, true));
     Ok(())
 }

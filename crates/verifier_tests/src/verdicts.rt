@@ -79,24 +79,36 @@ const CASES: [Case; 5] = [
 
 // The operation of a line.
 fn operation_of(alloc: Global, line: u32, row: &Operation) -> Result<NewOp, AllocError> {
-    let (kind, values, results) = match row.kind {
-        Kind::Sum(a, b) => (OpKind::Add, [Value::Port(a), Value::Port(b)], 1),
-        Kind::Output(a) => (OpKind::Output, [Value::Port(a), Value::Undefined], 0),
-    };
-    let operands = values.get(..results + 1).unwrap_or(&[]);
-    let shape = Shape {
-        types: 1,
-        results,
-        again: row.again,
-    };
-    operation(alloc, line, kind, operands, shape)
+    let again = row.again;
+    match row.kind {
+        Kind::Sum(a, b) => {
+            let operands = [Value::Port(a), Value::Port(b)];
+            let shape = Shape {
+                types: 1,
+                results: 1,
+                again,
+            };
+            operation(alloc, line, OpKind::Add, &operands, shape)
+        }
+        Kind::Output(a) => {
+            let operands = [Value::Port(a)];
+            let shape = Shape {
+                types: 1,
+                results: 0,
+                again,
+            };
+            operation(alloc, line, OpKind::Output, &operands, shape)
+        }
+    }
 }
 
 // The design of one module with these operations from the second line on.
 fn design_of(alloc: Global, rows: &[Operation]) -> Result<Design, AllocError> {
     let mut ops = Vec::new(alloc);
-    for (row, line) in rows.iter().zip(2..) {
+    let mut line = 2u32;
+    for row in rows {
         ops.push(operation_of(alloc, line, row)?)?;
+        line = line.wrapping_add(1);
     }
     let mut design = Design::new(alloc);
     let _ = design.add_module(module(alloc, b"T", ops)?)?;
@@ -113,13 +125,29 @@ fn refusal_of(alloc: Global, design: Design) -> Result<Option<Refusal>, AllocErr
     }
 }
 
+// Whether a design has the refusal of a case.
+fn is_told(refusal: Option<Refusal>, case: &Case) -> bool {
+    match (refusal, case.refused) {
+        (Some(refusal), Some((line, cause))) => refusal.place.line == line
+            && refusal.cause == cause,
+        (None, None) => true,
+        (Some(_), None) | (None, Some(_)) => false,
+    }
+}
+
+// The first case with another verdict, by its position.
+fn first_other(alloc: Global, cases: &[Case]) -> Result<Option<usize>, AllocError> {
+    for (at, case) in cases.iter().enumerate() {
+        let design = design_of(alloc, case.body)?;
+        if !is_told(refusal_of(alloc, design)?, case) {
+            return Ok(Some(at));
+        }
+    }
+    Ok(None)
+}
+
 #[test]
 fn designs_are_accepted_or_refused(rt: HostRuntime) -> Result<(), Fail> {
-    for (case, at) in CASES.iter().zip(0..) {
-        let design = design_of(rt.alloc(), case.body)?;
-        let refusal = refusal_of(rt.alloc(), design)?;
-        let told = refusal.map(|refusal| (refusal.place.line, refusal.cause));
-        assert_eq!(rt; told, case.refused, "case {at}");
-    }
+    assert_eq!(rt; first_other(rt.alloc(), &CASES)?, None);
     Ok(())
 }
