@@ -2,7 +2,7 @@ use Rattle.std.proofs.Common.{◌-◌, ◌++◌, refl, ap, sym, ◌∙◌, arith
 use Rattle.hw_model.specs.TypeViews.{type_of}
 use Rattle.hw_model.specs.Value.{elements_from}
 use Rattle.hw_interpreter.proofs.Pieces.{piece_more, elements_top}
-use Rattle.hw_interpreter.proofs.values.elements.Goals as goal
+use Rattle.hw_interpreter.proofs.arrays.elements.Goals as goal
 
 pub loop-left-preserved : goal.loop-left-preserved
 loop-left-preserved c =

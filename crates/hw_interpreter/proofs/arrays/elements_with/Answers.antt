@@ -2,7 +2,7 @@ use Rattle.std.proofs.Common.{◌-◌, ◌++◌, refl, ap, sym, ◌∙◌}
 use Rattle.hw_model.specs.TypeViews.{type_of}
 use Rattle.hw_model.specs.Value.{injected_below}
 use Rattle.hw_interpreter.proofs.Pieces.{piece_more, injected_top}
-use Rattle.hw_interpreter.proofs.values.elements_with.Goals as goal
+use Rattle.hw_interpreter.proofs.arrays.elements_with.Goals as goal
 
 pub loop-left-preserved : goal.loop-left-preserved
 loop-left-preserved c =

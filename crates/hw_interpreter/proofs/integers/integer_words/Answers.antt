@@ -1,7 +1,7 @@
 use Rattle.std.proofs.Common.{sym, arith}
 use Rattle.hw_interpreter.proofs.Counts.{take_more}
 use Rattle.hw_interpreter.proofs.Suiting.{integers_more}
-use Rattle.hw_interpreter.proofs.values.integer_words.Goals as goal
+use Rattle.hw_interpreter.proofs.integers.integer_words.Goals as goal
 
 pub loop-operand-preserved : goal.loop-operand-preserved
 loop-operand-preserved c =

@@ -1,6 +1,6 @@
 use Rattle.std.proofs.Common.{◌≡◌, take, All}
 use Rattle.hw_interpreter.specs.Suits.{IsInteger}
-use Rattle.hw_interpreter.proofs.values.integer_words.Given as goal
+use Rattle.hw_interpreter.proofs.integers.integer_words.Given as goal
 
 abbrev pub invariant-loop-operand : goal.invariant-loop-operand
 invariant-loop-operand l = record {
