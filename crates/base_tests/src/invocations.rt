@@ -55,6 +55,16 @@ fn a_word_of_the_program_s_own_is_reserved(rt: HostRuntime) -> Result<(), Fail> 
     Ok(())
 }
 
+// What is wrong with the words of a line, if they are no command.
+fn usage_of(alloc: Global, line: &str) -> Result<Option<UsageKind>, AllocError> {
+    let words = words_of(alloc, line)?;
+    match read_line(alloc, words.as_slice()) {
+        Ok(_) => Ok(None),
+        Err(LineFail::Usage(kind)) => Ok(Some(kind)),
+        Err(LineFail::NoMemory) => Err(AllocError),
+    }
+}
+
 #[test]
 fn words_are_a_command_or_wrong(rt: HostRuntime) -> Result<(), Fail> {
     let alloc = rt.alloc();
@@ -83,11 +93,30 @@ fn words_are_a_command_or_wrong(rt: HostRuntime) -> Result<(), Fail> {
         ("lec a.mlir", Some(UsageKind::Words)),
         ("--export-verilog translate", Some(UsageKind::Words)),
     ] {
-        let words = words_of(alloc, line)?;
-        let answer = read_line(alloc, words.as_slice());
-        assert_eq!(rt; answer.err(), kind.map(LineFail::Usage), "of {line}");
+        assert_eq!(rt; usage_of(alloc, line)?, kind, "of {line}");
     }
     Ok(())
+}
+
+// Whether the words of a line are a command with these files.
+fn is_command(
+    alloc: Global,
+    line: &str,
+    translates: bool,
+    input: &str,
+    output: Option<&str>,
+) -> Result<bool, AllocError> {
+    let words = words_of(alloc, line)?;
+    match read_line(alloc, words.as_slice()) {
+        Ok(Invocation::Opt(paths)) => {
+            Ok(!translates && paths.input == input && paths.output == output)
+        }
+        Ok(Invocation::Translate(paths)) => {
+            Ok(translates && paths.input == input && paths.output == output)
+        }
+        Err(LineFail::Usage(_)) => Ok(false),
+        Err(LineFail::NoMemory) => Err(AllocError),
+    }
 }
 
 #[test]
@@ -102,15 +131,8 @@ fn files_are_named(rt: HostRuntime) -> Result<(), Fail> {
         ("translate --export-verilog a -o b", true, "a", Some("b")),
         ("opt -- -o", false, "-o", None),
     ] {
-        let words = words_of(alloc, line)?;
-        let (is_translation, paths) = match read_line(alloc, words.as_slice()) {
-            Ok(Invocation::Opt(paths)) => (false, paths),
-            Ok(Invocation::Translate(paths)) => (true, paths),
-            Err(_) => panic!(rt; "refused {line}"),
-        };
-        assert_eq!(rt; is_translation, translates, "of {line}");
-        assert_eq!(rt; paths.input, input, "of {line}");
-        assert_eq!(rt; paths.output, output, "of {line}");
+        let is_so = is_command(alloc, line, translates, input, output)?;
+        assert!(rt; is_so, "of {line}");
     }
     Ok(())
 }

@@ -1,8 +1,10 @@
+//! Texts, sinks and files in memory.
 use io_edge::byte_text::Text;
 use io_edge::file_access::{FileFail, Files};
 use io_edge::memory_files::{MemoryFile, MemoryFiles};
 use io_edge::memory_sink::MemorySink;
 use io_edge::sinks::{Sink, put_all};
+use std::alloc::{AllocError, Global};
 use std::test::Fail;
 
 #[test]
@@ -19,6 +21,18 @@ fn texts_are_their_bytes(rt: HostRuntime) -> Result<(), Fail> {
     Ok(())
 }
 
+// How many bytes of a text a sink holds that fails at a put, whether all went out, and how many faults it met.
+fn put_with_fault(
+    alloc: Global,
+    length: usize,
+    failing: u64,
+) -> Result<(usize, bool, u64), AllocError> {
+    let text = vec![in alloc; 7u8; length]?;
+    let mut sink = MemorySink::new(alloc, 20_000)?.failing_at(vec![in alloc; failing]?);
+    let is_ok = put_all(&mut sink, text.as_slice()).is_ok();
+    Ok((sink.held().len(), is_ok, sink.faults()))
+}
+
 #[test]
 fn a_text_goes_out_in_pieces_of_4096_bytes(rt: HostRuntime) -> Result<(), Fail> {
     let alloc = rt.alloc();
@@ -30,12 +44,10 @@ fn a_text_goes_out_in_pieces_of_4096_bytes(rt: HostRuntime) -> Result<(), Fail> 
         (10_000, 1, 4096),
         (10_000, 0, 0),
     ] {
-        let text = vec![in alloc; 7u8; length]?;
-        let mut sink = MemorySink::new(alloc, 20_000)?.failing_at(vec![in alloc; failing]?);
-        let answer = put_all(&mut sink, text.as_slice());
-        assert_eq!(rt; sink.held().len(), held, "of {length}");
-        assert_eq!(rt; answer.is_ok(), held == length, "of {length}");
-        assert_eq!(rt; sink.faults(), u64::from(held != length), "of {length}");
+        let is_whole = held == length;
+        let answer = put_with_fault(alloc, length, failing)?;
+        let wanted = (held, is_whole, u64::from(!is_whole));
+        assert_eq!(rt; answer, wanted, "of {length}");
     }
     Ok(())
 }
@@ -50,11 +62,33 @@ fn a_full_sink_keeps_what_fits(rt: HostRuntime) -> Result<(), Fail> {
     Ok(())
 }
 
+// What is read of a file; nothing where it cannot be read.
+fn read_of(
+    files: &mut MemoryFiles,
+    alloc: Global,
+    name: &str,
+    limit: u64,
+) -> Result<Option<Text>, AllocError> {
+    match files.read(alloc, name, limit) {
+        Ok(text) => Ok(Some(text)),
+        Err(FileFail::Failed) => Ok(None),
+        Err(FileFail::NoMemory) => Err(AllocError),
+    }
+}
+
+// Whether a text is this one, or there is none.
+fn is_text(text: &Option<Text>, wanted: Option<&[u8]>) -> bool {
+    match (text, wanted) {
+        (Some(text), Some(wanted)) => text.as_bytes() == wanted,
+        (None, None) => true,
+        (Some(_), None) | (None, Some(_)) => false,
+    }
+}
+
 #[test]
 fn files_in_memory_are_read_by_name(rt: HostRuntime) -> Result<(), Fail> {
     let alloc = rt.alloc();
-    let mut files = vec![in alloc]?;
-    files.push(MemoryFile::of(alloc, "-", b"module")?)?;
+    let files = vec![in alloc; MemoryFile::of(alloc, "-", b"module")?]?;
     let mut files = MemoryFiles::new(alloc, files).failing_at(vec![in alloc; 2]?);
     for (name, limit, wanted) in [
         ("-", 100, Some(b"module".as_slice())),
@@ -62,37 +96,33 @@ fn files_in_memory_are_read_by_name(rt: HostRuntime) -> Result<(), Fail> {
         ("-", 100, None),
         ("x.mlir", 100, None),
     ] {
-        match (wanted, files.read(alloc, name, limit)) {
-            (Some(wanted), Ok(text)) => assert_eq!(rt; text.as_bytes(), wanted),
-            (None, Err(fail)) => assert_eq!(rt; fail, FileFail::Failed),
-            _ => panic!(rt; "another answer for {name} {limit}"),
-        }
+        let text = read_of(&mut files, alloc, name, limit)?;
+        assert!(rt; is_text(&text, wanted), "of {name} {limit}");
     }
     assert_eq!(rt; files.read_faults(), 2);
     Ok(())
 }
 
+// Whether these bytes are written to a file.
+fn is_written(files: &mut MemoryFiles, alloc: Global, name: &str, bytes: &[u8]) -> bool {
+    files.write(alloc, name, bytes).is_ok() && files.held(name) == Some(bytes)
+}
+
 #[test]
 fn files_in_memory_are_written_by_name(rt: HostRuntime) -> Result<(), Fail> {
     let alloc = rt.alloc();
-    let mut files = vec![in alloc]?;
-    files.push(MemoryFile::of(alloc, "a.v", b"old")?)?;
+    let files = vec![in alloc; MemoryFile::of(alloc, "a.v", b"old")?]?;
     let mut files = MemoryFiles::new(alloc, files).failing_writes_at(vec![in alloc; 1]?);
-    for (name, bytes, held) in [
-        ("a.v", b"new text".as_slice(), Some(b"new text".as_slice())),
-        ("a.v", b"lost".as_slice(), None),
-        ("b.v", b"".as_slice(), Some(b"".as_slice())),
-        ("a.v", b"x".as_slice(), Some(b"x".as_slice())),
+    for (name, bytes, wanted) in [
+        ("a.v", b"new text".as_slice(), true),
+        ("a.v", b"lost", false),
+        ("b.v", b"", true),
+        ("a.v", b"x", true),
     ] {
-        let answer = files.write(alloc, name, bytes);
-        assert_eq!(rt; answer.is_ok(), held.is_some(), "of {name}");
-        if held.is_some() {
-            assert_eq!(rt; files.held(name), held, "of {name}");
-        }
+        assert_eq!(rt; is_written(&mut files, alloc, name, bytes), wanted);
     }
     assert_eq!(rt; files.held("b.v"), Some(b"".as_slice()));
     assert_eq!(rt; files.held("c.v"), None);
-    assert_eq!(rt; files.write_faults(), 1);
-    assert_eq!(rt; files.read_faults(), 0);
+    assert_eq!(rt; (files.write_faults(), files.read_faults()), (1, 0));
     Ok(())
 }

@@ -1,6 +1,7 @@
 //! Files of the system, and readers that are interrupted or fail.
 use io_edge::file_access::{FileFail, Files};
 use io_edge::real_files::{RealFiles, read_text};
+use std::alloc::Global;
 use std::io::{ErrorKind, Read};
 use std::test::Fail;
 use std::{fs, io};
@@ -72,14 +73,21 @@ fn reads_a_file_of_the_system(rt: HostRuntime) -> Result<(), Fail> {
     Ok(())
 }
 
+// Whether a text is written to a file and read again.
+fn is_written(alloc: Global, files: &mut impl Files, name: &str, text: &[u8]) -> bool {
+    let is_ok = files.write(alloc, name, text).is_ok();
+    match files.read(alloc, name, 100) {
+        Ok(held) => is_ok && held.as_bytes() == text,
+        Err(_) => false,
+    }
+}
+
 #[test]
 fn writes_a_file_of_the_system(rt: HostRuntime) -> Result<(), Fail> {
     let name = "io_edge_write_test.v";
     let mut files = RealFiles::new(&rt);
     for text in ["module M;", "endmodule", ""] {
-        assert!(rt; files.write(rt.alloc(), name, text.as_bytes()).is_ok());
-        let held = files.read(rt.alloc(), name, 100)?;
-        assert_eq!(rt; held.as_bytes(), text.as_bytes());
+        assert!(rt; is_written(rt.alloc(), &mut files, name, text.as_bytes()));
     }
     fs::remove_file(&rt, name)?;
     assert_eq!(rt; files.write_faults(), 0);

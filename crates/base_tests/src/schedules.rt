@@ -8,7 +8,242 @@ use sched_core::Sched;
 use std::alloc::{AllocError, Global};
 use std::test::Fail;
 
-// the first event of the list that may not come, by its position
+/// The modules of a run.
+#[derive(Clone, Copy)]
+enum Modules {
+    /// Two leaves, 0 and 1, and their caller, 2.
+    TwoLeaves,
+    /// A leaf, 0, and a caller that has it twice, 1.
+    OneCalleeTwice,
+}
+
+/// Events that come one after another.
+struct Part {
+    events: &'static [Event],
+    /// The position of the first that may not come, where there is one; it and those after it do not come.
+    refused: Option<usize>,
+    /// What may come then.
+    may: &'static [Event],
+    /// What may not.
+    may_not: &'static [Event],
+}
+
+/// A run in parts.
+struct Run {
+    modules: Modules,
+    parts: &'static [Part],
+}
+
+const RUNS: [Run; 7] = [
+    // each worker draws a leaf, and the second reports last
+    Run {
+        modules: Modules::TwoLeaves,
+        parts: &[
+            Part {
+                events: &[
+                    Split,
+                    Claim { w: 0 },
+                    Claim { w: 1 },
+                    Take { w: 0, m: 0 },
+                    Take { w: 1, m: 1 },
+                    PutDone { w: 0, m: 0 },
+                    PutDone { w: 1, m: 1 },
+                    PutEdge { w: 0, c: 2, i: 0 },
+                    Report { w: 0, c: 2, i: 0 },
+                    PutEdge { w: 1, c: 2, i: 1 },
+                    Report { w: 1, c: 2, i: 1 },
+                ],
+                refused: None,
+                may: &[],
+                // the caller is owed to the second worker alone, and its edges are to be emptied
+                may_not: &[Take { w: 0, m: 2 }, PutDone { w: 1, m: 2 }],
+            },
+            Part {
+                events: &[
+                    Take { w: 1, m: 2 },
+                    TakeEdge { w: 1, c: 2, i: 1 },
+                    TakeEdge { w: 1, c: 2, i: 0 },
+                    PutDone { w: 1, m: 2 },
+                    Claim { w: 0 },
+                    Claim { w: 1 },
+                    Join { kept: 0, gone: 1 },
+                ],
+                refused: None,
+                may: &[],
+                // the first worker has drawn past the leaves, and the second is gone
+                may_not: &[Claim { w: 0 }, Claim { w: 1 }],
+            },
+        ],
+    },
+    // each worker draws a leaf, and the first reports last
+    Run {
+        modules: Modules::TwoLeaves,
+        parts: &[Part {
+            events: &[
+                Split,
+                Claim { w: 1 },
+                Claim { w: 0 },
+                Take { w: 1, m: 0 },
+                PutDone { w: 1, m: 0 },
+                PutEdge { w: 1, c: 2, i: 0 },
+                Report { w: 1, c: 2, i: 0 },
+                Claim { w: 1 },
+                Take { w: 0, m: 1 },
+                PutDone { w: 0, m: 1 },
+                PutEdge { w: 0, c: 2, i: 1 },
+                Report { w: 0, c: 2, i: 1 },
+                Take { w: 0, m: 2 },
+                TakeEdge { w: 0, c: 2, i: 0 },
+                Join { kept: 0, gone: 1 },
+                TakeEdge { w: 0, c: 2, i: 1 },
+                PutDone { w: 0, m: 2 },
+                Take { w: 0, m: 2 },
+            ],
+            refused: Some(17),
+            may: &[],
+            may_not: &[],
+        }],
+    },
+    // one worker draws both leaves, and the other joins what it did
+    Run {
+        modules: Modules::TwoLeaves,
+        parts: &[
+            Part {
+                events: &[
+                    Split,
+                    Claim { w: 1 },
+                    Claim { w: 1 },
+                    Claim { w: 0 },
+                    Take { w: 1, m: 1 },
+                    Take { w: 1, m: 0 },
+                    PutDone { w: 1, m: 0 },
+                    PutDone { w: 1, m: 1 },
+                    PutEdge { w: 1, c: 2, i: 1 },
+                    PutEdge { w: 1, c: 2, i: 0 },
+                    Report { w: 1, c: 2, i: 1 },
+                    // its other edge is not reported
+                    Join { kept: 0, gone: 1 },
+                ],
+                refused: Some(11),
+                may: &[],
+                // it may report no edge twice, and the first worker did nothing
+                may_not: &[Report { w: 1, c: 2, i: 1 }, Report { w: 0, c: 2, i: 0 }],
+            },
+            // after the last report the caller is owed to it
+            Part {
+                events: &[Report { w: 1, c: 2, i: 0 }, Join { kept: 0, gone: 1 }],
+                refused: Some(1),
+                may: &[],
+                may_not: &[],
+            },
+        ],
+    },
+    // a caller waits for its callees: two draws give the leaves, the third one nothing, and there is no fourth
+    Run {
+        modules: Modules::TwoLeaves,
+        parts: &[
+            Part {
+                events: &[],
+                refused: None,
+                may: &[],
+                may_not: &[Take { w: 0, m: 2 }, PutEdge { w: 0, c: 2, i: 0 }],
+            },
+            Part {
+                events: &[
+                    Claim { w: 0 },
+                    Claim { w: 0 },
+                    Claim { w: 0 },
+                    Claim { w: 0 },
+                ],
+                refused: Some(3),
+                may: &[Take { w: 0, m: 0 }, Take { w: 0, m: 1 }],
+                may_not: &[Take { w: 0, m: 2 }],
+            },
+        ],
+    },
+    // there are 63 splits
+    Run {
+        modules: Modules::TwoLeaves,
+        parts: &[Part {
+            events: &[Split; 64],
+            refused: Some(63),
+            may: &[Claim { w: 63 }],
+            may_not: &[Claim { w: 64 }],
+        }],
+    },
+    // a worker that owes is not joined, nor one into itself, nor one that has not come; the first one owes nothing,
+    // and may go, and then there is no split
+    Run {
+        modules: Modules::TwoLeaves,
+        parts: &[
+            Part {
+                events: &[Split, Claim { w: 1 }, Join { kept: 0, gone: 1 }],
+                refused: Some(2),
+                may: &[],
+                may_not: &[Join { kept: 0, gone: 0 }, Join { kept: 0, gone: 2 }],
+            },
+            Part {
+                events: &[Join { kept: 1, gone: 0 }, Split],
+                refused: Some(1),
+                may: &[],
+                may_not: &[],
+            },
+        ],
+    },
+    // a callee that stands twice is reported twice, and there is no third edge
+    Run {
+        modules: Modules::OneCalleeTwice,
+        parts: &[
+            Part {
+                events: &[
+                    Claim { w: 0 },
+                    Take { w: 0, m: 0 },
+                    PutDone { w: 0, m: 0 },
+                    PutEdge { w: 0, c: 1, i: 0 },
+                    Report { w: 0, c: 1, i: 0 },
+                    Take { w: 0, m: 1 },
+                ],
+                refused: Some(5),
+                may: &[],
+                may_not: &[],
+            },
+            Part {
+                events: &[
+                    PutEdge { w: 0, c: 1, i: 1 },
+                    Report { w: 0, c: 1, i: 1 },
+                    Take { w: 0, m: 1 },
+                    TakeEdge { w: 0, c: 1, i: 0 },
+                    PutDone { w: 0, m: 1 },
+                ],
+                refused: Some(4),
+                may: &[],
+                may_not: &[],
+            },
+            Part {
+                events: &[TakeEdge { w: 0, c: 1, i: 1 }, PutDone { w: 0, m: 1 }],
+                refused: None,
+                may: &[],
+                may_not: &[PutEdge { w: 0, c: 1, i: 2 }],
+            },
+        ],
+    },
+];
+
+// The machine over some modules.
+fn machine(alloc: Global, modules: Modules) -> Result<Sched, AllocError> {
+    match modules {
+        Modules::TwoLeaves => {
+            let caller = Vec::from_slice(alloc, &[0, 1])?;
+            Sched::new(alloc, &[Vec::new(alloc), Vec::new(alloc), caller])
+        }
+        Modules::OneCalleeTwice => {
+            let caller = Vec::from_slice(alloc, &[0, 0])?;
+            Sched::new(alloc, &[Vec::new(alloc), caller])
+        }
+    }
+}
+
+// The first event of the list that may not come, by its position. Those before it come.
 fn first_refused(sched: &mut Sched, events: &[Event]) -> Option<usize> {
     for i in 0..events.len() {
         let event = events[i];
@@ -20,194 +255,41 @@ fn first_refused(sched: &mut Sched, events: &[Event]) -> Option<usize> {
     None
 }
 
-// two leaves, 0 and 1, and their caller, 2
-fn two_leaves(alloc: Global) -> Result<Sched, AllocError> {
-    let callees = [
-        Vec::new(alloc),
-        Vec::new(alloc),
-        Vec::from_slice(alloc, &[0, 1])?,
-    ];
-    Sched::new(alloc, &callees)
+// Whether each of these events may come, or none may.
+fn all_may(sched: &Sched, events: &[Event], may: bool) -> bool {
+    for event in events {
+        if sched.may(*event) != may {
+            return false;
+        }
+    }
+    true
 }
 
-// a leaf, 0, and a caller that has it twice, 1
-fn one_callee_twice(alloc: Global) -> Result<Sched, AllocError> {
-    let callees = [Vec::new(alloc), Vec::from_slice(alloc, &[0, 0])?];
-    Sched::new(alloc, &callees)
+// Whether each part of a run goes as it says.
+fn is_well(alloc: Global, run: &Run) -> Result<bool, AllocError> {
+    let mut sched = machine(alloc, run.modules)?;
+    for part in run.parts {
+        let refused = first_refused(&mut sched, part.events);
+        let is_so = all_may(&sched, part.may, true) && all_may(&sched, part.may_not, false);
+        if refused != part.refused || !is_so {
+            return Ok(false);
+        }
+    }
+    Ok(true)
 }
 
-#[test]
-fn each_draws_a_leaf_and_the_second_reports_last(rt: HostRuntime) -> Result<(), Fail> {
-    let mut sched = two_leaves(rt.alloc())?;
-    let leaves = [
-        Split,
-        Claim { w: 0 },
-        Claim { w: 1 },
-        Take { w: 0, m: 0 },
-        Take { w: 1, m: 1 },
-        PutDone { w: 0, m: 0 },
-        PutDone { w: 1, m: 1 },
-        PutEdge { w: 0, c: 2, i: 0 },
-        Report { w: 0, c: 2, i: 0 },
-        PutEdge { w: 1, c: 2, i: 1 },
-        Report { w: 1, c: 2, i: 1 },
-    ];
-    assert_eq!(rt; first_refused(&mut sched, &leaves), None);
-    // the caller is owed to the second worker alone, and its edges are to be emptied
-    assert!(rt; !sched.may(Take { w: 0, m: 2 }));
-    assert!(rt; !sched.may(PutDone { w: 1, m: 2 }));
-    let caller = [
-        Take { w: 1, m: 2 },
-        TakeEdge { w: 1, c: 2, i: 1 },
-        TakeEdge { w: 1, c: 2, i: 0 },
-        PutDone { w: 1, m: 2 },
-        Claim { w: 0 },
-        Claim { w: 1 },
-        Join { kept: 0, gone: 1 },
-    ];
-    assert_eq!(rt; first_refused(&mut sched, &caller), None);
-    assert!(rt; !sched.may(Claim { w: 0 }), "drawn past");
-    assert!(rt; !sched.may(Claim { w: 1 }), "gone");
-    Ok(())
+// The first run that goes otherwise, by its position.
+fn first_other(alloc: Global, runs: &[Run]) -> Result<Option<usize>, AllocError> {
+    for (at, run) in runs.iter().enumerate() {
+        if !is_well(alloc, run)? {
+            return Ok(Some(at));
+        }
+    }
+    Ok(None)
 }
 
 #[test]
-fn each_draws_a_leaf_and_the_first_reports_last(rt: HostRuntime) -> Result<(), Fail> {
-    let mut sched = two_leaves(rt.alloc())?;
-    let events = [
-        Split,
-        Claim { w: 1 },
-        Claim { w: 0 },
-        Take { w: 1, m: 0 },
-        PutDone { w: 1, m: 0 },
-        PutEdge { w: 1, c: 2, i: 0 },
-        Report { w: 1, c: 2, i: 0 },
-        Claim { w: 1 },
-        Take { w: 0, m: 1 },
-        PutDone { w: 0, m: 1 },
-        PutEdge { w: 0, c: 2, i: 1 },
-        Report { w: 0, c: 2, i: 1 },
-        Take { w: 0, m: 2 },
-        TakeEdge { w: 0, c: 2, i: 0 },
-        Join { kept: 0, gone: 1 },
-        TakeEdge { w: 0, c: 2, i: 1 },
-        PutDone { w: 0, m: 2 },
-        Take { w: 0, m: 2 },
-    ];
-    assert_eq!(rt; first_refused(&mut sched, &events), Some(17));
-    Ok(())
-}
-
-#[test]
-fn one_draws_both_leaves_and_the_other_joins_what_it_did(rt: HostRuntime) -> Result<(), Fail> {
-    let mut sched = two_leaves(rt.alloc())?;
-    let events = [
-        Split,
-        Claim { w: 1 },
-        Claim { w: 1 },
-        Claim { w: 0 },
-        Take { w: 1, m: 1 },
-        Take { w: 1, m: 0 },
-        PutDone { w: 1, m: 0 },
-        PutDone { w: 1, m: 1 },
-        PutEdge { w: 1, c: 2, i: 1 },
-        PutEdge { w: 1, c: 2, i: 0 },
-        Report { w: 1, c: 2, i: 1 },
-        // its other edge is not reported
-        Join { kept: 0, gone: 1 },
-    ];
-    assert_eq!(rt; first_refused(&mut sched, &events), Some(11));
-    // it may report no edge twice, and the first worker did nothing
-    assert!(rt; !sched.may(Report { w: 1, c: 2, i: 1 }));
-    assert!(rt; !sched.may(Report { w: 0, c: 2, i: 0 }));
-    // after the last report the caller is owed to it
-    assert_eq!(rt;
-        first_refused(
-            &mut sched,
-            &[Report { w: 1, c: 2, i: 0 }, Join { kept: 0, gone: 1 }]
-        ),
-        Some(1)
-    );
-    Ok(())
-}
-
-#[test]
-fn a_caller_waits_for_its_callees(rt: HostRuntime) -> Result<(), Fail> {
-    let mut sched = two_leaves(rt.alloc())?;
-    assert!(rt; !sched.may(Take { w: 0, m: 2 }));
-    assert!(rt; !sched.may(PutEdge { w: 0, c: 2, i: 0 }));
-    // two draws give the leaves, the third one nothing, and there is no fourth
-    let draws = [
-        Claim { w: 0 },
-        Claim { w: 0 },
-        Claim { w: 0 },
-        Claim { w: 0 },
-    ];
-    assert_eq!(rt; first_refused(&mut sched, &draws), Some(3));
-    assert!(rt; sched.may(Take { w: 0, m: 0 }));
-    assert!(rt; sched.may(Take { w: 0, m: 1 }));
-    assert!(rt; !sched.may(Take { w: 0, m: 2 }));
-    Ok(())
-}
-
-#[test]
-fn there_are_63_splits(rt: HostRuntime) -> Result<(), Fail> {
-    let mut sched = two_leaves(rt.alloc())?;
-    assert_eq!(rt; first_refused(&mut sched, &[Split; 64]), Some(63));
-    assert!(rt; sched.may(Claim { w: 63 }));
-    assert!(rt; !sched.may(Claim { w: 64 }));
-    Ok(())
-}
-
-#[test]
-fn a_worker_that_owes_is_not_joined(rt: HostRuntime) -> Result<(), Fail> {
-    let mut sched = two_leaves(rt.alloc())?;
-    assert_eq!(rt;
-        first_refused(
-            &mut sched,
-            &[Split, Claim { w: 1 }, Join { kept: 0, gone: 1 }]
-        ),
-        Some(2)
-    );
-    // nor is one joined into itself, nor one that has not come
-    assert!(rt; !sched.may(Join { kept: 0, gone: 0 }));
-    assert!(rt; !sched.may(Join { kept: 0, gone: 2 }));
-    // the first one owes nothing, and may go; then there is no split
-    assert_eq!(rt;
-        first_refused(&mut sched, &[Join { kept: 1, gone: 0 }, Split]),
-        Some(1)
-    );
-    Ok(())
-}
-
-#[test]
-fn a_callee_that_stands_twice_is_reported_twice(rt: HostRuntime) -> Result<(), Fail> {
-    let mut sched = one_callee_twice(rt.alloc())?;
-    let first = [
-        Claim { w: 0 },
-        Take { w: 0, m: 0 },
-        PutDone { w: 0, m: 0 },
-        PutEdge { w: 0, c: 1, i: 0 },
-        Report { w: 0, c: 1, i: 0 },
-        Take { w: 0, m: 1 },
-    ];
-    assert_eq!(rt; first_refused(&mut sched, &first), Some(5));
-    let second = [
-        PutEdge { w: 0, c: 1, i: 1 },
-        Report { w: 0, c: 1, i: 1 },
-        Take { w: 0, m: 1 },
-        TakeEdge { w: 0, c: 1, i: 0 },
-        PutDone { w: 0, m: 1 },
-    ];
-    assert_eq!(rt; first_refused(&mut sched, &second), Some(4));
-    assert_eq!(rt;
-        first_refused(
-            &mut sched,
-            &[TakeEdge { w: 0, c: 1, i: 1 }, PutDone { w: 0, m: 1 }]
-        ),
-        None
-    );
-    // no third edge
-    assert!(rt; !sched.may(PutEdge { w: 0, c: 1, i: 2 }));
+fn events_come_in_their_order(rt: HostRuntime) -> Result<(), Fail> {
+    assert_eq!(rt; first_other(rt.alloc(), &RUNS)?, None);
     Ok(())
 }

@@ -24,66 +24,194 @@ fn widths_and_values_that_are_words(rt: HostRuntime) {
         (128, u128::MAX, true),
         (129, 0, false),
     ] {
-        let word = Bits::new(width, value);
-        assert_eq!(rt; word.is_some(), is_word, "{width} bits of {value}");
-        if let Some(word) = word {
-            assert_eq!(rt; word.width(), width);
-            assert_eq!(rt; word.value(), value);
+        let is_so = match Bits::new(width, value) {
+            Some(word) => is_word && word.width() == width && word.value() == value,
+            None => !is_word,
+        };
+        assert!(rt; is_so, "{width} bits of {value}");
+    }
+}
+
+/// An operation on two words of one width.
+#[derive(Clone, Copy, Debug, PartialEq, Eq)]
+enum Operation {
+    Add,
+    Sub,
+    Mul,
+    And,
+    Or,
+    Xor,
+    Divu,
+    Modu,
+    Divs,
+    Mods,
+    Shl,
+    Shru,
+    Shrs,
+}
+
+use Operation::{Add, And, Divs, Divu, Mods, Modu, Mul, Or, Shl, Shrs, Shru, Sub, Xor};
+
+/// Two words, and the values of operations on them.
+struct Row {
+    width: u32,
+    a: u128,
+    b: u128,
+    values: &'static [(Operation, u128)],
+}
+
+const ROWS: [Row; 17] = [
+    Row {
+        width: 8,
+        a: 0x07,
+        b: 0x02,
+        values: &[(Add, 0x09), (Sub, 0x05), (Mul, 0x0e)],
+    },
+    Row {
+        width: 8,
+        a: 0xff,
+        b: 0x02,
+        values: &[(Add, 0x01), (Sub, 0xfd), (Mul, 0xfe)],
+    },
+    Row {
+        width: 8,
+        a: 0x02,
+        b: 0x07,
+        values: &[(Add, 0x09), (Sub, 0xfb), (Mul, 0x0e)],
+    },
+    Row {
+        width: 8,
+        a: 0xcc,
+        b: 0xaa,
+        values: &[(And, 0x88), (Or, 0xee), (Xor, 0x66)],
+    },
+    Row {
+        width: 8,
+        a: 0x07,
+        b: 0xfd,
+        values: &[(Divu, 0x00), (Modu, 0x07), (Divs, 0xfe), (Mods, 0x01)],
+    },
+    Row {
+        width: 8,
+        a: 0x80,
+        b: 0xff,
+        values: &[(Divu, 0x00), (Modu, 0x80), (Divs, 0x80), (Mods, 0x00)],
+    },
+    Row {
+        width: 8,
+        a: 0xf9,
+        b: 0x03,
+        values: &[(Divu, 0x53), (Modu, 0x00), (Divs, 0xfe), (Mods, 0xff)],
+    },
+    Row {
+        width: 8,
+        a: 0xf9,
+        b: 0xfd,
+        values: &[(Divu, 0x00), (Modu, 0xf9), (Divs, 0x02), (Mods, 0xff)],
+    },
+    Row {
+        width: 8,
+        a: 0xf9,
+        b: 0x00,
+        values: &[(Divu, 0x00), (Modu, 0xf9), (Divs, 0x00), (Mods, 0xf9)],
+    },
+    Row {
+        width: 8,
+        a: 0x80,
+        b: 0x00,
+        values: &[(Shl, 0x80), (Shru, 0x80), (Shrs, 0x80)],
+    },
+    Row {
+        width: 8,
+        a: 0x80,
+        b: 0x01,
+        values: &[(Shl, 0x00), (Shru, 0x40), (Shrs, 0xc0)],
+    },
+    Row {
+        width: 8,
+        a: 0x81,
+        b: 0x03,
+        values: &[(Shl, 0x08), (Shru, 0x10), (Shrs, 0xf0)],
+    },
+    Row {
+        width: 8,
+        a: 0x80,
+        b: 0x08,
+        values: &[(Shl, 0x00), (Shru, 0x00), (Shrs, 0xff)],
+    },
+    Row {
+        width: 8,
+        a: 0x80,
+        b: 0x09,
+        values: &[(Shl, 0x00), (Shru, 0x00), (Shrs, 0xff)],
+    },
+    Row {
+        width: 8,
+        a: 0x7f,
+        b: 0xff,
+        values: &[(Shl, 0x00), (Shru, 0x00), (Shrs, 0x00)],
+    },
+    Row {
+        width: 128,
+        a: u128::MAX,
+        b: 1,
+        values: &[(Add, 0)],
+    },
+    Row {
+        width: 128,
+        a: u128::MAX,
+        b: 200,
+        values: &[(Shl, 0)],
+    },
+];
+
+// The value of an operation on two words.
+fn value_of(operation: Operation, a: &Bits, b: &Bits) -> Bits
+    requires { length a.now ≡ length b.now }
+{
+    match operation {
+        Add => a.add(b),
+        Sub => a.sub(b),
+        Mul => a.mul(b),
+        And => a.and(b),
+        Or => a.or(b),
+        Xor => a.xor(b),
+        Divu => a.divu(b),
+        Modu => a.modu(b),
+        Divs => a.divs(b),
+        Mods => a.mods(b),
+        Shl => a.shl(b),
+        Shru => a.shru(b),
+        Shrs => a.shrs(b),
+    }
+}
+
+// Whether each operation of a row has its value.
+fn is_well(row: &Row) -> bool {
+    let (Some(a), Some(b)) = (Bits::new(row.width, row.a), Bits::new(row.width, row.b)) else {
+        return false;
+    };
+    for (operation, value) in row.values {
+        if value_of(*operation, &a, &b).value() != *value {
+            return false;
         }
     }
+    true
+}
+
+// The first row with another value, by its position.
+fn first_other(rows: &[Row]) -> Option<usize> {
+    for (at, row) in rows.iter().enumerate() {
+        if !is_well(row) {
+            return Some(at);
+        }
+    }
+    None
 }
 
 #[test]
-fn sums_and_bits(rt: HostRuntime) {
-    for (a, b, sum, difference, product) in [
-        (0x07, 0x02, 0x09, 0x05, 0x0e),
-        (0xff, 0x02, 0x01, 0xfd, 0xfe),
-        (0x02, 0x07, 0x09, 0xfb, 0x0e),
-    ] {
-        assert_eq!(rt; byte(a).add(&byte(b)).value(), sum);
-        assert_eq!(rt; byte(a).sub(&byte(b)).value(), difference);
-        assert_eq!(rt; byte(a).mul(&byte(b)).value(), product);
-    }
-    assert_eq!(rt; byte(0xcc).and(&byte(0xaa)).value(), 0x88);
-    assert_eq!(rt; byte(0xcc).or(&byte(0xaa)).value(), 0xee);
-    assert_eq!(rt; byte(0xcc).xor(&byte(0xaa)).value(), 0x66);
-    let most = Bits::truncated(128, u128::MAX);
-    let one = Bits::truncated(128, 1);
-    assert_eq!(rt; most.add(&one).value(), 0);
-}
-
-#[test]
-fn quotients_and_rests(rt: HostRuntime) {
-    for (a, b, divu, modu, divs, mods) in [
-        (0x07, 0xfd, 0x00, 0x07, 0xfe, 0x01),
-        (0x80, 0xff, 0x00, 0x80, 0x80, 0x00),
-        (0xf9, 0x03, 0x53, 0x00, 0xfe, 0xff),
-        (0xf9, 0xfd, 0x00, 0xf9, 0x02, 0xff),
-        (0xf9, 0x00, 0x00, 0xf9, 0x00, 0xf9),
-    ] {
-        assert_eq!(rt; byte(a).divu(&byte(b)).value(), divu, "{a} by {b}");
-        assert_eq!(rt; byte(a).modu(&byte(b)).value(), modu, "{a} by {b}");
-        assert_eq!(rt; byte(a).divs(&byte(b)).value(), divs, "{a} by {b}");
-        assert_eq!(rt; byte(a).mods(&byte(b)).value(), mods, "{a} by {b}");
-    }
-}
-
-#[test]
-fn shifts(rt: HostRuntime) {
-    for (a, b, shl, shru, shrs) in [
-        (0x80, 0x00, 0x80, 0x80, 0x80),
-        (0x80, 0x01, 0x00, 0x40, 0xc0),
-        (0x81, 0x03, 0x08, 0x10, 0xf0),
-        (0x80, 0x08, 0x00, 0x00, 0xff),
-        (0x80, 0x09, 0x00, 0x00, 0xff),
-        (0x7f, 0xff, 0x00, 0x00, 0x00),
-    ] {
-        assert_eq!(rt; byte(a).shl(&byte(b)).value(), shl, "{a} by {b}");
-        assert_eq!(rt; byte(a).shru(&byte(b)).value(), shru, "{a} by {b}");
-        assert_eq!(rt; byte(a).shrs(&byte(b)).value(), shrs, "{a} by {b}");
-    }
-    let most = Bits::truncated(128, u128::MAX);
-    assert_eq!(rt; most.shl(&Bits::truncated(128, 200)).value(), 0);
+fn operations_on_two_words(rt: HostRuntime) {
+    assert_eq!(rt; first_other(&ROWS), None);
 }
 
 #[test]
@@ -94,31 +222,33 @@ fn orders(rt: HostRuntime) {
         (0x80, 0xff, Ordering::Less, Ordering::Less),
         (0x5a, 0x5a, Ordering::Equal, Ordering::Equal),
     ] {
-        assert_eq!(rt; byte(a).cmp(&byte(b), false), unsigned, "{a} and {b}");
-        assert_eq!(rt; byte(a).cmp(&byte(b), true), signed, "{a} and {b}");
+        let (a, b) = (byte(a), byte(b));
+        assert_eq!(rt; (a.cmp(&b, false), a.cmp(&b, true)), (unsigned, signed));
     }
+}
+
+#[test]
+fn words_are_equal_or_not(rt: HostRuntime) {
     assert_eq!(rt; byte(0x5a), byte(0x5a));
     assert_ne!(rt; byte(0x01), Bits::truncated(9, 0x01));
-    assert_eq!(rt; byte(0x80).magnitude(), 0x80);
-    assert!(rt; byte(0x80).is_negative());
+    let least = byte(0x80);
+    assert_eq!(rt; (least.magnitude(), least.is_negative()), (0x80, true));
 }
 
 #[test]
 fn parts(rt: HostRuntime) {
     let word = byte(0xb6);
-    assert_eq!(rt; word.parity(), Bits::from(true));
-    assert_eq!(rt; byte(0xff).parity(), Bits::truncated(1, 0));
-    assert_eq!(rt; word.extract(2, 4), Bits::truncated(4, 0xd));
-    assert_eq!(rt; word.extract(0, 8), word);
-    assert_eq!(rt;
-        word.concat(&Bits::truncated(4, 0x3)),
-        Bits::truncated(12, 0xb63)
-    );
-    assert_eq!(rt;
-        Bits::truncated(2, 1).replicate(3),
-        Bits::truncated(6, 0x15)
-    );
-    assert_eq!(rt; byte(0xa5).replicate(16).value(), u128::MAX / 255 * 0xa5);
+    for (part, width, value) in [
+        (word.parity(), 1, 1),
+        (byte(0xff).parity(), 1, 0),
+        (word.extract(2, 4), 4, 0xd),
+        (word.extract(0, 8), 8, 0xb6),
+        (word.concat(&Bits::truncated(4, 0x3)), 12, 0xb63),
+        (Bits::truncated(2, 1).replicate(3), 6, 0x15),
+        (byte(0xa5).replicate(16), 128, u128::MAX / 255 * 0xa5),
+    ] {
+        assert_eq!(rt; Some(part), Bits::new(width, value));
+    }
 }
 
 #[test]

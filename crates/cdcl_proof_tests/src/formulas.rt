@@ -1,4 +1,4 @@
-// Formulas for the tests.
+//! Formulas for the tests.
 use cdcl_proof::clause::Clause;
 use cdcl_proof::cnf::Cnf;
 use cdcl_proof::literal::Literal;

@@ -1,4 +1,4 @@
-// Tests of the solver and of its propagation, by their public calls.
+//! Tests of the solver and of its propagation, by their public calls.
 #![tactic(auto)]
 
 #[cfg(test)]

@@ -1,4 +1,4 @@
-// Logs that are changed.
+//! Logs that are changed.
 use crate::formulas::{clause, formula};
 use cdcl_proof::log::{Hint, HintList, Log, Step};
 use cdcl_proof::replay::replays;
@@ -32,16 +32,86 @@ fn one_step(
     Ok(replays(&cnf, &Log::from_vec(steps)))
 }
 
+/// The step of a log over (1 or 2), (1 or not 2), and whether the log replays.
+struct Case {
+    clause: &'static [i64],
+    /// The number and the pivot of the second hint.
+    second: u64,
+    pivot: u64,
+    replays: bool,
+}
+
+const CASES: [Case; 8] = [
+    // the log as it is
+    Case {
+        clause: &[1],
+        second: 2,
+        pivot: 2,
+        replays: true,
+    },
+    // a literal flipped
+    Case {
+        clause: &[-1],
+        second: 2,
+        pivot: 2,
+        replays: false,
+    },
+    // a literal more
+    Case {
+        clause: &[1, 2],
+        second: 2,
+        pivot: 2,
+        replays: false,
+    },
+    // a literal less
+    Case {
+        clause: &[],
+        second: 2,
+        pivot: 2,
+        replays: false,
+    },
+    // another pivot
+    Case {
+        clause: &[1],
+        second: 2,
+        pivot: 1,
+        replays: false,
+    },
+    // the same clause twice
+    Case {
+        clause: &[1],
+        second: 1,
+        pivot: 2,
+        replays: false,
+    },
+    // the step itself
+    Case {
+        clause: &[1],
+        second: 3,
+        pivot: 2,
+        replays: false,
+    },
+    // no clause
+    Case {
+        clause: &[1],
+        second: 0,
+        pivot: 2,
+        replays: false,
+    },
+];
+
+/// The first case that does otherwise, by its position.
+fn first_other(alloc: Global, rt: &impl Abort, cases: &[Case]) -> Result<Option<usize>, Fail> {
+    for (at, case) in cases.iter().enumerate() {
+        if one_step(alloc, rt, case.clause, case.second, case.pivot)? != case.replays {
+            return Ok(Some(at));
+        }
+    }
+    Ok(None)
+}
+
 #[test]
 fn a_changed_log_does_not_replay(rt: HostRuntime) -> Result<(), Fail> {
-    let alloc = rt.alloc();
-    assert!(rt; one_step(alloc, &rt, &[1], 2, 2)?);
-    assert!(rt; !one_step(alloc, &rt, &[-1], 2, 2)?, "a literal flipped");
-    assert!(rt; !one_step(alloc, &rt, &[1, 2], 2, 2)?, "a literal more");
-    assert!(rt; !one_step(alloc, &rt, &[], 2, 2)?, "a literal less");
-    assert!(rt; !one_step(alloc, &rt, &[1], 2, 1)?, "another pivot");
-    assert!(rt; !one_step(alloc, &rt, &[1], 1, 2)?, "the same clause twice");
-    assert!(rt; !one_step(alloc, &rt, &[1], 3, 2)?, "the step itself");
-    assert!(rt; !one_step(alloc, &rt, &[1], 0, 2)?, "no clause");
+    assert_eq!(rt; first_other(rt.alloc(), &rt, &CASES)?, None);
     Ok(())
 }

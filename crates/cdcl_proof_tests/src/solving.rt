@@ -1,119 +1,193 @@
-// The solver's answers.
+//! The solver's answers.
 use crate::formulas::{formula, pigeonhole, progressions, random_formula};
 use cdcl_proof::assignment::Assignment;
 use cdcl_proof::cnf::Cnf;
+use cdcl_proof::log::Log;
 use cdcl_proof::replay::replays;
 use cdcl_proof::solve::{Answer, solve};
-use std::alloc::Global;
+use std::alloc::{AllocError, Global};
 use std::process::Abort;
 use std::test::Fail;
 
-/// The verdict in one letter, once what comes with it is tried: R, S or U, the last where the budget is spent.
-fn verdict(alloc: Global, rt: &impl Abort, cnf: &Cnf, budget: u64) -> Result<char, Fail> {
+/// What the solver says of a formula.
+#[derive(Clone, Copy, Debug, PartialEq, Eq)]
+enum Verdict {
+    Refuted,
+    Satisfied,
+    /// The budget is spent.
+    Spent,
+    /// What comes with the verdict is wrong, or there was no budget.
+    Wrong,
+}
+
+use Verdict::{Refuted, Satisfied, Spent, Wrong};
+
+/// Whether a log ends with the empty clause.
+fn ends_empty(log: &Log) -> bool {
+    match log.as_slice().last() {
+        Some(step) => step.clause.as_slice().is_empty(),
+        None => false,
+    }
+}
+
+/// The verdict, once what comes with it is tried.
+fn verdict_on(alloc: Global, cnf: &Cnf, budget: u64) -> Result<Verdict, AllocError> {
     if budget == 0 {
-        return Ok('-');
+        return Ok(Wrong);
     }
-    match solve(alloc, cnf, budget)? {
-        Answer::Refuted(log) => {
-            assert!(rt; replays(cnf, &log));
-            let steps = log.as_slice();
-            assert!(rt; steps.len() > 0);
-            assert!(rt; steps[steps.len() - 1].clause.as_slice().is_empty());
-            Ok('R')
-        }
-        Answer::Satisfied(assignment) => {
-            assert!(rt; cnf.is_satisfied_by(&assignment));
-            Ok('S')
-        }
-        Answer::Spent(log) => {
-            assert!(rt; replays(cnf, &log));
-            assert_eq!(rt; log.as_slice().len() as u64, budget);
-            Ok('U')
+    Ok(match solve(alloc, cnf, budget)? {
+        Answer::Refuted(log) if replays(cnf, &log) && ends_empty(&log) => Refuted,
+        Answer::Satisfied(assignment) if cnf.is_satisfied_by(&assignment) => Satisfied,
+        Answer::Spent(log) if replays(cnf, &log) && log.as_slice().len() as u64 == budget => Spent,
+        Answer::Refuted(_) | Answer::Satisfied(_) | Answer::Spent(_) => Wrong,
+    })
+}
+
+/// A formula, how much may be learnt, and the verdict.
+struct Case {
+    variables: u64,
+    clauses: &'static [&'static [i64]],
+    budget: u64,
+    verdict: Verdict,
+}
+
+const CASES: [Case; 12] = [
+    Case {
+        variables: 0,
+        clauses: &[],
+        budget: 1,
+        verdict: Satisfied,
+    },
+    Case {
+        variables: 0,
+        clauses: &[&[]],
+        budget: 1,
+        verdict: Refuted,
+    },
+    Case {
+        variables: 3,
+        clauses: &[],
+        budget: 1,
+        verdict: Satisfied,
+    },
+    Case {
+        variables: 1,
+        clauses: &[&[1], &[-1]],
+        budget: 1,
+        verdict: Refuted,
+    },
+    Case {
+        variables: 2,
+        clauses: &[&[1, 2], &[1, -2], &[-1, 2], &[-1, -2]],
+        budget: 9,
+        verdict: Refuted,
+    },
+    Case {
+        variables: 2,
+        clauses: &[&[1, 2], &[1, -2], &[-1, 2]],
+        budget: 9,
+        verdict: Satisfied,
+    },
+    // decided with nothing learnt
+    Case {
+        variables: 2,
+        clauses: &[],
+        budget: 1,
+        verdict: Satisfied,
+    },
+    Case {
+        variables: 3,
+        clauses: &[&[1], &[-2], &[3]],
+        budget: 1,
+        verdict: Satisfied,
+    },
+    Case {
+        variables: 2,
+        clauses: &[&[1, 2], &[1, 2]],
+        budget: 1,
+        verdict: Satisfied,
+    },
+    Case {
+        variables: 1,
+        clauses: &[&[1], &[1], &[-1], &[-1]],
+        budget: 1,
+        verdict: Refuted,
+    },
+    Case {
+        variables: 3,
+        clauses: &[&[1], &[2], &[3], &[-1], &[-2], &[-3]],
+        budget: 1,
+        verdict: Refuted,
+    },
+    Case {
+        variables: 3,
+        clauses: &[&[1, 2, 3], &[-1], &[-2], &[-3]],
+        budget: 1,
+        verdict: Refuted,
+    },
+];
+
+/// The first case with another verdict, by its position.
+fn first_other(alloc: Global, rt: &impl Abort, cases: &[Case]) -> Result<Option<usize>, Fail> {
+    for (at, case) in cases.iter().enumerate() {
+        let cnf = formula(alloc, rt, case.variables, case.clauses)?;
+        if verdict_on(alloc, &cnf, case.budget)? != case.verdict {
+            return Ok(Some(at));
         }
     }
+    Ok(None)
 }
 
 #[test]
 fn small_formulas(rt: HostRuntime) -> Result<(), Fail> {
-    let alloc = rt.alloc();
-    let none = formula(alloc, &rt, 0, &[])?;
-    assert_eq!(rt; verdict(alloc, &rt, &none, 1)?, 'S');
-    let empty = formula(alloc, &rt, 0, &[&[]])?;
-    assert_eq!(rt; verdict(alloc, &rt, &empty, 1)?, 'R');
-    let free = formula(alloc, &rt, 3, &[])?;
-    assert_eq!(rt; verdict(alloc, &rt, &free, 1)?, 'S');
-    let opposite = formula(alloc, &rt, 1, &[&[1], &[-1]])?;
-    assert_eq!(rt; verdict(alloc, &rt, &opposite, 1)?, 'R');
-    let square = formula(alloc, &rt, 2, &[&[1, 2], &[1, -2], &[-1, 2], &[-1, -2]])?;
-    assert_eq!(rt; verdict(alloc, &rt, &square, 9)?, 'R');
-    let one_way = formula(alloc, &rt, 2, &[&[1, 2], &[1, -2], &[-1, 2]])?;
-    assert_eq!(rt; verdict(alloc, &rt, &one_way, 9)?, 'S');
+    assert_eq!(rt; first_other(rt.alloc(), &rt, &CASES)?, None);
     Ok(())
 }
 
-/// No clauses, and one empty clause, are decided with nothing learnt.
-#[test]
-fn edges(rt: HostRuntime) -> Result<(), Fail> {
-    let alloc = rt.alloc();
-    let none = formula(alloc, &rt, 2, &[])?;
-    assert_eq!(rt; verdict(alloc, &rt, &none, 1)?, 'S');
-    let units = formula(alloc, &rt, 3, &[&[1], &[-2], &[3]])?;
-    assert_eq!(rt; verdict(alloc, &rt, &units, 1)?, 'S');
-    let twice = formula(alloc, &rt, 2, &[&[1, 2], &[1, 2]])?;
-    assert_eq!(rt; verdict(alloc, &rt, &twice, 1)?, 'S');
-    let again = formula(alloc, &rt, 1, &[&[1], &[1], &[-1], &[-1]])?;
-    assert_eq!(rt; verdict(alloc, &rt, &again, 1)?, 'R');
-    let clash = formula(alloc, &rt, 3, &[&[1], &[2], &[3], &[-1], &[-2], &[-3]])?;
-    assert_eq!(rt; verdict(alloc, &rt, &clash, 1)?, 'R');
-    let last = formula(alloc, &rt, 3, &[&[1, 2, 3], &[-1], &[-2], &[-3]])?;
-    assert_eq!(rt; verdict(alloc, &rt, &last, 1)?, 'R');
-    Ok(())
-}
-
+/// One empty clause is refuted by a step with it as the one hint.
 #[test]
 fn the_empty_clause_is_the_one_hint(rt: HostRuntime) -> Result<(), Fail> {
-    let alloc = rt.alloc();
-    let cnf = formula(alloc, &rt, 0, &[&[]])?;
-    match solve(alloc, &cnf, 1)? {
-        Answer::Refuted(log) => {
-            let steps = log.as_slice();
-            assert_eq!(rt; steps.len(), 1);
-            let hints = steps[0].hints.as_slice();
-            assert_eq!(rt; hints.len(), 1);
-            assert_eq!(rt; hints[0].clause, 1);
-            assert_eq!(rt; hints[0].pivot, 0);
-        }
-        _ => assert!(rt; false, "one empty clause is refuted"),
+    let cnf = formula(rt.alloc(), &rt, 0, &[&[]])?;
+    let Answer::Refuted(log) = solve(rt.alloc(), &cnf, 1)? else {
+        panic!(rt; "one empty clause is refuted");
+    };
+    let [step] = log.as_slice() else {
+        panic!(rt; "one step");
+    };
+    let [hint] = step.hints.as_slice() else {
+        panic!(rt; "one hint");
+    };
+    assert_eq!(rt; (hint.clause, hint.pivot), (1, 0));
+    Ok(())
+}
+
+#[test]
+fn pigeons_have_too_few_holes(rt: HostRuntime) -> Result<(), Fail> {
+    for (holes, budget, wanted) in [
+        (3, 1, Spent),
+        (3, 1000000, Refuted),
+        (6, 1, Spent),
+        (6, 10, Spent),
+        (6, 1000000, Refuted),
+    ] {
+        let cnf = pigeonhole(rt.alloc(), &rt, holes)?;
+        let found = verdict_on(rt.alloc(), &cnf, budget)?;
+        assert_eq!(rt; found, wanted, "{holes} at {budget}");
     }
     Ok(())
 }
 
 #[test]
-fn larger_formulas(rt: HostRuntime) -> Result<(), Fail> {
-    let alloc = rt.alloc();
-    for (holes, budget, want) in [
-        (3, 1, 'U'),
-        (3, 1000000, 'R'),
-        (6, 1, 'U'),
-        (6, 10, 'U'),
-        (6, 1000000, 'R'),
-    ] {
-        let pigeons = pigeonhole(alloc, &rt, holes)?;
-        assert_eq!(rt;
-            verdict(alloc, &rt, &pigeons, budget)?,
-            want,
-            "{holes} at {budget}"
-        );
+fn progressions_are_avoided_below_46(rt: HostRuntime) -> Result<(), Fail> {
+    for (n, wanted) in [(45, Satisfied), (46, Refuted)] {
+        let cnf = progressions(rt.alloc(), &rt, n)?;
+        assert_eq!(rt; verdict_on(rt.alloc(), &cnf, 1000000)?, wanted, "{n}");
     }
-    let mixed = progressions(alloc, &rt, 45)?;
-    assert_eq!(rt; verdict(alloc, &rt, &mixed, 1000000)?, 'S');
-    let full = progressions(alloc, &rt, 46)?;
-    assert_eq!(rt; verdict(alloc, &rt, &full, 1000000)?, 'R');
     Ok(())
 }
 
 /// The bits of the number as an assignment of twelve variables.
-fn bits_of(alloc: Global, number: u64) -> Result<Assignment, Fail> {
+fn bits_of(alloc: Global, number: u64) -> Result<Assignment, AllocError> {
     let mut values = Vec::new(alloc);
     for place in 0..12 {
         values.push(number.wrapping_shr(place) % 2 == 1)?;
@@ -121,27 +195,24 @@ fn bits_of(alloc: Global, number: u64) -> Result<Assignment, Fail> {
     Ok(Assignment::from_vec(values))
 }
 
-/// The verdict by trying all assignments: R or S.
-fn verdict_by_trying(alloc: Global, cnf: &Cnf) -> Result<char, Fail> {
+/// The verdict by trying all assignments.
+fn verdict_by_trying(alloc: Global, cnf: &Cnf) -> Result<Verdict, AllocError> {
     for number in 0..4096 {
         if cnf.is_satisfied_by(&bits_of(alloc, number)?) {
-            return Ok('S');
+            return Ok(Satisfied);
         }
     }
-    Ok('R')
+    Ok(Refuted)
 }
 
 #[test]
 fn random_formulas(rt: HostRuntime) -> Result<(), Fail> {
-    let alloc = rt.alloc();
     for seed in 1..40u64 {
         for clauses in [20, 45, 50, 55, 90] {
-            let cnf = random_formula(alloc, &rt, clauses, seed.wrapping_mul(7919))?;
-            assert_eq!(rt;
-                verdict(alloc, &rt, &cnf, 1000000)?,
-                verdict_by_trying(alloc, &cnf)?,
-                "{clauses} clauses, seed {seed}"
-            );
+            let cnf = random_formula(rt.alloc(), &rt, clauses, seed.wrapping_mul(7919))?;
+            let found = verdict_on(rt.alloc(), &cnf, 1000000)?;
+            let wanted = verdict_by_trying(rt.alloc(), &cnf)?;
+            assert_eq!(rt; found, wanted, "{clauses} clauses, seed {seed}");
         }
     }
     Ok(())

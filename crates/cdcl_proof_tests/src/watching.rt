@@ -1,4 +1,4 @@
-// Propagation by watched literals.
+//! Propagation by watched literals.
 use crate::formulas::{clause, formula};
 use cdcl_proof::clause::is_within_variables;
 use cdcl_proof::literal::Literal;
@@ -42,44 +42,100 @@ fn add(
     Ok(fits)
 }
 
-/// A chain of implications is followed to the false clause at its end, and back.
-#[test]
-fn a_chain(rt: HostRuntime) -> Result<(), Fail> {
-    let alloc = rt.alloc();
-    let cnf = formula(
-        alloc,
-        &rt,
-        5,
-        &[&[-1, 2], &[-2, 3], &[-3, -1, 4], &[-4, -2, -1]],
-    )?;
-    let mut watched = Watched::new(alloc, &cnf)?;
-    assert_eq!(rt; watched.propagate()?, None);
-    assume(&rt, &mut watched, 5);
-    assert_eq!(rt; watched.propagate()?, None);
-    assume(&rt, &mut watched, 1);
-    assert!(rt; watched.propagate()?.is_some());
-    back_to(&rt, &mut watched, 1);
-    assert_eq!(rt; watched.propagate()?, None);
-    assume(&rt, &mut watched, -1);
-    assert_eq!(rt; watched.propagate()?, None);
-    Ok(())
+/// A call of the watched literals, with what it answers.
+#[derive(Clone, Copy)]
+enum Call {
+    Assume(i64),
+    /// No clause gets false.
+    Propagate,
+    /// Some clause gets false.
+    Fail,
+    /// The clause of this number gets false.
+    FailAt(u64),
+    BackTo(u64),
+    /// The clause is over the variables.
+    Add(&'static [i64]),
 }
 
-/// A clause that is added while its literals are false is found.
-#[test]
-fn a_clause_is_added(rt: HostRuntime) -> Result<(), Fail> {
-    let alloc = rt.alloc();
-    let cnf = formula(alloc, &rt, 3, &[&[-1, 2]])?;
+use Call::{Add, Assume, BackTo, FailAt, Propagate};
+
+/// Calls in a row over a formula.
+struct Run {
+    variables: u64,
+    clauses: &'static [&'static [i64]],
+    calls: &'static [Call],
+}
+
+const RUNS: [Run; 2] = [
+    // a chain of implications is followed to the false clause at its end, and back
+    Run {
+        variables: 5,
+        clauses: &[&[-1, 2], &[-2, 3], &[-3, -1, 4], &[-4, -2, -1]],
+        calls: &[
+            Propagate,
+            Assume(5),
+            Propagate,
+            Assume(1),
+            Call::Fail,
+            BackTo(1),
+            Propagate,
+            Assume(-1),
+            Propagate,
+        ],
+    },
+    // a clause that is added while its literals are false is found
+    Run {
+        variables: 3,
+        clauses: &[&[-1, 2]],
+        calls: &[
+            Assume(1),
+            Propagate,
+            Add(&[-2, 3]),
+            Propagate,
+            Add(&[-3, -1]),
+            FailAt(3),
+            BackTo(0),
+            Propagate,
+            Add(&[]),
+            FailAt(4),
+        ],
+    },
+];
+
+/// Makes a call. The result is whether it answers as it says.
+fn is_answered(
+    alloc: Global,
+    rt: &impl Abort,
+    watched: &mut Watched,
+    call: Call,
+) -> Result<bool, Fail> {
+    match call {
+        Assume(number) => assume(rt, watched, number),
+        BackTo(count) => back_to(rt, watched, count),
+        Add(numbers) => return add(alloc, rt, watched, numbers),
+        Propagate => return Ok(watched.propagate()?.is_none()),
+        Call::Fail => return Ok(watched.propagate()?.is_some()),
+        FailAt(clause) => return Ok(watched.propagate()? == Some(clause)),
+    }
+    Ok(true)
+}
+
+/// The first call of a run that answers otherwise, by its position.
+fn first_other(alloc: Global, rt: &impl Abort, run: &Run) -> Result<Option<usize>, Fail> {
+    let cnf = formula(alloc, rt, run.variables, run.clauses)?;
     let mut watched = Watched::new(alloc, &cnf)?;
-    assume(&rt, &mut watched, 1);
-    assert_eq!(rt; watched.propagate()?, None);
-    assert!(rt; add(alloc, &rt, &mut watched, &[-2, 3])?);
-    assert_eq!(rt; watched.propagate()?, None);
-    assert!(rt; add(alloc, &rt, &mut watched, &[-3, -1])?);
-    assert_eq!(rt; watched.propagate()?, Some(3));
-    back_to(&rt, &mut watched, 0);
-    assert_eq!(rt; watched.propagate()?, None);
-    assert!(rt; add(alloc, &rt, &mut watched, &[])?);
-    assert_eq!(rt; watched.propagate()?, Some(4));
+    for (at, call) in run.calls.iter().enumerate() {
+        if !is_answered(alloc, rt, &mut watched, *call)? {
+            return Ok(Some(at));
+        }
+    }
+    Ok(None)
+}
+
+#[test]
+fn literals_are_watched(rt: HostRuntime) -> Result<(), Fail> {
+    for run in &RUNS {
+        assert_eq!(rt; first_other(rt.alloc(), &rt, run)?, None);
+    }
     Ok(())
 }

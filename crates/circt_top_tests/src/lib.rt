@@ -3,11 +3,9 @@
 #![tactic(auto)]
 
 #[cfg(test)]
-mod long_texts;
+mod limits;
 #[cfg(test)]
 mod runs;
-#[cfg(test)]
-mod sizes;
 #[cfg(test)]
 mod verilog_runs;
 #[cfg(test)]

@@ -2,7 +2,6 @@
 use crate::runs::{Failing, run_words};
 use bits_core::Bits;
 use std::alloc::{AllocError, AllocGlobal, Global};
-use std::process::Abort;
 use std::test::Fail;
 use std::thread::Threads;
 use verilog_interpreter::fault::Fault;
@@ -169,42 +168,50 @@ fn step(
     machine.step(alloc, inputs, content)
 }
 
-fn are(rt: &impl Abort, words: &[Bits], numbers: &[u128]) {
-    assert_eq!(rt; words.len(), numbers.len());
+// Whether words are these numbers.
+fn are(words: &[Bits], numbers: &[u128]) -> bool {
     for (word, number) in words.iter().zip(numbers) {
-        assert_eq!(rt; word.value(), *number);
+        if word.value() != *number {
+            return false;
+        }
     }
+    words.len() == numbers.len()
 }
 
-// Checks the steps of a text from a content, and what content is left.
-fn steps_are(rt: &(impl AllocGlobal + Abort), text: &[u8], run: &Run) -> Result<(), Fail> {
-    let mut content = all_bits(rt.alloc(), run.content)?;
-    for TestVector { inputs, outputs } in run.steps {
-        let inputs = all_bits(rt.alloc(), inputs)?;
-        let stepped = step(
-            rt.alloc(),
-            text,
-            run.top,
-            inputs.as_slice(),
-            content.as_slice(),
-        );
-        let Ok(stepped) = stepped else {
-            assert!(rt; false, "of {}", run.source);
-            return Ok(());
-        };
-        are(rt, stepped.outputs.as_slice(), outputs);
-        content = stepped.content;
+// Whether a text takes the steps of a run, with its outputs and its content in the end.
+fn steps_are(alloc: Global, text: &[u8], run: &Run) -> Result<bool, AllocError> {
+    let mut content = all_bits(alloc, run.content)?;
+    for vector in run.steps {
+        let inputs = all_bits(alloc, vector.inputs)?;
+        match step(alloc, text, run.top, inputs.as_slice(), content.as_slice()) {
+            Ok(stepped) => {
+                if !are(stepped.outputs.as_slice(), vector.outputs) {
+                    return Ok(false);
+                }
+                content = stepped.content;
+            }
+            Err(_) => return Ok(false),
+        }
     }
-    are(rt, content.as_slice(), run.last);
-    Ok(())
+    Ok(are(content.as_slice(), run.last))
+}
+
+// The first design whose text runs otherwise.
+fn first_other(
+    rt: &(impl Threads + Sync + AllocGlobal),
+    runs: &[Run],
+) -> Result<Option<&'static str>, AllocError> {
+    for run in runs {
+        let printed = run_words(rt, COMMAND, run.source, Failing::No)?;
+        if printed.code != 0 || !steps_are(rt.alloc(), printed.out.held(), run)? {
+            return Ok(Some(run.source));
+        }
+    }
+    Ok(None)
 }
 
 #[test]
 fn exported_texts_run(rt: HostRuntime) -> Result<(), Fail> {
-    for run in &RUNS {
-        let printed = run_words(&rt, COMMAND, run.source, Failing::No)?;
-        assert_eq!(rt; printed.code, 0, "of {}", run.source);
-        steps_are(&rt, printed.out.held(), run)?;
-    }
+    assert_eq!(rt; first_other(&rt, &RUNS)?, None);
     Ok(())
 }

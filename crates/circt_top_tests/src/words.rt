@@ -1,8 +1,8 @@
 //! What words, files and failing reads and writes answer.
-use crate::runs::{ADDER, ADDER_PRINTED, ADDER_VERILOG, Failing, run_words};
-use io_edge::memory_files::MemoryFiles;
-use std::alloc::{AllocError, Global};
+use crate::runs::{ADDER, ADDER_PRINTED, ADDER_VERILOG, Ended, Failing, run_words};
+use std::alloc::{AllocError, AllocGlobal, Global};
 use std::test::Fail;
+use std::thread::Threads;
 
 const USAGE: &str = "circt: usage: bad arguments\n";
 
@@ -11,6 +11,8 @@ const UNNAMED: &str = "circt: usage: no translation named\n";
 const REFUSED: &str = "<stdin>:1:1: error: 'foo' S3: unknown operation\n";
 
 const REFUSED_FILE: &str = "a.mlir:1:1: error: 'foo' S3: unknown operation\n";
+
+const READ_FAULT: &str = "circt: cannot read b.mlir\n";
 
 // Words that are no command.
 const BAD: [&str; 32] = [
@@ -48,322 +50,331 @@ const BAD: [&str; 32] = [
     "a.mlir",
 ];
 
-// Words that are bad are told so, and no file is touched.
-#[test]
-fn other_words_are_bad_arguments(rt: HostRuntime) -> Result<(), Fail> {
-    for words in BAD {
-        let run = run_words(&rt, words, ADDER, Failing::No)?;
-        assert_eq!(rt; run.err.held(), USAGE.as_bytes(), "of {words}");
-        assert_eq!(rt; run.out.held(), b"".as_slice(), "of {words}");
-        assert_eq!(rt; run.code, 2, "of {words}");
-        assert_eq!(rt;
-            run.files.held("x.v"),
-            Some(b"old".as_slice()),
-            "of {words}"
-        );
-    }
-    Ok(())
-}
-
-// A translation is named by its option alone.
-#[test]
-fn a_translation_has_to_be_named(rt: HostRuntime) -> Result<(), Fail> {
-    for words in [
-        "translate",
-        "translate a.mlir",
-        "translate -o x.v",
-        "translate b.mlir",
-    ] {
-        let run = run_words(&rt, words, ADDER, Failing::No)?;
-        assert_eq!(rt; run.err.held(), UNNAMED.as_bytes(), "of {words}");
-        assert_eq!(rt; run.code, 2, "of {words}");
-    }
-    Ok(())
-}
-
-/// Words, and the text that goes to the output.
-struct Sent {
-    words: &'static str,
-    text: &'static str,
-}
-
-const SENT: [Sent; 12] = [
-    Sent {
-        words: "opt",
-        text: ADDER_PRINTED,
-    },
-    Sent {
-        words: "opt -",
-        text: ADDER_PRINTED,
-    },
-    Sent {
-        words: "opt a.mlir",
-        text: ADDER_PRINTED,
-    },
-    Sent {
-        words: "opt -o -",
-        text: ADDER_PRINTED,
-    },
-    Sent {
-        words: "opt -o - a.mlir",
-        text: ADDER_PRINTED,
-    },
-    Sent {
-        words: "opt -- a.mlir",
-        text: ADDER_PRINTED,
-    },
-    Sent {
-        words: "translate --export-verilog",
-        text: ADDER_VERILOG,
-    },
-    Sent {
-        words: "translate -export-verilog",
-        text: ADDER_VERILOG,
-    },
-    Sent {
-        words: "translate --export-verilog -",
-        text: ADDER_VERILOG,
-    },
-    Sent {
-        words: "translate a.mlir --export-verilog",
-        text: ADDER_VERILOG,
-    },
-    Sent {
-        words: "translate --export-verilog a.mlir",
-        text: ADDER_VERILOG,
-    },
-    Sent {
-        words: "translate - -o - --export-verilog",
-        text: ADDER_VERILOG,
-    },
-];
-
-#[test]
-fn texts_go_to_the_output(rt: HostRuntime) -> Result<(), Fail> {
-    for Sent { words, text } in &SENT {
-        let run = run_words(&rt, words, ADDER, Failing::No)?;
-        assert_eq!(rt; run.err.held(), b"".as_slice(), "of {words}");
-        assert_eq!(rt; run.out.held(), text.as_bytes(), "of {words}");
-        assert_eq!(rt; run.code, 0, "of {words}");
-        assert_eq!(rt;
-            run.files.held("x.v"),
-            Some(b"old".as_slice()),
-            "of {words}"
-        );
-    }
-    Ok(())
-}
-
-/// Words, the file that they write, and its text.
-struct Written {
-    words: &'static str,
-    name: &'static str,
-    text: &'static str,
-}
-
-const WRITTEN: [Written; 7] = [
-    Written {
-        words: "opt -o x.v",
-        name: "x.v",
-        text: ADDER_PRINTED,
-    },
-    Written {
-        words: "opt a.mlir -o x.v",
-        name: "x.v",
-        text: ADDER_PRINTED,
-    },
-    Written {
-        words: "opt a.mlir -o a.mlir",
-        name: "a.mlir",
-        text: ADDER_PRINTED,
-    },
-    Written {
-        words: "opt -o new.mlir -",
-        name: "new.mlir",
-        text: ADDER_PRINTED,
-    },
-    Written {
-        words: "translate --export-verilog -o x.v",
-        name: "x.v",
-        text: ADDER_VERILOG,
-    },
-    Written {
-        words: "translate a.mlir -o=x.v --export-verilog",
-        name: "x.v",
-        text: ADDER_VERILOG,
-    },
-    Written {
-        words: "translate -o a.mlir a.mlir -export-verilog",
-        name: "a.mlir",
-        text: ADDER_VERILOG,
-    },
-];
-
-#[test]
-fn texts_go_to_a_named_file(rt: HostRuntime) -> Result<(), Fail> {
-    for Written { words, name, text } in &WRITTEN {
-        let run = run_words(&rt, words, ADDER, Failing::No)?;
-        assert_eq!(rt; run.err.held(), b"".as_slice(), "of {words}");
-        assert_eq!(rt; run.out.held(), b"".as_slice(), "of {words}");
-        assert_eq!(rt; run.code, 0, "of {words}");
-        assert!(rt; holds(&run.files, name, text), "of {words}");
-    }
-    Ok(())
-}
-
-// Whether a file has this text.
-fn holds(files: &MemoryFiles, name: &str, text: &str) -> bool {
-    match files.held(name) {
-        Some(bytes) => bytes == text.as_bytes(),
-        None => false,
-    }
-}
-
-// A file that is read and written keeps its old text where the write fails.
-#[test]
-fn a_failing_write_keeps_the_old_text(rt: HostRuntime) -> Result<(), Fail> {
-    let run = run_words(&rt, "opt a.mlir -o a.mlir", ADDER, Failing::Write)?;
-    assert_eq!(rt; run.err.held(), b"circt: cannot write a.mlir\n".as_slice());
-    assert_eq!(rt; run.out.held(), b"".as_slice());
-    assert_eq!(rt; run.code, 6);
-    assert_eq!(rt; run.files.held("a.mlir"), Some(ADDER.as_bytes()));
-    Ok(())
-}
-
-/// Words, what fails, the exit status and the error message.
-struct Fault {
-    words: &'static str,
+/// Words that have the same answer on a text.
+struct Group {
+    words: &'static [&'static str],
+    /// What stands on standard input and in `a.mlir`.
+    input: &'static str,
     failing: Failing,
     code: u8,
-    line: &'static str,
+    out: &'static str,
+    err: &'static str,
+    /// A file, and its text in the end.
+    file: &'static str,
+    text: &'static str,
 }
 
-const FAULTS: [Fault; 10] = [
-    Fault {
-        words: "opt b.mlir",
+const GROUPS: [Group; 23] = [
+    // words that are bad are told so, and no file is touched
+    Group {
+        words: &BAD,
+        input: ADDER,
+        failing: Failing::No,
+        code: 2,
+        out: "",
+        err: USAGE,
+        file: "x.v",
+        text: "old",
+    },
+    // a translation is named by its option alone
+    Group {
+        words: &[
+            "translate",
+            "translate a.mlir",
+            "translate -o x.v",
+            "translate b.mlir",
+        ],
+        input: ADDER,
+        failing: Failing::No,
+        code: 2,
+        out: "",
+        err: UNNAMED,
+        file: "x.v",
+        text: "old",
+    },
+    // texts go to the output
+    Group {
+        words: &[
+            "opt",
+            "opt -",
+            "opt a.mlir",
+            "opt -o -",
+            "opt -o - a.mlir",
+            "opt -- a.mlir",
+        ],
+        input: ADDER,
+        failing: Failing::No,
+        code: 0,
+        out: ADDER_PRINTED,
+        err: "",
+        file: "x.v",
+        text: "old",
+    },
+    Group {
+        words: &[
+            "translate --export-verilog",
+            "translate -export-verilog",
+            "translate --export-verilog -",
+            "translate a.mlir --export-verilog",
+            "translate --export-verilog a.mlir",
+            "translate - -o - --export-verilog",
+        ],
+        input: ADDER,
+        failing: Failing::No,
+        code: 0,
+        out: ADDER_VERILOG,
+        err: "",
+        file: "x.v",
+        text: "old",
+    },
+    // or to a named file
+    Group {
+        words: &["opt -o x.v", "opt a.mlir -o x.v"],
+        input: ADDER,
+        failing: Failing::No,
+        code: 0,
+        out: "",
+        err: "",
+        file: "x.v",
+        text: ADDER_PRINTED,
+    },
+    Group {
+        words: &["opt a.mlir -o a.mlir"],
+        input: ADDER,
+        failing: Failing::No,
+        code: 0,
+        out: "",
+        err: "",
+        file: "a.mlir",
+        text: ADDER_PRINTED,
+    },
+    Group {
+        words: &["opt -o new.mlir -"],
+        input: ADDER,
+        failing: Failing::No,
+        code: 0,
+        out: "",
+        err: "",
+        file: "new.mlir",
+        text: ADDER_PRINTED,
+    },
+    Group {
+        words: &[
+            "translate --export-verilog -o x.v",
+            "translate a.mlir -o=x.v --export-verilog",
+        ],
+        input: ADDER,
+        failing: Failing::No,
+        code: 0,
+        out: "",
+        err: "",
+        file: "x.v",
+        text: ADDER_VERILOG,
+    },
+    Group {
+        words: &["translate -o a.mlir a.mlir -export-verilog"],
+        input: ADDER,
+        failing: Failing::No,
+        code: 0,
+        out: "",
+        err: "",
+        file: "a.mlir",
+        text: ADDER_VERILOG,
+    },
+    // faults are told
+    Group {
+        words: &[
+            "opt b.mlir",
+            "translate b.mlir --export-verilog",
+            "opt b.mlir -o x.v",
+        ],
+        input: ADDER,
         failing: Failing::No,
         code: 5,
-        line: "circt: cannot read b.mlir\n",
+        out: "",
+        err: READ_FAULT,
+        file: "x.v",
+        text: "old",
     },
-    Fault {
-        words: "translate b.mlir --export-verilog",
-        failing: Failing::No,
-        code: 5,
-        line: "circt: cannot read b.mlir\n",
-    },
-    Fault {
-        words: "opt b.mlir -o x.v",
-        failing: Failing::No,
-        code: 5,
-        line: "circt: cannot read b.mlir\n",
-    },
-    Fault {
-        words: "opt",
+    Group {
+        words: &["opt"],
+        input: ADDER,
         failing: Failing::Read,
         code: 5,
-        line: "circt: cannot read <stdin>\n",
+        out: "",
+        err: "circt: cannot read <stdin>\n",
+        file: "x.v",
+        text: "old",
     },
-    Fault {
-        words: "opt a.mlir",
+    Group {
+        words: &["opt a.mlir", "opt a.mlir -o x.v"],
+        input: ADDER,
         failing: Failing::Read,
         code: 5,
-        line: "circt: cannot read a.mlir\n",
+        out: "",
+        err: "circt: cannot read a.mlir\n",
+        file: "x.v",
+        text: "old",
     },
-    Fault {
-        words: "opt a.mlir -o x.v",
-        failing: Failing::Read,
-        code: 5,
-        line: "circt: cannot read a.mlir\n",
-    },
-    Fault {
-        words: "opt",
+    Group {
+        words: &["opt", "translate --export-verilog -o -"],
+        input: ADDER,
         failing: Failing::Put,
         code: 6,
-        line: "circt: cannot write <stdout>\n",
+        out: "",
+        err: "circt: cannot write <stdout>\n",
+        file: "x.v",
+        text: "old",
     },
-    Fault {
-        words: "translate --export-verilog -o -",
-        failing: Failing::Put,
-        code: 6,
-        line: "circt: cannot write <stdout>\n",
-    },
-    Fault {
-        words: "opt -o x.v",
+    Group {
+        words: &["opt -o x.v", "translate --export-verilog -o x.v"],
+        input: ADDER,
         failing: Failing::Write,
         code: 6,
-        line: "circt: cannot write x.v\n",
+        out: "",
+        err: "circt: cannot write x.v\n",
+        file: "x.v",
+        text: "old",
     },
-    Fault {
-        words: "translate --export-verilog -o x.v",
+    // a file that is read and written keeps its old text where the write fails
+    Group {
+        words: &["opt a.mlir -o a.mlir"],
+        input: ADDER,
         failing: Failing::Write,
         code: 6,
-        line: "circt: cannot write x.v\n",
+        out: "",
+        err: "circt: cannot write a.mlir\n",
+        file: "a.mlir",
+        text: ADDER,
+    },
+    // a refusal names the file, and what is to be written is left as it was
+    Group {
+        words: &["opt", "opt -o x.v", "translate - --export-verilog"],
+        input: "foo",
+        failing: Failing::No,
+        code: 1,
+        out: "",
+        err: REFUSED,
+        file: "x.v",
+        text: "old",
+    },
+    Group {
+        words: &[
+            "opt a.mlir -o x.v",
+            "translate a.mlir --export-verilog -o x.v",
+        ],
+        input: "foo",
+        failing: Failing::No,
+        code: 1,
+        out: "",
+        err: REFUSED_FILE,
+        file: "x.v",
+        text: "old",
+    },
+    // a line that separates texts is a comment, so a symbol after it stands twice
+    Group {
+        words: &["opt"],
+        input: "hw.module @A() {}\n// -----\nhw.module @A() {}",
+        failing: Failing::No,
+        code: 1,
+        out: "",
+        err: "<stdin>:3:1: error: 'hw.module' V16: module defined twice\n",
+        file: "x.v",
+        text: "old",
+    },
+    // a fault of the error output changes no exit status
+    Group {
+        words: &["opt"],
+        input: ADDER,
+        failing: Failing::Line,
+        code: 0,
+        out: ADDER_PRINTED,
+        err: "",
+        file: "x.v",
+        text: "old",
+    },
+    Group {
+        words: &["opt"],
+        input: "foo",
+        failing: Failing::Line,
+        code: 1,
+        out: "",
+        err: "",
+        file: "x.v",
+        text: "old",
+    },
+    Group {
+        words: &["opt a.mlir -o x.v"],
+        input: "hw.module @A() {} hw.module @A() {}",
+        failing: Failing::Line,
+        code: 1,
+        out: "",
+        err: "",
+        file: "x.v",
+        text: "old",
+    },
+    Group {
+        words: &["opt --canonicalise", "translate"],
+        input: ADDER,
+        failing: Failing::Line,
+        code: 2,
+        out: "",
+        err: "",
+        file: "x.v",
+        text: "old",
+    },
+    Group {
+        words: &["translate b.mlir --export-verilog"],
+        input: ADDER,
+        failing: Failing::Line,
+        code: 5,
+        out: "",
+        err: "",
+        file: "x.v",
+        text: "old",
     },
 ];
 
-#[test]
-fn faults_are_told(rt: HostRuntime) -> Result<(), Fail> {
-    for Fault {
-        words,
-        failing,
-        code,
-        line,
-    } in &FAULTS {
-        let run = run_words(&rt, words, ADDER, *failing)?;
-        assert_eq!(rt; run.err.held(), line.as_bytes(), "of {words}");
-        assert_eq!(rt; run.out.held(), b"".as_slice(), "of {words}");
-        assert_eq!(rt; run.code, *code, "of {words}");
-        assert_eq!(rt;
-            run.files.held("x.v"),
-            Some(b"old".as_slice()),
-            "of {words}"
-        );
-    }
-    Ok(())
+// Whether a run ended with the answer of a group.
+fn is_answered(group: &Group, run: &Ended) -> bool {
+    let is_held = match run.files.held(group.file) {
+        Some(bytes) => bytes == group.text.as_bytes(),
+        None => false,
+    };
+    (run.code == group.code && is_held)
+        && (run.out.held() == group.out.as_bytes() && run.err.held() == group.err.as_bytes())
 }
 
-// Words, and the line on a text that is refused; what is written is left as it was.
-#[test]
-fn refusals_name_the_file(rt: HostRuntime) -> Result<(), Fail> {
-    for (words, line) in [
-        ("opt", REFUSED),
-        ("opt -o x.v", REFUSED),
-        ("opt a.mlir -o x.v", REFUSED_FILE),
-        ("translate - --export-verilog", REFUSED),
-        ("translate a.mlir --export-verilog -o x.v", REFUSED_FILE),
-    ] {
-        let run = run_words(&rt, words, "foo", Failing::No)?;
-        assert_eq!(rt; run.err.held(), line.as_bytes(), "of {words}");
-        assert_eq!(rt; run.out.held(), b"".as_slice(), "of {words}");
-        assert_eq!(rt; run.code, 1, "of {words}");
-        assert_eq!(rt;
-            run.files.held("x.v"),
-            Some(b"old".as_slice()),
-            "of {words}"
-        );
+// The first of the words of a group that has another answer.
+fn other_words(
+    rt: &(impl Threads + Sync + AllocGlobal),
+    group: &Group,
+) -> Result<Option<&'static str>, AllocError> {
+    for words in group.words {
+        let run = run_words(rt, words, group.input, group.failing)?;
+        if !is_answered(group, &run) {
+            return Ok(Some(words));
+        }
     }
-    Ok(())
+    Ok(None)
 }
 
-// A fault of the error output changes no exit status.
-#[test]
-fn a_lost_line_changes_no_status(rt: HostRuntime) -> Result<(), Fail> {
-    for (words, input, code) in [
-        ("opt", ADDER, 0),
-        ("opt", "foo", 1),
-        (
-            "opt a.mlir -o x.v",
-            "hw.module @A() {} hw.module @A() {}",
-            1,
-        ),
-        ("opt --canonicalise", ADDER, 2),
-        ("translate", ADDER, 2),
-        ("translate b.mlir --export-verilog", ADDER, 5),
-    ] {
-        let run = run_words(&rt, words, input, Failing::Line)?;
-        assert_eq!(rt; run.err.held(), b"".as_slice(), "of {words}");
-        assert_eq!(rt; run.code, code, "of {words}");
+// The first of the words of all groups that has another answer.
+fn first_other(
+    rt: &(impl Threads + Sync + AllocGlobal),
+    groups: &[Group],
+) -> Result<Option<&'static str>, AllocError> {
+    for group in groups {
+        if let Some(words) = other_words(rt, group)? {
+            return Ok(Some(words));
+        }
     }
+    Ok(None)
+}
+
+#[test]
+fn words_have_their_answers(rt: HostRuntime) -> Result<(), Fail> {
+    assert_eq!(rt; first_other(&rt, &GROUPS)?, None);
     Ok(())
 }
 
@@ -384,9 +395,12 @@ fn a_text_that_is_cut_is_refused(rt: HostRuntime) -> Result<(), Fail> {
         let whole = end == 0 || end >= 103;
         let text = cut(rt.alloc(), end)?;
         let run = run_words(&rt, "opt", text.as_str(), Failing::No)?;
-        assert_eq!(rt; run.code, u8::from(!whole), "after {end}");
-        assert_eq!(rt; run.out.held().is_empty(), !whole, "after {end}");
-        assert_eq!(rt; run.err.held().is_empty(), whole, "after {end}");
+        let answer = (
+            run.code,
+            run.out.held().is_empty(),
+            run.err.held().is_empty(),
+        );
+        assert_eq!(rt; answer, (u8::from(!whole), !whole, whole), "after {end}");
     }
     Ok(())
 }

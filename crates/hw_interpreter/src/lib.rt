@@ -2,11 +2,16 @@
 //! no sharing and no order of its own. Tests of faster parts take their values from it.
 #![tactic(auto)]
 
+mod arrays;
 pub mod bit_string;
 pub mod design;
+mod integers;
 pub mod machine;
 pub mod modules;
 pub mod nets;
+mod operands;
 pub mod refusal;
 pub mod registers;
+mod structs;
 pub mod values;
+mod word_parts;

@@ -21,7 +21,8 @@ use crate::modules::{find_module, held_width, output_operands};
 use crate::nets::{net_value, operand_values, padded};
 use crate::refusal::Refusal;
 use crate::registers::{Register, ResetBy, Slot, register_in, registers};
-use crate::values::{behind, is_high, joined};
+use crate::values::{is_high, joined};
+use crate::word_parts::behind;
 use std::alloc::Global;
 
 /// What a step gives.

@@ -10,8 +10,8 @@ ghost use Rattle.hw_interpreter.specs.DesignViews.{ref_of, op_of, module_of};
 ghost use Rattle.hw_interpreter.specs.Suits.{IsCounted};
 
 use crate::design::{Module, Operand, Operation};
+use crate::operands::exact_width;
 use crate::refusal::Refusal;
-use crate::values::exact_width;
 use hw_model::kinds::{Instance, OpKind};
 
 /// The first module of a symbol.

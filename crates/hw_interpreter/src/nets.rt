@@ -20,8 +20,10 @@ use crate::modules::{
     callee, find_module, first_operations, instance_at, instance_count, is_instance, is_register,
     module_at, offset, output_operands, sum_of,
 };
+use crate::operands::exact_width;
 use crate::refusal::Refusal;
-use crate::values::{behind, exact_width, first_bits, value_of};
+use crate::values::value_of;
+use crate::word_parts::{behind, first_bits};
 use hw_model::kinds::OpKind;
 use hw_model::types::Ty;
 use std::alloc::{AllocError, Global};

@@ -4,10 +4,18 @@
 #[cfg(test)]
 mod bodies;
 #[cfg(test)]
-mod integer_values;
+mod body_changes;
+#[cfg(test)]
+mod designs;
+#[cfg(test)]
+mod kinds;
+#[cfg(test)]
+mod rooms;
 #[cfg(test)]
 mod runs;
 #[cfg(test)]
-mod values;
+mod short_lists;
 #[cfg(test)]
-mod worked_examples;
+mod value_rows;
+#[cfg(test)]
+mod values;

@@ -1,284 +1,117 @@
 //! Small designs, run.
 
-use bits_core::Bits;
+use crate::designs::{Line, Part, RUNS, Run};
+use crate::kinds::{Shape, kind_of, type_of, types_of, word};
 use hw_interpreter::bit_string::{BitString, bits_of};
-use hw_interpreter::design::{Module, Operand, Operation, Port};
+use hw_interpreter::design::{Module, Operation, Port};
 use hw_interpreter::machine::run;
 use hw_interpreter::refusal::Refusal;
-use hw_model::kinds::{Instance, Integer, OpKind, Reset};
-use hw_model::types::Ty;
 use io_edge::byte_text::Text;
 use std::alloc::Global;
 use std::test::Fail;
 
-fn port(alloc: Global, name: &[u8], is_output: bool, ty: Ty) -> Result<Port, Refusal> {
-    let name = Text::of(alloc, name)?;
-    Ok(Port {
-        name,
-        is_output,
-        ty,
-    })
-}
-
-// an operation with one result, or with none
-fn operation(
-    alloc: Global,
-    kind: OpKind,
-    operands: &[Operand],
-    ty: Option<Ty>,
-) -> Result<Operation, Refusal> {
-    let operands = Vec::from_slice(alloc, operands)?;
-    let mut results = Vec::new(alloc);
-    if let Some(ty) = ty {
-        results.push(ty)?;
-    }
+fn operation(alloc: Global, line: &Line) -> Result<Operation, Refusal> {
     Ok(Operation {
-        kind,
-        operands,
-        types: Vec::new(alloc),
-        results,
+        kind: kind_of(alloc, line.kind)?,
+        operands: Vec::from_slice(alloc, line.operands)?,
+        types: types_of(alloc, line.types)?,
+        results: types_of(alloc, line.results)?,
     })
 }
 
-fn module(
+fn push_ports(
     alloc: Global,
-    symbol: &[u8],
-    ports: Vec<Port>,
-    body: Vec<Operation>,
-) -> Result<Module, Refusal> {
-    let symbol = Text::of(alloc, symbol)?;
+    ports: &mut Vec<Port>,
+    shapes: &[Shape],
+    is_output: bool,
+) -> Result<(), Refusal> {
+    for shape in shapes {
+        let ty = type_of(alloc, *shape)?;
+        ports.push(Port {
+            name: Text::new(alloc),
+            is_output,
+            ty,
+        })?;
+    }
+    Ok(())
+}
+
+fn module(alloc: Global, part: &Part) -> Result<Module, Refusal> {
+    let mut ports = Vec::new(alloc);
+    push_ports(alloc, &mut ports, part.inputs, false)?;
+    push_ports(alloc, &mut ports, part.outputs, true)?;
+    let mut body = Vec::new(alloc);
+    for line in part.body {
+        body.push(operation(alloc, line)?)?;
+    }
     Ok(Module {
-        symbol,
+        symbol: Text::of(alloc, part.symbol.as_bytes())?,
         is_private: false,
         ports,
         body,
     })
 }
 
-// the ports clk, rst, en and d
-fn register_ports(alloc: Global) -> Result<Vec<Port>, Refusal> {
-    let mut ports = Vec::new(alloc);
-    ports.push(port(alloc, b"clk", false, Ty::Clock)?)?;
-    ports.push(port(alloc, b"rst", false, Ty::Int(1))?)?;
-    ports.push(port(alloc, b"en", false, Ty::Int(1))?)?;
-    ports.push(port(alloc, b"d", false, Ty::Int(8))?)?;
-    Ok(ports)
-}
-
-fn nine(alloc: Global) -> Result<Operation, Refusal> {
-    operation(
-        alloc,
-        OpKind::Constant(Integer::NonNegative(9)),
-        &[],
-        Some(Ty::Int(8)),
-    )
-}
-
-// a register with enable and reset of the ports, and these data and reset value
-fn register(alloc: Global, next: Operand, value: Operand) -> Result<Operation, Refusal> {
-    let operands = [
-        next,
-        Operand::Port(0),
-        Operand::Port(2),
-        Operand::Port(1),
-        value,
-    ];
-    operation(
-        alloc,
-        OpKind::CompRegCe(Reset::Sync),
-        &operands,
-        Some(Ty::Int(8)),
-    )
-}
-
-fn register_module(alloc: Global) -> Result<Module, Refusal> {
-    let mut ports = register_ports(alloc)?;
-    ports.push(port(alloc, b"q", true, Ty::Int(8))?)?;
-    let mut body = Vec::new(alloc);
-    body.push(nine(alloc)?)?;
-    body.push(register(alloc, Operand::Port(3), Operand::OpResult(0, 0))?)?;
-    body.push(operation(alloc, OpKind::Output, &[Operand::OpResult(1, 0)], None)?)?;
-    module(alloc, b"Reg", ports, body)
-}
-
-fn instance(alloc: Global, name: &[u8], next: Operand) -> Result<Operation, Refusal> {
-    let instance = Instance {
-        name: Text::of(alloc, name)?,
-        inner_symbol: None,
-        symbol: Text::of(alloc, b"Reg")?,
-        inputs: Vec::new(alloc),
-        outputs: Vec::new(alloc),
-    };
-    let kind = OpKind::Instance(Box::new(alloc, instance)?);
-    let operands = [Operand::Port(0), Operand::Port(1), Operand::Port(2), next];
-    operation(alloc, kind, &operands, Some(Ty::Int(8)))
-}
-
-fn two_ports(alloc: Global) -> Result<Vec<Port>, Refusal> {
-    let mut ports = register_ports(alloc)?;
-    ports.push(port(alloc, b"a", true, Ty::Int(8))?)?;
-    ports.push(port(alloc, b"b", true, Ty::Int(8))?)?;
-    Ok(ports)
-}
-
-// two registers, one behind the other, as instances
-fn two_registers(alloc: Global) -> Result<Vec<Module>, Refusal> {
-    let mut body = Vec::new(alloc);
-    body.push(instance(alloc, b"u1", Operand::Port(3))?)?;
-    body.push(instance(alloc, b"u2", Operand::OpResult(0, 0))?)?;
-    let given = [Operand::OpResult(0, 0), Operand::OpResult(1, 0)];
-    body.push(operation(alloc, OpKind::Output, &given, None)?)?;
+fn modules_of(alloc: Global, parts: &[Part]) -> Result<Vec<Module>, Refusal> {
     let mut modules = Vec::new(alloc);
-    modules.push(register_module(alloc)?)?;
-    modules.push(module(alloc, b"Two", two_ports(alloc)?, body)?)?;
+    for part in parts {
+        modules.push(module(alloc, part)?)?;
+    }
     Ok(modules)
 }
 
-// the same with the instances' bodies in their places
-fn flattened(alloc: Global) -> Result<Vec<Module>, Refusal> {
-    let mut body = Vec::new(alloc);
-    body.push(nine(alloc)?)?;
-    body.push(register(alloc, Operand::Port(3), Operand::OpResult(0, 0))?)?;
-    body.push(nine(alloc)?)?;
-    body.push(register(alloc, Operand::OpResult(1, 0), Operand::OpResult(2, 0))?)?;
-    let given = [Operand::OpResult(1, 0), Operand::OpResult(3, 0)];
-    body.push(operation(alloc, OpKind::Output, &given, None)?)?;
-    let mut modules = Vec::new(alloc);
-    modules.push(module(alloc, b"Two", two_ports(alloc)?, body)?)?;
-    Ok(modules)
-}
-
-// the word of the low bits of a number
-fn word(alloc: Global, width: u32, value: u128) -> Result<BitString, Refusal> {
-    let Some(bits) = Bits::new(width, value) else {
-        return Err(Refusal::NotFitting);
-    };
-    let word = BitString::from_bits(alloc, &bits)?;
-    Ok(word)
-}
-
-fn words(alloc: Global, width: u32, values: &[u128]) -> Result<Vec<BitString>, Refusal> {
-    let mut words = Vec::new(alloc);
-    for value in values {
-        words.push(word(alloc, width, *value)?)?;
+fn content_of(alloc: Global, words: &[(u32, u128)]) -> Result<BitString, Refusal> {
+    let mut content = BitString::new(alloc);
+    for (width, number) in words {
+        content.push_bits(word(alloc, *width, *number)?.as_slice())?;
     }
-    Ok(words)
+    Ok(content)
 }
 
-// whether a run from this content gives these outputs, each step and each output a number
-fn gives(
-    alloc: Global,
-    modules: &[Module],
-    top: &[u8],
-    content: &BitString,
-    steps: &[BitString],
-    expected: &[u128],
-) -> Result<bool, Refusal> {
-    let outputs = run(alloc, modules, top, content.as_slice(), steps, 8)?;
-    if outputs.len() != expected.len() {
-        return Ok(false);
+// The outputs of a run, each step a word.
+fn outputs_of(alloc: Global, example: &Run) -> Result<Vec<BitString>, Refusal> {
+    let modules = modules_of(alloc, example.design)?;
+    let content = content_of(alloc, example.content)?;
+    let mut steps = Vec::new(alloc);
+    for number in example.steps {
+        steps.push(word(alloc, example.width, *number)?)?;
     }
-    for (output, number) in outputs.iter().zip(expected) {
-        if bits_of(output.as_slice())?.value() != *number {
+    match example.design.last() {
+        Some(part) => run(
+            alloc,
+            modules.as_slice(),
+            part.symbol.as_bytes(),
+            content.as_slice(),
+            steps.as_slice(),
+            8,
+        ),
+        None => Err(Refusal::NotFitting),
+    }
+}
+
+// Whether words are these numbers.
+fn are(words: &[BitString], numbers: &[u128]) -> Result<bool, Refusal> {
+    for (word, number) in words.iter().zip(numbers) {
+        if bits_of(word.as_slice())?.value() != *number {
             return Ok(false);
         }
     }
-    Ok(true)
+    Ok(words.len() == numbers.len())
 }
 
-// clk, rst and en one bit each, then d: a load, no enable, a reset, and no clock
-const STEPS: [u128; 4] = [
-    0b101_0001_0001,
-    0b100_0010_0010,
-    0b110_0011_0011,
-    0b011_0100_0100,
-];
-
-const OUTPUTS: [u128; 4] = [0x0506, 0x1105, 0x1105, 0x0909];
-
-#[test]
-fn two_registers_as_instances(rt: HostRuntime) -> Result<(), Fail> {
-    let alloc = rt.alloc();
-    let modules = two_registers(alloc)?;
-    let content = word(alloc, 16, 0x0506)?;
-    let steps = words(alloc, 11, &STEPS)?;
-    assert!(rt;
-        gives(
-            alloc,
-            modules.as_slice(),
-            b"Two",
-            &content,
-            steps.as_slice(),
-            &OUTPUTS
-        )?
-    );
-    Ok(())
+// The first run that gives other outputs, by its position.
+fn first_other(alloc: Global, runs: &[Run]) -> Result<Option<usize>, Refusal> {
+    for (at, run) in runs.iter().enumerate() {
+        let outputs = outputs_of(alloc, run)?;
+        if !are(outputs.as_slice(), run.outputs)? {
+            return Ok(Some(at));
+        }
+    }
+    Ok(None)
 }
 
 #[test]
-fn two_registers_in_one_module(rt: HostRuntime) -> Result<(), Fail> {
-    let alloc = rt.alloc();
-    let modules = flattened(alloc)?;
-    let content = word(alloc, 16, 0x0506)?;
-    let steps = words(alloc, 11, &STEPS)?;
-    assert!(rt;
-        gives(
-            alloc,
-            modules.as_slice(),
-            b"Two",
-            &content,
-            steps.as_slice(),
-            &OUTPUTS
-        )?
-    );
-    Ok(())
-}
-
-// a register on each of two clocks, both of d
-fn two_clocks(alloc: Global) -> Result<Vec<Module>, Refusal> {
-    let mut ports = Vec::new(alloc);
-    ports.push(port(alloc, b"c", false, Ty::Clock)?)?;
-    ports.push(port(alloc, b"k", false, Ty::Clock)?)?;
-    ports.push(port(alloc, b"d", false, Ty::Int(8))?)?;
-    ports.push(port(alloc, b"a", true, Ty::Int(8))?)?;
-    ports.push(port(alloc, b"b", true, Ty::Int(8))?)?;
-    let mut body = Vec::new(alloc);
-    let plain = OpKind::CompReg(Reset::No);
-    body.push(operation(
-        alloc,
-        plain,
-        &[Operand::Port(2), Operand::Port(0)],
-        Some(Ty::Int(8)),
-    )?)?;
-    let firm = OpKind::FirReg(Reset::No);
-    body.push(operation(
-        alloc,
-        firm,
-        &[Operand::Port(2), Operand::Port(1)],
-        Some(Ty::Int(8)),
-    )?)?;
-    let given = [Operand::OpResult(0, 0), Operand::OpResult(1, 0)];
-    body.push(operation(alloc, OpKind::Output, &given, None)?)?;
-    let mut modules = Vec::new(alloc);
-    modules.push(module(alloc, b"M", ports, body)?)?;
-    Ok(modules)
-}
-
-#[test]
-fn one_clock_rises_then_the_other(rt: HostRuntime) -> Result<(), Fail> {
-    let alloc = rt.alloc();
-    let modules = two_clocks(alloc)?;
-    let content = word(alloc, 16, 0x0102)?;
-    let steps = words(alloc, 10, &[0x2aa, 0x1bb, 0x0cc])?;
-    assert!(rt;
-        gives(
-            alloc,
-            modules.as_slice(),
-            b"M",
-            &content,
-            steps.as_slice(),
-            &[0x0102, 0xaa02, 0xaabb]
-        )?
-    );
+fn designs_run(rt: HostRuntime) -> Result<(), Fail> {
+    assert_eq!(rt; first_other(rt.alloc(), &RUNS)?, None);
     Ok(())
 }

@@ -1,6 +1,5 @@
 //! Texts that are read: how many modules and operations they give.
-use mlir_syntax::fail::ReadFail;
-use mlir_reader::read::{MOST_BYTES, read_design};
+use mlir_reader::read::read_design;
 use std::alloc::Global;
 use std::test::Fail;
 
@@ -75,19 +74,8 @@ fn every_form_is_read(rt: HostRuntime) -> Result<(), Fail> {
         ("hw.module @A(out o : i1) {}", 1, 0),
         (FORMS, 2, 39),
     ] {
-        let (found, first) = counts(rt.alloc(), text.as_bytes());
-        assert_eq!(rt; found, modules, "modules of {text}");
-        assert_eq!(rt; first, operations, "operations of {text}");
-    }
-    Ok(())
-}
-
-#[test]
-fn a_text_of_more_than_2_to_the_26_bytes_is_too_long(rt: HostRuntime) -> Result<(), Fail> {
-    let blanks = Vec::from_elem(rt.alloc(), b' ', MOST_BYTES + 1)?;
-    match read_design(rt.alloc(), blanks.as_slice()) {
-        Err(ReadFail::Refused(refusal)) => assert_eq!(rt; refusal.cause.code(), b"S7".as_slice()),
-        Err(ReadFail::NoMemory) | Ok(_) => panic!(rt; "not refused"),
+        let found = counts(rt.alloc(), text.as_bytes());
+        assert_eq!(rt; found, (modules, operations), "of {text}");
     }
     Ok(())
 }

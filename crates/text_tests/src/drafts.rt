@@ -1,4 +1,5 @@
 //! Bodies whose operations are read one by one.
+use Operand::{Port, Result as Of, Undefined};
 use io_edge::byte_text::Text;
 use ir_store::body::Body;
 use ir_store::operation::{OpId, Value};
@@ -9,7 +10,7 @@ use mlir_syntax::reader::Reader;
 use std::alloc::{AllocError, Global};
 use std::test::Fail;
 
-// operation 0 waits for a later one, and with it those behind; operation 4 waits for a name that nothing defines
+// operation 0 waits for a later one, and with it those after it; operation 4 waits for a name that nothing defines
 const FORWARD: &[u8] = b"%a = comb.add %p, %d : i8
 %b = comb.xor %p, %p : i8
 %c = comb.and %b, %p : i8
@@ -18,7 +19,7 @@ const FORWARD: &[u8] = b"%a = comb.add %p, %d : i8
 %f = comb.sub %e, %p : i8
 ";
 
-// packs, an operation that names itself, a number behind a name that is no pack, and a name that is defined again
+// packs, an operation that names itself, a number after a name that is no pack, and a name that is defined again
 const PACKS: &[u8] = b"%s:2 = hw.struct_explode %p : !hw.struct<x: i8, y: i8>
 %a = comb.add %s#1, %s#2, %s : i8
 %r = comb.or %r, %a#1, %s#0 : i8
@@ -26,7 +27,7 @@ const PACKS: &[u8] = b"%s:2 = hw.struct_explode %p : !hw.struct<x: i8, y: i8>
 %a = comb.and %q, %q#1, %a, %p#1 : i8
 ";
 
-// a pack whose name is new, and then packs of two, of more results than there are, of none, and one behind a sum
+// a pack whose name is new, and then packs of two, of more results than there are, of none, and one of a sum
 const PACKS_AGAIN: &[u8] = b"%s:2 = hw.struct_explode %p : !hw.struct<x: i8, y: i8, z: i8>
 %s:2 = hw.struct_explode %p : !hw.struct<x: i8, y: i8, z: i8>
 %s:5 = hw.struct_explode %p : !hw.struct<x: i8, y: i8, z: i8>
@@ -34,7 +35,92 @@ const PACKS_AGAIN: &[u8] = b"%s:2 = hw.struct_explode %p : !hw.struct<x: i8, y: 
 %s:4 = comb.add %p, %p : i8
 ";
 
-// the body of at most so many operations that a text begins with, behind one port `p`
+/// A value: the port, or the result of this number of the operation at a position.
+#[derive(Clone, Copy)]
+enum Operand {
+    Port,
+    Result(u32, u32),
+    Undefined,
+}
+
+/// The operations that a text begins with, and where values are used in their body.
+struct Front {
+    text: &'static [u8],
+    /// How many operations are read at most, and how many there are.
+    most: usize,
+    count: usize,
+    /// Values, each with the operations and the operands where it is used.
+    uses: &'static [(Operand, &'static [(u32, u32)])],
+    /// Operations, each with the marks of its results as defined again.
+    marks: &'static [(u32, &'static [bool])],
+}
+
+const FRONTS: [Front; 5] = [
+    // a name may be defined later
+    Front {
+        text: FORWARD,
+        most: 9,
+        count: 6,
+        uses: &[
+            (Port, &[(0, 0), (1, 0), (1, 1), (2, 1), (3, 0), (5, 1)]),
+            (Of(0, 0), &[(3, 1)]),
+            (Of(1, 0), &[(2, 0)]),
+            (Of(2, 0), &[(4, 1)]),
+            (Of(3, 0), &[(0, 1)]),
+            (Of(4, 0), &[(5, 0)]),
+            (Of(5, 0), &[(4, 2)]),
+            (Undefined, &[(4, 0), (4, 3)]),
+        ],
+        marks: &[],
+    },
+    // a front is a body too
+    Front {
+        text: FORWARD,
+        most: 3,
+        count: 3,
+        uses: &[(Undefined, &[(0, 1)]), (Of(1, 0), &[(2, 0)])],
+        marks: &[],
+    },
+    Front {
+        text: FORWARD,
+        most: 0,
+        count: 0,
+        uses: &[],
+        marks: &[],
+    },
+    // a number counts within a pack
+    Front {
+        text: PACKS,
+        most: 9,
+        count: 5,
+        uses: &[
+            (Port, &[(0, 0), (3, 0)]),
+            (Of(0, 0), &[(1, 2), (2, 2)]),
+            (Of(0, 1), &[(1, 0)]),
+            (Of(1, 0), &[(4, 2)]),
+            (Of(2, 0), &[(2, 0)]),
+            (Of(3, 0), &[(4, 0)]),
+            (Undefined, &[(1, 1), (2, 1), (4, 1), (4, 3)]),
+        ],
+        marks: &[],
+    },
+    // each result of a pack has its mark
+    Front {
+        text: PACKS_AGAIN,
+        most: 9,
+        count: 5,
+        uses: &[],
+        marks: &[
+            (0, &[false, false, false]),
+            (1, &[true, true, false]),
+            (2, &[true, true, true]),
+            (3, &[false, false, false]),
+            (4, &[true]),
+        ],
+    },
+];
+
+// the body of at most so many operations that a text begins with, after one port `p`
 fn body_of(alloc: Global, text: &[u8], most: usize) -> Result<Body, AllocError> {
     let mut names = Names::with_room(alloc, 0)?;
     define_port(&mut names, 0, Some(b"p"))?;
@@ -49,9 +135,17 @@ fn body_of(alloc: Global, text: &[u8], most: usize) -> Result<Body, AllocError> 
     draft.finish(alloc)
 }
 
+fn value_of(operand: Operand) -> Value {
+    match operand {
+        Port => Value::Port(0),
+        Of(op, number) => Value::Result(OpId::nth(op), number),
+        Undefined => Value::Undefined,
+    }
+}
+
 // whether a value is used at these operands of these operations alone
-fn is_used_at(body: &Body, value: Value, places: &[(u32, u32)]) -> bool {
-    let mut left = body.uses(value);
+fn is_used_at(body: &Body, operand: Operand, places: &[(u32, u32)]) -> bool {
+    let mut left = body.uses(value_of(operand));
     for (op, at) in places {
         match left.next() {
             Some(place) if place.op.number() == *op && place.at == *at => {}
@@ -59,65 +153,6 @@ fn is_used_at(body: &Body, value: Value, places: &[(u32, u32)]) -> bool {
         }
     }
     left.next().is_none()
-}
-
-// a result of the operation at a position
-fn result(op: u32, number: u32) -> Value {
-    Value::Result(OpId::nth(op), number)
-}
-
-#[test]
-fn a_name_may_be_defined_later(rt: HostRuntime) -> Result<(), Fail> {
-    let body = body_of(rt.alloc(), FORWARD, 9)?;
-    assert_eq!(rt; body.op_count(), 6);
-    for (value, places) in [
-        (
-            Value::Port(0),
-            [(0, 0), (1, 0), (1, 1), (2, 1), (3, 0), (5, 1)].as_slice(),
-        ),
-        (result(0, 0), [(3, 1)].as_slice()),
-        (result(1, 0), [(2, 0)].as_slice()),
-        (result(2, 0), [(4, 1)].as_slice()),
-        (result(3, 0), [(0, 1)].as_slice()),
-        (result(4, 0), [(5, 0)].as_slice()),
-        (result(5, 0), [(4, 2)].as_slice()),
-        (Value::Undefined, [(4, 0), (4, 3)].as_slice()),
-    ] {
-        assert!(rt; is_used_at(&body, value, places));
-    }
-    Ok(())
-}
-
-#[test]
-fn a_front_is_a_body_too(rt: HostRuntime) -> Result<(), Fail> {
-    let body = body_of(rt.alloc(), FORWARD, 3)?;
-    assert_eq!(rt; body.op_count(), 3);
-    assert!(rt; is_used_at(&body, Value::Undefined, &[(0, 1)]));
-    assert!(rt; is_used_at(&body, result(1, 0), &[(2, 0)]));
-    let none = body_of(rt.alloc(), FORWARD, 0)?;
-    assert_eq!(rt; none.op_count(), 0);
-    Ok(())
-}
-
-#[test]
-fn a_number_counts_within_a_pack(rt: HostRuntime) -> Result<(), Fail> {
-    let body = body_of(rt.alloc(), PACKS, 9)?;
-    assert_eq!(rt; body.op_count(), 5);
-    for (value, places) in [
-        (Value::Port(0), [(0, 0), (3, 0)].as_slice()),
-        (result(0, 0), [(1, 2), (2, 2)].as_slice()),
-        (result(0, 1), [(1, 0)].as_slice()),
-        (result(1, 0), [(4, 2)].as_slice()),
-        (result(2, 0), [(2, 0)].as_slice()),
-        (result(3, 0), [(4, 0)].as_slice()),
-        (
-            Value::Undefined,
-            [(1, 1), (2, 1), (4, 1), (4, 3)].as_slice(),
-        ),
-    ] {
-        assert!(rt; is_used_at(&body, value, places));
-    }
-    Ok(())
 }
 
 // whether the results of an operation have these marks
@@ -136,34 +171,60 @@ fn are_marked(body: &Body, op: u32, marks: &[bool]) -> bool {
     left.is_empty()
 }
 
-#[test]
-fn each_result_of_a_pack_has_its_mark(rt: HostRuntime) -> Result<(), Fail> {
-    let body = body_of(rt.alloc(), PACKS_AGAIN, 9)?;
-    assert_eq!(rt; body.op_count(), 5);
-    for (op, marks) in [
-        (0, [false, false, false].as_slice()),
-        (1, [true, true, false].as_slice()),
-        (2, [true, true, true].as_slice()),
-        (3, [false, false, false].as_slice()),
-        (4, [true].as_slice()),
-    ] {
-        assert!(rt; are_marked(&body, op, marks));
+// whether values are used and results are marked as a front says
+fn is_told(body: &Body, front: &Front) -> bool {
+    for (operand, places) in front.uses {
+        if !is_used_at(body, *operand, places) {
+            return false;
+        }
     }
-    Ok(())
+    for (op, marks) in front.marks {
+        if !are_marked(body, *op, marks) {
+            return false;
+        }
+    }
+    body.op_count() == front.count
+}
+
+// the first front of which something else is read, by its position
+fn first_other(alloc: Global, fronts: &[Front]) -> Result<Option<usize>, AllocError> {
+    for (at, front) in fronts.iter().enumerate() {
+        let body = body_of(alloc, front.text, front.most)?;
+        if !is_told(&body, front) {
+            return Ok(Some(at));
+        }
+    }
+    Ok(None)
 }
 
 #[test]
-fn many_may_wait_for_the_last(rt: HostRuntime) -> Result<(), Fail> {
-    let mut text = Text::new(rt.alloc());
+fn operations_are_read_one_by_one(rt: HostRuntime) -> Result<(), Fail> {
+    assert_eq!(rt; first_other(rt.alloc(), &FRONTS)?, None);
+    Ok(())
+}
+
+// the first operation waits for the last one, and so do 300 after it
+fn waiting(alloc: Global) -> Result<Text, AllocError> {
+    let mut text = Text::new(alloc);
     text.push_bytes(b"%a = comb.add %p, %z : i8\n")?;
     for _ in 0..300 {
         text.push_bytes(b"%b = comb.xor %p, %p : i8\n")?;
     }
     text.push_bytes(b"%z = comb.or %p, %a : i8\n")?;
+    Ok(text)
+}
+
+#[test]
+fn many_may_wait_for_the_last(rt: HostRuntime) -> Result<(), Fail> {
+    let text = waiting(rt.alloc())?;
     let body = body_of(rt.alloc(), text.as_bytes(), 999)?;
     assert_eq!(rt; body.op_count(), 302);
-    assert!(rt; is_used_at(&body, result(301, 0), &[(0, 1)]));
-    assert!(rt; is_used_at(&body, result(0, 0), &[(301, 1)]));
-    assert!(rt; is_used_at(&body, Value::Undefined, &[]));
+    for (operand, places) in [
+        (Of(301, 0), [(0, 1)].as_slice()),
+        (Of(0, 0), &[(301, 1)]),
+        (Undefined, &[]),
+    ] {
+        assert!(rt; is_used_at(&body, operand, places));
+    }
     Ok(())
 }

@@ -1,4 +1,5 @@
-//! Tests of error messages, tokens, the reader and the printer, by the public calls of their crates.
+//! Tests of error messages, tokens and the reader, by the public calls of their crates. What is refused of texts and what is
+//! printed is checked by the crate `circt_examples`.
 #![tactic(auto)]
 
 #[cfg(test)]
@@ -8,10 +9,8 @@ mod drafts;
 #[cfg(test)]
 mod lines;
 #[cfg(test)]
-mod printed_texts;
+mod names;
 #[cfg(test)]
 mod readers;
-#[cfg(test)]
-mod refusals;
 #[cfg(test)]
 mod tokens;

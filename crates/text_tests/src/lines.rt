@@ -1,8 +1,9 @@
+//! Error messages.
 use diag::cause::Cause;
 use diag::line::refusal_text;
-use opcode::listed::Listed;
 use diag::refusal::{OpName, Place, Refusal};
 use io_edge::memory_sink::MemorySink;
+use opcode::listed::Listed;
 use std::test::Fail;
 
 #[test]
@@ -67,12 +68,15 @@ fn a_refusal_is_one_line(rt: HostRuntime) -> Result<(), Fail> {
 }
 
 #[test]
-fn operations_are_found_by_their_names(rt: HostRuntime) -> Result<(), Fail> {
-    assert_eq!(rt; Listed::of(b"comb.shrs"), Some(Listed::CombShrs));
-    assert_eq!(rt; Listed::of(b"seq.compreg"), Some(Listed::SeqCompreg));
-    assert_eq!(rt; Listed::of(b"hw.module"), Some(Listed::HwModule));
-    assert_eq!(rt; Listed::of(b"comb.nand"), None);
-    assert_eq!(rt; Listed::of(b"hw.modul"), None);
-    assert_eq!(rt; Listed::of(b""), None);
-    Ok(())
+fn operations_are_found_by_their_names(rt: HostRuntime) {
+    for (name, listed) in [
+        ("comb.shrs", Some(Listed::CombShrs)),
+        ("seq.compreg", Some(Listed::SeqCompreg)),
+        ("hw.module", Some(Listed::HwModule)),
+        ("comb.nand", None),
+        ("hw.modul", None),
+        ("", None),
+    ] {
+        assert_eq!(rt; Listed::of(name.as_bytes()), listed);
+    }
 }

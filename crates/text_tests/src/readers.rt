@@ -4,7 +4,6 @@ use diag::refusal::OpName;
 use io_edge::byte_text::Text;
 use mlir_syntax::attribute_text::StringKeys;
 use mlir_syntax::fail::ReadFail;
-use mlir_reader::names::{Defined, Names};
 use mlir_syntax::reader::Reader;
 use mlir_syntax::syntax::ResultNames;
 use mlir_syntax::type_text::MOST_OPEN;
@@ -14,7 +13,7 @@ use std::test::Fail;
 // What a reader made of a text: a number that tells what is read, or the column and cause of a refusal.
 type Outcome = Result<u64, (u32, Cause)>;
 
-// the column and the cause of a refusal; column 0 for want of memory
+// the column and the cause of a refusal; column 0 for out of memory
 fn told(fail: ReadFail) -> (u32, Cause) {
     match fail {
         ReadFail::Refused(refusal) => (refusal.place.col, refusal.cause),
@@ -56,12 +55,139 @@ fn results_of(alloc: Global, source: &[u8]) -> Outcome {
     }
 }
 
-// the position of the port that a name stands for
-fn port_of(names: &Names<'_>, name: &[u8]) -> Option<u32> {
-    match names.find(name) {
-        Some(Defined::Port(position)) => Some(position),
-        Some(Defined::Result(..) | Defined::Pack(..)) | None => None,
+/// A part of a text.
+#[derive(Clone, Copy)]
+enum Part {
+    Type,
+    Dictionary,
+    Constants,
+    Results,
+}
+
+/// Texts that are read as a part, each with what is made of it.
+struct Group {
+    part: Part,
+    texts: &'static [(&'static str, Outcome)],
+}
+
+const GROUPS: [Group; 4] = [
+    Group {
+        // the width
+        part: Part::Type,
+        texts: &[
+            ("i8", Ok(8)),
+            ("i0", Ok(0)),
+            ("i4294967295", Ok(4_294_967_295)),
+            ("!seq.clock", Ok(1)),
+            ("!hw.array<3xi8>", Ok(24)),
+            ("!hw.array<2 x i8>", Ok(16)),
+            ("!hw.array<2x!hw.array<0x!seq.clock>>", Ok(0)),
+            ("!hw.struct<a: i8, \"b c\": !hw.array<2xi4>>", Ok(16)),
+            ("!hw.struct<>", Ok(0)),
+            ("i4294967296", Err((1, Cause::NumberTooLarge))),
+            ("!hw.array<4294967296xi1>", Err((11, Cause::NumberTooLarge))),
+            ("!hw.array<2xi4294967296>", Err((12, Cause::NumberTooLarge))),
+            ("i", Err((1, Cause::Unexpected))),
+            ("i8x", Err((1, Cause::Unexpected))),
+            ("loc", Err((1, Cause::OutsideProfile))),
+            ("!hw.inout<i1>", Err((1, Cause::OutsideProfile))),
+            ("!hw.array<2xq>", Err((12, Cause::Unexpected))),
+            ("!hw.array<2xi8", Err((15, Cause::Unexpected))),
+            ("!hw.struct<a i8>", Err((14, Cause::Unexpected))),
+            ("!hw.struct<a: i8,>", Err((18, Cause::Unexpected))),
+            ("", Err((1, Cause::Unexpected))),
+            (" ?", Err((2, Cause::BadByte))),
+        ],
+    },
+    Group {
+        // how many entries
+        part: Part::Dictionary,
+        texts: &[
+            ("{}", Ok(0)),
+            ("{a}", Ok(1)),
+            (
+                "{a = 1, b = -9223372036854775808 : i64, c = [true, \"x\", []], \"d e\" = @s, sv.namehint = \"q\"}",
+                Ok(5),
+            ),
+            ("{a = 0xFFFFFFFFFFFFFFFF}", Ok(1)),
+            (
+                "{a = 18446744073709551616}",
+                Err((6, Cause::NumberTooLarge)),
+            ),
+            (
+                "{a = -9223372036854775809}",
+                Err((7, Cause::NumberTooLarge)),
+            ),
+            ("{a, b = 2, a = 3}", Err((12, Cause::Unexpected))),
+            ("{a = 1, \"\\61\" = 2}", Err((9, Cause::Unexpected))),
+            ("{sv.namehint}", Err((13, Cause::Unexpected))),
+            ("{sv.namehint = 1}", Err((16, Cause::Unexpected))),
+            ("{a = #x}", Err((6, Cause::OutsideProfile))),
+            ("{a = 1,}", Err((8, Cause::Unexpected))),
+            ("{a = 1", Err((7, Cause::Unexpected))),
+            ("a", Err((1, Cause::Unexpected))),
+        ],
+    },
+    Group {
+        // how many constants
+        part: Part::Constants,
+        texts: &[
+            ("[]", Ok(0)),
+            ("[-1 : i8, true, [false, 2 : i2]]", Ok(3)),
+            ("[1]", Err((3, Cause::Unexpected))),
+            ("1 : i8", Err((1, Cause::Unexpected))),
+            (
+                "[340282366920938463463374607431768211456 : i8]",
+                Err((2, Cause::NumberTooLarge)),
+            ),
+        ],
+    },
+    Group {
+        // how many results
+        part: Part::Results,
+        texts: &[
+            ("comb.add", Ok(0)),
+            ("%a = ", Ok(1)),
+            ("%a, %1, %b-c = ", Ok(3)),
+            ("%a:5 = ", Ok(5)),
+            ("%a:4294967296 = ", Err((4, Cause::NumberTooLarge))),
+            ("%a %b = ", Err((4, Cause::Unexpected))),
+        ],
+    },
+];
+
+fn outcome_of(alloc: Global, part: Part, source: &[u8]) -> Outcome {
+    match part {
+        Part::Type => width_of(alloc, source),
+        Part::Dictionary => entries_of(alloc, source),
+        Part::Constants => constants_of(alloc, source),
+        Part::Results => results_of(alloc, source),
     }
+}
+
+// the first text of a group of which something else is made
+fn other_text(alloc: Global, group: &Group) -> Option<&'static str> {
+    for (source, wanted) in group.texts {
+        if outcome_of(alloc, group.part, source.as_bytes()) != *wanted {
+            return Some(source);
+        }
+    }
+    None
+}
+
+// the first text of all groups of which something else is made
+fn first_other(alloc: Global, groups: &[Group]) -> Option<&'static str> {
+    for group in groups {
+        if let Some(text) = other_text(alloc, group) {
+            return Some(text);
+        }
+    }
+    None
+}
+
+#[test]
+fn parts_are_read_or_refused(rt: HostRuntime) {
+    assert_eq!(rt; first_other(rt.alloc(), &GROUPS), None);
 }
 
 // a text that opens so many arrays
@@ -78,112 +204,10 @@ fn nested(alloc: Global, depth: u32) -> Result<Text, AllocError> {
 }
 
 #[test]
-fn types_are_read_or_refused(rt: HostRuntime) -> Result<(), Fail> {
-    for (source, wanted) in [
-        ("i8", Ok(8)),
-        ("i0", Ok(0)),
-        ("i4294967295", Ok(4_294_967_295)),
-        ("!seq.clock", Ok(1)),
-        ("!hw.array<3xi8>", Ok(24)),
-        ("!hw.array<2 x i8>", Ok(16)),
-        ("!hw.array<2x!hw.array<0x!seq.clock>>", Ok(0)),
-        ("!hw.struct<a: i8, \"b c\": !hw.array<2xi4>>", Ok(16)),
-        ("!hw.struct<>", Ok(0)),
-        ("i4294967296", Err((1, Cause::NumberTooLarge))),
-        ("!hw.array<4294967296xi1>", Err((11, Cause::NumberTooLarge))),
-        ("!hw.array<2xi4294967296>", Err((12, Cause::NumberTooLarge))),
-        ("i", Err((1, Cause::Unexpected))),
-        ("i8x", Err((1, Cause::Unexpected))),
-        ("loc", Err((1, Cause::OutsideProfile))),
-        ("!hw.inout<i1>", Err((1, Cause::OutsideProfile))),
-        ("!hw.array<2xq>", Err((12, Cause::Unexpected))),
-        ("!hw.array<2xi8", Err((15, Cause::Unexpected))),
-        ("!hw.struct<a i8>", Err((14, Cause::Unexpected))),
-        ("!hw.struct<a: i8,>", Err((18, Cause::Unexpected))),
-        ("", Err((1, Cause::Unexpected))),
-        (" ?", Err((2, Cause::BadByte))),
-    ] {
-        assert!(rt;
-            width_of(rt.alloc(), source.as_bytes()) == wanted,
-            "in {source}"
-        );
-    }
-    Ok(())
-}
-
-#[test]
 fn the_33rd_open_type_is_refused(rt: HostRuntime) -> Result<(), Fail> {
-    let most = nested(rt.alloc(), 32)?;
-    assert!(rt; width_of(rt.alloc(), most.as_bytes()) == Ok(1));
-    let more = nested(rt.alloc(), 33)?;
-    assert!(rt; width_of(rt.alloc(), more.as_bytes()) == Err((385, Cause::TooDeep)));
-    Ok(())
-}
-
-#[test]
-fn dictionaries_are_read_or_refused(rt: HostRuntime) -> Result<(), Fail> {
-    for (source, wanted) in [
-        ("{}", Ok(0)),
-        ("{a}", Ok(1)),
-        (
-            "{a = 1, b = -9223372036854775808 : i64, c = [true, \"x\", []], \"d e\" = @s, sv.namehint = \"q\"}",
-            Ok(5),
-        ),
-        ("{a = 0xFFFFFFFFFFFFFFFF}", Ok(1)),
-        (
-            "{a = 18446744073709551616}",
-            Err((6, Cause::NumberTooLarge)),
-        ),
-        (
-            "{a = -9223372036854775809}",
-            Err((7, Cause::NumberTooLarge)),
-        ),
-        ("{a, b = 2, a = 3}", Err((12, Cause::Unexpected))),
-        ("{a = 1, \"\\61\" = 2}", Err((9, Cause::Unexpected))),
-        ("{sv.namehint}", Err((13, Cause::Unexpected))),
-        ("{sv.namehint = 1}", Err((16, Cause::Unexpected))),
-        ("{a = #x}", Err((6, Cause::OutsideProfile))),
-        ("{a = 1,}", Err((8, Cause::Unexpected))),
-        ("{a = 1", Err((7, Cause::Unexpected))),
-        ("a", Err((1, Cause::Unexpected))),
-    ] {
-        assert!(rt;
-            entries_of(rt.alloc(), source.as_bytes()) == wanted,
-            "in {source}"
-        );
-    }
-    Ok(())
-}
-
-#[test]
-fn constants_and_names_are_read_or_refused(rt: HostRuntime) -> Result<(), Fail> {
-    for (source, wanted) in [
-        ("[]", Ok(0)),
-        ("[-1 : i8, true, [false, 2 : i2]]", Ok(3)),
-        ("[1]", Err((3, Cause::Unexpected))),
-        ("1 : i8", Err((1, Cause::Unexpected))),
-        (
-            "[340282366920938463463374607431768211456 : i8]",
-            Err((2, Cause::NumberTooLarge)),
-        ),
-    ] {
-        assert!(rt;
-            constants_of(rt.alloc(), source.as_bytes()) == wanted,
-            "in {source}"
-        );
-    }
-    for (source, wanted) in [
-        ("comb.add", Ok(0)),
-        ("%a = ", Ok(1)),
-        ("%a, %1, %b-c = ", Ok(3)),
-        ("%a:5 = ", Ok(5)),
-        ("%a:4294967296 = ", Err((4, Cause::NumberTooLarge))),
-        ("%a %b = ", Err((4, Cause::Unexpected))),
-    ] {
-        assert!(rt;
-            results_of(rt.alloc(), source.as_bytes()) == wanted,
-            "in {source}"
-        );
+    for (depth, outcome) in [(32, Ok(1)), (33, Err((385, Cause::TooDeep)))] {
+        let text = nested(rt.alloc(), depth)?;
+        assert_eq!(rt; width_of(rt.alloc(), text.as_bytes()), outcome);
     }
     Ok(())
 }
@@ -198,63 +222,5 @@ fn an_operand_has_a_name_and_a_number(rt: HostRuntime) -> Result<(), Fail> {
     assert_eq!(rt; first.number, 7);
     assert!(rt; reader.operand_text(OpName::File).is_err());
     assert!(rt; reader.want_word(OpName::File, b"x").is_err());
-    Ok(())
-}
-
-#[test]
-fn a_name_keeps_what_it_stood_for_first(rt: HostRuntime) -> Result<(), Fail> {
-    let mut names = Names::with_room(rt.alloc(), 0)?;
-    let given = [
-        ("0", 3),
-        ("7", 1),
-        ("00", 4),
-        ("007", 15),
-        ("12", 9),
-        ("999999999", 2),
-        ("1000000000", 6),
-        ("a", 5),
-        ("1a", 35),
-        ("63", 8),
-        ("4000", 97),
-        ("99", 93),
-        ("", 23),
-    ];
-    for (name, position) in given {
-        assert_eq!(rt; port_of(&names, name.as_bytes()), None, "in {name}");
-        let again = names.define(name.as_bytes(), Defined::Port(position))?;
-        assert!(rt; !again, "in {name}");
-    }
-    for (name, position) in given {
-        let again = names.define(name.as_bytes(), Defined::Port(1000))?;
-        assert!(rt; again, "in {name}");
-        assert_eq!(rt;
-            port_of(&names, name.as_bytes()),
-            Some(position),
-            "in {name}"
-        );
-    }
-    for name in ["1", "07", "000", "64", "1000000001", "b", "2a"] {
-        assert_eq!(rt; port_of(&names, name.as_bytes()), None, "in {name}");
-    }
-    Ok(())
-}
-
-#[test]
-fn a_number_far_above_is_kept_when_its_place_comes_near(rt: HostRuntime) -> Result<(), Fail> {
-    let mut names = Names::with_room(rt.alloc(), 4)?;
-    assert!(rt; !names.define(b"90", Defined::Port(1))?);
-    for name in ["0", "1", "2", "3", "4", "5", "6", "7", "8", "9", "91", "93"] {
-        let again = names.define(name.as_bytes(), Defined::Port(2))?;
-        assert!(rt; !again, "in {name}");
-    }
-    assert!(rt; names.define(b"90", Defined::Port(3))?);
-    for (name, wanted) in [
-        ("90", Some(1)),
-        ("91", Some(2)),
-        ("92", None),
-        ("93", Some(2)),
-    ] {
-        assert_eq!(rt; port_of(&names, name.as_bytes()), wanted, "in {name}");
-    }
     Ok(())
 }

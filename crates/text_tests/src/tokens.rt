@@ -1,3 +1,4 @@
+//! Tokens of texts.
 use io_edge::byte_text::Text;
 use mlir_lexer::token::TokenKind;
 use mlir_lexer::tokens::Tokens;
@@ -45,10 +46,8 @@ fn a_text_is_its_tokens(rt: HostRuntime) -> Result<(), Fail> {
         let Ok(Some(token)) = tokens.next() else {
             panic!(rt; "no token at {line}:{col}");
         };
-        assert_eq!(rt; token.kind, kind, "at {line}:{col}");
-        assert_eq!(rt; token.place.line, line, "at {line}:{col}");
-        assert_eq!(rt; token.place.col, col, "at {line}:{col}");
-        assert_eq!(rt; token.at, at, "at {line}:{col}");
+        let place = (token.place.line, token.place.col, token.at);
+        assert_eq!(rt; (token.kind, place), (kind, (line, col, at)));
         assert_eq!(rt; token.text, text.as_bytes(), "at {line}:{col}");
     }
     for _ in 0..2 {
@@ -93,8 +92,8 @@ fn a_bad_byte_is_refused_at_its_place_and_again(rt: HostRuntime) -> Result<(), F
         for _ in 0..2 {
             match tokens.next() {
                 Err(refusal) => {
-                    assert_eq!(rt; refusal.place.line, line, "in {source}");
-                    assert_eq!(rt; refusal.place.col, col, "in {source}");
+                    let place = (refusal.place.line, refusal.place.col);
+                    assert_eq!(rt; place, (line, col), "in {source}");
                 }
                 Ok(found) => assert!(rt; found.is_none() && line == 0, "in {source}"),
             }

@@ -1,9 +1,10 @@
-//! Tests of the verifier and of the search for cycles, by the public calls of their crates.
+//! Tests of the verifier and of the search for cycles on designs that no text gives, with each public call. What
+//! is refused of texts is checked by the crate `circt_examples`.
 #![tactic(auto)]
 
 #[cfg(test)]
-mod cycles;
-#[cfg(test)]
-mod faults;
+mod designs;
 #[cfg(test)]
 mod verdicts;
+#[cfg(test)]
+mod weights;

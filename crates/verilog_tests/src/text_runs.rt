@@ -184,7 +184,7 @@ fn other_texts_are_not_run(rt: HostRuntime) {
     }
 }
 
-// Two registers, one behind the other, in one module.
+// Two registers, one after the other, in one module.
 const FLAT: &str =
     "module Two(input wire clk, input wire rst, input wire en, input wire [7:0] d, output wire [7:0] a, output wire [7:0] b);
 reg [7:0] u1_r; reg [7:0] u2_r;

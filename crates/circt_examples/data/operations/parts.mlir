@@ -103,3 +103,14 @@ hw.module @T(in %a : i8, in %s : !hw.struct<x: i8, y: i8>, out o : i8) {
   %0 = hw.bitcast %s : (!hw.struct<x: i8, y: i8>) -> !hw.array<3xi8>
   hw.output %a : i8
 }
+// ----- a divisor of zero that stands after
+hw.module @T(in %a : i8, in %b : i8, out o : i8) {
+  %0 = comb.divu %a, %1 : i8
+  %1 = hw.constant 0 : i8
+  hw.output %0 : i8
+}
+// ----- a divisor that is a port
+hw.module @T(in %a : i8, in %b : i8, out o : i8) {
+  %0 = comb.divu %a, %b : i8
+  hw.output %0 : i8
+}

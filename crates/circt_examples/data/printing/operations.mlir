@@ -74,3 +74,15 @@ hw.module @""() {
   %b = hw.constant -1 : i1
   %c = hw.constant 007 : i8
 }
+// ----- a divisor that stands after
+hw.module @T(in %a : i8, in %b : i8, out o : i8) {
+  %0 = comb.divu %a, %1 : i8
+  %1 = hw.constant 3 : i8
+  hw.output %0 : i8
+}
+// ----- an operand that stands after
+hw.module @T(in %a : i8, in %b : i8, out o : i8) {
+  %0 = comb.xor %1, %a : i8
+  %1 = comb.add %a, %b : i8
+  hw.output %0 : i8
+}

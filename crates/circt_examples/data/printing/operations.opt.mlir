@@ -90,3 +90,19 @@ module {
     hw.output
   }
 }
+// ----- a divisor that stands after
+module {
+  hw.module @T(in %a : i8, in %b : i8, out o : i8) {
+    %0 = comb.divu %a, %c3_i8 : i8
+    %c3_i8 = hw.constant 3 : i8
+    hw.output %0 : i8
+  }
+}
+// ----- an operand that stands after
+module {
+  hw.module @T(in %a : i8, in %b : i8, out o : i8) {
+    %0 = comb.xor %1, %a : i8
+    %1 = comb.add %a, %b : i8
+    hw.output %0 : i8
+  }
+}

@@ -118,3 +118,27 @@ hw.module @T(in %a : i8, out o : i8) {
   %0 = comb.divu %a, %k : i8
   hw.output %0 : i8
 }
+// ----- a user of an element of an integer, which has no type
+hw.module @T(in %a : i8, in %b : i8, out o : i8) {
+  %0 = comb.xor %1, %a : i8
+  %1 = hw.array_get %a[%b] : i8, i8
+  hw.output %0 : i8
+}
+// ----- a user of arrays of other elements, which have no type together
+hw.module @T(in %a : i8, in %b : i8, out o : i8) {
+  %0 = comb.xor %1, %a : i8
+  %1 = hw.array_concat %a, %b : !hw.array<1xi8>, !hw.array<1xi4>
+  hw.output %0 : i8
+}
+// ----- a user of arrays of equal elements
+hw.module @T(in %a : i8, in %b : i8, out o : i8) {
+  %0 = comb.xor %1, %a : i8
+  %1 = hw.array_concat %a, %b : !hw.array<1xi8>, !hw.array<1xi8>
+  hw.output %0 : i8
+}
+// ----- a user of 16 bits
+hw.module @T(in %a : i8, in %b : i8, out o : i8) {
+  %0 = comb.xor %1, %a : i8
+  %1 = comb.concat %a, %b : i8, i8
+  hw.output %0 : i8
+}

@@ -1,0 +1,149 @@
+//! The limits on the length of a text and on the size of a design.
+use crate::runs::{Failing, run_words};
+use std::alloc::{AllocError, AllocGlobal, Global};
+use std::test::Fail;
+use std::thread::Threads;
+
+// Modules of which each has two instances of the one before, up to the one of a number.
+fn doubling(alloc: Global, most: usize) -> Result<String, AllocError> {
+    let mut text = String::from_str(
+        alloc,
+        "hw.module @M0(in %a : i1, out b : i1) {\n  hw.output %a : i1\n}\n",
+    )?;
+    for k in 0..most {
+        let next = k + 1;
+        let module = format!(in alloc;
+            "hw.module @M{next}(in %a : i1, out b : i1) {{
+  %u.b = hw.instance \"u\" @M{k}(a: %a: i1) -> (b: i1)
+  %v.b = hw.instance \"v\" @M{k}(a: %u.b: i1) -> (b: i1)
+  hw.output %v.b : i1
+}}
+"
+        )?;
+        text.push_str(module.as_str())?;
+    }
+    Ok(text)
+}
+
+// A module after the first 25 that has so many of them that it is 25 below the limit.
+const FILLED: &str =
+    "hw.module @T(in %a : i1, in %clk : !seq.clock, in %s : !hw.struct<x: i1, y: i1>) {
+  %u0.b = hw.instance \"u\" @M24(a: %a: i1) -> (b: i1)
+  %u1.b = hw.instance \"u\" @M21(a: %a: i1) -> (b: i1)
+  %u2.b = hw.instance \"u\" @M18(a: %a: i1) -> (b: i1)
+  %u3.b = hw.instance \"u\" @M15(a: %a: i1) -> (b: i1)
+  %u4.b = hw.instance \"u\" @M12(a: %a: i1) -> (b: i1)
+  %u5.b = hw.instance \"u\" @M9(a: %a: i1) -> (b: i1)
+  %u6.b = hw.instance \"u\" @M6(a: %a: i1) -> (b: i1)
+  %u7.b = hw.instance \"u\" @M3(a: %a: i1) -> (b: i1)
+  %u8.b = hw.instance \"u\" @M1(a: %a: i1) -> (b: i1)
+  %u9.b = hw.instance \"u\" @M1(a: %a: i1) -> (b: i1)
+";
+
+// Operations of a size of 25, of every kind.
+const REST: [&str; 9] = [
+    "  %r = seq.compreg.ce %a, %clk, %a reset %a, %a : i1
+  %w = hw.wire %s : !hw.struct<x: i1, y: i1>
+  %m = comb.mux %a, %s, %s : !hw.struct<x: i1, y: i1>
+  %x = hw.struct_extract %s[\"x\"] : !hw.struct<x: i1, y: i1>
+",
+    "  %b = hw.bitcast %s : (!hw.struct<x: i1, y: i1>) -> i2
+  %r = seq.firreg %a clock %clk : i1
+  %w = hw.wire %a : i1
+  %c = comb.icmp eq %a, %w : i1
+  %m = comb.mux %a, %c, %w : i1
+",
+    "  %b = hw.bitcast %s : (!hw.struct<x: i1, y: i1>) -> !hw.array<2xi1>
+  %n = hw.array_create %a, %a : i1
+  %c = hw.array_concat %n, %b : !hw.array<2xi1>, !hw.array<2xi1>
+  %k = hw.aggregate_constant [true, false] : !hw.array<2xi1>
+",
+    "  %k = hw.aggregate_constant [true, false] : !hw.array<2xi1>
+  %g = hw.array_get %k[%a] : !hw.array<2xi1>, i1
+  %n = hw.struct_create (%g, %a) : !hw.struct<x: i1, y: i1>
+  %i = hw.struct_inject %n[\"x\"], %a : !hw.struct<x: i1, y: i1>
+",
+    "  %k = hw.aggregate_constant [true, false] : !hw.array<2xi1>
+  %i = hw.array_inject %k[%a], %p : !hw.array<2xi1>, i1
+  %e:2 = hw.struct_explode %s : !hw.struct<x: i1, y: i1>
+  %p = comb.parity %a : i1
+  %c = comb.concat %e#0, %e#1 : i1, i1
+",
+    "  %k = hw.aggregate_constant [true, false] : !hw.array<2xi1>
+  %l = hw.array_slice %k[%a] : (!hw.array<2xi1>) -> !hw.array<1xi1>
+  %t = hw.constant true
+  %n = comb.replicate %t : (i1) -> i3
+  %o = comb.or %n, %n : i3
+",
+    "  %r = seq.compreg %a, %clk reset %a, %a : i1
+  %e = seq.compreg.ce %a, %clk, %a : i1
+  %f = seq.firreg %a clock %clk reset sync %a, %e : i1
+  %m = comb.mux %r, %e, %f : i1
+",
+    "  %r = seq.compreg.ce %s, %clk, %a : !hw.struct<x: i1, y: i1>
+  %w = hw.wire %r : !hw.struct<x: i1, y: i1>
+  %f = seq.firreg %w clock %clk : !hw.struct<x: i1, y: i1>
+  %t = hw.constant true
+",
+    "  %d = comb.divu %t, %t : i1
+  %t = hw.constant true
+  %l = comb.shl %d, %a : i1
+  %c = comb.sub %l, %a : i1
+  %x = comb.extract %c from 0 : (i1) -> i1
+  %v = comb.add %x, %x, %x, %x, %x, %x, %x : i1
+  %p = comb.mul %v, %v, %v, %v : i1
+",
+];
+
+// The pieces, joined.
+fn joined(alloc: Global, pieces: &[&str]) -> Result<String, AllocError> {
+    let mut text = String::new(alloc);
+    for piece in pieces {
+        text.push_str(piece)?;
+    }
+    Ok(text)
+}
+
+// Whether `opt` ends with a status and an error message on a text.
+fn ends_with(
+    rt: &(impl Threads + Sync + AllocGlobal),
+    text: &str,
+    code: u8,
+    message: &str,
+) -> Result<bool, AllocError> {
+    let run = run_words(rt, "opt", text, Failing::No)?;
+    Ok(
+        run.code == code
+            && run.err.held() == message.as_bytes()
+            && run.out.held().is_empty() == (code != 0),
+    )
+}
+
+// With these operations a module is at the limit, and accepted; with one constant more it is not.
+#[test]
+fn sizes_are_told_exactly(rt: HostRuntime) -> Result<(), Fail> {
+    let modules = doubling(rt.alloc(), 24)?;
+    for rest in REST {
+        for (end, code, message) in [
+            ("}\n", 0, ""),
+            (
+                "  %z = hw.constant true\n}\n",
+                1,
+                "<stdin>:124:1: error: 'hw.module' V22: design too large\n",
+            ),
+        ] {
+            let text = joined(rt.alloc(), &[modules.as_str(), FILLED, rest, end])?;
+            assert!(rt; ends_with(&rt, text.as_str(), code, message)?, "of {rest}");
+        }
+    }
+    Ok(())
+}
+
+// A text one byte longer than a text may be is refused without reading more.
+#[test]
+fn a_text_that_is_too_long_is_refused(rt: HostRuntime) -> Result<(), Fail> {
+    let text = vec![in rt.alloc(); b' '; (1usize << 26) + 1]?;
+    let message = "<stdin>:1:1: error: 'builtin.module' S7: text too long\n";
+    assert!(rt; ends_with(&rt, str::from_utf8(text.as_slice())?, 1, message)?);
+    Ok(())
+}

@@ -1,0 +1,10 @@
+use Rattle.std.proofs.Common.{subst, ap, sym, ◌∙◌}
+use Rattle.ir_store.specs.Bodies.{ids_of}
+use Rattle.ir_store.specs.Live.{AreDistinct}
+use Rattle.ir_store.proofs.BodyLemmas.{ids_once}
+use Rattle.ir_store.proofs.PositionTables.{indices, ids_same}
+use Rattle.model_tests.proofs.rooms.positions_in.Goals as goal
+
+pub positions_of-requires : goal.positions_of-requires
+positions_of-requires c =
+    subst AreDistinct (sym (ap indices c.as_slice.ensures.value ∙ ids_same c.in_ok-ids.ids.items (ids_of c.args.body.now) c.in_ok-ids.ensures)) (ids_once c.args.body.now)
