@@ -5,6 +5,7 @@ pub mod DesignLemmas
 mod FieldTypes
 pub mod IdLemmas
 pub mod Joining
+pub mod Linking
 pub mod Living
 pub mod Numbering
 pub mod PositionTables
