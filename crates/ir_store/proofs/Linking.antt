@@ -1,5 +1,5 @@
 -- Linked ids: what a change of links does to the list of ids that they lead through.
-use Rattle.std.proofs.Common.{◌≡◌, ℕ, zero, suc, ◌+◌, ◌-◌, ◌<◌, ◌≤◌, ◌^◌, Bool, true, false, cond, nat_eq, List, [], ◌∷◌, ◌++◌, length, get_or, set, take, drop, refl, ap, sym, ◌∙◌, arith, tt}
+use Rattle.std.proofs.Common.{◌≡◌, ℕ, zero, suc, ◌+◌, ◌-◌, ◌<◌, ◌≤◌, ◌^◌, Bool, true, false, cond, nat_eq, List, [], ◌∷◌, ◌++◌, length, get_or, set, take, drop, refl, ap, sym, ◌∙◌, arith}
 use Rattle.std.specs.Prelude.{insert, remove, Contains, Some}
 use Rattle.std.proofs.lemmas.List.{get_or-set_same, get_or-set_other, length-set, take-append-drop, get_or_past}
 use Rattle.std.proofs.lemmas.Bool.{eqb-true, eqb-false}
@@ -23,12 +23,12 @@ length-with_prev zero n (l ∷ ls) = refl
 length-with_prev (suc i) n (l ∷ ls) = ap suc (length-with_prev i n ls)
 
 pub next_here : (i n : ℕ) (ls : List Link) (p q : ℕ) → link_at ls i ≡ new_link p q → link_at (with_next i n ls) i ≡ new_link p n
-next_here i n [] p q e = absurd (cc)
+next_here i n [] p q e = cc
 next_here zero n (l ∷ ls) p q e = rw e refl
 next_here (suc i) n (l ∷ ls) p q e = next_here i n ls p q e
 
 pub prev_here : (i n : ℕ) (ls : List Link) (p q : ℕ) → link_at ls i ≡ new_link p q → link_at (with_prev i n ls) i ≡ new_link n q
-prev_here i n [] p q e = absurd (cc)
+prev_here i n [] p q e = cc
 prev_here zero n (l ∷ ls) p q e = rw e refl
 prev_here (suc i) n (l ∷ ls) p q e = prev_here i n ls p q e
 
@@ -176,7 +176,7 @@ back_once xs ys once v = omega (arith, once v, times-append v xs ys)
 
 pub linked_more : (ls : List Link) (xs ys : List ℕ) (id : ℕ) → id ≤ length ls → (id ≡ none → ⊥) → ((v : ℕ) → times v (xs ++ ys) ≤ 1) → times none (xs ++ ys) ≡ 0 → times id (xs ++ ys) ≡ 0 →
     IsLinked ls none (xs ++ ys) none → IsLinked (linked_in id (last_of none xs) (first_of ys none) ls) none (xs ++ id ∷ ys) none
-linked_more ls xs ys id room real once no new h =
+linked_more ls xs ys id room real once bare new h =
     let p = last_of none xs in
     let q = first_of ys none in
     let l1 = put_at id (new_link p q) ls in
@@ -186,8 +186,8 @@ linked_more ls xs ys id room real once no new h =
     let new_y : times id ys ≡ 0 = omega (arith, new, times-append id xs ys) in
     let p_not : id ≡ p → ⊥ = last_new xs id new_x real in
     let q_not : id ≡ q → ⊥ = first_new ys id new_y real in
-    let p_y : times p ys ≡ 0 = last_apart none xs ys once no in
-    let q_x : times q xs ≡ 0 = first_apart none xs ys once no in
+    let p_y : times p ys ≡ 0 = last_apart none xs ys once bare in
+    let q_x : times q xs ≡ 0 = first_apart none xs ys once bare in
     let x1 : IsLinked l1 none xs q = linked_same ls l1 none xs q (λ v t. get_or-put_at_other id v (new_link p q) no_link ls room (apart v id xs t new_x)) (linked_front ls none xs ys none h) in
     let y1 : IsLinked l1 p ys none = linked_same ls l1 p ys none (λ v t. get_or-put_at_other id v (new_link p q) no_link ls room (apart v id ys t new_y)) (linked_back ls none xs ys none h) in
     let i1 : link_at l1 id ≡ new_link p q = get_or-put_at_same id (new_link p q) no_link ls room in
@@ -208,7 +208,7 @@ linked_more ls xs ys id room real once no new h =
 
 pub linked_less : (ls : List Link) (xs ys : List ℕ) (id free : ℕ) → ((v : ℕ) → times v (xs ++ id ∷ ys) ≤ 1) → times none (xs ++ id ∷ ys) ≡ 0 →
     IsLinked ls none (xs ++ id ∷ ys) none → IsLinked (linked_out id (last_of none xs) (first_of ys none) free ls) none (xs ++ ys) none
-linked_less ls xs ys id free once no h =
+linked_less ls xs ys id free once bare h =
     let p = last_of none xs in
     let q = first_of ys none in
     let l1 = with_next p q ls in
@@ -218,7 +218,7 @@ linked_less ls xs ys id free once no h =
     let id_x : times id xs ≡ 0 = omega (arith, once id, here, times-append id xs (id ∷ ys)) in
     let id_y : times id ys ≡ 0 = first_once id ys (back_once xs (id ∷ ys) once) in
     let once_2 : (v : ℕ) → times v (xs ++ ys) ≤ 1 = λ v. omega (arith, once v, times-append v xs (id ∷ ys), times-append v xs ys, rest_there v id ys) in
-    let no_2 : times none (xs ++ ys) ≡ 0 = omega (arith, no, times-append none xs (id ∷ ys), times-append none xs ys, rest_there none id ys) in
+    let no_2 : times none (xs ++ ys) ≡ 0 = omega (arith, bare, times-append none xs (id ∷ ys), times-append none xs ys, rest_there none id ys) in
     let p_y : times p ys ≡ 0 = last_apart none xs ys once_2 no_2 in
     let q_x : times q xs ≡ 0 = first_apart none xs ys once_2 no_2 in
     let x0 : IsLinked ls none xs id = linked_front ls none xs (id ∷ ys) none h in

@@ -1,5 +1,5 @@
 -- What a body stands for.
-use Rattle.std.specs.Prelude.{ℕ, ◌+◌, ◌-◌, List, length, map, min}
+use Rattle.std.specs.Prelude.{ℕ, ◌+◌, ◌-◌, List, [], ◌∷◌, Option, Some, None, length, map, min}
 use Rattle.std.specs.Vec.{vec_capacity}
 use Rattle.hw_model.specs.KindViews.{kind_of}
 use Rattle.ir_store.specs.declared.operation.OpId.{OpId}
@@ -55,3 +55,8 @@ op_id n = record { index = n }
 -- the ids that an iterator has left
 abbrev pub ids_left : Ops → List OpId
 ids_left s = map op_id (walk s.links.now s.left s.at)
+
+-- the first of ids
+abbrev pub first_id : List OpId → Option OpId
+first_id [] = None
+first_id (i ∷ ids) = Some i

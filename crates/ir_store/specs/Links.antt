@@ -1,5 +1,6 @@
 -- Ids that are linked in a doubly linked list.
-use Rattle.std.specs.Prelude.{◌≡◌, ℕ, zero, suc, ◌+◌, ◌<◌, ◌≤◌, ◌^◌, Bool, false, true, List, [], ◌∷◌, ◌++◌, length, slice_index_or, slice_set}
+use Rattle.std.specs.Prelude.{◌≡◌, ℕ, zero, suc, ◌+◌, ◌<◌, ◌≤◌, ◌^◌, Bool, false, true, List, [], ◌∷◌, ◌++◌, length, slice_index_or, slice_set, refl}
+use Rattle.std.specs.Coded.{Coded, coded_ℕ, coded_bool, coded×, code_by, Coded-set, ×_prop, Unit-prop}
 use Rattle.ir_store.specs.declared.links.Link.{Link}
 use Rattle.ir_store.specs.Ids.{times, put_at}
 
@@ -51,6 +52,15 @@ last_of a (x ∷ xs) = last_of x xs
 abbrev pub IsLinked : List Link → ℕ → List ℕ → ℕ → Type 0
 IsLinked links a [] z = Unit {0}
 IsLinked links a (x ∷ xs) z = (link_at links x ≡ new_link a (first_of xs z)) × IsLinked links x xs z
+
+-- a link is stored as its parts
+abbrev pub link_code : Coded Link
+link_code = code_by (ℕ × (ℕ × Bool)) (coded× coded_ℕ (coded× coded_ℕ coded_bool)) (λ l. (l.prev, (l.next, l.live))) (λ p. record { prev = p.0; next = p.1.0; live = p.1.1 }) (λ _. refl)
+
+-- there is at most one proof of it
+pub IsLinked-prop : (links : List Link) (a : ℕ) (xs : List ℕ) (z : ℕ) → IsProp (IsLinked links a xs z)
+IsLinked-prop links a [] z = Unit-prop
+IsLinked-prop links a (x ∷ xs) z = ×_prop (Coded-set link_code (link_at links x) (new_link a (first_of xs z))) (IsLinked-prop links x xs z)
 
 -- the links where another id comes after one, if that is an id
 abbrev pub with_next : ℕ → ℕ → List Link → List Link

@@ -76,11 +76,13 @@ impl<'b> Iterator for Ops<'b> {
 
 impl<'b> Ops<'b> {
     ghost use Rattle.std.specs.Prelude.{drop};
-    ghost use Rattle.ir_store.specs.Bodies.{ids_left};
+    ghost use Rattle.ir_store.specs.Bodies.{ids_left, first_id};
+    ghost use Rattle.ir_store.specs.Links.{walk};
+    ghost use Rattle.ir_store.specs.Orders.{live_ids};
 
     /// The ids of an order.
     fn along(order: &'b Order) -> Ops<'b>
-        ensures { ids_left result ≡ map op_id (live_ids order.now) }
+        ensures ids { walk result.links.now result.left result.at ≡ live_ids order.now }
     {
         Ops {
             links: order.links(),
@@ -91,7 +93,7 @@ impl<'b> Ops<'b> {
 
     /// The first of those that are left.
     pub(crate) fn first(&self) -> Option<OpId>
-        ensures { result ≡ first (ids_left self.now) }
+        ensures { result ≡ first_id (ids_left self.now) }
     {
         if self.left == 0 {
             return None;
@@ -201,7 +203,7 @@ impl Body {
     pub fn uses(&self, value: Value) -> Uses<'_>
         ensures { uses_left result ≡ uses_in value (ops_of self.now) }
     {
-        Uses::among(value, &self.operands, self.ops())
+        Uses::among(value, &self.operands, Ops::along(&self.order))
     }
 
     /// Puts `op` before the operation `before`, or at the end, and gives its id. On an error the
@@ -336,7 +338,7 @@ impl Body {
     fn index_of(&self, id: OpId) -> usize
         requires { Contains (live_ids self.now.order) id.index }
         ensures value { result ≡ id.index }
-        ensures within { result < length self.now.order.ids.items }
+        ensures within { result < length self.now.order.links.items }
     {
         id.index as usize
     }

@@ -1,6 +1,7 @@
 //! The ids of a body: the live ones linked in text order, and those that are free.
-ghost use Rattle.std.specs.Prelude.{◌≡◌, ◌-◌, ◌≤◌, nat_eq, cond, length};
-ghost use Rattle.ir_store.specs.Links.{none, walk, IsOrder};
+ghost use Rattle.std.specs.Prelude.{◌≡◌, ℕ, ◌-◌, ◌<◌, ◌≤◌, ◌^◌, ◌++◌, false, nat_eq, cond, length};
+ghost use Rattle.ir_store.specs.Ids.{times};
+ghost use Rattle.ir_store.specs.Links.{none, walk, last_of, IsLinked, IsLinked-prop, is_live_at};
 
 use crate::links::{Link, NONE, is_live, link_in, link_out, next_of, prev_of};
 use crate::operation::OpId;
@@ -15,8 +16,13 @@ pub struct Order {
     first: u32,
     last: u32,
     free: u32,
+    ghost few: { length links.items < 2 ^ 32 },
     ghost within: { live ≤ length links.items },
-    ghost linked: { IsOrder links.items (walk links.items live first) (walk links.items (length links.items - live) free) last },
+    ghost linked: { IsLinked links.items none (walk links.items live first) none } by { IsLinked-prop links.items none (walk links.items live first) none },
+    ghost end: { last ≡ last_of none (walk links.items live first) },
+    ghost once: { (v : ℕ) → times v (walk links.items live first ++ walk links.items (length links.items - live) free) ≤ 1 },
+    ghost below: { (v : ℕ) → length links.items ≤ v → times v (walk links.items live first ++ walk links.items (length links.items - live) free) ≡ 0 },
+    ghost marks: { (v : ℕ) → times v (walk links.items live first) ≡ 0 → is_live_at links.items v ≡ false },
 }
 
 impl Order {
@@ -24,7 +30,7 @@ impl Order {
     ghost use Rattle.std.specs.Vec.{vec_capacity};
     ghost use Rattle.ir_store.specs.Ids.{times};
     ghost use Rattle.ir_store.specs.BodyOps.{place_before};
-    ghost use Rattle.ir_store.specs.Links.{none, first_of, last_of};
+    ghost use Rattle.ir_store.specs.Links.{none, next_at, first_of, last_of};
     ghost use Rattle.ir_store.specs.Orders.{live_ids, free_ids};
 
     /// No ids. It takes no memory.
@@ -125,13 +131,11 @@ impl Order {
         ensures capacity { vec_capacity self.old.links ≤ vec_capacity self.new.links }
     {
         let (prev, next) = self.neighbours(before);
-        let id = self.free_id();
-        if self.live < self.links.len() {
-            self.free = next_of(self.links.as_slice(), id);
-        }
+        let (id, free) = self.next_id();
         link_in(&mut self.links, id, prev, next);
         self.first = unless_none(prev, self.first, id);
         self.last = unless_none(next, self.last, id);
+        self.free = free;
         self.live += 1;
         id
     }
@@ -166,18 +170,16 @@ impl Order {
         }
     }
 
-    /// The id that is taken next.
-    fn free_id(&self) -> u32
+    /// The id that is taken next, and the first of those that are free then.
+    fn next_id(&self) -> (u32, u32)
         requires { self.now.live + 1 < 2 ^ 32 }
-        ensures none { free_ids self.now ≡ 0 → result ≡ self.now.live }
-        ensures free { 0 < free_ids self.now → result ≡ self.now.free }
-        ensures within { 0 < free_ids self.now → result < length self.now.links.items }
-        ensures fresh { times result (live_ids self.now) ≡ 0 }
+        ensures fresh { free_ids self.now ≡ 0 → result.0 ≡ self.now.live }
+        ensures known { 0 < free_ids self.now → (result.0 ≡ self.now.free) × (result.1 ≡ next_at self.now.links.items self.now.free) }
     {
         if self.live < self.links.len() {
-            self.free
+            (self.free, next_of(self.links.as_slice(), self.free))
         } else {
-            self.live as u32
+            (self.live as u32, NONE)
         }
     }
 }

@@ -24,7 +24,7 @@ impl<'b> Uses<'b> {
 
     /// The places that name `value` among the operands of the operations of `ids`.
     pub(crate) fn among(value: Value, operands: &'b OperandTable, ids: Ops<'b>) -> Uses<'b>
-        ensures { uses_left result ≡ uses_in value (map (stored [] operands.now.lists) (walk ids.links.now ids.left ids.at)) }
+        ensures { uses_left result ≡ uses_in value (map (stored [] operands.now.lists) (walk ids.entry.links.now ids.entry.left ids.entry.at)) }
     {
         Uses {
             value,
