@@ -7,6 +7,7 @@ pub mod IdLemmas
 pub mod Joining
 pub mod Linking
 pub mod Living
+pub mod OrderCalls
 pub mod Ordering
 pub mod Numbering
 pub mod PositionTables

@@ -1,6 +1,6 @@
 -- Linked ids: what a change of links does to the list of ids that they lead through.
 use Rattle.std.proofs.Common.{◌≡◌, ℕ, zero, suc, ◌+◌, ◌-◌, ◌<◌, ◌≤◌, ◌^◌, Bool, true, false, cond, nat_eq, List, [], ◌∷◌, ◌++◌, length, get_or, set, take, drop, refl, ap, sym, ◌∙◌, arith}
-use Rattle.std.specs.Prelude.{insert, remove, Contains, Some}
+use Rattle.std.specs.Prelude.{insert, remove, Contains, Option, Some, None}
 use Rattle.std.proofs.lemmas.List.{get_or-set_same, get_or-set_other, length-set, take-append-drop, get_or_past}
 use Rattle.std.proofs.lemmas.Bool.{eqb-true, eqb-false}
 use Rattle.ir_store.specs.declared.operation.OpId.{OpId}
@@ -23,12 +23,12 @@ length-with_prev zero n (l ∷ ls) = refl
 length-with_prev (suc i) n (l ∷ ls) = ap suc (length-with_prev i n ls)
 
 pub next_here : (i n : ℕ) (ls : List Link) (p q : ℕ) → link_at ls i ≡ new_link p q → link_at (with_next i n ls) i ≡ new_link p n
-next_here i n [] p q e = cc
+next_here i n [] p q e = cc (ap (λ (l : Link). l.live) e)
 next_here zero n (l ∷ ls) p q e = rw e refl
 next_here (suc i) n (l ∷ ls) p q e = next_here i n ls p q e
 
 pub prev_here : (i n : ℕ) (ls : List Link) (p q : ℕ) → link_at ls i ≡ new_link p q → link_at (with_prev i n ls) i ≡ new_link n q
-prev_here i n [] p q e = cc
+prev_here i n [] p q e = cc (ap (λ (l : Link). l.live) e)
 prev_here zero n (l ∷ ls) p q e = rw e refl
 prev_here (suc i) n (l ∷ ls) p q e = prev_here i n ls p q e
 
@@ -257,3 +257,46 @@ place_back (x ∷ xs) b t = go (nat_eq x b.index) refl t (place_back xs b)
 pub take_all_end : (xs : List ℕ) → (take (length xs) xs ≡ xs) × (drop (length xs) xs ≡ [])
 take_all_end [] = (refl, refl)
 take_all_end (x ∷ xs) = let r = take_all_end xs in (ap (λ ys. x ∷ ys) r.0, r.1)
+
+-- ---- what is written
+
+pub with_next_set : (i n : ℕ) (ls : List Link) (l : Link) → i < length ls → l ≡ get_or ls i l → set ls i (record { prev = l.prev; next = n; live = l.live }) ≡ with_next i n ls
+with_next_set i n [] l h e = absurd (omega arith)
+with_next_set zero n (x ∷ xs) l h e = ap (λ (y : Link). record { prev = y.prev; next = n; live = y.live } ∷ xs) e
+with_next_set (suc i) n (x ∷ xs) l h e = ap (λ ys. x ∷ ys) (with_next_set i n xs l (omega arith) e)
+
+pub with_prev_set : (i n : ℕ) (ls : List Link) (l : Link) → i < length ls → l ≡ get_or ls i l → set ls i (record { prev = n; next = l.next; live = l.live }) ≡ with_prev i n ls
+with_prev_set i n [] l h e = absurd (omega arith)
+with_prev_set zero n (x ∷ xs) l h e = ap (λ (y : Link). record { prev = n; next = y.next; live = y.live } ∷ xs) e
+with_prev_set (suc i) n (x ∷ xs) l h e = ap (λ ys. x ∷ ys) (with_prev_set i n xs l (omega arith) e)
+
+pub with_next_past : (i n : ℕ) (ls : List Link) → length ls ≤ i → ls ≡ with_next i n ls
+with_next_past i n [] h = refl
+with_next_past zero n (x ∷ xs) h = absurd (omega arith)
+with_next_past (suc i) n (x ∷ xs) h = ap (λ ys. x ∷ ys) (with_next_past i n xs (omega arith))
+
+pub with_prev_past : (i n : ℕ) (ls : List Link) → length ls ≤ i → ls ≡ with_prev i n ls
+with_prev_past i n [] h = refl
+with_prev_past zero n (x ∷ xs) h = absurd (omega arith)
+with_prev_past (suc i) n (x ∷ xs) h = ap (λ ys. x ∷ ys) (with_prev_past i n xs (omega arith))
+
+-- the place before an id is among the ids or after them
+pub place_le : (before : Option OpId) (xs : List ℕ) → place_before before xs ≤ length xs
+place_le None xs = omega arith
+place_le (Some b) [] = omega arith
+place_le (Some b) (x ∷ xs) = go (nat_eq x b.index) (place_le (Some b) xs)
+  where
+    go : (t : Bool) → place_before (Some b) xs ≤ length xs → cond t 0 (suc (place_before (Some b) xs)) ≤ suc (length xs)
+    go true h = omega arith
+    go false h = omega (arith, h)
+
+-- what stands after the place of an id
+pub place_next : (ls : List Link) (a : ℕ) (xs : List ℕ) (z : ℕ) (b : OpId) → Contains xs b.index → IsLinked ls a xs z → next_at ls b.index ≡ first_of (drop (suc (place_before (Some b) xs)) xs) z
+place_next ls a [] z b (k, l, e) h = absurd (omega arith)
+place_next ls a (x ∷ xs) z b t h = go (nat_eq x b.index) refl t (place_next ls x xs z b)
+  where
+    go : (s : Bool) → nat_eq x b.index ≡ s → Contains (x ∷ xs) b.index → (Contains xs b.index → IsLinked ls x xs z → next_at ls b.index ≡ first_of (drop (suc (place_before (Some b) xs)) xs) z) →
+        next_at ls b.index ≡ first_of (drop (suc (cond s 0 (suc (place_before (Some b) xs)))) (x ∷ xs)) z
+    go true s t r = rw (← eqb-true x b.index s) (ap (λ (l : Link). l.next) h.0)
+    go false s (zero, l, e) r = absurd (eqb-false x b.index s e)
+    go false s (suc k, l, e) r = r (k, omega arith, e) h.1
