@@ -178,7 +178,7 @@ operands_replaced ps ls f (i ∷ ids) = rw (get_map ls i) (ap (λ os. record (st
 pub ids_once : (b : Body) → AreDistinct (ids_of b)
 ids_once b =
     λ v. rw (ids_seen (map parts_of b.parts.items) b.operands.lists (live_ids b.order))
-    (omega (arith, times-append v (live_ids b.order) (walk b.order.links.items (length b.order.links.items - b.order.live) b.order.free), b.order.linked.once v))
+    (omega (arith, times-append v (live_ids b.order) (walk b.order.links.items (length b.order.links.items - b.order.live) b.order.free), b.order.once v))
 
 -- an id that stands by itself
 pub index_ids : (ids : List ℕ) → map (λ (i : OpId). i.index) (map op_id ids) ≡ ids

@@ -7,4 +7,4 @@ use Rattle.ir_store.proofs.body.Body.index_of.Goals as goal
 pub returns-clause-within : goal.returns-clause-within
 returns-clause-within c =
     live_below (live_ids c.args.self.now.order) (walk c.args.self.now.order.links.items (length c.args.self.now.order.links.items - c.args.self.now.order.live) c.args.self.now.order.free)
-    (length c.args.self.now.order.links.items) c.args.id.index c.args.self.now.order.linked.below c.requires
+    (length c.args.self.now.order.links.items) c.args.id.index c.args.self.now.order.below c.requires

@@ -6,5 +6,5 @@ use Rattle.ir_store.proofs.body.Body.uses.Goals as goal
 
 pub returns : goal.returns
 returns c =
-    (rw c.along.ensures at c.among.ensures)
+    (rw c.along.ensures.ids at c.among.ensures)
     ∙ uses_in-parts c.args.value [] (map parts_of c.args.self.now.parts.items) c.args.self.now.operands.lists (live_ids c.args.self.now.order)
