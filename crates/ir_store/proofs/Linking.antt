@@ -202,6 +202,7 @@ linked_more ls xs ys id room real once bare new h =
     last_new : (xs : List ℕ) (id : ℕ) → times id xs ≡ 0 → (id ≡ none → ⊥) → id ≡ last_of none xs → ⊥
     last_new [] id n r e = r e
     last_new (x ∷ xs) id n r e = apart (last_of x xs) id (x ∷ xs) (last_there x xs) n (sym e)
+
     first_new : (ys : List ℕ) (id : ℕ) → times id ys ≡ 0 → (id ≡ none → ⊥) → id ≡ first_of ys none → ⊥
     first_new [] id n r e = r e
     first_new (y ∷ ys) id n r e = apart y id (y ∷ ys) (first_there y ys) n (sym e)

@@ -67,11 +67,11 @@ order_more ls xs ys free free_2 last id ok room small new once_2 below_2 =
       once = once_2;
       below = λ v h. below_2 v (omega (arith, h, size));
       marks = λ v gone.
-        let not_id : v ≡ id → ⊥ = λ e. omega (arith, (rw e at gone), times-append id xs (id ∷ ys), first_there id ys) in
-        let not_old : times v (xs ++ ys) ≡ 0 = omega (arith, gone, times-append v xs (id ∷ ys), times-append v xs ys, not_among v id ys) in
-        live_prev q v id (with_next p id (put_at id (new_link p q) ls))
-        ∙ (live_next p v id (put_at id (new_link p q) ls)
-        ∙ (ap (λ (l : Link). l.live) (get_or-put_at_other id v (new_link p q) no_link ls room not_id) ∙ ok.marks v not_old));
+          let not_id : v ≡ id → ⊥ = λ e. omega (arith, (rw e at gone), times-append id xs (id ∷ ys), first_there id ys) in
+          let not_old : times v (xs ++ ys) ≡ 0 = omega (arith, gone, times-append v xs (id ∷ ys), times-append v xs ys, not_among v id ys) in
+          live_prev q v id (with_next p id (put_at id (new_link p q) ls))
+          ∙ (live_next p v id (put_at id (new_link p q) ls)
+          ∙ (ap (λ (l : Link). l.live) (get_or-put_at_other id v (new_link p q) no_link ls room not_id) ∙ ok.marks v not_old));
     }
   where
     not_among : (v x : ℕ) (ys : List ℕ) → times v ys ≤ times v (x ∷ ys)
@@ -103,9 +103,9 @@ free_kept ls xs ys id n f room real once =
     let l1 = put_at id (new_link p q) ls in
     walk_same ls (linked_in id p q ls) n f
     (λ v t.
-      let not_id : v ≡ id → ⊥ = λ e. omega (arith, (rw e at t), once id, times-append id (xs ++ id ∷ ys) (walk ls n f), times-append id xs (id ∷ ys), first_there id ys) in
-      let not_p : v ≡ p → ⊥ = last_free xs (id ∷ ys) (walk ls n f) once real v t in
-      next_kept q v id (with_next p id l1) ∙ (ap (λ (l : Link). l.next) (next_other p v id l1 not_p) ∙ ap (λ (l : Link). l.next) (get_or-put_at_other id v (new_link p q) no_link ls room not_id)))
+    let not_id : v ≡ id → ⊥ = λ e. omega (arith, (rw e at t), once id, times-append id (xs ++ id ∷ ys) (walk ls n f), times-append id xs (id ∷ ys), first_there id ys) in
+    let not_p : v ≡ p → ⊥ = last_free xs (id ∷ ys) (walk ls n f) once real v t in
+    next_kept q v id (with_next p id l1) ∙ (ap (λ (l : Link). l.next) (next_other p v id l1 not_p) ∙ ap (λ (l : Link). l.next) (get_or-put_at_other id v (new_link p q) no_link ls room not_id)))
 
 -- ---- an id that is taken out
 
@@ -165,8 +165,10 @@ order_less ls xs ys free last id next_free ok room =
   where
     two : (v : ℕ) → length (with_prev (first_of ys none) (last_of none xs) (with_next (last_of none xs) (first_of ys none) ls)) ≡ length ls
     two v = length-with_prev (first_of ys none) (last_of none xs) (with_next (last_of none xs) (first_of ys none) ls) ∙ length-with_next (last_of none xs) (first_of ys none) ls
+
     not_first : (v x : ℕ) (zs : List ℕ) → nat_eq x v ≡ false → times v (x ∷ zs) ≡ times v zs
     not_first v x zs t = rw t refl
+
     marked : (v : ℕ) → times v (xs ++ ys) ≡ 0 → (b : Bool) → nat_eq id v ≡ b → is_live_at (linked_out id (last_of none xs) (first_of ys none) next_free ls) v ≡ false
     marked v gone true t =
         let e : id ≡ v = eqb-true id v t in
@@ -197,9 +199,9 @@ free_more ls xs ys id n f room real once =
     (ap (λ zs. id ∷ zs)
     (walk_same ls (linked_out id p q f ls) n f
     (λ v t.
-      let not_id : v ≡ id → ⊥ = λ d. omega (arith, (rw d at t), once id, times-append id (xs ++ id ∷ ys) (walk ls n f), times-append id xs (id ∷ ys), first_there id ys) in
-      let not_p : v ≡ p → ⊥ = last_free xs (id ∷ ys) (walk ls n f) once real v t in
-      ap (λ (l : Link). l.next) (get_or-set_other l2 id v (free_link f) no_link not_id) ∙ (next_kept q v p l1 ∙ ap (λ (l : Link). l.next) (next_other p v q ls not_p)))))
+    let not_id : v ≡ id → ⊥ = λ d. omega (arith, (rw d at t), once id, times-append id (xs ++ id ∷ ys) (walk ls n f), times-append id xs (id ∷ ys), first_there id ys) in
+    let not_p : v ≡ p → ⊥ = last_free xs (id ∷ ys) (walk ls n f) once real v t in
+    ap (λ (l : Link). l.next) (get_or-set_other l2 id v (free_link f) no_link not_id) ∙ (next_kept q v p l1 ∙ ap (λ (l : Link). l.next) (next_other p v q ls not_p)))))
 
 -- ---- the order after a call
 
@@ -272,6 +274,7 @@ added_new ls xs ys live first last id free m ok h size small new size_2 =
     once v false t fresh =
         let one : times v (id ∷ []) ≡ 0 = rw t refl in
         omega (arith, times-append v (xs ++ ys) (id ∷ []), one, ok.once v, times-append v (xs ++ ys) [])
+
     below : (v : ℕ) → length (put_at id (new_link 0 0) ls) ≤ v → length (put_at id (new_link 0 0) ls) ≡ max (length ls) (id + 1) → times v ((xs ++ ys) ++ id ∷ []) ≡ 0
     below v t put =
         let one : times v (id ∷ []) ≡ 0 = rw (not_eq id v (λ e. omega (arith, e, t, put))) refl in

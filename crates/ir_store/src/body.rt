@@ -5,9 +5,9 @@ ghost use Rattle.ir_store.specs.Ids.{put_at};
 ghost use Rattle.ir_store.specs.BodyOps.{place_before, is_of, names_in};
 
 use crate::dictionary::Dictionary;
+use crate::links::{Link, next_of};
 use crate::operands::OperandTable;
 use crate::operation::{NewOp, NewResultList, OpId, Parts, TyList, Value, copied_parts};
-use crate::links::{Link, next_of};
 use crate::order::Order;
 use crate::uses::Uses;
 use diag::refusal::Place;

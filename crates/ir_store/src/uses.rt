@@ -50,10 +50,7 @@ impl<'b> Iterator for Uses<'b> {
             let operands = self.operands.get(op.index as usize);
             if let Some(at) = next_place(operands, self.value, self.at) {
                 self.at = at + 1;
-                return Some(UsePlace {
-                    op,
-                    at: at as u32,
-                });
+                return Some(UsePlace { op, at: at as u32 });
             }
             self.rest.advance();
             self.at = 0;

@@ -11,7 +11,7 @@ pub link_out-requires : goal.link_out-requires
 link_out-requires c =
     record {
       place = live_below (live_ids c.args.self.now) (walk c.args.self.now.links.items (length c.args.self.now.links.items - c.args.self.now.live) c.args.self.now.free) (length c.args.self.now.links.items)
-      c.args.id.index c.args.self.now.below c.requires;
+          c.args.id.index c.args.self.now.below c.requires;
     }
 
 pub invariant_of-self : goal.invariant_of-self
