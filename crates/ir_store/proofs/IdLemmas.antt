@@ -1,8 +1,7 @@
 -- Ids in a list: how often each stands in it after an edit, and what a list has at a place that is written.
 use Rattle.std.proofs.Common.{◌≡◌, ℕ, zero, suc, ◌+◌, ◌<◌, ◌≤◌, Bool, true, false, cond, nat_eq, List, [], ◌∷◌, ◌++◌, map, length, get_or, set, take, drop, refl, ap, sym, arith}
-use Rattle.std.specs.Prelude.{insert, remove, max, Contains}
-use Rattle.std.proofs.lemmas.List.{take-append-drop, take-append-le, set_split, length_push}
-use Rattle.std.proofs.lemmas.List.Edits.{length-insert, length-remove}
+use Rattle.std.specs.Prelude.{insert, max, Contains}
+use Rattle.std.proofs.lemmas.List.{take-append-drop, set_split}
 use Rattle.std.proofs.lemmas.Bool.{eqb-true, eqb-false}
 use Rattle.ir_store.specs.Ids.{times, put_at}
 

@@ -1,13 +1,13 @@
 -- Linked ids: what a change of links does to the list of ids that they lead through.
-use Rattle.std.proofs.Common.{◌≡◌, ℕ, zero, suc, ◌+◌, ◌-◌, ◌<◌, ◌≤◌, ◌^◌, Bool, true, false, cond, nat_eq, List, [], ◌∷◌, ◌++◌, length, get_or, set, take, drop, refl, ap, sym, ◌∙◌, arith}
-use Rattle.std.specs.Prelude.{insert, remove, Contains, Option, Some, None}
-use Rattle.std.proofs.lemmas.List.{get_or-set_same, get_or-set_other, length-set, take-append-drop, get_or_past}
+use Rattle.std.proofs.Common.{◌≡◌, ℕ, zero, suc, ◌<◌, ◌≤◌, Bool, true, false, cond, nat_eq, List, [], ◌∷◌, ◌++◌, length, get_or, set, take, drop, refl, ap, sym, ◌∙◌, arith}
+use Rattle.std.specs.Prelude.{Contains, Option, Some, None}
+use Rattle.std.proofs.lemmas.List.{get_or-set_other}
 use Rattle.std.proofs.lemmas.Bool.{eqb-true, eqb-false}
 use Rattle.ir_store.specs.declared.operation.OpId.{OpId}
 use Rattle.ir_store.specs.declared.links.Link.{Link}
 use Rattle.ir_store.specs.Ids.{times, put_at}
 use Rattle.ir_store.specs.BodyOps.{place_before}
-use Rattle.ir_store.specs.Links.{none, no_link, new_link, free_link, link_at, next_at, prev_at, is_live_at, walk, first_of, last_of, IsLinked, with_next, with_prev, linked_in, linked_out, IsOrder}
+use Rattle.ir_store.specs.Links.{none, no_link, new_link, free_link, link_at, next_at, prev_at, is_live_at, walk, first_of, last_of, IsLinked, with_next, with_prev, linked_in, linked_out}
 use Rattle.ir_store.proofs.IdLemmas.{times-append, get_or-put_at_same, get_or-put_at_other}
 
 -- ---- one link

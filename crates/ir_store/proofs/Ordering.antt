@@ -1,14 +1,13 @@
 -- The order of ids: what putting one in and taking one out keeps.
-use Rattle.std.proofs.Common.{◌≡◌, ℕ, zero, suc, ◌+◌, ◌-◌, ◌<◌, ◌≤◌, ◌^◌, Bool, true, false, cond, nat_eq, List, [], ◌∷◌, ◌++◌, length, get_or, set, take, drop, refl, ap, sym, ◌∙◌, arith, length-append}
-use Rattle.std.specs.Prelude.{insert, remove, max, Contains, Some}
-use Rattle.std.proofs.lemmas.List.{get_or-set_same, get_or-set_other, length-set, take-append-drop, get_or_past}
-use Rattle.std.proofs.lemmas.List.Edits.{length-insert, length-remove}
+use Rattle.std.proofs.Common.{◌≡◌, ℕ, zero, suc, ◌+◌, ◌-◌, ◌<◌, ◌≤◌, ◌^◌, Bool, true, false, cond, nat_eq, List, [], ◌∷◌, ◌++◌, length, refl, ap, sym, ◌∙◌, arith, length-append}
+use Rattle.std.specs.Prelude.{max, Contains}
+use Rattle.std.proofs.lemmas.List.{get_or-set_same, get_or-set_other, length-set}
 use Rattle.std.proofs.lemmas.Bool.{eqb-true, eqb-false}
 use Rattle.ir_store.specs.declared.links.Link.{Link}
 use Rattle.ir_store.specs.declared.order.Order.{Order}
 use Rattle.ir_store.specs.Ids.{times, put_at}
-use Rattle.ir_store.specs.Links.{none, no_link, new_link, free_link, link_at, next_at, is_live_at, walk, first_of, last_of, IsLinked, with_next, with_prev, linked_in, linked_out, IsOrder}
-use Rattle.ir_store.proofs.IdLemmas.{times-append, times-insert, times_contained, get_or-put_at_same, get_or-put_at_other, length-put_at}
+use Rattle.ir_store.specs.Links.{none, no_link, new_link, free_link, next_at, is_live_at, walk, first_of, last_of, IsLinked, with_next, with_prev, linked_in, linked_out, IsOrder}
+use Rattle.ir_store.proofs.IdLemmas.{times-append, times_contained, get_or-put_at_other, length-put_at}
 use Rattle.ir_store.proofs.Linking.{length-with_next, length-with_prev, next_other, next_kept, live_next, live_prev, apart, first_there, last_there, last-append, linked_walk, walk_same, linked_more, linked_less}
 
 -- a number that is no id equals none that is there

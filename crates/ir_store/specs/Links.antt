@@ -1,5 +1,5 @@
 -- Ids that are linked in a doubly linked list.
-use Rattle.std.specs.Prelude.{◌≡◌, ℕ, zero, suc, ◌+◌, ◌<◌, ◌≤◌, ◌^◌, Bool, false, true, List, [], ◌∷◌, ◌++◌, length, slice_index_or, slice_set, refl}
+use Rattle.std.specs.Prelude.{◌≡◌, ℕ, zero, suc, ◌<◌, ◌≤◌, ◌^◌, Bool, false, true, List, [], ◌∷◌, ◌++◌, length, slice_index_or, slice_set, refl}
 use Rattle.std.specs.Coded.{Coded, coded_ℕ, coded_bool, coded×, code_by, Coded-set, ×_prop, Unit-prop}
 use Rattle.ir_store.specs.declared.links.Link.{Link}
 use Rattle.ir_store.specs.Ids.{times, put_at}

@@ -18,13 +18,14 @@ pub struct Uses<'b> {
 impl<'b> Uses<'b> {
     ghost use Rattle.std.specs.Prelude.{map, []};
     ghost use Rattle.ir_store.specs.BodyOps.{stored};
-    ghost use Rattle.ir_store.specs.Links.{walk};
+    ghost use Rattle.ir_store.specs.declared.operation.OpId.{OpId};
+    ghost use Rattle.ir_store.specs.Bodies.{ids_left};
     ghost use Rattle.ir_store.specs.Uses.{uses_in};
     ghost use Rattle.ir_store.specs.UsesLeft.{uses_left};
 
     /// The places that name `value` among the operands of the operations of `ids`.
     pub(crate) fn among(value: Value, operands: &'b OperandTable, ids: Ops<'b>) -> Uses<'b>
-        ensures { uses_left result ≡ uses_in value (map (stored [] operands.now.lists) (walk ids.entry.links.now ids.entry.left ids.entry.at)) }
+        ensures { uses_left result ≡ uses_in value (map (stored [] operands.now.lists) (map (λ (i : OpId). i.index) (ids_left ids.entry))) }
     {
         Uses {
             value,

@@ -1,4 +1,4 @@
-use Rattle.std.proofs.Common.{◌<◌, ◌≤◌, length, rules, arith}
+use Rattle.std.proofs.Common.{◌<◌, ◌≤◌, length, rules}
 use Rattle.ir_store.proofs.Linking.{with_next_set, with_next_past}
 use Rattle.ir_store.proofs.links.set_next.Goals as goal
 
