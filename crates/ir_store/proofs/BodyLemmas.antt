@@ -1,5 +1,5 @@
 -- Operations that stand by ids: what a change of the ids, the parts or the operands does to their list.
-use Rattle.std.proofs.Common.{◌≡◌, ℕ, zero, suc, ◌+◌, ◌<◌, ◌≤◌, Bool, true, false, cond, nat_eq, List, [], ◌∷◌, map, length, get_or, set, take, refl, ap, sym, ◌∙◌, arith}
+use Rattle.std.proofs.Common.{◌≡◌, ℕ, zero, suc, ◌+◌, ◌-◌, ◌<◌, ◌≤◌, Bool, true, false, cond, nat_eq, List, [], ◌∷◌, map, length, get_or, set, refl, ap, sym, ◌∙◌, arith}
 use Rattle.std.specs.Prelude.{Option, Some, None, insert, remove, Contains}
 use Rattle.std.proofs.lemmas.List.{get_or-set_same, get_or-set_other}
 use Rattle.std.proofs.lemmas.Bool.{eqb-true, eqb-false}
@@ -9,10 +9,12 @@ use Rattle.ir_store.specs.OperationViews.{OpParts}
 use Rattle.ir_store.specs.BodyOps.{BodyOp, no_parts, stored, op_at, put_before, place_before, operands_at, ids_in, taken_out, operand_count}
 use Rattle.ir_store.specs.Ids.{times, put_at}
 use Rattle.ir_store.specs.declared.body.Body.{Body}
-use Rattle.ir_store.specs.Bodies.{ids_of}
+use Rattle.ir_store.specs.Bodies.{ids_of, op_id}
+use Rattle.ir_store.specs.Links.{walk}
+use Rattle.ir_store.specs.Orders.{live_ids}
 use Rattle.ir_store.specs.Live.{AreDistinct}
 use Rattle.ir_store.specs.OperationViews.{parts_of}
-use Rattle.ir_store.proofs.IdLemmas.{get_or-put_at_same, get_or-put_at_other, times-take}
+use Rattle.ir_store.proofs.IdLemmas.{get_or-put_at_same, get_or-put_at_other, times-append}
 
 module _ (ps : List OpParts) (ls : List (List Value)) where
   -- the operation of an id is found
@@ -175,5 +177,10 @@ operands_replaced ps ls f (i ∷ ids) = rw (get_map ls i) (ap (λ os. record (st
 -- no id stands twice in a body
 pub ids_once : (b : Body) → AreDistinct (ids_of b)
 ids_once b =
-    λ v. rw (ids_seen (map parts_of b.parts.items) b.operands.lists (take b.order.live b.order.ids.items))
-    (omega (arith, times-take v b.order.live b.order.ids.items, b.order.once v))
+    λ v. rw (ids_seen (map parts_of b.parts.items) b.operands.lists (live_ids b.order))
+    (omega (arith, times-append v (live_ids b.order) (walk b.order.links.items (length b.order.links.items - b.order.live) b.order.free), b.order.once v))
+
+-- an id that stands by itself
+pub index_ids : (ids : List ℕ) → map (λ (i : OpId). i.index) (map op_id ids) ≡ ids
+index_ids [] = refl
+index_ids (i ∷ ids) = ap (λ js. i ∷ js) (index_ids ids)

@@ -2,7 +2,7 @@
 use Rattle.std.proofs.Common.{◌≡◌, List, [], ◌∷◌, map, refl, ap, rules}
 use Rattle.std.specs.Prelude.{Option, Some}
 use Rattle.hw_model.specs.Types.{HwType}
-use Rattle.hw_model.specs.TypeViews.{NamedType, type_of, field_of, fields_of}
+use Rattle.hw_model.specs.TypeViews.{type_of, field_of, fields_of}
 use Rattle.hw_model.specs.Sound.{field_list}
 use Rattle.hw_model.specs.declared.types.Field.{Field}
 use Rattle.hw_model.specs.declared.types.Ty.{the_lemmas}

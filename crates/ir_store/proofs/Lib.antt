@@ -5,7 +5,10 @@ pub mod DesignLemmas
 mod FieldTypes
 pub mod IdLemmas
 pub mod Joining
+pub mod Linking
 pub mod Living
+pub mod OrderCalls
+pub mod Ordering
 pub mod Numbering
 pub mod PositionTables
 pub mod Samples

@@ -1,8 +1,10 @@
 -- The places where a value is used, one after another.
-use Rattle.std.proofs.Common.{◌≡◌, ℕ, ◌+◌, ◌<◌, ◌≤◌, Bool, true, false, not, cond, List, [], ◌∷◌, ◌++◌, map, length, get_or, drop, refl, ap, add-one}
-use Rattle.std.specs.Prelude.{All}
+use Rattle.std.proofs.Common.{◌≡◌, ℕ, ◌+◌, ◌<◌, ◌≤◌, Bool, true, false, not, cond, List, [], ◌∷◌, ◌++◌, map, length, get_or, drop, refl, ap, sym, add-one, arith}
+use Rattle.std.specs.Prelude.{All, Some}
 use Rattle.std.proofs.lemmas.List.{drop_more, drop_all}
+use Rattle.ir_store.specs.declared.operation.OpId.{OpId}
 use Rattle.ir_store.specs.declared.operation.Value.{Value}
+use Rattle.ir_store.specs.Bodies.{first_id}
 use Rattle.ir_store.specs.OperationViews.{OpParts}
 use Rattle.ir_store.specs.BodyOps.{BodyOp, stored, same_value, is_of, names_in, is_named, IsUnused}
 use Rattle.ir_store.proofs.Living.{all_none, all_with, first_of_all, rest_of_all}
@@ -69,3 +71,18 @@ unused_named id (o ∷ ops) h =
 pub not_true : (b : Bool) → not b ≡ true → b ≡ false
 not_true true e = cc
 not_true false e = refl
+
+-- ---- the ids that are left of some
+
+pub ids_fewer : (ids rest : List OpId) (op : OpId) → first_id ids ≡ Some op → rest ≡ drop 1 ids → length rest < length ids
+ids_fewer [] rest op e r = cc
+ids_fewer (i ∷ ids) rest op e r = rw r (omega arith)
+
+-- an operation that does not use a value
+pub uses_skip : (v : Value) (at : ℕ) (ls : List (List Value)) (ids rest : List OpId) (op : OpId) → first_id ids ≡ Some op → rest ≡ drop 1 ids →
+    ((id : ℕ) → places_in v id at (drop at (get_or ls op.index [])) ≡ []) →
+    uses_from v at (map (stored [] ls) (map (λ (i : OpId). i.index) ids)) ≡ uses_from v 0 (map (stored [] ls) (map (λ (i : OpId). i.index) rest))
+uses_skip v at ls [] rest op e r h = cc
+uses_skip v at ls (i ∷ ids) rest op e r h =
+    let same : i ≡ op = cc in
+    rw (same, h op.index, r) (sym (uses_from-start v (map (stored [] ls) (map (λ (j : OpId). j.index) ids))))

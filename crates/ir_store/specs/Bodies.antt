@@ -1,5 +1,5 @@
 -- What a body stands for.
-use Rattle.std.specs.Prelude.{ℕ, ◌+◌, ◌-◌, List, length, map, min}
+use Rattle.std.specs.Prelude.{ℕ, ◌+◌, ◌-◌, List, [], ◌∷◌, Option, Some, None, length, map, min}
 use Rattle.std.specs.Vec.{vec_capacity}
 use Rattle.hw_model.specs.KindViews.{kind_of}
 use Rattle.ir_store.specs.declared.operation.OpId.{OpId}
@@ -8,6 +8,7 @@ use Rattle.ir_store.specs.declared.body.Op.{Op}
 use Rattle.ir_store.specs.declared.body.Ops.{Ops}
 use Rattle.ir_store.specs.DictionaryViews.{entries_in}
 use Rattle.ir_store.specs.OperationViews.{OpParts, parts_of, types_in, results_in, place_of}
+use Rattle.ir_store.specs.Links.{walk}
 use Rattle.ir_store.specs.Orders.{live_ids, free_ids}
 use Rattle.ir_store.specs.BodyOps.{BodyOp, stored, ids_in}
 
@@ -21,7 +22,7 @@ ids_of b = ids_in (ops_of b)
 
 -- how many more operations, and how many more operands, have room
 abbrev pub spare_ops : Body → ℕ
-spare_ops b = min (vec_capacity b.order.ids) (min (vec_capacity b.parts) (length b.operands.lists + b.operands.list_room)) - b.order.live
+spare_ops b = min (vec_capacity b.order.links) (min (vec_capacity b.parts) (length b.operands.lists + b.operands.list_room)) - b.order.live
 
 abbrev pub spare_uses : Body → ℕ
 spare_uses b = b.operands.room
@@ -53,4 +54,9 @@ op_id n = record { index = n }
 
 -- the ids that an iterator has left
 abbrev pub ids_left : Ops → List OpId
-ids_left s = map op_id s.rest.now
+ids_left s = map op_id (walk s.links.now s.left s.at)
+
+-- the first of ids
+abbrev pub first_id : List OpId → Option OpId
+first_id [] = None
+first_id (i ∷ ids) = Some i

@@ -3,6 +3,7 @@ pub mod BodyOps
 pub mod Designs
 pub mod DictionaryViews
 pub mod Ids
+pub mod Links
 pub mod Live
 pub mod Numbered
 pub mod OperandLists

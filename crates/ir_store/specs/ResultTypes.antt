@@ -1,9 +1,8 @@
 -- The types of an operation's results, by its kind and the types that it writes (CIRCT: operation references of HW, Comb and Seq).
 use Rattle.std.specs.Prelude.{ℕ, ◌+◌, ◌-◌, ◌^◌, min, cond, List, [], ◌∷◌, map, drop, length, Option, Some, None}
-use Rattle.hw_model.specs.Types.{Name, HwType, FieldTypes}
-use Rattle.hw_model.specs.Types.HwType.{int, clock, array, struct}
-use Rattle.hw_model.specs.Types.FieldTypes.{no_fields, field}
-use Rattle.hw_model.specs.Kinds.{Kind, Instance, ArrayOp, StructOp}
+use Rattle.hw_model.specs.Types.{Name, HwType}
+use Rattle.hw_model.specs.Types.HwType.{int, array, struct}
+use Rattle.hw_model.specs.Kinds.{Kind, ArrayOp, StructOp}
 use Rattle.hw_model.specs.Kinds.ArrayOp.{array_create, array_concat, array_get, array_slice, array_inject}
 use Rattle.hw_model.specs.Kinds.StructOp.{struct_create, struct_extract, struct_inject, struct_explode}
 use Rattle.hw_model.specs.Kinds.Kind.{variadic, sub, division, shift, icmp, parity, extract, concat, replicate, mux, constant, aggregate_constant, on_array, on_struct, bitcast, wire, instance, output, register}

@@ -5,6 +5,7 @@ ghost use Rattle.ir_store.specs.Ids.{put_at};
 ghost use Rattle.ir_store.specs.BodyOps.{place_before, is_of, names_in};
 
 use crate::dictionary::Dictionary;
+use crate::links::{Link, next_of};
 use crate::operands::OperandTable;
 use crate::operation::{NewOp, NewResultList, OpId, Parts, TyList, Value, copied_parts};
 use crate::order::Order;
@@ -21,8 +22,8 @@ pub struct Body {
     order: Order,
     parts: Vec<Parts>,
     operands: OperandTable,
-    ghost parts_fit: { length parts.items ≡ length order.ids.items },
-    ghost lists_fit: { length operands.lists ≡ length order.ids.items },
+    ghost parts_fit: { length parts.items ≡ length order.links.items },
+    ghost lists_fit: { length operands.lists ≡ length order.links.items },
 }
 
 /// An operation of a body, its parts by reference.
@@ -48,10 +49,12 @@ pub struct Op<'b> {
     pub place: Place,
 }
 
-/// The ids of a body's operations in text order.
+/// The ids of a body's operations in text order: a walk along the links between them.
 #[derive(Drop)]
 pub struct Ops<'b> {
-    rest: &'b [u32],
+    links: &'b [Link],
+    at: u32,
+    left: usize,
 }
 
 impl<'b> Iterator for Ops<'b> {
@@ -65,9 +68,47 @@ impl<'b> Iterator for Ops<'b> {
     ghost remaining = { item_count ids_left };
 
     fn next(&mut self) -> Option<OpId> {
-        let (first, others) = self.rest.split_first()?;
-        self.rest = others;
-        Some(OpId { index: *first })
+        let first = self.first()?;
+        self.advance();
+        Some(first)
+    }
+}
+
+impl<'b> Ops<'b> {
+    ghost use Rattle.std.specs.Prelude.{drop};
+    ghost use Rattle.ir_store.specs.Bodies.{ids_left, first_id};
+    ghost use Rattle.ir_store.specs.Links.{walk};
+    ghost use Rattle.ir_store.specs.Orders.{live_ids};
+
+    /// The ids of an order.
+    fn along(order: &'b Order) -> Ops<'b>
+        ensures ids { walk result.links.now result.left result.at ≡ live_ids order.now }
+    {
+        Ops {
+            links: order.links(),
+            at: order.first(),
+            left: order.count(),
+        }
+    }
+
+    /// The first of those that are left.
+    pub(crate) fn first(&self) -> Option<OpId>
+        ensures { result ≡ first_id (ids_left self.now) }
+    {
+        if self.left == 0 {
+            return None;
+        }
+        Some(OpId { index: self.at })
+    }
+
+    /// Leaves the first out, where there is one.
+    pub(crate) fn advance(&mut self)
+        ensures { ids_left self.new ≡ drop 1 (ids_left self.old) }
+    {
+        if self.left > 0 {
+            self.at = next_of(self.links, self.at);
+            self.left -= 1;
+        }
     }
 }
 
@@ -123,9 +164,7 @@ impl Body {
     pub fn ops(&self) -> Ops<'_>
         ensures { ids_left result ≡ map op_id (ids_of self.now) }
     {
-        Ops {
-            rest: self.order.live(),
-        }
+        Ops::along(&self.order)
     }
 
     /// How many operations there are.
@@ -139,7 +178,7 @@ impl Body {
     pub fn contains(&self, id: OpId) -> bool
         ensures { IsTrue result ↔ Contains (ids_of self.now) id.index }
     {
-        place_of_id(self.order.live(), id) < self.order.count()
+        self.order.contains(id.index)
     }
 
     /// Whether no operand is a result of the operation `op`.
@@ -164,7 +203,7 @@ impl Body {
     pub fn uses(&self, value: Value) -> Uses<'_>
         ensures { uses_left result ≡ uses_in value (ops_of self.now) }
     {
-        Uses::among(value, &self.operands, self.order.live())
+        Uses::among(value, &self.operands, Ops::along(&self.order))
     }
 
     /// Puts `op` before the operation `before`, or at the end, and gives its id. On an error the
@@ -181,12 +220,11 @@ impl Body {
         ensures succeeds { 1 ≤ spare_ops self.old → length op.operands.items ≤ spare_uses self.old → IsOk result }
         ensures spare { (spare_ops self.old ≤ spare_ops self.new + 1) × (spare_uses self.old ≤ spare_uses self.new + length op.operands.items) }
     {
-        let place = place_of(self.order.live(), before);
         let wanted = 1usize.saturating_sub(self.order.free());
         self.order.reserve(1)?;
         self.parts.reserve(wanted)?;
         self.operands.reserve(wanted, op.operands.len())?;
-        let id = self.order.add(place);
+        let id = self.order.add(before);
         self.operands.put(id as usize, op.operands.as_slice());
         put_parts(&mut self.parts, id as usize, op.into_parts());
         Ok(OpId { index: id })
@@ -201,8 +239,7 @@ impl Body {
     {
         let alloc = *self.parts.allocator();
         let index = self.index_of(op);
-        let place = place_of_id(self.order.live(), op);
-        self.order.remove(place);
+        self.order.remove(op);
         self.operands.clear(index);
         self.parts[index] = Parts::empty(alloc);
     }
@@ -289,8 +326,8 @@ impl Body {
     fn is_named(&self, op: OpId) -> bool
         ensures { result ≡ is_named op.index (ops_of self.now) }
     {
-        for id in self.order.live() {
-            if names(self.operands.get(*id as usize), op) {
+        for id in self.ops() {
+            if names(self.operands.get(id.index as usize), op) {
                 return true;
             }
         }
@@ -301,33 +338,10 @@ impl Body {
     fn index_of(&self, id: OpId) -> usize
         requires { Contains (live_ids self.now.order) id.index }
         ensures value { result ≡ id.index }
-        ensures within { result < length self.now.order.ids.items }
+        ensures within { result < length self.now.order.links.items }
     {
         id.index as usize
     }
-}
-
-/// Where an operation goes that is put before `before`, or at the end.
-fn place_of(order: &[u32], before: Option<OpId>) -> usize
-    ensures place { result ≡ place_before before order.now }
-    ensures within { result ≤ length order.now }
-{
-    match before {
-        None => order.len(),
-        Some(id) => place_of_id(order, id),
-    }
-}
-
-fn place_of_id(order: &[u32], id: OpId) -> usize
-    ensures place { result ≡ place_before (Some id) order.now }
-    ensures within { result ≤ length order.now }
-{
-    for (place, other) in order.iter().enumerate() {
-        if *other == id.index {
-            return place;
-        }
-    }
-    order.len()
 }
 
 /// Puts `one` in the place of the parts `i`, or behind the others, where there is room for it.

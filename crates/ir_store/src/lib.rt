@@ -10,6 +10,7 @@ pub mod design;
 pub mod dictionary;
 pub mod ids;
 mod laws;
+pub mod links;
 mod operands;
 pub mod operation;
 mod order;

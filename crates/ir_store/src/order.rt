@@ -1,54 +1,78 @@
-//! The ids of a body: the live ones in text order, and behind them those that are free.
-ghost use Rattle.std.specs.Prelude.{◌≡◌, ℕ, ◌+◌, ◌<◌, ◌≤◌, ◌^◌, [], ◌∷◌, ◌++◌, max, length, take, insert};
-ghost use Rattle.std.specs.Vec.{vec_len, vec_capacity};
+//! The ids of a body: the live ones linked in text order, and those that are free.
+ghost use Rattle.std.specs.Prelude.{◌≡◌, ℕ, ◌-◌, ◌<◌, ◌≤◌, ◌^◌, ◌++◌, false, nat_eq, cond, length};
 ghost use Rattle.ir_store.specs.Ids.{times};
+ghost use Rattle.ir_store.specs.Links.{none, walk, last_of, IsLinked, IsLinked-prop, is_live_at};
 
+use crate::links::{Link, NONE, is_live, link_in, link_out, next_of, prev_of};
+use crate::operation::OpId;
 use std::alloc::{AllocError, Global};
 
-/// The numbers from 0 on, as many as there are, each once: first the live ids in text order, then
-/// those that are free.
+/// The numbers from 0 on, as many as there are, each once: the live ids, linked in text order, and those that are free,
+/// linked as well.
 #[derive(Drop)]
 pub struct Order {
-    ids: Vec<u32>,
+    links: Vec<Link>,
     live: usize,
-    ghost within: { live ≤ length ids.items },
-    ghost once: { (v : ℕ) → times v ids.items ≤ 1 },
-    ghost below: { (v : ℕ) → length ids.items ≤ v → times v ids.items ≡ 0 },
+    first: u32,
+    last: u32,
+    free: u32,
+    ghost few: { length links.items < 2 ^ 32 },
+    ghost within: { live ≤ length links.items },
+    ghost linked: { IsLinked links.items none (walk links.items live first) none } by { IsLinked-prop links.items none (walk links.items live first) none },
+    ghost end: { last ≡ last_of none (walk links.items live first) },
+    ghost once: { (v : ℕ) → times v (walk links.items live first ++ walk links.items (length links.items - live) free) ≤ 1 },
+    ghost below: { (v : ℕ) → length links.items ≤ v → times v (walk links.items live first ++ walk links.items (length links.items - live) free) ≡ 0 },
+    ghost marks: { (v : ℕ) → times v (walk links.items live first) ≡ 0 → is_live_at links.items v ≡ false },
 }
 
 impl Order {
-    ghost use Rattle.std.specs.Prelude.{◌≡◌, ◌+◌, ◌<◌, ◌≤◌, ◌^◌, [], max, length, insert, remove, IfOk, IsOk, OnOk};
+    ghost use Rattle.std.specs.Prelude.{◌≡◌, ◌+◌, ◌<◌, ◌≤◌, ◌^◌, [], ◌↔◌, max, length, take, drop, insert, remove, Contains, Some, IfSome, IfOk, IsOk, IsTrue, OnOk};
     ghost use Rattle.std.specs.Vec.{vec_capacity};
     ghost use Rattle.ir_store.specs.Ids.{times};
+    ghost use Rattle.ir_store.specs.BodyOps.{place_before};
+    ghost use Rattle.ir_store.specs.Links.{none, next_at, first_of, last_of};
     ghost use Rattle.ir_store.specs.Orders.{live_ids, free_ids};
 
     /// No ids. It takes no memory.
     pub fn new(alloc: Global) -> Order
         ensures live { live_ids result ≡ [] }
-        ensures count { length result.ids.items ≡ 0 }
+        ensures count { length result.links.items ≡ 0 }
     {
         Order {
-            ids: Vec::new(alloc),
+            links: Vec::new(alloc),
             live: 0,
+            first: NONE,
+            last: NONE,
+            free: NONE,
         }
     }
 
     /// Equal ids with memory of their own.
     pub fn try_clone(&self, alloc: Global) -> Result<Order, AllocError>
-        ensures ids { IfOk result (λ copy. copy.ids.items ≡ self.now.ids.items) }
-        ensures live { IfOk result (λ copy. copy.live ≡ self.now.live) }
+        ensures count { IfOk result (λ copy. length copy.links.items ≡ length self.now.links.items) }
+        ensures live { IfOk result (λ copy. live_ids copy ≡ live_ids self.now) }
     {
         Ok(Order {
-            ids: Vec::from_slice(alloc, self.ids.as_slice())?,
+            links: Vec::from_slice(alloc, self.links.as_slice())?,
             live: self.live,
+            first: self.first,
+            last: self.last,
+            free: self.free,
         })
     }
 
-    /// The live ids in text order.
-    pub fn live(&self) -> &[u32]
-        ensures { result.now ≡ live_ids self.now }
+    /// The links, by ids.
+    pub fn links(&self) -> &[Link]
+        ensures { result.now ≡ self.now.links.items }
     {
-        &self.ids[..self.live]
+        self.links.as_slice()
+    }
+
+    /// The first of the live ids, where there is one.
+    pub fn first(&self) -> u32
+        ensures { result ≡ self.now.first }
+    {
+        self.first
     }
 
     /// How many ids are live.
@@ -62,97 +86,107 @@ impl Order {
     pub fn free(&self) -> usize
         ensures { result ≡ free_ids self.now }
     {
-        self.ids.len() - self.live
+        self.links.len() - self.live
     }
 
     /// How many ids have room.
     pub fn capacity(&self) -> usize
-        ensures { result ≡ vec_capacity self.now.ids }
+        ensures { result ≡ vec_capacity self.now.links }
     {
-        self.ids.capacity()
+        self.links.capacity()
+    }
+
+    /// Whether an id is live, in constant time.
+    pub fn contains(&self, id: u32) -> bool
+        ensures { IsTrue result ↔ Contains (live_ids self.now) id }
+    {
+        is_live(self.links.as_slice(), id)
     }
 
     /// Makes room for so many more live ids.
     pub fn reserve(&mut self, more: usize) -> Result<(), AllocError>
-        ensures ids { self.new.ids.items ≡ self.old.ids.items }
+        ensures count { length self.new.links.items ≡ length self.old.links.items }
+        ensures ids { live_ids self.new ≡ live_ids self.old }
         ensures live { self.new.live ≡ self.old.live }
-        ensures ok { OnOk result (self.old.live + more ≤ vec_capacity self.new.ids) }
-        ensures capacity { vec_capacity self.old.ids ≤ vec_capacity self.new.ids }
-        ensures succeeds { self.old.live + more ≤ vec_capacity self.old.ids → IsOk result }
+        ensures ok { OnOk result (self.old.live + more ≤ vec_capacity self.new.links) }
+        ensures capacity { vec_capacity self.old.links ≤ vec_capacity self.new.links }
+        ensures succeeds { self.old.live + more ≤ vec_capacity self.old.links → IsOk result }
     {
         let wanted = more.saturating_sub(self.free());
-        self.ids.reserve(wanted)
+        self.links.reserve(wanted)
     }
 
-    /// Takes a free id, or else a new one, and puts it in at a place.
-    pub fn add(&mut self, place: usize) -> u32
-        requires place { place ≤ self.old.live }
+    /// Takes a free id, or else a new one, and puts it in before another, or at the end, in constant time.
+    pub fn add(&mut self, before: Option<OpId>) -> u32
+        requires there { IfSome before (λ b. Contains (live_ids self.old) b.index) }
         requires small { self.old.live + 1 < 2 ^ 32 }
-        requires room { self.old.live < vec_capacity self.old.ids }
-        ensures ids { live_ids self.new ≡ insert (live_ids self.old) place result }
+        requires room { self.old.live < vec_capacity self.old.links }
+        ensures ids { live_ids self.new ≡ insert (live_ids self.old) (place_before before (live_ids self.old)) result }
         ensures live { self.new.live ≡ self.old.live + 1 }
         ensures fresh { times result (live_ids self.old) ≡ 0 }
         ensures next { free_ids self.old ≡ 0 → result ≡ self.old.live }
-        ensures within { result ≤ length self.old.ids.items }
-        ensures count { length self.new.ids.items ≡ max (length self.old.ids.items) (result + 1) }
-        ensures known { 0 < free_ids self.old → result < length self.old.ids.items }
-        ensures capacity { vec_capacity self.old.ids ≤ vec_capacity self.new.ids }
+        ensures within { result ≤ length self.old.links.items }
+        ensures count { length self.new.links.items ≡ max (length self.old.links.items) (result + 1) }
+        ensures known { 0 < free_ids self.old → result < length self.old.links.items }
+        ensures capacity { vec_capacity self.old.links ≤ vec_capacity self.new.links }
     {
-        let id = take_id(&mut self.ids, self.live);
-        insert_reserved(&mut self.ids, place, id);
+        let (prev, next) = self.neighbours(before);
+        let (id, free) = self.next_id();
+        link_in(&mut self.links, id, prev, next);
+        self.first = unless_none(prev, self.first, id);
+        self.last = unless_none(next, self.last, id);
+        self.free = free;
         self.live += 1;
         id
     }
 
-    /// Frees the id at a place.
-    pub fn remove(&mut self, place: usize)
-        requires { place < self.old.live }
-        ensures ids { live_ids self.new ≡ remove (live_ids self.old) place }
+    /// Frees a live id, in constant time.
+    pub fn remove(&mut self, id: OpId)
+        requires { Contains (live_ids self.old) id.index }
+        ensures ids { live_ids self.new ≡ remove (live_ids self.old) (place_before (Some id) (live_ids self.old)) }
         ensures live { self.new.live + 1 ≡ self.old.live }
-        ensures count { length self.new.ids.items ≡ length self.old.ids.items }
-        ensures capacity { vec_capacity self.new.ids ≡ vec_capacity self.old.ids }
+        ensures count { length self.new.links.items ≡ length self.old.links.items }
+        ensures capacity { vec_capacity self.new.links ≡ vec_capacity self.old.links }
     {
-        let id = self.ids.remove(place);
-        self.ids.push_reserved(id);
+        let id = id.index;
+        let prev = prev_of(self.links.as_slice(), id);
+        let next = next_of(self.links.as_slice(), id);
+        link_out(&mut self.links, id, prev, next, self.free);
+        self.first = unless_none(prev, self.first, next);
+        self.last = unless_none(next, self.last, prev);
+        self.free = id;
         self.live -= 1;
     }
+
+    /// Between which ids one goes that is put in before another, or at the end.
+    fn neighbours(&self, before: Option<OpId>) -> (u32, u32)
+        requires { IfSome before (λ b. Contains (live_ids self.now) b.index) }
+        ensures prev { result.0 ≡ last_of none (take (place_before before (live_ids self.now)) (live_ids self.now)) }
+        ensures next { result.1 ≡ first_of (drop (place_before before (live_ids self.now)) (live_ids self.now)) none }
+    {
+        match before {
+            None => (self.last, NONE),
+            Some(other) => (prev_of(self.links.as_slice(), other.index), other.index),
+        }
+    }
+
+    /// The id that is taken next, and the first of those that are free then.
+    fn next_id(&self) -> (u32, u32)
+        requires { self.now.live + 1 < 2 ^ 32 }
+        ensures fresh { free_ids self.now ≡ 0 → result.0 ≡ self.now.live }
+        ensures known { 0 < free_ids self.now → (result.0 ≡ self.now.free) × (result.1 ≡ next_at self.now.links.items self.now.free) }
+    {
+        if self.live < self.links.len() {
+            (self.free, next_of(self.links.as_slice(), self.free))
+        } else {
+            (self.live as u32, NONE)
+        }
+    }
 }
 
-/// Takes the last of the free ids, or else a new one, out of the list of ids of which the first
-/// `live` ones are live.
-fn take_id(ids: &mut Vec<u32>, live: usize) -> u32
-    requires within { live ≤ length ids.old.items }
-    requires small { live < 2 ^ 32 }
-    requires once { (v : ℕ) → times v ids.old.items ≤ 1 }
-    requires below { (v : ℕ) → length ids.old.items ≤ v → times v ids.old.items ≡ 0 }
-    ensures live { take live ids.new.items ≡ take live ids.old.items }
-    ensures within { live ≤ length ids.new.items }
-    ensures once { (v : ℕ) → times v (ids.new.items ++ result ∷ []) ≤ 1 }
-    ensures below { (v : ℕ) → length ids.new.items + 1 ≤ v → times v (ids.new.items ++ result ∷ []) ≡ 0 }
-    ensures count { length ids.new.items + 1 ≡ max (length ids.old.items) (result + 1) }
-    ensures known { live < length ids.old.items → result < length ids.old.items }
-    ensures new_one { result ≤ length ids.old.items }
-    ensures next { length ids.old.items ≡ live → result ≡ live }
-    ensures capacity { vec_capacity ids.new ≡ vec_capacity ids.old }
+/// `other` where `end` is none, and else `kept`.
+fn unless_none(end: u32, kept: u32, other: u32) -> u32
+    ensures { result ≡ cond (nat_eq end none) other kept }
 {
-    if ids.len() == live {
-        return live as u32;
-    }
-    match ids.pop() {
-        Some(id) => id,
-        None => unreachable!(),
-    }
-}
-
-/// Puts `id` in before `place`, where there is room for it.
-fn insert_reserved(ids: &mut Vec<u32>, place: usize, id: u32)
-    requires place { place ≤ length ids.old.items }
-    requires room { vec_len ids.old < vec_capacity ids.old }
-    ensures items { ids.new.items ≡ insert ids.old.items place id }
-    ensures capacity { vec_capacity ids.old ≤ vec_capacity ids.new }
-{
-    match ids.insert(place, id) {
-        Ok(()) => {}
-        Err(_) => unreachable!(),
-    }
+    if end == NONE { other } else { kept }
 }

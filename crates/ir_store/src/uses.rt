@@ -2,27 +2,30 @@
 ghost use Rattle.std.specs.Prelude.{◌≡◌};
 ghost use Rattle.ir_store.specs.Uses.{NextPlace};
 
+use crate::body::Ops;
 use crate::operands::{OperandTable, is_same};
-use crate::operation::{OpId, UsePlace, Value};
+use crate::operation::{UsePlace, Value};
 
 /// The places that name a value, in text order.
 #[derive(Drop)]
 pub struct Uses<'b> {
     value: Value,
     operands: &'b OperandTable,
-    rest: &'b [u32],
+    rest: Ops<'b>,
     at: usize,
 }
 
 impl<'b> Uses<'b> {
     ghost use Rattle.std.specs.Prelude.{map, []};
     ghost use Rattle.ir_store.specs.BodyOps.{stored};
+    ghost use Rattle.ir_store.specs.declared.operation.OpId.{OpId};
+    ghost use Rattle.ir_store.specs.Bodies.{ids_left};
     ghost use Rattle.ir_store.specs.Uses.{uses_in};
     ghost use Rattle.ir_store.specs.UsesLeft.{uses_left};
 
     /// The places that name `value` among the operands of the operations of `ids`.
-    pub(crate) fn among(value: Value, operands: &'b OperandTable, ids: &'b [u32]) -> Uses<'b>
-        ensures { uses_left result ≡ uses_in value (map (stored [] operands.now.lists) ids.now) }
+    pub(crate) fn among(value: Value, operands: &'b OperandTable, ids: Ops<'b>) -> Uses<'b>
+        ensures { uses_left result ≡ uses_in value (map (stored [] operands.now.lists) (map (λ (i : OpId). i.index) (ids_left ids.entry))) }
     {
         Uses {
             value,
@@ -44,16 +47,13 @@ impl<'b> Iterator for Uses<'b> {
     ghost remaining = { item_count uses_left };
 
     fn next(&mut self) -> Option<UsePlace> {
-        while let Some((first, others)) = self.rest.split_first() {
-            let operands = self.operands.get(*first as usize);
+        while let Some(op) = self.rest.first() {
+            let operands = self.operands.get(op.index as usize);
             if let Some(at) = next_place(operands, self.value, self.at) {
                 self.at = at + 1;
-                return Some(UsePlace {
-                    op: OpId { index: *first },
-                    at: at as u32,
-                });
+                return Some(UsePlace { op, at: at as u32 });
             }
-            self.rest = others;
+            self.rest.advance();
             self.at = 0;
         }
         None

@@ -1,32 +1,31 @@
-use Rattle.std.proofs.Common.{◌≡◌, ◌≤◌, [], map, length, set, refl, arith, length-take}
+use Rattle.std.proofs.Common.{◌≡◌, ◌≤◌, ◌-◌, [], map, length, set, refl, arith}
+use Rattle.std.specs.Prelude.{Some}
 use Rattle.std.proofs.lemmas.List.{map-set, length-set}
 use Rattle.ir_store.specs.Ids.{times}
+use Rattle.ir_store.specs.BodyOps.{place_before}
+use Rattle.ir_store.specs.Links.{walk}
 use Rattle.ir_store.specs.OperationViews.{parts_of}
 use Rattle.ir_store.specs.Orders.{live_ids}
-use Rattle.ir_store.proofs.IdLemmas.{times-take}
-use Rattle.ir_store.proofs.BodyLemmas.{op_gone, place_within, count_found, ids_seen}
+use Rattle.ir_store.proofs.IdLemmas.{times-append}
+use Rattle.ir_store.proofs.BodyLemmas.{op_gone, count_found, ids_seen}
 use Rattle.ir_store.proofs.body.Body.erase.Goals as goal
 
 pub index_of-index-requires : goal.index_of-index-requires
 index_of-index-requires c = rw (ids_seen (map parts_of c.args.self.now.parts.items) c.args.self.now.operands.lists (live_ids c.args.self.now.order)) at c.requires.live
 
 pub remove-requires : goal.remove-requires
-remove-requires c =
-    let here = rw (ids_seen (map parts_of c.args.self.now.parts.items) c.args.self.now.operands.lists (live_ids c.args.self.now.order)) at c.requires.live in
-    let place = rw c.live.ensures at c.place_of_id-place.ensures.place in
-    omega (arith, place, place_within (live_ids c.args.self.now.order) c.args.op here, length-take c.args.self.now.order.live c.args.self.now.order.ids.items)
+remove-requires c = rw (ids_seen (map parts_of c.args.self.now.parts.items) c.args.self.now.operands.lists (live_ids c.args.self.now.order)) at c.requires.live
 
 pub returns-clause-ops : goal.returns-clause-ops
 returns-clause-ops c =
     let here = rw (ids_seen (map parts_of c.args.self.now.parts.items) c.args.self.now.operands.lists (live_ids c.args.self.now.order)) at c.requires.live in
-    let place = rw c.live.ensures at c.place_of_id-place.ensures.place in
     let once : times c.args.op.index (live_ids c.args.self.now.order) ≤ 1 =
-    omega (arith, times-take c.args.op.index c.args.self.now.order.live c.args.self.now.order.ids.items, c.args.self.now.order.once c.args.op.index) in
+    omega (arith, times-append c.args.op.index (live_ids c.args.self.now.order) (walk c.args.self.now.order.links.items (length c.args.self.now.order.links.items - c.args.self.now.order.live) c.args.self.now.order.free), c.args.self.now.order.once c.args.op.index) in
     let parts : map parts_of (set c.args.self.now.parts.items c.index_of-index.result c.empty.result) ≡ set (map parts_of c.args.self.now.parts.items) c.args.op.index (parts_of c.empty.result) =
     rw c.index_of-index.ensures.value (map-set parts_of c.args.self.now.parts.items c.args.op.index c.empty.result) in
     let lists = rw c.index_of-index.ensures.value at c.clear.ensures.lists in
     op_gone (map parts_of c.args.self.now.parts.items) (map parts_of (set c.args.self.now.parts.items c.index_of-index.result c.empty.result)) c.args.self.now.operands.lists c.clear.new.self.lists
-    c.args.op (parts_of c.empty.result) [] (live_ids c.args.self.now.order) (live_ids c.remove.new.self) c.place_of_id-place.result here once parts lists c.remove.ensures.ids place
+    c.args.op (parts_of c.empty.result) [] (live_ids c.args.self.now.order) (live_ids c.remove.new.self) (place_before (Some c.args.op) (live_ids c.args.self.now.order)) here once parts lists c.remove.ensures.ids refl
 
 pub returns-clause-spare : goal.returns-clause-spare
 returns-clause-spare c =
@@ -43,8 +42,8 @@ returns-clause-spare c =
         c.args.self.now.order.within,
         c.args.self.now.parts_fit,
         c.args.self.now.lists_fit,
-        c.args.self.now.order.ids.ok.0,
-        c.args.self.now.order.ids.ok.1,
+        c.args.self.now.order.links.ok.0,
+        c.args.self.now.order.links.ok.1,
         c.args.self.now.parts.ok.0,
         c.args.self.now.parts.ok.1,
       ),

@@ -1,5 +1,10 @@
+use Rattle.std.proofs.Common.{◌-◌, length}
+use Rattle.ir_store.specs.Links.{walk}
+use Rattle.ir_store.specs.Orders.{live_ids}
 use Rattle.ir_store.proofs.IdLemmas.{live_below}
 use Rattle.ir_store.proofs.body.Body.index_of.Goals as goal
 
 pub returns-clause-within : goal.returns-clause-within
-returns-clause-within c = live_below c.args.self.now.order.ids.items c.args.self.now.order.live c.args.id.index c.args.self.now.order.below c.requires
+returns-clause-within c =
+    live_below (live_ids c.args.self.now.order) (walk c.args.self.now.order.links.items (length c.args.self.now.order.links.items - c.args.self.now.order.live) c.args.self.now.order.free)
+    (length c.args.self.now.order.links.items) c.args.id.index c.args.self.now.order.below c.requires

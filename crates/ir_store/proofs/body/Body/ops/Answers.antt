@@ -5,4 +5,4 @@ use Rattle.ir_store.proofs.BodyLemmas.{ids_seen}
 use Rattle.ir_store.proofs.body.Body.ops.Goals as goal
 
 pub returns : goal.returns
-returns c = rw (ids_seen (map parts_of c.args.self.now.parts.items) c.args.self.now.operands.lists (live_ids c.args.self.now.order), c.live.ensures) refl
+returns c = rw (ids_seen (map parts_of c.args.self.now.parts.items) c.args.self.now.operands.lists (live_ids c.args.self.now.order), c.along.ensures.ids) refl

@@ -1,21 +1,64 @@
-use Rattle.std.proofs.Common.{◌≤◌, length, arith, add-one}
-use Rattle.std.proofs.lemmas.List.Edits.{length-insert}
-use Rattle.ir_store.proofs.IdLemmas.{once_insert, below_insert, take-insert, fresh_front}
+use Rattle.std.proofs.Common.{length, refl, arith}
+use Rattle.ir_store.specs.BodyOps.{place_before}
+use Rattle.ir_store.specs.Links.{linked_in}
+use Rattle.ir_store.specs.Orders.{live_ids, free_ids}
+use Rattle.ir_store.proofs.OrderCalls.{is_added, none_free}
 use Rattle.ir_store.proofs.order.Order.add.Goals as goal
+
+pub link_in-requires-clause-place : goal.link_in-requires-clause-place
+link_in-requires-clause-place c =
+    let a = is_added c.args.self.now (place_before c.args.before (live_ids c.args.self.now)) c.neighbours-prev.result.0 c.neighbours-prev.result.1 c.next_id-id.result.0 _ _ c.next_id-id.result.1
+    (linked_in c.next_id-id.result.0 c.neighbours-prev.result.0 c.neighbours-prev.result.1 c.args.self.now.links.items)
+    c.requires.small c.neighbours-prev.ensures.prev c.neighbours-prev.ensures.next c.next_id-id.ensures.fresh c.next_id-id.ensures.known refl refl refl in
+    a.within
+
+pub link_in-requires-clause-room : goal.link_in-requires-clause-room
+link_in-requires-clause-room c =
+    let a = is_added c.args.self.now (place_before c.args.before (live_ids c.args.self.now)) c.neighbours-prev.result.0 c.neighbours-prev.result.1 c.next_id-id.result.0 _ _ c.next_id-id.result.1
+    (linked_in c.next_id-id.result.0 c.neighbours-prev.result.0 c.neighbours-prev.result.1 c.args.self.now.links.items)
+    c.requires.small c.neighbours-prev.ensures.prev c.neighbours-prev.ensures.next c.next_id-id.ensures.fresh c.next_id-id.ensures.known refl refl refl in
+    λ h. omega (arith, h, none_free (free_ids c.args.self.now) c.next_id-id.result.0 (length c.args.self.now.links.items) a.known h, c.requires.room, c.args.self.now.within, c.args.self.now.links.ok.0)
 
 pub invariant_of-self : goal.invariant_of-self
 invariant_of-self c =
-    let p : c.args.place ≤ length c.take_id-id.new.ids.items = omega (arith, c.requires.place, c.take_id-id.ensures.within) in
+    let a = is_added c.args.self.now (place_before c.args.before (live_ids c.args.self.now)) c.neighbours-prev.result.0 c.neighbours-prev.result.1 c.next_id-id.result.0 c.unless_none-self.result c.unless_none-self-2.result c.next_id-id.result.1 c.link_in.new.links.items
+    c.requires.small c.neighbours-prev.ensures.prev c.neighbours-prev.ensures.next c.next_id-id.ensures.fresh c.next_id-id.ensures.known c.link_in.ensures.items c.unless_none-self.ensures c.unless_none-self-2.ensures in
     record {
-      within = rw c.insert_reserved.ensures.items (omega (arith, length-insert c.take_id-id.new.ids.items c.args.place c.take_id-id.result p, c.take_id-id.ensures.within));
-      once = rw c.insert_reserved.ensures.items (once_insert c.take_id-id.new.ids.items c.args.place c.take_id-id.result c.take_id-id.ensures.once);
-      below = rw c.insert_reserved.ensures.items (below_insert c.take_id-id.new.ids.items c.args.place c.take_id-id.result p c.take_id-id.ensures.below);
+      few = a.order.few;
+      within = a.enough;
+      linked = a.order.linked;
+      end = a.order.end;
+      once = a.order.once;
+      below = a.order.below;
+      marks = a.order.marks;
     }
 
 pub returns-clause-ids : goal.returns-clause-ids
 returns-clause-ids c =
-    rw (c.insert_reserved.ensures.items, add-one, take-insert c.args.self.now.live c.args.place c.take_id-id.new.ids.items c.take_id-id.result c.requires.place c.take_id-id.ensures.within, c.take_id-id.ensures.live)
+    let a = is_added c.args.self.now (place_before c.args.before (live_ids c.args.self.now)) c.neighbours-prev.result.0 c.neighbours-prev.result.1 c.next_id-id.result.0 c.unless_none-self.result c.unless_none-self-2.result c.next_id-id.result.1 c.link_in.new.links.items
+    c.requires.small c.neighbours-prev.ensures.prev c.neighbours-prev.ensures.next c.next_id-id.ensures.fresh c.next_id-id.ensures.known c.link_in.ensures.items c.unless_none-self.ensures c.unless_none-self-2.ensures in
+    a.ids
 
 pub returns-clause-fresh : goal.returns-clause-fresh
 returns-clause-fresh c =
-    rw (← c.take_id-id.ensures.live) (fresh_front c.take_id-id.new.ids.items c.take_id-id.result c.args.self.now.live c.take_id-id.ensures.once)
+    let a = is_added c.args.self.now (place_before c.args.before (live_ids c.args.self.now)) c.neighbours-prev.result.0 c.neighbours-prev.result.1 c.next_id-id.result.0 c.unless_none-self.result c.unless_none-self-2.result c.next_id-id.result.1 c.link_in.new.links.items
+    c.requires.small c.neighbours-prev.ensures.prev c.neighbours-prev.ensures.next c.next_id-id.ensures.fresh c.next_id-id.ensures.known c.link_in.ensures.items c.unless_none-self.ensures c.unless_none-self-2.ensures in
+    a.fresh
+
+pub returns-clause-within : goal.returns-clause-within
+returns-clause-within c =
+    let a = is_added c.args.self.now (place_before c.args.before (live_ids c.args.self.now)) c.neighbours-prev.result.0 c.neighbours-prev.result.1 c.next_id-id.result.0 c.unless_none-self.result c.unless_none-self-2.result c.next_id-id.result.1 c.link_in.new.links.items
+    c.requires.small c.neighbours-prev.ensures.prev c.neighbours-prev.ensures.next c.next_id-id.ensures.fresh c.next_id-id.ensures.known c.link_in.ensures.items c.unless_none-self.ensures c.unless_none-self-2.ensures in
+    a.within
+
+pub returns-clause-count : goal.returns-clause-count
+returns-clause-count c =
+    let a = is_added c.args.self.now (place_before c.args.before (live_ids c.args.self.now)) c.neighbours-prev.result.0 c.neighbours-prev.result.1 c.next_id-id.result.0 c.unless_none-self.result c.unless_none-self-2.result c.next_id-id.result.1 c.link_in.new.links.items
+    c.requires.small c.neighbours-prev.ensures.prev c.neighbours-prev.ensures.next c.next_id-id.ensures.fresh c.next_id-id.ensures.known c.link_in.ensures.items c.unless_none-self.ensures c.unless_none-self-2.ensures in
+    a.count
+
+pub returns-clause-known : goal.returns-clause-known
+returns-clause-known c =
+    let a = is_added c.args.self.now (place_before c.args.before (live_ids c.args.self.now)) c.neighbours-prev.result.0 c.neighbours-prev.result.1 c.next_id-id.result.0 c.unless_none-self.result c.unless_none-self-2.result c.next_id-id.result.1 c.link_in.new.links.items
+    c.requires.small c.neighbours-prev.ensures.prev c.neighbours-prev.ensures.next c.next_id-id.ensures.fresh c.next_id-id.ensures.known c.link_in.ensures.items c.unless_none-self.ensures c.unless_none-self-2.ensures in
+    a.known
