@@ -100,7 +100,7 @@ module _ (b : Body) (ids : List OpId) (all : ids ≡ map op_id (ids_of b)) (j : 
   position_at =
       let same = ids_same ids (ids_of b) all in
       let there : slice_get (ids_of b) j ≡ Some (get_or ids j (op_id 0)).index = sym (ap (λ (l : List ℕ). slice_get l j) same) ∙ index_at ids j (op_id 0) within in
-      position_found (ids_of b) (get_or ids j (op_id 0)).index j (ids_once b) there
+      position_found (ids_of b) (get_or ids j (op_id 0)).index j (ids_once b (get_or ids j (op_id 0)).index) there
 
 -- as many ids as operations
 pub ids_numbered : (b : Body) (ids : List OpId) → ids ≡ map op_id (ids_of b) → length ids ≡ length (numbered (ops_of b))
