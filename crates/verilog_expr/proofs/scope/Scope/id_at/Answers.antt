@@ -14,4 +14,4 @@ pub returns : goal.returns
 returns c =
     let s = c.args.self.now in
     ap (λ (i : OpId). position_of (ids_of s.body.now) i.index) c.index.ensures
-    ∙ position_at s.body.now s.ids.items s.all c.args.position (omega (arith, c.requires, ids_numbered s.body.now s.ids.items s.all))
+    ∙ position_at s.body.now s.ids.items s.all c.args.position (omega (arith, c.requires, ids_numbered s.body.now s.ids.items s.all)) c.index.result.now
