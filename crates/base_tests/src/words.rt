@@ -191,6 +191,9 @@ fn is_well(row: &Row) -> bool {
     let (Some(a), Some(b)) = (Bits::new(row.width, row.a), Bits::new(row.width, row.b)) else {
         return false;
     };
+    if a.width() != b.width() {
+        return false;
+    }
     for (operation, value) in row.values {
         if value_of(*operation, &a, &b).value() != *value {
             return false;

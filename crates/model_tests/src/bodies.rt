@@ -119,6 +119,10 @@ fn changed(alloc: Global, body: &mut Body, change: Change) -> Result<bool, Alloc
     }
 }
 
+fn has(body: &Body, op: OpId, operands: &[Value]) -> bool {
+    body.contains(op) && body.op(op).operands == operands
+}
+
 // Whether the body has just these operations in this order, with their operands.
 fn has_ops(
     alloc: Global,
@@ -129,10 +133,7 @@ fn has_ops(
     for (number, operands) in ops {
         let id = OpId::nth(*number);
         let values = values_of(alloc, operands)?;
-        if left.next() != Some(id) || !body.contains(id) {
-            return Ok(false);
-        }
-        if body.op(id).operands != values.as_slice() {
+        if left.next() != Some(id) || !has(body, id, values.as_slice()) {
             return Ok(false);
         }
     }

@@ -28,14 +28,14 @@ fn is_held(alloc: Global, list: &TyList, widths: &[u32]) -> Result<bool, AllocEr
 // Whether an empty list grows by each width, room for two more reserved before each where that is said.
 fn grows(alloc: Global, list: TyList, reserves: bool) -> Result<bool, AllocError> {
     let mut list = list;
-    for (at, width) in WIDTHS.iter().enumerate() {
+    for at in 0..WIDTHS.len() {
         if reserves {
             list.reserve(alloc, 2)?;
         }
         if !is_held(alloc, &list, &WIDTHS[..at])? {
             return Ok(false);
         }
-        list.push(alloc, Ty::Int(*width))?;
+        list.push(alloc, Ty::Int(WIDTHS[at]))?;
     }
     is_held(alloc, &list, &WIDTHS)
 }

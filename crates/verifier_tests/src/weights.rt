@@ -43,8 +43,8 @@ fn two_instances(alloc: Global, number: u8) -> Result<Vec<NewOp>, AllocError> {
     let mut ops = Vec::new(alloc);
     let mut value = Value::Port(0);
     if number > 0 {
+        let inner = [number - 1];
         for op in 0..2 {
-            let inner = [number - 1];
             ops.push(instance(alloc, inner.as_slice(), [value, Value::Port(1)])?)?;
             value = Value::Result(OpId::nth(op), 0);
         }
