@@ -3,6 +3,7 @@ use Rattle.std.proofs.Common.{◌≡◌, ℕ, ◌+◌, ◌-◌, ◌<◌, ◌≤�
 use Rattle.std.proofs.lemmas.List.{get_or_append_left, get_or-take, get_or-drop, length-drop, length-take-le, length_push, take-append-le, take_at, take-take, get_or_push}
 use Rattle.std.proofs.lemmas.Bool.{true≢false, false≢true, cases_eq, both_ways, not-true}
 use Rattle.cdcl_proof.specs.declared.literal.Literal.{Literal}
+use Rattle.cdcl_proof.specs.declared.log.Step.{Step}
 use Rattle.cdcl_proof.specs.declared.trail.Entry.{Entry}
 use Rattle.cdcl_proof.specs.Literal.{negation, holds, mentions}
 use Rattle.cdcl_proof.specs.Fresh.{is_free, is_closed, is_empty}
@@ -10,9 +11,10 @@ use Rattle.cdcl_proof.specs.Replay.{is_number, clause_at}
 use Rattle.cdcl_proof.proofs.Sound.{is_number_at, clause_within}
 use Rattle.cdcl_proof.specs.Clause.{is_among}
 use Rattle.cdcl_proof.specs.Formula.{are_clauses}
-use Rattle.cdcl_proof.specs.Trail.{literals, entry_at, no_entry, AreApart, IsSound, Stands, Implies, is_after}
-use Rattle.cdcl_proof.specs.Watching.{Propagates, AreShort, IsCovered, is_satisfied, row_at, literal_at}
+use Rattle.cdcl_proof.specs.Trail.{Path, literals, entry_at, no_entry, AreApart, IsSound, Stands, Implies, is_after}
+use Rattle.cdcl_proof.specs.Watching.{Watching, Propagates, AreShort, IsCovered, is_satisfied, row_at, literal_at}
 use Rattle.cdcl_proof.specs.Watcher.{IsProgress}
+use Rattle.cdcl_proof.specs.Resolving.{IsLesson}
 use Rattle.cdcl_proof.proofs.Sets.{all_at, any_from, mentions_from, holds_from_mentions}
 use Rattle.cdcl_proof.proofs.Entries.{entry_of_mentions}
 use Rattle.cdcl_proof.proofs.Resolution.{cases_le}
@@ -144,3 +146,18 @@ before_or_from k place = elim (cases_le place k) as (λ _. (k < place) ⊎ (plac
 
 pub mentions_before : (es : List Entry) (place k v : ℕ) → k < place → k < length es → (entry_at es k).literal.variable ≡ v → mentions (literals (take place es)) v ≡ true
 mentions_before es place k v before inside e = subst (λ (w : ℕ). mentions (literals (take place es)) w ≡ true) e (mentions_from (literals (take place es)) (entry_at es k).literal (holds_before es place k before inside))
+
+-- a search that has gone back holds the first literals alone
+pub record HasGoneBack (old new : Watching) (place : ℕ) : Type 0 where
+  pub variables : new.variables ≡ old.variables
+  pub clauses : new.clauses ≡ old.clauses
+  pub entries : new.entries ≡ take place old.entries
+
+pub gone_back : (old released new : Watching) (place : ℕ) → released ≡ old → new ≡ record released { entries = take place released.entries } → HasGoneBack old new place
+gone_back old released new place same back =
+    let is : new ≡ record old { entries = take place old.entries } = back ∙ ap (λ (w : Watching). record w { entries = take place w.entries }) same in
+    record { variables = ap (λ (w : Watching). w.variables) is; clauses = ap (λ (w : Watching). w.clauses) is; entries = ap (λ (w : Watching). w.entries) is }
+
+-- what is taught of the parts of a search is taught of it
+pub taught : (w : Watching) (path : Path) (clauses : List (List Literal)) (step : Step) (place : ℕ) → path ≡ record { variables = w.variables; entries = w.entries } → clauses ≡ w.clauses → IsLesson path.variables clauses path.entries step place → IsLesson w.variables w.clauses w.entries step place
+taught w path clauses step place is same l = subst (λ (p : Path). IsLesson p.variables w.clauses p.entries step place) is (subst (λ (cs : List (List Literal)). IsLesson path.variables cs path.entries step place) same l)
