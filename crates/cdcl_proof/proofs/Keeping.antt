@@ -1,5 +1,5 @@
 -- What the store keeps, and what its log proves.
-use Rattle.std.proofs.Common.{◌≡◌, ℕ, ◌+◌, true, false, not, ◌&&◌, List, [], ◌∷◌, ◌++◌, ◌≤◌, length, take, drop, reverse, refl, subst, sym, ◌∙◌, ap, arith, append_assoc}
+use Rattle.std.proofs.Common.{◌≡◌, ℕ, true, false, not, ◌&&◌, List, [], ◌∷◌, ◌++◌, ◌≤◌, length, take, drop, reverse, refl, subst, sym, ◌∙◌, ap, arith, append_assoc}
 use Rattle.std.specs.List.{list_all}
 use Rattle.std.proofs.lemmas.List.{take-append-drop, take-append-le, drop-append-le, length-drop, length_push, reverse-append}
 use Rattle.std.proofs.lemmas.List.Folds.{list_all-append}

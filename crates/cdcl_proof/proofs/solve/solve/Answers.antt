@@ -1,4 +1,4 @@
-use Rattle.std.proofs.Common.{◌≡◌, rules, length, ap, ◌∙◌, subst, arith}
+use Rattle.std.proofs.Common.{◌≡◌, rules, length, ◌∙◌, subst, arith}
 use Rattle.cdcl_proof.specs.Formula.{Formula}
 use Rattle.cdcl_proof.specs.Proof.{Exhausts}
 use Rattle.cdcl_proof.proofs.Keeping.{kept_exhausts}

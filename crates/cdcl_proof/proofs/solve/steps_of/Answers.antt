@@ -1,4 +1,4 @@
-use Rattle.std.proofs.Common.{◌≡◌, ◌++◌, ◌∷◌, [], List, length, reverse, ap, ◌∙◌, sym, subst}
+use Rattle.std.proofs.Common.{◌++◌, List, length, reverse, ap, ◌∙◌, sym}
 use Rattle.cdcl_proof.specs.declared.log.Step.{Step}
 use Rattle.cdcl_proof.specs.Store.{steps_of}
 use Rattle.cdcl_proof.proofs.Keeping.{steps_moved}

@@ -1,5 +1,4 @@
-use Rattle.std.proofs.Common.{◌≡◌, ◌++◌, List, length, drop, ap, ◌∙◌, sym, subst}
-use Rattle.cdcl_proof.specs.declared.literal.Literal.{Literal}
+use Rattle.std.proofs.Common.{◌++◌, List, length, drop, ap, ◌∙◌, sym, subst}
 use Rattle.cdcl_proof.specs.declared.log.Step.{Step}
 use Rattle.cdcl_proof.specs.Replay.{learnt}
 use Rattle.cdcl_proof.specs.Store.{IsKept}

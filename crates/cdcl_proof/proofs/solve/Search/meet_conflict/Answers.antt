@@ -6,7 +6,6 @@ use Rattle.cdcl_proof.specs.Formula.{Formula}
 use Rattle.cdcl_proof.specs.Trail.{IsSound, literals}
 use Rattle.cdcl_proof.specs.Literal.{mentions}
 use Rattle.cdcl_proof.specs.Order.{IsOrder, Waits}
-use Rattle.cdcl_proof.specs.Store.{IsLogged}
 use Rattle.cdcl_proof.specs.Watching.{Watching}
 use Rattle.cdcl_proof.proofs.Keeping.{logged_push}
 use Rattle.cdcl_proof.proofs.Adding.{sound_propagates, not_empty, mentions_kept, gone_back, taught}
