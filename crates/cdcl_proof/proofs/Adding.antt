@@ -3,6 +3,7 @@ use Rattle.std.proofs.Common.{◌≡◌, ℕ, ◌+◌, ◌-◌, ◌<◌, ◌≤�
 use Rattle.std.proofs.lemmas.List.{get_or_append_left, get_or-take, get_or-drop, length-drop, length-take-le, length_push, take-append-le, take_at, take-take, get_or_push}
 use Rattle.std.proofs.lemmas.Bool.{true≢false, false≢true, cases_eq, both_ways, not-true}
 use Rattle.cdcl_proof.specs.declared.literal.Literal.{Literal}
+use Rattle.cdcl_proof.specs.declared.log.Step.{Step}
 use Rattle.cdcl_proof.specs.declared.trail.Entry.{Entry}
 use Rattle.cdcl_proof.specs.Literal.{negation, holds, mentions}
 use Rattle.cdcl_proof.specs.Fresh.{is_free, is_closed, is_empty}
@@ -10,9 +11,10 @@ use Rattle.cdcl_proof.specs.Replay.{is_number, clause_at}
 use Rattle.cdcl_proof.proofs.Sound.{is_number_at, clause_within}
 use Rattle.cdcl_proof.specs.Clause.{is_among}
 use Rattle.cdcl_proof.specs.Formula.{are_clauses}
-use Rattle.cdcl_proof.specs.Trail.{literals, entry_at, no_entry, AreApart, IsSound, Stands, Implies, is_after}
-use Rattle.cdcl_proof.specs.Watching.{Propagates, AreShort, IsCovered, is_satisfied, row_at, literal_at}
+use Rattle.cdcl_proof.specs.Trail.{Path, literals, entry_at, no_entry, AreApart, IsSound, Stands, Implies, is_after}
+use Rattle.cdcl_proof.specs.Watching.{Watching, Propagates, AreShort, IsCovered, is_satisfied, row_at, literal_at}
 use Rattle.cdcl_proof.specs.Watcher.{IsProgress}
+use Rattle.cdcl_proof.specs.Resolving.{IsLesson}
 use Rattle.cdcl_proof.proofs.Sets.{all_at, any_from, mentions_from, holds_from_mentions}
 use Rattle.cdcl_proof.proofs.Entries.{entry_of_mentions}
 use Rattle.cdcl_proof.proofs.Resolution.{cases_le}
@@ -22,21 +24,21 @@ use Rattle.cdcl_proof.proofs.Tables.{same_push}
 use Rattle.cdcl_proof.proofs.Covering.{covered_more, held_kept, held_take, held_last}
 
 -- the short clauses that were true are so still
-short_still : (s : List Literal) (rows : List (List Literal)) (row : List Literal) (short short2 : List ℕ) (settled : ℕ) → AreShort rows short → settled ≤ length short → ((j : ℕ) → j < length short → get_or short2 j 0 ≡ get_or short j 0) → ((j : ℕ) → j < settled → is_satisfied s (row_at rows (get_or short j 0)) ≡ true) → (j : ℕ) → j < settled → is_satisfied s (row_at (rows ++ row ∷ []) (get_or short2 j 0)) ≡ true
-short_still s rows row short short2 settled are settled_in same old j l =
+short_still : (s : List Literal) (rows : List (List Literal)) (permuted : List Literal) (short short2 : List ℕ) (settled : ℕ) → AreShort rows short → settled ≤ length short → ((j : ℕ) → j < length short → get_or short2 j 0 ≡ get_or short j 0) → ((j : ℕ) → j < settled → is_satisfied s (row_at rows (get_or short j 0)) ≡ true) → (j : ℕ) → j < settled → is_satisfied s (row_at (rows ++ permuted ∷ []) (get_or short2 j 0)) ≡ true
+short_still s rows permuted short short2 settled are settled_in same old j l =
     let lj : j < length short = omega (arith, l, settled_in) in
     let low = (are.only j lj).0 in
-    rw (same j lj, get_or_append_left rows (row ∷ []) [] (get_or short j 0) low) (old j l)
+    rw (same j lj, get_or_append_left rows (permuted ∷ []) [] (get_or short j 0) low) (old j l)
 
 -- nothing is read yet
-pub progress_reset : (rows : List (List Literal)) (row : List Literal) (short short2 : List ℕ) (es : List Entry) (head : ℕ) (marks : List ℕ) (settled base : ℕ) → AreShort rows short → IsProgress rows short es head marks settled base → length short ≤ length short2 → ((j : ℕ) → j < length short → get_or short2 j 0 ≡ get_or short j 0) → IsProgress (rows ++ row ∷ []) short2 es 0 [] settled base
-progress_reset rows row short short2 es head marks settled base are p longer same = record {
+pub progress_reset : (rows : List (List Literal)) (permuted : List Literal) (short short2 : List ℕ) (es : List Entry) (head : ℕ) (marks : List ℕ) (settled base : ℕ) → AreShort rows short → IsProgress rows short es head marks settled base → length short ≤ length short2 → ((j : ℕ) → j < length short → get_or short2 j 0 ≡ get_or short j 0) → IsProgress (rows ++ permuted ∷ []) short2 es 0 [] settled base
+progress_reset rows permuted short short2 es head marks settled base are p longer same = record {
   head_in = omega arith;
   covered = λ i k k2 long h. absurd (false≢true h);
   marked = record { sorted = λ j k jk lk. absurd (omega (arith, lk)); below = λ j l. absurd (omega (arith, l)); covered = λ j l. absurd (omega (arith, l)) };
   settled_in = let s = p.settled_in in omega (arith, s, longer);
   base_in = p.base_in;
-  short_true = short_still (literals (take base es)) rows row short short2 settled are p.settled_in same p.short_true;
+  short_true = short_still (literals (take base es)) rows permuted short short2 settled are p.settled_in same p.short_true;
 }
 
 -- an entry from a place on is not mentioned before it
@@ -49,34 +51,34 @@ not_before variables es m place v apart low after =
     subst (λ (w : ℕ). mentions (literals (take m es)) w ≡ false) at (free_before variables es m (place + r.0) apart (omega (arith, low)) inside)
 
 -- a clause is added, and its first literal, which was open, is held
-module _ (variables : ℕ) (rows : List (List Literal)) (row : List Literal) (short short2 : List ℕ) (es : List Entry) (e : Entry) (head : ℕ) (marks : List ℕ) (settled base kept : ℕ) (apart : AreApart variables es) (are : AreShort rows short) (p : IsProgress rows short es head marks settled base) (longer : length short ≤ length short2) (same : (j : ℕ) → j < length short → get_or short2 j 0 ≡ get_or short j 0) (some : 0 < length row) (is_first : literal_at row 0 ≡ e.literal) (free : is_free (literals es) e.literal ≡ true) (kept_in : kept ≤ length marks) (after : 0 < kept → 1 < length row → is_after es (get_or marks (kept - 1) 0) (literal_at row 1).variable ≡ true) where
+module _ (variables : ℕ) (rows : List (List Literal)) (permuted : List Literal) (short short2 : List ℕ) (es : List Entry) (e : Entry) (head : ℕ) (marks : List ℕ) (settled base kept : ℕ) (apart : AreApart variables es) (are : AreShort rows short) (p : IsProgress rows short es head marks settled base) (longer : length short ≤ length short2) (same : (j : ℕ) → j < length short → get_or short2 j 0 ≡ get_or short j 0) (some : 0 < length permuted) (is_first : literal_at permuted 0 ≡ e.literal) (free : is_free (literals es) e.literal ≡ true) (kept_in : kept ≤ length marks) (after : 0 < kept → 1 < length permuted → is_after es (get_or marks (kept - 1) 0) (literal_at permuted 1).variable ≡ true) where
   front : (n : ℕ) → n ≤ length es → take n (es ++ e ∷ []) ≡ take n es
   front n l = take-append-le n es (e ∷ []) l
 
-  new_satisfied : is_satisfied (literals (es ++ e ∷ [])) row ≡ true
-  new_satisfied = any_from (holds (literals (es ++ e ∷ []))) row e.literal (subst (λ (l : Literal). holds row l ≡ true) is_first (holds_at row 0 some)) (held_last es e)
+  new_satisfied : is_satisfied (literals (es ++ e ∷ [])) permuted ≡ true
+  new_satisfied = any_from (holds (literals (es ++ e ∷ []))) permuted e.literal (subst (λ (l : Literal). holds permuted l ≡ true) is_first (holds_at permuted 0 some)) (held_last es e)
 
   -- the new row has no watched literal that is false before a mark that is kept
-  new_covered : (m : ℕ) → ((1 < length row) → mentions (literals (take m es)) (literal_at row 1).variable ≡ false) → m ≤ length es → IsCovered (literals (take m es)) (literals (take m es)) row
+  new_covered : (m : ℕ) → ((1 < length permuted) → mentions (literals (take m es)) (literal_at permuted 1).variable ≡ false) → m ≤ length es → IsCovered (literals (take m es)) (literals (take m es)) permuted
   new_covered m second low k k2 long h =
-      elim (cases_eq k 0) as (λ _. is_satisfied (literals (take m es)) row ≡ true) [
+      elim (cases_eq k 0) as (λ _. is_satisfied (literals (take m es)) permuted ≡ true) [
         | inl z ↦
-            let held = held_in m (negation (literal_at row k)) h in
-            let of_first : (literal_at row k).variable ≡ e.literal.variable = ap (λ (n : ℕ). (literal_at row n).variable) z ∙ ap (λ (l : Literal). l.variable) is_first in
-            absurd (both_ways (mentions (literals es) e.literal.variable) (not-true (mentions (literals es) e.literal.variable) free) (subst (λ (v : ℕ). mentions (literals es) v ≡ true) of_first (mentions_from (literals es) (negation (literal_at row k)) held)))
+            let held = held_in m (negation (literal_at permuted k)) h in
+            let of_first : (literal_at permuted k).variable ≡ e.literal.variable = ap (λ (n : ℕ). (literal_at permuted n).variable) z ∙ ap (λ (l : Literal). l.variable) is_first in
+            absurd (both_ways (mentions (literals es) e.literal.variable) (not-true (mentions (literals es) e.literal.variable) free) (subst (λ (v : ℕ). mentions (literals es) v ≡ true) of_first (mentions_from (literals es) (negation (literal_at permuted k)) held)))
         | inr nz ↦
             let one : k ≡ 1 = omega (arith, k2, nz) in
-            let m1 = mentions_from (literals (take m es)) (negation (literal_at row k)) h in
-            absurd (both_ways (mentions (literals (take m es)) (literal_at row 1).variable) (second (omega (arith, long))) (subst (λ (n : ℕ). mentions (literals (take m es)) (literal_at row n).variable ≡ true) one m1))
+            let m1 = mentions_from (literals (take m es)) (negation (literal_at permuted k)) h in
+            absurd (both_ways (mentions (literals (take m es)) (literal_at permuted 1).variable) (second (omega (arith, long))) (subst (λ (n : ℕ). mentions (literals (take m es)) (literal_at permuted n).variable ≡ true) one m1))
       ]
     where
       held_in : (m : ℕ) (l : Literal) → holds (literals (take m es)) l ≡ true → holds (literals es) l ≡ true
       held_in m l t = held_take es m l t
 
-  pub progress_learnt : IsProgress (rows ++ row ∷ []) short2 (es ++ e ∷ []) head (take kept marks) settled base
+  pub progress_learnt : IsProgress (rows ++ permuted ∷ []) short2 (es ++ e ∷ []) head (take kept marks) settled base
   progress_learnt = record {
     head_in = let n = length_push es e in let h = p.head_in in omega (arith, n, h);
-    covered = rw (front head p.head_in) (same_push [] rows [] row (λ i r. IsCovered (literals (take head es)) (literals (es ++ e ∷ [])) r) (λ k k2 long h. new_satisfied) (covered_more (literals (take head es)) (literals es) (literals (es ++ e ∷ [])) rows (λ l h. held_kept es (es ++ e ∷ []) l (take_at es (e ∷ []) (length es) refl) h) p.covered));
+    covered = rw (front head p.head_in) (same_push [] rows [] permuted (λ i r. IsCovered (literals (take head es)) (literals (es ++ e ∷ [])) r) (λ k k2 long h. new_satisfied) (covered_more (literals (take head es)) (literals es) (literals (es ++ e ∷ [])) rows (λ l h. held_kept es (es ++ e ∷ []) l (take_at es (e ∷ []) (length es) refl) h) p.covered));
     marked = record {
       sorted = λ j k jk lk. let lk2 = low k lk in rw (get_or-take kept marks j 0 (omega (arith, jk, lk2)), get_or-take kept marks k 0 lk2) (p.marked.sorted j k jk (omega (arith, lk2, kept_in)));
       below = λ j l. let lj = low j l in rw (get_or-take kept marks j 0 lj) (p.marked.below j (omega (arith, lj, kept_in)));
@@ -87,13 +89,13 @@ module _ (variables : ℕ) (rows : List (List Literal)) (row : List Literal) (sh
           let h = p.head_in in
           let m_low : get_or marks j 0 ≤ length es = omega (arith, b, h) in
           rw (get_or-take kept marks j 0 lj, front (get_or marks j 0) m_low)
-          (same_push [] rows [] row (λ i r. IsCovered (literals (take (get_or marks j 0) es)) (literals (take (get_or marks j 0) es)) r)
-          (new_covered (get_or marks j 0) (λ two. not_before variables es (get_or marks j 0) (get_or marks (kept - 1) 0) (literal_at row 1).variable apart (p.marked.sorted j (kept - 1) (omega (arith, lj)) (omega (arith, lj, kept_in))) (after (omega (arith, lj)) two)) m_low)
+          (same_push [] rows [] permuted (λ i r. IsCovered (literals (take (get_or marks j 0) es)) (literals (take (get_or marks j 0) es)) r)
+          (new_covered (get_or marks j 0) (λ two. not_before variables es (get_or marks j 0) (get_or marks (kept - 1) 0) (literal_at permuted 1).variable apart (p.marked.sorted j (kept - 1) (omega (arith, lj)) (omega (arith, lj, kept_in))) (after (omega (arith, lj)) two)) m_low)
           (p.marked.covered j lm));
     };
     settled_in = let s = p.settled_in in omega (arith, s, longer);
     base_in = let n = length_push es e in let b = p.base_in in omega (arith, n, b);
-    short_true = rw (front base p.base_in) (short_still (literals (take base es)) rows row short short2 settled are p.settled_in same p.short_true);
+    short_true = rw (front base p.base_in) (short_still (literals (take base es)) rows permuted short short2 settled are p.settled_in same p.short_true);
   }
     where
       low : (j : ℕ) → j < length (take kept marks) → j < kept
@@ -144,3 +146,18 @@ before_or_from k place = elim (cases_le place k) as (λ _. (k < place) ⊎ (plac
 
 pub mentions_before : (es : List Entry) (place k v : ℕ) → k < place → k < length es → (entry_at es k).literal.variable ≡ v → mentions (literals (take place es)) v ≡ true
 mentions_before es place k v before inside e = subst (λ (w : ℕ). mentions (literals (take place es)) w ≡ true) e (mentions_from (literals (take place es)) (entry_at es k).literal (holds_before es place k before inside))
+
+-- a search that has gone back holds the first literals alone
+pub record HasGoneBack (old new : Watching) (place : ℕ) : Type 0 where
+  pub variables : new.variables ≡ old.variables
+  pub clauses : new.clauses ≡ old.clauses
+  pub entries : new.entries ≡ take place old.entries
+
+pub gone_back : (old released new : Watching) (place : ℕ) → released ≡ old → new ≡ record released { entries = take place released.entries } → HasGoneBack old new place
+gone_back old released new place same back =
+    let is : new ≡ record old { entries = take place old.entries } = back ∙ ap (λ (w : Watching). record w { entries = take place w.entries }) same in
+    record { variables = ap (λ (w : Watching). w.variables) is; clauses = ap (λ (w : Watching). w.clauses) is; entries = ap (λ (w : Watching). w.entries) is }
+
+-- what is taught of the parts of a search is taught of it
+pub taught : (w : Watching) (path : Path) (clauses : List (List Literal)) (step : Step) (place : ℕ) → path ≡ record { variables = w.variables; entries = w.entries } → clauses ≡ w.clauses → IsLesson path.variables clauses path.entries step place → IsLesson w.variables w.clauses w.entries step place
+taught w path clauses step place is same l = subst (λ (p : Path). IsLesson p.variables w.clauses p.entries step place) is (subst (λ (cs : List (List Literal)). IsLesson path.variables cs path.entries step place) same l)

@@ -25,36 +25,36 @@ use Rattle.cdcl_proof.proofs.Rows.{holds_at, place_of, swap_first, swap_other}
 other_place : (place m : ℕ) → place < 2 → m < 2 → m ≢ place → m ≡ 1 - place
 other_place place m p l ne = omega (arith, p, l, ne)
 
-pub all_false : (s row : List Literal) (place : ℕ) → place < 2 → ((m : ℕ) → 2 ≤ m → m < length row → holds s (negation (literal_at row m)) ≡ true) → holds s (negation (literal_at row place)) ≡ true → holds s (negation (literal_at row (1 - place))) ≡ true → falsifies s row ≡ true
-all_false s row place low rest one two = all_from (λ l. holds s (negation l)) row (λ l h. let p = place_of row l h in subst (λ (x : Literal). holds s (negation x) ≡ true) p.2 (at p.0 p.1))
+pub all_false : (s permuted : List Literal) (place : ℕ) → place < 2 → ((m : ℕ) → 2 ≤ m → m < length permuted → holds s (negation (literal_at permuted m)) ≡ true) → holds s (negation (literal_at permuted place)) ≡ true → holds s (negation (literal_at permuted (1 - place))) ≡ true → falsifies s permuted ≡ true
+all_false s permuted place low rest one two = all_from (λ l. holds s (negation l)) permuted (λ l h. let p = place_of permuted l h in subst (λ (x : Literal). holds s (negation x) ≡ true) p.2 (at p.0 p.1))
   where
-    at : (m : ℕ) → m < length row → holds s (negation (literal_at row m)) ≡ true
+    at : (m : ℕ) → m < length permuted → holds s (negation (literal_at permuted m)) ≡ true
     at m lm =
-        elim (cases_le 2 m) as (λ _. holds s (negation (literal_at row m)) ≡ true) [
+        elim (cases_le 2 m) as (λ _. holds s (negation (literal_at permuted m)) ≡ true) [
           | inl high ↦ rest m high lm
-          | inr small ↦ elim (cases_eq m place) as (λ _. holds s (negation (literal_at row m)) ≡ true) [
-            | inl e ↦ subst (λ (x : ℕ). holds s (negation (literal_at row x)) ≡ true) (sym e) one
-            | inr ne ↦ subst (λ (x : ℕ). holds s (negation (literal_at row x)) ≡ true) (sym (other_place place m low small ne)) two
+          | inr small ↦ elim (cases_eq m place) as (λ _. holds s (negation (literal_at permuted m)) ≡ true) [
+            | inl e ↦ subst (λ (x : ℕ). holds s (negation (literal_at permuted x)) ≡ true) (sym e) one
+            | inr ne ↦ subst (λ (x : ℕ). holds s (negation (literal_at permuted x)) ≡ true) (sym (other_place place m low small ne)) two
           ]
         ]
 
-pub all_but_one : (s row : List Literal) (place : ℕ) → place < 2 → 2 ≤ length row → ((m : ℕ) → 2 ≤ m → m < length row → holds s (negation (literal_at row m)) ≡ true) → holds s (negation (literal_at row place)) ≡ true → holds s (literal_at row (1 - place)) ≡ false → holds s (negation (literal_at row (1 - place))) ≡ false → (holds row (literal_at row (1 - place)) ≡ true) × (is_free s (literal_at row (1 - place)) ≡ true) × (is_unit s (literal_at row (1 - place)) row ≡ true)
-all_but_one s row place low long rest one none not_false =
-    (holds_at row (1 - place) (omega (arith, long)), not_from_false (mentions s (literal_at row (1 - place)).variable) (free_from s (literal_at row (1 - place)) none not_false), all_from (λ l. same l (literal_at row (1 - place)) || holds s (negation l)) row (λ l h. let p = place_of row l h in subst (λ (x : Literal). (same x (literal_at row (1 - place)) || holds s (negation x)) ≡ true) p.2 (at p.0 p.1)))
+pub all_but_one : (s permuted : List Literal) (place : ℕ) → place < 2 → 2 ≤ length permuted → ((m : ℕ) → 2 ≤ m → m < length permuted → holds s (negation (literal_at permuted m)) ≡ true) → holds s (negation (literal_at permuted place)) ≡ true → holds s (literal_at permuted (1 - place)) ≡ false → holds s (negation (literal_at permuted (1 - place))) ≡ false → (holds permuted (literal_at permuted (1 - place)) ≡ true) × (is_free s (literal_at permuted (1 - place)) ≡ true) × (is_unit s (literal_at permuted (1 - place)) permuted ≡ true)
+all_but_one s permuted place low long rest one none not_false =
+    (holds_at permuted (1 - place) (omega (arith, long)), not_from_false (mentions s (literal_at permuted (1 - place)).variable) (free_from s (literal_at permuted (1 - place)) none not_false), all_from (λ l. same l (literal_at permuted (1 - place)) || holds s (negation l)) permuted (λ l h. let p = place_of permuted l h in subst (λ (x : Literal). (same x (literal_at permuted (1 - place)) || holds s (negation x)) ≡ true) p.2 (at p.0 p.1)))
   where
-    at : (m : ℕ) → m < length row → (same (literal_at row m) (literal_at row (1 - place)) || holds s (negation (literal_at row m))) ≡ true
+    at : (m : ℕ) → m < length permuted → (same (literal_at permuted m) (literal_at permuted (1 - place)) || holds s (negation (literal_at permuted m))) ≡ true
     at m lm =
-        elim (cases_le 2 m) as (λ _. (same (literal_at row m) (literal_at row (1 - place)) || holds s (negation (literal_at row m))) ≡ true) [
-          | inl high ↦ or_right (same (literal_at row m) (literal_at row (1 - place))) (holds s (negation (literal_at row m))) (rest m high lm)
-          | inr small ↦ elim (cases_eq m place) as (λ _. (same (literal_at row m) (literal_at row (1 - place)) || holds s (negation (literal_at row m))) ≡ true) [
-            | inl e ↦ or_right (same (literal_at row m) (literal_at row (1 - place))) (holds s (negation (literal_at row m))) (subst (λ (x : ℕ). holds s (negation (literal_at row x)) ≡ true) (sym e) one)
-            | inr ne ↦ or_left (same (literal_at row m) (literal_at row (1 - place))) (holds s (negation (literal_at row m))) (subst (λ (x : ℕ). same (literal_at row x) (literal_at row (1 - place)) ≡ true) (sym (other_place place m low small ne)) (same-refl (literal_at row (1 - place))))
+        elim (cases_le 2 m) as (λ _. (same (literal_at permuted m) (literal_at permuted (1 - place)) || holds s (negation (literal_at permuted m))) ≡ true) [
+          | inl high ↦ or_right (same (literal_at permuted m) (literal_at permuted (1 - place))) (holds s (negation (literal_at permuted m))) (rest m high lm)
+          | inr small ↦ elim (cases_eq m place) as (λ _. (same (literal_at permuted m) (literal_at permuted (1 - place)) || holds s (negation (literal_at permuted m))) ≡ true) [
+            | inl e ↦ or_right (same (literal_at permuted m) (literal_at permuted (1 - place))) (holds s (negation (literal_at permuted m))) (subst (λ (x : ℕ). holds s (negation (literal_at permuted x)) ≡ true) (sym e) one)
+            | inr ne ↦ or_left (same (literal_at permuted m) (literal_at permuted (1 - place))) (holds s (negation (literal_at permuted m))) (subst (λ (x : ℕ). same (literal_at permuted x) (literal_at permuted (1 - place)) ≡ true) (sym (other_place place m low small ne)) (same-refl (literal_at permuted (1 - place))))
           ]
         ]
 
 -- a row that is satisfied
-pub satisfied_more : (s t row : List Literal) → ((l : Literal) → holds s l ≡ true → holds t l ≡ true) → is_satisfied s row ≡ true → is_satisfied t row ≡ true
-satisfied_more s t row more h = let l = any_at (holds s) row h in any_from (holds t) row l.0 l.1 (more l.0 l.2)
+pub satisfied_more : (s t permuted : List Literal) → ((l : Literal) → holds s l ≡ true → holds t l ≡ true) → is_satisfied s permuted ≡ true → is_satisfied t permuted ≡ true
+satisfied_more s t permuted more h = let l = any_at (holds s) permuted h in any_from (holds t) permuted l.0 l.1 (more l.0 l.2)
 
 pub satisfied_row : (s a b : List Literal) → ((l : Literal) → holds a l ≡ true → holds b l ≡ true) → is_satisfied s a ≡ true → is_satisfied s b ≡ true
 satisfied_row s a b more h = let l = any_at (holds s) a h in any_from (holds s) b l.0 (more l.0 l.1) l.2
@@ -71,14 +71,14 @@ pub covered_more : (before s t : List Literal) (rows : List (List Literal)) → 
 covered_more before s t rows more c i k lk long h = satisfied_more s t (row_at rows i) more (c i k lk long h)
 
 -- and where a watch moves to a literal that is not false
-pub covered_swap : (before s row : List Literal) (first k : ℕ) → first < 2 → 2 ≤ k → k < length row → holds before (negation (literal_at row k)) ≡ false → ((l : Literal) → holds row l ≡ true → holds (swap row first k) l ≡ true) → IsCovered before s row → IsCovered before s (swap row first k)
-covered_swap before s row first k f2 k2 lk not_false same c m m2 long h =
-    let lf : first < length row = omega (arith, f2, k2, lk) in
-    elim (cases_eq m first) as (λ _. is_satisfied s (swap row first k) ≡ true) [
-      | inl e ↦ absurd (both_ways (holds before (negation (literal_at row k))) not_false (subst (λ (x : Literal). holds before (negation x) ≡ true) (swap_first row first k m lf lk e) h))
+pub covered_swap : (before s permuted : List Literal) (first k : ℕ) → first < 2 → 2 ≤ k → k < length permuted → holds before (negation (literal_at permuted k)) ≡ false → ((l : Literal) → holds permuted l ≡ true → holds (swap permuted first k) l ≡ true) → IsCovered before s permuted → IsCovered before s (swap permuted first k)
+covered_swap before s permuted first k f2 k2 lk not_false same c m m2 long h =
+    let lf : first < length permuted = omega (arith, f2, k2, lk) in
+    elim (cases_eq m first) as (λ _. is_satisfied s (swap permuted first k) ≡ true) [
+      | inl e ↦ absurd (both_ways (holds before (negation (literal_at permuted k))) not_false (subst (λ (x : Literal). holds before (negation x) ≡ true) (swap_first permuted first k m lf lk e) h))
       | inr ne ↦
-          let other = swap_other row first k m lf lk ne (λ e. omega (arith, e, m2, k2)) in
-          satisfied_row s row (swap row first k) same (c m m2 (omega (arith, k2, lk)) (subst (λ (x : Literal). holds before (negation x) ≡ true) other h))
+          let other = swap_other permuted first k m lf lk ne (λ e. omega (arith, e, m2, k2)) in
+          satisfied_row s permuted (swap permuted first k) same (c m m2 (omega (arith, k2, lk)) (subst (λ (x : Literal). holds before (negation x) ≡ true) other h))
     ]
 
 -- clauses that are closed
@@ -86,28 +86,28 @@ closed_each : (s : List Literal) (cs : List (List Literal)) → ((i : ℕ) → i
 closed_each s [] h = refl
 closed_each s (c ∷ cs) h = and_from (is_closed_at s c) (is_closed s cs) (h zero (omega arith)) (closed_each s cs (λ i l. h (suc i) (omega (arith, l))))
 
-closed_satisfied : (s clause row : List Literal) → IsRow clause row → is_satisfied s row ≡ true → is_closed_at s clause ≡ true
-closed_satisfied s clause row r h = or_left (list_any (holds s) clause) (leb 2 (count_free s clause)) (satisfied_row s row clause (λ l t. sym (r.same l) ∙ t) h)
+closed_satisfied : (s clause permuted : List Literal) → IsRow clause permuted → is_satisfied s permuted ≡ true → is_closed_at s clause ≡ true
+closed_satisfied s clause permuted r h = or_left (list_any (holds s) clause) (leb 2 (count_free s clause)) (satisfied_row s permuted clause (λ l t. sym (r.same l) ∙ t) h)
 
-closed_row : (s clause row : List Literal) → IsRow clause row → 2 ≤ length row → IsCovered s s row → is_closed_at s clause ≡ true
-closed_row s clause row r long c = go (holds s (negation a)) refl (holds s (negation b)) refl (holds s a) refl (holds s b) refl
+closed_row : (s clause permuted : List Literal) → IsRow clause permuted → 2 ≤ length permuted → IsCovered s s permuted → is_closed_at s clause ≡ true
+closed_row s clause permuted r long c = go (holds s (negation a)) refl (holds s (negation b)) refl (holds s a) refl (holds s b) refl
   where
     a : Literal
-    a = literal_at row 0
+    a = literal_at permuted 0
 
     b : Literal
-    b = literal_at row 1
+    b = literal_at permuted 1
 
-    go : (na : Bool) → holds s (negation (literal_at row 0)) ≡ na → (nb : Bool) → holds s (negation (literal_at row 1)) ≡ nb → (ha : Bool) → holds s (literal_at row 0) ≡ ha → (hb : Bool) → holds s (literal_at row 1) ≡ hb → is_closed_at s clause ≡ true
-    go true p nb q ha u hb v = closed_satisfied s clause row r (c 0 (omega arith) long p)
-    go false p true q ha u hb v = closed_satisfied s clause row r (c 1 (omega arith) long q)
-    go false p false q true u hb v = closed_satisfied s clause row r (any_from (holds s) row (literal_at row 0) (holds_at row 0 (omega (arith, long))) u)
-    go false p false q false u true v = closed_satisfied s clause row r (any_from (holds s) row (literal_at row 1) (holds_at row 1 (omega (arith, long))) v)
+    go : (na : Bool) → holds s (negation (literal_at permuted 0)) ≡ na → (nb : Bool) → holds s (negation (literal_at permuted 1)) ≡ nb → (ha : Bool) → holds s (literal_at permuted 0) ≡ ha → (hb : Bool) → holds s (literal_at permuted 1) ≡ hb → is_closed_at s clause ≡ true
+    go true p nb q ha u hb v = closed_satisfied s clause permuted r (c 0 (omega arith) long p)
+    go false p true q ha u hb v = closed_satisfied s clause permuted r (c 1 (omega arith) long q)
+    go false p false q true u hb v = closed_satisfied s clause permuted r (any_from (holds s) permuted (literal_at permuted 0) (holds_at permuted 0 (omega (arith, long))) u)
+    go false p false q false u true v = closed_satisfied s clause permuted r (any_from (holds s) permuted (literal_at permuted 1) (holds_at permuted 1 (omega (arith, long))) v)
     go false p false q false u false v =
-        let two = two_free s clause (literal_at row 0) (literal_at row 1) (sym (r.same (literal_at row 0)) ∙ holds_at row 0 (omega (arith, long))) (sym (r.same (literal_at row 1)) ∙ holds_at row 1 (omega (arith, long)))
+        let two = two_free s clause (literal_at permuted 0) (literal_at permuted 1) (sym (r.same (literal_at permuted 0)) ∙ holds_at permuted 0 (omega (arith, long))) (sym (r.same (literal_at permuted 1)) ∙ holds_at permuted 1 (omega (arith, long)))
         (λ e. let one = r.apart 0 1 (omega (arith, long)) (omega (arith, long)) e in omega (arith, one))
-        (not_from_false (mentions s (literal_at row 0).variable) (free_from s (literal_at row 0) u p))
-        (not_from_false (mentions s (literal_at row 1).variable) (free_from s (literal_at row 1) v q)) in
+        (not_from_false (mentions s (literal_at permuted 0).variable) (free_from s (literal_at permuted 0) u p))
+        (not_from_false (mentions s (literal_at permuted 1).variable) (free_from s (literal_at permuted 1) v q)) in
         or_right (list_any (holds s) clause) (leb 2 (count_free s clause)) (le-leb 2 (count_free s clause) two)
 
 -- once all is read, all clauses are closed

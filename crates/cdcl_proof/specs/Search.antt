@@ -4,13 +4,13 @@ use Rattle.cdcl_proof.specs.declared.solve.Search.{Search}
 use Rattle.cdcl_proof.specs.Trail.{IsSound, literals}
 use Rattle.cdcl_proof.specs.Literal.{mentions}
 use Rattle.cdcl_proof.specs.Order.{IsOrder, Waits}
-use Rattle.cdcl_proof.specs.Store.{known}
+use Rattle.cdcl_proof.specs.Store.{IsLogged}
 
 -- the trail stands over the known clauses, and each list has a place for each variable
 pub record IsSearching (s : Search) : Type 0 where
-  pub variables : s.watched.variables ≡ s.store.formula.variables
-  pub clauses : s.watched.clauses ≡ known s.store
-  pub sound : IsSound s.watched.variables (known s.store) s.watched.entries
+  pub variables : s.watched.variables ≡ s.cnf.now.variables
+  pub logged : IsLogged s.cnf.now s.watched.clauses s.chains.items
+  pub sound : IsSound s.watched.variables s.watched.clauses s.watched.entries
   pub seen : length s.seen.items ≡ s.watched.variables
   pub order : IsOrder s.watched.variables s.order
   pub phases : length s.phases.items ≡ s.watched.variables

@@ -1,20 +1,12 @@
 -- The clauses that a search knows.
-use Rattle.std.specs.Prelude.{true, ◌≡◌, ◌++◌, List}
+use Rattle.std.specs.Prelude.{true, ◌≡◌, ◌+◌, ◌++◌, List, [], ◌∷◌, length, take, drop}
 use Rattle.cdcl_proof.specs.declared.literal.Literal.{Literal}
+use Rattle.cdcl_proof.specs.declared.log.Hint.{Hint}
 use Rattle.cdcl_proof.specs.declared.log.Step.{Step}
 use Rattle.cdcl_proof.specs.Formula.{Formula, are_clauses}
 use Rattle.cdcl_proof.specs.Replay.{learnt, replay}
 use Rattle.cdcl_proof.specs.Regular.{is_regular_log}
 use Rattle.cdcl_proof.specs.Fresh.{Fresh, has_no_empty}
-
--- a formula and the steps that were learnt from it
-pub record Archive : Type 0 where
-  pub formula : Formula
-  pub steps : List Step
-
--- the formula's clauses and then the learnt ones
-abbrev pub known : Archive → List (List Literal)
-known a = a.formula.clauses ++ learnt a.steps
 
 -- what the steps are known to be
 pub record IsKept (f : Formula) (steps : List Step) : Type 0 where
@@ -23,3 +15,15 @@ pub record IsKept (f : Formula) (steps : List Step) : Type 0 where
   pub fresh : Fresh f steps
   pub regular : is_regular_log f steps ≡ true
   pub none_empty : has_no_empty steps ≡ true
+
+-- the steps of chains and the clauses that they give
+abbrev pub steps_of : List (List Hint) → List (List Literal) → List Step
+steps_of [] cs = []
+steps_of (h ∷ hs) [] = []
+steps_of (h ∷ hs) (c ∷ cs) = record { clause = c; hints = h } ∷ steps_of hs cs
+
+-- the clauses are the formula's and then those that the chains give
+pub record IsLogged (f : Formula) (clauses : List (List Literal)) (chains : List (List Hint)) : Type 0 where
+  pub given : take (length f.clauses) clauses ≡ f.clauses
+  pub count : length clauses ≡ length f.clauses + length chains
+  pub kept : IsKept f (steps_of chains (drop (length f.clauses) clauses))

@@ -2,19 +2,18 @@
 ghost use Rattle.std.specs.Prelude.{ℕ, ◌≡◌, ◌<◌, ◌≤◌, ◌+◌, ◌-◌, true, false, [], length, take, drop, IfOk, Some, IsNone, slice_set};
 ghost use Rattle.std.specs.List.{list_all};
 ghost use Rattle.cdcl_proof.specs.Clause.{is_within};
+ghost use Rattle.cdcl_proof.specs.Formula.{are_clauses};
 ghost use Rattle.cdcl_proof.specs.Replay.{derives, clause_at};
 ghost use Rattle.cdcl_proof.specs.Regular.{is_regular};
 ghost use Rattle.cdcl_proof.specs.Literal.{mentions};
 ghost use Rattle.cdcl_proof.specs.Trail.{IsSound, literals, entry_at, NoDecision};
 ghost use Rattle.cdcl_proof.specs.Learning.{is_seen, is_seen_entry, is_seen_literal, count_seen};
-ghost use Rattle.cdcl_proof.specs.Store.{known};
 ghost use Rattle.cdcl_proof.specs.Propagation.{IsConflict};
 ghost use Rattle.cdcl_proof.specs.Resolving.{AddsMarks, HasPivotsFrom, IsResolving, IsAnalysis, IsLesson, IsLevel, Resolves};
 
 use crate::clause::Clause;
 use crate::literal::Literal;
 use crate::log::{Hint, HintList, Step};
-use crate::store::Store;
 use crate::trail::{Entry, Trail};
 use std::alloc::{AllocError, Global};
 
@@ -28,23 +27,23 @@ pub(crate) struct Lesson {
 /// The clause that a conflict teaches: it has one literal of the newest level, which begins at `floor`.
 pub(crate) fn learn(
     alloc: Global,
-    store: &Store,
+    clauses: &[Clause],
     trail: &Trail,
     seen: &mut [bool],
     conflict: u64,
     floor: usize,
 ) -> Result<Lesson, AllocError>
-    requires variables { trail.now.variables ≡ store.now.formula.variables }
+    requires clauses { are_clauses trail.now.variables clauses.now ≡ true }
     requires seen { length seen.old ≡ trail.now.variables }
-    requires sound { IsSound trail.now.variables (known store.now) trail.now.entries }
-    requires conflict { IsConflict (known store.now) (literals trail.now.entries) conflict }
+    requires sound { IsSound trail.now.variables clauses.now trail.now.entries }
+    requires conflict { IsConflict clauses.now (literals trail.now.entries) conflict }
     requires floor { floor < length trail.now.entries }
     requires decision { IsNone (entry_at trail.now.entries floor).reason }
     requires newest { NoDecision trail.now.entries (floor + 1) (length trail.now.entries) }
-    ensures lesson { IfOk result (λ l. IsLesson trail.now.variables (known store.now) trail.now.entries l.step l.place) }
+    ensures lesson { IfOk result (λ l. IsLesson trail.now.variables clauses.now trail.now.entries l.step l.place) }
 {
-    let mut hints = resolve_down(alloc, store, trail, seen, conflict, floor, 1)?;
-    minimise(store, trail, seen, &mut hints, floor)?;
+    let mut hints = resolve_down(alloc, clauses, trail, seen, conflict, floor, 1)?;
+    minimise(clauses, trail, seen, &mut hints, floor)?;
     let literals = trail.marked_negations(alloc, seen)?;
     let start = trail.after_marked(seen, floor);
     let place = trail.decision_from(start, floor);
@@ -60,21 +59,21 @@ pub(crate) fn learn(
 /// The last step: with no decision on the trail a conflict gives the empty clause.
 pub(crate) fn refute(
     alloc: Global,
-    store: &Store,
+    clauses: &[Clause],
     trail: &Trail,
     seen: &mut [bool],
     conflict: u64,
 ) -> Result<Step, AllocError>
-    requires variables { trail.now.variables ≡ store.now.formula.variables }
+    requires clauses { are_clauses trail.now.variables clauses.now ≡ true }
     requires seen { length seen.old ≡ trail.now.variables }
-    requires sound { IsSound trail.now.variables (known store.now) trail.now.entries }
-    requires conflict { IsConflict (known store.now) (literals trail.now.entries) conflict }
+    requires sound { IsSound trail.now.variables clauses.now trail.now.entries }
+    requires conflict { IsConflict clauses.now (literals trail.now.entries) conflict }
     requires decisions { NoDecision trail.now.entries 0 (length trail.now.entries) }
     ensures empty { IfOk result (λ s. s.clause ≡ []) }
-    ensures derived { IfOk result (λ s. derives (known store.now) s.hints [] ≡ true) }
-    ensures regular { IfOk result (λ s. is_regular (known store.now) s.hints ≡ true) }
+    ensures derived { IfOk result (λ s. derives clauses.now s.hints [] ≡ true) }
+    ensures regular { IfOk result (λ s. is_regular clauses.now s.hints ≡ true) }
 {
-    let hints = resolve_down(alloc, store, trail, seen, conflict, 0, 0)?;
+    let hints = resolve_down(alloc, clauses, trail, seen, conflict, 0, 0)?;
     Ok(Step {
         clause: Clause::empty(alloc),
         hints: HintList::from_vec(hints),
@@ -85,20 +84,20 @@ pub(crate) fn refute(
 /// `floor` on are left. The marks then tell the variables of the resolvent.
 fn resolve_down(
     alloc: Global,
-    store: &Store,
+    clauses: &[Clause],
     trail: &Trail,
     seen: &mut [bool],
     conflict: u64,
     floor: usize,
     keep: usize,
 ) -> Result<Vec<Hint>, AllocError>
-    requires variables { trail.now.variables ≡ store.now.formula.variables }
+    requires clauses { are_clauses trail.now.variables clauses.now ≡ true }
     requires seen { length seen.old ≡ trail.now.variables }
-    requires sound { IsSound trail.now.variables (known store.now) trail.now.entries }
-    requires conflict { IsConflict (known store.now) (literals trail.now.entries) conflict }
+    requires sound { IsSound trail.now.variables clauses.now trail.now.entries }
+    requires conflict { IsConflict clauses.now (literals trail.now.entries) conflict }
     requires implied { NoDecision trail.now.entries (floor + keep) (length trail.now.entries) }
-    requires level { IsLevel (known store.now) (literals (take floor trail.now.entries)) keep }
-    ensures resolving { IfOk result (λ h. IsResolving (known store.now) trail.now.entries h.items seen.new) }
+    requires level { IsLevel clauses.now (literals (take floor trail.now.entries)) keep }
+    ensures resolving { IfOk result (λ h. IsResolving clauses.now trail.now.entries h.items seen.new) }
     ensures pivots { 0 < keep → IfOk result (λ h. HasPivotsFrom trail.now.entries floor h.items) }
     ensures count { IfOk result (λ _. count_seen seen.new (drop floor trail.now.entries) ≡ keep) }
     ensures len { IfOk result (λ _. length seen.new ≡ length seen.old) }
@@ -108,11 +107,11 @@ fn resolve_down(
         clause: conflict,
         pivot: 0,
     })?;
-    let mut count = mark_conflict(store, trail, seen, conflict, floor);
+    let mut count = mark_conflict(clauses, trail, seen, conflict, floor);
     let mut place = trail.len();
     while count > keep {
         place -= 1;
-        count = resolve_entry(store, trail, seen, &mut hints, place, floor, keep, count)?;
+        count = resolve_entry(clauses, trail, seen, &mut hints, place, floor, keep, count)?;
     }
     Ok(hints)
 }
@@ -121,45 +120,45 @@ fn resolve_down(
 /// 2009): one of an entry before `floor` whose reason has, besides it, only literals that are negated by marked
 /// entries. From the newest to the oldest, so that no reason holds the variable of an earlier pivot.
 fn minimise(
-    store: &Store,
+    clauses: &[Clause],
     trail: &Trail,
     seen: &mut [bool],
     hints: &mut Vec<Hint>,
     floor: usize,
 ) -> Result<(), AllocError>
-    requires variables { trail.now.variables ≡ store.now.formula.variables }
+    requires clauses { are_clauses trail.now.variables clauses.now ≡ true }
     requires seen { length seen.old ≡ trail.now.variables }
-    requires sound { IsSound trail.now.variables (known store.now) trail.now.entries }
+    requires sound { IsSound trail.now.variables clauses.now trail.now.entries }
     requires floor { floor ≤ length trail.now.entries }
-    requires resolving { IsResolving (known store.now) trail.now.entries hints.old.items seen.old }
+    requires resolving { IsResolving clauses.now trail.now.entries hints.old.items seen.old }
     requires pivots { HasPivotsFrom trail.now.entries floor hints.old.items }
-    ensures resolving { IfOk result (λ _. IsResolving (known store.now) trail.now.entries hints.new.items seen.new) }
+    ensures resolving { IfOk result (λ _. IsResolving clauses.now trail.now.entries hints.new.items seen.new) }
     ensures count { IfOk result (λ _. count_seen seen.new (drop floor trail.now.entries) ≡ count_seen seen.old (drop floor trail.now.entries)) }
     ensures len { IfOk result (λ _. length seen.new ≡ length seen.old) }
 {
     let mut place = floor;
     while place > 0 {
         place -= 1;
-        subsume(store, trail, seen, hints, place)?;
+        subsume(clauses, trail, seen, hints, place)?;
     }
     Ok(())
 }
 
 /// Takes the literal of the entry at the place off the clause of the marks, if its reason adds none.
 fn subsume(
-    store: &Store,
+    clauses: &[Clause],
     trail: &Trail,
     seen: &mut [bool],
     hints: &mut Vec<Hint>,
     place: usize,
 ) -> Result<(), AllocError>
-    requires variables { trail.now.variables ≡ store.now.formula.variables }
+    requires clauses { are_clauses trail.now.variables clauses.now ≡ true }
     requires seen { length seen.old ≡ trail.now.variables }
-    requires sound { IsSound trail.now.variables (known store.now) trail.now.entries }
+    requires sound { IsSound trail.now.variables clauses.now trail.now.entries }
     requires place { place < length trail.now.entries }
-    requires resolving { IsResolving (known store.now) trail.now.entries hints.old.items seen.old }
+    requires resolving { IsResolving clauses.now trail.now.entries hints.old.items seen.old }
     requires pivots { HasPivotsFrom trail.now.entries (place + 1) hints.old.items }
-    ensures resolving { IfOk result (λ _. IsResolving (known store.now) trail.now.entries hints.new.items seen.new) }
+    ensures resolving { IfOk result (λ _. IsResolving clauses.now trail.now.entries hints.new.items seen.new) }
     ensures pivots { IfOk result (λ _. HasPivotsFrom trail.now.entries place hints.new.items) }
     ensures count { IfOk result (λ _. (floor : ℕ) → place < floor → count_seen seen.new (drop floor trail.now.entries) ≡ count_seen seen.old (drop floor trail.now.entries)) }
     ensures len { IfOk result (λ _. length seen.new ≡ length seen.old) }
@@ -171,7 +170,7 @@ fn subsume(
     }
     match entry.reason {
         Some(number) => {
-            if !are_marked(seen, store.clause(number)) {
+            if !are_marked(seen, clause_of(clauses, number)) {
                 return Ok(());
             }
             hints.push(Hint {
@@ -199,28 +198,40 @@ fn is_marked(seen: &[bool], literal: Literal) -> bool
     seen.get(index).copied().unwrap_or(false)
 }
 
+/// The literals of the clause of the number.
+fn clause_of(clauses: &[Clause], number: u64) -> &[Literal]
+    ensures { result.now ≡ clause_at clauses.now number }
+{
+    let index = number.saturating_sub(1) as usize;
+    if index < clauses.len() {
+        clauses[index].as_slice()
+    } else {
+        &[]
+    }
+}
+
 /// Marks the variables of the false clause alone.
 fn mark_conflict(
-    store: &Store,
+    clauses: &[Clause],
     trail: &Trail,
     seen: &mut [bool],
     conflict: u64,
     floor: usize,
 ) -> usize
-    requires variables { trail.now.variables ≡ store.now.formula.variables }
+    requires clauses { are_clauses trail.now.variables clauses.now ≡ true }
     requires seen { length seen.old ≡ trail.now.variables }
     ensures count { result ≡ count_seen seen.new (drop floor trail.now.entries) }
     ensures len { length seen.new ≡ length seen.old }
-    ensures marks { (v : ℕ) → 1 ≤ v → is_seen seen.new v ≡ mentions (clause_at (known store.now) conflict) v }
+    ensures marks { (v : ℕ) → 1 ≤ v → is_seen seen.new v ≡ mentions (clause_at clauses.now conflict) v }
 {
     seen.fill(false);
-    mark_clause(trail, seen, store.clause(conflict), 0, floor, 0)
+    mark_clause(trail, seen, clause_of(clauses, conflict), 0, floor, 0)
 }
 
 /// Resolves with the reason of the entry at the place, if it is marked. The result is how many marked entries from
 /// `floor` on are left.
 fn resolve_entry(
-    store: &Store,
+    clauses: &[Clause],
     trail: &Trail,
     seen: &mut [bool],
     hints: &mut Vec<Hint>,
@@ -229,14 +240,14 @@ fn resolve_entry(
     keep: usize,
     count: usize,
 ) -> Result<usize, AllocError>
-    requires variables { trail.now.variables ≡ store.now.formula.variables }
-    requires sound { IsSound trail.now.variables (known store.now) trail.now.entries }
+    requires clauses { are_clauses trail.now.variables clauses.now ≡ true }
+    requires sound { IsSound trail.now.variables clauses.now trail.now.entries }
     requires implied { NoDecision trail.now.entries (floor + keep) (length trail.now.entries) }
     requires place { place < length trail.now.entries }
     requires floor { floor + keep ≤ place }
-    requires analysis { IsAnalysis trail.now.variables (known store.now) trail.now.entries floor keep (place + 1) count hints.old.items seen.old }
+    requires analysis { IsAnalysis trail.now.variables clauses.now trail.now.entries floor keep (place + 1) count hints.old.items seen.old }
     requires more { keep < count }
-    ensures analysis { IfOk result (λ n. IsAnalysis trail.now.variables (known store.now) trail.now.entries floor keep place n hints.new.items seen.new) }
+    ensures analysis { IfOk result (λ n. IsAnalysis trail.now.variables clauses.now trail.now.entries floor keep place n hints.new.items seen.new) }
 {
     let entry = trail.entry(place);
     if !seen[entry.literal.variable as usize - 1] {
@@ -248,7 +259,7 @@ fn resolve_entry(
                 clause: reason,
                 pivot: entry.literal.variable,
             })?;
-            Ok(resolve_at(store, trail, seen, place, reason, floor, count))
+            Ok(resolve_at(clauses, trail, seen, place, reason, floor, count))
         }
         None => Ok(count),
     }
@@ -256,7 +267,7 @@ fn resolve_entry(
 
 /// Marks what a resolution with the reason of the marked entry at the place gives.
 fn resolve_at(
-    store: &Store,
+    clauses: &[Clause],
     trail: &Trail,
     seen: &mut [bool],
     place: usize,
@@ -264,9 +275,9 @@ fn resolve_at(
     floor: usize,
     count: usize,
 ) -> usize
-    requires variables { trail.now.variables ≡ store.now.formula.variables }
+    requires clauses { are_clauses trail.now.variables clauses.now ≡ true }
     requires seen { length seen.old ≡ trail.now.variables }
-    requires sound { IsSound trail.now.variables (known store.now) trail.now.entries }
+    requires sound { IsSound trail.now.variables clauses.now trail.now.entries }
     requires place { place < length trail.now.entries }
     requires floor { floor ≤ place }
     requires reason { (entry_at trail.now.entries place).reason ≡ Some reason }
@@ -275,11 +286,18 @@ fn resolve_at(
     ensures count { result ≡ count_seen seen.new (drop floor trail.now.entries) }
     ensures fewer { count ≤ result + 1 }
     ensures len { length seen.new ≡ length seen.old }
-    ensures marks { Resolves (entry_at trail.now.entries place).literal.variable (clause_at (known store.now) reason) seen.old seen.new }
+    ensures marks { Resolves (entry_at trail.now.entries place).literal.variable (clause_at clauses.now reason) seen.old seen.new }
 {
     let pivot = trail.entry(place).literal.variable;
     seen[pivot as usize - 1] = false;
-    mark_clause(trail, seen, store.clause(reason), pivot, floor, count - 1)
+    mark_clause(
+        trail,
+        seen,
+        clause_of(clauses, reason),
+        pivot,
+        floor,
+        count - 1,
+    )
 }
 
 /// Marks the variables of the clause but for the pivot. The result is how many entries from `floor` on are marked,

@@ -14,7 +14,6 @@ pub mod replay;
 mod restarts;
 mod row;
 pub mod solve;
-mod store;
 mod table;
 mod trail;
 pub mod watched;

@@ -1,26 +1,26 @@
 // The solver: conflict-driven clause learning with a log of its resolutions.
-ghost use Rattle.std.specs.Prelude.{ℕ, ◌≡◌, ◌≤◌, ◌<◌, ◌+◌, ◌-◌, ◌^◌, [], IfOk, OnOk, IfSome, IfNone, IsTrue, IsNone, true, false, length};
+ghost use Rattle.std.specs.Prelude.{ℕ, ◌≡◌, ◌≤◌, ◌<◌, ◌+◌, ◌-◌, ◌++◌, ◌^◌, [], IfOk, OnOk, IfSome, IfNone, IsTrue, IsNone, true, false, length};
 ghost use Rattle.cdcl_proof.specs.Literal.{mentions};
 ghost use Rattle.cdcl_proof.specs.Clause.{is_among};
 ghost use Rattle.cdcl_proof.specs.Order.{Waits, KeepsWaiting};
-ghost use Rattle.cdcl_proof.specs.Replay.{derives};
+ghost use Rattle.cdcl_proof.specs.Replay.{derives, learnt};
 ghost use Rattle.cdcl_proof.specs.Regular.{is_regular};
 ghost use Rattle.cdcl_proof.specs.Fresh.{is_closed};
 ghost use Rattle.cdcl_proof.specs.Trail.{literals, entry_at, NoDecision, IsTotal};
-ghost use Rattle.cdcl_proof.specs.Store.{known};
+ghost use Rattle.cdcl_proof.specs.Store.{IsKept, steps_of};
 ghost use Rattle.cdcl_proof.specs.Propagation.{IsConflict, IsOutcome};
+ghost use Rattle.cdcl_proof.specs.Proof.{Refutes};
 ghost use Rattle.cdcl_proof.specs.Answer.{Answers, IsDecided, IsSatisfied};
 ghost use Rattle.cdcl_proof.specs.Search.{IsSearching, AllWait, WaitFrom, OthersWait};
 
 use crate::assignment::Assignment;
 use crate::clause::Clause;
 use crate::cnf::Cnf;
-use crate::learning::{learn, refute};
+use crate::learning::{Lesson, learn, refute};
 use crate::literal::Literal;
-use crate::log::{Log, Step};
+use crate::log::{HintList, Log, Step};
 use crate::order::Order;
 use crate::restarts::Restarts;
-use crate::store::Store;
 use crate::watched::Watched;
 use std::alloc::{AllocError, Global};
 
@@ -36,10 +36,10 @@ pub enum Answer {
 }
 
 /// Decides the formula by conflict-driven clause learning (Marques-Silva and Sakallah, GRASP, 1996; the activity
-/// order after Moskewicz et al., Chaff, 2001), learning at most `budget` clauses. The only error is want of memory.
+/// order after Moskewicz et al., Chaff, 2001), learning at most `budget` clauses. The only error is running out of memory.
 ///
-/// Nothing is taken out of the log, so memory grows with it: 40 bytes for each literal of a learnt clause (16 in the
-/// log, 24 to propagate with) and 16 for each hint, besides about 150 for the clause itself.
+/// Nothing is taken out of the log, so memory grows with it: 24 bytes for each literal of a learnt clause (16 in the
+/// log, 8 to propagate with) and 16 for each hint, besides about 150 for the clause itself.
 pub fn solve(alloc: Global, cnf: &Cnf, budget: u64) -> Result<Answer, AllocError>
     requires { 1 ≤ budget }
     ensures answers { IfOk result (Answers cnf.now budget) }
@@ -51,14 +51,14 @@ pub fn solve(alloc: Global, cnf: &Cnf, budget: u64) -> Result<Answer, AllocError
             Some(conflict) => match search.watched.trail().last_decision() {
                 Some(floor) => {
                     search.meet_conflict(alloc, conflict, floor)?;
-                    if search.store.learnt_count() == budget {
-                        return Ok(Answer::Spent(Log::from_vec(search.store.into_steps())));
+                    if search.chains.len() as u64 == budget {
+                        return Ok(Answer::Spent(Log::from_vec(search.into_steps(alloc)?)));
                     }
                     search.rest()?;
                 }
                 None => {
                     let step = search.refute(alloc, conflict)?;
-                    return Ok(Answer::Refuted(search.store.ended_by(step)?));
+                    return Ok(Answer::Refuted(search.ended_by(alloc, step)?));
                 }
             },
             None => {
@@ -74,8 +74,9 @@ pub fn solve(alloc: Global, cnf: &Cnf, budget: u64) -> Result<Answer, AllocError
 /// marks for the analysis of a conflict.
 #[derive(Drop)]
 pub(crate) struct Search<'a> {
-    store: Store<'a>,
+    cnf: &'a Cnf,
     watched: Watched,
+    chains: Vec<HintList>,
     order: Order,
     phases: Vec<bool>,
     restarts: Restarts,
@@ -86,15 +87,17 @@ impl<'a> Search<'a> {
     fn new(alloc: Global, cnf: &'a Cnf) -> Result<Search<'a>, AllocError>
         ensures searching { IfOk result IsSearching }
         ensures waiting { IfOk result AllWait }
-        ensures formula { IfOk result (λ s. s.store ≡ record { formula = cnf.now; steps = [] }) }
+        ensures formula { IfOk result (λ s. s.cnf.now ≡ cnf.now) }
+        ensures none { IfOk result (λ s. s.chains.items ≡ []) }
     {
         let variables = cnf.variables();
         if variables >= 0x8000_0000 {
             return Err(AllocError);
         }
         Ok(Search {
-            store: Store::new(alloc, cnf),
+            cnf,
             watched: Watched::new(alloc, cnf)?,
+            chains: Vec::new(alloc),
             order: Order::new(alloc, variables)?,
             phases: vec![in alloc; false; variables as usize]?,
             restarts: Restarts::new(),
@@ -107,9 +110,10 @@ impl<'a> Search<'a> {
         requires { IsSearching self.old }
         ensures searching { IfOk result (λ _. IsSearching self.new) }
         ensures waiting { AllWait self.old → IfOk result (λ _. AllWait self.new) }
-        ensures store { IfOk result (λ _. self.new.store ≡ self.old.store) }
+        ensures formula { IfOk result (λ _. self.new.cnf.now ≡ self.old.cnf.now) }
+        ensures chains { IfOk result (λ _. self.new.chains ≡ self.old.chains) }
         ensures longer { IfOk result (λ _. length self.old.watched.entries ≤ length self.new.watched.entries) }
-        ensures outcome { IfOk result (IsOutcome (known self.new.store) (literals self.new.watched.entries)) }
+        ensures outcome { IfOk result (IsOutcome self.new.watched.clauses (literals self.new.watched.entries)) }
     {
         let conflict = self.watched.propagate()?;
         Ok(conflict)
@@ -124,29 +128,30 @@ impl<'a> Search<'a> {
     ) -> Result<(), AllocError>
         requires searching { IsSearching self.old }
         requires waiting { AllWait self.old }
-        requires conflict { IsConflict (known self.old.store) (literals self.old.watched.entries) conflict }
+        requires conflict { IsConflict self.old.watched.clauses (literals self.old.watched.entries) conflict }
         requires floor { floor < length self.old.watched.entries }
         requires decision { IsNone (entry_at self.old.watched.entries floor).reason }
         requires newest { NoDecision self.old.watched.entries (floor + 1) (length self.old.watched.entries) }
         ensures searching { IfOk result (λ _. IsSearching self.new) }
         ensures waiting { IfOk result (λ _. AllWait self.new) }
-        ensures formula { IfOk result (λ _. self.new.store.formula ≡ self.old.store.formula) }
-        ensures learnt { IfOk result (λ _. length self.new.store.steps ≡ length self.old.store.steps + 1) }
+        ensures formula { IfOk result (λ _. self.new.cnf.now ≡ self.old.cnf.now) }
+        ensures learnt { IfOk result (λ _. length self.new.chains.items ≡ length self.old.chains.items + 1) }
     {
         let lesson = learn(
             alloc,
-            &self.store,
+            self.watched.clauses(),
             self.watched.trail(),
             &mut self.seen,
             conflict,
             floor,
         )?;
-        self.order.lift_all(lesson.step.clause.as_slice());
-        self.release(lesson.place)?;
-        self.watched.back_to(lesson.place as u64);
-        let clause = Clause::copy(alloc, &lesson.step.clause)?;
-        self.store.push(lesson.step)?;
+        let Lesson { step, place } = lesson;
+        let Step { clause, hints } = step;
+        self.order.lift_all(clause.as_slice());
+        self.release(place)?;
+        self.watched.back_to(place as u64);
         self.watched.learn(clause)?;
+        self.chains.push(hints)?;
         Ok(())
     }
 
@@ -156,7 +161,8 @@ impl<'a> Search<'a> {
         requires waiting { AllWait self.old }
         ensures searching { IfOk result (λ _. IsSearching self.new) }
         ensures waiting { IfOk result (λ _. AllWait self.new) }
-        ensures store { self.new.store ≡ self.old.store }
+        ensures formula { self.new.cnf.now ≡ self.old.cnf.now }
+        ensures chains { self.new.chains ≡ self.old.chains }
     {
         if !self.restarts.is_due() {
             return Ok(());
@@ -175,16 +181,19 @@ impl<'a> Search<'a> {
     /// The step that ends a refutation: no decision is left to take back.
     fn refute(&mut self, alloc: Global, conflict: u64) -> Result<Step, AllocError>
         requires searching { IsSearching self.old }
-        requires conflict { IsConflict (known self.old.store) (literals self.old.watched.entries) conflict }
+        requires conflict { IsConflict self.old.watched.clauses (literals self.old.watched.entries) conflict }
         requires decisions { NoDecision self.old.watched.entries 0 (length self.old.watched.entries) }
-        ensures store { self.new.store ≡ self.old.store }
+        ensures searching { IsSearching self.new }
+        ensures watched { self.new.watched ≡ self.old.watched }
+        ensures formula { self.new.cnf.now ≡ self.old.cnf.now }
+        ensures chains { self.new.chains ≡ self.old.chains }
         ensures empty { IfOk result (λ s. s.clause ≡ []) }
-        ensures derived { IfOk result (λ s. derives (known self.old.store) s.hints [] ≡ true) }
-        ensures regular { IfOk result (λ s. is_regular (known self.old.store) s.hints ≡ true) }
+        ensures derived { IfOk result (λ s. derives self.old.watched.clauses s.hints [] ≡ true) }
+        ensures regular { IfOk result (λ s. is_regular self.old.watched.clauses s.hints ≡ true) }
     {
         refute(
             alloc,
-            &self.store,
+            self.watched.clauses(),
             self.watched.trail(),
             &mut self.seen,
             conflict,
@@ -197,7 +206,8 @@ impl<'a> Search<'a> {
         requires waiting { AllWait self.old }
         requires place { place ≤ length self.old.watched.entries }
         ensures searching { IsSearching self.new }
-        ensures store { self.new.store ≡ self.old.store }
+        ensures formula { self.new.cnf.now ≡ self.old.cnf.now }
+        ensures chains { self.new.chains ≡ self.old.chains }
         ensures watched { self.new.watched ≡ self.old.watched }
         ensures waiting { OnOk result (WaitFrom self.new place) }
     {
@@ -213,7 +223,8 @@ impl<'a> Search<'a> {
         requires searching { IsSearching self.old }
         requires among { is_among self.old.watched.variables literal ≡ true }
         ensures searching { IsSearching self.new }
-        ensures store { self.new.store ≡ self.old.store }
+        ensures formula { self.new.cnf.now ≡ self.old.cnf.now }
+        ensures chains { self.new.chains ≡ self.old.chains }
         ensures watched { self.new.watched ≡ self.old.watched }
         ensures waits { OnOk result (Waits self.new.order.heap.items literal.variable) }
         ensures kept { KeepsWaiting self.old.order.heap.items self.new.order.heap.items }
@@ -228,10 +239,11 @@ impl<'a> Search<'a> {
     fn decide(&mut self) -> bool
         requires searching { IsSearching self.old }
         requires waiting { AllWait self.old }
-        requires closed { is_closed (literals self.old.watched.entries) (known self.old.store) ≡ true }
+        requires closed { is_closed (literals self.old.watched.entries) self.old.watched.clauses ≡ true }
         ensures searching { IsSearching self.new }
         ensures waiting { AllWait self.new }
-        ensures store { self.new.store ≡ self.old.store }
+        ensures formula { self.new.cnf.now ≡ self.old.cnf.now }
+        ensures chains { self.new.chains ≡ self.old.chains }
         ensures longer { IsTrue result → length self.new.watched.entries ≡ length self.old.watched.entries + 1 }
         ensures room { IsTrue result → length self.new.watched.entries ≤ self.new.watched.variables }
         ensures same { result ≡ false → self.new.watched ≡ self.old.watched }
@@ -252,7 +264,8 @@ impl<'a> Search<'a> {
         requires searching { IsSearching self.old }
         requires waiting { AllWait self.old }
         ensures searching { IsSearching self.new }
-        ensures store { self.new.store ≡ self.old.store }
+        ensures formula { self.new.cnf.now ≡ self.old.cnf.now }
+        ensures chains { self.new.chains ≡ self.old.chains }
         ensures watched { self.new.watched ≡ self.old.watched }
         ensures some { IfSome result (λ v. (1 ≤ v) × (v ≤ self.new.watched.variables) × (mentions (literals self.new.watched.entries) v ≡ false)) }
         ensures others { IfSome result (OthersWait self.new) }
@@ -269,10 +282,65 @@ impl<'a> Search<'a> {
     /// The assignment of a trail that has a value for each variable.
     fn satisfied(self, alloc: Global) -> Result<Answer, AllocError>
         requires searching { IsSearching self }
-        requires closed { is_closed (literals self.watched.entries) (known self.store) ≡ true }
+        requires closed { is_closed (literals self.watched.entries) self.watched.clauses ≡ true }
         requires total { IsTotal self.watched.variables (literals self.watched.entries) }
-        ensures { IfOk result (IsSatisfied self.entry.store.formula) }
+        ensures { IfOk result (IsSatisfied self.entry.cnf.now) }
     {
         Ok(Answer::Satisfied(Assignment::from_vec(self.watched.trail().values(alloc)?)))
     }
+    /// The learnt clauses with their resolutions.
+    fn into_steps(self, alloc: Global) -> Result<Vec<Step>, AllocError>
+        requires { IsSearching self }
+        ensures kept { IfOk result (λ s. IsKept self.entry.cnf.now s.items) }
+        ensures len { IfOk result (λ s. length s.items ≡ length self.entry.chains.items) }
+        ensures clauses { IfOk result (λ s. self.entry.watched.clauses ≡ self.entry.cnf.now.clauses ++ learnt s.items) }
+    {
+        let Search {
+            cnf,
+            watched,
+            chains,
+            order: _,
+            phases: _,
+            restarts: _,
+            seen: _,
+        } = self;
+        let mut clauses = watched.into_clauses();
+        let learnt = clauses.split_off(cnf.clauses().len())?;
+        let steps = steps_of(alloc, learnt, chains)?;
+        Ok(steps)
+    }
+
+    /// The log that ends in a step of the empty clause.
+    fn ended_by(self, alloc: Global, step: Step) -> Result<Log, AllocError>
+        requires searching { IsSearching self }
+        requires derived { derives self.watched.clauses step.hints step.clause ≡ true }
+        requires regular { is_regular self.watched.clauses step.hints ≡ true }
+        requires empty { step.clause ≡ [] }
+        ensures { IfOk result (Refutes self.entry.cnf.now) }
+    {
+        let mut steps = self.into_steps(alloc)?;
+        steps.push(step)?;
+        Ok(Log::from_vec(steps))
+    }
+}
+
+/// The steps of the clauses with the chains that give them.
+fn steps_of(
+    alloc: Global,
+    clauses: Vec<Clause>,
+    chains: Vec<HintList>,
+) -> Result<Vec<Step>, AllocError>
+    requires { length clauses.items ≡ length chains.items }
+    ensures { IfOk result (λ s. s.items ≡ steps_of chains.items clauses.items) }
+{
+    let mut clauses = clauses;
+    let mut chains = chains;
+    let mut steps = Vec::with_capacity(alloc, chains.len())?;
+    while let Some(hints) = chains.pop() {
+        if let Some(clause) = clauses.pop() {
+            steps.push(Step { clause, hints })?;
+        }
+    }
+    steps.reverse();
+    Ok(steps)
 }

@@ -146,9 +146,18 @@ impl Watched {
 
     /// The clauses in order: clause number 1 comes first.
     pub fn clauses(&self) -> &[Clause]
-        ensures { result.now ≡ self.now.clauses }
+        ensures clauses { result.now ≡ self.now.clauses }
+        ensures within { are_clauses self.now.variables self.now.clauses ≡ true }
     {
         &self.watcher.table.clauses
+    }
+
+    /// The clauses in order, with no copy.
+    pub fn into_clauses(self) -> Vec<Clause>
+        ensures { result.items ≡ self.clauses }
+    {
+        let Watched { watcher } = self;
+        watcher.into_clauses()
     }
 }
 

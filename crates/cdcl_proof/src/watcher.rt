@@ -308,6 +308,13 @@ impl Watcher {
         }
     }
 
+    /// The clauses, with no copy.
+    pub(crate) fn into_clauses(self) -> Vec<Clause>
+        ensures { result.items ≡ self.table.clauses.items }
+    {
+        self.table.clauses
+    }
+
     /// Adds a clause.
     pub(crate) fn add_clause(&mut self, clause: Clause) -> Result<(), AllocError>
         requires watching { IsWatching self.old }

@@ -1,7 +1,6 @@
-use Rattle.cdcl_proof.specs.Store.{known}
 use Rattle.cdcl_proof.proofs.Lessons.{refuted}
 use Rattle.cdcl_proof.proofs.learning.refute.Goals as goal
 
 pub returns-clause-derived : goal.returns-clause-derived
 returns-clause-derived c =
-    rw c.from_vec.ensures (refuted (known c.args.store.now) c.args.trail.now.entries c.in_ok-hints.hints.items c.resolve_down.new.seen c.in_ok-hints.ensures.resolving c.in_ok-hints.ensures.count)
+    rw c.from_vec.ensures (refuted c.args.clauses.now c.args.trail.now.entries c.in_ok-hints.hints.items c.resolve_down.new.seen c.in_ok-hints.ensures.resolving c.in_ok-hints.ensures.count)

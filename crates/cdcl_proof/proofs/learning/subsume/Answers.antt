@@ -2,7 +2,6 @@ use Rattle.std.proofs.Common.{◌≡◌, List, true, ap, ◌∙◌, sym, subst}
 use Rattle.std.specs.List.{list_all}
 use Rattle.cdcl_proof.specs.declared.literal.Literal.{Literal}
 use Rattle.cdcl_proof.specs.declared.trail.Entry.{Entry}
-use Rattle.cdcl_proof.specs.Store.{known}
 use Rattle.cdcl_proof.specs.Learning.{is_seen_entry, is_seen_literal}
 use Rattle.cdcl_proof.proofs.Regularity.{pivots_later, pivots_more}
 use Rattle.cdcl_proof.proofs.Marking.{count_seen-before}
@@ -14,8 +13,8 @@ returns-in_ok-push-in-Some-clause-resolving c =
     let at = c.entry-entry.ensures.entry in
     let why = ap (λ (e : Entry). e.reason) (sym at) ∙ c.in-Some.is in
     let marked = subst (λ (e : Entry). is_seen_entry c.args.seen.now e ≡ true) at c.if-not-seen-pivot.false in
-    let all = subst (λ (xs : List Literal). list_all (is_seen_literal c.args.seen.now) xs ≡ true) c.clause.ensures.literals (sym c.are_marked.ensures ∙ c.if-not-are_marked.false) in
-    let less = subsumed c.args.trail.now.variables (known c.args.store.now) c.args.trail.now.entries c.requires.sound c.entry-entry.ensures.apart c.args.place c.in-Some.number c.requires.place why c.args.hints.now.items c.args.seen.now c.requires.seen marked all c.requires.resolving c.requires.pivots in
+    let all = subst (λ (xs : List Literal). list_all (is_seen_literal c.args.seen.now) xs ≡ true) c.clause_of.ensures (sym c.are_marked.ensures ∙ c.if-not-are_marked.false) in
+    let less = subsumed c.args.trail.now.variables c.args.clauses.now c.args.trail.now.entries c.requires.sound c.entry-entry.ensures.apart c.args.place c.in-Some.number c.requires.place why c.args.hints.now.items c.args.seen.now c.requires.seen marked all c.requires.resolving c.requires.pivots in
     rw (c.in_ok-push-in-Some.ensures.items, at) less
 
 pub returns-in_ok-push-in-Some-clause-pivots : goal.returns-in_ok-push-in-Some-clause-pivots

@@ -5,7 +5,8 @@ use Rattle.cdcl_proof.proofs.solve.Search.open_variable.Given as goal
 abbrev pub invariant-loop-variable : goal.invariant-loop-variable
 invariant-loop-variable l = record {
   searching : IsSearching l.self;
-  store : l.self.store ≡ l.fn.self.store;
+  formula : l.self.cnf.now ≡ l.fn.self.cnf.now;
+  chains : l.self.chains ≡ l.fn.self.chains;
   watched : l.self.watched ≡ l.fn.self.watched;
   waiting : AllWait l.self;
 }

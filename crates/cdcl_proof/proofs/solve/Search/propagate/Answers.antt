@@ -1,11 +1,8 @@
 use Rattle.std.proofs.Common.{ℕ, true, ◌≡◌, ◌⊎◌, inl, inr, List, subst, sym, ◌∙◌, arith}
 use Rattle.cdcl_proof.specs.declared.literal.Literal.{Literal}
-use Rattle.cdcl_proof.specs.Formula.{are_clauses}
 use Rattle.cdcl_proof.specs.Literal.{mentions}
 use Rattle.cdcl_proof.specs.Trail.{IsSound, literals}
 use Rattle.cdcl_proof.specs.Order.{IsOrder, Waits}
-use Rattle.cdcl_proof.specs.Store.{known}
-use Rattle.cdcl_proof.specs.Watching.{Propagates}
 use Rattle.cdcl_proof.proofs.Adding.{sound_propagates, mentions_kept}
 use Rattle.cdcl_proof.proofs.solve.Search.propagate.Goals as goal
 
@@ -13,14 +10,13 @@ pub returns-clause-searching : goal.returns-clause-searching
 returns-clause-searching c =
     let e = c.in_ok-conflict.ensures in
     let s = c.requires in
-    let same_clauses : c.propagate.new.self.clauses ≡ known c.args.self.now.store = e.clauses ∙ s.clauses in
-    let within : are_clauses c.args.self.now.watched.variables (known c.args.self.now.store) ≡ true = subst (λ (n : ℕ). are_clauses n (known c.args.self.now.store) ≡ true) e.variables (subst (λ (cs : List (List Literal)). are_clauses c.propagate.new.self.variables cs ≡ true) same_clauses e.within) in
-    let adds : Propagates (known c.args.self.now.store) c.args.self.now.watched.entries c.propagate.new.self.entries = subst (λ (cs : List (List Literal)). Propagates cs c.args.self.now.watched.entries c.propagate.new.self.entries) same_clauses e.propagates in
-    let sound = sound_propagates c.args.self.now.watched.variables (known c.args.self.now.store) c.args.self.now.watched.entries c.propagate.new.self.entries within s.sound adds in
+    let old = c.args.self.now.watched in
+    let new = c.propagate.new.self in
+    let sound = sound_propagates new.variables new.clauses old.entries new.entries e.within (subst (λ (n : ℕ). IsSound n new.clauses old.entries) (sym e.variables) (subst (λ (cs : List (List Literal)). IsSound old.variables cs old.entries) (sym e.clauses) s.sound)) e.propagates in
     record {
       variables = e.variables ∙ s.variables;
-      clauses = same_clauses;
-      sound = subst (λ (n : ℕ). IsSound n (known c.args.self.now.store) c.propagate.new.self.entries) (sym e.variables) sound;
+      logged = rw e.clauses s.logged;
+      sound = sound;
       seen = s.seen ∙ sym e.variables;
       order = subst (λ (n : ℕ). IsOrder n c.args.self.now.order) (sym e.variables) s.order;
       phases = s.phases ∙ sym e.variables;

@@ -12,7 +12,8 @@ use Rattle.cdcl_proof.proofs.solve.Search.release.Goals as goal
 pub loop-index-init : goal.loop-index-init
 loop-index-init c = record {
   searching = c.requires.searching;
-  store = refl;
+  formula = refl;
+  chains = refl;
   watched = refl;
   waiting = λ v low high. elim (c.requires.waiting v low high) as (λ _. Waits c.args.self.now.order.heap.items v ⊎ ((k : ℕ) × (k < length c.args.self.now.watched.entries) × ((k < c.args.place) ⊎ (c.args.place ≤ k)) × ((entry_at c.args.self.now.watched.entries k).literal.variable ≡ v))) [
     | inl w ↦ inl w
@@ -27,7 +28,8 @@ loop-index-preserved c =
     let entry : c.entry-entry.result ≡ entry_at c.loop-index.self.watched.entries c.loop-index.index = c.entry-entry.ensures.entry ∙ ap (λ (p : Path). entry_at p.entries c.loop-index.index) c.trail-in-loop-index.ensures in
     record {
       searching = e.searching;
-      store = e.store ∙ i.store;
+      formula = e.formula ∙ i.formula;
+      chains = e.chains ∙ i.chains;
       watched = e.watched ∙ i.watched;
       waiting = λ v low high. elim (i.waiting v low (subst (λ (w : Watching). v ≤ w.variables) e.watched high)) as (λ _. Waits c.release_variable.new.self.order.heap.items v ⊎ ((k : ℕ) × (k < length c.release_variable.new.self.watched.entries) × ((k < c.args.place) ⊎ (c.loop-index.index + 1 ≤ k)) × ((entry_at c.release_variable.new.self.watched.entries k).literal.variable ≡ v))) [
         | inl w ↦ inl (e.kept v w)

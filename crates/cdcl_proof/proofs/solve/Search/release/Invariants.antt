@@ -7,7 +7,8 @@ use Rattle.cdcl_proof.proofs.solve.Search.release.Given as goal
 abbrev pub invariant-loop-index : goal.invariant-loop-index
 invariant-loop-index l = record {
   searching : IsSearching l.self;
-  store : l.self.store ≡ l.fn.self.store;
+  formula : l.self.cnf.now ≡ l.fn.self.cnf.now;
+  chains : l.self.chains ≡ l.fn.self.chains;
   watched : l.self.watched ≡ l.fn.self.watched;
   waiting : (v : ℕ) → 1 ≤ v → v ≤ l.self.watched.variables → Waits l.self.order.heap.items v ⊎ ((k : ℕ) × (k < length l.self.watched.entries) × ((k < l.place) ⊎ (l.index ≤ k)) × ((entry_at l.self.watched.entries k).literal.variable ≡ v));
 }

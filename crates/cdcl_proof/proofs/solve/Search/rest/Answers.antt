@@ -1,5 +1,4 @@
 use Rattle.std.proofs.Common.{◌≤◌, length, ap, arith}
-use Rattle.cdcl_proof.specs.Store.{known}
 use Rattle.cdcl_proof.specs.Trail.{Path}
 use Rattle.cdcl_proof.specs.Watching.{Watching}
 use Rattle.cdcl_proof.proofs.Sound.{sound_take}
@@ -14,8 +13,8 @@ returns-in_ok-release-in-Some-clause-searching c =
     let last = c.in-Some.ensures.decision.0 in
     let first = c.decision_from-first.ensures.last in
     let short : c.decision_from-first.result ≤ length c.release.new.self.watched.entries = omega (arith, held, same, last, first) in
-    let sound = sound_take c.release.new.self.watched.variables (known c.release.new.self.store) c.release.new.self.watched.entries c.decision_from-first.result short r.sound in
-    rw c.back_to.ensures (record { variables = r.variables; clauses = r.clauses; sound = sound; seen = r.seen; order = r.order; phases = r.phases })
+    let sound = sound_take c.release.new.self.watched.variables c.release.new.self.watched.clauses c.release.new.self.watched.entries c.decision_from-first.result short r.sound in
+    rw c.back_to.ensures (record { variables = r.variables; logged = r.logged; sound = sound; seen = r.seen; order = r.order; phases = r.phases })
 
 pub returns-in_ok-release-in-Some-clause-waiting : goal.returns-in_ok-release-in-Some-clause-waiting
 returns-in_ok-release-in-Some-clause-waiting c = rw c.back_to.ensures c.in_ok-release-in-Some.ensures.waiting
