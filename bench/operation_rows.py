@@ -1,19 +1,20 @@
 #!/usr/bin/env python3
 """How many places name an operation.
 
-usage: python3 bench/operation_rows.py [FOLDER]     (FOLDER: a checkout, by default this one)
+usage: python3 bench/operation_rows.py [FOLDER] [-v]     (FOLDER: a checkout, by default this one)
 
 For each of three operations (a shift, the comparison, one of structs) it counts the files and the rows that name it, in
 code (src/*.rt), definitions (specs/*.antt) and proofs (proofs/**/*.antt). A row is a line that is no comment and no import
-(`use`); crates of tests, of examples and of words (`bits_core`, whose calls have the operations' names) do not count. Beside
-each number of rows stands how many of them do more than list the operation or give its name: neither a line of an enum or
-of a data type, nor one of the crate `opcode`.
+(`use`). Tests do not count: crates of tests and of examples, and files of computed examples; nor does `bits_core`, whose calls
+have the operations' names. Beside each number of rows stands how many of them do more than list the operation or give its
+name: neither a line of an enum or of a data type, nor one of the crate `opcode`. With -v these are printed.
 """
 import os
 import re
 import sys
 
-TOP = sys.argv[1] if len(sys.argv) > 1 else os.path.join(os.path.dirname(os.path.abspath(__file__)), "..")
+FOLDERS = [word for word in sys.argv[1:] if not word.startswith("-")]
+TOP = FOLDERS[0] if FOLDERS else os.path.join(os.path.dirname(os.path.abspath(__file__)), "..")
 
 # what names each operation: in code, in definitions, in texts
 OPERATIONS = {
@@ -24,6 +25,10 @@ OPERATIONS = {
 
 # a line that only lists names: a variant, constructors of a data type, an entry of a list of opcodes
 LISTED = re.compile(r"^\s*(\w+(\([^)]*\))?,|[a-z_ ]+ : [A-Z]\w*( → [A-Z]\w*)*|\w+ : .* → \w+|Listed::\w+,)$")
+
+
+# files of computed examples
+EXAMPLES = re.compile(r"Sample|Example|hw_model/proofs/(Values|Opcodes)\.antt$")
 
 
 def is_counted(crate):
@@ -38,8 +43,9 @@ def files():
         for part, ending in (("src", ".rt"), ("specs", ".antt"), ("proofs", ".antt")):
             for folder, _, names in os.walk(os.path.join(crates, crate, part)):
                 for name in sorted(names):
-                    if name.endswith(ending):
-                        yield crate, part, os.path.join(folder, name)
+                    path = os.path.join(folder, name)
+                    if name.endswith(ending) and not EXAMPLES.search(path):
+                        yield crate, part, path
 
 
 def rows(path):

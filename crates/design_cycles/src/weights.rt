@@ -4,9 +4,11 @@ ghost use Rattle.std.specs.Option.{option_map};
 ghost use Rattle.design_cycles.specs.Sizes.{length_of, leaves_of};
 ghost use Rattle.hw_model.specs.TypeViews.{type_of};
 ghost use Rattle.hw_model.specs.KindViews.{kind_of, literal_of, literals_in, reset_of};
+ghost use Rattle.hw_model.specs.FamilyViews.{family_of, array_op_of, register_op_of};
 ghost use Rattle.hw_model.specs.Value.{written};
-ghost use Rattle.hw_model.specs.Weight.{leaf_count, literal_leaves as leaves_of_literal, literals_leaves as leaves_of_literals, element_count, element_leaves, choice_weight, reset_weight, kind_weight};
+ghost use Rattle.hw_model.specs.Weight.{leaf_count, literal_leaves as leaves_of_literal, literals_leaves as leaves_of_literals, element_count, element_leaves, choice_weight, reset_weight, array_weight, register_weight, kind_weight};
 
+use hw_model::families::{ArrayOp, Family, RegisterOp};
 use hw_model::kinds::{Literal, LiteralList, OpKind, Reset};
 use hw_model::types::Ty;
 
@@ -15,20 +17,47 @@ use hw_model::types::Ty;
 pub(crate) fn op_weight(kind: &OpKind, types: &[Ty], operands: usize, inner: u64) -> u64
     ensures { result ≡ min (kind_weight (λ _. inner) (kind_of kind.now) (map type_of types.now) operands) u64.MAX }
 {
-    match kind {
-        OpKind::Constant(_) => 1,
-        OpKind::AggregateConstant(list) => literals_leaves(list),
-        OpKind::Mux => leaves_in(types).saturating_mul(4),
-        OpKind::ArrayGet => choice(types, 1),
-        OpKind::ArraySlice => choice(types, array_length(type_at(types, 1))),
-        OpKind::ArrayInject => injection(types),
-        OpKind::Bitcast => leaves_in(types).saturating_mul(4).saturating_add(1),
-        OpKind::Wire => leaves_in(types).saturating_mul(2),
-        OpKind::Instance(_) => leaves_in(types).saturating_add(1).saturating_add(inner),
-        OpKind::Output => leaves_in(types).saturating_add(1),
-        OpKind::CompReg(reset) | OpKind::FirReg(reset) => register(types, 3, *reset),
-        OpKind::CompRegCe(reset) => register(types, 7, *reset),
+    family_weight(kind.family(), types, operands, inner)
+}
+
+/// The same, by the family.
+fn family_weight(family: Family<'_>, types: &[Ty], operands: usize, inner: u64) -> u64
+    ensures { result ≡ min (kind_weight (λ _. inner) (family_of family.entry) (map type_of types.now) operands) u64.MAX }
+{
+    match family {
+        Family::Constant(_) => 1,
+        Family::AggregateConstant(list) => literals_leaves(list),
+        Family::Mux => leaves_in(types).saturating_mul(4),
+        Family::Array(op) => array_weight(op, types, operands),
+        Family::Bitcast => leaves_in(types).saturating_mul(4).saturating_add(1),
+        Family::Wire => leaves_in(types).saturating_mul(2),
+        Family::Instance(_) => leaves_in(types).saturating_add(1).saturating_add(inner),
+        Family::Output => leaves_in(types).saturating_add(1),
+        Family::Register(op, reset) => register(types, register_weight(op), reset),
         _ => (operands as u64).saturating_add(1),
+    }
+}
+
+/// The weight of an operation on arrays, or `u64::MAX` where it is more.
+fn array_weight(op: ArrayOp, types: &[Ty], operands: usize) -> u64
+    ensures { result ≡ min (array_weight (array_op_of op) (map type_of types.now) operands) u64.MAX }
+{
+    match op {
+        ArrayOp::Get => choice(types, 1),
+        ArrayOp::Slice => choice(types, array_length(type_at(types, 1))),
+        ArrayOp::Inject => injection(types),
+        ArrayOp::Create | ArrayOp::Concat => (operands as u64).saturating_add(1),
+    }
+}
+
+/// The weight of a register for each leaf, without its reset.
+fn register_weight(op: RegisterOp) -> u64
+    ensures weight { result ≡ register_weight (register_op_of op) }
+    ensures most { result ≤ 7 }
+{
+    match op {
+        RegisterOp::CompReg | RegisterOp::FirReg => 3,
+        RegisterOp::CompRegCe => 7,
     }
 }
 

@@ -3,6 +3,7 @@
 ghost use Rattle.std.specs.Prelude.{◌≡◌, ◌∷◌, [], true, map, length, IfOk, is_some, option_map, slice_index_or, None};
 ghost use Rattle.hw_model.specs.TypeViews.{type_of};
 ghost use Rattle.hw_model.specs.FamilyViews.{family_of};
+ghost use Rattle.hw_model.specs.KindViews.{kind_of};
 ghost use Rattle.ir_store.specs.ResultTypes.{result_type, result_types};
 ghost use Rattle.op_verifier.specs.TypeLists.{settled};
 

@@ -96,11 +96,11 @@ module _ (b : Body) (ids : List OpId) (all : ids ≡ map op_id (ids_of b)) (j : 
       let same : Some there.0 ≡ Some (read_op (get_or ids j (op_id 0)) o) = sym once ∙ ap (op_at (ops_of b)) (sym index) ∙ found in
       slice_get-map (op_by (position_of (ids_of b))) (ops_of b) j ∙ ap (option_map (op_by (position_of (ids_of b)))) (there.1 ∙ same)
 
-  pub position_at : position_of (ids_of b) (get_or ids j (op_id 0)).index ≡ j
-  position_at =
+  pub position_at : (d : OpId) → position_of (ids_of b) (get_or ids j d).index ≡ j
+  position_at d =
       let same = ids_same ids (ids_of b) all in
-      let there : slice_get (ids_of b) j ≡ Some (get_or ids j (op_id 0)).index = sym (ap (λ (l : List ℕ). slice_get l j) same) ∙ index_at ids j (op_id 0) within in
-      position_found (ids_of b) (get_or ids j (op_id 0)).index j (ids_once b) there
+      let there : slice_get (ids_of b) j ≡ Some (get_or ids j d).index = sym (ap (λ (l : List ℕ). slice_get l j) same) ∙ index_at ids j d within in
+      position_found (ids_of b) (get_or ids j d).index j (ids_once b (get_or ids j d).index) there
 
 -- as many ids as operations
 pub ids_numbered : (b : Body) (ids : List OpId) → ids ≡ map op_id (ids_of b) → length ids ≡ length (numbered (ops_of b))

@@ -126,6 +126,14 @@ impl<'m> Scope<'m> {
     pub fn width(&self, value: Value) -> u64
         ensures { result ≡ value_width (scope_ports self.now) (scope_ops self.now) (scope_ref self.now value) }
     {
+        self.small_width(value)
+    }
+
+    // The bits of a value, where no value has more than 128.
+    fn small_width(&self, value: Value) -> u64
+        requires { AreSmall (scope_ports self.now) (scope_ops self.now) }
+        ensures { result ≡ value_width (scope_ports self.now) (scope_ops self.now) (scope_ref self.now value) }
+    {
         match value {
             Value::Port(port) => input_width(self.ports.ports.get(port as usize)),
             Value::Result(id, number) => match self.op(id) {

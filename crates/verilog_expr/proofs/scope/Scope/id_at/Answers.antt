@@ -1,4 +1,7 @@
-use Rattle.std.proofs.Common.{length, ap, sym, ◌∙◌, arith}
+use Rattle.std.proofs.Common.{ap, ◌∙◌, arith}
+use Rattle.ir_store.specs.Bodies.{ids_of}
+use Rattle.ir_store.specs.Numbered.{position_of}
+use Rattle.ir_store.specs.declared.operation.OpId.{OpId}
 use Rattle.verilog_expr.proofs.ReadOps.{position_at, ids_numbered}
 use Rattle.verilog_expr.proofs.scope.Scope.id_at.Goals as goal
 
@@ -10,4 +13,5 @@ index-requires c =
 pub returns : goal.returns
 returns c =
     let s = c.args.self.now in
-    position_at s.body.now s.ids.items s.all c.args.position (omega (arith, c.requires, ids_numbered s.body.now s.ids.items s.all))
+    ap (λ (i : OpId). position_of (ids_of s.body.now) i.index) c.index.ensures
+    ∙ position_at s.body.now s.ids.items s.all c.args.position (omega (arith, c.requires, ids_numbered s.body.now s.ids.items s.all)) c.index.result.now

@@ -13,7 +13,7 @@ positions_of-requires c =
 pub invariant_of-result : goal.invariant_of-result
 invariant_of-result c = record {
   all = c.in_ok-ids.ensures;
-  small = c.requires;
+  small = c.requires.small;
   known = subst (λ xs. ArePositions xs c.in_ok-positions.positions.items)
       (ap indices c.as_slice.ensures.value ∙ ids_same c.in_ok-ids.ids.items (ids_of c.args.body.now) c.in_ok-ids.ensures) c.in_ok-positions.ensures;
 }
