@@ -29,7 +29,6 @@ use Rattle.mlir_syntax.specs.PieceText.{Gathered, gathered_nothing, with_operand
 use Rattle.mlir_syntax.specs.PieceText.Extra.{with_reset, predicate, position, number, literals, field_name}
 use Rattle.mlir_syntax.specs.OperationText.{OperationText, takes_bin, string_keys, is_last, given_entries}
 use Rattle.mlir_syntax.specs.ModuleText.{PortText, ModuleText, module_keys}
-use Rattle.mlir_reader.specs.Resolving.{design_of}
 use Rattle.assembly_format.specs.declared.pieces.Piece.{Piece}
 use Rattle.assembly_format.specs.declared.pieces.Piece.TheVariants as piece
 use Rattle.assembly_format.specs.declared.pieces.Shape.{Shape}

@@ -20,7 +20,7 @@ use mlir_lexer::token::TokenKind;
 
 impl<'s> Reader<'s> {
     /// `private`, or nothing.
-    #[tactic(auto, unfolding(mlir_syntax::specs::ModuleText::private_text))]
+    #[tactic(auto, unfolding(crate::specs::ModuleText::private_text))]
     pub fn private_text(&mut self) -> bool
         ensures gives { private_text self.old ≡ Ok (result, self.new) }
         ensures shorter { length self.new ≤ length self.old }
