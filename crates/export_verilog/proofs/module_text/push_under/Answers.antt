@@ -1,5 +1,6 @@
-use Rattle.std.proofs.Common.{[], ◌++◌, ap, sym, subst, ◌∙◌}
-use Rattle.ir_store.specs.Designs.{design_of}
+use Rattle.std.proofs.Common.{[], ◌++◌, length, ap, sym, subst, ◌∙◌, arith}
+use Rattle.std.proofs.lemmas.List.{length-map}
+use Rattle.ir_store.specs.Designs.{design_of, port_of}
 use Rattle.verilog_expr.specs.Scopes.{scope_ports}
 use Rattle.export_verilog.specs.Exported.{vports, vitems}
 use Rattle.export_verilog.specs.Layout.{ports_text}
@@ -9,7 +10,10 @@ use Rattle.export_verilog.proofs.ModuleParts.{named_ports, module_parts}
 use Rattle.export_verilog.proofs.module_text.push_under.Goals as goal
 
 pub push_ports-requires : goal.push_ports-requires
-push_ports-requires c = subst AreNarrow (sym c.ports.ensures) c.requires
+push_ports-requires c = record {
+  count = omega (arith, ap length c.as_slice.ensures.value, c.args.writer.now.names_are.many, ap length c.ports.ensures, length-map c.ports.result.now port_of);
+  narrow = subst AreNarrow (sym c.ports.ensures) c.requires;
+}
 
 pub returns : goal.returns
 returns c =
