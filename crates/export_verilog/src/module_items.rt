@@ -74,9 +74,10 @@ fn push_outputs(
 ) -> Result<(), AllocError>
     ensures { OnOk result (out.new ≡ out.old ++ items_text (output_assigns (scope_module writer.now.scope) 0 (scope_ports writer.now.scope) (map (scope_ref writer.now.scope) operands.now)) []) }
 {
+    let ports = writer.scope.ports();
     let mut number: usize = 0;
-    for place in 0..writer.ports.len() {
-        if writer.ports[place].out {
+    for place in 0..ports.len() {
+        if ports[place].out {
             let name = writer.names.ports[place].as_bytes();
             push_output(writer, out, operands, number, name)?;
             number += 1;

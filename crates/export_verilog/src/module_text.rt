@@ -25,12 +25,12 @@ use verilog_expr::wires::Wires;
 
 // Adds the text of a module under a name (IEEE 1364-2005, 12.1: modules).
 fn push_under(writer: &ModuleWriter<'_>, out: &mut Text, name: &[u8]) -> Result<(), AllocError>
-    requires { AreNarrow (map port_of writer.now.ports.now) }
+    requires { AreNarrow (scope_ports writer.now.scope) }
     ensures { OnOk result (out.new ≡ out.old ++ module_text (module_under (design_of writer.now.design.now.design.now) name.now (scope_module writer.now.scope)) []) }
 {
     out.push_bytes(b"module ")?;
     out.push_bytes(name)?;
-    push_ports(out, writer.names.ports.as_slice(), writer.ports)?;
+    push_ports(out, writer.names.ports.as_slice(), writer.scope.ports())?;
     push_items(writer, out)?;
     out.push_bytes(b"endmodule\n")?;
     Ok(())
@@ -65,7 +65,6 @@ pub fn push_module(
     let writer = ModuleWriter {
         alloc,
         design: all,
-        ports,
         scope,
         wires,
         names,

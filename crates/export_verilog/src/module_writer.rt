@@ -1,6 +1,4 @@
 //! A module that is written.
-ghost use Rattle.std.specs.Prelude.{◌≡◌, map};
-ghost use Rattle.ir_store.specs.Designs.{port_of};
 ghost use Rattle.verilog_expr.specs.Scopes.{scope_ports, scope_ops};
 ghost use Rattle.verilog_expr.specs.PartTables.{AreWires};
 ghost use Rattle.export_verilog.specs.ModuleNames.{AreModuleNames};
@@ -8,7 +6,6 @@ ghost use Rattle.export_verilog.specs.ScopeModules.{scope_module};
 
 use crate::module_names::ModuleNames;
 use crate::named_design::NamedDesign;
-use ir_store::design::Port;
 use std::alloc::Global;
 use verilog_expr::scope::Scope;
 use verilog_expr::wires::Wires;
@@ -20,8 +17,6 @@ pub struct ModuleWriter<'m> {
     pub alloc: Global,
     /// The design, with the names of its modules and of their ports.
     pub design: &'m NamedDesign<'m>,
-    /// The ports, in order.
-    pub ports: &'m [Port],
     /// The body, with its ports.
     pub scope: Scope<'m>,
     /// Which values have a wire.
@@ -30,5 +25,4 @@ pub struct ModuleWriter<'m> {
     pub names: ModuleNames,
     ghost wires_are: { AreWires (scope_ports scope) (scope_ops scope) wires.wires.items },
     ghost names_are: { AreModuleNames (scope_module scope) names.ports.items names.values names.own.items },
-    ghost ports_are: { map port_of ports.now ≡ scope_ports scope },
 }

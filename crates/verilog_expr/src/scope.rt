@@ -56,6 +56,13 @@ impl<'m> Scope<'m> {
         })
     }
 
+    /// The ports, in order.
+    pub fn ports(&self) -> &'m [Port]
+        ensures { map port_of result.now ≡ scope_ports self.now }
+    {
+        self.ports.ports.as_slice()
+    }
+
     /// How many operations there are.
     pub fn count(&self) -> usize
         ensures { result ≡ length (scope_ops self.now) }

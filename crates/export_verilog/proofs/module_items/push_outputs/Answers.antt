@@ -24,7 +24,7 @@ loop-place-preserved c =
     let p = port_of c.index-ports-place.result in
     let whole = c.args.out.now ++ outputs_left m (scope_ref s) c.args.operands.now 0 0 in
     let at : slice_get m.ports i ≡ Some p =
-    sym (ap (λ ps. slice_get ps i) c.args.writer.now.ports_are) ∙ viewed port_of c.args.writer.now.ports.now i c.index-ports-place.result (omega (arith, c.loop-place-test.true)) c.index-ports-place.is in
+    sym (ap (λ ps. slice_get ps i) c.ports-ports.ensures) ∙ viewed port_of c.ports-ports.result.now i c.index-ports-place.result (omega (arith, c.loop-place-test.true)) c.index-ports-place.is in
     elim c.if-ports-place.branch [
       | then-ports-place+in_ok-push_output w ↦
           record {
@@ -47,4 +47,4 @@ returns c =
     let s = c.args.writer.now.scope in
     outputs_end (scope_module s) (scope_ref s) c.args.operands.now c.loop-place.place c.loop-place.number c.loop-place.out
     (c.args.out.now ++ outputs_left (scope_module s) (scope_ref s) c.args.operands.now 0 0)
-    (omega (arith, c.loop-place-test.false, ap length c.args.writer.now.ports_are, length-map c.args.writer.now.ports.now port_of)) c.loop-place.invariant.bytes
+    (omega (arith, c.loop-place-test.false, ap length c.ports-ports.ensures, length-map c.ports-ports.result.now port_of)) c.loop-place.invariant.bytes

@@ -1,9 +1,8 @@
-use Rattle.std.proofs.Common.{◌∙◌, map, refl, sym, ap, subst}
+use Rattle.std.proofs.Common.{refl}
 use Rattle.ir_store.specs.Bodies.{ops_of}
-use Rattle.ir_store.specs.Designs.{modules_of, module_of, port_of, ports_in}
+use Rattle.ir_store.specs.Designs.{modules_of, module_of, ports_in}
 use Rattle.ir_store.specs.Numbered.{numbered}
 use Rattle.verilog_expr.specs.Scopes.{scope_ports, scope_ops}
-use Rattle.export_verilog.specs.Written.{AreNarrow}
 use Rattle.export_verilog.proofs.StoredModules.{scope_writable, scope_text}
 use Rattle.export_verilog.proofs.module_text.push_module.Goals as goal
 
@@ -22,7 +21,6 @@ pub invariant_of-writer : goal.invariant_of-writer
 invariant_of-writer c = record {
   wires_are = c.in_ok-wires.ensures;
   names_are = c.in_ok-names.ensures;
-  ports_are = ap (map port_of) c.as_slice-ports.ensures.value ∙ sym c.in_ok-scope.ensures.ports;
 }
 
 pub returns : goal.returns
@@ -33,6 +31,5 @@ returns c =
 
 pub push_under-requires : goal.push_under-requires
 push_under-requires c =
-    subst AreNarrow (c.in_ok-scope.ensures.ports ∙ sym (ap (map port_of) c.as_slice-ports.ensures.value))
     (scope_writable (modules_of c.args.all.now.design.now) c.requires.writable c.args.number (module_of c.module-module.result.now) c.module-module.ensures
     (scope_ports c.in_ok-scope.scope) (scope_ops c.in_ok-scope.scope) c.in_ok-scope.ensures.ports c.in_ok-scope.ensures.ops).narrow
