@@ -1,4 +1,4 @@
-use Rattle.std.proofs.Common.{Global, ℕ, length, ap, subst, sym, ◌∙◌, arith}
+use Rattle.std.proofs.Common.{Global, ℕ, length, ap, ◌∙◌, arith}
 use Rattle.std.specs.declared.vec.Vec.{Vec}
 use Rattle.cdcl_proof.proofs.Entries.{length_below}
 use Rattle.cdcl_proof.proofs.Covering.{closed_all}

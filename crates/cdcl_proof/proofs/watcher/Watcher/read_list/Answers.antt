@@ -1,8 +1,5 @@
-use Rattle.std.proofs.Common.{ℕ, ◌≡◌, ◌<◌, [], length, ap, subst, sym, ◌∙◌, arith}
+use Rattle.std.proofs.Common.{◌≡◌, ◌<◌, [], length, ap, ◌∙◌, arith}
 use Rattle.std.proofs.lemmas.List.{get_or_read}
-use Rattle.cdcl_proof.specs.declared.trail.Entry.{Entry}
-use Rattle.cdcl_proof.specs.Literal.{negation, slot_of}
-use Rattle.cdcl_proof.specs.Trail.{entry_at}
 use Rattle.cdcl_proof.specs.Watching.{list_at}
 use Rattle.cdcl_proof.proofs.Tables.{length-swap_remove}
 use Rattle.cdcl_proof.proofs.Visiting.{propagates_on, still_at_head, visited_stays, visited_moved}

@@ -1,4 +1,4 @@
-use Rattle.std.proofs.Common.{rules, ℕ, true, ◌≡◌, ◌<◌, ◌+◌, ◌^◌, length, subst, ap, sym, ◌∙◌, arith}
+use Rattle.std.proofs.Common.{rules, ℕ, true, ◌≡◌, ◌<◌, ◌+◌, ◌^◌, length, subst, ap, ◌∙◌, arith}
 use Rattle.cdcl_proof.specs.declared.trail.Entry.{Entry}
 use Rattle.cdcl_proof.specs.Literal.{negation, slot_of}
 use Rattle.cdcl_proof.specs.Clause.{is_among}
