@@ -1,25 +1,25 @@
 -- A clause that is added while literals are held.
 use Rattle.std.proofs.Common.{◌≡◌, ℕ, ◌+◌, ◌-◌, ◌<◌, ◌≤◌, true, false, List, [], ◌∷◌, ◌++◌, length, get_or, take, drop, refl, sym, ◌∙◌, ap, subst, inl, inr, ◌⊎◌, arith, Option, MatchOption}
-use Rattle.std.proofs.lemmas.List.{get_or_append_left, get_or-take, get_or-drop, length-drop, length-take-le, length_push, take-append-le, take_at, take-take, get_or_push}
-use Rattle.std.proofs.lemmas.Bool.{true≢false, false≢true, cases_eq, both_ways, not-true}
+use Rattle.std.proofs.lemmas.List.{get_or_read, get_or_append_left, get_or-take, get_or-drop, length-drop, length-take-le, length_push, take-append-le, take_at, take-take, get_or_push}
+use Rattle.std.proofs.lemmas.Bool.{and_parts, true≢false, false≢true, cases_eq, both_ways, not-true}
 use Rattle.cdcl_proof.specs.declared.literal.Literal.{Literal}
 use Rattle.cdcl_proof.specs.declared.log.Step.{Step}
 use Rattle.cdcl_proof.specs.declared.trail.Entry.{Entry}
-use Rattle.cdcl_proof.specs.Literal.{negation, holds, mentions}
+use Rattle.cdcl_proof.specs.Literal.{negation, holds, mentions, is_once}
 use Rattle.cdcl_proof.specs.Fresh.{is_free, is_closed, is_empty}
 use Rattle.cdcl_proof.specs.Replay.{is_number, clause_at}
 use Rattle.cdcl_proof.proofs.Sound.{is_number_at, clause_within}
-use Rattle.cdcl_proof.specs.Clause.{is_among}
+use Rattle.cdcl_proof.specs.Clause.{is_among, is_within, is_clause}
 use Rattle.cdcl_proof.specs.Formula.{are_clauses}
 use Rattle.cdcl_proof.specs.Trail.{Path, literals, entry_at, no_entry, AreApart, IsSound, Stands, Implies, is_after}
-use Rattle.cdcl_proof.specs.Watching.{Watching, Propagates, AreShort, IsCovered, is_satisfied, row_at, literal_at}
+use Rattle.cdcl_proof.specs.Watching.{Watching, Propagates, AreShort, IsRow, IsCovered, is_satisfied, row_at, literal_at, no_literal}
 use Rattle.cdcl_proof.specs.Watcher.{IsProgress}
 use Rattle.cdcl_proof.specs.Resolving.{IsLesson}
 use Rattle.cdcl_proof.proofs.Sets.{all_at, any_from, mentions_from, holds_from_mentions}
 use Rattle.cdcl_proof.proofs.Entries.{entry_of_mentions}
 use Rattle.cdcl_proof.proofs.Resolution.{cases_le}
 use Rattle.cdcl_proof.proofs.Lessons.{free_before, holds_before}
-use Rattle.cdcl_proof.proofs.Rows.{holds_at}
+use Rattle.cdcl_proof.proofs.Rows.{holds_at, row_of}
 use Rattle.cdcl_proof.proofs.Tables.{same_push}
 use Rattle.cdcl_proof.proofs.Covering.{covered_more, held_kept, held_take, held_last}
 
@@ -161,3 +161,28 @@ gone_back old released new place same back =
 -- what is taught of the parts of a search is taught of it
 pub taught : (w : Watching) (path : Path) (clauses : List (List Literal)) (step : Step) (place : ℕ) → path ≡ record { variables = w.variables; entries = w.entries } → clauses ≡ w.clauses → IsLesson path.variables clauses path.entries step place → IsLesson w.variables w.clauses w.entries step place
 taught w path clauses step place is same l = subst (λ (p : Path). IsLesson p.variables w.clauses p.entries step place) is (subst (λ (cs : List (List Literal)). IsLesson path.variables cs path.entries step place) same l)
+
+-- the row of a learnt clause: its last literal has come first
+pub record Brought (variables : ℕ) (clause row : List Literal) (literal : Literal) : Type 0 where
+  pub row_is : IsRow clause row
+  pub some : 0 < length row
+  pub within : is_within variables clause ≡ true
+  pub first : literal_at row 0 ≡ literal
+  pub is_last : literal_at clause (length clause - 1) ≡ literal
+
+pub row_brought : (variables : ℕ) (clause written row : List Literal) → is_clause variables clause ≡ true → written ≡ clause → ((c : List Literal) → IsRow c written → IsRow c row) → IsRow clause row
+row_brought variables clause written row is_a same carried = carried clause (subst (λ (r : List Literal). IsRow clause r) (sym same) (row_of clause (and_parts (is_once clause) (is_within variables clause) is_a).0))
+
+pub brought : (variables : ℕ) (clause written row shown : List Literal) (read literal : Literal) → is_clause variables clause ≡ true → 0 < length clause → written ≡ clause → ((c : List Literal) → IsRow c written → IsRow c row) → literal_at row 0 ≡ literal_at written (length written - 1) → shown ≡ row → read ≡ get_or shown 0 read → literal ≡ read → Brought variables clause row literal
+brought variables clause written row shown read literal is_a full same carried last shows reads is =
+    let row_is = row_brought variables clause written row is_a same carried in
+    let some : 0 < length row = let n = row_is.len in omega (arith, n, full) in
+    let len = ap length shows in
+    let first : literal_at row 0 ≡ literal = ap (λ (r : List Literal). literal_at r 0) (sym shows) ∙ sym (get_or_read shown 0 read (omega (arith, len, some)) reads no_literal) ∙ sym is in
+    record {
+      row_is = row_is;
+      some = some;
+      within = (and_parts (is_once clause) (is_within variables clause) is_a).1;
+      first = first;
+      is_last = sym (last ∙ ap (λ (r : List Literal). literal_at r (length r - 1)) same) ∙ first;
+    }

@@ -1,26 +1,29 @@
 -- A visit of a watch.
-use Rattle.std.proofs.Common.{◌≡◌, ℕ, zero, suc, ◌+◌, ◌<◌, ◌≤◌, true, false, cond, eqb, List, [], ◌∷◌, length, get_or, set, swap, take, refl, sym, ◌∙◌, ap, subst, inl, inr, ◌⊎◌, arith}
+use Rattle.std.proofs.Common.{Global, ◌≡◌, ℕ, zero, suc, ◌+◌, ◌<◌, ◌≤◌, true, false, cond, eqb, List, [], ◌∷◌, length, get_or, set, swap, take, refl, sym, ◌∙◌, ap, subst, inl, inr, ◌⊎◌, arith}
 use Rattle.std.specs.List.{swap_remove}
 use Rattle.std.proofs.lemmas.List.{get_or_read, get_or-take}
 use Rattle.std.proofs.lemmas.List.Sums.{sum_by-cons}
 use Rattle.std.proofs.lemmas.Bool.{cases_eq, false_from_ne_true, both_ways}
+use Rattle.std.specs.declared.vec.Vec.{Vec}
+use Rattle.cdcl_proof.specs.declared.clause.Clause.{Clause}
 use Rattle.cdcl_proof.specs.declared.literal.Literal.{Literal}
 use Rattle.cdcl_proof.specs.declared.row.Watch.{Watch}
 use Rattle.cdcl_proof.specs.declared.table.Table.{Table}
 use Rattle.cdcl_proof.specs.declared.trail.Entry.{Entry}
+use Rattle.cdcl_proof.specs.declared.watcher.Watcher.{Watcher}
 use Rattle.cdcl_proof.specs.Literal.{negation, holds, slot_of}
 use Rattle.cdcl_proof.specs.Clause.{is_among, is_within}
 use Rattle.cdcl_proof.specs.Trail.{literals, entry_at, no_entry}
 use Rattle.cdcl_proof.specs.Table.{IsTable}
-use Rattle.cdcl_proof.specs.Watcher.{IsProgress}
-use Rattle.cdcl_proof.specs.Watching.{wanted, count_of, AreVisited, AreCovered, IsCovered, ArePermuted, HasSameClauses, is_satisfied, row_at, list_at, watch_at, literal_at, no_watch}
+use Rattle.cdcl_proof.specs.Watcher.{IsProgress, IsWatching}
+use Rattle.cdcl_proof.specs.Watching.{Propagates, wanted, count_of, AreVisited, AreCovered, IsCovered, ArePermuted, HasSameClauses, is_satisfied, row_at, list_at, watch_at, literal_at, no_watch}
 use Rattle.cdcl_proof.proofs.Sets.{negation-negation, all_from}
 use Rattle.cdcl_proof.proofs.Entries.{holds_entry, among_high}
 use Rattle.cdcl_proof.proofs.Resolution.{holds_take}
 use Rattle.cdcl_proof.proofs.Lessons.{holds_before}
 use Rattle.cdcl_proof.proofs.Rows.{holds-swap}
 use Rattle.cdcl_proof.proofs.Tables.{bit_small, slot_same, of_other, at_slot, at_same, wanted_by, wanted_long, wanted_where, watch_wanted, row_inside, among_row, same_rows, permuted_set, swap_remove_before}
-use Rattle.cdcl_proof.proofs.Covering.{held_take, held_kept, satisfied_more, satisfied_row, covered_swap}
+use Rattle.cdcl_proof.proofs.Covering.{propagates_then, held_take, held_kept, satisfied_more, satisfied_row, covered_swap}
 
 -- what is known of a watch of a list and of its row
 pub record Visits (t : Table) (slot : ℕ) (w : Watch) (row : List Literal) : Type 0 where
@@ -159,3 +162,21 @@ same_clauses list = record { len = refl; same = λ k. refl }
 
 pub same_from : (old new : List Watch) → new ≡ old → HasSameClauses old new
 same_from old new e = record { len = ap length e; same = λ k. ap (λ (x : List Watch). (watch_at x k).clause) e }
+
+-- propagation goes on
+pub propagates_on : (old : List Entry) (mid new : Watcher) → new.table.clauses ≡ mid.table.clauses → Propagates mid.table.clauses.items old mid.trail.entries → Propagates new.table.clauses.items mid.trail.entries new.trail.entries → Propagates new.table.clauses.items old new.trail.entries
+propagates_on old mid new same first second = propagates_then new.table.clauses.items old mid.trail.entries new.trail.entries (subst (λ (x : Vec Clause Global). Propagates x.items old mid.trail.entries) (sym same) first) second
+
+-- the list of the slot is that of the literal at the head
+pub record IsAtHead (w : Watcher) (slot : ℕ) : Type 0 where
+  pub more : w.head < length w.trail.entries
+  pub slot_is : slot ≡ slot_of (negation (entry_at w.trail.entries w.head).literal)
+  pub low : slot < length w.table.lists.items
+
+-- it is so still once literals were added
+pub still_at_head : (mid new : Watcher) (slot : ℕ) → IsWatching mid → IsWatching new → new.trail.variables ≡ mid.trail.variables → new.head ≡ mid.head → Propagates new.table.clauses.items mid.trail.entries new.trail.entries → mid.head < length mid.trail.entries → slot ≡ slot_of (negation (entry_at mid.trail.entries mid.head).literal) → slot < length mid.table.lists.items → IsAtHead new slot
+still_at_head mid new slot was is variables head propagates more slot_is low = record {
+  more = let l = propagates.longer in omega (arith, more, l, head);
+  slot_is = slot_is ∙ ap (λ (x : Entry). slot_of (negation x.literal)) (sym (entry_kept mid.trail.entries new.trail.entries mid.head propagates.kept more)) ∙ ap (λ (n : ℕ). slot_of (negation (entry_at new.trail.entries n).literal)) (sym head);
+  low = let a = was.table.slots in let b = is.table.slots in let m = was.variables in let n = is.variables in omega (arith, a, b, m, n, variables, low);
+}

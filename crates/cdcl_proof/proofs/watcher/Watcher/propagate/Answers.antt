@@ -1,28 +1,27 @@
-use Rattle.std.proofs.Common.{Global, ℕ, length, ap, subst, sym, ◌∙◌, arith}
+use Rattle.std.proofs.Common.{Global, ℕ, length, ap, ◌∙◌, arith}
 use Rattle.std.specs.declared.vec.Vec.{Vec}
-use Rattle.cdcl_proof.specs.declared.clause.Clause.{Clause}
-use Rattle.cdcl_proof.specs.Watching.{Propagates}
 use Rattle.cdcl_proof.proofs.Entries.{length_below}
-use Rattle.cdcl_proof.proofs.Covering.{propagates_then, closed_all}
+use Rattle.cdcl_proof.proofs.Covering.{closed_all}
+use Rattle.cdcl_proof.proofs.Visiting.{propagates_on}
 use Rattle.cdcl_proof.proofs.watcher.Watcher.propagate.Goals as goal
 
 pub returns-in-Some-clause-propagates : goal.returns-in-Some-clause-propagates
 returns-in-Some-clause-propagates c =
-    propagates_then c.settle.new.self.table.clauses.items c.args.self.now.trail.entries c.loop-self.self.trail.entries c.settle.new.self.trail.entries (subst (λ (x : Vec Clause Global). Propagates x.items c.args.self.now.trail.entries c.loop-self.self.trail.entries) (sym c.settle.ensures.clauses) c.loop-self.invariant.propagates) c.settle.ensures.propagates
+    propagates_on c.args.self.now.trail.entries c.loop-self.self c.settle.new.self c.settle.ensures.clauses c.loop-self.invariant.propagates c.settle.ensures.propagates
 
 pub loop-self-preserved : goal.loop-self-preserved
 loop-self-preserved c =
     let e = c.settle.ensures in
     let i = c.loop-self.invariant in
-    record { watching = e.watching; clauses = e.clauses ∙ i.clauses; variables = e.variables ∙ i.variables; propagates = propagates_then c.settle.new.self.table.clauses.items c.args.self.now.trail.entries c.loop-self.self.trail.entries c.settle.new.self.trail.entries (subst (λ (x : Vec Clause Global). Propagates x.items c.args.self.now.trail.entries c.loop-self.self.trail.entries) (sym c.settle.ensures.clauses) c.loop-self.invariant.propagates) c.settle.ensures.propagates }
+    record { watching = e.watching; clauses = e.clauses ∙ i.clauses; variables = e.variables ∙ i.variables; propagates = propagates_on c.args.self.now.trail.entries c.loop-self.self c.settle.new.self c.settle.ensures.clauses c.loop-self.invariant.propagates c.settle.ensures.propagates }
 
 pub returns-in_default-read_next-clause-propagates : goal.returns-in_default-read_next-clause-propagates
 returns-in_default-read_next-clause-propagates c =
-    propagates_then c.read_next.new.self.table.clauses.items c.args.self.now.trail.entries c.loop-self-2.self.trail.entries c.read_next.new.self.trail.entries (subst (λ (x : Vec Clause Global). Propagates x.items c.args.self.now.trail.entries c.loop-self-2.self.trail.entries) (sym c.read_next.ensures.clauses) c.loop-self-2.invariant.propagates) c.read_next.ensures.propagates
+    propagates_on c.args.self.now.trail.entries c.loop-self-2.self c.read_next.new.self c.read_next.ensures.clauses c.loop-self-2.invariant.propagates c.read_next.ensures.propagates
 
 pub returns-in_default-read_next-2-clause-propagates : goal.returns-in_default-read_next-2-clause-propagates
 returns-in_default-read_next-2-clause-propagates c =
-    propagates_then c.read_next.new.self.table.clauses.items c.args.self.now.trail.entries c.loop-self-2.self.trail.entries c.read_next.new.self.trail.entries (subst (λ (x : Vec Clause Global). Propagates x.items c.args.self.now.trail.entries c.loop-self-2.self.trail.entries) (sym c.read_next.ensures.clauses) c.loop-self-2.invariant.propagates) c.read_next.ensures.propagates
+    propagates_on c.args.self.now.trail.entries c.loop-self-2.self c.read_next.new.self c.read_next.ensures.clauses c.loop-self-2.invariant.propagates c.read_next.ensures.propagates
 
 pub loop-self-2-smaller : goal.loop-self-2-smaller
 loop-self-2-smaller c =
@@ -41,7 +40,7 @@ loop-self-2-preserved c =
     let short = ap (λ (x : Vec ℕ Global). length x.items) e.short in
     let all = i.all in
     let settled = e.settled in
-    record { watching = e.watching; clauses = e.clauses ∙ i.clauses; variables = e.variables ∙ i.variables; propagates = propagates_then c.read_next.new.self.table.clauses.items c.args.self.now.trail.entries c.loop-self-2.self.trail.entries c.read_next.new.self.trail.entries (subst (λ (x : Vec Clause Global). Propagates x.items c.args.self.now.trail.entries c.loop-self-2.self.trail.entries) (sym c.read_next.ensures.clauses) c.loop-self-2.invariant.propagates) c.read_next.ensures.propagates; all = omega (arith, short, all, settled) }
+    record { watching = e.watching; clauses = e.clauses ∙ i.clauses; variables = e.variables ∙ i.variables; propagates = propagates_on c.args.self.now.trail.entries c.loop-self-2.self c.read_next.new.self c.read_next.ensures.clauses c.loop-self-2.invariant.propagates c.read_next.ensures.propagates; all = omega (arith, short, all, settled) }
 
 pub returns-clause-outcome : goal.returns-clause-outcome
 returns-clause-outcome c =

@@ -1,10 +1,10 @@
-use Rattle.std.proofs.Common.{rules, ℕ, true, ◌≡◌, ◌<◌, ◌+◌, ◌^◌, length, subst, ap, sym, ◌∙◌, arith}
+use Rattle.std.proofs.Common.{rules, ℕ, true, ◌≡◌, ◌<◌, ◌+◌, ◌^◌, length, subst, ap, ◌∙◌, arith}
 use Rattle.cdcl_proof.specs.declared.trail.Entry.{Entry}
 use Rattle.cdcl_proof.specs.Literal.{negation, slot_of}
 use Rattle.cdcl_proof.specs.Clause.{is_among}
 use Rattle.cdcl_proof.specs.Trail.{entry_at}
 use Rattle.cdcl_proof.proofs.Entries.{length_below}
-use Rattle.cdcl_proof.proofs.Visiting.{slot_low, entry_kept, progress_next}
+use Rattle.cdcl_proof.proofs.Visiting.{slot_low, still_at_head, progress_next}
 use Rattle.cdcl_proof.proofs.watcher.Watcher.read_next.Goals as goal
 
 pub overflow_add-self : goal.overflow_add-self
@@ -24,9 +24,9 @@ returns-in-Ok-None-clause-watching c =
     let e = c.in-Ok-None.ensures in
     let w = e.watching in
     let visited = rw c.in-Ok-None.field-0-is at e.visited in
-    let more : c.read_list.new.self.head < length c.read_list.new.self.trail.entries = let l = e.propagates.longer in let h = e.head in omega (arith, l, h, c.requires.more) in
+    let old = c.requires.watching in
     let is_old : c.slot-slot.result ≡ slot_of (negation (entry_at c.args.self.now.trail.entries c.args.self.now.head).literal) = c.slot-slot.ensures ∙ ap slot_of (c.new.ensures ∙ c.negation.ensures) ∙ ap (λ (x : Entry). slot_of (negation x.literal)) c.entry-entry.ensures.entry in
-    let is_slot : c.slot-slot.result ≡ slot_of (negation (entry_at c.read_list.new.self.trail.entries c.read_list.new.self.head).literal) = is_old ∙ ap (λ (x : Entry). slot_of (negation x.literal)) (sym (entry_kept c.args.self.now.trail.entries c.read_list.new.self.trail.entries c.args.self.now.head e.propagates.kept c.requires.more)) ∙ ap (λ (n : ℕ). slot_of (negation (entry_at c.read_list.new.self.trail.entries n).literal)) (sym e.head) in
-    let among : is_among c.read_list.new.self.table.variables (negation (entry_at c.args.self.now.trail.entries c.args.self.now.head).literal) ≡ true = subst (λ (n : ℕ). is_among n (negation (entry_at c.args.self.now.trail.entries c.args.self.now.head).literal) ≡ true) (sym e.variables ∙ w.variables) (c.entry-entry.ensures.apart.among c.args.self.now.head c.requires.more) in
-    let low : c.slot-slot.result < length c.read_list.new.self.table.lists.items = let s = slot_low c.read_list.new.self.table w.table (negation (entry_at c.args.self.now.trail.entries c.args.self.now.head).literal) among in omega (arith, s, is_old) in
-    record { table = w.table; variables = w.variables; progress = progress_next c.read_list.new.self.table w.table c.read_list.new.self.trail.entries c.read_list.new.self.head c.slot-slot.result c.read_list.new.self.marks.items c.read_list.new.self.settled c.read_list.new.self.base more is_slot low visited w.progress }
+    let among : is_among c.args.self.now.table.variables (negation (entry_at c.args.self.now.trail.entries c.args.self.now.head).literal) ≡ true = subst (λ (n : ℕ). is_among n (negation (entry_at c.args.self.now.trail.entries c.args.self.now.head).literal) ≡ true) old.variables (c.entry-entry.ensures.apart.among c.args.self.now.head c.requires.more) in
+    let low : c.slot-slot.result < length c.args.self.now.table.lists.items = let s = slot_low c.args.self.now.table old.table (negation (entry_at c.args.self.now.trail.entries c.args.self.now.head).literal) among in omega (arith, s, is_old) in
+    let h = still_at_head c.args.self.now c.read_list.new.self c.slot-slot.result old w e.variables e.head e.propagates c.requires.more is_old low in
+    record { table = w.table; variables = w.variables; progress = progress_next c.read_list.new.self.table w.table c.read_list.new.self.trail.entries c.read_list.new.self.head c.slot-slot.result c.read_list.new.self.marks.items c.read_list.new.self.settled c.read_list.new.self.base h.more h.slot_is h.low visited w.progress }
