@@ -1,4 +1,4 @@
--- The forms of operations: which pieces stand behind a name, in front of and behind a dictionary that stands before the types
+-- The forms of operations: which pieces stand after a name, before and after a dictionary that stands before the types
 -- (CIRCT: assembly formats of the operations of HW, Comb and Seq).
 use Rattle.std.specs.Prelude.{Bool, false, cond, List, [], ◌∷◌, Option, Some, None, codes, ℕ}
 use Rattle.opcode.specs.declared.listed.Listed.{Listed}
@@ -24,7 +24,7 @@ abbrev pub is_of : TokenKind → Option Lexeme → Bool
 is_of k None = false
 is_of k (Some t) = is_kind t.kind k
 
--- the form of an operation: that of a constant and of an output is told by the token behind the name
+-- the form of an operation: that of a constant and of an output is told by the token after the name
 unfoldable pub shape_of : Listed → Option Lexeme → Shape
 shape_of op.HwModule next = shape.Nothing
 shape_of op.CombAdd next = shape.Variadic
@@ -72,7 +72,7 @@ comma = piece.Mark kind.Comma
 abbrev pub indexed : List Piece
 indexed = piece.Operand ∷ piece.Mark kind.LeftBracket ∷ piece.Operand ∷ piece.Mark kind.RightBracket ∷ []
 
--- the pieces in front of the types
+-- the pieces before the types
 unfoldable pub front_pieces : Shape → List Piece
 front_pieces shape.Variadic = piece.Operands ∷ []
 front_pieces shape.Binary = piece.Operand ∷ comma ∷ piece.Operand ∷ []

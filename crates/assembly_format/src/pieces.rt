@@ -10,7 +10,7 @@ pub enum Keyword {
     Clock,
 }
 
-/// A piece of the text of an operation behind its name.
+/// A piece of the text of an operation after its name.
 #[derive(Clone, Copy, Debug, PartialEq, Eq)]
 pub enum Piece {
     /// A token that is always the same.
@@ -47,7 +47,7 @@ pub enum Piece {
     Types,
 }
 
-/// What may stand behind an operation's name: pieces in front of a dictionary, and pieces behind it.
+/// What may stand after an operation's name: pieces before a dictionary, and pieces after it.
 #[derive(Clone, Copy, Debug, PartialEq, Eq)]
 pub enum Shape {
     /// One operand or more of one type.
@@ -92,6 +92,6 @@ pub enum Shape {
     Register,
     /// Data, a clock and an enable, a reset or none, and the type of the data.
     EnabledRegister,
-    /// Data and a clock behind `clock`, a reset or none, and the type of the data.
+    /// Data and a clock after `clock`, a reset or none, and the type of the data.
     ClockedRegister,
 }

@@ -1,4 +1,4 @@
-//! The forms of operations: which pieces stand behind a name, in front of and behind a dictionary
+//! The forms of operations: which pieces stand after a name, before and after a dictionary
 //! that stands before the types (CIRCT: assembly formats of the operations of HW, Comb and Seq).
 ghost use Rattle.std.specs.Prelude.{◌≡◌};
 ghost use Rattle.std.specs.Option.{option_map};
@@ -94,7 +94,7 @@ const FUNCTION_TYPE: [Piece; 6] = [
     Piece::Type,
 ];
 
-/// The form of an operation. That of a constant and of an output is told by the token behind the
+/// The form of an operation. That of a constant and of an output is told by the token after the
 /// name.
 #[tactic(auto, unfolding(crate::specs::Shapes::shape_of))]
 pub fn shape_of(name: Listed, next: Option<Token>) -> Shape
@@ -142,7 +142,7 @@ fn is_of(kind: TokenKind, token: Option<Token>) -> bool
     }
 }
 
-/// The pieces in front of the types.
+/// The pieces before the types.
 #[tactic(auto, unfolding(crate::specs::Shapes::front_pieces))]
 pub fn front_pieces(shape: Shape) -> &'static [Piece]
     ensures { result.now ≡ front_pieces shape }

@@ -96,7 +96,7 @@ module _ {F O : Type 0} (writes : F → Name → List ℕ → Result (Unit {0}) 
       writes before name text (Err Failed) after × IsHalfWritten name (files before) (files after) text × (new ≡ old)
 
 module _ {F : Type 0} (reads : F → Name → ℕ → Result (List ℕ) FileFail → F → Type 0) (files : F → Told) where
-  -- one read of the file of a name gave some bytes and changed no file, and what follows holds of the files behind it
+  -- one read of the file of a name gave some bytes and changed no file, and what follows holds of the files after it
   abbrev pub ReadsThen : F → Name → (F → Type 0) → Type 0
   ReadsThen before name Follows = (after : F) × (source : List ℕ) × reads before name read_limit (Ok source) after × (files after ≡ files before) × Follows after
 
@@ -137,7 +137,7 @@ module _ {S : Type 0} (told : S → Option (List ℕ)) (faults : S → ℕ) wher
 
 -- ---- ends
 
--- a usage comes exactly where something is wrong with the words, want of memory aside
+-- a usage comes exactly where something is wrong with the words, out of memory aside
 abbrev pub IsUsage : Status → Option UsageKind → Type 0
 IsUsage (Usage kind) fault = fault ≡ Some kind
 IsUsage NoMemory fault = Unit {0}

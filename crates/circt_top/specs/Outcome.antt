@@ -29,7 +29,7 @@ pub record IsAnswered (c : Command) (bytes : List ℕ) : Type 0 where
   pub accepted : Accepted bytes design
   pub takes : Takes c design
 
--- an answer is the outcome, or want of memory
+-- an answer is the outcome, or out of memory
 abbrev pub Gives : Command → List ℕ → Result (List ℕ) OutcomeFail → Type 0
 Gives c bytes (Ok text) = IsOutcome c bytes (Ok text)
 Gives c bytes (Err (Refused refusal)) = IsOutcome c bytes (Err refusal)

@@ -18,7 +18,7 @@ abbrev pub command_of : Invocation → Command
 command_of (Opt p) = opt (paths_of p)
 command_of (Translate p) = translate (paths_of p)
 
--- an answer is what is said, or want of memory
+-- an answer is what is said, or out of memory
 abbrev pub Says : Result Command UsageKind → Result Invocation LineFail → Type 0
 Says said (Ok i) = said ≡ Ok (command_of i)
 Says said (Err (Usage kind)) = said ≡ Err kind

@@ -36,7 +36,7 @@ op_at_node j k zero i below = absurd (omega arith)
 op_at_node j k (suc n) zero below = let e : k ≡ k + 0 = omega arith in ap (λ m. Some (result j m)) e
 op_at_node j k (suc n) (suc i) below = op_at_node j (suc k) n i (omega arith) ∙ (let e : suc k + i ≡ k + suc i = omega arith in ap (λ m. Some (result j m)) e)
 
--- a node of results is behind the ports
+-- a node of results is after the ports
 node_from : (start : ℕ) (ns : List ℕ) (j k v : ℕ) → node_at start ns j k ≡ Some v → start ≤ v
 node_from start [] j k v is = cc
 node_from start (n ∷ ns) zero k v is = go (nat_lt k n) is

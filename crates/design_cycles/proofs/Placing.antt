@@ -1,4 +1,4 @@
--- Placing nodes behind what they need, pass by pass; and what an order says of cycles.
+-- Placing nodes after what they need, pass by pass; and what an order says of cycles.
 use Rattle.std.proofs.Common.{◌≡◌, ◌⊎◌, ◌↔◌, ℕ, zero, suc, ◌+◌, ◌<◌, ◌≤◌, Bool, true, false, List, [], ◌∷◌, ◌++◌, length, get_or, set, take, slice_get, drop, replicate, IsTrue, MatchBool, Some, refl, sym, ap, subst, ◌∙◌, inl, inr, arith, length-set, length-append}
 use Rattle.std.proofs.lemmas.List.{take_more, take-append-le}
 use Rattle.std.proofs.lemmas.Option.{slice_get_within}

@@ -1,4 +1,4 @@
--- Weights of modules: what is kept, up to a most, is the weight, where each module is weighed behind those that it instances.
+-- Weights of modules: what is kept, up to a most, is the weight, where each module is weighed after those that it instances.
 use Rattle.std.proofs.Common.{◌≡◌, ◌⊎◌, ℕ, zero, suc, ◌+◌, ◌<◌, ◌≤◌, ◌^◌, ◌≢◌, Bool, true, false, min, eqb, List, [], ◌∷◌, ◌++◌, length, map, take, get_or, set, slice_get, slice_index, Option, Some, None, refl, sym, ap, ap₂, subst, ◌∙◌, inl, inr, arith, length-set}
 use Rattle.std.proofs.lemmas.List.{map_more, take_all, take_more, length-map, get_or-set_same, get_or-set_other}
 use Rattle.std.proofs.lemmas.Bool.{eqb-true, eqb-false}

@@ -21,7 +21,7 @@ pub record AreReached (lists : List (List ℕ)) (starts : List ℕ) (marks : Lis
   pub sound : (b : ℕ) → marked marks b ≡ true → (a : ℕ) × (k : ℕ) × In a starts × Chain (edges lists) k a b
   pub complete : (a k b : ℕ) → In a starts → Chain (edges lists) k a b → b < length lists → marked marks b ≡ true
 
--- some nodes, each behind all that it needs, and the marks of those
+-- some nodes, each after all that it needs, and the marks of those
 pub record IsOrder (lists : List (List ℕ)) (placed : List Bool) (nodes : List ℕ) : Type 0 where
   pub count : length placed ≡ length lists
   pub listed : (v : ℕ) → marked placed v ≡ true → In v nodes

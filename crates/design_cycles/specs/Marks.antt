@@ -18,7 +18,7 @@ pub record MarksAll (nodes : List ℕ) (old new : List Bool) (waited waiting : L
   pub comes : (b : ℕ) → In b waiting → In b waited ⊎ ((b < length old) × (marked new b ≡ true))
   pub size : open_count new + length waiting ≡ open_count old + length waited
 
--- ---- placing nodes behind what they need
+-- ---- placing nodes after what they need
 
 -- the nodes that are there have their marks
 abbrev pub AreMarked : List ℕ → List Bool → Type 0

@@ -26,7 +26,7 @@ pub record WeighsAt (inner : Name → ℕ) (os : List Op) (j m w : ℕ) : Type 0
 abbrev pub Weighs : Design → List ℕ → ℕ → ℕ → Type 0
 Weighs d weights m i = (one : Module) → slice_get d i ≡ Some one → slice_index weights i ≡ min (weight d one.symbol) m
 
--- all nodes, each behind all that it needs
+-- all nodes, each after all that it needs
 pub record IsWhole (lists : List (List ℕ)) (nodes : List ℕ) : Type 0 where
   pub within : (v : ℕ) → In v nodes → v < length lists
   pub all : (v : ℕ) → v < length lists → In v nodes

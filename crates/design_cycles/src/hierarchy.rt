@@ -9,7 +9,7 @@ use crate::order::{Order, callees_first};
 use ir_store::design::Design;
 use std::alloc::{AllocError, Global};
 
-/// Which modules instance which, and the longest order in which each stands behind those that it instances. It is made
+/// Which modules instance which, and the longest order in which each stands after those that it instances. It is made
 /// once, in one pass over the operations. Contracts see it by `IsHierarchy`.
 #[derive(Drop)]
 pub struct Hierarchy {

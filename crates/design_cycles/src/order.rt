@@ -1,4 +1,4 @@
-//! Orders of a graph's nodes in which each stands behind all that it needs.
+//! Orders of a graph's nodes in which each stands after all that it needs.
 ghost use Rattle.std.specs.Prelude.{◌≡◌, ◌<◌, ◌^◌, ℕ, [], length, IfOk, MatchBool};
 ghost use Rattle.wiring.specs.Wiring.{In};
 ghost use Rattle.design_cycles.specs.Graphs.{lists_of, IsOrder};
@@ -11,7 +11,7 @@ use std::alloc::{AllocError, Global};
 /// Nodes in order, and of each node of the graph whether it is among them.
 #[derive(Drop)]
 pub(crate) struct Order {
-    /// The nodes, each behind all that it needs.
+    /// The nodes, each after all that it needs.
     pub(crate) nodes: Vec<u32>,
     /// Whether each node of the graph is among them.
     pub(crate) placed: Vec<bool>,

@@ -11,7 +11,7 @@ use std::alloc::{AllocError, Global};
 pub(crate) const ROW_BITS: usize = 64;
 
 /// Of each node, which of at most 64 inputs it depends on or is: bit x of its row stands for input x. Goes over the nodes
-/// of `guess` and then over `all` until no row changes, so that where each node of the two stands behind all that it needs,
+/// of `guess` and then over `all` until no row changes, so that where each node of the two stands after all that it needs,
 /// each edge is followed twice or three times.
 pub(crate) fn rows_of(
     alloc: Global,

@@ -50,7 +50,7 @@ fn first_above(weights: &[u64], count: u32) -> Option<u32>
     None
 }
 
-/// The weight of each module, or `u64::MAX` where it is more, in an order in which each is behind those that it
+/// The weight of each module, or `u64::MAX` where it is more, in an order in which each is after those that it
 /// instances.
 fn module_weights(alloc: Global, design: &Design, order: &[u32]) -> Result<Vec<u64>, AllocError>
     requires distinct { HasDistinctSymbols (design_of design.now) }

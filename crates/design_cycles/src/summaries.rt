@@ -27,7 +27,7 @@ use ir_store::design::{Design, Port};
 use ir_store::operation::{OpId, Value};
 use std::alloc::{AllocError, Global};
 
-/// The summaries of the modules that are instanced, in an order in which each is behind those that it instances.
+/// The summaries of the modules that are instanced, in an order in which each is after those that it instances.
 pub(crate) fn summaries_of(
     alloc: Global,
     design: &Design,

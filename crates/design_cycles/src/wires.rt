@@ -79,7 +79,7 @@ fn rows_at(summaries: &[Summary], number: Option<u32>) -> &[NodeList]
     }
 }
 
-/// The nodes of each operation's results, in order, behind those of the ports.
+/// The nodes of each operation's results, in order, after those of the ports.
 fn spans_of(
     alloc: Global,
     design: &Design,

@@ -14,11 +14,11 @@ further place count = record { line = place.line; col = min (place.col + count) 
 abbrev pub below : Place → Place
 below place = record { line = min (place.line + 1) (2 ^ 32 - 1); col = 1 }
 
--- the place of the byte behind this one
+-- the place of the byte after this one
 abbrev pub next_place : Place → ℕ → Place
 next_place place byte = if byte == 10 then below place else further place 1
 
--- the place of the byte behind these ones
+-- the place of the byte after these ones
 abbrev pub place_after : Place → List ℕ → Place
 place_after place [] = place
 place_after place (byte ∷ bytes) = place_after (next_place place byte) bytes

@@ -66,7 +66,7 @@ fn operation(op: OpName, source: &[u8]) -> &[u8]
     }
 }
 
-/// Sends three texts one behind the other, up to the first that fails. It takes no memory.
+/// Sends three texts one after the other, up to the first that fails. It takes no memory.
 pub fn put_three<S: Sink>(
     sink: &mut S,
     first: &[u8],

@@ -25,7 +25,7 @@ none_of p [] h x here = absurd here
 none_of p (y ∷ xs) h x (inl same) = ap p same ∙ (neither (p y) (list_any p xs) h).0
 none_of p (y ∷ xs) h x (inr here) = none_of p xs (neither (p y) (list_any p xs) h).1 x here
 
--- nor of what is left behind some
+-- nor of what is left after some
 pub none_behind : {A : Type 0} (p : A → Bool) (n : ℕ) (xs : List A) → list_any p xs ≡ false → list_any p (drop n xs) ≡ false
 none_behind p zero xs h = h
 none_behind p (suc n) [] h = h

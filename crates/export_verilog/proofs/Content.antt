@@ -193,7 +193,7 @@ module _ (d : Design) (x : Setting d) (s : Name) (m : Module) (is : find_module 
         let e = Rattle.export_verilog.proofs.KeysOf.from_each (declares m) m.body y here in
         not_declared test wires regs e.0 e.1 (role_of m.ports m.body e.0 e.1) y e.3
 
-    -- a register's content begins behind that of the operations before it
+    -- a register's content begins after that of the operations before it
     pub state_before_register : (i : ℕ) (o : Op) → slice_get m.body i ≡ Some o → role_of m.ports m.body i o ≡ variable
         → items_state f (vmodule d m) (until (loads (key_text m (value_key i 0))) (vitems d m)) ≡ body_state g (take i m.body)
     state_before_register i o there role =

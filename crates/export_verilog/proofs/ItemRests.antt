@@ -1,4 +1,4 @@
--- The rest of a text stands behind its items.
+-- The rest of a text stands after its items.
 use Rattle.std.proofs.Common.{◌≡◌, List, [], ◌∷◌, ◌++◌, Option, codes, refl, sym, ◌∙◌, ap, append_assoc}
 use Rattle.verilog_model.specs.Tree.{Numeral, Expr, Load, Block, Connection, Item}
 use Rattle.verilog_model.specs.Tree.Block.{load, if_load, if_else, if_else_if}
@@ -7,7 +7,7 @@ use Rattle.verilog_expr.specs.Text.{expr_text}
 use Rattle.export_verilog.specs.Layout.{Text, range_text, load_text, if_text, block_text, connection_text, connection_lines, connections_text, item_text, items_text}
 use Rattle.export_verilog.proofs.Rests.{expr_rest, load_rest, if_rest, range_rest, connection_rest}
 
--- a condition and a load in front of a rest
+-- a condition and a load before a rest
 if_load_rest : (f i : Text) (c : Expr) (l : Load) (a b : Text) → if_text f c (load_text i l (a ++ b)) ≡ if_text f c (load_text i l a) ++ b
 if_load_rest f i c l a b = ap (if_text f c) (load_rest i l a b) ∙ if_rest f c (load_text i l a) b
 
@@ -32,7 +32,7 @@ unfolding connections_text
 connections_rest [] a b = refl
 connections_rest (c ∷ cs) a b = ap (λ x. 10 ∷ x) (lines_rest c cs (codes "  );" ++ (10 ∷ a)) b)
 
--- three parts in front of a rest
+-- three parts before a rest
 front_rest : (x y z a b : Text) → x ++ (y ++ (z ++ (a ++ b))) ≡ (x ++ (y ++ (z ++ a))) ++ b
 front_rest x y z a b = simp append_assoc
 
@@ -64,7 +64,7 @@ pub items_first : (i : Item) (is : List Item) → items_text (i ∷ is) [] ≡ i
 unfolding items_text
 items_first i is = item_rest i [] (items_text is [])
 
--- items behind items
+-- items after items
 pub items_join : (is js : List Item) (bs : Text) → items_text (is ++ js) bs ≡ items_text is (items_text js bs)
 unfolding items_text
 items_join [] js bs = refl
@@ -73,7 +73,7 @@ items_join (i ∷ is) js bs = ap (item_text i) (items_join is js bs)
 pub items_behind : (is js : List Item) → items_text (is ++ js) [] ≡ items_text is [] ++ items_text js []
 items_behind is js = items_join is js [] ∙ items_rest is [] (items_text js [])
 
--- items that are added behind what is there
+-- items that are added after what is there
 pub items_added : (out one two : Text) (is js : List Item) → one ≡ out ++ items_text is [] → two ≡ one ++ items_text js [] → two ≡ out ++ items_text (is ++ js) []
 items_added out one two is js p q =
     q ∙ ap (λ x. x ++ items_text js []) p ∙ append_assoc out (items_text is []) (items_text js []) ∙ ap (λ x. out ++ x) (sym (items_behind is js))

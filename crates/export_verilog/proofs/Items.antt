@@ -45,7 +45,7 @@ connection_of c m i j k before p rs = record {
   value = cond p.is_output (name (key_text m (value_key i (k + output_count before)))) (expr_for (expression m) (slice_get rs (input_count before)));
 }
 
--- behind an output, and behind an input
+-- after an output, and after an input
 shifted_output : (c m : Module) (i j k n : ℕ) (x : Port) (before : List Port) (p : Port) (rs : List Ref) → x.is_output ≡ true
     → connection_of c m i (suc j + n) (suc k) before p rs ≡ connection_of c m i (j + suc n) k (x ∷ before) p rs
 shifted_output c m i j k n x before p rs out =

@@ -21,7 +21,7 @@ some_either : (b : Bool) (c e : Connection) (cs es : List Connection) → some_l
 some_either true c e cs es = refl
 some_either false c e cs es = refl
 
--- the operands behind those that are taken
+-- the operands after those that are taken
 pub others_drop : {A B : Type 0} (view : A → B) (xs : List A) (u : ℕ) → others (map view (drop u xs)) ≡ map view (drop (u + 1) xs)
 others_drop view [] zero = sym (ap (map view) (drop_none [] (0 + 1) (omega arith)))
 others_drop view [] (suc u) = sym (ap (map view) (drop_none [] (suc u + 1) (omega arith)))
@@ -51,7 +51,7 @@ module _ {A B : Type 0} (view : A → Port) (vref : B → Ref) (ex : Ref → Exp
   abbrev pub joined_left : List Name → List A → List B → ℕ → ℕ → ℕ → Text
   joined_left ns xs os j k u = connections_left (joined ex given k (drop j ns) (map view (drop j xs)) (map vref (drop u os))) []
 
-  -- one connection in front of the others
+  -- one connection before the others
   front : (ns : List Name) (xs : List A) (os : List B) (j k u : ℕ) (n : Name) (x : A) (b : Bool) → (view x).is_output ≡ b
       → length ns ≡ length xs → j < length xs → n ≡ get_or ns j n → x ≡ get_or xs j x
       → joined_left ns xs os j k u

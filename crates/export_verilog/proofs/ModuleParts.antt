@@ -31,7 +31,7 @@ pub named_ports : (m : Module) (ns : List Name) → length ns ≡ length m.ports
     → ((j : ℕ) (p : Port) → slice_get m.ports j ≡ Some p → slice_get ns j ≡ Some (key_text m (port_key j))) → ports_named ns m.ports ≡ vports m
 named_ports m ns count are = sym (ports_from m 0 m.ports ns count (λ j p there. are j p there ∙ ap (λ i. Some (key_text m (port_key i))) (sym (zero-add j))))
 
--- ---- the rest of a text stands behind a module
+-- ---- the rest of a text stands after a module
 
 lines_rest : (p : VPort) (ps : List VPort) (a b : Text) → port_lines p ps (a ++ b) ≡ port_lines p ps a ++ b
 unfolding port_lines
@@ -70,7 +70,7 @@ module_parts n ps is out one two thr fou end p q r s t =
 
 -- ---- a design, module after module
 
--- the text of the modules that are left behind so many
+-- the text of the modules that are left after so many
 unfoldable pub modules_left : ℕ → Tree → Text
 modules_left zero ms = tree_text ms
 modules_left (suc n) ms = further_text ms

@@ -1,4 +1,4 @@
--- The rest of a text stands behind its pieces, and parts that are added one after another.
+-- The rest of a text stands after its pieces, and parts that are added one after another.
 use Rattle.std.proofs.Common.{◌≡◌, [], ◌∷◌, ◌++◌, Option, Some, None, codes, refl, sym, ◌∙◌, ap, append_assoc}
 use Rattle.verilog_model.specs.Tree.{Numeral, Expr, Exprs, VPort, Load, Connection}
 use Rattle.verilog_model.specs.Tree.Expr.{name, bit_select, part_select, literal, joined, repeated, as_signed, as_unsigned, paren, odd, binary, choice}
@@ -21,7 +21,7 @@ four_parts out one two thr end a b c d p q r s =
 
 -- ---- expressions
 
--- three and five parts in front of a rest
+-- three and five parts before a rest
 three_rest : (x y z a b : Text) → x ++ (y ++ (z ++ (a ++ b))) ≡ (x ++ (y ++ (z ++ a))) ++ b
 three_rest x y z a b = simp append_assoc
 
@@ -76,7 +76,7 @@ guarded_parts out one two f c i q v p e =
     ∙ append_assoc out (if_text f (written c) []) (load_text i (written_load q v) [])
     ∙ ap (λ x. out ++ x) (sym (if_rest f (written c) [] (load_text i (written_load q v) [])))
 
--- a reset, and what stands behind it
+-- a reset, and what stands after it
 pub reset_parts : (out one two c q v next : Text) (en : Option Text)
     → one ≡ out ++ if_text (codes "    ") (written c) (load_text (codes "      ") (written_load q v) []) → two ≡ one ++ otherwise_text q next en
     → two ≡ out ++ if_text (codes "    ") (written c) (load_text (codes "      ") (written_load q v) (otherwise_text q next en))

@@ -23,7 +23,7 @@ same_back a b = go (same_name a b) refl (same_name b a) refl where
   go false e true f = other b a f ∙ sym f
   go false e false f = e ∙ sym f
 
--- a place behind the first
+-- a place after the first
 some_suc : (p : Option ℕ) (n : ℕ) → option_map suc p ≡ Some n → (k : ℕ) × (p ≡ Some k) × (n ≡ suc k)
 some_suc None n e = cc
 some_suc (Some k) n e = (k, refl, cc)

@@ -81,7 +81,7 @@ port_read p rest is apart = go p.is_output where
   go true = ap (λ ts. word (codes "output") ∷ word (codes "wire") ∷ ts) (named_read p.high p.name rest is.high is.name apart)
   go false = ap (λ ts. word (codes "input") ∷ word (codes "wire") ∷ ts) (named_read p.high p.name rest is.high is.name apart)
 
--- the ports from one on, and the parenthesis behind them
+-- the ports from one on, and the parenthesis after them
 lines_read : (p : VPort) (ps : List VPort) (rest : Text) → IsSpellablePort p → ArePorts ps →
     tokens (port_lines p ps (41 ∷ rest)) ≡ port_spelled p (more_ports_spelled ps (mark 41 ∷ tokens rest))
 unfolding port_lines
@@ -145,7 +145,7 @@ connection_read c rest is =
     ap (λ ts. mark 46 ∷ ts) (word_read c.port (40 ∷ expr_text c.value (41 ∷ rest)) is.port refl
     ∙ ap (λ ts. word c.port ∷ mark 40 ∷ ts) (expr_read c.value (41 ∷ rest) is.value refl))
 
--- the connections from one on, and the parenthesis behind them
+-- the connections from one on, and the parenthesis after them
 connection_lines_read : (c : Connection) (cs : List Connection) (rest : Text) → IsSpellableConnection c → AreConnections cs →
     tokens (connection_lines c cs (codes "  );" ++ (10 ∷ rest))) ≡ connection_spelled c (more_connections_spelled cs (mark 41 ∷ mark 59 ∷ tokens rest))
 unfolding connection_lines

@@ -79,7 +79,7 @@ items_text (i ∷ is) bs = item_text i (items_text is bs)
 unfoldable pub module_text : VModule → Text → Text
 module_text m bs = codes "module " ++ (m.name ++ ports_text m.ports (items_text m.items (codes "endmodule" ++ (10 ∷ bs))))
 
--- each further module behind an empty line
+-- each further module after an empty line
 unfoldable pub further_text : Tree → Text
 further_text [] = []
 further_text (m ∷ ms) = 10 ∷ module_text m (further_text ms)

@@ -31,14 +31,14 @@ written_block q next (Some en) None = if_load (written en) (written_load q next)
 written_block q next None (Some r) = if_else (written r.signal) (written_load q r.value) (written_load q next)
 written_block q next (Some en) (Some r) = if_else_if (written r.signal) (written_load q r.value) (written en) (written_load q next)
 
--- what stands behind the reset of a register: an `else` alone on its line, or with the enable
+-- what stands after the reset of a register: an `else` alone on its line, or with the enable
 abbrev pub otherwise_text : Name → Text → Option Text → Text
 otherwise_text q next None = codes "    else" ++ (10 ∷ load_text (codes "      ") (written_load q next) [])
 otherwise_text q next (Some en) = if_text (codes "    else ") (written en) (load_text (codes "      ") (written_load q next) [])
 
 -- ---- lists of lines
 
--- what stands behind a line of a list, of which some are left: a comma where there are
+-- what stands after a line of a list, of which some are left: a comma where there are
 abbrev pub line_end : Bool → Text
 line_end true = 44 ∷ 10 ∷ []
 line_end false = 10 ∷ []

@@ -30,7 +30,7 @@ pub struct Clocked<'t> {
     pub reset: Option<Reset<'t>>,
 }
 
-// Adds `r <= d;` behind blanks.
+// Adds `r <= d;` after blanks.
 #[tactic(auto, using(std::proofs::Common::append_assoc), unfolding(crate::specs::Layout::load_text, verilog_expr::specs::Text::expr_text))]
 fn push_load(out: &mut Text, indent: &[u8], target: &[u8], value: &[u8]) -> Result<(), AllocError>
     ensures { OnOk result (out.new ≡ out.old ++ load_text indent.now (written_load target.now value.now) []) }
@@ -43,7 +43,7 @@ fn push_load(out: &mut Text, indent: &[u8], target: &[u8], value: &[u8]) -> Resu
     Ok(())
 }
 
-// Adds `if (c)` behind what stands in front of it.
+// Adds `if (c)` after what stands before it.
 #[tactic(auto, using(std::proofs::Common::append_assoc), unfolding(crate::specs::Layout::if_text, verilog_expr::specs::Text::expr_text))]
 fn push_if(out: &mut Text, front: &[u8], condition: &[u8]) -> Result<(), AllocError>
     ensures { OnOk result (out.new ≡ out.old ++ if_text front.now (written condition.now) []) }

@@ -17,7 +17,7 @@ use verilog_expr::value_names::ValueNames;
 use verilog_expr::wires::Wires;
 
 /// Adds the names of the things of a body to those of its ports, in one walk over the operations: of each result to the
-/// names of values, and gives the operations' own names, which instances have. The error comes only for want of memory.
+/// names of values, and gives the operations' own names, which instances have. The error comes only when out of memory.
 pub fn add_ops(
     alloc: Global,
     names: &mut Names,

@@ -54,7 +54,7 @@ fn mark_body(
 }
 
 /// Of each module of a design, in order, whether an instance of some module calls it. Of modules with the same symbol the
-/// first is called. The error comes only for want of memory.
+/// first is called. The error comes only when out of memory.
 pub fn called_modules(alloc: Global, design: &Design) -> Result<Vec<bool>, AllocError>
     ensures { IfOk result (λ marks. AreCalled (call_lists (design_of design.now)) marks.items) }
 {

@@ -12,7 +12,7 @@ use io_edge::byte_text::Text;
 use op_verifier::Verified;
 use std::alloc::{AllocError, Global};
 
-// Adds the empty line in front of a module that follows another.
+// Adds the empty line before a module that follows another.
 fn push_between(out: &mut Text, follows: bool) -> Result<(), AllocError>
     ensures { OnOk result (out.new ≡ out.old ++ cond follows (codes "\n") []) }
 {
@@ -36,7 +36,7 @@ fn design_text(alloc: Global, all: &NamedDesign<'_>) -> Result<Text, AllocError>
 }
 
 /// The Verilog text of an accepted design without aggregates, one module after another with an empty line between two
-/// (IEEE 1364-2005, 12.1: modules). The error comes only for want of memory.
+/// (IEEE 1364-2005, 12.1: modules). The error comes only when out of memory.
 pub fn export(alloc: Global, verified: &Verified) -> Result<Text, AllocError>
     requires { HasNoAggregates (design_of verified.now.design) }
     ensures { IfOk result (λ text. text ≡ verilog_text (design_of verified.now.design)) }

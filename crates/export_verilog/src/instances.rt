@@ -19,7 +19,7 @@ pub fn push_head(out: &mut Text, callee: &[u8], name: &[u8]) -> Result<(), Alloc
     Ok(())
 }
 
-/// Adds the connection of a port to an expression that is already written, and what stands behind it (12.3.6: connecting
+/// Adds the connection of a port to an expression that is already written, and what stands after it (12.3.6: connecting
 /// module instance ports by name).
 #[tactic(auto, using(std::proofs::Common::append_assoc), unfolding(crate::specs::Layout::connection_text, verilog_expr::specs::Text::expr_text))]
 pub fn push_connection(
@@ -39,7 +39,7 @@ pub fn push_connection(
     Ok(())
 }
 
-/// Adds what stands behind the open parenthesis of an instance, in front of its connections: nothing where it has none.
+/// Adds what stands after the open parenthesis of an instance, before its connections: nothing where it has none.
 pub fn push_begin(out: &mut Text, are_some: bool) -> Result<(), AllocError>
     ensures { OnOk result (out.new ≡ out.old ++ cond are_some (codes "\n") []) }
 {
@@ -49,7 +49,7 @@ pub fn push_begin(out: &mut Text, are_some: bool) -> Result<(), AllocError>
     Ok(())
 }
 
-/// Adds the end of an instance, with blanks in front where it has connections.
+/// Adds the end of an instance, with blanks before it where it has connections.
 #[tactic(auto, unfolding(crate::specs::Written::connections_end))]
 pub fn push_end(out: &mut Text, are_some: bool) -> Result<(), AllocError>
     ensures { OnOk result (out.new ≡ out.old ++ connections_end are_some) }

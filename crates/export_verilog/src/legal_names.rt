@@ -15,7 +15,7 @@ use std::alloc::{AllocError, Global};
 /// More names than this want more memory than there is.
 pub const MOST_NAMES: usize = 4_000_000_000;
 
-// The legal names of wanted ones, in order. The error is want of memory, as with more than 4,000,000,000 names.
+// The legal names of wanted ones, in order. The error is out of memory, as with more than 4,000,000,000 names.
 fn legal_texts(alloc: Global, wanted: &[Text]) -> Result<Vec<Text>, AllocError>
     ensures { IfOk result (λ names. names.items ≡ legal wanted.now) }
 {
@@ -36,7 +36,7 @@ fn symbols(alloc: Global, design: &Design) -> Result<Vec<Text>, AllocError>
     Ok(wanted)
 }
 
-/// The names of a design's modules in Verilog, in order. The error comes only for want of memory.
+/// The names of a design's modules in Verilog, in order. The error comes only when out of memory.
 #[tactic(auto, unfolding(crate::specs::Exported::symbol_names))]
 pub fn symbol_names(alloc: Global, design: &Design) -> Result<Vec<Text>, AllocError>
     ensures { IfOk result (λ names. names.items ≡ symbol_names (design_of design.now)) }
@@ -57,7 +57,7 @@ fn wanted_names(alloc: Global, ports: &[design::Port]) -> Result<Vec<Text>, Allo
 }
 
 /// The names that a module with some ports gives to them in Verilog, in order: they are the first that the module gives.
-/// The error comes only for want of memory.
+/// The error comes only when out of memory.
 pub fn port_names(alloc: Global, ports: &[design::Port]) -> Result<Vec<Text>, AllocError>
     ensures count { IfOk result (λ names. length names.items ≡ length ports.now) }
     ensures names { IfOk result (λ names. ArePortNames (map port_of ports.now) names.items) }

@@ -9,7 +9,7 @@ use io_edge::byte_text::Text;
 use std::alloc::AllocError;
 use verilog_expr::literals::{high_of, push_decimal};
 
-/// Adds the range of so many bits, and a name with what stands behind it (IEEE 1364-2005, 3.3: vectors).
+/// Adds the range of so many bits, and a name with what stands after it (IEEE 1364-2005, 3.3: vectors).
 #[tactic(auto, using(std::proofs::Common::append_assoc), unfolding(crate::specs::Layout::range_text))]
 pub fn push_ranged(out: &mut Text, width: u64, name: &[u8], behind: &[u8]) -> Result<(), AllocError>
     ensures { OnOk result (out.new ≡ out.old ++ range_text (high_of width) (name.now ++ behind.now)) }

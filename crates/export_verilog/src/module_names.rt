@@ -63,7 +63,7 @@ fn add_ports(
     Ok(list)
 }
 
-/// The names of a module's things, by its ports and its body. The error is want of memory, as with more than
+/// The names of a module's things, by its ports and its body. The error is out of memory, as with more than
 /// 4,000,000,000 names.
 pub fn module_names(
     alloc: Global,

@@ -24,7 +24,7 @@ pub struct OpNames {
     pub instance: Text,
 }
 
-/// Adds the legal name of a wanted one, and gives it. The error is want of memory, as with more than 4,000,000,000 names.
+/// Adds the legal name of a wanted one, and gives it. The error is out of memory, as with more than 4,000,000,000 names.
 pub(crate) fn add_name(alloc: Global, names: &mut Names, wanted: &[u8]) -> Result<Text, AllocError>
     ensures names { OnOk result (legal_names names.new ≡ legal_names names.old ++ legal_name (legal_names names.old) wanted.now ∷ []) }
     ensures name { IfOk result (λ name. name ≡ legal_name (legal_names names.old) wanted.now) }
@@ -103,7 +103,7 @@ fn no_names(alloc: Global) -> OpNames
     }
 }
 
-/// Adds the names of the things of an operation, and gives them. The error comes only for want of memory.
+/// Adds the names of the things of an operation, and gives them. The error comes only when out of memory.
 pub fn add_op(
     alloc: Global,
     names: &mut Names,

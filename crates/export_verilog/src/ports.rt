@@ -18,14 +18,14 @@ fn direction(is_output: bool) -> &'static [u8]
     if is_output { b"output" } else { b"input" }
 }
 
-/// What stands behind a line of a list: a comma where others are left.
+/// What stands after a line of a list: a comma where others are left.
 pub fn line_end(are_left: bool) -> &'static [u8]
     ensures { result.now ≡ line_end are_left }
 {
     if are_left { b",\n" } else { b"\n" }
 }
 
-// Adds a port under a name, and what stands behind it.
+// Adds a port under a name, and what stands after it.
 #[tactic(auto, using(std::proofs::Common::append_assoc), unfolding(crate::specs::Layout::port_text))]
 fn push_port(out: &mut Text, port: &Port, name: &[u8], behind: &[u8]) -> Result<(), AllocError>
     requires narrow { width (port_of port.now).type < 2 ^ 64 }

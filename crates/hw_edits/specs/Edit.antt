@@ -26,7 +26,7 @@ anchors os = filter is_anchor os
 
 -- ---- edits
 
--- the operation at position j stands at position j' of the new body, with `stand` of its operands, behind the same
+-- the operation at position j stands at position j' of the new body, with `stand` of its operands, after the same
 -- registers and instances
 pub record Kept (os os' : List Op) (stand : Ref → Ref) (j j' : ℕ) : Type 0 where
   pub op : slice_get os' j' ≡ omap (retarget stand) (slice_get os j)

@@ -55,7 +55,7 @@ impl BitString {
         self.bits.as_slice()
     }
 
-    /// Puts these bits behind. On an error the word stays as it was.
+    /// Puts these bits after. On an error the word stays as it was.
     pub fn push_bits(&mut self, bits: &[bool]) -> Result<(), AllocError>
         ensures { OnOk result (self.new ≡ self.old ++ bits.now) }
     {

@@ -36,7 +36,7 @@ pub struct Stepped {
 
 /// One step of a module: its outputs, and its content after it, under the values of its nets within a depth.
 ///
-/// A refusal that is not for want of memory comes only where an operation that the outputs or the registers need does
+/// A refusal other than out of memory comes only where an operation that the outputs or the registers need does
 /// not take the words of its operands, or a number of bits or of instances is too large to count. Where the depth
 /// suffices, the words are those of the settled map.
 pub fn step(alloc: Global, at: &Setting, depth: u32) -> Result<Stepped, Refusal>
@@ -190,7 +190,7 @@ fn reset(
 /// A run of a module: the outputs of a list of steps, each the bits of its inputs, from a content, under the values of
 /// its nets within a depth.
 ///
-/// A refusal that is not for want of memory comes only where one comes for a step.
+/// A refusal other than out of memory comes only where one comes for a step.
 pub fn run(
     alloc: Global,
     modules: &[Module],

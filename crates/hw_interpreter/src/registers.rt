@@ -137,7 +137,7 @@ pub fn registers<'a>(
     Ok(slots)
 }
 
-// puts behind the registers of the module of a symbol at the end of a path, down to a depth of instances
+// puts after the registers of the module of a symbol at the end of a path, down to a depth of instances
 #[cycle(registers)]
 fn push_module<'a>(
     alloc: Global,
@@ -159,7 +159,7 @@ fn push_module<'a>(
     }
 }
 
-// puts behind the registers of a body
+// puts after the registers of a body
 #[cycle(registers)]
 fn push_body<'a>(
     alloc: Global,
@@ -180,7 +180,7 @@ fn push_body<'a>(
     Ok(())
 }
 
-// puts behind the registers of an operation that `number` instances stand before
+// puts after the registers of an operation that `number` instances stand before
 #[cycle(registers)]
 fn push_operation<'a>(
     alloc: Global,

@@ -24,7 +24,7 @@ use std::alloc::{AllocError, Global};
 /// The value of the result number `index`, of type `ty`, of an operation of this kind that writes `types`, from the
 /// words of its operands, in order. Registers, instances and outputs have the empty word.
 ///
-/// A refusal that is not for want of memory comes exactly where the operation does not take the words: operations on
+/// A refusal other than out of memory comes exactly where the operation does not take the words: operations on
 /// integers other than concatenations and choices take words of 1 to 128 bits that fit their kind, the others as many
 /// words as they have operands, with the types of arrays and structs that they write.
 pub fn value_of(

@@ -18,7 +18,7 @@ pub fn first_bits(word: &[bool], width: u64) -> &[bool]
     word.split_at(width as usize).0
 }
 
-/// What stands behind the first bits.
+/// What stands after the first bits.
 pub fn behind(word: &[bool], width: u64) -> &[bool]
     ensures { result.now ≡ drop width word.now }
 {
@@ -39,7 +39,7 @@ pub(crate) fn front<'w>(word: &'w [bool], ty: &Ty) -> &'w [bool]
     word.split_at(width as usize).0
 }
 
-// what stands behind as many bits as a value of the type has
+// what stands after as many bits as a value of the type has
 pub(crate) fn past<'w>(word: &'w [bool], ty: &Ty) -> &'w [bool]
     ensures { result.now ≡ drop (width (type_of ty.now)) word.now }
 {

@@ -92,7 +92,7 @@ no_output : (kind : Kind) (ts : List HwType) (xs : List (Option HwType)) (t : Hw
 no_output output ts xs t k is fits = fits
 no_output kind ts xs t k is fits = cc
 
--- an instance's source, behind the tests that choose it
+-- an instance's source, after the tests that choose it
 pub chosen_instance : {A : Type 0} (a b : Bool) (x y z : A) → a ≡ false → b ≡ true → cond a x (cond b y z) ≡ y
 chosen_instance false true x y z no_register is_one = refl
 chosen_instance true b x y z no_register is_one = cc

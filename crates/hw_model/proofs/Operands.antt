@@ -14,7 +14,7 @@ use Rattle.bits_core.proofs.Storage.{bits-zero}
 use Rattle.hw_model.specs.IntegerKinds.{AllHave}
 use Rattle.hw_model.specs.Value.{joined, product}
 
--- one more operand in front
+-- one more operand before
 pub FoldsBy : (List Word → Word) → (Word → Word → Word) → ℕ → Type 0
 FoldsBy value step w = (x : Word) (ys : List Word) → length x ≡ w → AllHave w ys → step x (value ys) ≡ value (x ∷ ys)
 

@@ -53,7 +53,7 @@ byte n = bits 8 n
 abbrev only_module : List Port → List Op → Design
 only_module ports body = module_of (codes "M") ports body ∷ []
 
--- ---- two registers, one behind the other, with enable and reset
+-- ---- two registers, one after the other, with enable and reset
 
 abbrev register_ports : List Port
 register_ports = in_port (codes "clk") clock ∷ in_port (codes "rst") (int 1) ∷ in_port (codes "en") (int 1) ∷ in_port (codes "d") (int 8) ∷ []

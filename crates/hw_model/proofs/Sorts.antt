@@ -18,7 +18,7 @@ sort_of output = an_output refl refl refl
 sort_of (register f r) = a_register (record { has_enable = takes_enable f; reset = r }) refl refl refl
 sort_of k = a_made refl refl refl
 
--- an instance stands, among the instances, behind those before it
+-- an instance stands, among the instances, after those before it
 pub instance_found : (os : List Op) (j : ℕ) (o : Op) (x : Instance) → slice_get os j ≡ Some o → instance_in o.kind ≡ Some x
     → slice_get (instances os) (length (instances (take j os))) ≡ Some o
 instance_found [] j o x is inst = cc

@@ -44,7 +44,7 @@ after_read state name limit =
       read_faults = if is_some (wanted state name limit) then state.read_faults else counted state.read_faults;
     }
 
--- a read answers what is wanted, a fault where nothing is, and want of memory only in place of a text
+-- a read answers what is wanted, a fault where nothing is, and out of memory only in place of a text
 abbrev pub IsAnswer : Option (List ℕ) → Result (List ℕ) FileFail → Type 0
 IsAnswer wanted (Ok text) = wanted ≡ Some text
 IsAnswer wanted (Err Failed) = wanted ≡ None
@@ -60,7 +60,7 @@ after_write state name bytes (Ok value) = record state { files = with_file name 
 after_write state name bytes (Err Failed) = record state { writes = counted state.writes; write_faults = counted state.write_faults }
 after_write state name bytes (Err NoMemory) = record state { writes = counted state.writes }
 
--- a write answers with a fault exactly where one is to come, want of memory coming only in the place of success
+-- a write answers with a fault exactly where one is to come, out of memory coming only in the place of success
 abbrev pub IsWriteAnswer : {T : Type 0} → Bool → Result T FileFail → Type 0
 IsWriteAnswer fails (Ok value) = fails ≡ false
 IsWriteAnswer fails (Err Failed) = fails ≡ true

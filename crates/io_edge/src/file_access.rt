@@ -51,7 +51,7 @@ pub trait Files {
 
     /// The whole content of the file of this name, or its first `limit` bytes where it is longer:
     /// more is not read. The name `-` is standard input. It fails with `Failed` where the file
-    /// cannot be read, as at an unknown name, and with `NoMemory` for want of memory. It changes
+    /// cannot be read, as at an unknown name, and with `NoMemory` when out of memory. It changes
     /// no file.
     fn read(&mut self, alloc: Global, name: &str, limit: u64) -> Result<Text, FileFail>
         ensures text { Reads (files self.old) name.now limit result }
@@ -63,7 +63,7 @@ pub trait Files {
 
     /// Gives the file of this name these bytes; a name that no file has gets one. It fails with
     /// `Failed` where the file cannot be written, which then is as it was or has a front of the
-    /// bytes, and with `NoMemory` for want of memory, which changes nothing. No other file changes.
+    /// bytes, and with `NoMemory` when out of memory, which changes nothing. No other file changes.
     fn write(&mut self, alloc: Global, name: &str, bytes: &[u8]) -> Result<(), FileFail>
         ensures files { Writes (files self.old) (files self.new) name.now bytes.now result }
         ensures cause { HasNamedCause name.now (write_faults self.old) (write_faults self.new) result }

@@ -28,7 +28,7 @@ position_push (j ∷ ids) more i h = go (nat_eq j i) refl h (position_push ids m
     go false t (zero, l, e) r = absurd (eqb-false j i t e)
     go false t (suc k, l, e) r = ap suc (r (k, omega arith, e))
 
--- positions behind the operation that is put in shift by one
+-- positions after the operation that is put in shift by one
 position_put : (b : OpId) (o : BodyOp) (ops : List BodyOp) (i : ℕ) → Contains (ids_in ops) b.index → (o.id ≡ i → ⊥) →
     position_of (ids_in (put_before (Some b) o ops)) i ≡ pushed (position_of (ids_in ops) b.index) (position_of (ids_in ops) i)
 position_put b o [] i (k, l, e) n = absurd (omega arith)
@@ -107,7 +107,7 @@ numbered-push o ops h l =
 
 -- ---- an operation taken out
 
--- positions behind it shift back by one
+-- positions after it shift back by one
 position_gone : (id i : ℕ) (ops : List BodyOp) → Contains (ids_in ops) id → (i ≡ id → ⊥) →
     pulled (position_of (ids_in ops) id) (position_of (ids_in ops) i) ≡ Some (position_of (ids_in (taken_out id ops)) i)
 position_gone id i [] (k, l, e) n = absurd (omega arith)

@@ -97,7 +97,7 @@ abbrev pub operand_count : ℕ → List BodyOp → ℕ
 operand_count id [] = 0
 operand_count id (o ∷ ops) = cond (nat_eq o.id id) (length o.operands) (operand_count id ops)
 
--- the operation of an id has a place for one more operand before operand `k`, or behind the last
+-- the operation of an id has a place for one more operand before operand `k`, or after the last
 abbrev pub HasPlace : List BodyOp → ℕ → ℕ → Type 0
 HasPlace ops id k = IfSome (op_at ops id) (λ o. k ≤ length o.operands)
 

@@ -244,7 +244,7 @@ impl Body {
         self.parts[index] = Parts::empty(alloc);
     }
 
-    /// Puts `value` in before operand `at` of `op`, or behind the last. On an error the operations
+    /// Puts `value` in before operand `at` of `op`, or after the last. On an error the operations
     /// stay.
     pub fn insert_operand(&mut self, op: OpId, at: u32, value: Value) -> Result<(), AllocError>
         requires live { Contains (ids_of self.old) op.index }
@@ -344,7 +344,7 @@ impl Body {
     }
 }
 
-/// Puts `one` in the place of the parts `i`, or behind the others, where there is room for it.
+/// Puts `one` in the place of the parts `i`, or after the others, where there is room for it.
 fn put_parts(parts: &mut Vec<Parts>, i: usize, one: Parts)
     requires place { i ≤ length parts.old.items }
     requires room { length parts.old.items ≤ i → vec_len parts.old < vec_capacity parts.old }

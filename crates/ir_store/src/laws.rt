@@ -28,7 +28,7 @@ pub fn additions_by_position()
     ensures live { (before : _) (o : BodyOp) (ops : List BodyOp) → AreLive ops → HasLive (ids_in ops) o → AreLive (put_before before o ops) }
 {}
 
-/// Does nothing. Its clauses say that without an operation whose results have no use the positions behind it shift back
+/// Does nothing. Its clauses say that without an operation whose results have no use the positions after it shift back
 /// by one, and that the operands stay live.
 pub fn erasures_by_position()
     ensures gone { (id : ℕ) (ops : List BodyOp) → Contains (ids_in ops) id → IsUnused id ops

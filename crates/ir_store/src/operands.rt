@@ -230,7 +230,7 @@ impl OperandTable {
         self.values.reserve(operands)
     }
 
-    /// Puts a list behind the others, where there is room for it.
+    /// Puts a list after the others, where there is room for it.
     pub fn push(&mut self, list: &[Value])
         requires list_room { 1 ≤ self.old.list_room }
         requires room { length list.now ≤ self.old.room }
@@ -243,7 +243,7 @@ impl OperandTable {
         self.ends.push_reserved(spot + list.len());
     }
 
-    /// Puts `list` in the place of list `i`, where there is room for it, or behind the others.
+    /// Puts `list` in the place of list `i`, where there is room for it, or after the others.
     pub fn put(&mut self, i: usize, list: &[Value])
         requires place { i ≤ length self.old.lists }
         requires list_room { length self.old.lists ≤ i → 1 ≤ self.old.list_room }

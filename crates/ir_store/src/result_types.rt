@@ -191,7 +191,7 @@ fn types_of_fields(alloc: Global, fields: &[Field]) -> Result<Vec<Option<Ty>>, A
     Ok(types)
 }
 
-/// The types behind so many.
+/// The types after so many.
 fn types_behind(alloc: Global, types: &[Ty], count: usize) -> Result<Vec<Option<Ty>>, AllocError>
     ensures { IfOk result (λ ts. map (option_map type_of) ts.items ≡ map Some (drop count (map type_of types.now))) }
 {

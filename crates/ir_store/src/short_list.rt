@@ -81,7 +81,7 @@ impl<T: Drop> ShortList<T> {
         }
     }
 
-    /// Puts an item behind the others. A first one takes no memory. On an error the items stay.
+    /// Puts an item after the others. A first one takes no memory. On an error the items stay.
     pub fn push(&mut self, alloc: Global, item: T) -> Result<(), AllocError>
         ensures ok { OnOk result (short_items self.new ≡ short_items self.old ++ item ∷ []) }
         ensures err { OnErr result (short_items self.new ≡ short_items self.old) }

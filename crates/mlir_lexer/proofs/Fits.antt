@@ -31,7 +31,7 @@ one_more : (more : Option ℕ) (n : ℕ) → option_map (λ k. k + 1) more ≡ S
 one_more None n e = cc
 one_more (Some m) n e = (m, refl, cc)
 
--- one byte of a string, and those behind it
+-- one byte of a string, and those after it
 string_cons-fits : (reading : Reading) (b : ℕ) (bs : List ℕ) (n : ℕ) → reading_after reading 10 ≡ Broken
     → option_map (λ k. k + 1) (string_rest (reading_after reading b) bs) ≡ Some n
     → ((m : ℕ) → string_rest (reading_after reading b) bs ≡ Some m → (m ≤ length bs) × NoLineEnd (take m bs))
@@ -67,7 +67,7 @@ string_rest-fits Plain (b ∷ bs) n e = string_cons-fits Plain b bs n refl e (λ
 string_rest-fits Escape (b ∷ bs) n e = string_cons-fits Escape b bs n refl e (λ m f. string_rest-fits (reading_after Escape b) bs m f)
 string_rest-fits HexPair (b ∷ bs) n e = string_cons-fits HexPair b bs n refl e (λ m f. string_rest-fits (reading_after HexPair b) bs m f)
 
--- a run of a class without LF behind the first byte
+-- a run of a class without LF after the first byte
 run-fits : (test : ℕ → Bool) (b : ℕ) (bs : List ℕ) → test 10 ≡ false → (b == 10) ≡ false → IsWithinLine (run test bs + 1) (b ∷ bs)
 run-fits test b bs h t = IsWithinLine-cons b bs (run test bs) (run test bs + 1) refl t (run-within test bs) (run-NoLineEnd test bs h)
 
@@ -78,13 +78,13 @@ suffixed-fits kind b bs t = either b bs (suffix_length bs == 0) _ _ (λ z. tt) (
     go true = run-fits is_digit b bs refl t
     go false = run-fits is_suffix_byte b bs refl t
 
--- a string behind the first byte
+-- a string after the first byte
 string-fits : (kind : TokenKind) (b : ℕ) (bs : List ℕ) (length : Option ℕ) → length ≡ string_length bs → (b == 10) ≡ false → FitsFront b bs (quoted kind 0 length)
 string-fits kind b bs None e t = tt
 string-fits kind b bs (Some n) e t =
     let fits = string_rest-fits Plain bs n (sym e) in IsWithinLine-cons b bs n (0 + 1 + n) (omega arith) t fits.0 fits.1
 
--- a string behind the first byte and the quote that opens it
+-- a string after the first byte and the quote that opens it
 symbol_string-fits : (kind : TokenKind) (b q : ℕ) (bs : List ℕ) (length : Option ℕ) → length ≡ string_length bs → (b == 10) ≡ false → (q == 10) ≡ false
     → FitsFront b (q ∷ bs) (quoted kind 1 length)
 symbol_string-fits kind b q bs None e t u = tt

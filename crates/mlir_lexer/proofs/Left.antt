@@ -23,14 +23,14 @@ place_after-append place (x ∷ xs) ys = place_after-append (next_place place x)
 pub place_of-add : (source : List ℕ) (at n : ℕ) → place_of source (at + n) ≡ place_after (place_of source at) (take n (drop at source))
 place_of-add source at n = ap (place_after start_place) (take-add at n source) ∙ place_after-append start_place (take at source) (take n (drop at source))
 
--- behind one byte
+-- after one byte
 pub place_of-next : (source : List ℕ) (at b : ℕ) (bs : List ℕ) → drop at source ≡ b ∷ bs → place_of source (at + 1) ≡ next_place (place_of source at) b
 place_of-next source at b bs e = place_of-add source at 1 ∙ ap (λ (l : List ℕ). place_after (place_of source at) (take 1 l)) e
 
 pub drop-next : (source : List ℕ) (at b : ℕ) (bs : List ℕ) → drop at source ≡ b ∷ bs → drop (at + 1) source ≡ bs
 drop-next source at b bs e = sym (drop-drop 1 at source) ∙ ap (drop 1) e
 
--- the tokens behind some further bytes of what is left
+-- the tokens after some further bytes of what is left
 unfoldable pub behind : List ℕ → ℕ → ℕ → List (Result Lexeme Refusal)
 behind source at skipped = tokens_behind skipped (place_of source at) at (drop at source)
 
@@ -51,7 +51,7 @@ behind-skip source (suc skipped) at within =
     behind-suc source at skipped (get_or source at 0) (drop (suc at) source) first
     ∙ (behind-skip source skipped (at + 1) (omega arith) ∙ ap (λ n. behind source n 0) count)
 
--- what is left is what the next bytes begin with, and then what is left behind it
+-- what is left is what the next bytes begin with, and then what is left after it
 pub tokens_left-told : (source : List ℕ) (at b : ℕ) (bs : List ℕ) → drop at source ≡ b ∷ bs
     → tokens_left (record { source = source; at = at }) ≡ told (front_of b bs) (place_of source at) at (b ∷ bs) (λ more. behind source (at + 1) more)
 unfolding behind tokens_behind
@@ -61,7 +61,7 @@ tokens_left-told source at b bs e =
     ∙ ap (λ (l : List ℕ). told (front_of b bs) (place_of source at) at (b ∷ bs) (λ more. tokens_behind more (place_of source (at + 1)) (at + 1) l))
     (sym (drop-next source at b bs e)))
 
--- what is left behind a gap or a token of so many bytes
+-- what is left after a gap or a token of so many bytes
 pub behind-left : (source : List ℕ) (at n : ℕ) → 1 ≤ n → at + n ≤ length source → behind source (at + 1) (n - 1) ≡ tokens_left (record { source = source; at = at + n })
 unfolding behind
 behind-left source at n some within =

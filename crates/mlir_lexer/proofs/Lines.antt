@@ -1,4 +1,4 @@
--- Fronts that hold no end of a line, and the places behind them.
+-- Fronts that hold no end of a line, and the places after them.
 use Rattle.std.proofs.Common.{add-one, ◌≡◌, ℕ, suc, ◌+◌, ◌-◌, ◌^◌, ◌≤◌, Bool, true, false, cond, List, [], ◌∷◌, take, length, min, refl, sym, ap, ◌∙◌, subst, arith, ◌==◌, length-take}
 use Rattle.std.proofs.lemmas.Bool.{eqb-true}
 use Rattle.diag.specs.Place.{further, next_place, place_after}
@@ -16,7 +16,7 @@ further-twice place m n =
     let col : min (min (place.col + m) (2 ^ 32 - 1) + n) (2 ^ 32 - 1) ≡ min (place.col + (m + n)) (2 ^ 32 - 1) = omega arith
     in ap (λ (c : ℕ). let p : Place = record { line = place.line; col = c } in p) col
 
--- behind bytes of one line the column is so much greater
+-- after bytes of one line the column is so much greater
 place_after-line : (place : Place) (k : ℕ) (bytes : List ℕ) → NoLineEnd bytes → place_after (further place k) bytes ≡ further place (k + length bytes)
 place_after-line place k [] h = let e : k ≡ k + 0 = omega arith in ap (further place) e
 place_after-line place k (b ∷ bs) h =
@@ -25,7 +25,7 @@ place_after-line place k (b ∷ bs) h =
     let count : k + 1 + length bs ≡ k + suc (length bs) = omega arith
     in ap (λ q. place_after q bs) step ∙ (place_after-line place (k + 1) bs h.1 ∙ ap (further place) count)
 
--- a byte that ends no line, and so many of those behind it
+-- a byte that ends no line, and so many of those after it
 pub IsWithinLine-cons : (b : ℕ) (bs : List ℕ) (n total : ℕ) → total ≡ n + 1 → (b == 10) ≡ false → n ≤ length bs → NoLineEnd (take n bs)
     → IsWithinLine total (b ∷ bs)
 IsWithinLine-cons b bs n total e h within flat =

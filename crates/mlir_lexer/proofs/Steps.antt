@@ -43,7 +43,7 @@ pub line_end-further : {start cursor : Cursor} {b : ℕ} {bs : List ℕ} → Beg
 unfolding behind
 line_end-further {start} {cursor} {b} {bs} h i = record { same = sym (is_told h) ∙ i.same; source = i.source; behind = omega (arith, i.behind) }
 
--- bytes within a line are within the text, and the column behind them is so much greater
+-- bytes within a line are within the text, and the column after them is so much greater
 line-within : (cursor : Cursor) {b : ℕ} {bs : List ℕ} (n : ℕ) → drop cursor.at cursor.source ≡ b ∷ bs → IsWithinLine n (b ∷ bs)
     → cursor.at + n ≤ length cursor.source
 line-within cursor {b} {bs} n split line =

@@ -10,11 +10,11 @@ use Rattle.mlir_lexer.specs.declared.token.TokenKind.TheVariants as kind
 abbrev pub hex_value : ℕ → ℕ
 hex_value b = cond (is_digit b) (b - 48) (cond (nat_le 97 b && nat_le b 102) (b - 87) (cond (nat_le 65 b && nat_le b 70) (b - 55) 0))
 
--- what a byte behind a backslash stands for: `n` for LF, `t` for a tab, `\` and `"` for themselves
+-- what a byte after a backslash stands for: `n` for LF, `t` for a tab, `\` and `"` for themselves
 abbrev pub escaped : ℕ → ℕ
 escaped b = cond (b == 110) 10 (cond (b == 116) 9 b)
 
--- the bytes that a string's body stands for, where something is pending in front of it
+-- the bytes that a string's body stands for, where something is pending before it
 abbrev pub decoded : Pending → List ℕ → List ℕ
 decoded pending [] = []
 decoded Nothing (b ∷ bs) = cond (b == 92) (decoded Backslash bs) (b ∷ decoded Nothing bs)
@@ -40,7 +40,7 @@ content_of kind.AttributeAlias text = drop 1 text
 content_of kind.TypeName text = drop 1 text
 content_of _ text = text
 
--- one byte of a body: what is pending behind it, and the byte that is whole by then
+-- one byte of a body: what is pending after it, and the byte that is whole by then
 abbrev pub Turns : Pending → ℕ → Pending → Option ℕ → Type 0
 Turns pending b next None = (bs : List ℕ) → decoded pending (b ∷ bs) ≡ decoded next bs
 Turns pending b next (Some value) = (bs : List ℕ) → decoded pending (b ∷ bs) ≡ value ∷ decoded next bs

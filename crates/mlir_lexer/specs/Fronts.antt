@@ -51,23 +51,23 @@ is_hex_mark (b ∷ bs) = b == 120 && begins is_hex_digit bs
 abbrev pub number_front : ℕ → List ℕ → Front
 number_front b bs = cond (b == 48 && is_hex_mark bs) (Token kind.Integer (run is_hex_digit (drop 1 bs) + 2)) (Token kind.Integer (run is_digit bs + 1))
 
--- behind `@`: a string or a suffix
+-- after `@`: a string or a suffix
 abbrev pub symbol_front : List ℕ → Front
 symbol_front bs = cond (begins (λ b. b == 34) bs) (quoted kind.SymbolString 1 (string_length (drop 1 bs))) (suffixed kind.SymbolName bs)
 
--- behind `#`: a number or a name
+-- after `#`: a number or a name
 abbrev pub hash_front : List ℕ → Front
 hash_front bs = cond (begins is_digit bs) (suffixed kind.ResultNumber bs) (suffixed kind.AttributeAlias bs)
 
--- behind `/`: a second one begins a comment, which the line's end ends
+-- after `/`: a second one begins a comment, which the line's end ends
 abbrev pub slash_front : List ℕ → Front
 slash_front bs = cond (begins (λ b. b == 47) bs) (Gap (run is_line_byte bs + 1)) (Bad 0)
 
--- behind `-`: `>` makes an arrow
+-- after `-`: `>` makes an arrow
 abbrev pub minus_front : List ℕ → Front
 minus_front bs = cond (begins (λ b. b == 62) bs) (Token kind.Arrow 2) (Token kind.Minus 1)
 
--- behind a byte that is no letter, digit or blank
+-- after a byte that is no letter, digit or blank
 unfoldable pub sign_front : ℕ → List ℕ → Front
 sign_front b bs =
     cond (b == 37) (suffixed kind.ValueName bs)
@@ -78,7 +78,7 @@ sign_front b bs =
     (cond (b == 45) (minus_front bs)
     (cond (b == 47) (slash_front bs) (mark_front (mark_of b))))))))
 
--- what a byte and those behind it begin with
+-- what a byte and those after it begin with
 unfoldable pub front_of : ℕ → List ℕ → Front
 front_of b bs =
     cond (b == 10) LineEnd

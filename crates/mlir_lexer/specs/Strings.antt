@@ -5,7 +5,7 @@ use Rattle.mlir_lexer.specs.Classes.{is_hex_digit}
 use Rattle.mlir_lexer.specs.declared.strings.Reading.{Reading}
 use Rattle.mlir_lexer.specs.declared.strings.Reading.TheVariants.{Plain, Escape, HexPair, Closed, Broken}
 
--- the bytes that stand for one byte behind a backslash: `\`, `"`, `n`, `t`
+-- the bytes that stand for one byte after a backslash: `\`, `"`, `n`, `t`
 abbrev pub is_escape_letter : ℕ → Bool
 is_escape_letter b = (b == 92 || b == 34) || (b == 110 || b == 116)
 
@@ -30,6 +30,6 @@ abbrev pub string_rest : Reading → List ℕ → Option ℕ
 string_rest reading [] = unless_ended reading None
 string_rest reading (b ∷ bs) = unless_ended reading (option_map (λ n. n + 1) (string_rest (reading_after reading b) bs))
 
--- how many bytes a string has behind its opening quote
+-- how many bytes a string has after its opening quote
 abbrev pub string_length : List ℕ → Option ℕ
 string_length bytes = string_rest Plain bytes

@@ -31,7 +31,7 @@ told (Gap count) place at bytes later = later (count - 1)
 told (Token kind count) place at bytes later = Ok (record { kind = kind; place = place; at = at; text = take count bytes }) ∷ later (count - 1)
 told (Bad before) place at bytes later = Err (bad_byte (further place before)) ∷ []
 
--- the tokens of the bytes behind the first `skipped` ones; `place` and `at` are those of the first byte
+-- the tokens of the bytes after the first `skipped` ones; `place` and `at` are those of the first byte
 unfoldable pub tokens_behind : ℕ → Place → ℕ → List ℕ → List (Result Lexeme Refusal)
 tokens_behind skipped place at [] = []
 tokens_behind zero place at (b ∷ bs) = told (front_of b bs) place at (b ∷ bs) (λ more. tokens_behind more (next_place place b) (at + 1) bs)
@@ -55,7 +55,7 @@ Gives (Ok None) before after = (before ≡ []) × (after ≡ [])
 Gives (Ok (Some token)) before after = before ≡ Ok (lexeme_of token) ∷ after
 Gives (Err refusal) before after = (before ≡ Err refusal ∷ []) × (after ≡ before)
 
--- a token's bytes stand in the source at its position, at its place, behind what was read and before what is left, and are not none
+-- a token's bytes stand in the source at its position, at its place, after what was read and before what is left, and are not none
 pub record IsSpan (token : Lexeme) (before after : Cursor) : Type 0 where
   pub behind : before.at ≤ token.at
   pub ended : token.at + length token.text ≡ after.at

@@ -45,7 +45,7 @@ pub enum Digit {}
 /// The digits, and letters from A to F in either case.
 pub enum HexDigit {}
 
-/// The bytes of a bare identifier behind its first one.
+/// The bytes of a bare identifier after its first one.
 pub enum NameByte {}
 
 /// The bytes of a suffix that does not begin with a digit.

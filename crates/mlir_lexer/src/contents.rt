@@ -75,7 +75,7 @@ fn turn(pending: Pending, byte: u8) -> (Pending, Option<u8>)
     }
 }
 
-// What a byte behind a backslash stands for.
+// What a byte after a backslash stands for.
 fn escaped(byte: u8) -> u8
     ensures { result ≡ escaped byte }
 {

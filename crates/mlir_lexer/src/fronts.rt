@@ -24,7 +24,7 @@ pub enum Front {
     Bad(usize),
 }
 
-/// What a byte and those behind it begin with.
+/// What a byte and those after it begin with.
 #[inline(always)]
 #[tactic(auto, unfolding(crate::specs::Fronts::front_of))]
 pub fn front_of(first: u8, behind: &[u8]) -> Front

@@ -9,17 +9,17 @@ use crate::classes::{Class, HexDigit};
 pub enum Reading {
     /// Outside of escapes.
     Plain,
-    /// Behind a backslash.
+    /// After a backslash.
     Escape,
-    /// Behind a backslash and one hex digit.
+    /// After a backslash and one hex digit.
     HexPair,
-    /// Behind the closing quote.
+    /// After the closing quote.
     Closed,
-    /// Behind a bad escape, or at the end of a line.
+    /// After a bad escape, or at the end of a line.
     Broken,
 }
 
-/// How many bytes a string has behind its opening quote, where `bytes` follow it; the closing quote
+/// How many bytes a string has after its opening quote, where `bytes` follow it; the closing quote
 /// counts. None where the string has a bad escape, or its line or the text ends first.
 pub fn string_length(bytes: &[u8]) -> Option<usize>
     ensures exact { result ≡ string_length bytes.now }
@@ -86,7 +86,7 @@ fn after_hex_digit(byte: u8) -> Reading
     }
 }
 
-// Whether a byte stands for one byte behind a backslash.
+// Whether a byte stands for one byte after a backslash.
 fn is_escape_letter(byte: u8) -> bool
     ensures { result ≡ is_escape_letter byte }
 {

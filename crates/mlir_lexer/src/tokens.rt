@@ -65,7 +65,7 @@ impl<'s> Tokens<'s> {
         Ok(None)
     }
 
-    /// The place behind what is read: that of the end of the text once there is no further token.
+    /// The place after what is read: that of the end of the text once there is no further token.
     pub fn place(&self) -> Place
         ensures { result ≡ place_of self.now.source self.now.at }
     {

@@ -144,7 +144,7 @@ number_free ns n small free = name_stays ns (decimal n) (free n (omega arith) sm
 
 -- ---- steps
 
--- the names behind a word more
+-- the names after a word more
 pub names_word : (ws others : List Name) (cs ds : List Choice) (n : ℕ) (x : Name) (id : NameId) → AreKnown (length ws) n cs → id.index ≡ length ws
     → others ≡ ws ++ x ∷ [] → ds ≡ cs ++ Word id ∷ [] → names_chosen others ds ≡ names_chosen ws cs ++ x ∷ []
 names_word ws others cs ds n x id known at words choices =

@@ -1,4 +1,4 @@
--- Bodies that are taken away behind their texts.
+-- Bodies that are taken away after their texts.
 use Rattle.std.proofs.Common.{◌≡◌, ℕ, zero, suc, ◌+◌, List, [], ◌∷◌, length, drop, refl, sym, ap, ◌∙◌, arith}
 use Rattle.ir_store.specs.BodyOps.{BodyOp}
 use Rattle.ir_store.specs.Designs.{StoredModule, with_ops}

@@ -13,7 +13,7 @@ use Rattle.mlir_printer.specs.Texts.{name_entry, named_entries}
 is_before : Entry → Bool
 is_before e = is_lt (slice_cmp nat_cmp e.key (codes "name"))
 
--- one more entry stands in front
+-- one more entry stands before
 pub place_step : {A : Type 0} (view : A → Entry) (xs : List A) (i : ℕ) (x : A) (whole : ℕ) → i < length xs → x ≡ get_or xs i x
     → i + place_of_name (map view (drop i xs)) ≡ whole → is_lt (slice_cmp nat_cmp (view x).key (codes "name")) ≡ true → i + 1 + place_of_name (map view (drop (i + 1) xs)) ≡ whole
 place_step view xs i x whole lt at h t =
@@ -22,7 +22,7 @@ place_step view xs i x whole lt at h t =
     ap (λ l. place_of_name (map view l)) d ∙ ap (λ b. cond b (suc (place_of_name (map view (drop (i + 1) xs)))) 0) t in
     omega (arith, h, p)
 
--- no more entries stand in front
+-- no more entries stand before
 pub place_here : {A : Type 0} (view : A → Entry) (xs : List A) (i : ℕ) (x : A) (whole : ℕ) → i < length xs → x ≡ get_or xs i x
     → i + place_of_name (map view (drop i xs)) ≡ whole → is_lt (slice_cmp nat_cmp (view x).key (codes "name")) ≡ false → i ≡ whole
 place_here view xs i x whole lt at h t =
@@ -31,7 +31,7 @@ place_here view xs i x whole lt at h t =
     ap (λ l. place_of_name (map view l)) d ∙ ap (λ b. cond b (suc (place_of_name (map view (drop (i + 1) xs)))) 0) t in
     omega (arith, h, p)
 
--- the name's entry stands behind those in front of its place
+-- the name's entry stands after those before its place
 pub put_items : (name : Name) (m : ℕ) (es : List Entry) (f : Entry → List ℕ)
     → items_from f m (named_entries name es)
     ≡ items_from f m (take (place_of_name es) es) ++ (comma_bytes (m + place_of_name es) ++ (f (name_entry name) ++ items_from f (m + place_of_name es + 1) (drop (place_of_name es) es)))

@@ -1,4 +1,4 @@
--- Strings whose bytes stand for themselves in front.
+-- Strings whose bytes stand for themselves before.
 use Rattle.std.proofs.Common.{◌≡◌, ℕ, suc, ◌+◌, ◌-◌, ◌/◌, ◌%◌, Bool, true, false, cond, List, [], ◌∷◌, ◌++◌, take, drop, length, refl, sym, ap, ◌∙◌, append_assoc, arith}
 use Rattle.std.specs.Prelude.{◌==◌}
 use Rattle.std.proofs.lemmas.List.{take_all, length-drop}
@@ -9,7 +9,7 @@ plain_stays : (b : ℕ) → is_plain b ≡ true → escaped_byte b ≡ b ∷ []
 unfolding escaped_byte
 plain_stays b e = ap (λ t. cond t (b ∷ []) (cond (b == 92) (92 ∷ 92 ∷ []) (92 ∷ hex_digit (b / 16) ∷ hex_digit (b % 16) ∷ []))) e
 
--- the plain bytes in front, and the others as they are escaped
+-- the plain bytes before, and the others as they are escaped
 plain_front : (bs : List ℕ) → take (run is_plain bs) bs ++ escaped_bytes (drop (run is_plain bs) bs) ≡ escaped_bytes bs
 plain_front [] = refl
 plain_front (b ∷ bs) = go (is_plain b) refl (plain_front bs)

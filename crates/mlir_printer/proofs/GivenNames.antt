@@ -130,7 +130,7 @@ standing_word name = go (stands name) refl
 
 -- ---- a free name begins as the one that is wanted
 
--- a name and suffix bytes behind it
+-- a name and suffix bytes after it
 record Begins (w name : Name) : Type 0 where
   more : List ℕ
   whole : AllMeet is_suffix_byte more

@@ -35,7 +35,7 @@ comma_is : (i : ℕ) → 1 ≤ i → comma_bytes i ≡ codes ", "
 unfolding comma_bytes
 comma_is i some = cond-false (i == 0) [] (codes ", ") (none_zero i some)
 
--- items behind a first one
+-- items after a first one
 pub items_lexed : {A : Type 0} (P : A → Phrase) (bytes : A → List ℕ) (i : ℕ) → 1 ≤ i → (x : A) (xs : List A) → Lexed (P x) (bytes x)
     → Each (λ y. Lexed (P y) (bytes y)) xs → Lexed (Commas P (x ∷ xs)) (bytes x ++ items_from bytes i xs)
 items_lexed P bytes i some x [] one each = lexed_by (sym (append-nil (bytes x))) one

@@ -19,7 +19,7 @@ use Rattle.mlir_printer.proofs.LexedStrings.{unlike_byte, string_lexed, symbol_s
 
 -- ---- runs
 
--- a run that is the whole of some bytes goes no further where what stands behind them does not go on
+-- a run that is the whole of some bytes goes no further where what stands after them does not go on
 pub run_whole : (test : ℕ → Bool) (xs rest : List ℕ) → run test xs ≡ length xs → run test rest ≡ 0 → run test (xs ++ rest) ≡ length xs
 run_whole test [] rest h stop = stop
 run_whole test (x ∷ xs) rest h stop = go (test x) refl h (run_whole test xs rest)

@@ -112,7 +112,7 @@ base_ends (b ∷ bs) stops = go (b == 120) refl
 pub ends_number : (rest : List ℕ) → Stops rest → EndsNumber rest
 ends_number rest stops = record { digits = run_stops is_digit rest digit_stops stops; base = base_ends rest stops }
 
--- behind a digit stands no other base
+-- after a digit stands no other base
 no_base : (bs rest : List ℕ) → run is_digit bs ≡ length bs → EndsNumber rest → is_hex_mark (bs ++ rest) ≡ false
 no_base [] rest whole ends = ends.base
 no_base (b ∷ bs) rest whole ends = go (is_digit b) refl whole

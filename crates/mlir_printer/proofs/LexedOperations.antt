@@ -185,7 +185,7 @@ unfolding shape_of sample
 output_may [] = (None, refl)
 output_may (o ∷ os) = (Some (sample kind.ValueName), refl)
 
--- the form of an operation is one that it has in front of some token
+-- the form of an operation is one that it has before some token
 may_have : (o : Listed) (p : Pending) → MayHaveShape o (shape_shown o p)
 unfolding shape_shown
 may_have listed.HwModule p = (None, refl)
@@ -258,7 +258,7 @@ front_stops : (xs : List Piece) (p : Pending) (rest : List ℕ) → Stops rest �
 front_stops [] p rest stops = stops
 front_stops (x ∷ xs) p rest stops = refl
 
--- what stands behind the pieces in front of the types
+-- what stands after the pieces before the types
 behind_stops : (s : Shape) (p : Pending) (es : List Entry) → IsSaidAs s p
     → Stops (dictionary_bytes (codes " ") es ++ pieces_bytes (type_pieces s) (left_behind_all (front_pieces s) p))
 behind_stops s p es h =

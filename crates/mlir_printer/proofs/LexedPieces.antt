@@ -62,7 +62,7 @@ instance_piece _ os ts g h = absurd h
 
 -- ---- resets
 
--- two operands behind a word
+-- two operands after a word
 reset_lexed : (Reset : Phrase) (word : List ℕ) → Whole Reset word → (r v : ValueText) (g : Gathered) → IsOperand r → IsOperand v
     → Lexed (ResetPhrase Reset g (with_extra (with_operands g (said_operand r ∷ said_operand v ∷ [])) with_reset))
     (word ++ (operand_bytes r ++ (codes ", " ++ operand_bytes v)))
@@ -124,7 +124,7 @@ piece_lexed piece.SyncReset p g h =
 piece_lexed piece.Type p g h = type_piece p.types g h
 piece_lexed piece.Types p g h = types_piece p.types g h.0 h.1
 
--- whether no token of a piece goes on, whatever stands behind it
+-- whether no token of a piece goes on, whatever stands after it
 abbrev is_closed : Piece → Bool
 is_closed (piece.Mark k) = true
 is_closed (piece.Word w) = true
@@ -139,7 +139,7 @@ closed_piece (piece.Word w) p g e h = whole_as (λ ts v. (refl, v)) (word_whole 
 closed_piece piece.Predicate p g e h = predicate_piece p.extra g h
 closed_piece _ p g e h = absurd cc
 
--- whether the tokens in front of pieces end where these begin
+-- whether the tokens before pieces end where these begin
 abbrev pub stops_at : List Piece → Bool
 stops_at [] = true
 stops_at (piece.Mark k ∷ xs) = true
@@ -172,7 +172,7 @@ abbrev pub is_parted : List Piece → Bool
 is_parted [] = true
 is_parted (x ∷ xs) = (is_closed x || stops_at xs) && is_parted xs
 
--- a piece and those behind it
+-- a piece and those after it
 parted : (x : Piece) (xs : List Piece) (p : Pending) (g : Gathered) → NeedAll (x ∷ xs) p g → (c : Bool) → is_closed x ≡ c → (c || stops_at xs) ≡ true
     → Lexed (PiecesPhrase xs (gathered_with x p g) (gathered_with_all xs (left_behind x p) (gathered_with x p g))) (pieces_bytes xs (left_behind x p))
     → Lexed (Then (PiecePhrase x g (gathered_with x p g)) (PiecesPhrase xs (gathered_with x p g) (gathered_with_all (x ∷ xs) p g)))

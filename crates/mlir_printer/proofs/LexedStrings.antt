@@ -135,7 +135,7 @@ bytes_content : (text : List ℕ) → AreBytes text → decoded NothingPending (
 bytes_content [] small = refl
 bytes_content (b ∷ bs) small = (byte_read b small.0).content (escaped_bytes bs) ∙ ap (λ x. b ∷ x) (bytes_content bs small.1)
 
--- the bytes of a string behind its opening quote
+-- the bytes of a string after its opening quote
 abbrev quoted_bytes : List ℕ → List ℕ
 quoted_bytes text = escaped_bytes text ++ (34 ∷ [])
 

@@ -1,4 +1,4 @@
--- Bytes that are lexed as a phrase, whatever stands behind them.
+-- Bytes that are lexed as a phrase, whatever stands after them.
 use Rattle.std.proofs.Common.{◌≡◌, ◌⊎◌, inl, inr, ℕ, suc, ◌+◌, ◌-◌, Bool, true, false, ◌==◌, cond, List, [], ◌∷◌, ◌++◌, take, length, map, Result, Ok, refl, sym, ◌∙◌, ap, subst, arith, append_assoc, add-one}
 use Rattle.std.specs.Prelude.{⊤}
 use Rattle.std.proofs.lemmas.List.{append-nil, map-append}
@@ -18,7 +18,7 @@ use Rattle.mlir_syntax.specs.Spelling.{Phrase, One, Mark, Nothing, Then, token_o
 
 -- ---- where a token ends
 
--- a name or a number that stands in front ends here
+-- a name or a number that stands before ends here
 abbrev pub Stops : List ℕ → Type 0
 Stops [] = ⊤
 Stops (b ∷ bs) = is_suffix_byte b ≡ false
@@ -27,9 +27,9 @@ pub stops_joined : (a b : List ℕ) → Stops a → Stops b → Stops (a ++ b)
 stops_joined [] b h g = g
 stops_joined (x ∷ xs) b h g = h
 
--- ---- bytes in front of others
+-- ---- bytes before others
 
--- these bytes are tokens that say something, and then those behind them are read
+-- these bytes are tokens that say something, and then those after them are read
 pub record IsLexed (P : Phrase) (bytes rest : List ℕ) (place : Place) (at : ℕ) : Type 0 where
   pub passed : List Lexeme
   pub end : Place
@@ -37,11 +37,11 @@ pub record IsLexed (P : Phrase) (bytes rest : List ℕ) (place : Place) (at : �
   pub same : tokens_behind 0 place at (bytes ++ rest) ≡ map token_of passed ++ tokens_behind 0 end behind rest
   pub says : P passed
 
--- bytes say something, whatever stands behind them
+-- bytes say something, whatever stands after them
 pub record Whole (P : Phrase) (bytes : List ℕ) : Type 0 where
   pub lex : (rest : List ℕ) (place : Place) (at : ℕ) → IsLexed P bytes rest place at
 
--- bytes say something, where what stands behind them ends a token
+-- bytes say something, where what stands after them ends a token
 pub record Lexed (P : Phrase) (bytes : List ℕ) : Type 0 where
   pub lex : (rest : List ℕ) (place : Place) (at : ℕ) → Stops rest → IsLexed P bytes rest place at
 
@@ -130,7 +130,7 @@ unfolding tokens_behind
 passed_by [] rest place at = (place, at, refl)
 passed_by (b ∷ bs) rest place at = passed_by bs rest (next_place place b) (at + 1)
 
--- bytes that begin with a token are the token and what is behind it
+-- bytes that begin with a token are the token and what is after it
 pub one_token : {T : Lexeme → Type 0} {k : TokenKind} {n : ℕ} (b : ℕ) (bs rest : List ℕ) (place : Place) (at : ℕ)
     → front_of b (bs ++ rest) ≡ Token k n
     → n ≡ length bs + 1 → ((t : Lexeme) → t.kind ≡ k → t.text ≡ b ∷ bs → T t) → IsLexed (One T) (b ∷ bs) rest place at
@@ -206,7 +206,7 @@ blank bs h = record { lex = λ rest place at. is_blank bs rest place at h }
 pub one_blank : Whole Nothing (32 ∷ [])
 one_blank = blank (32 ∷ []) (inl refl, tt)
 
--- behind a blank
+-- after a blank
 pub blank_on : {P : Phrase} {bs : List ℕ} → Lexed P bs → Lexed P (32 ∷ bs)
 blank_on h = lexed_as behind_nothing (then_on one_blank h)
 
@@ -216,7 +216,7 @@ blank_on_whole h = whole_as behind_nothing (then_whole one_blank h)
 pub line_on : {P : Phrase} {bs : List ℕ} → Lexed P bs → Lexed P (10 ∷ bs)
 line_on h = lexed_as behind_nothing (then_on (blank (10 ∷ []) (inr refl, tt)) h)
 
--- in front of a blank
+-- before a blank
 pub blank_behind : {P : Phrase} {bs : List ℕ} → Lexed P bs → Whole P (bs ++ (32 ∷ []))
 blank_behind h = whole_as past_nothing (closed 32 [] h one_blank refl)
 

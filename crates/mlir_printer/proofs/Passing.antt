@@ -46,7 +46,7 @@ outputs_step h ps ts i p t out one two whole lp lt ap' at inv e1 e2 =
     added out one two (comma_bytes i) (output_bytes (record { name = p; type = h t })) (items_from output_bytes (i + 1) (outputs_joined (drop (i + 1) ps) (map h (drop (i + 1) ts)))) whole
     (sym (ap (λ l. out ++ items_from output_bytes i l) d) ∙ inv) e1 e2
 
--- what is left behind a piece, as it is seen
+-- what is left after a piece, as it is seen
 pub pending_behind : (v : ValueNames) (p : Piece) (l m : Pending) → m.operands.now ≡ drop (operands_taken p) l.operands.now
     → m.types.now ≡ drop (types_taken p) l.types.now → m.said ≡ l.said → pending_of v m ≡ left_behind p (pending_of v l)
 pending_behind v p l m e f g =
@@ -70,7 +70,7 @@ outputs_no_types : (ps : List Name) → outputs_joined ps [] ≡ []
 outputs_no_types [] = refl
 outputs_no_types (p ∷ ps) = refl
 
--- behind the shortest of the lists nothing is joined
+-- after the shortest of the lists nothing is joined
 pub inputs_none : {V T : Type 0} (g : V → ValueText) (h : T → HwType) (ps : List Name) (os : List V) (ts : List T) (i : ℕ)
     → min (min (length ps) (length os)) (length ts) ≤ i → inputs_joined (drop i ps) (map g (drop i os)) (map h (drop i ts)) ≡ []
 inputs_none g h [] os ts zero le = refl

@@ -69,7 +69,7 @@ result_called ns (o ∷ ops) first id k = go (nat_eq o.id id) (result_called ns 
 
 -- ---- a table of places as it grows
 
--- the place of an id: of an operation that is left, behind so many names, or else what the table has
+-- the place of an id: of an operation that is left, after so many names, or else what the table has
 abbrev pub place_left : List Place → ℕ → List BodyOp → ℕ → Place
 place_left places first [] id = place_for places id
 place_left places first (o ∷ os) id = cond (nat_eq o.id id) (place_at first o.parts) (place_left places (first + name_count o.parts) os id)

@@ -295,7 +295,7 @@ bin_read : (o : Listed) (b : Bool) (ts : List Lexeme) → BinPhrase o b ts → b
 bin_read o true ts h e = h.0
 bin_read o false ts h e = cc
 
--- what is read behind an operation's name
+-- what is read after an operation's name
 record IsReadTail (strings : List Name) (g : Gathered) (es : List Entry) : Type 0 where
   part : IsReadPart g
   dictionary : IsReadDictionary strings es

@@ -34,7 +34,7 @@ all_names start mid end ps ops empty zero p q =
     ∙ ap (λ (ns : List Name). ns ++ fresh ns (wanted start.next ws)) empty
     ∙ ap (λ n. fresh [] (wanted n ws)) zero
 
--- the names of the operations stand behind those of the ports
+-- the names of the operations stand after those of the ports
 pub ports_first : (start mid : Chosen) (ps : List Port) → start.names ≡ [] → mid ≡ with_wishes start (port_wishes ps) → length mid.names ≡ input_count ps
 ports_first start mid ps empty p = omega (arith, ap (λ (c : Chosen). length c.names) p, wishes_length start (port_wishes ps), ap length empty)
 

@@ -43,7 +43,7 @@ value_bytes (list_value inner) = codes " = " ++ attribute_bytes (list_value inne
 unfoldable pub entry_bytes : Entry → List ℕ
 entry_bytes e = name_bytes e.key ++ value_bytes e.value
 
--- a dictionary with something in front of it, or nothing where it has no entry
+-- a dictionary with something before it, or nothing where it has no entry
 unfoldable pub dictionary_bytes : List ℕ → List Entry → List ℕ
 dictionary_bytes front [] = []
 dictionary_bytes front (e ∷ es) = front ++ (codes "{" ++ (commas entry_bytes (e ∷ es) ++ codes "}"))

@@ -1,7 +1,7 @@
 -- Lists with commas between their items.
 use Rattle.std.specs.Prelude.{ℕ, ◌+◌, cond, ◌==◌, List, [], ◌∷◌, ◌++◌, codes}
 
--- a comma in front of what is not the first
+-- a comma before what is not the first
 unfoldable pub comma_bytes : ℕ → List ℕ
 comma_bytes i = cond (i == 0) [] (codes ", ")
 

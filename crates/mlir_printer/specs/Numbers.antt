@@ -10,7 +10,7 @@ use Rattle.hw_model.specs.Kinds.Literals.{no_literals, literal}
 unfoldable pub count_bytes : ℕ → List ℕ
 count_bytes n = decimal n
 
--- the number behind one, also behind 2^128 - 1
+-- the number after one, also after 2^128 - 1
 abbrev pub further_bytes : ℕ → List ℕ
 further_bytes n = cond (n == 340282366920938463463374607431768211455) (codes "340282366920938463463374607431768211456") (decimal (n + 1))
 

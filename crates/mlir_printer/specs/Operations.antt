@@ -18,7 +18,7 @@ use Rattle.mlir_printer.specs.Pieces.{ValueText, Pending, value_name_bytes, piec
 use Rattle.mlir_printer.specs.Attributes.{dictionary_bytes}
 use Rattle.mlir_printer.specs.Commas.{commas}
 
--- an operation as it is printed: the names of its results, its name, its `bin` mark, what stands behind them, and its dictionary
+-- an operation as it is printed: the names of its results, its name, its `bin` mark, what stands after them, and its dictionary
 pub record OperationText : Type 0 where
   pub results : ResultNames
   pub name : Listed
@@ -52,12 +52,12 @@ shape_shown listed.HwConstant g = cond (is_truth_said g.types g.extra) shape.Tru
 shape_shown listed.HwOutput g = output_shape g.operands
 shape_shown o g = shape_of o None
 
--- a blank in front of what stands behind a name
+-- a blank before what stands after a name
 abbrev pub after_blank : List Piece → List ℕ → List ℕ
 after_blank [] bytes = bytes
 after_blank (p ∷ ps) bytes = codes " " ++ bytes
 
--- what is left behind pieces
+-- what is left after pieces
 abbrev pub left_behind_all : List Piece → Pending → Pending
 left_behind_all [] g = g
 left_behind_all (p ∷ ps) g = left_behind_all ps (left_behind p g)

@@ -221,7 +221,7 @@ abbrev pub types_taken : Piece → ℕ
 types_taken piece.Type = 1
 types_taken _ = 0
 
--- what is left behind a piece
+-- what is left after a piece
 abbrev pub left_behind : Piece → Pending → Pending
 left_behind p g = record { operands = drop (operands_taken p) g.operands; types = drop (types_taken p) g.types; extra = g.extra }
 

@@ -10,7 +10,7 @@ use Rattle.mlir_printer.specs.declared.value_names.Place.{Place}
 abbrev pub no_place : Place
 no_place = record { first = 0; count = 0; pack = false }
 
--- the place of an operation's results, behind so many names
+-- the place of an operation's results, after so many names
 abbrev pub place_at : ℕ → OpParts → Place
 place_at first o = record {
   first = first;
@@ -18,7 +18,7 @@ place_at first o = record {
   pack = is_pack o.kind (length o.results);
 }
 
--- the place of the operation of an id, where the names of the operations stand behind so many
+-- the place of the operation of an id, where the names of the operations stand after so many
 abbrev pub place_in : ℕ → List BodyOp → ℕ → Place
 place_in first [] id = no_place
 place_in first (o ∷ os) id = cond (nat_eq o.id id) (place_at first o.parts) (place_in (first + name_count o.parts) os id)
@@ -27,11 +27,11 @@ place_in first (o ∷ os) id = cond (nat_eq o.id id) (place_at first o.parts) (p
 abbrev pub place_for : List Place → ℕ → Place
 place_for places id = slice_index_or places id no_place
 
--- a table has the places of operations whose names stand behind so many
+-- a table has the places of operations whose names stand after so many
 abbrev pub HavePlaces : ℕ → List BodyOp → List Place → Type 0
 HavePlaces first ops places = (id : ℕ) → place_for places id ≡ place_in first ops id
 
--- of each port the number of its name, behind so many names; of an output none
+-- of each port the number of its name, after so many names; of an output none
 abbrev pub port_places : ℕ → List Port → List (Option ℕ)
 port_places first [] = []
 port_places first (p ∷ ps) = cond p.is_output None (Some first) ∷ port_places (first + length (port_wish p)) ps

@@ -86,7 +86,7 @@ Each P (x ∷ xs) = P x × Each P xs
 abbrev pub AreBytes : List ℕ → Type 0
 AreBytes bytes = Each (λ b. b < 256) bytes
 
--- a name that may stand behind `%`: one suffix, digits alone or none in front
+-- a name that may stand after `%`: one suffix, digits alone or none before
 pub record IsValueName (name : Name) : Type 0 where
   -- it is not empty
   pub some : 1 ≤ length name
@@ -155,7 +155,7 @@ IsValue of_string a = (of_string ≡ false) × IsAttribute a most_open
 pub record IsEntry (strings : List Name) (e : Entry) : Type 0 where
   -- a bare name or a string can hold the key
   pub key : AreBytes e.key
-  -- the value is one that may stand behind the key
+  -- the value is one that may stand after the key
   pub value : IsValue (is_among e.key strings) e.value
 
 -- a dictionary, where the values of some keys are strings
@@ -174,9 +174,9 @@ IsNumber (Some n) = n < count_limit
 
 -- an operand
 pub record IsOperand (o : ValueText) : Type 0 where
-  -- its name may stand behind `%`
+  -- its name may stand after `%`
   pub name : IsValueName o.name
-  -- so may its number behind `#`
+  -- so may its number after `#`
   pub number : IsNumber o.number
 
 -- a token of one or two signs
@@ -198,7 +198,7 @@ abbrev pub HasType : List HwType → Type 0
 HasType [] = ⊥
 HasType (t ∷ ts) = IsAnyType t
 
--- two operands stand behind a reset
+-- two operands stand after a reset
 abbrev pub MayReset : Extra → List ValueText → Type 0
 MayReset with_reset os = IsOperand (first_operand os) × IsOperand (first_operand (drop 1 os))
 MayReset _ os = ⊤
@@ -259,7 +259,7 @@ abbrev pub SaysInstance : Extra → List ValueText → List HwType → Type 0
 SaysInstance (child i) os ts = IsInstance i os ts
 SaysInstance _ os ts = ⊥
 
--- what a piece needs of what is left, where so much is gathered in front
+-- what a piece needs of what is left, where so much is gathered before
 abbrev pub Needs : Piece → Pending → Gathered → Type 0
 Needs (piece.Mark k) p g = IsMark k
 Needs (piece.Word w) p g = ⊤
@@ -289,7 +289,7 @@ gathered_reset with_reset os g =
     with_extra (with_operands g (said_operand (first_operand os) ∷ said_operand (first_operand (drop 1 os)) ∷ [])) with_reset
 gathered_reset _ os g = g
 
--- what is gathered with a piece of what is left, where so much is gathered in front
+-- what is gathered with a piece of what is left, where so much is gathered before
 abbrev pub gathered_with : Piece → Pending → Gathered → Gathered
 gathered_with (piece.Mark k) p g = g
 gathered_with (piece.Word w) p g = g
@@ -320,15 +320,15 @@ NeedAll (x ∷ xs) p g = Needs x p g × NeedAll xs (left_behind x p) (gathered_w
 
 -- ---- operations
 
--- what is gathered in front of the types of a form
+-- what is gathered before the types of a form
 abbrev pub gathered_front : Shape → Pending → Gathered
 gathered_front s p = gathered_with_all (front_pieces s) p gathered_nothing
 
 -- what is said in a form
 pub record IsSaidAs (s : Shape) (p : Pending) : Type 0 where
-  -- the pieces in front of the types have what they need
+  -- the pieces before the types have what they need
   pub front : NeedAll (front_pieces s) p gathered_nothing
-  -- so have those of the types, of what is left behind the front
+  -- so have those of the types, of what is left after the front
   pub types : NeedAll (type_pieces s) (left_behind_all (front_pieces s) p) (gathered_front s p)
   -- what is gathered with them is all that is said
   pub all : gathered_with_all (type_pieces s) (left_behind_all (front_pieces s) p) (gathered_front s p) ≡ said_pending p

@@ -44,7 +44,7 @@ symbol_bytes name = (64 ∷ []) ++ name_bytes name
 
 -- ---- names of values
 
--- whether a name may stand behind `%`, and is not digits alone: a suffix-id that begins with no digit
+-- whether a name may stand after `%`, and is not digits alone: a suffix-id that begins with no digit
 abbrev pub stands : Name → Bool
 stands [] = false
 stands (b ∷ bs) = not (is_digit b) && run is_suffix_byte (b ∷ bs) == length (b ∷ bs)
@@ -53,6 +53,6 @@ stands (b ∷ bs) = not (is_digit b) && run is_suffix_byte (b ∷ bs) == length 
 abbrev pub suffix_byte : ℕ → ℕ
 suffix_byte b = cond (is_suffix_byte b) b 95
 
--- a value's name: one that may not stand gets `_` in the place of each other byte, and one `_` in front
+-- a value's name: one that may not stand gets `_` in the place of each other byte, and one `_` before it
 unfoldable pub standing : Name → Name
 standing name = cond (stands name) name (95 ∷ map suffix_byte name)

@@ -54,7 +54,7 @@ names_itself (b ∷ bs) printed = same_name (b ∷ bs) printed
 abbrev pub entries_shown : Name → Name → List Entry → List Entry
 entries_shown own printed es = cond (names_itself own printed) es (named_entries own es)
 
--- what stands behind an operation's name
+-- what stands after an operation's name
 abbrev pub pending_shown : OpParts → List ValueText → Pending
 pending_shown p os = record { operands = os; types = p.types; extra = extra_shown p.kind p.types }
 

@@ -128,7 +128,7 @@ impl ChosenNames {
         Ok(number)
     }
 
-    /// The name behind so many others; the empty one where there is none.
+    /// The name after so many others; the empty one where there is none.
     pub fn nth(&self, number: usize) -> &[u8]
         ensures { result.now ≡ first_name (drop number (names_in self.now)) }
     {

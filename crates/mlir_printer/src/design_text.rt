@@ -25,7 +25,7 @@ pub fn design_text(alloc: Global, design: &Design) -> Result<Text, AllocError>
     Ok(out)
 }
 
-/// The text of a verified design. The error comes only for want of memory.
+/// The text of a verified design. The error comes only when out of memory.
 pub fn print_design(alloc: Global, verified: &Verified) -> Result<Text, AllocError>
     ensures { IfOk result (λ text. text ≡ ir_text (map numbered_module (modules_verified verified.now))) }
 {
@@ -33,7 +33,7 @@ pub fn print_design(alloc: Global, verified: &Verified) -> Result<Text, AllocErr
 }
 
 /// The text of a verified design, which gives back the memory of each body as soon as the body is printed. The error comes
-/// only for want of memory.
+/// only when out of memory.
 #[tactic(auto, using(std::proofs::Common::append_assoc), unfolding(crate::specs::Texts::ir_text, crate::specs::Modules::file_bytes))]
 pub fn print_and_drop(alloc: Global, verified: Verified) -> Result<Text, AllocError>
     ensures { IfOk result (λ text. text ≡ ir_text (map numbered_module (modules_verified verified))) }
@@ -45,7 +45,7 @@ pub fn print_and_drop(alloc: Global, verified: Verified) -> Result<Text, AllocEr
     Ok(out)
 }
 
-// Adds the modules of a design, and drops each body behind its text.
+// Adds the modules of a design, and drops each body after its text.
 fn push_and_drop(alloc: Global, out: &mut Text, design: Design) -> Result<(), AllocError>
     ensures { OnOk result (out.new ≡ out.old ++ modules_bytes (modules_shown (design_of design))) }
 {

@@ -27,7 +27,7 @@ fn push_entries(out: &mut Text, first: usize, entries: &[Entry]) -> Result<(), A
     Ok(())
 }
 
-/// Adds a dictionary with something in front of it, or nothing where it has no entry.
+/// Adds a dictionary with something before it, or nothing where it has no entry.
 #[tactic(auto, unfolding(crate::specs::Attributes::dictionary_bytes))]
 pub fn push_dictionary(out: &mut Text, front: &[u8], entries: &[Entry]) -> Result<(), AllocError>
     ensures { OnOk result (out.new ≡ out.old ++ dictionary_bytes front.now (map entry_of entries.now)) }

@@ -58,7 +58,7 @@ fn push_output_port(out: &mut Text, port: &Port) -> Result<(), AllocError>
     Ok(())
 }
 
-// Adds a port, in front of whose name so many others stand.
+// Adds a port, before whose name so many others stand.
 fn push_port(
     out: &mut Text,
     names: &ValueNames,

@@ -47,7 +47,7 @@ pub fn push_integer(out: &mut Text, value: Integer) -> Result<(), AllocError>
     Ok(())
 }
 
-// Adds the number behind one.
+// Adds the number after one.
 fn push_further(out: &mut Text, n: u128) -> Result<(), AllocError>
     ensures { OnOk result (out.new ≡ out.old ++ further_bytes n) }
 {

@@ -4,7 +4,7 @@ ghost use Rattle.std.specs.Prelude.{◌≡◌, ℕ, ◌<◌, length, map, Some, 
 use itoa::Buffer;
 use std::alloc::{AllocError, Global};
 
-/// The digits of each of the first numbers, without zeros in front. Contracts see how many numbers these are by
+/// The digits of each of the first numbers, without leading zeros. Contracts see how many numbers these are by
 /// `spelled_below`.
 #[derive(Drop)]
 pub struct Numerals {

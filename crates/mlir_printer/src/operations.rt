@@ -55,7 +55,7 @@ fn shape_shown(name: Listed, names: &ValueNames, pending: &Pending<'_>) -> Shape
     }
 }
 
-// Adds so many names of values, in front of which so many others stand, and `=` behind them.
+// Adds so many names of values, before which so many others stand, and `=` after them.
 #[tactic(auto, unfolding(crate::specs::Operations::results_bytes))]
 fn push_names(
     out: &mut Text,
@@ -73,7 +73,7 @@ fn push_names(
     Ok(())
 }
 
-// Adds so many names of values, in front of which so many others stand, with commas between them.
+// Adds so many names of values, before which so many others stand, with commas between them.
 fn push_listed(
     out: &mut Text,
     names: &ValueNames,
@@ -111,7 +111,7 @@ fn push_results(
     Ok(())
 }
 
-// Adds pieces behind a name, with a blank in front of the first, and gives what is left behind them.
+// Adds pieces after a name, with a blank before the first, and gives what is left after them.
 fn push_front<'d>(
     out: &mut Text,
     names: &ValueNames,
@@ -146,7 +146,7 @@ fn push_form(
     Ok(())
 }
 
-// What is left to print of an operation behind its name.
+// What is left to print of an operation after its name.
 fn pending_of<'d>(op: &Op<'d>) -> Pending<'d>
     ensures operands { result.operands.now ≡ op.now.operands.now }
     ensures types { map type_of result.types.now ≡ types_in op.now.types.now }
@@ -159,7 +159,7 @@ fn pending_of<'d>(op: &Op<'d>) -> Pending<'d>
     }
 }
 
-/// Adds a line of a body, of an operation in front of the names of whose results
+/// Adds a line of a body, of an operation before the names of whose results
 /// so many others stand.
 #[tactic(auto, unfolding(crate::specs::Operations::operation_line, crate::specs::Operations::operation_bytes, crate::specs::Operations::shaped_bytes))]
 pub fn push_operation(
@@ -193,7 +193,7 @@ fn push_bin(out: &mut Text, bin: bool) -> Result<(), AllocError>
     Ok(())
 }
 
-/// Adds the lines of a body, in front of the names of whose results so many others stand.
+/// Adds the lines of a body, before the names of whose results so many others stand.
 pub fn push_operations(
     out: &mut Text,
     names: &ValueNames,

@@ -159,7 +159,7 @@ fn push_reset(
     Ok(())
 }
 
-// The items behind so many.
+// The items after so many.
 fn rest_of<T>(items: &[T], count: usize) -> &[T]
     ensures { result.now ≡ drop count items.now }
 {
@@ -372,7 +372,7 @@ fn push_first_type(out: &mut Text, types: &[Ty]) -> Result<(), AllocError>
     Ok(())
 }
 
-/// Adds pieces, and gives what is left behind them.
+/// Adds pieces, and gives what is left after them.
 pub fn push_pieces<'d>(
     out: &mut Text,
     names: &ValueNames,

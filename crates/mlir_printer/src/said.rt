@@ -33,7 +33,7 @@ pub enum Said<'d> {
     Child(&'d Instance),
 }
 
-/// What is left to print of an operation behind its name.
+/// What is left to print of an operation after its name.
 #[derive(Clone, Copy)]
 pub struct Pending<'d> {
     /// Its operands that are left.
@@ -96,7 +96,7 @@ fn types_taken(piece: Piece) -> usize
 }
 
 impl<'d> Pending<'d> {
-    /// Leaves what is behind a piece.
+    /// Passes what is a piece.
     pub fn pass(&mut self, piece: Piece)
         ensures operands { self.new.operands.now ≡ drop (operands_taken piece) self.old.operands.now }
         ensures types { self.new.types.now ≡ drop (types_taken piece) self.old.types.now }
@@ -109,7 +109,7 @@ impl<'d> Pending<'d> {
         }
     }
 
-    /// What is left behind a piece.
+    /// What is left after a piece.
     pub fn behind(self, piece: Piece) -> Pending<'d>
         ensures operands { result.operands.now ≡ drop (operands_taken piece) self.entry.operands.now }
         ensures types { result.types.now ≡ drop (types_taken piece) self.entry.types.now }
@@ -125,7 +125,7 @@ impl<'d> Pending<'d> {
     }
 }
 
-// The items behind the first.
+// The items after the first.
 fn behind_first<T>(items: &[T]) -> &[T]
     ensures { result.now ≡ drop 1 items.now }
 {

@@ -40,7 +40,7 @@ fn push_escaped_byte(out: &mut Text, byte: u8) -> Result<(), AllocError>
     Ok(())
 }
 
-// Adds the bytes of a string: those in front that stand for themselves all at once.
+// Adds the bytes of a string: those before that stand for themselves all at once.
 fn push_escaped(out: &mut Text, text: &[u8]) -> Result<(), AllocError>
     ensures { OnOk result (out.new ≡ out.old ++ escaped_bytes text.now) }
 {
@@ -106,7 +106,7 @@ pub fn push_symbol(out: &mut Text, name: &[u8]) -> Result<(), AllocError>
     Ok(())
 }
 
-/// Whether a name may stand behind `%`, and is not digits alone.
+/// Whether a name may stand after `%`, and is not digits alone.
 pub fn stands(name: &[u8]) -> bool
     ensures { result ≡ stands name.now }
 {
@@ -123,7 +123,7 @@ fn suffix_byte(byte: u8) -> u8
     if SuffixByte::has(byte) { byte } else { b'_' }
 }
 
-/// A name with `_` in the place of each byte that may not stand behind `%`, and one `_` in front.
+/// A name with `_` in the place of each byte that may not stand after `%`, and one `_` before it.
 pub fn spelled(alloc: Global, name: &[u8]) -> Result<Text, AllocError>
     ensures { IfOk result (λ text. text ≡ 95 ∷ map suffix_byte name.now) }
 {

@@ -15,7 +15,7 @@ use std::alloc::{AllocError, Global};
 /// Where the names of an operation's results stand.
 #[derive(Clone, Copy, Debug)]
 pub struct Place {
-    /// How many names stand in front.
+    /// How many names stand before.
     pub first: u32,
     /// How many results are named.
     pub count: usize,
@@ -269,14 +269,14 @@ impl ValueNames {
         Ok(())
     }
 
-    /// The name behind so many others; the empty one where there is none.
+    /// The name after so many others; the empty one where there is none.
     pub fn nth(&self, number: usize) -> &[u8]
         ensures { result.now ≡ first_name (drop number (names_held self.now)) }
     {
         self.names.nth(number)
     }
 
-    /// The name behind so many others and so many more; the empty one where there is none.
+    /// The name after so many others and so many more; the empty one where there is none.
     pub fn behind(&self, first: u32, number: usize) -> &[u8]
         ensures { result.now ≡ first_name (drop (first + number) (names_held self.now)) }
     {
@@ -360,7 +360,7 @@ impl ValueNames {
     }
 }
 
-// Puts a place at a position, behind empty ones where there are fewer.
+// Puts a place at a position, after empty ones where there are fewer.
 fn put_place(places: &mut Vec<Place>, position: usize, place: Place) -> Result<(), AllocError>
     ensures { OnOk result ((id : ℕ) → place_for places.new.items id ≡ cond (nat_eq position id) place (place_for places.old.items id)) }
 {

@@ -47,7 +47,7 @@ port_name_at v name {s} {left} clear (inr a) =
     let nothing = at_nothing p in
     if_false _ (ap (is_next kind.StringLiteral) nothing ∙ clear) (ap (λ y. Ok (v, y)) nothing ∙ ap (λ x. Ok (x, left)) (sym same))
 
--- a port behind `in`
+-- a port after `in`
 abbrev InputBehind : PortText → Name → Phrase
 InputBehind p v =
     Then (ValueName v) (Then (Either (Holding kind.StringLiteral p.name) (Where (p.name ≡ v) Nothing)) (Then (Mark kind.Colon) (TypePhrase most_open p.type)))
@@ -138,7 +138,7 @@ private_at false clear a =
 mark_no_word : (word : List ℕ) (k : TokenKind) {s left : List Symbol} → is_kind k kind.BareName ≡ false → At (Mark k) s left → is_first (is_word word) s ≡ false
 mark_no_word word k other a = other_first word (leads_one (no_word word k other)) a
 
--- what is behind a module's ports
+-- what is after a module's ports
 abbrev BodyPhrase : ModuleText → Phrase
 BodyPhrase m =
     Then (AttributesPhrase m.dictionary) (Then (Mark kind.LeftBrace) (Then (OperationsPhrase IsPlaceOf m.operations)
@@ -243,7 +243,7 @@ brace_no_module t s k = unlike kind.RightBrace kind.BareName refl t k
 end_no_module : IsNoModule is_end
 end_no_module t s k = refl
 
--- what is behind the word of a file's module
+-- what is after the word of a file's module
 abbrev WrappedBehind : List ModuleText → List Entry → Phrase
 WrappedBehind ms es =
     Then (Either (λ (a : List Lexeme). (name : Name) × SymbolPhrase name a) Nothing)

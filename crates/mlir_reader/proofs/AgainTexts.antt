@@ -53,7 +53,7 @@ front_ok source r (Err e) near h =
     let same : e ≡ r = cc in
     subst (IsUnspelledFront source) same (front_of source e near.0 near.1 near.2 near.3 near.4)
 
--- no text that begins with the tokens in front of what is refused and with what is refused is spelled
+-- no text that begins with the tokens before what is refused and with what is refused is spelled
 pub refused_front : (source : List ℕ) (r : Refusal) → length source ≤ text_limit → read source ≡ Err r → IsUnspelledFront source r
 refused_front source r le h =
     front_ok source r (file_text (stream_of source))

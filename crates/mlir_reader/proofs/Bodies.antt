@@ -14,7 +14,7 @@ use Rattle.mlir_syntax.specs.declared.fail.ReadFail.{ReadFail}
 use Rattle.mlir_syntax.specs.declared.fail.ReadFail.TheVariants.{Refused, NoMemory}
 use Rattle.mlir_syntax.proofs.Lists.{with_front, with_front-nothing, with_front-more}
 
--- behind a first token less is left
+-- after a first token less is left
 pub passed-shorter : (s : List Symbol) (t : Lexeme) → Some t ≡ first s → length (after s) < length s
 passed-shorter [] t e = cc
 passed-shorter (token u ∷ ts) t e = omega arith
@@ -26,7 +26,7 @@ next-some : (s : List Symbol) → is_next kind.RightBrace s ≡ true → 0 < len
 next-some [] e = cc
 next-some (x ∷ xs) e = omega arith
 
--- an operation, and further ones behind it
+-- an operation, and further ones after it
 abbrev then_others : ℕ → OperationText → Reads (List OperationText)
 then_others n o left =
     cond (is_last o.name)
@@ -76,14 +76,14 @@ pub closes_at : {B : Type 0} {view : B → OperationText} {start : List Symbol} 
 closes_at {view = view} {got = got} {left = left} g close =
     g.same ∙ ap (with_front (map view got)) (ends_at g.n left g.enough close) ∙ ap (λ l. Ok (l, left)) (append-nil (map view got))
 
--- an output behind which the body does not end
+-- an output after which the body does not end
 pub output_at : {B : Type 0} {view : B → OperationText} {start : List Symbol} {got : List B} {left : List Symbol} (x : B) (past : List Symbol)
     → Standing view start got left → is_next kind.RightBrace left ≡ false → operation_text left ≡ Ok (view x, past)
     → is_last (view x).name ≡ true → is_next kind.RightBrace past ≡ false
     → operations_text (length start) start ≡ Err (unexpected (op.Listed listed.HwModule) past)
 output_at {view = view} x past g more_left read last more = same_at (Ok (view x, past)) g more_left read ∙ rw (last, more) refl
 
--- what is read behind an operation, where nothing but the end may stand behind an output
+-- what is read after an operation, where nothing but the end may stand after an output
 others : (n : ℕ) (o : OperationText) (past : List Symbol) → length past ≤ n → (is_last o.name && not (is_next kind.RightBrace past)) ≡ false
     → then_others n o past ≡ on (operations_text n past) (λ os behind. Ok (o ∷ os, behind))
 others n o past enough more_left = go (is_last o.name) (is_next kind.RightBrace past) refl more_left

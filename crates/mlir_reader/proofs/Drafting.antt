@@ -77,7 +77,7 @@ definitions_kept means (d ∷ ds) =
 -- ---- what a draft holds
 
 module _ {A B : Type 0} (f : A → B) where
-  -- one that waits stands behind those that are done
+  -- one that waits stands after those that are done
   pub moved : (done new : List B) (b : B) (a : A) (rest next : List A) → new ≡ done ++ b ∷ [] → b ≡ f a → rest ≡ a ∷ next
       → new ++ map f next ≡ done ++ map f rest
   moved done new b a rest next e s r =
@@ -127,7 +127,7 @@ more_then s t = record {
   numbered = λ n. t.numbered (s.numbered n);
 }
 
--- an operation waits behind the others
+-- an operation waits after the others
 pub waits_more : (old new : Draft) (d : DraftOperation) (op : Meanings → Op) → new.names ≡ old.names → new.count ≡ old.count → new.body ≡ old.body
     → new.waiting.items ≡ old.waiting.items ++ d ∷ [] → ((later : Meanings) → drafted later d ≡ op later) → HoldsMore old op new
 waits_more old new d op n c b w e = record {
@@ -163,7 +163,7 @@ counted means d =
     ∙ ap (λ n. length (ids_of d.body) + n) (length-map d.waiting.items (drafted means))
 
 module _ (seen : Meanings) (os : List OperationText) (o : OperationText) (old mid new : Draft) (found : List Bool) where
-  -- one more operation is read, and its names are defined in front of it
+  -- one more operation is read, and its names are defined before it
   pub record IsRead : Type 0 where
     pub means : meanings_of mid.names ≡ with_definitions (meanings_of old.names) (operation_definitions old.count o)
     pub count : mid.count ≡ old.count + 1

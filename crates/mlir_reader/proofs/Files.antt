@@ -18,7 +18,7 @@ use Rattle.mlir_syntax.specs.declared.fail.ReadFail.TheVariants.{Refused, NoMemo
 use Rattle.mlir_reader.specs.declared.file_text.Ends.{Ends}
 use Rattle.mlir_reader.specs.declared.file_text.Ends.TheVariants.{Brace, Text}
 
--- a module, and further ones behind it
+-- a module, and further ones after it
 abbrev then_modules : Ends → ℕ → ModuleText → Reads (List ModuleText)
 then_modules e n m left = on (modules_text (ends_of e) n left) (λ ms behind. Ok (m ∷ ms, behind))
 
@@ -95,7 +95,7 @@ goes_on_at {e = e} {got = got} m next past g more_left read put shorter =
 
 -- ---- the closing brace and the end
 
--- behind modules, which are put into a design
+-- after modules, which are put into a design
 abbrev braced : Read (List ModuleText) → Read (List ModuleText)
 braced modules = on modules (λ ms s4. on (want op.File kind.RightBrace s4) (λ _ s5. want_end ms s5))
 

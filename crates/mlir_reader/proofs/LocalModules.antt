@@ -209,7 +209,7 @@ local_classed results t locations c n = loc_misplaced (op.Listed listed.HwModule
 local_classed results t outside c n = loc_misplaced (op.Listed listed.HwModule) t outside
 local_classed results t unknown c n = loc_misplaced (op.Listed listed.HwModule) t unknown
 
--- what stands behind the names of results, by its first token
+-- what stands after the names of results, by its first token
 abbrev OperationAt : ResultNames → Option Lexeme → ℕ → Reads OperationText
 OperationAt results None k s = Err (no_operation (op.Listed listed.HwModule) s)
 OperationAt results (Some t) k s =

@@ -17,7 +17,7 @@ same_tail true false x y xs ys h e = cc
 same_tail false true x y xs ys h e = cc
 
 module _ {X : Type 0} (lt : X → X → Bool) (o : IsStrictWeakOrder lt) where
-  -- an element put behind those that are less
+  -- an element put after those that are less
   abbrev pub put : X → List X → List X
   put e [] = e ∷ []
   put e (x ∷ xs) = cond (lt x e) (x ∷ put e xs) (e ∷ x ∷ xs)

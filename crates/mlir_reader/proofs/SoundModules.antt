@@ -49,7 +49,7 @@ sound_port_type : Sound port_type (λ t. Then (Mark kind.Colon) (TypePhrase most
 unfolding port_type any_type
 sound_port_type = sound_on (sound_want header kind.Colon) (λ _. sound_as (sound_type most_open header) (λ t b pb a pa. pair a b (mark pa) pb))
 
--- what stands behind `in` and behind `out`
+-- what stands after `in` and after `out`
 abbrev InputPort : PortText → Phrase
 InputPort p ts =
     (v : Name) × (p.value ≡ Some v) × Then (ValueName v) (Then (PortName v p.name) (Then (Mark kind.Colon) (TypePhrase most_open p.type))) ts
@@ -92,7 +92,7 @@ sound_private : Sound private_text PrivatePhrase
 unfolding private_text
 sound_private = sound_past {r = give true} (λ t h. sound_give {y = true} (said_word h)) (sound_give {y = false} refl)
 
--- what stands behind the ports
+-- what stands after the ports
 abbrev BodyPhrase : BodyText → Phrase
 BodyPhrase b =
     Then (AttributesPhrase b.dictionary) (Then (Mark kind.LeftBrace) (Then (OperationsPhrase IsPlaceOf b.operations)
@@ -105,7 +105,7 @@ sound_body =
     sound_last (λ t. record { dictionary = es; operations = os; close = t.place }) (sound_want header kind.RightBrace) (λ t d pd c pc b pb a pa.
     pair a (b ++ (c ++ d)) pa (pair b (c ++ d) (mark pb) (pair c d pc (t, pd.0, (pd.1, refl))))))))
 
--- what is behind a module's name
+-- what is after a module's name
 abbrev BehindName : Place → ModuleText → Phrase
 BehindName place y ts =
     (t : Lexeme) → t.kind ≡ kind.BareName → t.text ≡ name_of_listed listed.HwModule → t.place ≡ place → ModulePhrase IsPlaceOf y (t ∷ ts)
@@ -221,7 +221,7 @@ file_ends s left ms h =
     cond_both (is_first is_file_name s) (wrapped_text (after s)) (modules_text is_end (length s) s) (λ m. m ≡ Ok (ms, left) → is_end left ≡ true)
     (λ _ g. ends_wrapped.ends (after s) left ms g) (λ _ g. modules_end (length s) s left ms g) h
 
--- the tokens of a text are those that are passed, where the text ends behind them
+-- the tokens of a text are those that are passed, where the text ends after them
 whole : (place : Place) (rs : List (Result Lexeme Refusal)) (ts : List Lexeme) (left : List Symbol) → stream place rs ≡ map token ts ++ left → is_end left ≡ true
     → rs ≡ map token_of ts
 whole place [] [] left h e = refl

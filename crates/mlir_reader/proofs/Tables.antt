@@ -51,7 +51,7 @@ module _ {K V : Type 0} where
       go true t h r = rw t (ap (λ x. (e.0, x) ∷ es) (sym (some_same e.1 v h)))
       go false t h r = rw t (ap (λ rest. e ∷ rest) (r h))
 
-  -- what is found behind one more entry
+  -- what is found after one more entry
   pub found_push : (f : V → Defined) (test : K → Bool) (es : List (K × V)) (k : K) (v : V) →
       option_map f (lookup test (es ++ (k, v) ∷ [])) ≡ known_or (option_map f (lookup test es)) (cond (test k) (Some (f v)) None)
   found_push f test [] k v = go (test k)

@@ -17,7 +17,7 @@ use Rattle.mlir_reader.specs.declared.draft.DraftOperation.{DraftOperation}
 abbrev pub drafted : Meanings → DraftOperation → Op
 drafted means d = record (op_of d.operation) { operands = map (resolved means) (map operand_of d.operands.items) }
 
--- how many operands stand in front of the first whose name stands for nothing
+-- how many operands stand before the first whose name stands for nothing
 abbrev pub found_count : Meanings → List OperandName → ℕ
 found_count means [] = 0
 found_count means (o ∷ os) = cond (is_some (means o.name)) (suc (found_count means os)) 0
@@ -26,7 +26,7 @@ found_count means (o ∷ os) = cond (is_some (means o.name)) (suc (found_count m
 abbrev pub Keeps : Meanings → Meanings → Type 0
 Keeps means later = (name : Name) → is_some (means name) ≡ true → later name ≡ means name
 
--- these operations are read, where names stood for this in front of them: whatever is read further, those that are put into the body and
+-- these operations are read, where names stood for this before them: whatever is read further, those that are put into the body and
 -- those that wait are the operations of the text
 pub record Drafts (seen : Meanings) (os : List OperationText) (d : Draft) : Type 0 where
   pub means : meanings_of d.names ≡ with_definitions seen (body_definitions 0 os)
@@ -38,7 +38,7 @@ pub record Drafts (seen : Meanings) (os : List OperationText) (d : Draft) : Type
   pub few : length os + 1 < 2 ^ 32
   pub gaps : gaps d.body ≡ 0
 
--- a body is that of these operations, where names stood for this in front of them
+-- a body is that of these operations, where names stood for this before them
 pub record IsBody (seen : Meanings) (os : List OperationText) (body : Body) : Type 0 where
   pub ops : map (op_by (λ i. i)) (ops_of body) ≡ operations_from (with_definitions seen (body_definitions 0 os)) seen 0 os
   pub ids : ids_of body ≡ numbers_below (length os)

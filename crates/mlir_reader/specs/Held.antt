@@ -44,7 +44,7 @@ pub record HoldsSame (old new : Draft) : Type 0 where
   pub ops : (later : Meanings) → Keeps (meanings_of old.names) later → held later new ≡ held later old
   pub numbered : IsNumbered old.body → IsNumbered new.body
 
--- the names of a draft are those of another, and so are its operations, with one behind them that is this where names stand for that
+-- the names of a draft are those of another, and so are its operations, with one after them that is this where names stand for that
 pub record HoldsMore (old : Draft) (op : Meanings → Op) (new : Draft) : Type 0 where
   pub names : new.names ≡ old.names
   pub count : new.count ≡ old.count

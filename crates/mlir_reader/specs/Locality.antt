@@ -14,13 +14,13 @@ symbol_place (token t) = t.place
 symbol_place (bad p) = p
 symbol_place (end p) = p
 
--- the refused symbol stands behind some tokens, and each text that begins with these tokens and this symbol is refused alike
+-- the refused symbol stands after some tokens, and each text that begins with these tokens and this symbol is refused alike
 abbrev pub IsOfItsSymbol : List ℕ → Refusal → Type 0
 IsOfItsSymbol source r =
     (front : List Lexeme) × (symbol : Symbol) × (rest : List Symbol) × (stream_of source ≡ map token front ++ (symbol ∷ rest)) × (symbol_place symbol ≡ r.place)
     × ((other : List ℕ) (behind : List Symbol) → length other ≤ text_limit → stream_of other ≡ map token front ++ (symbol ∷ behind) → read other ≡ Err r)
 
--- the refused symbol stands behind some tokens, and no text that begins with these tokens and this symbol spells a design, however long it is
+-- the refused symbol stands after some tokens, and no text that begins with these tokens and this symbol spells a design, however long it is
 abbrev pub IsUnspelledFront : List ℕ → Refusal → Type 0
 IsUnspelledFront source r =
     (front : List Lexeme) × (symbol : Symbol) × (rest : List Symbol) × (stream_of source ≡ map token front ++ (symbol ∷ rest)) × (symbol_place symbol ≡ r.place)

@@ -21,18 +21,18 @@ use Rattle.mlir_syntax.specs.declared.fail.ReadFail.{ReadFail}
 use Rattle.mlir_syntax.specs.declared.fail.ReadFail.TheVariants.{Refused, NoMemory}
 use Rattle.mlir_reader.specs.declared.body_text.BodyText.{BodyText}
 
--- operations are those of these texts, where names stood for this in front of them
+-- operations are those of these texts, where names stood for this before them
 pub record AreOperations (seen : Meanings) (os : List OperationText) (x : Operations) : Type 0 where
   pub body : IsBody seen os x.body
   pub ends : x.ends ≡ ends_with_output os
 
--- what stands behind the ports of a module is that of this text
+-- what stands after the ports of a module is that of this text
 pub record IsBodyText (seen : Meanings) (t : text.BodyText) (b : BodyText) : Type 0 where
   pub dictionary : entries_in b.dictionary ≡ t.dictionary
   pub operations : AreOperations seen t.operations b.operations
   pub close : b.close ≡ t.close
 
--- what stands in front of the operations of a module is that of this text
+-- what stands before the operations of a module is that of this text
 pub record IsHead (t : text.ModuleText) (h : ModuleHead) : Type 0 where
   pub symbol : h.symbol ≡ t.symbol
   pub private : h.private ≡ t.is_private
@@ -40,7 +40,7 @@ pub record IsHead (t : text.ModuleText) (h : ModuleHead) : Type 0 where
   pub outputs : h.outputs ≡ has_outputs t.ports
   pub place : h.place ≡ t.place
 
--- what stands behind the ports of a module's text
+-- what stands after the ports of a module's text
 abbrev pub body_in : text.ModuleText → text.BodyText
 body_in t = record { dictionary = t.dictionary; operations = t.operations; close = t.close }
 
@@ -48,7 +48,7 @@ body_in t = record { dictionary = t.dictionary; operations = t.operations; close
 abbrev pub IsModule : text.ModuleText → Module → Type 0
 IsModule t m = store.numbered_module (store.module_of m) ≡ resolving.module_of t
 
--- the design of modules behind those of another
+-- the design of modules after those of another
 abbrev pub designs_behind : hw.Design → Read (List text.ModuleText) → Read hw.Design
 designs_behind front read = on read (λ ms left. Ok (front ++ resolving.design_of ms, left))
 
@@ -61,7 +61,7 @@ unfoldable pub braced_text : Reads (List text.ModuleText)
 braced_text s =
     on (text.modules_text (is_next kind.RightBrace) (length s) s) (λ ms s4. on (want op.File kind.RightBrace s4) (λ _ s5. text.want_end ms s5))
 
--- an answer is the design that is read, or the refusal; want of memory is free
+-- an answer is the design that is read, or the refusal; out of memory is free
 abbrev pub ReadsDesign : Result Design ReadFail → Result hw.Design Refusal → Type 0
 ReadsDesign (Ok d) read = read ≡ Ok (store.design_of d)
 ReadsDesign (Err (Refused r)) read = read ≡ Err r

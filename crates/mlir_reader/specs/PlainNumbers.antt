@@ -9,12 +9,12 @@ use Rattle.mlir_syntax.specs.Numerals.{number_in}
 abbrev pub is_short : Name → Bool
 is_short name = nat_le 1 (length name) && nat_le (length name) 9
 
--- whether a zero stands in front of others
+-- whether a zero stands before others
 abbrev pub begins_with_zero : Name → Bool
 begins_with_zero (a ∷ b ∷ bs) = a == 48
 begins_with_zero _ = false
 
--- whether a name is a plain number: one to nine digits, with no zero in front of others
+-- whether a name is a plain number: one to nine digits, with no zero before others
 abbrev pub is_plain_number : Name → Bool
 is_plain_number name = is_short name && (not (begins_with_zero name) && list_all is_digit name)
 

@@ -114,7 +114,7 @@ kind_named o e ts = kind_or (kind_named_by o) (said_kind o e ts)
 
 -- ---- dictionaries and names
 
--- an entry put among others by the bytes of its key, behind those whose key is less
+-- an entry put among others by the bytes of its key, after those whose key is less
 abbrev pub put_entry : Entry → List Entry → List Entry
 put_entry e [] = e ∷ []
 put_entry e (x ∷ xs) = cond (is_lt (slice_cmp nat_cmp x.key e.key)) (x ∷ put_entry e xs) (e ∷ x ∷ xs)

@@ -35,7 +35,7 @@ pub fn define_port<'s>(
     }
 }
 
-/// Defines the names of the results of an operation at a position, and puts behind what is found of earlier ones of
+/// Defines the names of the results of an operation at a position, and puts after what is found of earlier ones of
 /// each whether it stands for something already.
 pub fn define_operation<'s>(
     names: &mut Names<'s>,
@@ -153,7 +153,7 @@ fn define_pack<'s>(
     push_marks(found, count.max(1), again)
 }
 
-// Puts a mark behind others, so many times.
+// Puts a mark after others, so many times.
 fn push_marks(found: &mut Marks, count: u32, again: bool) -> Result<(), AllocError>
     ensures { OnOk result (found.new.items ≡ found.old.items ++ replicate count again) }
 {

@@ -44,7 +44,7 @@ pub struct DraftOperation<'s> {
 }
 
 /// A body of which a front is read. An operation is put into it as soon as the names of its operands stand for
-/// something, and so do those of all in front of it; until then it waits. Contracts see it by `Drafts`.
+/// something, and so do those of all before it; until then it waits. Contracts see it by `Drafts`.
 #[derive(Drop)]
 pub struct Draft<'s> {
     pub(crate) names: Names<'s>,
@@ -68,7 +68,7 @@ impl<'s> Draft<'s> {
     ghost use Rattle.mlir_reader.specs.Resolving.{Meanings};
     ghost use Rattle.mlir_syntax.specs.Views.{operation_of};
 
-    /// A body of which nothing is read, behind ports whose names stand for something. It will likely have so many
+    /// A body of which nothing is read, after ports whose names stand for something. It will likely have so many
     /// operations. It takes no memory.
     pub fn new(alloc: Global, names: Names<'s>, likely: u32) -> Draft<'s>
         ensures { Drafts (meanings_of names.entry) [] result }
@@ -83,8 +83,8 @@ impl<'s> Draft<'s> {
         }
     }
 
-    /// Puts an operation behind the others. On an error the draft may be thrown away. An operation with 2^32 named
-    /// results or more, and a body with as many operations, which no text that is read has, count as want of memory.
+    /// Puts an operation after the others. On an error the draft may be thrown away. An operation with 2^32 named
+    /// results or more, and a body with as many operations, which no text that is read has, count as out of memory.
     pub fn add(&mut self, alloc: Global, text: OperationText<'s>) -> Result<(), AllocError>
         ensures { OnOk result ((seen : Meanings) → (os : List Operation) → Drafts seen os self.old → Drafts seen (os ++ operation_of text.entry ∷ []) self.new) }
     {
@@ -120,7 +120,7 @@ impl<'s> Draft<'s> {
     }
 
     // Puts an operation whose names are defined, and have these marks, into the body where it need not wait, and else
-    // behind those that wait.
+    // after those that wait.
     fn put(
         &mut self,
         alloc: Global,
@@ -144,7 +144,7 @@ impl<'s> Draft<'s> {
         }
     }
 
-    // Puts an operation whose names have these marks behind those that wait.
+    // Puts an operation whose names have these marks after those that wait.
     fn wait(
         &mut self,
         alloc: Global,
@@ -264,7 +264,7 @@ fn make_room(body: &mut Body, read: u32, likely: u32) -> Result<(), AllocError>
     body.reserve(few, few * 2)
 }
 
-// Puts an operation behind those of a body. A body of 2^32 operations or more counts as want of memory.
+// Puts an operation after those of a body. A body of 2^32 operations or more counts as out of memory.
 fn put_in(body: &mut Body, operation: NewOp) -> Result<(), AllocError>
     ensures ops { OnOk result (map (op_by (λ i. i)) (ops_of body.new) ≡ map (op_by (λ i. i)) (ops_of body.old) ++ op_of operation ∷ []) }
     ensures numbered { OnOk result (IsNumbered body.old → IsNumbered body.new) }

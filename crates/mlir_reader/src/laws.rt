@@ -13,7 +13,7 @@ pub fn what_is_read_is_spelled()
 {}
 
 /// Does nothing. Its clause says that a refusal of a text that is not too long is of one of its symbols, whatever follows it:
-/// each text that begins with the same tokens and the same symbol behind them is refused alike.
+/// each text that begins with the same tokens and the same symbol after them is refused alike.
 pub fn a_refusal_is_of_its_symbol()
     ensures { (source : List ℕ) (r : Refusal) → length source ≤ text_limit → read source ≡ Err r → IsOfItsSymbol source r }
 {}
@@ -25,7 +25,7 @@ pub fn what_is_spelled_is_read()
 {}
 
 /// Does nothing. Its clause says that where a text that is not too long is refused, no text that begins with the same tokens and the same
-/// symbol behind them spells a design, however long it is.
+/// symbol after them spells a design, however long it is.
 pub fn a_refused_front_is_not_spelled()
     ensures { (source : List ℕ) (r : Refusal) → length source ≤ text_limit → read source ≡ Err r → IsUnspelledFront source r }
 {}

@@ -118,7 +118,7 @@ impl<'s> Names<'s> {
     }
 }
 
-// Puts what a number stands for at its place, behind empty ones where there are fewer.
+// Puts what a number stands for at its place, after empty ones where there are fewer.
 fn put(places: &mut Vec<Option<Defined>>, number: u32, defined: Defined) -> Result<(), AllocError>
     ensures { OnOk result ((n : ℕ) → held places.new.items n ≡ cond (nat_eq number n) (Some defined) (held places.old.items n)) }
 {
@@ -150,7 +150,7 @@ fn define_listed<'s>(
     }
 }
 
-// The number that a name is, where it is a plain one: one to nine digits, with no zero in front of others.
+// The number that a name is, where it is a plain one: one to nine digits, with no zero before others.
 #[tactic(auto, unfolding(crate::specs::PlainNumbers::number_of))]
 fn number_of(name: &[u8]) -> Option<u32>
     ensures { result ≡ number_of name.now }

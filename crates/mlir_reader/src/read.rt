@@ -16,7 +16,7 @@ pub const MOST_BYTES: usize = 1 << 26;
 /// The design that an MLIR text says (MLIR language reference; CIRCT: HW, Comb and Seq dialects).
 ///
 /// Fails with the first thing in the text that is refused (a text of more than 2^26 bytes at its
-/// first place), of which nothing behind it is looked at, or for want of memory.
+/// first place), of which nothing after it is looked at, or when out of memory.
 pub fn read_design(alloc: Global, source: &[u8]) -> Result<Design, ReadFail>
     ensures { ReadsDesign result (read source.now) }
 {

@@ -37,7 +37,7 @@ pub struct NamedPorts<'s> {
     pub outputs: bool,
 }
 
-/// What stands in front of the operations of a module.
+/// What stands before the operations of a module.
 #[derive(Drop)]
 pub struct ModuleHead {
     /// Its symbol.
@@ -53,7 +53,7 @@ pub struct ModuleHead {
 }
 
 /// The ports of a module, each with its mark, and their names. As many as 2^32, which no text that is read has, count
-/// as want of memory.
+/// as out of memory.
 pub fn named_ports<'s>(
     alloc: Global,
     ports: Vec<PortText<'s>>,

@@ -7,8 +7,8 @@ use ir_store::design::{Design, Module};
 use mlir_syntax::syntax::{OperationText, ResultNames};
 use std::alloc::AllocError;
 
-/// Puts a module behind those of a design. On an error the design may be thrown away. A design of 2^32 modules or more,
-/// which no text that is read has, counts as want of memory.
+/// Puts a module after those of a design. On an error the design may be thrown away. A design of 2^32 modules or more,
+/// which no text that is read has, counts as out of memory.
 pub fn put_module(design: &mut Design, one: Module) -> Result<(), AllocError>
     ensures { OnOk result (design_of design.new ≡ design_of design.old ++ numbered_module (module_of one) ∷ []) }
 {

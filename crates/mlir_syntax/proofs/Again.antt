@@ -103,10 +103,10 @@ starts_test test b to h = ap (is_first test) h.same ∙ to h.first h.says
 
 -- ---- readers
 
--- a reader gives what tokens say, where what stands behind them is so
+-- a reader gives what tokens say, where what stands after them is so
 pub record Again {A : Type 0} (F : List Symbol → Type 0) (r : Reads A) (P : A → Phrase) : Type 0 where
   pub gives : (x : A) (s left : List Symbol) → At (P x) s left → F left → r s ≡ Ok (x, left)
 
--- whatever stands behind
+-- whatever stands after
 abbrev pub Any : List Symbol → Type 0
 Any s = Unit {0}

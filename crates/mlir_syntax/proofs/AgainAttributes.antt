@@ -175,7 +175,7 @@ again_attribute (suc room) op = record {
 
 -- ---- dictionaries
 
--- what may stand behind an entry
+-- what may stand after an entry
 abbrev EntryEnd : List Symbol → Type 0
 EntryEnd s = (is_next kind.Colon s ≡ false) × (is_next kind.Equals s ≡ false)
 

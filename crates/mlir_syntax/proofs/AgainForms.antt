@@ -32,9 +32,9 @@ use Rattle.mlir_syntax.proofs.AgainLiterals.{leads_aggregate}
 use Rattle.mlir_syntax.proofs.AgainOperands.{NoNumber, NoValue, leads_operand}
 use Rattle.mlir_syntax.proofs.AgainPieces.{NoReset, Ends, pieces_at}
 
--- ---- what stands behind a form
+-- ---- what stands after a form
 
--- what may stand behind an operation
+-- what may stand after an operation
 pub record OperationEnd (s : List Symbol) : Type 0 where
   pub no_number : NoNumber s
   pub no_comma : is_next kind.Comma s ≡ false
@@ -42,7 +42,7 @@ pub record OperationEnd (s : List Symbol) : Type 0 where
   pub no_bin : is_first (is_word (codes "bin")) s ≡ false
   pub no_brace : NoBrace s
 
--- what may stand behind the pieces in front of the types
+-- what may stand after the pieces before the types
 record FrontEnd (s : List Symbol) : Type 0 where
   pub no_number : NoNumber s
   pub no_comma : is_next kind.Comma s ≡ false
@@ -75,7 +75,7 @@ no_pieces a = let (same, p) = at_where a in (same, at_nothing p)
 leads_dictionary : {T : Lexeme → Type 0} (keys : List Name) (es : List Entry) → ((t : Lexeme) → t.kind ≡ kind.LeftBrace → T t) → Leads T (MaybeDictionary keys (Some es))
 leads_dictionary keys es to = leads_where (leads_then (leads_one to))
 
--- what is so of no brace and no colon, and not of what stands behind an operation, is not so of what stands in front of its types
+-- what is so of no brace and no colon, and not of what stands after an operation, is not so of what stands before its types
 behind_types : (test : Lexeme → Bool) (keys : List Name) (late : Option (List Entry)) {s left : List Symbol} → ((t : Lexeme) → t.kind ≡ kind.LeftBrace → test t ≡ false)
     → is_first test left ≡ false → At (MaybeDictionary keys late) s left → is_first test s ≡ false
 behind_types test keys None brace last a = ap (is_first test) (at_nothing a) ∙ last
@@ -106,7 +106,7 @@ front_end keys tp g h early late form last a = record {
   no_reset = behind_front (is_word (codes "reset")) keys tp g h early late form (no_word (codes "reset") kind.LeftBrace refl) (no_word (codes "reset") kind.Colon refl) last.no_reset a;
 }
 
--- ---- the pieces of forms may stand one behind another
+-- ---- the pieces of forms may stand one after another
 
 behind_mark : (k : TokenKind) (ps : List Piece) (left : List Symbol) → is_kind k kind.ResultNumber ≡ false
     → (m : List Symbol) (x y : Gathered) → At (PiecesPhrase (piece.Mark k ∷ ps) x y) m left → NoNumber m
@@ -228,13 +228,13 @@ type_ends _ left = one_type_ends
 
 -- ---- forms
 
--- what is read behind the pieces in front of the types
+-- what is read after the pieces before the types
 abbrev RestRead : OpName → List Name → List Piece → Gathered → List Symbol → Read Tail
 RestRead op keys tp g s =
     on (maybe_dictionary op keys s) (λ es s2. on (pieces_text op tp g s2) (λ h s3. on (late_dictionary op keys es s3) (λ all s4.
     Ok (record { gathered = h; dictionary = all }, s4))))
 
--- a dictionary in front of the types
+-- a dictionary before the types
 early_at : (op : OpName) (keys : List Name) (tp : List Piece) (g h : Gathered) (ds es : List Entry) (late : Option (List Entry)) {s m k left : List Symbol} → OperationEnd left
     → Ends tp k → IsOneOf (Some ds) late es → At (MaybeDictionary keys (Some ds)) s m → maybe_dictionary op keys s ≡ Ok (Some ds, m) → At (PiecesPhrase tp g h) m k
     → At (MaybeDictionary keys late) k left → RestRead op keys tp g s ≡ Ok (record { gathered = h; dictionary = es }, left)
@@ -244,7 +244,7 @@ early_at op keys tp g h ds es late {s} {m} {k} {left} last ends one a e b c =
     on_ok _ e (on_ok _ (pieces_at op tp g h ends b)
     (ap (λ y. Ok (record { gathered = h; dictionary = ds }, y)) (at_nothing none) ∙ ap (λ x. Ok (record { gathered = h; dictionary = x }, left)) (sym one.1)))
 
--- no dictionary in front of the types
+-- no dictionary before the types
 plain_at : (op : OpName) (keys : List Name) (tp : List Piece) (g h : Gathered) (es : List Entry) (late : Option (List Entry)) {s m k left : List Symbol} → OperationEnd left
     → Ends tp k → es ≡ given_entries late → At (MaybeDictionary keys None) s m → NoBrace m → At (PiecesPhrase tp g h) m k
     → At (MaybeDictionary keys late) k left → RestRead op keys tp g s ≡ Ok (record { gathered = h; dictionary = es }, left)
@@ -253,7 +253,7 @@ plain_at op keys tp g h es late {s} {m} {k} {left} last ends one a clear b c =
     on_ok _ ((again_maybe op keys).gives None s m a clear) (on_ok _ (pieces_at op tp g h ends b)
     (on_ok _ (on_ok _ ((again_maybe op keys).gives late k left c last.no_brace) refl) (ap (λ x. Ok (record { gathered = h; dictionary = x }, left)) (sym one))))
 
--- a dictionary behind no types
+-- a dictionary after no types
 bare_at : (op : OpName) (keys : List Name) (g h : Gathered) (es ds : List Entry) {s m k left : List Symbol} → OperationEnd left → es ≡ ds
     → At (MaybeDictionary keys None) s m → At (PiecesPhrase [] g h) m k → At (MaybeDictionary keys (Some ds)) k left
     → RestRead op keys [] g s ≡ Ok (record { gathered = h; dictionary = es }, left)
@@ -281,7 +281,7 @@ rest_at op keys tp g h es None late last form ends one a b c = none_at op keys t
 rest_at op keys tp g h es (Some ds) late {s} {m} last form ends one a b c =
     early_at op keys tp g h ds es late last ends one a (some_dictionary_at op keys ds a) b c
 
--- the pieces in front of the types, and what stands behind them
+-- the pieces before the types, and what stands after them
 front_of : (keys : List Name) (shape : Shape) (h : Gathered) (es : List Entry) {s left : List Symbol} → At (FormPhrase keys shape h es) s left
     → (g : Gathered) × (early : Option (List Entry)) × (late : Option (List Entry)) × IsOneOf early late es × (m : List Symbol) × At (PiecesPhrase (front_pieces shape) gathered_nothing g) s m
     × At (Then (MaybeDictionary keys early) (Then (PiecesPhrase (type_pieces shape) g h) (MaybeDictionary keys late))) m left

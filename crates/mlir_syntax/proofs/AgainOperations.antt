@@ -79,7 +79,7 @@ bin_at o true clear a =
     let (next, behind) = word_first p in
     if_true _ (both_true (takes_bin o) _ takes next) (ap (λ y. Ok (true, y)) behind)
 
--- what is behind an operation's name
+-- what is after an operation's name
 named_at : (o : OperationText) {s left : List Symbol} → OperationEnd left → (is_last o.name ≡ true → NoValue left)
     → At (Then (BinPhrase o.name o.bin) (TailPhrase o)) s left → named_operation o.results o.name o.place s ≡ Ok (o, left)
 unfolding named_operation
@@ -140,7 +140,7 @@ operations_end (o ∷ os) close a =
     let (k, b, c) = at_then p in
     operation_end o b
 
--- what stands behind an output
+-- what stands after an output
 output_last : (os : List OperationText) {s m left : List Symbol} → os ≡ [] → At (Mark kind.RightBrace) m left → At (OperationsPhrase IsPlaceOf os) s m
     → (s ≡ m) × NoValue s × (is_next kind.RightBrace s ≡ true)
 output_last os {s} {m} none close a =
@@ -149,7 +149,7 @@ output_last os {s} {m} none close a =
     let (next, behind) = next_at close in
     (same, ap (is_next kind.ValueName) same ∙ no_mark kind.ValueName refl close, ap (is_next kind.RightBrace) same ∙ next)
 
--- an operation is the last, or further ones stand behind it
+-- an operation is the last, or further ones stand after it
 last_or_more : (n : ℕ) (o : OperationText) (os : List OperationText) {k m left : List Symbol} (b : Bool) → (b ≡ true → os ≡ []) → At (Mark kind.RightBrace) m left
     → At (OperationsPhrase IsPlaceOf os) k m → operations_text n k ≡ Ok (os, m)
     → cond b (cond (is_next kind.RightBrace k) (Ok (o ∷ [], k)) (Err (unexpected (op.Listed listed.HwModule) k)))

@@ -219,7 +219,7 @@ instance_at op g h {s} {left} a =
 
 -- ---- pieces
 
--- what may stand behind a piece
+-- what may stand after a piece
 abbrev pub EndOf : Piece → List Symbol → Type 0
 EndOf piece.Operand s = NoNumber s
 EndOf piece.Operands s = NoNumber s × (is_next kind.Comma s ≡ false)
@@ -280,7 +280,7 @@ piece_at op piece.Types g h {s} {left} end a =
     let inside : At (Commas (TypePhrase most_open) l) s left = record { passed = a.passed; same = a.same; says = p } in
     on_ok _ (types_at op (length g.operands) l count inside) (ap (λ x. Ok (x, left)) (sym same))
 
--- what may stand behind pieces: behind each stands what may
+-- what may stand after pieces: after each stands what may
 abbrev pub Ends : List Piece → List Symbol → Type 0
 Ends [] left = Unit {0}
 Ends (p ∷ ps) left = ((m : List Symbol) (x y : Gathered) → At (PiecesPhrase ps x y) m left → EndOf p m) × Ends ps left

@@ -187,7 +187,7 @@ again_integer op = record { gives = λ z s left h _. integer_at op h.passed h.sa
 
 -- ---- lists
 
--- what may stand behind an item: a comma may
+-- what may stand after an item: a comma may
 abbrev pub MayComma : (List Symbol → Type 0) → Type 0
 MayComma F = (s left : List Symbol) → At (Mark kind.Comma) s left → F s
 
@@ -218,7 +218,7 @@ pub leads_commas : {A : Type 0} (P : A → Phrase) {T : Lexeme → Type 0} (x : 
 leads_commas P x [] one = one
 leads_commas P x (y ∷ ys) one = leads_then one
 
--- items up to a closing mark, which may stand behind an item and begins none
+-- items up to a closing mark, which may stand after an item and begins none
 pub until_at : {A : Type 0} {item : Reads A} {P : A → Phrase} {F : List Symbol → Type 0} (op : OpName) (close : TokenKind) → Again F item P → ((x : A) → Leads (Unlike close) (P x))
     → MayComma F → ((s left : List Symbol) → At (Mark close) s left → F s) → is_kind close kind.Comma ≡ false
     → (xs : List A) {s left : List Symbol} → At (Then (Commas P xs) (Mark close)) s left → items_until op close item s ≡ Ok (xs, left)

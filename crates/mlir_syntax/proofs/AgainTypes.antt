@@ -40,7 +40,7 @@ int_at arrays structs op w {s} {left} h =
     let head : type_head (Some t) ≡ integer_type p.1.0 = if_true _ (is_kind_of p.0) (ap (λ x. bare_type (width_digits x)) p.1.1 ∙ ap bare_type (digits_known p.1.0 w p.1.2)) in
     ap (λ y. type_with arrays structs op y (type_head (first y))) e ∙ ap (type_with arrays structs op (token t ∷ left)) head ∙ width_is op t left w p.1.0 p.1.2
 
--- what a name behind `!` begins
+-- what a name after `!` begins
 named_head : (t : Lexeme) (name : List ℕ) → t.kind ≡ kind.TypeName → content_of kind.TypeName t.text ≡ name → type_head (Some t) ≡ named_type name
 named_head t name k c = if_false _ (unlike kind.BareName kind.TypeName refl t k) (if_true _ (is_kind_of k) (ap named_type c))
 

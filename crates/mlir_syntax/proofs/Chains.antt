@@ -1,4 +1,4 @@
--- Readers one behind the other: a refusal is passed on.
+-- Readers one after the other: a refusal is passed on.
 use Rattle.std.proofs.Common.{◌≡◌, List, Result, Ok, Err, IsErrAnd, refl}
 use Rattle.mlir_syntax.specs.Stream.{Symbol}
 use Rattle.mlir_syntax.specs.Reads.{Read, Reads, on}

@@ -1,11 +1,11 @@
--- Numbers that are read digit by digit: what is in front bounds them from below.
+-- Numbers that are read digit by digit: what is before bounds them from below.
 use Rattle.std.proofs.Common.{◌≡◌, ℕ, ◌+◌, ◌*◌, ◌≤◌, List, [], ◌∷◌, drop, length, ◌<◌, None, Some, arith, drop_of_length-le, refl, ◌∙◌, ap}
 use Rattle.std.proofs.lemmas.Bool.{lt-ltb}
 use Rattle.std.proofs.Math.Nat.{mul-le-mul_left}
 use Rattle.mlir_lexer.specs.Contents.{hex_value}
 use Rattle.mlir_syntax.specs.Numerals.{number_in, below, number_limit}
 
--- the digits in front of a position stand for a number below the limit
+-- the digits before a position stand for a number below the limit
 pub record IsFront (base : ℕ) (ds : List ℕ) (number at : ℕ) : Type 0 where
   pub same : number_in base 0 ds ≡ number_in base number (drop at ds)
   pub small : number < number_limit

@@ -26,7 +26,7 @@ pub record Gathering (op : OpName) (strings : List Name) (start : List Symbol) (
   pub shorter : length left ≤ length start
   pub same : entries 32 op strings [] (length start) start ≡ with_front (map entry_of got) (entries 32 op strings keys n left)
 
--- an entry, and further ones behind a comma, so many at most
+-- an entry, and further ones after a comma, so many at most
 abbrev then_more : OpName → List Name → List Name → ℕ → design.Entry → Reads (List design.Entry)
 then_more op strings keys n e left =
     cond (is_next kind.Comma left) (on (entries 32 op strings (keys ++ e.key ∷ []) n (after left)) (λ es behind. Ok (e ∷ es, behind))) (Ok (e ∷ [], left))
@@ -56,7 +56,7 @@ pub fails : {C : Type 0} {op : OpName} {strings : List Name} {start : List Symbo
 fails whole (Refused r) behind left_over g read = same_at (Err r) g read
 fails whole NoMemory behind left_over g read = tt
 
--- an entry behind which no comma stands
+-- an entry after which no comma stands
 pub ends : {op : OpName} {strings : List Name} {start : List Symbol} {got : List Entry} {keys : List Name} {left : List Symbol}
     (x : Entry) (xs : List Entry) (behind new : List Symbol) (passed : Bool)
     → Gathering op strings start got keys left → entry_text 32 op strings keys left ≡ Ok (entry_of x, behind) → xs ≡ got ++ x ∷ []
@@ -74,7 +74,7 @@ ends-shorter behind new passed g moved no_comma within =
     let same : new ≡ behind = moved ∙ ap (λ b. cond b (after behind) behind) no_comma in
     rw same (omega (arith, before, within))
 
--- an entry behind which a comma stands, and whose key is noted
+-- an entry after which a comma stands, and whose key is noted
 pub goes_on : {op : OpName} {strings : List Name} {start : List Symbol} {got : List Entry} {keys : List Name} {left : List Symbol}
     (x : Entry) (xs : List Entry) (key : Name) (noted : List Name) (behind new : List Symbol) (passed : Bool)
     → Gathering op strings start got keys left → entry_text 32 op strings keys left ≡ Ok (entry_of x, behind) → xs ≡ got ++ x ∷ []

@@ -1,4 +1,4 @@
--- Pieces and what they put behind what is gathered.
+-- Pieces and what they put after what is gathered.
 use Rattle.std.proofs.Common.{◌≡◌, ℕ, suc, ◌-◌, ◌+◌, ◌≤◌, ◌<◌, Bool, true, false, cond, List, [], ◌∷◌, ◌++◌, map, length, Ok, Err, refl, sym, ap, ◌∙◌, arith, append_assoc}
 use Rattle.std.proofs.lemmas.List.{map-append, append-nil}
 use Rattle.diag.specs.declared.refusal.OpName.{OpName}
@@ -15,11 +15,11 @@ use Rattle.mlir_syntax.specs.declared.fail.ReadFail.TheVariants.{Refused, NoMemo
 use Rattle.mlir_syntax.proofs.Chains.{on_err}
 use Rattle.mlir_syntax.proofs.Lists.{IsItem, Gathering, fails, ends, goes_on, begins}
 
--- what is read behind those in front
+-- what is read after those before
 abbrev pub behind : {A : Type 0} → List A → Read (List A) → Read (List A)
 behind front read = on read (λ xs left. Ok (front ++ xs, left))
 
--- items are gathered behind those in front
+-- items are gathered after those before
 pub record Onto {A B : Type 0} (view : B → A) (op : OpName) (item : Reads A) (start : List Symbol) (front got : List B) (left : List Symbol) : Type 0 where
   pub here : List B
   pub joined : got ≡ front ++ here
@@ -59,7 +59,7 @@ onto_goes_on {front = front} x xs past new passed none o read pushed is moved co
 
 -- ---- types
 
--- types are read behind those in front
+-- types are read after those before
 pub further_at : (op : OpName) (n i : ℕ) (front : List HwType) (s : List Symbol) → i < n
     → behind front (further_types op (n - i) s)
     ≡ on (on (want op kind.Comma s) (λ _ s1. on (any_type op s1) (λ t left. Ok (front ++ t ∷ [], left)))) (λ more left. behind more (further_types op (n - (i + 1)) left))

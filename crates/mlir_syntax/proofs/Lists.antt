@@ -13,7 +13,7 @@ use Rattle.mlir_syntax.specs.declared.fail.ReadFail.TheVariants.{Refused, NoMemo
 abbrev pub IsItem : {A : Type 0} → OpName → Reads A → Type 0
 IsItem op item = item [] ≡ Err (unexpected op [])
 
--- what is read behind some items, with those in front
+-- what is read after some items, with those before
 abbrev pub with_front : {A : Type 0} → List A → Read (List A) → Read (List A)
 with_front front (Err e) = Err e
 with_front front (Ok p) = Ok (front ++ p.0, p.1)
@@ -34,7 +34,7 @@ pub with_front-more : {A : Type 0} (front : List A) (x : A) (read : Read (List A
 with_front-more front x (Err e) = refl
 with_front-more front x (Ok p) = ap (λ l. Ok (l, p.1)) (sym (append_assoc front (x ∷ []) p.0))
 
--- an item, and further ones behind a comma, so many at most
+-- an item, and further ones after a comma, so many at most
 abbrev then_more : {A : Type 0} → OpName → Reads A → ℕ → A → Reads (List A)
 then_more op item n x left =
     cond (is_next kind.Comma left) (on (items op item n (after left)) (λ xs behind. Ok (x ∷ xs, behind))) (Ok (x ∷ [], left))
@@ -65,7 +65,7 @@ pub fails : {A B C : Type 0} {view : B → A} {op : OpName} {item : Reads A} {st
 fails whole (Refused r) behind left_over none g read = same_at (Err r) none g read
 fails whole NoMemory behind left_over none g read = tt
 
--- an item behind which no comma stands
+-- an item after which no comma stands
 pub ends : {A B : Type 0} {view : B → A} {op : OpName} {item : Reads A} {start : List Symbol} {got : List B} {left : List Symbol}
     (x : B) (xs : List B) (behind new : List Symbol) (passed : Bool)
     → IsItem op item → Gathering view op item start got left → item left ≡ Ok (view x, behind) → xs ≡ got ++ x ∷ []
@@ -75,7 +75,7 @@ ends {view = view} {got = got} x xs behind new passed none g read pushed is move
     same_at (Ok (view x, behind)) none g read
     ∙ rw (sym is, moved, no_comma, pushed, map_push view got x) refl
 
--- an item behind which a comma stands
+-- an item after which a comma stands
 pub goes_on : {A B : Type 0} {view : B → A} {op : OpName} {item : Reads A} {start : List Symbol} {got : List B} {left : List Symbol}
     (x : B) (xs : List B) (behind new : List Symbol) (passed : Bool)
     → IsItem op item → Gathering view op item start got left → item left ≡ Ok (view x, behind) → xs ≡ got ++ x ∷ []

@@ -1,4 +1,4 @@
--- Readers that look no further than the symbol behind what they pass, and whose refusals are of the first symbol that they do not pass.
+-- Readers that look no further than the symbol after what they pass, and whose refusals are of the first symbol that they do not pass.
 use Rattle.std.proofs.Common.{◌≡◌, ℕ, zero, suc, ◌+◌, ◌≤◌, ◌<◌, Bool, true, false, cond, List, [], ◌∷◌, ◌++◌, length, map, Option, Ok, Err, refl, sym, ◌∙◌, ap, subst, arith}
 use Rattle.std.proofs.lemmas.Bool.{cond-true, cond-false}
 use Rattle.std.proofs.lemmas.List.{append_assoc, map-append}
@@ -89,7 +89,7 @@ map_joined a b v = ap (λ x. x ++ v) (map-append token a b) ∙ append_assoc (ma
 abbrev pub Given : {A : Type 0} → ℕ → (ℕ → Reads A) → List Symbol → Read A → Type 0
 Given c R s m = (k : ℕ) → length s ≤ c + k → R k s ≡ m
 
--- an answer is that of each text with the same tokens in front and the same symbol behind them
+-- an answer is that of each text with the same tokens before and the same symbol after them
 abbrev pub Near : {A : Type 0} → (List Symbol → Read A → Type 0) → List Symbol → Read A → Type 0
 Near G s (Ok p) = (ts : List Lexeme) × (s ≡ map token ts ++ p.1) × ((v : List Symbol) → Whole v → Same p.1 v → G (map token ts ++ v) (Ok (p.0, v)))
 Near G s (Err e) =
@@ -194,7 +194,7 @@ loc_first {c} {n} H each = record {
       near_as c (H (first s)) (λ k s. H (first s) k s) s (λ x h k. ap (λ o. H o k x) (sym (same_first s x h))) (H (first s) n s) ((each (first s)).near s w l);
 }
 
--- ---- behind a token
+-- ---- after a token
 
 shift_near : {A : Type 0} (c d : ℕ) (R T : ℕ → Reads A) (t : Lexeme) (ts : List Symbol) → ((k x : ℕ) → suc x ≤ c + k → x ≤ d + k)
     → ((k : ℕ) (w : List Symbol) → T k (token t ∷ w) ≡ R k w) → (m : Read A) → Near (Given d R) ts m → Near (Given c T) (token t ∷ ts) m
@@ -230,7 +230,7 @@ loc_after {c} {n} {R} one = record { near = go }
     go (bad p ∷ ts) w l = near_as c R (λ k s. R k (after s)) (bad p ∷ ts) (λ x h k. ap (R k) (stays_bad p ts x h)) (R n (bad p ∷ ts)) (one.near (bad p ∷ ts) w l)
     go (end p ∷ ts) w l = near_as c R (λ k s. R k (after s)) (end p ∷ ts) (λ x h k. ap (R k) (stays_end p ts x h)) (R n (end p ∷ ts)) (one.near (end p ∷ ts) w l)
 
--- a first token that a test tells, and with less fuel what stands behind it; or else
+-- a first token that a test tells, and with less fuel what stands after it; or else
 pub loc_less : {A : Type 0} {n : ℕ} {R Q : ℕ → Reads A} (test : Lexeme → Bool) → Loc 0 n R → Loc 1 n Q
     → Loc 1 n (λ k s. cond (is_first test s) (R k (after s)) (Q k s))
 loc_less {n} {R} {Q} test one other = record { near = go }

@@ -19,7 +19,7 @@ pub record Sound {A : Type 0} (r : Reads A) (P : A → Phrase) : Type 0 where
 abbrev pub Behind : Phrase → Phrase → Phrase
 Behind P Q ts = (a : List Lexeme) → P a → Q (a ++ ts)
 
--- what says the rest, where a token stands in front
+-- what says the rest, where a token stands before
 abbrev pub Past : Lexeme → Phrase → Phrase
 Past t Q ts = Q (t ∷ ts)
 
@@ -90,7 +90,7 @@ past_ok : {A : Type 0} {r q : Reads A} {Q : A → Phrase} (t : Lexeme) (ts left 
 past_ok {Q = Q} t ts left x true one other h = one_more t ts left (Q x) ((one refl).said ts left x h)
 past_ok t ts left x false one other h = other.said (token t ∷ ts) left x h
 
--- a first token that a test tells, and what stands behind it; or else
+-- a first token that a test tells, and what stands after it; or else
 pub sound_past : {A : Type 0} {test : Lexeme → Bool} {r q : Reads A} {Q : A → Phrase}
     → ((t : Lexeme) → test t ≡ true → Sound r (λ y. Past t (Q y))) → Sound q Q
     → Sound (λ s. cond (is_first test s) (r (after s)) (q s)) Q

@@ -146,7 +146,7 @@ sound_value op strings key = go (is_among key strings) refl
     go true e = sound_as (sound_string op) (λ v a p. inr (e, p))
     go false e = sound_as (sound_attribute 32 op) (λ v a p. inl (e, p))
 
--- what stands behind a key
+-- what stands after a key
 abbrev BehindKey : List Name → Name → Attribute → Phrase
 BehindKey strings key v ts =
     Then (Mark kind.Equals) (ValuePhrase strings (entry_of key v)) ts ⊎ ((is_among key strings ≡ false) × (v ≡ unit_value) × (ts ≡ []))

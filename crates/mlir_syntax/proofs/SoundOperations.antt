@@ -59,7 +59,7 @@ by_says name (Some o) h = listed_says name o h
 pub class_says : (name : Name) → ClassSays name (class_of name)
 class_says name = by_says name (first_named name (listed.HwModule ∷ operations)) (first_named-name name (listed.HwModule ∷ operations))
 
--- ---- what is behind a name
+-- ---- what is after a name
 
 sound_bin : (o : Listed) → Sound (bin_text o) (BinPhrase o)
 unfolding bin_text
@@ -82,7 +82,7 @@ sound_form op keys shape =
     sound_on (sound_pieces op (type_pieces shape) g) (λ h. sound_last (λ all. record { gathered = h; dictionary = all }) (sound_late op keys es)
     (λ all d pd c pc b pb a pa. (g, es, pd.0, pd.1, pair a (b ++ (c ++ d)) pa (pair b (c ++ d) pb (pair c d pc pd.2)))))))
 
--- what is behind an operation's name and mark
+-- what is after an operation's name and mark
 abbrev ShapedPhrase : Listed → Tail → Phrase
 ShapedPhrase o t ts = (shape : Shape) × MayHaveShape o shape × FormPhrase (string_keys o) shape t.gathered t.dictionary ts
 
@@ -93,7 +93,7 @@ sound_shaped o = record {
       (a, ea, (shape_of o (first s), (first s, refl), p));
 }
 
--- what is behind a name, where the name and the names of results stand in front
+-- what is after a name, where the name and the names of results stand before
 abbrev BehindName : ResultNames → Listed → Place → OperationText → Phrase
 BehindName results o place y ts =
     (t : Lexeme) → StandsInBody o → t.kind ≡ kind.BareName → t.text ≡ name_of_listed o → t.place ≡ place → (a : List Lexeme) → ResultsPhrase results a

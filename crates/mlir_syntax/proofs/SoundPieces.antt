@@ -101,7 +101,7 @@ sound_types op (suc n) =
 
 -- ---- resets
 
--- two operands behind a reset
+-- two operands after a reset
 abbrev ResetOperands : Gathered → Gathered → Phrase
 ResetOperands g h ts =
     (r v : OperandName) × (h ≡ with_extra (with_operands g (r ∷ v ∷ [])) with_reset)

@@ -1,4 +1,4 @@
--- An integer of a dictionary, whose refusal has the place behind the minus.
+-- An integer of a dictionary, whose refusal has the place after the minus.
 use Rattle.std.proofs.Common.{◌≡◌, ℕ, ℤ, pos, Bool, true, false, cond, List, Ok, Err, refl, sym, ap, ◌∙◌}
 use Rattle.diag.specs.declared.refusal.OpName.{OpName}
 use Rattle.diag.specs.declared.cause.Cause.TheVariants.{NumberTooLarge}

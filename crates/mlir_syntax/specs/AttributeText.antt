@@ -117,7 +117,7 @@ unfoldable pub entry_text : ℕ → OpName → List Name → List Name → Reads
 entry_text room op strings keys s =
     on (new_key op keys s) (λ key left. on (entry_value room op strings key left) (λ v behind. Ok (record { key = key; value = v }, behind)))
 
--- entries with commas between them behind those of some keys, so many at most
+-- entries with commas between them after those of some keys, so many at most
 unfoldable pub entries : ℕ → OpName → List Name → List Name → ℕ → Reads (List Entry)
 entries room op strings keys zero s = Err (unexpected op s)
 entries room op strings keys (suc n) s =

@@ -1,4 +1,4 @@
--- What a reader has in front of it: the first thing that is left, and what stands behind it.
+-- What a reader has before it: the first thing that is left, and what stands after it.
 use Rattle.std.specs.Prelude.{List, [], ◌∷◌, length}
 use Rattle.diag.specs.Place.{place_of}
 use Rattle.mlir_lexer.specs.Cursor.{Cursor}
@@ -11,7 +11,7 @@ use Rattle.mlir_syntax.specs.declared.head.Head.TheVariants as head
 abbrev pub stream_left : Cursor → List Symbol
 stream_left cursor = stream (place_of cursor.source (length cursor.source)) (tokens_left cursor)
 
--- a head and what stands behind it; nothing stands behind the end
+-- a head and what stands after it; nothing stands after the end
 abbrev pub symbols : Head → List Symbol → List Symbol
 symbols (head.Token t) behind = token (lexeme_of t) ∷ behind
 symbols (head.Bad p) behind = bad p ∷ []

@@ -40,12 +40,12 @@ port_name value s =
 unfoldable pub port_type : Reads HwType
 port_type s = on (want header kind.Colon s) (λ _ left. any_type header left)
 
--- `%v ["name"] : T` behind `in`
+-- `%v ["name"] : T` after `in`
 unfoldable pub input_port : Reads PortText
 input_port s =
     on (value_name header s) (λ v s1. on (port_name v s1) (λ n s2. on (port_type s2) (λ t s3. Ok (record { value = Some v; name = n; type = t }, s3))))
 
--- `name : T` behind `out`
+-- `name : T` after `out`
 unfoldable pub output_port : Reads PortText
 output_port s = on (name_text header s) (λ n s1. on (port_type s1) (λ t s2. Ok (record { value = None; name = n; type = t }, s2)))
 
@@ -86,7 +86,7 @@ attributes_text op s =
 unfoldable pub private_text : Reads Bool
 private_text s = cond (is_first (is_word (codes "private")) s) (Ok (true, after s)) (Ok (false, s))
 
--- what stands behind the ports
+-- what stands after the ports
 pub record BodyText : Type 0 where
   pub dictionary : List Entry
   pub operations : List OperationText
@@ -98,7 +98,7 @@ body_text s =
     on (attributes_text header s) (λ es s1. on (want header kind.LeftBrace s1) (λ _ s2. on (operations_text (length s2) s2) (λ os s3.
     on (want header kind.RightBrace s3) (λ t s4. Ok (record { dictionary = es; operations = os; close = t.place }, s4)))))
 
--- a module behind its name
+-- a module after its name
 unfoldable pub module_behind : Place → Reads ModuleText
 module_behind place s =
     on (private_text s) (λ p s1. on (module_symbol header s1) (λ n s2. on (ports_text s2) (λ ports s3. on (body_text s3) (λ b s4.
@@ -144,7 +144,7 @@ file_symbol s = cond (is_first is_symbol s) (on (symbol_text op.File s) (λ _ le
 unfoldable pub want_end : {A : Type 0} → A → Reads A
 want_end x s = cond (is_end s) (Ok (x, s)) (Err (unexpected op.File s))
 
--- `[@N] [attributes {..}] { MODULES }` and the end, behind the name of a file's module
+-- `[@N] [attributes {..}] { MODULES }` and the end, after the name of a file's module
 unfoldable pub wrapped_text : Reads (List ModuleText)
 wrapped_text s =
     on (file_symbol s) (λ _ s1. on (attributes_text op.File s1) (λ _ s2. on (want op.File kind.LeftBrace s2) (λ _ s3.

@@ -7,12 +7,12 @@ use Rattle.mlir_lexer.specs.declared.token.TokenKind.TheVariants as kind
 use Rattle.mlir_syntax.specs.Stream.{Symbol, is_next, after, refused}
 use Rattle.mlir_syntax.specs.Reads.{Reads, Read, on, want}
 
--- the number that digits stand for in a base, where so much stands in front
+-- the number that digits stand for in a base, where so much stands before
 abbrev pub number_in : ℕ → ℕ → List ℕ → ℕ
 number_in base front [] = front
 number_in base front (b ∷ bs) = number_in base (front * base + hex_value b) bs
 
--- decimal, or hexadecimal behind `0x`
+-- decimal, or hexadecimal after `0x`
 abbrev pub number_of : List ℕ → ℕ
 number_of [] = 0
 number_of (a ∷ []) = number_in 10 0 (a ∷ [])
@@ -38,11 +38,11 @@ limited limit op s n left = cond (nat_lt n limit) (Ok (n, left)) (Err (refused N
 unfoldable pub number_below : ℕ → OpName → Reads ℕ
 number_below limit op s = on (want op kind.Integer s) (λ t left. limited limit op s (number_of t.text) left)
 
--- the integer with a sign in front
+-- the integer with a sign before it
 abbrev pub negative : ℕ → ℤ
 negative n = cond (n == 0) (pos 0) (negsuc (n - 1))
 
--- an integer by its distance from 0, with a minus in front or not
+-- an integer by its distance from 0, with a minus before it or not
 abbrev pub signed : Bool → ℕ → ℤ
 signed minus n = cond minus (negative n) (pos n)
 

@@ -40,7 +40,7 @@ named_count no_names = 0
 named_count (names n ns) = length (n ∷ ns)
 named_count (pack n k) = k
 
--- `:k`, further names behind commas, or nothing behind a first name
+-- `:k`, further names after commas, or nothing after a first name
 unfoldable pub names_behind : OpName → Name → Reads ResultNames
 names_behind op name s =
     cond (is_next kind.Colon s) (on (number_below count_limit op (after s)) (λ k left. Ok (pack name k, left)))

@@ -106,7 +106,7 @@ no_operation around s = cond (is_first is_outside s) (refused OutsideProfile aro
 
 -- ---- operations
 
--- whether `bin` may stand behind the name
+-- whether `bin` may stand after the name
 abbrev pub takes_bin : Listed → Bool
 takes_bin o = same_name (dialect (Rattle.opcode.specs.Listed.name_of_listed o)) (codes "comb")
 
@@ -131,17 +131,17 @@ pub record OperationText : Type 0 where
   pub dictionary : List Entry
   pub place : Place
 
--- a dictionary that stands once, in front of the types or behind them
+-- a dictionary that stands once, before the types or after them
 abbrev pub given_entries : Option (List Entry) → List Entry
 given_entries None = []
 given_entries (Some es) = es
 
--- a dictionary behind the types, where none stands in front of them
+-- a dictionary after the types, where none stands before them
 unfoldable pub late_dictionary : OpName → List Name → Option (List Entry) → Reads (List Entry)
 late_dictionary op keys (Some es) s = Ok (es, s)
 late_dictionary op keys None s = on (maybe_dictionary op keys s) (λ es left. Ok (given_entries es, left))
 
--- what is behind the name of an operation
+-- what is after the name of an operation
 pub record Tail : Type 0 where
   pub gathered : Gathered
   pub dictionary : List Entry
@@ -153,7 +153,7 @@ form_text op keys shape s =
     on (pieces_text op (type_pieces shape) g s2) (λ h s3. on (late_dictionary op keys es s3) (λ all s4.
     Ok (record { gathered = h; dictionary = all }, s4)))))
 
--- an operation behind its name
+-- an operation after its name
 unfoldable pub named_operation : ResultNames → Listed → Place → Reads OperationText
 named_operation results o place s =
     on (bin_text o s) (λ bin s1. on (form_text (op.Listed o) (string_keys o) (shape_of o (first s1)) s1) (λ t s2.

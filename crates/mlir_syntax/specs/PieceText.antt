@@ -117,7 +117,7 @@ symbol_text op (end p ∷ ts) = Err (unexpected op (end p ∷ ts))
 unfoldable pub group_text : OpName → Reads (List OperandName)
 group_text op s = on (want op kind.LeftParenthesis s) (λ _ s1. items_until op kind.RightParenthesis (operand_text op) s1)
 
--- so many further types behind commas
+-- so many further types after commas
 unfoldable pub further_types : OpName → ℕ → Reads (List HwType)
 further_types op zero s = Ok ([], s)
 further_types op (suc n) s =
@@ -130,7 +130,7 @@ types_text op (suc n) s = on (any_type op s) (λ t s1. on (further_types op n s1
 
 -- ---- resets
 
--- two operands behind a reset
+-- two operands after a reset
 unfoldable pub reset_operands : OpName → Gathered → Reads Gathered
 reset_operands op g s =
     on (operand_text op s) (λ r s1. on (want op kind.Comma s1) (λ _ s2. on (operand_text op s2) (λ v s3.
@@ -172,7 +172,7 @@ unfoldable pub inner_symbol : OpName → Reads (Option Name)
 inner_symbol op s =
     cond (is_first (is_word (codes "sym")) s) (on (symbol_text op (after s)) (λ name left. Ok (Some name, left))) (Ok (None, s))
 
--- `@N`, behind which no parameters may stand
+-- `@N`, after which no parameters may stand
 unfoldable pub module_symbol : OpName → Reads Name
 module_symbol op s = on (symbol_text op s) (λ name left. cond (is_next kind.Less left) (Err (refused OutsideProfile op left)) (Ok (name, left)))
 
@@ -210,7 +210,7 @@ instance_text op g s =
 
 -- ---- pieces
 
--- a piece, where so much is gathered in front
+-- a piece, where so much is gathered before
 unfoldable pub piece_text : OpName → Piece → Gathered → Reads Gathered
 piece_text op (piece.Mark k) g s = on (want op k s) (λ _ left. Ok (g, left))
 piece_text op (piece.Word w) g s = on (want_word op (text_of_keyword w) s) (λ _ left. Ok (g, left))

@@ -1,4 +1,4 @@
--- Readers: each gives what the tokens begin with and the tokens behind it, or refuses the first token that no form has there.
+-- Readers: each gives what the tokens begin with and the tokens after it, or refuses the first token that no form has there.
 use Rattle.std.specs.Prelude.{◌≡◌, ℕ, zero, suc, cond, List, [], ◌∷◌, length, Result, Ok, Err}
 use Rattle.diag.specs.declared.refusal.Refusal.{Refusal}
 use Rattle.diag.specs.declared.refusal.OpName.{OpName}
@@ -44,7 +44,7 @@ want_word op name (end p ∷ ts) = Err (unexpected op (end p ∷ ts))
 
 -- ---- lists
 
--- an item, and where a comma stands behind it further ones, so many at most
+-- an item, and where a comma stands after it further ones, so many at most
 unfoldable pub items : {A : Type 0} → OpName → Reads A → ℕ → Reads (List A)
 items op item zero s = Err (unexpected op s)
 items op item (suc n) s =
@@ -61,6 +61,6 @@ items_until op close item s =
 
 -- ---- what code gives is what is read
 
--- an answer is what is read, seen by a view, and what is left; want of memory is free
+-- an answer is what is read, seen by a view, and what is left; out of memory is free
 abbrev pub Gives : {A B : Type 0} → (A → B) → A → List Symbol → Read B → Type 0
 Gives view x left read = read ≡ Ok (view x, left)

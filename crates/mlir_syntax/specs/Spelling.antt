@@ -267,7 +267,7 @@ InstancePhrase g h ts =
     (Then (Between kind.LeftParenthesis kind.RightParenthesis (Commas InputPhrase ins))
     (Then (Mark kind.Arrow) (Between kind.LeftParenthesis kind.RightParenthesis (Commas OutputPhrase outs)))))) ts
 
--- a piece, between what is gathered in front of it and with it
+-- a piece, between what is gathered before it and with it
 abbrev pub PiecePhrase : Piece → Gathered → Gathered → Phrase
 PiecePhrase (piece.Mark k) g h = Where (h ≡ g) (Mark k)
 PiecePhrase (piece.Word w) g h = Where (h ≡ g) (Word (text_of_keyword w))
@@ -302,12 +302,12 @@ abbrev pub MaybeDictionary : List Name → Option (List Entry) → Phrase
 MaybeDictionary strings None = Nothing
 MaybeDictionary strings (Some es) = DictionaryPhrase strings es
 
--- a dictionary stands once, in front of the types or behind them, or not at all
+-- a dictionary stands once, before the types or after them, or not at all
 abbrev pub IsOneOf : Option (List Entry) → Option (List Entry) → List Entry → Type 0
 IsOneOf (Some es) late all = (late ≡ None) × (all ≡ es)
 IsOneOf None late all = all ≡ given_entries late
 
--- the pieces of a form, and one dictionary at most, in front of the types or behind them
+-- the pieces of a form, and one dictionary at most, before the types or after them
 abbrev pub FormPhrase : List Name → Shape → Gathered → List Entry → Phrase
 FormPhrase strings shape h es ts =
     (g : Gathered) × (early late : Option (List Entry)) × IsOneOf early late es
@@ -319,11 +319,11 @@ abbrev pub BinPhrase : Listed → Bool → Phrase
 BinPhrase o false = Nothing
 BinPhrase o true = Where (takes_bin o ≡ true) (Word (codes "bin"))
 
--- a form that an operation has in front of some token
+-- a form that an operation has before some token
 abbrev pub MayHaveShape : Listed → Shape → Type 0
 MayHaveShape o shape = (next : Option Lexeme) × (shape ≡ shape_of o next)
 
--- what is behind an operation's name
+-- what is after an operation's name
 abbrev pub TailPhrase : OperationText → Phrase
 TailPhrase o ts = (shape : Shape) × MayHaveShape o.name shape × FormPhrase (string_keys o.name) shape o.gathered o.dictionary ts
 

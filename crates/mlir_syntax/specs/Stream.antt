@@ -1,4 +1,4 @@
--- A text as a reader meets it: tokens, and behind the last one the end of the text, or a byte that begins no token.
+-- A text as a reader meets it: tokens, and after the last one the end of the text, or a byte that begins no token.
 use Rattle.std.specs.Prelude.{ℕ, Bool, false, cond, ◌&&◌, List, [], ◌∷◌, length, Option, Some, None, Result, Ok, Err, codes}
 use Rattle.diag.specs.Place.{place_of}
 use Rattle.diag.specs.declared.refusal.Place.{Place}
@@ -54,7 +54,7 @@ is_first test (end p ∷ ts) = false
 abbrev pub is_next : TokenKind → List Symbol → Bool
 is_next k ts = is_first (λ t. is_kind t.kind k) ts
 
--- what stands behind the first token; nothing stands behind the end
+-- what stands after the first token; nothing stands after the end
 abbrev pub after : List Symbol → List Symbol
 after [] = []
 after (token t ∷ ts) = ts

@@ -20,13 +20,13 @@ use Rattle.mlir_syntax.specs.Numerals.{number_in, limited, number_below, count_l
 abbrev pub most_open : ℕ
 most_open = 32
 
--- the digits behind an `i`
+-- the digits after an `i`
 abbrev pub width_digits : List ℕ → Option (List ℕ)
 width_digits [] = None
 width_digits (b ∷ []) = None
 width_digits (b ∷ d ∷ ds) = cond (b == 105 && run is_digit (d ∷ ds) == length (d ∷ ds)) (Some (d ∷ ds)) None
 
--- what behind the `x` of an array's length belongs to the element's type
+-- what after the `x` of an array's length belongs to the element's type
 abbrev pub behind_x : List ℕ → Option (List ℕ)
 behind_x [] = None
 behind_x (b ∷ bs) = cond (b == 120) (Some bs) None
@@ -41,7 +41,7 @@ abbrev pub bare_type : Option (List ℕ) → TypeHead
 bare_type None = no_type
 bare_type (Some digits) = integer_type digits
 
--- a name behind `!`
+-- a name after `!`
 abbrev pub named_type : List ℕ → TypeHead
 named_type name =
     cond (same_name name (codes "seq.clock")) clock_type
@@ -72,12 +72,12 @@ unfoldable pub glued_element : OpName → List Symbol → Option (List ℕ) → 
 glued_element op s None = Err (unexpected op s)
 glued_element op s (Some digits) = width_type op s digits
 
--- what the first token has behind an `x`
+-- what the first token has after an `x`
 abbrev pub x_rest : Option Lexeme → Option (List ℕ)
 x_rest None = None
 x_rest (Some t) = cond (is_kind t.kind kind.BareName) (behind_x t.text) None
 
--- an element's type behind an `x`; nothing more may stand in the token of the `x`, or an integer type
+-- an element's type after an `x`; nothing more may stand in the token of the `x`, or an integer type
 unfoldable pub element_after : Reads HwType → OpName → List Symbol → Option (List ℕ) → Read HwType
 element_after element op s None = Err (unexpected op s)
 element_after element op s (Some []) = element (after s)
@@ -87,7 +87,7 @@ element_after element op s (Some (b ∷ bs)) = glued_element op s (width_digits 
 unfoldable pub element_type : Reads HwType → OpName → Reads HwType
 element_type element op s = element_after element op s (x_rest (first s))
 
--- `<NxT>` behind the name of the array type
+-- `<NxT>` after the name of the array type
 unfoldable pub array_text : Reads HwType → OpName → Reads HwType
 array_text element op s =
     on (want op kind.Less (after s)) (λ _ s1. on (number_below count_limit op s1) (λ n s2.
@@ -109,7 +109,7 @@ unfoldable pub field_text : Reads HwType → OpName → Reads NamedType
 field_text element op s =
     on (name_text op s) (λ name s1. on (want op kind.Colon s1) (λ _ s2. on (element s2) (λ t s3. Ok (record { name = name; type = t }, s3))))
 
--- `<f : T, ..>` behind the name of the struct type
+-- `<f : T, ..>` after the name of the struct type
 unfoldable pub struct_text : Reads HwType → OpName → Reads HwType
 struct_text element op s =
     on (want op kind.Less (after s)) (λ _ s1. on (items_until op kind.Greater (field_text element op) s1) (λ fs s2. Ok (struct (fields_of fs), s2)))

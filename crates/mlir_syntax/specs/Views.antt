@@ -22,7 +22,7 @@ use Rattle.mlir_syntax.specs.declared.syntax.Gathered.{Gathered}
 use Rattle.mlir_syntax.specs.declared.syntax.OperationText.{OperationText}
 use Rattle.mlir_syntax.specs.declared.syntax.PortText.{PortText}
 
--- an answer is what is read, seen by a view, and what is left is left; a refusal is the one that is read; want of memory is free
+-- an answer is what is read, seen by a view, and what is left is left; a refusal is the one that is read; out of memory is free
 abbrev pub ReadsAs : {A B : Type 0} → (A → B) → Result A ReadFail → List Symbol → Read B → Type 0
 ReadsAs view (Ok x) left read = read ≡ Ok (view x, left)
 ReadsAs view (Err (Refused r)) left read = read ≡ Err r

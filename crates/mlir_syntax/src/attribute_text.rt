@@ -75,7 +75,7 @@ impl<'s> Reader<'s> {
     /// An attribute, where so many more lists and types may be opened.
     ///
     /// Refuses what is no attribute, an alias, an integer beyond -2^63 to 2^64 - 1, and a list
-    /// behind that many open ones.
+    /// after that many open ones.
     #[cycle(attributes)]
     pub fn attribute_text(&mut self, op: OpName, room: u32) -> Result<Attribute, ReadFail>
         ensures gives { ReadsAs attribute_of result self.new (attribute_text room op self.old) }

@@ -33,8 +33,8 @@ pub struct Joined<'s> {
 }
 
 impl<'s> Reader<'s> {
-    /// `"u" [sym @s] @N(p: %v: T, ..) -> (q: T, ..)`, whose operands and types are put behind those
-    /// that are gathered in front.
+    /// `"u" [sym @s] @N(p: %v: T, ..) -> (q: T, ..)`, whose operands and types are put after those
+    /// that are gathered before.
     ///
     /// Refuses the first token that no instance has there.
     #[tactic(auto, unfolding(crate::specs::PieceText::piece_text, crate::specs::PieceText::instance_text))]
@@ -136,7 +136,7 @@ impl<'s> Reader<'s> {
     }
 }
 
-// Puts operands and their types behind those that there are, and gives the names of their ports.
+// Puts operands and their types after those that there are, and gives the names of their ports.
 fn join_inputs<'s>(
     alloc: Global,
     inputs: Vec<Joined<'s>>,
@@ -155,7 +155,7 @@ fn join_inputs<'s>(
     Ok(names)
 }
 
-// Puts the types of results behind those that there are, and gives their names.
+// Puts the types of results after those that there are, and gives their names.
 fn join_outputs<'s>(
     alloc: Global,
     outputs: Vec<Field>,

@@ -37,7 +37,7 @@ pub enum LiteralHead {
 impl<'s> Reader<'s> {
     /// The constants of an aggregate, in brackets. The first list is one of 32 that may be open.
     ///
-    /// Refuses what is no list of constants, and a list or a type behind 32 open ones.
+    /// Refuses what is no list of constants, and a list or a type after 32 open ones.
     #[tactic(auto, unfolding(crate::specs::LiteralText::aggregate_text))]
     pub fn aggregate_text(&mut self, op: OpName) -> Result<LiteralList, ReadFail>
         ensures gives { ReadsAs literals_in result self.new (aggregate_text op self.old) }

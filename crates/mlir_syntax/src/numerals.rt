@@ -46,7 +46,7 @@ impl<'s> Reader<'s> {
         }
     }
 
-    /// An integer literal, which may have a minus in front.
+    /// An integer literal, which may have a minus before it.
     ///
     /// Refuses what is none, and one whose distance from 0 is 2^128 or more.
     #[tactic(auto, unfolding(crate::specs::Numerals::integer))]
@@ -132,7 +132,7 @@ fn hex_value(byte: u8) -> u8
     }
 }
 
-// An integer with a minus in front.
+// An integer with a minus before it.
 fn negative(distance: u128) -> Integer
     ensures { integer_of result ≡ negative distance }
 {
@@ -143,7 +143,7 @@ fn negative(distance: u128) -> Integer
     }
 }
 
-/// An integer by its distance from 0, with a minus in front or not.
+/// An integer by its distance from 0, with a minus before it or not.
 pub fn signed(minus: bool, distance: u128) -> Integer
     ensures { integer_of result ≡ signed minus distance }
 {

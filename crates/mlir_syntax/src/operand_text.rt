@@ -60,7 +60,7 @@ impl<'s> Reader<'s> {
         Ok(OperandName { name, number })
     }
 
-    /// The names of results and `=`, or nothing. Only names behind a comma take memory.
+    /// The names of results and `=`, or nothing. Only names after a comma take memory.
     ///
     /// Refuses what is no list of names, and a pack of 2^32 results or more.
     #[tactic(auto, unfolding(crate::specs::OperandText::maybe_results))]
@@ -87,7 +87,7 @@ impl<'s> Reader<'s> {
         Ok(results)
     }
 
-    // `:k`, further names behind commas, or nothing behind a first name.
+    // `:k`, further names after commas, or nothing after a first name.
     #[tactic(auto, unfolding(crate::specs::OperandText::names_behind))]
     fn names_behind(&mut self, op: OpName, name: &'s [u8]) -> Result<ResultNames<'s>, ReadFail>
         ensures gives { ReadsAs names_of result self.new (names_behind op name.now self.old) }

@@ -50,7 +50,7 @@ const LEFT_OUT: [&str; 14] = [
 // The dialects of which an unknown name is no operation.
 const KNOWN_DIALECTS: [&str; 4] = ["hw", "comb", "seq", "builtin"];
 
-/// The bytes in front of a dot.
+/// The bytes before a dot.
 pub enum NoDot {}
 
 impl Class for NoDot {
@@ -142,7 +142,7 @@ fn class_of_other(name: &[u8]) -> NameClass
     }
 }
 
-// What stands in front of the first dot of a name.
+// What stands before the first dot of a name.
 fn dialect(name: &[u8]) -> &[u8]
     ensures { result.now ≡ dialect name.now }
 {
@@ -168,7 +168,7 @@ fn is_among(name: &[u8], names: &[&str]) -> bool
     false
 }
 
-/// Whether `bin` may stand behind the name of an operation.
+/// Whether `bin` may stand after the name of an operation.
 #[tactic(auto, unfolding(opcode::specs::Listed::name_of_listed))]
 pub fn takes_bin(name: Listed) -> bool
     ensures { result ≡ takes_bin name }

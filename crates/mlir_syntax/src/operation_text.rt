@@ -95,7 +95,7 @@ impl<'s> Reader<'s> {
         }
     }
 
-    // An operation behind its name.
+    // An operation after its name.
     #[tactic(auto, unfolding(crate::specs::OperationText::named_operation))]
     fn named_operation(
         &mut self,
@@ -130,7 +130,7 @@ impl<'s> Reader<'s> {
         takes_bin(name) && self.pass_word(b"bin")
     }
 
-    // The pieces of a form, and a dictionary in front of the types or behind them.
+    // The pieces of a form, and a dictionary before the types or after them.
     #[tactic(auto, unfolding(crate::specs::OperationText::form_text))]
     fn form_text(
         &mut self,
@@ -149,7 +149,7 @@ impl<'s> Reader<'s> {
         self.late_dictionary(op, keys, dictionary)
     }
 
-    // A dictionary behind the types, where none stands in front of them.
+    // A dictionary after the types, where none stands before them.
     #[tactic(auto, unfolding(crate::specs::OperationText::late_dictionary))]
     fn late_dictionary(
         &mut self,

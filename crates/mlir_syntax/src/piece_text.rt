@@ -1,4 +1,4 @@
-//! The pieces of an operation behind its name (CIRCT: assembly formats of the operations of HW, Comb
+//! The pieces of an operation after its name (CIRCT: assembly formats of the operations of HW, Comb
 //! and Seq).
 ghost use Rattle.std.specs.Prelude.{◌≡◌, ◌≤◌, ◌++◌, ◌∷◌, [], map, length, Ok, OnOk};
 ghost use Rattle.ir_store.specs.OperationViews.{types_in};
@@ -25,7 +25,7 @@ use smallvec::SmallVec;
 use std::alloc::Global;
 
 impl<'s> Reader<'s> {
-    /// Pieces, one after another. What they say is put to what is gathered in front.
+    /// Pieces, one after another. What they say is put to what is gathered before.
     ///
     /// Refuses the first token that no piece has there.
     pub fn pieces_text(
@@ -46,7 +46,7 @@ impl<'s> Reader<'s> {
         Ok(())
     }
 
-    /// A piece. What it says is put to what is gathered in front.
+    /// A piece. What it says is put to what is gathered before.
     ///
     /// Refuses the first token that the piece does not have there.
     pub fn piece_text(
@@ -110,7 +110,7 @@ impl<'s> Reader<'s> {
         self.some_operands(op, &mut gathered.operands)
     }
 
-    // One operand or more, behind those that there are.
+    // One operand or more, after those that there are.
     fn some_operands(
         &mut self,
         op: OpName,
@@ -252,7 +252,7 @@ impl<'s> Reader<'s> {
         Ok(())
     }
 
-    // Two operands behind a reset.
+    // Two operands after a reset.
     #[tactic(auto, unfolding(crate::specs::PieceText::reset_operands))]
     fn reset_operands(&mut self, op: OpName, gathered: &mut Gathered<'s>) -> Result<(), ReadFail>
         ensures gives { ReadsAs (λ (_ : Unit {0}). gathered_of gathered.new) result self.new (reset_operands op (gathered_of gathered.old) self.old) }
@@ -288,7 +288,7 @@ impl<'s> Reader<'s> {
         self.types_text(op, count, &mut gathered.types)
     }
 
-    // So many types with commas between them, behind those that there are.
+    // So many types with commas between them, after those that there are.
     #[tactic(auto, unfolding(crate::specs::PieceText::types_text))]
     fn types_text(&mut self, op: OpName, count: usize, types: &mut TyList) -> Result<(), ReadFail>
         ensures gives { ReadsAs (λ (_ : Unit {0}). types_in types.new) result self.new (on (types_text op count self.old) (λ ts left. Ok (types_in types.old ++ ts, left))) }
@@ -303,7 +303,7 @@ impl<'s> Reader<'s> {
         self.further_types(op, count - 1, types)
     }
 
-    // So many further types behind commas, behind those that there are.
+    // So many further types after commas, after those that there are.
     fn further_types(
         &mut self,
         op: OpName,

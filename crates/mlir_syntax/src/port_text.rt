@@ -95,7 +95,7 @@ impl<'s> Reader<'s> {
         Err(ReadFail::Refused(self.unexpected(HEADER)))
     }
 
-    // `%v ["name"] : T` behind `in`.
+    // `%v ["name"] : T` after `in`.
     #[tactic(auto, unfolding(crate::specs::ModuleText::input_port))]
     fn input_port(&mut self) -> Result<PortText<'s>, ReadFail>
         ensures gives { ReadsAs port_text_of result self.new (input_port self.old) }
@@ -111,7 +111,7 @@ impl<'s> Reader<'s> {
         })
     }
 
-    // `name : T` behind `out`.
+    // `name : T` after `out`.
     #[tactic(auto, unfolding(crate::specs::ModuleText::output_port))]
     fn output_port(&mut self) -> Result<PortText<'s>, ReadFail>
         ensures gives { ReadsAs port_text_of result self.new (output_port self.old) }

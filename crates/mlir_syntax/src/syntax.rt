@@ -23,7 +23,7 @@ pub struct OperandName<'s> {
 pub enum ResultNames<'s> {
     /// Not at all.
     Unnamed,
-    /// One by one: the first, and those behind it.
+    /// One by one: the first, and those after it.
     Names(&'s [u8], Vec<&'s [u8]>),
     /// As a pack of so many.
     Pack(&'s [u8], u32),
@@ -50,7 +50,7 @@ pub enum Extra {
     Child(Box<Instance>),
 }
 
-/// What is read of an operation behind its name.
+/// What is read of an operation after its name.
 #[derive(Drop)]
 pub struct Gathered<'s> {
     /// Its operands.
@@ -70,7 +70,7 @@ pub struct OperationText<'s> {
     pub name: Listed,
     /// Whether it has the mark `bin`.
     pub bin: bool,
-    /// What stands behind its name.
+    /// What stands after its name.
     pub gathered: Gathered<'s>,
     /// Its dictionary, as it is written.
     pub dictionary: Dictionary,

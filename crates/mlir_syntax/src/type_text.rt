@@ -47,7 +47,7 @@ impl<'s> Reader<'s> {
     /// A type, where so many more types may be opened.
     ///
     /// Refuses what is no type, a type of another dialect, a width or a length of 2^32 or more, and
-    /// a type behind that many open ones.
+    /// a type after that many open ones.
     #[cycle(types)]
     pub fn type_text(&mut self, op: OpName, room: u32) -> Result<Ty, ReadFail>
         ensures gives { ReadsAs type_of result self.new (type_text room op self.old) }
@@ -103,7 +103,7 @@ impl<'s> Reader<'s> {
         }
     }
 
-    // `<NxT>` behind the first token.
+    // `<NxT>` after the first token.
     #[cycle(types)]
     #[tactic(auto, unfolding(crate::specs::TypeText::array_text))]
     fn array_text(&mut self, op: OpName, room: u32) -> Result<Ty, ReadFail>
@@ -148,7 +148,7 @@ impl<'s> Reader<'s> {
         }
     }
 
-    // `<f : T, ..>` behind the first token.
+    // `<f : T, ..>` after the first token.
     #[cycle(types)]
     #[tactic(auto, unfolding(crate::specs::TypeText::struct_text))]
     fn struct_text(&mut self, op: OpName, room: u32) -> Result<Ty, ReadFail>
@@ -253,7 +253,7 @@ fn type_head<'s>(token: Token<'s>) -> TypeHead<'s>
     }
 }
 
-// What a name behind `!` begins a type as.
+// What a name after `!` begins a type as.
 fn named_type<'s>(name: &[u8]) -> TypeHead<'s>
     ensures { head_of result ≡ named_type name.now }
 {
@@ -268,7 +268,7 @@ fn named_type<'s>(name: &[u8]) -> TypeHead<'s>
     }
 }
 
-// The digits behind an `i`.
+// The digits after an `i`.
 fn width_digits(name: &[u8]) -> Option<&[u8]>
     ensures { option_map (λ digits. digits.now) result ≡ width_digits name.now }
 {
@@ -280,7 +280,7 @@ fn width_digits(name: &[u8]) -> Option<&[u8]>
     }
 }
 
-// What the token of the `x` of an array's length has behind it.
+// What the token of the `x` of an array's length has after it.
 fn x_rest<'s>(token: Option<Token<'s>>) -> Option<&'s [u8]>
     ensures { option_map (λ rest. rest.now) result ≡ x_rest (option_map lexeme_of token.entry) }
 {
@@ -290,7 +290,7 @@ fn x_rest<'s>(token: Option<Token<'s>>) -> Option<&'s [u8]>
     }
 }
 
-// What stands behind an `x`.
+// What stands after an `x`.
 fn behind_x(name: &[u8]) -> Option<&[u8]>
     ensures { option_map (λ rest. rest.now) result ≡ behind_x name.now }
 {
@@ -307,7 +307,7 @@ fn is_name(token: Token) -> bool
     is_kind(token.kind, TokenKind::BareName) || is_kind(token.kind, TokenKind::StringLiteral)
 }
 
-/// What stands behind the sign of a name.
+/// What stands after the sign of a name.
 pub fn behind_sign(text: &[u8]) -> &[u8]
     ensures { result.now ≡ drop 1 text.now }
 {

@@ -119,7 +119,7 @@ impl<'s> Reader<'s> {
 
     /// `@N`: the symbol of a module.
     ///
-    /// Refuses what is no symbol, and parameters behind it.
+    /// Refuses what is no symbol, and parameters after it.
     #[tactic(auto, unfolding(crate::specs::PieceText::module_symbol))]
     pub fn module_symbol(&mut self, op: OpName) -> Result<Text, ReadFail>
         ensures gives { ReadsAs (λ name. name) result self.new (module_symbol op self.old) }

@@ -49,7 +49,7 @@ pub legal_count : (ts ws : List Name) → length (legal_after ts ws) ≡ length 
 legal_count ts [] = refl
 legal_count ts (w ∷ ws) = ap suc (legal_count (ts ++ legal_name ts w ∷ []) ws)
 
--- each legal name is that of its wanted one after those in front of it
+-- each legal name is that of its wanted one after those before it
 pub legal_at : (ts ws : List Name) (i : ℕ) (w : Name) → slice_get ws i ≡ Some w → slice_get (legal_after ts ws) i ≡ Some (legal_name (ts ++ take i (legal_after ts ws)) w)
 legal_at ts [] i w e = cc
 legal_at ts (v ∷ ws) zero w e = let s : v ≡ w = cc in ap (λ x. Some (legal_name ts x)) s ∙ ap (λ l. Some (legal_name l w)) (sym (append_none ts))

@@ -10,7 +10,7 @@ use Rattle.verilog_model.specs.Reserved.{reserved_words}
 abbrev pub name_byte : ℕ → ℕ
 name_byte b = cond (is_name_byte b) b 95
 
--- `_` in front of what does not begin with a letter or `_` (3.7: the first character)
+-- `_` before what does not begin with a letter or `_` (3.7: the first character)
 abbrev pub fronted : Name → Name
 fronted n = cond (starts_name n) n (95 ∷ n)
 

@@ -57,7 +57,7 @@ pub fn is_clean(wanted: &[u8]) -> bool
     starts_name(wanted) && has_name_bytes(wanted)
 }
 
-/// The wanted name with each byte that stands in no name made `_`, and `_` in front where it does not begin with a
+/// The wanted name with each byte that stands in no name made `_`, and `_` before it where it does not begin with a
 /// letter or `_`. Fails where memory runs out.
 pub fn cleaned(alloc: Global, wanted: &[u8]) -> Result<Vec<u8>, AllocError>
     ensures { IfOk result (λ name. name.items ≡ cleaned wanted.now) }

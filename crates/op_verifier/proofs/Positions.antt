@@ -7,7 +7,7 @@ use Rattle.ir_store.proofs.BodyLemmas.{map_read}
 use Rattle.op_verifier.specs.declared.entries.Entry.{Entry}
 use Rattle.op_verifier.specs.Entries.{op_in}
 
--- the id at the place before stands in front of those from the place on
+-- the id at the place before stands before those from the place on
 at_front : (ids : List ℕ) (i id q position : ℕ) → i < length ids → id ≡ get_or ids i 0 → position ≡ suc i + position_of (drop (suc i) ids) q
     → cond (nat_eq id q) i position ≡ i + position_of (drop i ids) q
 at_front ids i id q position less is before = rw (drop-cons ids i 0 less, sym is) (go (nat_eq id q))

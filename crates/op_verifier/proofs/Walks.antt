@@ -11,7 +11,7 @@ use Rattle.ir_store.specs.Live.{AreDistinct}
 use Rattle.op_verifier.specs.declared.entries.Entry.{Entry}
 use Rattle.op_verifier.specs.Entries.{op_in, types_beside, settled_for}
 
--- an operation, where there is one, in front of others
+-- an operation, where there is one, before others
 abbrev pub in_front : Option BodyOp → List BodyOp → List BodyOp
 in_front None ops = ops
 in_front (Some o) ops = o ∷ ops
@@ -30,7 +30,7 @@ found_in : (whole os : List BodyOp) → AreFound whole os → ops_at whole (map 
 found_in whole [] h = refl
 found_in whole (o ∷ os) h = ap (λ (r : Option BodyOp). in_front r (ops_at whole (map op_id (ids_in os)))) h.0 ∙ ap (λ (rest : List BodyOp). o ∷ rest) (found_in whole os h.1)
 
--- behind another operation, where none of them has its id
+-- after another operation, where none of them has its id
 found_behind : (o : BodyOp) (whole os : List BodyOp) → times o.id (ids_in os) ≡ 0 → AreFound whole os → AreFound (o ∷ whole) os
 found_behind o whole [] none h = tt
 found_behind o whole (p ∷ os) none h = go (nat_eq p.id o.id) refl none (λ n. found_behind o whole os n h.1)

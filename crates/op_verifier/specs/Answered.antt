@@ -18,7 +18,7 @@ use Rattle.op_verifier.specs.Verdict.{IsRefusal}
 abbrev pub modules_verified : Verified → List StoredModule
 modules_verified v = modules_of v.design
 
--- why a design is not taken: its first refusal, or want of memory
+-- why a design is not taken: its first refusal, or out of memory
 abbrev pub Explains : Design → VerifyFail → Type 0
 Explains d (Refused r) = IsRefusal d r
 Explains d NoMemory = Unit {0}

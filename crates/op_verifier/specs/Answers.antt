@@ -1,4 +1,4 @@
--- Answers that stand one behind another: the first that is there counts.
+-- Answers that stand one after another: the first that is there counts.
 use Rattle.std.specs.Prelude.{Bool, true, false, Option, Some, None}
 use Rattle.diag.specs.declared.cause.Cause.{Cause}
 

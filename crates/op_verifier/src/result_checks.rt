@@ -106,7 +106,7 @@ fn is_no_array_of(own: &Ty, length: Option<u32>, element: Option<&Ty>) -> bool
     }
 }
 
-/// Whether results and the types behind so many differ.
+/// Whether results and the types after so many differ.
 fn differ_behind(results: &[NewResult], types: &[Ty], count: usize) -> bool
     ensures { result ≡ differ (settled (map (λ r. type_of r.ty) results.now)) (settled (drop count (map type_of types.now))) }
 {

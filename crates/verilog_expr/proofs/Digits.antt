@@ -29,7 +29,7 @@ hex_high n big = go (nat_lt n 16) refl where
   go true is = absurd (omega (arith, ltb-true n 16 is))
   go false is = ap (λ ds. ds ++ (hex_byte (n % 16) ∷ [])) (same_digits n (suc (n / 16)) (n / 16) (omega arith) (omega arith))
 
--- a digit behind the others
+-- a digit after the others
 pub hex_more : (out one two : List ℕ) (n d : ℕ) → 16 ≤ n → one ≡ out ++ hex (n / 16) → d ≡ hex_byte (n % 16) → two ≡ one ++ (d ∷ []) → two ≡ out ++ hex n
 hex_more out one two n d big p q r =
     r ∙ ap (λ x. x ++ (d ∷ [])) p ∙ append_assoc out (hex (n / 16)) (d ∷ []) ∙ ap (λ e. out ++ (hex (n / 16) ++ (e ∷ []))) q ∙ ap (λ ds. out ++ ds) (sym (hex_high n big))

@@ -100,7 +100,7 @@ more_places b n false true j = go (nat_lt 0 (1 + n)) refl
     go true e = refl
     go false e = absurd (omega (arith, ltb-false 0 (1 + n) e))
 
--- the mark after one use and the operands behind it
+-- the mark after one use and the operands after it
 pub operand_first : (r : Ref) (cut joined : Bool) (x : Ref) (xs : List Ref) (m : Mark)
     → after_operands r cut joined xs (one_use r cut joined x m) ≡ after_operands r cut joined (x ∷ xs) m
 operand_first r cut joined x xs m = go (same_ref x r)

@@ -5,7 +5,7 @@ use Rattle.verilog_model.specs.Tree.Expr.{name, bit_select, part_select, literal
 use Rattle.verilog_model.specs.Tree.Exprs.{last, more}
 use Rattle.verilog_expr.specs.Text.{question_text, operator_text, expr_text, exprs_text}
 
--- what stands in front of any rest stands in front of a rest with more behind it
+-- what stands before any rest stands before a rest with more after it
 moved : (E : List ℕ) (f : List ℕ → List ℕ) → ((x : List ℕ) → f x ≡ E ++ x) → (x bs : List ℕ) → f (x ++ bs) ≡ f x ++ bs
 moved E f h x bs = h (x ++ bs) ∙ sym (append_assoc E x bs) ∙ sym (ap (λ y. y ++ bs) (h x))
 

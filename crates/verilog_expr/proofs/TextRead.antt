@@ -45,7 +45,7 @@ GoesOn rest = IsTrue (begins_no_word (pieces rest))
 pub word_read : (w rest : List ℕ) → IsWord w → GoesOn rest → tokens (w ++ rest) ≡ word w ∷ tokens rest
 word_read w rest is apart = ap without_gaps (pieces_word w rest is.some is.bytes apart)
 
--- a word and some bytes of words behind it are a word
+-- a word and some bytes of words after it are a word
 word_joined : (w v : List ℕ) → IsWord w → IsWord v → IsWord (w ++ v)
 word_joined w v a b = record {
   some = is_nonempty-append w v b.some;

@@ -77,7 +77,7 @@ wanted u l e = placed l (cond u (unsigned e) e)
 
 -- ---- what stands round operands
 
--- in front of the operand of a number
+-- before the operand of a number
 abbrev pub before : Form → ℕ → List ℕ
 before Same i = []
 before (Chain o) i = cond (i == 0) [] (operator_text (operator_of o))
@@ -91,7 +91,7 @@ before Braces i = cond (i == 0) (codes "{") (codes ", ")
 before (Copies n) i = codes "{" ++ (decimal n ++ codes "{")
 before Choice i = cond (i == 0) [] (cond (i == 1) question_text (codes " : "))
 
--- behind the last operand
+-- after the last operand
 abbrev pub behind : Form → List ℕ
 behind (SignedPair o) = codes ")"
 behind (UnsignedDivision o w d) = operator_text (operator_of o) ++ expr_text (literal_of w false d) []
@@ -104,7 +104,7 @@ behind _ = []
 abbrev pub operand_text : Form → ℕ → Expr → List ℕ
 operand_text f i e = expr_text (wanted (asks_unsigned f i) (asks_level f i) e) []
 
--- the text of operands, of which the first has this number, and of what stands behind them
+-- the text of operands, of which the first has this number, and of what stands after them
 abbrev pub form_text : Form → ℕ → List Expr → List ℕ
 form_text f i [] = behind f
 form_text f i (e ∷ es) = before f i ++ (operand_text f i e ++ form_text f (i + 1) es)

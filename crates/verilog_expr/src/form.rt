@@ -161,7 +161,7 @@ pub fn asks_level(form: Form, number: usize) -> u8
     }
 }
 
-/// Adds what stands in front of the operand of a number. The error is out of memory; a part of it may then stand in the
+/// Adds what stands before the operand of a number. The error is out of memory; a part of it may then stand in the
 /// text.
 pub fn push_before(out: &mut Text, form: Form, number: usize) -> Result<(), AllocError>
     ensures { OnOk result (out.new ≡ out.old ++ before form number) }
@@ -205,7 +205,7 @@ pub fn push_before(out: &mut Text, form: Form, number: usize) -> Result<(), Allo
     Ok(())
 }
 
-/// Adds what stands behind the last operand. The error is out of memory; a part of it may then stand in the text.
+/// Adds what stands after the last operand. The error is out of memory; a part of it may then stand in the text.
 pub fn push_behind(out: &mut Text, form: Form) -> Result<(), AllocError>
     ensures { OnOk result (out.new ≡ out.old ++ behind form) }
 {

@@ -37,14 +37,14 @@ impl<'r, 't> Cursor<'r, 't> {
         }
     }
 
-    /// Leaves the first token behind.
+    /// Passes the first token.
     pub fn advance(&mut self) {
         if let [_, rest @ ..] = self.rest {
             self.rest = rest;
         }
     }
 
-    /// Leaves this mark behind, if it comes first.
+    /// Passes this mark, if it comes first.
     pub fn takes_mark(&mut self, mark: u8) -> bool {
         match self.first() {
             Some(Token::Mark(byte)) if byte == mark => {
@@ -55,7 +55,7 @@ impl<'r, 't> Cursor<'r, 't> {
         }
     }
 
-    /// Leaves this word behind, if it comes first.
+    /// Passes this word, if it comes first.
     pub fn takes_word(&mut self, word: &[u8]) -> bool {
         match self.first() {
             Some(Token::Word(other)) if other == word => {
@@ -66,17 +66,17 @@ impl<'r, 't> Cursor<'r, 't> {
         }
     }
 
-    /// Leaves this mark behind, which has to come first.
+    /// Passes this mark, which has to come first.
     pub fn mark(&mut self, mark: u8) -> Result<(), Fault> {
         must(self.takes_mark(mark))
     }
 
-    /// Leaves this word behind, which has to come first.
+    /// Passes this word, which has to come first.
     pub fn word(&mut self, word: &[u8]) -> Result<(), Fault> {
         must(self.takes_word(word))
     }
 
-    /// Leaves this operator behind, which has to come first.
+    /// Passes this operator, which has to come first.
     pub fn operator(&mut self, operator: &[u8]) -> Result<(), Fault> {
         match self.first() {
             Some(Token::Operator(other)) if other == operator => {

@@ -47,7 +47,7 @@ fn long_operator(bytes: &[u8]) -> Option<Operator> {
     }
 }
 
-// Puts a part behind those that are there, and says where it stands.
+// Puts a part after those that are there, and says where it stands.
 fn added(nodes: &mut Vec<Node>, node: Node) -> Result<usize, Fault> {
     let at = nodes.len();
     nodes.push(node)?;
@@ -127,7 +127,7 @@ impl<'r, 't> Cursor<'r, 't> {
         self.choice(declared, nodes, room - 1, left)
     }
 
-    // `yes : no` behind a condition and `?`.
+    // `yes : no` after a condition and `?`.
     #[cycle(expression)]
     fn choice(
         &mut self,
@@ -185,7 +185,7 @@ impl<'r, 't> Cursor<'r, 't> {
         added(nodes, node)
     }
 
-    // An expression behind `(`, and `)`.
+    // An expression after `(`, and `)`.
     #[cycle(expression)]
     fn enclosed(
         &mut self,
@@ -198,7 +198,7 @@ impl<'r, 't> Cursor<'r, 't> {
         Ok(inner)
     }
 
-    // A concatenation or a replication behind `{`.
+    // A concatenation or a replication after `{`.
     #[cycle(expression)]
     fn braced(
         &mut self,
@@ -224,7 +224,7 @@ impl<'r, 't> Cursor<'r, 't> {
         Some(count)
     }
 
-    // The parts of a concatenation behind `{`, and `}`.
+    // The parts of a concatenation after `{`, and `}`.
     #[cycle(expression)]
     fn joined(
         &mut self,
@@ -262,7 +262,7 @@ impl<'r, 't> Cursor<'r, 't> {
         })
     }
 
-    // `k]` or `h:l]` behind a name and `[`.
+    // `k]` or `h:l]` after a name and `[`.
     fn select(&mut self, net: usize, named: Declared) -> Result<Node, Fault> {
         let high = self.number()?;
         let low = if self.takes_mark(b':') {

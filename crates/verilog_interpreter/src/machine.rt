@@ -92,7 +92,7 @@ impl<'p> Machine<'p> {
         Ok(machine)
     }
 
-    // Puts a net for each declared name behind those that are there, and says where they begin.
+    // Puts a net for each declared name after those that are there, and says where they begin.
     fn nets_of(&mut self, declared: &[Declared]) -> Result<usize, Fault> {
         let start = self.widths.len();
         for thing in declared {

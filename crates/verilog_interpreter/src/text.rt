@@ -34,7 +34,7 @@ fn all_modules<'t>(alloc: Global, tokens: &[Token<'t>]) -> Result<Vec<Module<'t>
     Ok(all)
 }
 
-// Puts a declared name behind those that are there.
+// Puts a declared name after those that are there.
 fn declare<'t>(declared: &mut Vec<Declared<'t>>, thing: Declared<'t>) -> Result<(), Fault> {
     must(place_of(declared.as_slice(), thing.name).is_none())?;
     declared.push(thing)?;
@@ -148,7 +148,7 @@ impl<'r, 't> Cursor<'r, 't> {
         Ok(Item::Child(child))
     }
 
-    // An assignment behind `assign`.
+    // An assignment after `assign`.
     fn assignment(&mut self, declared: &[Declared]) -> Result<Item<'t>, Fault> {
         let name = self.name()?;
         let target = place_as(declared, name, &[Role::Wire, Role::Output])?;
@@ -158,7 +158,7 @@ impl<'r, 't> Cursor<'r, 't> {
         Ok(Item::Assign { target, value })
     }
 
-    // A register behind `always`.
+    // A register after `always`.
     fn register(&mut self, declared: &[Declared]) -> Result<Always, Fault> {
         self.mark(b'@')?;
         self.mark(b'(')?;

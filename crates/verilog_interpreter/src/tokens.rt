@@ -53,7 +53,7 @@ fn sort_of(byte: u8) -> Sort {
     }
 }
 
-// The sort of a byte behind the bytes that belong together: behind a word with `'` in it `?` is a digit of that number
+// The sort of a byte after the bytes that belong together: after a word with `'` in it `?` is a digit of that number
 // (IEEE 1364-2005, 3.5.1).
 fn sort_behind(open: Sort, bytes: &[u8], byte: u8) -> Sort {
     if byte == b'?' && open == Sort::Word && is_among(b'\'', bytes) {

@@ -65,7 +65,7 @@ impl Operator {
     }
 }
 
-/// A part of an expression, whose own parts stand in front of it.
+/// A part of an expression, whose own parts stand before it.
 #[derive(Clone, Copy, Debug)]
 pub enum Node {
     /// A name, and its bits.

@@ -214,7 +214,7 @@ fn selected(word: Bits, low: u32, width: u32) -> Option<Bits> {
     Some(word.extract(low, width))
 }
 
-// One word behind another.
+// One word after another.
 fn behind(high: Option<Bits>, low: Bits) -> Option<Bits> {
     let Some(high) = high else {
         return Some(low);
@@ -225,7 +225,7 @@ fn behind(high: Option<Bits>, low: Bits) -> Option<Bits> {
     Some(high.concat(&low))
 }
 
-// Copies of a word, one behind another.
+// Copies of a word, one after another.
 fn repeated(word: Bits, count: u32) -> Option<Bits> {
     let mut all = None;
     for _ in 0..count {

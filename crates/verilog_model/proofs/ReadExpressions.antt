@@ -178,7 +178,7 @@ name_ends n s c h = refl
 -- ---- the reading
 
 mutual
-  -- up to the token behind it an expression is read as itself
+  -- up to the token after it an expression is read as itself
   pub read_expr : (e : Expr) (s : Around) (p : Piece) (ps : List Piece) → Clear e → grip s < pull e → weight (class_of p) ≤ level e →
       run (operand s) (expr_spelled e (p ∷ ps)) ≡ run (next s e (class_of p)) ps
   read_expr (name n) s p ps h g w = ap (λ l. run (begin_word n s l) (p ∷ ps)) (identifier_word n h) ∙ ap (λ t. run t ps) (name_ends n s (class_of p) w)

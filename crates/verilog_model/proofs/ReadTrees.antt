@@ -44,7 +44,7 @@ abbrev pub ClearTree : Tree → Type 0
 ClearTree [] = Unit {0}
 ClearTree (m ∷ ms) = ClearItems m.items × ClearTree ms
 
--- an expression alone, up to the mark behind it
+-- an expression alone, up to the mark after it
 read_alone : (e : Expr) (k : Expr → State) (b : ℕ) (ps : List Piece) → Clear e → class_of (mark b) ≡ ends → run (operand (bottom k)) (expr_spelled e (mark b ∷ ps)) ≡ run (k e) ps
 read_alone e k b ps h c =
     read_expr e (bottom k) (mark b) ps h (omega (arith, pull_two e)) (rw c (omega arith)) ∙ ap (λ (x : Class). run (next (bottom k) e x) ps) c

@@ -6,7 +6,7 @@ use Rattle.verilog_model.specs.Tokens.Piece.{word, operator, mark, gap}
 use Rattle.verilog_model.specs.Numerals.{all_bytes, is_nonempty}
 use Rattle.verilog_model.proofs.Numerals.{and_first, and_second, all_bytes_weaker}
 
--- the text goes on with no word, and not with `?`, which might be a digit of the word in front
+-- the text goes on with no word, and not with `?`, which might be a digit of the word before
 abbrev pub begins_no_word : List Piece → Bool
 begins_no_word [] = true
 begins_no_word (word w ∷ ps) = false
@@ -35,7 +35,7 @@ word_joined b (operator w ∷ ps) h = cc
 word_joined b (mark c ∷ ps) h = cc
 word_joined b (gap ∷ ps) h = cc
 
--- what goes on with no word and no `?` is read alike behind each word
+-- what goes on with no word and no `?` is read alike after each word
 apart_in : (based : Bool) (rest : List ℕ) → IsTrue (begins_no_word (pieces rest)) → pieces_in based rest ≡ pieces rest
 apart_in false rest h = refl
 apart_in true [] h = refl
@@ -49,7 +49,7 @@ apart_in true (b ∷ rest) h = question (b == 63) refl where
   question true e = let is : b ≡ 63 = eqb-true b 63 e in let no : IsTrue (begins_no_word (pieces (63 ∷ rest))) = rw is at h in cc
   question false e = rw e (other (is_word_byte b) _ _ _ h)
 
--- a word in front of what is no word, in a number with a base or elsewhere
+-- a word before what is no word, in a number with a base or elsewhere
 word_in : (based : Bool) (w rest : List ℕ) → IsTrue (is_nonempty w) → IsTrue (all_bytes is_word_byte w) → IsTrue (begins_no_word (pieces rest))
     → pieces_in based (w ++ rest) ≡ word w ∷ pieces rest
 word_in based [] rest some h apart = cc
@@ -61,7 +61,7 @@ word_in based (b ∷ c ∷ w) rest some h apart =
     ap (λ s. join s b (pieces_in (goes_on based b) (c ∷ w ++ rest))) (sort_of_word based b (and_first (is_word_byte b) (all_bytes is_word_byte (c ∷ w)) h))
     ∙ ap (join word_byte b) (word_in (goes_on based b) (c ∷ w) rest refl (and_second (is_word_byte b) (all_bytes is_word_byte (c ∷ w)) h) apart)
 
--- a word in front of what is no word
+-- a word before what is no word
 pub pieces_word : (w rest : List ℕ) → IsTrue (is_nonempty w) → IsTrue (all_bytes is_word_byte w) → IsTrue (begins_no_word (pieces rest)) → pieces (w ++ rest) ≡ word w ∷ pieces rest
 pieces_word = word_in false
 

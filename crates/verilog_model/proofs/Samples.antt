@@ -51,12 +51,12 @@ bare_difference_text = refl
 bare_difference_does_not_fit : fits (binary minus a (binary minus b c)) ≡ false
 bare_difference_does_not_fit = refl
 
--- a unary operator may touch what is in front of it
+-- a unary operator may touch what is before it
 touching_texts : (tokens (codes "a+^b") ≡ expr_spelled (binary plus a (odd b)) []) × (tokens (codes "a^^b") ≡ expr_spelled (binary bit_xor a (odd b)) [])
     × (tokens (codes "a?^b:^c") ≡ expr_spelled (choice a (odd b) (odd c)) [])
 touching_texts = (refl, refl, refl)
 
--- behind a word with a base `?` is a digit of that number, so that this is no choice
+-- after a word with a base `?` is a digit of that number, so that this is no choice
 question_digits : tokens (codes "s == 1'h1?a:b") ≡ word (codes "s") ∷ operator (codes "==") ∷ word (codes "1'h1?a") ∷ mark 58 ∷ word (codes "b") ∷ []
 question_digits = refl
 

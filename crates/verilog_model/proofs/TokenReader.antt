@@ -13,7 +13,7 @@ use Rattle.verilog_model.specs.Tree.Block.{load, if_load, if_else, if_else_if}
 use Rattle.verilog_model.specs.Tree.Item.{wire, reg, assign, always, instance}
 use Rattle.verilog_model.specs.Grammar.{operator_token, strength}
 
--- what is made of the items behind a place, and of the modules behind them
+-- what is made of the items after a place, and of the modules after them
 abbrev pub Rest : Type 0
 Rest = List Item → Tree → Tree
 
@@ -40,7 +40,7 @@ mutual
     connection : (List Connection → Rest) → State
     after_if : Name → Expr → Load → Rest → State
 
--- ---- what a token is behind an expression
+-- ---- what a token is after an expression
 
 pub data Class : Type 0 where
   joins : Operator → Class
@@ -66,7 +66,7 @@ class_of (operator w) = operator_class operators w
 class_of (mark b) = cond (b == 94) (joins bit_xor) (cond (b == 63) ask (cond (b == 91) select (cond (b == 44) comma ends)))
 class_of gap = ends
 
--- how strong an expression in front of it has to be
+-- how strong an expression before it has to be
 abbrev pub weight : Class → ℕ
 weight (joins o) = strength o
 weight ask = 2
@@ -99,7 +99,7 @@ abbrev pub push : Around → Expr → Class → State
 push s e (joins o) = operand (left_of o e s)
 push s e _ = operand (tested e s)
 
--- behind a complete expression comes a token of the class
+-- after a complete expression comes a token of the class
 abbrev pub behind : Class → (Class → State) → State → State
 behind (joins o) f s = f (joins o)
 behind ask f s = f ask
@@ -115,7 +115,7 @@ next (inside g s) e c = behind c (push (inside g s) e) (complete (g e) s)
 next (listed k s) e comma = operand (listed (λ (es : Exprs). k (more e es)) s)
 next (listed k s) e c = behind c (push (listed k s) e) (k (last e))
 
--- `[h:l]` or `[h]` behind a name
+-- `[h:l]` or `[h]` after a name
 abbrev pub select_low : Name → Numeral → Around → Piece → State
 select_low n h s p = on_mark 58 (take (on_word (λ (l : Name). skip (complete (part_select n h l) s)))) (complete (bit_select n h) s) p
 
@@ -129,7 +129,7 @@ pub data Lexeme : Type 0 where
   based : Numeral → Bool → Numeral → Lexeme
   call : (Expr → Expr) → Lexeme
 
--- the bytes in front of the first `'`, and those behind it
+-- the bytes before the first `'`, and those after it
 abbrev pub before_quote : Name → Name
 before_quote [] = []
 before_quote (b ∷ bs) = cond (b == 39) [] (b ∷ before_quote bs)
@@ -142,7 +142,7 @@ abbrev pub tail : Name → Name
 tail [] = []
 tail (b ∷ bs) = bs
 
--- the bytes behind the `'` of a literal, if there are any
+-- the bytes after the `'` of a literal, if there are any
 abbrev pub number_or_literal : Name → Name → Lexeme
 number_or_literal w [] = number
 number_or_literal w (b ∷ bs) = cond (b == 104) (based w false bs) (based w true (tail bs))
@@ -155,7 +155,7 @@ abbrev pub lexeme_of : Name → Lexeme
 lexeme_of [] = number
 lexeme_of (b ∷ bs) = cond (is_name_start b) identifier (cond (b == 36) (call_of bs) (number_or_literal (before_quote (b ∷ bs)) (after_quote (b ∷ bs))))
 
--- `n{` behind `{`
+-- `n{` after `{`
 abbrev pub repeats : Numeral → Around → State
 repeats n (listed k s) = skip (operand (listed (λ (es : Exprs). skip (complete (repeated n es) s)) s))
 repeats n _ = lost
@@ -174,7 +174,7 @@ begin s gap = lost
 
 -- ---- blocks
 
--- behind a load's target
+-- after a load's target
 abbrev pub load_behind : (Load → State) → Name → State
 load_behind k n = skip (operand (bottom (λ (e : Expr). k (record { target = n; value = e }))))
 
@@ -195,11 +195,11 @@ else_word clock c l k w = cond (same_name (codes "if") w) (if_behind (λ (e : Ex
 abbrev pub more_or_end : {A : Type 0} → ((List A → Rest) → State) → (List A → Rest) → A → State
 more_or_end again k a = take (on_mark 44 (again (λ more_as. k (a ∷ more_as))) (skip (items (k (a ∷ [])))))
 
--- behind the `.` of a connection
+-- after the `.` of a connection
 abbrev pub connection_behind : (List Connection → Rest) → State
 connection_behind k = take (on_word (λ (n : Name). skip (operand (bottom (λ (e : Expr). more_or_end connection k (record { port = n; value = e }))))))
 
--- behind `(`
+-- after `(`
 abbrev pub first_connection : (List Connection → Rest) → Piece → State
 first_connection k p = on_mark 41 (skip (items (k []))) (connection_behind k) p
 

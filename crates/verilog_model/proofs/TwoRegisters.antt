@@ -1,4 +1,4 @@
--- Two registers of eight bits, one behind the other, in one module and as instances of a module: their texts, trees and
+-- Two registers of eight bits, one after the other, in one module and as instances of a module: their texts, trees and
 -- steps, computed.
 use Rattle.std.proofs.Common.{◌≡◌, ℕ, zero, suc, Bool, true, false, List, [], ◌∷◌, ◌++◌, Option, Some, None, refl, sym, ◌∙◌, ap, subst, ◌||◌, codes}
 use Rattle.bits_core.specs.Word.{Word, bits}

@@ -1,7 +1,7 @@
 -- The tokens of a Verilog text (IEEE 1364-2005, 3.1 to 3.7: lexical conventions). Bytes of words that stand together
 -- are one word (a name, a keyword, a number, `8'hFF`, `$signed`), operator bytes that stand together one operator, any
 -- other byte is a mark alone, and blanks part what they stand between. `^`, `?` and `:` are marks, since a unary operator
--- may touch what is in front of it, as in `a+^b`; but behind a word that has `'` in it `?` is a digit of that number
+-- may touch what is before it, as in `a+^b`; but after a word that has `'` in it `?` is a digit of that number
 -- (3.5.1: an alternative for z), as in `1'h1?a`. Operators that no text here has, as `~^`, are parted otherwise than
 -- in the standard: such a text is not read.
 use Rattle.std.specs.Prelude.{ℕ, Bool, true, false, cond, ◌&&◌, ◌||◌, ◌==◌, nat_le, List, [], ◌∷◌}
@@ -49,7 +49,7 @@ pub data Piece : Type 0 where
   mark : ℕ → Piece
   gap : Piece
 
--- a byte of a sort in front of the pieces of the bytes behind it
+-- a byte of a sort before the pieces of the bytes after it
 abbrev pub join : Sort → ℕ → List Piece → List Piece
 join word_byte b (word w ∷ ps) = word (b ∷ w) ∷ ps
 join word_byte b ps = word (b ∷ []) ∷ ps
@@ -58,11 +58,11 @@ join operator_byte b ps = operator (b ∷ []) ∷ ps
 join blank b ps = gap ∷ ps
 join mark_byte b ps = mark b ∷ ps
 
--- the sort of a byte, in a number with a base (behind a word that has `'` in it) or elsewhere
+-- the sort of a byte, in a number with a base (after a word that has `'` in it) or elsewhere
 abbrev pub sort_in : Bool → ℕ → Sort
 sort_in based b = cond (based && b == 63) word_byte (sort_of b)
 
--- whether a number with a base may go on behind a byte
+-- whether a number with a base may go on after a byte
 abbrev pub goes_on : Bool → ℕ → Bool
 goes_on based b = cond (is_word_byte b) (b == 39 || based) (based && b == 63)
 

@@ -1,4 +1,4 @@
--- What stands behind the ports is read piece by piece; what the operations are is told beside them.
+-- What stands after the ports is read piece by piece; what the operations are is told beside them.
 use Rattle.std.proofs.Common.{refl}
 use Rattle.ir_store.specs.DictionaryViews.{entries_in}
 use Rattle.mlir_lexer.specs.Tokens.{lexeme_of}

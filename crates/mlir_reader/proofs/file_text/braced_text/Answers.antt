@@ -1,4 +1,4 @@
--- What closes a file stands behind its modules.
+-- What closes a file stands after its modules.
 use Rattle.std.proofs.Common.{length}
 use Rattle.ir_store.specs.Designs.{design_of}
 use Rattle.mlir_lexer.specs.declared.token.TokenKind.TheVariants as kind

@@ -1,4 +1,4 @@
--- An operation behind those that wait is that of its text, whatever its operands stand for later.
+-- An operation after those that wait is that of its text, whatever its operands stand for later.
 use Rattle.std.proofs.Common.{map, refl, ap, ◌∙◌}
 use Rattle.mlir_reader.specs.Held.{with_operands}
 use Rattle.mlir_reader.specs.Marked.{operation_marked}

@@ -1,4 +1,4 @@
--- An attribute is what its first token begins; those of a list are gathered until no comma stands behind one.
+-- An attribute is what its first token begins; those of a list are gathered until no comma stands after one.
 use Rattle.std.proofs.Common.{map, arith, refl, Vec, Global}
 use Rattle.ir_store.specs.DictionaryViews.{attribute_of}
 use Rattle.ir_store.specs.declared.dictionary.Attribute.{Attribute}

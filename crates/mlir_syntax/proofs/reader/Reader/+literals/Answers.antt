@@ -1,4 +1,4 @@
--- A constant is what its first token begins; those of a list are gathered until no comma stands behind one.
+-- A constant is what its first token begins; those of a list are gathered until no comma stands after one.
 use Rattle.std.proofs.Common.{map, arith, refl, Vec, Global}
 use Rattle.hw_model.specs.KindViews.{literal_of, literals_in}
 use Rattle.hw_model.specs.declared.kinds.Literal.{Literal}

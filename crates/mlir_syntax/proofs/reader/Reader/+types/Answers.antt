@@ -1,4 +1,4 @@
--- A type is what its first token begins; fields are gathered until no comma stands behind one.
+-- A type is what its first token begins; fields are gathered until no comma stands after one.
 use Rattle.std.proofs.Common.{refl, sym, map, arith, rules, Vec, Box, Global}
 use Rattle.hw_model.specs.TypeViews.{type_of, field_of}
 use Rattle.hw_model.specs.declared.types.Ty.{the_lemmas}

@@ -1,4 +1,4 @@
--- Entries are gathered until no comma stands behind one; the key of each that one does is noted.
+-- Entries are gathered until no comma stands after one; the key of each that one does is noted.
 use Rattle.std.proofs.Common.{map, Vec, Global}
 use Rattle.ir_store.specs.DictionaryViews.{entry_of}
 use Rattle.ir_store.specs.declared.dictionary.Entry.{Entry}

@@ -1,4 +1,4 @@
--- Types are read behind commas until there are enough.
+-- Types are read after commas until there are enough.
 use Rattle.std.proofs.Common.{◌+◌, ◌-◌, ap, ◌∙◌, arith}
 use Rattle.ir_store.specs.OperationViews.{types_in}
 use Rattle.mlir_syntax.specs.Reads.{on}

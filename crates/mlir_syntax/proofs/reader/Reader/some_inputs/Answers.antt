@@ -1,4 +1,4 @@
--- Operands are gathered until no comma stands behind one.
+-- Operands are gathered until no comma stands after one.
 use Rattle.std.proofs.Common.{map, Vec, Global}
 use Rattle.mlir_syntax.specs.PieceHeads.{joined_of}
 use Rattle.mlir_syntax.specs.declared.instance_text.Joined.{Joined}

@@ -1,4 +1,4 @@
--- Names are gathered until no comma stands behind one.
+-- Names are gathered until no comma stands after one.
 use Rattle.std.proofs.Common.{map, Vec, Bor, Global, List, ℕ}
 use Rattle.mlir_syntax.proofs.Lists.{fails, ends, goes_on}
 use Rattle.mlir_syntax.proofs.Operands.{is_value_name}

@@ -1,4 +1,4 @@
--- Operands are gathered behind those in front until no comma stands behind one.
+-- Operands are gathered after those before until no comma stands after one.
 use Rattle.std.proofs.Common.{[]}
 use Rattle.mlir_syntax.proofs.Operands.{is_operand}
 use Rattle.mlir_syntax.proofs.Joining.{onto_fails, onto_ends, onto_goes_on}

@@ -1,4 +1,4 @@
--- Ports are gathered until no comma stands behind one.
+-- Ports are gathered until no comma stands after one.
 use Rattle.std.proofs.Common.{map, Vec, Global}
 use Rattle.mlir_syntax.specs.Views.{port_text_of}
 use Rattle.mlir_syntax.specs.declared.syntax.PortText.{PortText}

@@ -1,4 +1,4 @@
--- The digits begin behind the minus, where there is one.
+-- The digits begin after the minus, where there is one.
 use Rattle.std.proofs.Common.{ℕ, true, false, sym, ◌∙◌}
 use Rattle.hw_model.specs.KindViews.{integer_of}
 use Rattle.mlir_syntax.proofs.Chains.{on_err}
