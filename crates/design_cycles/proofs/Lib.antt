@@ -16,6 +16,5 @@ pub mod Ordered
 pub mod Placing
 pub mod Callees
 pub mod Capped
-pub mod ReadOps
 pub mod Returning
 pub mod Sizing

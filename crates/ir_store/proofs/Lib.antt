@@ -11,5 +11,6 @@ pub mod OrderCalls
 pub mod Ordering
 pub mod Numbering
 pub mod PositionTables
+pub mod ReadOps
 pub mod Samples
 pub mod UseLemmas

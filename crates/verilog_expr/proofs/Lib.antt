@@ -1,7 +1,6 @@
 pub mod Numerals
 pub mod Digits
 pub mod Adding
-pub mod ReadOps
 pub mod Marking
 pub mod PartsMarked
 pub mod HeightSteps

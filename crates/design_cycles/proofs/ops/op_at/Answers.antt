@@ -1,4 +1,4 @@
-use Rattle.design_cycles.proofs.ReadOps.{id_contained, op_is}
+use Rattle.ir_store.proofs.ReadOps.{id_contained, op_is}
 use Rattle.design_cycles.proofs.ops.op_at.Goals as goal
 
 pub op-requires : goal.op-requires

@@ -1,4 +1,4 @@
-use Rattle.verilog_expr.proofs.ReadOps.{id_contained, op_is}
+use Rattle.ir_store.proofs.ReadOps.{id_contained, op_is}
 use Rattle.verilog_expr.proofs.scope.op_in.Goals as goal
 
 pub op-requires : goal.op-requires

@@ -2,7 +2,7 @@ use Rattle.std.proofs.Common.{ap, ◌∙◌, arith}
 use Rattle.ir_store.specs.Bodies.{ids_of}
 use Rattle.ir_store.specs.Numbered.{position_of}
 use Rattle.ir_store.specs.declared.operation.OpId.{OpId}
-use Rattle.verilog_expr.proofs.ReadOps.{position_at, ids_numbered}
+use Rattle.ir_store.proofs.ReadOps.{position_at, ids_numbered}
 use Rattle.verilog_expr.proofs.scope.Scope.id_at.Goals as goal
 
 pub index-requires : goal.index-requires
