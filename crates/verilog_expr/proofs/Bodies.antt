@@ -237,16 +237,16 @@ module _ (named : Ref → Option Name) (ports : List Port) (os : List Op) (ex : 
 
     divided : (i k : ℕ) (o : Op) (t : HwType) → slice_get os i ≡ Some o → result_type o k ≡ Some t → (is_division o.kind ≡ true → HoldConstants named os ρ)
         → IsDividedBy widths ρ o.kind (width t) (divisor_in os (width t) o.operands) (map ex o.operands)
-    divided i k o t there is hold division a b exprs =
-        let d : IsDivision os o = writable.divisions i o there division in
-        let types : map (type_in ports os) o.operands ≡ Some t ∷ Some t ∷ [] = division_types o.kind o.types _ t k division (writable.fits i o there k t is) in
+    divided i k o t there is hold dividing a b exprs =
+        let d : IsDivision os o = writable.divisions i o there dividing in
+        let types : map (type_in ports os) o.operands ≡ Some t ∷ Some t ∷ [] = division_types o.kind o.types _ t k dividing (writable.fits i o there k t is) in
         let types' : type_in ports os d.dividend ∷ type_in ports os (result d.divisor 0) ∷ [] ≡ Some t ∷ Some t ∷ [] = ap (map (type_in ports os)) (sym d.operands) ∙ types in
         let exprs' : ex d.dividend ∷ ex (result d.divisor 0) ∷ [] ≡ a ∷ b ∷ [] = ap (map ex) (sym d.operands) ∙ exprs in
         let expr : b ≡ ex (result d.divisor 0) = cc in
         let type : type_in ports os (result d.divisor 0) ≡ Some t = cc in
         let type' : result_type d.by 0 ≡ Some t = ap (λ m. bind m (λ (q : Op). result_type q 0)) (sym d.there) ∙ type in
         let number_is : divisor_in os (width t) o.operands ≡ constant_number d.by.kind (width t) = ap (divisor_in os (width t)) d.operands ∙ ap (λ m. constant_of m (width t)) d.there in
-        ap (own_value widths ρ) expr ∙ constant_word (hold division) d.divisor d.by t d.there d.constant type' ∙ ap (bits (width t)) (sym number_is)
+        ap (own_value widths ρ) expr ∙ constant_word (hold dividing) d.divisor d.by t d.there d.constant type' ∙ ap (bits (width t)) (sym number_is)
 
     pub body_worth : (i k : ℕ) (o : Op) (t : HwType) → slice_get os i ≡ Some o → gives_values o ≡ true → result_type o k ≡ Some t
         → (is_division o.kind ≡ true → HoldConstants named os ρ)
