@@ -143,9 +143,9 @@ second_is : (x y : Option HwType) (t : HwType) → x ∷ y ∷ [] ≡ Some t ∷
 second_is x y t h = cc
 
 -- the divisor of a division that is not refused, in a body of which nothing is
-pub division : (ports : List Port) (os : List Op) → ((j : ℕ) (o : Op) → slice_get os j ≡ Some o → IsTested ports os o)
+pub constant_division : (ports : List Port) (os : List Op) → ((j : ℕ) (o : Op) → slice_get os j ≡ Some o → IsTested ports os o)
     → (o : Op) → IsTested ports os o → OpFits (type_in ports os) o → is_division o.kind ≡ true → IsDivision os o
-division ports os all o tests fits is =
+constant_division ports os all o tests fits is =
     let two = two_operands o.kind o.types (length o.operands) is tests.operands in
     let by : IsDivided os o.operands = divided os o.operands two (known_divisor o.kind (divides_by_constant os o.operands) is tests.divisor) in
     let own = all by.divisor by.by by.there in

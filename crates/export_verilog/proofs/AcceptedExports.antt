@@ -16,7 +16,7 @@ use Rattle.verilog_expr.specs.Marks.{AreSmall}
 use Rattle.export_verilog.specs.Aggregates.{HasNoAggregates, is_aggregate}
 use Rattle.export_verilog.specs.Exportable.{IsClocked, IsExportableOp, IsExportableModule, IsExportable}
 use Rattle.export_verilog.specs.Room.{HasRoomToExport}
-use Rattle.export_verilog.proofs.AcceptedDivisions.{division}
+use Rattle.export_verilog.proofs.AcceptedDivisions.{constant_division}
 use Rattle.export_verilog.proofs.AcceptedOps.{found, op_tested, port_within, IsTested}
 use Rattle.export_verilog.proofs.AcceptedTypes.{none_of, HasSomeBits, within_limits}
 use Rattle.export_verilog.proofs.AcceptedValues.{one_result, no_result, single, nothing, some_operand, in_list, result_bits, small_value, clock_port, clocked}
@@ -71,7 +71,7 @@ module _ (d : Design) (fine : IsAccepted d) (plain : HasNoAggregates d) (n : ℕ
     no_result = λ is. nothing o.results ((tests j o at).results ∙ no_result o.kind o.types is);
     bits = λ k r is. (result_bits m.ports m.body o (tests j o at) (plain_ops j o at) k r is).some;
     filled = λ is. some_operand o.kind o.types (length o.operands) is (tests j o at).operands;
-    division = division m.ports m.body tests o (tests j o at) (body_fits j o at);
+    division = constant_division m.ports m.body tests o (tests j o at) (body_fits j o at);
     clocked = clocked_by j o at;
   }
 

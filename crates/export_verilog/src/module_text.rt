@@ -69,5 +69,6 @@ pub fn push_module(
         wires,
         names,
     };
-    push_under(&writer, out, symbol_at(all, number))
+    push_under(&writer, out, symbol_at(all, number))?;
+    Ok(())
 }

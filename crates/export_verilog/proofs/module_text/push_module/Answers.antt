@@ -9,8 +9,10 @@ use Rattle.export_verilog.proofs.module_text.push_module.Goals as goal
 pub of-requires : goal.of-requires
 of-requires c =
     let x = c.module-module.result.now in
-    (scope_writable (modules_of c.args.all.now.design.now) c.requires.writable c.args.number (module_of x) c.module-module.ensures
-    (ports_in x.ports) (numbered (ops_of x.body)) refl refl).small
+    record {
+      small = (scope_writable (modules_of c.args.all.now.design.now) c.requires.writable c.args.number (module_of x) c.module-module.ensures
+          (ports_in x.ports) (numbered (ops_of x.body)) refl refl).small;
+    }
 
 pub of-requires-2 : goal.of-requires-2
 of-requires-2 c =
@@ -27,7 +29,7 @@ pub returns : goal.returns
 returns c =
     scope_text (modules_of c.args.all.now.design.now) c.requires.writable c.args.number (module_of c.module-module.result.now) c.module-module.ensures
     (scope_ports c.in_ok-scope.scope) (scope_ops c.in_ok-scope.scope) c.in_ok-scope.ensures.ports c.in_ok-scope.ensures.ops
-    c.symbol_at.result.now c.args.out.now c.push_under.new.out c.symbol_at.ensures c.push_under.ensures
+    c.symbol_at.result.now c.args.out.now c.push_under.new.out c.symbol_at.ensures c.in_ok-push_under.ensures
 
 pub push_under-requires : goal.push_under-requires
 push_under-requires c =
