@@ -1,5 +1,5 @@
-//! The limits on the length of a text and on the size of a design.
-use crate::runs::{Failing, run_words};
+//! The limits on the length of a text and on the size of a design, and texts that are cut.
+use crate::runs::{ADDER, Failing, run_words};
 use std::alloc::{AllocError, AllocGlobal, Global};
 use std::test::Fail;
 use std::thread::Threads;
@@ -145,5 +145,32 @@ fn a_text_that_is_too_long_is_refused(rt: HostRuntime) -> Result<(), Fail> {
     let text = vec![in rt.alloc(); b' '; (1usize << 26) + 1]?;
     let message = "<stdin>:1:1: error: 'builtin.module' S7: text too long\n";
     assert!(rt; ends_with(&rt, str::from_utf8(text.as_slice())?, 1, message)?);
+    Ok(())
+}
+
+// The first characters of the adder's text.
+fn cut(alloc: Global, end: usize) -> Result<String, AllocError> {
+    let mut text = String::new(alloc);
+    for c in ADDER.chars().take(end) {
+        text.push(c)?;
+    }
+    Ok(text)
+}
+
+// The adder's text is accepted whole, without its last line end, and when nothing of it is there.
+#[test]
+fn a_text_that_is_cut_is_refused(rt: HostRuntime) -> Result<(), Fail> {
+    assert_eq!(rt; ADDER.len(), 104);
+    for end in 0..105 {
+        let whole = end == 0 || end >= 103;
+        let text = cut(rt.alloc(), end)?;
+        let run = run_words(&rt, "opt", text.as_str(), Failing::No)?;
+        let answer = (
+            run.code,
+            run.out.held().is_empty(),
+            run.err.held().is_empty(),
+        );
+        assert_eq!(rt; answer, (u8::from(!whole), !whole, whole), "after {end}");
+    }
     Ok(())
 }

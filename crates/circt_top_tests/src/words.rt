@@ -1,6 +1,6 @@
 //! What words, files and failing reads and writes answer.
 use crate::runs::{ADDER, ADDER_PRINTED, ADDER_VERILOG, Ended, Failing, run_words};
-use std::alloc::{AllocError, AllocGlobal, Global};
+use std::alloc::{AllocError, AllocGlobal};
 use std::test::Fail;
 use std::thread::Threads;
 
@@ -375,32 +375,5 @@ fn first_other(
 #[test]
 fn words_have_their_answers(rt: HostRuntime) -> Result<(), Fail> {
     assert_eq!(rt; first_other(&rt, &GROUPS)?, None);
-    Ok(())
-}
-
-// The first characters of the adder's text.
-fn cut(alloc: Global, end: usize) -> Result<String, AllocError> {
-    let mut text = String::new(alloc);
-    for c in ADDER.chars().take(end) {
-        text.push(c)?;
-    }
-    Ok(text)
-}
-
-// The adder's text is accepted whole, without its last line end, and when nothing of it is there.
-#[test]
-fn a_text_that_is_cut_is_refused(rt: HostRuntime) -> Result<(), Fail> {
-    assert_eq!(rt; ADDER.len(), 104);
-    for end in 0..105 {
-        let whole = end == 0 || end >= 103;
-        let text = cut(rt.alloc(), end)?;
-        let run = run_words(&rt, "opt", text.as_str(), Failing::No)?;
-        let answer = (
-            run.code,
-            run.out.held().is_empty(),
-            run.err.held().is_empty(),
-        );
-        assert_eq!(rt; answer, (u8::from(!whole), !whole, whole), "after {end}");
-    }
     Ok(())
 }
