@@ -22,8 +22,8 @@ use hw_model::{heights_are_acyclic, places_decide_nothing};
 use io_edge::byte_text::Text;
 use mlir_printer::design_text::print_and_drop;
 use mlir_printer::laws::{what_is_accepted_is_printable, what_is_printed_is_read_again};
-use mlir_syntax::fail::ReadFail;
 use mlir_reader::read::read_design;
+use mlir_syntax::fail::ReadFail;
 use op_verifier::{
     Verified, VerifyFail, accepted_designs_are_sound, places_decide_no_verdict, verify,
 };
