@@ -115,13 +115,26 @@ fn design_of(alloc: Global, rows: &[Operation]) -> Result<Design, AllocError> {
     Ok(design)
 }
 
-// The first refusal of a design and that of the verifier, where they are one.
+// The verifier's refusal of a design, where it is the first one among those of headers and operations.
 fn refusal_of(alloc: Global, design: Design) -> Result<Option<Refusal>, AllocError> {
     let first = first_fault(alloc, &design)?;
-    match (verify(alloc, design), first) {
-        (Ok(verified), None) if verified.design().module_count() == 1 => Ok(None),
-        (Err(VerifyFail::Refused(refusal)), Some(fault)) if refusal == fault => Ok(Some(refusal)),
-        _ => Err(AllocError),
+    match verify(alloc, design) {
+        Ok(verified) => same_verdict(verified.design().module_count() == 1, first, None),
+        Err(VerifyFail::Refused(refusal)) => same_verdict(true, first, Some(refusal)),
+        Err(VerifyFail::NoMemory) => Err(AllocError),
+    }
+}
+
+// A verdict, where it is sound and another says the same.
+fn same_verdict(
+    is_sound: bool,
+    first: Option<Refusal>,
+    refusal: Option<Refusal>,
+) -> Result<Option<Refusal>, AllocError> {
+    if is_sound && first == refusal {
+        Ok(refusal)
+    } else {
+        Err(AllocError)
     }
 }
 
