@@ -95,15 +95,6 @@ const REST: [&str; 9] = [
 ",
 ];
 
-// The pieces, joined.
-fn joined(alloc: Global, pieces: &[&str]) -> Result<String, AllocError> {
-    let mut text = String::new(alloc);
-    for piece in pieces {
-        text.push_str(piece)?;
-    }
-    Ok(text)
-}
-
 // Whether `opt` ends with a status and an error message on a text.
 fn ends_with(
     rt: &(impl Threads + Sync + AllocGlobal),
@@ -119,21 +110,48 @@ fn ends_with(
     )
 }
 
-// With these operations a module is at the limit, and accepted; with one constant more it is not.
+/// How a module ends, and what the program says of it.
+struct End {
+    text: &'static str,
+    code: u8,
+    message: &'static str,
+}
+
+// A module at the limit is accepted; with one constant more it is not.
+const ENDS: [End; 2] = [
+    End {
+        text: "}\n",
+        code: 0,
+        message: "",
+    },
+    End {
+        text: "  %z = hw.constant true\n}\n",
+        code: 1,
+        message: "<stdin>:124:1: error: 'hw.module' V22: design too large\n",
+    },
+];
+
+// Whether it is said of modules and one more with these operations and this end.
+fn is_told(
+    rt: &(impl Threads + Sync + AllocGlobal),
+    modules: &str,
+    rest: &str,
+    end: &End,
+) -> Result<bool, AllocError> {
+    let mut text = String::new(rt.alloc());
+    text.push_str(modules)?;
+    text.push_str(FILLED)?;
+    text.push_str(rest)?;
+    text.push_str(end.text)?;
+    ends_with(rt, text.as_str(), end.code, end.message)
+}
+
 #[test]
 fn sizes_are_told_exactly(rt: HostRuntime) -> Result<(), Fail> {
     let modules = doubling(rt.alloc(), 24)?;
     for rest in REST {
-        for (end, code, message) in [
-            ("}\n", 0, ""),
-            (
-                "  %z = hw.constant true\n}\n",
-                1,
-                "<stdin>:124:1: error: 'hw.module' V22: design too large\n",
-            ),
-        ] {
-            let text = joined(rt.alloc(), &[modules.as_str(), FILLED, rest, end])?;
-            assert!(rt; ends_with(&rt, text.as_str(), code, message)?, "of {rest}");
+        for end in &ENDS {
+            assert!(rt; is_told(&rt, modules.as_str(), rest, end)?, "of {rest}");
         }
     }
     Ok(())
