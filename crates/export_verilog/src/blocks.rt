@@ -56,7 +56,7 @@ fn push_if(out: &mut Text, front: &[u8], condition: &[u8]) -> Result<(), AllocEr
 }
 
 // Adds a load under a condition.
-#[tactic(auto, using(crate::proofs::Rests::guarded_parts))]
+#[tactic(auto, using(crate::proofs::text::Rests::guarded_parts))]
 fn push_guarded(
     out: &mut Text,
     front: &[u8],
@@ -98,7 +98,7 @@ fn push_otherwise(out: &mut Text, block: &Clocked<'_>) -> Result<(), AllocError>
 }
 
 // Adds what a register does where its clock rises.
-#[tactic(auto, using(crate::proofs::Rests::reset_parts), unfolding(crate::specs::Layout::block_text))]
+#[tactic(auto, using(crate::proofs::text::Rests::reset_parts), unfolding(crate::specs::Layout::block_text))]
 fn push_block(out: &mut Text, block: &Clocked<'_>) -> Result<(), AllocError>
     ensures { OnOk result (out.new ≡ out.old ++ block_text (block_held block.now) []) }
 {

@@ -6,7 +6,7 @@ use Rattle.ir_store.specs.Numbered.{numbered}
 use Rattle.ir_store.specs.OperationViews.{place_of}
 use Rattle.design_cycles.specs.Reading.{op_view}
 use Rattle.op_verifier.specs.Faults.{refused_at}
-use Rattle.export_verilog.proofs.FirstAggregates.{body_refused, body_passed}
+use Rattle.export_verilog.proofs.accepted.FirstAggregates.{body_refused, body_passed}
 use Rattle.export_verilog.proofs.aggregates.body_aggregate.Goals as goal
 
 pub returns-then-has_aggregate : goal.returns-then-has_aggregate

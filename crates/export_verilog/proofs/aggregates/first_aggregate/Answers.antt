@@ -1,7 +1,7 @@
 use Rattle.std.proofs.Common.{◌≡◌, Some, slice_get, option_map, sym, ap, ◌∙◌}
 use Rattle.std.proofs.lemmas.Option.{slice_get-map}
 use Rattle.ir_store.specs.Designs.{design_of, modules_of, module_of, numbered_module}
-use Rattle.export_verilog.proofs.FirstAggregates.{module_refused, module_passed}
+use Rattle.export_verilog.proofs.accepted.FirstAggregates.{module_refused, module_passed}
 use Rattle.export_verilog.proofs.aggregates.first_aggregate.Goals as goal
 
 pub returns-in-Some : goal.returns-in-Some

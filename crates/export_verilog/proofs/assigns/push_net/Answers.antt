@@ -7,7 +7,7 @@ use Rattle.export_verilog.specs.Keys.{name_or_nothing}
 use Rattle.export_verilog.specs.Layout.{item_text}
 use Rattle.export_verilog.specs.Written.{written}
 use Rattle.export_verilog.specs.Values.{value_expr}
-use Rattle.export_verilog.proofs.WrittenItems.{assign_same}
+use Rattle.export_verilog.proofs.text.WrittenItems.{assign_same}
 use Rattle.export_verilog.proofs.assigns.push_net.Goals as goal
 
 pub returns : goal.returns

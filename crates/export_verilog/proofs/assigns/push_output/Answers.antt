@@ -5,7 +5,7 @@ use Rattle.export_verilog.specs.Exported.{expr_or_none}
 use Rattle.export_verilog.specs.Layout.{item_text}
 use Rattle.export_verilog.specs.Written.{written}
 use Rattle.export_verilog.specs.Values.{value_expr}
-use Rattle.export_verilog.proofs.WrittenItems.{assign_same}
+use Rattle.export_verilog.proofs.text.WrittenItems.{assign_same}
 use Rattle.export_verilog.proofs.assigns.push_output.Goals as goal
 
 pub returns : goal.returns

@@ -2,7 +2,7 @@ use Rattle.std.proofs.Common.{◌∷◌, []}
 use Rattle.std.specs.Prelude.{codes}
 use Rattle.export_verilog.specs.Layout.{item_text, block_text}
 use Rattle.export_verilog.specs.WrittenViews.{block_held}
-use Rattle.export_verilog.proofs.Rests.{four_parts}
+use Rattle.export_verilog.proofs.text.Rests.{four_parts}
 use Rattle.export_verilog.proofs.blocks.push_always.Goals as goal
 
 pub returns : goal.returns

@@ -7,7 +7,7 @@ use Rattle.export_verilog.specs.Keys.{role_of}
 use Rattle.export_verilog.specs.RoleViews.{role_seen}
 use Rattle.export_verilog.specs.Held.{role_by, op_wishes, op_results, op_own_name}
 use Rattle.export_verilog.specs.Walks.{body_wishes, body_given, result_lists}
-use Rattle.export_verilog.proofs.Walking.{wishes_seen, results_seen, walk_names, walk_given, walked_names, walked_given, map_pushed}
+use Rattle.export_verilog.proofs.names.Walking.{wishes_seen, results_seen, walk_names, walk_given, walked_names, walked_given, map_pushed}
 use Rattle.export_verilog.proofs.body_names.add_ops.Goals as goal
 
 pub loop-place-preserved : goal.loop-place-preserved

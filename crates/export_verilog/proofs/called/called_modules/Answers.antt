@@ -1,5 +1,5 @@
 use Rattle.ir_store.specs.Designs.{modules_of, module_of}
-use Rattle.export_verilog.proofs.Marks.{marks_more}
+use Rattle.export_verilog.proofs.items.Marks.{marks_more}
 use Rattle.export_verilog.proofs.called.called_modules.Goals as goal
 
 pub loop-number-preserved : goal.loop-number-preserved

@@ -6,7 +6,7 @@ use Rattle.ir_store.specs.Numbered.{numbered}
 use Rattle.ir_store.specs.Designs.{StoredModule, modules_of}
 use Rattle.design_cycles.specs.Calls.{callee_number}
 use Rattle.design_cycles.specs.Reading.{op_view}
-use Rattle.export_verilog.proofs.Marks.{body_more}
+use Rattle.export_verilog.proofs.items.Marks.{body_more}
 use Rattle.export_verilog.proofs.called.mark_body.Goals as goal
 
 pub loop-place-preserved : goal.loop-place-preserved

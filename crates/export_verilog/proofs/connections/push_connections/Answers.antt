@@ -9,7 +9,7 @@ use Rattle.export_verilog.specs.Keys.{name_or_nothing}
 use Rattle.export_verilog.specs.Values.{value_expr}
 use Rattle.export_verilog.specs.Written.{connections_left}
 use Rattle.export_verilog.specs.Joined.{joined}
-use Rattle.export_verilog.proofs.Joining.{joined_by}
+use Rattle.export_verilog.proofs.text.Joining.{joined_by}
 use Rattle.export_verilog.proofs.connections.push_connections.Goals as goal
 
 counted_within : (b : Bool) (k j : ℕ) → k ≤ j → cond b (k + 1) k ≤ j + 1

@@ -8,7 +8,7 @@ use Rattle.export_verilog.specs.Keys.{name_or_nothing}
 use Rattle.export_verilog.specs.Values.{value_expr}
 use Rattle.export_verilog.specs.Written.{connections_left}
 use Rattle.export_verilog.specs.Joined.{joined}
-use Rattle.export_verilog.proofs.Joining.{joined_left}
+use Rattle.export_verilog.proofs.text.Joining.{joined_left}
 use Rattle.export_verilog.proofs.connections.push_connections.Given as goal
 
 abbrev pub invariant-loop-j : goal.invariant-loop-j

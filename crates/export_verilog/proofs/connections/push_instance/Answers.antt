@@ -8,8 +8,8 @@ use Rattle.verilog_expr.specs.Named.{named_of}
 use Rattle.export_verilog.specs.Keys.{name_or_nothing}
 use Rattle.export_verilog.specs.Values.{value_expr}
 use Rattle.export_verilog.specs.Joined.{joined}
-use Rattle.export_verilog.proofs.Joining.{some_joined}
-use Rattle.export_verilog.proofs.InstanceParts.{instance_parts}
+use Rattle.export_verilog.proofs.text.Joining.{some_joined}
+use Rattle.export_verilog.proofs.text.InstanceParts.{instance_parts}
 use Rattle.export_verilog.proofs.connections.push_instance.Goals as goal
 
 pub returns : goal.returns

@@ -3,7 +3,7 @@ use Rattle.ir_store.specs.Numbered.{position_of}
 use Rattle.verilog_expr.specs.Scopes.{scope_ids}
 use Rattle.export_verilog.specs.Layout.{items_text}
 use Rattle.export_verilog.specs.Values.{value_wires}
-use Rattle.export_verilog.proofs.ValueWires.{wires_left, wires_step, wires_end}
+use Rattle.export_verilog.proofs.text.ValueWires.{wires_left, wires_step, wires_end}
 use Rattle.export_verilog.proofs.declarations.push_wires.Goals as goal
 
 pub loop-number-preserved : goal.loop-number-preserved

@@ -1,7 +1,7 @@
 use Rattle.std.proofs.Common.{◌≡◌, ◌++◌}
 use Rattle.ir_store.specs.Numbered.{position_of}
 use Rattle.verilog_expr.specs.Scopes.{scope_ids}
-use Rattle.export_verilog.proofs.ValueWires.{wires_left}
+use Rattle.export_verilog.proofs.text.ValueWires.{wires_left}
 use Rattle.export_verilog.proofs.declarations.push_wires.Given as goal
 
 abbrev pub invariant-loop-number : goal.invariant-loop-number

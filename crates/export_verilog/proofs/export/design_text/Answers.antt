@@ -2,8 +2,8 @@ use Rattle.std.proofs.Common.{◌++◌, map, refl, ◌∙◌, ap, arith}
 use Rattle.ir_store.specs.Designs.{modules_of, design_of}
 use Rattle.export_verilog.specs.Exported.{vmodule}
 use Rattle.export_verilog.specs.Layout.{verilog_text}
-use Rattle.export_verilog.proofs.ModuleParts.{modules_left, left_all, module_step, modules_end}
-use Rattle.export_verilog.proofs.StoredModules.{stored_count}
+use Rattle.export_verilog.proofs.text.ModuleParts.{modules_left, left_all, module_step, modules_end}
+use Rattle.export_verilog.proofs.text.StoredModules.{stored_count}
 use Rattle.export_verilog.proofs.export.design_text.Goals as goal
 
 pub loop-number-init : goal.loop-number-init

@@ -2,7 +2,7 @@ use Rattle.std.proofs.Common.{◌≡◌, ◌++◌, map, drop}
 use Rattle.ir_store.specs.Designs.{design_of}
 use Rattle.export_verilog.specs.Exported.{vmodule}
 use Rattle.export_verilog.specs.Layout.{verilog_text}
-use Rattle.export_verilog.proofs.ModuleParts.{modules_left}
+use Rattle.export_verilog.proofs.text.ModuleParts.{modules_left}
 use Rattle.export_verilog.proofs.export.design_text.Given as goal
 
 abbrev pub invariant-loop-number : goal.invariant-loop-number

@@ -2,7 +2,7 @@ use Rattle.std.proofs.Common.{◌≡◌, map, sym, ◌∙◌, ap, subst}
 use Rattle.ir_store.specs.Designs.{design_of, numbered_module}
 use Rattle.export_verilog.specs.Room.{HasRoomToExport}
 use Rattle.export_verilog.specs.WritableDesigns.{IsWritableDesign}
-use Rattle.export_verilog.proofs.AcceptedBodies.{accepted_writable}
+use Rattle.export_verilog.proofs.accepted.AcceptedBodies.{accepted_writable}
 use Rattle.export_verilog.proofs.export.export.Goals as goal
 
 pub design_text-requires : goal.design_text-requires

@@ -5,7 +5,7 @@ use Rattle.ir_store.specs.Designs.{port_of}
 use Rattle.name_legalise.specs.Legal.{legal}
 use Rattle.name_legalise.proofs.Legals.{legal_count}
 use Rattle.export_verilog.specs.Held.{ArePortNames}
-use Rattle.export_verilog.proofs.PortNames.{port_names_are}
+use Rattle.export_verilog.proofs.names.PortNames.{port_names_are}
 use Rattle.export_verilog.proofs.legal_names.port_names.Goals as goal
 
 pub returns : goal.returns

@@ -2,7 +2,7 @@ use Rattle.std.proofs.Common.{◌∷◌, [], map, refl, sym, ap, ◌∙◌, arit
 use Rattle.std.proofs.lemmas.Option.{get_or_from_slice_get}
 use Rattle.hw_model.specs.Design.{Module}
 use Rattle.ir_store.specs.Designs.{StoredModule, modules_of, module_of, numbered_module, design_of}
-use Rattle.export_verilog.proofs.Listed.{gather_step, gather_end}
+use Rattle.export_verilog.proofs.text.Listed.{gather_step, gather_end}
 use Rattle.export_verilog.proofs.legal_names.symbols.Goals as goal
 
 pub loop-number-preserved : goal.loop-number-preserved

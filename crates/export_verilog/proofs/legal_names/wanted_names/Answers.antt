@@ -1,7 +1,7 @@
 use Rattle.std.proofs.Common.{◌∷◌, [], map, refl, ap, ◌∙◌, arith, ◌++◌}
 use Rattle.hw_model.specs.Design.{Port}
 use Rattle.ir_store.specs.Designs.{port_of}
-use Rattle.export_verilog.proofs.Listed.{gather_step, gather_end}
+use Rattle.export_verilog.proofs.text.Listed.{gather_step, gather_end}
 use Rattle.export_verilog.proofs.legal_names.wanted_names.Goals as goal
 
 pub loop-port-preserved : goal.loop-port-preserved

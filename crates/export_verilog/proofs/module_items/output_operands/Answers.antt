@@ -1,7 +1,7 @@
 use Rattle.std.proofs.Common.{sym, ◌∙◌, arith}
 use Rattle.hw_model.specs.Design.{output_refs}
 use Rattle.verilog_expr.specs.Scopes.{scope_ops, op_read}
-use Rattle.export_verilog.proofs.OutputItems.{output_here, output_later, output_nowhere}
+use Rattle.export_verilog.proofs.text.OutputItems.{output_here, output_later, output_nowhere}
 use Rattle.export_verilog.proofs.module_items.output_operands.Goals as goal
 
 pub returns-then-is_output_kind : goal.returns-then-is_output_kind

@@ -8,7 +8,7 @@ use Rattle.export_verilog.specs.Held.{role_by}
 use Rattle.export_verilog.specs.Exported.{declares, declared_as}
 use Rattle.export_verilog.specs.Layout.{items_text}
 use Rattle.export_verilog.specs.ScopeModules.{scope_module}
-use Rattle.export_verilog.proofs.ItemLists.{each_left, each_step, each_end}
+use Rattle.export_verilog.proofs.text.ItemLists.{each_left, each_step, each_end}
 use Rattle.export_verilog.proofs.module_items.push_all_declarations.Goals as goal
 
 pub push_declarations-requires : goal.push_declarations-requires

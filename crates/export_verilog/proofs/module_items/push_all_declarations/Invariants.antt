@@ -2,7 +2,7 @@ use Rattle.std.proofs.Common.{◌≡◌, ◌++◌}
 use Rattle.verilog_expr.specs.Scopes.{scope_ops}
 use Rattle.export_verilog.specs.Exported.{declares}
 use Rattle.export_verilog.specs.ScopeModules.{scope_module}
-use Rattle.export_verilog.proofs.ItemLists.{each_left}
+use Rattle.export_verilog.proofs.text.ItemLists.{each_left}
 use Rattle.export_verilog.proofs.module_items.push_all_declarations.Given as goal
 
 abbrev pub invariant-loop-place : goal.invariant-loop-place

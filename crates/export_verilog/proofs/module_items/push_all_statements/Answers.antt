@@ -7,7 +7,7 @@ use Rattle.export_verilog.specs.RoleViews.{role_seen}
 use Rattle.export_verilog.specs.Held.{role_by}
 use Rattle.export_verilog.specs.Exported.{states, stated_as}
 use Rattle.export_verilog.specs.ScopeModules.{scope_module}
-use Rattle.export_verilog.proofs.ItemLists.{each_left, each_step, each_end}
+use Rattle.export_verilog.proofs.text.ItemLists.{each_left, each_step, each_end}
 use Rattle.export_verilog.proofs.module_items.push_all_statements.Goals as goal
 
 pub push_statements-requires : goal.push_statements-requires

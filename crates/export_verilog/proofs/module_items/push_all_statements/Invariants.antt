@@ -3,7 +3,7 @@ use Rattle.ir_store.specs.Designs.{design_of}
 use Rattle.verilog_expr.specs.Scopes.{scope_ops}
 use Rattle.export_verilog.specs.Exported.{states}
 use Rattle.export_verilog.specs.ScopeModules.{scope_module}
-use Rattle.export_verilog.proofs.ItemLists.{each_left}
+use Rattle.export_verilog.proofs.text.ItemLists.{each_left}
 use Rattle.export_verilog.proofs.module_items.push_all_statements.Given as goal
 
 abbrev pub invariant-loop-place : goal.invariant-loop-place

@@ -7,7 +7,7 @@ use Rattle.export_verilog.specs.Keys.{each}
 use Rattle.export_verilog.specs.Exported.{declares, states, output_assigns}
 use Rattle.export_verilog.specs.Layout.{items_text}
 use Rattle.export_verilog.specs.ScopeModules.{scope_module}
-use Rattle.export_verilog.proofs.ItemLists.{items_joined}
+use Rattle.export_verilog.proofs.text.ItemLists.{items_joined}
 use Rattle.export_verilog.proofs.module_items.push_items.Goals as goal
 
 pub returns : goal.returns

@@ -10,9 +10,9 @@ use Rattle.export_verilog.specs.Keys.{named, key_text}
 use Rattle.export_verilog.specs.Keys.Key.{port_key}
 use Rattle.export_verilog.specs.Values.{value_expr}
 use Rattle.export_verilog.specs.ScopeModules.{scope_module}
-use Rattle.export_verilog.proofs.Listed.{viewed}
-use Rattle.export_verilog.proofs.SameNames.{expr_same}
-use Rattle.export_verilog.proofs.OutputItems.{outputs_left, outputs_assigned, outputs_passed, outputs_end}
+use Rattle.export_verilog.proofs.text.Listed.{viewed}
+use Rattle.export_verilog.proofs.names.SameNames.{expr_same}
+use Rattle.export_verilog.proofs.text.OutputItems.{outputs_left, outputs_assigned, outputs_passed, outputs_end}
 use Rattle.export_verilog.proofs.module_items.push_outputs.Goals.{then-ports-place+in_ok-push_output, else-ports-place}
 use Rattle.export_verilog.proofs.module_items.push_outputs.Goals as goal
 

@@ -1,7 +1,7 @@
 use Rattle.std.proofs.Common.{◌≡◌, ◌≤◌, ◌++◌}
 use Rattle.verilog_expr.specs.Scopes.{scope_ref}
 use Rattle.export_verilog.specs.ScopeModules.{scope_module}
-use Rattle.export_verilog.proofs.OutputItems.{outputs_left}
+use Rattle.export_verilog.proofs.text.OutputItems.{outputs_left}
 use Rattle.export_verilog.proofs.module_items.push_outputs.Given as goal
 
 abbrev pub invariant-loop-place : goal.invariant-loop-place

@@ -9,7 +9,7 @@ use Rattle.export_verilog.specs.Held.{op_results, op_own_name}
 use Rattle.export_verilog.specs.Walks.{body_given, result_lists}
 use Rattle.export_verilog.specs.PortValues.{port_values}
 use Rattle.export_verilog.specs.ScopeModules.{scope_module}
-use Rattle.export_verilog.proofs.ModuleNames.{module_names_are}
+use Rattle.export_verilog.proofs.names.ModuleNames.{module_names_are}
 use Rattle.export_verilog.proofs.module_names.module_names.Goals as goal
 
 pub returns : goal.returns

@@ -3,7 +3,7 @@ use Rattle.ir_store.specs.Bodies.{ops_of}
 use Rattle.ir_store.specs.Designs.{modules_of, module_of, ports_in}
 use Rattle.ir_store.specs.Numbered.{numbered}
 use Rattle.verilog_expr.specs.Scopes.{scope_ports, scope_ops}
-use Rattle.export_verilog.proofs.StoredModules.{scope_writable, scope_text}
+use Rattle.export_verilog.proofs.text.StoredModules.{scope_writable, scope_text}
 use Rattle.export_verilog.proofs.module_text.push_module.Goals as goal
 
 pub of-requires : goal.of-requires

@@ -6,7 +6,7 @@ use Rattle.export_verilog.specs.Exported.{vports, vitems}
 use Rattle.export_verilog.specs.Layout.{ports_text}
 use Rattle.export_verilog.specs.Written.{AreNarrow, ports_named}
 use Rattle.export_verilog.specs.ScopeModules.{scope_module}
-use Rattle.export_verilog.proofs.ModuleParts.{named_ports, module_parts}
+use Rattle.export_verilog.proofs.text.ModuleParts.{named_ports, module_parts}
 use Rattle.export_verilog.proofs.module_text.push_under.Goals as goal
 
 pub push_ports-requires : goal.push_ports-requires

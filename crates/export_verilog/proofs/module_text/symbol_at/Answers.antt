@@ -1,7 +1,7 @@
 use Rattle.std.proofs.Common.{length, slice_get, Some, refl, sym, ◌∙◌, ap, arith}
 use Rattle.std.proofs.lemmas.Option.{slice_get_read}
 use Rattle.ir_store.specs.Designs.{modules_of}
-use Rattle.export_verilog.proofs.StoredModules.{stored_symbols}
+use Rattle.export_verilog.proofs.text.StoredModules.{stored_symbols}
 use Rattle.export_verilog.proofs.module_text.symbol_at.Goals as goal
 
 pub bounds-symbols-number : goal.bounds-symbols-number

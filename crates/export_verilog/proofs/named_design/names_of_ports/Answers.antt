@@ -3,8 +3,8 @@ use Rattle.std.specs.Prelude.{option_map}
 use Rattle.wiring.specs.Options.{omap}
 use Rattle.ir_store.specs.Designs.{design_of, modules_of, module_of, numbered_module, port_of}
 use Rattle.export_verilog.specs.NamedDesigns.{AreNamesWhere, ArePortsOf}
-use Rattle.export_verilog.proofs.Operands.{get_map}
-use Rattle.export_verilog.proofs.PortLists.{length_last, ports_more}
+use Rattle.export_verilog.proofs.items.Operands.{get_map}
+use Rattle.export_verilog.proofs.names.PortLists.{length_last, ports_more}
 use Rattle.export_verilog.proofs.named_design.names_of_ports.Goals as goal
 
 pub loop-number-preserved : goal.loop-number-preserved

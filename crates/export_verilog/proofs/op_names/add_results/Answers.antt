@@ -5,7 +5,7 @@ use Rattle.name_legalise.specs.Legal.{legal_after, legal_name}
 use Rattle.name_legalise.specs.LegalViews.{legal_names}
 use Rattle.export_verilog.specs.Keys.{result_wish}
 use Rattle.export_verilog.specs.Held.{result_wishes}
-use Rattle.export_verilog.proofs.Adding.{names_step, list_step, names_end, list_end, wish_count, wish_first}
+use Rattle.export_verilog.proofs.names.Adding.{names_step, list_step, names_end, list_end, wish_count, wish_first}
 use Rattle.export_verilog.proofs.op_names.add_results.Goals as goal
 
 pub loop-number-preserved : goal.loop-number-preserved

@@ -2,7 +2,7 @@ use Rattle.std.proofs.Common.{◌++◌, map, arith, refl, sym}
 use Rattle.std.specs.Prelude.{[]}
 use Rattle.ir_store.specs.Designs.{port_of}
 use Rattle.export_verilog.specs.Written.{ports_named, ports_left}
-use Rattle.export_verilog.proofs.Listed.{narrow_at, ports_step, ports_end}
+use Rattle.export_verilog.proofs.text.Listed.{narrow_at, ports_step, ports_end}
 use Rattle.export_verilog.proofs.ports.push_lines.Goals as goal
 
 pub loop-i-preserved : goal.loop-i-preserved

@@ -1,8 +1,8 @@
 use Rattle.std.proofs.Common.{◌∷◌, [], ap, ◌++◌, ◌∙◌, map, codes, arith}
 use Rattle.ir_store.specs.Designs.{port_of}
 use Rattle.export_verilog.specs.Written.{ports_named, ports_left}
-use Rattle.export_verilog.proofs.Rests.{three_parts}
-use Rattle.export_verilog.proofs.Listed.{no_ports, listed_ports}
+use Rattle.export_verilog.proofs.text.Rests.{three_parts}
+use Rattle.export_verilog.proofs.text.Listed.{no_ports, listed_ports}
 use Rattle.export_verilog.proofs.ports.push_ports.Goals as goal
 
 pub returns-in_ok-push_bytes : goal.returns-in_ok-push_bytes

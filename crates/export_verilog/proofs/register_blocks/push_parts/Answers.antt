@@ -4,7 +4,7 @@ use Rattle.ir_store.specs.declared.operation.Value.{Value}
 use Rattle.verilog_expr.specs.Scopes.{scope_ref}
 use Rattle.export_verilog.specs.Values.{used_text}
 use Rattle.export_verilog.specs.RegisterViews.{register_seen}
-use Rattle.export_verilog.proofs.RegisterItems.{register_added}
+use Rattle.export_verilog.proofs.text.RegisterItems.{register_added}
 use Rattle.export_verilog.proofs.register_blocks.push_parts.Goals.{in-None+in_ok-push_reset-in-None, in-Some+in_ok-enable-in-Some+in_ok-push_reset-in-Some}
 use Rattle.export_verilog.proofs.register_blocks.push_parts.Goals as goal
 

@@ -4,7 +4,7 @@ use Rattle.hw_model.specs.Sound.{ports_of}
 use Rattle.ir_store.specs.Designs.{port_of, module_of, numbered_module, modules_of, design_of}
 use Rattle.export_verilog.specs.Exported.{symbol_names}
 use Rattle.export_verilog.specs.NamedDesigns.{AreNamesOf}
-use Rattle.export_verilog.proofs.SymbolPlaces.{no_name, place_within, symbol_count, within_list, symbol_at, module_at}
+use Rattle.export_verilog.proofs.names.SymbolPlaces.{no_name, place_within, symbol_count, within_list, symbol_at, module_at}
 use Rattle.export_verilog.proofs.statements.callee_of.Goals as goal
 
 pub returns-in_default-clause-symbol : goal.returns-in_default-clause-symbol

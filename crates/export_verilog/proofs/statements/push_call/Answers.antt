@@ -16,8 +16,8 @@ use Rattle.export_verilog.specs.Joined.{joined}
 use Rattle.export_verilog.specs.Layout.{items_text}
 use Rattle.export_verilog.specs.ScopeModules.{scope_module}
 use Rattle.export_verilog.specs.Values.{value_expr}
-use Rattle.export_verilog.proofs.SameConnections.{joined_same, instance_same}
-use Rattle.export_verilog.proofs.SameStatements.{used_same}
+use Rattle.export_verilog.proofs.text.SameConnections.{joined_same, instance_same}
+use Rattle.export_verilog.proofs.text.SameStatements.{used_same}
 use Rattle.export_verilog.proofs.statements.push_call.Goals as goal
 
 pub returns-in_ok-push_instance : goal.returns-in_ok-push_instance

@@ -7,7 +7,7 @@ use Rattle.verilog_expr.specs.Scopes.{scope_ids, op_read}
 use Rattle.export_verilog.specs.Layout.{items_text}
 use Rattle.export_verilog.specs.RoleViews.{role_seen}
 use Rattle.export_verilog.specs.Values.{declared_items}
-use Rattle.export_verilog.proofs.SameDeclarations.{declared_same}
+use Rattle.export_verilog.proofs.text.SameDeclarations.{declared_same}
 use Rattle.export_verilog.proofs.statements.push_declarations.Goals as goal
 
 pub returns : goal.returns

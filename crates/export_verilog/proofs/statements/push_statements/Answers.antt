@@ -6,7 +6,7 @@ use Rattle.export_verilog.specs.Exported.{stated_as}
 use Rattle.export_verilog.specs.Layout.{items_text}
 use Rattle.export_verilog.specs.RoleViews.{role_seen}
 use Rattle.export_verilog.specs.ScopeModules.{scope_module}
-use Rattle.export_verilog.proofs.SameStatements.{net_same, variable_same}
+use Rattle.export_verilog.proofs.text.SameStatements.{net_same, variable_same}
 use Rattle.export_verilog.proofs.statements.push_statements.Goals as goal
 
 pub returns-in_ok-push_net-in-Net : goal.returns-in_ok-push_net-in-Net

@@ -2,7 +2,7 @@ use Rattle.std.proofs.Common.{◌++◌, ap, ◌∙◌, arith}
 use Rattle.ir_store.specs.DictionaryViews.{attribute_of}
 use Rattle.mlir_printer.specs.Attributes.{attribute_bytes}
 use Rattle.mlir_printer.specs.Commas.{items_from}
-use Rattle.mlir_printer.proofs.Steps.{items_end, attributes_items}
+use Rattle.mlir_printer.proofs.steps.Steps.{items_end, attributes_items}
 use Rattle.mlir_printer.proofs.attributes.+attributes.Goals as goal
 
 pub push_attributes-returns : goal.push_attributes-returns

@@ -3,8 +3,8 @@ use Rattle.std.proofs.lemmas.Option.{get_or_from_slice_get}
 use Rattle.ir_store.specs.Designs.{StoredModule, modules_of, module_of, numbered_module}
 use Rattle.mlir_printer.specs.Modules.{modules_bytes, module_bytes}
 use Rattle.mlir_printer.specs.Texts.{module_shown}
-use Rattle.mlir_printer.proofs.Dropping.{same_behind, same_count}
-use Rattle.mlir_printer.proofs.Steps.{parts_step, parts_end}
+use Rattle.mlir_printer.proofs.steps.Dropping.{same_behind, same_count}
+use Rattle.mlir_printer.proofs.steps.Steps.{parts_step, parts_end}
 use Rattle.mlir_printer.proofs.design_text.push_and_drop.Goals as goal
 
 pub loop-number-init : goal.loop-number-init

@@ -3,7 +3,7 @@ use Rattle.std.proofs.lemmas.Option.{get_or_from_slice_get}
 use Rattle.ir_store.specs.Designs.{StoredModule, modules_of, module_of, numbered_module}
 use Rattle.mlir_printer.specs.Modules.{modules_bytes, module_bytes}
 use Rattle.mlir_printer.specs.Texts.{module_shown}
-use Rattle.mlir_printer.proofs.Steps.{parts_step}
+use Rattle.mlir_printer.proofs.steps.Steps.{parts_step}
 use Rattle.mlir_printer.proofs.design_text.push_modules.Goals as goal
 
 pub loop-number-preserved : goal.loop-number-preserved

@@ -4,7 +4,7 @@ use Rattle.std.specs.Ordering.{nat_cmp, is_lt}
 use Rattle.std.specs.Cmp.Lexicographic.{slice_cmp}
 use Rattle.ir_store.specs.DictionaryViews.{entry_of}
 use Rattle.mlir_printer.specs.Attributes.{place_of_name}
-use Rattle.mlir_printer.proofs.Entries.{place_step, place_here}
+use Rattle.mlir_printer.proofs.steps.Entries.{place_step, place_here}
 use Rattle.mlir_printer.proofs.dictionaries.place_of_name.Goals as goal
 
 pub loop-i-preserved : goal.loop-i-preserved

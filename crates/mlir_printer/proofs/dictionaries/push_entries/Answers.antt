@@ -1,7 +1,7 @@
 use Rattle.std.proofs.Common.{◌+◌, arith}
 use Rattle.ir_store.specs.DictionaryViews.{entry_of}
 use Rattle.mlir_printer.specs.Attributes.{entry_bytes}
-use Rattle.mlir_printer.proofs.Steps.{items_all}
+use Rattle.mlir_printer.proofs.steps.Steps.{items_all}
 use Rattle.mlir_printer.proofs.dictionaries.push_entries.Goals as goal
 
 pub returns : goal.returns

@@ -2,7 +2,7 @@ use Rattle.std.proofs.Common.{◌≡◌, ◌+◌, ◌++◌, map, take, drop, ap,
 use Rattle.ir_store.specs.DictionaryViews.{entry_of}
 use Rattle.mlir_printer.specs.Commas.{comma_bytes, items_from}
 use Rattle.mlir_printer.specs.Attributes.{entry_bytes, place_of_name}
-use Rattle.mlir_printer.proofs.Entries.{named_added, map_take, map_drop, rest_all}
+use Rattle.mlir_printer.proofs.steps.Entries.{named_added, map_take, map_drop, rest_all}
 use Rattle.mlir_printer.proofs.dictionaries.push_with_name.Goals as goal
 
 pub returns : goal.returns

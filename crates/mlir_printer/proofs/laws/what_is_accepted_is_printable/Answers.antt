@@ -1,4 +1,4 @@
-use Rattle.mlir_printer.proofs.VerifiedDesigns.{read_designs_are_printable}
+use Rattle.mlir_printer.proofs.printable.VerifiedDesigns.{read_designs_are_printable}
 use Rattle.mlir_printer.proofs.laws.what_is_accepted_is_printable.Goals as goal
 
 pub returns : goal.returns

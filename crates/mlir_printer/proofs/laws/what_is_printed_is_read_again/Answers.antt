@@ -1,4 +1,4 @@
-use Rattle.mlir_printer.proofs.PrintedDesigns.{printed_designs_are_read_again}
+use Rattle.mlir_printer.proofs.again.PrintedDesigns.{printed_designs_are_read_again}
 use Rattle.mlir_printer.proofs.laws.what_is_printed_is_read_again.Goals as goal
 
 pub returns : goal.returns

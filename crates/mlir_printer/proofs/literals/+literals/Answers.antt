@@ -3,7 +3,7 @@ use Rattle.hw_model.specs.KindViews.{literal_of}
 use Rattle.mlir_printer.specs.Numbers.{shown_literal}
 use Rattle.mlir_printer.specs.Literals.{literal_bytes}
 use Rattle.mlir_printer.specs.Commas.{items_from}
-use Rattle.mlir_printer.proofs.Steps.{items_end, literals_items}
+use Rattle.mlir_printer.proofs.steps.Steps.{items_end, literals_items}
 use Rattle.mlir_printer.proofs.literals.+literals.Goals as goal
 
 pub push_literals-returns : goal.push_literals-returns

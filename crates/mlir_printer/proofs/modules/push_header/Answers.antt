@@ -8,7 +8,7 @@ use Rattle.mlir_printer.specs.Attributes.{dictionary_bytes}
 use Rattle.mlir_printer.specs.Texts.{ports_shown}
 use Rattle.mlir_printer.specs.Views.{names_held}
 use Rattle.ir_store.specs.DictionaryViews.{entries_in}
-use Rattle.mlir_printer.proofs.Steps.{eight}
+use Rattle.mlir_printer.proofs.steps.Steps.{eight}
 use Rattle.mlir_printer.proofs.modules.push_header.Goals as goal
 
 pub returns : goal.returns

@@ -4,7 +4,7 @@ use Rattle.mlir_printer.specs.Commas.{commas}
 use Rattle.mlir_printer.specs.Modules.{port_bytes}
 use Rattle.mlir_printer.specs.Texts.{ports_shown}
 use Rattle.mlir_printer.specs.Views.{names_held}
-use Rattle.mlir_printer.proofs.Passing.{ports_step, ports_end}
+use Rattle.mlir_printer.proofs.steps.Passing.{ports_step, ports_end}
 use Rattle.mlir_printer.proofs.modules.push_ports.Goals as goal
 
 pub loop-i-preserved : goal.loop-i-preserved

@@ -1,7 +1,7 @@
 use Rattle.ir_store.specs.Designs.{module_of}
 use Rattle.mlir_printer.specs.Views.{names_held, value_held}
-use Rattle.mlir_printer.proofs.Values.{names_few}
-use Rattle.mlir_printer.proofs.Showing.{module_added}
+use Rattle.mlir_printer.proofs.names.Values.{names_few}
+use Rattle.mlir_printer.proofs.steps.Showing.{module_added}
 use Rattle.mlir_printer.proofs.modules.push_with_names.Goals as goal
 
 pub returns : goal.returns

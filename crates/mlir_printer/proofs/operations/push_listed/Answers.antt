@@ -3,7 +3,7 @@ use Rattle.mlir_printer.specs.Commas.{commas}
 use Rattle.mlir_printer.specs.Pieces.{value_name_bytes}
 use Rattle.mlir_printer.specs.Naming.{firsts}
 use Rattle.mlir_printer.specs.Views.{names_held}
-use Rattle.mlir_printer.proofs.Numbered.{names_step}
+use Rattle.mlir_printer.proofs.names.Numbered.{names_step}
 use Rattle.mlir_printer.proofs.operations.push_listed.Goals as goal
 
 pub loop-i-preserved : goal.loop-i-preserved

@@ -8,10 +8,10 @@ use Rattle.ir_store.proofs.Living.{all_mapped}
 use Rattle.mlir_printer.specs.Operations.{operation_lines}
 use Rattle.mlir_printer.specs.Shown.{stored_shown}
 use Rattle.mlir_printer.specs.Views.{names_held, value_held}
-use Rattle.mlir_printer.proofs.Showing.{line_step}
-use Rattle.mlir_printer.proofs.Values.{names_few}
+use Rattle.mlir_printer.proofs.steps.Showing.{line_step}
+use Rattle.mlir_printer.proofs.names.Values.{names_few}
 use Rattle.op_verifier.proofs.Walks.{ops_at, through_all}
-use Rattle.mlir_printer.proofs.Walks.{walk}
+use Rattle.mlir_printer.proofs.steps.Walks.{walk}
 use Rattle.mlir_printer.proofs.operations.push_operations.Goals as goal
 
 pub loop-id-init : goal.loop-id-init

@@ -4,8 +4,8 @@ use Rattle.hw_model.specs.TypeViews.{type_of}
 use Rattle.mlir_printer.specs.Commas.{commas}
 use Rattle.mlir_printer.specs.Pieces.{input_bytes, output_bytes, inputs_joined, outputs_joined, connections_bytes}
 use Rattle.mlir_printer.specs.Views.{value_held}
-use Rattle.mlir_printer.proofs.Steps.{five}
-use Rattle.mlir_printer.proofs.Entries.{map_drop}
+use Rattle.mlir_printer.proofs.steps.Steps.{five}
+use Rattle.mlir_printer.proofs.steps.Entries.{map_drop}
 use Rattle.mlir_printer.proofs.pieces.push_connections.Goals as goal
 
 pub returns : goal.returns

@@ -4,7 +4,7 @@ use Rattle.mlir_printer.specs.Commas.{commas}
 use Rattle.mlir_printer.specs.Pieces.{input_bytes, inputs_joined}
 use Rattle.mlir_printer.specs.Views.{value_held}
 use Rattle.std.proofs.Common.{drop}
-use Rattle.mlir_printer.proofs.Passing.{inputs_none, all_added}
+use Rattle.mlir_printer.proofs.steps.Passing.{inputs_none, all_added}
 use Rattle.mlir_printer.proofs.pieces.push_inputs.Goals as goal
 
 pub returns : goal.returns

@@ -1,7 +1,7 @@
 use Rattle.std.proofs.Common.{arith}
 use Rattle.mlir_printer.specs.Pieces.{operand_bytes}
 use Rattle.mlir_printer.specs.Views.{value_held}
-use Rattle.mlir_printer.proofs.Steps.{items_all}
+use Rattle.mlir_printer.proofs.steps.Steps.{items_all}
 use Rattle.mlir_printer.proofs.pieces.push_operands.Goals as goal
 
 pub returns : goal.returns

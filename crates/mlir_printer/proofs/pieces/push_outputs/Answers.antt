@@ -2,7 +2,7 @@ use Rattle.std.proofs.Common.{◌++◌, map, drop, arith}
 use Rattle.hw_model.specs.TypeViews.{type_of}
 use Rattle.mlir_printer.specs.Commas.{commas}
 use Rattle.mlir_printer.specs.Pieces.{output_bytes, outputs_joined}
-use Rattle.mlir_printer.proofs.Passing.{outputs_none, all_added}
+use Rattle.mlir_printer.proofs.steps.Passing.{outputs_none, all_added}
 use Rattle.mlir_printer.proofs.pieces.push_outputs.Goals as goal
 
 pub returns : goal.returns

@@ -1,4 +1,4 @@
-use Rattle.mlir_printer.proofs.Escapes.{plain_parts}
+use Rattle.mlir_printer.proofs.lexed.Escapes.{plain_parts}
 use Rattle.mlir_printer.proofs.strings.push_escaped.Goals as goal
 
 pub returns : goal.returns

@@ -1,6 +1,6 @@
 use Rattle.std.proofs.Common.{◌++◌, refl, arith}
 use Rattle.mlir_printer.specs.Strings.{escaped_bytes}
-use Rattle.mlir_printer.proofs.Steps.{parts_end}
+use Rattle.mlir_printer.proofs.steps.Steps.{parts_end}
 use Rattle.mlir_printer.proofs.strings.push_others.Goals as goal
 
 pub returns : goal.returns

@@ -5,7 +5,7 @@ use Rattle.hw_model.proofs.FieldSums.{fields_open}
 use Rattle.mlir_printer.specs.Strings.{name_bytes}
 use Rattle.mlir_printer.specs.Types.{type_bytes, fields_from}
 use Rattle.mlir_printer.specs.Commas.{items_from}
-use Rattle.mlir_printer.proofs.Steps.{three, items_end, fields_items}
+use Rattle.mlir_printer.proofs.steps.Steps.{three, items_end, fields_items}
 use Rattle.mlir_printer.proofs.types.+types.Goals as goal
 
 pub push_fields-returns : goal.push_fields-returns

@@ -1,7 +1,7 @@
 use Rattle.std.proofs.Common.{arith}
 use Rattle.hw_model.specs.TypeViews.{type_of}
 use Rattle.mlir_printer.specs.Types.{type_bytes}
-use Rattle.mlir_printer.proofs.Steps.{items_all}
+use Rattle.mlir_printer.proofs.steps.Steps.{items_all}
 use Rattle.mlir_printer.proofs.types.push_types.Goals as goal
 
 pub returns : goal.returns

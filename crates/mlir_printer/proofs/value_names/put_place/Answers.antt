@@ -1,5 +1,5 @@
 use Rattle.std.proofs.Common.{arith}
-use Rattle.mlir_printer.proofs.Placing.{place_last}
+use Rattle.mlir_printer.proofs.names.Placing.{place_last}
 use Rattle.mlir_printer.proofs.value_names.put_place.Goals as goal
 
 pub returns-in_ok-push-2 : goal.returns-in_ok-push-2

@@ -2,8 +2,8 @@ use Rattle.std.proofs.Common.{◌≡◌, ◌<◌, length, get_or, nat_lt, slice_
 use Rattle.std.proofs.lemmas.Bool.{ltb-true}
 use Rattle.fresh_names.specs.TakenViews.{taken_names}
 use Rattle.mlir_printer.specs.Choices.{name_chosen}
-use Rattle.mlir_printer.proofs.Numbered.{first_at}
-use Rattle.mlir_printer.proofs.Choices.{name_at}
+use Rattle.mlir_printer.proofs.names.Numbered.{first_at}
+use Rattle.mlir_printer.proofs.names.Choices.{name_at}
 use Rattle.mlir_printer.proofs.chosen_names.ChosenNames.nth.Goals as goal
 
 pub returns-in-Some-Word : goal.returns-in-Some-Word

@@ -4,7 +4,7 @@ use Rattle.fresh_names.specs.TakenViews.{taken_names}
 use Rattle.mlir_printer.specs.ChosenViews.{names_in}
 use Rattle.mlir_printer.specs.Choices.{AreKnown, HaveWords, AreFree, names_chosen, name_chosen}
 use Rattle.mlir_printer.specs.declared.chosen_names.Choice.TheVariants.{Number}
-use Rattle.mlir_printer.proofs.Choices.{number_more, known_number, words_number, free_number, number_free}
+use Rattle.mlir_printer.proofs.names.Choices.{number_more, known_number, words_number, free_number, number_free}
 use Rattle.mlir_printer.proofs.chosen_names.ChosenNames.take_number.Goals as goal
 
 pub invariant_of-self-2 : goal.invariant_of-self-2

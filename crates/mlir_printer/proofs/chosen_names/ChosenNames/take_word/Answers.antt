@@ -8,8 +8,8 @@ use Rattle.mlir_lexer.specs.Runs.{begins}
 use Rattle.mlir_printer.specs.ChosenViews.{names_in}
 use Rattle.mlir_printer.specs.Choices.{AreKnown, HaveWords, AreFree, names_chosen, name_chosen}
 use Rattle.mlir_printer.specs.declared.chosen_names.Choice.TheVariants.{Word}
-use Rattle.mlir_printer.proofs.Choices.{names_word, known_word, words_word, free_word, free_same}
-use Rattle.mlir_printer.proofs.GivenNames.{begins_free}
+use Rattle.mlir_printer.proofs.names.Choices.{names_word, known_word, words_word, free_word, free_same}
+use Rattle.mlir_printer.proofs.names.GivenNames.{begins_free}
 use Rattle.mlir_printer.proofs.chosen_names.ChosenNames.take_word.Goals as goal
 
 pub invariant_of-self-2 : goal.invariant_of-self-2

@@ -1,6 +1,6 @@
 use Rattle.std.proofs.Common.{◌≡◌, ℕ, ◌+◌, ◌++◌, ◌∷◌, [], Vec, Global, map, length, decimal, arith, ap, ◌∙◌}
 use Rattle.std.specs.Prelude.{slice_get}
-use Rattle.mlir_printer.proofs.Numbered.{known_push}
+use Rattle.mlir_printer.proofs.names.Numbered.{known_push}
 use Rattle.mlir_printer.proofs.numerals.Numerals.reach.Goals as goal
 
 pub invariant_of-self-2 : goal.invariant_of-self-2

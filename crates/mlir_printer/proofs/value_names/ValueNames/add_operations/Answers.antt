@@ -11,10 +11,10 @@ use Rattle.mlir_printer.specs.Chosen.{Chosen, with_wishes}
 use Rattle.mlir_printer.specs.Places.{place_at, place_in, place_for}
 use Rattle.mlir_printer.specs.Shown.{parts_in_body}
 use Rattle.mlir_printer.specs.Views.{names_held, chosen}
-use Rattle.mlir_printer.proofs.Choosing.{wishes_step, wishes_length}
-use Rattle.mlir_printer.proofs.Placing.{place_left, place_step, once_step, none_kept}
+use Rattle.mlir_printer.proofs.names.Choosing.{wishes_step, wishes_length}
+use Rattle.mlir_printer.proofs.names.Placing.{place_left, place_step, once_step, none_kept}
 use Rattle.op_verifier.proofs.Walks.{ops_at, through_all}
-use Rattle.mlir_printer.proofs.Walks.{walk}
+use Rattle.mlir_printer.proofs.steps.Walks.{walk}
 use Rattle.mlir_printer.proofs.value_names.ValueNames.add_operations.Goals as goal
 
 pub loop-id-init : goal.loop-id-init

@@ -9,7 +9,7 @@ use Rattle.mlir_printer.specs.Chosen.{with_wishes}
 use Rattle.mlir_printer.specs.Places.{place_in}
 use Rattle.mlir_printer.specs.Shown.{parts_in_body}
 use Rattle.mlir_printer.specs.Views.{names_held, chosen}
-use Rattle.mlir_printer.proofs.Placing.{place_left}
+use Rattle.mlir_printer.proofs.names.Placing.{place_left}
 use Rattle.op_verifier.proofs.Walks.{ops_at}
 use Rattle.mlir_printer.proofs.value_names.ValueNames.add_operations.Given as goal
 

@@ -5,7 +5,7 @@ use Rattle.mlir_printer.specs.Naming.{port_wishes}
 use Rattle.mlir_printer.specs.Chosen.{with_wishes}
 use Rattle.mlir_printer.specs.Places.{HavePlaces, port_places}
 use Rattle.mlir_printer.specs.Views.{names_held, chosen}
-use Rattle.mlir_printer.proofs.Values.{all_names, all_values, ports_first}
+use Rattle.mlir_printer.proofs.names.Values.{all_names, all_values, ports_first}
 use Rattle.mlir_printer.proofs.value_names.ValueNames.again.Goals as goal
 
 pub returns-clause-names : goal.returns-clause-names

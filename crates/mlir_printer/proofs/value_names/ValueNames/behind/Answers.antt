@@ -1,7 +1,7 @@
 use Rattle.std.proofs.Common.{◌+◌, ◌≤◌, ◌^◌, arith}
 use Rattle.mlir_printer.specs.Views.{names_held}
-use Rattle.mlir_printer.proofs.Numbered.{none_behind, not_below}
-use Rattle.mlir_printer.proofs.Values.{names_few}
+use Rattle.mlir_printer.proofs.names.Numbered.{none_behind, not_below}
+use Rattle.mlir_printer.proofs.names.Values.{names_few}
 use Rattle.mlir_printer.proofs.value_names.ValueNames.behind.Goals as goal
 
 pub returns-in-None : goal.returns-in-None

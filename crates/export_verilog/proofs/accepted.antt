@@ -1,0 +1,10 @@
+pub mod AcceptedBodies
+pub mod AcceptedDivisions
+pub mod AcceptedExports
+pub mod AcceptedOps
+pub mod AcceptedTypes
+pub mod AcceptedValues
+pub mod AcceptedWeights
+pub mod AggregateSamples
+pub mod FirstAggregates
+pub mod NoAggregates

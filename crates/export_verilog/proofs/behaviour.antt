@@ -1,0 +1,13 @@
+pub mod Behaving
+pub mod Both
+pub mod Content
+pub mod Final
+pub mod Nets
+pub mod Owners
+pub mod Places
+pub mod SampleSame
+pub mod Slots
+pub mod Sources
+pub mod Standing
+pub mod Ways
+pub mod Worth

@@ -1,0 +1,229 @@
+-- The places of a design and of its tree: paths by numbers of instances, and paths by their names.
+use Rattle.std.proofs.Common.{◌≡◌, ℕ, zero, suc, ◌⊎◌, Bool, true, false, List, [], ◌∷◌, length, take, slice_get, Option, Some, None, refl, sym, ◌∙◌, ap, ap₂, subst, inl, inr, arith}
+use Rattle.std.proofs.lemmas.List.{length-take}
+use Rattle.std.proofs.lemmas.Option.{slice_get_within}
+use Rattle.wiring.specs.Wiring.{In}
+use Rattle.wiring.specs.Options.{bind, omap}
+use Rattle.wiring.proofs.Options.{bind_some}
+use Rattle.hw_model.specs.Types.{Name}
+use Rattle.hw_model.specs.Kinds.{Instance}
+use Rattle.hw_model.specs.Design.{Op, Module, Design, same_name, find_module, instance_in, callee}
+use Rattle.hw_model.specs.Equality.{name_self, name_from}
+use Rattle.hw_model.specs.Flat.{Path, instances, before_instance, module_at}
+use Rattle.hw_model.proofs.Sorts.{Sort, sort_of, instance_found}
+use Rattle.hw_model.proofs.Sorts.Sort.{a_register, an_instance as is_an_instance, an_output, a_made}
+use Rattle.hw_model.proofs.Finite.{path_chain}
+use Rattle.hw_model.proofs.Content.{before_position}
+use Rattle.verilog_model.specs.Tree.{VModule}
+use Rattle.verilog_model.specs.Hierarchy.{VPath, VInstance, vmodule_at, find_instance, find_vmodule}
+use Rattle.export_verilog.specs.Keys.{Key, role_of, module_keys, key_text}
+use Rattle.export_verilog.specs.Keys.Key.{instance_key}
+use Rattle.export_verilog.specs.Keys.Role.{block}
+use Rattle.export_verilog.specs.Exported.{symbol_name, vitems, vmodule, tree_of}
+use Rattle.export_verilog.proofs.names.KeyNames.{AreNames, texts_apart}
+use Rattle.export_verilog.proofs.names.KeysOf.{role_of_instance, Owner, owner_of, instance_in_keys}
+use Rattle.export_verilog.proofs.names.KeysOf.Owner.{a_port, a_net, a_variable, an_instance, a_result}
+use Rattle.export_verilog.proofs.names.Symbols.{vmodule_found}
+use Rattle.export_verilog.proofs.items.Lookups.{instance_of_kind, instance_value, instance_under, no_instance_under}
+use Rattle.export_verilog.proofs.items.Settings.{Setting, Called, called_by, called_by_role, callee_is}
+
+-- ---- instances by number
+
+-- the position of an instance, by its number
+abbrev pub place_of : List Op → ℕ → ℕ
+place_of os u = length (before_instance u os)
+
+pub number_place : (os : List Op) (u : ℕ) (o : Op) → slice_get (instances os) u ≡ Some o
+    → (slice_get os (place_of os u) ≡ Some o) × (length (instances (take (place_of os u) os)) ≡ u)
+number_place [] u o is = cc
+number_place (y ∷ ys) u o is = go (sort_of y.kind) u is (λ v h. number_place ys v o h) where
+  go : Sort y.kind → (u : ℕ) → slice_get (instances (y ∷ ys)) u ≡ Some o
+      → ((v : ℕ) → slice_get (instances ys) v ≡ Some o → (slice_get ys (place_of ys v) ≡ Some o) × (length (instances (take (place_of ys v) ys)) ≡ v))
+      → (slice_get (y ∷ ys) (place_of (y ∷ ys) u) ≡ Some o) × (length (instances (take (place_of (y ∷ ys) u) (y ∷ ys))) ≡ u)
+  go (a_register f r n x) u is rest = let h = rest u (simp n at is) in (simp n h.0, simp n h.1)
+  go (is_an_instance z r n x) zero is rest = let e : Some y ≡ Some o = simp n at is in (simp n e, simp n)
+  go (is_an_instance z r n x) (suc u) is rest = let h = rest u (simp n at is) in (simp n h.0, simp n (ap suc h.1))
+  go (an_output r n x) u is rest = let h = rest u (simp n at is) in (simp n h.0, simp n h.1)
+  go (a_made r n x) u is rest = let h = rest u (simp n at is) in (simp n h.0, simp n h.1)
+
+-- the number of an instance, by its position
+abbrev pub number_of : List Op → ℕ → ℕ
+number_of os i = length (instances (take i os))
+
+pub place_number : (os : List Op) (i : ℕ) (o : Op) (k : Instance) → slice_get os i ≡ Some o → instance_in o.kind ≡ Some k → place_of os (number_of os i) ≡ i
+place_number os i o k there kind = ap length (before_position os i o k there kind)
+    ∙ (let e : length (take i os) ≡ i = omega (arith, length-take i os, slice_get_within os i o there) in e)
+
+-- ---- a thing of a name, or none
+
+pub key_of_name : (m : Module) (n : Name) (ks : List Key) → ((k : Key) × In k ks × (n ≡ key_text m k)) ⊎ ((k : Key) → In k ks → n ≡ key_text m k → ⊥)
+key_of_name m n [] = inr (λ k here e. here)
+key_of_name m n (l ∷ ks) = go (same_name n (key_text m l)) refl (key_of_name m n ks) where
+  go : (b : Bool) → same_name n (key_text m l) ≡ b → ((k : Key) × In k ks × (n ≡ key_text m k)) ⊎ ((k : Key) → In k ks → n ≡ key_text m k → ⊥)
+      → ((k : Key) × In k (l ∷ ks) × (n ≡ key_text m k)) ⊎ ((k : Key) → In k (l ∷ ks) → n ≡ key_text m k → ⊥)
+  go true e rest = inl (l, inl refl, name_from n (key_text m l) e)
+  go false e (inl h) = inl (h.0, inr h.1, h.2)
+  go false e (inr never) = inr neither where
+    neither : (k : Key) → In k (l ∷ ks) → n ≡ key_text m k → ⊥
+    neither k (inl same) is = let h : same_name n (key_text m l) ≡ true = ap (λ z. same_name n (key_text m z)) (sym same) ∙ ap (same_name n) (sym is) ∙ name_self n in cc
+    neither k (inr here) is = never k here is
+
+-- ---- paths
+
+-- the name of instance u of a module
+abbrev pub step_name : Option Module → ℕ → Name
+step_name None u = []
+step_name (Some m) u = key_text m (instance_key (place_of m.body u))
+
+abbrev pub vpath_of : Design → Name → Path → VPath
+vpath_of d top [] = []
+vpath_of d top (u ∷ p) = step_name (module_at d top p) u ∷ vpath_of d top p
+
+module _ (d : Design) (x : Setting d) (top : Name) where
+  pub symbol_at_path : (p : Path) (m : Module) → module_at d top p ≡ Some m → (s : Name) × (find_module d s ≡ Some m)
+  symbol_at_path p m here = let h = path_chain d top p m here in (h.0, h.2)
+
+  pub names_at_path : (p : Path) (m : Module) → module_at d top p ≡ Some m → AreNames m
+  names_at_path p m here = let h = symbol_at_path p m here in x.names h.0 m h.1
+
+  -- one instance further along a path
+  pub record Further (p : Path) (u : ℕ) (c : Module) : Type 0 where
+    pub outer : Module
+    pub here : module_at d top p ≡ Some outer
+    pub place : ℕ
+    pub op : Op
+    pub there : slice_get outer.body place ≡ Some op
+    pub role : role_of outer.ports outer.body place op ≡ block
+    pub called : Called d outer op
+    pub inside : called.module_of ≡ c
+    pub is_place : place_of outer.body u ≡ place
+    pub is_number : number_of outer.body place ≡ u
+
+  pub further : (u : ℕ) (p : Path) (c : Module) → module_at d top (u ∷ p) ≡ Some c → Further p u c
+  further u p c is =
+      let outer = bind_some (module_at d top p) (λ (y : Module). bind (slice_get (instances y.body) u) (callee d)) is in
+      let inner = bind_some (slice_get (instances outer.0.body) u) (callee d) outer.2 in
+      let kind = bind_some (instance_in inner.0.kind) (λ (i : Instance). find_module d i.symbol) inner.2 in
+      let place = number_place outer.0.body u inner.0 inner.1 in
+      go outer.0 outer.1 inner.0 kind.0 kind.1 kind.2 place.0 place.1 where
+        go : (m : Module) → module_at d top p ≡ Some m → (o : Op) (k : Instance) → instance_in o.kind ≡ Some k → find_module d k.symbol ≡ Some c
+            → slice_get m.body (place_of m.body u) ≡ Some o → number_of m.body (place_of m.body u) ≡ u → Further p u c
+        go m here o k kind found there number =
+            let at = symbol_at_path p m here in
+            let called : Called d m o = called_by d x at.0 m at.1 (place_of m.body u) o there k kind in
+            let same : Some called.module_of ≡ Some c = sym (callee_is d m o called) ∙ ap (λ z. bind z (λ (i : Instance). find_module d i.symbol)) kind ∙ found in
+            record {
+              outer = m;
+              here = here;
+              place = place_of m.body u;
+              op = o;
+              there = there;
+              role = by_sort (sort_of o.kind);
+              called = called;
+              inside = let e : called.module_of ≡ c = cc in e;
+              is_place = refl;
+              is_number = number;
+            } where
+              by_sort : Sort o.kind → role_of m.ports m.body (place_of m.body u) o ≡ block
+              by_sort (is_an_instance z r n y) = role_of_instance m.ports m.body (place_of m.body u) o z r n
+              by_sort (a_register f r n y) = absurd (let h : None ≡ Some k = sym n ∙ kind in cc)
+              by_sort (an_output r n y) = absurd (let h : None ≡ Some k = sym n ∙ kind in cc)
+              by_sort (a_made r n y) = absurd (let h : None ≡ Some k = sym n ∙ kind in cc)
+
+  -- the name of the step
+  pub name_of_step : (u : ℕ) (p : Path) (c : Module) (f : Further p u c) → vpath_of d top (u ∷ p) ≡ key_text f.outer (instance_key f.place) ∷ vpath_of d top p
+  name_of_step u p c f = ap (λ y. step_name y u ∷ vpath_of d top p) f.here
+      ∙ ap (λ i. key_text f.outer (instance_key i) ∷ vpath_of d top p) f.is_place
+
+  instance_there : (m : Module) (are : AreNames m) (i : ℕ) (o : Op) (c : Called d m o) → slice_get m.body i ≡ Some o → role_of m.ports m.body i o ≡ block
+      → find_instance (vitems d m) (key_text m (instance_key i)) ≡ Some (instance_of_kind d m i o c.kind)
+  instance_there m are i o c there role =
+      instance_under d m are (instance_key i) (instance_in_keys m i o there role)
+      ∙ ap (λ z. bind z (λ (o : Op). omap (instance_of_kind d m i o) (instance_in o.kind))) there
+      ∙ ap (omap (instance_of_kind d m i o)) c.is_kind
+
+  -- what stands at the end of a path of the tree
+  pub vplace : (p : Path) (m : Module) → module_at d top p ≡ Some m → vmodule_at (tree_of d) (symbol_name d top) (vpath_of d top p) ≡ Some (vmodule d m)
+  vplace [] m here = vmodule_found d x.ok x.symbols top m here
+  vplace (u ∷ p) m here = step (further u p m here) (λ o h. vplace p o h) where
+    step : Further p u m → ((o : Module) → module_at d top p ≡ Some o → vmodule_at (tree_of d) (symbol_name d top) (vpath_of d top p) ≡ Some (vmodule d o))
+        → vmodule_at (tree_of d) (symbol_name d top) (vpath_of d top (u ∷ p)) ≡ Some (vmodule d m)
+    step f rest =
+        ap (vmodule_at (tree_of d) (symbol_name d top)) (name_of_step u p m f)
+        ∙ ap (λ z. bind z (λ (v : VModule). bind (find_instance v.items (key_text f.outer (instance_key f.place))) (λ (i : VInstance). find_vmodule (tree_of d) i.module_name))) (rest f.outer f.here)
+        ∙ ap (λ z. bind z (λ (i : VInstance). find_vmodule (tree_of d) i.module_name)) (instance_there f.outer (names_at_path p f.outer f.here) f.place f.op f.called f.there f.role)
+        ∙ vmodule_found d x.ok x.symbols f.called.kind.symbol f.called.module_of f.called.there
+        ∙ ap (λ y. Some (vmodule d y)) f.inside
+
+  -- an instance leads on
+  pub inside_instance : (p : Path) (m : Module) → module_at d top p ≡ Some m → (i : ℕ) (o : Op) (c : Called d m o) → slice_get m.body i ≡ Some o
+      → (module_at d top (number_of m.body i ∷ p) ≡ Some c.module_of) × (vpath_of d top (number_of m.body i ∷ p) ≡ key_text m (instance_key i) ∷ vpath_of d top p)
+  inside_instance p m here i o c there = (
+    ap (λ z. bind z (λ (y : Module). bind (slice_get (instances y.body) (number_of m.body i)) (callee d))) here
+        ∙ ap (λ z. bind z (callee d)) (instance_found m.body i o c.kind there c.is_kind) ∙ callee_is d m o c,
+    ap (λ z. step_name z (number_of m.body i) ∷ vpath_of d top p) here
+        ∙ ap (λ z. key_text m (instance_key z) ∷ vpath_of d top p) (place_number m.body i o c.kind there c.is_kind),
+  )
+
+  -- two paths of one name are one
+  pub paths_apart : (p r : Path) (m n : Module) → module_at d top p ≡ Some m → module_at d top r ≡ Some n → vpath_of d top p ≡ vpath_of d top r → p ≡ r
+  paths_apart [] [] m n here there same = refl
+  paths_apart [] (v ∷ r) m n here there same = cc
+  paths_apart (u ∷ p) [] m n here there same = cc
+  paths_apart (u ∷ p) (v ∷ r) m n here there same = go (further u p m here) (further v r n there) (λ a b h k e. paths_apart p r a b h k e) where
+    go : Further p u m → Further r v n
+        → ((a b : Module) → module_at d top p ≡ Some a → module_at d top r ≡ Some b → vpath_of d top p ≡ vpath_of d top r → p ≡ r) → u ∷ p ≡ v ∷ r
+    go f g rest =
+        let both : key_text f.outer (instance_key f.place) ∷ vpath_of d top p ≡ key_text g.outer (instance_key g.place) ∷ vpath_of d top r =
+        sym (name_of_step u p m f) ∙ same ∙ name_of_step v r n g in
+        let tails : vpath_of d top p ≡ vpath_of d top r = cc in
+        let paths : p ≡ r = rest f.outer g.outer f.here g.here tails in
+        let found : Some f.outer ≡ Some g.outer = sym f.here ∙ ap (module_at d top) paths ∙ g.here in
+        let modules : f.outer ≡ g.outer = cc in
+        let heads : key_text f.outer (instance_key f.place) ≡ key_text g.outer (instance_key g.place) = cc in
+        let texts : key_text f.outer (instance_key f.place) ≡ key_text f.outer (instance_key g.place) = heads ∙ ap (λ y. key_text y (instance_key g.place)) (sym modules) in
+        let gin : In (instance_key g.place) (module_keys f.outer) = subst (λ y. In (instance_key g.place) (module_keys y)) (sym modules) (instance_in_keys g.outer g.place g.op g.there g.role) in
+        let keys : instance_key f.place ≡ instance_key g.place =
+        texts_apart f.outer (names_at_path p f.outer f.here) (instance_key f.place) (instance_key g.place) (instance_in_keys f.outer f.place f.op f.there f.role) gin texts in
+        let places : f.place ≡ g.place = cc in
+        let numbers : u ≡ v = sym f.is_number ∙ ap₂ (λ (y : Module) i. number_of y.body i) modules places ∙ g.is_number in
+        ap₂ (λ a b. a ∷ b) numbers paths
+
+  -- a path of the tree is that of a path of the design, or leads nowhere
+  pub data PathOf (q : VPath) : Type 0 where
+    a_path : (p : Path) (m : Module) → module_at d top p ≡ Some m → vpath_of d top p ≡ q → PathOf q
+    no_path : vmodule_at (tree_of d) (symbol_name d top) q ≡ None → PathOf q
+
+  module _ (m0 : Module) (top_is : find_module d top ≡ Some m0) where
+    pub path_of : (q : VPath) → PathOf q
+    path_of [] = a_path [] m0 top_is refl
+    path_of (n ∷ q) = go (path_of q) where
+      go : PathOf q → PathOf (n ∷ q)
+      go (no_path none) = no_path (ap (λ z. bind z (λ (v : VModule). bind (find_instance v.items n) (λ (i : VInstance). find_vmodule (tree_of d) i.module_name))) none)
+      go (a_path p m here same) = by_key (key_of_name m n (module_keys m)) where
+        at : vmodule_at (tree_of d) (symbol_name d top) q ≡ Some (vmodule d m)
+        at = ap (vmodule_at (tree_of d) (symbol_name d top)) (sym same) ∙ vplace p m here
+
+        nowhere : find_instance (vitems d m) n ≡ None → PathOf (n ∷ q)
+        nowhere none = no_path (ap (λ z. bind z (λ (v : VModule). bind (find_instance v.items n) (λ (i : VInstance). find_vmodule (tree_of d) i.module_name))) at
+            ∙ ap (λ z. bind z (λ (i : VInstance). find_vmodule (tree_of d) i.module_name)) none)
+
+        by_owner : (k : Key) → In k (module_keys m) → n ≡ key_text m k → Owner m k → PathOf (n ∷ q)
+        by_owner k within is (an_instance i o there role same_key) =
+            let s = symbol_at_path p m here in
+            let c = called_by_role d x s.0 m s.1 i o there role in
+            let inside = inside_instance p m here i o c there in
+            a_path (number_of m.body i ∷ p) c.module_of inside.0
+            (inside.1 ∙ ap₂ (λ a b. a ∷ b) (ap (key_text m) (sym same_key) ∙ sym is) same)
+        by_owner k within is (a_port j y there same_key) =
+            nowhere (ap (find_instance (vitems d m)) is ∙ instance_under d m (names_at_path p m here) k within ∙ ap (instance_value d m) same_key)
+        by_owner k within is (a_net i o there role same_key) =
+            nowhere (ap (find_instance (vitems d m)) is ∙ instance_under d m (names_at_path p m here) k within ∙ ap (instance_value d m) same_key)
+        by_owner k within is (a_variable i o there role same_key) =
+            nowhere (ap (find_instance (vitems d m)) is ∙ instance_under d m (names_at_path p m here) k within ∙ ap (instance_value d m) same_key)
+        by_owner k within is (a_result i l o r there role found same_key) =
+            nowhere (ap (find_instance (vitems d m)) is ∙ instance_under d m (names_at_path p m here) k within ∙ ap (instance_value d m) same_key)
+
+        by_key : ((k : Key) × In k (module_keys m) × (n ≡ key_text m k)) ⊎ ((k : Key) → In k (module_keys m) → n ≡ key_text m k → ⊥) → PathOf (n ∷ q)
+        by_key (inl h) = by_owner h.0 h.1 h.2 (owner_of m h.0 h.1)
+        by_key (inr never) = nowhere (no_instance_under d m (names_at_path p m here) n never)

@@ -1,0 +1,287 @@
+-- The registers of a design and those of its tree stand in the same order, and take the same values.
+use Rattle.std.proofs.Common.{◌≡◌, ℕ, zero, suc, ◌+◌, Bool, true, false, cond, ◌||◌, is_some, List, [], ◌∷◌, ◌++◌, length, take, drop, slice_get, Option, Some, None, refl, sym, ◌∙◌, ap, ap₂, subst, inr, zero-add, add-zero, suc-add, add-suc, append_assoc, append-nil, arith}
+use Rattle.wiring.specs.Options.{omap}
+use Rattle.bits_core.specs.Word.{Word, first}
+use Rattle.hw_model.specs.Types.{Name, HwType, width}
+use Rattle.hw_model.specs.Types.HwType.{int, clock}
+use Rattle.hw_model.specs.Design.{Ref, Port, OpResult, Op, Module, Design, find_module, instance_in, register_form, is_instance, result_type, output_refs}
+use Rattle.hw_model.specs.Design.Ref.{result}
+use Rattle.hw_model.specs.Value.{is_high}
+use Rattle.hw_model.specs.Flat.{Path, Net, net as at, module_at, instances, width_of, held_width, Slot, Register, ResetBy, register_in, instance_registers, op_registers, body_registers, registers_of, module_registers, registers, depth}
+use Rattle.hw_model.specs.Meaning.{enabled, reset, loaded, next_content}
+use Rattle.hw_model.specs.Sound.{type_in}
+use Rattle.hw_model.proofs.Sorts.{Sort, sort_of}
+use Rattle.hw_model.proofs.Sorts.Sort.{a_register, an_instance as is_an_instance, an_output, a_made}
+use Rattle.hw_model.proofs.NetWidths.{value_widths}
+use Rattle.verilog_model.specs.Tree.{Item, VModule}
+use Rattle.verilog_model.specs.Tree.Item.{assign}
+use Rattle.verilog_model.specs.Expression.{is_true, low_bits}
+use Rattle.verilog_model.specs.Hierarchy.{VPath, VNet, vnet, width_in, VSlot, item_registers, items_registers, vregisters_of, vmodule_registers, vregisters}
+use Rattle.verilog_model.specs.Meaning.{names_at, load_value, holds, block_value, slot_value, slot_width, next_vcontent}
+use Rattle.verilog_expr.specs.Spilling.{is_wire_kind, spilled}
+use Rattle.verilog_expr.specs.Values.{HasBits}
+use Rattle.verilog_expr.proofs.Assigned.{assigned_same}
+use Rattle.export_verilog.specs.Keys.{Role, each, role_of, key_text, named, name_or_nothing}
+use Rattle.export_verilog.specs.Keys.Key.{port_key, value_key, instance_key}
+use Rattle.export_verilog.specs.Keys.Role.{hidden, net, variable, block}
+use Rattle.export_verilog.specs.Exportable.{IsClocked}
+use Rattle.export_verilog.specs.Exported.{symbol_name, expression, result_wires, declared_as, declares, loads, block_of, always_of, instance_of, stated_as, states, output_assigns, expr_or_none, others, vitems, vmodule, tree_of}
+use Rattle.export_verilog.proofs.names.KeysOf.{role_of_register, role_of_instance, role_of_output, role_of_made}
+use Rattle.export_verilog.proofs.names.Symbols.{vmodule_found}
+use Rattle.export_verilog.proofs.items.Settings.{Setting, module_ok, called_by_role, first_result}
+use Rattle.export_verilog.proofs.items.Registers.{AreOperands, typed_register, register_of}
+use Rattle.export_verilog.proofs.items.Drives.{block_name}
+use Rattle.export_verilog.proofs.behaviour.Places.{number_of, vpath_of, symbol_at_path, inside_instance}
+use Rattle.export_verilog.proofs.behaviour.Content.{variable_width}
+use Rattle.export_verilog.proofs.items.Writable.{named_input}
+use Rattle.export_verilog.proofs.items.Writable.NamedAs.{by_port}
+use Rattle.export_verilog.proofs.behaviour.Worth.{low_all, IsGood, symbol_there, found_there, own_bits}
+use Rattle.export_verilog.proofs.behaviour.Ways.{IsDesignSettled}
+use Rattle.export_verilog.proofs.behaviour.Owners.{to}
+use Rattle.export_verilog.proofs.behaviour.Both.{heights, over_good, name_shows, own_is}
+
+-- ---- items without registers
+
+module _ (f : VPath → Name → List VSlot) (q : VPath) (v : VModule) where
+  pub registers-append : (xs ys : List Item) → items_registers f q v (xs ++ ys) ≡ items_registers f q v xs ++ items_registers f q v ys
+  registers-append [] ys = refl
+  registers-append (y ∷ xs) ys =
+      ap (λ zs. item_registers f q v y ++ zs) (registers-append xs ys) ∙ sym (append_assoc (item_registers f q v y) (items_registers f q v xs) (items_registers f q v ys))
+
+  none_in_wires : (m : Module) (i k : ℕ) (rs : List OpResult) → items_registers f q v (result_wires m i k rs) ≡ []
+  none_in_wires m i k [] = refl
+  none_in_wires m i k (r ∷ rs) = none_in_wires m i (suc k) rs
+
+  none_declared : (m : Module) (i : ℕ) (o : Op) (r : Role) → items_registers f q v (declared_as m i o r) ≡ []
+  none_declared m i o hidden = refl
+  none_declared m i o net = refl
+  none_declared m i o variable = refl
+  none_declared m i o block = none_in_wires m i 0 o.results
+
+  none_in_declares : (m : Module) (i : ℕ) (os : List Op) → items_registers f q v (each (declares m) i os) ≡ []
+  none_in_declares m i [] = refl
+  none_in_declares m i (o ∷ os) = registers-append (declares m i o) (each (declares m) (suc i) os)
+      ∙ ap₂ (λ a b. a ++ b) (none_declared m i o (role_of m.ports m.body i o)) (none_in_declares m (suc i) os)
+
+  none_in_outputs : (m : Module) (j : ℕ) (ps : List Port) (rs : List Ref) → items_registers f q v (output_assigns m j ps rs) ≡ []
+  none_in_outputs m j [] rs = refl
+  none_in_outputs m j (p ∷ ps) rs = go p.is_output (none_in_outputs m (suc j) ps (others rs)) (none_in_outputs m (suc j) ps rs) where
+    go : (b : Bool) → items_registers f q v (output_assigns m (suc j) ps (others rs)) ≡ [] → items_registers f q v (output_assigns m (suc j) ps rs) ≡ []
+        → items_registers f q v (cond b (assign (key_text m (port_key j)) (expr_or_none (expression m) rs) ∷ output_assigns m (suc j) ps (others rs)) (output_assigns m (suc j) ps rs)) ≡ []
+    go true first second = first
+    go false first second = second
+
+-- the number of the next instance
+number_next : (os : List Op) (j : ℕ) (o : Op) → slice_get os j ≡ Some o → number_of os (suc j) ≡ cond (is_instance o) (suc (number_of os j)) (number_of os j)
+number_next [] j o is = cc
+number_next (y ∷ ys) zero o is = ap (λ (z : Op). length (cond (is_instance z) (z ∷ []) [])) (let e : y ≡ o = cc in e) ∙ go (is_instance o) where
+  go : (b : Bool) → length (cond b (o ∷ []) []) ≡ cond b 1 0
+  go true = refl
+  go false = refl
+number_next (y ∷ ys) (suc j) o is = go (is_instance y) (is_instance o) (number_next ys j o is) where
+  go : (b c : Bool) → number_of ys (suc j) ≡ cond c (suc (number_of ys j)) (number_of ys j)
+      → length (cond b (y ∷ instances (take (suc j) ys)) (instances (take (suc j) ys))) ≡ cond c (suc (length (cond b (y ∷ instances (take j ys)) (instances (take j ys))))) (length (cond b (y ∷ instances (take j ys)) (instances (take j ys))))
+  go true true rest = ap suc rest
+  go true false rest = ap suc rest
+  go false true rest = rest
+  go false false rest = rest
+
+module _ (d : Design) (x : Setting d) (top : Name) where
+  -- the register that a variable of the tree is
+  abbrev pub vslot : VPath → Module → ℕ → Register → VSlot
+  vslot q m i r = record {
+    path = q;
+    in_module = vmodule d m;
+    clock = name_or_nothing (named m r.clock);
+    block = block_of (expression m) (key_text m (value_key i 0)) r.next r.enable r.reset;
+  }
+
+  pub record IsSlot (s : Slot) (v : VSlot) : Type 0 where
+    pub m : Module
+    pub here : module_at d top s.path ≡ Some m
+    pub place : ℕ
+    pub there : slice_get m.body place ≡ Some s.op
+    pub role : role_of m.ports m.body place s.op ≡ variable
+    pub parts : Register
+    pub is_parts : register_in s.op ≡ Some parts
+    pub same : v ≡ vslot (vpath_of d top s.path) m place parts
+
+  abbrev pub AreSlots : List Slot → List VSlot → Type 0
+  AreSlots [] [] = Unit {0}
+  AreSlots [] (v ∷ vs) = ⊥
+  AreSlots (s ∷ ss) [] = ⊥
+  AreSlots (s ∷ ss) (v ∷ vs) = IsSlot s v × AreSlots ss vs
+
+  slots-append : (ss : List Slot) (vs : List VSlot) (ts : List Slot) (ws : List VSlot) → AreSlots ss vs → AreSlots ts ws → AreSlots (ss ++ ts) (vs ++ ws)
+  slots-append [] [] ts ws are also = also
+  slots-append [] (v ∷ vs) ts ws are also = absurd are
+  slots-append (s ∷ ss) [] ts ws are also = absurd are
+  slots-append (s ∷ ss) (v ∷ vs) ts ws are also = (are.0, slots-append ss vs ts ws are.1 also)
+
+  module _ (f : Path → Name → List Slot) (g : VPath → Name → List VSlot)
+      (inner : (p : Path) (s : Name) (m : Module) → module_at d top p ≡ Some m → find_module d s ≡ Some m → AreSlots (f p s) (g (vpath_of d top p) (symbol_name d s)))
+      (p : Path) (m : Module) (here : module_at d top p ≡ Some m) (s : Name) (is : find_module d s ≡ Some m) where
+    abbrev items_of : List Item → List VSlot
+    items_of ys = items_registers g (vpath_of d top p) (vmodule d m) ys
+
+    op_slots : (i : ℕ) (o : Op) → slice_get m.body i ≡ Some o → AreSlots (op_registers f p (number_of m.body i) o) (items_of (states d m i o))
+    op_slots i o there = by_sort (sort_of o.kind) where
+      from_role : (r : Role) → role_of m.ports m.body i o ≡ r → (ss : List Slot) → op_registers f p (number_of m.body i) o ≡ ss → AreSlots ss (items_of (stated_as d m i o r))
+          → AreSlots (op_registers f p (number_of m.body i) o) (items_of (states d m i o))
+      from_role r role ss regs are = subst (λ z. AreSlots z (items_of (states d m i o))) (sym regs) (subst (λ z. AreSlots ss (items_of (stated_as d m i o z))) (sym role) are)
+
+      no_registers : register_form o.kind ≡ None → instance_in o.kind ≡ None → op_registers f p (number_of m.body i) o ≡ []
+      no_registers r n = ap (λ z. cond (is_some z) (record { path = p; op = o } ∷ []) (instance_registers f p (number_of m.body i) (instance_in o.kind))) r ∙ ap (instance_registers f p (number_of m.body i)) n
+
+      none_made : (a b : Bool) → items_of (stated_as d m i o (cond a net (cond b net hidden))) ≡ []
+      none_made true b = refl
+      none_made false true = refl
+      none_made false false = refl
+
+      by_sort : Sort o.kind → AreSlots (op_registers f p (number_of m.body i) o) (items_of (states d m i o))
+      by_sort (a_register h r n u) =
+          let role = role_of_register m.ports m.body i o h r in
+          let parts = register_of d x s m is i o there role in
+          from_role variable role (record { path = p; op = o } ∷ [])
+          (ap (λ z. cond (is_some z) (record { path = p; op = o } ∷ []) (instance_registers f p (number_of m.body i) (instance_in o.kind))) r)
+          (subst (λ z. AreSlots (record { path = p; op = o } ∷ []) (items_of (always_of m (key_text m (value_key i 0)) z))) (sym parts.1)
+          (record { m = m; here = here; place = i; there = there; role = role; parts = parts.0; is_parts = parts.1; same = refl }, tt))
+      by_sort (is_an_instance k r n u) =
+          let role = role_of_instance m.ports m.body i o k r n in
+          let c = called_by_role d x s m is i o there role in
+          let inside = inside_instance d x top p m here i o c there in
+          let are : AreSlots (f (number_of m.body i ∷ p) c.kind.symbol) (g (key_text m (instance_key i) ∷ vpath_of d top p) (symbol_name d c.kind.symbol)) =
+          subst (λ q. AreSlots (f (number_of m.body i ∷ p) c.kind.symbol) (g q (symbol_name d c.kind.symbol))) inside.1
+          (inner (number_of m.body i ∷ p) c.kind.symbol c.module_of inside.0 c.there) in
+          from_role block role (f (number_of m.body i ∷ p) c.kind.symbol)
+          (ap (λ z. cond (is_some z) (record { path = p; op = o } ∷ []) (instance_registers f p (number_of m.body i) (instance_in o.kind))) r ∙ ap (instance_registers f p (number_of m.body i)) c.is_kind)
+          (subst (λ z. AreSlots (f (number_of m.body i ∷ p) c.kind.symbol) (items_of (instance_of d m i o z))) (sym c.is_kind)
+          (subst (AreSlots (f (number_of m.body i ∷ p) c.kind.symbol)) (sym (append-nil (g (key_text m (instance_key i) ∷ vpath_of d top p) (symbol_name d c.kind.symbol)))) are))
+      by_sort (an_output r n u) = from_role hidden (role_of_output m.ports m.body i o r n u) [] (no_registers r n) tt
+      by_sort (a_made r n u) =
+          from_role (cond (is_wire_kind o.kind) net (cond (spilled m.ports m.body (result i 0)) net hidden)) (role_of_made m.ports m.body i o r n u) [] (no_registers r n)
+          (subst (AreSlots []) (sym (none_made (is_wire_kind o.kind) (spilled m.ports m.body (result i 0)))) tt)
+
+    body_slots : (j : ℕ) (os : List Op) → ((a : ℕ) (o : Op) → slice_get os a ≡ Some o → slice_get m.body (j + a) ≡ Some o) → (u : ℕ) → u ≡ number_of m.body j
+        → AreSlots (body_registers f p u os) (items_of (each (states d m) j os))
+    body_slots j [] within u number = tt
+    body_slots j (o ∷ os) within u number =
+        let there : slice_get m.body j ≡ Some o = ap (slice_get m.body) (sym (add-zero j)) ∙ within 0 o refl in
+        let next : cond (is_instance o) (suc u) u ≡ number_of m.body (suc j) = ap (λ z. cond (is_instance o) (suc z) z) number ∙ sym (number_next m.body j o there) in
+        subst (AreSlots (body_registers f p u (o ∷ os))) (sym (registers-append g (vpath_of d top p) (vmodule d m) (states d m j o) (each (states d m) (suc j) os)))
+        (slots-append (op_registers f p u o) (items_of (states d m j o)) (body_registers f p (cond (is_instance o) (suc u) u) os) (items_of (each (states d m) (suc j) os))
+        (subst (λ z. AreSlots (op_registers f p z o) (items_of (states d m j o))) (sym number) (op_slots j o there))
+        (body_slots (suc j) os (λ a z found. ap (slice_get m.body) (suc-add j a ∙ sym (add-suc j a)) ∙ within (suc a) z found) (cond (is_instance o) (suc u) u) next))
+
+    module_slots : AreSlots (body_registers f p 0 m.body) (items_of (vitems d m))
+    module_slots = subst (AreSlots (body_registers f p 0 m.body)) (sym same) (body_slots 0 m.body (λ a o found. ap (slice_get m.body) (zero-add a) ∙ found) 0 refl) where
+      same : items_of (vitems d m) ≡ items_of (each (states d m) 0 m.body)
+      same =
+          registers-append g (vpath_of d top p) (vmodule d m) (each (declares m) 0 m.body) (each (states d m) 0 m.body ++ output_assigns m 0 m.ports (output_refs m.body))
+          ∙ ap₂ (λ a b. a ++ b) (none_in_declares g (vpath_of d top p) (vmodule d m) m 0 m.body)
+          (registers-append g (vpath_of d top p) (vmodule d m) (each (states d m) 0 m.body) (output_assigns m 0 m.ports (output_refs m.body))
+          ∙ ap (λ z. items_of (each (states d m) 0 m.body) ++ z) (none_in_outputs g (vpath_of d top p) (vmodule d m) m 0 m.ports (output_refs m.body))
+          ∙ append-nil (items_of (each (states d m) 0 m.body)))
+
+  slots_at : (n : ℕ) (p : Path) (s : Name) (m : Module) → module_at d top p ≡ Some m → find_module d s ≡ Some m
+      → AreSlots (module_registers n d p s) (vmodule_registers n (tree_of d) (vpath_of d top p) (symbol_name d s))
+  slots_at zero p s m here is = tt
+  slots_at (suc n) p s m here is =
+      subst (λ z. AreSlots (registers_of (module_registers n d) p z) (vmodule_registers (suc n) (tree_of d) (vpath_of d top p) (symbol_name d s))) (sym is)
+      (subst (λ z. AreSlots (body_registers (module_registers n d) p 0 m.body) (vregisters_of (vmodule_registers n (tree_of d)) (vpath_of d top p) z)) (sym (vmodule_found d x.ok x.symbols s m is))
+      (module_slots (module_registers n d) (vmodule_registers n (tree_of d)) (λ q t c there found. slots_at n q t c there found) p m here s is))
+
+  pub are_slots : (m : Module) → find_module d top ≡ Some m → AreSlots (registers d top) (vregisters (tree_of d) (symbol_name d top))
+  are_slots m is =
+      subst (λ n. AreSlots (registers d top) (vmodule_registers (suc n) (tree_of d) [] (symbol_name d top))) (sym (Rattle.std.proofs.lemmas.List.length-map d (vmodule d)))
+      (slots_at (depth d) [] top m is is)
+
+-- ---- the values that registers take
+
+high_of_one : (w : Word) → length w ≡ 1 → is_true w ≡ is_high w
+high_of_one [] size = cc
+high_of_one (b ∷ []) size = go b where
+  go : (c : Bool) → (c || false) ≡ c
+  go true = refl
+  go false = refl
+high_of_one (b ∷ c ∷ w) size = absurd (omega (arith, size))
+
+module _ (d : Design) (x : Setting d) (top : Name) (inputs content : Word) (m0 : Module) (top_is : find_module d top ≡ Some m0) (ρ : Net → Word)
+    (settled : IsDesignSettled d x top inputs content m0 top_is ρ) where
+  abbrev over : VNet → Word
+  over = to d x top m0 top_is ρ
+
+  good : IsGood d x top inputs content over
+  good = over_good d x top inputs content m0 top_is ρ settled
+
+  module _ (p : Path) (m : Module) (here : module_at d top p ≡ Some m) where
+    typed_length : (r : Ref) (t : HwType) → type_in m.ports m.body r ≡ Some t → length (ρ (at p r)) ≡ width t
+    typed_length r t typed = value_widths d top x.ok.sound inputs content ρ (heights d x top inputs content m0 top_is) settled p m r t here typed
+
+    -- what an assignment of a value to a variable of its width gives
+    load_is : (k : ℕ) (q : Name) (r : Ref) (t : HwType) → type_in m.ports m.body r ≡ Some t → width t ≡ k → load_value (vmodule d m) (names_at (vpath_of d top p) over) k (loads q (expression m r)) ≡ ρ (at p r)
+    load_is k q r t typed size =
+        assigned_same (width_in (vmodule d m)) (names_at (vpath_of d top p) over) k (expression m r)
+        (subst (λ w. HasBits (width_in (vmodule d m)) (names_at (vpath_of d top p) over) w (expression m r)) (ap width_of typed ∙ size)
+        (own_bits d x top inputs content p m here over good.words r))
+        ∙ own_is d x top inputs content m0 top_is ρ settled p m here r
+
+    holds_is : (r : Ref) → type_in m.ports m.body r ≡ Some (int 1) → holds (vmodule d m) (names_at (vpath_of d top p) over) (expression m r) ≡ is_high (ρ (at p r))
+    holds_is r typed = ap is_true (own_is d x top inputs content m0 top_is ρ settled p m here r) ∙ high_of_one (ρ (at p r)) (typed_length r (int 1) typed)
+
+    block_is : (i : ℕ) (t : HwType) (g : Register) → AreOperands (type_in m.ports m.body) t g → (old : Word)
+        → block_value (vmodule d m) (names_at (vpath_of d top p) over) (width t) old (block_of (expression m) (key_text m (value_key i 0)) g.next g.enable g.reset)
+        ≡ reset g.reset (λ r. ρ (at p r)) (enabled g.enable (λ r. ρ (at p r)) old (ρ (at p g.next)))
+    block_is i t g typed old = go g.enable refl g.reset refl where
+      next_is : load_value (vmodule d m) (names_at (vpath_of d top p) over) (width t) (loads (key_text m (value_key i 0)) (expression m g.next)) ≡ ρ (at p g.next)
+      next_is = load_is (width t) (key_text m (value_key i 0)) g.next t typed.next refl
+
+      reset_is : (b : ResetBy) → g.reset ≡ Some b → load_value (vmodule d m) (names_at (vpath_of d top p) over) (width t) (loads (key_text m (value_key i 0)) (expression m b.value)) ≡ ρ (at p b.value)
+      reset_is b is = load_is (width t) (key_text m (value_key i 0)) b.value t (typed.value b is) refl
+
+      go : (e : Option Ref) → g.enable ≡ e → (f : Option ResetBy) → g.reset ≡ f
+          → block_value (vmodule d m) (names_at (vpath_of d top p) over) (width t) old (block_of (expression m) (key_text m (value_key i 0)) g.next e f)
+          ≡ reset f (λ r. ρ (at p r)) (enabled e (λ r. ρ (at p r)) old (ρ (at p g.next)))
+      go None ee None fe = next_is
+      go (Some e) ee None fe = ap₂ (λ b w. cond b w old) (holds_is e (typed.enable e ee)) next_is
+      go None ee (Some f) fe = ap₂ (λ b (w : Word × Word). cond b w.0 w.1) (holds_is f.signal (typed.signal f fe)) (ap₂ (λ v w. (v, w)) (reset_is f fe) next_is)
+      go (Some e) ee (Some f) fe =
+          ap₂ (λ b v. cond b v (cond (holds (vmodule d m) (names_at (vpath_of d top p) over) (expression m e)) (load_value (vmodule d m) (names_at (vpath_of d top p) over) (width t) (loads (key_text m (value_key i 0)) (expression m g.next))) old))
+          (holds_is f.signal (typed.signal f fe)) (reset_is f fe)
+          ∙ ap₂ (λ b v. cond (is_high (ρ (at p f.signal))) (ρ (at p f.value)) (cond b v old)) (holds_is e (typed.enable e ee)) next_is
+
+    -- the clock's net shows the clock
+    clock_is : (i : ℕ) (o : Op) (g : Register) → slice_get m.body i ≡ Some o → register_in o ≡ Some g → type_in m.ports m.body g.clock ≡ Some clock
+        → low_bits 1 (over (vnet (vpath_of d top p) (name_or_nothing (named m g.clock)))) ≡ ρ (at p g.clock)
+    clock_is i o g there is typed =
+        let c : IsClocked m.ports g = ((module_ok d x (symbol_there d x top inputs content p m here) m (found_there d x top inputs content p m here)).ops i o there).clocked g is in
+        let called : named m g.clock ≡ Some (key_text m (port_key c.number)) =
+        ap (named m) c.is_port ∙ named_input d x (symbol_there d x top inputs content p m here) m (found_there d x top inputs content p m here) c.number c.clock c.there c.input in
+        ap (λ n. low_bits 1 (over (vnet (vpath_of d top p) (name_or_nothing n)))) called
+        ∙ ap (low_bits 1) (name_shows d x top inputs content m0 top_is ρ settled p m here g.clock (key_text m (port_key c.number)) (by_port c.number c.clock c.there c.input c.is_port refl))
+        ∙ low_all 1 (ρ (at p g.clock)) (typed_length g.clock clock typed)
+
+  slot_width_is : (s : Slot) (v : VSlot) → IsSlot d x top s v → slot_width v ≡ held_width s.op
+  slot_width_is s v is = let h = symbol_at_path d x top s.path is.m is.here in
+      ap slot_width is.same ∙ ap (width_in (vmodule d is.m)) (block_name d x h.0 is.m h.1 top [] is.place is.parts) ∙ variable_width d x h.0 is.m h.1 is.place s.op is.there is.role
+
+  slot_is : (s : Slot) (v : VSlot) → IsSlot d x top s v → (old : Word) → slot_value over (held_width s.op) old v ≡ loaded (register_in s.op) (λ r. ρ (at s.path r)) old
+  slot_is s v is old =
+      let h = symbol_at_path d x top s.path is.m is.here in
+      let r = first_result d x h.0 is.m h.1 is.place s.op is.there (inr is.role) in
+      let typed : result_type s.op 0 ≡ Some r.0.type = ap (λ rs. omap (λ (z : OpResult). z.type) (slice_get rs 0)) r.1 in
+      let g = typed_register d x h.0 is.m h.1 is.place s.op is.there is.role r.0.type typed in
+      let parts : Some is.parts ≡ Some g.0 = sym is.is_parts ∙ g.1 in
+      let one : is.parts ≡ g.0 = cc in
+      let wide : held_width s.op ≡ width r.0.type = ap width_of typed in
+      ap₂ (λ k z. slot_value over k old z) wide (is.same ∙ ap (vslot d x top (vpath_of d top s.path) is.m is.place) one)
+      ∙ ap₂ (λ c b. cond (is_high c) b old) (clock_is s.path is.m is.here is.place s.op g.0 is.there g.1 g.2.clocked) (block_is s.path is.m is.here is.place r.0.type g.0 g.2 old)
+      ∙ sym (ap (λ z. loaded z (λ r. ρ (at s.path r)) old) g.1)
+
+  pub next_is : (ss : List Slot) (vs : List VSlot) → AreSlots d x top ss vs → (c : Word) → next_vcontent vs over c ≡ next_content ss ρ c
+  next_is [] [] are c = refl
+  next_is [] (v ∷ vs) are c = absurd are
+  next_is (s ∷ ss) [] are c = absurd are
+  next_is (s ∷ ss) (v ∷ vs) are c =
+      ap (λ k. first k (slot_value over k (first k c) v) ++ next_vcontent vs over (drop k c)) (slot_width_is s v are.0)
+      ∙ ap₂ (λ a b. first (held_width s.op) a ++ b) (slot_is s v are.0 (first (held_width s.op) c)) (next_is ss vs are.1 (drop (held_width s.op) c))

@@ -1,0 +1,265 @@
+-- The maps between the nets of a design and those of its tree, and that they keep maps settled.
+use Rattle.std.proofs.Common.{◌≡◌, ℕ, ◌⊎◌, Bool, true, false, cond, is_some, List, [], ◌∷◌, map, length, take, slice_get, Option, Some, None, refl, sym, ◌∙◌, ap, ap₂, subst, inl, inr}
+use Rattle.wiring.specs.Wiring.{In}
+use Rattle.wiring.specs.Options.{bind}
+use Rattle.wiring.proofs.Options.{bind_some, bind_none}
+use Rattle.wiring.proofs.Members.{In-map, map_same}
+use Rattle.bits_core.specs.Word.{Word, bits_of_ℤ}
+use Rattle.hw_model.specs.Types.{Name, HwType, width}
+use Rattle.hw_model.specs.Design.{Ref, Port, Op, Module, Design, find_module, instance_in, register_form, result_type, output_refs, callee}
+use Rattle.hw_model.specs.Design.Ref.{port, result, undefined}
+use Rattle.hw_model.specs.Value.{op_value}
+use Rattle.hw_model.specs.Flat.{Path, Net, net as at, Source, source, module_at, instances, width_of, input_width, input_of, input_source, copy_of, joined_ref, joined_at, operand_for, input_count, given_ref, held_of, made_of, result_source, offset}
+use Rattle.hw_model.specs.Flat.Source.{nowhere, made, input as from_input}
+use Rattle.hw_model.specs.Meaning.{needs, needs_of, Settled}
+use Rattle.hw_model.specs.Sound.{type_in, input_type, output_types}
+use Rattle.hw_model.proofs.Sorts.{Sort, sort_of}
+use Rattle.hw_model.proofs.Sorts.Sort.{a_register, an_instance as is_an_instance, an_output, a_made}
+use Rattle.verilog_model.specs.Hierarchy.{VPath, VNet, vnet, Drive, drive, drive_at, vmodule_at, width_at}
+use Rattle.verilog_model.specs.Hierarchy.Drive.{nothing}
+use Rattle.verilog_model.specs.Meaning.{names_at, driven, TreeSettled}
+use Rattle.verilog_expr.specs.Spilling.{is_pure}
+use Rattle.verilog_expr.specs.Values.{is_division, HoldConstants}
+use Rattle.verilog_expr.proofs.Bodies.{gives_values-pure, map_map}
+use Rattle.export_verilog.specs.Keys.{Key, role_of, module_keys, key_text, named}
+use Rattle.export_verilog.specs.Keys.Key.{port_key, value_key, instance_key}
+use Rattle.export_verilog.specs.Keys.Role.{net}
+use Rattle.export_verilog.specs.Exported.{symbol_name, expression, vmodule, tree_of}
+use Rattle.export_verilog.proofs.names.KeysOf.{Owner, owner_of, register_of_role, instance_of_role, port_in, net_in}
+use Rattle.export_verilog.proofs.names.KeysOf.Owner.{a_port, a_net, a_variable, an_instance, a_result}
+use Rattle.export_verilog.proofs.items.Items.{output_count}
+use Rattle.export_verilog.proofs.items.Settings.{Setting, Called, module_sound, called_by, callee_is}
+use Rattle.export_verilog.proofs.behaviour.Sources.{register_from, instance_from, made_from, rest_from, no_op_from, pure_sort}
+use Rattle.export_verilog.proofs.items.Writable.{NamedAs, named_as}
+use Rattle.export_verilog.proofs.items.Writable.NamedAs.{by_port, by_value}
+use Rattle.export_verilog.proofs.behaviour.Places.{vpath_of, further}
+use Rattle.export_verilog.proofs.behaviour.Nets.{key_drive, width_here}
+use Rattle.export_verilog.proofs.items.Operands.{output_type_at, none_at}
+use Rattle.export_verilog.proofs.behaviour.Worth.{own, given, evaluated, evaluated_as, HaveWords, IsGood, symbol_there, found_there, can_write, own_named, own_absent, own_unnamed, made_worth, net_given, given_long, joined_is, constant_form, ShowOutputs, output_agrees, value_agrees}
+
+clash : {A : Type 0} (o : Option A) → is_some o ≡ true → o ≡ None → ⊥
+clash o some none = let h : true ≡ false = sym some ∙ ap is_some none in cc
+
+module _ (d : Design) (x : Setting d) (top : Name) (inputs content : Word) (m0 : Module) (top_is : find_module d top ≡ Some m0) where
+  abbrev pub worth : (VNet → Word) → Path → Module → Ref → Word
+  worth σ p m r = own d x top inputs content σ p m r
+
+  abbrev pub got : (Net → Word) → Path → Ref → Word
+  got τ p r = evaluated d x top inputs content τ p r
+
+  abbrev pub drives : (VNet → Word) → Path → Module → Key → Word
+  drives σ p m k = given d x top inputs content σ p m k
+
+  abbrev pub IsTreeSettled : (VNet → Word) → Type 0
+  IsTreeSettled σ = TreeSettled (tree_of d) (symbol_name d top) inputs content σ
+
+  abbrev pub IsDesignSettled : (Net → Word) → Type 0
+  IsDesignSettled ρ = Settled d top inputs content ρ
+
+  -- ---- what comes from nowhere
+
+  absent_port : (τ : Net → Word) (p : Path) (m : Module) → module_at d top p ≡ Some m → (j : ℕ) → (z : Option Port) → slice_get m.ports j ≡ z → input_type z ≡ None → got τ p (port j) ≡ []
+  absent_port τ [] m here j z there none = evaluated_as d x top inputs content τ [] (port j) nowhere (ap (input_source j) here ∙ ap (λ y. input_of y (input_width (take j m.ports))) there ∙ go z none) where
+    go : (z : Option Port) → input_type z ≡ None → input_of z (input_width (take j m.ports)) ≡ nowhere
+    go None e = refl
+    go (Some y) e = by_way y.is_output e where
+      by_way : (b : Bool) → cond b None (Some y.type) ≡ None → cond b nowhere (from_input (input_width (take j m.ports)) (width y.type)) ≡ nowhere
+      by_way true h = refl
+      by_way false h = cc
+  absent_port τ (u ∷ p) m here j z there none =
+      let f = further d x top u p m here in
+      evaluated_as d x top inputs content τ (u ∷ p) (port j) nowhere
+      (joined_is d x top inputs content u p m f j None (ap (λ y. operand_for y f.op.operands (input_count (take j m.ports))) there ∙ go f.op.operands z none)) where
+        go : (rs : List Ref) (z : Option Port) → input_type z ≡ None → operand_for z rs (input_count (take j m.ports)) ≡ None
+        go rs None e = refl
+        go rs (Some y) e = by_way y.is_output e where
+          by_way : (b : Bool) → cond b None (Some y.type) ≡ None → cond b None (slice_get rs (input_count (take j m.ports))) ≡ None
+          by_way true h = refl
+          by_way false h = cc
+
+  absent_result : (τ : Net → Word) (p : Path) (m : Module) (here : module_at d top p ≡ Some m) (i k : ℕ) (z : Option Op) → slice_get m.body i ≡ z
+      → bind z (λ (o : Op). result_type o k) ≡ None → got τ p (result i k) ≡ []
+  absent_result τ p m here i k None there none = evaluated_as d x top inputs content τ p (result i k) nowhere (no_op_from d top p m here i k there)
+  absent_result τ p m here i k (Some o) there none = by_sort (sort_of o.kind) where
+    from : source d top (at p (result i k)) ≡ nowhere → got τ p (result i k) ≡ []
+    from e = evaluated_as d x top inputs content τ p (result i k) nowhere e
+
+    by_sort : Sort o.kind → got τ p (result i k) ≡ []
+    by_sort (a_register f r n u) = from (register_from d top p m here i k o f there r ∙ ap (held_of (offset d top p m i)) none)
+    by_sort (is_an_instance y r n u) =
+        let c : Called d m o = called_by d x (symbol_there d x top inputs content p m here) m (found_there d x top inputs content p m here) i o there y n in
+        from (instance_from d top p m here i k o y there r n
+        ∙ ap (copy_of (length (instances (take i m.body)) ∷ p)) (ap (λ z. bind z (λ (c : Module). slice_get (output_refs c.body) k)) (callee_is d m o c)
+        ∙ none_at (type_in c.module_of.ports c.module_of.body) (output_refs c.module_of.body) (output_types c.module_of.ports) k (module_sound d x c.kind.symbol c.module_of c.there).outputs
+        (output_type_at d m o c k ∙ none)))
+    by_sort (an_output r n u) = from (rest_from d top p m here i k o there r n ∙ ap (λ b. cond b nowhere (made_of p o k (result_type o k))) u)
+    by_sort (a_made r n u) = from (rest_from d top p m here i k o there r n ∙ ap (λ b. cond b nowhere (made_of p o k (result_type o k))) u ∙ ap (made_of p o k) none)
+
+  absent_value : (τ : Net → Word) (p : Path) (m : Module) (here : module_at d top p ≡ Some m) (r : Ref) → type_in m.ports m.body r ≡ None → got τ p r ≡ []
+  absent_value τ p m here (port j) none = absent_port τ p m here j (slice_get m.ports j) refl none
+  absent_value τ p m here (result i k) none = absent_result τ p m here i k (slice_get m.body i) refl none
+  absent_value τ p m here undefined none = refl
+
+  -- what stands where no module is
+  missing_value : (τ : Net → Word) (p : Path) (r : Ref) → module_at d top p ≡ None → got τ p r ≡ []
+  missing_value τ p undefined none = refl
+  missing_value τ p (result i k) none = evaluated_as d x top inputs content τ p (result i k) nowhere (ap (result_source d top p i k) none)
+  missing_value τ [] (port j) none = absurd (let h : None ≡ Some m0 = sym none ∙ top_is in cc)
+  missing_value τ (u ∷ p) (port j) none =
+      evaluated_as d x top inputs content τ (u ∷ p) (port j) nowhere (ap (copy_of p) (outer (bind_none (module_at d top p) (λ (m : Module). bind (slice_get (instances m.body) u) (callee d)) none))) where
+        called : (o : Op) → callee d o ≡ None → joined_ref d j o ≡ None
+        called o e = ap (λ z. bind z (λ (c : Module). Rattle.hw_model.specs.Flat.port_ref c.ports o.operands j)) e
+
+        inner : (m : Module) → (slice_get (instances m.body) u ≡ None) ⊎ ((o : Op) × (slice_get (instances m.body) u ≡ Some o) × (callee d o ≡ None)) → joined_at d u j m ≡ None
+        inner m (inl e) = ap (λ z. bind z (joined_ref d j)) e
+        inner m (inr h) = ap (λ z. bind z (joined_ref d j)) h.1 ∙ called h.0 h.2
+
+        outer : (module_at d top p ≡ None) ⊎ ((m : Module) × (module_at d top p ≡ Some m) × (bind (slice_get (instances m.body) u) (callee d) ≡ None)) → bind (module_at d top p) (joined_at d u j) ≡ None
+        outer (inl e) = ap (λ z. bind z (joined_at d u j)) e
+        outer (inr h) = ap (λ z. bind z (joined_at d u j)) h.1 ∙ inner h.0 (bind_none (slice_get (instances h.0.body) u) (callee d) h.2)
+
+  -- ---- a value without a name
+
+  pub unnamed_agrees : (σ : VNet → Word) → IsGood d x top inputs content σ → (τ : Net → Word) (p : Path) (m : Module) (here : module_at d top p ≡ Some m) (r : Ref) → named m r ≡ None
+      → ((z : Ref) → In (at p z) (needs d top (at p r)) → worth σ p m z ≡ τ (at p z)) → worth σ p m r ≡ got τ p r
+  unnamed_agrees σ good τ p m here r unnamed own_is = by_type (type_in m.ports m.body r) refl where
+    by_pure : (i k : ℕ) (o : Op) (t : HwType) → r ≡ result i k → slice_get m.body i ≡ Some o → result_type o k ≡ Some t → (b : Bool) → is_pure o ≡ b → worth σ p m r ≡ got τ p r
+    by_pure i k o t same there typed false pure =
+        absurd (clash (named m (result i k)) ((can_write d x top inputs content p m here).owned i k o t there typed pure) (ap (named m) (sym same) ∙ unnamed))
+    by_pure i k o t same there typed true pure =
+        let h = pure_sort o pure in
+        let s : source d top (at p r) ≡ made o.kind o.types t k (map (at p) o.operands) = ap (λ z. source d top (at p z)) same ∙ made_from d top p m here i k o t there h.0 h.1 h.2 typed in
+        own_unnamed d x top inputs content p m here σ good.words r unnamed
+        ∙ ap (λ z. Rattle.verilog_model.specs.Expression.own_value (Rattle.verilog_model.specs.Hierarchy.width_in (vmodule d m)) (names_at (vpath_of d top p) σ) (Rattle.export_verilog.specs.Exported.assigned_expr m z)) same
+        ∙ made_worth d x top inputs content p m here σ good.words i k o t there (gives_values-pure o pure) typed (λ e. good.constants p m here)
+        ∙ ap (op_value o.kind o.types t k)
+        (map_same (worth σ p m) (λ z. τ (at p z)) o.operands (λ z within. own_is z (subst (λ w. In (at p z) (needs_of w)) (sym s) (In-map (at p) z o.operands within)))
+        ∙ sym (map_map (at p) τ o.operands))
+        ∙ sym (evaluated_as d x top inputs content τ p r (made o.kind o.types t k (map (at p) o.operands)) s)
+
+    by_ref : (z : Ref) (t : HwType) → r ≡ z → type_in m.ports m.body z ≡ Some t → worth σ p m r ≡ got τ p r
+    by_ref (port j) t same typed = absurd (clash (named m (port j)) ((can_write d x top inputs content p m here).inputs j t typed) (ap (named m) (sym same) ∙ unnamed))
+    by_ref undefined t same typed = cc
+    by_ref (result i k) t same typed = let h = bind_some (slice_get m.body i) (λ (o : Op). result_type o k) typed in by_pure i k h.0 t same h.1 h.2 (is_pure h.0) refl
+
+    by_type : (t : Option HwType) → type_in m.ports m.body r ≡ t → worth σ p m r ≡ got τ p r
+    by_type None none = own_absent d x top inputs content p m here σ good.words r none unnamed ∙ sym (absent_value τ p m here r none)
+    by_type (Some t) typed = by_ref r t refl typed
+
+  -- a named value, by what has its name
+  pub named_agrees : (σ : VNet → Word) (good : IsGood d x top inputs content σ) (τ : Net → Word)
+      → ((p : Path) (m : Module) → module_at d top p ≡ Some m → (r : Ref) → worth σ p m r ≡ τ (at p r)) → ShowOutputs d x top inputs content σ good τ
+      → (p : Path) (m : Module) (here : module_at d top p ≡ Some m) (r : Ref) (n : Name) → NamedAs d x (symbol_there d x top inputs content p m here) m (found_there d x top inputs content p m here) n r
+      → (k : Key) × In k (module_keys m) × (n ≡ key_text m k) × (drives σ p m k ≡ got τ p r)
+  named_agrees σ good τ own_is shows p m here r n (by_port j y there inward same called) = (
+    port_key j,
+    port_in m j y there,
+    called,
+    value_agrees d x top inputs content σ good τ own_is shows p m here (port_key j) r (port_in m j y there) as_port (λ i l e. cc) (λ i e. cc),
+  ) where
+    as_port : (a : ℕ) (z : Port) → slice_get m.ports a ≡ Some z → port_key j ≡ port_key a → (z.is_output ≡ false) × (r ≡ port a)
+    as_port a z other e =
+        let places : j ≡ a = cc in
+        let ports : Some y ≡ Some z = sym there ∙ ap (slice_get m.ports) places ∙ other in
+        let one : y ≡ z = cc in
+        (ap (λ (w : Port). w.is_output) (sym one) ∙ inward, same ∙ ap port places)
+  named_agrees σ good τ own_is shows p m here r n (by_value i k within same called) = (
+    value_key i k,
+    within,
+    called,
+    value_agrees d x top inputs content σ good τ own_is shows p m here (value_key i k) r within (λ j y there e. cc) as_value (λ a e. cc),
+  ) where
+    as_value : (a l : ℕ) → value_key i k ≡ value_key a l → r ≡ result a l
+    as_value a l e = let f : i ≡ a = cc in let g : k ≡ l = cc in same ∙ ap₂ result f g
+
+  -- ---- a settled map of the tree
+
+  module _ (σ : VNet → Word) (settled : IsTreeSettled σ) where
+    pub settled_given : (p : Path) (m : Module) (here : module_at d top p ≡ Some m) (k : Key) → In k (module_keys m) → σ (vnet (vpath_of d top p) (key_text m k)) ≡ drives σ p m k
+    settled_given p m here k within =
+        settled (vnet (vpath_of d top p) (key_text m k))
+        ∙ ap (λ w. driven (tree_of d) (symbol_name d top) inputs content σ w (key_drive d x top p m k)) (width_here d x top p m here k within)
+
+    tree_words : HaveWords d x top inputs content σ
+    tree_words p m here k within = ap length (settled_given p m here k within) ∙ given_long d x top inputs content p m here σ k within
+
+    tree_constants : (p : Path) (m : Module) → module_at d top p ≡ Some m → HoldConstants (named m) m.body (names_at (vpath_of d top p) σ)
+    tree_constants p m here i o z t n there kind typed called =
+        go (named_as d x (symbol_there d x top inputs content p m here) m (found_there d x top inputs content p m here) (result i 0) n called) where
+          form : (register_form o.kind ≡ None) × (instance_in o.kind ≡ None) × (is_division o.kind ≡ false)
+          form = constant_form o.kind z kind
+
+          same_op : (a : ℕ) (o' : Op) → i ≡ a → slice_get m.body a ≡ Some o' → o ≡ o'
+          same_op a o' e at' = let h : Some o ≡ Some o' = sym there ∙ ap (slice_get m.body) e ∙ at' in let g : o ≡ o' = cc in g
+
+          by_owner : (a k : ℕ) → i ≡ a → (within : In (value_key a k) (module_keys m)) → n ≡ key_text m (value_key a k) → Owner m (value_key a k) → σ (vnet (vpath_of d top p) n) ≡ bits_of_ℤ (width t) z
+          by_owner a k place within is (a_port j y at' e) = absurd (let h : value_key a k ≡ port_key j = e in cc)
+          by_owner a k place within is (an_instance b o' at' role e) = absurd (let h : value_key a k ≡ instance_key b = e in cc)
+          by_owner a k place within is (a_variable b o' at' role e) = absurd (
+              let places : i ≡ b = (let h : a ≡ b = cc in place ∙ h) in
+              let f = register_of_role m.ports m.body b o' role in
+              let h : None ≡ Some f.0 = sym form.0 ∙ ap (λ (w : Op). register_form w.kind) (same_op b o' places at') ∙ f.1 in cc)
+          by_owner a k place within is (a_result b l o' r at' role found e) = absurd (
+              let places : i ≡ b = (let h : a ≡ b = cc in place ∙ h) in
+              let f = instance_of_role m.ports m.body b o' role in
+              let h : None ≡ Some f.0 = sym form.1 ∙ ap (λ (w : Op). instance_in w.kind) (same_op b o' places at') ∙ f.2 in cc)
+          by_owner a k place within is (a_net b o' at' role e) =
+              let places : i ≡ b = (let h : a ≡ b = cc in place ∙ h) in
+              let ops : o ≡ o' = same_op b o' places at' in
+              let role' : role_of m.ports m.body i o ≡ net = ap₂ (role_of m.ports m.body) places ops ∙ role in
+              ap (λ w. σ (vnet (vpath_of d top p) w)) (is ∙ ap (key_text m) (e ∙ ap (λ w. value_key w 0) (sym places)))
+              ∙ settled_given p m here (value_key i 0) (net_in m i o there role')
+              ∙ net_given d x top inputs content p m here σ tree_words i o t there role' typed (λ h. absurd (let g : false ≡ true = sym form.2 ∙ h in cc))
+              ∙ ap (λ w. op_value w o.types t 0 (map (worth σ p m) o.operands)) kind
+
+          go : NamedAs d x (symbol_there d x top inputs content p m here) m (found_there d x top inputs content p m here) n (result i 0) → σ (vnet (vpath_of d top p) n) ≡ bits_of_ℤ (width t) z
+          go (by_port j y at' inward same is) = absurd (let h : result i 0 ≡ port j = same in cc)
+          go (by_value a k within same is) = by_owner a k (let h : i ≡ a = cc in h) within is (owner_of m (value_key a k) within)
+
+    pub tree_good : IsGood d x top inputs content σ
+    tree_good = record { words = tree_words; constants = tree_constants }
+
+  -- ---- from the tree to the design
+
+  back_at : (VNet → Word) → Path → Ref → Option Module → Word
+  back_at σ p r None = []
+  back_at σ p r (Some m) = worth σ p m r
+
+  pub back : (VNet → Word) → Net → Word
+  back σ n = back_at σ n.path n.ref (module_at d top n.path)
+
+  pub back_here : (σ : VNet → Word) (p : Path) (m : Module) (r : Ref) → module_at d top p ≡ Some m → back σ (at p r) ≡ worth σ p m r
+  unfolding back back_at
+  back_here σ p m r here = ap (back_at σ p r) here
+
+  back_missing : (σ : VNet → Word) (p : Path) (r : Ref) → module_at d top p ≡ None → back σ (at p r) ≡ []
+  unfolding back back_at
+  back_missing σ p r none = ap (back_at σ p r) none
+
+  module _ (σ : VNet → Word) (settled : IsTreeSettled σ) where
+    pub back_own : (p : Path) (m : Module) → module_at d top p ≡ Some m → (r : Ref) → worth σ p m r ≡ back σ (at p r)
+    back_own p m here r = sym (back_here σ p m r here)
+
+    pub output_shown : (p : Path) (m : Module) → module_at d top p ≡ Some m → (j : ℕ) (y : Port) (r : Ref) → slice_get m.ports j ≡ Some y → y.is_output ≡ true
+        → slice_get (output_refs m.body) (output_count (take j m.ports)) ≡ Some r → σ (vnet (vpath_of d top p) (key_text m (port_key j))) ≡ back σ (at p r)
+    output_shown p m here j y r there out gives =
+        settled_given σ settled p m here (port_key j) (port_in m j y there)
+        ∙ output_agrees d x top inputs content σ (tree_good σ settled) (back σ) p m here j y r there out gives
+        ∙ back_own p m here r
+
+    pub back_settled : IsDesignSettled (back σ)
+    back_settled n = at_place n.path n.ref where
+      at_module : (p : Path) (r : Ref) (m : Module) (here : module_at d top p ≡ Some m) → (n : Option Name) → named m r ≡ n → worth σ p m r ≡ got (back σ) p r
+      at_module p r m here None unnamed = unnamed_agrees σ (tree_good σ settled) (back σ) p m here r unnamed (λ z within. back_own p m here z)
+      at_module p r m here (Some n) called =
+          let h = named_agrees σ (tree_good σ settled) (back σ) back_own output_shown p m here r n
+          (named_as d x (symbol_there d x top inputs content p m here) m (found_there d x top inputs content p m here) r n called) in
+          own_named d x top inputs content p m here σ (tree_good σ settled).words r n called
+          ∙ ap (λ w. σ (vnet (vpath_of d top p) w)) h.2 ∙ settled_given σ settled p m here h.0 h.1 ∙ h.3
+
+      go : (p : Path) (r : Ref) (o : Option Module) → module_at d top p ≡ o → back σ (at p r) ≡ got (back σ) p r
+      go p r None none = back_missing σ p r none ∙ sym (missing_value (back σ) p r none)
+      go p r (Some m) here = back_here σ p m r here ∙ at_module p r m here (named m r) refl
+
+      at_place : (p : Path) (r : Ref) → back σ (at p r) ≡ got (back σ) p r
+      at_place p r = go p r (module_at d top p) refl

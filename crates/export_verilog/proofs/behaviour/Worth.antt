@@ -1,0 +1,343 @@
+-- What the nets of a tree are worth under a map: what their sources give in the design.
+use Rattle.std.proofs.Common.{◌≡◌, ℕ, ℤ, ◌+◌, ◌-◌, ◌⊎◌, Bool, true, false, cond, List, [], ◌∷◌, length, drop, map, take, slice_get, Option, Some, None, refl, sym, ◌∙◌, ap, ap₂, subst, inl, inr, arith}
+use Rattle.std.proofs.lemmas.List.{length-drop, length-append}
+use Rattle.std.proofs.lemmas.List.{length-replicate}
+use Rattle.wiring.specs.Wiring.{In, IsAcyclic}
+use Rattle.wiring.specs.Options.{bind, omap}
+use Rattle.wiring.proofs.Members.{map_same}
+use Rattle.bits_core.specs.Word.{Word}
+use Rattle.bits_core.proofs.First.{length-first}
+use Rattle.hw_model.specs.Types.{Name, HwType, width}
+use Rattle.hw_model.specs.Kinds.{Kind}
+use Rattle.hw_model.specs.Kinds.Kind.{constant}
+use Rattle.hw_model.specs.Design.{Ref, Port, OpResult, Op, Module, Design, find_module, instance_in, register_form, is_output_kind, result_type, output_refs}
+use Rattle.hw_model.specs.Design.Ref.{port, result}
+use Rattle.hw_model.specs.Value.{op_value}
+use Rattle.hw_model.specs.Flat.{Path, Net, net as at, Source, source, module_at, instances, width_of, base, body_state, state, offset, input_count, input_width, input_of, input_source, copy_of, joined_ref, joined_at, port_ref, operand_for, held_of}
+use Rattle.hw_model.specs.Flat.Source.{nowhere, input as from_input, held as from_held, copy, made}
+use Rattle.hw_model.specs.Meaning.{needs_of, value_of}
+use Rattle.hw_model.specs.Sound.{type_in, input_type, output_types}
+use Rattle.hw_model.proofs.Sorts.{instance_found}
+use Rattle.verilog_model.specs.Expression.{own_value, assigned, extended, low_bits}
+use Rattle.verilog_model.specs.Hierarchy.{VNet, vnet, Drive, vmodule_at, width_in, width_at}
+use Rattle.verilog_model.specs.Hierarchy.Drive.{nothing, held, expression as driven_by, net as driven_from}
+use Rattle.verilog_model.specs.Meaning.{names_at, driven}
+use Rattle.verilog_expr.specs.Expressions.{value_width, AreExprs}
+use Rattle.verilog_expr.specs.Spilling.{inner_needs}
+use Rattle.verilog_expr.specs.Values.{HasBits, is_division, gives_values, IsWritable, AreNamed, HoldConstants}
+use Rattle.verilog_expr.proofs.Own.{extended_full}
+use Rattle.verilog_expr.proofs.Assigned.{assigned_same, assigned_long}
+use Rattle.verilog_expr.proofs.Bodies.{is_name, is_own, body_absent, body_bits, body_own_bits, body_worth, map_map}
+use Rattle.verilog_expr.proofs.Depths.{expressions_hold}
+use Rattle.export_verilog.specs.Keys.{Key, role_of, module_keys, key_text, named}
+use Rattle.export_verilog.specs.Keys.Key.{port_key, value_key, instance_key}
+use Rattle.export_verilog.specs.Keys.Role.{net, variable, block}
+use Rattle.export_verilog.specs.Exported.{symbol_name, expression, assigned_expr, vmodule, tree_of}
+use Rattle.export_verilog.proofs.names.KeysOf.{Owner, owner_of, made_of_role, register_of_role, instance_of_role, port_in}
+use Rattle.export_verilog.proofs.names.KeysOf.Owner.{a_port, a_net, a_variable, an_instance, a_result}
+use Rattle.export_verilog.proofs.items.Items.{output_count, expr_for}
+use Rattle.export_verilog.proofs.items.Lookups.{key_width}
+use Rattle.export_verilog.proofs.items.Settings.{Setting, Called, module_sound, called_by_role, one_result_of, first_result, callee_is}
+use Rattle.export_verilog.proofs.items.Drives.{OutputAt, output_of_number}
+use Rattle.export_verilog.proofs.behaviour.Sources.{register_from, instance_from, made_from, inner_acyclic}
+use Rattle.export_verilog.proofs.items.Writable.{NamedAs, named_as, writable}
+use Rattle.export_verilog.proofs.items.Writable.NamedAs.{by_port, by_value}
+use Rattle.export_verilog.proofs.behaviour.Places.{number_of, vpath_of, symbol_at_path, Further, further, vplace, inside_instance}
+use Rattle.export_verilog.proofs.behaviour.Nets.{key_drive, module_width, drive_net, drive_variable, drive_result, drive_instance, drive_output, drive_top_input, drive_inner_input}
+use Rattle.export_verilog.proofs.items.Operands.{output_ref_at, operand_at, output_type_at}
+
+-- ---- words
+
+pub low_long : (k : ℕ) (s : Bool) (w : Word) → length (low_bits k (extended k s w)) ≡ k
+low_long k s w =
+    let e : length (extended k s w) ≡ (k - length w) + length w = length-append _ w ∙ ap (λ n. n + length w) (length-replicate (k - length w) _) in
+    omega (arith, length-drop (length (extended k s w) - k) (extended k s w))
+
+pub low_all : (k : ℕ) (w : Word) → length w ≡ k → low_bits k w ≡ w
+low_all k w size = let none : length w - k ≡ 0 = omega arith in ap (λ n. drop n w) none
+
+pub low_whole : (k : ℕ) (w : Word) → length w ≡ k → low_bits k (extended k false w) ≡ w
+low_whole k w size = ap (low_bits k) (extended_full k false w size) ∙ low_all k w size
+
+pub constant_form : (k : Kind) (z : ℤ) → k ≡ constant z → (register_form k ≡ None) × (instance_in k ≡ None) × (is_division k ≡ false)
+constant_form k z e = (ap register_form e, ap instance_in e, ap is_division e)
+
+made_gives : (o : Op) → register_form o.kind ≡ None → instance_in o.kind ≡ None → is_output_kind o.kind ≡ false → gives_values o ≡ true
+made_gives o r n u = simp (r, n, u)
+
+module _ (d : Design) (x : Setting d) (top : Name) (inputs content : Word) where
+  -- ---- at a place
+
+  -- the value of a module's value, as its expression says it
+  abbrev pub own : (VNet → Word) → Path → Module → Ref → Word
+  own σ p m r = own_value (width_in (vmodule d m)) (names_at (vpath_of d top p) σ) (expression m r)
+
+  -- what drives a thing's net gives
+  abbrev pub given : (VNet → Word) → Path → Module → Key → Word
+  given σ p m k = driven (tree_of d) (symbol_name d top) inputs content σ (key_width m k) (key_drive d x top p m k)
+
+  -- what the source of a net gives
+  abbrev pub evaluated : (Net → Word) → Path → Ref → Word
+  evaluated τ p r = value_of inputs content (source d top (at p r)) (map τ (needs_of (source d top (at p r))))
+
+  pub evaluated_as : (τ : Net → Word) (p : Path) (r : Ref) (s : Source) → source d top (at p r) ≡ s → evaluated τ p r ≡ value_of inputs content s (map τ (needs_of s))
+  evaluated_as τ p r s e = ap (λ z. value_of inputs content z (map τ (needs_of z))) e
+
+  -- the names have words of their widths
+  abbrev pub HaveWords : (VNet → Word) → Type 0
+  HaveWords σ = (p : Path) (m : Module) → module_at d top p ≡ Some m → (k : Key) → In k (module_keys m) → length (σ (vnet (vpath_of d top p) (key_text m k))) ≡ key_width m k
+
+  pub record IsGood (σ : VNet → Word) : Type 0 where
+    pub words : HaveWords σ
+    pub constants : (p : Path) (m : Module) → module_at d top p ≡ Some m → HoldConstants (named m) m.body (names_at (vpath_of d top p) σ)
+
+  module _ (p : Path) (m : Module) (here : module_at d top p ≡ Some m) where
+    abbrev pub symbol_there : Name
+    symbol_there = (symbol_at_path d x top p m here).0
+
+    pub found_there : find_module d (symbol_at_path d x top p m here).0 ≡ Some m
+    found_there = (symbol_at_path d x top p m here).1
+
+    pub can_write : IsWritable (named m) m.ports m.body
+    can_write = writable d x symbol_there m found_there
+
+    no_inner_cycle : IsAcyclic (inner_needs m.body)
+    no_inner_cycle = inner_acyclic d symbol_there m found_there (one_result_of d x symbol_there m found_there) (x.ok.acyclic symbol_there)
+
+    are_exprs : AreExprs (named m) m.ports m.body (expression m)
+    are_exprs = expressions_hold (named m) m.ports m.body can_write no_inner_cycle
+
+    pub port_width_is : (j : ℕ) (y : Port) → slice_get m.ports j ≡ Some y → key_width m (port_key j) ≡ width y.type
+    port_width_is j y there = ap (λ z. width_of (omap (λ (q : Port). q.type) z)) there
+
+    pub input_width_is : (j : ℕ) (y : Port) → slice_get m.ports j ≡ Some y → y.is_output ≡ false → value_width m.ports m.body (port j) ≡ width y.type
+    input_width_is j y there inward = ap (λ z. width_of (input_type z)) there ∙ ap (λ b. width_of (cond b None (Some y.type))) inward
+
+    pub result_width_is : (i k : ℕ) (o : Op) (t : HwType) → slice_get m.body i ≡ Some o → result_type o k ≡ Some t → key_width m (value_key i k) ≡ width t
+    result_width_is i k o t there typed = ap (λ z. width_of (bind z (λ (o : Op). result_type o k))) there ∙ ap width_of typed
+
+    module _ (σ : VNet → Word) (words : HaveWords σ) where
+      names_fit : AreNamed (named m) m.ports m.body (width_in (vmodule d m)) (names_at (vpath_of d top p) σ)
+      names_fit = record {
+        long = λ r n e. by_long r n (named_as d x symbol_there m found_there r n e);
+        worth = λ r n e. by_word r n (named_as d x symbol_there m found_there r n e);
+      }
+        where
+          by_long : (r : Ref) (n : Name) → NamedAs d x symbol_there m found_there n r → width_in (vmodule d m) n ≡ value_width m.ports m.body r
+          by_long r n (by_port j y there inward same called) = ap (width_in (vmodule d m)) called ∙ module_width d x top p m here (port_key j) (port_in m j y there)
+              ∙ port_width_is j y there ∙ sym (ap (value_width m.ports m.body) same ∙ input_width_is j y there inward)
+          by_long r n (by_value i k within same called) = ap (width_in (vmodule d m)) called ∙ module_width d x top p m here (value_key i k) within
+              ∙ sym (ap (value_width m.ports m.body) same)
+
+          by_word : (r : Ref) (n : Name) → NamedAs d x symbol_there m found_there n r → length (σ (vnet (vpath_of d top p) n)) ≡ value_width m.ports m.body r
+          by_word r n (by_port j y there inward same called) = ap (λ z. length (σ (vnet (vpath_of d top p) z))) called ∙ words p m here (port_key j) (port_in m j y there)
+              ∙ port_width_is j y there ∙ sym (ap (value_width m.ports m.body) same ∙ input_width_is j y there inward)
+          by_word r n (by_value i k within same called) = ap (λ z. length (σ (vnet (vpath_of d top p) z))) called ∙ words p m here (value_key i k) within
+              ∙ sym (ap (value_width m.ports m.body) same)
+
+      pub own_bits : (r : Ref) → HasBits (width_in (vmodule d m)) (names_at (vpath_of d top p) σ) (value_width m.ports m.body r) (expression m r)
+      own_bits r = body_bits (named m) m.ports m.body (expression m) (width_in (vmodule d m)) (names_at (vpath_of d top p) σ) can_write no_inner_cycle are_exprs names_fit r
+
+      -- a named value is its name's word
+      pub own_named : (r : Ref) (n : Name) → named m r ≡ Some n → own σ p m r ≡ σ (vnet (vpath_of d top p) n)
+      own_named r n e =
+          ap (own_value (width_in (vmodule d m)) (names_at (vpath_of d top p) σ)) (is_name (named m) m.ports m.body (expression m) (width_in (vmodule d m)) (names_at (vpath_of d top p) σ) are_exprs r n e)
+          ∙ extended_full (width_in (vmodule d m) n) false (σ (vnet (vpath_of d top p) n)) (names_fit.worth r n e ∙ sym (names_fit.long r n e))
+
+      -- what has neither type nor name has no bits
+      pub own_absent : (r : Ref) → type_in m.ports m.body r ≡ None → named m r ≡ None → own σ p m r ≡ []
+      own_absent r none unnamed = body_absent (named m) m.ports m.body (expression m) (width_in (vmodule d m)) (names_at (vpath_of d top p) σ) are_exprs r none unnamed
+
+      -- an assignment of an expression of as many bits
+      pub assigned_own : (k : ℕ) (r : Ref) → value_width m.ports m.body r ≡ k
+          → driven (tree_of d) (symbol_name d top) inputs content σ k (driven_by (vpath_of d top p) (expression m r)) ≡ own σ p m r
+      assigned_own k r size =
+          ap (λ v. assigned (width_at v) (names_at (vpath_of d top p) σ) k (expression m r)) (vplace d x top p m here)
+          ∙ assigned_same (width_in (vmodule d m)) (names_at (vpath_of d top p) σ) k (expression m r)
+          (subst (λ w. HasBits (width_in (vmodule d m)) (names_at (vpath_of d top p) σ) w (expression m r)) size (own_bits r))
+
+      -- the value of a made operation
+      pub made_worth : (i k : ℕ) (o : Op) (t : HwType) → slice_get m.body i ≡ Some o → gives_values o ≡ true → result_type o k ≡ Some t
+          → (is_division o.kind ≡ true → HoldConstants (named m) m.body (names_at (vpath_of d top p) σ))
+          → own_value (width_in (vmodule d m)) (names_at (vpath_of d top p) σ) (assigned_expr m (result i k)) ≡ op_value o.kind o.types t k (map (own σ p m) o.operands)
+      made_worth i k o t there gives typed hold =
+          body_worth (named m) m.ports m.body (expression m) (width_in (vmodule d m)) (names_at (vpath_of d top p) σ) can_write no_inner_cycle are_exprs names_fit i k o t there gives typed hold
+
+      pub own_unnamed : (r : Ref) → named m r ≡ None → own σ p m r ≡ own_value (width_in (vmodule d m)) (names_at (vpath_of d top p) σ) (assigned_expr m r)
+      own_unnamed r e = ap (own_value (width_in (vmodule d m)) (names_at (vpath_of d top p) σ))
+          (is_own (named m) m.ports m.body (expression m) (width_in (vmodule d m)) (names_at (vpath_of d top p) σ) are_exprs r e)
+
+      -- what drives the wire of a made operation
+      pub net_given : (i : ℕ) (o : Op) (t : HwType) → slice_get m.body i ≡ Some o → role_of m.ports m.body i o ≡ net → result_type o 0 ≡ Some t
+          → (is_division o.kind ≡ true → HoldConstants (named m) m.body (names_at (vpath_of d top p) σ))
+          → given σ p m (value_key i 0) ≡ op_value o.kind o.types t 0 (map (own σ p m) o.operands)
+      net_given i o t there role typed hold =
+          let h = made_of_role m.ports m.body i o role in
+          let gives : gives_values o ≡ true = made_gives o h.0 h.1 h.2 in
+          ap₂ (λ w z. driven (tree_of d) (symbol_name d top) inputs content σ w z) (result_width_is i 0 o t there typed) (drive_net d x top p m here i o there role)
+          ∙ ap (λ v. assigned (width_at v) (names_at (vpath_of d top p) σ) (width t) (assigned_expr m (result i 0))) (vplace d x top p m here)
+          ∙ assigned_same (width_in (vmodule d m)) (names_at (vpath_of d top p) σ) (width t) (assigned_expr m (result i 0))
+          (body_own_bits (named m) m.ports m.body (expression m) (width_in (vmodule d m)) (names_at (vpath_of d top p) σ) can_write no_inner_cycle are_exprs names_fit i 0 o t there gives typed)
+          ∙ made_worth i 0 o t there gives typed hold
+
+    -- what drives a thing's net gives as many bits as it has
+    pub given_long : (σ : VNet → Word) (k : Key) → In k (module_keys m) → length (given σ p m k) ≡ key_width m k
+    given_long σ k within = go (owner_of m k within) where
+      by_drive : (l : Key) → k ≡ l → (w : Drive) → key_drive d x top p m l ≡ w → length (driven (tree_of d) (symbol_name d top) inputs content σ (key_width m l) w) ≡ key_width m l → length (given σ p m k) ≡ key_width m k
+      by_drive l same w drives long = ap (λ z. length (given σ p m z)) same ∙ ap (λ z. length (driven (tree_of d) (symbol_name d top) inputs content σ (key_width m l) z)) drives
+          ∙ long ∙ sym (ap (key_width m) same)
+
+      input_long : (p' : Path) → p ≡ p' → (here' : module_at d top p' ≡ Some m) → (j : ℕ) (y : Port) → slice_get m.ports j ≡ Some y → y.is_output ≡ false → k ≡ port_key j
+          → length (given σ p' m k) ≡ key_width m k
+      input_long [] same_path here' j y there inward same =
+          ap (λ z. length (given σ [] m z)) same ∙ ap (λ z. length (driven (tree_of d) (symbol_name d top) inputs content σ (key_width m (port_key j)) z)) (drive_top_input d x top m here' j y there inward)
+          ∙ length-first (width y.type) (drop (input_width (take j m.ports)) inputs) ∙ sym (port_width_is j y there) ∙ sym (ap (key_width m) same)
+      input_long (u ∷ q) same_path here' j y there inward same =
+          let f = further d x top u q m here' in
+          ap (λ z. length (given σ (u ∷ q) m z)) same
+          ∙ ap (λ z. length (driven (tree_of d) (symbol_name d top) inputs content σ (key_width m (port_key j)) z)) (drive_inner_input d x top u q m here' f j y there inward)
+          ∙ assigned_long (width_at (vmodule_at (tree_of d) (symbol_name d top) (vpath_of d top q))) (names_at (vpath_of d top q) σ) (key_width m (port_key j))
+          (expr_for (expression f.outer) (slice_get f.op.operands (input_count (take j m.ports)))) ∙ sym (ap (key_width m) same)
+
+      by_way : (j : ℕ) (y : Port) → slice_get m.ports j ≡ Some y → (b : Bool) → y.is_output ≡ b → k ≡ port_key j → length (given σ p m k) ≡ key_width m k
+      by_way j y there true out same = by_drive (port_key j) same (driven_by (vpath_of d top p) (expr_for (expression m) (slice_get (output_refs m.body) (output_count (take j m.ports))))) (drive_output d x top p m here j y there out)
+          (assigned_long (width_at (vmodule_at (tree_of d) (symbol_name d top) (vpath_of d top p))) (names_at (vpath_of d top p) σ) (key_width m (port_key j))
+          (expr_for (expression m) (slice_get (output_refs m.body) (output_count (take j m.ports)))))
+      by_way j y there false out same = input_long p refl here j y there out same
+
+      go : Owner m k → length (given σ p m k) ≡ key_width m k
+      go (a_port j y there same) = by_way j y there y.is_output refl same
+      go (a_net i o there role same) = by_drive (value_key i 0) same (driven_by (vpath_of d top p) (assigned_expr m (result i 0))) (drive_net d x top p m here i o there role)
+          (assigned_long (width_at (vmodule_at (tree_of d) (symbol_name d top) (vpath_of d top p))) (names_at (vpath_of d top p) σ) (key_width m (value_key i 0)) (assigned_expr m (result i 0)))
+      go (a_variable i o there role same) = by_drive (value_key i 0) same (held (base d top p + body_state (state d) (take i m.body)) (width_of (result_type o 0))) (drive_variable d x top p m here i o there role)
+          (length-first (width_of (result_type o 0)) (drop (base d top p + body_state (state d) (take i m.body)) content) ∙ sym (ap (λ z. width_of (bind z (λ (o : Op). result_type o 0))) there))
+      go (an_instance i o there role same) = by_drive (instance_key i) same nothing (drive_instance d x top p m here i o there role) refl
+      go (a_result i l o r there role found same) =
+          let c = called_by_role d x symbol_there m found_there i o there role in
+          let typed : slice_get (output_types c.module_of.ports) l ≡ Some r.type = output_type_at d m o c l ∙ ap (omap (λ (z : OpResult). z.type)) found in
+          let e = output_of_number c.module_of.ports l r.type typed in
+          by_drive (value_key i l) same (driven_from (vnet (vpath_of d top (number_of m.body i ∷ p)) (key_text c.module_of (port_key e.place)))) (drive_result d x top p m here i l o r c there role found e)
+          (low_long (key_width m (value_key i l)) false (σ (vnet (vpath_of d top (number_of m.body i ∷ p)) (key_text c.module_of (port_key e.place)))))
+
+  -- what is joined to an input port
+  pub joined_is : (u : ℕ) (p : Path) (m : Module) → (f : Further d x top p u m) → (j : ℕ) (z : Option Ref)
+      → operand_for (slice_get m.ports j) f.op.operands (input_count (take j m.ports)) ≡ z → source d top (at (u ∷ p) (port j)) ≡ copy_of p z
+  joined_is u p m f j z joins =
+      ap (copy_of p) (ap (λ y. bind y (joined_at d u j)) f.here
+      ∙ ap (λ y. bind y (joined_ref d j)) instance_is
+      ∙ ap (λ y. bind y (λ (c : Module). port_ref c.ports f.op.operands j)) (callee_is d f.outer f.op f.called)
+      ∙ ap (λ (c : Module). port_ref c.ports f.op.operands j) f.inside ∙ joins) where
+        instance_is : slice_get (instances f.outer.body) u ≡ Some f.op
+        instance_is = ap (slice_get (instances f.outer.body)) (sym f.is_number) ∙ instance_found f.outer.body f.place f.op f.called.kind f.there f.called.is_kind
+
+  -- ---- under two maps that agree
+
+  module _ (σ : VNet → Word) (good : IsGood σ) (τ : Net → Word) where
+    -- an output port of an inner module shows what its module gives to it
+    abbrev pub ShowOutputs : Type 0
+    ShowOutputs = (p : Path) (m : Module) → module_at d top p ≡ Some m → (j : ℕ) (y : Port) (r : Ref) → slice_get m.ports j ≡ Some y → y.is_output ≡ true
+        → slice_get (output_refs m.body) (output_count (take j m.ports)) ≡ Some r → σ (vnet (vpath_of d top p) (key_text m (port_key j))) ≡ τ (at p r)
+
+    operands_agree : (p : Path) (m : Module) (rs : List Ref) → ((r : Ref) → In r rs → own σ p m r ≡ τ (at p r)) → map (own σ p m) rs ≡ map τ (map (at p) rs)
+    operands_agree p m rs same = map_same (own σ p m) (λ r. τ (at p r)) rs same ∙ sym (map_map (at p) τ rs)
+
+    -- an output port
+    pub output_agrees : (p : Path) (m : Module) (here : module_at d top p ≡ Some m) (j : ℕ) (y : Port) (r : Ref) → slice_get m.ports j ≡ Some y → y.is_output ≡ true
+        → slice_get (output_refs m.body) (output_count (take j m.ports)) ≡ Some r → given σ p m (port_key j) ≡ own σ p m r
+    output_agrees p m here j y r there out gives =
+        let o = output_ref_at d m (module_sound d x (symbol_there p m here) m (found_there p m here)) j y there out in
+        let same : Some o.0 ≡ Some r = sym o.1 ∙ gives in
+        let refs : o.0 ≡ r = cc in
+        let typed : type_in m.ports m.body r ≡ Some y.type = ap (type_in m.ports m.body) (sym refs) ∙ o.2 in
+        ap₂ (λ w z. driven (tree_of d) (symbol_name d top) inputs content σ w z) (port_width_is p m here j y there) (drive_output d x top p m here j y there out)
+        ∙ ap (λ z. driven (tree_of d) (symbol_name d top) inputs content σ (width y.type) (driven_by (vpath_of d top p) (expr_for (expression m) z))) gives
+        ∙ assigned_own p m here σ good.words (width y.type) r (ap width_of typed)
+
+    top_input_agrees : (m : Module) (here : module_at d top [] ≡ Some m) (j : ℕ) (y : Port) → slice_get m.ports j ≡ Some y → y.is_output ≡ false
+        → given σ [] m (port_key j) ≡ evaluated τ [] (port j)
+    top_input_agrees m here j y there inward =
+        ap (driven (tree_of d) (symbol_name d top) inputs content σ (key_width m (port_key j))) (drive_top_input d x top m here j y there inward)
+        ∙ sym (evaluated_as τ [] (port j) (from_input (input_width (take j m.ports)) (width y.type))
+        (ap (input_source j) here ∙ ap (λ z. input_of z (input_width (take j m.ports))) there ∙ ap (λ b. cond b nowhere (from_input (input_width (take j m.ports)) (width y.type))) inward))
+
+    inner_input_agrees : (u : ℕ) (p : Path) (m : Module) (here : module_at d top (u ∷ p) ≡ Some m) (f : Further d x top p u m) (j : ℕ) (y : Port) → slice_get m.ports j ≡ Some y → y.is_output ≡ false
+        → ((r : Ref) → own σ p f.outer r ≡ τ (at p r)) → given σ (u ∷ p) m (port_key j) ≡ evaluated τ (u ∷ p) (port j)
+    inner_input_agrees u p m here f j y there inward own_is =
+        let o = operand in
+        ap₂ (λ w z. driven (tree_of d) (symbol_name d top) inputs content σ w z) (port_width_is (u ∷ p) m here j y there) (drive_inner_input d x top u p m here f j y there inward)
+        ∙ ap (λ z. driven (tree_of d) (symbol_name d top) inputs content σ (width y.type) (driven_by (vpath_of d top p) (expr_for (expression f.outer) z))) o.1
+        ∙ assigned_own p f.outer f.here σ good.words (width y.type) o.0 (ap width_of o.2)
+        ∙ own_is o.0
+        ∙ sym (evaluated_as τ (u ∷ p) (port j) (copy (at p o.0)) (joined_is u p m f j (Some o.0)
+        (ap (λ z. operand_for z f.op.operands (input_count (take j m.ports))) there ∙ ap (λ b. cond b None (slice_get f.op.operands (input_count (take j m.ports)))) inward ∙ o.1))) where
+          operand : (r : Ref) × (slice_get f.op.operands (input_count (take j m.ports)) ≡ Some r) × (type_in f.outer.ports f.outer.body r ≡ Some y.type)
+          operand = subst (λ c. slice_get c.ports j ≡ Some y → (r : Ref) × (slice_get f.op.operands (input_count (take j c.ports)) ≡ Some r) × (type_in f.outer.ports f.outer.body r ≡ Some y.type)) f.inside
+              (λ h. operand_at d f.outer f.op f.called j y h inward) there
+
+    first_type : (p : Path) (m : Module) (here : module_at d top p ≡ Some m) (i : ℕ) (o : Op) → slice_get m.body i ≡ Some o
+        → (role_of m.ports m.body i o ≡ net) ⊎ (role_of m.ports m.body i o ≡ variable) → (t : HwType) × (result_type o 0 ≡ Some t)
+    first_type p m here i o there role = let h = first_result d x (symbol_there p m here) m (found_there p m here) i o there role in
+        (h.0.type, ap (λ rs. omap (λ (z : OpResult). z.type) (slice_get rs 0)) h.1)
+
+    net_agrees : (p : Path) (m : Module) (here : module_at d top p ≡ Some m) (i : ℕ) (o : Op) → slice_get m.body i ≡ Some o → role_of m.ports m.body i o ≡ net
+        → ((r : Ref) → own σ p m r ≡ τ (at p r)) → given σ p m (value_key i 0) ≡ evaluated τ p (result i 0)
+    net_agrees p m here i o there role own_is =
+        let t = first_type p m here i o there (inl role) in
+        let h = made_of_role m.ports m.body i o role in
+        net_given p m here σ good.words i o t.0 there role t.1 (λ e. good.constants p m here)
+        ∙ ap (op_value o.kind o.types t.0 0) (operands_agree p m o.operands (λ r within. own_is r))
+        ∙ sym (evaluated_as τ p (result i 0) (made o.kind o.types t.0 0 (map (at p) o.operands)) (made_from d top p m here i 0 o t.0 there h.0 h.1 h.2 t.1))
+
+    variable_agrees : (p : Path) (m : Module) (here : module_at d top p ≡ Some m) (i : ℕ) (o : Op) → slice_get m.body i ≡ Some o → role_of m.ports m.body i o ≡ variable
+        → given σ p m (value_key i 0) ≡ evaluated τ p (result i 0)
+    variable_agrees p m here i o there role =
+        let t = first_type p m here i o there (inr role) in
+        let h = register_of_role m.ports m.body i o role in
+        ap (driven (tree_of d) (symbol_name d top) inputs content σ (key_width m (value_key i 0))) (drive_variable d x top p m here i o there role ∙ ap (λ z. held (base d top p + body_state (state d) (take i m.body)) (width_of z)) t.1)
+        ∙ sym (evaluated_as τ p (result i 0) (from_held (offset d top p m i) (width t.0))
+        (register_from d top p m here i 0 o h.0 there h.1 ∙ ap (held_of (offset d top p m i)) t.1))
+
+    result_agrees : (p : Path) (m : Module) (here : module_at d top p ≡ Some m) (i k : ℕ) (o : Op) (r : OpResult) → slice_get m.body i ≡ Some o → role_of m.ports m.body i o ≡ block
+        → slice_get o.results k ≡ Some r → ShowOutputs → given σ p m (value_key i k) ≡ evaluated τ p (result i k)
+    result_agrees p m here i k o r there role found shows =
+        let c = called_by_role d x (symbol_there p m here) m (found_there p m here) i o there role in
+        let typed : slice_get (output_types c.module_of.ports) k ≡ Some r.type = output_type_at d m o c k ∙ ap (omap (λ (z : OpResult). z.type)) found in
+        by_output c (output_of_number c.module_of.ports k r.type typed) where
+          by_output : (c : Called d m o) → OutputAt c.module_of.ports k r.type → given σ p m (value_key i k) ≡ evaluated τ p (result i k)
+          by_output c e =
+              let inside = inside_instance d x top p m here i o c there in
+              let g = output_ref_at d c.module_of (module_sound d x c.kind.symbol c.module_of c.there) e.place e.port e.there e.out in
+              let w : key_width m (value_key i k) ≡ width r.type = result_width_is p m here i k o r.type there (ap (omap (λ (z : OpResult). z.type)) found) in
+              let long : length (σ (vnet (vpath_of d top (number_of m.body i ∷ p)) (key_text c.module_of (port_key e.place)))) ≡ width r.type =
+              good.words (number_of m.body i ∷ p) c.module_of inside.0 (port_key e.place) (port_in c.module_of e.place e.port e.there)
+              ∙ port_width_is (number_of m.body i ∷ p) c.module_of inside.0 e.place e.port e.there ∙ ap width e.type in
+              let k' = instance_of_role m.ports m.body i o role in
+              ap₂ (λ w z. driven (tree_of d) (symbol_name d top) inputs content σ w z) w (drive_result d x top p m here i k o r c there role found e)
+              ∙ low_whole (width r.type) (σ (vnet (vpath_of d top (number_of m.body i ∷ p)) (key_text c.module_of (port_key e.place)))) long
+              ∙ shows (number_of m.body i ∷ p) c.module_of inside.0 e.place e.port g.0 e.there e.out g.1
+              ∙ sym (evaluated_as τ p (result i k) (copy (at (number_of m.body i ∷ p) g.0))
+              (instance_from d top p m here i k o k'.0 there k'.1 k'.2
+              ∙ ap (copy_of (number_of m.body i ∷ p)) (ap (λ y. bind y (λ (c : Module). slice_get (output_refs c.body) k)) (callee_is d m o c)
+              ∙ ap (slice_get (output_refs c.module_of.body)) (sym e.number) ∙ g.1)))
+
+    -- a named value
+    pub value_agrees : ((p : Path) (m : Module) → module_at d top p ≡ Some m → (r : Ref) → own σ p m r ≡ τ (at p r)) → ShowOutputs
+        → (p : Path) (m : Module) (here : module_at d top p ≡ Some m) (k : Key) (r : Ref) → In k (module_keys m)
+        → ((j : ℕ) (y : Port) → slice_get m.ports j ≡ Some y → k ≡ port_key j → (y.is_output ≡ false) × (r ≡ port j))
+        → ((i l : ℕ) → k ≡ value_key i l → r ≡ result i l) → ((i : ℕ) → k ≡ instance_key i → ⊥)
+        → given σ p m k ≡ evaluated τ p r
+    value_agrees own_is shows p m here k r within as_port as_value as_instance = go (owner_of m k within) where
+      moved : (l : Key) (z : Ref) → k ≡ l → r ≡ z → given σ p m l ≡ evaluated τ p z → given σ p m k ≡ evaluated τ p r
+      moved l z same refs e = ap (given σ p m) same ∙ e ∙ ap (evaluated τ p) (sym refs)
+
+      by_path : (q : Path) → (here' : module_at d top q ≡ Some m) (j : ℕ) (y : Port) → slice_get m.ports j ≡ Some y → y.is_output ≡ false → given σ q m (port_key j) ≡ evaluated τ q (port j)
+      by_path [] here' j y there inward = top_input_agrees m here' j y there inward
+      by_path (u ∷ q) here' j y there inward = let f = further d x top u q m here' in
+          inner_input_agrees u q m here' f j y there inward (λ r. own_is q f.outer f.here r)
+
+      go : Owner m k → given σ p m k ≡ evaluated τ p r
+      go (a_port j y there same) = let h = as_port j y there same in moved (port_key j) (port j) same h.1 (by_path p here j y there h.0)
+      go (a_net i o there role same) = moved (value_key i 0) (result i 0) same (as_value i 0 same) (net_agrees p m here i o there role (own_is p m here))
+      go (a_variable i o there role same) = moved (value_key i 0) (result i 0) same (as_value i 0 same) (variable_agrees p m here i o there role)
+      go (an_instance i o there role same) = absurd (as_instance i same)
+      go (a_result i l o y there role found same) = moved (value_key i l) (result i l) same (as_value i l same) (result_agrees p m here i l o y there role found shows)

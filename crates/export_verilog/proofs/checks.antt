@@ -1,0 +1,10 @@
+pub mod Checking
+pub mod Clocks
+pub mod Declares
+pub mod Driven
+pub mod Fitting
+pub mod Known
+pub mod Nesting
+pub mod Ordered
+pub mod Readable
+pub mod Stated

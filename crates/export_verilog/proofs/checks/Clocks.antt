@@ -1,0 +1,240 @@
+-- The clocks of an exported tree come from the inputs at the top.
+use Rattle.std.proofs.Common.{◌≡◌, ℕ, zero, suc, ◌+◌, ◌⊎◌, Bool, true, false, not, cond, ◌&&◌, ◌||◌, List, [], ◌∷◌, take, length, slice_get, Option, Some, None, refl, sym, ◌∙◌, ap, subst, inl, inr, zero-add}
+use Rattle.std.proofs.lemmas.Bool.{false≢true}
+use Rattle.wiring.specs.Options.{omap}
+use Rattle.wiring.specs.Wiring.{In}
+use Rattle.hw_model.specs.Types.{Name, HwType}
+use Rattle.hw_model.specs.Types.HwType.{clock}
+use Rattle.hw_model.specs.Design.{Ref, Port, OpResult, Op, Module, Design, same_name, find_module}
+use Rattle.hw_model.specs.Design.Ref.{port}
+use Rattle.hw_model.specs.Equality.{name_from, both_of}
+use Rattle.hw_model.specs.Flat.{input_count, Register, register_in}
+use Rattle.hw_model.specs.Sound.{type_in, input_type, input_types}
+use Rattle.verilog_model.specs.Tree.{Connection, Item}
+use Rattle.verilog_model.specs.Tree.Expr.{name}
+use Rattle.verilog_model.specs.Tree.Item.{wire, reg, assign, always, instance}
+use Rattle.verilog_model.specs.Hierarchy.{is_name}
+use Rattle.verilog_model.specs.Checks.{inner_clock, uses_clock, any_uses_clock, clock_in, is_clock, is_input_name, clocks_joined, clocks_check}
+use Rattle.verilog_model.proofs.Numerals.{and_intro}
+use Rattle.verilog_expr.proofs.Depths.{expressions_hold}
+use Rattle.verilog_expr.specs.Expressions.{name_or, own_expr}
+use Rattle.export_verilog.specs.Keys.{role_of, key_text, named, name_or_nothing}
+use Rattle.export_verilog.specs.Keys.Key.{port_key, value_key}
+use Rattle.export_verilog.specs.Keys.Role.{variable}
+use Rattle.export_verilog.specs.Exported.{symbol_name, expression, connections_of, connections_to, vports, vitems, tree_of}
+use Rattle.export_verilog.proofs.names.KeyNames.{texts_apart}
+use Rattle.export_verilog.proofs.names.KeysOf.{port_in}
+use Rattle.export_verilog.proofs.names.Symbols.{vmodule_found}
+use Rattle.export_verilog.proofs.items.Items.{output_count, expr_for, connection_of, from_connections, From, from_items}
+use Rattle.export_verilog.proofs.items.Items.From.{net_wire, variable_reg, result_wire, net_assign, variable_block, an_instance, output_assign}
+use Rattle.export_verilog.proofs.items.Lookups.{port_under, vport_at}
+use Rattle.export_verilog.proofs.items.Registers.{typed_register}
+use Rattle.export_verilog.proofs.items.Settings.{Setting, Called, module_ok, called_by, one_result_of, result_at_first}
+use Rattle.export_verilog.proofs.behaviour.Sources.{inner_acyclic}
+use Rattle.export_verilog.proofs.items.Writable.{named_input, writable}
+use Rattle.export_verilog.proofs.checks.Stated.{place_of_input, placed_in}
+
+-- a name is the text of an input port that is a clock
+pub record IsClockInput (c : Module) (n : Name) : Type 0 where
+  pub number : ℕ
+  pub port_of : Port
+  pub there : slice_get c.ports number ≡ Some port_of
+  pub input : port_of.is_output ≡ false
+  pub type : port_of.type ≡ clock
+  pub called : n ≡ key_text c (port_key number)
+
+either : (a b : Bool) → (a || b) ≡ true → (a ≡ true) ⊎ (b ≡ true)
+either true b h = inl refl
+either false b h = inr h
+
+module _ (d : Design) (x : Setting d) where
+  -- a value that is a clock is an input port, written by its name
+  pub record IsClockRef (m : Module) (r : Ref) : Type 0 where
+    pub number : ℕ
+    pub port_of : Port
+    pub there : slice_get m.ports number ≡ Some port_of
+    pub input : port_of.is_output ≡ false
+    pub type : port_of.type ≡ clock
+    pub written : expression m r ≡ name (key_text m (port_key number))
+
+  pub clock_ref : (s : Name) (m : Module) → find_module d s ≡ Some m → (r : Ref) → type_in m.ports m.body r ≡ Some clock → IsClockRef m r
+  clock_ref s m is r typed = let p = (module_ok d x s m is).clocks r typed in at_port p.0 p.1 where
+    in_way : (j : ℕ) → r ≡ port j → (p : Port) → slice_get m.ports j ≡ Some p → (b : Bool) → p.is_output ≡ b → cond b None (Some p.type) ≡ Some clock → IsClockRef m r
+    in_way j e p there true out h = cc
+    in_way j e p there false out h = record {
+      number = j;
+      port_of = p;
+      there = there;
+      input = out;
+      type = (let t : p.type ≡ clock = cc in t);
+      written = ap (expression m) e
+          ∙ expressions_hold (named m) m.ports m.body (writable d x s m is) (inner_acyclic d s m is (one_result_of d x s m is) (x.ok.acyclic s)) (port j)
+          ∙ ap (λ z. name_or z (own_expr (named m) m.ports m.body (expression m) (port j))) (named_input d x s m is j p there out);
+    }
+
+    at_there : (j : ℕ) → r ≡ port j → (p : Option Port) → slice_get m.ports j ≡ p → input_type p ≡ Some clock → IsClockRef m r
+    at_there j e None there h = cc
+    at_there j e (Some p) there h = in_way j e p there p.is_output refl h
+
+    at_port : (j : ℕ) → r ≡ port j → IsClockRef m r
+    at_port j e = at_there j e (slice_get m.ports j) refl (ap (type_in m.ports m.body) (sym e) ∙ typed)
+
+  -- the operand that an instance joins to an input that is a clock
+  joined_clock : (s : Name) (m : Module) (is : find_module d s ≡ Some m) (o : Op) (c : Called d m o) (j : ℕ) (p : Port) → slice_get c.module_of.ports j ≡ Some p → p.is_output ≡ false → p.type ≡ clock
+      → (r : Ref) × (slice_get o.operands (input_count (take j c.module_of.ports)) ≡ Some r) × IsClockRef m r
+  joined_clock s m is o c j p there out is_clock_type =
+      let g = placed_in (type_in m.ports m.body) (λ (u : HwType). Some u) o.operands (input_types c.module_of.ports) (input_count (take j c.module_of.ports)) p.type c.inputs (place_of_input c.module_of.ports j p there out) in
+      (g.0, g.1, clock_ref s m is g.0 (g.2 ∙ ap (λ (u : HwType). Some u) is_clock_type))
+
+  -- the port that a connection names, where that is a clock of its module
+  same_port : (m : Module) (o : Op) (c : Called d m o) (i : ℕ) (j : ℕ) (p : Port) → slice_get c.module_of.ports j ≡ Some p → IsClockInput c.module_of (key_text c.module_of (port_key j))
+      → (p.is_output ≡ false) × (p.type ≡ clock)
+  same_port m o c i j p there k =
+      let e : port_key j ≡ port_key k.number = texts_apart c.module_of (x.names c.kind.symbol c.module_of c.there) (port_key j) (port_key k.number) (port_in c.module_of j p there) (port_in c.module_of k.number k.port_of k.there) k.called in
+      let f : j ≡ k.number = cc in
+      let g : Some p ≡ Some k.port_of = sym there ∙ ap (slice_get c.module_of.ports) f ∙ k.there in
+      let q : p ≡ k.port_of = cc in
+      (ap (λ (z : Port). z.is_output) q ∙ k.input, ap (λ (z : Port). z.type) q ∙ k.type)
+
+  -- what is used as a clock is an input that is a clock
+  pub clock_input : (n : ℕ) (s : Name) (c : Module) → find_module d s ≡ Some c → (a : Name) → is_clock n (tree_of d) (symbol_name d s) a ≡ true → IsClockInput c a
+  clock_input zero s c is a used = absurd (false≢true used)
+  clock_input (suc n) s c is a used =
+      in_items (vitems d c) (λ y w. from_items d c y w) (ap (clock_in (is_clock n (tree_of d)) a) (sym (vmodule_found d x.ok x.symbols s c is)) ∙ used)
+      (λ t e at w. clock_input n t e at w) where
+        inner : Name → Name → Bool
+        inner = is_clock n (tree_of d)
+
+        in_register : (i : ℕ) (o : Op) (r : Register) → slice_get c.body i ≡ Some o → role_of c.ports c.body i o ≡ variable → register_in o ≡ Some r → same_name (name_or_nothing (named c r.clock)) a ≡ true → IsClockInput c a
+        in_register i o r there role at same =
+            let first = result_at_first d x s c is i o there (inr role) in
+            let typed = typed_register d x s c is i o there role first.0.type (ap (omap (λ (z : OpResult). z.type)) first.1) in
+            let e : Some typed.0 ≡ Some r = sym typed.1 ∙ at in
+            let f : typed.0 ≡ r = cc in
+            let k = clock_ref s c is r.clock (ap (λ (z : Register). type_in c.ports c.body z.clock) (sym f) ∙ typed.2.clocked) in
+            let g = ((module_ok d x s c is).ops i o there).clocked r at in
+            let clock_name : name_or_nothing (named c r.clock) ≡ key_text c (port_key g.number) = ap (λ z. name_or_nothing (named c z)) g.is_port ∙ ap name_or_nothing (named_input d x s c is g.number g.clock g.there g.input) in
+            record {
+              number = g.number;
+              port_of = g.clock;
+              there = g.there;
+              input = g.input;
+              type = (let t : Some g.clock.type ≡ Some clock = sym (ap (λ b. cond b None (Some g.clock.type)) g.input) ∙ sym (ap input_type g.there) ∙ ap (type_in c.ports c.body) (sym g.is_port) ∙ ap (λ (z : Register). type_in c.ports c.body z.clock) (sym f) ∙ typed.2.clocked in
+                  let u : g.clock.type ≡ clock = cc in u);
+              called = sym (name_from (name_or_nothing (named c r.clock)) a same) ∙ clock_name;
+            }
+
+        in_connection : (i : ℕ) (o : Op) (y : Called d c o) (j : ℕ) (p : Port) → slice_get y.module_of.ports j ≡ Some p → (e : Connection) → e ≡ connection_of y.module_of c i j 0 (take j y.module_of.ports) p o.operands
+            → ((t : Name) (z : Module) → find_module d t ≡ Some z → (w : Name) → is_clock n (tree_of d) (symbol_name d t) w ≡ true → IsClockInput z w)
+            → (inner (symbol_name d y.kind.symbol) e.port && is_name a e.value) ≡ true → IsClockInput c a
+        in_connection i o y j p there e as_it below both =
+            let u = both_of (inner (symbol_name d y.kind.symbol) e.port) (is_name a e.value) both in
+            let k : IsClockInput y.module_of (key_text y.module_of (port_key j)) = subst (IsClockInput y.module_of) (ap (λ (z : Connection). z.port) as_it) (below y.kind.symbol y.module_of y.there e.port u.0) in
+            let q = same_port c o y i j p there k in
+            let g = joined_clock s c is o y j p there q.0 q.1 in
+            let value : e.value ≡ name (key_text c (port_key g.2.number)) = ap (λ (z : Connection). z.value) as_it
+            ∙ ap (λ b. cond b (name (key_text c (value_key i (0 + output_count (take j y.module_of.ports))))) (expr_for (expression c) (slice_get o.operands (input_count (take j y.module_of.ports))))) q.0
+            ∙ ap (expr_for (expression c)) g.1 ∙ g.2.written in
+            record {
+              number = g.2.number;
+              port_of = g.2.port_of;
+              there = g.2.there;
+              input = g.2.input;
+              type = g.2.type;
+              called = sym (name_from (key_text c (port_key g.2.number)) a (ap (is_name a) (sym value) ∙ u.1));
+            }
+
+        in_connections : (i : ℕ) (o : Op) (y : Called d c o) (es : List Connection) → ((e : Connection) → In e es → (j : ℕ) × (p : Port) × (slice_get y.module_of.ports j ≡ Some p) × (e ≡ connection_of y.module_of c i j 0 (take j y.module_of.ports) p o.operands))
+            → ((t : Name) (z : Module) → find_module d t ≡ Some z → (w : Name) → is_clock n (tree_of d) (symbol_name d t) w ≡ true → IsClockInput z w)
+            → inner_clock inner a (symbol_name d y.kind.symbol) es ≡ true → IsClockInput c a
+        in_connections i o y [] from below h = absurd (false≢true h)
+        in_connections i o y (e ∷ es) from below h = go (either (inner (symbol_name d y.kind.symbol) e.port && is_name a e.value) (inner_clock inner a (symbol_name d y.kind.symbol) es) h) (in_connections i o y es (λ f w. from f (inr w)) below) where
+          go : ((inner (symbol_name d y.kind.symbol) e.port && is_name a e.value) ≡ true) ⊎ (inner_clock inner a (symbol_name d y.kind.symbol) es ≡ true) → (inner_clock inner a (symbol_name d y.kind.symbol) es ≡ true → IsClockInput c a) → IsClockInput c a
+          go (inl u) rest = let f = from e (inl refl) in in_connection i o y f.0 f.1 f.2 e f.3 below u
+          go (inr u) rest = rest u
+
+        in_item : (y : Item) → From d c y → ((t : Name) (z : Module) → find_module d t ≡ Some z → (w : Name) → is_clock n (tree_of d) (symbol_name d t) w ≡ true → IsClockInput z w)
+            → uses_clock inner a y ≡ true → IsClockInput c a
+        in_item y (net_wire i o there role same) below h = absurd (false≢true (ap (uses_clock inner a) (sym same) ∙ h))
+        in_item y (variable_reg i o there role same) below h = absurd (false≢true (ap (uses_clock inner a) (sym same) ∙ h))
+        in_item y (result_wire i k o r there role at same) below h = absurd (false≢true (ap (uses_clock inner a) (sym same) ∙ h))
+        in_item y (net_assign i o there role same) below h = absurd (false≢true (ap (uses_clock inner a) (sym same) ∙ h))
+        in_item y (variable_block i o r there role at same) below h = in_register i o r there role at (ap (uses_clock inner a) (sym same) ∙ h)
+        in_item y (an_instance i o z there role at same) below h =
+            let e : Called d c o = called_by d x s c is i o there z at in
+            in_connections i o e (connections_of e.module_of c i 0 0 e.module_of.ports o.operands)
+            (λ f w. let g = from_connections e.module_of c i 0 0 e.module_of.ports o.operands f w in
+            (g.0, g.1, g.2, g.3 ∙ ap (λ q. connection_of e.module_of c i q 0 (take g.0 e.module_of.ports) g.1 o.operands) (zero-add g.0))) below
+            (ap (λ q. inner_clock inner a (symbol_name d z.symbol) (connections_to q c i o)) (sym e.there) ∙ ap (uses_clock inner a) (sym same) ∙ h)
+        in_item y (output_assign j p there out same) below h = absurd (false≢true (ap (uses_clock inner a) (sym same) ∙ h))
+
+        in_items : (ys : List Item) → ((y : Item) → In y ys → From d c y) → any_uses_clock inner a ys ≡ true
+            → ((t : Name) (z : Module) → find_module d t ≡ Some z → (w : Name) → is_clock n (tree_of d) (symbol_name d t) w ≡ true → IsClockInput z w) → IsClockInput c a
+        in_items [] from h below = absurd (false≢true h)
+        in_items (y ∷ ys) from h below = go (either (uses_clock inner a y) (any_uses_clock inner a ys) h) (λ u. in_items ys (λ z w. from z (inr w)) u below) where
+          go : (uses_clock inner a y ≡ true) ⊎ (any_uses_clock inner a ys ≡ true) → (any_uses_clock inner a ys ≡ true → IsClockInput c a) → IsClockInput c a
+          go (inl u) rest = in_item y (from y (inl refl)) below u
+          go (inr u) rest = rest u
+
+  -- ---- the connections of a module
+
+  connection_clock : (s : Name) (m : Module) (is : find_module d s ≡ Some m) (i : ℕ) (o : Op) (y : Called d m o) (j : ℕ) (p : Port) → slice_get y.module_of.ports j ≡ Some p → (e : Connection)
+      → e ≡ connection_of y.module_of m i j 0 (take j y.module_of.ports) p o.operands
+      → (not (is_clock (suc (length (tree_of d))) (tree_of d) (symbol_name d y.kind.symbol) e.port) || is_input_name (vports m) e.value) ≡ true
+  connection_clock s m is i o y j p there e as_it = go (is_clock (suc (length (tree_of d))) (tree_of d) (symbol_name d y.kind.symbol) e.port) refl where
+    is_input : (n : ℕ) (q : Port) → slice_get m.ports n ≡ Some q → q.is_output ≡ false → is_input_name (vports m) (name (key_text m (port_key n))) ≡ true
+    is_input n q at out = simp (port_under m (x.names s m is) (port_key n) (port_in m n q at) ∙ ap (omap (vport_at m n)) at, out) refl
+
+    go : (b : Bool) → is_clock (suc (length (tree_of d))) (tree_of d) (symbol_name d y.kind.symbol) e.port ≡ b → (not b || is_input_name (vports m) e.value) ≡ true
+    go false used = refl
+    go true used =
+        let k : IsClockInput y.module_of (key_text y.module_of (port_key j)) = subst (IsClockInput y.module_of) (ap (λ (z : Connection). z.port) as_it) (clock_input (suc (length (tree_of d))) y.kind.symbol y.module_of y.there e.port used) in
+        let q = same_port m o y i j p there k in
+        let g = joined_clock s m is o y j p there q.0 q.1 in
+        let value : e.value ≡ name (key_text m (port_key g.2.number)) = ap (λ (z : Connection). z.value) as_it
+        ∙ ap (λ b. cond b (name (key_text m (value_key i (0 + output_count (take j y.module_of.ports))))) (expr_for (expression m) (slice_get o.operands (input_count (take j y.module_of.ports))))) q.0
+        ∙ ap (expr_for (expression m)) g.1 ∙ g.2.written in
+        ap (is_input_name (vports m)) value ∙ is_input g.2.number g.2.port_of g.2.there g.2.input
+
+  module _ (s : Name) (m : Module) (is : find_module d s ≡ Some m) where
+    connections_clocked : (i : ℕ) (o : Op) (y : Called d m o) (es : List Connection) → ((e : Connection) → In e es → (j : ℕ) × (p : Port) × (slice_get y.module_of.ports j ≡ Some p) × (e ≡ connection_of y.module_of m i j 0 (take j y.module_of.ports) p o.operands))
+        → clocks_joined (tree_of d) (vports m) (symbol_name d y.kind.symbol) es ≡ true
+    connections_clocked i o y [] from = refl
+    connections_clocked i o y (e ∷ es) from = let f = from e (inl refl) in
+        and_intro (not (is_clock (suc (length (tree_of d))) (tree_of d) (symbol_name d y.kind.symbol) e.port) || is_input_name (vports m) e.value) (clocks_joined (tree_of d) (vports m) (symbol_name d y.kind.symbol) es)
+        (connection_clock s m is i o y f.0 f.1 f.2 e f.3) (connections_clocked i o y es (λ z w. from z (inr w)))
+
+    -- what one item asks
+    item_clocks : Item → Bool
+    item_clocks (instance c u cs) = clocks_joined (tree_of d) (vports m) c cs
+    item_clocks _ = true
+
+    clocks_more : (y : Item) (ys : List Item) → item_clocks y ≡ true → clocks_check (tree_of d) (vports m) ys ≡ true → clocks_check (tree_of d) (vports m) (y ∷ ys) ≡ true
+    unfolding item_clocks
+    clocks_more (wire h n) ys a b = b
+    clocks_more (reg h n) ys a b = b
+    clocks_more (assign n e) ys a b = b
+    clocks_more (always c e) ys a b = b
+    clocks_more (instance c u cs) ys a b = and_intro (clocks_joined (tree_of d) (vports m) c cs) (clocks_check (tree_of d) (vports m) ys) a b
+
+    one_clocked : (y : Item) → From d m y → item_clocks y ≡ true
+    unfolding item_clocks
+    one_clocked y (net_wire i o there role same) = ap item_clocks same
+    one_clocked y (variable_reg i o there role same) = ap item_clocks same
+    one_clocked y (result_wire i k o r there role at same) = ap item_clocks same
+    one_clocked y (net_assign i o there role same) = ap item_clocks same
+    one_clocked y (variable_block i o r there role at same) = ap item_clocks same
+    one_clocked y (an_instance i o z there role at same) =
+        let e : Called d m o = called_by d x s m is i o there z at in
+        ap item_clocks same ∙ ap (λ q. clocks_joined (tree_of d) (vports m) (symbol_name d z.symbol) (connections_to q m i o)) e.there
+        ∙ connections_clocked i o e (connections_of e.module_of m i 0 0 e.module_of.ports o.operands)
+        (λ f w. let g = from_connections e.module_of m i 0 0 e.module_of.ports o.operands f w in
+        (g.0, g.1, g.2, g.3 ∙ ap (λ q. connection_of e.module_of m i q 0 (take g.0 e.module_of.ports) g.1 o.operands) (zero-add g.0)))
+    one_clocked y (output_assign j p there out same) = ap item_clocks same
+
+    all_clocked : (ys : List Item) → ((y : Item) → In y ys → From d m y) → clocks_check (tree_of d) (vports m) ys ≡ true
+    all_clocked [] from = refl
+    all_clocked (y ∷ ys) from = clocks_more y ys (one_clocked y (from y (inl refl))) (all_clocked ys (λ z w. from z (inr w)))
+
+    pub clocks_are_checked : clocks_check (tree_of d) (vports m) (vitems d m) ≡ true
+    clocks_are_checked = all_clocked (vitems d m) (λ y w. from_items d m y w)

@@ -1,0 +1,9 @@
+pub mod Drives
+pub mod Items
+pub mod Lists
+pub mod Lookups
+pub mod Marks
+pub mod Operands
+pub mod Registers
+pub mod Settings
+pub mod Writable

@@ -1,0 +1,100 @@
+-- The operands of a register and their types.
+use Rattle.std.proofs.Common.{◌≡◌, ℕ, Bool, true, false, List, [], ◌∷◌, map, slice_get, Option, Some, None, refl, sym, ◌∙◌, ap, inr}
+use Rattle.wiring.specs.Options.{bind, omap}
+use Rattle.hw_model.specs.Types.{Name, HwType}
+use Rattle.hw_model.specs.Types.HwType.{int, clock}
+use Rattle.hw_model.specs.Kinds.{Kind, Reset}
+use Rattle.hw_model.specs.Kinds.Reset.{no_reset, sync_reset}
+use Rattle.hw_model.specs.Kinds.Kind.{register}
+use Rattle.hw_model.specs.Design.{Ref, OpResult, Op, Module, Design, RegisterForm, takes_enable, find_module, register_form, result_type}
+use Rattle.hw_model.specs.Flat.{Register, ResetBy, register_parts, register_in}
+use Rattle.hw_model.specs.Sound.{type_in, register_types, Fits}
+use Rattle.export_verilog.specs.Keys.{role_of}
+use Rattle.export_verilog.specs.Keys.Role.{variable}
+use Rattle.export_verilog.proofs.names.KeysOf.{register_of_role}
+use Rattle.export_verilog.proofs.items.Settings.{Setting, module_sound, result_at_first}
+
+-- the operands of a register of type t have their types
+pub record AreOperands (type_of : Ref → Option HwType) (t : HwType) (r : Register) : Type 0 where
+  pub next : type_of r.next ≡ Some t
+  pub clocked : type_of r.clock ≡ Some clock
+  pub enable : (e : Ref) → r.enable ≡ Some e → type_of e ≡ Some (int 1)
+  pub signal : (b : ResetBy) → r.reset ≡ Some b → type_of b.signal ≡ Some (int 1)
+  pub value : (b : ResetBy) → r.reset ≡ Some b → type_of b.value ≡ Some t
+
+module _ (type_of : Ref → Option HwType) (t : HwType) where
+  pub parts_typed : (e : Bool) (r : Reset) (rs : List Ref) → map type_of rs ≡ register_types e r t → (g : Register) × (register_parts e r rs ≡ Some g) × AreOperands type_of t g
+  parts_typed false no_reset [] is = cc
+  parts_typed false no_reset (a ∷ []) is = cc
+  parts_typed false no_reset (a ∷ b ∷ []) is =
+      let p : type_of a ≡ Some t = cc in let q : type_of b ≡ Some clock = cc in
+      (record { next = a; clock = b; enable = None; reset = None }, refl, record { next = p; clocked = q; enable = λ e h. cc; signal = λ e h. cc; value = λ e h. cc })
+  parts_typed false no_reset (a ∷ b ∷ c ∷ rs) is = cc
+  parts_typed true no_reset [] is = cc
+  parts_typed true no_reset (a ∷ []) is = cc
+  parts_typed true no_reset (a ∷ b ∷ []) is = cc
+  parts_typed true no_reset (a ∷ b ∷ c ∷ []) is =
+      let p : type_of a ≡ Some t = cc in let q : type_of b ≡ Some clock = cc in let u : type_of c ≡ Some (int 1) = cc in (
+        record { next = a; clock = b; enable = Some c; reset = None },
+        refl,
+        record { next = p; clocked = q; enable = λ e h. (let same : c ≡ e = cc in ap type_of (sym same) ∙ u); signal = λ e h. cc; value = λ e h. cc },
+      )
+  parts_typed true no_reset (a ∷ b ∷ c ∷ f ∷ rs) is = cc
+  parts_typed false sync_reset [] is = cc
+  parts_typed false sync_reset (a ∷ []) is = cc
+  parts_typed false sync_reset (a ∷ b ∷ []) is = cc
+  parts_typed false sync_reset (a ∷ b ∷ c ∷ []) is = cc
+  parts_typed false sync_reset (a ∷ b ∷ c ∷ f ∷ []) is =
+      let p : type_of a ≡ Some t = cc in let q : type_of b ≡ Some clock = cc in let u : type_of c ≡ Some (int 1) = cc in let v : type_of f ≡ Some t = cc in
+      let by : ResetBy = record { signal = c; value = f } in (
+        record { next = a; clock = b; enable = None; reset = Some (record { signal = c; value = f }) },
+        refl,
+        record {
+          next = p;
+          clocked = q;
+          enable = λ e h. cc;
+          signal = λ e h. (let same : by ≡ e = cc in ap (λ (z : ResetBy). type_of z.signal) (sym same) ∙ u);
+          value = λ e h. (let same : by ≡ e = cc in ap (λ (z : ResetBy). type_of z.value) (sym same) ∙ v);
+        },
+      )
+  parts_typed false sync_reset (a ∷ b ∷ c ∷ f ∷ g ∷ rs) is = cc
+  parts_typed true sync_reset [] is = cc
+  parts_typed true sync_reset (a ∷ []) is = cc
+  parts_typed true sync_reset (a ∷ b ∷ []) is = cc
+  parts_typed true sync_reset (a ∷ b ∷ c ∷ []) is = cc
+  parts_typed true sync_reset (a ∷ b ∷ c ∷ f ∷ []) is = cc
+  parts_typed true sync_reset (a ∷ b ∷ z ∷ c ∷ f ∷ []) is =
+      let p : type_of a ≡ Some t = cc in let q : type_of b ≡ Some clock = cc in let w : type_of z ≡ Some (int 1) = cc in
+      let u : type_of c ≡ Some (int 1) = cc in let v : type_of f ≡ Some t = cc in
+      let by : ResetBy = record { signal = c; value = f } in (
+        record { next = a; clock = b; enable = Some z; reset = Some (record { signal = c; value = f }) },
+        refl,
+        record {
+          next = p;
+          clocked = q;
+          enable = λ e h. (let same : z ≡ e = cc in ap type_of (sym same) ∙ w);
+          signal = λ e h. (let same : by ≡ e = cc in ap (λ (z : ResetBy). type_of z.signal) (sym same) ∙ u);
+          value = λ e h. (let same : by ≡ e = cc in ap (λ (z : ResetBy). type_of z.value) (sym same) ∙ v);
+        },
+      )
+  parts_typed true sync_reset (a ∷ b ∷ z ∷ c ∷ f ∷ g ∷ rs) is = cc
+
+pub form_fits : (kind : Kind) (f : RegisterForm) (ts : List HwType) (xs : List (Option HwType)) (t : HwType) (k : ℕ) → register_form kind ≡ Some f → Fits kind ts xs t k
+    → xs ≡ register_types f.has_enable f.reset t
+form_fits (register g r) f ts xs t k is fits =
+    fits ∙ ap (λ (z : RegisterForm). register_types z.has_enable z.reset t) (let e : record { has_enable = takes_enable g; reset = r } ≡ f = cc in e)
+form_fits kind f ts xs t k is fits = cc
+
+module _ (d : Design) (x : Setting d) (s : Name) (m : Module) (is : find_module d s ≡ Some m) where
+  pub typed_register : (i : ℕ) (o : Op) → slice_get m.body i ≡ Some o → role_of m.ports m.body i o ≡ variable → (t : HwType) → result_type o 0 ≡ Some t
+      → (r : Register) × (register_in o ≡ Some r) × AreOperands (type_in m.ports m.body) t r
+  typed_register i o there role t typed =
+      let f = register_of_role m.ports m.body i o role in
+      let fits = form_fits o.kind f.0 o.types (map (type_in m.ports m.body) o.operands) t 0 f.1 ((module_sound d x s m is).ops i o there 0 t typed) in
+      let g = parts_typed (type_in m.ports m.body) t f.0.has_enable f.0.reset o.operands fits in
+      (g.0, ap (λ z. bind z (λ (f : RegisterForm). register_parts f.has_enable f.reset o.operands)) f.1 ∙ g.1, g.2)
+
+  pub register_of : (i : ℕ) (o : Op) → slice_get m.body i ≡ Some o → role_of m.ports m.body i o ≡ variable → (r : Register) × (register_in o ≡ Some r)
+  register_of i o there role =
+      let h = result_at_first d x s m is i o there (inr role) in
+      let g = typed_register i o there role h.0.type (ap (omap (λ (z : OpResult). z.type)) h.1) in (g.0, g.1)

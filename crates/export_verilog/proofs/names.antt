@@ -1,0 +1,13 @@
+pub mod Adding
+pub mod Apart
+pub mod GivenNames
+pub mod KeyNames
+pub mod KeyWishes
+pub mod KeysOf
+pub mod ModuleNames
+pub mod PortLists
+pub mod PortNames
+pub mod SameNames
+pub mod SymbolPlaces
+pub mod Symbols
+pub mod Walking

@@ -1,0 +1,92 @@
+-- Lists of things of which none stands twice have distinct names.
+use Rattle.std.proofs.Common.{◌≡◌, ℕ, suc, ◌+◌, ◌⊎◌, Bool, true, false, not, cond, ◌||◌, List, [], ◌∷◌, ◌++◌, map, slice_get, Some, refl, sym, ◌∙◌, ap, subst, inl, inr, arith, add-zero, zero-add, suc-add, add-suc}
+use Rattle.wiring.specs.Wiring.{In}
+use Rattle.hw_model.specs.Design.{Port, Ref, Module, same_name}
+use Rattle.hw_model.specs.Equality.{name_from}
+use Rattle.verilog_model.specs.Tree.{Expr, Connection}
+use Rattle.verilog_model.specs.Tree.Expr.{name}
+use Rattle.verilog_model.specs.Checks.{contains_name, are_distinct}
+use Rattle.verilog_model.proofs.Numerals.{and_intro}
+use Rattle.export_verilog.specs.Keys.{Key, key_text, module_keys}
+use Rattle.export_verilog.specs.Keys.Key.{port_key, value_key}
+use Rattle.export_verilog.specs.Exported.{expression, expr_or_none, connections_of, others}
+use Rattle.export_verilog.proofs.items.Lists.{in_append}
+use Rattle.export_verilog.proofs.names.KeyNames.{AreNames, texts_apart}
+use Rattle.export_verilog.proofs.names.KeysOf.{port_in}
+
+-- no element stands twice
+abbrev pub AreApart : {A : Type 0} → List A → Type 0
+AreApart [] = Unit {0}
+AreApart (k ∷ ks) = (In k ks → ⊥) × AreApart ks
+
+-- joined lists without a common element
+pub joined_apart : {A : Type 0} (ks ls : List A) → AreApart ks → AreApart ls → ((k : A) → In k ks → In k ls → ⊥) → AreApart (ks ++ ls)
+joined_apart [] ls a b disjoint = b
+joined_apart (k ∷ ks) ls a b disjoint =
+    ((λ h. away (in_append k ks ls h)), joined_apart ks ls a.1 b (λ l u v. disjoint l (inr u) v)) where
+      away : In k ks ⊎ In k ls → ⊥
+      away (inl h) = a.0 h
+      away (inr h) = disjoint k (inl refl) h
+
+-- ---- names
+
+-- a name that is no thing's text
+pub not_contained : (m : Module) (k : Key) (ks : List Key) → ((l : Key) → In l ks → key_text m k ≡ key_text m l → ⊥) → contains_name (key_text m k) (map (key_text m) ks) ≡ false
+not_contained m k [] away = refl
+not_contained m k (l ∷ ks) away = go (same_name (key_text m l) (key_text m k)) refl (not_contained m k ks (λ h u e. away h (inr u) e)) where
+  go : (b : Bool) → same_name (key_text m l) (key_text m k) ≡ b → contains_name (key_text m k) (map (key_text m) ks) ≡ false → (b || contains_name (key_text m k) (map (key_text m) ks)) ≡ false
+  go true e rest = absurd (away l (inl refl) (sym (name_from (key_text m l) (key_text m k) e)))
+  go false e rest = rest
+
+pub texts_distinct : (m : Module) (are : AreNames m) (ks : List Key) → ((k : Key) → In k ks → In k (module_keys m)) → AreApart ks → are_distinct (map (key_text m) ks) ≡ true
+texts_distinct m are [] within apart = refl
+texts_distinct m are (k ∷ ks) within apart =
+    and_intro (not (contains_name (key_text m k) (map (key_text m) ks))) (are_distinct (map (key_text m) ks))
+    (ap not (not_contained m k ks (λ l here e. apart.0 (subst (λ z. In z ks) (sym (texts_apart m are k l (within k (inl refl)) (within l (inr here)) e)) here))))
+    (texts_distinct m are ks (λ l h. within l (inr h)) apart.1)
+
+-- ---- the ports of a module
+
+-- the keys of so many ports from one on
+unfoldable pub port_keys_from : ℕ → List Port → List Key
+port_keys_from j [] = []
+port_keys_from j (p ∷ ps) = port_key j ∷ port_keys_from (suc j) ps
+
+pub port_keys_above : (j : ℕ) (ps : List Port) (k : Key) → In k (port_keys_from j ps) → (n : ℕ) × (p : Port) × (slice_get ps n ≡ Some p) × (k ≡ port_key (j + n))
+unfolding port_keys_from
+port_keys_above j [] k here = absurd here
+port_keys_above j (p ∷ ps) k (inl same) = (0, p, refl, same ∙ ap port_key (sym (add-zero j)))
+port_keys_above j (p ∷ ps) k (inr here) = let h = port_keys_above (suc j) ps k here in
+    (suc h.0, h.1, h.2, h.3 ∙ ap port_key (suc-add j h.0 ∙ sym (add-suc j h.0)))
+
+pub port_keys_apart : (j : ℕ) (ps : List Port) → AreApart (port_keys_from j ps)
+unfolding port_keys_from
+port_keys_apart j [] = tt
+port_keys_apart j (p ∷ ps) =
+    ((λ h. let e = port_keys_above (suc j) ps (port_key j) h in clash e.0 e.3), port_keys_apart (suc j) ps) where
+      clash : (n : ℕ) → port_key j ≡ port_key (suc j + n) → ⊥
+      clash n e = let f : j ≡ suc j + n = cc in omega (arith, f)
+
+pub port_keys_within : (m : Module) (k : Key) → In k (port_keys_from 0 m.ports) → In k (module_keys m)
+port_keys_within m k here = let e = port_keys_above 0 m.ports k here in
+    subst (λ z. In z (module_keys m)) (sym (e.3 ∙ ap port_key (zero-add e.0))) (port_in m e.0 e.1 e.2)
+
+-- the ports that an instance joins
+pub connected_ports : (c m : Module) (i j k : ℕ) (ps : List Port) (rs : List Ref) → map (λ (y : Connection). y.port) (connections_of c m i j k ps rs) ≡ map (key_text c) (port_keys_from j ps)
+unfolding port_keys_from
+connected_ports c m i j k [] rs = refl
+connected_ports c m i j k (p ∷ ps) rs = go p.is_output (connected_ports c m i (suc j) (suc k) ps rs) (connected_ports c m i (suc j) k ps (others rs)) where
+  head : Expr → Connection
+  head e = record { port = key_text c (port_key j); value = e }
+
+  go : (b : Bool) → map (λ (y : Connection). y.port) (connections_of c m i (suc j) (suc k) ps rs) ≡ map (key_text c) (port_keys_from (suc j) ps)
+      → map (λ (y : Connection). y.port) (connections_of c m i (suc j) k ps (others rs)) ≡ map (key_text c) (port_keys_from (suc j) ps)
+      → map (λ (y : Connection). y.port) (cond b (head (name (key_text m (value_key i k))) ∷ connections_of c m i (suc j) (suc k) ps rs) (head (expr_or_none (expression m) rs) ∷ connections_of c m i (suc j) k ps (others rs)))
+      ≡ key_text c (port_key j) ∷ map (key_text c) (port_keys_from (suc j) ps)
+  go true x y = ap (λ z. key_text c (port_key j) ∷ z) x
+  go false x y = ap (λ z. key_text c (port_key j) ∷ z) y
+
+pub ports_distinct : (c m : Module) (are : AreNames c) (i : ℕ) (rs : List Ref) → are_distinct (map (λ (y : Connection). y.port) (connections_of c m i 0 0 c.ports rs)) ≡ true
+ports_distinct c m are i rs =
+    ap are_distinct (connected_ports c m i 0 0 c.ports rs)
+    ∙ texts_distinct c are (port_keys_from 0 c.ports) (port_keys_within c) (port_keys_apart 0 c.ports)

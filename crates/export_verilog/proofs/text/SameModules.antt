@@ -1,0 +1,147 @@
+-- The names and the items of a module depend on its ports and its body alone.
+use Rattle.std.proofs.Common.{◌≡◌, ℕ, suc, Bool, cond, List, [], ◌∷◌, ◌++◌, map, slice_get, Option, Some, None, refl, ◌∙◌, ap, ap₂}
+use Rattle.hw_model.specs.Types.{Name, width}
+use Rattle.hw_model.specs.Kinds.{Instance}
+use Rattle.hw_model.specs.Design.{Ref, Port, OpResult, Op, Entry, Place, Module, Design, find_module, instance_in, result_type, output_refs}
+use Rattle.hw_model.specs.Design.Ref.{port, result, undefined}
+use Rattle.hw_model.specs.Flat.{width_of, Register, ResetBy, register_in}
+use Rattle.verilog_model.specs.Tree.{Expr}
+use Rattle.verilog_model.specs.Tree.Expr.{name}
+use Rattle.verilog_model.specs.Tree.Block.{load, if_load, if_else, if_else_if}
+use Rattle.verilog_model.specs.Tree.Item.{wire, reg, assign, always, instance}
+use Rattle.name_legalise.specs.Legal.{legal}
+use Rattle.verilog_expr.specs.Numerals.{high_of}
+use Rattle.verilog_expr.specs.Spilling.{height_limit}
+use Rattle.export_verilog.specs.Keys.{Key, Role, each, role_of, wish, module_keys, names, name_among, key_name, key_text, name_or_nothing, input_name, named}
+use Rattle.export_verilog.specs.Keys.Key.{port_key, value_key, instance_key}
+use Rattle.export_verilog.specs.Keys.Role.{hidden, net, variable, block}
+use Rattle.export_verilog.specs.Exported.{expression, assigned_expr, vport, vports, result_wires, declared_as, declares, loads, block_of, always_of, expr_or_none, others, connections_of, connections_to, instance_of, stated_as, states, output_assigns, symbol_name, vitems}
+use Rattle.export_verilog.specs.ModuleTexts.{module_under}
+use Rattle.export_verilog.proofs.names.SameNames.{own_same, expr_same}
+
+each_same : {A B : Type 0} (f g : ℕ → A → List B) → ((i : ℕ) (x : A) → f i x ≡ g i x) → (i : ℕ) (xs : List A) → each f i xs ≡ each g i xs
+each_same f g same i [] = refl
+each_same f g same i (x ∷ xs) = ap₂ (λ a b. a ++ b) (same i x) (each_same f g same (suc i) xs)
+
+module _ (f g : Ref → Expr) (same : (r : Ref) → f r ≡ g r) where
+  block_same : (q p : Name) → q ≡ p → (next : Ref) (en : Option Ref) (r : Option ResetBy) → block_of f q next en r ≡ block_of g p next en r
+  block_same q p e next None None = ap₂ (λ n x. load (loads n x)) e (same next)
+  block_same q p e next (Some en) None = ap₂ (λ n x. if_load (f en) (loads n x)) e (same next) ∙ ap (λ c. if_load c (loads p (g next))) (same en)
+  block_same q p e next None (Some r) =
+      ap₂ (λ n x. if_else (f r.signal) (loads n (f r.value)) (loads n x)) e (same next)
+      ∙ ap₂ (λ c v. if_else c (loads p v) (loads p (g next))) (same r.signal) (same r.value)
+  block_same q p e next (Some en) (Some r) =
+      ap₂ (λ n x. if_else_if (f r.signal) (loads n (f r.value)) (f en) (loads n x)) e (same next)
+      ∙ ap₂ (λ c v. if_else_if c (loads p v) (f en) (loads p (g next))) (same r.signal) (same r.value)
+      ∙ ap (λ c. if_else_if (g r.signal) (loads p (g r.value)) c (loads p (g next))) (same en)
+
+  first_same : (rs : List Ref) → expr_or_none f rs ≡ expr_or_none g rs
+  first_same [] = refl
+  first_same (r ∷ rs) = same r
+
+module _ (m : Module) (symbol : Name) (is_private : Bool) (dictionary : List Entry) (place : Place) where
+  -- a module of the same ports and the same body
+  abbrev pub other : Module
+  other = record { symbol = symbol; is_private = is_private; ports = m.ports; dictionary = dictionary; body = m.body; place = place }
+
+  -- ---- names
+
+  wish_same : (k : Key) → wish m k ≡ wish other k
+  wish_same (port_key j) = refl
+  wish_same (value_key i k) = refl
+  wish_same (instance_key i) = refl
+
+  wishes_same : (ks : List Key) → map (wish m) ks ≡ map (wish other) ks
+  wishes_same [] = refl
+  wishes_same (k ∷ ks) = ap₂ (λ n ns. n ∷ ns) (wish_same k) (wishes_same ks)
+
+  names_same : names m ≡ names other
+  unfolding names
+  names_same = ap legal (wishes_same (module_keys m))
+
+  key_same : (k : Key) → key_name m k ≡ key_name other k
+  key_same k = ap (λ ns. name_among (module_keys m) ns k) names_same
+
+  text_same : (k : Key) → key_text m k ≡ key_text other k
+  text_same k = ap name_or_nothing (key_same k)
+
+  input_same : (j : ℕ) (p : Option Port) → input_name m j p ≡ input_name other j p
+  input_same j None = refl
+  input_same j (Some p) = ap (cond p.is_output None) (key_same (port_key j))
+
+  named_same : (r : Ref) → named m r ≡ named other r
+  named_same (port j) = input_same j (slice_get m.ports j)
+  named_same (result i k) = key_same (value_key i k)
+  named_same undefined = refl
+
+  expression_same : (r : Ref) → expression m r ≡ expression other r
+  expression_same r = expr_same (named m) (named other) m.ports m.body named_same (suc height_limit) r
+
+  assigned_same : (r : Ref) → assigned_expr m r ≡ assigned_expr other r
+  assigned_same r = own_same (named m) (named other) m.ports m.body (expression m) (expression other) expression_same r
+
+  -- ---- declarations
+
+  wires_same : (i k : ℕ) (rs : List OpResult) → result_wires m i k rs ≡ result_wires other i k rs
+  wires_same i k [] = refl
+  wires_same i k (r ∷ rs) = ap₂ (λ n is. wire (high_of (width r.type)) n ∷ is) (text_same (value_key i k)) (wires_same i (suc k) rs)
+
+  declared_same : (i : ℕ) (o : Op) (q : Role) → declared_as m i o q ≡ declared_as other i o q
+  declared_same i o hidden = refl
+  declared_same i o net = ap (λ n. wire (high_of (width_of (result_type o 0))) n ∷ []) (text_same (value_key i 0))
+  declared_same i o variable = ap (λ n. reg (high_of (width_of (result_type o 0))) n ∷ []) (text_same (value_key i 0))
+  declared_same i o block = wires_same i 0 o.results
+
+  -- ---- statements
+
+  always_same : (q p : Name) → q ≡ p → (r : Option Register) → always_of m q r ≡ always_of other p r
+  always_same q p e None = refl
+  always_same q p e (Some r) =
+      ap₂ (λ c b. always c b ∷ []) (ap name_or_nothing (named_same r.clock)) (block_same (expression m) (expression other) expression_same q p e r.next r.enable r.reset)
+
+  operand_same : (rs : List Ref) → expr_or_none (expression m) rs ≡ expr_or_none (expression other) rs
+  operand_same rs = first_same (expression m) (expression other) expression_same rs
+
+  connections_same : (c : Module) (i j k : ℕ) (ps : List Port) (rs : List Ref) → connections_of c m i j k ps rs ≡ connections_of c other i j k ps rs
+  connections_same c i j k [] rs = refl
+  connections_same c i j k (p ∷ ps) rs =
+      ap₂ (cond p.is_output)
+      (ap₂ (λ n cs. record { port = key_text c (port_key j); value = name n } ∷ cs) (text_same (value_key i k)) (connections_same c i (suc j) (suc k) ps rs))
+      (ap₂ (λ e cs. record { port = key_text c (port_key j); value = e } ∷ cs) (operand_same rs) (connections_same c i (suc j) k ps (others rs)))
+
+  joined_same : (c : Option Module) (i : ℕ) (o : Op) → connections_to c m i o ≡ connections_to c other i o
+  joined_same None i o = refl
+  joined_same (Some c) i o = connections_same c i 0 0 c.ports o.operands
+
+  instance_same : (d : Design) (i : ℕ) (o : Op) (x : Option Instance) → instance_of d m i o x ≡ instance_of d other i o x
+  instance_same d i o None = refl
+  instance_same d i o (Some x) =
+      ap₂ (λ n cs. instance (symbol_name d x.symbol) n cs ∷ []) (text_same (instance_key i)) (joined_same (find_module d x.symbol) i o)
+
+  stated_same : (d : Design) (i : ℕ) (o : Op) (q : Role) → stated_as d m i o q ≡ stated_as d other i o q
+  stated_same d i o hidden = refl
+  stated_same d i o net = ap₂ (λ n e. assign n e ∷ []) (text_same (value_key i 0)) (assigned_same (result i 0))
+  stated_same d i o variable = always_same (key_text m (value_key i 0)) (key_text other (value_key i 0)) (text_same (value_key i 0)) (register_in o)
+  stated_same d i o block = instance_same d i o (instance_in o.kind)
+
+  outputs_same : (j : ℕ) (ps : List Port) (rs : List Ref) → output_assigns m j ps rs ≡ output_assigns other j ps rs
+  outputs_same j [] rs = refl
+  outputs_same j (p ∷ ps) rs =
+      ap₂ (cond p.is_output)
+      (ap₂ (λ n is. n ∷ is) (ap₂ assign (text_same (port_key j)) (operand_same rs)) (outputs_same (suc j) ps (others rs)))
+      (outputs_same (suc j) ps rs)
+
+  -- ---- modules
+
+  items_same : (d : Design) → vitems d m ≡ vitems d other
+  items_same d =
+      ap₂ (λ a b. a ++ b) (each_same (declares m) (declares other) (λ i o. declared_same i o (role_of m.ports m.body i o)) 0 m.body)
+      (ap₂ (λ a b. a ++ b) (each_same (states d m) (states d other) (λ i o. stated_same d i o (role_of m.ports m.body i o)) 0 m.body)
+      (outputs_same 0 m.ports (output_refs m.body)))
+
+  ports_same : vports m ≡ vports other
+  ports_same =
+      each_same (vport m) (vport other) (λ j p. ap (λ n. record { is_output = p.is_output; high = high_of (width p.type); name = n } ∷ []) (text_same (port_key j))) 0 m.ports
+
+  pub under_same : (d : Design) (n : Name) → module_under d n m ≡ module_under d n other
+  under_same d n = ap₂ (λ ps is. record { name = n; ports = ps; items = is }) ports_same (items_same d)

@@ -1,0 +1,62 @@
+-- The statements of an operation, by names that code holds, are those of its module.
+use Rattle.std.proofs.Common.{◌≡◌, ℕ, suc, [], ◌∷◌, Option, Some, None, refl, ◌∙◌, ap, ap₂}
+use Rattle.hw_model.specs.Types.{Name}
+use Rattle.hw_model.specs.Design.{Ref, Op, Design}
+use Rattle.hw_model.specs.Design.Ref.{result}
+use Rattle.hw_model.specs.Flat.{Register, ResetBy, register_in}
+use Rattle.verilog_model.specs.Tree.{Expr}
+use Rattle.verilog_model.specs.Tree.Block.{load, if_load, if_else, if_else_if}
+use Rattle.verilog_model.specs.Tree.Item.{assign, always}
+use Rattle.verilog_expr.specs.Expressions.{own_expr}
+use Rattle.verilog_expr.specs.Spilling.{height_limit}
+use Rattle.verilog_expr.specs.Scopes.{scope_ports, scope_ops}
+use Rattle.verilog_expr.specs.Named.{named_of}
+use Rattle.verilog_expr.specs.declared.scope.Scope.{Scope}
+use Rattle.verilog_expr.specs.declared.value_names.ValueNames.{ValueNames}
+use Rattle.export_verilog.specs.Keys.{name_or_nothing, named, key_text}
+use Rattle.export_verilog.specs.Keys.Key.{value_key}
+use Rattle.export_verilog.specs.Keys.Role.{net, variable}
+use Rattle.export_verilog.specs.Exported.{expression, assigned_expr, loads, block_of, always_of, stated_as}
+use Rattle.export_verilog.specs.ScopeModules.{scope_module}
+use Rattle.export_verilog.specs.Statements.{register_items}
+use Rattle.export_verilog.specs.Values.{value_expr}
+use Rattle.export_verilog.proofs.names.SameNames.{expr_same, own_same}
+
+block_same : (ex ey : Ref → Expr) → ((r : Ref) → ex r ≡ ey r) → (q : Name) (next : Ref) (en : Option Ref) (by : Option ResetBy) → block_of ex q next en by ≡ block_of ey q next en by
+block_same ex ey same q next None None = ap (λ x. load (loads q x)) (same next)
+block_same ex ey same q next (Some en) None = ap₂ (λ x y. if_load y (loads q x)) (same next) (same en)
+block_same ex ey same q next None (Some by) =
+    ap₂ (λ x y. if_else y (loads q (ex by.value)) (loads q x)) (same next) (same by.signal)
+    ∙ ap (λ x. if_else (ey by.signal) (loads q x) (loads q (ey next))) (same by.value)
+block_same ex ey same q next (Some en) (Some by) =
+    ap₂ (λ x y. if_else_if y (loads q (ex by.value)) (ex en) (loads q x)) (same next) (same by.signal)
+    ∙ ap₂ (λ x y. if_else_if (ey by.signal) (loads q x) y (loads q (ey next))) (same by.value) (same en)
+
+module _ (s : Scope) (v : ValueNames) (values : (r : Ref) → named_of v r ≡ named (scope_module s) r) where
+  -- where a value is used
+  pub used_same : (r : Ref) → value_expr s v r ≡ expression (scope_module s) r
+  used_same r = expr_same (named_of v) (named (scope_module s)) (scope_ports s) (scope_ops s) values (suc height_limit) r
+
+  -- what is assigned to a value's own name
+  pub assigned_same : (r : Ref) → own_expr (named_of v) (scope_ports s) (scope_ops s) (value_expr s v) r ≡ assigned_expr (scope_module s) r
+  assigned_same r = own_same (named_of v) (named (scope_module s)) (scope_ports s) (scope_ops s) (value_expr s v) (expression (scope_module s)) used_same r
+
+  -- the statement of a register
+  pub register_same : (q : Name) (r : Option Register) → register_items (named_of v) (value_expr s v) q r ≡ always_of (scope_module s) q r
+  register_same q None = refl
+  register_same q (Some r) =
+      ap₂ (λ n b. always (name_or_nothing n) b ∷ []) (values r.clock) (block_same (value_expr s v) (expression (scope_module s)) used_same q r.next r.enable r.reset)
+
+  -- what is stated for an operation at a place
+  module _ (d : Design) (i j : ℕ) (o : Op) (place : j ≡ i) where
+    own_name : name_or_nothing (named_of v (result j 0)) ≡ key_text (scope_module s) (value_key i 0)
+    own_name = ap (λ n. name_or_nothing (named_of v (result n 0))) place ∙ ap name_or_nothing (values (result i 0))
+
+    pub net_same : assign (name_or_nothing (named_of v (result j 0))) (own_expr (named_of v) (scope_ports s) (scope_ops s) (value_expr s v) (result j 0)) ∷ []
+        ≡ stated_as d (scope_module s) i o net
+    net_same =
+        ap₂ (λ n e. assign n e ∷ []) own_name
+        (ap (λ n. own_expr (named_of v) (scope_ports s) (scope_ops s) (value_expr s v) (result n 0)) place ∙ assigned_same (result i 0))
+
+    pub variable_same : (q : Name) → q ≡ name_or_nothing (named_of v (result j 0)) → register_items (named_of v) (value_expr s v) q (register_in o) ≡ stated_as d (scope_module s) i o variable
+    variable_same q is = register_same q (register_in o) ∙ ap (λ n. always_of (scope_module s) n (register_in o)) (is ∙ own_name)

@@ -1,0 +1,11 @@
+pub mod DesignsAgain
+pub mod DesignsFit
+pub mod DictionariesFit
+pub mod EntriesKept
+pub mod FormsFit
+pub mod KindsKept
+pub mod OperationsAgain
+pub mod PlacesChosen
+pub mod PrintedDesigns
+pub mod SaidForms
+pub mod SpellableExample

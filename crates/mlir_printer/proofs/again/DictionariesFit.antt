@@ -1,0 +1,150 @@
+-- A printed dictionary can be read: its keys stand once, and its values where they may.
+use Rattle.std.proofs.Common.{◌≡◌, Bool, true, false, cond, List, [], ◌∷◌, ◌++◌, refl, ap, ◌∙◌, sym, arith}
+use Rattle.std.proofs.Common.{Ordering, Less, Equal, Greater}
+use Rattle.std.proofs.lemmas.Slice.Eq.{bytes_eq-Decides}
+use Rattle.std.proofs.lemmas.Map.Text.{is_eq-slice_cmp}
+use Rattle.std.specs.Prelude.{⊤}
+use Rattle.std.specs.Ordering.{nat_cmp, is_lt, is_eq, ordering_reverse}
+use Rattle.std.specs.Cmp.{IsStrictWeakOrder}
+use Rattle.std.specs.Cmp.Lexicographic.{slice_cmp}
+use Rattle.std.proofs.lemmas.Bool.{cond-false, false≢true}
+use Rattle.std.proofs.lemmas.Cmp.{nat_list_cmp_total}
+use Rattle.std.proofs.lemmas.List.Sorted.{ranks_by}
+use Rattle.opcode.specs.declared.listed.Listed.{Listed}
+use Rattle.hw_model.specs.Types.{Name}
+use Rattle.hw_model.specs.Design.{Entry, same_name}
+use Rattle.hw_model.specs.Equality.{name_from, name_self}
+use Rattle.mlir_syntax.specs.AttributeText.{is_among}
+use Rattle.mlir_syntax.specs.Spelling.{AreOnce}
+use Rattle.mlir_reader.specs.Resolving.{put_entry, has_name}
+use Rattle.mlir_printer.specs.Texts.{name_entry, named_entries, entries_shown}
+use Rattle.mlir_printer.specs.Spellable.{Each, AreBytes, IsEntry, IsDictionary}
+use Rattle.mlir_printer.specs.Printable.{AreInOrder, IsKeptDictionary}
+use Rattle.mlir_printer.proofs.again.EntriesKept.{is_less, in_order_rest, none_given}
+
+-- ---- keys that rise stand once
+
+abbrev less : Name → Name → Bool
+less a b = is_lt (slice_cmp nat_cmp a b)
+
+order : IsStrictWeakOrder less
+order = ranks_by nat_list_cmp_total (λ (n : Name). n)
+
+through : (a b c : Name) → less a b ≡ true → less b c ≡ true → less a c ≡ true
+through a b c h g = go (less a c) refl
+  where
+    go : (t : Bool) → less a c ≡ t → less a c ≡ true
+    go true e = e
+    go false e = absurd (false≢true (sym (order.chain a c b e (order.one_way b c g)) ∙ h))
+
+not_same : (a b : Name) → less a b ≡ true → same_name a b ≡ false
+not_same a b h = go (same_name a b) refl
+  where
+    go : (t : Bool) → same_name a b ≡ t → same_name a b ≡ false
+    go false e = e
+    go true e =
+        let s : a ≡ b = name_from a b e in
+        let itself : less a a ≡ true = ap (less a) s ∙ h in
+        absurd (false≢true (sym (order.one_way a a itself) ∙ itself))
+
+-- each of the keys is less
+abbrev AreLess : List Name → Name → Type 0
+AreLess ns key = Each (λ (n : Name). less n key ≡ true) ns
+
+abbrev AreLessThanFirst : List Name → List Entry → Type 0
+AreLessThanFirst ns [] = ⊤
+AreLessThanFirst ns (e ∷ es) = AreLess ns e.key
+
+not_among : (key : Name) (ns : List Name) → AreLess ns key → is_among key ns ≡ false
+not_among key [] h = refl
+not_among key (n ∷ ns) h = cond-false (same_name n key) true (is_among key ns) (not_same n key h.0) ∙ not_among key ns h.1
+
+less_push : (ns : List Name) (key next : Name) → AreLess ns key → less key next ≡ true → AreLess (ns ++ key ∷ []) next
+less_push [] key next h g = (g, tt)
+less_push (n ∷ ns) key next h g = (through n key next h.0 g, less_push ns key next h.1 g)
+
+once : (earlier : List Name) (es : List Entry) → AreInOrder es → AreLessThanFirst earlier es → AreOnce earlier es
+once earlier [] up h = tt
+once earlier (e ∷ []) up h = (not_among e.key earlier h, tt)
+once earlier (e ∷ f ∷ es) up h = (not_among e.key earlier h, once (earlier ++ e.key ∷ []) (f ∷ es) up.1 (less_push earlier e.key f.key h up.0))
+
+none_less : (es : List Entry) → AreLessThanFirst [] es
+none_less [] = tt
+none_less (e ∷ es) = tt
+
+-- ---- one more entry
+
+abbrev StartsAbove : Entry → List Entry → Type 0
+StartsAbove f [] = ⊤
+StartsAbove f (g ∷ gs) = is_less f g ≡ true
+
+in_order_cons : (f : Entry) (es : List Entry) → StartsAbove f es → AreInOrder es → AreInOrder (f ∷ es)
+in_order_cons f [] h up = tt
+in_order_cons f (g ∷ gs) h up = (h, up)
+
+starts_above : (f : Entry) (es : List Entry) → AreInOrder (f ∷ es) → StartsAbove f es
+starts_above f [] up = tt
+starts_above f (g ∷ gs) up = up.0
+
+put_above : (f e : Entry) (es : List Entry) → StartsAbove f es → is_less f e ≡ true → StartsAbove f (put_entry e es)
+put_above f e [] h l = l
+put_above f e (g ∷ gs) h l = go (is_less g e)
+  where
+    go : (b : Bool) → StartsAbove f (cond b (g ∷ put_entry e gs) (e ∷ g ∷ gs))
+    go true = h
+    go false = l
+
+-- of two keys that differ one is less
+either_less : (a b : Name) → less a b ≡ false → same_name b a ≡ false → less b a ≡ true
+either_less a b h g = go (slice_cmp nat_cmp a b) refl
+  where
+    go : (o : Ordering) → slice_cmp nat_cmp a b ≡ o → less b a ≡ true
+    go Less e = absurd (false≢true (sym h ∙ ap is_lt e))
+    go Equal e =
+        let s : a ≡ b = (bytes_eq-Decides a b).0 (sym (is_eq-slice_cmp a b) ∙ ap is_eq e) in
+        absurd (false≢true (sym g ∙ ap (λ x. same_name b x) s ∙ name_self b))
+    go Greater e = ap is_lt (nat_list_cmp_total.antisymm b a ∙ ap ordering_reverse e)
+
+pub put_in_order : (e : Entry) (es : List Entry) → AreInOrder es → Each (λ (x : Entry). same_name e.key x.key ≡ false) es
+    → AreInOrder (put_entry e es)
+put_in_order e [] up other = tt
+put_in_order e (f ∷ es) up other = go (is_less f e) refl (put_in_order e es (in_order_rest f es up) other.1)
+  where
+    go : (b : Bool) → is_less f e ≡ b → AreInOrder (put_entry e es) → AreInOrder (cond b (f ∷ put_entry e es) (e ∷ f ∷ es))
+    go true l r = in_order_cons f (put_entry e es) (put_above f e es (starts_above f es up) l) r
+    go false l r = (either_less f.key e.key l other.0, up)
+
+pub each_put : (P : Entry → Type 0) (e : Entry) (es : List Entry) → P e → Each P es → Each P (put_entry e es)
+each_put P e [] h g = (h, tt)
+each_put P e (f ∷ es) h g = go (is_less f e) (each_put P e es h g.1)
+  where
+    go : (b : Bool) → Each P (put_entry e es) → Each P (cond b (f ∷ put_entry e es) (e ∷ f ∷ es))
+    go true r = (g.0, r)
+    go false r = (h, g)
+
+name_fits : (strings : List Name) (own : Name) → AreBytes own → IsEntry strings (name_entry own)
+name_fits strings own h = record { key = (omega arith, (omega arith, (omega arith, (omega arith, tt)))); value = h }
+
+-- ---- dictionaries
+
+pub kept_fits : (o : Listed) (strings : List Name) (es : List Entry) → IsKeptDictionary o strings es → IsDictionary strings es
+kept_fits o strings es h = record { once = once [] es h.in_order (none_less es); each = h.entries }
+
+pub shown_fits : (o : Listed) (strings : List Name) (own printed : Name) (es : List Entry) → IsKeptDictionary o strings es
+    → (has_name o ≡ false → own ≡ []) → AreBytes own → IsDictionary strings (entries_shown own printed es)
+shown_fits o strings [] printed es h named bytes = kept_fits o strings es h
+shown_fits o strings (b ∷ bs) printed es h named bytes = go (same_name (b ∷ bs) printed)
+  where
+    has : (t : Bool) → has_name o ≡ t → has_name o ≡ true
+    has true e = e
+    has false e = let f : b ∷ bs ≡ [] = named e in cc
+
+    go : (t : Bool) → IsDictionary strings (cond t es (named_entries (b ∷ bs) es))
+    go true = kept_fits o strings es h
+    go false =
+        let none = none_given o es (has (has_name o) refl) h.kept in
+        let up = put_in_order (name_entry (b ∷ bs)) es h.in_order none in
+        record {
+          once = once [] (named_entries (b ∷ bs) es) up (none_less (named_entries (b ∷ bs) es));
+          each = each_put (IsEntry strings) (name_entry (b ∷ bs)) es (name_fits strings (b ∷ bs) bytes) h.entries;
+        }

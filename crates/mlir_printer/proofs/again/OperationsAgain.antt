@@ -1,0 +1,259 @@
+-- A printed operation says the operation that it was.
+use Rattle.std.proofs.Common.{◌≡◌, ℕ, zero, suc, ◌+◌, ◌≤◌, min, max, replicate, Bool, true, false, cond, List, [], ◌∷◌, map, length, drop, refl, ap, ◌∙◌, sym, subst, arith, length-drop}
+use Rattle.std.proofs.lemmas.List.{length-map}
+use Rattle.std.specs.Prelude.{◌==◌, Option, Some, None}
+use Rattle.std.proofs.lemmas.Bool.{cond-true, cond-false, ltb-false}
+use Rattle.hw_model.specs.Types.{Name, HwType}
+use Rattle.hw_model.specs.Types.HwType.{int, clock, array, struct}
+use Rattle.hw_model.specs.Kinds.{Kind}
+use Rattle.hw_model.specs.Kinds.Variadic.{add}
+use Rattle.hw_model.specs.Kinds.Division.{divu}
+use Rattle.hw_model.specs.Kinds.Shift.{shl}
+use Rattle.hw_model.specs.Kinds.ArrayOp.{array_create}
+use Rattle.hw_model.specs.Kinds.StructOp.{struct_explode, struct_create}
+use Rattle.hw_model.specs.Kinds.RegisterOp.{compreg, compreg_ce, firreg}
+use Rattle.hw_model.specs.Kinds.Kind.{variadic, division, shift, on_array, on_struct, wire, instance, output, register}
+use Rattle.hw_model.specs.Sound.{field_list}
+use Rattle.hw_model.specs.Design.{Ref, Port, Op, is_output_kind, op_without_place}
+use Rattle.ir_store.specs.ResultTypes.{first_type, fields_of, field_count, result_types, result_count}
+use Rattle.mlir_syntax.specs.OperandText.{ResultNames, named_count}
+use Rattle.mlir_syntax.specs.OperandText.ResultNames.{no_names, names, pack}
+use Rattle.mlir_syntax.specs.OperationText.{OperationText, is_last}
+use Rattle.mlir_reader.specs.Resolving as read
+use Rattle.mlir_reader.specs.Resolving.Defined.{are_results}
+use Rattle.mlir_reader.specs.Resolving.{Meanings, Definition, resolved, marks, marked_results, names_from, names_defined, own_types, own_count, operation_at, operation_definitions, has_name, name_or, given_name, unless_digits, own_name_of}
+use Rattle.mlir_printer.specs.Pieces.{ValueText}
+use Rattle.mlir_printer.specs.Naming.{wishes, wishes_of, own_wish, pack_wishes, name_count, first_name, firsts, is_pack, listed_names, results_named}
+use Rattle.op_verifier.specs.Faults.{listed_of}
+use Rattle.mlir_printer.specs.Texts.{parts_in, operation_shown, entries_shown}
+use Rattle.mlir_printer.specs.Spellable.{Each, said_operand, said_operation}
+use Rattle.mlir_printer.specs.Printable.{IsDefined, settled_result, types_written, IsPrintableOp}
+use Rattle.mlir_printer.proofs.steps.Listing.{instance_length}
+use Rattle.mlir_printer.proofs.names.NameTables.{AreNew, marks_in, no_marks}
+use Rattle.mlir_printer.proofs.names.NamedDefinitions.{name_of, results_names, firsts_length, pack_kind, pack_named}
+use Rattle.mlir_printer.proofs.names.ValuesFound.{AreCounted}
+use Rattle.mlir_printer.proofs.names.GivenNames.{Suits}
+use Rattle.mlir_printer.proofs.again.KindsKept.{kind_again}
+use Rattle.mlir_printer.proofs.again.EntriesKept.{shown_kept, none_given, own_again, SuitsOwn}
+
+-- ---- how many results there are
+
+pub types_counted : (k : Kind) (ts : List HwType) (n : ℕ) → length (result_types k ts n) ≡ result_count k ts
+unfolding result_types result_count
+types_counted output ts n = refl
+types_counted (on_struct struct_explode) ts n = fields (first_type ts)
+  where
+    fields : (t : Option HwType) → length (fields_of t) ≡ field_count t
+    fields None = refl
+    fields (Some (int w)) = refl
+    fields (Some clock) = refl
+    fields (Some (array m t)) = refl
+    fields (Some (struct fs)) = length-map (field_list fs) (λ (t : HwType). Some t)
+types_counted (instance i) ts n = length-map (drop (length i.inputs) ts) (λ (t : HwType). Some t) ∙ length-drop (length i.inputs) ts
+types_counted _ ts n = refl
+
+names_counted : (k : Kind) (ts : List HwType) (own : Name) (n c : ℕ) → n ≡ result_count k ts → length ts ≡ types_written k c → is_pack k n ≡ false
+    → length (wishes_of k ts own n) ≡ n
+unfolding wishes_of result_count types_written
+names_counted output ts own n c e t h = sym e
+names_counted (on_struct struct_explode) ts own n c e t h = few n h
+  where
+    few : (n : ℕ) → is_pack (on_struct struct_explode) n ≡ false → length (pack_wishes n) ≡ n
+    few zero h = refl
+    few (suc n) h = let le : suc n ≤ 1 = ltb-false 1 (suc n) h in omega (arith, le)
+names_counted (instance i) ts own n c e t h = instance_length i.name i.outputs ∙ omega (arith, e, t)
+names_counted _ ts own n c e t h = sym e
+
+-- ---- the parts of an operation
+
+op_equal : (a b : Op) → a.kind ≡ b.kind → a.operands ≡ b.operands → a.types ≡ b.types → a.results ≡ b.results → a.named ≡ b.named → a.name ≡ b.name
+    → a.dictionary ≡ b.dictionary → a.bin ≡ b.bin → op_without_place a ≡ op_without_place b
+op_equal a b e1 e2 e3 e4 e5 e6 e7 e8 = rw (e1, e2, e3, e4, e5, e6, e7, e8) refl
+
+operands_again : (m : Meanings) (means : Ref → ValueText) (Defined : Ref → Type 0) (rs : List Ref)
+    → ((r : Ref) → Defined r → resolved m (said_operand (means r)) ≡ r) → Each Defined rs
+    → map (resolved m) (map said_operand (map means rs)) ≡ rs
+operands_again m means Defined [] f h = refl
+operands_again m means Defined (r ∷ rs) f h =
+    ap (λ x. x ∷ map (resolved m) (map said_operand (map means rs))) (f r h.0) ∙ ap (λ l. r ∷ l) (operands_again m means Defined rs f h.1)
+
+marked_none : (ts : List (Option HwType)) (n : ℕ) → n ≤ length ts → marked_results ts (replicate n false) ≡ map settled_result ts
+marked_none [] zero h = refl
+marked_none [] (suc n) h = absurd (omega (arith, h))
+marked_none (t ∷ ts) zero h = ap (λ l. settled_result t ∷ l) (marked_none ts zero (omega arith))
+marked_none (t ∷ ts) (suc n) h = ap (λ l. settled_result t ∷ l) (marked_none ts n (omega (arith, h)))
+
+-- names have one mark each, and a pack no more than the operation has results
+marks_listed : (i k : ℕ) (ns : List Name) → marks_in (names_from i k ns) ≡ length (names_from i k ns)
+marks_listed i k [] = refl
+marks_listed i k (n ∷ ns) =
+    let rest : marks_in (names_from i (k + 1) ns) ≡ length (names_from i (k + 1) ns) = marks_listed i (k + 1) ns in
+    omega arith
+
+marks_few : (i own : ℕ) (rs : ResultNames) → marks_in (names_defined i own rs) ≤ max (length (names_defined i own rs)) own
+marks_few i own no_names = omega arith
+marks_few i own (names n ns) = omega (arith, marks_listed i 0 (n ∷ ns))
+marks_few i own (pack n k) = go (k == 0)
+  where
+    go : (b : Bool) → marks_in (cond b [] (record { name = n; defined = are_results i 0 (min k own) } ∷ [])) ≤ max (length {A = Definition} (cond b [] (record { name = n; defined = are_results i 0 (min k own) } ∷ []))) own
+    go true = omega arith
+    go false = omega arith
+
+-- ---- own names
+
+named_kind : (k : Kind) (ts : List HwType) (own : Name) (n : ℕ) → has_name (listed_of k) ≡ true
+    → (wishes_of k ts own n ≡ own_wish own ∷ []) × (is_pack k n ≡ false)
+unfolding wishes_of
+named_kind wire ts own n h = (refl, refl)
+named_kind (register compreg r) ts own n h = (refl, refl)
+named_kind (register compreg_ce r) ts own n h = (refl, refl)
+named_kind (register firreg r) ts own n h = (refl, refl)
+named_kind (variadic add) ts own n h = cc
+named_kind (variadic _) ts own n h = cc
+named_kind (division divu) ts own n h = cc
+named_kind (division _) ts own n h = cc
+named_kind (shift shl) ts own n h = cc
+named_kind (shift _) ts own n h = cc
+named_kind (on_array array_create) ts own n h = cc
+named_kind (on_array _) ts own n h = cc
+named_kind (on_struct struct_create) ts own n h = cc
+named_kind (on_struct _) ts own n h = cc
+named_kind _ ts own n h = cc
+
+suits_own : (own : Name) (ns : List Name) → Suits (own_wish own ∷ []) ns → SuitsOwn own (first_name ns)
+suits_own [] [] h = absurd h
+suits_own [] (n ∷ ns) h = h.0
+suits_own (b ∷ bs) [] h = absurd h
+suits_own (b ∷ bs) (n ∷ ns) h = h.0
+
+module _ (ports : List Port) (body : List Op) (o : Op) (p : IsPrintableOp ports body o) where
+  -- the operation as it is said, where its operands have these names and the names of results begin so
+  abbrev shown : (Ref → ValueText) → List Name → OperationText
+  shown means ns = said_operation (operation_shown (parts_in o) (map means o.operands) ns)
+
+  results_length : length o.results ≡ result_count o.kind o.types
+  results_length =
+      ap length p.results ∙ length-map (result_types o.kind o.types (length o.operands)) settled_result ∙ types_counted o.kind o.types (length o.operands)
+
+  pub are_counted : (means : Ref → ValueText) (ns : List Name) → AreCounted (own_count (shown means ns)) (parts_in o)
+  are_counted means ns = record {
+    counted = results_length ∙ sym (ap (λ k. result_count k o.types) (kind_again o.kind o.types p.kept));
+    listed = names_counted o.kind o.types o.name (length o.results) (length o.operands) results_length p.types;
+  }
+
+  own_types_are : (means : Ref → ValueText) (ns : List Name) → own_types (shown means ns) ≡ result_types o.kind o.types (length o.operands)
+  own_types_are means ns =
+      ap (λ k. result_types k o.types (length (map said_operand (map means o.operands)))) (kind_again o.kind o.types p.kept)
+      ∙ ap (λ n. result_types o.kind o.types n) (length-map (map means o.operands) said_operand ∙ length-map o.operands means)
+
+  few_names : name_count (parts_in o) ≤ length o.results
+  few_names = go (is_pack o.kind (length o.results)) refl
+    where
+      go : (b : Bool) → is_pack o.kind (length o.results) ≡ b → name_count (parts_in o) ≤ length o.results
+      go true h =
+          let lt = (pack_kind o.kind (length o.results) h).1 in
+          let e = pack_named o.kind o.types o.name (length o.results) h in
+          omega (arith, lt, e)
+      go false h =
+          let e = names_counted o.kind o.types o.name (length o.results) (length o.operands) results_length p.types h in
+          omega (arith, e)
+
+  results_again : (means : Ref → ValueText) (earlier : Meanings) (i : ℕ) (ns : List Name) → AreNew earlier (operation_definitions i (shown means ns))
+      → marked_results (own_types (shown means ns)) (marks earlier (operation_definitions i (shown means ns))) ≡ o.results
+  results_again means earlier i ns new =
+      let ds = operation_definitions i (shown means ns) in
+      let few : length ds ≤ length (result_types o.kind o.types (length o.operands)) =
+      omega (
+        arith,
+        sym (length-map ds name_of) ∙ ap length (results_names i (own_count (shown means ns)) (parts_in o) ns) ∙ firsts_length (name_count (parts_in o)) ns,
+        few_names,
+        types_counted o.kind o.types (length o.operands),
+        results_length,
+      ) in
+      let within : marks_in ds ≤ length (result_types o.kind o.types (length o.operands)) =
+      omega (
+        arith,
+        marks_few i (own_count (shown means ns)) (shown means ns).results,
+        few,
+        (are_counted means ns).counted,
+        types_counted o.kind o.types (length o.operands),
+        results_length,
+      ) in
+      ap (λ ts. marked_results ts (marks earlier ds)) (own_types_are means ns)
+      ∙ ap (λ bs. marked_results (result_types o.kind o.types (length o.operands)) bs) (no_marks earlier ds new)
+      ∙ marked_none (result_types o.kind o.types (length o.operands)) (marks_in ds) within
+      ∙ sym p.results
+
+  named_again : (ns : List Name) → named_count (results_named (parts_in o) ns) ≡ o.named
+  named_again ns = go (is_pack o.kind (length o.results)) refl ∙ sym p.named
+    where
+      listed : (xs : List Name) → named_count (listed_names xs) ≡ length xs
+      listed [] = refl
+      listed (x ∷ xs) = refl
+
+      go : (b : Bool) → is_pack o.kind (length o.results) ≡ b
+          → named_count (cond (is_pack o.kind (length o.results)) (ResultNames.pack (first_name ns) (length o.results))
+          (listed_names (firsts (name_count (parts_in o)) ns))) ≡ length o.results
+      go true h = ap (λ b. named_count (cond b (ResultNames.pack (first_name ns) (length o.results)) (listed_names (firsts (name_count (parts_in o)) ns)))) h
+      go false h =
+          ap (λ b. named_count (cond b (ResultNames.pack (first_name ns) (length o.results)) (listed_names (firsts (name_count (parts_in o)) ns)))) h
+          ∙ listed (firsts (name_count (parts_in o)) ns) ∙ firsts_length (name_count (parts_in o)) ns
+          ∙ names_counted o.kind o.types o.name (length o.results) (length o.operands) results_length p.types h
+
+  name_again : (ns : List Name) → Suits (wishes (parts_in o)) ns
+      → own_name_of (listed_of o.kind) (results_named (parts_in o) ns) (entries_shown o.name (first_name ns) o.dictionary) ≡ o.name
+  name_again ns suits = go (has_name (listed_of o.kind)) refl
+    where
+      first_own : (rs : ResultNames) → rs ≡ ResultNames.names (first_name ns) [] → read.first_name rs ≡ unless_digits (first_name ns)
+      first_own rs e = ap read.first_name e
+
+      go : (b : Bool) → has_name (listed_of o.kind) ≡ b
+          → cond (has_name (listed_of o.kind)) (name_or (given_name (entries_shown o.name (first_name ns) o.dictionary))
+          (read.first_name (results_named (parts_in o) ns))) [] ≡ o.name
+      go false h =
+          cond-false (has_name (listed_of o.kind)) (name_or (given_name (entries_shown o.name (first_name ns) o.dictionary))
+          (read.first_name (results_named (parts_in o) ns))) [] h
+          ∙ sym (p.nameless h)
+      go true h =
+          let k = named_kind o.kind o.types o.name (length o.results) h in
+          let names : results_named (parts_in o) ns ≡ ResultNames.names (first_name ns) [] =
+          ap (λ b. cond b (ResultNames.pack (first_name ns) (length o.results)) (listed_names (firsts (name_count (parts_in o)) ns))) k.1
+          ∙ ap (λ ws. listed_names (firsts (length ws) ns)) k.0 in
+          cond-true (has_name (listed_of o.kind)) (name_or (given_name (entries_shown o.name (first_name ns) o.dictionary))
+          (read.first_name (results_named (parts_in o) ns))) [] h
+          ∙ ap (λ x. name_or (given_name (entries_shown o.name (first_name ns) o.dictionary)) x) (first_own (results_named (parts_in o) ns) names)
+          ∙ own_again o.name (first_name ns) o.dictionary (none_given (listed_of o.kind) o.dictionary h p.dictionary.kept)
+          (suits_own o.name ns (subst (λ ws. Suits ws ns) k.0 suits))
+
+  -- the operation that is said is the one that is printed, but for its place
+  pub operation_again : (m earlier : Meanings) (means : Ref → ValueText) (i : ℕ) (ns : List Name)
+      → ((r : Ref) → IsDefined ports body r → resolved m (said_operand (means r)) ≡ r)
+      → AreNew earlier (operation_definitions i (shown means ns)) → Suits (wishes (parts_in o)) ns
+      → op_without_place (operation_at m earlier i (shown means ns)) ≡ op_without_place o
+  operation_again m earlier means i ns resolve new suits =
+      op_equal (operation_at m earlier i (shown means ns)) o
+      (kind_again o.kind o.types p.kept)
+      (operands_again m means (IsDefined ports body) o.operands resolve p.defined)
+      refl
+      (results_again means earlier i ns new)
+      (named_again ns)
+      (name_again ns suits)
+      (shown_kept (listed_of o.kind) o.name (first_name ns) o.dictionary p.dictionary.in_order p.dictionary.kept p.nameless)
+      refl
+
+-- an operation is the last of its text where it is an output
+pub last_output : (k : Kind) → is_last (listed_of k) ≡ is_output_kind k
+last_output output = refl
+last_output (variadic add) = refl
+last_output (variadic _) = refl
+last_output (division divu) = refl
+last_output (division _) = refl
+last_output (shift shl) = refl
+last_output (shift _) = refl
+last_output (on_array array_create) = refl
+last_output (on_array _) = refl
+last_output (on_struct struct_create) = refl
+last_output (on_struct _) = refl
+last_output (register compreg r) = refl
+last_output (register _ r) = refl
+last_output _ = refl

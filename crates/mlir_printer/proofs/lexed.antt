@@ -1,0 +1,14 @@
+pub mod Escapes
+pub mod LexedAttributes
+pub mod LexedCommas
+pub mod LexedInstances
+pub mod LexedLiterals
+pub mod LexedModules
+pub mod LexedNames
+pub mod LexedNumbers
+pub mod LexedOperands
+pub mod LexedOperations
+pub mod LexedPieces
+pub mod LexedStrings
+pub mod LexedTexts
+pub mod LexedTypes

@@ -1,0 +1,318 @@
+-- Operations are read as they are printed.
+use Rattle.std.proofs.Common.{◌≡◌, inl, ℕ, Bool, true, false, cond, List, [], ◌∷◌, ◌++◌, map, Option, Some, None, refl, ap, subst, append_assoc}
+use Rattle.std.specs.Prelude.{codes}
+use Rattle.diag.specs.Place.{start_place}
+use Rattle.opcode.specs.Listed.{name_of_listed}
+use Rattle.diag.specs.declared.refusal.Place.{Place}
+use Rattle.opcode.specs.declared.listed.Listed.{Listed}
+use Rattle.opcode.specs.declared.listed.Listed.TheVariants as listed
+use Rattle.hw_model.specs.Types.{Name}
+use Rattle.hw_model.specs.Design.{Entry}
+use Rattle.mlir_lexer.specs.Tokens.{Lexeme}
+use Rattle.mlir_lexer.specs.declared.token.TokenKind.{TokenKind}
+use Rattle.mlir_lexer.specs.declared.token.TokenKind.TheVariants as kind
+use Rattle.mlir_syntax.specs.OperandText.{ResultNames}
+use Rattle.mlir_syntax.specs.OperandText.ResultNames.{no_names, names, pack}
+use Rattle.assembly_format.specs.Shapes.{shape_of, front_pieces, type_pieces}
+use Rattle.mlir_syntax.specs.PieceText.{Gathered, gathered_nothing}
+use Rattle.mlir_syntax.specs.OperationText.{string_keys, takes_bin}
+use Rattle.mlir_syntax.specs.Spelling.{One, Stands, ResultsPhrase, PiecesPhrase, MaybeDictionary, IsOneOf, FormPhrase, BinPhrase, MayHaveShape, OperationPhrase, OperationsPhrase, ValueName}
+use Rattle.assembly_format.specs.declared.pieces.Piece.{Piece}
+use Rattle.assembly_format.specs.declared.pieces.Shape.{Shape}
+use Rattle.assembly_format.specs.declared.pieces.Shape.TheVariants as shape
+use Rattle.mlir_printer.specs.Strings.{is_bare}
+use Rattle.mlir_printer.specs.Attributes.{dictionary_bytes}
+use Rattle.mlir_printer.specs.Pieces.{Pending, ValueText, value_name_bytes, pieces_bytes}
+use Rattle.mlir_printer.specs.Operations.{OperationText, results_bytes, bin_bytes, is_truth_said, output_shape, shape_shown, after_blank, left_behind_all, form_bytes, shaped_bytes, operation_bytes, operation_line, operation_lines}
+use Rattle.mlir_printer.specs.Spellable.{AreResults, IsDictionary, gathered_front, IsSaidAs, IsSpellableOperation, AreSpellable, said_pending, said_operation}
+use Rattle.mlir_printer.proofs.lexed.LexedTexts.{Stops, Whole, Lexed, lexed, lexed_as, whole_as, then, then_on, then_whole, closed, nothing, blank, blank_on, line_behind, behind_nothing, with_nothing, colon_mark}
+use Rattle.mlir_printer.proofs.lexed.LexedNames.{bare_lexed, value_name_lexed}
+use Rattle.mlir_printer.proofs.lexed.LexedNumbers.{count_lexed}
+use Rattle.mlir_printer.proofs.lexed.LexedCommas.{blank_equals, commas_lexed, each_of}
+use Rattle.mlir_printer.proofs.lexed.LexedAttributes.{dictionary_lexed}
+use Rattle.mlir_printer.proofs.lexed.LexedPieces.{pieces_lexed, pieces_stop, stops_at, is_parted}
+
+-- places are not told
+abbrev pub Anywhere : Stands
+Anywhere t place = Unit {0}
+
+-- ---- names of results
+
+-- the names of results are read as themselves
+pub results_whole : (r : ResultNames) → AreResults r → Whole (ResultsPhrase r) (results_bytes r)
+unfolding results_bytes
+results_whole no_names h = nothing
+results_whole (names n ns) h =
+    closed 32 (codes "= ") (commas_lexed ValueName value_name_bytes (n ∷ ns) (each_of value_name_lexed (n ∷ ns) h)) blank_equals refl
+results_whole (pack n k) h =
+    closed 58 _ (value_name_lexed n h.0) (then_whole colon_mark (closed 32 (codes "= ") (count_lexed k h.1) blank_equals refl)) refl
+
+-- ---- names of operations
+
+name_bare : (o : Listed) → is_bare (name_of_listed o) ≡ true
+unfolding name_of_listed
+name_bare listed.HwModule = refl
+name_bare listed.CombAdd = refl
+name_bare listed.CombMul = refl
+name_bare listed.CombAnd = refl
+name_bare listed.CombOr = refl
+name_bare listed.CombXor = refl
+name_bare listed.CombSub = refl
+name_bare listed.CombDivu = refl
+name_bare listed.CombModu = refl
+name_bare listed.CombDivs = refl
+name_bare listed.CombMods = refl
+name_bare listed.CombShl = refl
+name_bare listed.CombShru = refl
+name_bare listed.CombShrs = refl
+name_bare listed.CombIcmp = refl
+name_bare listed.CombParity = refl
+name_bare listed.CombExtract = refl
+name_bare listed.CombConcat = refl
+name_bare listed.CombReplicate = refl
+name_bare listed.CombMux = refl
+name_bare listed.HwConstant = refl
+name_bare listed.HwAggregateConstant = refl
+name_bare listed.HwArrayCreate = refl
+name_bare listed.HwArrayConcat = refl
+name_bare listed.HwArrayGet = refl
+name_bare listed.HwArraySlice = refl
+name_bare listed.HwArrayInject = refl
+name_bare listed.HwStructCreate = refl
+name_bare listed.HwStructExtract = refl
+name_bare listed.HwStructInject = refl
+name_bare listed.HwStructExplode = refl
+name_bare listed.HwBitcast = refl
+name_bare listed.HwWire = refl
+name_bare listed.HwInstance = refl
+name_bare listed.HwOutput = refl
+name_bare listed.SeqCompreg = refl
+name_bare listed.SeqCompregCe = refl
+name_bare listed.SeqFirreg = refl
+
+pub operation_name : (o : Listed) (place : Place)
+    → Lexed (One (λ (t : Lexeme). (t.kind ≡ kind.BareName) × (t.text ≡ name_of_listed o) × Anywhere t place)) (name_of_listed o)
+operation_name o place = lexed_as (λ ts w. (w.0, w.1, (w.2.0, w.2.1, tt))) (bare_lexed (name_of_listed o) (name_bare o))
+
+-- ---- forms
+
+front_parted : (s : Shape) → is_parted (front_pieces s) ≡ true
+unfolding front_pieces
+front_parted shape.Variadic = refl
+front_parted shape.Binary = refl
+front_parted shape.Comparison = refl
+front_parted shape.Unary = refl
+front_parted shape.Extraction = refl
+front_parted shape.Joined = refl
+front_parted shape.Conversion = refl
+front_parted shape.Choice = refl
+front_parted shape.Truth = refl
+front_parted shape.Integer = refl
+front_parted shape.Aggregate = refl
+front_parted shape.Element = refl
+front_parted shape.Slice = refl
+front_parted shape.ElementChange = refl
+front_parted shape.Struct = refl
+front_parted shape.Field = refl
+front_parted shape.FieldChange = refl
+front_parted shape.Instance = refl
+front_parted shape.Nothing = refl
+front_parted shape.Register = refl
+front_parted shape.EnabledRegister = refl
+front_parted shape.ClockedRegister = refl
+
+types_parted : (s : Shape) → is_parted (type_pieces s) ≡ true
+unfolding type_pieces
+types_parted shape.Variadic = refl
+types_parted shape.Binary = refl
+types_parted shape.Comparison = refl
+types_parted shape.Unary = refl
+types_parted shape.Extraction = refl
+types_parted shape.Joined = refl
+types_parted shape.Conversion = refl
+types_parted shape.Choice = refl
+types_parted shape.Truth = refl
+types_parted shape.Integer = refl
+types_parted shape.Aggregate = refl
+types_parted shape.Element = refl
+types_parted shape.Slice = refl
+types_parted shape.ElementChange = refl
+types_parted shape.Struct = refl
+types_parted shape.Field = refl
+types_parted shape.FieldChange = refl
+types_parted shape.Instance = refl
+types_parted shape.Nothing = refl
+types_parted shape.Register = refl
+types_parted shape.EnabledRegister = refl
+types_parted shape.ClockedRegister = refl
+
+types_stop : (s : Shape) → stops_at (type_pieces s) ≡ true
+unfolding type_pieces
+types_stop shape.Variadic = refl
+types_stop shape.Binary = refl
+types_stop shape.Comparison = refl
+types_stop shape.Unary = refl
+types_stop shape.Extraction = refl
+types_stop shape.Joined = refl
+types_stop shape.Conversion = refl
+types_stop shape.Choice = refl
+types_stop shape.Truth = refl
+types_stop shape.Integer = refl
+types_stop shape.Aggregate = refl
+types_stop shape.Element = refl
+types_stop shape.Slice = refl
+types_stop shape.ElementChange = refl
+types_stop shape.Struct = refl
+types_stop shape.Field = refl
+types_stop shape.FieldChange = refl
+types_stop shape.Instance = refl
+types_stop shape.Nothing = refl
+types_stop shape.Register = refl
+types_stop shape.EnabledRegister = refl
+types_stop shape.ClockedRegister = refl
+
+-- a token that is a name of a kind
+sample : TokenKind → Lexeme
+sample k = record { kind = k; place = start_place; at = 0; text = [] }
+
+constant_shape : (b : Bool) → MayHaveShape listed.HwConstant (cond b shape.Truth shape.Integer)
+unfolding shape_of sample
+constant_shape true = (Some (sample kind.BareName), refl)
+constant_shape false = (None, refl)
+
+output_may : (os : List ValueText) → MayHaveShape listed.HwOutput (output_shape os)
+unfolding shape_of sample
+output_may [] = (None, refl)
+output_may (o ∷ os) = (Some (sample kind.ValueName), refl)
+
+-- the form of an operation is one that it has before some token
+may_have : (o : Listed) (p : Pending) → MayHaveShape o (shape_shown o p)
+unfolding shape_shown
+may_have listed.HwModule p = (None, refl)
+may_have listed.CombAdd p = (None, refl)
+may_have listed.CombMul p = (None, refl)
+may_have listed.CombAnd p = (None, refl)
+may_have listed.CombOr p = (None, refl)
+may_have listed.CombXor p = (None, refl)
+may_have listed.CombSub p = (None, refl)
+may_have listed.CombDivu p = (None, refl)
+may_have listed.CombModu p = (None, refl)
+may_have listed.CombDivs p = (None, refl)
+may_have listed.CombMods p = (None, refl)
+may_have listed.CombShl p = (None, refl)
+may_have listed.CombShru p = (None, refl)
+may_have listed.CombShrs p = (None, refl)
+may_have listed.CombIcmp p = (None, refl)
+may_have listed.CombParity p = (None, refl)
+may_have listed.CombExtract p = (None, refl)
+may_have listed.CombConcat p = (None, refl)
+may_have listed.CombReplicate p = (None, refl)
+may_have listed.CombMux p = (None, refl)
+may_have listed.HwConstant p = constant_shape (is_truth_said p.types p.extra)
+may_have listed.HwAggregateConstant p = (None, refl)
+may_have listed.HwArrayCreate p = (None, refl)
+may_have listed.HwArrayConcat p = (None, refl)
+may_have listed.HwArrayGet p = (None, refl)
+may_have listed.HwArraySlice p = (None, refl)
+may_have listed.HwArrayInject p = (None, refl)
+may_have listed.HwStructCreate p = (None, refl)
+may_have listed.HwStructExtract p = (None, refl)
+may_have listed.HwStructInject p = (None, refl)
+may_have listed.HwStructExplode p = (None, refl)
+may_have listed.HwBitcast p = (None, refl)
+may_have listed.HwWire p = (None, refl)
+may_have listed.HwInstance p = (None, refl)
+may_have listed.HwOutput p = output_may p.operands
+may_have listed.SeqCompreg p = (None, refl)
+may_have listed.SeqCompregCe p = (None, refl)
+may_have listed.SeqFirreg p = (None, refl)
+
+front_lexed : (xs : List Piece) (p : Pending) (g h : Gathered) → Lexed (PiecesPhrase xs g h) (pieces_bytes xs p)
+    → Lexed (PiecesPhrase xs g h) (after_blank xs (pieces_bytes xs p))
+front_lexed [] p g h one = one
+front_lexed (x ∷ xs) p g h one = blank_on one
+
+-- a dictionary where there is an entry
+given : List Entry → Option (List Entry)
+given [] = None
+given (e ∷ es) = Some (e ∷ es)
+
+given_once : (es : List Entry) → IsOneOf (given es) None es
+unfolding given
+given_once [] = refl
+given_once (e ∷ es) = (refl, refl)
+
+given_lexed : (strings : List Name) (es : List Entry) → IsDictionary strings es
+    → Lexed (MaybeDictionary strings (given es)) (dictionary_bytes (codes " ") es)
+unfolding given dictionary_bytes
+given_lexed strings [] h = lexed nothing
+given_lexed strings (e ∷ es) h = blank_on (lexed (dictionary_lexed strings (e ∷ es) h))
+
+pub dictionary_stops : (front : List ℕ) → ((rest : List ℕ) → Stops (front ++ rest)) → (es : List Entry) (rest : List ℕ) → Stops rest
+    → Stops (dictionary_bytes front es ++ rest)
+unfolding dictionary_bytes
+dictionary_stops front first [] rest stops = stops
+dictionary_stops front first (e ∷ es) rest stops = rw (append_assoc front _ rest) (first _)
+
+front_stops : (xs : List Piece) (p : Pending) (rest : List ℕ) → Stops rest → Stops (after_blank xs (pieces_bytes xs p) ++ rest)
+front_stops [] p rest stops = stops
+front_stops (x ∷ xs) p rest stops = refl
+
+-- what stands after the pieces before the types
+behind_stops : (s : Shape) (p : Pending) (es : List Entry) → IsSaidAs s p
+    → Stops (dictionary_bytes (codes " ") es ++ pieces_bytes (type_pieces s) (left_behind_all (front_pieces s) p))
+behind_stops s p es h =
+    dictionary_stops (codes " ") (λ rest. refl) es (pieces_bytes (type_pieces s) (left_behind_all (front_pieces s) p))
+    (pieces_stop (type_pieces s) (left_behind_all (front_pieces s) p) (gathered_front s p) h.types (types_stop s))
+
+form_stops : (s : Shape) (p : Pending) (es : List Entry) → IsSaidAs s p → Stops (form_bytes (front_pieces s) (type_pieces s) p es)
+unfolding form_bytes
+form_stops s p es h = front_stops (front_pieces s) p _ (behind_stops s p es h)
+
+-- a form is read as itself
+form_lexed : (strings : List Name) (s : Shape) (p : Pending) (es : List Entry) → IsSaidAs s p → IsDictionary strings es
+    → Lexed (FormPhrase strings s (said_pending p) es) (form_bytes (front_pieces s) (type_pieces s) p es)
+unfolding form_bytes
+form_lexed strings s p es h d =
+    let types = pieces_lexed (type_pieces s) (left_behind_all (front_pieces s) p) (gathered_front s p) h.types (types_parted s) in
+    let said = subst (λ x. Lexed (PiecesPhrase (type_pieces s) (gathered_front s p) x)
+    (pieces_bytes (type_pieces s) (left_behind_all (front_pieces s) p))) h.all types in
+    let behind = then (given_lexed strings es d) (lexed_as with_nothing said)
+    (pieces_stop (type_pieces s) (left_behind_all (front_pieces s) p) (gathered_front s p) h.types (types_stop s)) in
+    let front = front_lexed (front_pieces s) p gathered_nothing (gathered_front s p)
+    (pieces_lexed (front_pieces s) p gathered_nothing h.front (front_parted s)) in
+    lexed_as (λ ts w. (gathered_front s p, given es, None, given_once es, w)) (then front behind (behind_stops s p es h))
+
+-- ---- operations
+
+bin_lexed : (o : Listed) (b : Bool) → (b ≡ true → takes_bin o ≡ true) → Lexed (BinPhrase o b) (bin_bytes b)
+unfolding bin_bytes
+bin_lexed o true h = lexed_as (λ ts w. (h refl, w)) (blank_on (bare_lexed (codes "bin") refl))
+bin_lexed o false h = lexed nothing
+
+bin_stops : (b : Bool) (rest : List ℕ) → Stops rest → Stops (bin_bytes b ++ rest)
+unfolding bin_bytes
+bin_stops true rest stops = refl
+bin_stops false rest stops = stops
+
+-- an operation is read as itself
+pub operation_lexed : (o : OperationText) → IsSpellableOperation o → Lexed (OperationPhrase Anywhere (said_operation o)) (operation_bytes o)
+unfolding operation_bytes shaped_bytes
+operation_lexed o h =
+    let s = shape_shown o.name o.pending in
+    let form = form_lexed (string_keys o.name) s o.pending o.dictionary h.form h.dictionary in
+    let tail = lexed_as (λ ts w. (s, may_have o.name o.pending, w)) form in
+    let stops = form_stops s o.pending o.dictionary h.form in
+    let name = then (operation_name o.name start_place) (then (bin_lexed o.name o.bin h.bin) tail stops) (bin_stops o.bin _ stops) in
+    lexed_as (λ ts w. (h.stands, w)) (then_on (results_whole o.results h.results) name)
+
+line_whole : (o : OperationText) → IsSpellableOperation o → Whole (OperationPhrase Anywhere (said_operation o)) (operation_line o)
+unfolding operation_line
+line_whole o h =
+    whole_as behind_nothing (then_whole (blank (codes "    ") (inl refl, (inl refl, (inl refl, (inl refl, tt))))) (line_behind (operation_lexed o h)))
+
+-- the operations of a body are read as themselves
+pub operations_whole : (os : List OperationText) → AreSpellable os → Whole (OperationsPhrase Anywhere (map said_operation os)) (operation_lines os)
+operations_whole [] h = nothing
+operations_whole (o ∷ os) h =
+    whole_as (λ ts w. ((λ e. ap (map said_operation) (h.1 e)), w)) (then_whole (line_whole o h.0) (operations_whole os h.2))

@@ -1,0 +1,9 @@
+pub mod Choices
+pub mod Choosing
+pub mod GivenNames
+pub mod NameTables
+pub mod NamedDefinitions
+pub mod Numbered
+pub mod Placing
+pub mod Values
+pub mod ValuesFound

@@ -1,0 +1,110 @@
+-- A design that can be printed: two values are added.
+use Rattle.std.proofs.Common.{true, false, [], ◌∷◌, codes, refl, arith}
+use Rattle.hw_model.specs.Types.{Name, HwType}
+use Rattle.hw_model.specs.Types.HwType.{int}
+use Rattle.hw_model.specs.Kinds.Variadic.{add}
+use Rattle.hw_model.specs.Kinds.Kind.{variadic, output}
+use Rattle.hw_model.specs.Design.{Port, Module, nowhere_place}
+use Rattle.hw_model.specs.Design.Ref.{port, result}
+use Rattle.ir_store.specs.ResultTypes.{result_types, result_type}
+use Rattle.mlir_reader.specs.Spelling.{SpellsPlacelessly}
+use Rattle.mlir_printer.specs.Naming.{wishes_of}
+use Rattle.mlir_printer.specs.Texts.{ir_text}
+use Rattle.mlir_printer.specs.Printable.{operands_written, types_written, Printable}
+use Rattle.mlir_printer.proofs.again.PrintedDesigns.{printable_designs_are_spelled}
+
+byte : HwType
+byte = int 8
+
+input : Name → Port
+input name = record { name = name; is_output = false; type = byte; again = false }
+
+adder : Module
+adder = record {
+  symbol = codes "adder";
+  is_private = false;
+  ports = input (codes "a") ∷ input (codes "b") ∷ record { name = codes "sum"; is_output = true; type = byte; again = false } ∷ [];
+  dictionary = [];
+  body =
+      record {
+        kind = (variadic add);
+        operands = port 0 ∷ port 1 ∷ [];
+        types = byte ∷ [];
+        results = record { type = byte; again = false } ∷ [];
+        named = 1;
+        name = [];
+        dictionary = [];
+        bin = false;
+        place = nowhere_place;
+      }
+      ∷ record {
+        kind = output;
+        operands = result 0 0 ∷ [];
+        types = byte ∷ [];
+        results = [];
+        named = 0;
+        name = [];
+        dictionary = [];
+        bin = false;
+        place = nowhere_place;
+      }
+      ∷ [];
+  place = nowhere_place;
+}
+
+adder_is_printable : Printable (adder ∷ [])
+unfolding adder byte input operands_written types_written result_types result_type wishes_of
+adder_is_printable = (
+  record {
+    symbol = (omega arith, (omega arith, (omega arith, (omega arith, (omega arith, tt)))));
+    ports = (
+      record { first = refl; name = (omega arith, tt); type = omega arith },
+      (
+        record { first = refl; name = (omega arith, tt); type = omega arith },
+        (record { first = refl; name = (omega arith, (omega arith, (omega arith, tt))); type = omega arith }, tt),
+      ),
+    );
+    dictionary = record { in_order = tt; kept = tt; entries = tt };
+    operations = (
+      record {
+        defined = ((_, refl, refl), ((_, refl, refl), tt));
+        operands = refl;
+        types = refl;
+        readable = (omega arith, tt);
+        results = refl;
+        named = refl;
+        few = λ e. absurd cc;
+        kept = tt;
+        written = tt;
+        nameless = λ e. refl;
+        name = tt;
+        dictionary = record { in_order = tt; kept = tt; entries = tt };
+        bin = λ e. absurd cc;
+      },
+      (
+        record {
+          defined = ((_, refl, omega arith), tt);
+          operands = refl;
+          types = refl;
+          readable = (omega arith, tt);
+          results = refl;
+          named = refl;
+          few = λ e. absurd cc;
+          kept = tt;
+          written = tt;
+          nameless = λ e. refl;
+          name = tt;
+          dictionary = record { in_order = tt; kept = tt; entries = tt };
+          bin = λ e. absurd cc;
+        },
+        tt,
+      ),
+    );
+    ends = (refl, refl);
+    few = omega arith;
+  },
+  tt,
+)
+
+adder_is_spelled : SpellsPlacelessly (ir_text (adder ∷ [])) (adder ∷ [])
+adder_is_spelled = printable_designs_are_spelled (adder ∷ []) adder_is_printable

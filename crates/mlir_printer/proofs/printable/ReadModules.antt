@@ -1,0 +1,422 @@
+-- What is read of modules: operations and ports that can be printed, and few names.
+use Rattle.std.proofs.Common.{◌≡◌, ℕ, zero, suc, ◌+◌, ◌^◌, ◌<◌, ◌≤◌, Bool, true, false, cond, List, [], ◌∷◌, ◌++◌, map, length, refl, ap, ◌∙◌, sym, subst, inl, inr, arith, length-append}
+use Rattle.std.specs.Prelude.{Some, is_some, not}
+use Rattle.std.proofs.lemmas.List.{length-map}
+use Rattle.diag.specs.declared.refusal.Place as code
+use Rattle.opcode.specs.declared.listed.Listed.{Listed}
+use Rattle.opcode.specs.declared.listed.Listed.TheVariants as listed
+use Rattle.hw_model.specs.Types.{Name, HwType}
+use Rattle.hw_model.specs.TypeViews.{NamedType}
+use Rattle.hw_model.specs.Kinds.{Kind}
+use Rattle.hw_model.specs.Kinds.StructOp.{struct_explode}
+use Rattle.hw_model.specs.Kinds.Kind.{on_struct, instance, output}
+use Rattle.hw_model.specs.Design.{Entry, Port, Op, Module, Design}
+use Rattle.ir_store.specs.ResultTypes.{result_types}
+use Rattle.mlir_lexer.specs.Tokens.{Lexeme}
+use Rattle.mlir_lexer.specs.declared.token.TokenKind.TheVariants as kind
+use Rattle.mlir_syntax.specs.Numerals.{count_limit}
+use Rattle.mlir_syntax.specs.TypeText.{most_open}
+use Rattle.mlir_syntax.specs.OperandText.{ResultNames, named_count}
+use Rattle.mlir_syntax.specs.OperandText.ResultNames.{no_names, names, pack}
+use Rattle.mlir_syntax.specs.PieceText.{Extra, Gathered, gathered_nothing}
+use Rattle.mlir_syntax.specs.PieceText.Extra.{child}
+use Rattle.assembly_format.specs.Shapes.{front_pieces, type_pieces}
+use Rattle.mlir_syntax.specs.OperationText.{OperationText}
+use Rattle.mlir_syntax.specs.ModuleText.{PortText, ModuleText, module_keys}
+use Rattle.mlir_reader.specs.Resolving.{Meanings, said_instance, said_kind, kind_named, with_definitions, operation_definitions, operation_at, operations_from, port_definition, ports_from, no_meaning, port_meanings, meanings, ends_with_output, has_outputs, left_out_output, completed, module_of, design_of}
+use Rattle.mlir_syntax.specs.Spelling.{Phrase, Either, Holding, Where, Nothing, Stands, IsPlaceOf, Commas, ValueName, OutputPhrase, PiecePhrase, PiecesPhrase, ResultsPhrase, OperationPhrase, OperationsPhrase, PortPhrase, AttributesPhrase, ModulePhrase, ModulesPhrase, FilePhrase}
+use Rattle.mlir_reader.specs.Spelling.{Spells}
+use Rattle.assembly_format.specs.declared.pieces.Piece.{Piece}
+use Rattle.assembly_format.specs.declared.pieces.Piece.TheVariants as piece
+use Rattle.mlir_printer.specs.Naming.{wishes, wishes_of, pack_wishes, body_wishes, port_wishes}
+use Rattle.mlir_printer.specs.Texts.{parts_in}
+use Rattle.mlir_printer.specs.Spellable.{Each, AreBytes, IsAnyType}
+use Rattle.mlir_printer.specs.Printable.{IsKeptDictionary}
+use Rattle.mlir_printer.proofs.steps.Listing.{instance_length}
+use Rattle.mlir_printer.proofs.printable.ReadBytes.{AreTexts, texts_of, count_of, parts_of, held_bytes, name_bytes_read, symbol_bytes_read, each_read, type_read}
+use Rattle.mlir_printer.proofs.printable.ReadOperations.{IsReadDictionary, kept_read, dictionary_read, IsReadOp, op_read}
+
+-- ---- counts of tokens
+
+parts_count : (ts a b : List Lexeme) → ts ≡ a ++ b → length ts ≡ length a + length b
+parts_count ts a b e = ap length e ∙ length-append a b
+
+commas_few : {A : Type 0} (P : A → Phrase) → ((x : A) (ts : List Lexeme) → P x ts → 1 ≤ length ts) → (xs : List A) (ts : List Lexeme) → Commas P xs ts
+    → length xs ≤ length ts
+commas_few P f [] ts h = omega arith
+commas_few P f (x ∷ []) ts h = let e = f x ts h in omega (arith, e)
+commas_few P f (x ∷ y ∷ xs) ts h =
+    let e = f x h.0 h.3 in
+    let c = parts_count ts h.0 h.1 h.2 in
+    let r = h.4 in
+    let d = parts_count h.1 r.0 r.1 r.2 in
+    let m = commas_few P f (y ∷ xs) r.1 r.4 in
+    omega (arith, e, c, d, m)
+
+value_some : (n : Name) (ts : List Lexeme) → ValueName n ts → 1 ≤ length ts
+value_some n ts h = let e = ap length h.1 in omega (arith, e)
+
+output_some : (q : NamedType) (ts : List Lexeme) → OutputPhrase q ts → 1 ≤ length ts
+output_some q ts h =
+    let c = parts_count ts h.0 h.1 h.2 in
+    let r = h.4 in
+    let d = parts_count h.1 r.0 r.1 r.2 in
+    let e = ap length r.3.1 in
+    omega (arith, c, d, e)
+
+port_some : (p : PortText) (ts : List Lexeme) → PortPhrase p ts → 1 ≤ length ts
+port_some p ts (inl h) =
+    let b = h.2 in
+    let c = parts_count ts b.0 b.1 b.2 in
+    let e = ap length b.3.1 in
+    omega (arith, c, e)
+port_some p ts (inr h) =
+    let b = h.1 in
+    let c = parts_count ts b.0 b.1 b.2 in
+    let e = ap length b.3.1 in
+    omega (arith, c, e)
+
+-- ---- names are few
+
+-- how many outputs are said
+abbrev outputs_said : Extra → ℕ
+outputs_said (child i) = length i.outputs
+outputs_said _ = 0
+
+abbrev outputs_of : Kind → ℕ
+outputs_of (instance i) = length i.outputs
+outputs_of _ = 0
+
+instance_outputs : (e : Extra) → length (said_instance e).outputs ≤ outputs_said e
+instance_outputs (child i) = omega arith
+instance_outputs _ = omega arith
+
+kind_outputs : (o : Listed) (e : Extra) (ts : List HwType) → outputs_of (kind_named o e ts) ≤ outputs_said e
+unfolding said_kind
+kind_outputs listed.HwInstance e ts = instance_outputs e
+kind_outputs _ e ts = omega arith
+
+wishes_few : (k : Kind) (ts : List HwType) (own : Name) (n m : ℕ) → 1 ≤ m → outputs_of k ≤ m → length (wishes_of k ts own n) ≤ m
+unfolding wishes_of
+wishes_few output ts own n m some few = omega arith
+wishes_few (on_struct struct_explode) ts own n m some few = go n
+  where
+    go : (n : ℕ) → length (pack_wishes n) ≤ m
+    go zero = omega arith
+    go (suc n) = some
+wishes_few (instance i) ts own n m some few = let e = instance_length i.name i.outputs in omega (arith, e, few)
+wishes_few _ ts own n m some few = some
+
+said_none : (g h : Gathered) (n : ℕ) → outputs_said h.extra ≡ 0 → outputs_said h.extra ≤ outputs_said g.extra + n
+said_none g h n e = omega (arith, e)
+
+said_same : (g h : Gathered) (n : ℕ) → h.extra ≡ g.extra → outputs_said h.extra ≤ outputs_said g.extra + n
+said_same g h n e = let f = ap outputs_said e in omega (arith, f)
+
+piece_few : (p : Piece) (g h : Gathered) (ts : List Lexeme) → PiecePhrase p g h ts → outputs_said h.extra ≤ outputs_said g.extra + length ts
+piece_few (piece.Mark k) g h ts i = said_same g h (length ts) (ap (λ (x : Gathered). x.extra) i.0)
+piece_few (piece.Word w) g h ts i = said_same g h (length ts) (ap (λ (x : Gathered). x.extra) i.0)
+piece_few piece.Operand g h ts i = said_same g h (length ts) (ap (λ (x : Gathered). x.extra) i.1)
+piece_few piece.Operands g h ts i = said_same g h (length ts) (ap (λ (x : Gathered). x.extra) i.2)
+piece_few piece.Group g h ts i = said_same g h (length ts) (ap (λ (x : Gathered). x.extra) i.1)
+piece_few piece.Predicate g h ts i = said_none g h (length ts) (ap (λ (x : Gathered). outputs_said x.extra) i.2)
+piece_few piece.Number g h ts i = said_none g h (length ts) (ap (λ (x : Gathered). outputs_said x.extra) i.1)
+piece_few piece.Truth g h ts i = said_none g h (length ts) (ap (λ (x : Gathered). outputs_said x.extra) i.1)
+piece_few piece.Integer g h ts i = said_none g h (length ts) (ap (λ (x : Gathered). outputs_said x.extra) i.1)
+piece_few piece.Literals g h ts i = said_none g h (length ts) (ap (λ (x : Gathered). outputs_said x.extra) i.1)
+piece_few piece.Field g h ts i = said_none g h (length ts) (ap (λ (x : Gathered). outputs_said x.extra) i.1)
+piece_few piece.Instance g h ts i =
+    let a = i.6 in
+    let c1 = parts_count ts a.0 a.1 a.2 in
+    let b = a.4 in
+    let c2 = parts_count a.1 b.0 b.1 b.2 in
+    let c = b.4 in
+    let c3 = parts_count b.1 c.0 c.1 c.2 in
+    let d = c.4 in
+    let c4 = parts_count c.1 d.0 d.1 d.2 in
+    let e = d.4 in
+    let c5 = parts_count d.1 e.0 e.1 e.2 in
+    let r = e.4 in
+    let c6 = parts_count e.1 r.0 r.1 r.2 in
+    let q = r.4 in
+    let c7 = parts_count r.1 q.0 q.1 q.2 in
+    let few = commas_few OutputPhrase output_some i.4 q.0 q.3 in
+    let n = ap (λ (x : Gathered). outputs_said x.extra) i.5 in
+    let m = length-map i.4 (λ (t : NamedType). t.name) in
+    omega (arith, c1, c2, c3, c4, c5, c6, c7, few, n, m)
+piece_few piece.Reset g h ts (inl i) = said_none g h (length ts) (ap (λ (x : Gathered). outputs_said x.extra) i.2)
+piece_few piece.Reset g h ts (inr i) = said_same g h (length ts) (ap (λ (x : Gathered). x.extra) i.0)
+piece_few piece.SyncReset g h ts (inl i) = said_none g h (length ts) (ap (λ (x : Gathered). outputs_said x.extra) i.2)
+piece_few piece.SyncReset g h ts (inr i) = said_same g h (length ts) (ap (λ (x : Gathered). x.extra) i.0)
+piece_few piece.Type g h ts i = said_same g h (length ts) (ap (λ (x : Gathered). x.extra) i.1)
+piece_few piece.Types g h ts i = said_same g h (length ts) (ap (λ (x : Gathered). x.extra) i.1)
+
+pieces_few : (ps : List Piece) (g h : Gathered) (ts : List Lexeme) → PiecesPhrase ps g h ts → outputs_said h.extra ≤ outputs_said g.extra + length ts
+pieces_few [] g h ts i = said_same g h (length ts) (ap (λ (x : Gathered). x.extra) i.0)
+pieces_few (p ∷ ps) g h ts i =
+    let t = i.1 in
+    let c = parts_count ts t.0 t.1 t.2 in
+    let first = piece_few p g i.0 t.0 t.3 in
+    let more = pieces_few ps i.0 h t.1 t.4 in
+    omega (arith, c, first, more)
+
+-- an operation takes no more names than it has tokens, and names fewer results than the limit
+record HasFew (n : ℕ) (o : Op) : Type 0 where
+  wanted : length (wishes (parts_in o)) ≤ n
+  named : o.named < count_limit
+
+names_few : (r : ResultNames) (ts : List Lexeme) → length ts < count_limit → ResultsPhrase r ts → named_count r < count_limit
+names_few no_names ts small h = omega arith
+names_few (names n ns) ts small h =
+    let c = parts_count ts h.0 h.1 h.2 in
+    let few = commas_few ValueName value_some (n ∷ ns) h.0 h.3 in
+    omega (arith, small, c, few)
+names_few (pack n k) ts small h = let a = h.4 in let b = a.4 in b.3.0
+
+op_few : (At : Stands) (o : OperationText) (ts : List Lexeme) (m earlier : Meanings) (i : ℕ) → length ts < count_limit → OperationPhrase At o ts
+    → HasFew (length ts) (operation_at m earlier i o)
+op_few At o ts m earlier i small h =
+    let a = h.1 in
+    let c1 = parts_count ts a.0 a.1 a.2 in
+    let b = a.4 in
+    let c2 = parts_count a.1 b.0 b.1 b.2 in
+    let one = ap length b.3.1 in
+    let c = b.4 in
+    let c3 = parts_count b.1 c.0 c.1 c.2 in
+    let f = c.4.2 in
+    let p = f.4 in
+    let c4 = parts_count c.1 p.0 p.1 p.2 in
+    let q = p.4 in
+    let c5 = parts_count p.1 q.0 q.1 q.2 in
+    let r = q.4 in
+    let c6 = parts_count q.1 r.0 r.1 r.2 in
+    let front = pieces_few (front_pieces c.4.0) gathered_nothing f.0 p.0 p.3 in
+    let types = pieces_few (type_pieces c.4.0) f.0 o.gathered r.0 r.3 in
+    let said = kind_outputs o.name o.gathered.extra o.gathered.types in
+    let x = operation_at m earlier i o in
+    record {
+      wanted = wishes_few x.kind x.types x.name (length x.results) (length ts) (omega (arith, c1, c2, one))
+          (omega (arith, c1, c2, c3, c4, c5, c6, front, types, said));
+      named = names_few o.results a.0 (omega (arith, c1, small)) a.3;
+    }
+
+-- ---- bodies
+
+-- a body that is read: operations that are read, with few names
+record IsReadBody (n : ℕ) (os : List Op) : Type 0 where
+  each : Each IsReadOp os
+  named : Each (λ (o : Op). o.named < count_limit) os
+  wanted : length (body_wishes (map parts_in os)) ≤ n
+
+body_read : (At : Stands) (os : List OperationText) (ts : List Lexeme) (m earlier : Meanings) (i : ℕ) → AreTexts ts → length ts < count_limit
+    → OperationsPhrase At os ts → IsReadBody (length ts) (operations_from m earlier i os)
+body_read At [] ts m earlier i texts small h = record { each = tt; named = tt; wanted = omega arith }
+body_read At (o ∷ os) ts m earlier i texts small h =
+    let a = h.1 in
+    let s = parts_of ts a.0 a.1 a.2 texts in
+    let c = parts_count ts a.0 a.1 a.2 in
+    let few = op_few At o a.0 m earlier i (omega (arith, c, small)) a.3 in
+    let wanted = few.wanted in
+    let rest = body_read At os a.1 m (with_definitions earlier (operation_definitions i o)) (i + 1) s.1 (omega (arith, c, small)) a.4 in
+    let more = rest.wanted in
+    let x = operation_at m earlier i o in
+    let xs = operations_from m (with_definitions earlier (operation_definitions i o)) (i + 1) os in
+    record {
+      each = (op_read At o a.0 m earlier i s.0 a.3, rest.each);
+      named = (few.named, rest.named);
+      wanted = omega (arith, length-append (wishes (parts_in x)) (body_wishes (map parts_in xs)), wanted, more, c);
+    }
+
+left_out_read : (place : code.Place) → IsReadOp (left_out_output place)
+unfolding result_types
+left_out_read place = record {
+  again = [];
+  results = refl;
+  readable = tt;
+  kept = tt;
+  written = tt;
+  nameless = λ e. refl;
+  name = tt;
+  dictionary = record { in_order = tt; kept = tt; entries = tt };
+  bin = λ e. cc;
+}
+
+-- with the output that a text leaves out
+with_left_out : (n : ℕ) (os : List Op) (place : code.Place) → IsReadBody n os → IsReadBody n (os ++ left_out_output place ∷ [])
+unfolding wishes_of
+with_left_out n [] place h = record { each = (left_out_read place, tt); named = (omega arith, tt); wanted = omega arith }
+with_left_out n (o ∷ os) place h =
+    let w = h.wanted in
+    let l = length-append (wishes (parts_in o)) (body_wishes (map parts_in os)) in
+    let rest = with_left_out (length (body_wishes (map parts_in os))) os place (record { each = h.each.1; named = h.named.1; wanted = omega arith }) in
+    let more = rest.wanted in
+    let k = length-append (wishes (parts_in o)) (body_wishes (map parts_in (os ++ left_out_output place ∷ []))) in
+    record { each = (h.each.0, rest.each); named = (h.named.0, rest.named); wanted = omega (arith, k, l, more, w) }
+
+completed_read : (n : ℕ) (m : ModuleText) (os : List Op) → IsReadBody n os → IsReadBody n (completed m os)
+completed_read n m os h = go (ends_with_output m.operations) (has_outputs m.ports)
+  where
+    go : (a b : Bool) → IsReadBody n (cond a os (cond b os (os ++ left_out_output m.close ∷ [])))
+    go true b = h
+    go false true = h
+    go false false = with_left_out n os m.close h
+
+-- ---- ports
+
+abbrev IsReadPortText : PortText → Type 0
+IsReadPortText p = AreBytes p.name × IsAnyType p.type
+
+-- a port is called by a string, or as its value
+port_name_read : (name v : Name) (ts : List Lexeme) → AreTexts ts → AreBytes v
+    → Either (Holding kind.StringLiteral name) (Where (name ≡ v) Nothing) ts → AreBytes name
+port_name_read name v ts texts h (inl e) = held_bytes kind.StringLiteral name ts texts e
+port_name_read name v ts texts h (inr e) = subst AreBytes (sym e.0) h
+
+port_read : (p : PortText) (ts : List Lexeme) → AreTexts ts → PortPhrase p ts → IsReadPortText p
+port_read p ts texts (inl h) =
+    let b = h.2 in
+    let s1 = parts_of ts b.0 b.1 b.2 texts in
+    let c = b.4 in
+    let s2 = parts_of b.1 c.0 c.1 c.2 s1.1 in
+    let d = c.4 in
+    let s3 = parts_of c.1 d.0 d.1 d.2 s2.1 in
+    let f = d.4 in
+    let s4 = parts_of d.1 f.0 f.1 f.2 s3.1 in
+    (port_name_read p.name h.0 d.0 s3.0 (held_bytes kind.ValueName h.0 c.0 s2.0 c.3) d.3, type_read most_open p.type f.1 s4.1 f.4)
+port_read p ts texts (inr h) =
+    let b = h.1 in
+    let s1 = parts_of ts b.0 b.1 b.2 texts in
+    let c = b.4 in
+    let s2 = parts_of b.1 c.0 c.1 c.2 s1.1 in
+    let d = c.4 in
+    let s3 = parts_of c.1 d.0 d.1 d.2 s2.1 in
+    (name_bytes_read p.name c.0 s2.0 c.3, type_read most_open p.type d.1 s3.1 d.4)
+
+-- a port that is read
+pub record IsReadPort (q : Port) : Type 0 where
+  pub name : AreBytes q.name
+  pub type : IsAnyType q.type
+
+ports_read : (earlier : Meanings) (j : ℕ) (ps : List PortText) → Each IsReadPortText ps → Each IsReadPort (ports_from earlier j ps)
+ports_read earlier j [] h = tt
+ports_read earlier j (p ∷ ps) h = (record { name = h.0.0; type = h.0.1 }, ports_read (with_definitions earlier (port_definition j p.value)) (j + 1) ps h.1)
+
+ports_few : (earlier : Meanings) (j : ℕ) (ps : List PortText) → length (port_wishes (ports_from earlier j ps)) ≤ length ps
+ports_few earlier j [] = omega arith
+ports_few earlier j (p ∷ ps) = go (not (is_some p.value)) (ports_few (with_definitions earlier (port_definition j p.value)) (j + 1) ps)
+  where
+    rest : List Port
+    rest = ports_from (with_definitions earlier (port_definition j p.value)) (j + 1) ps
+
+    go : (b : Bool) → length (port_wishes rest) ≤ length ps → length (cond b [] (Some p.name ∷ []) ++ port_wishes rest) ≤ suc (length ps)
+    go true r = omega (arith, r)
+    go false r = omega (arith, r)
+
+-- ---- modules
+
+-- a module that is read
+pub record IsReadModule (m : Module) : Type 0 where
+  pub symbol : AreBytes m.symbol
+  pub ports : Each IsReadPort m.ports
+  pub dictionary : IsKeptDictionary listed.HwModule module_keys m.dictionary
+  pub operations : Each IsReadOp m.body
+  pub named : Each (λ (o : Op). o.named < count_limit) m.body
+  pub few : length (port_wishes m.ports ++ body_wishes (map parts_in m.body)) < 2 ^ 64
+
+attributes_read : (es : List Entry) (ts : List Lexeme) → AreTexts ts → AttributesPhrase es ts → IsReadDictionary module_keys es
+attributes_read es ts texts (inl h) = dictionary_read module_keys es h.1 (parts_of ts h.0 h.1 h.2 texts).1 h.4
+attributes_read es ts texts (inr h) = subst (IsReadDictionary module_keys) (sym h.0) (record { once = tt; each = tt })
+
+module_read : (At : Stands) (m : ModuleText) (ts : List Lexeme) → AreTexts ts → length ts < count_limit → ModulePhrase At m ts
+    → IsReadModule (module_of m)
+module_read At m ts texts small h =
+    let s1 = parts_of ts h.0 h.1 h.2 texts in
+    let c1 = parts_count ts h.0 h.1 h.2 in
+    let b = h.4 in
+    let s2 = parts_of h.1 b.0 b.1 b.2 s1.1 in
+    let c2 = parts_count h.1 b.0 b.1 b.2 in
+    let c = b.4 in
+    let s3 = parts_of b.1 c.0 c.1 c.2 s2.1 in
+    let c3 = parts_count b.1 c.0 c.1 c.2 in
+    let d = c.4 in
+    let s4 = parts_of c.1 d.0 d.1 d.2 s3.1 in
+    let c4 = parts_count c.1 d.0 d.1 d.2 in
+    let lp = d.3 in
+    let t1 = parts_of d.0 lp.0 lp.1 lp.2 s4.0 in
+    let k1 = parts_count d.0 lp.0 lp.1 lp.2 in
+    let p = lp.4 in
+    let t2 = parts_of lp.1 p.0 p.1 p.2 t1.1 in
+    let k2 = parts_count lp.1 p.0 p.1 p.2 in
+    let e = d.4 in
+    let s5 = parts_of d.1 e.0 e.1 e.2 s4.1 in
+    let c5 = parts_count d.1 e.0 e.1 e.2 in
+    let f = e.4 in
+    let s6 = parts_of e.1 f.0 f.1 f.2 s5.1 in
+    let c6 = parts_count e.1 f.0 f.1 f.2 in
+    let g = f.4 in
+    let s7 = parts_of f.1 g.0 g.1 g.2 s6.1 in
+    let c7 = parts_count f.1 g.0 g.1 g.2 in
+    let ports = ports_few no_meaning 0 m.ports in
+    let port_tokens = commas_few PortPhrase port_some m.ports p.0 p.3 in
+    let body = body_read At m.operations g.0 (meanings m) (port_meanings m.ports) 0 s7.0 (omega (arith, c1, c2, c3, c4, c5, c6, c7, small)) g.3 in
+    let whole = completed_read (length g.0) m (operations_from (meanings m) (port_meanings m.ports) 0 m.operations) body in
+    let wanted = whole.wanted in
+    record {
+      symbol = symbol_bytes_read m.symbol c.0 s3.0 c.3;
+      ports = ports_read no_meaning 0 m.ports (each_read PortPhrase IsReadPortText port_read m.ports p.0 t2.0 p.3);
+      dictionary = kept_read listed.HwModule module_keys m.dictionary (attributes_read m.dictionary e.0 s5.0 e.3);
+      operations = whole.each;
+      named = whole.named;
+      few = omega (
+        arith,
+        length-append (port_wishes (module_of m).ports) (body_wishes (map parts_in (module_of m).body)),
+        ports,
+        port_tokens,
+        wanted,
+        c1,
+        c2,
+        c3,
+        c4,
+        c5,
+        c6,
+        c7,
+        k1,
+        k2,
+        small,
+      );
+    }
+
+modules_read : (At : Stands) (ms : List ModuleText) (ts : List Lexeme) → AreTexts ts → length ts < count_limit → ModulesPhrase At ms ts
+    → Each IsReadModule (design_of ms)
+modules_read At [] ts texts small h = tt
+modules_read At (m ∷ ms) ts texts small h =
+    let s = parts_of ts h.0 h.1 h.2 texts in
+    let c = parts_count ts h.0 h.1 h.2 in
+    (module_read At m h.0 s.0 (omega (arith, c, small)) h.3, modules_read At ms h.1 s.1 (omega (arith, c, small)) h.4)
+
+file_read : (At : Stands) (ms : List ModuleText) (ts : List Lexeme) → AreTexts ts → length ts < count_limit → FilePhrase At ms ts
+    → Each IsReadModule (design_of ms)
+file_read At ms ts texts small (inl h) = modules_read At ms ts texts small h
+file_read At ms ts texts small (inr h) =
+    let a = h.1 in
+    let s1 = parts_of ts a.0 a.1 a.2 texts in
+    let c1 = parts_count ts a.0 a.1 a.2 in
+    let b = a.4 in
+    let s2 = parts_of a.1 b.0 b.1 b.2 s1.1 in
+    let c2 = parts_count a.1 b.0 b.1 b.2 in
+    let c = b.4 in
+    let s3 = parts_of b.1 c.0 c.1 c.2 s2.1 in
+    let c3 = parts_count b.1 c.0 c.1 c.2 in
+    let d = c.4 in
+    let s4 = parts_of c.1 d.0 d.1 d.2 s3.1 in
+    let c4 = parts_count c.1 d.0 d.1 d.2 in
+    let e = d.4 in
+    let s5 = parts_of d.1 e.0 e.1 e.2 s4.1 in
+    let c5 = parts_count d.1 e.0 e.1 e.2 in
+    modules_read At ms e.0 s5.0 (omega (arith, c1, c2, c3, c4, c5, small)) e.3
+
+-- what bytes spell is read
+pub spelled_is_read : (source : List ℕ) (d : Design) → AreBytes source → length source < count_limit → Spells source d → Each IsReadModule d
+spelled_is_read source d bytes small h =
+    let few = count_of source h.1 h.2 in
+    subst (λ (x : Design). Each IsReadModule x) (sym h.4) (file_read IsPlaceOf h.0 h.1 (texts_of source h.1 bytes h.2) (omega (arith, few, small)) h.3)

@@ -1,0 +1,345 @@
+-- What is read of operations and modules can be printed again, but for what a verifier refuses.
+use Rattle.std.proofs.Common.{◌≡◌, ℕ, zero, suc, ◌-◌, ◌^◌, ◌<◌, ◌≤◌, Bool, true, false, cond, ◌&&◌, List, [], ◌∷◌, ◌++◌, length, refl, ap, ◌∙◌, sym, subst, arith}
+use Rattle.std.specs.Prelude.{ℤ, pos, negsuc, nat_eq, nat_lt, Option, Some, None, ⊤}
+use Rattle.std.proofs.lemmas.List.{length-map}
+use Rattle.std.proofs.Math.Pow.{pow_mono}
+use Rattle.std.proofs.lemmas.Bool.{and_parts, ltb-true, cond-false}
+use Rattle.opcode.specs.declared.listed.Listed.{Listed}
+use Rattle.opcode.specs.declared.listed.Listed.TheVariants as listed
+use Rattle.hw_model.specs.Types.{Name, HwType}
+use Rattle.hw_model.specs.Types.HwType.{int, clock, array, struct}
+use Rattle.hw_model.specs.Kinds.{Literal, Literals}
+use Rattle.hw_model.specs.Kinds.Literal.{leaf, parts}
+use Rattle.hw_model.specs.Kinds.Literals.{no_literals, literal}
+use Rattle.hw_model.specs.Design.{Attribute, Entry, Op, same_name}
+use Rattle.hw_model.specs.Design.Attribute.{text_value}
+use Rattle.ir_store.specs.ResultTypes.{result_types}
+use Rattle.mlir_lexer.specs.Classes.{is_digit}
+use Rattle.mlir_lexer.specs.Runs.{run}
+use Rattle.mlir_lexer.specs.Tokens.{Lexeme}
+use Rattle.mlir_lexer.specs.declared.token.TokenKind.TheVariants as kind
+use Rattle.mlir_syntax.specs.Numerals.{count_limit}
+use Rattle.mlir_syntax.specs.AttributeText.{is_among}
+use Rattle.mlir_syntax.specs.OperandText.{ResultNames}
+use Rattle.mlir_syntax.specs.OperandText.ResultNames.{no_names, names, pack}
+use Rattle.mlir_syntax.specs.PieceText.{Extra, Gathered, gathered_nothing}
+use Rattle.mlir_syntax.specs.PieceText.Extra.{position, number, literals, field_name, child}
+use Rattle.assembly_format.specs.Shapes.{front_pieces, type_pieces}
+use Rattle.assembly_format.specs.declared.pieces.Shape.{Shape}
+use Rattle.mlir_syntax.specs.OperationText.{OperationText, takes_bin, string_keys, given_entries}
+use Rattle.mlir_reader.specs.Resolving as read
+use Rattle.mlir_reader.specs.Resolving.{Meanings, resolved, has_negative, kept_number, kept_integer, kept_by_first, kept_literal, kept_literals, said_position, said_number, said_literals, said_field, said_instance, said_kind, kind_named, sorted, without, is_dropped, has_name, is_name_entry, kept_entries, text_in, given_name, unless_digits, name_or, own_name_of, marks, marked_results, operation_definitions, operation_at}
+use Rattle.mlir_syntax.specs.Spelling.{Stands, AreOnce, DictionaryPhrase, EntryPhrase, MaybeDictionary, IsOneOf, FormPhrase, BinPhrase, ResultsPhrase, StandsInBody, OperationPhrase}
+use Rattle.op_verifier.specs.Faults.{listed_of}
+use Rattle.mlir_printer.specs.Spellable.{Each, AreBytes, IsInteger, IsAnyType, IsLiteral, AreLiterals, IsValue, IsEntry}
+use Rattle.mlir_printer.specs.Printable.{AreInOrder, IsKeptDictionary, KeepsConstants, IsWritten, IsWrittenInstance}
+use Rattle.mlir_printer.proofs.again.DictionariesFit.{put_in_order, each_put}
+use Rattle.mlir_printer.proofs.printable.ReadBytes.{AreTexts, parts_of, held_bytes, each_read, entry_read}
+use Rattle.mlir_printer.proofs.printable.ReadPieces.{each_weaker, IsReadExtra, IsReadPart, pieces_read}
+
+-- ---- dictionaries
+
+-- no two of the entries have one key
+abbrev AreApart : List Entry → Type 0
+AreApart [] = ⊤
+AreApart (e ∷ es) = Each (λ (x : Entry). same_name e.key x.key ≡ false) es × AreApart es
+
+among_push : (key : Name) (ns : List Name) (n : Name) → is_among key (ns ++ n ∷ []) ≡ false → (is_among key ns ≡ false) × (same_name n key ≡ false)
+among_push key [] n h = (refl, go (same_name n key) h)
+  where
+    go : (b : Bool) → cond b true false ≡ false → b ≡ false
+    go true e = cc
+    go false e = refl
+among_push key (m ∷ ns) n h = go (same_name m key) h (among_push key ns n)
+  where
+    go : (b : Bool) → cond b true (is_among key (ns ++ n ∷ [])) ≡ false
+        → (is_among key (ns ++ n ∷ []) ≡ false → (is_among key ns ≡ false) × (same_name n key ≡ false))
+        → (cond b true (is_among key ns) ≡ false) × (same_name n key ≡ false)
+    go true e r = cc
+    go false e r = r e
+
+once_apart : (earlier : List Name) (es : List Entry) → AreOnce earlier es → Each (λ (x : Entry). is_among x.key earlier ≡ false) es × AreApart es
+once_apart earlier [] h = (tt, tt)
+once_apart earlier (e ∷ es) h =
+    let r = once_apart (earlier ++ e.key ∷ []) es h.1 in
+    let front = each_weaker (λ (x : Entry). is_among x.key (earlier ++ e.key ∷ []) ≡ false) (λ (x : Entry). is_among x.key earlier ≡ false)
+    (λ x a. (among_push x.key earlier e.key a).0) es r.0 in
+    let apart = each_weaker (λ (x : Entry). is_among x.key (earlier ++ e.key ∷ []) ≡ false) (λ (x : Entry). same_name e.key x.key ≡ false)
+    (λ x a. (among_push x.key earlier e.key a).1) es r.0 in
+    ((h.0, front), (apart, r.1))
+
+each_without : (P : Entry → Type 0) (test : Entry → Bool) (es : List Entry) → Each P es → Each P (without test es)
+each_without P test [] h = tt
+each_without P test (e ∷ es) h = go (test e) (each_without P test es h.1)
+  where
+    go : (b : Bool) → Each P (without test es) → Each P (cond b (without test es) (e ∷ without test es))
+    go true r = r
+    go false r = (h.0, r)
+
+apart_without : (test : Entry → Bool) (es : List Entry) → AreApart es → AreApart (without test es)
+apart_without test [] h = tt
+apart_without test (e ∷ es) h = go (test e) (apart_without test es h.1)
+  where
+    go : (b : Bool) → AreApart (without test es) → AreApart (cond b (without test es) (e ∷ without test es))
+    go true r = r
+    go false r = (each_without (λ (x : Entry). same_name e.key x.key ≡ false) test es h.0, r)
+
+none_left : (test : Entry → Bool) (es : List Entry) → Each (λ (e : Entry). test e ≡ false) (without test es)
+none_left test [] = tt
+none_left test (e ∷ es) = go (test e) refl (none_left test es)
+  where
+    go : (b : Bool) → test e ≡ b → Each (λ (e : Entry). test e ≡ false) (without test es)
+        → Each (λ (e : Entry). test e ≡ false) (cond b (without test es) (e ∷ without test es))
+    go true h r = r
+    go false h r = (h, r)
+
+each_sorted : (P : Entry → Type 0) (es : List Entry) → Each P es → Each P (sorted es)
+each_sorted P [] h = tt
+each_sorted P (e ∷ es) h = each_put P e (sorted es) h.0 (each_sorted P es h.1)
+
+sorted_in_order : (es : List Entry) → AreApart es → AreInOrder (sorted es)
+sorted_in_order [] h = tt
+sorted_in_order (e ∷ es) h = put_in_order e (sorted es) (sorted_in_order es h.1) (each_sorted (λ (x : Entry). same_name e.key x.key ≡ false) es h.0)
+
+-- a dictionary as it is read
+pub record IsReadDictionary (strings : List Name) (es : List Entry) : Type 0 where
+  pub once : AreOnce [] es
+  pub each : Each (IsEntry strings) es
+
+pub kept_read : (o : Listed) (strings : List Name) (es : List Entry) → IsReadDictionary strings es → IsKeptDictionary o strings (kept_entries o es)
+kept_read o strings es h = record {
+  in_order = sorted_in_order (without (is_dropped o) es) (apart_without (is_dropped o) es (once_apart [] es h.once).1);
+  kept = each_sorted (λ (e : Entry). is_dropped o e ≡ false) (without (is_dropped o) es) (none_left (is_dropped o) es);
+  entries = each_sorted (IsEntry strings) (without (is_dropped o) es) (each_without (IsEntry strings) (is_dropped o) es h.each);
+}
+
+pub dictionary_read : (strings : List Name) (es : List Entry) (ts : List Lexeme) → AreTexts ts → DictionaryPhrase strings es ts
+    → IsReadDictionary strings es
+dictionary_read strings es ts texts h =
+    let b = h.1 in
+    let s = parts_of ts b.0 b.1 b.2 texts in
+    let c = b.4 in
+    let u = parts_of b.1 c.0 c.1 c.2 s.1 in
+    record { once = h.0; each = each_read (EntryPhrase strings) (IsEntry strings) (entry_read strings) es c.0 u.0 c.3 }
+
+maybe_read : (strings : List Name) (es : Option (List Entry)) (ts : List Lexeme) → AreTexts ts → MaybeDictionary strings es ts
+    → IsReadDictionary strings (given_entries es)
+maybe_read strings None ts texts h = record { once = tt; each = tt }
+maybe_read strings (Some es) ts texts h = dictionary_read strings es ts texts h
+
+one_read : (strings : List Name) (early late : Option (List Entry)) (all : List Entry) → IsOneOf early late all
+    → IsReadDictionary strings (given_entries early) → IsReadDictionary strings (given_entries late) → IsReadDictionary strings all
+one_read strings (Some es) late all h e l = subst (IsReadDictionary strings) (sym h.1) e
+one_read strings None late all h e l = subst (IsReadDictionary strings) (sym h) l
+
+-- ---- constants
+
+number_kept : (w : ℕ) (z : ℤ) → kept_number w (kept_number w z) ≡ kept_number w z
+number_kept w (pos n) = refl
+number_kept w (negsuc n) = go (has_negative w n) refl
+  where
+    go : (b : Bool) → has_negative w n ≡ b → kept_number w (cond b (pos (2 ^ w - 1 - n)) (negsuc n)) ≡ cond b (pos (2 ^ w - 1 - n)) (negsuc n)
+    go true e = refl
+    go false e = cond-false (has_negative w n) (pos (2 ^ w - 1 - n)) (negsuc n) e
+
+integer_kept : (t : HwType) (z : ℤ) → kept_integer t (kept_integer t z) ≡ kept_integer t z
+integer_kept (int w) z = number_kept w z
+integer_kept clock z = refl
+integer_kept (array n t) z = refl
+integer_kept (struct fs) z = refl
+
+by_first_kept : (ts : List HwType) (z : ℤ) → kept_by_first ts (kept_by_first ts z) ≡ kept_by_first ts z
+by_first_kept [] z = refl
+by_first_kept (t ∷ ts) z = integer_kept t z
+
+mutual
+  literal_kept : (l : Literal) → kept_literal (kept_literal l) ≡ kept_literal l
+  literal_kept (leaf z t) = ap (λ y. leaf y t) (integer_kept t z)
+  literal_kept (parts ls) = ap parts (literals_kept ls)
+
+  literals_kept : (ls : Literals) → kept_literals (kept_literals ls) ≡ kept_literals ls
+  literals_kept no_literals = refl
+  literals_kept (literal l ls) =
+      ap (λ x. literal x (kept_literals (kept_literals ls))) (literal_kept l) ∙ ap (λ x. literal (kept_literal l) x) (literals_kept ls)
+
+number_small : (w : ℕ) (z : ℤ) → IsInteger z → IsInteger (kept_number w z)
+number_small w (pos n) h = h
+number_small w (negsuc n) h = go (has_negative w n) refl
+  where
+    go : (b : Bool) → has_negative w n ≡ b → IsInteger (cond b (pos (2 ^ w - 1 - n)) (negsuc n))
+    go false e = h
+    go true e =
+        let p = and_parts (nat_lt 0 w) (nat_lt w 129 && nat_lt n (2 ^ (w - 1))) e in
+        let q = and_parts (nat_lt w 129) (nat_lt n (2 ^ (w - 1))) p.1 in
+        let narrow = ltb-true w 129 q.0 in
+        let wide : 2 ^ w ≤ 2 ^ 128 = pow_mono {i = w} {j = 128} (omega (arith, narrow)) in
+        omega (arith, wide)
+
+integer_small : (t : HwType) (z : ℤ) → IsInteger z → IsInteger (kept_integer t z)
+integer_small (int w) z h = number_small w z h
+integer_small clock z h = h
+integer_small (array n t) z h = h
+integer_small (struct fs) z h = h
+
+by_first_small : (ts : List HwType) (z : ℤ) → IsInteger z → IsInteger (kept_by_first ts z)
+by_first_small [] z h = h
+by_first_small (t ∷ ts) z h = integer_small t z h
+
+mutual
+  literal_small : (l : Literal) (room : ℕ) → IsLiteral l room → IsLiteral (kept_literal l) room
+  literal_small (leaf z t) room h = (integer_small t z h.0, h.1)
+  literal_small (parts ls) zero h = h
+  literal_small (parts ls) (suc room) h = literals_small ls room h
+
+  literals_small : (ls : Literals) (room : ℕ) → AreLiterals ls room → AreLiterals (kept_literals ls) room
+  literals_small no_literals room h = tt
+  literals_small (literal l ls) room h = (literal_small l room h.0, literals_small ls room h.1)
+
+-- ---- kinds
+
+listed_again : (o : Listed) (e : Extra) (ts : List HwType) → StandsInBody o → listed_of (kind_named o e ts) ≡ o
+unfolding said_kind
+listed_again listed.HwModule e ts h = absurd h
+listed_again _ e ts h = refl
+
+constants_kept : (o : Listed) (e : Extra) (ts : List HwType) → KeepsConstants (kind_named o e ts) ts
+unfolding said_kind
+constants_kept listed.HwConstant e ts = by_first_kept ts (said_number e)
+constants_kept listed.HwAggregateConstant e ts = literals_kept (said_literals e)
+constants_kept _ e ts = tt
+
+position_written : (e : Extra) → IsReadExtra e → said_position e < count_limit
+position_written (position n) h = h
+position_written _ h = omega arith
+
+number_written : (e : Extra) → IsReadExtra e → IsInteger (said_number e)
+number_written (number z) h = h
+number_written _ h = omega arith
+
+literals_written : (e : Extra) → IsReadExtra e → AreLiterals (said_literals e) 31
+literals_written (literals ls) h = h
+literals_written _ h = tt
+
+field_written : (e : Extra) → IsReadExtra e → AreBytes (said_field e)
+field_written (field_name name) h = h
+field_written _ h = tt
+
+instance_written : (e : Extra) → IsReadExtra e → IsWrittenInstance (said_instance e)
+instance_written (child i) h = h
+instance_written _ h = record { name = tt; inner = tt; symbol = tt; inputs = tt; outputs = tt }
+
+kind_written : (o : Listed) (e : Extra) (ts : List HwType) → IsReadExtra e → IsWritten (kind_named o e ts)
+unfolding said_kind
+kind_written listed.CombExtract e ts h = position_written e h
+kind_written listed.HwConstant e ts h = by_first_small ts (said_number e) (number_written e h)
+kind_written listed.HwAggregateConstant e ts h = literals_small (said_literals e) 31 (literals_written e h)
+kind_written listed.HwStructExtract e ts h = field_written e h
+kind_written listed.HwStructInject e ts h = field_written e h
+kind_written listed.HwInstance e ts h = instance_written e h
+kind_written _ e ts h = tt
+
+-- ---- own names
+
+text_bytes : (b : Bool) (v : Attribute) → IsValue b v → AreBytes (text_in v)
+text_bytes b (text_value text) h = h
+text_bytes b _ h = tt
+
+given_bytes : (strings : List Name) (es : List Entry) (other : Name) → Each (IsEntry strings) es → AreBytes other
+    → AreBytes (name_or (given_name es) other)
+given_bytes strings [] other h g = g
+given_bytes strings (e ∷ es) other h g = go (is_name_entry e) (given_bytes strings es other h.1 g)
+  where
+    go : (b : Bool) → AreBytes (name_or (given_name es) other) → AreBytes (name_or (cond b (Some (text_in e.value)) (given_name es)) other)
+    go true r = text_bytes (is_among e.key strings) e.value h.0.value
+    go false r = r
+
+unless_bytes : (n : Name) → AreBytes n → AreBytes (unless_digits n)
+unless_bytes n h = go (nat_eq (run is_digit n) (length n))
+  where
+    go : (b : Bool) → AreBytes (cond b [] n)
+    go true = tt
+    go false = h
+
+first_bytes : (r : ResultNames) (ts : List Lexeme) → AreTexts ts → ResultsPhrase r ts → AreBytes (read.first_name r)
+first_bytes no_names ts texts h = tt
+first_bytes (names n []) ts texts h = unless_bytes n (held_bytes kind.ValueName n h.0 (parts_of ts h.0 h.1 h.2 texts).0 h.3)
+first_bytes (names n (m ∷ ns)) ts texts h =
+    let s = parts_of ts h.0 h.1 h.2 texts in
+    let c = h.3 in
+    unless_bytes n (held_bytes kind.ValueName n c.0 (parts_of h.0 c.0 c.1 c.2 s.0).0 c.3)
+first_bytes (pack n k) ts texts h = unless_bytes n (held_bytes kind.ValueName n h.0 (parts_of ts h.0 h.1 h.2 texts).0 h.3)
+
+own_bytes : (o : Listed) (r : ResultNames) (strings : List Name) (es : List Entry) → AreBytes (read.first_name r) → Each (IsEntry strings) es
+    → AreBytes (own_name_of o r es)
+own_bytes o r strings es h g = go (has_name o)
+  where
+    go : (b : Bool) → AreBytes (cond b (name_or (given_name es) (read.first_name r)) [])
+    go true = given_bytes strings es (read.first_name r) g h
+    go false = tt
+
+-- ---- operations
+
+-- an operation that is read
+pub record IsReadOp (o : Op) : Type 0 where
+  pub again : List Bool
+  pub results : o.results ≡ marked_results (result_types o.kind o.types (length o.operands)) again
+  pub readable : Each IsAnyType o.types
+  pub kept : KeepsConstants o.kind o.types
+  pub written : IsWritten o.kind
+  pub nameless : has_name (listed_of o.kind) ≡ false → o.name ≡ []
+  pub name : AreBytes o.name
+  pub dictionary : IsKeptDictionary (listed_of o.kind) (string_keys (listed_of o.kind)) o.dictionary
+  pub bin : o.bin ≡ true → takes_bin (listed_of o.kind) ≡ true
+
+bin_read : (o : Listed) (b : Bool) (ts : List Lexeme) → BinPhrase o b ts → b ≡ true → takes_bin o ≡ true
+bin_read o true ts h e = h.0
+bin_read o false ts h e = cc
+
+-- what is read after an operation's name
+record IsReadTail (strings : List Name) (g : Gathered) (es : List Entry) : Type 0 where
+  part : IsReadPart g
+  dictionary : IsReadDictionary strings es
+
+form_read : (strings : List Name) (shape : Shape) (h : Gathered) (es : List Entry) (ts : List Lexeme) → AreTexts ts → FormPhrase strings shape h es ts
+    → IsReadTail strings h es
+form_read strings shape h es ts texts f =
+    let a = f.4 in
+    let s1 = parts_of ts a.0 a.1 a.2 texts in
+    let b = a.4 in
+    let s2 = parts_of a.1 b.0 b.1 b.2 s1.1 in
+    let c = b.4 in
+    let s3 = parts_of b.1 c.0 c.1 c.2 s2.1 in
+    let front = pieces_read (front_pieces shape) gathered_nothing f.0 a.0 s1.0 (record { types = tt; extra = tt }) a.3 in
+    record {
+      part = pieces_read (type_pieces shape) f.0 h c.0 s3.0 front c.3;
+      dictionary = one_read strings f.1 f.2 es f.3 (maybe_read strings f.1 b.0 s2.0 b.3) (maybe_read strings f.2 c.1 s3.1 c.4);
+    }
+
+pub op_read : (At : Stands) (o : OperationText) (ts : List Lexeme) (means earlier : Meanings) (i : ℕ) → AreTexts ts → OperationPhrase At o ts
+    → IsReadOp (operation_at means earlier i o)
+op_read At o ts means earlier i texts h =
+    let a = h.1 in
+    let s1 = parts_of ts a.0 a.1 a.2 texts in
+    let b = a.4 in
+    let s2 = parts_of a.1 b.0 b.1 b.2 s1.1 in
+    let c = b.4 in
+    let s3 = parts_of b.1 c.0 c.1 c.2 s2.1 in
+    let f = c.4 in
+    let tail = form_read (string_keys o.name) f.0 o.gathered o.dictionary c.1 s3.1 f.2 in
+    let k = kind_named o.name o.gathered.extra o.gathered.types in
+    let same : listed_of k ≡ o.name = listed_again o.name o.gathered.extra o.gathered.types h.0 in
+    record {
+      again = marks earlier (operation_definitions i o);
+      results =
+          ap (λ n. marked_results (result_types k o.gathered.types n) (marks earlier (operation_definitions i o)))
+          (sym (length-map o.gathered.operands (resolved means)));
+      readable = tail.part.types;
+      kept = constants_kept o.name o.gathered.extra o.gathered.types;
+      written = kind_written o.name o.gathered.extra o.gathered.types tail.part.extra;
+      nameless = λ e. cond-false (has_name o.name) (name_or (given_name o.dictionary) (read.first_name o.results)) [] (ap has_name (sym same) ∙ e);
+      name = own_bytes o.name o.results (string_keys o.name) o.dictionary (first_bytes o.results a.0 s1.0 a.3) tail.dictionary.each;
+      dictionary =
+          subst (λ (l : Listed). IsKeptDictionary l (string_keys l) (kept_entries o.name o.dictionary)) (sym same)
+          (kept_read o.name (string_keys o.name) o.dictionary tail.dictionary);
+      bin = λ e. ap takes_bin same ∙ bin_read o.name o.bin c.0 c.3 e;
+    }

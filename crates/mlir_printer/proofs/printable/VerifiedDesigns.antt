@@ -1,0 +1,284 @@
+-- A design that is read and not refused can be printed and read again.
+use Rattle.std.proofs.Common.{◌≡◌, ℕ, zero, suc, ◌<◌, max, Bool, true, false, cond, ◌&&◌, List, [], ◌∷◌, map, length, refl, ap, ◌∙◌, sym, subst, arith}
+use Rattle.std.specs.Prelude.{not, nat_eq, nat_lt, Option, Some, None, is_some, slice_get, ⊤, Ok, Err}
+use Rattle.std.proofs.lemmas.List.{length-map}
+use Rattle.std.proofs.lemmas.Bool.{or_parts, eqb-true, ltb-false}
+use Rattle.wiring.specs.Options.{bind, omap}
+use Rattle.diag.specs.declared.cause.Cause.{Cause}
+use Rattle.hw_model.specs.Types.{HwType}
+use Rattle.hw_model.specs.Kinds.{Kind}
+use Rattle.hw_model.specs.Kinds.Reset.{no_reset, sync_reset}
+use Rattle.hw_model.specs.Kinds.ArrayOp.{array_concat}
+use Rattle.hw_model.specs.Kinds.StructOp.{struct_create}
+use Rattle.hw_model.specs.Kinds.RegisterOp.{compreg, compreg_ce, firreg}
+use Rattle.hw_model.specs.Kinds.Kind.{concat, on_array, on_struct, output, register}
+use Rattle.hw_model.specs.Sound.{type_in, input_type}
+use Rattle.hw_model.specs.Design.{Ref, Port, OpResult, Op, Module, Design, is_output_op, result_type}
+use Rattle.hw_model.specs.Design.Ref.{port, result, undefined}
+use Rattle.ir_store.specs.ResultTypes.{result_types, result_count}
+use Rattle.diag.specs.Place.{start_place}
+use Rattle.diag.specs.declared.refusal.OpName.TheVariants as op
+use Rattle.diag.specs.declared.cause.Cause.TheVariants.{TooLong}
+use Rattle.mlir_syntax.specs.Stream.{stream_of, refusal}
+use Rattle.mlir_syntax.specs.ModuleText.{file_text}
+use Rattle.mlir_reader.specs.Reading.{text_limit, design_read, read}
+use Rattle.mlir_syntax.specs.Numerals.{count_limit}
+use Rattle.mlir_reader.specs.Resolving.{marked_results, type_or_none}
+use Rattle.mlir_reader.specs.Spelling.{Spells}
+use Rattle.op_verifier.specs.CountChecks.{operand_count, type_count, has_wrong_operands, has_wrong_results, has_wrong_count}
+use Rattle.op_verifier.specs.OperandChecks.{has_mismatch}
+use Rattle.op_verifier.specs.LimitChecks.{has_type_outside, has_constant_outside, has_extract_outside, has_broken_copy, has_wide_concat, has_unknown_divisor, has_wrong_index, has_wrong_field, has_unequal_widths, has_clock_value}
+use Rattle.op_verifier.specs.OwnChecks.{caused, own_cause}
+use Rattle.op_verifier.specs.OpChecks.{has_again, has_undefined, settled_type, divides_by_constant, value_cause, alone_cause, op_cause}
+use Rattle.op_verifier.specs.Headers.{has_port, has_output, ports_cause, names_cause, header_cause}
+use Rattle.op_verifier.specs.Faults.{op_refusal, header_refusal, is_empty, body_fault, module_fault, faults_from, first_fault}
+use Rattle.op_verifier.proofs.Unrefused.{or_none, map_none, when_none, not_false}
+use Rattle.mlir_printer.specs.Spellable.{Each, AreBytes}
+use Rattle.mlir_printer.specs.Printable.{IsDefined, settled_result, operands_written, types_written, IsPrintableOp, IsPrintablePort, EndsWithOutput, IsPrintableModule, Printable}
+use Rattle.mlir_printer.proofs.again.OperationsAgain.{types_counted}
+use Rattle.mlir_printer.proofs.printable.ReadOperations.{IsReadOp}
+use Rattle.mlir_printer.proofs.printable.ReadModules.{IsReadPort, IsReadModule, spelled_is_read}
+
+-- ---- what an operation is not refused for
+
+uncaused : (b : Bool) (c : Cause) (rest : Option Cause) → caused b c rest ≡ None → (b ≡ false) × (rest ≡ None)
+uncaused false c rest h = (refl, h)
+uncaused true c rest h = cc
+
+right_count : (kind : Kind) (ts rs : List HwType) (named : ℕ) (xs : List (Option HwType)) (b : Bool) → own_cause kind ts rs named xs b ≡ None
+    → has_wrong_count kind ts rs named xs ≡ false
+unfolding own_cause
+right_count kind ts rs named xs b h =
+    let p1 = uncaused (has_mismatch kind ts rs xs) _ _ h in
+    let p2 = uncaused (has_type_outside kind ts rs) _ _ p1.1 in
+    let p3 = uncaused (has_constant_outside kind ts) _ _ p2.1 in
+    let p4 = uncaused (has_extract_outside kind ts) _ _ p3.1 in
+    let p5 = uncaused (has_broken_copy kind ts) _ _ p4.1 in
+    let p6 = uncaused (has_wide_concat kind ts) _ _ p5.1 in
+    let p7 = uncaused (has_unknown_divisor kind b) _ _ p6.1 in
+    let p8 = uncaused (has_wrong_index kind ts xs) _ _ p7.1 in
+    let p9 = uncaused (has_wrong_field kind ts) _ _ p8.1 in
+    let p10 = uncaused (has_unequal_widths kind ts) _ _ p9.1 in
+    let p11 = uncaused (has_clock_value kind ts xs) _ _ p10.1 in
+    (uncaused (has_wrong_count kind ts rs named xs) _ _ p11.1).0
+
+-- the counts of an operation that is not refused
+record AreRight (kind : Kind) (ts : List HwType) (n count named : ℕ) : Type 0 where
+  operands : n ≡ operand_count kind ts n
+  types : length ts ≡ type_count kind n
+  names : named ≡ result_count kind ts
+  results : count ≡ result_count kind ts
+
+same_numbers : (m n : ℕ) → not (nat_eq m n) ≡ false → m ≡ n
+same_numbers m n h = eqb-true m n (not_false (nat_eq m n) h)
+
+counts_right : (kind : Kind) (ts rs : List HwType) (named : ℕ) (xs : List (Option HwType)) → has_wrong_count kind ts rs named xs ≡ false
+    → AreRight kind ts (length xs) (length rs) named
+unfolding has_wrong_count has_wrong_operands has_wrong_results
+counts_right kind ts rs named xs h =
+    let a = or_parts _ _ h in
+    let b = or_parts _ _ a.0 in
+    let c = or_parts _ _ a.1 in
+    let d = or_parts _ _ c.0 in
+    record {
+      operands = same_numbers (length xs) (operand_count kind ts (length xs)) b.0;
+      types = same_numbers (length ts) (type_count kind (length xs)) b.1;
+      names = same_numbers named (result_count kind ts) d.0;
+      results = same_numbers (length rs) (result_count kind ts) d.1;
+    }
+
+-- they are those that are written
+counts_written : (k : Kind) (ts : List HwType) (n : ℕ) → n ≡ operand_count k ts n → length ts ≡ type_count k n
+    → (n ≡ operands_written k n) × (length ts ≡ types_written k n)
+unfolding operand_count type_count operands_written types_written
+counts_written concat ts n h g = (h ∙ ap (λ m. max 1 m) g, g)
+counts_written (on_array array_concat) ts n h g = (h ∙ ap (λ m. max 1 m) g, g)
+counts_written (on_struct struct_create) ts n h g = (refl, g)
+counts_written output ts n h g = (refl, g)
+counts_written (register compreg no_reset) ts n h g = (h, g)
+counts_written (register compreg sync_reset) ts n h g = (h, g)
+counts_written (register compreg_ce no_reset) ts n h g = (h, g)
+counts_written (register compreg_ce sync_reset) ts n h g = (h, g)
+counts_written (register firreg no_reset) ts n h g = (h, g)
+counts_written (register firreg sync_reset) ts n h g = (h, g)
+counts_written _ ts n h g = (h, g)
+
+-- ---- results
+
+unmarked : (ts : List (Option HwType)) (bs : List Bool) → length (marked_results ts bs) ≡ length ts → has_again (marked_results ts bs) ≡ false
+    → marked_results ts bs ≡ map settled_result ts
+unmarked [] [] e h = refl
+unmarked [] (b ∷ bs) e h = absurd (omega (arith, e))
+unmarked (t ∷ ts) [] e h = ap (λ l. settled_result t ∷ l) (unmarked ts [] (omega (arith, e)) h)
+unmarked (t ∷ ts) (b ∷ bs) e h = go b h (unmarked ts bs (omega (arith, e)))
+  where
+    go : (c : Bool) → cond c true (has_again (marked_results ts bs)) ≡ false
+        → (has_again (marked_results ts bs) ≡ false → marked_results ts bs ≡ map settled_result ts)
+        → record { type = type_or_none t; again = c } ∷ marked_results ts bs ≡ settled_result t ∷ map settled_result ts
+    go true g r = cc
+    go false g r = ap (λ l. settled_result t ∷ l) (r g)
+
+-- ---- operands
+
+slice_within : {A B : Type 0} (f : A → B) (xs : List A) (k : ℕ) → is_some (omap f (slice_get xs k)) ≡ true → k < length xs
+slice_within f [] k h = cc
+slice_within f (x ∷ xs) zero h = omega arith
+slice_within f (x ∷ xs) (suc k) h = let e = slice_within f xs k h in omega (arith, e)
+
+defined_of : (ports : List Port) (os : List Op) (r : Ref) → is_some (type_in ports os r) ≡ true → IsDefined ports os r
+defined_of ports os (port j) h = go (slice_get ports j) refl h
+  where
+    input : (b : Bool) (t : HwType) → is_some (cond b None (Some t)) ≡ true → b ≡ false
+    input true t e = cc
+    input false t e = refl
+
+    go : (q : Option Port) → slice_get ports j ≡ q → is_some (input_type q) ≡ true → (p : Port) × (slice_get ports j ≡ Some p) × (p.is_output ≡ false)
+    go None e g = cc
+    go (Some q) e g = (q, e, input q.is_output q.type g)
+defined_of ports os (result j k) h = go (slice_get os j) refl h
+  where
+    go : (q : Option Op) → slice_get os j ≡ q → is_some (bind q (λ (o : Op). result_type o k)) ≡ true
+        → (o : Op) × (slice_get os j ≡ Some o) × (k < length o.results)
+    go None e g = cc
+    go (Some o) e g = (o, e, slice_within (λ (r : OpResult). r.type) o.results k g)
+defined_of ports os undefined h = cc
+
+all_defined : (ports : List Port) (os : List Op) (rs : List Ref) → has_undefined ports os rs ≡ false → Each (IsDefined ports os) rs
+all_defined ports os [] h = tt
+all_defined ports os (r ∷ rs) h = go (is_some (type_in ports os r)) refl h (all_defined ports os rs)
+  where
+    go : (b : Bool) → is_some (type_in ports os r) ≡ b → cond b (has_undefined ports os rs) true ≡ false
+        → (has_undefined ports os rs ≡ false → Each (IsDefined ports os) rs) → IsDefined ports os r × Each (IsDefined ports os) rs
+    go true e g rest = (defined_of ports os r e, rest g)
+    go false e g rest = cc
+
+-- ---- operations
+
+op_printable : (d : Design) (ports : List Port) (whole : List Op) (last : Bool) (o : Op) → op_cause d ports whole last o ≡ None → IsReadOp o
+    → o.named < count_limit
+    → IsPrintableOp ports whole o
+op_printable d ports whole last o h read named =
+    let a = or_none (value_cause ports whole o) _ h in
+    let v = or_none _ _ a.0 in
+    let again = when_none (has_again o.results) _ v.0 in
+    let known = when_none (has_undefined ports whole o.operands) _ v.1 in
+    let b = or_none (alone_cause ports whole o) _ a.1 in
+    let xs = map (settled_type ports whole) o.operands in
+    let rs = map (λ (r : OpResult). r.type) o.results in
+    let right = counts_right o.kind o.types rs o.named xs (right_count o.kind o.types rs o.named xs (divides_by_constant whole o.operands) b.0) in
+    let n : length xs ≡ length o.operands = length-map o.operands (settled_type ports whole) in
+    let count : length o.results ≡ result_count o.kind o.types = sym (length-map o.results (λ (r : OpResult). r.type)) ∙ right.results in
+    let written = counts_written o.kind o.types (length xs) right.operands right.types in
+    let ts = result_types o.kind o.types (length o.operands) in
+    let size : length (marked_results ts read.again) ≡ length ts = sym (ap length read.results) ∙ count ∙ sym
+    (types_counted o.kind o.types (length o.operands)) in
+    let some : o.named ≡ length o.results = right.names ∙ sym count in
+    record {
+      defined = all_defined ports whole o.operands known;
+      operands = subst (λ m. m ≡ operands_written o.kind m) n written.0;
+      types = written.1 ∙ ap (types_written o.kind) n;
+      readable = read.readable;
+      results = read.results ∙ unmarked ts read.again size (sym (ap has_again read.results) ∙ again);
+      named = some;
+      few = λ p. omega (arith, some, named);
+      kept = read.kept;
+      written = read.written;
+      nameless = read.nameless;
+      name = read.name;
+      dictionary = read.dictionary;
+      bin = read.bin;
+    }
+
+-- an output is the last
+abbrev OutputsLast : List Op → Type 0
+OutputsLast [] = ⊤
+OutputsLast (o ∷ os) = ((is_output_op o && not (is_empty os)) ≡ false) × OutputsLast os
+
+last_output_op : (d : Design) (ports : List Port) (whole : List Op) (last : Bool) (o : Op) → op_cause d ports whole last o ≡ None
+    → (is_output_op o && not last) ≡ false
+last_output_op d ports whole last o h =
+    let a = or_none (value_cause ports whole o) _ h in
+    let b = or_none (alone_cause ports whole o) _ a.1 in
+    let c = or_none _ _ b.1 in
+    let e = or_none _ _ c.1 in
+    when_none (is_output_op o && not last) _ e.1
+
+body_printable : (d : Design) (ports : List Port) (whole os : List Op) → body_fault d ports whole os ≡ None → Each IsReadOp os
+    → Each (λ (o : Op). o.named < count_limit) os
+    → Each (IsPrintableOp ports whole) os × OutputsLast os
+body_printable d ports whole [] h read named = (tt, tt)
+body_printable d ports whole (o ∷ os) h read named =
+    let a = or_none _ _ h in
+    let none = map_none (op_refusal o) (op_cause d ports whole (is_empty os) o) a.0 in
+    let rest = body_printable d ports whole os a.1 read.1 named.1 in
+    ((op_printable d ports whole (is_empty os) o none read.0 named.0, rest.0), (last_output_op d ports whole (is_empty os) o none, rest.1))
+
+ends_so : (os : List Op) → has_output os ≡ true → OutputsLast os → EndsWithOutput os
+ends_so [] h l = cc
+ends_so (o ∷ []) h l = go (is_output_op o) h
+  where
+    go : (b : Bool) → cond b true false ≡ true → b ≡ true
+    go true e = refl
+    go false e = cc
+ends_so (o ∷ p ∷ os) h l = go (is_output_op o) refl h l.0 (λ e. ends_so (p ∷ os) e l.1)
+  where
+    go : (b : Bool) → is_output_op o ≡ b → cond b true (has_output (p ∷ os)) ≡ true → (b && true) ≡ false
+        → (has_output (p ∷ os) ≡ true → EndsWithOutput (p ∷ os))
+        → (is_output_op o ≡ false) × EndsWithOutput (p ∷ os)
+    go true e g f r = cc
+    go false e g f r = (e, r g)
+
+-- ---- modules
+
+none_again : (ps : List Port) → has_port (λ (q : Port). q.again) ps ≡ false → Each IsReadPort ps → Each IsPrintablePort ps
+none_again [] h read = tt
+none_again (p ∷ ps) h read = go p.again refl h (λ e. none_again ps e read.1)
+  where
+    go : (b : Bool) → p.again ≡ b → cond b true (has_port (λ (q : Port). q.again) ps) ≡ false
+        → (has_port (λ (q : Port). q.again) ps ≡ false → Each IsPrintablePort ps) → IsPrintablePort p × Each IsPrintablePort ps
+    go true e g r = cc
+    go false e g r = (record { first = e; name = read.0.name; type = read.0.type }, r g)
+
+module_printable : (d : Design) (n : ℕ) (m : Module) → module_fault d n m ≡ None → IsReadModule m → IsPrintableModule m
+module_printable d n m h read =
+    let a = or_none _ _ h in
+    let header = map_none (header_refusal m) (header_cause d n m) a.0 in
+    let parts = or_none (ports_cause m.ports) (names_cause d n m.symbol m.ports m.body) header in
+    let ports = or_none _ _ parts.0 in
+    let names = or_none _ _ parts.1 in
+    let twice = or_none _ _ names.1 in
+    let body = body_printable d m.ports m.body m.body a.1 read.operations read.named in
+    record {
+      symbol = read.symbol;
+      ports = none_again m.ports (when_none (has_port (λ (q : Port). q.again) m.ports) _ ports.0) read.ports;
+      dictionary = read.dictionary;
+      operations = body.0;
+      ends = ends_so m.body (not_false (has_output m.body) (when_none (not (has_output m.body)) _ twice.1)) body.1;
+      few = read.few;
+    }
+
+modules_printable : (d : Design) (n : ℕ) (ms : List Module) → faults_from d n ms ≡ None → Each IsReadModule ms → Each IsPrintableModule ms
+modules_printable d n [] h read = tt
+modules_printable d n (m ∷ ms) h read =
+    let a = or_none (module_fault d n m) (faults_from d (suc n) ms) h in
+    (module_printable d n m a.0 read.0, modules_printable d (suc n) ms a.1 read.1)
+
+-- a design that bytes spell and that is not refused can be printed
+pub spelled_designs_are_printable : (source : List ℕ) (d : Design) → AreBytes source → length source < count_limit → Spells source d
+    → first_fault d ≡ None → Printable d
+spelled_designs_are_printable source d bytes small h none = modules_printable d 0 d none (spelled_is_read source d bytes small h)
+
+-- what is read is short
+read_small : (source : List ℕ) (d : Design) → read source ≡ Ok d → length source < count_limit
+read_small source d h = go (nat_lt text_limit (length source)) refl h
+  where
+    go : (b : Bool) → nat_lt text_limit (length source) ≡ b
+        → cond b (Err (refusal start_place op.File TooLong)) (design_read (file_text (stream_of source))) ≡ Ok d
+        → length source < count_limit
+    go true e g = cc
+    go false e g = let le = ltb-false text_limit (length source) e in omega (arith, le)
+
+-- a design that is read and not refused can be printed, since what is read is spelled
+pub read_designs_are_printable : ((source : List ℕ) (d : Design) → read source ≡ Ok d → Spells source d)
+    → (source : List ℕ) (d : Design) → AreBytes source → read source ≡ Ok d → first_fault d ≡ None → Printable d
+read_designs_are_printable spelled source d bytes h none = spelled_designs_are_printable source d bytes (read_small source d h) (spelled source d h) none
