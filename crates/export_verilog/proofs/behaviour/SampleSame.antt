@@ -22,7 +22,7 @@ use Rattle.export_verilog.specs.Keys.{module_keys}
 use Rattle.export_verilog.specs.Exported.{symbol_name, tree_of}
 use Rattle.export_verilog.specs.Exportable.{IsClocked, IsExportableOp, IsExportableModule, IsExportable}
 use Rattle.export_verilog.proofs.text.Samples.{register_module}
-use Rattle.export_verilog.proofs.behaviour.Standing.{exported_same}
+use Rattle.export_verilog.proofs.behaviour.ModuleBehaviour.{exported_same}
 
 abbrev one_register : Design
 one_register = register_module ∷ []

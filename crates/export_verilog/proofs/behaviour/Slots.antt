@@ -35,10 +35,10 @@ use Rattle.export_verilog.proofs.behaviour.Places.{number_of, vpath_of, symbol_a
 use Rattle.export_verilog.proofs.behaviour.Content.{variable_width}
 use Rattle.export_verilog.proofs.items.Writable.{named_input}
 use Rattle.export_verilog.proofs.items.Writable.NamedAs.{by_port}
-use Rattle.export_verilog.proofs.behaviour.Worth.{low_all, IsGood, symbol_there, found_there, own_bits}
-use Rattle.export_verilog.proofs.behaviour.Ways.{IsDesignSettled}
+use Rattle.export_verilog.proofs.behaviour.NetValues.{low_all, IsGood, symbol_there, found_there, own_bits}
+use Rattle.export_verilog.proofs.behaviour.NetMaps.{IsDesignSettled}
 use Rattle.export_verilog.proofs.behaviour.Owners.{to}
-use Rattle.export_verilog.proofs.behaviour.Both.{heights, over_good, name_shows, own_is}
+use Rattle.export_verilog.proofs.behaviour.SettledMaps.{heights, over_good, name_shows, own_is}
 
 -- ---- items without registers
 

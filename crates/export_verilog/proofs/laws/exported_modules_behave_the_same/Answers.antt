@@ -1,4 +1,4 @@
-use Rattle.export_verilog.proofs.behaviour.Standing.{exported_same}
+use Rattle.export_verilog.proofs.behaviour.ModuleBehaviour.{exported_same}
 use Rattle.export_verilog.proofs.laws.exported_modules_behave_the_same.Goals as goal
 
 pub returns : goal.returns

@@ -35,7 +35,7 @@ use Rattle.export_verilog.proofs.items.Writable.NamedAs.{by_port, by_value}
 use Rattle.export_verilog.proofs.behaviour.Places.{vpath_of, further}
 use Rattle.export_verilog.proofs.behaviour.Nets.{key_drive, width_here}
 use Rattle.export_verilog.proofs.items.Operands.{output_type_at, none_at}
-use Rattle.export_verilog.proofs.behaviour.Worth.{own, given, evaluated, evaluated_as, HaveWords, IsGood, symbol_there, found_there, can_write, own_named, own_absent, own_unnamed, made_worth, net_given, given_long, joined_is, constant_form, ShowOutputs, output_agrees, value_agrees}
+use Rattle.export_verilog.proofs.behaviour.NetValues.{own, given, evaluated, evaluated_as, HaveWords, IsGood, symbol_there, found_there, can_write, own_named, own_absent, own_unnamed, made_worth, net_given, given_long, joined_is, constant_form, ShowOutputs, output_agrees, value_agrees}
 
 clash : {A : Type 0} (o : Option A) → is_some o ≡ true → o ≡ None → ⊥
 clash o some none = let h : true ≡ false = sym some ∙ ap is_some none in cc

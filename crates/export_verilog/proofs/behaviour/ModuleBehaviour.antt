@@ -16,7 +16,7 @@ use Rattle.export_verilog.specs.Exportable.{IsExportable}
 use Rattle.export_verilog.proofs.names.KeyNames.{AreNames}
 use Rattle.export_verilog.proofs.names.Symbols.{AreSymbols, found_symbol}
 use Rattle.export_verilog.proofs.items.Settings.{Setting}
-use Rattle.export_verilog.proofs.behaviour.Final.{exported_same_by}
+use Rattle.export_verilog.proofs.behaviour.TreeBehaviour.{exported_same_by}
 
 legal_long : (ws : List Name) → length (legal ws) ≡ length ws
 legal_long ws = legal_count [] ws

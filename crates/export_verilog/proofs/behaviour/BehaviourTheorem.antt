@@ -16,7 +16,7 @@ use Rattle.export_verilog.proofs.names.PortNames.{port_names_are, vports_are}
 use Rattle.export_verilog.proofs.text.TextRead.{tree_read}
 use Rattle.export_verilog.proofs.names.Symbols.{module_at_position, symbol_at, vmodule_found}
 use Rattle.export_verilog.proofs.items.Settings.{Setting}
-use Rattle.export_verilog.proofs.behaviour.Standing.{setting, exported_same}
+use Rattle.export_verilog.proofs.behaviour.ModuleBehaviour.{setting, exported_same}
 use Rattle.export_verilog.proofs.checks.Fitting.{tree_of_fits}
 use Rattle.export_verilog.proofs.checks.Checking.{tree_is_checked}
 use Rattle.export_verilog.proofs.text.Spelled.{tree_is_spellable}

@@ -22,9 +22,9 @@ use Rattle.export_verilog.proofs.items.Items.{output_count}
 use Rattle.export_verilog.proofs.names.Symbols.{vmodule_found, module_at_position}
 use Rattle.export_verilog.proofs.items.Settings.{Setting, module_sound}
 use Rattle.export_verilog.proofs.behaviour.Content.{state_is}
-use Rattle.export_verilog.proofs.behaviour.Ways.{back, back_settled}
+use Rattle.export_verilog.proofs.behaviour.NetMaps.{back, back_settled}
 use Rattle.export_verilog.proofs.behaviour.Owners.{to, to_key, output_shows}
-use Rattle.export_verilog.proofs.behaviour.Both.{over_settled, round}
+use Rattle.export_verilog.proofs.behaviour.SettledMaps.{over_settled, round}
 use Rattle.export_verilog.proofs.behaviour.Slots.{are_slots, next_is}
 
 -- the words of the output ports, where each shows what its module gives to it

@@ -31,8 +31,8 @@ use Rattle.export_verilog.proofs.items.Writable.NamedAs.{by_port, by_value}
 use Rattle.export_verilog.proofs.behaviour.Places.{vpath_of}
 use Rattle.export_verilog.proofs.behaviour.Nets.{key_drive, width_here, drive_instance}
 use Rattle.export_verilog.proofs.items.Operands.{output_ref_at}
-use Rattle.export_verilog.proofs.behaviour.Worth.{evaluated_as, HaveWords, IsGood, symbol_there, found_there, port_width_is, own_named, own_absent, constant_form, ShowOutputs, output_agrees}
-use Rattle.export_verilog.proofs.behaviour.Ways.{worth, drives, IsTreeSettled, IsDesignSettled, unnamed_agrees, named_agrees, settled_given, tree_good, back, back_here, back_own, output_shown}
+use Rattle.export_verilog.proofs.behaviour.NetValues.{evaluated_as, HaveWords, IsGood, symbol_there, found_there, port_width_is, own_named, own_absent, constant_form, ShowOutputs, output_agrees}
+use Rattle.export_verilog.proofs.behaviour.NetMaps.{worth, drives, IsTreeSettled, IsDesignSettled, unnamed_agrees, named_agrees, settled_given, tree_good, back, back_here, back_own, output_shown}
 use Rattle.export_verilog.proofs.behaviour.Owners.{shown_ref, input_shows, output_shows, to, to_key, by_owner_of}
 
 module _ (d : Design) (x : Setting d) (top : Name) (inputs content : Word) (m0 : Module) (top_is : find_module d top ≡ Some m0) where
