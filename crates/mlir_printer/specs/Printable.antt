@@ -11,6 +11,7 @@ use Rattle.hw_model.specs.Kinds.ArrayOp.{array_create, array_concat, array_get, 
 use Rattle.hw_model.specs.Kinds.StructOp.{struct_create, struct_extract, struct_inject, struct_explode}
 use Rattle.hw_model.specs.Kinds.RegisterOp.{compreg, compreg_ce, firreg}
 use Rattle.hw_model.specs.Kinds.Kind.{variadic, parity, extract, concat, replicate, mux, constant, aggregate_constant, on_array, on_struct, bitcast, wire, instance, output, register}
+use Rattle.hw_model.specs.Opcodes.{opcode_of}
 use Rattle.hw_model.specs.Design.{Entry, Ref, Port, OpResult, Op, Module, Design, is_output_op}
 use Rattle.hw_model.specs.Design.Ref.{port, result, undefined}
 use Rattle.ir_store.specs.ResultTypes.{result_types}
@@ -19,7 +20,6 @@ use Rattle.mlir_syntax.specs.OperationText.{takes_bin, string_keys}
 use Rattle.mlir_syntax.specs.ModuleText.{module_keys}
 use Rattle.mlir_reader.specs.Resolving.{kept_by_first, kept_literals, is_dropped, has_name, type_or_none}
 use Rattle.mlir_printer.specs.Naming.{is_pack, port_wishes, body_wishes}
-use Rattle.op_verifier.specs.Faults.{listed_of}
 use Rattle.mlir_printer.specs.Texts.{parts_in}
 use Rattle.mlir_printer.specs.Spellable.{Each, AreBytes, MayBeBytes, IsInteger, IsAnyType, AreLiterals, IsEntry}
 
@@ -150,13 +150,13 @@ pub record IsPrintableOp (ports : List Port) (body : List Op) (o : Op) : Type 0 
   -- what is said besides operands and types can be written
   pub written : IsWritten o.kind
   -- only registers and wires have a name of their own
-  pub nameless : has_name (listed_of o.kind) ≡ false → o.name ≡ []
+  pub nameless : has_name (opcode_of o.kind) ≡ false → o.name ≡ []
   -- that name is bytes
   pub name : AreBytes o.name
   -- the dictionary is one that is kept, without the own name
-  pub dictionary : IsKeptDictionary (listed_of o.kind) (string_keys (listed_of o.kind)) o.dictionary
+  pub dictionary : IsKeptDictionary (opcode_of o.kind) (string_keys (opcode_of o.kind)) o.dictionary
   -- `bin` stands only where it may
-  pub bin : o.bin ≡ true → takes_bin (listed_of o.kind) ≡ true
+  pub bin : o.bin ≡ true → takes_bin (opcode_of o.kind) ≡ true
 
 -- ---- modules
 

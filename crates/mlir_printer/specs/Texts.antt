@@ -5,10 +5,10 @@ use Rattle.hw_model.specs.Kinds.{Kind, Reset}
 use Rattle.hw_model.specs.Kinds.Reset.{no_reset, sync_reset}
 use Rattle.hw_model.specs.Kinds.StructOp.{struct_extract, struct_inject}
 use Rattle.hw_model.specs.Kinds.Kind.{icmp, extract, constant, aggregate_constant, on_struct, instance, register}
+use Rattle.hw_model.specs.Opcodes.{opcode_of}
 use Rattle.hw_model.specs.Design.{Entry, Ref, Port, Op, Module, Design, same_name}
 use Rattle.hw_model.specs.Design.Attribute.{text_value}
 use Rattle.ir_store.specs.OperationViews.{OpParts}
-use Rattle.op_verifier.specs.Faults.{listed_of}
 use Rattle.mlir_syntax.specs.PieceText.{Extra}
 use Rattle.mlir_syntax.specs.PieceText.Extra.{nothing, with_reset, predicate, position, number, literals, field_name, child}
 use Rattle.mlir_reader.specs.Resolving.{put_entry}
@@ -62,7 +62,7 @@ pending_shown p os = record { operands = os; types = p.types; extra = extra_show
 abbrev pub operation_shown : OpParts → List ValueText → List Name → OperationText
 operation_shown p os ns = record {
   results = results_named p ns;
-  name = listed_of p.kind;
+  name = opcode_of p.kind;
   bin = p.bin;
   pending = pending_shown p os;
   dictionary = entries_shown p.name (first_name ns) p.dictionary;

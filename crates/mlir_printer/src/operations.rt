@@ -27,7 +27,6 @@ use hw_model::kinds::OpKind;
 use hw_model::types::Ty;
 use io_edge::byte_text::Text;
 use ir_store::body::{Body, Op};
-use op_verifier::listed_of;
 use opcode::listed::Listed;
 use std::alloc::AllocError;
 
@@ -170,7 +169,7 @@ pub fn push_operation(
 ) -> Result<(), AllocError>
     ensures { OnOk result (out.new ≡ out.old ++ operation_line (operation_shown (read_parts op.now) (map (value_held names.now) op.now.operands.now) (drop first (names_held names.now)))) }
 {
-    let name = listed_of(op.kind);
+    let name = op.kind.listed();
     let pending = pending_of(op);
     let shape = shape_shown(name, names, &pending);
     push_few(out, b"    ")?;

@@ -6,16 +6,11 @@ use Rattle.opcode.specs.declared.listed.Listed.{Listed}
 use Rattle.opcode.specs.declared.listed.Listed.TheVariants as listed
 use Rattle.diag.specs.declared.refusal.OpName.TheVariants as name
 use Rattle.diag.specs.declared.refusal.Refusal.{Refusal}
-use Rattle.hw_model.specs.Kinds.{Kind}
 use Rattle.hw_model.specs.Opcodes.{opcode_of}
 use Rattle.hw_model.specs.Design.{Place, Port, Op, Module, Design}
 use Rattle.op_verifier.specs.Answers.{or_else}
 use Rattle.op_verifier.specs.OpChecks.{op_cause}
 use Rattle.op_verifier.specs.Headers.{header_cause}
-
--- the opcode of a kind, for the printer alone
-abbrev pub listed_of : Kind → Listed
-listed_of kind = opcode_of kind
 
 -- a refusal of the design's text
 abbrev pub refused_at : Place → Listed → Cause → Refusal

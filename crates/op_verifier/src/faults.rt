@@ -1,17 +1,15 @@
 //! The first refusal of a design, but for those that look at the design as a whole.
 ghost use Rattle.std.specs.Prelude.{◌≡◌, IfOk};
-ghost use Rattle.hw_model.specs.KindViews.{kind_of};
 ghost use Rattle.ir_store.specs.Designs.{design_of, module_of, numbered_module};
 ghost use Rattle.ir_store.specs.OperationViews.{place_of};
 ghost use Rattle.op_verifier.specs.Entries.{AreSettled};
 ghost use Rattle.op_verifier.specs.BodyViews.{ports_viewed, body_viewed};
-ghost use Rattle.op_verifier.specs.Faults.{listed_of, refused_at, body_fault, module_fault, first_fault};
+ghost use Rattle.op_verifier.specs.Faults.{refused_at, body_fault, module_fault, first_fault};
 
 use crate::body_view::BodyView;
 use crate::headers::{names_cause, ports_cause};
 use diag::cause::Cause;
 use diag::refusal::{OpName, Place, Refusal};
-use hw_model::kinds::OpKind;
 use ir_store::design::{Design, Module};
 use opcode::listed::Listed;
 use std::alloc::{AllocError, Global};
@@ -82,11 +80,4 @@ pub fn refused_at(place: Place, listed: Listed, cause: Cause) -> Refusal
         op: OpName::Listed(listed),
         cause,
     }
-}
-
-/// The opcode of a kind, for the printer alone.
-pub fn listed_of(kind: &OpKind) -> Listed
-    ensures { result ≡ listed_of (kind_of kind.now) }
-{
-    kind.listed()
 }

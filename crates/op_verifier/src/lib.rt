@@ -25,7 +25,7 @@ mod verdicts;
 mod verify_fail;
 
 pub use accepted::Verified;
-pub use faults::{first_fault, listed_of, refused_at};
+pub use faults::{first_fault, refused_at};
 pub use laws::{
     accepted_designs_are_sound, places_decide_no_verdict, results_are_settled,
     unrefused_designs_are_sound,

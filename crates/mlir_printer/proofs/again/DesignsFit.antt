@@ -13,6 +13,7 @@ use Rattle.hw_model.specs.Kinds.ArrayOp.{array_create}
 use Rattle.hw_model.specs.Kinds.StructOp.{struct_create}
 use Rattle.hw_model.specs.Kinds.RegisterOp.{compreg}
 use Rattle.hw_model.specs.Kinds.Kind.{variadic, division, shift, on_array, on_struct, output, register}
+use Rattle.hw_model.specs.Opcodes.{opcode_of}
 use Rattle.hw_model.specs.Design.{Ref, Port, Op, Module, Design}
 use Rattle.hw_model.specs.Design.Ref.{port, result, undefined}
 use Rattle.ir_store.specs.OperationViews.{OpParts}
@@ -21,7 +22,6 @@ use Rattle.mlir_syntax.specs.OperandText.{ResultNames}
 use Rattle.mlir_syntax.specs.Spelling.{StandsInBody}
 use Rattle.mlir_printer.specs.Pieces.{ValueText, no_value}
 use Rattle.mlir_printer.specs.Naming.{wishes, port_wish, port_wishes, input_count, body_wishes, names_given, name_count, first_name, firsts, called, is_pack, value_at, value_in, port_value, value_named, listed_names, results_named}
-use Rattle.op_verifier.specs.Faults.{listed_of}
 use Rattle.mlir_printer.specs.Texts.{parts_in, operation_shown, operations_shown, ports_shown, module_shown, modules_shown}
 use Rattle.mlir_printer.specs.Spellable.{Each, IsValueName, IsOperand, AreResults, MayBeValue, IsSpellableOperation, AreSpellable, IsSpellablePort, IsSpellable}
 use Rattle.mlir_printer.specs.Printable.{IsDefined, operands_written, types_written, IsPrintableOp, IsPrintablePort, EndsWithOutput, IsPrintableModule, Printable}
@@ -110,7 +110,7 @@ result_fits ns (x ∷ os) (suc i) k o suits at fit lt =
 
 -- ---- operations
 
-stands_in_body : (k : Kind) → StandsInBody (listed_of k)
+stands_in_body : (k : Kind) → StandsInBody (opcode_of k)
 stands_in_body output = tt
 stands_in_body (variadic add) = tt
 stands_in_body (variadic _) = tt
@@ -147,7 +147,7 @@ module _ (ports : List Port) (body : List Op) (o : Op) (p : IsPrintableOp ports 
             form_fits o.kind (map means o.operands) o.types (n ∙ p.operands ∙ ap (operands_written o.kind) (sym n))
             (p.types ∙ ap (types_written o.kind) (sym n))
             p.written (operands_fit means (IsDefined ports body) o.operands f p.defined) p.readable;
-        dictionary = shown_fits (listed_of o.kind) _ o.name (first_name ns) o.dictionary p.dictionary p.nameless p.name;
+        dictionary = shown_fits (opcode_of o.kind) _ o.name (first_name ns) o.dictionary p.dictionary p.nameless p.name;
       }
 
 body_fits : (ports : List Port) (body : List Op) (means : Ref → ValueText) (ns : List Name) (os : List Op)

@@ -17,6 +17,7 @@ use Rattle.hw_model.specs.Kinds.ArrayOp.{array_create, array_concat, array_get, 
 use Rattle.hw_model.specs.Kinds.StructOp.{struct_create, struct_extract, struct_inject, struct_explode}
 use Rattle.hw_model.specs.Kinds.RegisterOp.{compreg, compreg_ce, firreg}
 use Rattle.hw_model.specs.Kinds.Kind.{variadic, sub, division, shift, icmp, parity, extract, concat, replicate, mux, constant, aggregate_constant, on_array, on_struct, bitcast, wire, instance, output, register}
+use Rattle.hw_model.specs.Opcodes.{opcode_of}
 use Rattle.mlir_syntax.specs.Numerals.{count_limit}
 use Rattle.mlir_syntax.specs.PieceText.{Extra}
 use Rattle.mlir_syntax.specs.PieceText.Extra.{nothing, with_reset, predicate, position, number, literals, field_name, child}
@@ -26,7 +27,6 @@ use Rattle.assembly_format.specs.declared.pieces.Shape.TheVariants as shape
 use Rattle.mlir_printer.specs.Numbers.{is_negative, shown_number, shown_integer, shown_by_first, shown_literal, shown_literals, is_truth, is_one_bit, is_shown_as_truth}
 use Rattle.mlir_printer.specs.Pieces.{ValueText}
 use Rattle.mlir_printer.specs.Operations.{shape_shown, output_shape, is_truth_said}
-use Rattle.op_verifier.specs.Faults.{listed_of}
 use Rattle.mlir_printer.specs.Texts.{extra_shown}
 use Rattle.mlir_printer.specs.Spellable.{Each, AreBytes, IsInteger, IsAnyType, IsLiteral, AreLiterals, IsOperand, IsSaidAs}
 use Rattle.mlir_printer.specs.Printable.{IsWritten, IsWrittenInstance, operands_written, types_written}
@@ -280,7 +280,7 @@ some_there n e = omega (arith, e)
 pub form_fits : (k : Kind) (os : List ValueText) (ts : List HwType) → length os ≡ operands_written k (length os)
     → length ts ≡ types_written k (length os)
     → IsWritten k → Each IsOperand os → Each IsAnyType ts
-    → IsSaidAs (shape_shown (listed_of k) (pending os ts (extra_shown k ts))) (pending os ts (extra_shown k ts))
+    → IsSaidAs (shape_shown (opcode_of k) (pending os ts (extra_shown k ts))) (pending os ts (extra_shown k ts))
 unfolding shape_shown shape_of extra_shown operands_written types_written
 form_fits (variadic add) os ts lo lt w = variadic_form os ts (some_there (length os) lo) lt
 form_fits (variadic mul) os ts lo lt w = variadic_form os ts (some_there (length os) lo) lt

@@ -16,9 +16,9 @@ use Rattle.hw_model.specs.Kinds.ArrayOp.{array_create}
 use Rattle.hw_model.specs.Kinds.StructOp.{struct_create}
 use Rattle.hw_model.specs.Kinds.RegisterOp.{compreg, compreg_ce, firreg}
 use Rattle.hw_model.specs.Kinds.Kind.{variadic, division, shift, constant, aggregate_constant, on_array, on_struct, register}
+use Rattle.hw_model.specs.Opcodes.{opcode_of}
 use Rattle.mlir_reader.specs.Resolving.{has_negative, kept_number, kept_integer, kept_by_first, kept_literal, kept_literals, said_kind, kind_named}
 use Rattle.mlir_printer.specs.Numbers.{is_negative, shown_number, shown_integer, shown_by_first, shown_literal, shown_literals}
-use Rattle.op_verifier.specs.Faults.{listed_of}
 use Rattle.mlir_printer.specs.Texts.{extra_shown}
 use Rattle.mlir_printer.specs.Printable.{KeepsConstants}
 
@@ -77,7 +77,7 @@ mutual
 
 -- ---- kinds
 
-pub kind_again : (k : Kind) (ts : List HwType) → KeepsConstants k ts → kind_named (listed_of k) (extra_shown k ts) ts ≡ k
+pub kind_again : (k : Kind) (ts : List HwType) → KeepsConstants k ts → kind_named (opcode_of k) (extra_shown k ts) ts ≡ k
 unfolding extra_shown said_kind
 kind_again (constant z) ts h = ap (λ y. constant y) (by_first_again ts z h)
 kind_again (aggregate_constant ls) ts h = ap (λ y. aggregate_constant y) (literals_again ls h)

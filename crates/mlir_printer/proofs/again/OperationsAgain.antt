@@ -13,6 +13,7 @@ use Rattle.hw_model.specs.Kinds.ArrayOp.{array_create}
 use Rattle.hw_model.specs.Kinds.StructOp.{struct_explode, struct_create}
 use Rattle.hw_model.specs.Kinds.RegisterOp.{compreg, compreg_ce, firreg}
 use Rattle.hw_model.specs.Kinds.Kind.{variadic, division, shift, on_array, on_struct, wire, instance, output, register}
+use Rattle.hw_model.specs.Opcodes.{opcode_of}
 use Rattle.hw_model.specs.Sound.{field_list}
 use Rattle.hw_model.specs.Design.{Ref, Port, Op, is_output_kind, op_without_place}
 use Rattle.ir_store.specs.ResultTypes.{first_type, fields_of, field_count, result_types, result_count}
@@ -24,7 +25,6 @@ use Rattle.mlir_reader.specs.Resolving.Defined.{are_results}
 use Rattle.mlir_reader.specs.Resolving.{Meanings, Definition, resolved, marks, marked_results, names_from, names_defined, own_types, own_count, operation_at, operation_definitions, has_name, name_or, given_name, unless_digits, own_name_of}
 use Rattle.mlir_printer.specs.Pieces.{ValueText}
 use Rattle.mlir_printer.specs.Naming.{wishes, wishes_of, own_wish, pack_wishes, name_count, first_name, firsts, is_pack, listed_names, results_named}
-use Rattle.op_verifier.specs.Faults.{listed_of}
 use Rattle.mlir_printer.specs.Texts.{parts_in, operation_shown, entries_shown}
 use Rattle.mlir_printer.specs.Spellable.{Each, said_operand, said_operation}
 use Rattle.mlir_printer.specs.Printable.{IsDefined, settled_result, types_written, IsPrintableOp}
@@ -101,7 +101,7 @@ marks_few i own (pack n k) = go (k == 0)
 
 -- ---- own names
 
-named_kind : (k : Kind) (ts : List HwType) (own : Name) (n : ℕ) → has_name (listed_of k) ≡ true
+named_kind : (k : Kind) (ts : List HwType) (own : Name) (n : ℕ) → has_name (opcode_of k) ≡ true
     → (wishes_of k ts own n ≡ own_wish own ∷ []) × (is_pack k n ≡ false)
 unfolding wishes_of
 named_kind wire ts own n h = (refl, refl)
@@ -201,17 +201,17 @@ module _ (ports : List Port) (body : List Op) (o : Op) (p : IsPrintableOp ports 
           ∙ names_counted o.kind o.types o.name (length o.results) (length o.operands) results_length p.types h
 
   name_again : (ns : List Name) → Suits (wishes (parts_in o)) ns
-      → own_name_of (listed_of o.kind) (results_named (parts_in o) ns) (entries_shown o.name (first_name ns) o.dictionary) ≡ o.name
-  name_again ns suits = go (has_name (listed_of o.kind)) refl
+      → own_name_of (opcode_of o.kind) (results_named (parts_in o) ns) (entries_shown o.name (first_name ns) o.dictionary) ≡ o.name
+  name_again ns suits = go (has_name (opcode_of o.kind)) refl
     where
       first_own : (rs : ResultNames) → rs ≡ ResultNames.names (first_name ns) [] → read.first_name rs ≡ unless_digits (first_name ns)
       first_own rs e = ap read.first_name e
 
-      go : (b : Bool) → has_name (listed_of o.kind) ≡ b
-          → cond (has_name (listed_of o.kind)) (name_or (given_name (entries_shown o.name (first_name ns) o.dictionary))
+      go : (b : Bool) → has_name (opcode_of o.kind) ≡ b
+          → cond (has_name (opcode_of o.kind)) (name_or (given_name (entries_shown o.name (first_name ns) o.dictionary))
           (read.first_name (results_named (parts_in o) ns))) [] ≡ o.name
       go false h =
-          cond-false (has_name (listed_of o.kind)) (name_or (given_name (entries_shown o.name (first_name ns) o.dictionary))
+          cond-false (has_name (opcode_of o.kind)) (name_or (given_name (entries_shown o.name (first_name ns) o.dictionary))
           (read.first_name (results_named (parts_in o) ns))) [] h
           ∙ sym (p.nameless h)
       go true h =
@@ -219,10 +219,10 @@ module _ (ports : List Port) (body : List Op) (o : Op) (p : IsPrintableOp ports 
           let names : results_named (parts_in o) ns ≡ ResultNames.names (first_name ns) [] =
           ap (λ b. cond b (ResultNames.pack (first_name ns) (length o.results)) (listed_names (firsts (name_count (parts_in o)) ns))) k.1
           ∙ ap (λ ws. listed_names (firsts (length ws) ns)) k.0 in
-          cond-true (has_name (listed_of o.kind)) (name_or (given_name (entries_shown o.name (first_name ns) o.dictionary))
+          cond-true (has_name (opcode_of o.kind)) (name_or (given_name (entries_shown o.name (first_name ns) o.dictionary))
           (read.first_name (results_named (parts_in o) ns))) [] h
           ∙ ap (λ x. name_or (given_name (entries_shown o.name (first_name ns) o.dictionary)) x) (first_own (results_named (parts_in o) ns) names)
-          ∙ own_again o.name (first_name ns) o.dictionary (none_given (listed_of o.kind) o.dictionary h p.dictionary.kept)
+          ∙ own_again o.name (first_name ns) o.dictionary (none_given (opcode_of o.kind) o.dictionary h p.dictionary.kept)
           (suits_own o.name ns (subst (λ ws. Suits ws ns) k.0 suits))
 
   -- the operation that is said is the one that is printed, but for its place
@@ -238,11 +238,11 @@ module _ (ports : List Port) (body : List Op) (o : Op) (p : IsPrintableOp ports 
       (results_again means earlier i ns new)
       (named_again ns)
       (name_again ns suits)
-      (shown_kept (listed_of o.kind) o.name (first_name ns) o.dictionary p.dictionary.in_order p.dictionary.kept p.nameless)
+      (shown_kept (opcode_of o.kind) o.name (first_name ns) o.dictionary p.dictionary.in_order p.dictionary.kept p.nameless)
       refl
 
 -- an operation is the last of its text where it is an output
-pub last_output : (k : Kind) → is_last (listed_of k) ≡ is_output_kind k
+pub last_output : (k : Kind) → is_last (opcode_of k) ≡ is_output_kind k
 last_output output = refl
 last_output (variadic add) = refl
 last_output (variadic _) = refl

@@ -11,6 +11,7 @@ use Rattle.hw_model.specs.Types.HwType.{int, clock, array, struct}
 use Rattle.hw_model.specs.Kinds.{Literal, Literals}
 use Rattle.hw_model.specs.Kinds.Literal.{leaf, parts}
 use Rattle.hw_model.specs.Kinds.Literals.{no_literals, literal}
+use Rattle.hw_model.specs.Opcodes.{opcode_of}
 use Rattle.hw_model.specs.Design.{Attribute, Entry, Op, same_name}
 use Rattle.hw_model.specs.Design.Attribute.{text_value}
 use Rattle.ir_store.specs.ResultTypes.{result_types}
@@ -30,7 +31,6 @@ use Rattle.mlir_syntax.specs.OperationText.{OperationText, takes_bin, string_key
 use Rattle.mlir_reader.specs.Resolving as read
 use Rattle.mlir_reader.specs.Resolving.{Meanings, resolved, has_negative, kept_number, kept_integer, kept_by_first, kept_literal, kept_literals, said_position, said_number, said_literals, said_field, said_instance, said_kind, kind_named, sorted, without, is_dropped, has_name, is_name_entry, kept_entries, text_in, given_name, unless_digits, name_or, own_name_of, marks, marked_results, operation_definitions, operation_at}
 use Rattle.mlir_syntax.specs.Spelling.{Stands, AreOnce, DictionaryPhrase, EntryPhrase, MaybeDictionary, IsOneOf, FormPhrase, BinPhrase, ResultsPhrase, StandsInBody, OperationPhrase}
-use Rattle.op_verifier.specs.Faults.{listed_of}
 use Rattle.mlir_printer.specs.Spellable.{Each, AreBytes, IsInteger, IsAnyType, IsLiteral, AreLiterals, IsValue, IsEntry}
 use Rattle.mlir_printer.specs.Printable.{AreInOrder, IsKeptDictionary, KeepsConstants, IsWritten, IsWrittenInstance}
 use Rattle.mlir_printer.proofs.again.DictionariesFit.{put_in_order, each_put}
@@ -197,7 +197,7 @@ mutual
 
 -- ---- kinds
 
-listed_again : (o : Listed) (e : Extra) (ts : List HwType) → StandsInBody o → listed_of (kind_named o e ts) ≡ o
+listed_again : (o : Listed) (e : Extra) (ts : List HwType) → StandsInBody o → opcode_of (kind_named o e ts) ≡ o
 unfolding said_kind
 listed_again listed.HwModule e ts h = absurd h
 listed_again _ e ts h = refl
@@ -286,10 +286,10 @@ pub record IsReadOp (o : Op) : Type 0 where
   pub readable : Each IsAnyType o.types
   pub kept : KeepsConstants o.kind o.types
   pub written : IsWritten o.kind
-  pub nameless : has_name (listed_of o.kind) ≡ false → o.name ≡ []
+  pub nameless : has_name (opcode_of o.kind) ≡ false → o.name ≡ []
   pub name : AreBytes o.name
-  pub dictionary : IsKeptDictionary (listed_of o.kind) (string_keys (listed_of o.kind)) o.dictionary
-  pub bin : o.bin ≡ true → takes_bin (listed_of o.kind) ≡ true
+  pub dictionary : IsKeptDictionary (opcode_of o.kind) (string_keys (opcode_of o.kind)) o.dictionary
+  pub bin : o.bin ≡ true → takes_bin (opcode_of o.kind) ≡ true
 
 bin_read : (o : Listed) (b : Bool) (ts : List Lexeme) → BinPhrase o b ts → b ≡ true → takes_bin o ≡ true
 bin_read o true ts h e = h.0
@@ -327,7 +327,7 @@ op_read At o ts means earlier i texts h =
     let f = c.4 in
     let tail = form_read (string_keys o.name) f.0 o.gathered o.dictionary c.1 s3.1 f.2 in
     let k = kind_named o.name o.gathered.extra o.gathered.types in
-    let same : listed_of k ≡ o.name = listed_again o.name o.gathered.extra o.gathered.types h.0 in
+    let same : opcode_of k ≡ o.name = listed_again o.name o.gathered.extra o.gathered.types h.0 in
     record {
       again = marks earlier (operation_definitions i o);
       results =
