@@ -14,7 +14,8 @@ use Rattle.op_verifier.specs.OwnChecks.{caused, own_cause}
 use Rattle.op_verifier.proofs.Widths.{neither}
 use Rattle.op_verifier.proofs.Agreeing.{same_number}
 
-uncaused : (b : Bool) (c : Cause) (rest : Option Cause) → caused b c rest ≡ None → (b ≡ false) × (rest ≡ None)
+-- a test that stands before no cause does not hold
+pub uncaused : (b : Bool) (c : Cause) (rest : Option Cause) → caused b c rest ≡ None → (b ≡ false) × (rest ≡ None)
 uncaused false c rest h = (refl, h)
 uncaused true c rest h = cc
 

@@ -2,7 +2,6 @@
 use Rattle.std.proofs.Common.{◌≡◌, ℕ, ◌+◌, ◌≤◌, max, Bool, true, false, cond, not, List, [], ◌∷◌, take, drop, length, nat_eq, is_none, Option, Some, None, refl, sym, ap, ◌∙◌, arith}
 use Rattle.std.specs.List.{list_any}
 use Rattle.std.proofs.lemmas.List.{length-map, length-drop}
-use Rattle.diag.specs.declared.cause.Cause.{Cause}
 use Rattle.hw_model.specs.Types.{HwType}
 use Rattle.hw_model.specs.Types.HwType.{int, clock, array, struct}
 use Rattle.hw_model.specs.Kinds.{Kind, Instance}
@@ -17,15 +16,12 @@ use Rattle.op_verifier.specs.TypeLists.{settled, is_no_int, is_no_array, differs
 use Rattle.op_verifier.specs.OperandChecks.{is_no_array_of, has_other_array, has_other_form, has_other_operand, has_other_result, has_mismatch}
 use Rattle.op_verifier.specs.LimitChecks.{has_type_outside, has_constant_outside, has_extract_outside, has_broken_copy, has_wide_concat, has_unknown_divisor, has_wrong_index, has_unknown_field, has_wrong_field, has_unequal_widths, has_clock_value}
 use Rattle.op_verifier.specs.CountChecks.{operand_count, type_count, has_wrong_operands, has_wrong_results, has_wrong_count}
-use Rattle.op_verifier.specs.OwnChecks.{caused, own_cause}
+use Rattle.op_verifier.specs.OwnChecks.{own_cause}
 use Rattle.op_verifier.proofs.Widths.{neither}
 use Rattle.op_verifier.proofs.Agreeing.{not_false, same_number, pairwise_agreed}
+use Rattle.op_verifier.proofs.NoCause.{uncaused}
 
 -- ---- what no cause says
-
-uncaused : (b : Bool) (c : Cause) (rest : Option Cause) → caused b c rest ≡ None → (b ≡ false) × (rest ≡ None)
-uncaused false c rest h = (refl, h)
-uncaused true c rest h = cc
 
 -- the tests that do not hold
 pub record Accepted (kind : Kind) (ts rs : List HwType) (xs : List (Option HwType)) : Type 0 where

@@ -2,7 +2,6 @@
 use Rattle.std.proofs.Common.{◌≡◌, ℕ, zero, suc, Bool, true, false, cond, List, [], ◌∷◌, map, length, slice_get, Option, Some, None, refl, sym, ap, ◌∙◌, subst}
 use Rattle.std.specs.List.{list_any}
 use Rattle.std.proofs.lemmas.List.{length-map}
-use Rattle.diag.specs.declared.cause.Cause.{Cause}
 use Rattle.diag.specs.declared.cause.Cause.TheVariants.{Redefined, WidthLimit}
 use Rattle.hw_model.specs.Types.{HwType}
 use Rattle.hw_model.specs.Kinds.{Kind}
@@ -15,21 +14,18 @@ use Rattle.op_verifier.specs.TypeLists.{settled}
 use Rattle.op_verifier.specs.OperandChecks.{has_other_form, has_mismatch}
 use Rattle.op_verifier.specs.LimitChecks.{value_types, has_type_outside, has_constant_outside, has_extract_outside, has_broken_copy, has_wide_concat, has_unknown_divisor, has_wrong_index, has_wrong_field, has_unequal_widths, has_clock_value}
 use Rattle.op_verifier.specs.CountChecks.{operand_count, type_count}
-use Rattle.op_verifier.specs.OwnChecks.{caused, own_cause}
+use Rattle.op_verifier.specs.OwnChecks.{own_cause}
 use Rattle.op_verifier.specs.OpChecks.{settled_type, divides_by_constant, value_cause, alone_cause, outer_cause}
 use Rattle.op_verifier.specs.Headers.{has_port, ports_cause, names_cause}
 use Rattle.op_verifier.specs.Verdict.{IsAccepted}
 use Rattle.op_verifier.proofs.AcceptedDesigns.{no_fault, accepted_distinct}
+use Rattle.op_verifier.proofs.NoCause.{uncaused}
 use Rattle.op_verifier.proofs.Settled.{accepted, settles}
 use Rattle.op_verifier.proofs.SoundDesigns.{types_of}
 use Rattle.op_verifier.proofs.Unrefused.{or_none, when_none, IsUnrefused, ops_unrefused, IsUnrefusedModule, module_unrefused}
 use Rattle.op_verifier.proofs.Widths.{neither, types_within}
 
 -- ---- tests of an operation by itself
-
-uncaused : (b : Bool) (c : Cause) (rest : Option Cause) → caused b c rest ≡ None → (b ≡ false) × (rest ≡ None)
-uncaused false c rest h = (refl, h)
-uncaused true c rest h = cc
 
 record OwnTests (kind : Kind) (ts rs : List HwType) (xs : List (Option HwType)) (b : Bool) : Type 0 where
   outside : has_type_outside kind ts rs ≡ false

@@ -4,7 +4,6 @@ use Rattle.std.specs.Prelude.{not, nat_eq, nat_lt, Option, Some, None, is_some, 
 use Rattle.std.proofs.lemmas.List.{length-map}
 use Rattle.std.proofs.lemmas.Bool.{or_parts, eqb-true, ltb-false}
 use Rattle.wiring.specs.Options.{bind, omap}
-use Rattle.diag.specs.declared.cause.Cause.{Cause}
 use Rattle.hw_model.specs.Types.{HwType}
 use Rattle.hw_model.specs.Kinds.{Kind}
 use Rattle.hw_model.specs.Kinds.Reset.{no_reset, sync_reset}
@@ -28,10 +27,11 @@ use Rattle.mlir_reader.specs.Spelling.{Spells}
 use Rattle.op_verifier.specs.CountChecks.{operand_count, type_count, has_wrong_operands, has_wrong_results, has_wrong_count}
 use Rattle.op_verifier.specs.OperandChecks.{has_mismatch}
 use Rattle.op_verifier.specs.LimitChecks.{has_type_outside, has_constant_outside, has_extract_outside, has_broken_copy, has_wide_concat, has_unknown_divisor, has_wrong_index, has_wrong_field, has_unequal_widths, has_clock_value}
-use Rattle.op_verifier.specs.OwnChecks.{caused, own_cause}
+use Rattle.op_verifier.specs.OwnChecks.{own_cause}
 use Rattle.op_verifier.specs.OpChecks.{has_again, has_undefined, settled_type, divides_by_constant, value_cause, alone_cause, op_cause}
 use Rattle.op_verifier.specs.Headers.{has_port, has_output, ports_cause, names_cause, header_cause}
 use Rattle.op_verifier.specs.Faults.{op_refusal, header_refusal, is_empty, body_fault, module_fault, faults_from, first_fault}
+use Rattle.op_verifier.proofs.NoCause.{uncaused}
 use Rattle.op_verifier.proofs.Unrefused.{or_none, map_none, when_none, not_false}
 use Rattle.mlir_printer.specs.Spellable.{Each, AreBytes}
 use Rattle.mlir_printer.specs.Printable.{IsDefined, settled_result, operands_written, types_written, IsPrintableOp, IsPrintablePort, EndsWithOutput, IsPrintableModule, Printable}
@@ -40,10 +40,6 @@ use Rattle.mlir_printer.proofs.printable.ReadOperations.{IsReadOp}
 use Rattle.mlir_printer.proofs.printable.ReadModules.{IsReadPort, IsReadModule, spelled_is_read}
 
 -- ---- what an operation is not refused for
-
-uncaused : (b : Bool) (c : Cause) (rest : Option Cause) → caused b c rest ≡ None → (b ≡ false) × (rest ≡ None)
-uncaused false c rest h = (refl, h)
-uncaused true c rest h = cc
 
 right_count : (kind : Kind) (ts rs : List HwType) (named : ℕ) (xs : List (Option HwType)) (b : Bool) → own_cause kind ts rs named xs b ≡ None
     → has_wrong_count kind ts rs named xs ≡ false
