@@ -4,9 +4,9 @@
 ghost use Rattle.std.specs.Prelude.{IfErr};
 ghost use Rattle.circt_top.specs.Runs.{IsStop};
 
-use circt_top::report::stopped;
 use circt_top::run::run_circt;
 use circt_top::status::Status;
+use circt_top::stopped;
 use command_line::usage::UsageKind;
 use io_edge::real_files::RealFiles;
 use io_edge::real_sink::RealSink;

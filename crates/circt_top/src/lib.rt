@@ -5,6 +5,8 @@
 
 mod delivery;
 mod outcome;
-pub mod report;
+mod report;
 pub mod run;
 pub mod status;
+
+pub use report::stopped;

@@ -23,7 +23,7 @@ use std::alloc::Global;
 use std::thread::Threads;
 
 /// How many bytes of the input are read at most: one more than a text may have.
-pub const READ_LIMIT: u64 = MOST_BYTES as u64 + 1;
+const READ_LIMIT: u64 = MOST_BYTES as u64 + 1;
 
 /// Runs the program: `words` are those after its name, `files` are read and written by name (`-` is
 /// standard input), the output goes to `out` or to the file of `-o`, and one line on what is wrong

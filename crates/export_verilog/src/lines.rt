@@ -7,7 +7,7 @@ ghost use Rattle.export_verilog.specs.Written.{written};
 
 use io_edge::byte_text::Text;
 use std::alloc::AllocError;
-use verilog_expr::literals::{high_of, push_decimal};
+use verilog_expr::{high_of, push_decimal};
 
 /// Adds the range of so many bits, and a name with what stands after it (IEEE 1364-2005, 3.3: vectors).
 #[tactic(auto, using(std::proofs::Common::append_assoc), unfolding(crate::specs::Layout::range_text))]

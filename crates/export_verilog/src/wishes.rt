@@ -10,7 +10,7 @@ use hw_model::kinds::{Instance, OpKind};
 use io_edge::byte_text::Text;
 use ir_store::body::Op;
 use std::alloc::{AllocError, Global};
-use verilog_expr::nesting::hint_in;
+use verilog_expr::hint_in;
 
 /// What an operation is in Verilog.
 #[derive(Clone, Copy, Debug)]

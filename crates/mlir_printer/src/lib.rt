@@ -1,20 +1,20 @@
 //! Designs to MLIR text.
 #![tactic(auto)]
 
-pub mod attributes;
-pub mod chosen_names;
-pub mod commas;
+mod attributes;
+mod chosen_names;
+mod commas;
 pub mod design_text;
-pub mod dictionaries;
+mod dictionaries;
 pub mod laws;
-pub mod literals;
-pub mod modules;
-pub mod numbers;
-pub mod numerals;
-pub mod operations;
-pub mod pieces;
-pub mod said;
-pub mod strings;
-pub mod types;
-pub mod value_names;
-pub mod wanted;
+mod literals;
+mod modules;
+mod numbers;
+mod numerals;
+mod operations;
+mod pieces;
+mod said;
+mod strings;
+mod types;
+mod value_names;
+mod wanted;

@@ -1,7 +1,7 @@
 //! Names made legal in Verilog: their bytes, no reserved word, none twice.
 #![tactic(auto)]
 
-pub mod cleaning;
+mod cleaning;
 pub mod laws;
 pub mod names;
-pub mod reserved;
+mod reserved;

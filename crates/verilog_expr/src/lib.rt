@@ -2,15 +2,18 @@
 #![tactic(auto)]
 
 pub mod expr;
-pub mod form;
+mod form;
 mod height_table;
 mod laws;
-pub mod literals;
+mod literals;
 mod look;
 mod made;
-pub mod marks;
-pub mod nesting;
-pub mod row;
+mod marks;
+mod nesting;
+mod row;
 pub mod scope;
 pub mod value_names;
 pub mod wires;
+
+pub use literals::{high_of, push_decimal};
+pub use nesting::hint_in;
