@@ -11,6 +11,7 @@ use Rattle.verilog_expr.specs.Spilling as told
 use Rattle.verilog_expr.specs.Spilling.{is_pure, is_constant_kind, is_shared, height, operands_of, operands_at, inner_of, inner_needs}
 use Rattle.verilog_expr.specs.PartTables.{height_get, AreStill, IsWaiting, IsDown, starting}
 use Rattle.verilog_expr.specs.declared.height_table.Waiting.{Waiting}
+use Rattle.verilog_expr.proofs.Drops.{drop_none}
 use Rattle.verilog_expr.proofs.Nets.{results, length-results, IsWithin-results}
 
 -- ---- operands one after another
@@ -19,12 +20,6 @@ drop_at : {A : Type 0} (xs : List A) (i : ℕ) (x : A) → slice_get xs i ≡ So
 drop_at [] i x is = cc
 drop_at (y ∷ xs) zero x is = let e : y ≡ x = cc in ap (λ z. z ∷ xs) e
 drop_at (y ∷ xs) (suc i) x is = drop_at xs i x is
-
-drop_none : {A : Type 0} (xs : List A) (i : ℕ) → length xs ≤ i → drop i xs ≡ []
-drop_none [] zero h = refl
-drop_none [] (suc i) h = refl
-drop_none (x ∷ xs) zero h = absurd (omega (arith, h))
-drop_none (x ∷ xs) (suc i) h = drop_none xs i (omega (arith, h))
 
 pub mapped_at : {A B : Type 0} (f : A → B) (xs : List A) (i : ℕ) (x : A) → i < length xs → get_or xs i x ≡ x → slice_get (map f xs) i ≡ Some (f x)
 mapped_at f [] i x lt is = absurd (omega (arith, lt))

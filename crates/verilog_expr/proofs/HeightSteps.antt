@@ -1,7 +1,6 @@
 -- Heights as they are found.
 use Rattle.std.proofs.Common.{◌≡◌, ℕ, zero, suc, ◌+◌, ◌<◌, ◌≤◌, max, Bool, true, false, nat_eq, List, [], ◌∷◌, length, map, drop, get_or, set, ◌⊎◌, inl, inr, slice_get, Option, Some, None, refl, sym, ap, subst, ◌∙◌, arith}
 use Rattle.std.proofs.lemmas.Bool.{eqb-true, eqb-false}
-use Rattle.std.proofs.lemmas.List.{drop_more}
 use Rattle.wiring.specs.Wiring.{greatest}
 use Rattle.hw_model.specs.Design.{Ref, Port, Op}
 use Rattle.hw_model.specs.Design.Ref.{result}
@@ -13,17 +12,12 @@ use Rattle.verilog_expr.specs.declared.nesting.Part.TheVariants.{Shared, Nested}
 use Rattle.verilog_expr.specs.declared.marks.Mark.{Mark}
 use Rattle.verilog_expr.specs.Marks.{no_mark, after_ops}
 use Rattle.verilog_expr.specs.PartTables.{wired, part_seen, stands_most, IsHeightAt, height_get, AreKnown}
-
-drop_none : {A : Type 0} (xs : List A) (i : ℕ) → length xs ≤ i → drop i xs ≡ []
-drop_none [] zero h = refl
-drop_none [] (suc i) h = refl
-drop_none (x ∷ xs) zero h = absurd (omega (arith, h))
-drop_none (x ∷ xs) (suc i) h = drop_none xs i (omega (arith, h))
+use Rattle.verilog_expr.proofs.Drops.{drop_none, split}
 
 pub most_step : {A : Type 0} (g : Ref → ℕ) (f : A → Ref) (xs : List A) (i : ℕ) (x : A) (m n new whole : ℕ) → i < length xs → x ≡ get_or xs i x
     → max m (greatest (map g (map f (drop i xs)))) ≡ whole → n ≡ g (f x) → new ≡ max n m → max new (greatest (map g (map f (drop (i + 1) xs)))) ≡ whole
 most_step g f xs i x m n new whole lt at h p q =
-    let d : drop i xs ≡ x ∷ drop (i + 1) xs = drop_more xs i x lt ∙ ap (λ y. y ∷ drop (i + 1) xs) (sym at) in
+    let d : drop i xs ≡ x ∷ drop (i + 1) xs = split xs i x lt at in
     let e : max m (max (g (f x)) (greatest (map g (map f (drop (i + 1) xs))))) ≡ whole = sym (ap (λ l. max m (greatest (map g (map f l)))) d) ∙ h in
     omega (arith, e, p, q)
 

@@ -11,6 +11,7 @@ use Rattle.verilog_expr.specs.Expressions.{value_width}
 use Rattle.verilog_expr.specs.Spilling.{same_ref, one_if, places_in, use_count, cuts, joins, some_op}
 use Rattle.verilog_expr.specs.Marks.{first_place, no_mark, mark_at, noted, one_use, after_operands, is_cut_by, after_ops}
 use Rattle.verilog_expr.specs.declared.marks.Mark.{Mark}
+use Rattle.verilog_expr.proofs.Drops.{drop_none, split}
 
 -- ---- places
 
@@ -118,17 +119,11 @@ operand_first r cut joined x xs m = go (same_ref x r)
 pub operands_step : {A : Type 0} (r : Ref) (cut joined : Bool) (f : A → Ref) (xs : List A) (i : ℕ) (x : A) (m one whole : Mark) → i < length xs → x ≡ get_or xs i x
     → after_operands r cut joined (map f (drop i xs)) m ≡ whole → one ≡ one_use r cut joined (f x) m → after_operands r cut joined (map f (drop (i + 1) xs)) one ≡ whole
 operands_step r cut joined f xs i x m one whole lt at h p =
-    let d : drop i xs ≡ x ∷ drop (i + 1) xs = drop_more xs i x lt ∙ ap (λ y. y ∷ drop (i + 1) xs) (sym at) in
+    let d : drop i xs ≡ x ∷ drop (i + 1) xs = split xs i x lt at in
     ap (after_operands r cut joined (map f (drop (i + 1) xs))) p
     ∙ operand_first r cut joined (f x) (map f (drop (i + 1) xs)) m
     ∙ sym (ap (λ l. after_operands r cut joined (map f l) m) d)
     ∙ h
-
-drop_none : {A : Type 0} (xs : List A) (i : ℕ) → length xs ≤ i → drop i xs ≡ []
-drop_none [] zero h = refl
-drop_none [] (suc i) h = refl
-drop_none (x ∷ xs) zero h = absurd (omega (arith, h))
-drop_none (x ∷ xs) (suc i) h = drop_none xs i (omega (arith, h))
 
 or_none : (b c : Bool) → (b || (c && false)) ≡ b
 or_none true c = refl

@@ -1,7 +1,6 @@
 -- What an operation is, by the mark of its first result.
 use Rattle.std.proofs.Common.{◌≡◌, ℕ, zero, suc, ◌+◌, ◌<◌, ◌≤◌, min, Bool, true, false, cond, not, ◌&&◌, ◌||◌, nat_le, List, [], ◌∷◌, ◌++◌, length, length-append, map, drop, get_or, ◌⊎◌, inl, inr, slice_get, Some, refl, sym, ap, subst, ◌∙◌, arith}
 use Rattle.std.proofs.lemmas.Bool.{leb-true, leb-false}
-use Rattle.std.proofs.lemmas.List.{drop_more}
 use Rattle.hw_model.specs.Types.{Name}
 use Rattle.hw_model.specs.Design.{Ref, Port, Op, Entry, same_name}
 use Rattle.hw_model.specs.Design.Ref.{result}
@@ -11,6 +10,7 @@ use Rattle.verilog_expr.specs.Spilling.{is_pure, is_constant_kind, hint_of, use_
 use Rattle.verilog_expr.specs.Marks.{no_mark, after_ops}
 use Rattle.verilog_expr.specs.PartTables.{part_marked}
 use Rattle.verilog_expr.specs.declared.marks.Mark.{Mark}
+use Rattle.verilog_expr.proofs.Drops.{drop_none, split}
 
 two_capped : (n : ℕ) → nat_le 2 (min 2 (0 + n)) ≡ nat_le 2 n
 two_capped n = go (nat_le 2 n) refl (nat_le 2 (min 2 (0 + n))) refl
@@ -38,7 +38,7 @@ part_is ports os i o m at is =
 -- ---- hints
 
 hint_at : {A : Type 0} (f : A → Entry) (xs : List A) (i : ℕ) (x : A) → i < length xs → x ≡ get_or xs i x → map f (drop i xs) ≡ f x ∷ map f (drop (i + 1) xs)
-hint_at f xs i x lt at = ap (map f) (drop_more xs i x lt ∙ ap (λ y. y ∷ drop (i + 1) xs) (sym at))
+hint_at f xs i x lt at = ap (map f) (split xs i x lt at)
 
 pub hint_step : {A : Type 0} (f : A → Entry) (key : Name) (xs : List A) (i : ℕ) (x : A) (whole : Name) → i < length xs → x ≡ get_or xs i x
     → text_at key (map f (drop i xs)) ≡ whole → same_name (f x).key key ≡ false → text_at key (map f (drop (i + 1) xs)) ≡ whole
@@ -49,12 +49,6 @@ pub hint_here : {A : Type 0} (f : A → Entry) (key : Name) (xs : List A) (i : �
     → text_at key (map f (drop i xs)) ≡ whole → same_name (f x).key key ≡ true → text_of (f x).value ≡ whole
 hint_here f key xs i x whole lt at h same =
     sym (ap (λ b. cond b (text_of (f x).value) (text_at key (map f (drop (i + 1) xs)))) same) ∙ sym (ap (text_at key) (hint_at f xs i x lt at)) ∙ h
-
-drop_none : {A : Type 0} (xs : List A) (i : ℕ) → length xs ≤ i → drop i xs ≡ []
-drop_none [] zero h = refl
-drop_none [] (suc i) h = refl
-drop_none (x ∷ xs) zero h = absurd (omega (arith, h))
-drop_none (x ∷ xs) (suc i) h = drop_none xs i (omega (arith, h))
 
 pub hint_none : {A : Type 0} (f : A → Entry) (key : Name) (xs : List A) (i : ℕ) (whole : Name) → length xs ≤ i → text_at key (map f (drop i xs)) ≡ whole → [] ≡ whole
 hint_none f key xs i whole le h = sym (ap (λ l. text_at key (map f l)) (drop_none xs i le)) ∙ h

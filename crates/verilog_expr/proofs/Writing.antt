@@ -1,7 +1,7 @@
 -- What is seen of the expression of a value, and how it is put into its place.
 use Rattle.std.proofs.Common.{◌≡◌, ℕ, zero, suc, ◌+◌, ◌-◌, ◌<◌, ◌≤◌, ◌≢◌, Bool, true, false, cond, ◌==◌, nat_le, nat_lt, List, [], ◌∷◌, ◌++◌, length, map, drop, get_or, slice_get, Option, Some, None, is_some, codes, decimal, refl, sym, ap, subst, ◌∙◌, arith, append_assoc}
 use Rattle.std.proofs.lemmas.Bool.{ltb-true, ltb-false, leb-true, leb-false}
-use Rattle.std.proofs.lemmas.List.{append-nil, drop_more, length-map}
+use Rattle.std.proofs.lemmas.List.{append-nil, length-map}
 use Rattle.wiring.specs.Options.{bind}
 use Rattle.hw_model.specs.Types.{Name, HwType, width}
 use Rattle.hw_model.specs.Design.{Ref, Port, Op, result_type}
@@ -27,6 +27,7 @@ use Rattle.verilog_expr.specs.declared.form.Form.{Form}
 use Rattle.verilog_expr.specs.declared.row.Row.{Row}
 use Rattle.verilog_expr.specs.declared.row.Row.TheVariants.{Missing, Operands}
 use Rattle.verilog_expr.specs.declared.scope.Scope.{Scope}
+use Rattle.verilog_expr.proofs.Drops.{drop_none, split}
 use Rattle.verilog_expr.proofs.TextParts.{text_behind}
 use Rattle.verilog_expr.proofs.FormRows.{built_is}
 
@@ -169,17 +170,11 @@ wrapped true l e low = go (is_signed e)
 pub form_step : {A : Type 0} (f : Form) (g : A → Expr) (xs : List A) (i : ℕ) (x : A) (out one two whole : List ℕ) → i < length xs → x ≡ get_or xs i x
     → out ++ form_text f i (map g (drop i xs)) ≡ whole → one ≡ out ++ before f i → two ≡ one ++ operand_text f i (g x) → two ++ form_text f (i + 1) (map g (drop (i + 1) xs)) ≡ whole
 form_step f g xs i x out one two whole lt at h p q =
-    let d : map g (drop i xs) ≡ g x ∷ map g (drop (i + 1) xs) = ap (map g) (drop_more xs i x lt ∙ ap (λ y. y ∷ drop (i + 1) xs) (sym at)) in
+    let d : map g (drop i xs) ≡ g x ∷ map g (drop (i + 1) xs) = ap (map g) (split xs i x lt at) in
     ap (λ y. y ++ form_text f (i + 1) (map g (drop (i + 1) xs))) (q ∙ ap (λ y. y ++ operand_text f i (g x)) p)
     ∙ append_assoc (out ++ before f i) (operand_text f i (g x)) (form_text f (i + 1) (map g (drop (i + 1) xs)))
     ∙ append_assoc out (before f i) (operand_text f i (g x) ++ form_text f (i + 1) (map g (drop (i + 1) xs)))
     ∙ sym (ap (λ l. out ++ form_text f i l) d) ∙ h
-
-drop_none : {A : Type 0} (xs : List A) (i : ℕ) → length xs ≤ i → drop i xs ≡ []
-drop_none [] zero h = refl
-drop_none [] (suc i) h = refl
-drop_none (x ∷ xs) zero h = absurd (omega (arith, h))
-drop_none (x ∷ xs) (suc i) h = drop_none xs i (omega (arith, h))
 
 pub form_end : {A : Type 0} (f : Form) (g : A → Expr) (xs : List A) (i : ℕ) (out end whole : List ℕ) → length xs ≤ i → out ++ form_text f i (map g (drop i xs)) ≡ whole
     → end ≡ out ++ behind f → end ≡ whole

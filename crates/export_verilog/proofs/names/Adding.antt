@@ -4,9 +4,9 @@ use Rattle.std.proofs.lemmas.List.{append-nil}
 use Rattle.hw_model.specs.Types.{Name}
 use Rattle.hw_model.specs.Kinds.{Instance}
 use Rattle.name_legalise.specs.Legal.{legal_name, legal_after}
+use Rattle.verilog_expr.proofs.Drops.{split, drop_none}
 use Rattle.export_verilog.specs.Keys.{result_wish}
 use Rattle.export_verilog.specs.Held.{result_wishes}
-use Rattle.export_verilog.proofs.text.Listed.{split, drop_none}
 
 some_name : Name → Option Name
 some_name n = Some n

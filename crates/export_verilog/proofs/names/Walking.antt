@@ -10,11 +10,11 @@ use Rattle.ir_store.specs.declared.body.Op as body
 use Rattle.name_legalise.specs.Legal.{legal_after}
 use Rattle.verilog_expr.specs.Scopes.{op_read}
 use Rattle.verilog_expr.specs.declared.scope.Scope.{Scope}
+use Rattle.verilog_expr.proofs.Drops.{split, drop_none}
 use Rattle.export_verilog.specs.Keys.{Role, role_of}
 use Rattle.export_verilog.specs.Keys.Role.{hidden, net, variable, block}
 use Rattle.export_verilog.specs.Held.{op_seen, wishes_of, op_wishes, results_of, op_results}
 use Rattle.export_verilog.specs.Walks.{body_wishes, body_given}
-use Rattle.export_verilog.proofs.text.Listed.{split, drop_none}
 use Rattle.export_verilog.proofs.names.PortNames.{legal_append}
 
 -- ---- an operation is the same to its names, whatever the positions of its operands

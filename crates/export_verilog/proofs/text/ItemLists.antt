@@ -3,9 +3,9 @@ use Rattle.std.proofs.Common.{◌≡◌, ℕ, suc, ◌+◌, ◌<◌, ◌≤◌, 
 use Rattle.std.proofs.lemmas.List.{append-nil}
 use Rattle.wiring.proofs.Lists.{drop_some}
 use Rattle.verilog_model.specs.Tree.{Item}
+use Rattle.verilog_expr.proofs.Drops.{drop_none}
 use Rattle.export_verilog.specs.Keys.{each}
 use Rattle.export_verilog.specs.Layout.{Text, items_text}
-use Rattle.export_verilog.proofs.text.Listed.{drop_none}
 use Rattle.export_verilog.proofs.text.ItemRests.{items_added}
 
 -- ---- what each element of a list gives

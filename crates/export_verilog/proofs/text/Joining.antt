@@ -7,11 +7,12 @@ use Rattle.hw_model.specs.Design.{Ref, Port}
 use Rattle.verilog_model.specs.Tree.{Expr, Connection}
 use Rattle.verilog_model.specs.Tree.Expr.{name}
 use Rattle.verilog_expr.specs.Text.{expr_text}
+use Rattle.verilog_expr.proofs.Drops.{drop_none, split}
 use Rattle.export_verilog.specs.Exported.{expr_or_none, others}
 use Rattle.export_verilog.specs.Layout.{Text, connection_text}
 use Rattle.export_verilog.specs.Written.{line_end, some_left, connections_left, written_connection}
 use Rattle.export_verilog.specs.Joined.{joined}
-use Rattle.export_verilog.proofs.text.Listed.{drop_none, split, connection_first}
+use Rattle.export_verilog.proofs.text.Listed.{connection_first}
 use Rattle.export_verilog.proofs.text.WrittenItems.{connection_same}
 
 less_suc : (a b : ℕ) → nat_lt a b ≡ nat_lt (suc a) (suc b)

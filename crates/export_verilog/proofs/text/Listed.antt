@@ -1,22 +1,14 @@
 -- Lines of a list, added one after another.
 use Rattle.std.proofs.Common.{◌≡◌, ℕ, zero, suc, ◌+◌, ◌<◌, ◌≤◌, ◌^◌, nat_lt, Bool, List, [], ◌∷◌, ◌++◌, codes, map, length, drop, get_or, slice_get, Some, refl, sym, ◌∙◌, ap, append_assoc, arith}
 use Rattle.std.proofs.lemmas.Bool.Decides.{nat_tests}
-use Rattle.std.proofs.lemmas.List.{drop_more, append-nil}
+use Rattle.std.proofs.lemmas.List.{append-nil}
 use Rattle.hw_model.specs.Types.{Name, width}
 use Rattle.hw_model.specs.Design.{Port}
 use Rattle.verilog_model.specs.Tree.{VPort, Connection}
+use Rattle.verilog_expr.proofs.Drops.{drop_none, split}
 use Rattle.export_verilog.specs.Layout.{Text, port_text, port_lines, ports_text, connection_text, connection_lines}
 use Rattle.export_verilog.specs.Written.{line_end, some_left, ports_left, connections_left, port_named, ports_named, AreNarrow}
 use Rattle.export_verilog.proofs.text.Rests.{port_rest, connection_rest}
-
-pub drop_none : {A : Type 0} (xs : List A) (i : ℕ) → length xs ≤ i → drop i xs ≡ []
-drop_none [] zero h = refl
-drop_none [] (suc i) h = refl
-drop_none (x ∷ xs) zero h = absurd (omega (arith, h))
-drop_none (x ∷ xs) (suc i) h = drop_none xs i (omega (arith, h))
-
-pub split : {A : Type 0} (xs : List A) (i : ℕ) (x : A) → i < length xs → x ≡ get_or xs i x → drop i xs ≡ x ∷ drop (i + 1) xs
-split xs i x lt at = drop_more xs i x lt ∙ ap (λ y. y ∷ drop (i + 1) xs) (sym at)
 
 -- what a view gives of the element at a position
 pub viewed : {A B : Type 0} (view : A → B) (xs : List A) (i : ℕ) (x : A) → i < length xs → x ≡ get_or xs i x → slice_get (map view xs) i ≡ Some (view x)

@@ -6,6 +6,7 @@ use Rattle.std.proofs.lemmas.Option.{get_or_from_slice_get}
 use Rattle.hw_model.specs.Types.{Name}
 use Rattle.hw_model.specs.Design.{Port, Module, Design}
 use Rattle.verilog_model.specs.Tree.{VPort, Item, VModule, Tree}
+use Rattle.verilog_expr.proofs.Drops.{split, drop_none}
 use Rattle.export_verilog.specs.Keys.{each, key_text}
 use Rattle.export_verilog.specs.Keys.Key.{port_key}
 use Rattle.export_verilog.specs.Exported.{vport, vports, vmodule}
@@ -13,7 +14,6 @@ use Rattle.export_verilog.specs.Layout.{Text, port_text, port_lines, ports_text,
 use Rattle.export_verilog.specs.Written.{port_named, ports_named}
 use Rattle.export_verilog.proofs.text.Rests.{port_rest, four_parts}
 use Rattle.export_verilog.proofs.text.ItemRests.{items_rest}
-use Rattle.export_verilog.proofs.text.Listed.{split, drop_none}
 
 -- ---- ports under their names
 

@@ -6,11 +6,11 @@ use Rattle.hw_model.specs.Types.{Name}
 use Rattle.hw_model.specs.Design.{Ref, Port, Op, Module, is_output_op, output_refs}
 use Rattle.verilog_model.specs.Tree.{Expr, Item}
 use Rattle.verilog_model.specs.Tree.Item.{assign}
+use Rattle.verilog_expr.proofs.Drops.{drop_none}
 use Rattle.export_verilog.specs.Keys.{key_text}
 use Rattle.export_verilog.specs.Keys.Key.{port_key}
 use Rattle.export_verilog.specs.Exported.{expression, expr_or_none, others, output_assigns}
 use Rattle.export_verilog.specs.Layout.{Text, item_text, items_text}
-use Rattle.export_verilog.proofs.text.Listed.{drop_none}
 use Rattle.export_verilog.proofs.text.ItemRests.{items_first}
 use Rattle.export_verilog.proofs.text.Joining.{others_drop}
 
