@@ -5,7 +5,7 @@ use Rattle.hw_model.specs.Types.{Name}
 use Rattle.hw_model.specs.Design.{Port, Module}
 use Rattle.name_legalise.specs.Legal.{legal, legal_name, legal_after}
 use Rattle.name_legalise.proofs.Legals.{legal_count}
-use Rattle.export_verilog.specs.Keys.{Key, each, port_keys, op_keys, module_keys, wish, port_wish, names, name_among, key_name, key_text, name_or_nothing}
+use Rattle.export_verilog.specs.Keys.{Key, each, port_keys, op_keys, module_keys, wish, port_wish, names, name_among, key_text, name_or_nothing}
 use Rattle.export_verilog.specs.Keys.Key.{port_key}
 use Rattle.export_verilog.specs.Exported.{vport, vports}
 use Rattle.export_verilog.specs.Written.{port_named, ports_named}
@@ -72,15 +72,15 @@ port_names_are ps m e j p at =
     many (p ∷ ps) = ap suc (many ps)
 
 -- the ports of a module, under their names
-ports_from : (m : Module) (o : ℕ) (ps : List Port) (ns : List Name) → length ns ≡ length ps
-    → ((j : ℕ) (p : Port) → slice_get ps j ≡ Some p → key_name m (port_key (o + j)) ≡ slice_get ns j) → each (vport m) o ps ≡ ports_named ns ps
+pub ports_from : (m : Module) (o : ℕ) (ps : List Port) (ns : List Name) → length ns ≡ length ps
+    → ((j : ℕ) (p : Port) → slice_get ps j ≡ Some p → key_text m (port_key (o + j)) ≡ name_or_nothing (slice_get ns j)) → each (vport m) o ps ≡ ports_named ns ps
 ports_from m o [] [] count at = refl
 ports_from m o [] (n ∷ ns) count at = absurd (omega (arith, count))
 ports_from m o (p ∷ ps) [] count at = absurd (omega (arith, count))
 ports_from m o (p ∷ ps) (n ∷ ns) count at =
-    let first : key_text m (port_key o) ≡ n = ap name_or_nothing (ap (λ i. key_name m (port_key i)) (sym (add-zero o)) ∙ at 0 p refl) in
+    let first : key_text m (port_key o) ≡ n = ap (λ i. key_text m (port_key i)) (sym (add-zero o)) ∙ at 0 p refl in
     ap (λ x. port_named x p ∷ each (vport m) (suc o) ps) first
-    ∙ ap (λ l. port_named n p ∷ l) (ports_from m (suc o) ps ns (omega (arith, count)) (λ j q there. ap (λ i. key_name m (port_key i)) (suc-add o j ∙ sym (add-suc o j)) ∙ at (suc j) q there))
+    ∙ ap (λ l. port_named n p ∷ l) (ports_from m (suc o) ps ns (omega (arith, count)) (λ j q there. ap (λ i. key_text m (port_key i)) (suc-add o j ∙ sym (add-suc o j)) ∙ at (suc j) q there))
 
 pub vports_are : (m : Module) (ns : List Name) → length ns ≡ length m.ports → ArePortNames m.ports ns → vports m ≡ ports_named ns m.ports
-vports_are m ns count are = ports_from m 0 m.ports ns count (λ j p at. ap (λ i. key_name m (port_key i)) (zero-add j) ∙ are m refl j p at)
+vports_are m ns count are = ports_from m 0 m.ports ns count (λ j p at. ap (λ i. key_text m (port_key i)) (zero-add j) ∙ ap name_or_nothing (are m refl j p at))

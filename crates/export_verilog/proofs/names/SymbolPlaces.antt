@@ -6,22 +6,12 @@ use Rattle.std.proofs.lemmas.Option.{slice_get_read}
 use Rattle.wiring.specs.Options.{omap}
 use Rattle.hw_model.specs.Types.{Name}
 use Rattle.hw_model.specs.Design.{Module, Design, same_name, find_module}
-use Rattle.hw_model.specs.Equality.{name_self, name_from}
 use Rattle.ir_store.specs.Symbols.{symbol_place}
 use Rattle.ir_store.specs.Designs.{StoredModule, numbered_module}
+use Rattle.fresh_names.proofs.Taken.{same_back}
 use Rattle.name_legalise.proofs.Legals.{legal_count}
 use Rattle.export_verilog.specs.Exported.{symbol_names, symbol_among, symbol_name}
 use Rattle.export_verilog.proofs.items.Operands.{get_map}
-
-same_back : (a b : Name) → same_name a b ≡ same_name b a
-same_back a b = go (same_name a b) refl (same_name b a) refl where
-  other : (a b : Name) → same_name a b ≡ true → same_name b a ≡ true
-  other a b e = ap (λ x. same_name b x) (name_from a b e) ∙ name_self b
-
-  go : (x : Bool) → same_name a b ≡ x → (y : Bool) → same_name b a ≡ y → same_name a b ≡ same_name b a
-  go true e y f = e ∙ sym (other a b e)
-  go false e true f = other b a f ∙ sym f
-  go false e false f = e ∙ sym f
 
 -- a place after the first
 some_suc : (p : Option ℕ) (n : ℕ) → option_map suc p ≡ Some n → (k : ℕ) × (p ≡ Some k) × (n ≡ suc k)

@@ -12,11 +12,8 @@ use Rattle.export_verilog.specs.Exported.{expr_or_none, others}
 use Rattle.export_verilog.specs.Layout.{Text, connection_text}
 use Rattle.export_verilog.specs.Written.{line_end, some_left, connections_left, written_connection}
 use Rattle.export_verilog.specs.Joined.{joined}
-use Rattle.export_verilog.proofs.text.Listed.{connection_first}
+use Rattle.export_verilog.proofs.text.Listed.{less_suc, connection_first}
 use Rattle.export_verilog.proofs.text.WrittenItems.{connection_same}
-
-less_suc : (a b : ℕ) → nat_lt a b ≡ nat_lt (suc a) (suc b)
-less_suc a b = grind (arith, nat_tests)
 
 some_either : (b : Bool) (c e : Connection) (cs es : List Connection) → some_left (cond b (c ∷ cs) (e ∷ es)) ≡ true
 some_either true c e cs es = refl

@@ -35,7 +35,7 @@ unfolding port_lines
 port_first p [] bs = port_rest p (10 ∷ []) bs
 port_first p (q ∷ qs) bs = port_rest p (44 ∷ 10 ∷ []) (port_lines q qs bs)
 
-less_suc : (a b : ℕ) → nat_lt a b ≡ nat_lt (suc a) (suc b)
+pub less_suc : (a b : ℕ) → nat_lt a b ≡ nat_lt (suc a) (suc b)
 less_suc a b = grind (arith, nat_tests)
 
 pub some_ports : {A : Type 0} (view : A → Port) (ns : List Name) (xs : List A) (k : ℕ) → length ns ≡ length xs
@@ -70,7 +70,7 @@ pub ports_end : {A : Type 0} (view : A → Port) (ns : List Name) (xs : List A) 
 ports_end view ns xs i out whole count le inv =
     sym (append-nil out) ∙ sym (ap (λ l. out ++ ports_left (ports_named l (map view (drop i xs))) []) (drop_none ns i (omega (arith, count, le)))) ∙ inv
 
-lines_rest : (p : VPort) (ps : List VPort) (a b : Text) → port_lines p ps (a ++ b) ≡ port_lines p ps a ++ b
+pub lines_rest : (p : VPort) (ps : List VPort) (a b : Text) → port_lines p ps (a ++ b) ≡ port_lines p ps a ++ b
 unfolding port_lines
 lines_rest p [] a b = port_rest p (10 ∷ a) b
 lines_rest p (q ∷ qs) a b = ap (λ x. port_text p (44 ∷ 10 ∷ x)) (lines_rest q qs a b) ∙ port_rest p (44 ∷ 10 ∷ port_lines q qs a) b

@@ -1,5 +1,5 @@
 -- The parts of the text of a module and of a design, added one after another.
-use Rattle.std.proofs.Common.{◌≡◌, ℕ, zero, suc, ◌+◌, ◌<◌, ◌≤◌, nat_lt, Bool, true, cond, List, [], ◌∷◌, ◌++◌, map, drop, length, slice_get, Some, codes, refl, sym, ◌∙◌, ap, append_assoc, arith, add-zero, add-suc, zero-add, suc-add}
+use Rattle.std.proofs.Common.{◌≡◌, ℕ, zero, suc, ◌+◌, ◌<◌, ◌≤◌, nat_lt, Bool, true, cond, List, [], ◌∷◌, ◌++◌, map, drop, length, slice_get, Some, codes, refl, sym, ◌∙◌, ap, append_assoc, arith, add-zero, add-suc, zero-add}
 use Rattle.std.proofs.lemmas.Bool.Decides.{nat_tests}
 use Rattle.std.proofs.lemmas.List.{append-nil}
 use Rattle.std.proofs.lemmas.Option.{get_or_from_slice_get}
@@ -7,36 +7,23 @@ use Rattle.hw_model.specs.Types.{Name}
 use Rattle.hw_model.specs.Design.{Port, Module, Design}
 use Rattle.verilog_model.specs.Tree.{VPort, Item, VModule, Tree}
 use Rattle.verilog_expr.proofs.Drops.{split, drop_none}
-use Rattle.export_verilog.specs.Keys.{each, key_text}
+use Rattle.export_verilog.specs.Keys.{key_text, name_or_nothing}
 use Rattle.export_verilog.specs.Keys.Key.{port_key}
-use Rattle.export_verilog.specs.Exported.{vport, vports, vmodule}
-use Rattle.export_verilog.specs.Layout.{Text, port_text, port_lines, ports_text, items_text, module_text, further_text, tree_text, verilog_text}
-use Rattle.export_verilog.specs.Written.{port_named, ports_named}
-use Rattle.export_verilog.proofs.text.Rests.{port_rest, four_parts}
+use Rattle.export_verilog.specs.Exported.{vports, vmodule}
+use Rattle.export_verilog.specs.Layout.{Text, ports_text, items_text, module_text, further_text, tree_text, verilog_text}
+use Rattle.export_verilog.specs.Written.{ports_named}
+use Rattle.export_verilog.proofs.names.PortNames.{ports_from}
+use Rattle.export_verilog.proofs.text.Listed.{lines_rest}
+use Rattle.export_verilog.proofs.text.Rests.{four_parts}
 use Rattle.export_verilog.proofs.text.ItemRests.{items_rest}
 
 -- ---- ports under their names
 
-ports_from : (m : Module) (o : ℕ) (ps : List Port) (ns : List Name) → length ns ≡ length ps
-    → ((j : ℕ) (p : Port) → slice_get ps j ≡ Some p → slice_get ns j ≡ Some (key_text m (port_key (o + j)))) → each (vport m) o ps ≡ ports_named ns ps
-ports_from m o [] [] count at = refl
-ports_from m o [] (n ∷ ns) count at = absurd (omega (arith, count))
-ports_from m o (p ∷ ps) [] count at = absurd (omega (arith, count))
-ports_from m o (p ∷ ps) (n ∷ ns) count at =
-    let first : n ≡ key_text m (port_key (o + 0)) = (let e = at 0 p refl in cc) in
-    ap (λ x. port_named x p ∷ each (vport m) (suc o) ps) (ap (λ i. key_text m (port_key i)) (sym (add-zero o)) ∙ sym first)
-    ∙ ap (λ l. port_named n p ∷ l) (ports_from m (suc o) ps ns (omega (arith, count)) (λ j q there. at (suc j) q there ∙ ap (λ i. Some (key_text m (port_key i))) (add-suc o j ∙ sym (suc-add o j))))
-
 pub named_ports : (m : Module) (ns : List Name) → length ns ≡ length m.ports
     → ((j : ℕ) (p : Port) → slice_get m.ports j ≡ Some p → slice_get ns j ≡ Some (key_text m (port_key j))) → ports_named ns m.ports ≡ vports m
-named_ports m ns count are = sym (ports_from m 0 m.ports ns count (λ j p there. are j p there ∙ ap (λ i. Some (key_text m (port_key i))) (sym (zero-add j))))
+named_ports m ns count are = sym (ports_from m 0 m.ports ns count (λ j p there. ap (λ i. key_text m (port_key i)) (zero-add j) ∙ sym (ap name_or_nothing (are j p there))))
 
 -- ---- the rest of a text stands after a module
-
-lines_rest : (p : VPort) (ps : List VPort) (a b : Text) → port_lines p ps (a ++ b) ≡ port_lines p ps a ++ b
-unfolding port_lines
-lines_rest p [] a b = port_rest p (10 ∷ a) b
-lines_rest p (q ∷ qs) a b = ap (λ x. port_text p (44 ∷ 10 ∷ x)) (lines_rest q qs a b) ∙ port_rest p (44 ∷ 10 ∷ port_lines q qs a) b
 
 ports_rest : (ps : List VPort) (a b : Text) → ports_text ps (a ++ b) ≡ ports_text ps a ++ b
 unfolding ports_text

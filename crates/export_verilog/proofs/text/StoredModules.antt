@@ -2,25 +2,20 @@
 use Rattle.std.proofs.Common.{◌≡◌, ℕ, zero, suc, false, List, [], ◌∷◌, ◌++◌, map, length, slice_get, Some, sym, ◌∙◌, ap, ap₂, subst}
 use Rattle.std.proofs.lemmas.List.{length-map}
 use Rattle.hw_model.specs.Types.{Name}
-use Rattle.hw_model.specs.Design.{Port, Op, Module, Design}
+use Rattle.hw_model.specs.Design.{Port, Op, Module}
 use Rattle.ir_store.specs.Designs.{StoredModule, numbered_module}
 use Rattle.ir_store.specs.Numbered.{numbered}
-use Rattle.name_legalise.proofs.Legals.{legal_count}
 use Rattle.export_verilog.specs.Exported.{symbol_names, symbol_name, vmodule}
 use Rattle.export_verilog.specs.Layout.{Text, module_text}
 use Rattle.export_verilog.specs.ModuleTexts.{module_under}
 use Rattle.export_verilog.specs.WritableDesigns.{IsWritableModule, IsWritableDesign}
 use Rattle.export_verilog.proofs.names.Symbols.{among_at}
+use Rattle.export_verilog.proofs.names.SymbolPlaces.{symbol_count}
 use Rattle.export_verilog.proofs.text.SameModules.{under_same}
 
 -- a module of some ports and some operations
 abbrev pub bare : List Port → List Op → Module
 bare ps os = record { symbol = []; is_private = false; ports = ps; dictionary = []; body = os; place = record { line = 0; col = 0 } }
-
--- there are as many names as modules
-symbol_count : (d : Design) → length (symbol_names d) ≡ length d
-unfolding symbol_names
-symbol_count d = legal_count [] (map (λ (m : Module). m.symbol) d) ∙ length-map d (λ (m : Module). m.symbol)
 
 -- the modules that are stored are those of the design
 pub stored_count : (xs : List StoredModule) → length (map numbered_module xs) ≡ length xs
