@@ -9,9 +9,10 @@ use Rattle.hw_model.specs.Kinds.{Kind}
 use Rattle.hw_model.specs.Design.{Ref, Port, Op, is_instance, result_type, register_form, instance_in, is_output_kind}
 use Rattle.hw_model.specs.Design.Ref.{port, result, undefined}
 use Rattle.hw_model.specs.Flat.{width_of}
+use Rattle.ir_store.specs.Positions.{same_ref}
 use Rattle.verilog_model.specs.Numerals.{is_nonempty}
 use Rattle.verilog_expr.specs.Expressions.{op_at, value_width}
-use Rattle.verilog_expr.specs.Spilling.{is_pure, is_wire_kind, is_constant_kind, hint_of, same_ref, one_if, places_in, use_count, is_narrower, cuts, joins, some_op, is_shared, height_limit, Part, part_of_op, part_of, part, height_under, operands_of, operands_at, height_over, AreHeights, height, has_wire, spilled_op, spilled, inner_needs}
+use Rattle.verilog_expr.specs.Spilling.{is_pure, is_wire_kind, is_constant_kind, hint_of, one_if, places_in, use_count, is_narrower, cuts, joins, some_op, is_shared, height_limit, Part, part_of_op, part_of, part, height_under, operands_of, operands_at, height_over, AreHeights, height, has_wire, spilled_op, spilled, inner_needs}
 use Rattle.verilog_expr.specs.Spilling.Part.{flat, shared, nested}
 use Rattle.verilog_expr.specs.WireRules.{IsComputed, IsCut, IsJoined, WantsWire, heights_without_wire}
 use Rattle.verilog_expr.specs.WireRules.WantsWire.{used_twice, cut, joined, hinted, high}

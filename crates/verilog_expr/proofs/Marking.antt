@@ -7,8 +7,9 @@ use Rattle.hw_model.specs.Design.{Ref, Port, Op, is_instance, result_type}
 use Rattle.hw_model.specs.Design.Ref.{port, result, undefined}
 use Rattle.wiring.specs.Options.{bind}
 use Rattle.hw_model.specs.Flat.{width_of}
+use Rattle.ir_store.specs.Positions.{same_ref}
 use Rattle.verilog_expr.specs.Expressions.{value_width}
-use Rattle.verilog_expr.specs.Spilling.{same_ref, one_if, places_in, use_count, cuts, joins, some_op}
+use Rattle.verilog_expr.specs.Spilling.{one_if, places_in, use_count, cuts, joins, some_op}
 use Rattle.verilog_expr.specs.Marks.{first_place, no_mark, mark_at, noted, one_use, after_operands, is_cut_by, after_ops}
 use Rattle.verilog_expr.specs.declared.marks.Mark.{Mark}
 use Rattle.verilog_expr.proofs.Drops.{drop_none, split}

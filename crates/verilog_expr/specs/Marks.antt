@@ -3,8 +3,9 @@ use Rattle.std.specs.Prelude.{◌≡◌, ℕ, zero, suc, ◌+◌, ◌<◌, min, 
 use Rattle.hw_model.specs.Design.{Ref, Port, Op, result_type}
 use Rattle.hw_model.specs.Design.Ref.{port, result, undefined}
 use Rattle.hw_model.specs.Flat.{width_of}
+use Rattle.ir_store.specs.Positions.{same_ref}
 use Rattle.verilog_expr.specs.Expressions.{value_width}
-use Rattle.verilog_expr.specs.Spilling.{same_ref, places_in, use_count, is_narrower, cuts, joins, some_op}
+use Rattle.verilog_expr.specs.Spilling.{places_in, use_count, is_narrower, cuts, joins, some_op}
 use Rattle.verilog_expr.specs.declared.marks.Mark.{Mark}
 
 -- the position of the operation whose first result a value is, among so many

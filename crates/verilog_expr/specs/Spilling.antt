@@ -1,13 +1,14 @@
 -- Which values have a wire of their own.
-use Rattle.std.specs.Prelude.{◌≡◌, ℕ, zero, suc, ◌+◌, Bool, true, false, cond, not, ◌&&◌, ◌||◌, nat_eq, nat_le, nat_lt, List, [], ◌∷◌, length, map, Option, Some, None, codes}
+use Rattle.std.specs.Prelude.{◌≡◌, ℕ, zero, suc, ◌+◌, Bool, true, false, cond, not, ◌&&◌, ◌||◌, nat_le, nat_lt, List, [], ◌∷◌, length, map, Option, Some, None, codes}
 use Rattle.wiring.specs.Wiring.{greatest}
 use Rattle.hw_model.specs.Types.{Name}
 use Rattle.hw_model.specs.Kinds.{Kind}
 use Rattle.hw_model.specs.Kinds.Kind.{extract, constant, wire}
 use Rattle.hw_model.specs.Design.{Attribute, Entry, Ref, Port, Op, same_name, is_instance, is_register, is_output_op, result_type}
 use Rattle.hw_model.specs.Design.Attribute.{text_value}
-use Rattle.hw_model.specs.Design.Ref.{port, result, undefined}
+use Rattle.hw_model.specs.Design.Ref.{result}
 use Rattle.hw_model.specs.Flat.{width_of}
+use Rattle.ir_store.specs.Positions.{same_ref}
 use Rattle.verilog_expr.specs.Expressions.{op_at, value_width}
 
 -- ---- operations
@@ -40,12 +41,6 @@ abbrev pub hint_of : Op → Name
 hint_of o = text_at (codes "sv.namehint") o.dictionary
 
 -- ---- uses
-
-abbrev pub same_ref : Ref → Ref → Bool
-same_ref (port i) (port j) = nat_eq i j
-same_ref (result i k) (result j l) = nat_eq i j && nat_eq k l
-same_ref undefined undefined = true
-same_ref _ _ = false
 
 abbrev pub one_if : Bool → ℕ
 one_if true = 1

@@ -12,8 +12,9 @@ use Rattle.hw_model.specs.Flat.{width_of}
 use Rattle.hw_model.specs.Sound.{type_in, input_type}
 use Rattle.hw_model.proofs.Sorts.{Sort, sort_of}
 use Rattle.hw_model.proofs.Sorts.Sort.{a_register, an_instance, an_output, a_made}
+use Rattle.ir_store.specs.Positions.{same_ref}
 use Rattle.verilog_expr.specs.Expressions.{value_width}
-use Rattle.verilog_expr.specs.Spilling.{is_pure, is_wire_kind, is_constant_kind, is_narrower, places_in, same_ref, one_if, cuts, some_op, is_shared, part_of_op, has_wire, height, spilled, spilled_op}
+use Rattle.verilog_expr.specs.Spilling.{is_pure, is_wire_kind, is_constant_kind, is_narrower, places_in, one_if, cuts, some_op, is_shared, part_of_op, has_wire, height, spilled, spilled_op}
 use Rattle.verilog_expr.specs.Spilling.Part.{flat, shared, nested}
 use Rattle.verilog_expr.specs.Values.{gives_values, IsWritable}
 use Rattle.export_verilog.specs.Keys.{role_of, module_keys, key_text, key_name, named, input_name}
