@@ -1,5 +1,5 @@
 //! What is made of the text of an input.
-ghost use Rattle.std.specs.Prelude.{◌≡◌, IfOk};
+ghost use Rattle.std.specs.Prelude.{◌≡◌, ℕ, List, IfOk};
 ghost use Rattle.ir_store.specs.Designs.{design_of};
 ghost use Rattle.command_line.specs.Invocations.{command_of};
 ghost use Rattle.command_line.specs.Line.{Paths};
@@ -63,7 +63,7 @@ pub fn outcome(
     };
     match invocation {
         Invocation::Opt(_) => Ok(reprinted(alloc, source, verified)?),
-        Invocation::Translate(_) => translated(alloc, source, &verified),
+        Invocation::Translate(_) => translated(alloc, &verified),
     }
 }
 
@@ -116,10 +116,9 @@ fn reprinted(alloc: Global, source: &[u8], verified: Verified) -> Result<Text, A
     print_and_drop(alloc, verified)
 }
 
-/// The Verilog of the accepted design that a text says, or the refusal of its first header or operation with an aggregate.
-fn translated(alloc: Global, source: &[u8], verified: &Verified) -> Result<Text, OutcomeFail>
-    requires { Accepted source.now (design_of verified.now.design) }
-    ensures { (paths : Paths) → Gives (translate paths) source.now result }
+/// The Verilog of an accepted design, of any text that says it, or the refusal of its first header or operation with an aggregate.
+fn translated(alloc: Global, verified: &Verified) -> Result<Text, OutcomeFail>
+    ensures { (source : List ℕ) (paths : Paths) → Accepted source (design_of verified.now.design) → Gives (translate paths) source result }
 {
     accepted_designs_are_exportable();
     exported_designs_behave();

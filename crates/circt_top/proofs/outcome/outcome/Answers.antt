@@ -14,4 +14,4 @@ returns-in_ok-reprinted-in-Opt c =
 
 pub returns-in-Translate : goal.returns-in-Translate
 returns-in-Translate c =
-    subst (λ (i : Invocation). Gives (command_of i) c.args.source.now c.translated.result) (sym c.in-Translate.is) (c.translated.ensures (paths_of c.in-Translate.field-0))
+    subst (λ (i : Invocation). Gives (command_of i) c.args.source.now c.translated.result) (sym c.in-Translate.is) (c.translated.ensures c.args.source.now (paths_of c.in-Translate.field-0) c.in-Ok.ensures)

@@ -8,6 +8,6 @@ use Rattle.circt_top.proofs.outcome.translated.Goals as goal
 pub returns : goal.returns
 returns c =
     let same : design_of c.design.result.now ≡ design_of c.args.verified.now.design = ap (map numbered_module) c.design.ensures in
-    λ paths. translated (record { exportable = c.accepted_designs_are_exportable.ensures; behaves = c.exported_designs_behave.ensures })
-    paths c.args.source.now (design_of c.args.verified.now.design) c.exported.result c.requires
+    λ source paths accepted. translated (record { exportable = c.accepted_designs_are_exportable.ensures; behaves = c.exported_designs_behave.ensures })
+    paths source (design_of c.args.verified.now.design) c.exported.result accepted
     (subst (λ (d : Design). HasRoomToExport d) same c.stored_designs_have_room.ensures) c.exported.ensures
