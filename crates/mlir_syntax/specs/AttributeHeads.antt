@@ -6,8 +6,8 @@ use Rattle.mlir_lexer.specs.declared.token.TokenKind.TheVariants as kind
 use Rattle.mlir_syntax.specs.AttributeText as text
 use Rattle.mlir_syntax.specs.declared.attribute_text.AttributeHead.{AttributeHead}
 use Rattle.mlir_syntax.specs.declared.attribute_text.AttributeHead.TheVariants as heads
-use Rattle.mlir_syntax.specs.declared.attribute_text.StringKeys.{StringKeys}
-use Rattle.mlir_syntax.specs.declared.attribute_text.StringKeys.TheVariants.{Hint, HintAndName}
+use Rattle.mlir_syntax.specs.declared.dictionary_text.StringKeys.{StringKeys}
+use Rattle.mlir_syntax.specs.declared.dictionary_text.StringKeys.TheVariants.{Hint, HintAndName}
 
 abbrev pub head_of : AttributeHead → text.AttributeHead
 head_of (heads.Text t) = text.AttributeHead.text_head (content_of kind.StringLiteral t.text.now)

@@ -2,6 +2,7 @@
 #![tactic(auto)]
 
 pub mod attribute_text;
+pub mod dictionary_text;
 pub mod fail;
 pub mod head;
 pub mod instance_text;

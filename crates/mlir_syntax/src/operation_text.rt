@@ -11,7 +11,7 @@ ghost use Rattle.mlir_syntax.specs.PieceText.{gathered_nothing};
 ghost use Rattle.mlir_syntax.specs.Stream.{first, is_first};
 ghost use Rattle.mlir_syntax.specs.Views.{ReadsAs, gathered_of, names_of, operation_of};
 
-use crate::attribute_text::StringKeys;
+use crate::dictionary_text::StringKeys;
 use crate::fail::ReadFail;
 use crate::operation_names::{NameClass, class_of, takes_bin};
 use crate::reader::Reader;

@@ -6,7 +6,7 @@ ghost use Rattle.mlir_syntax.specs.ModuleText.{header, port_name, port_type, inp
 ghost use Rattle.mlir_syntax.specs.Reads.{some_items};
 ghost use Rattle.mlir_syntax.specs.Views.{ReadsAs, port_text_of};
 
-use crate::attribute_text::StringKeys;
+use crate::dictionary_text::StringKeys;
 use crate::fail::ReadFail;
 use crate::operation_text::HEADER;
 use crate::reader::Reader;

@@ -2,7 +2,7 @@
 use diag::cause::Cause;
 use diag::refusal::OpName;
 use io_edge::byte_text::Text;
-use mlir_syntax::attribute_text::StringKeys;
+use mlir_syntax::dictionary_text::StringKeys;
 use mlir_syntax::fail::ReadFail;
 use mlir_syntax::reader::Reader;
 use mlir_syntax::syntax::ResultNames;
