@@ -1,6 +1,5 @@
 -- Legal names of lists.
-use Rattle.std.proofs.Common.{◌≡◌, ℕ, zero, suc, ◌+◌, ◌<◌, ◌≤◌, ◌^◌, Bool, true, false, not, ◌&&◌, ◌||◌, List, [], ◌∷◌, ◌++◌, length, get_or, take, drop, add-one, drop-cons, append_assoc, length-append, IsTrue, refl, sym, ap, ◌∙◌, true≢false, arith}
-use Rattle.std.specs.Prelude.{Some, slice_get}
+use Rattle.std.proofs.Common.{◌≡◌, ℕ, suc, ◌+◌, ◌<◌, ◌≤◌, ◌^◌, Bool, true, false, not, ◌&&◌, ◌||◌, List, [], ◌∷◌, ◌++◌, length, get_or, drop, add-one, drop-cons, append_assoc, length-append, IsTrue, refl, sym, ap, ◌∙◌, true≢false, arith}
 use Rattle.hw_model.specs.Types.{Name}
 use Rattle.hw_model.specs.Design.{same_name}
 use Rattle.verilog_model.specs.Tokens.{is_name_byte}
@@ -25,12 +24,6 @@ append_none (t ∷ ts) = ap (λ l. t ∷ l) (append_none ts)
 regrouped : (ts : List Name) (n : Name) (us : List Name) → (ts ++ n ∷ []) ++ us ≡ ts ++ (n ∷ us)
 regrouped ts n us = rw append_assoc
 
-drop_end : (ws : List Name) (i : ℕ) → length ws ≤ i → drop i ws ≡ []
-drop_end [] zero le = refl
-drop_end [] (suc i) le = refl
-drop_end (w ∷ ws) zero le = absurd (omega (arith, le))
-drop_end (w ∷ ws) (suc i) le = drop_end ws i (omega (arith, le))
-
 -- one name more is made legal
 pub legal_step : (ts us ws whole : List Name) (i : ℕ) (d w : Name) → i < length ws → w ≡ get_or ws i d → us ≡ ts ++ legal_name ts w ∷ [] → ts ++ legal_after ts (drop i ws) ≡ whole
     → us ++ legal_after us (drop (i + 1) ws) ≡ whole
@@ -42,20 +35,9 @@ legal_step ts us ws whole i d w lt at added e =
     ∙ sym (ap (λ l. ts ++ legal_after ts l) here)
     ∙ e
 
-pub legal_end : (ts ws whole : List Name) (i : ℕ) → length ws ≤ i → ts ++ legal_after ts (drop i ws) ≡ whole → ts ≡ whole
-legal_end ts ws whole i le e = sym (append_none ts) ∙ sym (ap (λ l. ts ++ legal_after ts l) (drop_end ws i le)) ∙ e
-
 pub legal_count : (ts ws : List Name) → length (legal_after ts ws) ≡ length ws
 legal_count ts [] = refl
 legal_count ts (w ∷ ws) = ap suc (legal_count (ts ++ legal_name ts w ∷ []) ws)
-
--- each legal name is that of its wanted one after those before it
-pub legal_at : (ts ws : List Name) (i : ℕ) (w : Name) → slice_get ws i ≡ Some w → slice_get (legal_after ts ws) i ≡ Some (legal_name (ts ++ take i (legal_after ts ws)) w)
-legal_at ts [] i w e = cc
-legal_at ts (v ∷ ws) zero w e = let s : v ≡ w = cc in ap (λ x. Some (legal_name ts x)) s ∙ ap (λ l. Some (legal_name l w)) (sym (append_none ts))
-legal_at ts (v ∷ ws) (suc i) w e =
-    legal_at (ts ++ legal_name ts v ∷ []) ws i w e
-    ∙ ap (λ l. Some (legal_name l w)) (regrouped ts (legal_name ts v) (take i (legal_after (ts ++ legal_name ts v ∷ []) ws)))
 
 -- ---- free names
 

@@ -1,30 +1,14 @@
 -- Heights as they are found.
-use Rattle.std.proofs.Common.{◌≡◌, ℕ, zero, suc, ◌+◌, ◌<◌, ◌≤◌, max, Bool, true, false, nat_eq, List, [], ◌∷◌, length, map, drop, get_or, set, ◌⊎◌, inl, inr, slice_get, Option, Some, None, refl, sym, ap, subst, ◌∙◌, arith}
+use Rattle.std.proofs.Common.{◌≡◌, ℕ, zero, suc, ◌+◌, ◌<◌, Bool, true, false, nat_eq, List, [], ◌∷◌, length, set, slice_get, Option, Some, refl, sym, ap, subst, ◌∙◌, arith}
 use Rattle.std.proofs.lemmas.Bool.{eqb-true, eqb-false}
-use Rattle.wiring.specs.Wiring.{greatest}
-use Rattle.hw_model.specs.Design.{Ref, Port, Op}
+use Rattle.hw_model.specs.Design.{Port, Op}
 use Rattle.hw_model.specs.Design.Ref.{result}
 use Rattle.verilog_expr.specs.Spilling as told
 use Rattle.verilog_expr.specs.Spilling.{AreHeights, height, height_over, operands_at, operands_of, spilled}
 use Rattle.verilog_expr.specs.Spilling.Part.{flat, shared, nested}
-use Rattle.verilog_expr.specs.declared.nesting.Part.{Part}
-use Rattle.verilog_expr.specs.declared.nesting.Part.TheVariants.{Shared, Nested}
 use Rattle.verilog_expr.specs.declared.marks.Mark.{Mark}
 use Rattle.verilog_expr.specs.Marks.{no_mark, after_ops}
-use Rattle.verilog_expr.specs.PartTables.{wired, part_seen, stands_most, IsHeightAt, height_get, AreKnown}
-use Rattle.verilog_expr.proofs.Drops.{drop_none, split}
-
-pub most_step : {A : Type 0} (g : Ref → ℕ) (f : A → Ref) (xs : List A) (i : ℕ) (x : A) (m n new whole : ℕ) → i < length xs → x ≡ get_or xs i x
-    → max m (greatest (map g (map f (drop i xs)))) ≡ whole → n ≡ g (f x) → new ≡ max n m → max new (greatest (map g (map f (drop (i + 1) xs)))) ≡ whole
-most_step g f xs i x m n new whole lt at h p q =
-    let d : drop i xs ≡ x ∷ drop (i + 1) xs = split xs i x lt at in
-    let e : max m (max (g (f x)) (greatest (map g (map f (drop (i + 1) xs))))) ≡ whole = sym (ap (λ l. max m (greatest (map g (map f l)))) d) ∙ h in
-    omega (arith, e, p, q)
-
-pub most_end : {A : Type 0} (g : Ref → ℕ) (f : A → Ref) (xs : List A) (i m whole : ℕ) → length xs ≤ i → max m (greatest (map g (map f (drop i xs)))) ≡ whole → m ≡ whole
-most_end g f xs i m whole le h =
-    let e : max m 0 ≡ whole = sym (ap (λ l. max m (greatest (map g (map f l)))) (drop_none xs i le)) ∙ h in
-    omega (arith, e)
+use Rattle.verilog_expr.specs.PartTables.{wired, stands_most, IsHeightAt, height_get, AreKnown}
 
 -- ---- the height of an operation
 
@@ -69,12 +53,6 @@ known_set ports os hs p h known lt is i below = go (nat_eq p i) refl
     go true e = subst (λ j. IsHeightAt ports os j (height_get (set hs p h) j)) (eqb-true p i e) (subst (IsHeightAt ports os p) (sym (set_same hs p h lt)) is)
     go false e = subst (IsHeightAt ports os i) (sym (set_other hs p i h (eqb-false p i e))) (known i below)
 
--- the height of an operation that is no name and no literal
-pub height_above : (ports : List Port) (os : List Op) → AreHeights ports os (height ports os) → (i : ℕ) (o : Op) (n : ℕ) (p : Part) → (p ≡ Shared) ⊎ (p ≡ Nested)
-    → slice_get os i ≡ Some o → part_seen p ≡ told.part ports os (result i 0) → n ≡ stands_most ports os o.operands → n + 1 ≡ height ports os (result i 0)
-height_above ports os heights i o n p (inl e) at is most = height_shared ports os heights i o n at (sym is ∙ ap part_seen e) most
-height_above ports os heights i o n p (inr e) at is most = height_nested ports os heights i o n at (sym is ∙ ap part_seen e) most
-
 -- ---- wires
 
 pub wired_is : (ports : List Port) (os : List Op) (i : ℕ) (o : Op) (m : Mark) (p : told.Part) (h : ℕ) → slice_get os i ≡ Some o → m ≡ after_ops ports os (result i 0) os no_mark
@@ -85,8 +63,3 @@ wired_is ports os i o m p h at marked parted high =
     ∙ ap (λ x. wired o (after_ops ports os (result i 0) os no_mark) x h) (parted ∙ ap (told.part_of ports os (result i 0)) at)
     ∙ ap (wired o (after_ops ports os (result i 0) os no_mark) (told.part_of_op ports os (result i 0) o)) high
     ∙ sym (ap (told.spilled_op ports os (result i 0)) at)
-
--- ---- whole tables
-
-pub none_known : (ports : List Port) (os : List Op) (hs : List (Option ℕ)) → ((i : ℕ) → i < length os → height_get hs i ≡ None) → AreKnown ports os hs
-none_known ports os hs none i lt = subst (IsHeightAt ports os i) (sym (none i lt)) tt

@@ -1,48 +1,24 @@
 -- Marks of values as uses are noted.
-use Rattle.std.proofs.Common.{◌≡◌, ℕ, zero, suc, ◌+◌, ◌<◌, ◌≤◌, min, Bool, true, false, cond, ◌&&◌, ◌||◌, nat_eq, nat_lt, List, [], ◌∷◌, ◌++◌, length, map, take, drop, set, replicate, get_or, slice_get, Some, None, refl, sym, ap, subst, ◌∙◌, arith, eq-eqb, ne_eqb}
-use Rattle.std.proofs.lemmas.Bool.{ltb-true, ltb-false, eqb-true, eqb-false}
+use Rattle.std.proofs.Common.{◌≡◌, ℕ, zero, suc, ◌+◌, ◌<◌, ◌≤◌, min, Bool, true, false, cond, ◌&&◌, ◌||◌, nat_eq, nat_lt, List, [], ◌∷◌, ◌++◌, length, map, take, drop, set, replicate, get_or, slice_get, Some, refl, sym, ap, subst, ◌∙◌, arith, eq-eqb, ne_eqb}
+use Rattle.std.proofs.lemmas.Bool.{ltb-false, eqb-true, eqb-false}
 use Rattle.std.proofs.lemmas.List.{drop_more, append-nil, take_all}
 use Rattle.std.proofs.lemmas.Option.{slice_get_within, get_or_from_slice_get}
 use Rattle.hw_model.specs.Design.{Ref, Port, Op, is_instance, result_type}
-use Rattle.hw_model.specs.Design.Ref.{port, result, undefined}
+use Rattle.hw_model.specs.Design.Ref.{result}
 use Rattle.wiring.specs.Options.{bind}
 use Rattle.hw_model.specs.Flat.{width_of}
 use Rattle.ir_store.specs.Positions.{same_ref}
 use Rattle.verilog_expr.specs.Expressions.{value_width}
 use Rattle.verilog_expr.specs.Spilling.{one_if, places_in, use_count, cuts, joins, some_op}
-use Rattle.verilog_expr.specs.Marks.{first_place, no_mark, mark_at, noted, one_use, after_operands, is_cut_by, after_ops}
+use Rattle.verilog_expr.specs.Marks.{no_mark, mark_at, noted, one_use, after_operands, is_cut_by, after_ops}
 use Rattle.verilog_expr.specs.declared.marks.Mark.{Mark}
 use Rattle.verilog_expr.proofs.Drops.{drop_none, split}
 
 -- ---- places
 
-pub place_some : (n : ℕ) (x : Ref) (p : ℕ) → first_place n x ≡ Some p → (x ≡ result p 0) × (p < n)
-place_some n (port j) p at = cc
-place_some n undefined p at = cc
-place_some n (result i (suc k)) p at = cc
-place_some n (result i zero) p at = go (nat_lt i n) refl at
-  where
-    go : (b : Bool) → nat_lt i n ≡ b → cond b (Some i) None ≡ Some p → (result i 0 ≡ result p 0) × (p < n)
-    go true is e = let same : i ≡ p = cc in (ap (λ j. result j 0) same, subst (λ j. j < n) same (ltb-true i n is))
-    go false is e = cc
-
 and_true : (b : Bool) → (b && true) ≡ b
 and_true true = refl
 and_true false = refl
-
-pub place_none : (n : ℕ) (x : Ref) (i : ℕ) → first_place n x ≡ None → i < n → same_ref x (result i 0) ≡ false
-place_none n (port j) i at below = refl
-place_none n undefined i at below = refl
-place_none n (result j (suc k)) i at below = apart (nat_eq j i) k
-  where
-    apart : (b : Bool) (k : ℕ) → (b && nat_eq (suc k) 0) ≡ false
-    apart true k = ne_eqb (suc k) 0 (λ e. omega (arith, e))
-    apart false k = refl
-place_none n (result j zero) i at below = go (nat_lt j n) refl at
-  where
-    go : (b : Bool) → nat_lt j n ≡ b → cond b (Some j) None ≡ None → (nat_eq j i && true) ≡ false
-    go true is e = cc
-    go false is e = and_true (nat_eq j i) ∙ ne_eqb j i (λ same. let above : n ≤ j = ltb-false j n is in omega (arith, same))
 
 -- ---- one mark is set
 
@@ -58,34 +34,6 @@ suc_suc m n = go (nat_eq m n) refl
     go : (b : Bool) → nat_eq m n ≡ b → nat_eq (suc m) (suc n) ≡ nat_eq m n
     go true e = eq-eqb (suc m) (suc n) (ap suc (eqb-true m n e)) ∙ sym e
     go false e = ne_eqb (suc m) (suc n) (λ s. omega (arith, s, eqb-false m n e)) ∙ sym e
-
-set_at : (ms : List Mark) (p : ℕ) (m : Mark) → p < length ms → (i : ℕ) → mark_at (set ms p m) i ≡ cond (nat_eq p i) m (mark_at ms i)
-set_at [] p m lt i = absurd (omega (arith, lt))
-set_at (q ∷ ms) zero m lt zero = refl
-set_at (q ∷ ms) zero m lt (suc i) = sym (ap (λ b. cond b m (mark_at ms i)) (zero_suc i))
-set_at (q ∷ ms) (suc p) m lt zero = sym (ap (λ b. cond b m q) (suc_zero p))
-set_at (q ∷ ms) (suc p) m lt (suc i) = set_at ms p m (omega (arith, lt)) i ∙ sym (ap (λ b. cond b m (mark_at ms i)) (suc_suc p i))
-
--- the mark of one value changes
-pub one_noted : (cut : Ref → Bool) (joined : Bool) (ms : List Mark) (x : Ref) (p : ℕ) (m : Mark) → x ≡ result p 0 → p < length ms
-    → m ≡ noted (cut x) joined (mark_at ms p) → (i : ℕ) → mark_at (set ms p m) i ≡ one_use (result i 0) (cut (result i 0)) joined x (mark_at ms i)
-one_noted cut joined ms x p m is lt new i =
-    set_at ms p m lt i ∙ go (nat_eq p i) refl ∙ sym (ap (λ b. cond b (noted (cut (result i 0)) joined (mark_at ms i)) (mark_at ms i)) test)
-  where
-    test : same_ref x (result i 0) ≡ nat_eq p i
-    test = ap (λ y. same_ref y (result i 0)) is ∙ and_true (nat_eq p i)
-
-    go : (b : Bool) → nat_eq p i ≡ b → cond b m (mark_at ms i) ≡ cond b (noted (cut (result i 0)) joined (mark_at ms i)) (mark_at ms i)
-    go true e = new ∙ ap (λ y. noted (cut y) joined (mark_at ms p)) is ∙ ap (λ j. noted (cut (result j 0)) joined (mark_at ms j)) (eqb-true p i e)
-    go false e = refl
-
-pub few_noted : (cut joined : Bool) (ms : List Mark) (p : ℕ) (m : Mark) → p < length ms → m ≡ noted cut joined (mark_at ms p)
-    → ((i : ℕ) → (mark_at ms i).uses < 3) → (i : ℕ) → (mark_at (set ms p m) i).uses < 3
-few_noted cut joined ms p m lt new few i = go (nat_eq p i) (set_at ms p m lt i)
-  where
-    go : (b : Bool) → mark_at (set ms p m) i ≡ cond b m (mark_at ms i) → (mark_at (set ms p m) i).uses < 3
-    go true e = omega (arith, ap (λ (x : Mark). x.uses) e, ap (λ (x : Mark). x.uses) new)
-    go false e = omega (arith, ap (λ (x : Mark). x.uses) e, few i)
 
 -- ---- operands
 

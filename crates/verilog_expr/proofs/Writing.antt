@@ -1,5 +1,5 @@
 -- What is seen of the expression of a value, and how it is put into its place.
-use Rattle.std.proofs.Common.{◌≡◌, ℕ, zero, suc, ◌+◌, ◌-◌, ◌<◌, ◌≤◌, ◌≢◌, Bool, true, false, cond, ◌==◌, nat_le, nat_lt, List, [], ◌∷◌, ◌++◌, length, map, drop, get_or, slice_get, Option, Some, None, is_some, codes, decimal, refl, sym, ap, subst, ◌∙◌, arith, append_assoc}
+use Rattle.std.proofs.Common.{◌≡◌, ℕ, zero, suc, ◌+◌, ◌-◌, ◌<◌, ◌≢◌, Bool, true, false, cond, ◌==◌, nat_le, nat_lt, List, [], ◌∷◌, ◌++◌, length, map, slice_get, Option, Some, None, is_some, codes, decimal, refl, sym, ap, subst, ◌∙◌, arith, append_assoc}
 use Rattle.std.proofs.lemmas.Bool.{ltb-true, ltb-false, leb-true, leb-false}
 use Rattle.std.proofs.lemmas.List.{append-nil, length-map}
 use Rattle.wiring.specs.Options.{bind}
@@ -16,18 +16,16 @@ use Rattle.verilog_expr.specs.Building.{no_expr, placed, of_one_expr, select, fi
 use Rattle.verilog_expr.specs.Expressions.{value_width, divisor_in, name_or, typed_expr, result_expr, own_expr, expr_step, expr_to}
 use Rattle.verilog_expr.specs.Text.{expr_text}
 use Rattle.verilog_expr.specs.Scopes.{scope_ports, scope_ops, scope_ref}
-use Rattle.verilog_expr.specs.Forms.{wanted, before, behind, operand_text, form_text}
+use Rattle.verilog_expr.specs.Forms.{wanted}
 use Rattle.verilog_expr.specs.Rows.{row_for, row_text, row_signed, row_level}
 use Rattle.verilog_expr.specs.Named.{named_of}
 use Rattle.verilog_expr.specs.declared.value_names.ValueNames.{ValueNames}
 use Rattle.verilog_expr.specs.declared.form.Form.TheVariants.{Same}
 use Rattle.verilog_expr.specs.Made.{expr_at, exprs_at, IsOnly, sole_name, head_width, select_text, row_name, name_of_one, IsMade, IsResultOf, wrap_for, open_text, close_text}
 use Rattle.verilog_expr.specs.declared.look.Wrap.TheVariants.{Bare, Paren}
-use Rattle.verilog_expr.specs.declared.form.Form.{Form}
 use Rattle.verilog_expr.specs.declared.row.Row.{Row}
 use Rattle.verilog_expr.specs.declared.row.Row.TheVariants.{Missing, Operands}
 use Rattle.verilog_expr.specs.declared.scope.Scope.{Scope}
-use Rattle.verilog_expr.proofs.Drops.{drop_none, split}
 use Rattle.verilog_expr.proofs.TextParts.{text_behind}
 use Rattle.verilog_expr.proofs.FormRows.{built_is}
 
@@ -164,21 +162,6 @@ wrapped true l e low = go (is_signed e)
         room : (b : Bool) → nat_le l 11 ≡ b → true ≡ b
         room true p = refl
         room false p = absurd (omega (arith, leb-false l 11 p, low))
-
--- ---- operands
-
-pub form_step : {A : Type 0} (f : Form) (g : A → Expr) (xs : List A) (i : ℕ) (x : A) (out one two whole : List ℕ) → i < length xs → x ≡ get_or xs i x
-    → out ++ form_text f i (map g (drop i xs)) ≡ whole → one ≡ out ++ before f i → two ≡ one ++ operand_text f i (g x) → two ++ form_text f (i + 1) (map g (drop (i + 1) xs)) ≡ whole
-form_step f g xs i x out one two whole lt at h p q =
-    let d : map g (drop i xs) ≡ g x ∷ map g (drop (i + 1) xs) = ap (map g) (split xs i x lt at) in
-    ap (λ y. y ++ form_text f (i + 1) (map g (drop (i + 1) xs))) (q ∙ ap (λ y. y ++ operand_text f i (g x)) p)
-    ∙ append_assoc (out ++ before f i) (operand_text f i (g x)) (form_text f (i + 1) (map g (drop (i + 1) xs)))
-    ∙ append_assoc out (before f i) (operand_text f i (g x) ++ form_text f (i + 1) (map g (drop (i + 1) xs)))
-    ∙ sym (ap (λ l. out ++ form_text f i l) d) ∙ h
-
-pub form_end : {A : Type 0} (f : Form) (g : A → Expr) (xs : List A) (i : ℕ) (out end whole : List ℕ) → length xs ≤ i → out ++ form_text f i (map g (drop i xs)) ≡ whole
-    → end ≡ out ++ behind f → end ≡ whole
-form_end f g xs i out end whole le h p = p ∙ sym (ap (λ l. out ++ form_text f i (map g l)) (drop_none xs i le)) ∙ h
 
 -- ---- what is seen of a value without a name
 

@@ -8,9 +8,6 @@ use Rattle.verilog_expr.proofs.Drops.{split, drop_none}
 use Rattle.export_verilog.specs.Keys.{result_wish}
 use Rattle.export_verilog.specs.Held.{result_wishes}
 
-some_name : Name → Option Name
-some_name n = Some n
-
 module _ (ts us ws wholeN : List Name) (list one wholeL : List (Option Name)) (k : ℕ) (w n : Name) (lt : k < length ws) (at : w ≡ get_or ws k w)
     (is : n ≡ legal_name ts w) (took : us ≡ ts ++ legal_name ts w ∷ []) where
   next : drop k ws ≡ w ∷ drop (k + 1) ws

@@ -183,15 +183,6 @@ items_read (i ∷ is) rest are = item_read i (items_text is rest) are.0 ∙ ap (
 
 -- ---- modules
 
--- each item begins on a line of its own
-item_apart : (i : Item) (rest : Text) → GoesOn (item_text i rest)
-unfolding item_text
-item_apart (wire high n) rest = refl
-item_apart (reg high n) rest = refl
-item_apart (assign n e) rest = refl
-item_apart (always clock b) rest = refl
-item_apart (instance m n cs) rest = refl
-
 module_read : (m : VModule) (rest : Text) → IsSpellableModule m → tokens (module_text m rest) ≡ module_spelled m (tokens rest)
 unfolding module_text
 module_read m rest is =
