@@ -24,7 +24,8 @@ abbrev pub is_of : TokenKind → Option Lexeme → Bool
 is_of k None = false
 is_of k (Some t) = is_kind t.kind k
 
--- the form of an operation: that of a constant and of an output is told by the token after the name
+-- the form of an operation: two operands of one type where no other is stated; that of a constant and of an output is told
+-- by the token after the name
 unfoldable pub shape_of : Listed → Option Lexeme → Shape
 shape_of op.HwModule next = shape.Nothing
 shape_of op.CombAdd next = shape.Variadic
@@ -32,14 +33,6 @@ shape_of op.CombMul next = shape.Variadic
 shape_of op.CombAnd next = shape.Variadic
 shape_of op.CombOr next = shape.Variadic
 shape_of op.CombXor next = shape.Variadic
-shape_of op.CombSub next = shape.Binary
-shape_of op.CombDivu next = shape.Binary
-shape_of op.CombModu next = shape.Binary
-shape_of op.CombDivs next = shape.Binary
-shape_of op.CombMods next = shape.Binary
-shape_of op.CombShl next = shape.Binary
-shape_of op.CombShru next = shape.Binary
-shape_of op.CombShrs next = shape.Binary
 shape_of op.CombIcmp next = shape.Comparison
 shape_of op.CombParity next = shape.Unary
 shape_of op.CombExtract next = shape.Extraction
@@ -64,6 +57,7 @@ shape_of op.HwOutput next = cond (is_of kind.ValueName next) shape.Joined shape.
 shape_of op.SeqCompreg next = shape.Register
 shape_of op.SeqCompregCe next = shape.EnabledRegister
 shape_of op.SeqFirreg next = shape.ClockedRegister
+shape_of _ next = shape.Binary
 
 abbrev pub comma : Piece
 comma = piece.Mark kind.Comma

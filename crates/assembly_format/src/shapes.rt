@@ -94,8 +94,8 @@ const FUNCTION_TYPE: [Piece; 6] = [
     Piece::Type,
 ];
 
-/// The form of an operation. That of a constant and of an output is told by the token after the
-/// name.
+/// The form of an operation: two operands of one type where no other is stated. That of a constant
+/// and of an output is told by the token after the name.
 #[tactic(auto, unfolding(crate::specs::Shapes::shape_of))]
 pub fn shape_of(name: Listed, next: Option<Token>) -> Shape
     ensures { result ≡ shape_of name (option_map lexeme_of next.entry) }
@@ -105,8 +105,6 @@ pub fn shape_of(name: Listed, next: Option<Token>) -> Shape
         Listed::CombAdd | Listed::CombMul | Listed::CombAnd | Listed::CombOr | Listed::CombXor => {
             Shape::Variadic
         }
-        Listed::CombSub | Listed::CombDivu | Listed::CombModu | Listed::CombDivs => Shape::Binary,
-        Listed::CombMods | Listed::CombShl | Listed::CombShru | Listed::CombShrs => Shape::Binary,
         Listed::CombIcmp => Shape::Comparison,
         Listed::CombParity | Listed::HwStructExplode | Listed::HwWire => Shape::Unary,
         Listed::CombExtract => Shape::Extraction,
@@ -129,6 +127,7 @@ pub fn shape_of(name: Listed, next: Option<Token>) -> Shape
         Listed::SeqCompreg => Shape::Register,
         Listed::SeqCompregCe => Shape::EnabledRegister,
         Listed::SeqFirreg => Shape::ClockedRegister,
+        _ => Shape::Binary,
     }
 }
 

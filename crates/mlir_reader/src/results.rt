@@ -7,6 +7,7 @@ ghost use Rattle.ir_store.specs.ResultTypes.{result_types};
 ghost use Rattle.ir_store.specs.OperationViews.{results_in};
 ghost use Rattle.mlir_reader.specs.Resolving.{type_or_none, marked_results};
 
+use hw_model::families::Family;
 use hw_model::kinds::OpKind;
 use hw_model::types::Ty;
 use ir_store::operation::{NewResult, NewResultList};
@@ -37,16 +38,13 @@ pub fn results_of(
 fn one_type(alloc: Global, kind: &OpKind, types: &[Ty]) -> Result<Option<Option<Ty>>, AllocError>
     ensures { IfOk result (λ one. IfSome one (λ ty. (n : ℕ) → result_types (kind_of kind.now) (map type_of types.now) n ≡ option_map type_of ty ∷ [])) }
 {
-    match kind {
-        OpKind::Icmp(_) | OpKind::Parity => Ok(Some(Some(Ty::Int(1)))),
-        OpKind::Extract(_) | OpKind::Replicate => Ok(Some(copied(alloc, types.get(1))?)),
-        OpKind::Add | OpKind::Mul | OpKind::And | OpKind::Or | OpKind::Xor | OpKind::Sub => {
+    match kind.family() {
+        Family::Icmp(_) | Family::Parity => Ok(Some(Some(Ty::Int(1)))),
+        Family::Extract(_) | Family::Replicate => Ok(Some(copied(alloc, types.get(1))?)),
+        Family::Variadic(_) | Family::Sub | Family::Division(_) | Family::Shift(_) => {
             Ok(Some(copied(alloc, types.first())?))
         }
-        OpKind::Shl | OpKind::Shru | OpKind::Shrs | OpKind::Mux | OpKind::Constant(_) => {
-            Ok(Some(copied(alloc, types.first())?))
-        }
-        OpKind::Wire | OpKind::CompReg(_) | OpKind::CompRegCe(_) | OpKind::FirReg(_) => {
+        Family::Mux | Family::Constant(_) | Family::Wire | Family::Register(..) => {
             Ok(Some(copied(alloc, types.first())?))
         }
         _ => Ok(None),

@@ -4,51 +4,16 @@ use Rattle.mlir_lexer.specs.Runs.{run}
 use Rattle.mlir_syntax.specs.AttributeText.{is_among}
 use Rattle.std.specs.Cmp.Lexicographic.{pointwise, bytes_decides}
 use Rattle.opcode.specs.Listed.{name_of_listed, first_named}
+use Rattle.opcode.proofs.Names.{listed_operations}
 use Rattle.opcode.specs.declared.listed.Listed.{Listed}
 use Rattle.opcode.specs.declared.listed.Listed.TheVariants as listed
-use Rattle.mlir_syntax.specs.OperationText.{operations, class_of, class_by, dialect, known_dialects, is_foreign, class_of_listed, class_of_other}
+use Rattle.mlir_syntax.specs.OperationText.{class_of, class_by, dialect, known_dialects, is_foreign, class_of_listed, class_of_other}
 
 -- a listed operation is the first of its name
-first_of : (o : Listed) → first_named (name_of_listed o) (listed.HwModule ∷ operations) ≡ Some o
+first_of : (o : Listed) → first_named (name_of_listed o) listed_operations ≡ Some o
 unfolding name_of_listed
 first_of listed.HwModule = refl
-first_of listed.CombAdd = refl
-first_of listed.CombMul = refl
-first_of listed.CombAnd = refl
-first_of listed.CombOr = refl
-first_of listed.CombXor = refl
-first_of listed.CombSub = refl
-first_of listed.CombDivu = refl
-first_of listed.CombModu = refl
-first_of listed.CombDivs = refl
-first_of listed.CombMods = refl
-first_of listed.CombShl = refl
-first_of listed.CombShru = refl
-first_of listed.CombShrs = refl
-first_of listed.CombIcmp = refl
-first_of listed.CombParity = refl
-first_of listed.CombExtract = refl
-first_of listed.CombConcat = refl
-first_of listed.CombReplicate = refl
-first_of listed.CombMux = refl
-first_of listed.HwConstant = refl
-first_of listed.HwAggregateConstant = refl
-first_of listed.HwArrayCreate = refl
-first_of listed.HwArrayConcat = refl
-first_of listed.HwArrayGet = refl
-first_of listed.HwArraySlice = refl
-first_of listed.HwArrayInject = refl
-first_of listed.HwStructCreate = refl
-first_of listed.HwStructExtract = refl
-first_of listed.HwStructInject = refl
-first_of listed.HwStructExplode = refl
-first_of listed.HwBitcast = refl
-first_of listed.HwWire = refl
-first_of listed.HwInstance = refl
-first_of listed.HwOutput = refl
-first_of listed.SeqCompreg = refl
-first_of listed.SeqCompregCe = refl
-first_of listed.SeqFirreg = refl
+first_of _ = refl
 
 -- no operation of a list has a name that none has
 none_of : (name : List ℕ) (os : List Listed) → ((o : Listed) → name_of_listed o ≢ name) → first_named name os ≡ None
@@ -63,7 +28,7 @@ pub known : (o : Listed) (name : List ℕ) → name_of_listed o ≡ name → cla
 known o name e = rw (sym e) (ap (class_by (name_of_listed o)) (first_of o))
 
 pub unknown : (name : List ℕ) → ((o : Listed) → name_of_listed o ≢ name) → class_of name ≡ class_of_other name
-unknown name none = ap (class_by name) (none_of name (listed.HwModule ∷ operations) none)
+unknown name none = ap (class_by name) (none_of name listed_operations none)
 
 -- a name that has a dot is foreign where its dialect is none of those known
 pub foreign_at : (name : List ℕ) (n : ℕ) (r : Bool) → n ≡ run (λ b. not (b == 46)) name → (n ≡ length name → ⊥)

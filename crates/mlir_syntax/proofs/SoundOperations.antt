@@ -8,7 +8,7 @@ use Rattle.diag.specs.declared.refusal.OpName.TheVariants as op
 use Rattle.opcode.specs.declared.listed.Listed.{Listed}
 use Rattle.opcode.specs.declared.listed.Listed.TheVariants as listed
 use Rattle.opcode.specs.Listed.{name_of_listed, first_named}
-use Rattle.opcode.proofs.Names.{first_named-name}
+use Rattle.opcode.proofs.Names.{listed_operations, first_named-name}
 use Rattle.hw_model.specs.Types.{Name}
 use Rattle.hw_model.specs.Design.{Entry, same_name}
 use Rattle.mlir_lexer.specs.Tokens.{Lexeme}
@@ -20,7 +20,7 @@ use Rattle.mlir_syntax.specs.AttributeText.{is_among}
 use Rattle.mlir_syntax.specs.OperandText.{ResultNames}
 use Rattle.assembly_format.specs.Shapes.{shape_of, front_pieces, type_pieces}
 use Rattle.mlir_syntax.specs.PieceText.{gathered_nothing}
-use Rattle.mlir_syntax.specs.OperationText.{operations, file_names, left_out, is_foreign, NameClass, operation, module_name, file_name, locations, outside, unknown, class_of_listed, class_of_other, class_by, class_of, takes_bin, bin_text, string_keys, OperationText, given_entries, late_dictionary, Tail, form_text, named_operation, classed_operation, operation_behind, operation_text, is_last, operations_text}
+use Rattle.mlir_syntax.specs.OperationText.{file_names, left_out, is_foreign, NameClass, operation, module_name, file_name, locations, outside, unknown, class_of_listed, class_of_other, class_by, class_of, takes_bin, bin_text, string_keys, OperationText, given_entries, late_dictionary, Tail, form_text, named_operation, classed_operation, operation_behind, operation_text, is_last, operations_text}
 use Rattle.mlir_syntax.specs.Spelling.{Phrase, MaybeDictionary, IsOneOf, FormPhrase, BinPhrase, MayHaveShape, OperationPhrase, OperationsPhrase, ResultsPhrase, StandsInBody, IsPlaceOf}
 use Rattle.assembly_format.specs.declared.pieces.Shape.{Shape}
 use Rattle.mlir_syntax.proofs.Sound.{Said, Sound, Behind, one_more, sound_on, sound_last, sound_give, sound_refused, sound_if, sound_past}
@@ -57,7 +57,7 @@ by_says name None h = other_says name
 by_says name (Some o) h = listed_says name o h
 
 pub class_says : (name : Name) → ClassSays name (class_of name)
-class_says name = by_says name (first_named name (listed.HwModule ∷ operations)) (first_named-name name (listed.HwModule ∷ operations))
+class_says name = by_says name (first_named name listed_operations) (first_named-name name listed_operations)
 
 -- ---- what is after a name
 

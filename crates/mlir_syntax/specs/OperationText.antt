@@ -7,7 +7,8 @@ use Rattle.diag.specs.declared.refusal.OpName.TheVariants as op
 use Rattle.diag.specs.declared.cause.Cause.TheVariants.{Unexpected, UnknownOperation, OutsideProfile}
 use Rattle.opcode.specs.declared.listed.Listed.{Listed}
 use Rattle.opcode.specs.declared.listed.Listed.TheVariants as listed
-use Rattle.opcode.specs.Listed.{first_named}
+use Rattle.opcode.specs.Listed.{name_of_listed, first_named}
+use Rattle.opcode.proofs.Names.{listed_operations}
 use Rattle.hw_model.specs.Types.{Name}
 use Rattle.hw_model.specs.Design.{Entry, same_name}
 use Rattle.mlir_lexer.specs.Runs.{run}
@@ -23,16 +24,6 @@ use Rattle.mlir_syntax.specs.PieceText.{Gathered, gathered_nothing, pieces_text}
 use Rattle.assembly_format.specs.declared.pieces.Shape.{Shape}
 
 -- ---- names of operations
-
--- the operations that are read, in the order of their table
-abbrev pub operations : List Listed
-operations =
-    listed.CombAdd ∷ listed.CombMul ∷ listed.CombAnd ∷ listed.CombOr ∷ listed.CombXor ∷ listed.CombSub ∷ listed.CombDivu ∷ listed.CombModu
-    ∷ listed.CombDivs ∷ listed.CombMods ∷ listed.CombShl ∷ listed.CombShru ∷ listed.CombShrs ∷ listed.CombIcmp ∷ listed.CombParity
-    ∷ listed.CombExtract ∷ listed.CombConcat ∷ listed.CombReplicate ∷ listed.CombMux ∷ listed.HwConstant ∷ listed.HwAggregateConstant
-    ∷ listed.HwArrayCreate ∷ listed.HwArrayConcat ∷ listed.HwArrayGet ∷ listed.HwArraySlice ∷ listed.HwArrayInject ∷ listed.HwStructCreate
-    ∷ listed.HwStructExtract ∷ listed.HwStructInject ∷ listed.HwStructExplode ∷ listed.HwBitcast ∷ listed.HwWire ∷ listed.HwInstance
-    ∷ listed.HwOutput ∷ listed.SeqCompreg ∷ listed.SeqCompregCe ∷ listed.SeqFirreg ∷ []
 
 -- the names of the module that a file is
 abbrev pub file_names : List Name
@@ -81,7 +72,7 @@ class_by name None = class_of_other name
 
 -- the class of a name
 abbrev pub class_of : Name → NameClass
-class_of name = class_by name (first_named name (listed.HwModule ∷ operations))
+class_of name = class_by name (first_named name listed_operations)
 
 -- the operation that a refusal names for a token
 abbrev pub other_name : Lexeme → OpName
@@ -108,7 +99,7 @@ no_operation around s = cond (is_first is_outside s) (refused OutsideProfile aro
 
 -- whether `bin` may stand after the name
 abbrev pub takes_bin : Listed → Bool
-takes_bin o = same_name (dialect (Rattle.opcode.specs.Listed.name_of_listed o)) (codes "comb")
+takes_bin o = same_name (dialect (name_of_listed o)) (codes "comb")
 
 -- `bin`, or nothing
 unfoldable pub bin_text : Listed → Reads Bool

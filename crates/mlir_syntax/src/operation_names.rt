@@ -168,21 +168,11 @@ fn is_among(name: &[u8], names: &[&str]) -> bool
     false
 }
 
-/// Whether `bin` may stand after the name of an operation.
-#[tactic(auto, unfolding(opcode::specs::Listed::name_of_listed))]
+/// Whether `bin` may stand after the name of an operation: after those of the dialect comb.
 pub fn takes_bin(name: Listed) -> bool
     ensures { result ≡ takes_bin name }
 {
-    match name {
-        Listed::CombAdd | Listed::CombMul | Listed::CombAnd | Listed::CombOr | Listed::CombXor => {
-            true
-        }
-        Listed::CombSub | Listed::CombDivu | Listed::CombModu | Listed::CombDivs => true,
-        Listed::CombMods | Listed::CombShl | Listed::CombShru | Listed::CombShrs => true,
-        Listed::CombIcmp | Listed::CombParity | Listed::CombExtract | Listed::CombConcat => true,
-        Listed::CombReplicate | Listed::CombMux => true,
-        _ => false,
-    }
+    dialect(name.name()) == b"comb".as_slice()
 }
 
 /// Whether an operation is a module's output, which is the last of a body.

@@ -5,29 +5,28 @@ use Rattle.wiring.specs.Lists.{total}
 use Rattle.wiring.specs.Wiring.{In}
 use Rattle.bits_core.specs.Word.{Word, number, bits, bits_of_ℤ, flag, extract as bits_from, copies, sub as difference, quotient, rest, signed_quotient, signed_rest, parity as parity_of, shift_left, shift_right, shift_right_signed, bitwise, ones, zeros, and_words, or_words, xor_words}
 use Rattle.bits_core.proofs.Numbers.{bits-number}
-use Rattle.bits_core.proofs.Arithmetic.{length-add, length-mul, length-sub, length-quotient, length-rest, length-signed_quotient, length-signed_rest}
+use Rattle.bits_core.proofs.Arithmetic.{length-add, length-mul, length-sub}
 use Rattle.bits_core.proofs.Bitwise.{length-bitwise, and_words_assoc, or_words_assoc, xor_words_assoc, and_words-ones, or_words-zeros, xor_words-zeros}
 use Rattle.bits_core.proofs.Complement.{length-bits_of_ℤ}
-use Rattle.bits_core.proofs.Shifts.{length-shift_left, length-shift_right, length-shift_right_signed}
 use Rattle.hw_model.specs.Types.{Name, HwType, width}
 use Rattle.hw_model.specs.Types.HwType.{int}
 use Rattle.hw_model.specs.Kinds.{Kind, Variadic, Division, Shift}
 use Rattle.hw_model.specs.Kinds.Variadic.{add, mul, and, or, xor}
-use Rattle.hw_model.specs.Kinds.Division.{divu, modu, divs, mods}
-use Rattle.hw_model.specs.Kinds.Shift.{shl, shru, shrs}
 use Rattle.hw_model.specs.Kinds.Kind.{variadic, sub, division, shift, icmp, parity, extract, concat, replicate, mux, constant, aggregate_constant, on_array, on_struct, bitcast, wire, instance, output, register}
 use Rattle.hw_model.specs.Value.{product, and_all, or_all, xor_all, of_one, of_two, of_three, compare, variadic_value, division_value, shift_value, op_value}
 use Rattle.hw_model.specs.Flat.{width_of}
 use Rattle.hw_model.specs.Sound.{AllAre, Fits}
 use Rattle.verilog_model.specs.Tree.{Operator, Expr}
-use Rattle.verilog_model.specs.Tree.Operator.{times, over, modulo, plus, minus, left_shift, right_shift, signed_right_shift, bit_and, bit_xor, bit_or}
+use Rattle.verilog_model.specs.Tree.Operator.{times, plus, minus, bit_and, bit_xor, bit_or}
 use Rattle.verilog_model.specs.Tree.Expr.{as_signed, odd, repeated}
 use Rattle.verilog_model.specs.Tree.Exprs.{last}
 use Rattle.verilog_model.specs.Grammar.{strength, primary_level}
+use Rattle.verilog_model.specs.Checks.{divides}
 use Rattle.verilog_model.specs.Expression.{context_of, arithmetic, shifted, own_value}
 use Rattle.verilog_model.specs.Expression.Context.{both_operands, left_operand}
 use Rattle.verilog_expr.specs.Building.{literal_of, placed, unsigned_at, of_one_expr, of_two_exprs, of_three_exprs, unsigned_pair, variadic_expr, unsigned_shift, signed_shift, unsigned_division, signed_division, comparison, selected, first_width, conditional, built, division_expr, shift_expr, variadic_operator, division_operator, shift_operator, is_signed_division, is_signed_shift}
 use Rattle.verilog_expr.specs.Values.{HasBits, HaveBits, IsBuildable, IsDividedBy}
+use Rattle.verilog_expr.proofs.Operators.{division_context, shift_context, divides_division, division_computes, shift_computes, length-divided, length-shifted}
 use Rattle.verilog_expr.proofs.Own.{Is, Is-own, HasBits-Is, placed_own, unsigned_at_is, signed_is, literal_is, both_is, shift_is}
 use Rattle.verilog_expr.proofs.Rows.{Gives, gives, AllBits, folded, added, multiplied, from_right, variadic_gives, comparison_gives, odd_gives}
 use Rattle.verilog_expr.proofs.Parts.{selected_gives, concatenation_gives, repeated_gives, conditional_gives}
@@ -189,18 +188,32 @@ module _ (widths : Name → ℕ) (ρ : Name → Word) where
       (from_right xor_words (xor_all (width t)) (width t) xor_words_assoc (λ x size. ap (λ n. xor_words x (zeros n)) (sym size) ∙ xor_words-zeros x) (λ y ys. refl) (bitwise_keeps _ (width t)))
       xs es fits some have
 
+  either_division_gives : (P : Type 0) (s : Bool) (o : Operator) (w divisor : ℕ) (a b : Expr) → context_of o ≡ both_operands → divides o ≡ true
+      → w < 2 ^ 64 → HasBits widths ρ w a → (P → own_value widths ρ b ≡ bits w divisor)
+      → Gives widths ρ P w (division_expr s o w divisor a) (arithmetic o s (own_value widths ρ a) (own_value widths ρ b))
+  either_division_gives P false o w divisor a b context divided small first always =
+      unsigned_division_gives P o w divisor a b context (λ x y. length-divided o false x y divided) small first always
+  either_division_gives P true o w divisor a b context divided small first always =
+      signed_division_gives P o w divisor a b context (λ x y. length-divided o true x y divided) small first always
+
   division_gives : (P : Type 0) (d : Division) (w divisor : ℕ) (a b : Expr) → w < 2 ^ 64 → HasBits widths ρ w a → (P → own_value widths ρ b ≡ bits w divisor)
       → Gives widths ρ P w (division_expr (is_signed_division d) (division_operator d) w divisor a) (division_value d (own_value widths ρ a) (own_value widths ρ b))
-  division_gives P divu w divisor a b small first always = unsigned_division_gives P over w divisor a b refl length-quotient small first always
-  division_gives P modu w divisor a b small first always = unsigned_division_gives P modulo w divisor a b refl length-rest small first always
-  division_gives P divs w divisor a b small first always = signed_division_gives P over w divisor a b refl length-signed_quotient small first always
-  division_gives P mods w divisor a b small first always = signed_division_gives P modulo w divisor a b refl length-signed_rest small first always
+  division_gives P d w divisor a b small first always =
+      subst (Gives widths ρ P w (division_expr (is_signed_division d) (division_operator d) w divisor a))
+      (division_computes d (own_value widths ρ a) (own_value widths ρ b))
+      (either_division_gives P (is_signed_division d) (division_operator d) w divisor a b (division_context d) (divides_division d) small first always)
+
+  either_shift_gives : (P : Type 0) (s : Bool) (o : Operator) (w : ℕ) (a b : Expr) → context_of o ≡ left_operand → HasBits widths ρ w a
+      → Gives widths ρ P w (shift_expr s o a b) (shifted o s (own_value widths ρ a) (number (own_value widths ρ b)))
+  either_shift_gives P false o w a b context first = unsigned_shift_gives P o w a b context (λ x n. length-shifted o false x n context) first
+  either_shift_gives P true o w a b context first = signed_shift_gives P o w a b context (λ x n. length-shifted o true x n context) first
 
   shift_gives : (P : Type 0) (s : Shift) (w : ℕ) (a b : Expr) → HasBits widths ρ w a
       → Gives widths ρ P w (shift_expr (is_signed_shift s) (shift_operator s) a b) (shift_value s (own_value widths ρ a) (number (own_value widths ρ b)))
-  shift_gives P shl w a b first = unsigned_shift_gives P left_shift w a b refl length-shift_left first
-  shift_gives P shru w a b first = unsigned_shift_gives P right_shift w a b refl length-shift_right first
-  shift_gives P shrs w a b first = signed_shift_gives P signed_right_shift w a b refl length-shift_right_signed first
+  shift_gives P s w a b first =
+      subst (Gives widths ρ P w (shift_expr (is_signed_shift s) (shift_operator s) a b))
+      (shift_computes s (own_value widths ρ a) (number (own_value widths ρ b)))
+      (either_shift_gives P (is_signed_shift s) (shift_operator s) w a b (shift_context s) first)
 
   -- ---- each kind
 

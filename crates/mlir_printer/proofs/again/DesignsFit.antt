@@ -3,17 +3,11 @@ use Rattle.std.proofs.Common.{◌≡◌, ℕ, zero, suc, ◌<◌, Bool, true, fa
 use Rattle.std.specs.Prelude.{nat_lt, Option, Some, None, slice_get}
 use Rattle.std.proofs.lemmas.List.{length-map}
 use Rattle.std.proofs.lemmas.Bool.{false≢true, lt-ltb}
+use Rattle.opcode.specs.declared.listed.Listed.{Listed}
 use Rattle.opcode.specs.declared.listed.Listed.TheVariants as listed
+use Rattle.hw_model.specs.Opcodes.{opcode_of}
 use Rattle.hw_model.specs.Types.{Name}
 use Rattle.hw_model.specs.Kinds.{Kind}
-use Rattle.hw_model.specs.Kinds.Variadic.{add}
-use Rattle.hw_model.specs.Kinds.Division.{divu}
-use Rattle.hw_model.specs.Kinds.Shift.{shl}
-use Rattle.hw_model.specs.Kinds.ArrayOp.{array_create}
-use Rattle.hw_model.specs.Kinds.StructOp.{struct_create}
-use Rattle.hw_model.specs.Kinds.RegisterOp.{compreg}
-use Rattle.hw_model.specs.Kinds.Kind.{variadic, division, shift, on_array, on_struct, output, register}
-use Rattle.hw_model.specs.Opcodes.{opcode_of}
 use Rattle.hw_model.specs.Design.{Ref, Port, Op, Module, Design}
 use Rattle.hw_model.specs.Design.Ref.{port, result, undefined}
 use Rattle.ir_store.specs.OperationViews.{OpParts}
@@ -110,21 +104,16 @@ result_fits ns (x ∷ os) (suc i) k o suits at fit lt =
 
 -- ---- operations
 
+stands_unless : (o : Listed) → (o ≡ listed.HwModule → ⊥) → StandsInBody o
+stands_unless listed.HwModule h = absurd (h refl)
+stands_unless _ h = tt
+
+-- an operation is no module
+not_module : (k : Kind) → opcode_of k ≡ listed.HwModule → ⊥
+not_module k e = grind arith
+
 stands_in_body : (k : Kind) → StandsInBody (opcode_of k)
-stands_in_body output = tt
-stands_in_body (variadic add) = tt
-stands_in_body (variadic _) = tt
-stands_in_body (division divu) = tt
-stands_in_body (division _) = tt
-stands_in_body (shift shl) = tt
-stands_in_body (shift _) = tt
-stands_in_body (on_array array_create) = tt
-stands_in_body (on_array _) = tt
-stands_in_body (on_struct struct_create) = tt
-stands_in_body (on_struct _) = tt
-stands_in_body (register compreg r) = tt
-stands_in_body (register _ r) = tt
-stands_in_body _ = tt
+stands_in_body k = stands_unless (opcode_of k) (not_module k)
 
 operands_fit : (means : Ref → ValueText) (Defined : Ref → Type 0) (rs : List Ref) → ((r : Ref) → Defined r → IsOperand (means r)) → Each Defined rs
     → Each IsOperand (map means rs)

@@ -6,18 +6,15 @@ use Rattle.std.proofs.lemmas.Bool.{and_parts}
 use Rattle.std.specs.Prelude.{ℤ, pos, negsuc}
 use Rattle.hw_model.specs.Types.{Name, HwType}
 use Rattle.hw_model.specs.Types.HwType.{int, clock, array, struct}
-use Rattle.hw_model.specs.Kinds.{Kind, Predicate, Literal, Literals, Instance}
+use Rattle.hw_model.specs.Kinds.{Kind, Variadic, Division, Shift, Predicate, Literal, Literals, Instance}
 use Rattle.hw_model.specs.Kinds.Reset.{no_reset, sync_reset}
 use Rattle.hw_model.specs.Kinds.Literal.{leaf, parts}
 use Rattle.hw_model.specs.Kinds.Literals.{no_literals, literal}
-use Rattle.hw_model.specs.Kinds.Variadic.{add, mul, and, or, xor}
-use Rattle.hw_model.specs.Kinds.Division.{divu, modu, divs, mods}
-use Rattle.hw_model.specs.Kinds.Shift.{shl, shru, shrs}
 use Rattle.hw_model.specs.Kinds.ArrayOp.{array_create, array_concat, array_get, array_slice, array_inject}
 use Rattle.hw_model.specs.Kinds.StructOp.{struct_create, struct_extract, struct_inject, struct_explode}
 use Rattle.hw_model.specs.Kinds.RegisterOp.{compreg, compreg_ce, firreg}
 use Rattle.hw_model.specs.Kinds.Kind.{variadic, sub, division, shift, icmp, parity, extract, concat, replicate, mux, constant, aggregate_constant, on_array, on_struct, bitcast, wire, instance, output, register}
-use Rattle.hw_model.specs.Opcodes.{opcode_of}
+use Rattle.hw_model.specs.Opcodes.{opcode_of, variadic_opcode, division_opcode, shift_opcode}
 use Rattle.mlir_syntax.specs.Numerals.{count_limit}
 use Rattle.mlir_syntax.specs.PieceText.{Extra}
 use Rattle.mlir_syntax.specs.PieceText.Extra.{nothing, with_reset, predicate, position, number, literals, field_name, child}
@@ -25,7 +22,7 @@ use Rattle.assembly_format.specs.Shapes.{shape_of}
 use Rattle.assembly_format.specs.declared.pieces.Shape.{Shape}
 use Rattle.assembly_format.specs.declared.pieces.Shape.TheVariants as shape
 use Rattle.mlir_printer.specs.Numbers.{is_negative, shown_number, shown_integer, shown_by_first, shown_literal, shown_literals, is_truth, is_one_bit, is_shown_as_truth}
-use Rattle.mlir_printer.specs.Pieces.{ValueText}
+use Rattle.mlir_printer.specs.Pieces.{ValueText, Pending}
 use Rattle.mlir_printer.specs.Operations.{shape_shown, output_shape, is_truth_said}
 use Rattle.mlir_printer.specs.Texts.{extra_shown}
 use Rattle.mlir_printer.specs.Spellable.{Each, AreBytes, IsInteger, IsAnyType, IsLiteral, AreLiterals, IsOperand, IsSaidAs}
@@ -276,25 +273,30 @@ output_fits (o ∷ os) ts lt = joined (o ∷ os) ts (omega arith) lt
 some_there : (n : ℕ) → n ≡ max 1 n → 1 ≤ n
 some_there n e = omega (arith, e)
 
+-- the forms of families
+variadic_shape : (v : Variadic) (g : Pending) → shape_shown (variadic_opcode v) g ≡ shape.Variadic
+unfolding shape_shown shape_of
+variadic_shape v g = grind arith
+
+division_shape : (d : Division) (g : Pending) → shape_shown (division_opcode d) g ≡ shape.Binary
+unfolding shape_shown shape_of
+division_shape d g = grind arith
+
+shift_shape : (s : Shift) (g : Pending) → shape_shown (shift_opcode s) g ≡ shape.Binary
+unfolding shape_shown shape_of
+shift_shape s g = grind arith
+
 -- the form of an operation takes its operands and types
 pub form_fits : (k : Kind) (os : List ValueText) (ts : List HwType) → length os ≡ operands_written k (length os)
     → length ts ≡ types_written k (length os)
     → IsWritten k → Each IsOperand os → Each IsAnyType ts
     → IsSaidAs (shape_shown (opcode_of k) (pending os ts (extra_shown k ts))) (pending os ts (extra_shown k ts))
 unfolding shape_shown shape_of extra_shown operands_written types_written
-form_fits (variadic add) os ts lo lt w = variadic_form os ts (some_there (length os) lo) lt
-form_fits (variadic mul) os ts lo lt w = variadic_form os ts (some_there (length os) lo) lt
-form_fits (variadic and) os ts lo lt w = variadic_form os ts (some_there (length os) lo) lt
-form_fits (variadic or) os ts lo lt w = variadic_form os ts (some_there (length os) lo) lt
-form_fits (variadic xor) os ts lo lt w = variadic_form os ts (some_there (length os) lo) lt
+form_fits (variadic v) os ts lo lt w =
+    subst (λ s. Fit s nothing os ts) (sym (variadic_shape v (pending os ts nothing))) (variadic_form os ts (some_there (length os) lo) lt)
 form_fits sub os ts lo lt w = binary os ts lo lt
-form_fits (division divu) os ts lo lt w = binary os ts lo lt
-form_fits (division modu) os ts lo lt w = binary os ts lo lt
-form_fits (division divs) os ts lo lt w = binary os ts lo lt
-form_fits (division mods) os ts lo lt w = binary os ts lo lt
-form_fits (shift shl) os ts lo lt w = binary os ts lo lt
-form_fits (shift shru) os ts lo lt w = binary os ts lo lt
-form_fits (shift shrs) os ts lo lt w = binary os ts lo lt
+form_fits (division d) os ts lo lt w = subst (λ s. Fit s nothing os ts) (sym (division_shape d (pending os ts nothing))) (binary os ts lo lt)
+form_fits (shift s) os ts lo lt w = subst (λ x. Fit x nothing os ts) (sym (shift_shape s (pending os ts nothing))) (binary os ts lo lt)
 form_fits (icmp p) os ts lo lt w = comparison p os ts lo lt
 form_fits parity os ts lo lt w = unary os ts lo lt
 form_fits (extract low) os ts lo lt w = extraction low os ts w lo lt

@@ -1,23 +1,21 @@
 -- An operation's kind is told by its name and by what is said of it.
 use Rattle.std.proofs.Common.{◌≡◌, ℕ, suc, ◌-◌, ◌*◌, ◌^◌, ◌<◌, ◌≤◌, Bool, true, false, cond, ◌&&◌, List, [], ◌∷◌, refl, ap, ◌∙◌, arith}
-use Rattle.std.specs.Prelude.{ℤ, pos, negsuc, nat_lt, nat_le}
+use Rattle.std.specs.Prelude.{ℤ, pos, negsuc, nat_lt, nat_le, Option, Some}
 use Rattle.std.proofs.Math.Nat.{pow-succ'}
 use Rattle.std.proofs.lemmas.Bool.{and_parts, and_from, ltb-true, leb-true, lt-ltb}
 use Rattle.hw_model.specs.Types.{HwType}
 use Rattle.hw_model.specs.Types.HwType.{int, clock, array, struct}
-use Rattle.hw_model.specs.Kinds.{Kind, Literal, Literals}
+use Rattle.hw_model.specs.Kinds.{Kind, Literal, Literals, Variadic, Division, Shift, ArrayOp}
 use Rattle.hw_model.specs.Kinds.Reset.{no_reset, sync_reset}
 use Rattle.hw_model.specs.Kinds.Literal.{leaf, parts}
 use Rattle.hw_model.specs.Kinds.Literals.{no_literals, literal}
-use Rattle.hw_model.specs.Kinds.Variadic.{add}
-use Rattle.hw_model.specs.Kinds.Division.{divu}
-use Rattle.hw_model.specs.Kinds.Shift.{shl}
-use Rattle.hw_model.specs.Kinds.ArrayOp.{array_create}
 use Rattle.hw_model.specs.Kinds.StructOp.{struct_create}
 use Rattle.hw_model.specs.Kinds.RegisterOp.{compreg, compreg_ce, firreg}
 use Rattle.hw_model.specs.Kinds.Kind.{variadic, division, shift, constant, aggregate_constant, on_array, on_struct, register}
-use Rattle.hw_model.specs.Opcodes.{opcode_of}
-use Rattle.mlir_reader.specs.Resolving.{has_negative, kept_number, kept_integer, kept_by_first, kept_literal, kept_literals, said_kind, kind_named}
+use Rattle.hw_model.specs.Opcodes.{opcode_of, variadic_opcode, division_opcode, shift_opcode, array_opcode, kind_named_by}
+use Rattle.mlir_syntax.specs.PieceText.{Extra}
+use Rattle.mlir_syntax.specs.PieceText.Extra.{nothing}
+use Rattle.mlir_reader.specs.Resolving.{has_negative, kept_number, kept_integer, kept_by_first, kept_literal, kept_literals, said_kind, kind_or, kind_named}
 use Rattle.mlir_printer.specs.Numbers.{is_negative, shown_number, shown_integer, shown_by_first, shown_literal, shown_literals}
 use Rattle.mlir_printer.specs.Texts.{extra_shown}
 use Rattle.mlir_printer.specs.Printable.{KeepsConstants}
@@ -77,24 +75,36 @@ mutual
 
 -- ---- kinds
 
+-- a kind that its opcode alone tells
+told : (k : Kind) (e : Extra) (ts : List HwType) → kind_named_by (opcode_of k) ≡ Some k → kind_named (opcode_of k) e ts ≡ k
+told k e ts found = ap (λ o. kind_or o (said_kind (opcode_of k) e ts)) found
+
+variadic_told : (v : Variadic) → kind_named_by (variadic_opcode v) ≡ Some (variadic v)
+variadic_told v = grind arith
+
+division_told : (d : Division) → kind_named_by (division_opcode d) ≡ Some (division d)
+division_told d = grind arith
+
+shift_told : (s : Shift) → kind_named_by (shift_opcode s) ≡ Some (shift s)
+shift_told s = grind arith
+
+array_told : (a : ArrayOp) → kind_named_by (array_opcode a) ≡ Some (on_array a)
+array_told a = grind arith
+
 pub kind_again : (k : Kind) (ts : List HwType) → KeepsConstants k ts → kind_named (opcode_of k) (extra_shown k ts) ts ≡ k
 unfolding extra_shown said_kind
+kind_again (variadic v) ts h = told (variadic v) nothing ts (variadic_told v)
+kind_again (division d) ts h = told (division d) nothing ts (division_told d)
+kind_again (shift s) ts h = told (shift s) nothing ts (shift_told s)
+kind_again (on_array a) ts h = told (on_array a) nothing ts (array_told a)
 kind_again (constant z) ts h = ap (λ y. constant y) (by_first_again ts z h)
 kind_again (aggregate_constant ls) ts h = ap (λ y. aggregate_constant y) (literals_again ls h)
+kind_again (on_struct struct_create) ts h = refl
+kind_again (on_struct _) ts h = refl
 kind_again (register compreg no_reset) ts h = refl
 kind_again (register compreg sync_reset) ts h = refl
 kind_again (register compreg_ce no_reset) ts h = refl
 kind_again (register compreg_ce sync_reset) ts h = refl
 kind_again (register firreg no_reset) ts h = refl
 kind_again (register firreg sync_reset) ts h = refl
-kind_again (variadic add) ts h = refl
-kind_again (variadic _) ts h = refl
-kind_again (division divu) ts h = refl
-kind_again (division _) ts h = refl
-kind_again (shift shl) ts h = refl
-kind_again (shift _) ts h = refl
-kind_again (on_array array_create) ts h = refl
-kind_again (on_array _) ts h = refl
-kind_again (on_struct struct_create) ts h = refl
-kind_again (on_struct _) ts h = refl
 kind_again _ ts h = refl

@@ -3,17 +3,12 @@ use Rattle.std.proofs.Common.{◌≡◌, ℕ, zero, suc, ◌+◌, ◌≤◌, min
 use Rattle.std.proofs.lemmas.List.{length-map}
 use Rattle.std.specs.Prelude.{◌==◌, Option, Some, None}
 use Rattle.std.proofs.lemmas.Bool.{cond-true, cond-false, ltb-false}
+use Rattle.hw_model.specs.Opcodes.{opcode_of}
 use Rattle.hw_model.specs.Types.{Name, HwType}
 use Rattle.hw_model.specs.Types.HwType.{int, clock, array, struct}
 use Rattle.hw_model.specs.Kinds.{Kind}
-use Rattle.hw_model.specs.Kinds.Variadic.{add}
-use Rattle.hw_model.specs.Kinds.Division.{divu}
-use Rattle.hw_model.specs.Kinds.Shift.{shl}
-use Rattle.hw_model.specs.Kinds.ArrayOp.{array_create}
-use Rattle.hw_model.specs.Kinds.StructOp.{struct_explode, struct_create}
-use Rattle.hw_model.specs.Kinds.RegisterOp.{compreg, compreg_ce, firreg}
-use Rattle.hw_model.specs.Kinds.Kind.{variadic, division, shift, on_array, on_struct, wire, instance, output, register}
-use Rattle.hw_model.specs.Opcodes.{opcode_of}
+use Rattle.hw_model.specs.Kinds.StructOp.{struct_explode}
+use Rattle.hw_model.specs.Kinds.Kind.{on_struct, wire, instance, output, register}
 use Rattle.hw_model.specs.Sound.{field_list}
 use Rattle.hw_model.specs.Design.{Ref, Port, Op, is_output_kind, op_without_place}
 use Rattle.ir_store.specs.ResultTypes.{first_type, fields_of, field_count, result_types, result_count}
@@ -101,24 +96,25 @@ marks_few i own (pack n k) = go (k == 0)
 
 -- ---- own names
 
-named_kind : (k : Kind) (ts : List HwType) (own : Name) (n : ℕ) → has_name (opcode_of k) ≡ true
+-- the kinds of operations that have a name of their own
+abbrev is_named : Kind → Bool
+is_named wire = true
+is_named (register f r) = true
+is_named _ = false
+
+named_listed : (k : Kind) → has_name (opcode_of k) ≡ is_named k
+named_listed k = grind arith
+
+named_wishes : (k : Kind) (ts : List HwType) (own : Name) (n : ℕ) → is_named k ≡ true
     → (wishes_of k ts own n ≡ own_wish own ∷ []) × (is_pack k n ≡ false)
 unfolding wishes_of
-named_kind wire ts own n h = (refl, refl)
-named_kind (register compreg r) ts own n h = (refl, refl)
-named_kind (register compreg_ce r) ts own n h = (refl, refl)
-named_kind (register firreg r) ts own n h = (refl, refl)
-named_kind (variadic add) ts own n h = cc
-named_kind (variadic _) ts own n h = cc
-named_kind (division divu) ts own n h = cc
-named_kind (division _) ts own n h = cc
-named_kind (shift shl) ts own n h = cc
-named_kind (shift _) ts own n h = cc
-named_kind (on_array array_create) ts own n h = cc
-named_kind (on_array _) ts own n h = cc
-named_kind (on_struct struct_create) ts own n h = cc
-named_kind (on_struct _) ts own n h = cc
-named_kind _ ts own n h = cc
+named_wishes wire ts own n h = (refl, refl)
+named_wishes (register f r) ts own n h = (refl, refl)
+named_wishes _ ts own n h = cc
+
+named_kind : (k : Kind) (ts : List HwType) (own : Name) (n : ℕ) → has_name (opcode_of k) ≡ true
+    → (wishes_of k ts own n ≡ own_wish own ∷ []) × (is_pack k n ≡ false)
+named_kind k ts own n h = named_wishes k ts own n (sym (named_listed k) ∙ h)
 
 suits_own : (own : Name) (ns : List Name) → Suits (own_wish own ∷ []) ns → SuitsOwn own (first_name ns)
 suits_own [] [] h = absurd h
@@ -243,17 +239,4 @@ module _ (ports : List Port) (body : List Op) (o : Op) (p : IsPrintableOp ports 
 
 -- an operation is the last of its text where it is an output
 pub last_output : (k : Kind) → is_last (opcode_of k) ≡ is_output_kind k
-last_output output = refl
-last_output (variadic add) = refl
-last_output (variadic _) = refl
-last_output (division divu) = refl
-last_output (division _) = refl
-last_output (shift shl) = refl
-last_output (shift _) = refl
-last_output (on_array array_create) = refl
-last_output (on_array _) = refl
-last_output (on_struct struct_create) = refl
-last_output (on_struct _) = refl
-last_output (register compreg r) = refl
-last_output (register _ r) = refl
-last_output _ = refl
+last_output k = grind arith

@@ -52,43 +52,7 @@ results_whole (pack n k) h =
 name_bare : (o : Listed) → is_bare (name_of_listed o) ≡ true
 unfolding name_of_listed
 name_bare listed.HwModule = refl
-name_bare listed.CombAdd = refl
-name_bare listed.CombMul = refl
-name_bare listed.CombAnd = refl
-name_bare listed.CombOr = refl
-name_bare listed.CombXor = refl
-name_bare listed.CombSub = refl
-name_bare listed.CombDivu = refl
-name_bare listed.CombModu = refl
-name_bare listed.CombDivs = refl
-name_bare listed.CombMods = refl
-name_bare listed.CombShl = refl
-name_bare listed.CombShru = refl
-name_bare listed.CombShrs = refl
-name_bare listed.CombIcmp = refl
-name_bare listed.CombParity = refl
-name_bare listed.CombExtract = refl
-name_bare listed.CombConcat = refl
-name_bare listed.CombReplicate = refl
-name_bare listed.CombMux = refl
-name_bare listed.HwConstant = refl
-name_bare listed.HwAggregateConstant = refl
-name_bare listed.HwArrayCreate = refl
-name_bare listed.HwArrayConcat = refl
-name_bare listed.HwArrayGet = refl
-name_bare listed.HwArraySlice = refl
-name_bare listed.HwArrayInject = refl
-name_bare listed.HwStructCreate = refl
-name_bare listed.HwStructExtract = refl
-name_bare listed.HwStructInject = refl
-name_bare listed.HwStructExplode = refl
-name_bare listed.HwBitcast = refl
-name_bare listed.HwWire = refl
-name_bare listed.HwInstance = refl
-name_bare listed.HwOutput = refl
-name_bare listed.SeqCompreg = refl
-name_bare listed.SeqCompregCe = refl
-name_bare listed.SeqFirreg = refl
+name_bare _ = refl
 
 pub operation_name : (o : Listed) (place : Place)
     → Lexed (One (λ (t : Lexeme). (t.kind ≡ kind.BareName) × (t.text ≡ name_of_listed o) × Anywhere t place)) (name_of_listed o)
@@ -188,44 +152,9 @@ output_may (o ∷ os) = (Some (sample kind.ValueName), refl)
 -- the form of an operation is one that it has before some token
 may_have : (o : Listed) (p : Pending) → MayHaveShape o (shape_shown o p)
 unfolding shape_shown
-may_have listed.HwModule p = (None, refl)
-may_have listed.CombAdd p = (None, refl)
-may_have listed.CombMul p = (None, refl)
-may_have listed.CombAnd p = (None, refl)
-may_have listed.CombOr p = (None, refl)
-may_have listed.CombXor p = (None, refl)
-may_have listed.CombSub p = (None, refl)
-may_have listed.CombDivu p = (None, refl)
-may_have listed.CombModu p = (None, refl)
-may_have listed.CombDivs p = (None, refl)
-may_have listed.CombMods p = (None, refl)
-may_have listed.CombShl p = (None, refl)
-may_have listed.CombShru p = (None, refl)
-may_have listed.CombShrs p = (None, refl)
-may_have listed.CombIcmp p = (None, refl)
-may_have listed.CombParity p = (None, refl)
-may_have listed.CombExtract p = (None, refl)
-may_have listed.CombConcat p = (None, refl)
-may_have listed.CombReplicate p = (None, refl)
-may_have listed.CombMux p = (None, refl)
 may_have listed.HwConstant p = constant_shape (is_truth_said p.types p.extra)
-may_have listed.HwAggregateConstant p = (None, refl)
-may_have listed.HwArrayCreate p = (None, refl)
-may_have listed.HwArrayConcat p = (None, refl)
-may_have listed.HwArrayGet p = (None, refl)
-may_have listed.HwArraySlice p = (None, refl)
-may_have listed.HwArrayInject p = (None, refl)
-may_have listed.HwStructCreate p = (None, refl)
-may_have listed.HwStructExtract p = (None, refl)
-may_have listed.HwStructInject p = (None, refl)
-may_have listed.HwStructExplode p = (None, refl)
-may_have listed.HwBitcast p = (None, refl)
-may_have listed.HwWire p = (None, refl)
-may_have listed.HwInstance p = (None, refl)
 may_have listed.HwOutput p = output_may p.operands
-may_have listed.SeqCompreg p = (None, refl)
-may_have listed.SeqCompregCe p = (None, refl)
-may_have listed.SeqFirreg p = (None, refl)
+may_have _ p = (None, refl)
 
 front_lexed : (xs : List Piece) (p : Pending) (g h : Gathered) → Lexed (PiecesPhrase xs g h) (pieces_bytes xs p)
     → Lexed (PiecesPhrase xs g h) (after_blank xs (pieces_bytes xs p))
