@@ -65,6 +65,11 @@ abbrev pub IsOnly : Row → List Value → Option Value → Type 0
 IsOnly row xs (Some x) = (row ≡ Operands Same) × (slice_get xs 0 ≡ Some x)
 IsOnly row xs None = (es : List Expr) → length es ≡ length xs → (row_signed row es ≡ row_signed row []) × (row_level row es ≡ row_level row []) × (row_name row es ≡ None)
 
+-- an operation is one of the body
+pub record IsOpOf (s : Scope) (o : Op) : Type 0 where
+  pub place : ℕ
+  pub there : slice_get (scope_ops s) place ≡ Some o
+
 -- a value is a result of an operation of the body
 pub record IsResultOf (s : Scope) (o : Op) (k : ℕ) (r : Ref) : Type 0 where
   pub place : ℕ

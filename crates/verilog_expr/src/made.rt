@@ -1,11 +1,11 @@
 //! The row of a value's own operation, and the operands that it is over.
 ghost use Rattle.std.specs.Prelude.{◌≡◌, ◌<◌, [], map, is_some};
-ghost use Rattle.hw_model.specs.Design.{result_type};
+ghost use Rattle.hw_model.specs.Design.{Ref, result_type};
 ghost use Rattle.ir_store.specs.Bodies.{op_id, read_op};
 ghost use Rattle.ir_store.specs.Numbered.{op_by};
 ghost use Rattle.verilog_expr.specs.Expressions.{constant_of, divisor_in, op_at};
 ghost use Rattle.verilog_expr.specs.Scopes.{scope_ports, scope_ops, scope_ref, op_read};
-ghost use Rattle.verilog_expr.specs.Made.{IsMade, IsResultOf, head_width};
+ghost use Rattle.verilog_expr.specs.Made.{IsMade, IsOpOf, IsResultOf, head_width};
 ghost use Rattle.verilog_expr.specs.declared.row.Row.TheVariants.{Missing};
 
 use crate::row::{Row, constant_number, row_for};
@@ -66,7 +66,7 @@ pub(crate) fn made_at<'m>(scope: &Scope<'m>, value: Value) -> Made<'m>
         return nothing_made();
     };
     match scope.op(id) {
-        Some(op) => made_of(scope, &op, number, value),
+        Some(op) => made_of(scope, &op, number),
         None => nothing_made(),
     }
 }
@@ -90,11 +90,10 @@ fn has_result(op: &Op<'_>, number: u32) -> bool
 }
 
 // The row of a result of an operation, and the operands.
-fn made_of<'m>(scope: &Scope<'m>, op: &Op<'m>, number: u32, value: Value) -> Made<'m>
-    requires { IsResultOf scope.now (op_read scope.now op.now) number (scope_ref scope.now value) }
-    ensures { IsMade scope.now (scope_ref scope.now value) result.row result.operands.now }
+fn made_of<'m>(scope: &Scope<'m>, op: &Op<'m>, number: u32) -> Made<'m>
+    requires { IsOpOf scope.now (op_read scope.now op.now) }
+    ensures { (r : Ref) → IsResultOf scope.now (op_read scope.now op.now) number r → IsMade scope.now r result.row result.operands.now }
 {
-    let _ = value;
     if !has_result(op, number) {
         return nothing_made();
     }

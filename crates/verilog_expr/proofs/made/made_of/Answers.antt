@@ -1,7 +1,7 @@
 use Rattle.std.proofs.Common.{◌≡◌, length, refl, sym, ◌∙◌, arith}
 use Rattle.hw_model.specs.Design.{result_type}
 use Rattle.hw_model.specs.Flat.{width_of}
-use Rattle.verilog_expr.specs.Scopes.{scope_ports, scope_ops, scope_ref, op_read}
+use Rattle.verilog_expr.specs.Scopes.{scope_ports, scope_ops, op_read}
 use Rattle.verilog_expr.proofs.Writing.{width_result, made_is}
 use Rattle.verilog_expr.proofs.made.made_of.Goals as goal
 
@@ -26,6 +26,6 @@ returns c =
     let o = op_read c.args.scope.now c.args.op.now in
     let small = width_result (scope_ports c.args.scope.now) (scope_ops c.args.scope.now) c.requires.place c.args.number o c.requires.there c.args.scope.now.small in
     let wide : c.result_width-width.result ≡ width_of (result_type o c.args.number) = omega (arith, c.result_width-width.ensures, small) in
-    made_is c.args.scope.now o c.args.number (scope_ref c.args.scope.now c.args.value) c.requires c.row_for.result c.args.op.now.operands.now
+    λ r found. made_is c.args.scope.now o c.args.number r found c.row_for.result c.args.op.now.operands.now
     c.result_width-width.result c.divisor_in-divisor.result c.head_width-head.result (length c.args.op.now.operands.now)
     (sym c.has_result.ensures ∙ c.if-not-has_result.false) refl wide c.head_width-head.ensures c.divisor_in-divisor.ensures refl c.row_for.ensures
