@@ -3,7 +3,7 @@ use Rattle.std.proofs.Common.{◌≡◌, ℕ, suc, ◌/◌, ◌<◌, ◌≤◌, 
 use Rattle.std.proofs.lemmas.Bool.{true≢false}
 use Rattle.wiring.specs.Lists.{total}
 use Rattle.wiring.specs.Wiring.{In}
-use Rattle.bits_core.specs.Word.{Word, number, bits, bits_of_ℤ, flag, extract as bits_from, copies, sub as difference, quotient, rest, signed_quotient, signed_rest, parity as parity_of, shift_left, shift_right, shift_right_signed, bitwise, ones, zeros, and_words, or_words, xor_words}
+use Rattle.bits_core.specs.Word.{Word, number, bits, bits_of_ℤ, flag, extract as bits_from, copies, sub as difference, parity as parity_of, bitwise, ones, zeros, and_words, or_words, xor_words}
 use Rattle.bits_core.proofs.Numbers.{bits-number}
 use Rattle.bits_core.proofs.Arithmetic.{length-add, length-mul, length-sub}
 use Rattle.bits_core.proofs.Bitwise.{length-bitwise, and_words_assoc, or_words_assoc, xor_words_assoc, and_words-ones, or_words-zeros, xor_words-zeros}

@@ -1,6 +1,6 @@
 -- An operation's kind is told by its name and by what is said of it.
 use Rattle.std.proofs.Common.{◌≡◌, ℕ, suc, ◌-◌, ◌*◌, ◌^◌, ◌<◌, ◌≤◌, Bool, true, false, cond, ◌&&◌, List, [], ◌∷◌, refl, ap, ◌∙◌, arith}
-use Rattle.std.specs.Prelude.{ℤ, pos, negsuc, nat_lt, nat_le, Option, Some}
+use Rattle.std.specs.Prelude.{ℤ, pos, negsuc, nat_lt, nat_le, Some}
 use Rattle.std.proofs.Math.Nat.{pow-succ'}
 use Rattle.std.proofs.lemmas.Bool.{and_parts, and_from, ltb-true, leb-true, lt-ltb}
 use Rattle.hw_model.specs.Types.{HwType}
