@@ -30,7 +30,7 @@ fn put_with_fault(
     let text = vec![in alloc; 7u8; length]?;
     let mut sink = MemorySink::new(alloc, 20_000)?.failing_at(vec![in alloc; failing]?);
     let is_ok = put_all(&mut sink, text.as_slice()).is_ok();
-    Ok((sink.held().len(), is_ok, sink.faults()))
+    Ok((sink.contents().len(), is_ok, sink.faults()))
 }
 
 #[test]
@@ -57,7 +57,7 @@ fn a_full_sink_keeps_what_fits(rt: HostRuntime) -> Result<(), Fail> {
     let mut sink = MemorySink::new(rt.alloc(), 5)?;
     assert!(rt; sink.put(b"abc").is_ok());
     assert!(rt; sink.put(b"def").is_err());
-    assert_eq!(rt; sink.held(), b"abcde".as_slice());
+    assert_eq!(rt; sink.contents(), b"abcde".as_slice());
     assert_eq!(rt; sink.faults(), 1);
     Ok(())
 }
@@ -105,7 +105,7 @@ fn files_in_memory_are_read_by_name(rt: HostRuntime) -> Result<(), Fail> {
 
 // Whether these bytes are written to a file.
 fn is_written(files: &mut MemoryFiles, alloc: Global, name: &str, bytes: &[u8]) -> bool {
-    files.write(alloc, name, bytes).is_ok() && files.held(name) == Some(bytes)
+    files.write(alloc, name, bytes).is_ok() && files.contents(name) == Some(bytes)
 }
 
 #[test]
@@ -121,8 +121,8 @@ fn files_in_memory_are_written_by_name(rt: HostRuntime) -> Result<(), Fail> {
     ] {
         assert_eq!(rt; is_written(&mut files, alloc, name, bytes), wanted);
     }
-    assert_eq!(rt; files.held("b.v"), Some(b"".as_slice()));
-    assert_eq!(rt; files.held("c.v"), None);
+    assert_eq!(rt; files.contents("b.v"), Some(b"".as_slice()));
+    assert_eq!(rt; files.contents("c.v"), None);
     assert_eq!(rt; (files.write_faults(), files.read_faults()), (1, 0));
     Ok(())
 }

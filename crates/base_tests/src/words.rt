@@ -10,7 +10,7 @@ use std::test::Fail;
 fn byte(value: u128) -> Bits
     ensures { length result ≡ 8 }
 {
-    Bits::truncated(8, value)
+    Bits::truncate(8, value)
 }
 
 #[test]
@@ -233,7 +233,7 @@ fn orders(rt: HostRuntime) {
 #[test]
 fn words_are_equal_or_not(rt: HostRuntime) {
     assert_eq!(rt; byte(0x5a), byte(0x5a));
-    assert_ne!(rt; byte(0x01), Bits::truncated(9, 0x01));
+    assert_ne!(rt; byte(0x01), Bits::truncate(9, 0x01));
     let least = byte(0x80);
     assert_eq!(rt; (least.magnitude(), least.is_negative()), (0x80, true));
 }
@@ -246,8 +246,8 @@ fn parts(rt: HostRuntime) {
         (byte(0xff).parity(), 1, 0),
         (word.extract(2, 4), 4, 0xd),
         (word.extract(0, 8), 8, 0xb6),
-        (word.concat(&Bits::truncated(4, 0x3)), 12, 0xb63),
-        (Bits::truncated(2, 1).replicate(3), 6, 0x15),
+        (word.concat(&Bits::truncate(4, 0x3)), 12, 0xb63),
+        (Bits::truncate(2, 1).replicate(3), 6, 0x15),
         (byte(0xa5).replicate(16), 128, u128::MAX / 255 * 0xa5),
     ] {
         assert_eq!(rt; Some(part), Bits::new(width, value));
@@ -258,7 +258,7 @@ fn parts(rt: HostRuntime) {
 fn keys_of_a_map(rt: HostRuntime) -> Result<(), Fail> {
     let mut names = HashMap::new(rt.alloc());
     names.insert(byte(0x05), 'a')?;
-    names.insert(Bits::truncated(9, 0x05), 'b')?;
+    names.insert(Bits::truncate(9, 0x05), 'b')?;
     assert_eq!(rt; names.get(&byte(0x05)).copied(), Some('a'));
     assert_eq!(rt; names.get(&byte(0x06)).copied(), None);
     Ok(())

@@ -77,7 +77,7 @@ impl From<bool> for Bits {
 
     /// One bit.
     fn from(bit: bool) -> Bits {
-        Bits::truncated(1, u128::from(bit))
+        Bits::truncate(1, u128::from(bit))
     }
 }
 
@@ -94,7 +94,7 @@ impl Bits {
     }
 
     /// The low `width` bits of `value`.
-    pub fn truncated(width: u32, value: u128) -> Bits
+    pub fn truncate(width: u32, value: u128) -> Bits
         requires least { 1 ≤ width }
         requires most { width ≤ 128 }
         ensures { result ≡ bits width value }
@@ -145,7 +145,7 @@ impl Bits {
         requires { length self.now ≡ length b.now }
         ensures { result ≡ add self.now b.now }
     {
-        Bits::truncated(self.width(), self.value().wrapping_add(b.value()))
+        Bits::truncate(self.width(), self.value().wrapping_add(b.value()))
     }
 
     /// The difference, modulo 2 to the power of the width.
@@ -153,7 +153,7 @@ impl Bits {
         requires { length self.now ≡ length b.now }
         ensures { result ≡ sub self.now b.now }
     {
-        Bits::truncated(self.width(), self.value().wrapping_sub(b.value()))
+        Bits::truncate(self.width(), self.value().wrapping_sub(b.value()))
     }
 
     /// The product, modulo 2 to the power of the width.
@@ -161,7 +161,7 @@ impl Bits {
         requires { length self.now ≡ length b.now }
         ensures { result ≡ mul self.now b.now }
     {
-        Bits::truncated(self.width(), self.value().wrapping_mul(b.value()))
+        Bits::truncate(self.width(), self.value().wrapping_mul(b.value()))
     }
 
     /// And, bit by bit.
@@ -169,7 +169,7 @@ impl Bits {
         requires { length self.now ≡ length b.now }
         ensures { result ≡ and_words self.now b.now }
     {
-        Bits::truncated(self.width(), self.value() & b.value())
+        Bits::truncate(self.width(), self.value() & b.value())
     }
 
     /// Or, bit by bit.
@@ -177,7 +177,7 @@ impl Bits {
         requires { length self.now ≡ length b.now }
         ensures { result ≡ or_words self.now b.now }
     {
-        Bits::truncated(self.width(), self.value() | b.value())
+        Bits::truncate(self.width(), self.value() | b.value())
     }
 
     /// Exclusive or, bit by bit.
@@ -185,7 +185,7 @@ impl Bits {
         requires { length self.now ≡ length b.now }
         ensures { result ≡ xor_words self.now b.now }
     {
-        Bits::truncated(self.width(), self.value() ^ b.value())
+        Bits::truncate(self.width(), self.value() ^ b.value())
     }
 
     /// The quotient of the numbers, and 0 where the divisor is 0.
@@ -193,7 +193,7 @@ impl Bits {
         requires { length self.now ≡ length b.now }
         ensures { result ≡ quotient self.now b.now }
     {
-        Bits::truncated(self.width(), quotient_of(self.value(), b.value()))
+        Bits::truncate(self.width(), quotient_of(self.value(), b.value()))
     }
 
     /// The rest of the quotient of the numbers, and `self` where the divisor is 0.
@@ -201,7 +201,7 @@ impl Bits {
         requires { length self.now ≡ length b.now }
         ensures { result ≡ rest self.now b.now }
     {
-        Bits::truncated(self.width(), rest_of(self.value(), b.value()))
+        Bits::truncate(self.width(), rest_of(self.value(), b.value()))
     }
 
     /// The quotient of the signed readings, rounded to 0, and 0 where the divisor is 0. The least
@@ -238,7 +238,7 @@ impl Bits {
         } else {
             0
         };
-        Bits::truncated(self.width(), moved)
+        Bits::truncate(self.width(), moved)
     }
 
     /// `self` moved down by the number of `b`, with bits of 0 from above.
@@ -251,7 +251,7 @@ impl Bits {
         } else {
             0
         };
-        Bits::truncated(self.width(), moved)
+        Bits::truncate(self.width(), moved)
     }
 
     /// `self` moved down by the number of `b`, with copies of its top bit from above.
@@ -259,7 +259,7 @@ impl Bits {
         ensures { result ≡ shift_right_signed self.now (number b.now) }
     {
         if self.is_negative() {
-            self.inverted().shru(b).inverted()
+            self.complement().shru(b).complement()
         } else {
             self.shru(b)
         }
@@ -290,7 +290,7 @@ impl Bits {
         requires within { low + width ≤ length self.now }
         ensures { result ≡ extract low width self.now }
     {
-        Bits::truncated(width, self.value >> low)
+        Bits::truncate(width, self.value >> low)
     }
 
     /// The bits of `self` and then those of `low`.
@@ -299,7 +299,7 @@ impl Bits {
         ensures { result ≡ self.now ++ low.now }
     {
         let width = self.width() + low.width();
-        Bits::truncated(width, (self.value() << low.width()) | low.value())
+        Bits::truncate(width, (self.value() << low.width()) | low.value())
     }
 
     /// The bits of `self`, `count` times one after another.
@@ -326,10 +326,10 @@ impl Bits {
         }
     }
 
-    fn inverted(&self) -> Bits
+    fn complement(&self) -> Bits
         ensures { result ≡ not_word self.now }
     {
-        Bits::truncated(self.width(), mask(self.width()) - self.value())
+        Bits::truncate(self.width(), mask(self.width()) - self.value())
     }
 }
 
@@ -360,8 +360,8 @@ fn signed_bits(width: u32, negative: bool, magnitude: u128) -> Bits
     ensures { result ≡ bits_of_ℤ width (if negative then neg_ℤ (pos magnitude) else pos magnitude) }
 {
     if negative {
-        Bits::truncated(width, 0u128.wrapping_sub(magnitude))
+        Bits::truncate(width, 0u128.wrapping_sub(magnitude))
     } else {
-        Bits::truncated(width, magnitude)
+        Bits::truncate(width, magnitude)
     }
 }

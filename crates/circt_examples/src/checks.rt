@@ -130,9 +130,9 @@ fn is_given(
 ) -> anyhow::Result<bool> {
     let ended = run(rt, alloc, expectation.words, source)?;
     let (given, other) = if expectation.is_printed {
-        (ended.out.held(), ended.err.held())
+        (ended.out.contents(), ended.err.contents())
     } else {
-        (ended.err.held(), ended.out.held())
+        (ended.err.contents(), ended.out.contents())
     };
     let code = u8::from(!expectation.is_printed);
     let is_given = given == wanted.as_bytes() && other.is_empty() && ended.code == code;

@@ -9,7 +9,7 @@ ghost use Rattle.circt_top.specs.Answer.{line_of, shown_output, OnRefused, Repor
 
 use crate::status::Status;
 use command_line::invocation::Paths;
-use diag::line::{put_three, refusal_text, shown};
+use diag::line::{put_three, refusal_text, display_name};
 use diag::refusal::{OpName, Refusal};
 use io_edge::sinks::{Failed, Sink, put_all};
 
@@ -58,7 +58,7 @@ fn put_line<E: Sink>(
         }
         Status::Usage(kind) => put_three(err, b"circt: usage: ", kind.text(), b"\n"),
         Status::ReadFault => {
-            let name = shown(paths.input.as_bytes());
+            let name = display_name(paths.input.as_bytes());
             put_three(err, b"circt: cannot read ", name, b"\n")
         }
         Status::WriteFault => {

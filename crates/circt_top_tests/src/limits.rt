@@ -105,8 +105,8 @@ fn ends_with(
     let run = run_words(rt, "opt", text, Failing::No)?;
     Ok(
         run.code == code
-            && run.err.held() == message.as_bytes()
-            && run.out.held().is_empty() == (code != 0),
+            && run.err.contents() == message.as_bytes()
+            && run.out.contents().is_empty() == (code != 0),
     )
 }
 
@@ -185,8 +185,8 @@ fn a_text_that_is_cut_is_refused(rt: HostRuntime) -> Result<(), Fail> {
         let run = run_words(&rt, "opt", text.as_str(), Failing::No)?;
         let answer = (
             run.code,
-            run.out.held().is_empty(),
-            run.err.held().is_empty(),
+            run.out.contents().is_empty(),
+            run.err.contents().is_empty(),
         );
         assert_eq!(rt; answer, (u8::from(!whole), !whole, whole), "after {end}");
     }

@@ -141,9 +141,9 @@ const RUNS: [Run; 4] = [
 
 fn bits_of(word: Word) -> Bits {
     match word {
-        Bit(value) => Bits::truncated(1, value),
-        Nibble(value) => Bits::truncated(4, value),
-        Byte(value) => Bits::truncated(8, value),
+        Bit(value) => Bits::truncate(1, value),
+        Nibble(value) => Bits::truncate(4, value),
+        Byte(value) => Bits::truncate(8, value),
     }
 }
 
@@ -203,7 +203,7 @@ fn first_other(
 ) -> Result<Option<&'static str>, AllocError> {
     for run in runs {
         let printed = run_words(rt, COMMAND, run.source, Failing::No)?;
-        if printed.code != 0 || !steps_are(rt.alloc(), printed.out.held(), run)? {
+        if printed.code != 0 || !steps_are(rt.alloc(), printed.out.contents(), run)? {
             return Ok(Some(run.source));
         }
     }

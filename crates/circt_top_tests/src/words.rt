@@ -337,12 +337,12 @@ const GROUPS: [Group; 23] = [
 
 // Whether a run ended with the answer of a group.
 fn is_answered(group: &Group, run: &Ended) -> bool {
-    let is_held = match run.files.held(group.file) {
+    let is_held = match run.files.contents(group.file) {
         Some(bytes) => bytes == group.text.as_bytes(),
         None => false,
     };
     (run.code == group.code && is_held)
-        && (run.out.held() == group.out.as_bytes() && run.err.held() == group.err.as_bytes())
+        && (run.out.contents() == group.out.as_bytes() && run.err.contents() == group.err.as_bytes())
 }
 
 // The first of the words of a group that has another answer.

@@ -46,21 +46,21 @@ command_in name rows =
     cond (bytes_eq name (codes "opt")) (Ok (opt (paths_in rows)))
     (translation (is_flagged (codes "export-verilog") rows) (paths_in rows))
 
-abbrev pub entered : Option (Text × List Row) → Result Command UsageKind
-entered None = Err Words
-entered (Some found) = command_in found.0 found.1
+abbrev pub require_subcommand : Option (Text × List Row) → Result Command UsageKind
+require_subcommand None = Err Words
+require_subcommand (Some found) = command_in found.0 found.1
 
 abbrev pub unless_faulty : Kinds → Result Command UsageKind → Result Command UsageKind
 unless_faulty [] command = command
 unless_faulty (k ∷ ks) command = Err Words
 
 -- what regular words say, as `clap` reads them
-unfoldable pub parsed : List Text → Result Command UsageKind
-parsed words = unless_faulty (fault_of circt_app words) (entered (subcommand_of circt_app words))
+unfoldable pub parse : List Text → Result Command UsageKind
+parse words = unless_faulty (fault_of circt_app words) (require_subcommand (subcommand_of circt_app words))
 
 abbrev pub if_normal : Option (List Text) → Result Command UsageKind
 if_normal None = Err Words
-if_normal (Some words) = parsed words
+if_normal (Some words) = parse words
 
 -- what the words of a command line say
 abbrev pub line : List Text → Result Command UsageKind

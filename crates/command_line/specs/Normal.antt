@@ -18,9 +18,9 @@ wants_dash [] = false
 wants_dash (b ∷ rest) = cond (b == 45) false (nat_lt 1 (characters (b ∷ rest)))
 
 -- a word with its second dash, where it wants one
-abbrev pub dashed : List ℕ → List ℕ
-dashed [] = []
-dashed (b ∷ rest) = cond (b == 45 && wants_dash rest) (45 ∷ b ∷ rest) (b ∷ rest)
+abbrev pub with_second_dash : List ℕ → List ℕ
+with_second_dash [] = []
+with_second_dash (b ∷ rest) = cond (b == 45 && wants_dash rest) (45 ∷ b ∷ rest) (b ∷ rest)
 
 -- the word that ends the options
 abbrev pub is_end : List ℕ → Bool
@@ -37,7 +37,7 @@ is_reserved word = bytes_eq word (codes "--passes") || begins (codes "--passes="
 -- the words with their second dashes; those after `--` stay as they are
 abbrev pub all_dashed : List (List ℕ) → List (List ℕ)
 all_dashed [] = []
-all_dashed (word ∷ words) = cond (is_end (dashed word)) (dashed word ∷ words) (dashed word ∷ all_dashed words)
+all_dashed (word ∷ words) = cond (is_end (with_second_dash word)) (with_second_dash word ∷ words) (with_second_dash word ∷ all_dashed words)
 
 -- whether a word before `--` is kept for the program itself
 abbrev pub has_reserved : List (List ℕ) → Bool

@@ -2,7 +2,7 @@
 ghost use Rattle.std.specs.Prelude.{◌≡◌, IfOk, map, string_bytes, option_map, [], Some, Ok, Err};
 ghost use Rattle.clap.specs.Words.{found_of, rows_of, first_of, fault_of, subcommand_of, subcommand_rows_of, FailsBy};
 ghost use Rattle.command_line.specs.Commands.{circt_app};
-ghost use Rattle.command_line.specs.Line.{parsed, paths_in, is_flagged, command_in, unless_dash};
+ghost use Rattle.command_line.specs.Line.{parse, paths_in, is_flagged, command_in, unless_dash};
 ghost use Rattle.command_line.specs.Invocations.{paths_of, command_of, Says, IsFault};
 
 use crate::commands::circt_command;
@@ -50,11 +50,11 @@ impl From<AllocError> for LineFail {
 }
 
 /// What regular words say. They are those after the program's name, after [`crate::normalise`].
-#[tactic(auto, unfolding(crate::specs::Line::parsed))]
+#[tactic(auto, unfolding(crate::specs::Line::parse))]
 pub fn read_line<'a>(alloc: Global, words: &'a [String]) -> Result<Invocation<'a>, LineFail>
-    ensures { Says (parsed (map string_bytes words.entry.now)) result }
+    ensures { Says (parse (map string_bytes words.entry.now)) result }
 {
-    let matches = matched(alloc, words)?;
+    let matches = find_matches(alloc, words)?;
     match matches.subcommand() {
         Some((name, rows)) => command_in(name, rows),
         None => Err(LineFail::Usage(UsageKind::Words)),
@@ -62,7 +62,7 @@ pub fn read_line<'a>(alloc: Global, words: &'a [String]) -> Result<Invocation<'a
 }
 
 /// The matches that `clap` finds.
-fn matched<'a>(alloc: Global, words: &'a [String]) -> Result<ArgMatches<'a>, LineFail>
+fn find_matches<'a>(alloc: Global, words: &'a [String]) -> Result<ArgMatches<'a>, LineFail>
     ensures ok { IfOk result (λ m. (fault_of circt_app (map string_bytes words.entry.now) ≡ []) × (subcommand_rows_of m ≡ subcommand_of circt_app (map string_bytes words.entry.now))) }
     ensures err { IsFault (fault_of circt_app (map string_bytes words.entry.now)) result }
 {

@@ -1,6 +1,6 @@
 //! Words made regular.
 ghost use Rattle.std.specs.Prelude.{◌≡◌, IfOk, IfErr, OnOk, OnErr, ◌++◌, ◌∷◌, [], map, string_bytes, Some, None};
-ghost use Rattle.command_line.specs.Normal.{normal, dashed, wants_dash, characters, is_end, is_reserved, begins, all_dashed, has_reserved};
+ghost use Rattle.command_line.specs.Normal.{normal, with_second_dash, wants_dash, characters, is_end, is_reserved, begins, all_dashed, has_reserved};
 ghost use Rattle.command_line.specs.declared.normalise.WordsFail.TheVariants.{Reserved};
 
 use std::alloc::{AllocError, Global};
@@ -62,7 +62,7 @@ fn with_dashes(alloc: Global, words: &[String]) -> Result<Vec<String>, AllocErro
 
 /// A word with its second dash, where it wants one.
 fn with_dash(alloc: Global, word: &str) -> Result<String, AllocError>
-    ensures { IfOk result (λ s. string_bytes s ≡ dashed word.now) }
+    ensures { IfOk result (λ s. string_bytes s ≡ with_second_dash word.now) }
 {
     match word.as_bytes() {
         [b'-', rest @ ..] if wants_dash(rest) => format!(in alloc; "-{word}"),

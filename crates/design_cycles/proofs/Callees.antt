@@ -11,7 +11,7 @@ use Rattle.hw_model.specs.Types.{Name}
 use Rattle.hw_model.specs.Kinds.{Instance}
 use Rattle.hw_model.specs.Design.{Op, Module, Design, same_name, find_module, instance_in}
 use Rattle.hw_model.specs.Sound.{body_of}
-use Rattle.hw_model.specs.Hierarchy.{called, called_by, calls, HasNoRecursion}
+use Rattle.hw_model.specs.Hierarchy.{callee_symbols, called_by, calls, HasNoRecursion}
 use Rattle.ir_store.specs.Symbols.{symbol_place}
 use Rattle.ir_store.specs.Numbered.{numbered}
 use Rattle.ir_store.specs.Designs.{StoredModule, numbered_module}
@@ -21,9 +21,9 @@ use Rattle.design_cycles.specs.Graphs.{edges}
 
 -- ---- lists of numbers
 
-called-append : (xs ys : List Op) → called (xs ++ ys) ≡ called xs ++ called ys
+called-append : (xs ys : List Op) → callee_symbols (xs ++ ys) ≡ callee_symbols xs ++ callee_symbols ys
 called-append [] ys = refl
-called-append (o ∷ xs) ys = ap (λ zs. called_by (instance_in o.kind) ++ zs) (called-append xs ys) ∙ sym (append_assoc (called_by (instance_in o.kind)) (called xs) (called ys))
+called-append (o ∷ xs) ys = ap (λ zs. called_by (instance_in o.kind) ++ zs) (called-append xs ys) ∙ sym (append_assoc (called_by (instance_in o.kind)) (callee_symbols xs) (callee_symbols ys))
 
 numbers-append : (symbols : List Name) (xs ys : List Name) → numbers_of symbols (xs ++ ys) ≡ numbers_of symbols xs ++ numbers_of symbols ys
 numbers-append symbols [] ys = refl
@@ -37,47 +37,47 @@ numbers_called symbols (Some i) = append-nil (option_to_list (symbol_place i.sym
 
 -- one more operation
 pub calls_more : (symbols : List Name) (os : List Op) (j : ℕ) (number : Option ℕ) → IsCalleeAt symbols os j number
-    → numbers_of symbols (called (take (j + 1) os)) ≡ numbers_of symbols (called (take j os)) ++ option_to_list number
+    → numbers_of symbols (callee_symbols (take (j + 1) os)) ≡ numbers_of symbols (callee_symbols (take j os)) ++ option_to_list number
 calls_more symbols os j number at =
     let next : j + 1 ≡ suc j = omega arith in
-    ap (λ n. numbers_of symbols (called (take n os))) next
-    ∙ ap (λ xs. numbers_of symbols (called xs)) (take-suc_some os j at.op_there at.has_op)
-    ∙ ap (numbers_of symbols) (called-append (take j os) (at.op_there ∷ []) ∙ ap (λ zs. called (take j os) ++ zs) (append-nil (called_by (instance_in at.op_there.kind))))
-    ∙ numbers-append symbols (called (take j os)) (called_by (instance_in at.op_there.kind))
-    ∙ ap (λ zs. numbers_of symbols (called (take j os)) ++ zs) (numbers_called symbols (instance_in at.op_there.kind) ∙ ap option_to_list (sym at.number_is))
+    ap (λ n. numbers_of symbols (callee_symbols (take n os))) next
+    ∙ ap (λ xs. numbers_of symbols (callee_symbols xs)) (take-suc_some os j at.op_there at.has_op)
+    ∙ ap (numbers_of symbols) (called-append (take j os) (at.op_there ∷ []) ∙ ap (λ zs. callee_symbols (take j os) ++ zs) (append-nil (called_by (instance_in at.op_there.kind))))
+    ∙ numbers-append symbols (callee_symbols (take j os)) (called_by (instance_in at.op_there.kind))
+    ∙ ap (λ zs. numbers_of symbols (callee_symbols (take j os)) ++ zs) (numbers_called symbols (instance_in at.op_there.kind) ∙ ap option_to_list (sym at.number_is))
 
 -- a list in code
 pub calls_with : (symbols : List Name) (os : List Op) (j n : ℕ) (nodes old : List ℕ) (number : Option ℕ) → IsCalleeAt symbols os j number → number ≡ Some n
-    → old ≡ numbers_of symbols (called (take j os)) → nodes ≡ old ++ n ∷ [] → nodes ≡ numbers_of symbols (called (take (j + 1) os))
+    → old ≡ numbers_of symbols (callee_symbols (take j os)) → nodes ≡ old ++ n ∷ [] → nodes ≡ numbers_of symbols (callee_symbols (take (j + 1) os))
 calls_with symbols os j n nodes old number at is before now =
-    now ∙ ap (λ xs. xs ++ n ∷ []) before ∙ sym (calls_more symbols os j number at ∙ ap (λ x. numbers_of symbols (called (take j os)) ++ option_to_list x) is)
+    now ∙ ap (λ xs. xs ++ n ∷ []) before ∙ sym (calls_more symbols os j number at ∙ ap (λ x. numbers_of symbols (callee_symbols (take j os)) ++ option_to_list x) is)
 
 pub calls_without : (symbols : List Name) (os : List Op) (j : ℕ) (nodes old : List ℕ) (number : Option ℕ) → IsCalleeAt symbols os j number → number ≡ None
-    → old ≡ numbers_of symbols (called (take j os)) → nodes ≡ old → nodes ≡ numbers_of symbols (called (take (j + 1) os))
+    → old ≡ numbers_of symbols (callee_symbols (take j os)) → nodes ≡ old → nodes ≡ numbers_of symbols (callee_symbols (take (j + 1) os))
 calls_without symbols os j nodes old number at is before now =
-    now ∙ before ∙ sym (calls_more symbols os j number at ∙ ap (λ x. numbers_of symbols (called (take j os)) ++ option_to_list x) is ∙ append-nil (numbers_of symbols (called (take j os))))
+    now ∙ before ∙ sym (calls_more symbols os j number at ∙ ap (λ x. numbers_of symbols (callee_symbols (take j os)) ++ option_to_list x) is ∙ append-nil (numbers_of symbols (callee_symbols (take j os))))
 
 -- the lists of modules that are kept
 abbrev pub stored_calls : List StoredModule → List StoredModule → List (List ℕ)
-stored_calls modules ms = map (λ (m : StoredModule). numbers_of (map (λ (x : StoredModule). x.symbol) modules) (called (numbered m.ops))) ms
+stored_calls modules ms = map (λ (m : StoredModule). numbers_of (map (λ (x : StoredModule). x.symbol) modules) (callee_symbols (numbered m.ops))) ms
 
 pub stored_more : (modules : List StoredModule) (k : ℕ) (m : StoredModule) (lists old : List (List ℕ)) (nodes : List ℕ) → Some m ≡ slice_get modules k
-    → old ≡ stored_calls modules (take k modules) → nodes ≡ numbers_of (map (λ (x : StoredModule). x.symbol) modules) (called (numbered m.ops)) → lists ≡ old ++ nodes ∷ []
+    → old ≡ stored_calls modules (take k modules) → nodes ≡ numbers_of (map (λ (x : StoredModule). x.symbol) modules) (callee_symbols (numbered m.ops)) → lists ≡ old ++ nodes ∷ []
     → lists ≡ stored_calls modules (take (k + 1) modules)
 stored_more modules k m lists old nodes at before are now =
     let next : k + 1 ≡ suc k = omega arith in
     now ∙ ap₂ (λ xs x. xs ++ x ∷ []) before are
     ∙ sym (ap (λ n. stored_calls modules (take n modules)) next ∙ ap (stored_calls modules) (take-suc_some modules k m (sym at)) ∙ map-push (take k modules) m)
   where
-    map-push : (xs : List StoredModule) (x : StoredModule) → stored_calls modules (xs ++ x ∷ []) ≡ stored_calls modules xs ++ numbers_of (map (λ (y : StoredModule). y.symbol) modules) (called (numbered x.ops)) ∷ []
+    map-push : (xs : List StoredModule) (x : StoredModule) → stored_calls modules (xs ++ x ∷ []) ≡ stored_calls modules xs ++ numbers_of (map (λ (y : StoredModule). y.symbol) modules) (callee_symbols (numbered x.ops)) ∷ []
     map-push [] x = refl
-    map-push (y ∷ xs) x = ap (λ zs. numbers_of (map (λ (z : StoredModule). z.symbol) modules) (called (numbered y.ops)) ∷ zs) (map-push xs x)
+    map-push (y ∷ xs) x = ap (λ zs. numbers_of (map (λ (z : StoredModule). z.symbol) modules) (callee_symbols (numbered y.ops)) ∷ zs) (map-push xs x)
 
 pub stored_all : (modules : List StoredModule) (k : ℕ) (lists : List (List ℕ)) → length modules ≤ k → lists ≡ stored_calls modules (take k modules) → lists ≡ call_lists (map numbered_module modules)
 stored_all modules k lists all are =
     are ∙ ap (stored_calls modules) (take_all k modules all)
-    ∙ ap (λ symbols. map (λ (m : StoredModule). numbers_of symbols (called (numbered m.ops))) modules) (sym (map-map (λ (m : Module). m.symbol) numbered_module modules))
-    ∙ sym (map-map (λ (m : Module). numbers_of (symbols_in (map numbered_module modules)) (called m.body)) numbered_module modules)
+    ∙ ap (λ symbols. map (λ (m : StoredModule). numbers_of symbols (callee_symbols (numbered m.ops))) modules) (sym (map-map (λ (m : Module). m.symbol) numbered_module modules))
+    ∙ sym (map-map (λ (m : Module). numbers_of (symbols_in (map numbered_module modules)) (callee_symbols m.body)) numbered_module modules)
 
 -- ---- numbers and symbols
 
@@ -149,24 +149,24 @@ module _ (d : Design) where
   abbrev pub number : Name → Option ℕ
   number s = symbol_place s (symbols_in d)
 
-  pub call_edges : (i : ℕ) (m : Module) → slice_get d i ≡ Some m → edges (call_lists d) i ≡ numbers_of (symbols_in d) (called m.body)
+  pub call_edges : (i : ℕ) (m : Module) → slice_get d i ≡ Some m → edges (call_lists d) i ≡ numbers_of (symbols_in d) (callee_symbols m.body)
   call_edges i m at =
-      get_or_from_slice_get (call_lists d) i (numbers_of (symbols_in d) (called m.body)) []
-      (slice_get-map (λ (x : Module). numbers_of (symbols_in d) (called x.body)) d i ∙ ap (option_map (λ (x : Module). numbers_of (symbols_in d) (called x.body))) at)
+      get_or_from_slice_get (call_lists d) i (numbers_of (symbols_in d) (callee_symbols m.body)) []
+      (slice_get-map (λ (x : Module). numbers_of (symbols_in d) (callee_symbols x.body)) d i ∙ ap (option_map (λ (x : Module). numbers_of (symbols_in d) (callee_symbols x.body))) at)
 
   -- a chain of calls by symbols is one by numbers
   pub chain_numbers : (k : ℕ) (s t : Name) (i j : ℕ) → Chain (calls d) k s t → number s ≡ Some i → number t ≡ Some j → Chain (edges (call_lists d)) k i j
   chain_numbers zero s t i j same at to = let e : Some i ≡ Some j = sym at ∙ ap number same ∙ to in cc
   chain_numbers (suc k) s t i j (c, need, chain) at to =
       let here = place_found d s i at in
-      let named : In c (called here.0.body) = subst (λ o. In c (called (body_of o))) here.3 need in
+      let named : In c (callee_symbols here.0.body) = subst (λ o. In c (callee_symbols (body_of o))) here.3 need in
       let is = numbered_name k c chain in
-      (is.0, subst (In is.0) (sym (call_edges i here.0 here.1)) (In-numbers (symbols_in d) c is.0 (called here.0.body) named is.1), chain_numbers k c t is.0 j chain is.1 to)
+      (is.0, subst (In is.0) (sym (call_edges i here.0 here.1)) (In-numbers (symbols_in d) c is.0 (callee_symbols here.0.body) named is.1), chain_numbers k c t is.0 j chain is.1 to)
     where
       calls_something : (c e : Name) → In e (calls d c) → (i : ℕ) × (number c ≡ Some i)
       calls_something c e need = go (find_module d c) refl need
         where
-          go : (o : Option Module) → find_module d c ≡ o → In e (called (body_of o)) → (i : ℕ) × (number c ≡ Some i)
+          go : (o : Option Module) → find_module d c ≡ o → In e (callee_symbols (body_of o)) → (i : ℕ) × (number c ≡ Some i)
           go None is never = absurd never
           go (Some m) is there = number_found d c m is
 
@@ -215,10 +215,10 @@ module _ (d : Design) where
     pub chain_symbols : (k i j : ℕ) (m n : Module) → slice_get d i ≡ Some m → slice_get d j ≡ Some n → Chain (edges (call_lists d)) k i j → Chain (calls d) k m.symbol n.symbol
     chain_symbols zero i j m n at to same = let e : Some m ≡ Some n = sym at ∙ ap (slice_get d) same ∙ to in let f : m ≡ n = cc in ap (λ (x : Module). x.symbol) f
     chain_symbols (suc k) i j m n at to (c, need, chain) =
-        let named = from_In-numbers (symbols_in d) c (called m.body) (subst (In c) (call_edges i m at) need) in
+        let named = from_In-numbers (symbols_in d) c (callee_symbols m.body) (subst (In c) (call_edges i m at) need) in
         let there = place_found d named.0 c named.2 in
         let found = found_at i m at in
-        let call : In named.0 (calls d m.symbol) = subst (λ o. In named.0 (called (body_of o))) (sym found.1) named.1 in
+        let call : In named.0 (calls d m.symbol) = subst (λ o. In named.0 (callee_symbols (body_of o))) (sym found.1) named.1 in
         let rest : Chain (calls d) k there.0.symbol n.symbol = chain_symbols k c j there.0 n there.1 to chain in
         (named.0, call, subst (λ s. Chain (calls d) k s n.symbol) there.2 rest)
 
@@ -227,7 +227,7 @@ module _ (d : Design) where
     no_recursion acyclic s (k, (c, need, chain)) = go (find_module d s) refl
       where
         go : (o : Option Module) → find_module d s ≡ o → ⊥
-        go None none = subst (λ o. In c (called (body_of o))) none need
+        go None none = subst (λ o. In c (callee_symbols (body_of o))) none need
         go (Some m) some =
             let at = number_found d s m some in
             acyclic at.0 (k, chain_numbers (suc k) s s at.0 at.0 (c, need, chain) at.1 at.1)
@@ -235,7 +235,7 @@ module _ (d : Design) where
     pub acyclic_numbers : HasNoRecursion d → IsAcyclic (edges (call_lists d))
     acyclic_numbers finite i (k, chain) = go (slice_get d i) refl
       where
-        past : (xs : Design) (i : ℕ) → slice_get xs i ≡ None → edges (map (λ (x : Module). numbers_of (symbols_in d) (called x.body)) xs) i ≡ []
+        past : (xs : Design) (i : ℕ) → slice_get xs i ≡ None → edges (map (λ (x : Module). numbers_of (symbols_in d) (callee_symbols x.body)) xs) i ≡ []
         past [] i none = refl
         past (x ∷ xs) zero none = cc
         past (x ∷ xs) (suc i) none = past xs i none

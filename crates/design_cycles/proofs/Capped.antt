@@ -6,7 +6,7 @@ use Rattle.hw_model.specs.Types.{HwType, leaves}
 use Rattle.hw_model.specs.TypeViews.{type_of}
 use Rattle.hw_model.specs.Kinds.{Literal as HwLiteral}
 use Rattle.hw_model.specs.KindViews.{literals_of, literal_of, literals_in}
-use Rattle.hw_model.specs.Value.{written}
+use Rattle.hw_model.specs.Value.{nth_type}
 use Rattle.hw_model.specs.Weight.{leaf_count, literal_leaves, literals_leaves, element_count, element_leaves, choice_weight}
 use Rattle.hw_model.specs.declared.types.Ty.{Ty}
 use Rattle.hw_model.specs.declared.kinds.Literal.{Literal, the_lemmas}
@@ -44,12 +44,12 @@ capped_injection n l parts whole first second all m p q r s t =
 
 -- ---- types that are written
 
-pub length_written : (ts : List HwType) (n : ℕ) → length_of (slice_get ts n) ≡ element_count (written ts n)
+pub length_written : (ts : List HwType) (n : ℕ) → length_of (slice_get ts n) ≡ element_count (nth_type ts n)
 length_written [] n = refl
 length_written (t ∷ ts) zero = refl
 length_written (t ∷ ts) (suc n) = length_written ts n
 
-pub leaves_written : (ts : List HwType) (n : ℕ) → leaves_of (slice_get ts n) ≡ element_leaves (written ts n)
+pub leaves_written : (ts : List HwType) (n : ℕ) → leaves_of (slice_get ts n) ≡ element_leaves (nth_type ts n)
 leaves_written [] n = refl
 leaves_written (t ∷ ts) zero = refl
 leaves_written (t ∷ ts) (suc n) = leaves_written ts n

@@ -20,7 +20,7 @@ use Rattle.design_cycles.specs.declared.layout.Layout.{Layout}
 use Rattle.design_cycles.specs.declared.layout.Span.{Span}
 use Rattle.design_cycles.specs.declared.layout.Summary.{Summary}
 use Rattle.design_cycles.specs.Asked.{HasDistinctSymbols, IsCyclicAt}
-use Rattle.design_cycles.specs.Graphs.{lists_of, edges, marked, AreReached, ReturnsWithin}
+use Rattle.design_cycles.specs.Graphs.{lists_of, edges, has_mark, AreReached, ReturnsWithin}
 use Rattle.design_cycles.specs.Nodes.{rows_by, sizes_in, AreSpans, body_lists, IsLayout}
 use Rattle.design_cycles.specs.Places.{symbol_at}
 use Rattle.design_cycles.specs.Summing.{KnowsCallees}
@@ -53,10 +53,10 @@ marks_need graph v x starts marks r below are reached at = by_mark r (at ∙ any
     starts_are : starts ≡ edges (lists_of graph) v
     starts_are = are ∙ sym (lists_at graph v x below)
 
-    by_mark : (b : Bool) → b ≡ marked marks v → MatchBool b (Depends (edges (lists_of graph)) v v) (Depends (edges (lists_of graph)) v v → ⊥)
+    by_mark : (b : Bool) → b ≡ has_mark marks v → MatchBool b (Depends (edges (lists_of graph)) v v) (Depends (edges (lists_of graph)) v v → ⊥)
     by_mark true mark = let from = reached.sound v (sym mark) in (from.1, (from.0, subst (In from.0) starts_are from.2, from.3))
     by_mark false mark = λ around.
-        let back : marked marks v ≡ true =
+        let back : has_mark marks v ≡ true =
         reached.complete around.1.0 around.0 v (subst (In around.1.0) (sym starts_are) around.1.1) around.1.2 (let size : length (lists_of graph) ≡ length graph = length-lists graph in omega arith) in
         cc
 
@@ -72,12 +72,12 @@ node_more lists start node before here v low below around = go (grind arith)
     go (inr same) = here (subst (λ z. Depends (edges lists) z z) same around)
 
 pub closed_node : (graph : List NodeList) (placed : List Bool) (node : ℕ) (answer : Bool) → length placed ≡ length graph
-    → ((v : ℕ) → marked placed v ≡ true → Depends (edges (lists_of graph)) v v → ⊥)
-    → (IsTrue answer ↔ ((node < length placed) × (marked placed node ≡ false))) → answer ≡ false
+    → ((v : ℕ) → has_mark placed v ≡ true → Depends (edges (lists_of graph)) v v → ⊥)
+    → (IsTrue answer ↔ ((node < length placed) × (has_mark placed node ≡ false))) → answer ≡ false
     → Depends (edges (lists_of graph)) node node → ⊥
-closed_node graph placed node answer count none says denied around = by_mark (marked placed node) refl
+closed_node graph placed node answer count none says denied around = by_mark (has_mark placed node) refl
   where
-    by_mark : (b : Bool) → marked placed node ≡ b → ⊥
+    by_mark : (b : Bool) → has_mark placed node ≡ b → ⊥
     by_mark true is = none node is around
     by_mark false is =
         let bound : node < length (lists_of graph) = edges_within (lists_of graph) node around.1.0 around.1.1 in

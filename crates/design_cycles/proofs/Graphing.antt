@@ -11,7 +11,7 @@ use Rattle.wiring.specs.Options.{omap}
 use Rattle.design_cycles.specs.declared.layout.Layout.{Layout}
 use Rattle.design_cycles.specs.declared.layout.Span.{Span}
 use Rattle.design_cycles.specs.Graphs.{edges}
-use Rattle.design_cycles.specs.Local.{picked, where_typed, op_wires, result_wires}
+use Rattle.design_cycles.specs.Local.{operands_at, where_typed, op_wires, result_wires}
 use Rattle.design_cycles.specs.Nodes.{size_by, size_in, sizes_in, AreSpans, IsLayout, node_ref, nodes_in, port_refs, op_refs, result_refs, body_refs, table_by, node_needs, body_lists, times_over, lists_at, lists_of_op}
 
 -- ---- what the results of one operation need
@@ -68,12 +68,12 @@ module _ (ports : ℕ) (rows : Name → List (List ℕ)) (os : List Op) (j : ℕ
           ∙ ap (λ b. nodes_in node (cond b [] (where_typed (result_type o i) o.operands))) x ∙ ap (λ t. nodes_in node (where_typed t o.operands)) typed
 
   pub called_lists : (i : Instance) → is_register o ≡ false → instance_in o.kind ≡ Some i
-      → lists_at ports rows os j ≡ map (λ xs. nodes_in node (picked o.operands xs)) (rows i.symbol)
+      → lists_at ports rows os j ≡ map (λ xs. nodes_in node (operands_at o.operands xs)) (rows i.symbol)
   called_lists i r n =
       of_size (length (rows i.symbol)) (ap (λ b. cond b 0 (size_by rows o (instance_in o.kind))) r ∙ ap (size_by rows o) n)
-      ∙ rows_need need (λ xs. nodes_in node (picked o.operands xs)) j 0 (rows i.symbol) each
+      ∙ rows_need need (λ xs. nodes_in node (operands_at o.operands xs)) j 0 (rows i.symbol) each
     where
-      each : (k : ℕ) → k < length (rows i.symbol) → need (result j (0 + k)) ≡ nodes_in node (picked o.operands (edges (rows i.symbol) k))
+      each : (k : ℕ) → k < length (rows i.symbol) → need (result j (0 + k)) ≡ nodes_in node (operands_at o.operands (edges (rows i.symbol) k))
       each k below =
           let number : 0 + k ≡ k = omega arith in
           ap (λ m. need (result j m)) number ∙ of_result k r ∙ ap (λ y. nodes_in node (op_wires (table_by rows) o k y)) n

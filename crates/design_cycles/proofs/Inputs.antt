@@ -9,7 +9,7 @@ use Rattle.hw_model.specs.Design.{Port}
 use Rattle.hw_model.specs.Flat.{input_count}
 use Rattle.ir_store.specs.Designs.{port_of}
 use Rattle.ir_store.specs.declared.design.Port.{Port as CodePort}
-use Rattle.design_cycles.specs.Graphs.{edges, marked, AreReached, LeadsTo}
+use Rattle.design_cycles.specs.Graphs.{edges, has_mark, AreReached, LeadsTo}
 use Rattle.design_cycles.specs.Local.{IsInput}
 use Rattle.design_cycles.specs.Summing.{inputs_from, reached_numbers, AreInputs, AreOutputs}
 
@@ -119,29 +119,29 @@ to_input p (q ∷ qs) (suc j) x input = go q.is_output (λ y i. to_input (suc p)
 -- ---- numbers of marked nodes
 
 numbers-push : (marks : List Bool) (n : ℕ) (vs : List ℕ) (v : ℕ)
-    → reached_numbers marks n (vs ++ v ∷ []) ≡ reached_numbers marks n vs ++ cond (marked marks v) ((n + length vs) ∷ []) []
-numbers-push marks n [] v = let e : n ≡ n + 0 = omega arith in ap (λ m. cond (marked marks v) (m ∷ []) []) e
+    → reached_numbers marks n (vs ++ v ∷ []) ≡ reached_numbers marks n vs ++ cond (has_mark marks v) ((n + length vs) ∷ []) []
+numbers-push marks n [] v = let e : n ≡ n + 0 = omega arith in ap (λ m. cond (has_mark marks v) (m ∷ []) []) e
 numbers-push marks n (x ∷ vs) v =
     let e : suc n + length vs ≡ n + suc (length vs) = omega arith in
-    go (marked marks x) (numbers-push marks (suc n) vs v ∙ ap (λ m. reached_numbers marks (suc n) vs ++ cond (marked marks v) (m ∷ []) []) e)
+    go (has_mark marks x) (numbers-push marks (suc n) vs v ∙ ap (λ m. reached_numbers marks (suc n) vs ++ cond (has_mark marks v) (m ∷ []) []) e)
   where
-    go : (b : Bool) → reached_numbers marks (suc n) (vs ++ v ∷ []) ≡ reached_numbers marks (suc n) vs ++ cond (marked marks v) ((n + suc (length vs)) ∷ []) []
+    go : (b : Bool) → reached_numbers marks (suc n) (vs ++ v ∷ []) ≡ reached_numbers marks (suc n) vs ++ cond (has_mark marks v) ((n + suc (length vs)) ∷ []) []
         → cond b (n ∷ reached_numbers marks (suc n) (vs ++ v ∷ [])) (reached_numbers marks (suc n) (vs ++ v ∷ []))
-        ≡ cond b (n ∷ reached_numbers marks (suc n) vs) (reached_numbers marks (suc n) vs) ++ cond (marked marks v) ((n + suc (length vs)) ∷ []) []
+        ≡ cond b (n ∷ reached_numbers marks (suc n) vs) (reached_numbers marks (suc n) vs) ++ cond (has_mark marks v) ((n + suc (length vs)) ∷ []) []
     go true rest = ap (λ xs. n ∷ xs) rest
     go false rest = rest
 
 module _ (marks : List Bool) (vs : List ℕ) (i : ℕ) (below : i < length vs) (new old : List ℕ) (before : old ≡ reached_numbers marks 0 (take i vs)) where
-  more_numbers : reached_numbers marks 0 (take (i + 1) vs) ≡ reached_numbers marks 0 (take i vs) ++ cond (marked marks (get_or vs i 0)) (i ∷ []) []
+  more_numbers : reached_numbers marks 0 (take (i + 1) vs) ≡ reached_numbers marks 0 (take i vs) ++ cond (has_mark marks (get_or vs i 0)) (i ∷ []) []
   more_numbers =
       ap (reached_numbers marks 0) (take_more vs i 0 below) ∙ numbers-push marks 0 (take i vs) (get_or vs i 0)
-      ∙ ap (λ n. reached_numbers marks 0 (take i vs) ++ cond (marked marks (get_or vs i 0)) (n ∷ []) []) (let whole : length (take i vs) ≡ i = length-take-le i vs (omega arith) in let e : 0 + length (take i vs) ≡ i = omega arith in e)
+      ∙ ap (λ n. reached_numbers marks 0 (take i vs) ++ cond (has_mark marks (get_or vs i 0)) (n ∷ []) []) (let whole : length (take i vs) ≡ i = length-take-le i vs (omega arith) in let e : 0 + length (take i vs) ≡ i = omega arith in e)
 
-  pub number_marked : (b : Bool) → b ≡ marked marks (get_or vs i 0) → b ≡ true → new ≡ old ++ i ∷ [] → new ≡ reached_numbers marks 0 (take (i + 1) vs)
+  pub number_marked : (b : Bool) → b ≡ has_mark marks (get_or vs i 0) → b ≡ true → new ≡ old ++ i ∷ [] → new ≡ reached_numbers marks 0 (take (i + 1) vs)
   number_marked b is said now =
       now ∙ ap (λ ys. ys ++ i ∷ []) before ∙ sym (more_numbers ∙ ap (λ c. reached_numbers marks 0 (take i vs) ++ cond c (i ∷ []) []) (sym is ∙ said))
 
-  pub number_open : (b : Bool) → b ≡ marked marks (get_or vs i 0) → b ≡ false → new ≡ old → new ≡ reached_numbers marks 0 (take (i + 1) vs)
+  pub number_open : (b : Bool) → b ≡ has_mark marks (get_or vs i 0) → b ≡ false → new ≡ old → new ≡ reached_numbers marks 0 (take (i + 1) vs)
   number_open b is said now =
       now ∙ before ∙ sym (more_numbers ∙ ap (λ c. reached_numbers marks 0 (take i vs) ++ cond c (i ∷ []) []) (sym is ∙ said) ∙ append-nil (reached_numbers marks 0 (take i vs)))
 
@@ -150,29 +150,29 @@ pub numbers_all : (marks : List Bool) (vs : List ℕ) (i : ℕ) (xs : List ℕ) 
 numbers_all marks vs i xs all are = are ∙ ap (reached_numbers marks 0) (take_all i vs all)
 
 from_numbers : (marks : List Bool) (n : ℕ) (vs : List ℕ) (x : ℕ) → In x (reached_numbers marks n vs)
-    → (i v : ℕ) × (x ≡ n + i) × (slice_get vs i ≡ Some v) × (marked marks v ≡ true)
+    → (i v : ℕ) × (x ≡ n + i) × (slice_get vs i ≡ Some v) × (has_mark marks v ≡ true)
 from_numbers marks n [] x here = absurd here
-from_numbers marks n (v ∷ vs) x here = go (marked marks v) refl here (from_numbers marks (suc n) vs x)
+from_numbers marks n (v ∷ vs) x here = go (has_mark marks v) refl here (from_numbers marks (suc n) vs x)
   where
-    later : ((i w : ℕ) × (x ≡ suc n + i) × (slice_get vs i ≡ Some w) × (marked marks w ≡ true))
-        → (i w : ℕ) × (x ≡ n + i) × (slice_get (v ∷ vs) i ≡ Some w) × (marked marks w ≡ true)
+    later : ((i w : ℕ) × (x ≡ suc n + i) × (slice_get vs i ≡ Some w) × (has_mark marks w ≡ true))
+        → (i w : ℕ) × (x ≡ n + i) × (slice_get (v ∷ vs) i ≡ Some w) × (has_mark marks w ≡ true)
     later (i, w, place, at, is) = let e : x ≡ n + suc i = omega arith in (suc i, w, e, at, is)
 
-    go : (b : Bool) → marked marks v ≡ b → In x (cond b (n ∷ reached_numbers marks (suc n) vs) (reached_numbers marks (suc n) vs))
-        → (In x (reached_numbers marks (suc n) vs) → (i w : ℕ) × (x ≡ suc n + i) × (slice_get vs i ≡ Some w) × (marked marks w ≡ true))
-        → (i w : ℕ) × (x ≡ n + i) × (slice_get (v ∷ vs) i ≡ Some w) × (marked marks w ≡ true)
+    go : (b : Bool) → has_mark marks v ≡ b → In x (cond b (n ∷ reached_numbers marks (suc n) vs) (reached_numbers marks (suc n) vs))
+        → (In x (reached_numbers marks (suc n) vs) → (i w : ℕ) × (x ≡ suc n + i) × (slice_get vs i ≡ Some w) × (has_mark marks w ≡ true))
+        → (i w : ℕ) × (x ≡ n + i) × (slice_get (v ∷ vs) i ≡ Some w) × (has_mark marks w ≡ true)
     go true is (inl same) rest = let e : x ≡ n + 0 = omega arith in (0, v, e, refl, is)
     go true is (inr there) rest = later (rest there)
     go false is there rest = later (rest there)
 
-to_numbers : (marks : List Bool) (n : ℕ) (vs : List ℕ) (i v : ℕ) → slice_get vs i ≡ Some v → marked marks v ≡ true → In (n + i) (reached_numbers marks n vs)
+to_numbers : (marks : List Bool) (n : ℕ) (vs : List ℕ) (i v : ℕ) → slice_get vs i ≡ Some v → has_mark marks v ≡ true → In (n + i) (reached_numbers marks n vs)
 to_numbers marks n [] i v at is = cc
 to_numbers marks n (w ∷ vs) zero v at is =
     let same : w ≡ v = cc in
     let e : n ≡ n + 0 = omega arith in
-    subst (λ m. In m (reached_numbers marks n (w ∷ vs))) e (subst (λ b. In n (cond b (n ∷ reached_numbers marks (suc n) vs) (reached_numbers marks (suc n) vs))) (sym (ap (marked marks) same ∙ is)) (inl refl))
+    subst (λ m. In m (reached_numbers marks n (w ∷ vs))) e (subst (λ b. In n (cond b (n ∷ reached_numbers marks (suc n) vs) (reached_numbers marks (suc n) vs))) (sym (ap (has_mark marks) same ∙ is)) (inl refl))
 to_numbers marks n (w ∷ vs) (suc i) v at is =
-    go (marked marks w) (subst (λ m. In m (reached_numbers marks (suc n) vs)) (let e : suc n + i ≡ n + suc i = omega arith in e) (to_numbers marks (suc n) vs i v at is))
+    go (has_mark marks w) (subst (λ m. In m (reached_numbers marks (suc n) vs)) (let e : suc n + i ≡ n + suc i = omega arith in e) (to_numbers marks (suc n) vs i v at is))
   where
     go : (b : Bool) → In (n + suc i) (reached_numbers marks (suc n) vs)
         → In (n + suc i) (cond b (n ∷ reached_numbers marks (suc n) vs) (reached_numbers marks (suc n) vs))
@@ -194,14 +194,14 @@ inputs_reached lists inputs a marks marks' numbers reached same are = record {
     from v (b, k, inl is, chain) = (a, refl, (k, subst (λ z. Chain (edges lists) k z v) is chain))
     from v (b, k, inr never, chain) = absurd never
 
-    sound : (x : ℕ) → ((i v : ℕ) × (x ≡ 0 + i) × (slice_get inputs i ≡ Some v) × (marked marks v ≡ true))
+    sound : (x : ℕ) → ((i v : ℕ) × (x ≡ 0 + i) × (slice_get inputs i ≡ Some v) × (has_mark marks v ≡ true))
         → (v : ℕ) × (slice_get inputs x ≡ Some v) × LeadsTo lists (Some a) v
     sound x (i, v, place, at, is) = let e : x ≡ i = omega arith in (v, ap (slice_get inputs) e ∙ at, from v (reached.sound v is))
 
     complete : (x v : ℕ) → slice_get inputs x ≡ Some v → v < length lists → LeadsTo lists (Some a) v → In x numbers
     complete x v at below leads =
         let start : leads.0 ≡ a = let e : Some a ≡ Some leads.0 = leads.1 in cc in
-        let mark : marked marks v ≡ true = reached.complete a leads.2.0 v (inl refl) (subst (λ z. Chain (edges lists) leads.2.0 z v) start leads.2.1) below in
+        let mark : has_mark marks v ≡ true = reached.complete a leads.2.0 v (inl refl) (subst (λ z. Chain (edges lists) leads.2.0 z v) start leads.2.1) below in
         let number : 0 + x ≡ x = omega arith in
         subst (In x) (sym are') (subst (λ n. In n (reached_numbers marks 0 inputs)) number (to_numbers marks 0 inputs x v at mark))
 

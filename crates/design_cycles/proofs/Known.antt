@@ -8,7 +8,7 @@ use Rattle.wiring.proofs.Members.{In-append_cases}
 use Rattle.hw_model.specs.Types.{Name}
 use Rattle.hw_model.specs.Design.{Ref, Op, Module, Design, find_module, output_refs}
 use Rattle.hw_model.specs.Sound.{body_of, ports_of}
-use Rattle.hw_model.specs.Hierarchy.{called, calls}
+use Rattle.hw_model.specs.Hierarchy.{callee_symbols, calls}
 use Rattle.ir_store.specs.declared.design.Module.{Module as CodeModule}
 use Rattle.ir_store.specs.declared.operation.Value.{Value}
 use Rattle.ir_store.specs.Symbols.{symbol_place}
@@ -19,7 +19,7 @@ use Rattle.design_cycles.specs.declared.layout.Layout.{Layout}
 use Rattle.design_cycles.specs.declared.layout.Summary.{Summary}
 use Rattle.design_cycles.specs.Asked.{HasDistinctSymbols}
 use Rattle.design_cycles.specs.Calls.{symbols_in, call_lists}
-use Rattle.design_cycles.specs.Graphs.{edges, marked, AreCalled}
+use Rattle.design_cycles.specs.Graphs.{edges, has_mark, AreCalled}
 use Rattle.design_cycles.specs.Local.{IsSummary}
 use Rattle.design_cycles.specs.Nodes.{rows_of, rows_at, rows_by, sizes_in, body_lists, node_ref, value_node, table_by, IsLayout}
 use Rattle.design_cycles.specs.Places.{symbol_of, symbol_at}
@@ -72,7 +72,7 @@ pub called_edge : (d : Design) (top s : Name) (t : ℕ) → In s (calls d top) �
     → (i : ℕ) × (symbol_place top (symbols_in d) ≡ Some i) × In t (edges (call_lists d) i)
 called_edge d top s t named place = go (find_module d top) refl named
   where
-    go : (o : Option Module) → find_module d top ≡ o → In s (called (body_of o))
+    go : (o : Option Module) → find_module d top ≡ o → In s (callee_symbols (body_of o))
         → (i : ℕ) × (symbol_place top (symbols_in d) ≡ Some i) × In t (edges (call_lists d) i)
     go None is never = absurd never
     go (Some m) is here =
@@ -80,7 +80,7 @@ called_edge d top s t named place = go (find_module d top) refl named
         let there = place_found d top at.0 at.1 in
         let same : Some there.0 ≡ Some m = sym there.3 ∙ is in
         let module_is : there.0 ≡ m = cc in
-        (at.0, at.1, subst (In t) (sym (call_edges d at.0 m (there.1 ∙ ap Some module_is))) (In-numbers (symbols_in d) s t (called m.body) here place))
+        (at.0, at.1, subst (In t) (sym (call_edges d at.0 m (there.1 ∙ ap Some module_is))) (In-numbers (symbols_in d) s t (callee_symbols m.body) here place))
 
 module _ (modules : List StoredModule) (distinct : HasDistinctSymbols (map numbered_module modules)) where
   abbrev design : Design
@@ -120,7 +120,7 @@ module _ (modules : List StoredModule) (distinct : HasDistinctSymbols (map numbe
         omega arith
 
     pub callees_known : (summaries slice : List Summary) (k : ℕ) → k < length order → get_or order k 0 < length modules → slice ≡ summaries
-        → ((v : ℕ) → In v (take k order) → marked marks v ≡ true → IsSummed design (rows_of (slice_get summaries v)) v)
+        → ((v : ℕ) → In v (take k order) → has_mark marks v ≡ true → IsSummed design (rows_of (slice_get summaries v)) v)
         → KnowsCallees design (rows_by symbols slice) (symbol_at modules (get_or order k 0))
     callees_known summaries slice k below within same before =
         subst (λ ss. KnowsCallees design (rows_by ss slice) (symbol_at modules (get_or order k 0))) (sym (symbols_stored modules))
@@ -138,7 +138,7 @@ module _ (modules : List StoredModule) (distinct : HasDistinctSymbols (map numbe
             before t (whole.behind k (get_or order k 0) t (slice_get-get_or order k 0 below) need there) (are.all (get_or order k 0) t need there)
 
     pub all_known : (summaries : List Summary) (k : ℕ) → length order ≤ k
-        → ((v : ℕ) → In v (take k order) → marked marks v ≡ true → IsSummed design (rows_of (slice_get summaries v)) v) → (top : Name)
+        → ((v : ℕ) → In v (take k order) → has_mark marks v ≡ true → IsSummed design (rows_of (slice_get summaries v)) v) → (top : Name)
         → KnowsCallees design (rows_by symbols summaries) top
     all_known summaries k all before top =
         subst (λ ss. KnowsCallees design (rows_by ss summaries) top) (sym (symbols_stored modules)) (known_by design summaries top each)
@@ -152,7 +152,7 @@ module _ (modules : List StoredModule) (distinct : HasDistinctSymbols (map numbe
 
     -- one more module
     module _ (summaries : List Summary) (k : ℕ) (below : k < length order) (within : get_or order k 0 < length modules)
-        (before : (length summaries ≡ length modules) × ((v : ℕ) → In v (take k order) → marked marks v ≡ true → IsSummed design (rows_of (slice_get summaries v)) v)) where
+        (before : (length summaries ≡ length modules) × ((v : ℕ) → In v (take k order) → has_mark marks v ≡ true → IsSummed design (rows_of (slice_get summaries v)) v)) where
       last_or_before : (v : ℕ) → In v (take (k + 1) order) → (v ≡ get_or order k 0) ⊎ In v (take k order)
       last_or_before v here = go (In-append_cases v (take k order) (get_or order k 0 ∷ []) (subst (In v) (take_more order k 0 below) here))
         where
@@ -161,13 +161,13 @@ module _ (modules : List StoredModule) (distinct : HasDistinctSymbols (map numbe
           go (inr (inl last)) = inl last
           go (inr (inr never)) = absurd never
 
-      pub step_skips : (new : List Summary) → marked marks (get_or order k 0) ≡ false → new ≡ summaries
-          → (length new ≡ length modules) × ((v : ℕ) → In v (take (k + 1) order) → marked marks v ≡ true → IsSummed design (rows_of (slice_get new v)) v)
+      pub step_skips : (new : List Summary) → has_mark marks (get_or order k 0) ≡ false → new ≡ summaries
+          → (length new ≡ length modules) × ((v : ℕ) → In v (take (k + 1) order) → has_mark marks v ≡ true → IsSummed design (rows_of (slice_get new v)) v)
       step_skips new uncalled same =
           (ap length same ∙ before.0, λ v here mark. subst (λ ss. IsSummed design (rows_of (slice_get ss v)) v) (sym same) (go v (last_or_before v here) mark))
         where
-          go : (v : ℕ) → (v ≡ get_or order k 0) ⊎ In v (take k order) → marked marks v ≡ true → IsSummed design (rows_of (slice_get summaries v)) v
-          go v (inl last) mark = let e : true ≡ false = sym mark ∙ ap (marked marks) last ∙ uncalled in absurd (true_false e)
+          go : (v : ℕ) → (v ≡ get_or order k 0) ⊎ In v (take k order) → has_mark marks v ≡ true → IsSummed design (rows_of (slice_get summaries v)) v
+          go v (inl last) mark = let e : true ≡ false = sym mark ∙ ap (has_mark marks) last ∙ uncalled in absurd (true_false e)
             where
               true_false : true ≡ false → ⊥
               true_false e = cc
@@ -175,7 +175,7 @@ module _ (modules : List StoredModule) (distinct : HasDistinctSymbols (map numbe
 
       pub step_sums : (new : List Summary) (one : Summary) → new ≡ set summaries (get_or order k 0) one
           → IsSummed design (rows_of (Some one)) (get_or order k 0)
-          → (length new ≡ length modules) × ((v : ℕ) → In v (take (k + 1) order) → marked marks v ≡ true → IsSummed design (rows_of (slice_get new v)) v)
+          → (length new ≡ length modules) × ((v : ℕ) → In v (take (k + 1) order) → has_mark marks v ≡ true → IsSummed design (rows_of (slice_get new v)) v)
       step_sums new one now summed = (
         ap length now ∙ length-set summaries (get_or order k 0) one ∙ before.0,
         λ v here mark. subst (λ ss. IsSummed design (rows_of (slice_get ss v)) v) (sym now) (go v (eqb v (get_or order k 0)) refl (last_or_before v here) mark),
@@ -196,7 +196,7 @@ module _ (modules : List StoredModule) (distinct : HasDistinctSymbols (map numbe
           inside : get_or order k 0 < length summaries
           inside = let size : length summaries ≡ length modules = before.0 in omega arith
 
-          go : (v : ℕ) (b : Bool) → eqb v (get_or order k 0) ≡ b → (v ≡ get_or order k 0) ⊎ In v (take k order) → marked marks v ≡ true
+          go : (v : ℕ) (b : Bool) → eqb v (get_or order k 0) ≡ b → (v ≡ get_or order k 0) ⊎ In v (take k order) → has_mark marks v ≡ true
               → IsSummed design (rows_of (slice_get (set summaries (get_or order k 0) one) v)) v
           go v true same place mark =
               let e : v ≡ get_or order k 0 = eqb-true v (get_or order k 0) same in

@@ -18,29 +18,29 @@ use Rattle.hw_model.proofs.Sorts.Sort.{a_register, an_instance, an_output, a_mad
 use Rattle.hw_model.proofs.Paths.{module_inside, joined_body, port_of, output_of, op_in, result_in, result_here}
 use Rattle.hw_model.proofs.Gone.{called_In}
 use Rattle.wiring.proofs.Members.{In-slice_get}
-use Rattle.design_cycles.specs.Local.{IsInput, Feeds, IsSummary, picked, where_typed, op_wires, result_wires, wires}
+use Rattle.design_cycles.specs.Local.{IsInput, Feeds, IsSummary, operands_at, where_typed, op_wires, result_wires, wires}
 use Rattle.design_cycles.proofs.Inside.{lift_away, copied, no_needs_port, Leaves, chain_leaves, chain_lifts}
 use Rattle.design_cycles.proofs.Inside.Leaves.{stays, leaves}
 
 -- ---- operands by number
 
-pub In-picked : (rs : List Ref) (x : ℕ) (r : Ref) (xs : List ℕ) → In x xs → slice_get rs x ≡ Some r → In r (picked rs xs)
+pub In-picked : (rs : List Ref) (x : ℕ) (r : Ref) (xs : List ℕ) → In x xs → slice_get rs x ≡ Some r → In r (operands_at rs xs)
 In-picked rs x r [] here is = absurd here
 In-picked rs x r (y ∷ ys) (inl same) is =
     let first : slice_get rs y ≡ Some r = ap (slice_get rs) (sym same) ∙ is in
-    In-append_left r (option_to_list (slice_get rs y)) (picked rs ys) (subst (λ o. In r (option_to_list o)) (sym first) (inl refl))
-In-picked rs x r (y ∷ ys) (inr here) is = In-append_right r (option_to_list (slice_get rs y)) (picked rs ys) (In-picked rs x r ys here is)
+    In-append_left r (option_to_list (slice_get rs y)) (operands_at rs ys) (subst (λ o. In r (option_to_list o)) (sym first) (inl refl))
+In-picked rs x r (y ∷ ys) (inr here) is = In-append_right r (option_to_list (slice_get rs y)) (operands_at rs ys) (In-picked rs x r ys here is)
 
-pub from_In-picked : (rs : List Ref) (r : Ref) (xs : List ℕ) → In r (picked rs xs) → (x : ℕ) × In x xs × (slice_get rs x ≡ Some r)
+pub from_In-picked : (rs : List Ref) (r : Ref) (xs : List ℕ) → In r (operands_at rs xs) → (x : ℕ) × In x xs × (slice_get rs x ≡ Some r)
 from_In-picked rs r [] here = absurd here
-from_In-picked rs r (y ∷ ys) here = go (In-append_cases r (option_to_list (slice_get rs y)) (picked rs ys) here) (from_In-picked rs r ys)
+from_In-picked rs r (y ∷ ys) here = go (In-append_cases r (option_to_list (slice_get rs y)) (operands_at rs ys) here) (from_In-picked rs r ys)
   where
     only : (o : Option Ref) → slice_get rs y ≡ o → In r (option_to_list o) → (x : ℕ) × In x (y ∷ ys) × (slice_get rs x ≡ Some r)
     only None is never = absurd never
     only (Some z) is (inl same) = (y, inl refl, is ∙ ap Some (sym same))
     only (Some z) is (inr never) = absurd never
 
-    go : In r (option_to_list (slice_get rs y)) ⊎ In r (picked rs ys) → (In r (picked rs ys) → (x : ℕ) × In x ys × (slice_get rs x ≡ Some r))
+    go : In r (option_to_list (slice_get rs y)) ⊎ In r (operands_at rs ys) → (In r (operands_at rs ys) → (x : ℕ) × In x ys × (slice_get rs x ≡ Some r))
         → (x : ℕ) × In x (y ∷ ys) × (slice_get rs x ≡ Some r)
     go (inl first) rest = only (slice_get rs y) refl first
     go (inr later) rest = let found = rest later in (found.0, inr found.1, found.2)
@@ -114,7 +114,7 @@ module _ (d : Design) (top : Name) where
     local = wires table os
 
     of_instance : (j k : ℕ) (o : Op) (i : Instance) → slice_get os j ≡ Some o → is_register o ≡ false → instance_in o.kind ≡ Some i → (r : Ref)
-        → In r (picked o.operands (table i.symbol k)) → In r (local (result j k))
+        → In r (operands_at o.operands (table i.symbol k)) → In r (local (result j k))
     of_instance j k o i there unregistered inst r here =
         subst (λ x. In r (result_wires table k x)) (sym there)
         (subst (λ b. In r (cond b [] (op_wires table o k (instance_in o.kind)))) (sym unregistered)
@@ -216,7 +216,7 @@ module _ (d : Design) (top : Name) where
             (0, (net [] b, subst (In (net [] b)) (sym source) (In-map (net []) b o.operands here), refl))
 
         by_instance : (o : Op) (i : Instance) → slice_get os j ≡ Some o → is_register o ≡ false → instance_in o.kind ≡ Some i
-            → In b (picked o.operands (table i.symbol k)) → (n : ℕ) × Chain (needs d top) (suc n) (net [] (result j k)) (net [] b)
+            → In b (operands_at o.operands (table i.symbol k)) → (n : ℕ) × Chain (needs d top) (suc n) (net [] (result j k)) (net [] b)
         by_instance o i there r inst here =
             let found = from_In-picked o.operands b (table i.symbol k) here in
             let named : In i.symbol (calls d top) = called_In os o i (In-slice_get o os j there) inst in

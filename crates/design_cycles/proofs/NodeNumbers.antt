@@ -12,7 +12,7 @@ use Rattle.hw_model.specs.Design.{Ref, Op, OpResult, instance_in, is_register, i
 use Rattle.hw_model.specs.Design.Ref.{port, result, undefined}
 use Rattle.wiring.proofs.Options.{omap_some}
 use Rattle.design_cycles.specs.Graphs.{edges}
-use Rattle.design_cycles.specs.Local.{picked, where_typed, op_wires, result_wires, wires}
+use Rattle.design_cycles.specs.Local.{operands_at, where_typed, op_wires, result_wires, wires}
 use Rattle.design_cycles.specs.Nodes.{size_by, size_in, sizes_in, node_at, node_ref, nodes_in, port_refs, op_refs, result_refs, body_refs, table_by, node_needs, body_lists}
 use Rattle.design_cycles.proofs.Marking.{edges_within}
 
@@ -156,7 +156,7 @@ module _ (ports : ℕ) (rows : Name → List (List ℕ)) (os : List Op) where
           by_output true never low = never
           by_output false named low = by_type (result_type o k) refl named low
 
-          by_picked : (xs : List ℕ) → In b (picked o.operands xs) → (x : ℕ) × In x xs
+          by_picked : (xs : List ℕ) → In b (operands_at o.operands xs) → (x : ℕ) × In x xs
           by_picked [] never = absurd never
           by_picked (x ∷ xs) named = (x, inl refl)
 

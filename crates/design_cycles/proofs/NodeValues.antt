@@ -10,7 +10,7 @@ use Rattle.ir_store.specs.declared.operation.Value.TheVariants.{Port, Result, Un
 use Rattle.ir_store.specs.Numbered.{position_of, ref_by}
 use Rattle.design_cycles.specs.declared.layout.Layout.{Layout}
 use Rattle.design_cycles.specs.declared.layout.Span.{Span}
-use Rattle.design_cycles.specs.Local.{picked}
+use Rattle.design_cycles.specs.Local.{operands_at}
 use Rattle.ir_store.specs.PositionTables.{ArePositions}
 use Rattle.design_cycles.specs.Nodes.{AreSpans, IsLayout, node_at, node_ref, nodes_in, span_node, value_node, value_nodes, picked_values}
 
@@ -96,20 +96,20 @@ module _ (ports : ℕ) (sizes ids : List ℕ) (layout : Layout) (is : IsLayout p
   values_are [] = refl
   values_are (v ∷ vs) = ap₂ (λ o xs. option_to_list o ++ xs) (value_is v) (values_are vs)
 
-  pub picked_are : (vs : List Value) (xs : List ℕ) → picked_values layout vs xs ≡ nodes_in (node_ref ports sizes) (picked (map (ref_by (position_of ids)) vs) xs)
+  pub picked_are : (vs : List Value) (xs : List ℕ) → picked_values layout vs xs ≡ nodes_in (node_ref ports sizes) (operands_at (map (ref_by (position_of ids)) vs) xs)
   picked_are vs [] = refl
   picked_are vs (x ∷ xs) =
       ap₂ (λ a b. a ++ b) (one (slice_get vs x)) (picked_are vs xs)
-      ∙ sym (ap (λ o. nodes_in (node_ref ports sizes) (option_to_list o ++ picked (map (ref_by (position_of ids)) vs) xs)) (slice_get-map (ref_by (position_of ids)) vs x)
+      ∙ sym (ap (λ o. nodes_in (node_ref ports sizes) (option_to_list o ++ operands_at (map (ref_by (position_of ids)) vs) xs)) (slice_get-map (ref_by (position_of ids)) vs x)
       ∙ joined (option_map (ref_by (position_of ids)) (slice_get vs x)))
     where
-      joined : (o : Option Ref) → nodes_in (node_ref ports sizes) (option_to_list o ++ picked (map (ref_by (position_of ids)) vs) xs)
-          ≡ nodes_in (node_ref ports sizes) (option_to_list o) ++ nodes_in (node_ref ports sizes) (picked (map (ref_by (position_of ids)) vs) xs)
+      joined : (o : Option Ref) → nodes_in (node_ref ports sizes) (option_to_list o ++ operands_at (map (ref_by (position_of ids)) vs) xs)
+          ≡ nodes_in (node_ref ports sizes) (option_to_list o) ++ nodes_in (node_ref ports sizes) (operands_at (map (ref_by (position_of ids)) vs) xs)
       joined None = refl
       joined (Some r) = go (node_ref ports sizes r)
         where
-          go : (m : Option ℕ) → option_to_list m ++ nodes_in (node_ref ports sizes) (picked (map (ref_by (position_of ids)) vs) xs)
-              ≡ (option_to_list m ++ []) ++ nodes_in (node_ref ports sizes) (picked (map (ref_by (position_of ids)) vs) xs)
+          go : (m : Option ℕ) → option_to_list m ++ nodes_in (node_ref ports sizes) (operands_at (map (ref_by (position_of ids)) vs) xs)
+              ≡ (option_to_list m ++ []) ++ nodes_in (node_ref ports sizes) (operands_at (map (ref_by (position_of ids)) vs) xs)
           go None = refl
           go (Some n) = refl
 

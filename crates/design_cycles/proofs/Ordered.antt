@@ -26,7 +26,7 @@ use Rattle.ir_store.specs.Numbered.{position_of, ref_by, numbered}
 use Rattle.ir_store.specs.Designs.{StoredModule, module_of, numbered_module}
 use Rattle.design_cycles.specs.declared.layout.Summary.{Summary}
 use Rattle.design_cycles.specs.Asked.{HasDistinctSymbols, IsCyclicAt}
-use Rattle.design_cycles.specs.InOrder.{StandsBefore, StandsBehind, IsInOrder, is_numbered, is_at_its_number, is_before, IsLate}
+use Rattle.design_cycles.specs.InOrder.{StandsBefore, StandsAfter, IsInOrder, is_numbered, is_at_its_number, is_before, IsLate}
 use Rattle.design_cycles.specs.Local.{where_typed, op_wires, result_wires, wires}
 use Rattle.design_cycles.specs.Nodes.{rows_by, table_by}
 use Rattle.design_cycles.specs.Places.{symbol_at}
@@ -85,7 +85,7 @@ operands_before ids all j vs are each r here =
 
 -- the operation that is read at a position
 pub behind_operands : (b : Body) (o : CodeOp) (all : List OpId) (j : ℕ) → all ≡ map op_id (ids_of b) → slice_get (numbered (ops_of b)) j ≡ Some (op_view b o)
-    → list_all (is_before all j) o.operands.now ≡ true → StandsBehind (numbered (ops_of b)) j
+    → list_all (is_before all j) o.operands.now ≡ true → StandsAfter (numbered (ops_of b)) j
 behind_operands b o all j are at each x there plain r here =
     let same : Some x ≡ Some (op_view b o) = sym there ∙ at in
     let is : x ≡ op_view b o = cc in
@@ -101,11 +101,11 @@ not_register b o s other is = sym is ∙ go s other
     go Made other = refl
 
 pub behind_or_late : (b : Body) (o : CodeOp) (all : List OpId) (j : ℕ) (r : Bool) → all ≡ map op_id (ids_of b) → slice_get (numbered (ops_of b)) j ≡ Some (op_view b o)
-    → is_register (op_view b o) ≡ false → r ≡ list_all (is_before all j) o.operands.now → MatchBool r (StandsBehind (numbered (ops_of b)) j) (IsLate b all j)
+    → is_register (op_view b o) ≡ false → r ≡ list_all (is_before all j) o.operands.now → MatchBool r (StandsAfter (numbered (ops_of b)) j) (IsLate b all j)
 behind_or_late b o all j true are at plain is = behind_operands b o all j are at (sym is)
 behind_or_late b o all j false are at plain is = record { op_there = o; has_op = at; plain = plain; late = sym is }
 
-pub register_behind : (b : Body) (o : CodeOp) (j : ℕ) → slice_get (numbered (ops_of b)) j ≡ Some (op_view b o) → is_register (op_view b o) ≡ true → StandsBehind (numbered (ops_of b)) j
+pub register_behind : (b : Body) (o : CodeOp) (j : ℕ) → slice_get (numbered (ops_of b)) j ≡ Some (op_view b o) → is_register (op_view b o) ≡ true → StandsAfter (numbered (ops_of b)) j
 register_behind b o j at is x there plain r here =
     let same : Some x ≡ Some (op_view b o) = sym there ∙ at in
     let one : x ≡ op_view b o = cc in
@@ -115,14 +115,14 @@ pub if_true : (A B : Type 0) (r : Bool) → r ≡ true → MatchBool r A B → A
 if_true A B true is h = h
 if_true A B false is h = cc
 
-pub one_behind : (os : List Op) (n : ℕ) → ((j : ℕ) → j < n → StandsBehind os j) → StandsBehind os n → (j : ℕ) → j < n + 1 → StandsBehind os j
+pub one_behind : (os : List Op) (n : ℕ) → ((j : ℕ) → j < n → StandsAfter os j) → StandsAfter os n → (j : ℕ) → j < n + 1 → StandsAfter os j
 one_behind os n before here j low = go (grind arith)
   where
-    go : (j < n) ⊎ (j ≡ n) → StandsBehind os j
+    go : (j < n) ⊎ (j ≡ n) → StandsAfter os j
     go (inl under) = before j under
-    go (inr same) = subst (StandsBehind os) (sym same) here
+    go (inr same) = subst (StandsAfter os) (sym same) here
 
-pub all_behind : (os : List Op) (n : ℕ) → length os ≤ n → ((j : ℕ) → j < n → StandsBehind os j) → IsInOrder os
+pub all_behind : (os : List Op) (n : ℕ) → length os ≤ n → ((j : ℕ) → j < n → StandsAfter os j) → IsInOrder os
 all_behind os n all each j o there =
     let bound : j < length os = slice_get_within os j o there in
     each j (omega arith) o there

@@ -7,7 +7,7 @@ use Rattle.wiring.proofs.Members.{In-append_left, In-append_right, In-append_cas
 use Rattle.wiring.proofs.Lists.{slice_get-append_left, slice_get-append_at}
 use Rattle.wiring.proofs.Chains.{Chain-append, Chain-le}
 use Rattle.design_cycles.specs.declared.graph.NodeList.{NodeList}
-use Rattle.design_cycles.specs.Graphs.{lists_of, edges, marked, IsOrder}
+use Rattle.design_cycles.specs.Graphs.{lists_of, edges, has_mark, IsOrder}
 use Rattle.design_cycles.specs.Marks.{open_count, AreMarked, CanBePlaced, MustWait, Placed}
 use Rattle.design_cycles.proofs.Marking.{marked_same, marked_kept, marked_cases, open_fewer, edges_within, none_marked, written_back, length-lists}
 
@@ -17,17 +17,17 @@ pub none_needed : (marks : List Bool) → AreMarked [] marks
 none_needed marks t here below = absurd here
 
 pub marked_more : (nodes : List ℕ) (i : ℕ) (marks : List Bool) (answer : Bool) → i < length nodes → AreMarked (take i nodes) marks
-    → (IsTrue answer ↔ ((get_or nodes i 0 < length marks) × (marked marks (get_or nodes i 0) ≡ false))) → answer ≡ false → AreMarked (take (i + 1) nodes) marks
+    → (IsTrue answer ↔ ((get_or nodes i 0 < length marks) × (has_mark marks (get_or nodes i 0) ≡ false))) → answer ≡ false → AreMarked (take (i + 1) nodes) marks
 marked_more nodes i marks answer below are says denied t here within =
     go (In-append_cases t (take i nodes) (get_or nodes i 0 ∷ []) (subst (In t) (take_more nodes i 0 below) here))
   where
-    mark : (b : Bool) → marked marks t ≡ b → t ≡ get_or nodes i 0 → marked marks t ≡ true
+    mark : (b : Bool) → has_mark marks t ≡ b → t ≡ get_or nodes i 0 → has_mark marks t ≡ true
     mark true is same = is
-    mark false is same = let said : answer ≡ true = says.1 (subst (λ n. n < length marks) same within, ap (marked marks) (sym same) ∙ is) in cc
+    mark false is same = let said : answer ≡ true = says.1 (subst (λ n. n < length marks) same within, ap (has_mark marks) (sym same) ∙ is) in cc
 
-    go : In t (take i nodes) ⊎ In t (get_or nodes i 0 ∷ []) → marked marks t ≡ true
+    go : In t (take i nodes) ⊎ In t (get_or nodes i 0 ∷ []) → has_mark marks t ≡ true
     go (inl before) = are t before within
-    go (inr (inl same)) = mark (marked marks t) refl same
+    go (inr (inl same)) = mark (has_mark marks t) refl same
     go (inr (inr never)) = absurd never
 
 pub In-at : (nodes : List ℕ) (i : ℕ) → i < length nodes → In (get_or nodes i 0) nodes
@@ -37,10 +37,10 @@ In-at (x ∷ xs) (suc i) below = inr (In-at xs i (omega arith))
 
 -- ---- one more node
 
-pub order_none : (lists : List (List ℕ)) (placed : List Bool) → length placed ≡ length lists → ((v : ℕ) → marked placed v ≡ false) → IsOrder lists placed []
+pub order_none : (lists : List (List ℕ)) (placed : List Bool) → length placed ≡ length lists → ((v : ℕ) → has_mark placed v ≡ false) → IsOrder lists placed []
 order_none lists placed size none = record {
   count = size;
-  listed = λ v is. let e : marked placed v ≡ false = none v in absurd (false_true e is);
+  listed = λ v is. let e : has_mark placed v ≡ false = none v in absurd (false_true e is);
   placed_all = λ v here. absurd here;
   behind = λ i v t is need below. cc;
 }
@@ -57,13 +57,13 @@ order_more lists placed nodes x order can = record {
   behind = λ i v t is need below. behind i v t (grind arith) is need below;
 }
   where
-    listed : (v : ℕ) → (v ≡ x) ⊎ (marked placed v ≡ true) → In v (nodes ++ x ∷ [])
+    listed : (v : ℕ) → (v ≡ x) ⊎ (has_mark placed v ≡ true) → In v (nodes ++ x ∷ [])
     listed v (inl same) = In-append_right v nodes (x ∷ []) (inl same)
     listed v (inr had) = In-append_left v nodes (x ∷ []) (order.listed v had)
 
-    placed_all : (v : ℕ) → In v nodes ⊎ In v (x ∷ []) → marked (set placed x true) v ≡ true
+    placed_all : (v : ℕ) → In v nodes ⊎ In v (x ∷ []) → has_mark (set placed x true) v ≡ true
     placed_all v (inl here) = marked_kept placed x v can.0 (order.placed_all v here)
-    placed_all v (inr (inl same)) = ap (marked (set placed x true)) same ∙ marked_same placed x can.0
+    placed_all v (inr (inl same)) = ap (has_mark (set placed x true)) same ∙ marked_same placed x can.0
     placed_all v (inr (inr never)) = absurd never
 
     within_some : (i v : ℕ) → slice_get (nodes ++ x ∷ []) i ≡ Some v → i < length nodes + 1
@@ -80,7 +80,7 @@ order_more lists placed nodes x order can = record {
         let at : i ≡ length nodes = let bound : i < length nodes + 1 = within_some i v is in omega arith in
         let last : slice_get (nodes ++ x ∷ []) i ≡ Some x = ap (slice_get (nodes ++ x ∷ [])) at ∙ slice_get-append_at nodes x [] in
         let same : v ≡ x = cc in
-        let mark : marked placed t ≡ true = can.2 t (subst (λ z. In t (edges lists z)) same need) (subst (λ n. t < n) (sym order.count) below) in
+        let mark : has_mark placed t ≡ true = can.2 t (subst (λ z. In t (edges lists z)) same need) (subst (λ n. t < n) (sym order.count) below) in
         let here : In t nodes = order.listed t mark in
         let front : take i (nodes ++ x ∷ []) ≡ take i nodes = take-append-le i nodes (x ∷ []) (omega arith) in
         let whole : take i nodes ≡ nodes = ap (λ n. take n nodes) at ∙ take_all nodes in
@@ -143,7 +143,7 @@ module _ (lists : List (List ℕ)) (candidates : List ℕ) (i : ℕ) (below : i 
 module _ (graph : List NodeList) (old lent new : List Bool) (n : ℕ) (size : n ≡ length old) (same : length new ≡ length lent) (is : lent ≡ old) where
   pub placing_begins : (n' : ℕ) (waited : List ℕ) → length old ≡ length graph → old ≡ replicate n' false → waited ≡ [] → IsOrder (lists_of graph) lent waited
   placing_begins n' waited count fresh none =
-      rw (is, none) (order_none (lists_of graph) old (count ∙ sym (length-lists graph)) (λ v. ap (λ ms. marked ms v) fresh ∙ none_marked n' v))
+      rw (is, none) (order_none (lists_of graph) old (count ∙ sym (length-lists graph)) (λ v. ap (λ ms. has_mark ms v) fresh ∙ none_marked n' v))
 
   back : take n (new ++ drop (length new) old) ≡ new
   back = written_back n new old size (same ∙ ap length is)
@@ -197,7 +197,7 @@ module _ (lists : List (List ℕ)) (placed : List Bool) (nodes : List ℕ) (orde
           let lower : found.0 < i = found.1 in
           omega arith
 
-  pub placed_no_cycle : (v : ℕ) → marked placed v ≡ true → Depends (edges lists) v v → ⊥
+  pub placed_no_cycle : (v : ℕ) → has_mark placed v ≡ true → Depends (edges lists) v v → ⊥
   placed_no_cycle v is around =
       let at = position_of_In v nodes (order.listed v is) in
       let long = repeated (edges lists) v around (suc (suc at.0)) in
@@ -205,7 +205,7 @@ module _ (lists : List (List ℕ)) (placed : List Bool) (nodes : List ℕ) (orde
       let more : suc (suc at.0) ≤ long.0 = long.1 in
       absurd (omega arith)
 
-  pub complete_acyclic : ((v : ℕ) → v < length lists → marked placed v ≡ true) → IsAcyclic (edges lists)
+  pub complete_acyclic : ((v : ℕ) → v < length lists → has_mark placed v ≡ true) → IsAcyclic (edges lists)
   complete_acyclic complete v (k, (t, need, chain)) = placed_no_cycle v (complete v (edges_within lists v t need)) (k, (t, need, chain))
 
   -- ---- where there is no cycle the longest order has all nodes
@@ -229,20 +229,20 @@ module _ (lists : List (List ℕ)) (placed : List Bool) (nodes : List ℕ) (orde
   length-upto (suc n) = ap suc (length-upto n)
 
   module _ (longest : (v : ℕ) → v < length lists → MustWait lists placed v) where
-    waiting_chain : (k v : ℕ) → v < length lists → marked placed v ≡ false → (w : ℕ) × Chain (edges lists) k v w
+    waiting_chain : (k v : ℕ) → v < length lists → has_mark placed v ≡ false → (w : ℕ) × Chain (edges lists) k v w
     waiting_chain zero v below is = (v, refl)
     waiting_chain (suc k) v below is =
         let next = longest v below (subst (λ n. v < n) (sym order.count) below) is in
         let rest = waiting_chain k next.0 (subst (λ n. next.0 < n) order.count next.2) next.3 in
         (rest.0, (next.0, next.1, rest.1))
 
-    pub acyclic_complete : IsAcyclic (edges lists) → (v : ℕ) → v < length lists → marked placed v ≡ true
-    acyclic_complete acyclic v below = go (marked placed v) refl
+    pub acyclic_complete : IsAcyclic (edges lists) → (v : ℕ) → v < length lists → has_mark placed v ≡ true
+    acyclic_complete acyclic v below = go (has_mark placed v) refl
       where
         within : IsWithin (edges lists) (upto (length lists))
         within a b need = In-upto (length lists) a (edges_within lists a b need)
 
-        go : (b : Bool) → marked placed v ≡ b → marked placed v ≡ true
+        go : (b : Bool) → has_mark placed v ≡ b → has_mark placed v ≡ true
         go true is = is
         go false is =
             let long = waiting_chain (suc (length lists)) v below is in

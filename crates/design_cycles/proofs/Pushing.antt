@@ -19,7 +19,7 @@ use Rattle.design_cycles.specs.declared.ops.Sort.{Sort}
 use Rattle.design_cycles.specs.declared.ops.Sort.TheVariants.{Register, Calls, Gives, Made}
 use Rattle.design_cycles.specs.Sorts.{gives}
 use Rattle.design_cycles.specs.Reading.{op_view}
-use Rattle.design_cycles.specs.Local.{picked}
+use Rattle.design_cycles.specs.Local.{operands_at}
 use Rattle.design_cycles.specs.Nodes.{sizes_in, size_in, AreSpans, IsLayout, node_ref, nodes_in, value_nodes, picked_values, times_over, lists_at}
 use Rattle.design_cycles.proofs.NodeValues.{span_count, values_are, picked_are}
 use Rattle.design_cycles.proofs.Graphing.{made_lists, called_lists}
@@ -69,7 +69,7 @@ module _ (b : Body) (o : CodeOp) (ports : ℕ) (rows : Name → List (List ℕ))
       ap (map (picked_values l o.operands.now)) are ∙ each (rows i.symbol) ∙ sym (called_lists ports rows os j (op_view b o) there i (sym r) (sym n))
     where
       each : (ys : List (List ℕ))
-          → map (picked_values l o.operands.now) ys ≡ map (λ zs. nodes_in (node_ref ports (sizes_in rows os)) (picked (op_view b o).operands zs)) ys
+          → map (picked_values l o.operands.now) ys ≡ map (λ zs. nodes_in (node_ref ports (sizes_in rows os)) (operands_at (op_view b o).operands zs)) ys
       each [] = refl
       each (y ∷ ys) = ap₂ (λ a c. a ∷ c) (picked_are ports (sizes_in rows os) (ids_of b) l is (sizes_count b rows) o.operands.now y) (each ys)
 

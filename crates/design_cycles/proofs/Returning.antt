@@ -10,7 +10,7 @@ use Rattle.hw_model.specs.Types.{Name}
 use Rattle.hw_model.specs.Kinds.{Instance}
 use Rattle.hw_model.specs.Design.{Op, Module, Design, find_module, instance_in}
 use Rattle.hw_model.specs.Sound.{body_of}
-use Rattle.hw_model.specs.Hierarchy.{called, called_by, calls, HasNoRecursion}
+use Rattle.hw_model.specs.Hierarchy.{callee_symbols, called_by, calls, HasNoRecursion}
 use Rattle.hw_model.proofs.Gone.{called_In}
 use Rattle.ir_store.specs.Symbols.{symbol_place}
 use Rattle.ir_store.specs.declared.operation.OpId.{OpId}
@@ -21,22 +21,22 @@ use Rattle.ir_store.specs.Designs.{StoredModule, numbered_module}
 use Rattle.design_cycles.specs.Places.{IsFirstOp, IsFirst, ids_at, ids_of_module}
 use Rattle.design_cycles.specs.Asked.{HasDistinctSymbols, Returns, IsRecursiveAt}
 use Rattle.design_cycles.specs.Calls.{symbols_in, call_lists, callee_number, IsCalleeAt, IsFoundAt}
-use Rattle.design_cycles.specs.Graphs.{edges, marked, AreReached, LeadsTo, IsOrder}
+use Rattle.design_cycles.specs.Graphs.{edges, has_mark, AreReached, LeadsTo, IsOrder}
 use Rattle.design_cycles.proofs.Callees.{number, call_edges, place_found, number_found, In-numbers, chain_numbers, found_at, chain_symbols}
 use Rattle.design_cycles.proofs.Placing.{placed_no_cycle}
 
 -- an instance whose module is called
-pub from_called : (os : List Op) (s : Name) → In s (called os) → (j : ℕ) × (o : Op) × (i : Instance) × (slice_get os j ≡ Some o) × (instance_in o.kind ≡ Some i) × (i.symbol ≡ s)
+pub from_called : (os : List Op) (s : Name) → In s (callee_symbols os) → (j : ℕ) × (o : Op) × (i : Instance) × (slice_get os j ≡ Some o) × (instance_in o.kind ≡ Some i) × (i.symbol ≡ s)
 from_called [] s here = absurd here
-from_called (o ∷ os) s here = go (In-append_cases s (called_by (instance_in o.kind)) (called os) here) (from_called os s)
+from_called (o ∷ os) s here = go (In-append_cases s (called_by (instance_in o.kind)) (callee_symbols os) here) (from_called os s)
   where
     first : (x : Option Instance) → instance_in o.kind ≡ x → In s (called_by x) → (j : ℕ) × (p : Op) × (i : Instance) × (slice_get (o ∷ os) j ≡ Some p) × (instance_in p.kind ≡ Some i) × (i.symbol ≡ s)
     first None is never = absurd never
     first (Some i) is (inl same) = (0, o, i, refl, is, sym same)
     first (Some i) is (inr never) = absurd never
 
-    go : In s (called_by (instance_in o.kind)) ⊎ In s (called os)
-        → (In s (called os) → (j : ℕ) × (p : Op) × (i : Instance) × (slice_get os j ≡ Some p) × (instance_in p.kind ≡ Some i) × (i.symbol ≡ s))
+    go : In s (called_by (instance_in o.kind)) ⊎ In s (callee_symbols os)
+        → (In s (callee_symbols os) → (j : ℕ) × (p : Op) × (i : Instance) × (slice_get os j ≡ Some p) × (instance_in p.kind ≡ Some i) × (i.symbol ≡ s))
         → (j : ℕ) × (p : Op) × (i : Instance) × (slice_get (o ∷ os) j ≡ Some p) × (instance_in p.kind ≡ Some i) × (i.symbol ≡ s)
     go (inl here) rest = first (instance_in o.kind) refl here
     go (inr here) rest = let found = rest here in (suc found.0, found.1, found.2, found.3, found.4, found.5)
@@ -67,7 +67,7 @@ module _ (d : Design) (distinct : HasDistinctSymbols d) where
       found_number : (c : Name) → In c (calls d s) → (k : ℕ) × (number d s ≡ Some k)
       found_number c need = go (find_module d s) refl need
         where
-          go : (o : Option Module) → find_module d s ≡ o → In c (called (body_of o)) → (k : ℕ) × (number d s ≡ Some k)
+          go : (o : Option Module) → find_module d s ≡ o → In c (callee_symbols (body_of o)) → (k : ℕ) × (number d s ≡ Some k)
           go None is never = absurd never
           go (Some n) is here = number_found d s n is
 
@@ -114,12 +114,12 @@ module _ (d : Design) (distinct : HasDistinctSymbols d) where
       (back.number_of, callee_of_recursive i j m n at callee r ∙ back.is, (back.steps, back.chain))
 
   -- a module that has a place in an order has no such instance
-  pub not_placed : (placed : List Bool) (nodes : List ℕ) → IsOrder (call_lists d) placed nodes → (i j : ℕ) → marked placed i ≡ true → IsRecursiveAt d i j → ⊥
+  pub not_placed : (placed : List Bool) (nodes : List ℕ) → IsOrder (call_lists d) placed nodes → (i j : ℕ) → has_mark placed i ≡ true → IsRecursiveAt d i j → ⊥
   not_placed placed nodes order i j mark r =
       let back = recursive_back i j r in
       let edge : In back.number_of (edges (call_lists d) i) =
       subst (In back.number_of) (sym (call_edges d i r.module_there r.has_module))
-      (In-numbers (symbols_in d) r.instance_there.symbol back.number_of (called r.module_there.body)
+      (In-numbers (symbols_in d) r.instance_there.symbol back.number_of (callee_symbols r.module_there.body)
       (called_In r.module_there.body r.op_there r.instance_there (In-slice_get r.op_there r.module_there.body j r.has_op) r.is_instance) back.is) in
       placed_no_cycle (call_lists d) placed nodes order i mark (back.steps, (back.number_of, edge, back.chain))
 
@@ -127,7 +127,7 @@ module _ (d : Design) (distinct : HasDistinctSymbols d) where
   pub none_recursive : ((i j : ℕ) → IsRecursiveAt d i j → ⊥) → HasNoRecursion d
   none_recursive none s (k, (c, need, chain)) = go (find_module d s) refl need
     where
-      go : (o : Option Module) → find_module d s ≡ o → In c (called (body_of o)) → ⊥
+      go : (o : Option Module) → find_module d s ≡ o → In c (callee_symbols (body_of o)) → ⊥
       go None is never = absurd never
       go (Some m) is here =
           let at = number_found d s m is in
@@ -150,7 +150,7 @@ module _ (d : Design) (distinct : HasDistinctSymbols d) where
 -- ---- whether one leads to another, by the marks of what it reaches
 
 pub marks_lead : (lists : List (List ℕ)) (a v : ℕ) (marks : List Bool) → v < length lists → AreReached lists (a ∷ []) marks
-    → (b : Bool) → b ≡ marked marks v → MatchBool b (LeadsTo lists (Some a) v) (LeadsTo lists (Some a) v → ⊥)
+    → (b : Bool) → b ≡ has_mark marks v → MatchBool b (LeadsTo lists (Some a) v) (LeadsTo lists (Some a) v → ⊥)
 marks_lead lists a v marks below reached true is = from (reached.sound v (sym is))
   where
     from : ((c k : ℕ) × In c (a ∷ []) × Chain (edges lists) k c v) → LeadsTo lists (Some a) v
@@ -158,7 +158,7 @@ marks_lead lists a v marks below reached true is = from (reached.sound v (sym is
     from (c, k, inr never, chain) = absurd never
 marks_lead lists a v marks below reached false is = λ leads.
     let same : leads.0 ≡ a = let e : Some a ≡ Some leads.0 = leads.1 in cc in
-    let mark : marked marks v ≡ true = reached.complete a leads.2.0 v (inl refl) (subst (λ z. Chain (edges lists) leads.2.0 z v) same leads.2.1) below in
+    let mark : has_mark marks v ≡ true = reached.complete a leads.2.0 v (inl refl) (subst (λ z. Chain (edges lists) leads.2.0 z v) same leads.2.1) below in
     cc
 
 pub none_leads : (lists : List (List ℕ)) (v : ℕ) → LeadsTo lists None v → ⊥
@@ -259,11 +259,11 @@ place_found_first modules P i op before found = record { found = found; earlier 
 -- a module that is placed has none
 pub placed_none : (modules : List StoredModule) → HasDistinctSymbols (map numbered_module modules) → (lists : List (List ℕ)) → lists ≡ call_lists (map numbered_module modules)
     → (placed : List Bool) (nodes : List ℕ) → IsOrder lists placed nodes → (i : ℕ) → i < length modules → (answer : Bool)
-    → (IsTrue answer ↔ ((i < length placed) × (marked placed i ≡ false))) → answer ≡ false → (j : ℕ) → IsRecursiveAt (map numbered_module modules) i j → ⊥
+    → (IsTrue answer ↔ ((i < length placed) × (has_mark placed i ≡ false))) → answer ≡ false → (j : ℕ) → IsRecursiveAt (map numbered_module modules) i j → ⊥
 placed_none modules distinct lists are placed nodes order i below answer says denied j r =
-    not_placed (map numbered_module modules) distinct placed nodes (subst (λ ls. IsOrder ls placed nodes) are order) i j (mark (marked placed i) refl) r
+    not_placed (map numbered_module modules) distinct placed nodes (subst (λ ls. IsOrder ls placed nodes) are order) i j (mark (has_mark placed i) refl) r
   where
-    mark : (b : Bool) → marked placed i ≡ b → marked placed i ≡ true
+    mark : (b : Bool) → has_mark placed i ≡ b → has_mark placed i ≡ true
     mark true is = is
     mark false is =
         let size : length placed ≡ length lists = order.count in

@@ -13,7 +13,7 @@ use Rattle.hw_model.specs.Kinds.{Kind}
 use Rattle.hw_model.specs.Kinds.Kind.{instance}
 use Rattle.hw_model.specs.Design.{Op, Module, Design, Port, find_module, instance_in}
 use Rattle.hw_model.specs.Sound.{body_of}
-use Rattle.hw_model.specs.Hierarchy.{called, called_by, calls, HasNoRecursion}
+use Rattle.hw_model.specs.Hierarchy.{callee_symbols, called_by, calls, HasNoRecursion}
 use Rattle.hw_model.specs.Weight.{leaf_count, kind_weight, body_weight, weight_of, module_weight, weight}
 use Rattle.hw_model.proofs.Content.{call_heights}
 use Rattle.hw_model.proofs.Finite.{calls_within}
@@ -23,7 +23,7 @@ use Rattle.ir_store.specs.Designs.{StoredModule, numbered_module, port_of}
 use Rattle.ir_store.specs.declared.design.Port.{Port as CodePort}
 use Rattle.design_cycles.specs.Asked.{HasDistinctSymbols, IsTooLargeAt}
 use Rattle.design_cycles.specs.Calls.{symbols_in, numbers_of, call_lists}
-use Rattle.design_cycles.specs.Graphs.{edges, marked, IsOrder}
+use Rattle.design_cycles.specs.Graphs.{edges, has_mark, IsOrder}
 use Rattle.design_cycles.specs.Places.{FindsNumber}
 use Rattle.design_cycles.specs.Weighing.{kept_weight, weight_by, WeighsAt, Weighs, IsWhole}
 use Rattle.design_cycles.proofs.Callees.{call_edges, place_found, number_found, In-numbers, found_at, acyclic_numbers}
@@ -82,19 +82,19 @@ module_sum inner modules i m ports inside all one at p q r =
 
 -- ---- weights do not depend on the depth
 
-body_agree : (f g : Name → ℕ) (m : ℕ) (os : List Op) → ((s : Name) → In s (called os) → min (f s) m ≡ min (g s) m) → min (body_weight f os) m ≡ min (body_weight g os) m
+body_agree : (f g : Name → ℕ) (m : ℕ) (os : List Op) → ((s : Name) → In s (callee_symbols os) → min (f s) m ≡ min (g s) m) → min (body_weight f os) m ≡ min (body_weight g os) m
 body_agree f g m [] agree = refl
 body_agree f g m (o ∷ os) agree =
     let first : min (kind_weight f o.kind o.types (length o.operands)) m ≡ min (kind_weight g o.kind o.types (length o.operands)) m =
-    by_kind o.kind o.types (length o.operands) (λ s here. agree s (In-append_left s (called_by (instance_in o.kind)) (called os) here)) in
-    let rest : min (body_weight f os) m ≡ min (body_weight g os) m = body_agree f g m os (λ s here. agree s (In-append_right s (called_by (instance_in o.kind)) (called os) here)) in
+    by_kind o.kind o.types (length o.operands) (λ s here. agree s (In-append_left s (called_by (instance_in o.kind)) (callee_symbols os) here)) in
+    let rest : min (body_weight f os) m ≡ min (body_weight g os) m = body_agree f g m os (λ s here. agree s (In-append_right s (called_by (instance_in o.kind)) (callee_symbols os) here)) in
     omega arith
   where
     by_kind : (kind : Kind) (ts : List HwType) (n : ℕ) → ((s : Name) → In s (called_by (instance_in kind)) → min (f s) m ≡ min (g s) m) → min (kind_weight f kind ts n) m ≡ min (kind_weight g kind ts n) m
     by_kind (instance i) ts n same = let inner : min (f i.symbol) m ≡ min (g i.symbol) m = same i.symbol (inl refl) in omega arith
     by_kind kind ts n same = refl
 
-pub weight_agree : (f g : Name → ℕ) (m : ℕ) (o : Option Module) → ((s : Name) → In s (called (body_of o)) → min (f s) m ≡ min (g s) m) → min (weight_of f o) m ≡ min (weight_of g o) m
+pub weight_agree : (f g : Name → ℕ) (m : ℕ) (o : Option Module) → ((s : Name) → In s (callee_symbols (body_of o)) → min (f s) m ≡ min (g s) m) → min (weight_of f o) m ≡ min (weight_of g o) m
 weight_agree f g m None agree = refl
 weight_agree f g m (Some one) agree =
     let rest : min (body_weight f one.body) m ≡ min (body_weight g one.body) m = body_agree f g m one.body agree in omega arith
@@ -150,7 +150,7 @@ module _ (d : Design) (distinct : HasDistinctSymbols d) (finite : HasNoRecursion
           go None is = is
           go (Some x) is = let has = number_found d s x is in let never : Some has.0 ≡ None = sym has.1 ∙ none in cc
 
-      agree : (s : Name) → In s (called one.body) → min (weight_by (symbols_in d) weights s) m ≡ min (weight d s) m
+      agree : (s : Name) → In s (callee_symbols one.body) → min (weight_by (symbols_in d) weights s) m ≡ min (weight d s) m
       agree s named = go (symbol_place s (symbols_in d)) refl
         where
           go : (x : Option ℕ) → symbol_place s (symbols_in d) ≡ x → min (kept_weight weights x) m ≡ min (weight d s) m
@@ -159,9 +159,9 @@ module _ (d : Design) (distinct : HasDistinctSymbols d) (finite : HasNoRecursion
           go (Some t) place =
               let there = place_found d s t place in
               let below : t < length (call_lists d) =
-              (let size : length (call_lists d) ≡ length d = length-map d (λ (x : Module). numbers_of (symbols_in d) (called x.body)) in
+              (let size : length (call_lists d) ≡ length d = length-map d (λ (x : Module). numbers_of (symbols_in d) (callee_symbols x.body)) in
               let bound : t < length d = slice_get_within d t there.0 there.1 in omega arith) in
-              let edge : In t (edges (call_lists d) i) = subst (In t) (sym (call_edges d i one at)) (In-numbers (symbols_in d) s t (called one.body) named place) in
+              let edge : In t (edges (call_lists d) i) = subst (In t) (sym (call_edges d i one at)) (In-numbers (symbols_in d) s t (callee_symbols one.body) named place) in
               let kept : slice_index weights t ≡ min (weight d there.0.symbol) m = inner t edge below there.0 there.1 in
               let same : weight d there.0.symbol ≡ weight d s = ap (weight d) there.2 in
               omega arith
@@ -190,7 +190,7 @@ module _ (d : Design) (distinct : HasDistinctSymbols d) (finite : HasNoRecursion
           earlier (inr (inr never)) = absurd never
 
 -- a longest order is whole
-pub order_whole : (lists : List (List ℕ)) (placed : List Bool) (nodes : List ℕ) → IsOrder lists placed nodes → ((v : ℕ) → v < length lists → marked placed v ≡ true) → IsWhole lists nodes
+pub order_whole : (lists : List (List ℕ)) (placed : List Bool) (nodes : List ℕ) → IsOrder lists placed nodes → ((v : ℕ) → v < length lists → has_mark placed v ≡ true) → IsWhole lists nodes
 order_whole lists placed nodes order complete = record {
   within = λ v here. subst (λ n. v < n) order.count (marked_within placed v (order.placed_all v here));
   all = λ v below. order.listed v (complete v below);
@@ -236,7 +236,7 @@ module _ (modules : List StoredModule) (m : ℕ) where
   design = map numbered_module modules
 
   pub count_modules : length (call_lists design) ≡ length modules
-  count_modules = length-map design (λ (x : Module). numbers_of (symbols_in design) (called x.body)) ∙ length-map modules numbered_module
+  count_modules = length-map design (λ (x : Module). numbers_of (symbols_in design) (callee_symbols x.body)) ∙ length-map modules numbered_module
 
   pub node_within : (order : List ℕ) (k : ℕ) → IsWhole (call_lists design) order → k < length order → get_or order k 0 < length modules
   node_within order k whole below =

@@ -3,7 +3,7 @@ use Rattle.std.specs.Prelude.{◌≡◌, ℕ, List, [], ◌∷◌, ◌++◌, map
 use Rattle.hw_model.specs.Types.{Name}
 use Rattle.hw_model.specs.Kinds.{Instance}
 use Rattle.hw_model.specs.Design.{Op, Module, Design, instance_in}
-use Rattle.hw_model.specs.Hierarchy.{called}
+use Rattle.hw_model.specs.Hierarchy.{callee_symbols}
 use Rattle.ir_store.specs.Symbols.{symbol_place}
 use Rattle.ir_store.specs.Designs.{StoredModule}
 
@@ -18,7 +18,7 @@ numbers_of symbols (s ∷ ss) = option_to_list (symbol_place s symbols) ++ numbe
 
 -- of each module the numbers of those that it instances
 abbrev pub call_lists : Design → List (List ℕ)
-call_lists d = map (λ (m : Module). numbers_of (symbols_in d) (called m.body)) d
+call_lists d = map (λ (m : Module). numbers_of (symbols_in d) (callee_symbols m.body)) d
 
 -- the number of the module that an operation instances
 abbrev pub callee_number : List Name → Option Instance → Option ℕ

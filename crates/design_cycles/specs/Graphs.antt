@@ -12,20 +12,20 @@ abbrev pub edges : List (List ℕ) → ℕ → List ℕ
 edges lists v = slice_index_or lists v []
 
 -- whether a node has its mark
-abbrev pub marked : List Bool → ℕ → Bool
-marked marks v = slice_index_or marks v false
+abbrev pub has_mark : List Bool → ℕ → Bool
+has_mark marks v = slice_index_or marks v false
 
 -- the marks say which nodes are reached from the starts, in any number of steps
 pub record AreReached (lists : List (List ℕ)) (starts : List ℕ) (marks : List Bool) : Type 0 where
   pub count : length marks ≡ length lists
-  pub sound : (b : ℕ) → marked marks b ≡ true → (a : ℕ) × (k : ℕ) × In a starts × Chain (edges lists) k a b
-  pub complete : (a k b : ℕ) → In a starts → Chain (edges lists) k a b → b < length lists → marked marks b ≡ true
+  pub sound : (b : ℕ) → has_mark marks b ≡ true → (a : ℕ) × (k : ℕ) × In a starts × Chain (edges lists) k a b
+  pub complete : (a k b : ℕ) → In a starts → Chain (edges lists) k a b → b < length lists → has_mark marks b ≡ true
 
 -- some nodes, each after all that it needs, and the marks of those
 pub record IsOrder (lists : List (List ℕ)) (placed : List Bool) (nodes : List ℕ) : Type 0 where
   pub count : length placed ≡ length lists
-  pub listed : (v : ℕ) → marked placed v ≡ true → In v nodes
-  pub placed_all : (v : ℕ) → In v nodes → marked placed v ≡ true
+  pub listed : (v : ℕ) → has_mark placed v ≡ true → In v nodes
+  pub placed_all : (v : ℕ) → In v nodes → has_mark placed v ≡ true
   pub behind : (i v t : ℕ) → slice_get nodes i ≡ Some v → In t (edges lists v) → t < length lists → In t (take i nodes)
 
 -- from a node, where there is one, a chain leads to v
@@ -35,8 +35,8 @@ LeadsTo lists from v = (a : ℕ) × (from ≡ Some a) × ((k : ℕ) × Chain (ed
 -- what some node needs and is there has its mark, and nothing else has
 pub record AreCalled (lists : List (List ℕ)) (marks : List Bool) : Type 0 where
   pub count : length marks ≡ length lists
-  pub sound : (v : ℕ) → marked marks v ≡ true → (i : ℕ) × In v (edges lists i)
-  pub all : (i v : ℕ) → In v (edges lists i) → v < length lists → marked marks v ≡ true
+  pub sound : (v : ℕ) → has_mark marks v ≡ true → (i : ℕ) × In v (edges lists i)
+  pub all : (i v : ℕ) → In v (edges lists i) → v < length lists → has_mark marks v ≡ true
 
 -- one of so many nodes from one on depends on itself
 abbrev pub ReturnsWithin : List (List ℕ) → ℕ → ℕ → Type 0

@@ -20,12 +20,12 @@ StandsBefore j (result q k) = q < j
 StandsBefore j undefined = Unit {0}
 
 -- the operation at a position is a register, or takes what stands before it alone
-abbrev pub StandsBehind : List Op → ℕ → Type 0
-StandsBehind os j = (o : Op) → slice_get os j ≡ Some o → is_register o ≡ false → (r : Ref) → In r o.operands → StandsBefore j r
+abbrev pub StandsAfter : List Op → ℕ → Type 0
+StandsAfter os j = (o : Op) → slice_get os j ≡ Some o → is_register o ≡ false → (r : Ref) → In r o.operands → StandsBefore j r
 
 -- so does each operation
 abbrev pub IsInOrder : List Op → Type 0
-IsInOrder os = (j : ℕ) → StandsBehind os j
+IsInOrder os = (j : ℕ) → StandsAfter os j
 
 -- ---- as code tells it, where ids are numbered in text order
 

@@ -31,9 +31,9 @@ pub record IsSummary (d : Design) (table : Name → ℕ → List ℕ) (s : Name)
   pub complete : (k x : ℕ) → Feeds d s k x → In x (table s k)
 
 -- the operands of these numbers, where there are any
-abbrev pub picked : List Ref → List ℕ → List Ref
-picked operands [] = []
-picked operands (x ∷ xs) = option_to_list (slice_get operands x) ++ picked operands xs
+abbrev pub operands_at : List Ref → List ℕ → List Ref
+operands_at operands [] = []
+operands_at operands (x ∷ xs) = option_to_list (slice_get operands x) ++ operands_at operands xs
 
 -- the operands of an operation whose result has a type
 abbrev pub where_typed : Option HwType → List Ref → List Ref
@@ -42,7 +42,7 @@ where_typed (Some t) refs = refs
 
 -- what result k of an operation needs that is no register
 abbrev pub op_wires : (Name → ℕ → List ℕ) → Op → ℕ → Option Instance → List Ref
-op_wires table o k (Some i) = picked o.operands (table i.symbol k)
+op_wires table o k (Some i) = operands_at o.operands (table i.symbol k)
 op_wires table o k None = cond (is_output_op o) [] (where_typed (result_type o k) o.operands)
 
 abbrev pub result_wires : (Name → ℕ → List ℕ) → ℕ → Option Op → List Ref

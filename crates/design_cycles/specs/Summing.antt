@@ -4,7 +4,7 @@ use Rattle.wiring.specs.Wiring.{In}
 use Rattle.hw_model.specs.Types.{Name}
 use Rattle.hw_model.specs.Design.{Port, Module, Design}
 use Rattle.hw_model.specs.Hierarchy.{calls}
-use Rattle.design_cycles.specs.Graphs.{edges, marked, LeadsTo}
+use Rattle.design_cycles.specs.Graphs.{edges, has_mark, LeadsTo}
 use Rattle.design_cycles.specs.Local.{IsSummary}
 use Rattle.design_cycles.specs.Nodes.{table_by}
 
@@ -16,7 +16,7 @@ inputs_from p (q ∷ qs) = cond q.is_output (inputs_from (suc p) qs) (p ∷ inpu
 -- the numbers of the nodes that have their marks, the first having a number
 abbrev pub reached_numbers : List Bool → ℕ → List ℕ → List ℕ
 reached_numbers marks n [] = []
-reached_numbers marks n (v ∷ vs) = cond (marked marks v) (n ∷ reached_numbers marks (suc n) vs) (reached_numbers marks (suc n) vs)
+reached_numbers marks n (v ∷ vs) = cond (has_mark marks v) (n ∷ reached_numbers marks (suc n) vs) (reached_numbers marks (suc n) vs)
 
 -- the numbers are those of the inputs to which a node leads
 pub record AreInputs (lists : List (List ℕ)) (inputs : List ℕ) (from : Option ℕ) (numbers : List ℕ) : Type 0 where

@@ -1,6 +1,6 @@
 //! Which modules instance which, by their numbers.
 ghost use Rattle.std.specs.Prelude.{◌≡◌, ◌<◌, length, map, IfOk};
-ghost use Rattle.hw_model.specs.Hierarchy.{called};
+ghost use Rattle.hw_model.specs.Hierarchy.{callee_symbols};
 ghost use Rattle.ir_store.specs.Bodies.{ids_of, ops_of, op_id};
 ghost use Rattle.ir_store.specs.Numbered.{numbered};
 ghost use Rattle.ir_store.specs.Designs.{design_of, modules_of};
@@ -45,7 +45,7 @@ fn calls_of(
     body: &Body,
     room: &mut Vec<OpId>,
 ) -> Result<NodeList, AllocError>
-    ensures { IfOk result (λ list. list.nodes.items ≡ numbers_of (map (λ m. m.symbol) (modules_of design.now)) (called (numbered (ops_of body.now)))) }
+    ensures { IfOk result (λ list. list.nodes.items ≡ numbers_of (map (λ m. m.symbol) (modules_of design.now)) (callee_symbols (numbered (ops_of body.now)))) }
 {
     read_ids(room, body)?;
     let ids = room.as_slice();

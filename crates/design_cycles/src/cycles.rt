@@ -4,7 +4,7 @@ ghost use Rattle.hw_model.specs.Hierarchy.{HasNoRecursion};
 ghost use Rattle.ir_store.specs.Designs.{design_of, modules_of};
 ghost use Rattle.wiring.specs.Wiring.{Depends};
 ghost use Rattle.design_cycles.specs.Asked.{HasDistinctSymbols, IsCyclicAt};
-ghost use Rattle.design_cycles.specs.Graphs.{lists_of, edges, marked, ReturnsWithin};
+ghost use Rattle.design_cycles.specs.Graphs.{lists_of, edges, has_mark, ReturnsWithin};
 ghost use Rattle.design_cycles.specs.Hierarchies.{IsHierarchy};
 ghost use Rattle.design_cycles.specs.Nodes.{rows_by};
 ghost use Rattle.design_cycles.specs.Places.{Finds, FindsOp, ids_at, symbol_at};
@@ -103,7 +103,7 @@ fn has_cycle(
     placed: &[bool],
 ) -> Result<bool, AllocError>
     requires count { length placed.now ≡ length graph.now }
-    requires placed { (v : ℕ) → marked placed.now v ≡ true → Depends (edges (lists_of graph.now)) v v → ⊥ }
+    requires placed { (v : ℕ) → has_mark placed.now v ≡ true → Depends (edges (lists_of graph.now)) v v → ⊥ }
     ensures { IfOk result (λ found. MatchBool found (ReturnsWithin (lists_of graph.now) span.start span.size) (ReturnsWithin (lists_of graph.now) span.start span.size → ⊥)) }
 {
     for node in span.start..span.start + span.size {

@@ -1,6 +1,6 @@
 //! Graphs: for each node, by its number, the nodes that it needs; and which nodes are reached from which.
 ghost use Rattle.std.specs.Prelude.{◌≡◌, ◌<◌, ◌↔◌, false, length, IfOk, IsTrue};
-ghost use Rattle.design_cycles.specs.Graphs.{lists_of, marked, AreReached};
+ghost use Rattle.design_cycles.specs.Graphs.{lists_of, has_mark, AreReached};
 ghost use Rattle.design_cycles.specs.Marks.{MarksAll};
 
 use std::alloc::{AllocError, Global};
@@ -52,7 +52,7 @@ pub(crate) fn mark_all(
 
 /// Whether the node has its mark.
 pub(crate) fn is_marked(marks: &[bool], node: u32) -> bool
-    ensures { result ≡ marked marks.now node }
+    ensures { result ≡ has_mark marks.now node }
 {
     match marks.get(node as usize) {
         Some(mark) => *mark,
@@ -62,7 +62,7 @@ pub(crate) fn is_marked(marks: &[bool], node: u32) -> bool
 
 /// Whether the node is there and has no mark.
 pub(crate) fn is_open(marks: &[bool], node: u32) -> bool
-    ensures { IsTrue result ↔ ((node < length marks.now) × (marked marks.now node ≡ false)) }
+    ensures { IsTrue result ↔ ((node < length marks.now) × (has_mark marks.now node ≡ false)) }
 {
     match marks.get(node as usize) {
         Some(mark) => !*mark,

@@ -3,7 +3,7 @@ ghost use Rattle.std.specs.Prelude.{◌≡◌, ◌<◌, ℕ, length, map, MatchB
 ghost use Rattle.std.specs.List.{list_all};
 ghost use Rattle.ir_store.specs.Bodies.{ids_of, ops_of, op_id};
 ghost use Rattle.ir_store.specs.Numbered.{numbered};
-ghost use Rattle.design_cycles.specs.InOrder.{is_at_its_number, is_before, StandsBehind, IsInOrder, IsLate};
+ghost use Rattle.design_cycles.specs.InOrder.{is_at_its_number, is_before, StandsAfter, IsInOrder, IsLate};
 
 use crate::ops::{Sort, op_at, sort_of};
 use ir_store::body::Body;
@@ -17,7 +17,7 @@ pub(crate) fn are_in_order(body: &Body, ids: &[OpId]) -> bool
     ensures { MatchBool result (IsInOrder (numbered (ops_of body.now))) ((j : ℕ) × IsLate body.now ids.now j) }
 {
     for position in 0..ids.len() {
-        if !stands_behind(body, ids, position) {
+        if !stands_after(body, ids, position) {
             return false;
         }
     }
@@ -25,10 +25,10 @@ pub(crate) fn are_in_order(body: &Body, ids: &[OpId]) -> bool
 }
 
 /// Whether the operation at a position is a register, or takes ports and results of operations before it alone.
-fn stands_behind(body: &Body, ids: &[OpId], position: usize) -> bool
+fn stands_after(body: &Body, ids: &[OpId], position: usize) -> bool
     requires all { ids.now ≡ map op_id (ids_of body.now) }
     requires within { position < length ids.now }
-    ensures { MatchBool result (StandsBehind (numbered (ops_of body.now)) position) (IsLate body.now ids.now position) }
+    ensures { MatchBool result (StandsAfter (numbered (ops_of body.now)) position) (IsLate body.now ids.now position) }
 {
     let op = op_at(body, ids, position);
     if let Sort::Register = sort_of(op.kind) {

@@ -79,7 +79,7 @@ fn add_needs(graph: &[NodeList], node: u32, rows: &mut [u64]) -> bool
     match graph.get(node as usize) {
         Some(list) => {
             let own = row_at(rows, node);
-            let row = own | joined(list.nodes.as_slice(), rows);
+            let row = own | row_union(list.nodes.as_slice(), rows);
             if row == own {
                 return false;
             }
@@ -91,7 +91,7 @@ fn add_needs(graph: &[NodeList], node: u32, rows: &mut [u64]) -> bool
 }
 
 /// The bits of the rows of all of the nodes.
-fn joined(nodes: &[u32], rows: &[u64]) -> u64
+fn row_union(nodes: &[u32], rows: &[u64]) -> u64
     ensures { JoinsRows rows.now nodes.now result }
 {
     let mut row = 0;

@@ -5,7 +5,7 @@ ghost use Rattle.design_cycles.specs.Sizes.{length_of, leaves_of};
 ghost use Rattle.hw_model.specs.TypeViews.{type_of};
 ghost use Rattle.hw_model.specs.KindViews.{kind_of, literal_of, literals_in, reset_of};
 ghost use Rattle.hw_model.specs.FamilyViews.{family_of, array_op_of, register_op_of};
-ghost use Rattle.hw_model.specs.Value.{written};
+ghost use Rattle.hw_model.specs.Value.{nth_type};
 ghost use Rattle.hw_model.specs.Weight.{leaf_count, literal_leaves as leaves_of_literal, literals_leaves as leaves_of_literals, element_count, element_leaves, choice_weight, reset_weight, array_weight, register_weight, kind_weight};
 
 use hw_model::families::{ArrayOp, Family, RegisterOp};
@@ -74,7 +74,7 @@ pub(crate) fn leaves_in(types: &[Ty]) -> u64
 
 /// The weight of choosing one of an array's elements, so many times over.
 fn choice(types: &[Ty], copies: u64) -> u64
-    ensures { result ≡ min (choice_weight (element_count (written (map type_of types.now) 0)) (element_leaves (written (map type_of types.now) 0)) copies) u64.MAX }
+    ensures { result ≡ min (choice_weight (element_count (nth_type (map type_of types.now) 0)) (element_leaves (nth_type (map type_of types.now) 0)) copies) u64.MAX }
 {
     let fourfold = array_length(type_at(types, 0)).saturating_mul(4);
     let one = element_leaf_count(type_at(types, 0)).saturating_mul(fourfold.saturating_add(1));
@@ -83,7 +83,7 @@ fn choice(types: &[Ty], copies: u64) -> u64
 
 /// The weight of writing an element of an array.
 fn injection(types: &[Ty]) -> u64
-    ensures { result ≡ min (4 * element_count (written (map type_of types.now) 0) + 4 * (element_count (written (map type_of types.now) 0) * element_leaves (written (map type_of types.now) 0))) u64.MAX }
+    ensures { result ≡ min (4 * element_count (nth_type (map type_of types.now) 0) + 4 * (element_count (nth_type (map type_of types.now) 0) * element_leaves (nth_type (map type_of types.now) 0))) u64.MAX }
 {
     let length = array_length(type_at(types, 0));
     let parts = length.saturating_mul(element_leaf_count(type_at(types, 0)));

@@ -27,7 +27,7 @@ pub fn refusal_text<S: Sink>(
     let mut col = Buffer::new();
     let line = line.format(r.place.line).as_bytes();
     let col = col.format(r.place.col).as_bytes();
-    match put_three(sink, shown(name.as_bytes()), b":", line) {
+    match put_three(sink, display_name(name.as_bytes()), b":", line) {
         Ok(()) => {}
         Err(failed) => return Err(failed),
     }
@@ -44,7 +44,7 @@ pub fn refusal_text<S: Sink>(
 
 /// A file's name, as a line has it: `<stdin>` for `-`. It takes no memory.
 #[tactic(auto, unfolding(crate::specs::Line::shown_name))]
-pub fn shown(name: &[u8]) -> &[u8]
+pub fn display_name(name: &[u8]) -> &[u8]
     ensures { result.now ≡ shown_name name.now }
 {
     if name == b"-".as_slice() {

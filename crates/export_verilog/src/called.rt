@@ -3,12 +3,12 @@
 ghost use Rattle.std.specs.Prelude.{◌≡◌, [], ◌∷◌, map, option_to_list, IfOk, OnOk};
 ghost use Rattle.hw_model.specs.Design.{instance_in};
 ghost use Rattle.hw_model.specs.KindViews.{kind_of};
-ghost use Rattle.hw_model.specs.Hierarchy.{called};
+ghost use Rattle.hw_model.specs.Hierarchy.{callee_symbols};
 ghost use Rattle.ir_store.specs.Bodies.{ops_of};
 ghost use Rattle.ir_store.specs.Numbered.{numbered};
 ghost use Rattle.ir_store.specs.Designs.{design_of, modules_of};
 ghost use Rattle.design_cycles.specs.Calls.{call_lists, callee_number, numbers_of};
-ghost use Rattle.design_cycles.specs.Graphs.{marked, AreCalled};
+ghost use Rattle.design_cycles.specs.Graphs.{has_mark, AreCalled};
 ghost use Rattle.export_verilog.specs.Called.{with_marks};
 
 use design_cycles::{ids_in, op_at};
@@ -44,7 +44,7 @@ fn mark_body(
     body: &Body,
     marks: &mut Vec<bool>,
 ) -> Result<(), AllocError>
-    ensures { OnOk result (marks.new.items ≡ with_marks (numbers_of (map (λ m. m.symbol) (modules_of design.now)) (called (numbered (ops_of body.now)))) marks.old.items) }
+    ensures { OnOk result (marks.new.items ≡ with_marks (numbers_of (map (λ m. m.symbol) (modules_of design.now)) (callee_symbols (numbered (ops_of body.now)))) marks.old.items) }
 {
     let ids = ids_in(alloc, body)?;
     for place in 0..ids.len() {
@@ -67,7 +67,7 @@ pub fn called_modules(alloc: Global, design: &Design) -> Result<Vec<bool>, Alloc
 
 /// Whether a module is marked.
 pub fn is_marked(marks: &[bool], number: u32) -> bool
-    ensures { result ≡ marked marks.now number }
+    ensures { result ≡ has_mark marks.now number }
 {
     match marks.get(number as usize) {
         Some(marked) => *marked,

@@ -4,11 +4,11 @@ use Rattle.std.specs.Cmp.Lexicographic.{pointwise}
 use Rattle.std.proofs.lemmas.List.{append_cancel_left}
 use Rattle.std.proofs.lemmas.Fmt.{decimal_injective}
 use Rattle.std.proofs.lemmas.Bool.{eqb-true, eqb-false}
-use Rattle.fresh_names.specs.Fresh.{Name, is_taken, suffixed, free_from, free_name}
+use Rattle.fresh_names.specs.Fresh.{Name, is_taken, with_suffix, free_from, free_name}
 use Rattle.fresh_names.proofs.Taken.{same_is}
 
-pub suffix_once : (w : Name) (i j : ℕ) → i < 2 ^ 64 → j < 2 ^ 64 → suffixed w i ≡ suffixed w j → i ≡ j
-unfolding suffixed
+pub suffix_once : (w : Name) (i j : ℕ) → i < 2 ^ 64 → j < 2 ^ 64 → with_suffix w i ≡ with_suffix w j → i ≡ j
+unfolding with_suffix
 suffix_once w i j a b e = decimal_injective i j a b (tail (decimal i) (decimal j) (append_cancel_left w (95 ∷ decimal i) (95 ∷ decimal j) e))
   where
     tail : (xs ys : List ℕ) → 95 ∷ xs ≡ 95 ∷ ys → xs ≡ ys
@@ -40,35 +40,35 @@ without_taken x y (t ∷ ts) other e = go (pointwise nat_eq t x) (pointwise nat_
     go false false p q e r = ap (λ z. cond z true (is_taken (without x ts) y)) q ∙ r e
 
 -- so many different names that are taken
-few : (w : Name) (n : ℕ) (ts : List Name) → n < 2 ^ 64 → ((k : ℕ) → k < n → is_taken ts (suffixed w k) ≡ true) → n ≤ length ts
+few : (w : Name) (n : ℕ) (ts : List Name) → n < 2 ^ 64 → ((k : ℕ) → k < n → is_taken ts (with_suffix w k) ≡ true) → n ≤ length ts
 few w zero ts small h = omega arith
 few w (suc n) ts small h =
-    let one : length ts ≡ suc (length (without (suffixed w n) ts)) = without_length (suffixed w n) ts (h n (omega arith)) in
-    let rest : n ≤ length (without (suffixed w n) ts) =
-    few w n (without (suffixed w n) ts) (omega (arith, small))
-    (λ k lt. without_taken (suffixed w n) (suffixed w k) ts (λ e. omega (arith, lt, suffix_once w n k (omega (arith, small)) (omega (arith, small, lt)) e)) (h k (omega (arith, lt)))) in
+    let one : length ts ≡ suc (length (without (with_suffix w n) ts)) = without_length (with_suffix w n) ts (h n (omega arith)) in
+    let rest : n ≤ length (without (with_suffix w n) ts) =
+    few w n (without (with_suffix w n) ts) (omega (arith, small))
+    (λ k lt. without_taken (with_suffix w n) (with_suffix w k) ts (λ e. omega (arith, lt, suffix_once w n k (omega (arith, small)) (omega (arith, small, lt)) e)) (h k (omega (arith, lt)))) in
     omega (arith, one, rest)
 
-pub all_below : (ts : List Name) (w : Name) (k : ℕ) → is_taken ts (suffixed w k) ≡ true → ((j : ℕ) → j < k → is_taken ts (suffixed w j) ≡ true)
-    → (j : ℕ) → j < k + 1 → is_taken ts (suffixed w j) ≡ true
+pub all_below : (ts : List Name) (w : Name) (k : ℕ) → is_taken ts (with_suffix w k) ≡ true → ((j : ℕ) → j < k → is_taken ts (with_suffix w j) ≡ true)
+    → (j : ℕ) → j < k + 1 → is_taken ts (with_suffix w j) ≡ true
 all_below ts w k t h j lt = here (nat_eq j k) refl
   where
-    here : (b : Bool) → nat_eq j k ≡ b → is_taken ts (suffixed w j) ≡ true
-    here true e = ap (λ i. is_taken ts (suffixed w i)) (eqb-true j k e) ∙ t
+    here : (b : Bool) → nat_eq j k ≡ b → is_taken ts (with_suffix w j) ≡ true
+    here true e = ap (λ i. is_taken ts (with_suffix w i)) (eqb-true j k e) ∙ t
     here false e = h j (omega (arith, lt, eqb-false j k e))
 
 -- where all the smaller ones are taken the first from a number on is free
 free_behind : (ts : List Name) (w : Name) (n k : ℕ) → n + k ≡ length ts → length ts + 1 < 2 ^ 64
-    → ((j : ℕ) → j < k → is_taken ts (suffixed w j) ≡ true) → is_taken ts (free_from ts w n k) ≡ false
-free_behind ts w zero k e small h = go (is_taken ts (suffixed w k)) refl
+    → ((j : ℕ) → j < k → is_taken ts (with_suffix w j) ≡ true) → is_taken ts (free_from ts w n k) ≡ false
+free_behind ts w zero k e small h = go (is_taken ts (with_suffix w k)) refl
   where
-    go : (b : Bool) → is_taken ts (suffixed w k) ≡ b → is_taken ts (suffixed w k) ≡ false
+    go : (b : Bool) → is_taken ts (with_suffix w k) ≡ b → is_taken ts (with_suffix w k) ≡ false
     go true t = absurd (omega (arith, e, few w (k + 1) ts (omega (arith, e, small)) (all_below ts w k t h)))
     go false t = t
-free_behind ts w (suc n) k e small h = go (is_taken ts (suffixed w k)) refl (free_behind ts w n (k + 1) (omega (arith, e)) small)
+free_behind ts w (suc n) k e small h = go (is_taken ts (with_suffix w k)) refl (free_behind ts w n (k + 1) (omega (arith, e)) small)
   where
-    go : (b : Bool) → is_taken ts (suffixed w k) ≡ b → (((j : ℕ) → j < k + 1 → is_taken ts (suffixed w j) ≡ true) → is_taken ts (free_from ts w n (k + 1)) ≡ false)
-        → is_taken ts (cond b (free_from ts w n (k + 1)) (suffixed w k)) ≡ false
+    go : (b : Bool) → is_taken ts (with_suffix w k) ≡ b → (((j : ℕ) → j < k + 1 → is_taken ts (with_suffix w j) ≡ true) → is_taken ts (free_from ts w n (k + 1)) ≡ false)
+        → is_taken ts (cond b (free_from ts w n (k + 1)) (with_suffix w k)) ≡ false
     go true t rest = rest (all_below ts w k t h)
     go false t rest = t
 

@@ -1,7 +1,7 @@
 -- Names that are given in turn are different.
 use Rattle.std.proofs.Common.{◌≡◌, ℕ, zero, suc, ◌+◌, ◌<◌, ◌^◌, Bool, true, false, cond, List, [], ◌∷◌, ◌++◌, length, refl, sym, ap, ◌∙◌, true≢false, arith}
 use Rattle.std.specs.Prelude.{Some, slice_get}
-use Rattle.fresh_names.specs.Fresh.{Name, is_taken, suffixed, free_from, free_name, fresh}
+use Rattle.fresh_names.specs.Fresh.{Name, is_taken, with_suffix, free_from, free_name, fresh}
 use Rattle.fresh_names.specs.Different.{AreDifferent}
 use Rattle.fresh_names.proofs.Taken.{taken_more, taken_last, one_more}
 use Rattle.fresh_names.proofs.Free.{name_free, name_suffixed, all_below}
@@ -43,19 +43,19 @@ fresh_different ts (w ∷ ws) small (suc i) (suc j) q e f =
     ap suc (fresh_different (ts ++ free_name ts w ∷ []) ws (more_length ts (free_name ts w) (length ws) small) i j q e f)
 
 -- the number of the name that is found
-least_from : (ts : List Name) (w : Name) (n k : ℕ) → ((j : ℕ) → j < k → is_taken ts (suffixed w j) ≡ true)
-    → (m : ℕ) × (free_from ts w n k ≡ suffixed w m) × ((j : ℕ) → j < m → is_taken ts (suffixed w j) ≡ true)
+least_from : (ts : List Name) (w : Name) (n k : ℕ) → ((j : ℕ) → j < k → is_taken ts (with_suffix w j) ≡ true)
+    → (m : ℕ) × (free_from ts w n k ≡ with_suffix w m) × ((j : ℕ) → j < m → is_taken ts (with_suffix w j) ≡ true)
 least_from ts w zero k h = (k, refl, h)
-least_from ts w (suc n) k h = go (is_taken ts (suffixed w k)) refl (least_from ts w n (k + 1))
+least_from ts w (suc n) k h = go (is_taken ts (with_suffix w k)) refl (least_from ts w n (k + 1))
   where
-    go : (b : Bool) → is_taken ts (suffixed w k) ≡ b
-        → (((j : ℕ) → j < k + 1 → is_taken ts (suffixed w j) ≡ true) → (m : ℕ) × (free_from ts w n (k + 1) ≡ suffixed w m) × ((j : ℕ) → j < m → is_taken ts (suffixed w j) ≡ true))
-        → (m : ℕ) × (cond b (free_from ts w n (k + 1)) (suffixed w k) ≡ suffixed w m) × ((j : ℕ) → j < m → is_taken ts (suffixed w j) ≡ true)
+    go : (b : Bool) → is_taken ts (with_suffix w k) ≡ b
+        → (((j : ℕ) → j < k + 1 → is_taken ts (with_suffix w j) ≡ true) → (m : ℕ) × (free_from ts w n (k + 1) ≡ with_suffix w m) × ((j : ℕ) → j < m → is_taken ts (with_suffix w j) ≡ true))
+        → (m : ℕ) × (cond b (free_from ts w n (k + 1)) (with_suffix w k) ≡ with_suffix w m) × ((j : ℕ) → j < m → is_taken ts (with_suffix w j) ≡ true)
     go true t rest = rest (all_below ts w k t h)
     go false t rest = (k, refl, h)
 
 pub name_least : (ts : List Name) (w : Name) → is_taken ts w ≡ true
-    → (m : ℕ) × (free_name ts w ≡ suffixed w m) × ((j : ℕ) → j < m → is_taken ts (suffixed w j) ≡ true)
+    → (m : ℕ) × (free_name ts w ≡ with_suffix w m) × ((j : ℕ) → j < m → is_taken ts (with_suffix w j) ≡ true)
 name_least ts w t =
     let found = least_from ts w (length ts) 0 (λ j lt. absurd (omega (arith, lt))) in
     (found.0, name_suffixed ts w t ∙ found.1, found.2)

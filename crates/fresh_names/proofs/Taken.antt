@@ -6,7 +6,7 @@ use Rattle.std.specs.List.{list_any}
 use Rattle.std.proofs.lemmas.Bool.{eqb-true, eqb-false}
 use Rattle.std.proofs.lemmas.List.Quantifiers.{position-Some}
 use Rattle.std.proofs.lemmas.Option.{slice_get-map, slice_get-get_or, slice_get_within}
-use Rattle.fresh_names.specs.Fresh.{Name, is_taken, suffixed, free_from}
+use Rattle.fresh_names.specs.Fresh.{Name, is_taken, with_suffix, free_from}
 use Rattle.fresh_names.specs.Tried.{IsTried, AreTried}
 use Rattle.fresh_names.proofs.Steps.{free_next}
 
@@ -95,30 +95,30 @@ tried_none ts w = record { within = omega arith; taken_below = λ k lt. absurd (
 pub tried_more : (ts us : List Name) (w : Name) (n : ℕ) → IsTried ts w n → IsTried (ts ++ us) w n
 tried_more ts us w n h = record {
   within = omega (arith, h.within, length-append {A = Name});
-  taken_below = λ k lt. taken_more ts us (suffixed w k) (h.taken_below k lt);
+  taken_below = λ k lt. taken_more ts us (with_suffix w k) (h.taken_below k lt);
 }
 
 -- one more
-pub tried_next : (ts us : List Name) (w : Name) (n : ℕ) → n < length ts → is_taken ts (suffixed w n) ≡ true → IsTried ts w n → IsTried ts w (n + 1)
+pub tried_next : (ts us : List Name) (w : Name) (n : ℕ) → n < length ts → is_taken ts (with_suffix w n) ≡ true → IsTried ts w n → IsTried ts w (n + 1)
 tried_next ts us w n lt t h = record { within = omega (arith, lt); taken_below = below }
   where
-    below : (k : ℕ) → k < n + 1 → is_taken ts (suffixed w k) ≡ true
+    below : (k : ℕ) → k < n + 1 → is_taken ts (with_suffix w k) ≡ true
     below k small = go (nat_eq k n) refl
       where
-        go : (b : Bool) → nat_eq k n ≡ b → is_taken ts (suffixed w k) ≡ true
-        go true e = ap (λ j. is_taken ts (suffixed w j)) (eqb-true k n e) ∙ t
+        go : (b : Bool) → nat_eq k n ≡ b → is_taken ts (with_suffix w k) ≡ true
+        go true e = ap (λ j. is_taken ts (with_suffix w j)) (eqb-true k n e) ∙ t
         go false e = h.taken_below k (omega (arith, small, eqb-false k n e))
 
 -- the free name is taken
-pub tried_taken : (ts : List Name) (w : Name) (n : ℕ) → IsTried ts w n → IsTried (ts ++ suffixed w n ∷ []) w (n + 1)
+pub tried_taken : (ts : List Name) (w : Name) (n : ℕ) → IsTried ts w n → IsTried (ts ++ with_suffix w n ∷ []) w (n + 1)
 tried_taken ts w n h = record { within = omega (arith, h.within, length-append {A = Name}); taken_below = below }
   where
-    below : (k : ℕ) → k < n + 1 → is_taken (ts ++ suffixed w n ∷ []) (suffixed w k) ≡ true
+    below : (k : ℕ) → k < n + 1 → is_taken (ts ++ with_suffix w n ∷ []) (with_suffix w k) ≡ true
     below k small = go (nat_eq k n) refl
       where
-        go : (b : Bool) → nat_eq k n ≡ b → is_taken (ts ++ suffixed w n ∷ []) (suffixed w k) ≡ true
-        go true e = ap (λ j. is_taken (ts ++ suffixed w n ∷ []) (suffixed w j)) (eqb-true k n e) ∙ taken_last ts (suffixed w n)
-        go false e = taken_more ts (suffixed w n ∷ []) (suffixed w k) (h.taken_below k (omega (arith, small, eqb-false k n e)))
+        go : (b : Bool) → nat_eq k n ≡ b → is_taken (ts ++ with_suffix w n ∷ []) (with_suffix w k) ≡ true
+        go true e = ap (λ j. is_taken (ts ++ with_suffix w n ∷ []) (with_suffix w j)) (eqb-true k n e) ∙ taken_last ts (with_suffix w n)
+        go false e = taken_more ts (with_suffix w n ∷ []) (with_suffix w k) (h.taken_below k (omega (arith, small, eqb-false k n e)))
 
 -- ---- tables
 

@@ -11,13 +11,13 @@ is_taken [] name = false
 is_taken (t ∷ ts) name = cond (pointwise nat_eq t name) true (is_taken ts name)
 
 -- the name, `_`, and a number
-unfoldable pub suffixed : Name → ℕ → Name
-suffixed wanted k = wanted ++ (95 ∷ decimal k)
+unfoldable pub with_suffix : Name → ℕ → Name
+with_suffix wanted k = wanted ++ (95 ∷ decimal k)
 
 -- the first of the suffixed names from a number on that is not taken, among so many
 abbrev pub free_from : List Name → Name → ℕ → ℕ → Name
-free_from taken wanted zero k = suffixed wanted k
-free_from taken wanted (suc n) k = cond (is_taken taken (suffixed wanted k)) (free_from taken wanted n (k + 1)) (suffixed wanted k)
+free_from taken wanted zero k = with_suffix wanted k
+free_from taken wanted (suc n) k = cond (is_taken taken (with_suffix wanted k)) (free_from taken wanted n (k + 1)) (with_suffix wanted k)
 
 -- the wanted name, or the first of its suffixed names that is not taken
 unfoldable pub free_name : List Name → Name → Name

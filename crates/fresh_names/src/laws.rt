@@ -1,7 +1,7 @@
 //! Laws about free names, each a clause of a function that does nothing.
 ghost use Rattle.std.specs.Prelude.{◌≡◌, ℕ, ◌+◌, ◌<◌, ◌^◌, List, [], length, Some, slice_get, true, false};
 ghost use Rattle.fresh_names.specs.Different.{AreDifferent};
-ghost use Rattle.fresh_names.specs.Fresh.{Name, fresh, free_name, is_taken, suffixed};
+ghost use Rattle.fresh_names.specs.Fresh.{Name, fresh, free_name, is_taken, with_suffix};
 
 /// Does nothing. Its clauses say that a free name is not taken, that it is the wanted name where that is free, and else
 /// a suffixed one of which each one with a smaller number is taken.
@@ -9,7 +9,7 @@ pub fn free_names()
     ensures free { (taken : List Name) (wanted : Name) → length taken + 1 < 2 ^ 64 → is_taken taken (free_name taken wanted) ≡ false }
     ensures stays { (taken : List Name) (wanted : Name) → is_taken taken wanted ≡ false → free_name taken wanted ≡ wanted }
     ensures least { (taken : List Name) (wanted : Name) → is_taken taken wanted ≡ true
-        → (n : ℕ) × (free_name taken wanted ≡ suffixed wanted n) × ((k : ℕ) → k < n → is_taken taken (suffixed wanted k) ≡ true) }
+        → (n : ℕ) × (free_name taken wanted ≡ with_suffix wanted n) × ((k : ℕ) → k < n → is_taken taken (with_suffix wanted k) ≡ true) }
 {}
 
 /// Does nothing. Its clauses say that as many names are given as are wanted, that none of them was taken before, and that

@@ -1,6 +1,6 @@
 //! A table of names that are taken.
 ghost use Rattle.std.specs.Prelude.{◌≡◌, length, map, IfOk};
-ghost use Rattle.fresh_names.specs.Fresh.{suffixed};
+ghost use Rattle.fresh_names.specs.Fresh.{with_suffix};
 ghost use Rattle.fresh_names.specs.Tried.{AreTried};
 
 use indexmap::IndexSet;
@@ -27,9 +27,9 @@ pub struct TakenNames {
 }
 
 // The name, `_`, and the number.
-#[tactic(auto, using(std::proofs::Common::append_assoc), unfolding(crate::specs::Fresh::suffixed))]
-fn suffixed(alloc: Global, wanted: &[u8], number: usize) -> Result<Vec<u8>, AllocError>
-    ensures { IfOk result (λ name. name.items ≡ suffixed wanted.now number) }
+#[tactic(auto, using(std::proofs::Common::append_assoc), unfolding(crate::specs::Fresh::with_suffix))]
+fn with_suffix(alloc: Global, wanted: &[u8], number: usize) -> Result<Vec<u8>, AllocError>
+    ensures { IfOk result (λ name. name.items ≡ with_suffix wanted.now number) }
 {
     let mut buffer = Buffer::new();
     let digits = buffer.format(number).as_bytes();
@@ -41,7 +41,7 @@ fn suffixed(alloc: Global, wanted: &[u8], number: usize) -> Result<Vec<u8>, Allo
 
 impl TakenNames {
     ghost use Rattle.std.specs.Prelude.{◌≡◌, ◌+◌, ◌<◌, ◌^◌, [], ◌∷◌, ◌++◌, length, Some, slice_get, true, false, not, cond, IfOk, OnOk, OnErr};
-    ghost use Rattle.fresh_names.specs.Fresh.{free_from, free_name, is_taken, suffixed};
+    ghost use Rattle.fresh_names.specs.Fresh.{free_from, free_name, is_taken, with_suffix};
     ghost use Rattle.fresh_names.specs.Tried.{IsTried};
     ghost use Rattle.fresh_names.specs.TakenViews.{taken_names};
 
@@ -84,17 +84,17 @@ impl TakenNames {
     ) -> Result<(usize, Vec<u8>), AllocError>
         requires { IsTried (taken_names self.now) wanted.now first }
         ensures name { IfOk result (λ r. r.1.items ≡ free_from (taken_names self.now) wanted.now (length (taken_names self.now)) 0) }
-        ensures suffixed { IfOk result (λ r. r.1.items ≡ suffixed wanted.now r.0) }
+        ensures suffixed { IfOk result (λ r. r.1.items ≡ with_suffix wanted.now r.0) }
         ensures tried { IfOk result (λ r. IsTried (taken_names self.now) wanted.now r.0) }
     {
         for number in first..self.names.len() {
-            let name = suffixed(alloc, wanted, number)?;
+            let name = with_suffix(alloc, wanted, number)?;
             if !self.is_taken(name.as_slice()) {
                 return Ok((number, name));
             }
         }
         let number = self.names.len();
-        Ok((number, suffixed(alloc, wanted, number)?))
+        Ok((number, with_suffix(alloc, wanted, number)?))
     }
 
     // Takes a name where it is not taken, and says whether it was not.

@@ -3,7 +3,7 @@ use Rattle.std.proofs.Common.{◌≡◌, ℕ, zero, suc, pred, ◌+◌, List, []
 use Rattle.hw_model.specs.Types.{Name}
 use Rattle.hw_model.specs.Design.{Ref, Op, instance_in, output_refs}
 use Rattle.hw_model.specs.Flat.{Path, Slot, instances, before_instance, body_state, op_state, held_width, body_registers}
-use Rattle.hw_model.specs.Hierarchy.{called, called_by}
+use Rattle.hw_model.specs.Hierarchy.{callee_symbols, called_by}
 use Rattle.hw_model.proofs.Sorts.{Sort, sort_of}
 use Rattle.hw_model.proofs.Sorts.Sort.{a_register, an_instance, an_output, a_made}
 use Rattle.hw_edits.specs.Edit.{retarget, anchors}
@@ -67,11 +67,11 @@ body_registers-anchors inner p n (o ∷ os) = go (sort_of o.kind) (body_register
     go (an_output r i u) rest more = simp (r, i, u) rest
     go (a_made r i u) rest more = simp (r, i, u) rest
 
-pub called-anchors : (os : List Op) → called (anchors os) ≡ called os
+pub called-anchors : (os : List Op) → callee_symbols (anchors os) ≡ callee_symbols os
 called-anchors [] = refl
 called-anchors (o ∷ os) = go (sort_of o.kind) (called-anchors os)
   where
-    go : Sort o.kind → called (anchors os) ≡ called os → called (anchors (o ∷ os)) ≡ called (o ∷ os)
+    go : Sort o.kind → callee_symbols (anchors os) ≡ callee_symbols os → callee_symbols (anchors (o ∷ os)) ≡ callee_symbols (o ∷ os)
     go (a_register f r i u) rest = simp (r, i) rest
     go (an_instance x r i u) rest = simp (r, i) (ap (λ xs. x.symbol ∷ xs) rest)
     go (an_output r i u) rest = simp (r, i, u) rest
@@ -106,7 +106,7 @@ module _ (f : Ref → Ref) where
   body_state-retarget inner [] = refl
   body_state-retarget inner (o ∷ os) = ap (λ n. op_state inner o + n) (body_state-retarget inner os)
 
-  pub called-retarget : (os : List Op) → called (map (retarget f) os) ≡ called os
+  pub called-retarget : (os : List Op) → callee_symbols (map (retarget f) os) ≡ callee_symbols os
   called-retarget [] = refl
   called-retarget (o ∷ os) = ap (λ xs. called_by (instance_in o.kind) ++ xs) (called-retarget os)
 
@@ -134,8 +134,8 @@ module _ (os os' : List Op) (f : Ref → Ref) (same : anchors os' ≡ map (retar
   output_refs_follow =
       sym (output_refs-anchors os') ∙ ap output_refs same ∙ output_refs-retarget f (anchors os) ∙ ap (map f) (output_refs-anchors os)
 
-  pub called_follow : called os' ≡ called os
-  called_follow = sym (called-anchors os') ∙ ap called same ∙ called-retarget f (anchors os) ∙ called-anchors os
+  pub called_follow : callee_symbols os' ≡ callee_symbols os
+  called_follow = sym (called-anchors os') ∙ ap callee_symbols same ∙ called-retarget f (anchors os) ∙ called-anchors os
 
   pub body_state_follows : (inner : Name → ℕ) → body_state inner os' ≡ body_state inner os
   body_state_follows inner =

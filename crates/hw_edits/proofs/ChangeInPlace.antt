@@ -12,7 +12,7 @@ use Rattle.hw_model.specs.Design.Ref.{port, result, undefined}
 use Rattle.hw_model.specs.Sound.{HasWidth, type_in, Fits, OpFits}
 use Rattle.hw_model.proofs.Sorts.{Sort, sort_of}
 use Rattle.hw_model.proofs.Sorts.Sort.{a_register, an_instance, an_output, a_made}
-use Rattle.hw_edits.specs.Edit.{is_anchor, anchors, made_word, word_of, word_of_op, HoldsBut, Holds}
+use Rattle.hw_edits.specs.Edit.{is_anchor, anchors, result_word, word_of, word_of_op, HoldsBut, Holds}
 use Rattle.hw_edits.specs.Follows.{Wide, ValidEdit, SameEdit, Valid, Follows}
 use Rattle.hw_edits.specs.Laws.{other_than, with_body, InPlace}
 use Rattle.hw_edits.proofs.Edited.{map_retarget_id, omap_retarget_id}
@@ -20,10 +20,10 @@ use Rattle.hw_edits.proofs.Follows.{follows_set}
 use Rattle.hw_edits.proofs.Positions.{other_some, other_none, get_other, anchors-set, before-set}
 
 -- the word of an operation that is made of its operands
-pub plain_word : (τ : Ref → Word) (k : ℕ) (o : Op) → is_anchor o ≡ false → word_of_op τ k o ≡ Some (made_word τ o k (result_type o k))
+pub plain_word : (τ : Ref → Word) (k : ℕ) (o : Op) → is_anchor o ≡ false → word_of_op τ k o ≡ Some (result_word τ o k (result_type o k))
 plain_word τ k o plain = go (sort_of o.kind)
   where
-    go : Sort o.kind → word_of_op τ k o ≡ Some (made_word τ o k (result_type o k))
+    go : Sort o.kind → word_of_op τ k o ≡ Some (result_word τ o k (result_type o k))
     go (a_register f r i u) = let clash : true ≡ false = simp r at plain in cc
     go (an_instance x r i u) = let clash : true ≡ false = simp (r, i) at plain in cc
     go (an_output r i u) = let clash : true ≡ false = simp (r, i, u) at plain in cc
@@ -127,21 +127,21 @@ module _ (md : Module) (i : ℕ) (o o' : Op) (change : InPlace md i o o') where
       wide_before τ wide r = subst (λ x. HasWidth x (τ r)) (types_stay r) (wide r)
 
       same_word : (τ : Ref → Word) → Holds (set md.body i o') τ → Wide md.ports (set md.body i o') τ → (k : ℕ) → (x : Option HwType) → result_type o k ≡ x
-          → made_word τ o k x ≡ made_word τ o' k x
+          → result_word τ o k x ≡ result_word τ o' k x
       same_word τ holds wide k None typed = refl
       same_word τ holds wide k (Some t) typed = change.words τ (rest_holds τ holds) (wide_before τ wide) k t typed
 
       at_place : (τ : Ref → Word) → Holds (set md.body i o') τ → Wide md.ports (set md.body i o') τ → (j k : ℕ) → j ≡ i
           → word_of τ k (slice_get md.body j) ≡ Some (τ (result j k))
       at_place τ holds wide j k here =
-          let new_says : word_of τ k (slice_get (set md.body i o') i) ≡ Some (made_word τ o' k (result_type o' k)) =
+          let new_says : word_of τ k (slice_get (set md.body i o') i) ≡ Some (result_word τ o' k (result_type o' k)) =
           ap (word_of τ k) new_there ∙ plain_word τ k o' change.new_plain in
-          let new_is : τ (result i k) ≡ made_word τ o' k (result_type o' k) = holds.result_is i k (made_word τ o' k (result_type o' k)) (λ never. never) new_says in
+          let new_is : τ (result i k) ≡ result_word τ o' k (result_type o' k) = holds.result_is i k (result_word τ o' k (result_type o' k)) (λ never. never) new_says in
           ap (λ n. word_of τ k (slice_get md.body n)) here ∙ ap (word_of τ k) change.there ∙ plain_word τ k o change.old_plain
-          ∙ ap Some (same_word τ holds wide k (result_type o k) refl ∙ ap (made_word τ o' k) (sym (change.same_types k)) ∙ sym new_is ∙ ap (λ n. τ (result n k)) (sym here))
+          ∙ ap Some (same_word τ holds wide k (result_type o k) refl ∙ ap (result_word τ o' k) (sym (change.same_types k)) ∙ sym new_is ∙ ap (λ n. τ (result n k)) (sym here))
 
 -- an operation that may be changed in place is
-pub place_follows : (d : Design) (m : ℕ) (md : Module) (i : ℕ) (o o' : Op) → Valid d → slice_get d m ≡ Some md → InPlace md i o o'
+pub replace_op_preserves : (d : Design) (m : ℕ) (md : Module) (i : ℕ) (o o' : Op) → Valid d → slice_get d m ≡ Some md → InPlace md i o o'
     → Follows d (with_body d m md (set md.body i o'))
-place_follows d m md i o o' valid is change =
+replace_op_preserves d m md i o o' valid is change =
     follows_set d m md (record md { body = set md.body i o' }) is refl (in_place_same md i o o' change) valid

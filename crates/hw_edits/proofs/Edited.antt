@@ -11,15 +11,15 @@ use Rattle.hw_model.specs.Kinds.{Instance, Reset}
 use Rattle.hw_model.specs.Kinds.Reset.{no_reset, sync_reset}
 use Rattle.hw_model.specs.Design.{Ref, Port, Op, Module, Design, RegisterForm, find_module, instance_in, register_form, result_type, output_refs, callee}
 use Rattle.hw_model.specs.Design.Ref.{port, result, undefined}
-use Rattle.hw_model.specs.Value.{joined}
+use Rattle.hw_model.specs.Value.{concat_words}
 use Rattle.hw_model.specs.Flat.{Path, Net, net, Source, Slot, instances, before_instance, module_at, body_state, module_state, state, base, port_ref, operand_for, input_count, input_width, input_of, port_source, copy_of, joined_ref, joined_at, given_ref, held_of, made_of, source, register_in, register_parts, held_width, body_registers, module_registers, registers}
 use Rattle.hw_model.specs.Flat.Source.{nowhere, input, held, copy, made}
-use Rattle.hw_model.specs.Meaning.{needs_of, value_of, loaded, next_content, outputs}
+use Rattle.hw_model.specs.Meaning.{needs_of, value_of, next_value, next_content, outputs}
 use Rattle.hw_model.specs.Sound.{body_of, ports_of}
 use Rattle.hw_model.proofs.Sorts.{Sort, sort_of, instance_found}
 use Rattle.hw_model.proofs.Sorts.Sort.{a_register, an_instance, an_output, a_made}
 use Rattle.hw_model.proofs.Paths.{module_inside, state_body, before_body, registers_body, outputs_body, input_ports, joined_body, port_of, output_of, op_in, result_in, result_here}
-use Rattle.hw_edits.specs.Edit.{retarget, anchors, Kept, Edit, EditedModule, made_word, word_of_op, word_of, Holds}
+use Rattle.hw_edits.specs.Edit.{retarget, anchors, Kept, Edit, EditedModule, result_word, word_of_op, word_of, Holds}
 use Rattle.hw_edits.proofs.Anchors.{instances_follow, output_refs_follow, body_state_follows, before_instance_follows, body_registers-anchors, instances-anchors}
 
 -- ---- other operands
@@ -101,18 +101,18 @@ port_ref-map f ps rs j = go (slice_get ps j)
 
 -- what a register loads with other operands
 loaded-retarget : (f : Ref → Ref) (o : Op) (τ : Ref → Word) (old : Word)
-    → loaded (register_in (retarget f o)) τ old ≡ loaded (register_in o) (λ r. τ (f r)) old
+    → next_value (register_in (retarget f o)) τ old ≡ next_value (register_in o) (λ r. τ (f r)) old
 loaded-retarget f o τ old = go (register_form o.kind)
   where
-    parts_same : (e : Bool) (r : Reset) (rs : List Ref) → loaded (register_parts e r (map f rs)) τ old ≡ loaded (register_parts e r rs) (λ r. τ (f r)) old
+    parts_same : (e : Bool) (r : Reset) (rs : List Ref) → next_value (register_parts e r (map f rs)) τ old ≡ next_value (register_parts e r rs) (λ r. τ (f r)) old
     parts_same false no_reset (d ∷ c ∷ []) = refl
     parts_same true no_reset (d ∷ c ∷ e ∷ []) = refl
     parts_same false sync_reset (d ∷ c ∷ r ∷ v ∷ []) = refl
     parts_same true sync_reset (d ∷ c ∷ e ∷ r ∷ v ∷ []) = refl
     parts_same _ _ _ = refl
 
-    go : (x : Option RegisterForm) → loaded (bind x (λ (g : RegisterForm). register_parts g.has_enable g.reset (map f o.operands))) τ old
-        ≡ loaded (bind x (λ (g : RegisterForm). register_parts g.has_enable g.reset o.operands)) (λ r. τ (f r)) old
+    go : (x : Option RegisterForm) → next_value (bind x (λ (g : RegisterForm). register_parts g.has_enable g.reset (map f o.operands))) τ old
+        ≡ next_value (bind x (λ (g : RegisterForm). register_parts g.has_enable g.reset o.operands)) (λ r. τ (f r)) old
     go None = refl
     go (Some g) = parts_same g.has_enable g.reset o.operands
 
@@ -144,7 +144,7 @@ pub word_read : (d : Design) (top : Name) (inputs content : Word) (ρ : Net → 
 word_read d top inputs content ρ p j k w says =
     ap (reads inputs content ρ) (result_here d top p j k) ∙ go (slice_get (body_of (module_at d top p)) j) says
   where
-    made_read : (o : Op) (t : Option HwType) → reads inputs content ρ (made_of p o k t) ≡ made_word (λ r. ρ (net p r)) o k t
+    made_read : (o : Op) (t : Option HwType) → reads inputs content ρ (made_of p o k t) ≡ result_word (λ r. ρ (net p r)) o k t
     made_read o None = refl
     made_read o (Some t) = ap (value_of inputs content (made o.kind o.types t k (map (net p) o.operands))) (map-map ρ (net p) o.operands)
 
@@ -154,8 +154,8 @@ word_read d top inputs content ρ p j k w says =
     by_sort o (an_instance x r i u) is = let never : None ≡ Some w = simp (r, i) at is in cc
     by_sort o (an_output r i u) is = let same : Some [] ≡ Some w = simp (r, i, u) at is in let e : [] ≡ w = cc in simp (r, i, u) e
     by_sort o (a_made r i u) is =
-        let same : Some (made_word (λ r. ρ (net p r)) o k (result_type o k)) ≡ Some w = simp (r, i, u) at is in
-        let e : made_word (λ r. ρ (net p r)) o k (result_type o k) ≡ w = cc in
+        let same : Some (result_word (λ r. ρ (net p r)) o k (result_type o k)) ≡ Some w = simp (r, i, u) at is in
+        let e : result_word (λ r. ρ (net p r)) o k (result_type o k) ≡ w = cc in
         simp (r, i, u) (made_read o (result_type o k) ∙ e)
 
     go : (x : Option Op) → word_of (λ r. ρ (net p r)) k x ≡ Some w
@@ -326,7 +326,7 @@ module _ (d d' : Design) (F : Option Module → Option Module → Type 0) (shape
 
     pub outputs_same : (ρ : Net → Word) → outputs d' top ρ ≡ outputs d top (λ a. ρ (standing a))
     outputs_same ρ =
-        ap joined (ap (map (λ r. ρ (net [] r))) (outputs_body (find_module d' top)
+        ap concat_words (ap (map (λ r. ρ (net [] r))) (outputs_body (find_module d' top)
         ∙ output_refs_follow (body_of (find_module d top)) (body_of (find_module d' top)) (stand_at []) (shape_at []).edit.anchors_are)
         ∙ map-map (λ r. ρ (net [] r)) (stand_at []) (output_refs (body_of (find_module d top)))
         ∙ ap (map (λ r. ρ (net [] (stand_at [] r)))) (sym (outputs_body (find_module d top))))

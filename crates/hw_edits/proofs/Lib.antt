@@ -6,7 +6,7 @@ pub mod Types
 pub mod Follows
 pub mod Positions
 pub mod ChangeInPlace
-pub mod PutIn
+pub mod Inserted
 pub mod TakeOut
 pub mod Unused
 pub mod Uses

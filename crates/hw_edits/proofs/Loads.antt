@@ -12,8 +12,8 @@ use Rattle.hw_model.specs.Kinds.{Instance}
 use Rattle.hw_model.specs.Design.{Op, Design, find_module, instance_in, is_instance, is_register, result_type, callee}
 use Rattle.hw_model.specs.Design.Ref.{result}
 use Rattle.hw_model.specs.Flat.{Path, Net, net, instances, module_at, body_state, op_state, state, base, width_of, held_of, held_width, source, register_in, instance_registers, op_registers, body_registers, module_registers}
-use Rattle.hw_model.specs.Meaning.{loaded, next_content}
-use Rattle.hw_model.specs.Hierarchy.{called, called_by, calls}
+use Rattle.hw_model.specs.Meaning.{next_value, next_content}
+use Rattle.hw_model.specs.Hierarchy.{callee_symbols, called_by, calls}
 use Rattle.hw_model.specs.Sound.{body_of, ports_of}
 use Rattle.hw_model.proofs.Sorts.{Sort, sort_of, instance_found}
 use Rattle.hw_model.proofs.Sorts.Sort.{a_register, an_instance, an_output, a_made}
@@ -26,13 +26,13 @@ use Rattle.hw_edits.proofs.Twins.Twin.{one, two}
 use Rattle.hw_edits.proofs.Twins.{Twin, Twins, twin_instance, twin_state}
 use Rattle.hw_edits.proofs.Registers.{Reregistered, module_state_same, twins_of, instances_same}
 
-called_position : (os : List Op) (j : ℕ) (o : Op) (i : Instance) → slice_get os j ≡ Some o → instance_in o.kind ≡ Some i → In i.symbol (called os)
+called_position : (os : List Op) (j : ℕ) (o : Op) (i : Instance) → slice_get os j ≡ Some o → instance_in o.kind ≡ Some i → In i.symbol (callee_symbols os)
 called_position [] j o i is inst = cc
 called_position (y ∷ ys) zero o i is inst =
     let same : y ≡ o = cc in
     let kind : instance_in y.kind ≡ Some i = ap (λ z. instance_in z.kind) same ∙ inst in
-    In-append_left i.symbol (called_by (instance_in y.kind)) (called ys) (simp kind (inl refl))
-called_position (y ∷ ys) (suc j) o i is inst = In-append_right i.symbol (called_by (instance_in y.kind)) (called ys) (called_position ys j o i is inst)
+    In-append_left i.symbol (called_by (instance_in y.kind)) (callee_symbols ys) (simp kind (inl refl))
+called_position (y ∷ ys) (suc j) o i is inst = In-append_right i.symbol (called_by (instance_in y.kind)) (callee_symbols ys) (called_position ys j o i is inst)
 
 -- how many instances stand before the next position
 count_next : (os : List Op) (j : ℕ) (o : Op) → slice_get os j ≡ Some o
@@ -77,8 +77,8 @@ module _ (d d' : Design) (none : Reregistered None None) (each : (s : Name) → 
   Same_at n p s = next_content (module_registers n d' p s) ρ (drop (base d top p) content) ≡ next_content (module_registers n d p s) ρ (drop (base d top p) content)
 
   module _ (n : ℕ) (p : Path)
-      (inner : (u : ℕ) (i : Instance) → In i.symbol (called (body_of (module_at d top p))) → module_at d top (u ∷ p) ≡ find_module d i.symbol → module_at d' top (u ∷ p) ≡ find_module d' i.symbol → Same_at n (u ∷ p) i.symbol)
-      (deep : (t : Name) → In t (called (body_of (module_at d top p))) → h t ≤ n) where
+      (inner : (u : ℕ) (i : Instance) → In i.symbol (callee_symbols (body_of (module_at d top p))) → module_at d top (u ∷ p) ≡ find_module d i.symbol → module_at d' top (u ∷ p) ≡ find_module d' i.symbol → Same_at n (u ∷ p) i.symbol)
+      (deep : (t : Name) → In t (callee_symbols (body_of (module_at d top p))) → h t ≤ n) where
     abbrev body : List Op
     body = body_of (module_at d top p)
 
@@ -137,7 +137,7 @@ module _ (d d' : Design) (none : Reregistered None None) (each : (s : Name) → 
         go (a_made r i w) = simp (r, i)
     op_same j o o' is (two old new types loads) =
         ap (λ b. next_content (cond b (record { path = p; op = o' } ∷ []) (instance_registers (module_registers n d') p (count j) (instance_in o'.kind))) ρ (drop (start j) content)) new
-        ∙ ap (λ w. first w (loaded (register_in o') (λ r. ρ (net p r)) (first w (drop (start j) content))) ++ []) (ap width_of (types 0))
+        ∙ ap (λ w. first w (next_value (register_in o') (λ r. ρ (net p r)) (first w (drop (start j) content))) ++ []) (ap width_of (types 0))
         ∙ ap (λ x. first (held_width o) x ++ [])
         (loads (λ r. ρ (net p r)) (holds p) (wide p) (first (held_width o) (drop (start j) content)) (held p j o is old))
         ∙ sym (ap (λ b. next_content (cond b (record { path = p; op = o } ∷ []) (instance_registers (module_registers n d) p (count j) (instance_in o.kind))) ρ (drop (start j) content)) old)
@@ -183,13 +183,13 @@ module _ (d d' : Design) (none : Reregistered None None) (each : (s : Name) → 
       ∙ ap (λ k. next_content (body_registers (module_registers n d) p 0 (body_of (module_at d top p))) ρ (drop k content)) (add-zero (base d top p))
       ∙ sym (ap (λ ss. next_content ss ρ (drop (base d top p) content)) (registers_body (module_registers n d) p (find_module d s) ∙ ap (λ o. body_registers (module_registers n d) p 0 (body_of o)) (sym is)))
     where
-      deep : (t : Name) → In t (called (body_of (module_at d top p))) → h t ≤ n
+      deep : (t : Name) → In t (callee_symbols (body_of (module_at d top p))) → h t ≤ n
       deep t named =
-          let need : In t (calls d s) = subst (λ o. In t (called (body_of o))) is named in
+          let need : In t (calls d s) = subst (λ o. In t (callee_symbols (body_of o))) is named in
           let lower : h t < h s = FallsAlong-height (calls d) h height s t need in
           omega arith
 
       inner_same : ((q : Path) (t : Name) → module_at d top q ≡ find_module d t → module_at d' top q ≡ find_module d' t → h t ≤ n → Same_at n q t)
-          → (u : ℕ) (i : Instance) → In i.symbol (called (body_of (module_at d top p))) → module_at d top (u ∷ p) ≡ find_module d i.symbol → module_at d' top (u ∷ p) ≡ find_module d' i.symbol
+          → (u : ℕ) (i : Instance) → In i.symbol (callee_symbols (body_of (module_at d top p))) → module_at d top (u ∷ p) ≡ find_module d i.symbol → module_at d' top (u ∷ p) ≡ find_module d' i.symbol
           → Same_at n (u ∷ p) i.symbol
       inner_same further u i named there there' = further (u ∷ p) i.symbol there there' (deep i.symbol named)

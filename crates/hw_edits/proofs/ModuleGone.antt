@@ -8,7 +8,7 @@ use Rattle.hw_model.specs.Types.{Name}
 use Rattle.hw_model.specs.Design.{Module, Design, same_name, find_module}
 use Rattle.hw_model.specs.Machine.{Same}
 use Rattle.hw_model.specs.Meaning.{needs_of, HasHeights, machine}
-use Rattle.hw_model.specs.Hierarchy.{called, calls, IsWithout}
+use Rattle.hw_model.specs.Hierarchy.{callee_symbols, calls, IsWithout}
 use Rattle.hw_model.specs.Sound.{body_of, SoundBody, Sound}
 use Rattle.hw_model.proofs.Gone.{called_In, finite_without, heights_without_module, source_same, gone_same}
 use Rattle.hw_edits.specs.Follows.{Valid}
@@ -27,7 +27,7 @@ module _ (d e : Design) (gone : Name) (without : IsWithout d e gone) (valid : Va
             instances = λ j o there i inst.
                 let fits = sound.instances j o there i inst in
                 let stays : i.symbol ≡ gone → ⊥ = λ same. without.unused s
-                (subst (λ t. In t (calls d s)) same (subst (λ x. In i.symbol (called (body_of x))) (sym was) (called_In m.body o i (In-slice_get o m.body j there) inst))) in
+                (subst (λ t. In t (calls d s)) same (subst (λ x. In i.symbol (callee_symbols (body_of x))) (sym was) (called_In m.body o i (In-slice_get o m.body j there) inst))) in
                 (fits.0, without.others i.symbol stays ∙ fits.1, fits.2, fits.3);
             outputs = sound.outputs;
           }
@@ -43,8 +43,8 @@ module _ (d e : Design) (gone : Name) (without : IsWithout d e gone) (valid : Va
   pub gone_valid : Valid e
   gone_valid = record { sound = sound_without; finite = finite_without d e gone without valid.finite; heights = heights_without }
 
-pub gone_follows : (d e : Design) (gone : Name) → IsWithout d e gone → Valid d → (top : Name) → (top ≡ gone → ⊥) → Same (machine d top) (machine e top)
-gone_follows d e gone without valid top other = gone_same d e gone without valid.finite top other (valid.heights top)
+pub remove_module_preserves : (d e : Design) (gone : Name) → IsWithout d e gone → Valid d → (top : Name) → (top ≡ gone → ⊥) → Same (machine d top) (machine e top)
+remove_module_preserves d e gone without valid top other = gone_same d e gone without valid.finite top other (valid.heights top)
 
 -- a module taken out of the list of modules
 pub removed_others : (d : Design) (m : ℕ) (md : Module) → slice_get d m ≡ Some md → (s : Name) → (s ≡ md.symbol → ⊥) → find_module (remove d m) s ≡ find_module d s

@@ -7,7 +7,7 @@ use Rattle.hw_model.specs.Types.{Name}
 use Rattle.hw_model.specs.Kinds.{Instance}
 use Rattle.hw_model.specs.Design.{Ref, Op, Module, Design, find_module, instance_in, is_instance, is_register, is_output_op, result_type, output_refs, callee}
 use Rattle.hw_model.specs.Design.Ref.{port, result, undefined}
-use Rattle.hw_model.specs.Value.{joined}
+use Rattle.hw_model.specs.Value.{concat_words}
 use Rattle.hw_model.specs.Flat.{Path, Net, net, instances, before_instance, module_at, body_state, module_state, state, base, port_ref, input_width, input_of, port_source, copy_of, joined_ref, joined_at, given_ref, held_of, made_of, source}
 use Rattle.hw_model.specs.Flat.Source.{nowhere}
 use Rattle.hw_model.specs.Meaning.{outputs}
@@ -168,7 +168,7 @@ module _ (d d' : Design) (none : Reregistered None None) (each : (s : Name) → 
 
     pub outputs_same : (ρ : Net → Word) → outputs d' top ρ ≡ outputs d top ρ
     outputs_same ρ =
-        ap (λ rs. joined (map (λ r. ρ (net [] r)) rs))
+        ap (λ rs. concat_words (map (λ r. ρ (net [] r)) rs))
         (outputs_body (find_module d' top)
         ∙ twins_outputs (ports_of (find_module d top)) (body_of (find_module d top)) 0 (body_of (find_module d top)) (body_of (find_module d' top)) (each top).twins
         ∙ sym (outputs_body (find_module d top)))

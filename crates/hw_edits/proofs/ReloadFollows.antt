@@ -158,9 +158,9 @@ module _ (d d' : Design) (each : (s : Name) → Reloading (find_module d s) (fin
   }
 
 -- a register that may take its next value in another way does
-pub register_follows : (d : Design) (m : ℕ) (md : Module) (i : ℕ) (o o' : Op) → Valid d → slice_get d m ≡ Some md → Reloaded md i o o'
+pub replace_register_preserves : (d : Design) (m : ℕ) (md : Module) (i : ℕ) (o o' : Op) → Valid d → slice_get d m ≡ Some md → Reloaded md i o o'
     → Follows d (with_body d m md (set md.body i o'))
-register_follows d m md i o o' valid is change =
+replace_register_preserves d m md i o o' valid is change =
     reload_follows d (with_body d m md (set md.body i o'))
     (set_each Reloading no_reloading d m md (record md { body = set md.body i o' }) is refl (reloading md i o o' change))
     (length-set d m (record md { body = set md.body i o' })) valid

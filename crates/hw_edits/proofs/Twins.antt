@@ -6,9 +6,9 @@ use Rattle.hw_model.specs.Types.{Name}
 use Rattle.hw_model.specs.Design.{Ref, Port, Op, instance_in, is_instance, is_register, is_output_op, result_type, output_refs}
 use Rattle.hw_model.specs.Design.Ref.{port, result, undefined}
 use Rattle.hw_model.specs.Flat.{instances, before_instance, if_zero, body_state, op_state, instance_state, held_width, width_of, register_in}
-use Rattle.hw_model.specs.Meaning.{loaded}
+use Rattle.hw_model.specs.Meaning.{next_value}
 use Rattle.hw_model.specs.Sound.{type_in}
-use Rattle.hw_model.specs.Hierarchy.{called, called_by}
+use Rattle.hw_model.specs.Hierarchy.{callee_symbols, called_by}
 use Rattle.hw_model.proofs.Sorts.{Sort, sort_of}
 use Rattle.hw_model.proofs.Sorts.Sort.{a_register, an_instance, an_output, a_made}
 use Rattle.hw_edits.specs.Edit.{Holds}
@@ -18,7 +18,7 @@ use Rattle.hw_edits.specs.Follows.{Wide}
 pub data Twin (ports : List Port) (os : List Op) (j : ℕ) (o o' : Op) : Type 0 where
   one : o' ≡ o → Twin ports os j o o'
   two : is_register o ≡ true → is_register o' ≡ true → ((k : ℕ) → result_type o' k ≡ result_type o k)
-      → ((τ : Ref → Word) → Holds os τ → Wide ports os τ → (old : Word) → τ (result j 0) ≡ old → loaded (register_in o') τ old ≡ loaded (register_in o) τ old)
+      → ((τ : Ref → Word) → Holds os τ → Wide ports os τ → (old : Word) → τ (result j 0) ≡ old → next_value (register_in o') τ old ≡ next_value (register_in o) τ old)
       → Twin ports os j o o'
 
 -- a register is nothing else
@@ -80,7 +80,7 @@ module _ (ports : List Port) (whole : List Op) where
           ap (λ b. cond b o'.operands (output_refs os')) (register_only o' new).1 ∙ rest
           ∙ sym (ap (λ b. cond b o.operands (output_refs os)) (register_only o old).1)
 
-  pub twins_called : (j : ℕ) (os os' : List Op) → Twins j os os' → called os' ≡ called os
+  pub twins_called : (j : ℕ) (os os' : List Op) → Twins j os os' → callee_symbols os' ≡ callee_symbols os
   twins_called j [] [] twins = refl
   twins_called j [] (o' ∷ os') twins = absurd twins
   twins_called j (o ∷ os) [] twins = absurd twins

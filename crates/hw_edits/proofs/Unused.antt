@@ -14,10 +14,10 @@ use Rattle.hw_model.specs.Sound.{type_in, Fits}
 use Rattle.hw_model.proofs.Machines.{same_sym}
 use Rattle.hw_edits.specs.Edit.{retarget}
 use Rattle.hw_edits.specs.Follows.{Valid, Follows}
-use Rattle.hw_edits.specs.Laws.{up_ref, without, take_out, put_in, with_body, IsNotOf, PutIn, IsUnused}
+use Rattle.hw_edits.specs.Laws.{up_ref, without, erase_op, insert_op, with_body, IsNotOf, Inserted, IsUnused}
 use Rattle.hw_edits.proofs.Edited.{length_map}
 use Rattle.hw_edits.proofs.Follows.{valid_settles, valid_set}
-use Rattle.hw_edits.proofs.PutIn.{in_follows}
+use Rattle.hw_edits.proofs.Inserted.{insert_op_preserves}
 use Rattle.hw_edits.proofs.TakeOut.{up-without, types_stay, taken_out_valid}
 
 set-set : {A : Type 0} (xs : List A) (i : ℕ) (x y : A) → set (set xs i x) i y ≡ set xs i y
@@ -27,13 +27,13 @@ set-set (z ∷ zs) (suc i) x y = ap (λ ws. z ∷ ws) (set-set zs i x y)
 
 module _ (d : Design) (m : ℕ) (md : Module) (i : ℕ) (o : Op) (valid : Valid d) (there : slice_get d m ≡ Some md) (unused : IsUnused md i o) where
   abbrev shorter : List Op
-  shorter = take_out i undefined md.body
+  shorter = erase_op i undefined md.body
 
   abbrev less : Module
-  less = record md { body = take_out i undefined md.body }
+  less = record md { body = erase_op i undefined md.body }
 
   abbrev without_it : Design
-  without_it = with_body d m md (take_out i undefined md.body)
+  without_it = with_body d m md (erase_op i undefined md.body)
 
   -- the operation, as it is put in again
   abbrev again : Op
@@ -60,7 +60,7 @@ module _ (d : Design) (m : ℕ) (md : Module) (i : ℕ) (o : Op) (valid : Valid 
       ∙ map_same (λ z. retarget (up_ref i) (retarget (without i undefined) z)) (λ z. z) os (λ z here. restored z (other z here))
       ∙ map-id os
 
-  body_restored : put_in i again (take_out i undefined md.body) ≡ md.body
+  body_restored : insert_op i again (erase_op i undefined md.body) ≡ md.body
   body_restored =
       ap₂ (λ xs z. insert xs i z)
       (all_restored (remove md.body i) (λ z here r named.
@@ -68,34 +68,34 @@ module _ (d : Design) (m : ℕ) (md : Module) (i : ℕ) (o : Op) (valid : Valid 
       (restored o (λ r named. unused.unnamed i o r unused.there named))
       ∙ insert-remove md.body i o unused.there
 
-  design_restored : with_body without_it m less (put_in i again (take_out i undefined md.body)) ≡ d
+  design_restored : with_body without_it m less (insert_op i again (erase_op i undefined md.body)) ≡ d
   design_restored =
       ap (λ os. set without_it m (record md { body = os })) body_restored
       ∙ set-set d m less md
       ∙ set_some d m md there
 
-  may_put_in : PutIn less i again
+  may_put_in : Inserted less i again
   may_put_in = record {
     within =
         let long : i < length md.body = slice_get_within md.body i o unused.there in
         let fewer : suc (length (remove md.body i)) ≡ length md.body = length-remove_suc md.body i long in
-        let mapped : length (take_out i undefined md.body) ≡ length (remove md.body i) = length_map (retarget (without i undefined)) (remove md.body i) in
+        let mapped : length (erase_op i undefined md.body) ≡ length (remove md.body i) = length_map (retarget (without i undefined)) (remove md.body i) in
         omega arith;
     plain = unused.plain;
     fits = λ k t typed.
         subst (λ xs. Fits o.kind o.types xs t k)
-        (sym (map-map (type_in md.ports (take_out i undefined md.body)) (without i undefined) o.operands
-        ∙ map_same (λ r. type_in md.ports (take_out i undefined md.body) (without i undefined r)) (type_in md.ports md.body) o.operands
+        (sym (map-map (type_in md.ports (erase_op i undefined md.body)) (without i undefined) o.operands
+        ∙ map_same (λ r. type_in md.ports (erase_op i undefined md.body) (without i undefined r)) (type_in md.ports md.body) o.operands
         (λ r named. types_stay md i o unused.there unused.plain undefined r (unused.unnamed i o r unused.there named))))
         (unused.fits k t typed);
   }
 
   -- an operation that nothing names may go
-  pub unused_follows : Follows d (with_body d m md (take_out i undefined md.body))
-  unused_follows = record {
+  pub erase_dead_op_preserves : Follows d (with_body d m md (erase_op i undefined md.body))
+  erase_dead_op_preserves = record {
     valid = valid_without;
     same = λ top.
         same_sym (machine without_it top) (machine d top) (valid_settles without_it valid_without top)
         (subst (λ e. Same (machine without_it top) (machine e top)) design_restored
-        ((in_follows without_it m less i again valid_without (slice_get-set_same d m less (slice_get_within d m md there)) may_put_in).same top));
+        ((insert_op_preserves without_it m less i again valid_without (slice_get-set_same d m less (slice_get_within d m md there)) may_put_in).same top));
   }

@@ -14,18 +14,18 @@ use Rattle.hw_model.specs.Types.HwType.{int, clock}
 use Rattle.hw_model.specs.Design.{Ref, Op, Module, Design, find_module, nowhere_place, result_type}
 use Rattle.hw_model.specs.Design.Ref.{result}
 use Rattle.hw_model.specs.Flat.{net, register_in}
-use Rattle.hw_model.specs.Meaning.{loaded}
+use Rattle.hw_model.specs.Meaning.{next_value}
 use Rattle.hw_model.specs.Value.{op_value, is_high}
 use Rattle.hw_model.specs.Sound.{body_of, type_in, Fits, OpFits}
-use Rattle.hw_edits.specs.Edit.{is_anchor, made_word, word_of, HoldsBut, Holds}
+use Rattle.hw_edits.specs.Edit.{is_anchor, result_word, word_of, HoldsBut, Holds}
 use Rattle.hw_edits.specs.Falls.{LocalHeight}
 use Rattle.hw_edits.specs.Follows.{Wide, Valid, Follows}
-use Rattle.hw_edits.specs.Laws.{IsNotOf, take_out, put_in, with_body}
+use Rattle.hw_edits.specs.Laws.{IsNotOf, erase_op, insert_op, with_body}
 use Rattle.hw_edits.proofs.Heights.{local_height}
-use Rattle.hw_edits.proofs.TakeOut.{out_follows}
-use Rattle.hw_edits.proofs.PutIn.{in_follows}
-use Rattle.hw_edits.proofs.ReloadFollows.{register_follows}
-use Rattle.hw_edits.proofs.ChangeInPlace.{plain_word, place_follows}
+use Rattle.hw_edits.proofs.TakeOut.{erase_op_preserves}
+use Rattle.hw_edits.proofs.Inserted.{insert_op_preserves}
+use Rattle.hw_edits.proofs.ReloadFollows.{replace_register_preserves}
+use Rattle.hw_edits.proofs.ChangeInPlace.{plain_word, replace_op_preserves}
 
 -- ---- what is shared
 
@@ -64,9 +64,9 @@ operand_other d md valid found i o t u there plain typed no_more r here has_type
 
 pub wire_out : (d : Design) (m : ℕ) (md : Module) (i : ℕ) (o : Op) (t : HwType) (x : Ref) → Valid d → slice_get d m ≡ Some md → find_module d md.symbol ≡ Some md
     → slice_get md.body i ≡ Some o → o.kind ≡ wire → o.operands ≡ x ∷ [] → result_type o 0 ≡ Some t → ((k : ℕ) → result_type o (suc k) ≡ None)
-    → Follows d (with_body d m md (take_out i x md.body))
+    → Follows d (with_body d m md (erase_op i x md.body))
 wire_out d m md i o t x valid at_m found there is_wire operands typed no_more =
-    out_follows d m md i o t x valid at_m (record {
+    erase_op_preserves d m md i o t x valid at_m (record {
       there = there;
       plain = plain;
       result_is = typed;
@@ -108,17 +108,17 @@ constant_op z t = record {
 }
 
 pub constant_in : (d : Design) (m : ℕ) (md : Module) (i : ℕ) (z : ℤ) (t : HwType) → Valid d → slice_get d m ≡ Some md → i ≤ length md.body
-    → Follows d (with_body d m md (put_in i (constant_op z t) md.body))
+    → Follows d (with_body d m md (insert_op i (constant_op z t) md.body))
 constant_in d m md i z t valid at_m within =
-    in_follows d m md i (constant_op z t) valid at_m (record { within = within; plain = refl; fits = λ k u typed. refl })
+    insert_op_preserves d m md i (constant_op z t) valid at_m (record { within = within; plain = refl; fits = λ k u typed. refl })
 
 -- an operation whose word is always that of a constant becomes the constant
 pub constant_place : (d : Design) (m : ℕ) (md : Module) (i : ℕ) (o : Op) (z : ℤ) (t : HwType) → Valid d → slice_get d m ≡ Some md → slice_get md.body i ≡ Some o
     → is_anchor o ≡ false → result_type o 0 ≡ Some t → ((k : ℕ) → result_type o (suc k) ≡ None)
-    → ((τ : Ref → Word) → HoldsBut md.body τ (λ j. j ≡ i) → Wide md.ports md.body τ → made_word τ o 0 (Some t) ≡ bits_of_ℤ (width t) z)
+    → ((τ : Ref → Word) → HoldsBut md.body τ (λ j. j ≡ i) → Wide md.ports md.body τ → result_word τ o 0 (Some t) ≡ bits_of_ℤ (width t) z)
     → Follows d (with_body d m md (set md.body i (constant_op z t)))
 constant_place d m md i o z t valid at_m there plain typed no_more always =
-    place_follows d m md i o (constant_op z t) valid at_m (record {
+    replace_op_preserves d m md i o (constant_op z t) valid at_m (record {
       there = there;
       old_plain = plain;
       new_plain = refl;
@@ -133,11 +133,11 @@ constant_place d m md i o z t valid at_m there plain typed no_more always =
     same_types (suc k) = sym (no_more k)
 
     by_number : (τ : Ref → Word) → HoldsBut md.body τ (λ j. j ≡ i) → Wide md.ports md.body τ → (k : ℕ) (u : HwType) → result_type o k ≡ Some u
-        → made_word τ o k (Some u) ≡ made_word τ (constant_op z t) k (Some u)
+        → result_word τ o k (Some u) ≡ result_word τ (constant_op z t) k (Some u)
     by_number τ holds wide zero u is =
         let both : Some t ≡ Some u = sym typed ∙ is in
         let same : t ≡ u = cc in
-        subst (λ v. made_word τ o 0 (Some v) ≡ bits_of_ℤ (width v) z) same (always τ holds wide)
+        subst (λ v. result_word τ o 0 (Some v) ≡ bits_of_ℤ (width v) z) same (always τ holds wide)
     by_number τ holds wide (suc k) u is = let clash : None ≡ Some u = sym (no_more k) ∙ is in cc
 
 -- ---- an operation that does what an earlier one does
@@ -146,9 +146,9 @@ constant_place d m md i o z t valid at_m there plain typed no_more always =
 pub copy_out : (d : Design) (m : ℕ) (md : Module) (i j : ℕ) (o copy : Op) (t : HwType) → Valid d → slice_get d m ≡ Some md → slice_get md.body i ≡ Some o
     → slice_get md.body j ≡ Some copy → (i ≡ j → ⊥) → is_anchor o ≡ false → copy.kind ≡ o.kind → copy.types ≡ o.types → copy.operands ≡ o.operands
     → result_type o 0 ≡ Some t → result_type copy 0 ≡ Some t → ((k : ℕ) → result_type copy (suc k) ≡ None)
-    → Follows d (with_body d m md (take_out j (result i 0) md.body))
+    → Follows d (with_body d m md (erase_op j (result i 0) md.body))
 copy_out d m md i j o copy t valid at_m there also other plain kinds types operands typed also_typed no_more =
-    out_follows d m md j copy t (result i 0) valid at_m (record {
+    erase_op_preserves d m md j copy t (result i 0) valid at_m (record {
       there = also;
       plain = also_plain;
       result_is = also_typed;
@@ -161,14 +161,14 @@ copy_out d m md i j o copy t valid at_m there also other plain kinds types opera
           let equal : greatest (map h copy.operands) ≡ greatest (map h o.operands) = ap (λ rs. greatest (map h rs)) operands in
           omega arith;
       words = λ τ holds wide.
-          same_made τ ∙ sym (holds.result_is i 0 (made_word τ o 0 (Some t)) other
-          (ap (word_of τ 0) there ∙ plain_word τ 0 o plain ∙ ap (λ x. Some (made_word τ o 0 x)) typed));
+          same_made τ ∙ sym (holds.result_is i 0 (result_word τ o 0 (Some t)) other
+          (ap (word_of τ 0) there ∙ plain_word τ 0 o plain ∙ ap (λ x. Some (result_word τ o 0 x)) typed));
     })
   where
     also_plain : is_anchor copy ≡ false
     also_plain = ap (λ k. is_anchor (record copy { kind = k })) kinds ∙ plain
 
-    same_made : (τ : Ref → Word) → made_word τ copy 0 (Some t) ≡ made_word τ o 0 (Some t)
+    same_made : (τ : Ref → Word) → result_word τ copy 0 (Some t) ≡ result_word τ o 0 (Some t)
     same_made τ = ap (λ k. op_value k copy.types t 0 (map τ copy.operands)) kinds ∙ ap₂ (λ ts rs. op_value o.kind ts t 0 (map τ rs)) types operands
 
 -- ---- an enable
@@ -180,7 +180,7 @@ pub enable_out : (d : Design) (m : ℕ) (md : Module) (i j : ℕ) (o choice : Op
     → slice_get md.body j ≡ Some choice → choice.kind ≡ mux → choice.operands ≡ e ∷ x ∷ result i 0 ∷ [] → result_type choice 0 ≡ Some t
     → Follows d (with_body d m md (set md.body i (record o { kind = register compreg no_reset; operands = result j 0 ∷ c ∷ [] })))
 enable_out d m md i j o choice t x c e valid at_m found there kind operands typed no_more chosen is_mux chosen_from chosen_type =
-    register_follows d m md i o (record o { kind = register compreg no_reset; operands = result j 0 ∷ c ∷ [] }) valid at_m (record {
+    replace_register_preserves d m md i o (record o { kind = register compreg no_reset; operands = result j 0 ∷ c ∷ [] }) valid at_m (record {
       there = there;
       old_register = rw kind refl;
       new_register = refl;
@@ -212,11 +212,11 @@ enable_out d m md i j o choice t x c e valid at_m found there kind operands type
     plain = rw is_mux refl
 
     loads : (τ : Ref → Word) → Holds md.body τ → Wide md.ports md.body τ → (old : Word) → τ (result i 0) ≡ old
-        → loaded (register_in (record o { kind = register compreg no_reset; operands = result j 0 ∷ c ∷ [] })) τ old ≡ loaded (register_in o) τ old
+        → next_value (register_in (record o { kind = register compreg no_reset; operands = result j 0 ∷ c ∷ [] })) τ old ≡ next_value (register_in o) τ old
     loads τ holds wide old is =
         let says : word_of τ 0 (slice_get md.body j) ≡ Some (cond (is_high (τ e)) (τ x) (τ (result i 0))) =
         ap (word_of τ 0) chosen ∙ plain_word τ 0 choice plain
-        ∙ ap Some (ap (made_word τ choice 0) chosen_type ∙ ap₂ (λ z rs. op_value z choice.types t 0 (map τ rs)) is_mux chosen_from) in
+        ∙ ap Some (ap (result_word τ choice 0) chosen_type ∙ ap₂ (λ z rs. op_value z choice.types t 0 (map τ rs)) is_mux chosen_from) in
         let word : τ (result j 0) ≡ cond (is_high (τ e)) (τ x) (τ (result i 0)) =
         holds.result_is j 0 (cond (is_high (τ e)) (τ x) (τ (result i 0))) (λ never. never) says in
         rw (kind, operands) (ap (λ w. cond (is_high (τ c)) w old) (word ∙ ap (λ w. cond (is_high (τ e)) (τ x) w) is))

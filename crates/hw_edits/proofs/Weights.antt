@@ -7,7 +7,7 @@ use Rattle.hw_model.specs.Design.Ref.{undefined}
 use Rattle.hw_model.specs.Weight.{kind_weight, body_weight, weight_of, weight}
 use Rattle.hw_model.proofs.Weights.{weight_not_raised}
 use Rattle.hw_edits.specs.Edit.{retarget}
-use Rattle.hw_edits.specs.Laws.{without, take_out, with_body}
+use Rattle.hw_edits.specs.Laws.{without, erase_op, with_body}
 use Rattle.hw_edits.proofs.Follows.{set_each}
 
 -- a module whose body is not heavier makes no module heavier
@@ -47,18 +47,18 @@ module _ (inner : Name → ℕ) where
 
 -- a body is lighter by the weight of what is taken out
 pub weight_taken_out : (inner : Name → ℕ) (os : List Op) (i : ℕ) (o : Op) (x : Ref) → slice_get os i ≡ Some o
-    → kind_weight inner o.kind o.types (length o.operands) + body_weight inner (take_out i x os) ≡ body_weight inner os
+    → kind_weight inner o.kind o.types (length o.operands) + body_weight inner (erase_op i x os) ≡ body_weight inner os
 weight_taken_out inner os i o x is =
-    let same : body_weight inner (take_out i x os) ≡ body_weight inner (remove os i) = weight-retarget inner (without i (without i undefined x)) (remove os i) in
+    let same : body_weight inner (erase_op i x os) ≡ body_weight inner (remove os i) = weight-retarget inner (without i (without i undefined x)) (remove os i) in
     let sum : kind_weight inner o.kind o.types (length o.operands) + body_weight inner (remove os i) ≡ body_weight inner os = weight-remove inner os i o is in
     omega arith
 
 -- taking an operation out makes no module heavier
 pub out_is_lighter : (d : Design) (m : ℕ) (md : Module) (i : ℕ) (o : Op) (x : Ref) → slice_get d m ≡ Some md → slice_get md.body i ≡ Some o
-    → (s : Name) → weight (with_body d m md (take_out i x md.body)) s ≤ weight d s
+    → (s : Name) → weight (with_body d m md (erase_op i x md.body)) s ≤ weight d s
 out_is_lighter d m md i o x at_m there =
-    weight_with_body d m md (take_out i x md.body) at_m
-    (λ inner. let sum : kind_weight inner o.kind o.types (length o.operands) + body_weight inner (take_out i x md.body) ≡ body_weight inner md.body = weight_taken_out inner md.body i o x there in omega arith)
+    weight_with_body d m md (erase_op i x md.body) at_m
+    (λ inner. let sum : kind_weight inner o.kind o.types (length o.operands) + body_weight inner (erase_op i x md.body) ≡ body_weight inner md.body = weight_taken_out inner md.body i o x there in omega arith)
 
 -- a change in place makes no module heavier where the new operation is not heavier
 pub place_is_lighter : (d : Design) (m : ℕ) (md : Module) (i : ℕ) (o new : Op) → slice_get d m ≡ Some md → slice_get md.body i ≡ Some o

@@ -51,13 +51,13 @@ pub record EditedModule (old new : Option Module) : Type 0 where
 
 -- ---- what a body says of its values
 
-abbrev pub made_word : (Ref → Word) → Op → ℕ → Option HwType → Word
-made_word τ o k None = []
-made_word τ o k (Some t) = op_value o.kind o.types t k (map τ o.operands)
+abbrev pub result_word : (Ref → Word) → Op → ℕ → Option HwType → Word
+result_word τ o k None = []
+result_word τ o k (Some t) = op_value o.kind o.types t k (map τ o.operands)
 
 abbrev pub word_of_op : (Ref → Word) → ℕ → Op → Option Word
 word_of_op τ k o =
-    cond (is_register o) None (cond (is_instance o) None (cond (is_output_op o) (Some []) (Some (made_word τ o k (result_type o k)))))
+    cond (is_register o) None (cond (is_instance o) None (cond (is_output_op o) (Some []) (Some (result_word τ o k (result_type o k)))))
 
 -- the word of an operation's result k under a map of the body's values; None where the body alone does not say it, as of
 -- registers and instances

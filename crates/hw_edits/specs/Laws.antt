@@ -9,7 +9,7 @@ use Rattle.hw_model.specs.Types.{HwType}
 use Rattle.hw_model.specs.Design.{Ref, Op, Module, Design, result_type}
 use Rattle.hw_model.specs.Design.Ref.{port, result, undefined}
 use Rattle.hw_model.specs.Sound.{type_in, OpFits}
-use Rattle.hw_edits.specs.Edit.{retarget, is_anchor, made_word, HoldsBut}
+use Rattle.hw_edits.specs.Edit.{retarget, is_anchor, result_word, HoldsBut}
 use Rattle.hw_edits.specs.Falls.{LocalHeight}
 use Rattle.hw_edits.specs.Follows.{Wide}
 
@@ -43,26 +43,26 @@ up_ref i (port j) = port j
 up_ref i (result j k) = result (up i j) k
 up_ref i undefined = undefined
 
-abbrev pub moved : Option ℕ → Ref → ℕ → Ref
-moved (Some j) x k = result j k
-moved None x zero = x
-moved None x (suc k) = undefined
+abbrev pub ref_after_erase : Option ℕ → Ref → ℕ → Ref
+ref_after_erase (Some j) x k = result j k
+ref_after_erase None x zero = x
+ref_after_erase None x (suc k) = undefined
 
 -- a value once the operation at position i is taken out, x standing for its first result, and nothing for others
 abbrev pub without : ℕ → Ref → Ref → Ref
 without i x (port j) = port j
-without i x (result j k) = moved (down i j) x k
+without i x (result j k) = ref_after_erase (down i j) x k
 without i x undefined = undefined
 
 -- ---- bodies
 
 -- the operation at position i taken out, the value x of the body standing for its first result
-abbrev pub take_out : ℕ → Ref → List Op → List Op
-take_out i x os = map (retarget (without i (without i undefined x))) (remove os i)
+abbrev pub erase_op : ℕ → Ref → List Op → List Op
+erase_op i x os = map (retarget (without i (without i undefined x))) (remove os i)
 
 -- an operation put in at position i, its operands being values of the body as it was
-abbrev pub put_in : ℕ → Op → List Op → List Op
-put_in i o os = insert (map (retarget (up_ref i)) os) i (retarget (up_ref i) o)
+abbrev pub insert_op : ℕ → Op → List Op → List Op
+insert_op i o os = insert (map (retarget (up_ref i)) os) i (retarget (up_ref i) o)
 
 -- the module at position m of the design with another body
 abbrev pub with_body : Design → ℕ → Module → List Op → Design
@@ -84,11 +84,11 @@ pub record InPlace (md : Module) (i : ℕ) (o o' : Op) : Type 0 where
   pub fits : OpFits (type_in md.ports md.body) o'
   pub lower : (h : Ref → ℕ) → LocalHeight md.body h → (k : ℕ) (t : HwType) → result_type o k ≡ Some t → (r : Ref) → In r o'.operands → h r < h (result i k)
   pub words : (τ : Ref → Word) → HoldsBut md.body τ (λ j. j ≡ i) → Wide md.ports md.body τ → (k : ℕ) (t : HwType) → result_type o k ≡ Some t
-      → made_word τ o k (Some t) ≡ made_word τ o' k (Some t)
+      → result_word τ o k (Some t) ≡ result_word τ o' k (Some t)
 
 -- o at position i, with one result of type t, may go, x standing for its result: x is another value of that type, stands
 -- no higher than the result, and where all other operations hold it has the word of o
-pub record TakenOut (md : Module) (i : ℕ) (o : Op) (t : HwType) (x : Ref) : Type 0 where
+pub record Erased (md : Module) (i : ℕ) (o : Op) (t : HwType) (x : Ref) : Type 0 where
   pub there : slice_get md.body i ≡ Some o
   pub plain : is_anchor o ≡ false
   pub result_is : result_type o 0 ≡ Some t
@@ -96,10 +96,10 @@ pub record TakenOut (md : Module) (i : ℕ) (o : Op) (t : HwType) (x : Ref) : Ty
   pub stand_is : type_in md.ports md.body x ≡ Some t
   pub stand_stays : IsNotOf i x
   pub lower : (h : Ref → ℕ) → LocalHeight md.body h → h x ≤ h (result i 0)
-  pub words : (τ : Ref → Word) → HoldsBut md.body τ (λ j. j ≡ i) → Wide md.ports md.body τ → made_word τ o 0 (Some t) ≡ τ x
+  pub words : (τ : Ref → Word) → HoldsBut md.body τ (λ j. j ≡ i) → Wide md.ports md.body τ → result_word τ o 0 (Some t) ≡ τ x
 
 -- o may be put in at position i: it is made of its operands, which are values of the body as it was, and fits them
-pub record PutIn (md : Module) (i : ℕ) (o : Op) : Type 0 where
+pub record Inserted (md : Module) (i : ℕ) (o : Op) : Type 0 where
   pub within : i ≤ length md.body
   pub plain : is_anchor o ≡ false
   pub fits : OpFits (type_in md.ports md.body) o

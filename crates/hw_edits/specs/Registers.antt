@@ -4,7 +4,7 @@ use Rattle.bits_core.specs.Word.{Word}
 use Rattle.hw_model.specs.Design.{Ref, Op, Module, is_register, result_type}
 use Rattle.hw_model.specs.Design.Ref.{result}
 use Rattle.hw_model.specs.Flat.{register_in}
-use Rattle.hw_model.specs.Meaning.{loaded}
+use Rattle.hw_model.specs.Meaning.{next_value}
 use Rattle.hw_model.specs.Sound.{type_in, OpFits}
 use Rattle.hw_edits.specs.Edit.{Holds}
 use Rattle.hw_edits.specs.Follows.{Wide}
@@ -18,4 +18,4 @@ pub record Reloaded (md : Module) (i : ℕ) (o o' : Op) : Type 0 where
   pub same_types : (k : ℕ) → result_type o' k ≡ result_type o k
   pub fits : OpFits (type_in md.ports md.body) o'
   pub loads : (τ : Ref → Word) → Holds md.body τ → Wide md.ports md.body τ → (old : Word) → τ (result i 0) ≡ old
-      → loaded (register_in o') τ old ≡ loaded (register_in o) τ old
+      → next_value (register_in o') τ old ≡ next_value (register_in o) τ old

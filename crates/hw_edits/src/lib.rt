@@ -11,6 +11,6 @@
 mod laws;
 
 pub use laws::{
-    edits_are_lighter, edits_follow, following_composes, gone_follows, in_follows, out_follows,
-    place_follows, register_follows, unused_follows,
+    edits_are_lighter, edits_preserve, following_composes, remove_module_preserves, insert_op_preserves, erase_op_preserves,
+    replace_op_preserves, replace_register_preserves, erase_dead_op_preserves,
 };

@@ -4,14 +4,14 @@ ghost use Rattle.bits_core.specs.Word.{number};
 ghost use Rattle.hw_model.specs.TypeViews.{type_of};
 ghost use Rattle.hw_model.specs.FamilyViews.{array_op_of};
 ghost use Rattle.hw_model.specs.IntegerKinds.{OfTwo};
-ghost use Rattle.hw_model.specs.Value.{array_value, of_two, of_three, element, elements_from, slice_of, injected_below, injected, written};
+ghost use Rattle.hw_model.specs.Value.{array_value, of_two, of_three, element, elements_from, slice_of, injected_below, inject_element, nth_type};
 ghost use Rattle.hw_interpreter.specs.Suits.{ArraySuits, IsInteger, OfThree, OnFirst, IsArray, ReachesFrom};
 ghost use Rattle.hw_interpreter.specs.declared.refusal.Refusal.TheVariants.{NotFitting};
 
 use crate::bit_string::BitString;
 use crate::operands::{exact_width, number_of, three, two, written_array};
 use crate::refusal::Refusal;
-use crate::values::joined;
+use crate::values::concat_words;
 use crate::word_parts::part_of;
 use hw_model::families::ArrayOp;
 use hw_model::types::Ty;
@@ -25,13 +25,13 @@ pub(crate) fn array_word(
     ty: &Ty,
     operands: &[BitString],
 ) -> Result<BitString, Refusal>
-    ensures value { IfOk result (λ word. word ≡ array_value (array_op_of op) (written (map type_of types.now) 0) (type_of ty.now) operands.now) }
+    ensures value { IfOk result (λ word. word ≡ array_value (array_op_of op) (nth_type (map type_of types.now) 0) (type_of ty.now) operands.now) }
     ensures suits { OnOk result (ArraySuits (array_op_of op) (map type_of types.now) (type_of ty.now) operands.now) }
     ensures refuses { IsErrOf result NotFitting → ¬ ArraySuits (array_op_of op) (map type_of types.now) (type_of ty.now) operands.now }
 {
     match op {
         ArrayOp::Create | ArrayOp::Concat => {
-            let word = joined(alloc, operands)?;
+            let word = concat_words(alloc, operands)?;
             Ok(word)
         }
         ArrayOp::Get => element_got(alloc, types, operands),
@@ -122,7 +122,7 @@ fn element_or(
 }
 
 fn element_got(alloc: Global, types: &[Ty], operands: &[BitString]) -> Result<BitString, Refusal>
-    ensures value { IfOk result (λ word. word ≡ of_two (λ a i. element (written (map type_of types.now) 0) a (number i)) operands.now) }
+    ensures value { IfOk result (λ word. word ≡ of_two (λ a i. element (nth_type (map type_of types.now) 0) a (number i)) operands.now) }
     ensures suits { OnOk result (OnFirst IsArray (map type_of types.now) × OfTwo (λ a i. IsInteger i) operands.now) }
     ensures refuses { IsErrOf result NotFitting → ¬ (OnFirst IsArray (map type_of types.now) × OfTwo (λ a i. IsInteger i) operands.now) }
 {
@@ -145,7 +145,7 @@ fn slice_got(
     slice: &Ty,
     operands: &[BitString],
 ) -> Result<BitString, Refusal>
-    ensures value { IfOk result (λ word. word ≡ of_two (λ a i. slice_of (written (map type_of types.now) 0) a (number i) (type_of slice.now)) operands.now) }
+    ensures value { IfOk result (λ word. word ≡ of_two (λ a i. slice_of (nth_type (map type_of types.now) 0) a (number i) (type_of slice.now)) operands.now) }
     ensures suits { OnOk result (OnFirst IsArray (map type_of types.now) × OfTwo (λ a i. IsInteger i × ReachesFrom (number i) (type_of slice.now)) operands.now) }
     ensures refuses { IsErrOf result NotFitting → ¬ (OnFirst IsArray (map type_of types.now) × OfTwo (λ a i. IsInteger i × ReachesFrom (number i) (type_of slice.now)) operands.now) }
 {
@@ -179,25 +179,25 @@ fn slice_at(
 }
 
 fn element_put(alloc: Global, types: &[Ty], operands: &[BitString]) -> Result<BitString, Refusal>
-    ensures value { IfOk result (λ word. word ≡ of_three (λ a i v. injected (written (map type_of types.now) 0) a (number i) v) operands.now) }
+    ensures value { IfOk result (λ word. word ≡ of_three (λ a i v. inject_element (nth_type (map type_of types.now) 0) a (number i) v) operands.now) }
     ensures suits { OnOk result (OnFirst IsArray (map type_of types.now) × OfThree (λ a i v. IsInteger i) operands.now) }
     ensures refuses { IsErrOf result NotFitting → ¬ (OnFirst IsArray (map type_of types.now) × OfThree (λ a i v. IsInteger i) operands.now) }
 {
     let ty = written_array(types)?;
     let (array, index, value) = three(operands)?;
     let index = number_of(index)?;
-    injected(alloc, ty, array.as_slice(), index, value)
+    inject_element(alloc, ty, array.as_slice(), index, value)
 }
 
 // the array's word with a value in place of element `index`
-fn injected(
+fn inject_element(
     alloc: Global,
     ty: &Ty,
     word: &[bool],
     index: u128,
     value: &BitString,
 ) -> Result<BitString, Refusal>
-    ensures value { IfOk result (λ part. part ≡ injected (type_of ty.now) word.now index value.now) }
+    ensures value { IfOk result (λ part. part ≡ inject_element (type_of ty.now) word.now index value.now) }
     ensures refuses { IsErrOf result NotFitting → ¬ IsArray (type_of ty.now) }
 {
     match ty {

@@ -6,7 +6,7 @@ ghost use Rattle.hw_model.specs.Flat.{Slot as FlatSlot};
 ghost use Rattle.hw_model.specs.KindViews.{kind_of};
 ghost use Rattle.hw_model.specs.Design.{find_module, register_form};
 ghost use Rattle.hw_model.specs.Flat.{Net, held_width, net, module_registers, body_registers, op_registers, registers, register_in, register_parts, depth};
-ghost use Rattle.hw_model.specs.Meaning.{enabled as enabled_word, reset as reset_word, loaded as loaded_word, next_content, outputs_of, outputs, Settled, machine};
+ghost use Rattle.hw_model.specs.Meaning.{value_if_enabled as enabled_word, reset as reset_word, next_value as loaded_word, next_content, outputs_of, outputs, Settled, machine};
 ghost use Rattle.hw_model.specs.Machine.{Step, Run};
 ghost use Rattle.hw_interpreter.specs.DesignViews.{ref_of, op_of, module_of};
 ghost use Rattle.hw_interpreter.specs.Depth.{value_within, run_within, Suffices};
@@ -18,11 +18,11 @@ ghost use Rattle.hw_interpreter.specs.Registers.{slot_of, register_of, reset_by_
 use crate::bit_string::BitString;
 use crate::design::{Module, Operand, Setting};
 use crate::modules::{find_module, held_width, output_operands};
-use crate::nets::{net_value, operand_values, padded};
+use crate::nets::{net_value, operand_values, pad};
 use crate::refusal::Refusal;
 use crate::registers::{Register, ResetBy, Slot, register_in, registers};
-use crate::values::{is_high, joined};
-use crate::word_parts::behind;
+use crate::values::{is_high, concat_words};
+use crate::word_parts::bits_after;
 use std::alloc::Global;
 
 /// What a step gives.
@@ -60,7 +60,7 @@ fn output_word(alloc: Global, at: &Setting, depth: u32) -> Result<BitString, Ref
     ensures refuses { IsErrOf result NotFitting → ¬ TakesRefs (map module_of at.now.modules.now) at.now.top.now at.now.inputs.now at.now.content.now depth [] (outputs_of (find_module (map module_of at.now.modules.now) at.now.top.now)) }
 {
     let words = operand_values(alloc, at, depth, &[], top_operands(at))?;
-    let word = joined(alloc, words.as_slice())?;
+    let word = concat_words(alloc, words.as_slice())?;
     Ok(word)
 }
 
@@ -90,7 +90,7 @@ fn content_after(
         let width = held_width(slot.operation)?;
         let next = held_after(alloc, at, depth, slot, rest, width)?;
         word.push_bits(next.as_slice())?;
-        rest = behind(rest, width);
+        rest = bits_after(rest, width);
     }
     Ok(word)
 }
@@ -108,17 +108,17 @@ fn held_after(
         (λ r. value_within (map module_of at.now.modules.now) at.now.top.now at.now.inputs.now at.now.content.now depth (net slot.now.path.items r)) (first width content.now))) }
     ensures refuses { IsErrOf result NotFitting → ¬ TakesRefs (map module_of at.now.modules.now) at.now.top.now at.now.inputs.now at.now.content.now depth slot.now.path.items (register_refs (register_in (op_of slot.now.operation.now))) }
 {
-    let old = padded(alloc, content, width)?;
+    let old = pad(alloc, content, width)?;
     let next = match register_in(slot.operation) {
         None => old,
-        Some(register) => loaded(alloc, at, depth, slot.path.as_slice(), register, old)?,
+        Some(register) => next_value(alloc, at, depth, slot.path.as_slice(), register, old)?,
     };
-    let word = padded(alloc, next.as_slice(), width)?;
+    let word = pad(alloc, next.as_slice(), width)?;
     Ok(word)
 }
 
 // what a register loads
-fn loaded(
+fn next_value(
     alloc: Global,
     at: &Setting,
     depth: u32,
@@ -135,12 +135,12 @@ fn loaded(
         return Ok(old);
     }
     let next = net_value(alloc, at, depth, path, register.next)?;
-    let next = enabled(alloc, at, depth, path, register.enable, old, next)?;
+    let next = value_if_enabled(alloc, at, depth, path, register.enable, old, next)?;
     reset(alloc, at, depth, path, register.reset, next)
 }
 
 // the next value, or the old one without enable
-fn enabled(
+fn value_if_enabled(
     alloc: Global,
     at: &Setting,
     depth: u32,

@@ -23,7 +23,7 @@ use crate::modules::{
 use crate::operands::exact_width;
 use crate::refusal::Refusal;
 use crate::values::value_of;
-use crate::word_parts::{behind, first_bits};
+use crate::word_parts::{bits_after, first_bits};
 use hw_model::kinds::OpKind;
 use hw_model::types::Ty;
 use std::alloc::{AllocError, Global};
@@ -85,7 +85,7 @@ fn port_value(
         [] => match input_range(at, port)? {
             None => Ok(BitString::new(alloc)),
             Some(range) => {
-                let word = padded(alloc, behind(at.inputs, range.start), range.width)?;
+                let word = pad(alloc, bits_after(at.inputs, range.start), range.width)?;
                 Ok(word)
             }
         },
@@ -267,7 +267,7 @@ pub fn inner_path(alloc: Global, number: u32, path: &[u32]) -> Result<Vec<u32>, 
 }
 
 /// The first bits, with bits of 0 past the end.
-pub fn padded(alloc: Global, bits: &[bool], width: u64) -> Result<BitString, AllocError>
+pub fn pad(alloc: Global, bits: &[bool], width: u64) -> Result<BitString, AllocError>
     ensures { IfOk result (λ word. word ≡ first width bits.now) }
 {
     let mut word = BitString::of(alloc, first_bits(bits, width))?;
@@ -346,7 +346,7 @@ fn held_value(
         Some(ty) => {
             let width = exact_width(ty)?;
             let start = offset(at.modules, at.top, path, inside, position)?;
-            let word = padded(alloc, behind(at.content, start), width)?;
+            let word = pad(alloc, bits_after(at.content, start), width)?;
             Ok(word)
         }
     }

@@ -3,7 +3,7 @@ ghost use Rattle.std.specs.Prelude.{◌≡◌, ◌∷◌, [], length, map, IfOk,
 ghost use Rattle.bits_core.specs.Word.{number};
 ghost use Rattle.hw_model.specs.Types.{width};
 ghost use Rattle.hw_model.specs.TypeViews.{type_of, field_of as named_type, fields_of};
-ghost use Rattle.hw_model.specs.Value.{fields, written};
+ghost use Rattle.hw_model.specs.Value.{fields, nth_type};
 ghost use Rattle.hw_interpreter.specs.Suits.{IsInteger, IsCounted, OnFirst, IsArray, IsStruct};
 
 use crate::bit_string::{BitString, bits_of};
@@ -42,7 +42,7 @@ pub(crate) fn three(operands: &[BitString]) -> Result<(&BitString, &BitString, &
 
 // the first of the types that an operation writes, where it is an array whose elements' bits are counted
 pub(crate) fn written_array(types: &[Ty]) -> Result<&Ty, Refusal>
-    ensures value { IfOk result (λ t. written (map type_of types.now) 0 ≡ type_of t.now) }
+    ensures value { IfOk result (λ t. nth_type (map type_of types.now) 0 ≡ type_of t.now) }
     ensures suits { OnOk result (OnFirst IsArray (map type_of types.now)) }
     ensures refuses { OnErr result (¬ OnFirst IsArray (map type_of types.now)) }
 {
@@ -67,7 +67,7 @@ fn counted_array(ty: &Ty) -> Result<&Ty, Refusal>
 
 // the fields of the first of the types that an operation writes, where it is a struct
 pub(crate) fn written_fields(types: &[Ty]) -> Result<&[Field], Refusal>
-    ensures value { IfOk result (λ fs. fields (written (map type_of types.now) 0) ≡ fields_of (map named_type fs.now)) }
+    ensures value { IfOk result (λ fs. fields (nth_type (map type_of types.now) 0) ≡ fields_of (map named_type fs.now)) }
     ensures suits { OnOk result (OnFirst IsStruct (map type_of types.now)) }
     ensures refuses { OnErr result (¬ OnFirst IsStruct (map type_of types.now)) }
 {

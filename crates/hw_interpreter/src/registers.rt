@@ -63,7 +63,7 @@ fn plain_register(reset: Reset, operands: &[Operand]) -> Option<Register>
 {
     match reset {
         Reset::No => match operands {
-            [next, clock] => Some(unreset(*next, *clock, None)),
+            [next, clock] => Some(without_reset(*next, *clock, None)),
             _ => None,
         },
         Reset::Sync => match operands {
@@ -78,7 +78,7 @@ fn enabled_register(reset: Reset, operands: &[Operand]) -> Option<Register>
 {
     match reset {
         Reset::No => match operands {
-            [next, clock, enable] => Some(unreset(*next, *clock, Some(*enable))),
+            [next, clock, enable] => Some(without_reset(*next, *clock, Some(*enable))),
             _ => None,
         },
         Reset::Sync => match operands {
@@ -94,7 +94,7 @@ fn enabled_register(reset: Reset, operands: &[Operand]) -> Option<Register>
     }
 }
 
-fn unreset(next: Operand, clock: Operand, enable: Option<Operand>) -> Register
+fn without_reset(next: Operand, clock: Operand, enable: Option<Operand>) -> Register
     ensures { result ≡ record { next = next; clock = clock; enable = enable; reset = None } }
 {
     Register {

@@ -2,14 +2,14 @@
 ghost use Rattle.std.specs.Prelude.{◌≡◌, length, map, IfOk, OnOk, IsErrOf};
 ghost use Rattle.hw_model.specs.FamilyViews.{struct_op_of};
 ghost use Rattle.hw_model.specs.TypeViews.{type_of, field_of as named_type, fields_of};
-ghost use Rattle.hw_model.specs.Value.{struct_value, of_one, of_two, field_of, with_field, field_at, fields, written};
+ghost use Rattle.hw_model.specs.Value.{struct_value, of_one, of_two, field_of, with_field, field_at, fields, nth_type};
 ghost use Rattle.hw_interpreter.specs.Suits.{OnFirst, IsStruct, StructSuits};
 ghost use Rattle.hw_interpreter.specs.declared.refusal.Refusal.TheVariants.{NotFitting};
 
 use crate::bit_string::BitString;
 use crate::operands::{one, two, written_fields};
 use crate::refusal::Refusal;
-use crate::values::joined;
+use crate::values::concat_words;
 use crate::word_parts::{front, past, two_parts};
 use hw_model::families::StructOp;
 use hw_model::types::{Field, Ty};
@@ -23,13 +23,13 @@ pub(crate) fn struct_word(
     index: u32,
     operands: &[BitString],
 ) -> Result<BitString, Refusal>
-    ensures value { IfOk result (λ word. word ≡ struct_value (struct_op_of op.entry) (fields (written (map type_of types.now) 0)) index operands.now) }
+    ensures value { IfOk result (λ word. word ≡ struct_value (struct_op_of op.entry) (fields (nth_type (map type_of types.now) 0)) index operands.now) }
     ensures suits { OnOk result (StructSuits (struct_op_of op.entry) (map type_of types.now) operands.now) }
     ensures refuses { IsErrOf result NotFitting → ¬ StructSuits (struct_op_of op.entry) (map type_of types.now) operands.now }
 {
     match op {
         StructOp::Create => {
-            let word = joined(alloc, operands)?;
+            let word = concat_words(alloc, operands)?;
             Ok(word)
         }
         StructOp::Extract(name) => field_got(alloc, types, name.as_bytes(), operands),
@@ -96,7 +96,7 @@ fn field_got(
     name: &[u8],
     operands: &[BitString],
 ) -> Result<BitString, Refusal>
-    ensures value { IfOk result (λ word. word ≡ of_one (field_of (fields (written (map type_of types.now) 0)) name.now) operands.now) }
+    ensures value { IfOk result (λ word. word ≡ of_one (field_of (fields (nth_type (map type_of types.now) 0)) name.now) operands.now) }
     ensures suits { OnOk result (OnFirst IsStruct (map type_of types.now) × (length operands.now ≡ 1)) }
     ensures refuses { IsErrOf result NotFitting → ¬ (OnFirst IsStruct (map type_of types.now) × (length operands.now ≡ 1)) }
 {
@@ -112,7 +112,7 @@ fn field_put(
     name: &[u8],
     operands: &[BitString],
 ) -> Result<BitString, Refusal>
-    ensures value { IfOk result (λ word. word ≡ of_two (with_field (fields (written (map type_of types.now) 0)) name.now) operands.now) }
+    ensures value { IfOk result (λ word. word ≡ of_two (with_field (fields (nth_type (map type_of types.now) 0)) name.now) operands.now) }
     ensures suits { OnOk result (OnFirst IsStruct (map type_of types.now) × (length operands.now ≡ 2)) }
     ensures refuses { IsErrOf result NotFitting → ¬ (OnFirst IsStruct (map type_of types.now) × (length operands.now ≡ 2)) }
 {
@@ -128,7 +128,7 @@ fn field_numbered(
     number: u32,
     operands: &[BitString],
 ) -> Result<BitString, Refusal>
-    ensures value { IfOk result (λ word. word ≡ of_one (field_at (fields (written (map type_of types.now) 0)) number) operands.now) }
+    ensures value { IfOk result (λ word. word ≡ of_one (field_at (fields (nth_type (map type_of types.now) 0)) number) operands.now) }
     ensures suits { OnOk result (OnFirst IsStruct (map type_of types.now) × (length operands.now ≡ 1)) }
     ensures refuses { IsErrOf result NotFitting → ¬ (OnFirst IsStruct (map type_of types.now) × (length operands.now ≡ 1)) }
 {

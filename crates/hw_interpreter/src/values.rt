@@ -5,7 +5,7 @@ ghost use Rattle.hw_model.specs.Types.{width};
 ghost use Rattle.hw_model.specs.TypeViews.{type_of};
 ghost use Rattle.hw_model.specs.KindViews.{kind_of, literal_of, literals_in, integer_of};
 ghost use Rattle.hw_model.specs.FamilyViews.{family_of};
-ghost use Rattle.hw_model.specs.Value.{op_value, joined, of_one, of_three, is_high, word_of_literal, word_of_literals};
+ghost use Rattle.hw_model.specs.Value.{op_value, concat_words, of_one, of_three, is_high, word_of_literal, word_of_literals};
 ghost use Rattle.hw_interpreter.specs.Suits.{IsIntegerWidth, HasIntegers, HaveIntegers, Suits};
 ghost use Rattle.hw_interpreter.specs.declared.refusal.Refusal.TheVariants.{NotFitting};
 
@@ -58,11 +58,11 @@ fn family_word(
     match family {
         Family::AggregateConstant(list) => literals_word(alloc, list),
         Family::Concat => {
-            let word = joined(alloc, operands)?;
+            let word = concat_words(alloc, operands)?;
             Ok(word)
         }
-        Family::Mux => chosen(alloc, operands),
-        Family::Bitcast | Family::Wire => passed(alloc, operands),
+        Family::Mux => mux_value(alloc, operands),
+        Family::Bitcast | Family::Wire => operand_value(alloc, operands),
         Family::Array(op) => array_word(alloc, op, types, ty, operands),
         Family::Struct(op) => struct_word(alloc, op, types, index, operands),
         Family::Instance(_) | Family::Output | Family::Register(_, _) => Ok(BitString::new(alloc)),
@@ -70,7 +70,7 @@ fn family_word(
     }
 }
 
-fn passed(alloc: Global, operands: &[BitString]) -> Result<BitString, Refusal>
+fn operand_value(alloc: Global, operands: &[BitString]) -> Result<BitString, Refusal>
     ensures value { IfOk result (λ word. word ≡ of_one (λ x. x) operands.now) }
     ensures suits { OnOk result (length operands.now ≡ 1) }
     ensures refuses { IsErrOf result NotFitting → ¬ (length operands.now ≡ 1) }
@@ -81,8 +81,8 @@ fn passed(alloc: Global, operands: &[BitString]) -> Result<BitString, Refusal>
 }
 
 /// The words joined, the first most significant.
-pub fn joined(alloc: Global, operands: &[BitString]) -> Result<BitString, AllocError>
-    ensures { IfOk result (λ word. word ≡ joined operands.now) }
+pub fn concat_words(alloc: Global, operands: &[BitString]) -> Result<BitString, AllocError>
+    ensures { IfOk result (λ word. word ≡ concat_words operands.now) }
 {
     let mut word = BitString::new(alloc);
     for operand in operands {
@@ -101,7 +101,7 @@ pub fn is_high(word: &BitString) -> bool
     }
 }
 
-fn chosen(alloc: Global, operands: &[BitString]) -> Result<BitString, Refusal>
+fn mux_value(alloc: Global, operands: &[BitString]) -> Result<BitString, Refusal>
     ensures value { IfOk result (λ word. word ≡ of_three (λ c x y. cond (is_high c) x y) operands.now) }
     ensures suits { OnOk result (length operands.now ≡ 3) }
     ensures refuses { IsErrOf result NotFitting → ¬ (length operands.now ≡ 3) }

@@ -19,7 +19,7 @@ pub fn first_bits(word: &[bool], width: u64) -> &[bool]
 }
 
 /// What stands after the first bits.
-pub fn behind(word: &[bool], width: u64) -> &[bool]
+pub fn bits_after(word: &[bool], width: u64) -> &[bool]
     ensures { result.now ≡ drop width word.now }
 {
     if width >= word.len() as u64 {

@@ -9,9 +9,9 @@ use Rattle.hw_model.specs.Types.{Name}
 use Rattle.hw_model.specs.Kinds.{Instance}
 use Rattle.hw_model.specs.Design.{Op, Module, Design, find_module, instance_in, is_instance}
 use Rattle.hw_model.specs.Flat.{Path, Net, net, Slot, instances, before_instance, body_state, op_state, module_state, state, held_width, register_in, op_registers, body_registers, module_registers}
-use Rattle.hw_model.specs.Meaning.{loaded, next_content}
+use Rattle.hw_model.specs.Meaning.{next_value, next_content}
 use Rattle.hw_model.specs.Sound.{body_of}
-use Rattle.hw_model.specs.Hierarchy.{called, called_by, calls, HasNoRecursion}
+use Rattle.hw_model.specs.Hierarchy.{callee_symbols, called_by, calls, HasNoRecursion}
 use Rattle.hw_model.proofs.Sorts.{Sort, sort_of}
 use Rattle.hw_model.proofs.Sorts.Sort.{a_register, an_instance, an_output, a_made}
 use Rattle.hw_model.proofs.Paths.{state_body, registers_body}
@@ -20,15 +20,15 @@ use Rattle.hw_model.proofs.Finite.{calls_within}
 -- ---- the content of a module does not depend on the depth
 
 -- what a body instances decides how many bits of content it has
-pub body_state_same : (f g : Name → ℕ) (os : List Op) → ((s : Name) → In s (called os) → f s ≡ g s) → body_state f os ≡ body_state g os
+pub body_state_same : (f g : Name → ℕ) (os : List Op) → ((s : Name) → In s (callee_symbols os) → f s ≡ g s) → body_state f os ≡ body_state g os
 body_state_same f g [] same = refl
 body_state_same f g (o ∷ os) same =
-    ap₂ (λ a b. a + b) (here (sort_of o.kind)) (body_state_same f g os (λ s there. same s (In-append_right s (called_by (instance_in o.kind)) (called os) there)))
+    ap₂ (λ a b. a + b) (here (sort_of o.kind)) (body_state_same f g os (λ s there. same s (In-append_right s (called_by (instance_in o.kind)) (callee_symbols os) there)))
   where
     here : Sort o.kind → op_state f o ≡ op_state g o
     here (a_register x r i u) = simp (r, i)
     here (an_instance x r i u) =
-        let named : In x.symbol (called (o ∷ os)) = In-append_left x.symbol (called_by (instance_in o.kind)) (called os) (simp i (inl refl)) in
+        let named : In x.symbol (callee_symbols (o ∷ os)) = In-append_left x.symbol (called_by (instance_in o.kind)) (callee_symbols os) (simp i (inl refl)) in
         let equal : f x.symbol ≡ g x.symbol = same x.symbol named in
         simp (r, i) equal
     here (an_output r i u) = simp (r, i)
@@ -100,13 +100,13 @@ drop_drop (suc a) b (x ∷ c) = drop_drop a b c ∙ ap (λ n. drop n (x ∷ c)) 
 pub next-append : (xs ys : List Slot) (ρ : Net → Word) (c : Word) → next_content (xs ++ ys) ρ c ≡ next_content xs ρ c ++ next_content ys ρ (drop (slots_width xs) c)
 next-append [] ys ρ c = refl
 next-append (s ∷ xs) ys ρ c =
-    ap (λ rest. first (held_width s.op) (loaded (register_in s.op) (λ r. ρ (net s.path r)) (first (held_width s.op) c)) ++ rest)
+    ap (λ rest. first (held_width s.op) (next_value (register_in s.op) (λ r. ρ (net s.path r)) (first (held_width s.op) c)) ++ rest)
     (next-append xs ys ρ (drop (held_width s.op) c)
     ∙ ap (λ rest. next_content xs ρ (drop (held_width s.op) c) ++ next_content ys ρ rest) (drop_drop (held_width s.op) (slots_width xs) c))
     ∙ sym append_assoc'
   where
-    append_assoc' : (first (held_width s.op) (loaded (register_in s.op) (λ r. ρ (net s.path r)) (first (held_width s.op) c)) ++ next_content xs ρ (drop (held_width s.op) c)) ++ next_content ys ρ (drop (held_width s.op + slots_width xs) c)
-        ≡ first (held_width s.op) (loaded (register_in s.op) (λ r. ρ (net s.path r)) (first (held_width s.op) c)) ++ (next_content xs ρ (drop (held_width s.op) c) ++ next_content ys ρ (drop (held_width s.op + slots_width xs) c))
+    append_assoc' : (first (held_width s.op) (next_value (register_in s.op) (λ r. ρ (net s.path r)) (first (held_width s.op) c)) ++ next_content xs ρ (drop (held_width s.op) c)) ++ next_content ys ρ (drop (held_width s.op + slots_width xs) c)
+        ≡ first (held_width s.op) (next_value (register_in s.op) (λ r. ρ (net s.path r)) (first (held_width s.op) c)) ++ (next_content xs ρ (drop (held_width s.op) c) ++ next_content ys ρ (drop (held_width s.op + slots_width xs) c))
     append_assoc' = rw append_assoc refl
 
 -- ---- positions

@@ -7,11 +7,11 @@ use Rattle.hw_model.specs.Types.{Name}
 use Rattle.hw_model.specs.Kinds.{Reset}
 use Rattle.hw_model.specs.Kinds.Reset.{no_reset, sync_reset}
 use Rattle.hw_model.specs.Design.{Ref, Op, Design, RegisterForm, find_module, register_form}
-use Rattle.hw_model.specs.Value.{joined}
+use Rattle.hw_model.specs.Value.{concat_words}
 use Rattle.hw_model.specs.Flat.{Path, Net, net, Slot, register_in, register_parts, held_width, registers}
 use Rattle.hw_model.specs.Machine.{Run}
 use Rattle.hw_model.proofs.Depths.{every, every_here, ends_within}
-use Rattle.hw_model.specs.Meaning.{needs, value, Settled, loaded, next_content, outputs_of, outputs, machine}
+use Rattle.hw_model.specs.Meaning.{needs, value, Settled, next_value, next_content, outputs_of, outputs, machine}
 
 module _ (d : Design) (top : Name) where
   abbrev pub closed : ℕ → Net → Bool
@@ -37,7 +37,7 @@ module _ (d : Design) (top : Name) where
   -- the values that a register's operands have decide what it loads
   loaded_same : (n : ℕ) (p : Path) (o : Op) (σ τ : Net → Word) (old : Word) → every (λ r. closed n (net p r)) o.operands ≡ true
       → ((a : Net) → closed n a ≡ true → σ a ≡ τ a)
-      → loaded (register_in o) (λ r. σ (net p r)) old ≡ loaded (register_in o) (λ r. τ (net p r)) old
+      → next_value (register_in o) (λ r. σ (net p r)) old ≡ next_value (register_in o) (λ r. τ (net p r)) old
   loaded_same n p o σ τ old all same = go (register_form o.kind)
     where
       maps : map (λ r. σ (net p r)) o.operands ≡ map (λ r. τ (net p r)) o.operands
@@ -50,15 +50,15 @@ module _ (d : Design) (top : Name) where
               ap₂ (λ x xs. x ∷ xs) (same (net p r) both.0) (each rs both.1)
 
       parts : (e : Bool) (r : Reset) (rs : List Ref) → map (λ x. σ (net p x)) rs ≡ map (λ x. τ (net p x)) rs
-          → loaded (register_parts e r rs) (λ x. σ (net p x)) old ≡ loaded (register_parts e r rs) (λ x. τ (net p x)) old
+          → next_value (register_parts e r rs) (λ x. σ (net p x)) old ≡ next_value (register_parts e r rs) (λ x. τ (net p x)) old
       parts false no_reset (x ∷ c ∷ []) is = cc
       parts true no_reset (x ∷ c ∷ e ∷ []) is = cc
       parts false sync_reset (x ∷ c ∷ r ∷ v ∷ []) is = cc
       parts true sync_reset (x ∷ c ∷ e ∷ r ∷ v ∷ []) is = cc
       parts _ _ _ is = refl
 
-      go : (x : Option RegisterForm) → loaded (bind x (λ (g : RegisterForm). register_parts g.has_enable g.reset o.operands)) (λ r. σ (net p r)) old
-          ≡ loaded (bind x (λ (g : RegisterForm). register_parts g.has_enable g.reset o.operands)) (λ r. τ (net p r)) old
+      go : (x : Option RegisterForm) → next_value (bind x (λ (g : RegisterForm). register_parts g.has_enable g.reset o.operands)) (λ r. σ (net p r)) old
+          ≡ next_value (bind x (λ (g : RegisterForm). register_parts g.has_enable g.reset o.operands)) (λ r. τ (net p r)) old
       go None = refl
       go (Some g) = parts g.has_enable g.reset o.operands maps
 
@@ -109,7 +109,7 @@ module _ (d : Design) (top : Name) where
       let parts = both (every (λ r. closed n (net [] r)) (outputs_of (find_module d top))) (slots_closed n (registers d top)) reached in
       let same : (a : Net) → closed n a ≡ true → step.map_of a ≡ evaluated s content n a = settled_value s content step.map_of step.settled n in
       let head : o ≡ outputs d top (evaluated s content n) =
-      step.read ∙ ap joined (outputs_same n (outputs_of (find_module d top)) step.map_of (evaluated s content n) parts.0 same) in
+      step.read ∙ ap concat_words (outputs_same n (outputs_of (find_module d top)) step.map_of (evaluated s content n) parts.0 same) in
       let taken : after ≡ next_content (registers d top) (evaluated s content n) content =
       step.taken ∙ next_same n (registers d top) step.map_of (evaluated s content n) content parts.1 same in
       ap₂ (λ x xs. x ∷ xs) head

@@ -19,7 +19,7 @@ use Rattle.hw_model.specs.Flat.Source.{nowhere, input}
 use Rattle.hw_model.specs.Meaning.{needs_of, needs, value, HasNoCycle, HasHeights, machine}
 use Rattle.hw_model.specs.Machine.{SettlesOnce}
 use Rattle.hw_model.specs.Sound.{body_of, ports_of}
-use Rattle.hw_model.specs.Hierarchy.{called, called_by, calls, HasNoRecursion}
+use Rattle.hw_model.specs.Hierarchy.{callee_symbols, called_by, calls, HasNoRecursion}
 use Rattle.hw_model.proofs.Sorts.{Sort, sort_of}
 use Rattle.hw_model.proofs.Sorts.Sort.{a_register, an_instance, an_output, a_made}
 use Rattle.hw_model.proofs.Paths.{input_ports, output_of, op_in, result_in, result_here}
@@ -40,27 +40,27 @@ module_found (x ∷ d) s m is = go (same_name x.symbol s) refl is (module_found 
 pub calls_within : (d : Design) → IsWithin (calls d) (map (λ (m : Module). m.symbol) d)
 calls_within d a b need = go (find_module d a) refl need
   where
-    go : (o : Option Module) → find_module d a ≡ o → In b (called (body_of o)) → In a (map (λ (m : Module). m.symbol) d)
+    go : (o : Option Module) → find_module d a ≡ o → In b (callee_symbols (body_of o)) → In a (map (λ (m : Module). m.symbol) d)
     go None is here = absurd here
     go (Some m) is here = module_found d a m is
 
 -- an instance's module is called
-called_instance : (os : List Op) (u : ℕ) (o : Op) (i : Instance) → slice_get (instances os) u ≡ Some o → instance_in o.kind ≡ Some i → In i.symbol (called os)
+called_instance : (os : List Op) (u : ℕ) (o : Op) (i : Instance) → slice_get (instances os) u ≡ Some o → instance_in o.kind ≡ Some i → In i.symbol (callee_symbols os)
 called_instance [] u o i is inst = cc
 called_instance (y ∷ ys) u o i is inst = go (sort_of y.kind) u is (called_instance ys)
   where
     go : Sort y.kind → (u : ℕ) → slice_get (instances (y ∷ ys)) u ≡ Some o
-        → ((u : ℕ) (o : Op) (i : Instance) → slice_get (instances ys) u ≡ Some o → instance_in o.kind ≡ Some i → In i.symbol (called ys))
-        → In i.symbol (called (y ∷ ys))
-    go (a_register f r n x) u is rest = In-append_right i.symbol (called_by (instance_in y.kind)) (called ys) (rest u o i (simp n at is) inst)
+        → ((u : ℕ) (o : Op) (i : Instance) → slice_get (instances ys) u ≡ Some o → instance_in o.kind ≡ Some i → In i.symbol (callee_symbols ys))
+        → In i.symbol (callee_symbols (y ∷ ys))
+    go (a_register f r n x) u is rest = In-append_right i.symbol (called_by (instance_in y.kind)) (callee_symbols ys) (rest u o i (simp n at is) inst)
     go (an_instance z r n x) zero is rest =
         let e : Some y ≡ Some o = simp n at is in
         let same : y ≡ o = cc in
         let kind : instance_in y.kind ≡ Some i = ap (λ w. instance_in w.kind) same ∙ inst in
-        In-append_left i.symbol (called_by (instance_in y.kind)) (called ys) (simp kind (inl refl))
-    go (an_instance z r n x) (suc u) is rest = In-append_right i.symbol (called_by (instance_in y.kind)) (called ys) (rest u o i (simp n at is) inst)
-    go (an_output r n x) u is rest = In-append_right i.symbol (called_by (instance_in y.kind)) (called ys) (rest u o i (simp n at is) inst)
-    go (a_made r n x) u is rest = In-append_right i.symbol (called_by (instance_in y.kind)) (called ys) (rest u o i (simp n at is) inst)
+        In-append_left i.symbol (called_by (instance_in y.kind)) (callee_symbols ys) (simp kind (inl refl))
+    go (an_instance z r n x) (suc u) is rest = In-append_right i.symbol (called_by (instance_in y.kind)) (callee_symbols ys) (rest u o i (simp n at is) inst)
+    go (an_output r n x) u is rest = In-append_right i.symbol (called_by (instance_in y.kind)) (callee_symbols ys) (rest u o i (simp n at is) inst)
+    go (a_made r n x) u is rest = In-append_right i.symbol (called_by (instance_in y.kind)) (callee_symbols ys) (rest u o i (simp n at is) inst)
 
 -- ---- paths
 
@@ -74,7 +74,7 @@ module _ (d : Design) (top : Name) where
       let named = bind_some (instance_in inner.0.kind) (λ (i : Instance). find_module d i.symbol) inner.2 in
       let before = path_chain p outer.0 outer.1 in
       let need : In named.0.symbol (calls d before.0) =
-      subst (λ o. In named.0.symbol (called (body_of o))) (sym before.2) (called_instance outer.0.body u inner.0 named.0 inner.1 named.1) in
+      subst (λ o. In named.0.symbol (callee_symbols (body_of o))) (sym before.2) (called_instance outer.0.body u inner.0 named.0 inner.1 named.1) in
       let longer : Chain (calls d) (length p + 1) top named.0.symbol =
       Chain-append (calls d) (length p) 1 top before.0 named.0.symbol before.1 (named.0.symbol, need, refl) in
       let size : length p + 1 ≡ suc (length p) = omega arith in

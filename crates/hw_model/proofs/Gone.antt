@@ -12,13 +12,13 @@ use Rattle.hw_model.specs.Types.{Name}
 use Rattle.hw_model.specs.Kinds.{Instance}
 use Rattle.hw_model.specs.Design.{Ref, Op, Module, Design, same_name, find_module, instance_in, is_instance, is_register, is_output_op, result_type, output_refs, callee}
 use Rattle.hw_model.specs.Design.Ref.{port, result, undefined}
-use Rattle.hw_model.specs.Value.{joined}
+use Rattle.hw_model.specs.Value.{concat_words}
 use Rattle.hw_model.specs.Flat.{Path, Net, net, Slot, instances, before_instance, if_zero, module_at, op_state, body_state, module_state, state, base, port_ref, input_source, copy_of, joined_ref, joined_at, held_of, made_of, port_source, result_source, source, op_registers, body_registers, module_registers, registers}
 use Rattle.hw_model.specs.Flat.Source.{nowhere}
 use Rattle.hw_model.specs.Machine.{Same}
 use Rattle.hw_model.specs.Meaning.{needs_of, needs, HasHeights, next_content, outputs, outputs_of, machine}
 use Rattle.hw_model.specs.Sound.{body_of}
-use Rattle.hw_model.specs.Hierarchy.{called, called_by, calls, HasNoRecursion, IsWithout}
+use Rattle.hw_model.specs.Hierarchy.{callee_symbols, called_by, calls, HasNoRecursion, IsWithout}
 use Rattle.hw_model.proofs.Sorts.{Sort, sort_of}
 use Rattle.hw_model.proofs.Sorts.Sort.{a_register, an_instance, an_output, a_made}
 use Rattle.hw_model.proofs.Paths.{module_inside, state_body, before_body, registers_body, joined_body, result_in, result_here}
@@ -28,12 +28,12 @@ use Rattle.hw_model.proofs.Places.{built}
 use Rattle.hw_model.proofs.Content.{state_at_depth, call_heights}
 
 -- an instance among operations is called
-pub called_In : (os : List Op) (o : Op) (i : Instance) → In o os → instance_in o.kind ≡ Some i → In i.symbol (called os)
+pub called_In : (os : List Op) (o : Op) (i : Instance) → In o os → instance_in o.kind ≡ Some i → In i.symbol (callee_symbols os)
 called_In [] o i here inst = absurd here
 called_In (y ∷ ys) o i (inl same) inst =
     let kind : instance_in y.kind ≡ Some i = ap (λ z. instance_in z.kind) (sym same) ∙ inst in
-    In-append_left i.symbol (called_by (instance_in y.kind)) (called ys) (simp kind (inl refl))
-called_In (y ∷ ys) o i (inr here) inst = In-append_right i.symbol (called_by (instance_in y.kind)) (called ys) (called_In ys o i here inst)
+    In-append_left i.symbol (called_by (instance_in y.kind)) (callee_symbols ys) (simp kind (inl refl))
+called_In (y ∷ ys) o i (inr here) inst = In-append_right i.symbol (called_by (instance_in y.kind)) (callee_symbols ys) (called_In ys o i here inst)
 
 from_In-instances : (os : List Op) (o : Op) → In o (instances os) → In o os
 from_In-instances [] o here = absurd here
@@ -112,8 +112,8 @@ finite_without d e gone without finite = IsAcyclic-falling (calls e) high.0 fall
         go : (b : Bool) → same_name s gone ≡ b → In t (calls d s)
         go true same =
             let missing : find_module e s ≡ None = ap (find_module e) (same_text s gone (sym same)) ∙ without.absent in
-            absurd (subst (λ o. In t (called (body_of o))) missing need)
-        go false other = subst (λ o. In t (called (body_of o))) (without.others s (other_text s gone (sym other))) need
+            absurd (subst (λ o. In t (callee_symbols (body_of o))) missing need)
+        go false other = subst (λ o. In t (callee_symbols (body_of o))) (without.others s (other_text s gone (sym other))) need
 
     falls : (s t : Name) → In t (calls e s) → high.0 t < high.0 s
     falls s t need = FallsAlong-height (calls d) high.0 high.1 s t (kept s t need)
@@ -297,7 +297,7 @@ module _ (d e : Design) (gone : Name) (without : IsWithout d e gone) (finite : H
     machine_same =
         ap (λ size. built size (source e top) (outputs e top) (next_content (registers e top))) (state_same top other)
         ∙ ap (λ from. built (state d top) from (outputs e top) (next_content (registers e top))) (fun_ext source_same)
-        ∙ ap (λ m. built (state d top) (source d top) (λ ρ. joined (map (λ r. ρ (net [] r)) (outputs_of m))) (next_content (registers e top))) (without.others top other)
+        ∙ ap (λ m. built (state d top) (source d top) (λ ρ. concat_words (map (λ r. ρ (net [] r)) (outputs_of m))) (next_content (registers e top))) (without.others top other)
         ∙ ap (λ ss. built (state d top) (source d top) (outputs d top) (next_content ss)) (registers_same top other)
 
     -- each other module does what it did

@@ -12,7 +12,7 @@ use Rattle.bits_core.proofs.Bitwise.{length-bitwise}
 use Rattle.bits_core.proofs.Complement.{not-bits}
 use Rattle.bits_core.proofs.Storage.{bits-zero}
 use Rattle.hw_model.specs.IntegerKinds.{AllHave}
-use Rattle.hw_model.specs.Value.{joined, product}
+use Rattle.hw_model.specs.Value.{concat_words, product}
 
 -- one more operand before
 pub FoldsBy : (List Word → Word) → (Word → Word → Word) → ℕ → Type 0
@@ -92,16 +92,16 @@ bits_of_ones w h =
 
 -- ---- joined words
 
-pub joined_length : (xs : List Word) → length (joined xs) ≡ total (map length xs)
+pub joined_length : (xs : List Word) → length (concat_words xs) ≡ total (map length xs)
 joined_length [] = refl
-joined_length (x ∷ xs) = length-append x (joined xs) ∙ ap (λ n. length x + n) (joined_length xs)
+joined_length (x ∷ xs) = length-append x (concat_words xs) ∙ ap (λ n. length x + n) (joined_length xs)
 
 pub joined_from : (xs : List Word) (j : ℕ) → total (map length (drop j xs)) ≤ total (map length xs)
 joined_from xs zero = omega arith
 joined_from [] (suc j) = omega arith
 joined_from (x ∷ xs) (suc j) = omega (arith, joined_from xs j)
 
-pub joined_within : (xs : List Word) (i j : ℕ) (x all : Word) → i + 1 ≡ j → i < length xs → x ≡ get_or xs i x → all ≡ joined (drop j xs)
+pub joined_within : (xs : List Word) (i j : ℕ) (x all : Word) → i + 1 ≡ j → i < length xs → x ≡ get_or xs i x → all ≡ concat_words (drop j xs)
     → length x + length all ≤ total (map length xs)
 joined_within xs i j x all e h a v =
     let k : j ≡ suc i = omega arith in

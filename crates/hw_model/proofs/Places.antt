@@ -10,11 +10,11 @@ use Rattle.hw_model.specs.Types.{Name}
 use Rattle.hw_model.specs.Kinds.{Instance}
 use Rattle.hw_model.specs.Design.{Ref, Op, Module, Design, op_without_place, module_without_places, without_places, IsSameDesign, same_name, find_module, instance_in, is_instance, is_register, is_output_op, result_type, output_refs, callee}
 use Rattle.hw_model.specs.Design.Ref.{port, result, undefined}
-use Rattle.hw_model.specs.Value.{joined}
+use Rattle.hw_model.specs.Value.{concat_words}
 use Rattle.hw_model.specs.Flat.{Path, Net, net, Source, Slot, instances, before_instance, if_zero, module_at, op_state, body_state, module_state, state, base, port_ref, input_width, input_of, port_source, copy_of, joined_ref, joined_at, given_ref, held_of, made_of, source, held_width, register_in, op_registers, body_registers, module_registers, registers}
 use Rattle.hw_model.specs.Flat.Source.{nowhere}
 use Rattle.hw_model.specs.Machine.{Machine, Same}
-use Rattle.hw_model.specs.Meaning.{needs_of, value_of, HasHeights, loaded, next_content, outputs, machine}
+use Rattle.hw_model.specs.Meaning.{needs_of, value_of, HasHeights, next_value, next_content, outputs, machine}
 use Rattle.hw_model.specs.Sound.{body_of, ports_of}
 use Rattle.hw_model.proofs.Sorts.{Sort, sort_of}
 use Rattle.hw_model.proofs.Sorts.Sort.{a_register, an_instance, an_output, a_made}
@@ -217,7 +217,7 @@ module _ (d : Design) where
 
     outputs_placeless : (ρ : Net → Word) → outputs (without_places d) top ρ ≡ outputs d top ρ
     outputs_placeless ρ =
-        ap (λ rs. joined (map (λ r. ρ (net [] r)) rs))
+        ap (λ rs. concat_words (map (λ r. ρ (net [] r)) rs))
         (outputs_body (find_module (without_places d) top)
         ∙ ap (λ o. output_refs (body_of o)) (find_placeless d top)
         ∙ ap output_refs (body_placeless (find_module d top))
@@ -254,7 +254,7 @@ module _ (d : Design) where
     next_along : (ss : List Slot) (ρ : Net → Word) (content : Word) → next_content (map slot_without_place ss) ρ content ≡ next_content ss ρ content
     next_along [] ρ content = refl
     next_along (s ∷ ss) ρ content =
-        ap (λ rest. first (held_width s.op) (loaded (register_in s.op) (λ r. ρ (net s.path r)) (first (held_width s.op) content)) ++ rest)
+        ap (λ rest. first (held_width s.op) (next_value (register_in s.op) (λ r. ρ (net s.path r)) (first (held_width s.op) content)) ++ rest)
         (next_along ss ρ (drop (held_width s.op) content))
 
     next_placeless : (ρ : Net → Word) (content : Word) → next_content (registers (without_places d) top) ρ content ≡ next_content (registers d top) ρ content

@@ -24,7 +24,7 @@ use Rattle.hw_model.specs.Kinds.ArrayOp.{array_create, array_concat, array_get, 
 use Rattle.hw_model.specs.Kinds.StructOp.{struct_create, struct_extract, struct_inject, struct_explode}
 use Rattle.hw_model.specs.Kinds.Kind.{variadic, sub, division, shift, icmp, parity, extract, concat, replicate, mux, constant, aggregate_constant, on_array, on_struct, bitcast, wire, instance, output, register}
 use Rattle.hw_model.specs.Design.{instance_in, register_form, same_name}
-use Rattle.hw_model.specs.Value.{joined, is_high, and_all, or_all, xor_all, of_one, of_two, of_three, word_of_literal, word_of_literals, element, elements_from, slice_of, injected_below, injected, field_of, with_field, field_at, fields, written, variadic_value, division_value, shift_value, array_value, struct_value, op_value}
+use Rattle.hw_model.specs.Value.{concat_words, is_high, and_all, or_all, xor_all, of_one, of_two, of_three, word_of_literal, word_of_literals, element, elements_from, slice_of, injected_below, inject_element, field_of, with_field, field_at, fields, nth_type, variadic_value, division_value, shift_value, array_value, struct_value, op_value}
 use Rattle.hw_model.specs.Sound.{HasWidth, HaveWidths, field_list, field_type, literal_width, literals_width, AllAre, ArrayFits, StructFits, Fits}
 
 -- ---- operands of one type
@@ -90,36 +90,36 @@ three_width f n x y z xs ws is have each = go ws (subst (λ ys. HaveWidths ys ws
 
 -- ---- joined words
 
-joined_width : (ts : List HwType) (ws : List Word) → HaveWidths (map (λ (u : HwType). Some u) ts) ws → length (joined ws) ≡ total (map width ts)
+joined_width : (ts : List HwType) (ws : List Word) → HaveWidths (map (λ (u : HwType). Some u) ts) ws → length (concat_words ws) ≡ total (map width ts)
 joined_width [] [] have = refl
 joined_width [] (w ∷ ws) have = absurd have
 joined_width (t ∷ ts) [] have = absurd have
 joined_width (t ∷ ts) (w ∷ ws) have =
     let first : length w ≡ width t = have.0 in
-    let rest : length (joined ws) ≡ total (map width ts) = joined_width ts ws have.1 in
-    omega (arith, length-append w (joined ws))
+    let rest : length (concat_words ws) ≡ total (map width ts) = joined_width ts ws have.1 in
+    omega (arith, length-append w (concat_words ws))
 
 fields_total : (fs : FieldTypes) → total (map width (field_list fs)) ≡ width_of_fields fs
 fields_total no_fields = refl
 fields_total (field name t fs) = ap (λ n. width t + n) (fields_total fs)
 
-elements_width : (t : HwType) (xs : List (Option HwType)) (ws : List Word) → AllAre t xs → HaveWidths xs ws → length (joined ws) ≡ length xs * width t
+elements_width : (t : HwType) (xs : List (Option HwType)) (ws : List Word) → AllAre t xs → HaveWidths xs ws → length (concat_words ws) ≡ length xs * width t
 elements_width t [] [] all have = sym (zero-mul (width t))
 elements_width t [] (w ∷ ws) all have = absurd have
 elements_width t (x ∷ xs) [] all have = absurd have
 elements_width t (x ∷ xs) (w ∷ ws) all have =
     let first : length w ≡ width t = all_widths t (x ∷ xs) (w ∷ ws) all have w (inl refl) in
-    let rest : length (joined ws) ≡ length xs * width t = elements_width t xs ws (λ y there. all y (inr there)) have.1 in
-    omega (arith, length-append w (joined ws), suc-mul (length xs) (width t))
+    let rest : length (concat_words ws) ≡ length xs * width t = elements_width t xs ws (λ y there. all y (inr there)) have.1 in
+    omega (arith, length-append w (concat_words ws), suc-mul (length xs) (width t))
 
-arrays_width : (t : HwType) (ns : List ℕ) (ws : List Word) → HaveWidths (map (λ (n : ℕ). Some (array n t)) ns) ws → length (joined ws) ≡ total ns * width t
+arrays_width : (t : HwType) (ns : List ℕ) (ws : List Word) → HaveWidths (map (λ (n : ℕ). Some (array n t)) ns) ws → length (concat_words ws) ≡ total ns * width t
 arrays_width t [] [] have = sym (zero-mul (width t))
 arrays_width t [] (w ∷ ws) have = absurd have
 arrays_width t (n ∷ ns) [] have = absurd have
 arrays_width t (n ∷ ns) (w ∷ ws) have =
     let first : length w ≡ n * width t = have.0 in
-    let rest : length (joined ws) ≡ total ns * width t = arrays_width t ns ws have.1 in
-    omega (arith, length-append w (joined ws), add-mul n (total ns) (width t))
+    let rest : length (concat_words ws) ≡ total ns * width t = arrays_width t ns ws have.1 in
+    omega (arith, length-append w (concat_words ws), add-mul n (total ns) (width t))
 
 mutual
   literal_length : (l : Literal) → length (word_of_literal l) ≡ literal_width l
@@ -170,7 +170,7 @@ injected_below_width (suc k) n t a i v size value =
     go false = element_width n t a k size
 
 injected_width : (written_type t : HwType) (n : ℕ) (e : HwType) (a : Word) (i : ℕ) (v : Word) → written_type ≡ t → t ≡ array n e
-    → length a ≡ width t → length v ≡ width e → length (injected written_type a i v) ≡ width t
+    → length a ≡ width t → length v ≡ width e → length (inject_element written_type a i v) ≡ width t
 injected_width written_type t n e a i v is is' size value =
     let size' : length a ≡ n * width e = size ∙ ap width is' in
     rw (is, is') (injected_below_width n n e a i v size' value)
@@ -264,32 +264,32 @@ variadic_width or t ws all = or_width (width t) ws all
 variadic_width xor t ws all = xor_width (width t) ws all
 
 array_width : (a : ArrayOp) (ts : List HwType) (xs : List (Option HwType)) (t : HwType) (ws : List Word) → ArrayFits a ts xs t → HaveWidths xs ws
-    → length (array_value a (written ts 0) t ws) ≡ width t
+    → length (array_value a (nth_type ts 0) t ws) ≡ width t
 array_width array_create ts xs t ws (e, is, all) have = elements_width e xs ws all have ∙ sym (ap width is)
 array_width array_concat ts xs t ws (e, ns, is, sum) have = arrays_width e ns ws (subst (λ ys. HaveWidths ys ws) is have) ∙ sym (ap width sum)
 array_width array_get ts xs t ws (n, u, is, wrote) have =
-    two_width (λ a j. element (written ts 0) a (number j)) (width t) (Some (array n t)) (Some u) xs ws is have
-    (λ a b x y. get_width (written ts 0) t n a (number b) wrote x)
+    two_width (λ a j. element (nth_type ts 0) a (number j)) (width t) (Some (array n t)) (Some u) xs ws is have
+    (λ a b x y. get_width (nth_type ts 0) t n a (number b) wrote x)
 array_width array_slice ts xs t ws (n, m, e, u, is, wrote, is') have =
-    two_width (λ a j. slice_of (written ts 0) a (number j) t) (width t) (Some (array n e)) (Some u) xs ws is have
-    (λ a b x y. slice_width (written ts 0) t n m e a (number b) wrote is' x)
+    two_width (λ a j. slice_of (nth_type ts 0) a (number j) t) (width t) (Some (array n e)) (Some u) xs ws is have
+    (λ a b x y. slice_width (nth_type ts 0) t n m e a (number b) wrote is' x)
 array_width array_inject ts xs t ws (n, e, u, is, wrote, is') have =
-    three_width (λ a j v. injected (written ts 0) a (number j) v) (width t) (Some t) (Some u) (Some e) xs ws is have
-    (λ a b c x y z. injected_width (written ts 0) t n e a (number b) c wrote is' x z)
+    three_width (λ a j v. inject_element (nth_type ts 0) a (number j) v) (width t) (Some t) (Some u) (Some e) xs ws is have
+    (λ a b c x y z. injected_width (nth_type ts 0) t n e a (number b) c wrote is' x z)
 
 struct_width : (s : StructOp) (ts : List HwType) (xs : List (Option HwType)) (t : HwType) (k : ℕ) (ws : List Word) → StructFits s ts xs t k → HaveWidths xs ws
-    → length (struct_value s (fields (written ts 0)) k ws) ≡ width t
+    → length (struct_value s (fields (nth_type ts 0)) k ws) ≡ width t
 struct_width struct_create ts xs t k ws (fs, is, all) have =
     joined_width (field_list fs) ws (subst (λ ys. HaveWidths ys ws) all have) ∙ fields_total fs ∙ sym (ap width is)
 struct_width (struct_extract name) ts xs t k ws (fs, is, wrote, found) have =
-    one_width (field_of (fields (written ts 0)) name) (width t) (Some (struct fs)) xs ws is have
-    (λ a x. struct_field_width (written ts 0) fs name t a wrote found x)
+    one_width (field_of (fields (nth_type ts 0)) name) (width t) (Some (struct fs)) xs ws is have
+    (λ a x. struct_field_width (nth_type ts 0) fs name t a wrote found x)
 struct_width (struct_inject name) ts xs t k ws (fs, e, is, wrote, is', found) have =
-    two_width (with_field (fields (written ts 0)) name) (width t) (Some t) (Some e) xs ws is have
-    (λ a b x y. struct_with_width (written ts 0) t fs name e a b wrote is' found x y)
+    two_width (with_field (fields (nth_type ts 0)) name) (width t) (Some t) (Some e) xs ws is have
+    (λ a b x y. struct_with_width (nth_type ts 0) t fs name e a b wrote is' found x y)
 struct_width struct_explode ts xs t k ws (fs, is, wrote, found) have =
-    one_width (field_at (fields (written ts 0)) k) (width t) (Some (struct fs)) xs ws is have
-    (λ a x. struct_at_width (written ts 0) fs k t a wrote found x)
+    one_width (field_at (fields (nth_type ts 0)) k) (width t) (Some (struct fs)) xs ws is have
+    (λ a x. struct_at_width (nth_type ts 0) fs k t a wrote found x)
 
 pub fits_width : (kind : Kind) (ts : List HwType) (xs : List (Option HwType)) (t : HwType) (k : ℕ) (ws : List Word)
     → register_form kind ≡ None → instance_in kind ≡ None → Fits kind ts xs t k → HaveWidths xs ws → length (op_value kind ts t k ws) ≡ width t

@@ -11,13 +11,13 @@ called_by None = []
 called_by (Some i) = i.symbol ∷ []
 
 -- the symbols of the modules that a body instances
-abbrev pub called : List Op → List Name
-called [] = []
-called (o ∷ os) = called_by (instance_in o.kind) ++ called os
+abbrev pub callee_symbols : List Op → List Name
+callee_symbols [] = []
+callee_symbols (o ∷ os) = called_by (instance_in o.kind) ++ callee_symbols os
 
 -- those that the module of a symbol instances
 abbrev pub calls : Design → Name → List Name
-calls d s = called (body_of (find_module d s))
+calls d s = callee_symbols (body_of (find_module d s))
 
 -- no module is within itself, directly or through others
 abbrev pub HasNoRecursion : Design → Type 0

@@ -4,7 +4,7 @@ use Rattle.wiring.specs.Wiring.{Settled as IsSettled, Depends as IsReached, IsAc
 use Rattle.bits_core.specs.Word.{Word, first}
 use Rattle.hw_model.specs.Types.{Name}
 use Rattle.hw_model.specs.Design.{Ref, Module, Design, find_module, output_refs}
-use Rattle.hw_model.specs.Value.{op_value, joined, is_high}
+use Rattle.hw_model.specs.Value.{op_value, concat_words, is_high}
 use Rattle.hw_model.specs.Flat.{Net, net, Source, source, Slot, Register, ResetBy, register_in, registers, held_width, state}
 use Rattle.hw_model.specs.Flat.Source.{nowhere, input, held, copy, made}
 use Rattle.hw_model.specs.Machine.{Machine}
@@ -55,9 +55,9 @@ HasHeights d top = HaveHeights (needs d top)
 
 -- ---- registers
 
-abbrev pub enabled : Option Ref → (Ref → Word) → Word → Word → Word
-enabled None τ old new = new
-enabled (Some e) τ old new = cond (is_high (τ e)) new old
+abbrev pub value_if_enabled : Option Ref → (Ref → Word) → Word → Word → Word
+value_if_enabled None τ old new = new
+value_if_enabled (Some e) τ old new = cond (is_high (τ e)) new old
 
 abbrev pub reset : Option ResetBy → (Ref → Word) → Word → Word
 reset None τ new = new
@@ -65,15 +65,15 @@ reset (Some r) τ new = cond (is_high (τ r.signal)) (τ r.value) new
 
 -- what a register holds after a step: where its clock rises, with reset the reset value, otherwise without enable the
 -- old one, otherwise its data operand
-abbrev pub loaded : Option Register → (Ref → Word) → Word → Word
-loaded None τ old = old
-loaded (Some r) τ old = cond (is_high (τ r.clock)) (reset r.reset τ (enabled r.enable τ old (τ r.next))) old
+abbrev pub next_value : Option Register → (Ref → Word) → Word → Word
+next_value None τ old = old
+next_value (Some r) τ old = cond (is_high (τ r.clock)) (reset r.reset τ (value_if_enabled r.enable τ old (τ r.next))) old
 
 -- the content after a step: the registers in order, each taking its next value from the settled map
 abbrev pub next_content : List Slot → (Net → Word) → Word → Word
 next_content [] ρ content = []
 next_content (s ∷ ss) ρ content =
-    first (held_width s.op) (loaded (register_in s.op) (λ r. ρ (net s.path r)) (first (held_width s.op) content))
+    first (held_width s.op) (next_value (register_in s.op) (λ r. ρ (net s.path r)) (first (held_width s.op) content))
     ++ next_content ss ρ (drop (held_width s.op) content)
 
 -- ---- the machine of a module
@@ -84,7 +84,7 @@ outputs_of (Some m) = output_refs m.body
 
 -- the outputs under a map, in port order
 abbrev pub outputs : Design → Name → (Net → Word) → Word
-outputs d top ρ = joined (map (λ r. ρ (net [] r)) (outputs_of (find_module d top)))
+outputs d top ρ = concat_words (map (λ r. ρ (net [] r)) (outputs_of (find_module d top)))
 
 -- what the module of a symbol does
 abbrev pub machine : Design → Name → Machine Net

@@ -17,7 +17,7 @@ use Rattle.hw_model.specs.Kinds.StructOp.{struct_create, struct_extract, struct_
 use Rattle.hw_model.specs.Kinds.Kind.{variadic, sub, division, shift, icmp, parity, extract, concat, replicate, mux, constant, aggregate_constant, on_array, on_struct, bitcast, wire, instance, output, register}
 use Rattle.hw_model.specs.Design.{Ref, Port, OpResult, Op, Module, Design, same_name, find_module, instance_in, takes_enable, result_type, output_refs}
 use Rattle.hw_model.specs.Design.Ref.{port, result, undefined}
-use Rattle.hw_model.specs.Value.{written}
+use Rattle.hw_model.specs.Value.{nth_type}
 
 -- ---- bodies
 
@@ -102,16 +102,16 @@ register_types true r t = Some t ∷ Some clock ∷ Some (int 1) ∷ reset_types
 abbrev pub ArrayFits : ArrayOp → List HwType → List (Option HwType) → HwType → Type 0
 ArrayFits array_create ts xs t = (e : HwType) × (t ≡ array (length xs) e) × AllAre e xs
 ArrayFits array_concat ts xs t = (e : HwType) × (ns : List ℕ) × (xs ≡ map (λ (n : ℕ). Some (array n e)) ns) × (t ≡ array (total ns) e)
-ArrayFits array_get ts xs t = (n : ℕ) × (u : HwType) × (xs ≡ Some (array n t) ∷ Some u ∷ []) × (written ts 0 ≡ array n t)
-ArrayFits array_slice ts xs t = (n : ℕ) × (m : ℕ) × (e : HwType) × (u : HwType) × (xs ≡ Some (array n e) ∷ Some u ∷ []) × (written ts 0 ≡ array n e) × (t ≡ array m e)
-ArrayFits array_inject ts xs t = (n : ℕ) × (e : HwType) × (u : HwType) × (xs ≡ Some t ∷ Some u ∷ Some e ∷ []) × (written ts 0 ≡ t) × (t ≡ array n e)
+ArrayFits array_get ts xs t = (n : ℕ) × (u : HwType) × (xs ≡ Some (array n t) ∷ Some u ∷ []) × (nth_type ts 0 ≡ array n t)
+ArrayFits array_slice ts xs t = (n : ℕ) × (m : ℕ) × (e : HwType) × (u : HwType) × (xs ≡ Some (array n e) ∷ Some u ∷ []) × (nth_type ts 0 ≡ array n e) × (t ≡ array m e)
+ArrayFits array_inject ts xs t = (n : ℕ) × (e : HwType) × (u : HwType) × (xs ≡ Some t ∷ Some u ∷ Some e ∷ []) × (nth_type ts 0 ≡ t) × (t ≡ array n e)
 
 -- an operation on structs, its k-th result
 abbrev pub StructFits : StructOp → List HwType → List (Option HwType) → HwType → ℕ → Type 0
 StructFits struct_create ts xs t k = (fs : FieldTypes) × (t ≡ struct fs) × (xs ≡ map (λ (u : HwType). Some u) (field_list fs))
-StructFits (struct_extract name) ts xs t k = (fs : FieldTypes) × (xs ≡ Some (struct fs) ∷ []) × (written ts 0 ≡ struct fs) × (field_type fs name ≡ Some t)
-StructFits (struct_inject name) ts xs t k = (fs : FieldTypes) × (e : HwType) × (xs ≡ Some t ∷ Some e ∷ []) × (written ts 0 ≡ t) × (t ≡ struct fs) × (field_type fs name ≡ Some e)
-StructFits struct_explode ts xs t k = (fs : FieldTypes) × (xs ≡ Some (struct fs) ∷ []) × (written ts 0 ≡ struct fs) × (slice_get (field_list fs) k ≡ Some t)
+StructFits (struct_extract name) ts xs t k = (fs : FieldTypes) × (xs ≡ Some (struct fs) ∷ []) × (nth_type ts 0 ≡ struct fs) × (field_type fs name ≡ Some t)
+StructFits (struct_inject name) ts xs t k = (fs : FieldTypes) × (e : HwType) × (xs ≡ Some t ∷ Some e ∷ []) × (nth_type ts 0 ≡ t) × (t ≡ struct fs) × (field_type fs name ≡ Some e)
+StructFits struct_explode ts xs t k = (fs : FieldTypes) × (xs ≡ Some (struct fs) ∷ []) × (nth_type ts 0 ≡ struct fs) × (slice_get (field_list fs) k ≡ Some t)
 
 -- an operation that writes the types `ts`, with operands of the types `xs`, may have a k-th result of type t
 abbrev pub Fits : Kind → List HwType → List (Option HwType) → HwType → ℕ → Type 0

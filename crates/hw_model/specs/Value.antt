@@ -19,9 +19,9 @@ use Rattle.hw_model.specs.Kinds.Kind.{variadic, sub, division, shift, icmp, pari
 use Rattle.hw_model.specs.Design.{same_name}
 
 -- the words joined, the first most significant
-abbrev pub joined : List Word → Word
-joined [] = []
-joined (x ∷ xs) = x ++ joined xs
+abbrev pub concat_words : List Word → Word
+concat_words [] = []
+concat_words (x ∷ xs) = x ++ concat_words xs
 
 -- whether a word's first bit is 1: a condition, an enable, a reset, a clock that rises
 abbrev pub is_high : Word → Bool
@@ -111,9 +111,9 @@ abbrev pub injected_below : ℕ → HwType → Word → ℕ → Word → Word
 injected_below zero t a i v = []
 injected_below (suc n) t a i v = cond (n == i) v (element t a n) ++ injected_below n t a i v
 
-abbrev pub injected : HwType → Word → ℕ → Word → Word
-injected (array n t) a i v = injected_below n (array n t) a i v
-injected _ a i v = []
+abbrev pub inject_element : HwType → Word → ℕ → Word → Word
+inject_element (array n t) a i v = injected_below n (array n t) a i v
+inject_element _ a i v = []
 
 -- ---- structs
 
@@ -139,10 +139,10 @@ fields (struct fs) = fs
 fields _ = no_fields
 
 -- the n-th of the types that an operation writes; a type without bits where there is none
-abbrev pub written : List HwType → ℕ → HwType
-written [] n = struct no_fields
-written (t ∷ ts) zero = t
-written (t ∷ ts) (suc n) = written ts n
+abbrev pub nth_type : List HwType → ℕ → HwType
+nth_type [] n = struct no_fields
+nth_type (t ∷ ts) zero = t
+nth_type (t ∷ ts) (suc n) = nth_type ts n
 
 -- ---- families
 
@@ -168,15 +168,15 @@ shift_value shrs = shift_right_signed
 
 -- the result of type t of an operation on arrays that writes a type `a` first
 abbrev pub array_value : ArrayOp → HwType → HwType → List Word → Word
-array_value array_create a t xs = joined xs
-array_value array_concat a t xs = joined xs
+array_value array_create a t xs = concat_words xs
+array_value array_concat a t xs = concat_words xs
 array_value array_get a t xs = of_two (λ x i. element a x (number i)) xs
 array_value array_slice a t xs = of_two (λ x i. slice_of a x (number i) t) xs
-array_value array_inject a t xs = of_three (λ x i v. injected a x (number i) v) xs
+array_value array_inject a t xs = of_three (λ x i v. inject_element a x (number i) v) xs
 
 -- the k-th result of an operation on structs that writes a struct of these fields first
 abbrev pub struct_value : StructOp → FieldTypes → ℕ → List Word → Word
-struct_value struct_create fs k xs = joined xs
+struct_value struct_create fs k xs = concat_words xs
 struct_value (struct_extract name) fs k xs = of_one (field_of fs name) xs
 struct_value (struct_inject name) fs k xs = of_two (with_field fs name) xs
 struct_value struct_explode fs k xs = of_one (field_at fs k) xs
@@ -193,13 +193,13 @@ op_value (shift s) ts t k xs = of_two (λ x y. shift_value s x (number y)) xs
 op_value (icmp p) ts t k xs = of_two (λ x y. flag (compare p x y)) xs
 op_value parity ts t k xs = of_one (λ x. flag (odd x)) xs
 op_value (extract low) ts t k xs = of_one (bits_from low (width t)) xs
-op_value concat ts t k xs = joined xs
+op_value concat ts t k xs = concat_words xs
 op_value replicate ts t k xs = of_one (λ x. copies (width t / length x) x) xs
 op_value mux ts t k xs = of_three (λ c x y. cond (is_high c) x y) xs
 op_value (constant z) ts t k xs = bits_of_ℤ (width t) z
 op_value (aggregate_constant ls) ts t k xs = word_of_literals ls
-op_value (on_array a) ts t k xs = array_value a (written ts 0) t xs
-op_value (on_struct s) ts t k xs = struct_value s (fields (written ts 0)) k xs
+op_value (on_array a) ts t k xs = array_value a (nth_type ts 0) t xs
+op_value (on_struct s) ts t k xs = struct_value s (fields (nth_type ts 0)) k xs
 op_value bitcast ts t k xs = of_one (λ x. x) xs
 op_value wire ts t k xs = of_one (λ x. x) xs
 op_value (instance i) ts t k xs = []

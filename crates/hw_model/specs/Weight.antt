@@ -11,7 +11,7 @@ use Rattle.hw_model.specs.Kinds.ArrayOp.{array_get, array_slice, array_inject}
 use Rattle.hw_model.specs.Kinds.RegisterOp.{compreg, compreg_ce, firreg}
 use Rattle.hw_model.specs.Kinds.Kind.{mux, constant, aggregate_constant, on_array, bitcast, wire, instance, output, register}
 use Rattle.hw_model.specs.Design.{Port, Op, Module, Design, find_module}
-use Rattle.hw_model.specs.Value.{written}
+use Rattle.hw_model.specs.Value.{nth_type}
 
 -- how many leaves values of these types have
 abbrev pub leaf_count : List HwType → ℕ
@@ -46,9 +46,9 @@ reset_weight sync_reset = 4
 
 -- an operation on arrays that writes the types `ts` and has n operands
 abbrev pub array_weight : ArrayOp → List HwType → ℕ → ℕ
-array_weight array_get ts n = choice_weight (element_count (written ts 0)) (element_leaves (written ts 0)) 1
-array_weight array_slice ts n = choice_weight (element_count (written ts 0)) (element_leaves (written ts 0)) (element_count (written ts 1))
-array_weight array_inject ts n = 4 * element_count (written ts 0) + 4 * (element_count (written ts 0) * element_leaves (written ts 0))
+array_weight array_get ts n = choice_weight (element_count (nth_type ts 0)) (element_leaves (nth_type ts 0)) 1
+array_weight array_slice ts n = choice_weight (element_count (nth_type ts 0)) (element_leaves (nth_type ts 0)) (element_count (nth_type ts 1))
+array_weight array_inject ts n = 4 * element_count (nth_type ts 0) + 4 * (element_count (nth_type ts 0) * element_leaves (nth_type ts 0))
 array_weight _ ts n = 1 + n
 
 -- a register, for each leaf, without its reset

@@ -7,7 +7,7 @@ ghost use Rattle.hw_model.specs.Types.HwType.{int};
 ghost use Rattle.hw_model.specs.KindViews.{kind_of, predicate_of, integer_of};
 ghost use Rattle.hw_model.specs.FamilyViews.{family_of, variadic_of, division_of, shift_of};
 ghost use Rattle.hw_model.specs.IntegerKinds.{TakesWords, AllHave, OfOne, OfTwo};
-ghost use Rattle.hw_model.specs.Value.{op_value, variadic_value, division_value, shift_value, joined, product, and_all, or_all, xor_all, of_one, of_two, of_three, is_high, compare};
+ghost use Rattle.hw_model.specs.Value.{op_value, variadic_value, division_value, shift_value, concat_words, product, and_all, or_all, xor_all, of_one, of_two, of_three, is_high, compare};
 
 use crate::families::{Division, Family, Shift, Variadic};
 use crate::kinds::{Integer, OpKind, Predicate};
@@ -40,12 +40,12 @@ pub fn family_value(family: Family<'_>, width: u32, operands: &[Bits]) -> Bits
         Family::Sub => difference(operands),
         Family::Division(op) => division_value(op, operands),
         Family::Shift(op) => shift_value(op, operands),
-        Family::Icmp(predicate) => compared(predicate, operands),
+        Family::Icmp(predicate) => icmp_value(predicate, operands),
         Family::Parity => one(operands).parity(),
-        Family::Extract(low) => extracted(low, width, operands),
-        Family::Concat => concatenated(operands),
-        Family::Replicate => replicated(width, operands),
-        Family::Mux => chosen(operands),
+        Family::Extract(low) => extract_value(low, width, operands),
+        Family::Concat => concat_value(operands),
+        Family::Replicate => replicate_value(width, operands),
+        Family::Mux => mux_value(operands),
         Family::Constant(value) => constant(width, value),
         _ => unreachable!(),
     }
@@ -59,7 +59,7 @@ fn variadic_value(op: Variadic, width: u32, operands: &[Bits]) -> Bits
 {
     match op {
         Variadic::Add => sum(width, operands),
-        Variadic::Mul => multiplied(width, operands),
+        Variadic::Mul => mul_value(width, operands),
         Variadic::And => all_and(width, operands),
         Variadic::Or => all_or(width, operands),
         Variadic::Xor => all_xor(width, operands),
@@ -121,7 +121,7 @@ fn difference(operands: &[Bits]) -> Bits
     a.sub(&b)
 }
 
-fn compared(predicate: Predicate, operands: &[Bits]) -> Bits
+fn icmp_value(predicate: Predicate, operands: &[Bits]) -> Bits
     requires { OfTwo (λ x y. length x ≡ length y) operands.now }
     ensures { result ≡ of_two (λ x y. flag (compare (predicate_of predicate) x y)) operands.now }
 {
@@ -155,7 +155,7 @@ fn less(a: &Bits, b: &Bits, signed: bool) -> bool
     a.cmp(b, signed) == Ordering::Less
 }
 
-fn extracted(low: u32, width: u32, operands: &[Bits]) -> Bits
+fn extract_value(low: u32, width: u32, operands: &[Bits]) -> Bits
     requires least { 1 ≤ width }
     requires within { OfOne (λ x. low + width ≤ length x) operands.now }
     ensures { result ≡ of_one (bits_from low width) operands.now }
@@ -163,7 +163,7 @@ fn extracted(low: u32, width: u32, operands: &[Bits]) -> Bits
     one(operands).extract(low, width)
 }
 
-fn replicated(width: u32, operands: &[Bits]) -> Bits
+fn replicate_value(width: u32, operands: &[Bits]) -> Bits
     requires least { 1 ≤ width }
     requires most { width ≤ 128 }
     requires whole { OfOne (λ x. width % length x ≡ 0) operands.now }
@@ -173,7 +173,7 @@ fn replicated(width: u32, operands: &[Bits]) -> Bits
     a.replicate(width / a.width())
 }
 
-fn chosen(operands: &[Bits]) -> Bits
+fn mux_value(operands: &[Bits]) -> Bits
     requires { length operands.now ≡ 3 }
     ensures { result ≡ of_three (λ c x y. cond (is_high c) x y) operands.now }
 {
@@ -194,8 +194,8 @@ fn constant(width: u32, value: Integer) -> Bits
     ensures { result ≡ bits_of_ℤ width (integer_of value) }
 {
     match value {
-        Integer::NonNegative(n) => Bits::truncated(width, n),
-        Integer::Negative(n) => Bits::truncated(width, u128::MAX - n),
+        Integer::NonNegative(n) => Bits::truncate(width, n),
+        Integer::Negative(n) => Bits::truncate(width, u128::MAX - n),
     }
 }
 
@@ -205,7 +205,7 @@ fn sum(width: u32, operands: &[Bits]) -> Bits
     requires words { AllHave width operands.now }
     ensures { result ≡ bits width (total (map number operands.now)) }
 {
-    let mut all = Bits::truncated(width, 0);
+    let mut all = Bits::truncate(width, 0);
     let mut left = operands.len();
     while left > 0 {
         left -= 1;
@@ -214,13 +214,13 @@ fn sum(width: u32, operands: &[Bits]) -> Bits
     all
 }
 
-fn multiplied(width: u32, operands: &[Bits]) -> Bits
+fn mul_value(width: u32, operands: &[Bits]) -> Bits
     requires least { 1 ≤ width }
     requires most { width ≤ 128 }
     requires words { AllHave width operands.now }
     ensures { result ≡ bits width (product (map number operands.now)) }
 {
-    let mut all = Bits::truncated(width, 1);
+    let mut all = Bits::truncate(width, 1);
     let mut left = operands.len();
     while left > 0 {
         left -= 1;
@@ -235,7 +235,7 @@ fn all_and(width: u32, operands: &[Bits]) -> Bits
     requires words { AllHave width operands.now }
     ensures { result ≡ and_all width operands.now }
 {
-    let mut all = Bits::truncated(width, u128::MAX);
+    let mut all = Bits::truncate(width, u128::MAX);
     let mut left = operands.len();
     while left > 0 {
         left -= 1;
@@ -250,7 +250,7 @@ fn all_or(width: u32, operands: &[Bits]) -> Bits
     requires words { AllHave width operands.now }
     ensures { result ≡ or_all width operands.now }
 {
-    let mut all = Bits::truncated(width, 0);
+    let mut all = Bits::truncate(width, 0);
     let mut left = operands.len();
     while left > 0 {
         left -= 1;
@@ -265,7 +265,7 @@ fn all_xor(width: u32, operands: &[Bits]) -> Bits
     requires words { AllHave width operands.now }
     ensures { result ≡ xor_all width operands.now }
 {
-    let mut all = Bits::truncated(width, 0);
+    let mut all = Bits::truncate(width, 0);
     let mut left = operands.len();
     while left > 0 {
         left -= 1;
@@ -275,10 +275,10 @@ fn all_xor(width: u32, operands: &[Bits]) -> Bits
 }
 
 // the operands joined, the first most significant
-fn concatenated(operands: &[Bits]) -> Bits
+fn concat_value(operands: &[Bits]) -> Bits
     requires some { 1 ≤ length operands.now }
     requires within { total (map length operands.now) ≤ 128 }
-    ensures { result ≡ joined operands.now }
+    ensures { result ≡ concat_words operands.now }
 {
     let mut left = operands.len() - 1;
     let mut all = operands[left];

@@ -2,7 +2,7 @@
 use Rattle.std.specs.Prelude.{◌≡◌, ℕ, Bool, true, false, List, [], take, Option, None, Some, IsSome, Result, Ok, Err, is_some, ◌==◌, if◌then◌else◌}
 use Rattle.std.specs.Option.{option_map}
 use Rattle.std.specs.List.{list_any}
-use Rattle.io_edge.specs.Faults.{counted}
+use Rattle.io_edge.specs.Faults.{next_count}
 use Rattle.io_edge.specs.Reading.{file_at}
 use Rattle.io_edge.specs.Writing.{with_file}
 use Rattle.io_edge.specs.declared.file_access.FileFail.{FileFail}
@@ -20,8 +20,8 @@ pub record FilesState : Type 0 where
   pub write_faults : ℕ
 
 -- these files, of which no read and no write is to fail
-abbrev pub untouched : List (List ℕ × List ℕ) → FilesState
-untouched files = record {
+abbrev pub without_faults : List (List ℕ × List ℕ) → FilesState
+without_faults files = record {
   files = files;
   failing = [];
   reads = 0;
@@ -32,23 +32,23 @@ untouched files = record {
 }
 
 -- what the next read is to answer; None is a fault, at a read that is to fail and at an unknown name
-abbrev pub wanted : FilesState → List ℕ → ℕ → Option (List ℕ)
-wanted state name limit =
+abbrev pub expected_read : FilesState → List ℕ → ℕ → Option (List ℕ)
+expected_read state name limit =
     if list_any (λ place. place == state.reads) state.failing then None else option_map (take limit) (file_at name state.files)
 
 -- the files after a read
 abbrev pub after_read : FilesState → List ℕ → ℕ → FilesState
 after_read state name limit =
     record state {
-      reads = counted state.reads;
-      read_faults = if is_some (wanted state name limit) then state.read_faults else counted state.read_faults;
+      reads = next_count state.reads;
+      read_faults = if is_some (expected_read state name limit) then state.read_faults else next_count state.read_faults;
     }
 
 -- a read answers what is wanted, a fault where nothing is, and out of memory only in place of a text
 abbrev pub IsAnswer : Option (List ℕ) → Result (List ℕ) FileFail → Type 0
-IsAnswer wanted (Ok text) = wanted ≡ Some text
-IsAnswer wanted (Err Failed) = wanted ≡ None
-IsAnswer wanted (Err NoMemory) = IsSome wanted
+IsAnswer expected_read (Ok text) = expected_read ≡ Some text
+IsAnswer expected_read (Err Failed) = expected_read ≡ None
+IsAnswer expected_read (Err NoMemory) = IsSome expected_read
 
 -- whether the next write is to fail
 abbrev pub fails_next : FilesState → Bool
@@ -56,9 +56,9 @@ fails_next state = list_any (λ place. place == state.writes) state.failing_writ
 
 -- the files after a write that answered so
 abbrev pub after_write : {T : Type 0} → FilesState → List ℕ → List ℕ → Result T FileFail → FilesState
-after_write state name bytes (Ok value) = record state { files = with_file name bytes state.files; writes = counted state.writes }
-after_write state name bytes (Err Failed) = record state { writes = counted state.writes; write_faults = counted state.write_faults }
-after_write state name bytes (Err NoMemory) = record state { writes = counted state.writes }
+after_write state name bytes (Ok value) = record state { files = with_file name bytes state.files; writes = next_count state.writes }
+after_write state name bytes (Err Failed) = record state { writes = next_count state.writes; write_faults = next_count state.write_faults }
+after_write state name bytes (Err NoMemory) = record state { writes = next_count state.writes }
 
 -- a write answers with a fault exactly where one is to come, out of memory coming only in the place of success
 abbrev pub IsWriteAnswer : {T : Type 0} → Bool → Result T FileFail → Type 0

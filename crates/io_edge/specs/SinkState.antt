@@ -1,7 +1,7 @@
 -- A sink in memory: what it holds, and what a put makes of it.
 use Rattle.std.specs.Prelude.{ℕ, ◌+◌, ◌-◌, List, [], ◌++◌, take, length, Bool, not, ◌&&◌, ◌==◌, nat_le, if◌then◌else◌}
 use Rattle.std.specs.List.{list_any}
-use Rattle.io_edge.specs.Faults.{counted}
+use Rattle.io_edge.specs.Faults.{next_count}
 
 -- `failing` are the puts that are to fail, by their places from 0 on, and `calls` is the place of the next put
 pub record SinkState : Type 0 where
@@ -32,6 +32,6 @@ abbrev pub after_put : SinkState → List ℕ → SinkState
 after_put sink piece =
     record sink {
       held = sink.held ++ taken_of sink piece;
-      calls = counted sink.calls;
-      faults = if takes_all sink piece then sink.faults else counted sink.faults;
+      calls = next_count sink.calls;
+      faults = if takes_all sink piece then sink.faults else next_count sink.faults;
     }

@@ -2,8 +2,8 @@
 ghost use Rattle.std.specs.Prelude.{◌≡◌, ◌≤◌, Some, take, length, option_copied, IfOk, OnOk, OnErr};
 ghost use Rattle.io_edge.specs.Reading.{Reads, HasNamedCause, file_at};
 ghost use Rattle.io_edge.specs.Writing.{Writes, with_file, place_in};
-ghost use Rattle.io_edge.specs.FilesState.{untouched, wanted, after_read, IsAnswer, fails_next, after_write, IsWriteAnswer};
-ghost use Rattle.io_edge.specs.Listed.{listed};
+ghost use Rattle.io_edge.specs.FilesState.{without_faults, expected_read, after_read, IsAnswer, fails_next, after_write, IsWriteAnswer};
+ghost use Rattle.io_edge.specs.Listed.{file_list};
 
 use crate::byte_text::Text;
 use crate::file_access::{FileFail, Files};
@@ -44,12 +44,12 @@ pub struct MemoryFiles {
 
 impl Model for MemoryFiles {
     ghost use Rattle.io_edge.specs.FilesState.{FilesState};
-    ghost use Rattle.io_edge.specs.Listed.{listed};
+    ghost use Rattle.io_edge.specs.Listed.{file_list};
 
     ghost Value = { FilesState };
 
     ghost view = { λ s. record {
-      files = listed s.files.items;
+      files = file_list s.files.items;
       failing = s.failing.items;
       reads = s.reads;
       read_faults = s.read_faults;
@@ -63,7 +63,7 @@ impl MemoryFiles {
     /// These files, of which no read and no write is to fail; `alloc` gives no memory here. The first
     /// of a name counts, and the file named `-` is standard input.
     pub fn new(alloc: Global, files: Vec<MemoryFile>) -> MemoryFiles
-        ensures { result ≡ untouched (listed files.items) }
+        ensures { result ≡ without_faults (file_list files.items) }
     {
         MemoryFiles {
             files,
@@ -111,7 +111,7 @@ impl MemoryFiles {
     }
 
     /// The bytes of the first file of this name, where there is one.
-    pub fn held(&self, name: &str) -> Option<&[u8]>
+    pub fn contents(&self, name: &str) -> Option<&[u8]>
         ensures { option_copied result ≡ file_at name.now self.now.files }
     {
         bytes_of(&self.files, name.as_bytes())
@@ -125,7 +125,7 @@ impl Files for MemoryFiles {
 
     ghost write_faults = { λ state name. state.write_faults };
 
-    ghost reads = { λ state name limit answer after. IsAnswer (wanted state name limit) answer × (after ≡ after_read state name limit) };
+    ghost reads = { λ state name limit answer after. IsAnswer (expected_read state name limit) answer × (after ≡ after_read state name limit) };
 
     ghost writes = { λ state name bytes answer after. IsWriteAnswer (fails_next state) answer × (after ≡ after_write state name bytes answer) };
 
@@ -163,7 +163,7 @@ impl Files for MemoryFiles {
 // Puts the file in the place of the first of its name, or at the end.
 #[tactic(auto, using(crate::proofs::Written::listed_last, crate::proofs::Written::listed_there))]
 fn put_file(files: &mut Vec<MemoryFile>, file: MemoryFile) -> Result<(), AllocError>
-    ensures ok { OnOk result (listed files.new.items ≡ with_file file.name file.bytes (listed files.old.items)) }
+    ensures ok { OnOk result (file_list files.new.items ≡ with_file file.name file.bytes (file_list files.old.items)) }
     ensures err { OnErr result (files.new.items ≡ files.old.items) }
 {
     let place = place_of(files, file.name.as_bytes());
@@ -178,7 +178,7 @@ fn put_file(files: &mut Vec<MemoryFile>, file: MemoryFile) -> Result<(), AllocEr
 
 // The place of the first file of this name, or the place after the last.
 fn place_of(files: &[MemoryFile], name: &[u8]) -> usize
-    ensures place { result ≡ place_in name.now (listed files.now) }
+    ensures place { result ≡ place_in name.now (file_list files.now) }
     ensures within { result ≤ length files.now }
 {
     for (place, one) in files.iter().enumerate() {
@@ -191,7 +191,7 @@ fn place_of(files: &[MemoryFile], name: &[u8]) -> usize
 
 // The bytes of the first file of this name.
 fn bytes_of<'a>(files: &'a [MemoryFile], name: &[u8]) -> Option<&'a [u8]>
-    ensures { option_copied result ≡ file_at name.now (listed files.now) }
+    ensures { option_copied result ≡ file_at name.now (file_list files.now) }
 {
     for file in files {
         if file.name.as_bytes() == name {

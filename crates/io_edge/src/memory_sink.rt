@@ -60,7 +60,7 @@ impl MemorySink {
     }
 
     /// The bytes that it holds.
-    pub fn held(&self) -> &[u8]
+    pub fn contents(&self) -> &[u8]
         ensures { result.now ≡ self.now.held }
     {
         self.held.as_slice()

@@ -6,7 +6,7 @@ use Rattle.std.proofs.lemmas.Bool.{eqb-true, eqb-false}
 use Rattle.ir_store.specs.declared.operation.OpId.{OpId}
 use Rattle.ir_store.specs.declared.operation.Value.{Value}
 use Rattle.ir_store.specs.OperationViews.{OpParts}
-use Rattle.ir_store.specs.BodyOps.{BodyOp, no_parts, stored, op_at, put_before, place_before, operands_at, ids_in, taken_out, operand_count}
+use Rattle.ir_store.specs.BodyOps.{BodyOp, no_parts, stored_op, op_at, put_before, place_before, operands_at, ids_in, taken_out, operand_count}
 use Rattle.ir_store.specs.Ids.{times, put_at}
 use Rattle.ir_store.specs.declared.body.Body.{Body}
 use Rattle.ir_store.specs.Bodies.{ids_of, op_id}
@@ -18,26 +18,26 @@ use Rattle.ir_store.proofs.IdLemmas.{get_or-put_at_same, get_or-put_at_other, ti
 
 module _ (ps : List OpParts) (ls : List (List Value)) where
   -- the operation of an id is found
-  pub op_found : (ids : List ℕ) (id : ℕ) → Contains ids id → op_at (map (stored ps ls) ids) id ≡ Some (stored ps ls id)
+  pub op_found : (ids : List ℕ) (id : ℕ) → Contains ids id → op_at (map (stored_op ps ls) ids) id ≡ Some (stored_op ps ls id)
   op_found [] id (k, l, e) = absurd (omega arith)
   op_found (i ∷ ids) id h = go (nat_eq i id) refl (op_found ids id) h
     where
-      go : (b : Bool) → nat_eq i id ≡ b → (Contains ids id → op_at (map (stored ps ls) ids) id ≡ Some (stored ps ls id)) → Contains (i ∷ ids) id →
-          cond b (Some (stored ps ls i)) (op_at (map (stored ps ls) ids) id) ≡ Some (stored ps ls id)
-      go true t r h = ap (λ n. Some (stored ps ls n)) (eqb-true i id t)
+      go : (b : Bool) → nat_eq i id ≡ b → (Contains ids id → op_at (map (stored_op ps ls) ids) id ≡ Some (stored_op ps ls id)) → Contains (i ∷ ids) id →
+          cond b (Some (stored_op ps ls i)) (op_at (map (stored_op ps ls) ids) id) ≡ Some (stored_op ps ls id)
+      go true t r h = ap (λ n. Some (stored_op ps ls n)) (eqb-true i id t)
       go false t r (zero, l, e) = absurd (eqb-false i id t e)
       go false t r (suc k, l, e) = r (k, omega arith, e)
 
   -- a change of one list changes the operands of that operation alone
   pub operands_set : (f : List Value → List Value) (i : ℕ) → i < length ls → (ids : List ℕ) →
-      map (stored ps (set ls i (f (get_or ls i [])))) ids ≡ operands_at i f (map (stored ps ls) ids)
+      map (stored_op ps (set ls i (f (get_or ls i [])))) ids ≡ operands_at i f (map (stored_op ps ls) ids)
   operands_set f i h [] = refl
   operands_set f i h (j ∷ ids) =
       go (nat_eq j i) refl (operands_set f i h ids)
     where
-      go : (b : Bool) → nat_eq j i ≡ b → map (stored ps (set ls i (f (get_or ls i [])))) ids ≡ operands_at i f (map (stored ps ls) ids) →
-          stored ps (set ls i (f (get_or ls i []))) j ∷ map (stored ps (set ls i (f (get_or ls i [])))) ids
-          ≡ cond b (record (stored ps ls j) { operands = f (get_or ls j []) }) (stored ps ls j) ∷ operands_at i f (map (stored ps ls) ids)
+      go : (b : Bool) → nat_eq j i ≡ b → map (stored_op ps (set ls i (f (get_or ls i [])))) ids ≡ operands_at i f (map (stored_op ps ls) ids) →
+          stored_op ps (set ls i (f (get_or ls i []))) j ∷ map (stored_op ps (set ls i (f (get_or ls i [])))) ids
+          ≡ cond b (record (stored_op ps ls j) { operands = f (get_or ls j []) }) (stored_op ps ls j) ∷ operands_at i f (map (stored_op ps ls) ids)
       go true t r =
           let e : j ≡ i = eqb-true j i t in
           let s : get_or (set ls i (f (get_or ls i []))) j [] ≡ f (get_or ls j []) = rw e (get_or-set_same ls i (f (get_or ls i [])) [] h) in
@@ -48,28 +48,28 @@ module _ (ps : List OpParts) (ls : List (List Value)) where
 
 -- what stands under other ids does not count
 stored_same : (ps qs : List OpParts) (ls ms : List (List Value)) (id : ℕ) → ((j : ℕ) → (j ≡ id → ⊥) → get_or qs j no_parts ≡ get_or ps j no_parts) →
-    ((j : ℕ) → (j ≡ id → ⊥) → get_or ms j [] ≡ get_or ls j []) → (ids : List ℕ) → times id ids ≡ 0 → map (stored qs ms) ids ≡ map (stored ps ls) ids
+    ((j : ℕ) → (j ≡ id → ⊥) → get_or ms j [] ≡ get_or ls j []) → (ids : List ℕ) → times id ids ≡ 0 → map (stored_op qs ms) ids ≡ map (stored_op ps ls) ids
 stored_same ps qs ls ms id f g [] e = refl
 stored_same ps qs ls ms id f g (i ∷ ids) e = go (nat_eq i id) refl e (stored_same ps qs ls ms id f g ids)
   where
-    go : (b : Bool) → nat_eq i id ≡ b → cond b (suc (times id ids)) (times id ids) ≡ 0 → (times id ids ≡ 0 → map (stored qs ms) ids ≡ map (stored ps ls) ids) →
-        stored qs ms i ∷ map (stored qs ms) ids ≡ stored ps ls i ∷ map (stored ps ls) ids
+    go : (b : Bool) → nat_eq i id ≡ b → cond b (suc (times id ids)) (times id ids) ≡ 0 → (times id ids ≡ 0 → map (stored_op qs ms) ids ≡ map (stored_op ps ls) ids) →
+        stored_op qs ms i ∷ map (stored_op qs ms) ids ≡ stored_op ps ls i ∷ map (stored_op ps ls) ids
     go true t e r = absurd (omega (arith, e))
-    go false t e r = rw (f i (eqb-false i id t), g i (eqb-false i id t)) (ap (λ os. stored ps ls i ∷ os) (r e))
+    go false t e r = rw (f i (eqb-false i id t), g i (eqb-false i id t)) (ap (λ os. stored_op ps ls i ∷ os) (r e))
 
 -- an id put into the ids puts its operation into the operations
 put_in : (ps : List OpParts) (ls : List (List Value)) (before : Option OpId) (id : ℕ) (ids : List ℕ) →
-    map (stored ps ls) (insert ids (place_before before ids) id) ≡ put_before before (stored ps ls id) (map (stored ps ls) ids)
+    map (stored_op ps ls) (insert ids (place_before before ids) id) ≡ put_before before (stored_op ps ls id) (map (stored_op ps ls) ids)
 put_in ps ls None id [] = refl
-put_in ps ls None id (i ∷ ids) = ap (λ os. stored ps ls i ∷ os) (put_in ps ls None id ids)
+put_in ps ls None id (i ∷ ids) = ap (λ os. stored_op ps ls i ∷ os) (put_in ps ls None id ids)
 put_in ps ls (Some b) id [] = refl
 put_in ps ls (Some b) id (i ∷ ids) = go (nat_eq i b.index) (put_in ps ls (Some b) id ids)
   where
-    go : (t : Bool) → map (stored ps ls) (insert ids (place_before (Some b) ids) id) ≡ put_before (Some b) (stored ps ls id) (map (stored ps ls) ids) →
-        map (stored ps ls) (insert (i ∷ ids) (cond t 0 (suc (place_before (Some b) ids))) id)
-        ≡ cond t (stored ps ls id ∷ stored ps ls i ∷ map (stored ps ls) ids) (stored ps ls i ∷ put_before (Some b) (stored ps ls id) (map (stored ps ls) ids))
+    go : (t : Bool) → map (stored_op ps ls) (insert ids (place_before (Some b) ids) id) ≡ put_before (Some b) (stored_op ps ls id) (map (stored_op ps ls) ids) →
+        map (stored_op ps ls) (insert (i ∷ ids) (cond t 0 (suc (place_before (Some b) ids))) id)
+        ≡ cond t (stored_op ps ls id ∷ stored_op ps ls i ∷ map (stored_op ps ls) ids) (stored_op ps ls i ∷ put_before (Some b) (stored_op ps ls id) (map (stored_op ps ls) ids))
     go true r = refl
-    go false r = ap (λ os. stored ps ls i ∷ os) r
+    go false r = ap (λ os. stored_op ps ls i ∷ os) r
 
 -- what a read at a place gives, in a list of what is seen
 pub map_read : {X Y : Type 0} (f : X → Y) (xs : List X) (i : ℕ) (x : X) (d : Y) → i < length xs → x ≡ get_or xs i x → get_or (map f xs) i d ≡ f x
@@ -80,7 +80,7 @@ map_read f (y ∷ xs) (suc i) x d h e = map_read f xs i x d (omega arith) e
 -- an operation put in under an id that is not among the ids, by what each list is afterwards
 pub op_put : (ps qs : List OpParts) (ls ms : List (List Value)) (before : Option OpId) (p : OpParts) (l : List Value) (ids js : List ℕ) (id place : ℕ) →
     id ≤ length ps → id ≤ length ls → times id ids ≡ 0 → qs ≡ put_at id p ps → ms ≡ put_at id l ls → js ≡ insert ids place id → place ≡ place_before before ids →
-    map (stored qs ms) js ≡ put_before before (record { id = id; parts = p; operands = l }) (map (stored ps ls) ids)
+    map (stored_op qs ms) js ≡ put_before before (record { id = id; parts = p; operands = l }) (map (stored_op ps ls) ids)
 op_put ps qs ls ms before p l ids js id place x y z e f g h =
     let q : get_or (put_at id p ps) id no_parts ≡ p = get_or-put_at_same id p no_parts ps x in
     let r : get_or (put_at id l ls) id [] ≡ l = get_or-put_at_same id l [] ls y in
@@ -124,20 +124,20 @@ times-gone (i ∷ ids) b h = go (nat_eq i b.index) refl h (times-gone ids b)
 
 -- the operations of the ids that are left
 taken_ids : (ps : List OpParts) (ls : List (List Value)) (b : OpId) (ids : List ℕ) →
-    map (stored ps ls) (remove ids (place_before (Some b) ids)) ≡ taken_out b.index (map (stored ps ls) ids)
+    map (stored_op ps ls) (remove ids (place_before (Some b) ids)) ≡ taken_out b.index (map (stored_op ps ls) ids)
 taken_ids ps ls b [] = refl
 taken_ids ps ls b (i ∷ ids) = go (nat_eq i b.index) (taken_ids ps ls b ids)
   where
-    go : (t : Bool) → map (stored ps ls) (remove ids (place_before (Some b) ids)) ≡ taken_out b.index (map (stored ps ls) ids) →
-        map (stored ps ls) (remove (i ∷ ids) (cond t 0 (suc (place_before (Some b) ids))))
-        ≡ cond t (map (stored ps ls) ids) (stored ps ls i ∷ taken_out b.index (map (stored ps ls) ids))
+    go : (t : Bool) → map (stored_op ps ls) (remove ids (place_before (Some b) ids)) ≡ taken_out b.index (map (stored_op ps ls) ids) →
+        map (stored_op ps ls) (remove (i ∷ ids) (cond t 0 (suc (place_before (Some b) ids))))
+        ≡ cond t (map (stored_op ps ls) ids) (stored_op ps ls i ∷ taken_out b.index (map (stored_op ps ls) ids))
     go true r = refl
-    go false r = ap (λ os. stored ps ls i ∷ os) r
+    go false r = ap (λ os. stored_op ps ls i ∷ os) r
 
 -- an operation taken out, by what each list is afterwards
 pub op_gone : (ps qs : List OpParts) (ls ms : List (List Value)) (b : OpId) (p : OpParts) (l : List Value) (ids js : List ℕ) (place : ℕ) →
     Contains ids b.index → times b.index ids ≤ 1 → qs ≡ set ps b.index p → ms ≡ set ls b.index l → js ≡ remove ids place → place ≡ place_before (Some b) ids →
-    map (stored qs ms) js ≡ taken_out b.index (map (stored ps ls) ids)
+    map (stored_op qs ms) js ≡ taken_out b.index (map (stored_op ps ls) ids)
 op_gone ps qs ls ms b p l ids js place h n e f g k =
     let z : times b.index (remove ids (place_before (Some b) ids)) ≡ 0 = omega (arith, n, times-gone ids b h) in
     let s = stored_same ps (set ps b.index p) ls (set ls b.index l) b.index (λ j o. get_or-set_other ps b.index j p no_parts o) (λ j o. get_or-set_other ls b.index j l [] o)
@@ -145,29 +145,29 @@ op_gone ps qs ls ms b p l ids js place h n e f g k =
     rw (e, f, g, k) (s ∙ taken_ids ps ls b ids)
 
 -- how many operands an operation has that is there
-pub count_found : (ps : List OpParts) (ls : List (List Value)) (ids : List ℕ) (id : ℕ) → Contains ids id → operand_count id (map (stored ps ls) ids) ≡ length (get_or ls id [])
+pub count_found : (ps : List OpParts) (ls : List (List Value)) (ids : List ℕ) (id : ℕ) → Contains ids id → operand_count id (map (stored_op ps ls) ids) ≡ length (get_or ls id [])
 count_found ps ls [] id (k, l, e) = absurd (omega arith)
 count_found ps ls (i ∷ ids) id h = go (nat_eq i id) refl h (count_found ps ls ids id)
   where
-    go : (b : Bool) → nat_eq i id ≡ b → Contains (i ∷ ids) id → (Contains ids id → operand_count id (map (stored ps ls) ids) ≡ length (get_or ls id [])) →
-        cond b (length (get_or ls i [])) (operand_count id (map (stored ps ls) ids)) ≡ length (get_or ls id [])
+    go : (b : Bool) → nat_eq i id ≡ b → Contains (i ∷ ids) id → (Contains ids id → operand_count id (map (stored_op ps ls) ids) ≡ length (get_or ls id [])) →
+        cond b (length (get_or ls i [])) (operand_count id (map (stored_op ps ls) ids)) ≡ length (get_or ls id [])
     go true t h r = ap (λ n. length (get_or ls n [])) (eqb-true i id t)
     go false t (zero, l, e) r = absurd (eqb-false i id t e)
     go false t (suc k, l, e) r = r (k, omega arith, e)
 
 -- the ids of operations that stand by ids
-pub ids_seen : (ps : List OpParts) (ls : List (List Value)) (ids : List ℕ) → ids_in (map (stored ps ls) ids) ≡ ids
+pub ids_seen : (ps : List OpParts) (ls : List (List Value)) (ids : List ℕ) → ids_in (map (stored_op ps ls) ids) ≡ ids
 ids_seen ps ls [] = refl
 ids_seen ps ls (i ∷ ids) = ap (λ js. i ∷ js) (ids_seen ps ls ids)
 
-pub length_ids : (ps : List OpParts) (ls : List (List Value)) (ids : List ℕ) → length (ids_in (map (stored ps ls) ids)) ≡ length ids
+pub length_ids : (ps : List OpParts) (ls : List (List Value)) (ids : List ℕ) → length (ids_in (map (stored_op ps ls) ids)) ≡ length ids
 length_ids ps ls ids = ap length (ids_seen ps ls ids)
 
 -- a change of each operand of each list changes the operands of each operation
 pub operands_replaced : (ps : List OpParts) (ls : List (List Value)) (f : Value → Value) (ids : List ℕ) →
-    map (stored ps (map (map f) ls)) ids ≡ map (λ (o : BodyOp). record o { operands = map f o.operands }) (map (stored ps ls) ids)
+    map (stored_op ps (map (map f) ls)) ids ≡ map (λ (o : BodyOp). record o { operands = map f o.operands }) (map (stored_op ps ls) ids)
 operands_replaced ps ls f [] = refl
-operands_replaced ps ls f (i ∷ ids) = rw (get_map ls i) (ap (λ os. record (stored ps ls i) { operands = map f (get_or ls i []) } ∷ os) (operands_replaced ps ls f ids))
+operands_replaced ps ls f (i ∷ ids) = rw (get_map ls i) (ap (λ os. record (stored_op ps ls i) { operands = map f (get_or ls i []) } ∷ os) (operands_replaced ps ls f ids))
   where
     get_map : (ls : List (List Value)) (i : ℕ) → get_or (map (map f) ls) i [] ≡ map f (get_or ls i [])
     get_map [] i = refl

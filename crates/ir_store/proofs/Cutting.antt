@@ -1,7 +1,7 @@
 -- Lists that lie in one list.
 use Rattle.std.proofs.Common.{map, ◌≡◌, ℕ, zero, suc, ◌+◌, ◌-◌, ◌<◌, ◌≤◌, List, [], ◌∷◌, ◌++◌, length, take, drop, get_or, set, refl, ap, sym, ◌∙◌, arith, length-append, length-take, length-drop}
 use Rattle.std.proofs.lemmas.List.{take-set-le, drop-set-lt, drop-set-add, drop-drop, take-append-le, drop-append-le, take_all}
-use Rattle.ir_store.specs.OperandLists.{cut, AreEnds, start_of}
+use Rattle.ir_store.specs.OperandLists.{split_at_ends, AreEnds, start_of}
 
 -- the ends do not fall
 ends_le : (from : ℕ) (es : List ℕ) (whole : ℕ) → AreEnds from es whole → from ≤ whole
@@ -41,7 +41,7 @@ ends_push from [] whole more a h = (omega (arith, a), refl)
 ends_push from (e ∷ es) whole more a h = (a.0, ends_push e es whole more a.1 h)
 
 module _ {A : Type 0} where
-  pub length_cut : (from : ℕ) (es : List ℕ) (xs : List A) → length (cut from es xs) ≡ length es
+  pub length_cut : (from : ℕ) (es : List ℕ) (xs : List A) → length (split_at_ends from es xs) ≡ length es
   length_cut from [] xs = refl
   length_cut from (e ∷ es) xs = ap suc (length_cut e es (drop (e - from) xs))
 
@@ -52,7 +52,7 @@ module _ {A : Type 0} where
 
   -- one list, as a part of the whole
   get_cut : (from : ℕ) (es : List ℕ) (xs : List A) (i : ℕ) → AreEnds from es (from + length xs) → i < length es →
-      get_or (cut from es xs) i [] ≡ take (get_or es i 0 - start_of from es i) (drop (start_of from es i - from) xs)
+      get_or (split_at_ends from es xs) i [] ≡ take (get_or es i 0 - start_of from es i) (drop (start_of from es i - from) xs)
   get_cut from [] xs i a h = absurd (omega arith)
   get_cut from (e ∷ es) xs zero a h =
       let q : from - from ≡ 0 = omega arith in
@@ -70,7 +70,7 @@ module _ {A : Type 0} where
   -- a write in one list
   cut_set : (from : ℕ) (es : List ℕ) (i spot : ℕ) (v : A) (xs : List A) → AreEnds from es (from + length xs) → i < length es →
       spot < get_or es i 0 - start_of from es i →
-      cut from es (set xs (start_of from es i - from + spot) v) ≡ set (cut from es xs) i (set (get_or (cut from es xs) i []) spot v)
+      split_at_ends from es (set xs (start_of from es i - from + spot) v) ≡ set (split_at_ends from es xs) i (set (get_or (split_at_ends from es xs) i []) spot v)
   cut_set from [] i spot v xs a h b = absurd (omega arith)
   cut_set from (e ∷ es) zero spot v xs a h b =
       let q : from - from + spot ≡ spot = omega arith in
@@ -83,7 +83,7 @@ module _ {A : Type 0} where
 
   -- one more list
   cut_push : (from : ℕ) (es : List ℕ) (xs ys : List A) → AreEnds from es (from + length xs) →
-      cut from (es ++ (from + length xs + length ys) ∷ []) (xs ++ ys) ≡ cut from es xs ++ ys ∷ []
+      split_at_ends from (es ++ (from + length xs + length ys) ∷ []) (xs ++ ys) ≡ split_at_ends from es xs ++ ys ∷ []
   cut_push from [] xs ys a =
       let n : length xs ≡ 0 = omega (arith, a) in
       last xs ys n
@@ -100,7 +100,7 @@ module _ {A : Type 0} where
   -- ---- from the beginning
 
   pub list_at : (es : List ℕ) (xs : List A) (i : ℕ) → AreEnds 0 es (length xs) → i < length es →
-      get_or (cut 0 es xs) i [] ≡ take (get_or es i 0 - start_of 0 es i) (drop (start_of 0 es i) xs)
+      get_or (split_at_ends 0 es xs) i [] ≡ take (get_or es i 0 - start_of 0 es i) (drop (start_of 0 es i) xs)
   list_at es xs i a h =
       let b : AreEnds 0 es (0 + length xs) = rw (zero_plus (length xs)) a in
       let q : start_of 0 es i - 0 ≡ start_of 0 es i = omega arith in
@@ -111,7 +111,7 @@ module _ {A : Type 0} where
 
   pub list_set : (es : List ℕ) (xs : List A) (i spot : ℕ) (v : A) → AreEnds 0 es (length xs) → i < length es →
       spot < get_or es i 0 - start_of 0 es i →
-      cut 0 es (set xs (start_of 0 es i + spot) v) ≡ set (cut 0 es xs) i (set (get_or (cut 0 es xs) i []) spot v)
+      split_at_ends 0 es (set xs (start_of 0 es i + spot) v) ≡ set (split_at_ends 0 es xs) i (set (get_or (split_at_ends 0 es xs) i []) spot v)
   list_set es xs i spot v a h b =
       let c : AreEnds 0 es (0 + length xs) = rw (zero_plus (length xs)) a in
       let q : start_of 0 es i - 0 ≡ start_of 0 es i = omega arith in
@@ -121,7 +121,7 @@ module _ {A : Type 0} where
       zero_plus n = omega arith
 
   pub list_push : (es : List ℕ) (xs ys zs : List A) (n : ℕ) → AreEnds 0 es (length xs) → zs ≡ xs ++ ys → n ≡ length zs →
-      cut 0 (es ++ n ∷ []) zs ≡ cut 0 es xs ++ ys ∷ []
+      split_at_ends 0 (es ++ n ∷ []) zs ≡ split_at_ends 0 es xs ++ ys ∷ []
   list_push es xs ys zs n a p q =
       let c : AreEnds 0 es (0 + length xs) = rw (zero_plus (length xs)) a in
       let r : n ≡ 0 + length xs + length ys = q ∙ (ap length p ∙ (omega (arith, length-append xs ys))) in
@@ -130,10 +130,10 @@ module _ {A : Type 0} where
       zero_plus : (n : ℕ) → 0 + n ≡ n
       zero_plus n = omega arith
 
-  pub in_table : (es : List ℕ) (xs : List A) (ls : List (List A)) (i : ℕ) → cut 0 es xs ≡ ls → i < length ls → i < length es
+  pub in_table : (es : List ℕ) (xs : List A) (ls : List (List A)) (i : ℕ) → split_at_ends 0 es xs ≡ ls → i < length ls → i < length es
   in_table es xs ls i e h = omega (arith, h, ap length e, length_cut 0 es xs)
 
-  pub in_list : (es : List ℕ) (xs : List A) (ls : List (List A)) (i spot : ℕ) → AreEnds 0 es (length xs) → cut 0 es xs ≡ ls → i < length ls →
+  pub in_list : (es : List ℕ) (xs : List A) (ls : List (List A)) (i spot : ℕ) → AreEnds 0 es (length xs) → split_at_ends 0 es xs ≡ ls → i < length ls →
       spot < length (get_or ls i []) → spot < get_or es i 0 - start_of 0 es i
   in_list es xs ls i spot a e h k =
       let l : i < length es = in_table es xs ls i e h in
@@ -153,7 +153,7 @@ module _ {A B : Type 0} (f : A → B) where
   map_drop (suc n) (x ∷ xs) = map_drop n xs
 
   -- a change of each element of the whole changes each element of each list
-  pub cut_map : (from : ℕ) (es : List ℕ) (xs : List A) → cut from es (map f xs) ≡ map (map f) (cut from es xs)
+  pub cut_map : (from : ℕ) (es : List ℕ) (xs : List A) → split_at_ends from es (map f xs) ≡ map (map f) (split_at_ends from es xs)
   cut_map from [] xs = refl
   cut_map from (e ∷ es) xs = rw (← map_take (e - from) xs, ← map_drop (e - from) xs) (ap (λ ls. map f (take (e - from) xs) ∷ ls) (cut_map e es (drop (e - from) xs)))
 

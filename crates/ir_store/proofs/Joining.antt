@@ -2,7 +2,7 @@
 use Rattle.std.proofs.Common.{◌≡◌, ℕ, zero, suc, ◌+◌, ◌-◌, ◌<◌, ◌≤◌, List, [], ◌∷◌, ◌++◌, map, length, get_or, set, take, drop, refl, ap, sym, ◌∙◌, arith, add-one, length-append, length-take, length-drop, append_assoc}
 use Rattle.std.proofs.lemmas.List.{take_at, drop_at, take-append-le, drop-append-le, take-append-drop, drop_all, take_all, append-nil, drop-drop, get_or-set_same, set-set}
 use Rattle.std.specs.Prelude.{remove}
-use Rattle.ir_store.specs.OperandLists.{cut, AreEnds, start_of, changed_from, put_in, cut_out}
+use Rattle.ir_store.specs.OperandLists.{split_at_ends, AreEnds, start_of, changed_from, put_in, cut_out}
 use Rattle.ir_store.specs.Ids.{put_at}
 use Rattle.ir_store.proofs.Cutting.{rest_ends, length_cut}
 use Rattle.ir_store.proofs.IdLemmas.{put_at_set}
@@ -26,14 +26,14 @@ module _ {A : Type 0} where
 
   -- ---- the lists are as good as the one list with the ends
 
-  cut-joined : (from : ℕ) (ls : List (List A)) → cut from (ends_of from ls) (joined ls) ≡ ls
+  cut-joined : (from : ℕ) (ls : List (List A)) → split_at_ends from (ends_of from ls) (joined ls) ≡ ls
   cut-joined from [] = refl
   cut-joined from (l ∷ ls) =
       let q : from + length l - from ≡ length l = omega arith in
       rw (q, take_at l (joined ls) (length l) refl, drop_at l (joined ls) (length l) refl)
       (ap (λ ms. l ∷ ms) (cut-joined (from + length l) ls))
 
-  ends_of-cut : (from : ℕ) (es : List ℕ) (xs : List A) → AreEnds from es (from + length xs) → ends_of from (cut from es xs) ≡ es
+  ends_of-cut : (from : ℕ) (es : List ℕ) (xs : List A) → AreEnds from es (from + length xs) → ends_of from (split_at_ends from es xs) ≡ es
   ends_of-cut from [] xs a = refl
   ends_of-cut from (e ∷ es) xs a =
       let b = rest_ends from e es xs a in
@@ -47,7 +47,7 @@ module _ {A : Type 0} where
           up from [] whole a = omega (arith, a)
           up from (e ∷ es) whole a = omega (arith, a.0, up e es whole a.1)
 
-  joined-cut : (from : ℕ) (es : List ℕ) (xs : List A) → AreEnds from es (from + length xs) → joined (cut from es xs) ≡ xs
+  joined-cut : (from : ℕ) (es : List ℕ) (xs : List A) → AreEnds from es (from + length xs) → joined (split_at_ends from es xs) ≡ xs
   joined-cut from [] [] a = refl
   joined-cut from [] (x ∷ xs) a = absurd (omega (arith, a))
   joined-cut from (e ∷ es) xs a =
@@ -162,68 +162,68 @@ module _ {A : Type 0} where
   to_start : (es : List ℕ) (xs : List A) → AreEnds 0 es (0 + length xs) → AreEnds 0 es (length xs)
   to_start es xs a = let q : length xs ≡ 0 + length xs = omega arith in rw q a
 
-  start-before : (es : List ℕ) (xs : List A) (i : ℕ) → AreEnds 0 es (length xs) → start_of 0 es i ≡ before i (cut 0 es xs)
+  start-before : (es : List ℕ) (xs : List A) (i : ℕ) → AreEnds 0 es (length xs) → start_of 0 es i ≡ before i (split_at_ends 0 es xs)
   start-before es xs i a =
-      let s = start-ends_of 0 (cut 0 es xs) i in
+      let s = start-ends_of 0 (split_at_ends 0 es xs) i in
       let t = rw (ends_of-cut 0 es xs (from_start es xs a)) at s in
       omega (arith, t)
 
   -- where more is put into a list
-  pub ends_put_in : (es : List ℕ) (xs : List A) (i at : ℕ) (ys : List A) → AreEnds 0 es (length xs) → i < length es → at ≤ length (get_or (cut 0 es xs) i []) →
-      changed_from i (λ e. e + length ys) es ≡ ends_of 0 (set (cut 0 es xs) i (put_in at ys (get_or (cut 0 es xs) i [])))
+  pub ends_put_in : (es : List ℕ) (xs : List A) (i at : ℕ) (ys : List A) → AreEnds 0 es (length xs) → i < length es → at ≤ length (get_or (split_at_ends 0 es xs) i []) →
+      changed_from i (λ e. e + length ys) es ≡ ends_of 0 (set (split_at_ends 0 es xs) i (put_in at ys (get_or (split_at_ends 0 es xs) i [])))
   ends_put_in es xs i at ys a h k =
-      let t = ends-longer 0 i (length ys) (cut 0 es xs) (put_in at ys (get_or (cut 0 es xs) i [])) (omega (arith, h, length_cut 0 es xs)) (length-put_in at ys (get_or (cut 0 es xs) i []) k) in
+      let t = ends-longer 0 i (length ys) (split_at_ends 0 es xs) (put_in at ys (get_or (split_at_ends 0 es xs) i [])) (omega (arith, h, length_cut 0 es xs)) (length-put_in at ys (get_or (split_at_ends 0 es xs) i []) k) in
       sym (rw (ends_of-cut 0 es xs (from_start es xs a)) at t)
 
-  pub whole_put_in : (es : List ℕ) (xs : List A) (i at : ℕ) (ys : List A) → AreEnds 0 es (length xs) → i < length es → at ≤ length (get_or (cut 0 es xs) i []) →
-      put_in (start_of 0 es i + at) ys xs ≡ joined (set (cut 0 es xs) i (put_in at ys (get_or (cut 0 es xs) i [])))
+  pub whole_put_in : (es : List ℕ) (xs : List A) (i at : ℕ) (ys : List A) → AreEnds 0 es (length xs) → i < length es → at ≤ length (get_or (split_at_ends 0 es xs) i []) →
+      put_in (start_of 0 es i + at) ys xs ≡ joined (set (split_at_ends 0 es xs) i (put_in at ys (get_or (split_at_ends 0 es xs) i [])))
   whole_put_in es xs i at ys a h k =
-      let t = joined-put_in i at ys (cut 0 es xs) (omega (arith, h, length_cut 0 es xs)) k in
+      let t = joined-put_in i at ys (split_at_ends 0 es xs) (omega (arith, h, length_cut 0 es xs)) k in
       sym (rw (joined-cut 0 es xs (from_start es xs a), ← start-before es xs i a) at t)
 
-  pub list_put_in : (es : List ℕ) (xs : List A) (i at : ℕ) (ys : List A) → AreEnds 0 es (length xs) → i < length es → at ≤ length (get_or (cut 0 es xs) i []) →
-      cut 0 (changed_from i (λ e. e + length ys) es) (put_in (start_of 0 es i + at) ys xs) ≡ set (cut 0 es xs) i (put_in at ys (get_or (cut 0 es xs) i []))
+  pub list_put_in : (es : List ℕ) (xs : List A) (i at : ℕ) (ys : List A) → AreEnds 0 es (length xs) → i < length es → at ≤ length (get_or (split_at_ends 0 es xs) i []) →
+      split_at_ends 0 (changed_from i (λ e. e + length ys) es) (put_in (start_of 0 es i + at) ys xs) ≡ set (split_at_ends 0 es xs) i (put_in at ys (get_or (split_at_ends 0 es xs) i []))
   list_put_in es xs i at ys a h k =
       rw (ends_put_in es xs i at ys a h k, whole_put_in es xs i at ys a h k)
-      (cut-joined 0 (set (cut 0 es xs) i (put_in at ys (get_or (cut 0 es xs) i []))))
+      (cut-joined 0 (set (split_at_ends 0 es xs) i (put_in at ys (get_or (split_at_ends 0 es xs) i []))))
 
-  pub are_ends_put_in : (es : List ℕ) (xs : List A) (i at : ℕ) (ys : List A) → AreEnds 0 es (length xs) → i < length es → at ≤ length (get_or (cut 0 es xs) i []) →
+  pub are_ends_put_in : (es : List ℕ) (xs : List A) (i at : ℕ) (ys : List A) → AreEnds 0 es (length xs) → i < length es → at ≤ length (get_or (split_at_ends 0 es xs) i []) →
       AreEnds 0 (changed_from i (λ e. e + length ys) es) (length (put_in (start_of 0 es i + at) ys xs))
   are_ends_put_in es xs i at ys a h k =
       rw (ends_put_in es xs i at ys a h k, whole_put_in es xs i at ys a h k)
-      (to_start _ (joined (set (cut 0 es xs) i (put_in at ys (get_or (cut 0 es xs) i [])))) (are_ends 0 (set (cut 0 es xs) i (put_in at ys (get_or (cut 0 es xs) i [])))))
+      (to_start _ (joined (set (split_at_ends 0 es xs) i (put_in at ys (get_or (split_at_ends 0 es xs) i [])))) (are_ends 0 (set (split_at_ends 0 es xs) i (put_in at ys (get_or (split_at_ends 0 es xs) i [])))))
 
   -- where a part of a list is taken out
-  pub ends_cut_out : (es : List ℕ) (xs : List A) (i at n : ℕ) → AreEnds 0 es (length xs) → i < length es → at + n ≤ length (get_or (cut 0 es xs) i []) →
-      changed_from i (λ e. e - n) es ≡ ends_of 0 (set (cut 0 es xs) i (cut_out at n (get_or (cut 0 es xs) i [])))
+  pub ends_cut_out : (es : List ℕ) (xs : List A) (i at n : ℕ) → AreEnds 0 es (length xs) → i < length es → at + n ≤ length (get_or (split_at_ends 0 es xs) i []) →
+      changed_from i (λ e. e - n) es ≡ ends_of 0 (set (split_at_ends 0 es xs) i (cut_out at n (get_or (split_at_ends 0 es xs) i [])))
   ends_cut_out es xs i at n a h k =
-      let t = ends-shorter 0 i n (cut 0 es xs) (cut_out at n (get_or (cut 0 es xs) i [])) (omega (arith, h, length_cut 0 es xs)) (length-cut_out at n (get_or (cut 0 es xs) i []) k) in
+      let t = ends-shorter 0 i n (split_at_ends 0 es xs) (cut_out at n (get_or (split_at_ends 0 es xs) i [])) (omega (arith, h, length_cut 0 es xs)) (length-cut_out at n (get_or (split_at_ends 0 es xs) i []) k) in
       sym (rw (ends_of-cut 0 es xs (from_start es xs a)) at t)
 
-  pub whole_cut_out : (es : List ℕ) (xs : List A) (i at n : ℕ) → AreEnds 0 es (length xs) → i < length es → at + n ≤ length (get_or (cut 0 es xs) i []) →
-      cut_out (start_of 0 es i + at) n xs ≡ joined (set (cut 0 es xs) i (cut_out at n (get_or (cut 0 es xs) i [])))
+  pub whole_cut_out : (es : List ℕ) (xs : List A) (i at n : ℕ) → AreEnds 0 es (length xs) → i < length es → at + n ≤ length (get_or (split_at_ends 0 es xs) i []) →
+      cut_out (start_of 0 es i + at) n xs ≡ joined (set (split_at_ends 0 es xs) i (cut_out at n (get_or (split_at_ends 0 es xs) i [])))
   whole_cut_out es xs i at n a h k =
-      let t = joined-cut_out i at n (cut 0 es xs) (omega (arith, h, length_cut 0 es xs)) k in
+      let t = joined-cut_out i at n (split_at_ends 0 es xs) (omega (arith, h, length_cut 0 es xs)) k in
       sym (rw (joined-cut 0 es xs (from_start es xs a), ← start-before es xs i a) at t)
 
-  pub list_cut_out : (es : List ℕ) (xs : List A) (i at n : ℕ) → AreEnds 0 es (length xs) → i < length es → at + n ≤ length (get_or (cut 0 es xs) i []) →
-      cut 0 (changed_from i (λ e. e - n) es) (cut_out (start_of 0 es i + at) n xs) ≡ set (cut 0 es xs) i (cut_out at n (get_or (cut 0 es xs) i []))
+  pub list_cut_out : (es : List ℕ) (xs : List A) (i at n : ℕ) → AreEnds 0 es (length xs) → i < length es → at + n ≤ length (get_or (split_at_ends 0 es xs) i []) →
+      split_at_ends 0 (changed_from i (λ e. e - n) es) (cut_out (start_of 0 es i + at) n xs) ≡ set (split_at_ends 0 es xs) i (cut_out at n (get_or (split_at_ends 0 es xs) i []))
   list_cut_out es xs i at n a h k =
       rw (ends_cut_out es xs i at n a h k, whole_cut_out es xs i at n a h k)
-      (cut-joined 0 (set (cut 0 es xs) i (cut_out at n (get_or (cut 0 es xs) i []))))
+      (cut-joined 0 (set (split_at_ends 0 es xs) i (cut_out at n (get_or (split_at_ends 0 es xs) i []))))
 
-  pub are_ends_cut_out : (es : List ℕ) (xs : List A) (i at n : ℕ) → AreEnds 0 es (length xs) → i < length es → at + n ≤ length (get_or (cut 0 es xs) i []) →
+  pub are_ends_cut_out : (es : List ℕ) (xs : List A) (i at n : ℕ) → AreEnds 0 es (length xs) → i < length es → at + n ≤ length (get_or (split_at_ends 0 es xs) i []) →
       AreEnds 0 (changed_from i (λ e. e - n) es) (length (cut_out (start_of 0 es i + at) n xs))
   are_ends_cut_out es xs i at n a h k =
       rw (ends_cut_out es xs i at n a h k, whole_cut_out es xs i at n a h k)
-      (to_start _ (joined (set (cut 0 es xs) i (cut_out at n (get_or (cut 0 es xs) i [])))) (are_ends 0 (set (cut 0 es xs) i (cut_out at n (get_or (cut 0 es xs) i [])))))
+      (to_start _ (joined (set (split_at_ends 0 es xs) i (cut_out at n (get_or (split_at_ends 0 es xs) i [])))) (are_ends 0 (set (split_at_ends 0 es xs) i (cut_out at n (get_or (split_at_ends 0 es xs) i [])))))
 
   -- ---- bounds
 
   -- the part that is taken out ends within the whole
-  pub within_whole : (es : List ℕ) (xs : List A) (i at : ℕ) → AreEnds 0 es (length xs) → i < length es → at ≤ length (get_or (cut 0 es xs) i []) → start_of 0 es i + at ≤ length xs
+  pub within_whole : (es : List ℕ) (xs : List A) (i at : ℕ) → AreEnds 0 es (length xs) → i < length es → at ≤ length (get_or (split_at_ends 0 es xs) i []) → start_of 0 es i + at ≤ length xs
   within_whole es xs i at a h k =
-      let t : before i (cut 0 es xs) + at ≤ length (joined (cut 0 es xs)) = fits i at (cut 0 es xs) (omega (arith, h, length_cut 0 es xs)) k in
+      let t : before i (split_at_ends 0 es xs) + at ≤ length (joined (split_at_ends 0 es xs)) = fits i at (split_at_ends 0 es xs) (omega (arith, h, length_cut 0 es xs)) k in
       let u = rw (joined-cut 0 es xs (from_start es xs a), ← start-before es xs i a) at t in
       u
     where
@@ -232,14 +232,14 @@ module _ {A : Type 0} where
       fits zero at (l ∷ ls) h k = omega (arith, length-append l (joined ls))
       fits (suc i) at (l ∷ ls) h k = omega (arith, length-append l (joined ls), fits i at ls (omega arith) k)
 
-  pub part_within : (es : List ℕ) (xs : List A) (i at n : ℕ) → AreEnds 0 es (length xs) → i < length es → at + n ≤ length (get_or (cut 0 es xs) i []) → start_of 0 es i + at + n ≤ length xs
+  pub part_within : (es : List ℕ) (xs : List A) (i at n : ℕ) → AreEnds 0 es (length xs) → i < length es → at + n ≤ length (get_or (split_at_ends 0 es xs) i []) → start_of 0 es i + at + n ≤ length xs
   part_within es xs i at n a h k = omega (arith, within_whole es xs i (at + n) a h k)
 
   -- what a list loses is in each end from its own on
-  pub ends_enough : (es : List ℕ) (xs : List A) (i n : ℕ) → AreEnds 0 es (length xs) → i < length es → n ≤ length (get_or (cut 0 es xs) i []) →
+  pub ends_enough : (es : List ℕ) (xs : List A) (i n : ℕ) → AreEnds 0 es (length xs) → i < length es → n ≤ length (get_or (split_at_ends 0 es xs) i []) →
       (j : ℕ) → j < length (drop i es) → n ≤ get_or (drop i es) j 0
   ends_enough es xs i n a h k =
-      rw (ends_of-cut 0 es xs (from_start es xs a)) at (ends-high 0 i n (cut 0 es xs) (omega (arith, h, length_cut 0 es xs)) k)
+      rw (ends_of-cut 0 es xs (from_start es xs a)) at (ends-high 0 i n (split_at_ends 0 es xs) (omega (arith, h, length_cut 0 es xs)) k)
 
 -- each end is within the whole
 pub ends_within : (from : ℕ) (es : List ℕ) (whole : ℕ) → AreEnds from es whole → (j : ℕ) → j < length es → get_or es j 0 ≤ whole

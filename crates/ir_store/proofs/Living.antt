@@ -6,7 +6,7 @@ use Rattle.ir_store.specs.declared.operation.OpId.{OpId}
 use Rattle.ir_store.specs.declared.operation.Value.{Value}
 use Rattle.ir_store.specs.declared.operation.Value.TheVariants.{Port, Result, Undefined}
 use Rattle.ir_store.specs.Ids.{times}
-use Rattle.ir_store.specs.BodyOps.{BodyOp, ids_in, put_before, taken_out, operands_at, all_replaced, replaced, same_value, is_of, IsUnused}
+use Rattle.ir_store.specs.BodyOps.{BodyOp, ids_in, put_before, taken_out, operands_at, all_replaced, replace_value, same_value, is_of, IsUnused}
 use Rattle.ir_store.specs.Live.{IsLive, HasLive, AreLive}
 use Rattle.ir_store.proofs.IdLemmas.{contained_times, times-append}
 
@@ -200,8 +200,8 @@ ids-all_replaced from to (o ∷ ops) = ap (λ ids. o.id ∷ ids) (ids-all_replac
 pub replaced_live : (from to : Value) (ops : List BodyOp) → IsLive (ids_in ops) to → AreLive ops → AreLive (all_replaced from to ops)
 replaced_live from to ops l h =
     rw (ids-all_replaced from to ops)
-    (all_mapped (HasLive (ids_in ops)) (HasLive (ids_in ops)) (λ (o : BodyOp). record o { operands = map (replaced from to) o.operands })
-    (λ o k. all_mapped (IsLive (ids_in ops)) (IsLive (ids_in ops)) (replaced from to) (λ x. go x (same_value from x)) o.operands k) ops h)
+    (all_mapped (HasLive (ids_in ops)) (HasLive (ids_in ops)) (λ (o : BodyOp). record o { operands = map (replace_value from to) o.operands })
+    (λ o k. all_mapped (IsLive (ids_in ops)) (IsLive (ids_in ops)) (replace_value from to) (λ x. go x (same_value from x)) o.operands k) ops h)
   where
     go : (x : Value) (b : Bool) → IsLive (ids_in ops) x → IsLive (ids_in ops) (cond b to x)
     go x true k = l

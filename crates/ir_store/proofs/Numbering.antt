@@ -9,10 +9,10 @@ use Rattle.ir_store.specs.declared.operation.OpId.{OpId}
 use Rattle.ir_store.specs.declared.operation.Value.{Value}
 use Rattle.ir_store.specs.declared.operation.Value.TheVariants.{Port, Result, Undefined}
 use Rattle.ir_store.specs.Ids.{times}
-use Rattle.ir_store.specs.BodyOps.{BodyOp, operands_at, ids_in, put_before, taken_out, all_replaced, replaced, same_value, is_of, IsUnused}
+use Rattle.ir_store.specs.BodyOps.{BodyOp, operands_at, ids_in, put_before, taken_out, all_replaced, replace_value, same_value, is_of, IsUnused}
 use Rattle.ir_store.specs.Live.{IsLive, HasLive, AreLive, AreDistinct}
 use Rattle.ir_store.specs.Numbered.{position_of, ref_by, op_by, numbered}
-use Rattle.ir_store.specs.Positions.{retargeted, pushed, pulled, pushed_ref, result_at, pulled_ref, with_op, without_op, with_operands, same_ref, replaced_ref}
+use Rattle.ir_store.specs.Positions.{retarget, position_after_insert, position_after_erase, pushed_ref, result_at, pulled_ref, with_op, without_op, with_operands, same_ref, replaced_ref}
 use Rattle.ir_store.proofs.Living.{ids_stay, same_map, unused_left, ids-all_replaced}
 
 -- ---- an operation put in
@@ -30,18 +30,18 @@ position_push (j ∷ ids) more i h = go (nat_eq j i) refl h (position_push ids m
 
 -- positions after the operation that is put in shift by one
 position_put : (b : OpId) (o : BodyOp) (ops : List BodyOp) (i : ℕ) → Contains (ids_in ops) b.index → (o.id ≡ i → ⊥) →
-    position_of (ids_in (put_before (Some b) o ops)) i ≡ pushed (position_of (ids_in ops) b.index) (position_of (ids_in ops) i)
+    position_of (ids_in (put_before (Some b) o ops)) i ≡ position_after_insert (position_of (ids_in ops) b.index) (position_of (ids_in ops) i)
 position_put b o [] i (k, l, e) n = absurd (omega arith)
 position_put b o (p ∷ ops) i h n = go (nat_eq p.id b.index) refl h (nat_eq o.id i) refl (position_put b o ops i)
   where
-    inner : (u : Bool) (j j' n' : ℕ) → j' ≡ pushed n' j → cond u 0 (suc j') ≡ pushed (suc n') (cond u 0 (suc j))
+    inner : (u : Bool) (j j' n' : ℕ) → j' ≡ position_after_insert n' j → cond u 0 (suc j') ≡ position_after_insert (suc n') (cond u 0 (suc j))
     inner true j j' n' e = refl
     inner false j j' n' e = ap suc e
 
     go : (t : Bool) → nat_eq p.id b.index ≡ t → Contains (p.id ∷ ids_in ops) b.index → (u : Bool) → nat_eq o.id i ≡ u →
-        (Contains (ids_in ops) b.index → (o.id ≡ i → ⊥) → position_of (ids_in (put_before (Some b) o ops)) i ≡ pushed (position_of (ids_in ops) b.index) (position_of (ids_in ops) i)) →
+        (Contains (ids_in ops) b.index → (o.id ≡ i → ⊥) → position_of (ids_in (put_before (Some b) o ops)) i ≡ position_after_insert (position_of (ids_in ops) b.index) (position_of (ids_in ops) i)) →
         position_of (ids_in (cond t (o ∷ p ∷ ops) (p ∷ put_before (Some b) o ops))) i
-        ≡ pushed (cond t 0 (suc (position_of (ids_in ops) b.index))) (cond (nat_eq p.id i) 0 (suc (position_of (ids_in ops) i)))
+        ≡ position_after_insert (cond t 0 (suc (position_of (ids_in ops) b.index))) (cond (nat_eq p.id i) 0 (suc (position_of (ids_in ops) i)))
     go true t h true f r = absurd (n (eqb-true o.id i f))
     go true t h false f r = rw f refl
     go false t (zero, l, e) u f r = absurd (eqb-false p.id b.index t e)
@@ -61,13 +61,13 @@ map_map f g [] = refl
 map_map f g (x ∷ xs) = ap (λ ys. g (f x) ∷ ys) (map_map f g xs)
 
 -- where operands are seen in another way, and each of the new is a function of the old
-ops_by : (P Q : ℕ → ℕ) (g : Ref → Ref) (Good : Value → Type 0) → ((x : Value) → Good x → ref_by Q x ≡ g (ref_by P x)) → (o : BodyOp) → All Good o.operands → op_by Q o ≡ retargeted g (op_by P o)
+ops_by : (P Q : ℕ → ℕ) (g : Ref → Ref) (Good : Value → Type 0) → ((x : Value) → Good x → ref_by Q x ≡ g (ref_by P x)) → (o : BodyOp) → All Good o.operands → op_by Q o ≡ retarget g (op_by P o)
 ops_by P Q g Good e o h = ap (λ refs. record (op_by Q o) { operands = refs }) (same_map Good (ref_by Q) (λ x. g (ref_by P x)) e o.operands h ∙ map_map (ref_by P) g o.operands)
 
 all_ops_by : (P Q : ℕ → ℕ) (g : Ref → Ref) (Good : Value → Type 0) → ((x : Value) → Good x → ref_by Q x ≡ g (ref_by P x)) → (ops : List BodyOp) → All (λ (o : BodyOp). All Good o.operands) ops →
-    map (op_by Q) ops ≡ map (retargeted g) (map (op_by P) ops)
+    map (op_by Q) ops ≡ map (retarget g) (map (op_by P) ops)
 all_ops_by P Q g Good e ops h =
-    same_map (λ (o : BodyOp). All Good o.operands) (op_by Q) (λ o. retargeted g (op_by P o)) (ops_by P Q g Good e) ops h ∙ map_map (op_by P) (retargeted g) ops
+    same_map (λ (o : BodyOp). All Good o.operands) (op_by Q) (λ o. retarget g (op_by P o)) (ops_by P Q g Good e) ops h ∙ map_map (op_by P) (retarget g) ops
 
 pub numbered-put_before : (b : OpId) (o : BodyOp) (ops : List BodyOp) → AreLive ops → HasLive (ids_in ops) o → Contains (ids_in ops) b.index → (Contains (ids_in ops) o.id → ⊥) →
     numbered (put_before (Some b) o ops) ≡ with_op (position_of (ids_in ops) b.index) (op_by (position_of (ids_in ops)) o) (numbered ops)
@@ -109,13 +109,13 @@ numbered-push o ops h l =
 
 -- positions after it shift back by one
 position_gone : (id i : ℕ) (ops : List BodyOp) → Contains (ids_in ops) id → (i ≡ id → ⊥) →
-    pulled (position_of (ids_in ops) id) (position_of (ids_in ops) i) ≡ Some (position_of (ids_in (taken_out id ops)) i)
+    position_after_erase (position_of (ids_in ops) id) (position_of (ids_in ops) i) ≡ Some (position_of (ids_in (taken_out id ops)) i)
 position_gone id i [] (k, l, e) n = absurd (omega arith)
 position_gone id i (o ∷ ops) h n = go (nat_eq o.id id) refl h (nat_eq o.id i) refl (position_gone id i ops)
   where
     go : (t : Bool) → nat_eq o.id id ≡ t → Contains (o.id ∷ ids_in ops) id → (u : Bool) → nat_eq o.id i ≡ u →
-        (Contains (ids_in ops) id → (i ≡ id → ⊥) → pulled (position_of (ids_in ops) id) (position_of (ids_in ops) i) ≡ Some (position_of (ids_in (taken_out id ops)) i)) →
-        pulled (cond t 0 (suc (position_of (ids_in ops) id))) (cond u 0 (suc (position_of (ids_in ops) i))) ≡ Some (position_of (ids_in (cond t ops (o ∷ taken_out id ops))) i)
+        (Contains (ids_in ops) id → (i ≡ id → ⊥) → position_after_erase (position_of (ids_in ops) id) (position_of (ids_in ops) i) ≡ Some (position_of (ids_in (taken_out id ops)) i)) →
+        position_after_erase (cond t 0 (suc (position_of (ids_in ops) id))) (cond u 0 (suc (position_of (ids_in ops) i))) ≡ Some (position_of (ids_in (cond t ops (o ∷ taken_out id ops))) i)
     go true t h true f r = absurd (n (sym (eqb-true o.id i f) ∙ eqb-true o.id id t))
     go true t h false f r = refl
     go false t (zero, l, e) u f r = absurd (eqb-false o.id id t e)
@@ -134,7 +134,7 @@ map_taken f id (o ∷ ops) = go (nat_eq o.id id) (map_taken f id ops)
 pub numbered-taken_out : (id : ℕ) (ops : List BodyOp) → Contains (ids_in ops) id → IsUnused id ops → numbered (taken_out id ops) ≡ without_op (position_of (ids_in ops) id) (numbered ops)
 numbered-taken_out id ops c u =
     all_ops_by (position_of (ids_in ops)) (position_of (ids_in (taken_out id ops))) (pulled_ref (position_of (ids_in ops) id)) (λ x. is_of id x ≡ false) seen (taken_out id ops) (unused_left id ops u)
-    ∙ ap (map (retargeted (pulled_ref (position_of (ids_in ops) id)))) (map_taken (op_by (position_of (ids_in ops))) id ops)
+    ∙ ap (map (retarget (pulled_ref (position_of (ids_in ops) id)))) (map_taken (op_by (position_of (ids_in ops))) id ops)
   where
     seen : (x : Value) → is_of id x ≡ false → ref_by (position_of (ids_in (taken_out id ops))) x ≡ pulled_ref (position_of (ids_in ops) id) (ref_by (position_of (ids_in ops)) x)
     seen (Port m) e = refl
@@ -249,13 +249,13 @@ same-ref_by ids Undefined (Result j n) h g = refl
 same-ref_by ids Undefined Undefined h g = refl
 
 pub numbered-all_replaced : (from to : Value) (ops : List BodyOp) → AreLive ops → IsLive (ids_in ops) from →
-    numbered (all_replaced from to ops) ≡ map (retargeted (replaced_ref (ref_by (position_of (ids_in ops)) from) (ref_by (position_of (ids_in ops)) to))) (numbered ops)
+    numbered (all_replaced from to ops) ≡ map (retarget (replaced_ref (ref_by (position_of (ids_in ops)) from) (ref_by (position_of (ids_in ops)) to))) (numbered ops)
 numbered-all_replaced from to ops h l =
     rw (ids-all_replaced from to ops)
-    (sym (map_map (λ (o : BodyOp). record o { operands = map (replaced from to) o.operands }) (op_by (position_of (ids_in ops))) ops)
-    ∙ (same_map (HasLive (ids_in ops)) (λ (o : BodyOp). op_by (position_of (ids_in ops)) (record o { operands = map (replaced from to) o.operands }))
-    (λ o. retargeted (replaced_ref (ref_by (position_of (ids_in ops)) from) (ref_by (position_of (ids_in ops)) to)) (op_by (position_of (ids_in ops)) o)) each ops h
-    ∙ map_map (op_by (position_of (ids_in ops))) (retargeted (replaced_ref (ref_by (position_of (ids_in ops)) from) (ref_by (position_of (ids_in ops)) to))) ops))
+    (sym (map_map (λ (o : BodyOp). record o { operands = map (replace_value from to) o.operands }) (op_by (position_of (ids_in ops))) ops)
+    ∙ (same_map (HasLive (ids_in ops)) (λ (o : BodyOp). op_by (position_of (ids_in ops)) (record o { operands = map (replace_value from to) o.operands }))
+    (λ o. retarget (replaced_ref (ref_by (position_of (ids_in ops)) from) (ref_by (position_of (ids_in ops)) to)) (op_by (position_of (ids_in ops)) o)) each ops h
+    ∙ map_map (op_by (position_of (ids_in ops))) (retarget (replaced_ref (ref_by (position_of (ids_in ops)) from) (ref_by (position_of (ids_in ops)) to))) ops))
   where
     go : (x : Value) (b c : Bool) → b ≡ c → ref_by (position_of (ids_in ops)) (cond b to x) ≡ cond c (ref_by (position_of (ids_in ops)) to) (ref_by (position_of (ids_in ops)) x)
     go x true true e = refl
@@ -264,15 +264,15 @@ numbered-all_replaced from to ops h l =
     go x false false e = refl
 
     seen : (x : Value) → IsLive (ids_in ops) x →
-        ref_by (position_of (ids_in ops)) (replaced from to x) ≡ replaced_ref (ref_by (position_of (ids_in ops)) from) (ref_by (position_of (ids_in ops)) to) (ref_by (position_of (ids_in ops)) x)
+        ref_by (position_of (ids_in ops)) (replace_value from to x) ≡ replaced_ref (ref_by (position_of (ids_in ops)) from) (ref_by (position_of (ids_in ops)) to) (ref_by (position_of (ids_in ops)) x)
     seen x k = go x (same_value from x) (same_ref (ref_by (position_of (ids_in ops)) from) (ref_by (position_of (ids_in ops)) x)) (same-ref_by (ids_in ops) from x l k)
 
     each : (o : BodyOp) → HasLive (ids_in ops) o →
-        op_by (position_of (ids_in ops)) (record o { operands = map (replaced from to) o.operands })
-        ≡ retargeted (replaced_ref (ref_by (position_of (ids_in ops)) from) (ref_by (position_of (ids_in ops)) to)) (op_by (position_of (ids_in ops)) o)
+        op_by (position_of (ids_in ops)) (record o { operands = map (replace_value from to) o.operands })
+        ≡ retarget (replaced_ref (ref_by (position_of (ids_in ops)) from) (ref_by (position_of (ids_in ops)) to)) (op_by (position_of (ids_in ops)) o)
     each o k =
         ap (λ refs. record (op_by (position_of (ids_in ops)) o) { operands = refs })
-        (sym (map_map (replaced from to) (ref_by (position_of (ids_in ops))) o.operands)
-        ∙ (same_map (IsLive (ids_in ops)) (λ x. ref_by (position_of (ids_in ops)) (replaced from to x))
+        (sym (map_map (replace_value from to) (ref_by (position_of (ids_in ops))) o.operands)
+        ∙ (same_map (IsLive (ids_in ops)) (λ x. ref_by (position_of (ids_in ops)) (replace_value from to x))
         (λ x. replaced_ref (ref_by (position_of (ids_in ops)) from) (ref_by (position_of (ids_in ops)) to) (ref_by (position_of (ids_in ops)) x)) seen o.operands k
         ∙ map_map (ref_by (position_of (ids_in ops))) (replaced_ref (ref_by (position_of (ids_in ops)) from) (ref_by (position_of (ids_in ops)) to)) o.operands))

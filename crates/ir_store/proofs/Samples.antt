@@ -3,7 +3,7 @@ use Rattle.std.proofs.Common.{◌≡◌, ℕ, ◌+◌, true, false, [], ◌∷�
 use Rattle.hw_model.specs.Design.Ref.{port, result, undefined}
 use Rattle.ir_store.specs.declared.operation.Value.TheVariants.{Port, Result}
 use Rattle.ir_store.specs.Ids.{times, put_at}
-use Rattle.ir_store.specs.OperandLists.{cut, changed_from, put_in, cut_out}
+use Rattle.ir_store.specs.OperandLists.{split_at_ends, changed_from, put_in, cut_out}
 use Rattle.ir_store.specs.BodyOps.{BodyOp, no_parts, taken_out, is_named, operand_count}
 use Rattle.ir_store.specs.Numbered.{position_of, ref_by}
 use Rattle.ir_store.specs.Positions.{pushed_ref, pulled_ref, same_ref, replaced_ref}
@@ -20,7 +20,7 @@ put_at_inside = refl
 put_at_behind : put_at {A = ℕ} 2 7 (4 ∷ 5 ∷ []) ≡ 4 ∷ 5 ∷ 7 ∷ []
 put_at_behind = refl
 
-three_lists : cut {A = ℕ} 0 (2 ∷ 2 ∷ 3 ∷ []) (7 ∷ 8 ∷ 9 ∷ []) ≡ (7 ∷ 8 ∷ []) ∷ [] ∷ (9 ∷ []) ∷ []
+three_lists : split_at_ends {A = ℕ} 0 (2 ∷ 2 ∷ 3 ∷ []) (7 ∷ 8 ∷ 9 ∷ []) ≡ (7 ∷ 8 ∷ []) ∷ [] ∷ (9 ∷ []) ∷ []
 three_lists = refl
 
 later_ends : changed_from 1 (λ e. e + 2) (2 ∷ 2 ∷ 3 ∷ []) ≡ 2 ∷ 4 ∷ 5 ∷ []

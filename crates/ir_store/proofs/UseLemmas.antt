@@ -6,12 +6,12 @@ use Rattle.ir_store.specs.declared.operation.OpId.{OpId}
 use Rattle.ir_store.specs.declared.operation.Value.{Value}
 use Rattle.ir_store.specs.Bodies.{first_id}
 use Rattle.ir_store.specs.OperationViews.{OpParts}
-use Rattle.ir_store.specs.BodyOps.{BodyOp, stored, same_value, is_of, names_in, is_named, IsUnused}
+use Rattle.ir_store.specs.BodyOps.{BodyOp, stored_op, same_value, is_of, names_in, is_named, IsUnused}
 use Rattle.ir_store.proofs.Living.{all_none, all_with, first_of_all, rest_of_all}
 use Rattle.ir_store.specs.Uses.{use_at, places_in, uses_in, uses_from}
 
 -- the parts of operations do not matter
-pub uses_in-parts : (v : Value) (ps qs : List OpParts) (ls : List (List Value)) (ids : List ℕ) → uses_in v (map (stored ps ls) ids) ≡ uses_in v (map (stored qs ls) ids)
+pub uses_in-parts : (v : Value) (ps qs : List OpParts) (ls : List (List Value)) (ids : List ℕ) → uses_in v (map (stored_op ps ls) ids) ≡ uses_in v (map (stored_op qs ls) ids)
 uses_in-parts v ps qs ls [] = refl
 uses_in-parts v ps qs ls (i ∷ ids) = ap (λ us. places_in v i 0 (get_or ls i []) ++ us) (uses_in-parts v ps qs ls ids)
 
@@ -81,8 +81,8 @@ ids_fewer (i ∷ ids) rest op e r = rw r (omega arith)
 -- an operation that does not use a value
 pub uses_skip : (v : Value) (at : ℕ) (ls : List (List Value)) (ids rest : List OpId) (op : OpId) → first_id ids ≡ Some op → rest ≡ drop 1 ids →
     ((id : ℕ) → places_in v id at (drop at (get_or ls op.index [])) ≡ []) →
-    uses_from v at (map (stored [] ls) (map (λ (i : OpId). i.index) ids)) ≡ uses_from v 0 (map (stored [] ls) (map (λ (i : OpId). i.index) rest))
+    uses_from v at (map (stored_op [] ls) (map (λ (i : OpId). i.index) ids)) ≡ uses_from v 0 (map (stored_op [] ls) (map (λ (i : OpId). i.index) rest))
 uses_skip v at ls [] rest op e r h = cc
 uses_skip v at ls (i ∷ ids) rest op e r h =
     let same : i ≡ op = cc in
-    rw (same, h op.index, r) (sym (uses_from-start v (map (stored [] ls) (map (λ (j : OpId). j.index) ids))))
+    rw (same, h op.index, r) (sym (uses_from-start v (map (stored_op [] ls) (map (λ (j : OpId). j.index) ids))))

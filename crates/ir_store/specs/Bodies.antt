@@ -10,11 +10,11 @@ use Rattle.ir_store.specs.DictionaryViews.{entries_in}
 use Rattle.ir_store.specs.OperationViews.{OpParts, parts_of, types_in, results_in, place_of}
 use Rattle.ir_store.specs.Links.{walk}
 use Rattle.ir_store.specs.Orders.{live_ids, free_ids}
-use Rattle.ir_store.specs.BodyOps.{BodyOp, stored, ids_in}
+use Rattle.ir_store.specs.BodyOps.{BodyOp, stored_op, ids_in}
 
 -- the operations, each with its id, in text order
 abbrev pub ops_of : Body → List BodyOp
-ops_of b = map (stored (map parts_of b.parts.items) b.operands.lists) (live_ids b.order)
+ops_of b = map (stored_op (map parts_of b.parts.items) b.operands.lists) (live_ids b.order)
 
 -- the ids of the operations, in text order
 abbrev pub ids_of : Body → List ℕ

@@ -27,8 +27,8 @@ no_parts = record {
 }
 
 -- the operation of an id, where the parts and the operands stand by ids
-abbrev pub stored : List OpParts → List (List Value) → ℕ → BodyOp
-stored parts lists id = record { id = id; parts = slice_index_or parts id no_parts; operands = slice_index_or lists id [] }
+abbrev pub stored_op : List OpParts → List (List Value) → ℕ → BodyOp
+stored_op parts lists id = record { id = id; parts = slice_index_or parts id no_parts; operands = slice_index_or lists id [] }
 
 -- an operation that is put in under an id
 abbrev pub as_new : OpId → NewOp → BodyOp
@@ -70,12 +70,12 @@ same_value Undefined Undefined = true
 same_value _ _ = false
 
 -- an operand, where one value stands for another
-abbrev pub replaced : Value → Value → Value → Value
-replaced from to v = cond (same_value from v) to v
+abbrev pub replace_value : Value → Value → Value → Value
+replace_value from to v = cond (same_value from v) to v
 
 -- the operations with one value in the place of another
 abbrev pub all_replaced : Value → Value → List BodyOp → List BodyOp
-all_replaced from to ops = map (λ (o : BodyOp). record o { operands = map (replaced from to) o.operands }) ops
+all_replaced from to ops = map (λ (o : BodyOp). record o { operands = map (replace_value from to) o.operands }) ops
 
 -- the operations without that of an id
 abbrev pub taken_out : ℕ → List BodyOp → List BodyOp

@@ -9,9 +9,9 @@ pub record OperandLists : Type 0 where
   pub room : ℕ
 
 -- the lists that end at `ends` where the first begins at `from`
-abbrev pub cut : {A : Type 0} → ℕ → List ℕ → List A → List (List A)
-cut from [] xs = []
-cut from (e ∷ ends) xs = take (e - from) xs ∷ cut e ends (drop (e - from) xs)
+abbrev pub split_at_ends : {A : Type 0} → ℕ → List ℕ → List A → List (List A)
+split_at_ends from [] xs = []
+split_at_ends from (e ∷ ends) xs = take (e - from) xs ∷ split_at_ends e ends (drop (e - from) xs)
 
 -- the ends rise from the beginning to the length of the whole
 abbrev pub AreEnds : ℕ → List ℕ → ℕ → Type 0

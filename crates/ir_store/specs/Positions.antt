@@ -4,26 +4,26 @@ use Rattle.hw_model.specs.Design.{Op, Ref}
 use Rattle.hw_model.specs.Design.Ref.{port, result, undefined}
 
 -- an operation with each operand changed
-abbrev pub retargeted : (Ref → Ref) → Op → Op
-retargeted f o = record o { operands = map f o.operands }
+abbrev pub retarget : (Ref → Ref) → Op → Op
+retarget f o = record o { operands = map f o.operands }
 
 -- where position j is once something is put in at position i
-abbrev pub pushed : ℕ → ℕ → ℕ
-pushed zero j = suc j
-pushed (suc i) zero = zero
-pushed (suc i) (suc j) = suc (pushed i j)
+abbrev pub position_after_insert : ℕ → ℕ → ℕ
+position_after_insert zero j = suc j
+position_after_insert (suc i) zero = zero
+position_after_insert (suc i) (suc j) = suc (position_after_insert i j)
 
 -- where position j is once position i is taken out; None at i
-abbrev pub pulled : ℕ → ℕ → Option ℕ
-pulled zero zero = None
-pulled zero (suc j) = Some j
-pulled (suc i) zero = Some zero
-pulled (suc i) (suc j) = option_map suc (pulled i j)
+abbrev pub position_after_erase : ℕ → ℕ → Option ℕ
+position_after_erase zero zero = None
+position_after_erase zero (suc j) = Some j
+position_after_erase (suc i) zero = Some zero
+position_after_erase (suc i) (suc j) = option_map suc (position_after_erase i j)
 
 -- an operand once an operation is put in at position i
 abbrev pub pushed_ref : ℕ → Ref → Ref
 pushed_ref i (port n) = port n
-pushed_ref i (result j k) = result (pushed i j) k
+pushed_ref i (result j k) = result (position_after_insert i j) k
 pushed_ref i undefined = undefined
 
 -- result k of the operation at a position; of one that is gone, nothing
@@ -34,16 +34,16 @@ result_at None k = undefined
 -- an operand once the operation at position i is taken out
 abbrev pub pulled_ref : ℕ → Ref → Ref
 pulled_ref i (port n) = port n
-pulled_ref i (result j k) = result_at (pulled i j) k
+pulled_ref i (result j k) = result_at (position_after_erase i j) k
 pulled_ref i undefined = undefined
 
 -- the operations with one put in at position i, its operands being those of the body as it was
 abbrev pub with_op : ℕ → Op → List Op → List Op
-with_op i o ops = insert (map (retargeted (pushed_ref i)) ops) i (retargeted (pushed_ref i) o)
+with_op i o ops = insert (map (retarget (pushed_ref i)) ops) i (retarget (pushed_ref i) o)
 
 -- the operations without that at position i
 abbrev pub without_op : ℕ → List Op → List Op
-without_op i ops = map (retargeted (pulled_ref i)) (remove ops i)
+without_op i ops = map (retarget (pulled_ref i)) (remove ops i)
 
 -- the operations with other operands at position i
 abbrev pub with_operands : ℕ → (List Ref → List Ref) → List Op → List Op

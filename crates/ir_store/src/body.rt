@@ -155,8 +155,8 @@ impl Body {
         let lists = self.operands.list_capacity();
         let ops = self.order.capacity().min(self.parts.capacity().min(lists));
         (
-            saturated(ops.saturating_sub(self.order.count())),
-            saturated(self.operands.room()),
+            saturating_u32(ops.saturating_sub(self.order.count())),
+            saturating_u32(self.operands.room()),
         )
     }
 
@@ -380,7 +380,7 @@ fn is_result_of(value: Value, op: OpId) -> bool
     }
 }
 
-fn saturated(count: usize) -> u32
+fn saturating_u32(count: usize) -> u32
     ensures { result ≡ min count u32.MAX }
 {
     u32::try_from(count).unwrap_or(u32::MAX)

@@ -9,7 +9,7 @@ ghost use Rattle.ir_store.specs.declared.body.Body.{Body};
 ghost use Rattle.ir_store.specs.BodyOps.{BodyOp, ids_in, put_before, taken_out, operands_at, all_replaced, IsUnused};
 ghost use Rattle.ir_store.specs.Bodies.{ids_of};
 ghost use Rattle.ir_store.specs.Numbered.{position_of, ref_by, op_by, numbered};
-ghost use Rattle.ir_store.specs.Positions.{retargeted, with_op, without_op, with_operands, replaced_ref};
+ghost use Rattle.ir_store.specs.Positions.{retarget, with_op, without_op, with_operands, replaced_ref};
 ghost use Rattle.ir_store.specs.Live.{IsLive, HasLive, AreLive, AreDistinct};
 
 /// Does nothing. Its clause says that no id stands twice among those of a body.
@@ -54,6 +54,6 @@ pub fn operands_by_position()
 /// becomes the other, and that the operands stay live where the new value is.
 pub fn replacements_by_position()
     ensures replaced { (from to : Value) (ops : List BodyOp) → AreLive ops → IsLive (ids_in ops) from
-        → numbered (all_replaced from to ops) ≡ map (retargeted (replaced_ref (ref_by (position_of (ids_in ops)) from) (ref_by (position_of (ids_in ops)) to))) (numbered ops) }
+        → numbered (all_replaced from to ops) ≡ map (retarget (replaced_ref (ref_by (position_of (ids_in ops)) from) (ref_by (position_of (ids_in ops)) to))) (numbered ops) }
     ensures live { (from to : Value) (ops : List BodyOp) → IsLive (ids_in ops) to → AreLive ops → AreLive (all_replaced from to ops) }
 {}

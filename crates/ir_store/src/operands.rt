@@ -2,8 +2,8 @@
 ghost use Rattle.std.specs.Prelude.{◌≡◌, ℕ, ◌+◌, ◌-◌, ◌<◌, ◌≤◌, ◌^◌, [], ◌∷◌, ◌++◌, List, length, All, IfOk, IsOk, OnOk, OnErr, slice_index, map, drop, slice_index_or, slice_set};
 ghost use Rattle.std.specs.Vec.{vec_len, vec_capacity};
 ghost use Rattle.ir_store.specs.Ids.{put_at};
-ghost use Rattle.ir_store.specs.BodyOps.{same_value, replaced};
-ghost use Rattle.ir_store.specs.OperandLists.{start_of, cut, AreEnds, changed_from, put_in, cut_out};
+ghost use Rattle.ir_store.specs.BodyOps.{same_value, replace_value};
+ghost use Rattle.ir_store.specs.OperandLists.{start_of, split_at_ends, AreEnds, changed_from, put_in, cut_out};
 
 use crate::operation::Value;
 use std::alloc::{AllocError, Global};
@@ -23,11 +23,11 @@ pub struct OperandTable {
 impl Model for OperandTable {
     ghost use Rattle.std.specs.Prelude.{◌-◌, ◌<◌, ◌^◌, length, min};
     ghost use Rattle.std.specs.Vec.{vec_len, vec_capacity};
-    ghost use Rattle.ir_store.specs.OperandLists.{OperandLists, cut, AreEnds};
+    ghost use Rattle.ir_store.specs.OperandLists.{OperandLists, split_at_ends, AreEnds};
 
     ghost Value = { OperandLists };
 
-    ghost view = { λ t. record { lists = cut 0 t.ends.items t.values.items; list_room = vec_capacity t.ends - vec_len t.ends; room = min (vec_capacity t.values) (2 ^ 32 - 1) - vec_len t.values } };
+    ghost view = { λ t. record { lists = split_at_ends 0 t.ends.items t.values.items; list_room = vec_capacity t.ends - vec_len t.ends; room = min (vec_capacity t.values) (2 ^ 32 - 1) - vec_len t.values } };
 
     ghost invariant = { λ t. AreEnds 0 t.ends.items (length t.values.items) × (length t.values.items < 2 ^ 32) };
 }
@@ -57,7 +57,7 @@ fn range_of(ends: &[usize], whole: usize, i: usize) -> (usize, usize)
 fn list_in<'v>(ends: &[usize], values: &'v [Value], i: usize) -> &'v [Value]
     requires ends { AreEnds 0 ends.now (length values.now) }
     requires list { i < length ends.now }
-    ensures { result.now ≡ slice_index_or (cut 0 ends.now values.now) i [] }
+    ensures { result.now ≡ slice_index_or (split_at_ends 0 ends.now values.now) i [] }
 {
     let (begin, end) = range_of(ends, values.len(), i);
     &values[begin..end]
@@ -97,14 +97,14 @@ pub(crate) fn is_same(a: Value, b: Value) -> bool
 
 /// The value, or `to` where it is `from`.
 fn replacement(value: Value, from: Value, to: Value) -> Value
-    ensures { result ≡ replaced from to value }
+    ensures { result ≡ replace_value from to value }
 {
     if is_same(from, value) { to } else { value }
 }
 
 /// Puts `to` in the place of each `from`.
 fn replace(values: &mut [Value], from: Value, to: Value)
-    ensures { values.new ≡ map (replaced from to) values.old }
+    ensures { values.new ≡ map (replace_value from to) values.old }
 {
     for value in values.iter_mut() {
         *value = replacement(*value, from, to);
@@ -311,7 +311,7 @@ impl OperandTable {
 
     /// Puts `to` in the place of each `from`.
     pub fn replace(&mut self, from: Value, to: Value)
-        ensures lists { self.new.lists ≡ map (map (replaced from to)) self.old.lists }
+        ensures lists { self.new.lists ≡ map (map (replace_value from to)) self.old.lists }
         ensures room { (self.new.list_room ≡ self.old.list_room) × (self.new.room ≡ self.old.room) }
     {
         replace(&mut self.values, from, to);

@@ -27,7 +27,7 @@ pub fn result_types(
     match kind {
         OpKind::Output => Ok(Vec::new(alloc)),
         OpKind::StructExplode => field_types(alloc, types.first()),
-        OpKind::Instance(instance) => types_behind(alloc, types, instance.inputs.len()),
+        OpKind::Instance(instance) => types_after(alloc, types, instance.inputs.len()),
         _ => {
             let ty = result_type(alloc, kind, types, operands)?;
             let mut one = Vec::with_capacity(alloc, 1)?;
@@ -50,20 +50,20 @@ fn result_type(
     match kind {
         OpKind::Icmp(_) | OpKind::Parity => Ok(Some(Ty::Int(1))),
         OpKind::Extract(_) | OpKind::Replicate | OpKind::ArraySlice | OpKind::Bitcast => {
-            copied(alloc, types.get(1))
+            clone_type(alloc, types.get(1))
         }
         OpKind::Concat => Ok(joined_width(types).map(Ty::Int)),
         OpKind::ArrayCreate => array(alloc, Some(kept_size(operands)), types.first()),
         OpKind::ArrayConcat => array(alloc, joined_length(types), element_of(types.first())),
-        OpKind::ArrayGet => copied(alloc, element_of(types.first())),
-        OpKind::StructExtract(name) => copied(alloc, field_of(types.first(), name)),
+        OpKind::ArrayGet => clone_type(alloc, element_of(types.first())),
+        OpKind::StructExtract(name) => clone_type(alloc, field_of(types.first(), name)),
         OpKind::StructExplode | OpKind::Instance(_) | OpKind::Output => Ok(None),
-        _ => copied(alloc, types.first()),
+        _ => clone_type(alloc, types.first()),
     }
 }
 
 /// An equal type with memory of its own, where there is one.
-fn copied(alloc: Global, ty: Option<&Ty>) -> Result<Option<Ty>, AllocError>
+fn clone_type(alloc: Global, ty: Option<&Ty>) -> Result<Option<Ty>, AllocError>
     ensures { IfOk result (λ copy. option_map type_of copy ≡ option_map (λ t. type_of t.now) ty.entry) }
 {
     match ty {
@@ -192,7 +192,7 @@ fn types_of_fields(alloc: Global, fields: &[Field]) -> Result<Vec<Option<Ty>>, A
 }
 
 /// The types after so many.
-fn types_behind(alloc: Global, types: &[Ty], count: usize) -> Result<Vec<Option<Ty>>, AllocError>
+fn types_after(alloc: Global, types: &[Ty], count: usize) -> Result<Vec<Option<Ty>>, AllocError>
     ensures { IfOk result (λ ts. map (option_map type_of) ts.items ≡ map Some (drop count (map type_of types.now))) }
 {
     let (_, behind) = types.split_at(count.min(types.len()));

@@ -17,7 +17,7 @@ pub struct Uses<'b> {
 
 impl<'b> Uses<'b> {
     ghost use Rattle.std.specs.Prelude.{map, []};
-    ghost use Rattle.ir_store.specs.BodyOps.{stored};
+    ghost use Rattle.ir_store.specs.BodyOps.{stored_op};
     ghost use Rattle.ir_store.specs.declared.operation.OpId.{OpId};
     ghost use Rattle.ir_store.specs.Bodies.{ids_left};
     ghost use Rattle.ir_store.specs.Uses.{uses_in};
@@ -25,7 +25,7 @@ impl<'b> Uses<'b> {
 
     /// The places that name `value` among the operands of the operations of `ids`.
     pub(crate) fn among(value: Value, operands: &'b OperandTable, ids: Ops<'b>) -> Uses<'b>
-        ensures { uses_left result ≡ uses_in value (map (stored [] operands.now.lists) (map (λ (i : OpId). i.index) (ids_left ids.entry))) }
+        ensures { uses_left result ≡ uses_in value (map (stored_op [] operands.now.lists) (map (λ (i : OpId). i.index) (ids_left ids.entry))) }
     {
         Uses {
             value,

@@ -5,7 +5,7 @@ use Rattle.std.specs.Option.{option_map}
 use Rattle.mlir_lexer.specs.Classes.{is_space, is_digit, is_hex_digit, is_name_start, is_name_byte, is_suffix_byte, is_line_byte}
 use Rattle.mlir_lexer.specs.Runs.{run, begins}
 use Rattle.mlir_lexer.specs.Strings.{reading_after, string_rest, string_length}
-use Rattle.mlir_lexer.specs.Fronts.{mark_of, mark_front, suffix_length, suffixed, quoted, is_hex_mark, number_front, symbol_front, hash_front, slash_front, minus_front, sign_front, front_of}
+use Rattle.mlir_lexer.specs.Fronts.{mark_of, mark_front, suffix_length, suffix_token, string_token, is_hex_mark, number_front, symbol_front, hash_front, slash_front, minus_front, sign_front, front_of}
 use Rattle.mlir_lexer.specs.Flat.{IsWithinLine}
 use Rattle.mlir_lexer.specs.declared.token.TokenKind.{TokenKind}
 use Rattle.mlir_lexer.specs.declared.fronts.Front.{Front}
@@ -71,7 +71,7 @@ string_rest-fits HexPair (b ∷ bs) n e = string_cons-fits HexPair b bs n refl e
 run-fits : (test : ℕ → Bool) (b : ℕ) (bs : List ℕ) → test 10 ≡ false → (b == 10) ≡ false → IsWithinLine (run test bs + 1) (b ∷ bs)
 run-fits test b bs h t = IsWithinLine-cons b bs (run test bs) (run test bs + 1) refl t (run-within test bs) (run-NoLineEnd test bs h)
 
-suffixed-fits : (kind : TokenKind) (b : ℕ) (bs : List ℕ) → (b == 10) ≡ false → FitsFront b bs (suffixed kind bs)
+suffixed-fits : (kind : TokenKind) (b : ℕ) (bs : List ℕ) → (b == 10) ≡ false → FitsFront b bs (suffix_token kind bs)
 suffixed-fits kind b bs t = either b bs (suffix_length bs == 0) _ _ (λ z. tt) (λ n. go (begins is_digit bs))
   where
     go : (d : Bool) → IsWithinLine (cond d (run is_digit bs) (run is_suffix_byte bs) + 1) (b ∷ bs)
@@ -79,14 +79,14 @@ suffixed-fits kind b bs t = either b bs (suffix_length bs == 0) _ _ (λ z. tt) (
     go false = run-fits is_suffix_byte b bs refl t
 
 -- a string after the first byte
-string-fits : (kind : TokenKind) (b : ℕ) (bs : List ℕ) (length : Option ℕ) → length ≡ string_length bs → (b == 10) ≡ false → FitsFront b bs (quoted kind 0 length)
+string-fits : (kind : TokenKind) (b : ℕ) (bs : List ℕ) (length : Option ℕ) → length ≡ string_length bs → (b == 10) ≡ false → FitsFront b bs (string_token kind 0 length)
 string-fits kind b bs None e t = tt
 string-fits kind b bs (Some n) e t =
     let fits = string_rest-fits Plain bs n (sym e) in IsWithinLine-cons b bs n (0 + 1 + n) (omega arith) t fits.0 fits.1
 
 -- a string after the first byte and the quote that opens it
 symbol_string-fits : (kind : TokenKind) (b q : ℕ) (bs : List ℕ) (length : Option ℕ) → length ≡ string_length bs → (b == 10) ≡ false → (q == 10) ≡ false
-    → FitsFront b (q ∷ bs) (quoted kind 1 length)
+    → FitsFront b (q ∷ bs) (string_token kind 1 length)
 symbol_string-fits kind b q bs None e t u = tt
 symbol_string-fits kind b q bs (Some n) e t u =
     let fits = string_rest-fits Plain bs n (sym e)

@@ -5,7 +5,7 @@ use Rattle.std.proofs.lemmas.List.{drop-drop}
 use Rattle.diag.specs.Place.{start_place, next_place, place_after, place_of}
 use Rattle.diag.specs.declared.refusal.Place.{Place}
 use Rattle.diag.specs.declared.refusal.Refusal.{Refusal}
-use Rattle.mlir_lexer.specs.Tokens.{Lexeme, told, tokens_behind, tokens_left}
+use Rattle.mlir_lexer.specs.Tokens.{Lexeme, lex_front, tokens_behind, tokens_left}
 use Rattle.mlir_lexer.specs.Cursor.{Cursor}
 use Rattle.mlir_lexer.specs.Fronts.{front_of}
 
@@ -52,13 +52,13 @@ behind-skip source (suc skipped) at within =
     ∙ (behind-skip source skipped (at + 1) (omega arith) ∙ ap (λ n. behind source n 0) count)
 
 -- what is left is what the next bytes begin with, and then what is left after it
-pub tokens_left-told : (source : List ℕ) (at b : ℕ) (bs : List ℕ) → drop at source ≡ b ∷ bs
-    → tokens_left (record { source = source; at = at }) ≡ told (front_of b bs) (place_of source at) at (b ∷ bs) (λ more. behind source (at + 1) more)
+pub tokens_left-lex_front : (source : List ℕ) (at b : ℕ) (bs : List ℕ) → drop at source ≡ b ∷ bs
+    → tokens_left (record { source = source; at = at }) ≡ lex_front (front_of b bs) (place_of source at) at (b ∷ bs) (λ more. behind source (at + 1) more)
 unfolding behind tokens_behind
-tokens_left-told source at b bs e =
+tokens_left-lex_front source at b bs e =
     ap (λ (l : List ℕ). tokens_behind 0 (place_of source at) at l) e
-    ∙ (ap (λ p. told (front_of b bs) (place_of source at) at (b ∷ bs) (λ more. tokens_behind more p (at + 1) bs)) (sym (place_of-next source at b bs e))
-    ∙ ap (λ (l : List ℕ). told (front_of b bs) (place_of source at) at (b ∷ bs) (λ more. tokens_behind more (place_of source (at + 1)) (at + 1) l))
+    ∙ (ap (λ p. lex_front (front_of b bs) (place_of source at) at (b ∷ bs) (λ more. tokens_behind more p (at + 1) bs)) (sym (place_of-next source at b bs e))
+    ∙ ap (λ (l : List ℕ). lex_front (front_of b bs) (place_of source at) at (b ∷ bs) (λ more. tokens_behind more (place_of source (at + 1)) (at + 1) l))
     (sym (drop-next source at b bs e)))
 
 -- what is left after a gap or a token of so many bytes

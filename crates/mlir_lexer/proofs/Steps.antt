@@ -2,14 +2,14 @@
 use Rattle.std.proofs.Common.{◌≡◌, ℕ, ◌+◌, ◌-◌, ◌≤◌, List, [], ◌∷◌, take, drop, length, Result, Ok, Err, refl, sym, ap, ◌∙◌, arith, length-drop, length-take}
 use Rattle.diag.specs.Place.{next_place, below, further, place_after, place_of}
 use Rattle.diag.specs.declared.refusal.Refusal.{Refusal}
-use Rattle.mlir_lexer.specs.Tokens.{Lexeme, bad_byte, told, tokens_behind, tokens_left, IsSpan}
+use Rattle.mlir_lexer.specs.Tokens.{Lexeme, bad_byte, lex_front, tokens_behind, tokens_left, IsSpan}
 use Rattle.mlir_lexer.specs.Cursor.{Cursor}
 use Rattle.mlir_lexer.specs.Flat.{IsWithinLine}
 use Rattle.mlir_lexer.specs.Fronts.{front_of}
 use Rattle.mlir_lexer.specs.declared.token.TokenKind.{TokenKind}
 use Rattle.mlir_lexer.specs.declared.fronts.Front.{Front}
 use Rattle.mlir_lexer.specs.declared.fronts.Front.TheVariants.{LineEnd, Gap, Token, Bad}
-use Rattle.mlir_lexer.proofs.Left.{IsFurther, behind, place_of-add, place_of-next, tokens_left-told, behind-left}
+use Rattle.mlir_lexer.proofs.Left.{IsFurther, behind, place_of-add, place_of-next, tokens_left-lex_front, behind-left}
 use Rattle.mlir_lexer.proofs.Fits.{FitsFront, front_of-fits}
 
 -- the cursor so many bytes further on
@@ -30,10 +30,10 @@ fits {cursor} {b} {bs} {front} h = rw h.is (front_of-fits b bs)
 
 -- what is left, by what it begins with
 is_told : {cursor : Cursor} {b : ℕ} {bs : List ℕ} {front : Front} → Begins cursor b bs front
-    → tokens_left cursor ≡ told front (place_of cursor.source cursor.at) cursor.at (b ∷ bs) (λ more. behind cursor.source (cursor.at + 1) more)
+    → tokens_left cursor ≡ lex_front front (place_of cursor.source cursor.at) cursor.at (b ∷ bs) (λ more. behind cursor.source (cursor.at + 1) more)
 is_told {cursor} {b} {bs} {front} h =
-    tokens_left-told cursor.source cursor.at b bs h.split
-    ∙ ap (λ f. told f (place_of cursor.source cursor.at) cursor.at (b ∷ bs) (λ more. behind cursor.source (cursor.at + 1) more)) (sym h.is)
+    tokens_left-lex_front cursor.source cursor.at b bs h.split
+    ∙ ap (λ f. lex_front f (place_of cursor.source cursor.at) cursor.at (b ∷ bs) (λ more. behind cursor.source (cursor.at + 1) more)) (sym h.is)
 
 pub line_end-place : {cursor : Cursor} {b : ℕ} {bs : List ℕ} → Begins cursor b bs LineEnd
     → place_of cursor.source (cursor.at + 1) ≡ below (place_of cursor.source cursor.at)

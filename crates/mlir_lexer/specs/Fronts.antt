@@ -34,13 +34,13 @@ abbrev pub suffix_length : List ℕ → ℕ
 suffix_length bytes = cond (begins is_digit bytes) (run is_digit bytes) (run is_suffix_byte bytes)
 
 -- a token of one byte and a suffix; without one the byte begins no token
-abbrev pub suffixed : TokenKind → List ℕ → Front
-suffixed kind bs = cond (suffix_length bs == 0) (Bad 0) (Token kind (suffix_length bs + 1))
+abbrev pub suffix_token : TokenKind → List ℕ → Front
+suffix_token kind bs = cond (suffix_length bs == 0) (Bad 0) (Token kind (suffix_length bs + 1))
 
 -- a token that ends with a string, of which `before` bytes stand before the opening quote: that quote is refused where the string is bad
-abbrev pub quoted : TokenKind → ℕ → Option ℕ → Front
-quoted kind before None = Bad before
-quoted kind before (Some n) = Token kind (before + 1 + n)
+abbrev pub string_token : TokenKind → ℕ → Option ℕ → Front
+string_token kind before None = Bad before
+string_token kind before (Some n) = Token kind (before + 1 + n)
 
 -- whether the bytes begin with `x` and a hex digit
 abbrev pub is_hex_mark : List ℕ → Bool
@@ -53,11 +53,11 @@ number_front b bs = cond (b == 48 && is_hex_mark bs) (Token kind.Integer (run is
 
 -- after `@`: a string or a suffix
 abbrev pub symbol_front : List ℕ → Front
-symbol_front bs = cond (begins (λ b. b == 34) bs) (quoted kind.SymbolString 1 (string_length (drop 1 bs))) (suffixed kind.SymbolName bs)
+symbol_front bs = cond (begins (λ b. b == 34) bs) (string_token kind.SymbolString 1 (string_length (drop 1 bs))) (suffix_token kind.SymbolName bs)
 
 -- after `#`: a number or a name
 abbrev pub hash_front : List ℕ → Front
-hash_front bs = cond (begins is_digit bs) (suffixed kind.ResultNumber bs) (suffixed kind.AttributeAlias bs)
+hash_front bs = cond (begins is_digit bs) (suffix_token kind.ResultNumber bs) (suffix_token kind.AttributeAlias bs)
 
 -- after `/`: a second one begins a comment, which the line's end ends
 abbrev pub slash_front : List ℕ → Front
@@ -70,11 +70,11 @@ minus_front bs = cond (begins (λ b. b == 62) bs) (Token kind.Arrow 2) (Token ki
 -- after a byte that is no letter, digit or blank
 unfoldable pub sign_front : ℕ → List ℕ → Front
 sign_front b bs =
-    cond (b == 37) (suffixed kind.ValueName bs)
+    cond (b == 37) (suffix_token kind.ValueName bs)
     (cond (b == 64) (symbol_front bs)
     (cond (b == 35) (hash_front bs)
-    (cond (b == 33) (suffixed kind.TypeName bs)
-    (cond (b == 34) (quoted kind.StringLiteral 0 (string_length bs))
+    (cond (b == 33) (suffix_token kind.TypeName bs)
+    (cond (b == 34) (string_token kind.StringLiteral 0 (string_length bs))
     (cond (b == 45) (minus_front bs)
     (cond (b == 47) (slash_front bs) (mark_front (mark_of b))))))))
 

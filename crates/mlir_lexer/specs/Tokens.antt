@@ -25,16 +25,16 @@ abbrev pub bad_byte : Place → Refusal
 bad_byte place = record { file = 0; place = place; op = op.File; cause = cause.BadByte }
 
 -- what the bytes begin with is told, and then what is told once so many further bytes are skipped
-abbrev pub told : Front → Place → ℕ → List ℕ → (ℕ → List (Result Lexeme Refusal)) → List (Result Lexeme Refusal)
-told LineEnd place at bytes later = later 0
-told (Gap count) place at bytes later = later (count - 1)
-told (Token kind count) place at bytes later = Ok (record { kind = kind; place = place; at = at; text = take count bytes }) ∷ later (count - 1)
-told (Bad before) place at bytes later = Err (bad_byte (further place before)) ∷ []
+abbrev pub lex_front : Front → Place → ℕ → List ℕ → (ℕ → List (Result Lexeme Refusal)) → List (Result Lexeme Refusal)
+lex_front LineEnd place at bytes later = later 0
+lex_front (Gap count) place at bytes later = later (count - 1)
+lex_front (Token kind count) place at bytes later = Ok (record { kind = kind; place = place; at = at; text = take count bytes }) ∷ later (count - 1)
+lex_front (Bad before) place at bytes later = Err (bad_byte (further place before)) ∷ []
 
 -- the tokens of the bytes after the first `skipped` ones; `place` and `at` are those of the first byte
 unfoldable pub tokens_behind : ℕ → Place → ℕ → List ℕ → List (Result Lexeme Refusal)
 tokens_behind skipped place at [] = []
-tokens_behind zero place at (b ∷ bs) = told (front_of b bs) place at (b ∷ bs) (λ more. tokens_behind more (next_place place b) (at + 1) bs)
+tokens_behind zero place at (b ∷ bs) = lex_front (front_of b bs) place at (b ∷ bs) (λ more. tokens_behind more (next_place place b) (at + 1) bs)
 tokens_behind (suc skipped) place at (b ∷ bs) = tokens_behind skipped (next_place place b) (at + 1) bs
 
 -- the tokens of a text

@@ -1,6 +1,6 @@
 //! What names and strings hold.
 ghost use Rattle.std.specs.Prelude.{◌≡◌, ℕ, ◌+◌, ◌<◌, ◌≤◌, List, [], ◌∷◌, ◌++◌, take, drop, length, OnOk, OnErr};
-ghost use Rattle.mlir_lexer.specs.Contents.{hex_value, escaped, decoded, unescaped, body_of, content_of, Turns, GetsFront};
+ghost use Rattle.mlir_lexer.specs.Contents.{hex_value, unescape_byte, decode, unescape, body_of, content_of, Turns, GetsFront};
 
 use crate::classes::{Class, Digit, HexDigit};
 use crate::token::{Token, TokenKind};
@@ -42,8 +42,8 @@ impl<'s> Token<'s> {
 /// Puts the bytes that a string's body stands for at the end of a text; the body is what stands
 /// between the quotes. On an error the text has got a front of them.
 pub fn push_unescaped(body: &[u8], into: &mut Text) -> Result<(), AllocError>
-    ensures ok { OnOk result (into.new ≡ into.old ++ unescaped body.now) }
-    ensures err { OnErr result (GetsFront into.old into.new (unescaped body.now)) }
+    ensures ok { OnOk result (into.new ≡ into.old ++ unescape body.now) }
+    ensures err { OnErr result (GetsFront into.old into.new (unescape body.now)) }
 {
     let mut pending = Pending::Nothing;
     for byte in body {
@@ -67,7 +67,7 @@ fn turn(pending: Pending, byte: u8) -> (Pending, Option<u8>)
         Pending::Nothing if byte == b'\\' => (Pending::Backslash, None),
         Pending::Nothing => (Pending::Nothing, Some(byte)),
         Pending::Backslash if HexDigit::has(byte) => (Pending::HighDigit(byte), None),
-        Pending::Backslash => (Pending::Nothing, Some(escaped(byte))),
+        Pending::Backslash => (Pending::Nothing, Some(unescape_byte(byte))),
         Pending::HighDigit(high) => (
             Pending::Nothing,
             Some(hex_value(high) * 16 + hex_value(byte)),
@@ -76,8 +76,8 @@ fn turn(pending: Pending, byte: u8) -> (Pending, Option<u8>)
 }
 
 // What a byte after a backslash stands for.
-fn escaped(byte: u8) -> u8
-    ensures { result ≡ escaped byte }
+fn unescape_byte(byte: u8) -> u8
+    ensures { result ≡ unescape_byte byte }
 {
     if byte == b'n' {
         b'\n'

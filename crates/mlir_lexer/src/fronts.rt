@@ -2,7 +2,7 @@
 ghost use Rattle.std.specs.Prelude.{◌≡◌, ℕ, ◌≤◌, length};
 ghost use Rattle.mlir_lexer.specs.Runs.{run, begins};
 ghost use Rattle.mlir_lexer.specs.Strings.{string_length};
-ghost use Rattle.mlir_lexer.specs.Fronts.{mark_of, mark_front, suffix_length, suffixed, quoted, is_hex_mark, number_front, symbol_front, hash_front, slash_front, minus_front, sign_front, front_of};
+ghost use Rattle.mlir_lexer.specs.Fronts.{mark_of, mark_front, suffix_length, suffix_token, string_token, is_hex_mark, number_front, symbol_front, hash_front, slash_front, minus_front, sign_front, front_of};
 
 use crate::classes::{
     Class, Digit, HexDigit, LineByte, NameByte, Space, SuffixByte, begins_with, is_name_start,
@@ -70,15 +70,15 @@ fn sign_front(first: u8, behind: &[u8]) -> Front
     ensures { result ≡ sign_front first behind.now }
 {
     if first == b'%' {
-        suffixed(TokenKind::ValueName, behind)
+        suffix_token(TokenKind::ValueName, behind)
     } else if first == b'@' {
         symbol_front(behind)
     } else if first == b'#' {
         hash_front(behind)
     } else if first == b'!' {
-        suffixed(TokenKind::TypeName, behind)
+        suffix_token(TokenKind::TypeName, behind)
     } else if first == b'"' {
-        quoted(TokenKind::StringLiteral, 0, behind)
+        string_token(TokenKind::StringLiteral, 0, behind)
     } else if first == b'-' {
         minus_front(behind)
     } else if first == b'/' {
@@ -123,8 +123,8 @@ fn suffix_length(bytes: &[u8]) -> usize
 }
 
 // A token of a sign and a suffix.
-fn suffixed(kind: TokenKind, behind: &[u8]) -> Front
-    ensures { result ≡ suffixed kind behind.now }
+fn suffix_token(kind: TokenKind, behind: &[u8]) -> Front
+    ensures { result ≡ suffix_token kind behind.now }
 {
     match suffix_length(behind) {
         0 => Front::Bad(0),
@@ -133,9 +133,9 @@ fn suffixed(kind: TokenKind, behind: &[u8]) -> Front
 }
 
 // A token that ends with the string of which `behind` follows the opening quote.
-fn quoted(kind: TokenKind, before: usize, behind: &[u8]) -> Front
+fn string_token(kind: TokenKind, before: usize, behind: &[u8]) -> Front
     requires { before ≤ 1 }
-    ensures { result ≡ quoted kind before (string_length behind.now) }
+    ensures { result ≡ string_token kind before (string_length behind.now) }
 {
     match string_length(behind) {
         None => Front::Bad(before),
@@ -148,8 +148,8 @@ fn symbol_front(behind: &[u8]) -> Front
     ensures { result ≡ symbol_front behind.now }
 {
     match behind {
-        [b'"', body @ ..] => quoted(TokenKind::SymbolString, 1, body),
-        _ => suffixed(TokenKind::SymbolName, behind),
+        [b'"', body @ ..] => string_token(TokenKind::SymbolString, 1, body),
+        _ => suffix_token(TokenKind::SymbolName, behind),
     }
 }
 
@@ -158,9 +158,9 @@ fn hash_front(behind: &[u8]) -> Front
     ensures { result ≡ hash_front behind.now }
 {
     if begins_with::<Digit>(behind) {
-        suffixed(TokenKind::ResultNumber, behind)
+        suffix_token(TokenKind::ResultNumber, behind)
     } else {
-        suffixed(TokenKind::AttributeAlias, behind)
+        suffix_token(TokenKind::AttributeAlias, behind)
     }
 }
 

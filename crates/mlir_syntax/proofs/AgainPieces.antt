@@ -65,25 +65,25 @@ group_at op os h =
     on_ok _ e (until_at op kind.RightParenthesis (again_operand op) (λ o. leads_operand o (unlike kind.RightParenthesis kind.ValueName refl))
     (λ s left c. no_number kind.Comma refl c) (λ s left c. no_number kind.RightParenthesis refl c) refl os b)
 
-types_behind : (op : OpName) (n : ℕ) (x : HwType) (l : List HwType) (s left : List Symbol) → length l ≡ n → At (Commas (TypePhrase most_open) (x ∷ l)) s left
+types_after : (op : OpName) (n : ℕ) (x : HwType) (l : List HwType) (s left : List Symbol) → length l ≡ n → At (Commas (TypePhrase most_open) (x ∷ l)) s left
     → on (any_type op s) (λ t s1. on (further_types op n s1) (λ ts s2. Ok (t ∷ ts, s2))) ≡ Ok (x ∷ l, left)
 unfolding further_types
-types_behind op zero x [] s left e h = on_ok _ ((again_any_type op).gives x s left h tt) refl
-types_behind op (suc n) x [] s left e h = absurd (omega (arith, e))
-types_behind op zero x (y ∷ ys) s left e h = absurd (omega (arith, e))
-types_behind op (suc n) x (y ∷ ys) s left e h =
+types_after op zero x [] s left e h = on_ok _ ((again_any_type op).gives x s left h tt) refl
+types_after op (suc n) x [] s left e h = absurd (omega (arith, e))
+types_after op zero x (y ∷ ys) s left e h = absurd (omega (arith, e))
+types_after op (suc n) x (y ∷ ys) s left e h =
     let (m, a, b) = at_then h in
     let (k, c, d) = at_then b in
     let (t, w) = mark_at op c in
     let same : length ys ≡ n = omega (arith, e) in
-    on_ok _ ((again_any_type op).gives x s m a tt) (on_ok _ (on_ok _ w (types_behind op n y ys k left same d)) refl)
+    on_ok _ ((again_any_type op).gives x s m a tt) (on_ok _ (on_ok _ w (types_after op n y ys k left same d)) refl)
 
 types_at : (op : OpName) (n : ℕ) (l : List HwType) {s left : List Symbol} → length l ≡ n → At (Commas (TypePhrase most_open) l) s left → types_text op n s ≡ Ok (l, left)
 unfolding types_text
 types_at op zero [] e h = ap (λ y. Ok ([], y)) (at_nothing h)
 types_at op (suc n) [] e h = absurd (omega (arith, e))
 types_at op zero (x ∷ l) e h = absurd (omega (arith, e))
-types_at op (suc n) (x ∷ l) {s} {left} e h = types_behind op n x l s left (omega (arith, e)) h
+types_at op (suc n) (x ∷ l) {s} {left} e h = types_after op n x l s left (omega (arith, e)) h
 
 -- ---- resets
 

@@ -2,19 +2,19 @@
 use Rattle.std.proofs.Common.{◌≡◌, ◌⊎◌, inl, inr, ℕ, ◌+◌, ◌<◌, ◌≤◌, ◌^◌, Bool, true, false, List, ◌++◌, length, refl, sym, ap, ◌∙◌, true≢false, arith}
 use Rattle.std.proofs.lemmas.Bool.{cases_lt}
 use Rattle.hw_model.specs.Types.{Name}
-use Rattle.fresh_names.specs.Fresh.{is_taken, suffixed, free_name}
+use Rattle.fresh_names.specs.Fresh.{is_taken, with_suffix, free_name}
 use Rattle.fresh_names.proofs.Free.{name_free, name_stays}
 use Rattle.fresh_names.proofs.Giving.{name_least}
 use Rattle.name_legalise.proofs.Members.{free_both, taken_behind}
 
 -- the least free suffixed name of a taken one is its free name
-pub least_is : (ts : List Name) (w : Name) (m : ℕ) → length ts + 1 < 2 ^ 64 → is_taken ts w ≡ true → is_taken ts (suffixed w m) ≡ false
-    → ((k : ℕ) → k < m → is_taken ts (suffixed w k) ≡ true) → free_name ts w ≡ suffixed w m
-least_is ts w m small t free below = found.1 ∙ ap (suffixed w) same where
-  found : (n : ℕ) × (free_name ts w ≡ suffixed w n) × ((k : ℕ) → k < n → is_taken ts (suffixed w k) ≡ true)
+pub least_is : (ts : List Name) (w : Name) (m : ℕ) → length ts + 1 < 2 ^ 64 → is_taken ts w ≡ true → is_taken ts (with_suffix w m) ≡ false
+    → ((k : ℕ) → k < m → is_taken ts (with_suffix w k) ≡ true) → free_name ts w ≡ with_suffix w m
+least_is ts w m small t free below = found.1 ∙ ap (with_suffix w) same where
+  found : (n : ℕ) × (free_name ts w ≡ with_suffix w n) × ((k : ℕ) → k < n → is_taken ts (with_suffix w k) ≡ true)
   found = name_least ts w t
 
-  found_free : is_taken ts (suffixed w found.0) ≡ false
+  found_free : is_taken ts (with_suffix w found.0) ≡ false
   found_free = ap (is_taken ts) (sym found.1) ∙ name_free ts w small
 
   go : ((found.0 < m) ⊎ (m ≤ found.0)) → ((m < found.0) ⊎ (found.0 ≤ m)) → found.0 ≡ m
@@ -33,8 +33,8 @@ name_alike ts us w small less same = go (is_taken us w) refl where
   go false e = name_stays ts w (same w ∙ e) ∙ sym (name_stays us w e)
   go true e =
       let found = name_least us w e in
-      least_is ts w found.0 small (same w ∙ e) (same (suffixed w found.0) ∙ ap (is_taken us) (sym found.1) ∙ name_free us w less)
-      (λ k lt. same (suffixed w k) ∙ found.2 k lt)
+      least_is ts w found.0 small (same w ∙ e) (same (with_suffix w found.0) ∙ ap (is_taken us) (sym found.1) ∙ name_free us w less)
+      (λ k lt. same (with_suffix w k) ∙ found.2 k lt)
       ∙ sym found.1
 
 -- a free name that more names do not take either stays the free name
@@ -47,8 +47,8 @@ name_beyond rs ts w less small free = go (is_taken ts w) refl where
       stays ∙ sym (name_stays (rs ++ ts) w (free_both rs ts w (ap (is_taken rs) (sym stays) ∙ free) e))
   go true e =
       let found = name_least ts w e in
-      let given : is_taken rs (suffixed w found.0) ≡ false = ap (is_taken rs) (sym found.1) ∙ free in
-      let alone : is_taken ts (suffixed w found.0) ≡ false = ap (is_taken ts) (sym found.1) ∙ name_free ts w less in
+      let given : is_taken rs (with_suffix w found.0) ≡ false = ap (is_taken rs) (sym found.1) ∙ free in
+      let alone : is_taken ts (with_suffix w found.0) ≡ false = ap (is_taken ts) (sym found.1) ∙ name_free ts w less in
       found.1
-      ∙ sym (least_is (rs ++ ts) w found.0 small (taken_behind rs ts w e) (free_both rs ts (suffixed w found.0) given alone)
-      (λ k lt. taken_behind rs ts (suffixed w k) (found.2 k lt)))
+      ∙ sym (least_is (rs ++ ts) w found.0 small (taken_behind rs ts w e) (free_both rs ts (with_suffix w found.0) given alone)
+      (λ k lt. taken_behind rs ts (with_suffix w k) (found.2 k lt)))

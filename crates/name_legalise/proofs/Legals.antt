@@ -7,7 +7,7 @@ use Rattle.verilog_model.specs.Numerals.{all_bytes}
 use Rattle.verilog_model.specs.Reserved.{reserved_words}
 use Rattle.verilog_model.specs.Checks.{contains_name, starts_name, is_identifier, are_distinct, all_identifiers, names_check}
 use Rattle.verilog_model.proofs.Numerals.{and_intro, and_first, and_second}
-use Rattle.fresh_names.specs.Fresh.{is_taken, suffixed, free_name}
+use Rattle.fresh_names.specs.Fresh.{is_taken, with_suffix, free_name}
 use Rattle.fresh_names.proofs.Taken.{same_is, taken_more, taken_last, one_more}
 use Rattle.fresh_names.proofs.Free.{name_free, name_stays}
 use Rattle.name_legalise.specs.Legal.{cleaned, legal_name, legal_after}
@@ -115,17 +115,17 @@ either true b e f = cc
 either false b e f = e
 
 pub legal_least : (ts : List Name) (w : Name) → length ts + 125 < 2 ^ 64 → contains_name (cleaned w) (reserved_words ++ ts) ≡ true
-    → (n : ℕ) × (legal_name ts w ≡ suffixed (cleaned w) n) × ((k : ℕ) → k < n → contains_name (suffixed (cleaned w) k) ts ≡ true)
+    → (n : ℕ) × (legal_name ts w ≡ with_suffix (cleaned w) n) × ((k : ℕ) → k < n → contains_name (with_suffix (cleaned w) k) ts ≡ true)
 legal_least ts w small t = (found.0, found.1, below) where
   count : length (reserved_words ++ ts) ≡ 124 + length ts
   count = length-append reserved_words ts ∙ ap (λ n. n + length ts) reserved_count
 
-  found : (n : ℕ) × (free_name (reserved_words ++ ts) (cleaned w) ≡ suffixed (cleaned w) n) × ((k : ℕ) → k < n → is_taken (reserved_words ++ ts) (suffixed (cleaned w) k) ≡ true) × (n ≤ length (reserved_words ++ ts))
+  found : (n : ℕ) × (free_name (reserved_words ++ ts) (cleaned w) ≡ with_suffix (cleaned w) n) × ((k : ℕ) → k < n → is_taken (reserved_words ++ ts) (with_suffix (cleaned w) k) ≡ true) × (n ≤ length (reserved_words ++ ts))
   found = least_within (reserved_words ++ ts) (cleaned w) (sym (contains_name-is_taken (cleaned w) (reserved_words ++ ts)) ∙ t)
 
-  below : (k : ℕ) → k < found.0 → contains_name (suffixed (cleaned w) k) ts ≡ true
+  below : (k : ℕ) → k < found.0 → contains_name (with_suffix (cleaned w) k) ts ≡ true
   below k lt =
-      let name = suffixed (cleaned w) k in
+      let name = with_suffix (cleaned w) k in
       contains_name-is_taken name ts
       ∙ either (is_taken reserved_words name) (is_taken ts name) (sym (is_taken-append reserved_words ts name) ∙ found.2 k lt)
       (suffixed_unreserved (cleaned w) k (omega (arith, lt, found.3, count, small)))

@@ -5,7 +5,7 @@ use Rattle.verilog_model.specs.Tokens.{is_name_start, is_name_byte, is_digit}
 use Rattle.verilog_model.specs.Numerals.{all_bytes, is_nonempty}
 use Rattle.verilog_model.specs.Checks.{starts_name}
 use Rattle.verilog_model.proofs.Numerals.{and_intro, and_first, and_second, all_bytes-append, all_bytes_weaker, is_decimal-decimal}
-use Rattle.fresh_names.specs.Fresh.{suffixed, free_name}
+use Rattle.fresh_names.specs.Fresh.{with_suffix, free_name}
 use Rattle.name_legalise.specs.Legal.{name_byte, cleaned}
 use Rattle.name_legalise.proofs.Suffixes.{name_within}
 
@@ -62,8 +62,8 @@ cleaned_same w s h = let same = mapped_same w h in cleaned_stays w (ap starts_na
 
 -- ---- a suffixed name
 
-starts_suffixed : (w : Name) (k : ℕ) → IsTrue (starts_name w) → IsTrue (starts_name (suffixed w k))
-unfolding suffixed
+starts_suffixed : (w : Name) (k : ℕ) → IsTrue (starts_name w) → IsTrue (starts_name (with_suffix w k))
+unfolding with_suffix
 starts_suffixed [] k h = cc
 starts_suffixed (b ∷ w) k h = h
 
@@ -74,8 +74,8 @@ digit_is_name_byte b h = go (is_name_start b) (is_digit b) (b == 36) h where
   go false true m h = refl
   go false false m h = cc
 
-bytes_suffixed : (w : Name) (k : ℕ) → k < 2 ^ 64 → IsTrue (all_bytes is_name_byte w) → IsTrue (all_bytes is_name_byte (suffixed w k))
-unfolding suffixed
+bytes_suffixed : (w : Name) (k : ℕ) → k < 2 ^ 64 → IsTrue (all_bytes is_name_byte w) → IsTrue (all_bytes is_name_byte (with_suffix w k))
+unfolding with_suffix
 bytes_suffixed w k small h =
     let digits = and_second (is_nonempty (decimal k)) (all_bytes is_digit (decimal k)) (is_decimal-decimal k small) in
     all_bytes-append is_name_byte w (95 ∷ decimal k) h

@@ -6,7 +6,7 @@ use Rattle.verilog_model.specs.Tokens.{is_digit}
 use Rattle.verilog_model.specs.Numerals.{all_bytes, is_nonempty}
 use Rattle.verilog_model.specs.Reserved.{reserved_words}
 use Rattle.verilog_model.proofs.Numerals.{and_first, and_second, is_decimal-decimal}
-use Rattle.fresh_names.specs.Fresh.{is_taken, suffixed, free_from, free_name}
+use Rattle.fresh_names.specs.Fresh.{is_taken, with_suffix, free_from, free_name}
 use Rattle.fresh_names.proofs.Taken.{same_is}
 use Rattle.fresh_names.proofs.Free.{all_below, name_stays, name_suffixed}
 use Rattle.name_legalise.proofs.Members.{or_first, or_second}
@@ -44,31 +44,31 @@ numbered_behind [] ds h = or_first (all_bytes is_digit ds) (is_numbered ds) h
 numbered_behind (b ∷ w) ds h = or_second (b == 95 && all_bytes is_digit (w ++ (95 ∷ ds))) (is_numbered (w ++ (95 ∷ ds))) (numbered_behind w ds h)
 
 -- (a number of 2^64 or more is no number of code)
-pub suffixed_unreserved : (w : Name) (k : ℕ) → k < 2 ^ 64 → is_taken reserved_words (suffixed w k) ≡ false
-unfolding suffixed
+pub suffixed_unreserved : (w : Name) (k : ℕ) → k < 2 ^ 64 → is_taken reserved_words (with_suffix w k) ≡ false
+unfolding with_suffix
 suffixed_unreserved w k small =
     let digits = and_second (is_nonempty (decimal k)) (all_bytes is_digit (decimal k)) (is_decimal-decimal k small) in
     numbered_free (w ++ (95 ∷ decimal k)) reserved_words (numbered_behind w (decimal k) digits) reserved_unnumbered
 
 -- the number of the name that is found, which is at most the last one that is tried
-least_from : (ts : List Name) (w : Name) (n k : ℕ) → ((j : ℕ) → j < k → is_taken ts (suffixed w j) ≡ true)
-    → (m : ℕ) × (free_from ts w n k ≡ suffixed w m) × ((j : ℕ) → j < m → is_taken ts (suffixed w j) ≡ true) × (m ≤ n + k)
+least_from : (ts : List Name) (w : Name) (n k : ℕ) → ((j : ℕ) → j < k → is_taken ts (with_suffix w j) ≡ true)
+    → (m : ℕ) × (free_from ts w n k ≡ with_suffix w m) × ((j : ℕ) → j < m → is_taken ts (with_suffix w j) ≡ true) × (m ≤ n + k)
 least_from ts w zero k h = (k, refl, h, omega arith)
-least_from ts w (suc n) k h = go (is_taken ts (suffixed w k)) refl (least_from ts w n (k + 1)) where
-  go : (b : Bool) → is_taken ts (suffixed w k) ≡ b
-      → (((j : ℕ) → j < k + 1 → is_taken ts (suffixed w j) ≡ true) → (m : ℕ) × (free_from ts w n (k + 1) ≡ suffixed w m) × ((j : ℕ) → j < m → is_taken ts (suffixed w j) ≡ true) × (m ≤ n + (k + 1)))
-      → (m : ℕ) × (cond b (free_from ts w n (k + 1)) (suffixed w k) ≡ suffixed w m) × ((j : ℕ) → j < m → is_taken ts (suffixed w j) ≡ true) × (m ≤ suc n + k)
+least_from ts w (suc n) k h = go (is_taken ts (with_suffix w k)) refl (least_from ts w n (k + 1)) where
+  go : (b : Bool) → is_taken ts (with_suffix w k) ≡ b
+      → (((j : ℕ) → j < k + 1 → is_taken ts (with_suffix w j) ≡ true) → (m : ℕ) × (free_from ts w n (k + 1) ≡ with_suffix w m) × ((j : ℕ) → j < m → is_taken ts (with_suffix w j) ≡ true) × (m ≤ n + (k + 1)))
+      → (m : ℕ) × (cond b (free_from ts w n (k + 1)) (with_suffix w k) ≡ with_suffix w m) × ((j : ℕ) → j < m → is_taken ts (with_suffix w j) ≡ true) × (m ≤ suc n + k)
   go true t rest = let found = rest (all_below ts w k t h) in (found.0, found.1, found.2, omega (arith, found.3))
   go false t rest = (k, refl, h, omega arith)
 
 pub least_within : (ts : List Name) (w : Name) → is_taken ts w ≡ true
-    → (m : ℕ) × (free_name ts w ≡ suffixed w m) × ((j : ℕ) → j < m → is_taken ts (suffixed w j) ≡ true) × (m ≤ length ts)
+    → (m : ℕ) × (free_name ts w ≡ with_suffix w m) × ((j : ℕ) → j < m → is_taken ts (with_suffix w j) ≡ true) × (m ≤ length ts)
 least_within ts w t =
     let found = least_from ts w (length ts) 0 (λ j lt. absurd (omega (arith, lt))) in
     (found.0, name_suffixed ts w t ∙ found.1, found.2, omega (arith, found.3))
 
 -- the free name is the wanted one, or a suffixed one with a number of code
-pub name_within : (ts : List Name) (w : Name) (P : Name → Type 0) → length ts < 2 ^ 64 → P w → ((k : ℕ) → k < 2 ^ 64 → P (suffixed w k)) → P (free_name ts w)
+pub name_within : (ts : List Name) (w : Name) (P : Name → Type 0) → length ts < 2 ^ 64 → P w → ((k : ℕ) → k < 2 ^ 64 → P (with_suffix w k)) → P (free_name ts w)
 name_within ts w P small plain more = go (is_taken ts w) refl where
   go : (b : Bool) → is_taken ts w ≡ b → P (free_name ts w)
   go false e = subst P (sym (name_stays ts w e)) plain

@@ -1,7 +1,7 @@
 //! Laws about legal names, each a clause of a function that does nothing.
 ghost use Rattle.std.specs.Prelude.{◌≡◌, ℕ, ◌+◌, ◌<◌, ◌^◌, List, ◌++◌, length, true, false};
 ghost use Rattle.hw_model.specs.Types.{Name};
-ghost use Rattle.fresh_names.specs.Fresh.{suffixed};
+ghost use Rattle.fresh_names.specs.Fresh.{with_suffix};
 ghost use Rattle.verilog_model.specs.Reserved.{reserved_words};
 ghost use Rattle.verilog_model.specs.Checks.{contains_name, is_identifier, names_check};
 ghost use Rattle.name_legalise.specs.Legal.{cleaned, legal_name, legal_after, legal};
@@ -21,5 +21,5 @@ pub fn legal_names_are_identifiers()
 pub fn legal_names_are_least()
     ensures stays { (taken : List Name) (wanted : Name) → is_identifier wanted ≡ true → contains_name wanted taken ≡ false → legal_name taken wanted ≡ wanted }
     ensures least { (taken : List Name) (wanted : Name) → length taken + 125 < 2 ^ 64 → contains_name (cleaned wanted) (reserved_words ++ taken) ≡ true
-        → (n : ℕ) × (legal_name taken wanted ≡ suffixed (cleaned wanted) n) × ((k : ℕ) → k < n → contains_name (suffixed (cleaned wanted) k) taken ≡ true) }
+        → (n : ℕ) × (legal_name taken wanted ≡ with_suffix (cleaned wanted) n) × ((k : ℕ) → k < n → contains_name (with_suffix (cleaned wanted) k) taken ≡ true) }
 {}

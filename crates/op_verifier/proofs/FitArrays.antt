@@ -10,7 +10,7 @@ use Rattle.hw_model.specs.Types.HwType.{int, clock, array, struct}
 use Rattle.hw_model.specs.Types.FieldTypes.{no_fields, field}
 use Rattle.hw_model.specs.SameType.{same_type}
 use Rattle.hw_model.specs.Sound.{AllAre}
-use Rattle.hw_model.specs.Value.{written}
+use Rattle.hw_model.specs.Value.{nth_type}
 use Rattle.ir_store.specs.ResultTypes.{first_type, second_type, elements_in, sum_of, length_joined, joined_length, as_array, array_of, element_of, kept_size}
 use Rattle.op_verifier.specs.TypeChecks.{has_bad_part, has_bad_part_among, is_without_fields, is_outside}
 use Rattle.op_verifier.specs.TypeLists.{settled, is_no_array, is_no_int, differs, any_differs, differ, differ_in_three, settled_at}
@@ -119,7 +119,7 @@ joining (struct fs ∷ ts) rs us k t l n m f h w d e = absurd (apart f)
 pub element : (ts rs us : List HwType) (k : ℕ) (t : HwType) → length ts ≡ 2 → length us ≡ 2 → length rs ≡ 1
     → is_no_array (first_type ts) || is_no_int (second_type ts) ≡ false → differ (settled us) (settled ts) ≡ false
     → differ (settled rs) (element_of (first_type ts) ∷ []) ≡ false → slice_get rs k ≡ Some t
-    → (n : ℕ) × (u : HwType) × (settled us ≡ Some (array n t) ∷ Some u ∷ []) × (written ts 0 ≡ array n t)
+    → (n : ℕ) × (u : HwType) × (settled us ≡ Some (array n t) ∷ Some u ∷ []) × (nth_type ts 0 ≡ array n t)
 element [] rs us k t n m o f h d e = absurd (omega arith)
 element (u ∷ []) rs us k t n m o f h d e = absurd (omega arith)
 element (array c v ∷ i ∷ []) rs us k t n m o f h d e =
@@ -141,7 +141,7 @@ first_agreed (a ∷ b ∷ c ∷ us) t n h = absurd (omega arith)
 pub slicing : (ts rs us : List HwType) (k : ℕ) (t : HwType) → length ts ≡ 2 → length us ≡ 2 → length rs ≡ 1 → has_other_array ts ≡ false
     → differs (settled_at (settled us) 0) (first_type ts) || is_no_int (settled_at (settled us) 1) ≡ false
     → differ (settled rs) (second_type ts ∷ []) ≡ false → slice_get rs k ≡ Some t
-    → (n : ℕ) × (m : ℕ) × (e : HwType) × (u : HwType) × (settled us ≡ Some (array n e) ∷ Some u ∷ []) × (written ts 0 ≡ array n e) × (t ≡ array m e)
+    → (n : ℕ) × (m : ℕ) × (e : HwType) × (u : HwType) × (settled us ≡ Some (array n e) ∷ Some u ∷ []) × (nth_type ts 0 ≡ array n e) × (t ≡ array m e)
 slicing [] rs us k t n m o f h d e = absurd (omega arith)
 slicing (u ∷ []) rs us k t n m o f h d e = absurd (omega arith)
 slicing (array c v ∷ array s x ∷ []) rs us k t n m o f h d e =
@@ -164,7 +164,7 @@ pub injection : (ts rs us : List HwType) (k : ℕ) (t : HwType) → length ts �
     → is_no_array (first_type ts) || is_no_int (second_type ts) ≡ false
     → differ_in_three (settled us) (first_type ts) (second_type ts) (element_of (first_type ts)) ≡ false
     → differ (settled rs) (first_type ts ∷ []) ≡ false → slice_get rs k ≡ Some t
-    → (n : ℕ) × (e : HwType) × (u : HwType) × (settled us ≡ Some t ∷ Some u ∷ Some e ∷ []) × (written ts 0 ≡ t) × (t ≡ array n e)
+    → (n : ℕ) × (e : HwType) × (u : HwType) × (settled us ≡ Some t ∷ Some u ∷ Some e ∷ []) × (nth_type ts 0 ≡ t) × (t ≡ array n e)
 injection [] rs us k t n m o f h d e = absurd (omega arith)
 injection (u ∷ []) rs us k t n m o f h d e = absurd (omega arith)
 injection (array c v ∷ i ∷ []) rs us k t n m o f h d e =

@@ -10,7 +10,7 @@ use Rattle.hw_model.specs.Kinds.Literals.{no_literals, literal}
 use Rattle.hw_model.specs.Kinds.Reset.{no_reset, sync_reset}
 use Rattle.hw_model.specs.SameType.{same_type, type_from}
 use Rattle.hw_model.specs.Sound.{field_list, field_type, literal_width, literals_width, register_types}
-use Rattle.hw_model.specs.Value.{written}
+use Rattle.hw_model.specs.Value.{nth_type}
 use Rattle.ir_store.specs.ResultTypes.{first_type, field_of, fields_of, field_count}
 use Rattle.op_verifier.specs.TypeLists.{settled, is_no_struct, differs, any_differs, differ, differ_in_two}
 use Rattle.op_verifier.specs.LiteralChecks.{literal_count, literal_differs, any_literal_differs, literals_differ, is_miscounted, any_miscounted, are_miscounted}
@@ -93,7 +93,7 @@ is_some_type (Some t) h = (t, refl)
 pub selection : (name : Name) (ts rs us : List HwType) (k : ℕ) (t : HwType) → length ts ≡ 1 → length us ≡ 1 → length rs ≡ 1
     → is_no_struct (first_type ts) ≡ false → any_differs (settled us) (first_type ts) ≡ false → is_none (field_of (first_type ts) name) ≡ false
     → differ (settled rs) (field_of (first_type ts) name ∷ []) ≡ false → slice_get rs k ≡ Some t
-    → (fs : FieldTypes) × (settled us ≡ Some (struct fs) ∷ []) × (written ts 0 ≡ struct fs) × (field_type fs name ≡ Some t)
+    → (fs : FieldTypes) × (settled us ≡ Some (struct fs) ∷ []) × (nth_type ts 0 ≡ struct fs) × (field_type fs name ≡ Some t)
 selection name [] rs us k t n m o f h x d e = absurd (omega arith)
 selection name (struct fs ∷ []) rs us k t n m o f h x d e =
     let a = is_some_type (field_type fs name) x in
@@ -109,7 +109,7 @@ selection name (u ∷ v ∷ ts) rs us k t n m o f h x d e = absurd (omega arith)
 pub exchange : (name : Name) (ts rs us : List HwType) (k : ℕ) (t : HwType) → length ts ≡ 1 → length us ≡ 2 → length rs ≡ 1
     → is_no_struct (first_type ts) ≡ false → differ_in_two (settled us) (first_type ts) (field_of (first_type ts) name) ≡ false
     → is_none (field_of (first_type ts) name) ≡ false → differ (settled rs) (first_type ts ∷ []) ≡ false → slice_get rs k ≡ Some t
-    → (fs : FieldTypes) × (e : HwType) × (settled us ≡ Some t ∷ Some e ∷ []) × (written ts 0 ≡ t) × (t ≡ struct fs) × (field_type fs name ≡ Some e)
+    → (fs : FieldTypes) × (e : HwType) × (settled us ≡ Some t ∷ Some e ∷ []) × (nth_type ts 0 ≡ t) × (t ≡ struct fs) × (field_type fs name ≡ Some e)
 exchange name [] rs us k t n m o f h x d e = absurd (omega arith)
 exchange name (struct fs ∷ []) rs us k t n m o f h x d e =
     let a = is_some_type (field_type fs name) x in
@@ -125,7 +125,7 @@ exchange name (u ∷ v ∷ ts) rs us k t n m o f h x d e = absurd (omega arith)
 pub explosion : (ts rs us : List HwType) (k : ℕ) (t : HwType) → length ts ≡ 1 → length us ≡ 1 → length rs ≡ field_count (first_type ts)
     → is_no_struct (first_type ts) ≡ false → any_differs (settled us) (first_type ts) ≡ false
     → differ (settled rs) (fields_of (first_type ts)) ≡ false → slice_get rs k ≡ Some t
-    → (fs : FieldTypes) × (settled us ≡ Some (struct fs) ∷ []) × (written ts 0 ≡ struct fs) × (slice_get (field_list fs) k ≡ Some t)
+    → (fs : FieldTypes) × (settled us ≡ Some (struct fs) ∷ []) × (nth_type ts 0 ≡ struct fs) × (slice_get (field_list fs) k ≡ Some t)
 explosion [] rs us k t n m o f h d e = absurd (omega arith)
 explosion (struct fs ∷ []) rs us k t n m o f h d e =
     let same : rs ≡ field_list fs = pairwise_agreed rs (field_list fs) o d in

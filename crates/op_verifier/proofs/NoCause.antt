@@ -10,12 +10,12 @@ use Rattle.op_verifier.specs.TypeLists.{settled, differ}
 use Rattle.op_verifier.specs.OperandChecks.{has_other_form, has_other_operand, has_other_result, has_mismatch}
 use Rattle.op_verifier.specs.LimitChecks.{has_type_outside, has_constant_outside, has_extract_outside, has_broken_copy, has_wide_concat, has_unknown_divisor, has_wrong_index, has_wrong_field, has_unequal_widths, has_clock_value}
 use Rattle.op_verifier.specs.CountChecks.{operand_count, type_count, has_wrong_operands, has_wrong_results, has_miscounted_parts, has_wrong_count}
-use Rattle.op_verifier.specs.OwnChecks.{caused, own_cause}
+use Rattle.op_verifier.specs.OwnChecks.{cause_if, own_cause}
 use Rattle.op_verifier.proofs.Widths.{neither}
 use Rattle.op_verifier.proofs.Agreeing.{same_number}
 
 -- a test that stands before no cause does not hold
-pub uncaused : (b : Bool) (c : Cause) (rest : Option Cause) → caused b c rest ≡ None → (b ≡ false) × (rest ≡ None)
+pub uncaused : (b : Bool) (c : Cause) (rest : Option Cause) → cause_if b c rest ≡ None → (b ≡ false) × (rest ≡ None)
 uncaused false c rest h = (refl, h)
 uncaused true c rest h = cc
 

@@ -10,7 +10,7 @@ use Rattle.hw_model.specs.Design.{Ref, Port, Op, Module, Design, op_without_plac
 use Rattle.hw_model.specs.Design.Ref.{port, result, undefined}
 use Rattle.hw_model.specs.Flat.{Path, Net, net, Source, instances, module_at, base, body_state, state, port_ref, copy_of, joined_ref, joined_at, given_ref, held_of, made_of}
 use Rattle.hw_model.specs.Flat.Source.{nowhere}
-use Rattle.hw_model.specs.Hierarchy.{called, called_by, calls}
+use Rattle.hw_model.specs.Hierarchy.{callee_symbols, called_by, calls}
 use Rattle.hw_model.specs.Meaning.{needs_of, needs}
 use Rattle.hw_model.specs.Sound.{body_of, ports_of}
 use Rattle.hw_model.specs.Weight.{leaf_count, kind_weight, body_weight, weight_of, module_weight, weight}
@@ -51,13 +51,13 @@ output_refs_placeless (o ∷ os) = ap (λ rs. cond (is_output_op o) o.operands r
 
 -- ---- calls
 
-called_placeless : (os : List Op) → called (map op_without_place os) ≡ called os
+called_placeless : (os : List Op) → callee_symbols (map op_without_place os) ≡ callee_symbols os
 called_placeless [] = refl
 called_placeless (o ∷ os) = ap (λ zs. called_by (instance_in o.kind) ++ zs) (called_placeless os)
 
 pub calls_placeless : (d : Design) → calls (without_places d) ≡ calls d
 calls_placeless d =
-    fun_ext (λ s. ap (λ o. called (body_of o)) (find_placeless d s) ∙ ap called (body_placeless (find_module d s)) ∙ called_placeless (body_of (find_module d s)))
+    fun_ext (λ s. ap (λ o. callee_symbols (body_of o)) (find_placeless d s) ∙ ap callee_symbols (body_placeless (find_module d s)) ∙ called_placeless (body_of (find_module d s)))
 
 -- ---- weights
 

@@ -9,22 +9,22 @@ use Rattle.op_verifier.specs.LimitChecks.{has_type_outside, has_constant_outside
 use Rattle.op_verifier.specs.CountChecks.{has_wrong_count}
 
 -- a cause where its test holds, else what else there is
-abbrev pub caused : Bool → Cause → Option Cause → Option Cause
-caused holds c rest = cond holds (Some c) rest
+abbrev pub cause_if : Bool → Cause → Option Cause → Option Cause
+cause_if holds c rest = cond holds (Some c) rest
 
 -- the lowest cause, of those that an operation has by itself: `named` results are named, None among the operands' types
 -- `xs` is compared with nothing, and `is_known` says that the divisor is the result of a nonzero hw.constant
 unfoldable pub own_cause : Kind → List HwType → List HwType → ℕ → List (Option HwType) → Bool → Option Cause
 own_cause kind ts rs named xs is_known =
-    caused (has_mismatch kind ts rs xs) cause.TypeMismatch
-    (caused (has_type_outside kind ts rs) cause.WidthLimit
-    (caused (has_constant_outside kind ts) cause.ConstantRange
-    (caused (has_extract_outside kind ts) cause.ExtractRange
-    (caused (has_broken_copy kind ts) cause.ReplicateMultiple
-    (caused (has_wide_concat kind ts) cause.ConcatWidth
-    (caused (has_unknown_divisor kind is_known) cause.Divisor
-    (caused (has_wrong_index kind ts xs) cause.IndexWidth
-    (caused (has_wrong_field kind ts) cause.Field
-    (caused (has_unequal_widths kind ts) cause.BitcastWidth
-    (caused (has_clock_value kind ts xs) cause.ClockOperand
-    (caused (has_wrong_count kind ts rs named xs) cause.Arity None)))))))))))
+    cause_if (has_mismatch kind ts rs xs) cause.TypeMismatch
+    (cause_if (has_type_outside kind ts rs) cause.WidthLimit
+    (cause_if (has_constant_outside kind ts) cause.ConstantRange
+    (cause_if (has_extract_outside kind ts) cause.ExtractRange
+    (cause_if (has_broken_copy kind ts) cause.ReplicateMultiple
+    (cause_if (has_wide_concat kind ts) cause.ConcatWidth
+    (cause_if (has_unknown_divisor kind is_known) cause.Divisor
+    (cause_if (has_wrong_index kind ts xs) cause.IndexWidth
+    (cause_if (has_wrong_field kind ts) cause.Field
+    (cause_if (has_unequal_widths kind ts) cause.BitcastWidth
+    (cause_if (has_clock_value kind ts xs) cause.ClockOperand
+    (cause_if (has_wrong_count kind ts rs named xs) cause.Arity None)))))))))))

@@ -31,7 +31,7 @@ pub(crate) fn has_other_result(
             results,
             fields_in(types.first()),
         ),
-        Family::Instance(instance) => differ_behind(results, types, instance.inputs.len()),
+        Family::Instance(instance) => differ_after(results, types, instance.inputs.len()),
         _ => single_differs(family, types, results, operands),
     }
 }
@@ -107,7 +107,7 @@ fn is_no_array_of(own: &Ty, length: Option<u32>, element: Option<&Ty>) -> bool
 }
 
 /// Whether results and the types after so many differ.
-fn differ_behind(results: &[NewResult], types: &[Ty], count: usize) -> bool
+fn differ_after(results: &[NewResult], types: &[Ty], count: usize) -> bool
     ensures { result ≡ differ (settled (map (λ r. type_of r.ty) results.now)) (settled (drop count (map type_of types.now))) }
 {
     let (_, behind) = types.split_at(count.min(types.len()));

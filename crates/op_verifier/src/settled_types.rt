@@ -47,7 +47,7 @@ impl<'b> Settled<'b> {
     {
         match self {
             Settled::Own(results) => own_type(results, k),
-            Settled::Made(types) => made_type(types, k),
+            Settled::Made(types) => inferred_type_at(types, k),
         }
     }
 }
@@ -63,7 +63,7 @@ fn own_type(results: &[NewResult], k: usize) -> Option<&Ty>
 }
 
 /// The type in a place, where one is settled there.
-fn made_type(types: &[Option<Ty>], k: usize) -> Option<&Ty>
+fn inferred_type_at(types: &[Option<Ty>], k: usize) -> Option<&Ty>
     ensures { option_map (λ t. type_of t.now) result ≡ slice_index_or (map (option_map type_of) types.now) k None }
 {
     match types.get(k) {

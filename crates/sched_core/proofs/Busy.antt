@@ -6,11 +6,11 @@ use Rattle.sched_core.specs.declared.parts.Stage.{Stage}
 use Rattle.sched_core.specs.declared.parts.Stage.TheVariants.{Waiting, Owed, Taken, Done}
 use Rattle.sched_core.specs.Sums.{one_if, put}
 use Rattle.sched_core.specs.State.{State, is_waiting, is_busy_with, IsFree}
-use Rattle.sched_core.specs.Happenings.{passed_on}
+use Rattle.sched_core.specs.Events.{reassign}
 use Rattle.sched_core.specs.Counts.{busy_of}
 use Rattle.sched_core.proofs.SumLemmas.{sum_below-same, sum_below-changed, sum_below-none, sum_below-le, none_of_sum, one_if-le, one_if-zero}
 use Rattle.sched_core.proofs.Puts.{put-here, put-other, put_keeps}
-use Rattle.sched_core.proofs.Moves.{is_busy_with-passed_on}
+use Rattle.sched_core.proofs.Moves.{is_busy_with-reassign}
 
 -- after another stage of one module
 pub busy-put : (s : State) (m w : ℕ) (x : Stage) → m < length s.callees
@@ -51,10 +51,10 @@ busy-done s m w v within taken =
     omega arith
 
 -- what one worker did passes to another
-pub busy-passed_on : (s : State) (kept gone v : ℕ) → busy_of (record s { stage = λ m. passed_on kept gone (s.stage m) }) v ≡ busy_of s v
-busy-passed_on s kept gone v =
-    sum_below-same (length s.callees) (λ k. one_if (is_busy_with v (passed_on kept gone (s.stage k)))) (λ k. one_if (is_busy_with v (s.stage k)))
-    (λ k below. ap one_if (is_busy_with-passed_on kept gone v (s.stage k)))
+pub busy-reassign : (s : State) (kept gone v : ℕ) → busy_of (record s { stage = λ m. reassign kept gone (s.stage m) }) v ≡ busy_of s v
+busy-reassign s kept gone v =
+    sum_below-same (length s.callees) (λ k. one_if (is_busy_with v (reassign kept gone (s.stage k)))) (λ k. one_if (is_busy_with v (s.stage k)))
+    (λ k below. ap one_if (is_busy_with-reassign kept gone v (s.stage k)))
 
 pub busy-le : (s : State) (w : ℕ) → busy_of s w ≤ length s.callees
 busy-le s w = sum_below-le (length s.callees) (λ m. one_if (is_busy_with w (s.stage m))) (λ m. one_if-le (is_busy_with w (s.stage m)))

@@ -8,7 +8,7 @@ use Rattle.sched_core.specs.declared.parts.Worker.{Worker}
 use Rattle.sched_core.specs.declared.event.Event.TheVariants.{Claim, Split}
 use Rattle.sched_core.specs.Sums.{sum_below, one_if, put}
 use Rattle.sched_core.specs.State.{State, callees_of, callee, leaves, is_waiting, is_begun, is_done, is_held_by, IsThere, new_worker, first}
-use Rattle.sched_core.specs.Happenings.{May, step, claimed}
+use Rattle.sched_core.specs.Events.{May, step, draw_leaf}
 use Rattle.sched_core.specs.Sound.{Sound, holders, passed_workers}
 use Rattle.sched_core.proofs.SumLemmas.{sum_below-same, sum_below-changed, sum_below-one, sum_below-past}
 use Rattle.sched_core.proofs.Puts.{put-here, put-other, put_cases, put_keeps}
@@ -59,9 +59,9 @@ nat_le-next a b apart = by_order (grind arith)
     by_order (inl below) = le-leb a b (omega arith) ∙ sym (le-leb (a + 1) b (omega arith))
     by_order (inr above) = lt-leb a b above ∙ sym (lt-leb (a + 1) b (omega arith))
 
-claim_leaf-sound : (s : State) (w m : ℕ) → Sound s → IsThere s w → slice_get (leaves s.callees) s.leaf ≡ Some m → Sound (claimed s w (Some m))
+claim_leaf-sound : (s : State) (w m : ℕ) → Sound s → IsThere s w → slice_get (leaves s.callees) s.leaf ≡ Some m → Sound (draw_leaf s w (Some m))
 claim_leaf-sound s w m sound there is = record {
-  pending = sound.pending;
+  pending_edges = sound.pending_edges;
   reported = λ c i edge is_reported. let old = sound.reported c i edge is_reported in (same_done (callee s.callees c i) ∙ old.0, old.1);
   unreported = λ c i edge not_reported. let old = sound.unreported c i edge not_reported in (old.0, λ full. same_done (callee s.callees c i) ∙ old.1 full);
   emptied = λ c i edge is_out. same_begun c ∙ sound.emptied c i edge is_out;
@@ -101,9 +101,9 @@ claim_leaf-sound s w m sound there is = record {
         ap is_waiting (put-other m (Owed w) s.stage k apart) ∙ sound.drawn j k here ∙ nat_le-next s.leaf j later
 
 claim_none-sound : (s : State) (w : ℕ) → Sound s → IsThere s w → (s.worker w).passed ≡ false → slice_get (leaves s.callees) s.leaf ≡ None
-    → Sound (claimed s w None)
+    → Sound (draw_leaf s w None)
 claim_none-sound s w sound there not_passed is = record {
-  pending = sound.pending;
+  pending_edges = sound.pending_edges;
   reported = sound.reported;
   unreported = sound.unreported;
   emptied = sound.emptied;
@@ -136,7 +136,7 @@ claim_none-sound s w sound there not_passed is = record {
 pub claim-sound : (s : State) (w : ℕ) → Sound s → May s (Claim w) → Sound (step s (Claim w))
 claim-sound s w sound may = go (slice_get (leaves s.callees) s.leaf) refl
   where
-    go : (drawn : Option ℕ) → slice_get (leaves s.callees) s.leaf ≡ drawn → Sound (claimed s w drawn)
+    go : (drawn : Option ℕ) → slice_get (leaves s.callees) s.leaf ≡ drawn → Sound (draw_leaf s w drawn)
     go (Some m) is = claim_leaf-sound s w m sound may.0 is
     go None is = claim_none-sound s w sound may.0 may.1 is
 
@@ -149,7 +149,7 @@ holders-more n (Done v) one = ap one_if (ne_eqb n v (λ same. absurd (let none :
 
 pub split-sound : (s : State) → Sound s → May s Split → Sound (step s Split)
 split-sound s sound may = record {
-  pending = sound.pending;
+  pending_edges = sound.pending_edges;
   reported = sound.reported;
   unreported = sound.unreported;
   emptied = sound.emptied;
@@ -194,7 +194,7 @@ all_unreported (suc n) = let front : sum_below n (λ i. 1) ≡ n = all_unreporte
 
 pub first-sound : (callees : List (List ℕ)) → Sound (first callees)
 first-sound callees = record {
-  pending = λ c. sym (all_unreported (length (callees_of callees c)));
+  pending_edges = λ c. sym (all_unreported (length (callees_of callees c)));
   reported = λ c i edge is. absurd (false≢true is);
   unreported = λ c i edge is. (refl, λ full. absurd (false≢true full));
   emptied = λ c i edge is. absurd (false≢true is);

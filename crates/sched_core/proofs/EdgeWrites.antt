@@ -9,7 +9,7 @@ use Rattle.sched_core.specs.declared.parts.Edge.{Edge}
 use Rattle.sched_core.specs.declared.event.Event.TheVariants.{TakeEdge, PutEdge, Report}
 use Rattle.sched_core.specs.Sums.{one_if, put}
 use Rattle.sched_core.specs.State.{State, callees_of, callee, IsEdge, is_waiting, new_edge}
-use Rattle.sched_core.specs.Happenings.{May, step, with_edge, called}
+use Rattle.sched_core.specs.Events.{May, step, with_edge, stages_after_report}
 use Rattle.sched_core.specs.Counts.{busy_of, untold_of}
 use Rattle.sched_core.specs.Table.{Table, state_of, HasPlaces, IsKept}
 use Rattle.sched_core.proofs.Puts.{put_keeps}
@@ -55,7 +55,7 @@ places-edge t c i e places edge = record {
   rows = λ a. part-set length [] t.edges c (set (get_or t.edges c []) i e) (caller-within t c i places edge) a
       ∙ put_keeps (λ n. n) c (length (set (get_or t.edges c []) i e)) (λ j. length (get_or t.edges j [])) (length-set (get_or t.edges c []) i e) a
       ∙ places.rows a;
-  pending = places.pending;
+  pending_edges = places.pending_edges;
   uses = places.uses;
   workers = places.workers;
   heirs = places.heirs;
@@ -92,15 +92,15 @@ put_edge-writes t w c i old kept may is = subst (λ x. Writes t (record t { edge
     }))
 
 -- the state after another number of pending edges
-pub state-pending : (t : Table) (c p : ℕ) → c < length t.pending → state_of (record t { pending = set t.pending c p }) ≡ record (state_of t) { pending = put c p (state_of t).pending }
-state-pending t c p within = ap (λ f. record (state_of t) { pending = f }) (parts-set (λ n. n) 0 t.pending c p within)
+pub state-pending_edges : (t : Table) (c p : ℕ) → c < length t.pending_edges → state_of (record t { pending_edges = set t.pending_edges c p }) ≡ record (state_of t) { pending_edges = put c p (state_of t).pending_edges }
+state-pending_edges t c p within = ap (λ f. record (state_of t) { pending_edges = f }) (parts-set (λ n. n) 0 t.pending_edges c p within)
 
-pub places-pending : (t : Table) (c p : ℕ) → HasPlaces t → HasPlaces (record t { pending = set t.pending c p })
-places-pending t c p places = record {
+pub places-pending_edges : (t : Table) (c p : ℕ) → HasPlaces t → HasPlaces (record t { pending_edges = set t.pending_edges c p })
+places-pending_edges t c p places = record {
   stages = places.stages;
   edges = places.edges;
   rows = places.rows;
-  pending = length-set t.pending c p ∙ places.pending;
+  pending_edges = length-set t.pending_edges c p ∙ places.pending_edges;
   uses = places.uses;
   workers = places.workers;
   heirs = places.heirs;
@@ -116,24 +116,24 @@ told_edge s c i = record (s.edge c i) { reported = true }
 
 -- the tables after a report that leaves a pending edge
 abbrev pub told_table : Table → ℕ → ℕ → ℕ → ℕ → Table
-told_table t w c i u = record t { edges = with_row t.edges c i (told_edge (state_of t) c i); pending = set t.pending c ((state_of t).pending c - 1); untold = set t.untold w (u - 1) }
+told_table t w c i u = record t { edges = with_row t.edges c i (told_edge (state_of t) c i); pending_edges = set t.pending_edges c ((state_of t).pending_edges c - 1); untold = set t.untold w (u - 1) }
 
 -- the state that they tell
 abbrev pub told_state : State → ℕ → ℕ → State
-told_state s c i = record (with_edge s c i (told_edge s c i)) { pending = put c (s.pending c - 1) s.pending }
+told_state s c i = record (with_edge s c i (told_edge s c i)) { pending_edges = put c (s.pending_edges c - 1) s.pending_edges }
 
 told-state : (t : Table) (w c i u : ℕ) → HasPlaces t → IsEdge t.callees c i → state_of (told_table t w c i u) ≡ told_state (state_of t) c i
 told-state t w c i u places edge =
     let within : c < length t.callees = edge_within t.callees c i edge in
-    let size : length t.pending ≡ length t.callees = places.pending in
-    state-pending (record t { edges = with_row t.edges c i (told_edge (state_of t) c i) }) c ((state_of t).pending c - 1) (omega arith)
-    ∙ ap (λ (s : State). record s { pending = put c ((state_of t).pending c - 1) (state_of t).pending }) (state-edge t c i (told_edge (state_of t) c i) places edge)
+    let size : length t.pending_edges ≡ length t.callees = places.pending_edges in
+    state-pending_edges (record t { edges = with_row t.edges c i (told_edge (state_of t) c i) }) c ((state_of t).pending_edges c - 1) (omega arith)
+    ∙ ap (λ (s : State). record s { pending_edges = put c ((state_of t).pending_edges c - 1) (state_of t).pending_edges }) (state-edge t c i (told_edge (state_of t) c i) places edge)
 
 told-places : (t : Table) (w c i u : ℕ) → HasPlaces t → IsEdge t.callees c i → HasPlaces (told_table t w c i u)
 told-places t w c i u places edge =
     let with_edges : HasPlaces (record t { edges = with_row t.edges c i (told_edge (state_of t) c i) }) = places-edge t c i (told_edge (state_of t) c i) places edge in
-    places-untold (record t { edges = with_row t.edges c i (told_edge (state_of t) c i); pending = set t.pending c ((state_of t).pending c - 1) }) w (u - 1)
-    (places-pending (record t { edges = with_row t.edges c i (told_edge (state_of t) c i) }) c ((state_of t).pending c - 1) with_edges)
+    places-untold (record t { edges = with_row t.edges c i (told_edge (state_of t) c i); pending_edges = set t.pending_edges c ((state_of t).pending_edges c - 1) }) w (u - 1)
+    (places-pending_edges (record t { edges = with_row t.edges c i (told_edge (state_of t) c i) }) c ((state_of t).pending_edges c - 1) with_edges)
 
 -- the doer's count of edges to report is at least one
 pub untold-positive : (s : State) (w c i : ℕ) → May s (Report w c i) → 1 ≤ untold_of s w
@@ -161,7 +161,7 @@ pub reporter-lt : (t : Table) (w c i : ℕ) → IsKept t → May (state_of t) (R
 reporter-lt t w c i kept may = there-lt t w kept (doer_there (state_of t) w (callee t.callees c i) kept.sound may.1)
 
 -- a report that is not the caller's last
-pub report_more-writes : (t : Table) (w c i u left : ℕ) → IsKept t → May (state_of t) (Report w c i) → u ≡ get_or t.untold w 0 → (state_of t).pending c - 1 ≡ suc left
+pub report_more-writes : (t : Table) (w c i u left : ℕ) → IsKept t → May (state_of t) (Report w c i) → u ≡ get_or t.untold w 0 → (state_of t).pending_edges c - 1 ≡ suc left
     → Writes t (told_table t w c i u) (Report w c i)
 report_more-writes t w c i u left kept may is more = counted t (told_table t w c i u) (Report w c i) kept may (record {
   places = told-places t w c i u kept.places may.0;
@@ -174,10 +174,10 @@ report_more-writes t w c i u left kept may is more = counted t (told_table t w c
 })
   where
     is_report : told_state (state_of t) c i ≡ step (state_of t) (Report w c i)
-    is_report = ap (λ n. record (told_state (state_of t) c i) { stage = called n w c (state_of t).stage }) (sym more)
+    is_report = ap (λ n. record (told_state (state_of t) c i) { stage = stages_after_report n w c (state_of t).stage }) (sym more)
 
 -- the caller's last report
-pub report_last-writes : (t : Table) (w c i u b : ℕ) → IsKept t → May (state_of t) (Report w c i) → u ≡ get_or t.untold w 0 → b ≡ get_or t.busy w 0 → (state_of t).pending c - 1 ≡ 0
+pub report_last-writes : (t : Table) (w c i u b : ℕ) → IsKept t → May (state_of t) (Report w c i) → u ≡ get_or t.untold w 0 → b ≡ get_or t.busy w 0 → (state_of t).pending_edges c - 1 ≡ 0
     → Writes t (record (told_table t w c i u) { stages = set t.stages c (Owed w); busy = set t.busy w (b + 1) }) (Report w c i)
 report_last-writes t w c i u b kept may is is_busy last =
     counted t (record (told_table t w c i u) { stages = set t.stages c (Owed w); busy = set t.busy w (b + 1) }) (Report w c i) kept may (record {
@@ -207,7 +207,7 @@ report_last-writes t w c i u b kept may is is_busy last =
     within = let size : length t.stages ≡ length t.callees = kept.places.stages in omega (arith, is_module)
 
     is_report : record (told_state (state_of t) c i) { stage = put c (Owed w) (state_of t).stage } ≡ step (state_of t) (Report w c i)
-    is_report = ap (λ n. record (told_state (state_of t) c i) { stage = called n w c (state_of t).stage }) (sym last)
+    is_report = ap (λ n. record (told_state (state_of t) c i) { stage = stages_after_report n w c (state_of t).stage }) (sym last)
 
     counts : (v : ℕ) → v < 64 → get_or (set t.busy w (b + 1)) v 0 ≡ busy_of (record (state_of t) { stage = put c (Owed w) (state_of t).stage }) v
     counts = count-set t.busy w (b + 1) (busy_of (state_of t)) (busy_of (record (state_of t) { stage = put c (Owed w) (state_of t).stage })) kept.places.busy few kept.busy

@@ -6,7 +6,7 @@ use Rattle.sched_core.specs.declared.parts.Edge.{Edge}
 use Rattle.sched_core.specs.declared.event.Event.TheVariants.{TakeEdge, PutEdge}
 use Rattle.sched_core.specs.Sums.{one_if, put}
 use Rattle.sched_core.specs.State.{State, callees_of, callee, IsEdge, is_waiting, is_begun, is_done, is_empty, is_full, is_emptied}
-use Rattle.sched_core.specs.Happenings.{May, step, with_edge}
+use Rattle.sched_core.specs.Events.{May, step, with_edge}
 use Rattle.sched_core.specs.Sound.{Sound, unreported_edges}
 use Rattle.sched_core.proofs.SumLemmas.{sum_below-same, none_of_sum, one_if-zero}
 use Rattle.sched_core.proofs.Puts.{put_cases}
@@ -34,8 +34,8 @@ put_edge_keeps part c i e edge same a b =
 pub reported_unless_waiting : (s : State) (c i : ℕ) → Sound s → is_waiting (s.stage c) ≡ false → IsEdge s.callees c i → (s.edge c i).reported ≡ true
 reported_unless_waiting s c i sound not_waiting edge =
     let some : 0 < length (callees_of s.callees c) = omega (arith, edge) in
-    let none : s.pending c ≤ 0 = ltb-false 0 (s.pending c) (sym (sound.callers c some) ∙ not_waiting) in
-    let sum : unreported_edges s c ≡ 0 = omega (arith, sound.pending c) in
+    let none : s.pending_edges c ≤ 0 = ltb-false 0 (s.pending_edges c) (sym (sound.callers c some) ∙ not_waiting) in
+    let sum : unreported_edges s c ≡ 0 = omega (arith, sound.pending_edges c) in
     let here : one_if (not (s.edge c i).reported) ≡ 0 =
     none_of_sum (length (callees_of s.callees c)) (λ k. one_if (not (s.edge c k).reported)) sum i edge in
     is_true (s.edge c i).reported (one_if-zero (not (s.edge c i).reported) here)
@@ -54,7 +54,7 @@ pub record Refilled (s : State) (c i : ℕ) (e : Edge) : Type 0 where
 
 pub refilled : (s : State) (c i : ℕ) (e : Edge) → Sound s → IsEdge s.callees c i → Refilled s c i e → Sound (with_edge s c i e)
 refilled s c i e sound edge fits = record {
-  pending = λ a. sound.pending a ∙ sum_below-same (length (callees_of s.callees a)) (λ b. one_if (not (s.edge a b).reported)) (λ b. one_if (not (put_edge c i e s.edge a b).reported))
+  pending_edges = λ a. sound.pending_edges a ∙ sum_below-same (length (callees_of s.callees a)) (λ b. one_if (not (s.edge a b).reported)) (λ b. one_if (not (put_edge c i e s.edge a b).reported))
       (λ b below. ap (λ r. one_if (not r)) (sym (put_edge_keeps (λ x. x.reported) c i e s.edge fits.same a b)));
   reported = λ a b at. put_edge_cases (λ x. x.reported ≡ true → (is_done (s.stage (callee s.callees a b)) ≡ true) × (is_empty x.fill ≡ false)) c i e s.edge a b
       (λ here here' is. (done_there a b here here' (sym fits.same ∙ is), fits.reported is)) (sound.reported a b at);

@@ -9,7 +9,7 @@ use Rattle.sched_core.specs.State.{State, callees_of, leaves, is_busy_with, new_
 use Rattle.sched_core.specs.Sound.{Sound}
 use Rattle.sched_core.specs.Counts.{uses_of, untold_of}
 use Rattle.sched_core.specs.Runs.{AreCallees}
-use Rattle.sched_core.specs.Table.{Table, state_of, inherited, HasPlaces, IsKept}
+use Rattle.sched_core.specs.Table.{Table, state_of, stage_with_heirs, HasPlaces, IsKept}
 use Rattle.sched_core.proofs.SumLemmas.{sum_below-none}
 use Rattle.sched_core.proofs.EdgeSums.{sum_edges-none}
 use Rattle.sched_core.proofs.Draws.{first-sound}
@@ -29,7 +29,7 @@ pub record IsNew {A : Type 0} (f : A → List ℕ) (rows : List A) (t : Table) :
   pub uses : (m : ℕ) → m < length rows → get_or t.uses m 0 ≡ uses_of (map f rows) m
   pub stages : t.stages ≡ replicate (length rows) Waiting
   pub edges : t.edges ≡ map (λ row. replicate (length (f row)) new_edge) rows
-  pub pending : t.pending ≡ map (λ row. length (f row)) rows
+  pub pending_edges : t.pending_edges ≡ map (λ row. length (f row)) rows
   pub leaf : t.leaf ≡ 0
   pub splits : t.splits ≡ 0
   pub workers : t.workers ≡ set (replicate 64 no_worker) 0 new_worker
@@ -39,16 +39,16 @@ pub record IsNew {A : Type 0} (f : A → List ℕ) (rows : List A) (t : Table) :
   pub untold : t.untold ≡ replicate 64 0
 
 -- two states with the same parts are equal
-same_state : (s u : State) → s.callees ≡ u.callees → s.stage ≡ u.stage → s.edge ≡ u.edge → s.pending ≡ u.pending → s.leaf ≡ u.leaf → s.worker ≡ u.worker
+same_state : (s u : State) → s.callees ≡ u.callees → s.stage ≡ u.stage → s.edge ≡ u.edge → s.pending_edges ≡ u.pending_edges → s.leaf ≡ u.leaf → s.worker ≡ u.worker
     → s.workers ≡ u.workers → s.splits ≡ u.splits → s ≡ u
-same_state s u callees stage edge pending leaf worker workers splits =
+same_state s u callees stage edge pending_edges leaf worker workers splits =
     ap (λ x. record s { callees = x }) callees
     ∙ ap (λ x. record s { callees = u.callees; stage = x }) stage
     ∙ ap (λ x. record s { callees = u.callees; stage = u.stage; edge = x }) edge
-    ∙ ap (λ x. record s { callees = u.callees; stage = u.stage; edge = u.edge; pending = x }) pending
-    ∙ ap (λ x. record s { callees = u.callees; stage = u.stage; edge = u.edge; pending = u.pending; leaf = x }) leaf
-    ∙ ap (λ x. record s { callees = u.callees; stage = u.stage; edge = u.edge; pending = u.pending; leaf = u.leaf; worker = x }) worker
-    ∙ ap (λ x. record s { callees = u.callees; stage = u.stage; edge = u.edge; pending = u.pending; leaf = u.leaf; worker = u.worker; workers = x }) workers
+    ∙ ap (λ x. record s { callees = u.callees; stage = u.stage; edge = u.edge; pending_edges = x }) pending_edges
+    ∙ ap (λ x. record s { callees = u.callees; stage = u.stage; edge = u.edge; pending_edges = u.pending_edges; leaf = x }) leaf
+    ∙ ap (λ x. record s { callees = u.callees; stage = u.stage; edge = u.edge; pending_edges = u.pending_edges; leaf = u.leaf; worker = x }) worker
+    ∙ ap (λ x. record s { callees = u.callees; stage = u.stage; edge = u.edge; pending_edges = u.pending_edges; leaf = u.leaf; worker = u.worker; workers = x }) workers
     ∙ ap (λ x. record u { splits = x }) splits
 
 module _ {A : Type 0} (f : A → List ℕ) (rows : List A) (t : Table) (new : IsNew f rows t) where
@@ -67,13 +67,13 @@ module _ {A : Type 0} (f : A → List ℕ) (rows : List A) (t : Table) (new : Is
           at (y ∷ ys) (suc j) = at ys j
 
   new_stage : (m : ℕ) → (state_of t).stage m ≡ Waiting
-  new_stage m = ap (λ xs. inherited t.heirs (get_or xs m Waiting)) new.stages ∙ ap (inherited t.heirs) (get_or-replicate (length rows) Waiting m)
+  new_stage m = ap (λ xs. stage_with_heirs t.heirs (get_or xs m Waiting)) new.stages ∙ ap (stage_with_heirs t.heirs) (get_or-replicate (length rows) Waiting m)
 
   new_edges : (c i : ℕ) → (state_of t).edge c i ≡ new_edge
   new_edges c i = let row = new_row c in ap (λ xs. get_or xs i new_edge) row.1 ∙ get_or-replicate row.0 new_edge i
 
-  new_pending : (c : ℕ) → (state_of t).pending c ≡ length (callees_of (map f rows) c)
-  new_pending c = ap (λ xs. get_or xs c 0) new.pending ∙ at rows c
+  new_pending : (c : ℕ) → (state_of t).pending_edges c ≡ length (callees_of (map f rows) c)
+  new_pending c = ap (λ xs. get_or xs c 0) new.pending_edges ∙ at rows c
     where
       at : (xs : List A) (j : ℕ) → get_or (map (λ row. length (f row)) xs) j 0 ≡ length (callees_of (map f xs) j)
       at [] j = refl
@@ -97,7 +97,7 @@ module _ {A : Type 0} (f : A → List ℕ) (rows : List A) (t : Table) (new : Is
         stages = ap length new.stages ∙ length-replicate (length rows) Waiting ∙ sym count;
         edges = ap length new.edges ∙ length-map rows (λ row. replicate (length (f row)) new_edge) ∙ sym count;
         rows = λ c. let row = new_row c in ap length row.1 ∙ length-replicate row.0 new_edge ∙ row.2;
-        pending = ap length new.pending ∙ length-map rows (λ row. length (f row)) ∙ sym count;
+        pending_edges = ap length new.pending_edges ∙ length-map rows (λ row. length (f row)) ∙ sym count;
         uses = new.size ∙ sym count;
         workers = ap length new.workers;
         heirs = new.many;

@@ -2,7 +2,7 @@
 use Rattle.sched_core.specs.declared.event.Event.{Event}
 use Rattle.sched_core.specs.declared.event.Event.TheVariants.{Claim, Take, TakeEdge, PutDone, PutEdge, Report, Split, Join}
 use Rattle.sched_core.specs.State.{State}
-use Rattle.sched_core.specs.Happenings.{May, step}
+use Rattle.sched_core.specs.Events.{May, step}
 use Rattle.sched_core.specs.Sound.{Sound}
 use Rattle.sched_core.proofs.Moves.{take-sound, put_done-sound, join-sound}
 use Rattle.sched_core.proofs.Edges.{take_edge-sound, put_edge-sound}

@@ -7,7 +7,7 @@ use Rattle.sched_core.specs.declared.parts.Stage.TheVariants.{Waiting, Owed, Tak
 use Rattle.sched_core.specs.declared.event.Event.TheVariants.{Take, PutDone, Join}
 use Rattle.sched_core.specs.Sums.{sum_below, one_if, put}
 use Rattle.sched_core.specs.State.{State, callee, IsEdge, is_waiting, is_begun, is_done, is_held_by, is_busy_with, is_emptied, IsThere}
-use Rattle.sched_core.specs.Happenings.{May, step, passed_on}
+use Rattle.sched_core.specs.Events.{May, step, reassign}
 use Rattle.sched_core.specs.Sound.{Sound, holders}
 use Rattle.sched_core.proofs.SumLemmas.{sum_below-same, sum_below-one}
 use Rattle.sched_core.proofs.Puts.{put_cases, put_keeps}
@@ -23,7 +23,7 @@ pub record Moved (s : State) (stage : ℕ → Stage) : Type 0 where
 
 pub moved : (s : State) (stage : ℕ → Stage) → Sound s → Moved s stage → Sound (record s { stage = stage })
 moved s stage sound move = record {
-  pending = sound.pending;
+  pending_edges = sound.pending_edges;
   reported = λ c i edge is. let old = sound.reported c i edge is in (move.dones (callee s.callees c i) old.0, old.1);
   unreported = λ c i edge is. let old = sound.unreported c i edge is in (old.0, λ full. move.dones (callee s.callees c i) (old.1 full));
   emptied = λ c i edge is. move.begins c (sound.emptied c i edge is);
@@ -69,42 +69,42 @@ put_done-sound s w m sound may = moved s (put m (Done w) s.stage) sound (record 
         subst P (sym here) (λ at. ap is_emptied (may.1 i at)) edge
 
 -- what passes to another worker stays waiting, begun or done
-pub is_waiting-passed_on : (kept gone : ℕ) (x : Stage) → is_waiting (passed_on kept gone x) ≡ is_waiting x
-is_waiting-passed_on kept gone Waiting = refl
-is_waiting-passed_on kept gone (Owed w) = refl
-is_waiting-passed_on kept gone (Taken w) = refl
-is_waiting-passed_on kept gone (Done w) = refl
+pub is_waiting-reassign : (kept gone : ℕ) (x : Stage) → is_waiting (reassign kept gone x) ≡ is_waiting x
+is_waiting-reassign kept gone Waiting = refl
+is_waiting-reassign kept gone (Owed w) = refl
+is_waiting-reassign kept gone (Taken w) = refl
+is_waiting-reassign kept gone (Done w) = refl
 
-pub is_begun-passed_on : (kept gone : ℕ) (x : Stage) → is_begun (passed_on kept gone x) ≡ is_begun x
-is_begun-passed_on kept gone Waiting = refl
-is_begun-passed_on kept gone (Owed w) = refl
-is_begun-passed_on kept gone (Taken w) = refl
-is_begun-passed_on kept gone (Done w) = refl
+pub is_begun-reassign : (kept gone : ℕ) (x : Stage) → is_begun (reassign kept gone x) ≡ is_begun x
+is_begun-reassign kept gone Waiting = refl
+is_begun-reassign kept gone (Owed w) = refl
+is_begun-reassign kept gone (Taken w) = refl
+is_begun-reassign kept gone (Done w) = refl
 
-pub is_done-passed_on : (kept gone : ℕ) (x : Stage) → is_done (passed_on kept gone x) ≡ is_done x
-is_done-passed_on kept gone Waiting = refl
-is_done-passed_on kept gone (Owed w) = refl
-is_done-passed_on kept gone (Taken w) = refl
-is_done-passed_on kept gone (Done w) = refl
+pub is_done-reassign : (kept gone : ℕ) (x : Stage) → is_done (reassign kept gone x) ≡ is_done x
+is_done-reassign kept gone Waiting = refl
+is_done-reassign kept gone (Owed w) = refl
+is_done-reassign kept gone (Taken w) = refl
+is_done-reassign kept gone (Done w) = refl
 
-pub is_busy_with-passed_on : (kept gone v : ℕ) (x : Stage) → is_busy_with v (passed_on kept gone x) ≡ is_busy_with v x
-is_busy_with-passed_on kept gone v Waiting = refl
-is_busy_with-passed_on kept gone v (Owed w) = refl
-is_busy_with-passed_on kept gone v (Taken w) = refl
-is_busy_with-passed_on kept gone v (Done w) = refl
+pub is_busy_with-reassign : (kept gone v : ℕ) (x : Stage) → is_busy_with v (reassign kept gone x) ≡ is_busy_with v x
+is_busy_with-reassign kept gone v Waiting = refl
+is_busy_with-reassign kept gone v (Owed w) = refl
+is_busy_with-reassign kept gone v (Taken w) = refl
+is_busy_with-reassign kept gone v (Done w) = refl
 
 -- a module has as many holders afterwards
-pub holders-passed_on : (n kept gone : ℕ) → kept < n → gone < n → (x : Stage) → holders n (passed_on kept gone x) ≡ holders n x
-holders-passed_on n kept gone keeps goes Waiting = refl
-holders-passed_on n kept gone keeps goes (Owed w) = refl
-holders-passed_on n kept gone keeps goes (Taken w) = refl
-holders-passed_on n kept gone keeps goes (Done w) =
+pub holders-reassign : (n kept gone : ℕ) → kept < n → gone < n → (x : Stage) → holders n (reassign kept gone x) ≡ holders n x
+holders-reassign n kept gone keeps goes Waiting = refl
+holders-reassign n kept gone keeps goes (Owed w) = refl
+holders-reassign n kept gone keeps goes (Taken w) = refl
+holders-reassign n kept gone keeps goes (Done w) =
     cond_both (w == gone) kept w (λ y. sum_below n (λ v. one_if (v == y)) ≡ sum_below n (λ v. one_if (v == w)))
     (λ is. sum_below-one n kept keeps ∙ sym (sum_below-one n w (subst (λ v. v < n) (sym (eqb-true w gone is)) goes)))
     (λ is. refl)
 
 -- who holds a module afterwards held it before or is the one that keeps, and has not gone
-held_afterwards : (kept gone v : ℕ) (x : Stage) → kept ≢ gone → is_busy_with gone x ≡ false → is_held_by v (passed_on kept gone x) ≡ true
+held_afterwards : (kept gone v : ℕ) (x : Stage) → kept ≢ gone → is_busy_with gone x ≡ false → is_held_by v (reassign kept gone x) ≡ true
     → ((v ≡ kept) ⊎ (is_held_by v x ≡ true)) × (v ≢ gone)
 held_afterwards kept gone v Waiting apart free is = absurd (false≢true is)
 held_afterwards kept gone v (Owed w) apart free is =
@@ -119,7 +119,7 @@ held_afterwards kept gone v (Done w) apart free is =
 
 pub join-sound : (s : State) (kept gone : ℕ) → Sound s → May s (Join kept gone) → Sound (step s (Join kept gone))
 join-sound s kept gone sound (apart, keeps, goes, free, told) = record {
-  pending = passes.pending;
+  pending_edges = passes.pending_edges;
   reported = passes.reported;
   unreported = passes.unreported;
   emptied = passes.emptied;
@@ -138,17 +138,17 @@ join-sound s kept gone sound (apart, keeps, goes, free, told) = record {
     holder_there m v (inl same) = subst (λ n. IsThere s n) (sym same) keeps
     holder_there m v (inr held) = sound.there m v held
 
-    passes : Sound (record s { stage = λ m. passed_on kept gone (s.stage m) })
-    passes = moved s (λ m. passed_on kept gone (s.stage m)) sound (record {
-      waits = λ k. is_waiting-passed_on kept gone (s.stage k);
-      begins = λ k was. is_begun-passed_on kept gone (s.stage k) ∙ was;
-      dones = λ k was. is_done-passed_on kept gone (s.stage k) ∙ was;
-      ends = λ k i edge is. sound.done k i edge (sym (is_done-passed_on kept gone (s.stage k)) ∙ is);
-      holds = λ k. holders-passed_on s.workers kept gone keeps.0 goes.0 (s.stage k);
+    passes : Sound (record s { stage = λ m. reassign kept gone (s.stage m) })
+    passes = moved s (λ m. reassign kept gone (s.stage m)) sound (record {
+      waits = λ k. is_waiting-reassign kept gone (s.stage k);
+      begins = λ k was. is_begun-reassign kept gone (s.stage k) ∙ was;
+      dones = λ k was. is_done-reassign kept gone (s.stage k) ∙ was;
+      ends = λ k i edge is. sound.done k i edge (sym (is_done-reassign kept gone (s.stage k)) ∙ is);
+      holds = λ k. holders-reassign s.workers kept gone keeps.0 goes.0 (s.stage k);
       attended = λ k v is. holder_there k v (held_afterwards kept gone v (s.stage k) apart (free k) is).0;
     })
 
-    still_there : (m v : ℕ) → is_held_by v (passed_on kept gone (s.stage m)) ≡ true → IsThere (step s (Join kept gone)) v
+    still_there : (m v : ℕ) → is_held_by v (reassign kept gone (s.stage m)) ≡ true → IsThere (step s (Join kept gone)) v
     still_there m v is =
         let held = held_afterwards kept gone v (s.stage m) apart (free m) is in
         let was = holder_there m v held.0 in

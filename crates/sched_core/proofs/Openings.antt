@@ -7,10 +7,10 @@ use Rattle.sched_core.specs.declared.parts.Edge.{Edge}
 use Rattle.sched_core.specs.declared.event.Event.{Event}
 use Rattle.sched_core.specs.declared.event.Event.TheVariants.{Report, PutDone}
 use Rattle.sched_core.specs.State.{leaves, is_done}
-use Rattle.sched_core.specs.Happenings.{May, step}
+use Rattle.sched_core.specs.Events.{May, step}
 use Rattle.sched_core.specs.Counts.{uses_of, untold_of}
 use Rattle.sched_core.specs.Table.{Table, state_of, IsKept}
-use Rattle.sched_core.proofs.Reports.{pending-positive}
+use Rattle.sched_core.proofs.Reports.{pending_edges-positive}
 use Rattle.sched_core.proofs.Shapes.{Writes}
 use Rattle.sched_core.proofs.StageWrites.{untold-uses-le}
 use Rattle.sched_core.proofs.EdgeWrites.{with_row, told_edge, report_more-writes, report_last-writes}
@@ -40,13 +40,13 @@ rows-set f rows c i e row new within is written =
 
 -- a report's writes, by the values that were read
 pub report_more-read : (t : Table) (w c i u p : ℕ) (old : Edge) → IsKept t → May (state_of t) (Report w c i) → u ≡ get_or t.untold w 0
-    → p ≡ (state_of t).pending c → p ≢ 1 → old ≡ (state_of t).edge c i
-    → Writes t (record t { edges = with_row t.edges c i (record old { reported = true }); pending = set t.pending c (p - 1); untold = set t.untold w (u - 1) }) (Report w c i)
+    → p ≡ (state_of t).pending_edges c → p ≢ 1 → old ≡ (state_of t).edge c i
+    → Writes t (record t { edges = with_row t.edges c i (record old { reported = true }); pending_edges = set t.pending_edges c (p - 1); untold = set t.untold w (u - 1) }) (Report w c i)
 report_more-read t w c i u p old kept may is_untold is_pending more is_edge =
-    let positive : 0 < (state_of t).pending c = pending-positive (state_of t) c i kept.sound may.0 may.3 in
-    let left : (state_of t).pending c - 1 ≡ suc (p - 2) = rest p ((state_of t).pending c) is_pending more positive in
-    subst (λ x. Writes t (record t { edges = with_row t.edges c i (record x { reported = true }); pending = set t.pending c (p - 1); untold = set t.untold w (u - 1) }) (Report w c i)) (sym is_edge)
-    (subst (λ n. Writes t (record t { edges = with_row t.edges c i (told_edge (state_of t) c i); pending = set t.pending c (n - 1); untold = set t.untold w (u - 1) }) (Report w c i)) (sym is_pending)
+    let positive : 0 < (state_of t).pending_edges c = pending_edges-positive (state_of t) c i kept.sound may.0 may.3 in
+    let left : (state_of t).pending_edges c - 1 ≡ suc (p - 2) = rest p ((state_of t).pending_edges c) is_pending more positive in
+    subst (λ x. Writes t (record t { edges = with_row t.edges c i (record x { reported = true }); pending_edges = set t.pending_edges c (p - 1); untold = set t.untold w (u - 1) }) (Report w c i)) (sym is_edge)
+    (subst (λ n. Writes t (record t { edges = with_row t.edges c i (told_edge (state_of t) c i); pending_edges = set t.pending_edges c (n - 1); untold = set t.untold w (u - 1) }) (Report w c i)) (sym is_pending)
     (report_more-writes t w c i u (p - 2) kept may is_untold left))
   where
     rest : (a b : ℕ) → a ≡ b → a ≢ 1 → 0 < b → b - 1 ≡ suc (a - 2)
@@ -55,26 +55,26 @@ report_more-read t w c i u p old kept may is_untold is_pending more is_edge =
     rest (suc (suc a)) b e apart positive = omega arith
 
 pub report_last-read : (t : Table) (w c i u b p : ℕ) (old : Edge) → IsKept t → May (state_of t) (Report w c i) → u ≡ get_or t.untold w 0 → b ≡ get_or t.busy w 0
-    → p ≡ (state_of t).pending c → p ≡ 1 → old ≡ (state_of t).edge c i
+    → p ≡ (state_of t).pending_edges c → p ≡ 1 → old ≡ (state_of t).edge c i
     → Writes t (record t {
       edges = with_row t.edges c i (record old { reported = true });
-      pending = set t.pending c (p - 1);
+      pending_edges = set t.pending_edges c (p - 1);
       untold = set t.untold w (u - 1);
       stages = set t.stages c (Owed w);
       busy = set t.busy w (b + 1);
     }) (Report w c i)
 report_last-read t w c i u b p old kept may is_untold is_busy is_pending last is_edge =
-    let left : (state_of t).pending c - 1 ≡ 0 = omega arith in
+    let left : (state_of t).pending_edges c - 1 ≡ 0 = omega arith in
     subst (λ x. Writes t (record t {
       edges = with_row t.edges c i (record x { reported = true });
-      pending = set t.pending c (p - 1);
+      pending_edges = set t.pending_edges c (p - 1);
       untold = set t.untold w (u - 1);
       stages = set t.stages c (Owed w);
       busy = set t.busy w (b + 1);
     }) (Report w c i)) (sym is_edge)
     (subst (λ n. Writes t (record t {
       edges = with_row t.edges c i (told_edge (state_of t) c i);
-      pending = set t.pending c (n - 1);
+      pending_edges = set t.pending_edges c (n - 1);
       untold = set t.untold w (u - 1);
       stages = set t.stages c (Owed w);
       busy = set t.busy w (b + 1);

@@ -10,13 +10,13 @@ use Rattle.sched_core.specs.declared.event.Event.{Event}
 use Rattle.sched_core.specs.declared.event.Event.TheVariants.{Claim, Take, TakeEdge, PutDone, PutEdge, Report, Split, Join}
 use Rattle.sched_core.specs.Sums.{one_if, put}
 use Rattle.sched_core.specs.State.{State, callees_of, callee, IsEdge, leaves, is_waiting, is_done, is_busy_with, first}
-use Rattle.sched_core.specs.Happenings.{May, step, claimed, called, passed_on}
+use Rattle.sched_core.specs.Events.{May, step, draw_leaf, stages_after_report, reassign}
 use Rattle.sched_core.specs.Sound.{Sound, unreported_edges}
 use Rattle.sched_core.specs.Runs.{AreCallees, Allowed, after, completes, times_done, IsSettled}
 use Rattle.sched_core.proofs.SumLemmas.{sum_below-none, one_if-le}
 use Rattle.sched_core.proofs.Puts.{put-here, put-other, put_keeps}
 use Rattle.sched_core.proofs.LeafNumbers.{within_some, leaf_has_number, HasNumber}
-use Rattle.sched_core.proofs.Moves.{is_done-passed_on}
+use Rattle.sched_core.proofs.Moves.{is_done-reassign}
 use Rattle.sched_core.proofs.Edges.{reported_unless_waiting}
 use Rattle.sched_core.proofs.Draws.{next_leaf-waits, not_done, first-sound}
 use Rattle.sched_core.proofs.Reports.{unreported-waits}
@@ -30,7 +30,7 @@ after-sound s (e ∷ es) sound allowed = after-sound (step s e) es (step-sound s
 pub callees-step : (s : State) (e : Event) → (step s e).callees ≡ s.callees
 callees-step s (Claim w) = of_draw (slice_get (leaves s.callees) s.leaf)
   where
-    of_draw : (drawn : Option ℕ) → (claimed s w drawn).callees ≡ s.callees
+    of_draw : (drawn : Option ℕ) → (draw_leaf s w drawn).callees ≡ s.callees
     of_draw (Some m) = refl
     of_draw None = refl
 callees-step s (Take w m) = refl
@@ -70,7 +70,7 @@ none_done s stage m same = let e : one_if (is_done (stage m)) ≡ one_if (is_don
 pub done-step : (s : State) (e : Event) (m : ℕ) → Sound s → May s e → one_if (is_done ((step s e).stage m)) ≡ completes m e + one_if (is_done (s.stage m))
 done-step s (Claim w) m sound may = go (slice_get (leaves s.callees) s.leaf) refl
   where
-    go : (drawn : Option ℕ) → slice_get (leaves s.callees) s.leaf ≡ drawn → one_if (is_done ((claimed s w drawn).stage m)) ≡ 0 + one_if (is_done (s.stage m))
+    go : (drawn : Option ℕ) → slice_get (leaves s.callees) s.leaf ≡ drawn → one_if (is_done ((draw_leaf s w drawn).stage m)) ≡ 0 + one_if (is_done (s.stage m))
     go (Some k) is = none_done s (put k (Owed w) s.stage) m (put_keeps is_done k (Owed w) s.stage (sym (not_done (s.stage k) (next_leaf-waits s k sound is))) m)
     go None is = none_done s s.stage m refl
 done-step s (Take w k) m sound may = none_done s (put k (Taken w) s.stage) m (put_keeps is_done k (Taken w) s.stage (sym (ap is_done may)) m)
@@ -88,16 +88,16 @@ done-step s (PutDone w k) m sound may = go (cases_eq m k)
         let none : one_if (m == k) ≡ 0 = ap one_if (ne_eqb m k other) in
         omega arith
 done-step s (PutEdge w c i) m sound may = none_done s s.stage m refl
-done-step s (Report w c i) m sound may = go (s.pending c - 1)
+done-step s (Report w c i) m sound may = go (s.pending_edges c - 1)
   where
     waits : is_waiting (s.stage c) ≡ true
     waits = unreported-waits s c i sound may.0 may.3
 
-    go : (left : ℕ) → one_if (is_done (called left w c s.stage m)) ≡ 0 + one_if (is_done (s.stage m))
+    go : (left : ℕ) → one_if (is_done (stages_after_report left w c s.stage m)) ≡ 0 + one_if (is_done (s.stage m))
     go zero = none_done s (put c (Owed w) s.stage) m (put_keeps is_done c (Owed w) s.stage (sym (not_done (s.stage c) waits)) m)
     go (suc left) = none_done s s.stage m refl
 done-step s Split m sound may = none_done s s.stage m refl
-done-step s (Join kept gone) m sound may = none_done s (λ k. passed_on kept gone (s.stage k)) m (is_done-passed_on kept gone (s.stage m))
+done-step s (Join kept gone) m sound may = none_done s (λ k. reassign kept gone (s.stage k)) m (is_done-reassign kept gone (s.stage m))
 
 -- a module is done after a list of events where it was, or as often as it came to be
 pub done-after : (s : State) (es : List Event) (m : ℕ) → Sound s → Allowed s es → one_if (is_done ((after s es).stage m)) ≡ times_done m es + one_if (is_done (s.stage m))
@@ -194,7 +194,7 @@ complete s sound are drawn settled =
     caller_over m before some =
         let none : unreported_edges s m ≡ 0 =
         sum_below-none (length (callees_of s.callees m)) (λ i. one_if (not (s.edge m i).reported)) (λ i edge. ap (λ b. one_if (not b)) (all_reported m before i edge)) in
-        sound.callers m some ∙ ap (nat_lt 0) (sound.pending m ∙ none)
+        sound.callers m some ∙ ap (nat_lt 0) (sound.pending_edges m ∙ none)
 
     by_callees : (m : ℕ) → ((k : ℕ) → In k (callees_of s.callees m) → k < length s.callees → is_done (s.stage k) ≡ true) → m < length s.callees
         → (xs : List ℕ) → callees_of s.callees m ≡ xs → is_waiting (s.stage m) ≡ false

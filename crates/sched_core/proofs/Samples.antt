@@ -6,11 +6,11 @@ use Rattle.sched_core.specs.declared.event.Event.{Event}
 use Rattle.sched_core.specs.declared.event.Event.TheVariants.{Claim, Take, TakeEdge, PutDone, PutEdge, Report, Split, Join}
 use Rattle.sched_core.specs.Sums.{sum_below, one_if, put}
 use Rattle.sched_core.specs.State.{State, callee, leaves, first}
-use Rattle.sched_core.specs.Happenings.{step}
+use Rattle.sched_core.specs.Events.{step}
 use Rattle.sched_core.specs.Sound.{unreported_edges, holders, passed_workers}
 use Rattle.sched_core.specs.Counts.{times_in, uses_of, busy_of, untold_of}
 use Rattle.sched_core.specs.Runs.{after, times_done}
-use Rattle.sched_core.specs.Table.{inherited, heir_after}
+use Rattle.sched_core.specs.Table.{stage_with_heirs, heir_after}
 
 abbrev two_leaves : List (List ℕ)
 two_leaves = [] ∷ [] ∷ (0 ∷ 1 ∷ []) ∷ []
@@ -64,7 +64,7 @@ third_draw = refl
 one_report : halfway.stage 2 ≡ Waiting
 one_report = refl
 
-one_pending : halfway.pending 2 ≡ 1
+one_pending : halfway.pending_edges 2 ≡ 1
 one_pending = refl
 
 one_unreported : unreported_edges halfway 2 ≡ 1
@@ -110,7 +110,7 @@ uses : uses_of twice 0 ≡ 2
 uses = refl
 
 -- a done module is its doer's heir's
-heir : inherited (0 ∷ 0 ∷ 2 ∷ []) (Done 1) ≡ Done 0
+heir : stage_with_heirs (0 ∷ 0 ∷ 2 ∷ []) (Done 1) ≡ Done 0
 heir = refl
 
 heir_of_other : heir_after 0 1 2 ≡ 2

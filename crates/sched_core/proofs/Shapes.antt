@@ -7,10 +7,10 @@ use Rattle.sched_core.specs.declared.parts.Stage.TheVariants.{Waiting}
 use Rattle.sched_core.specs.declared.event.Event.{Event}
 use Rattle.sched_core.specs.Sums.{one_if, put}
 use Rattle.sched_core.specs.State.{leaves, leaves_from, is_waiting, is_held_by, no_worker}
-use Rattle.sched_core.specs.Happenings.{May, step}
+use Rattle.sched_core.specs.Events.{May, step}
 use Rattle.sched_core.specs.Sound.{Sound, passed_workers}
 use Rattle.sched_core.specs.Counts.{uses_of, busy_of, untold_of}
-use Rattle.sched_core.specs.Table.{Table, state_of, inherited, HasPlaces, IsKept}
+use Rattle.sched_core.specs.Table.{Table, state_of, stage_with_heirs, HasPlaces, IsKept}
 use Rattle.sched_core.proofs.SumLemmas.{sum_below-le, one_if-le}
 use Rattle.sched_core.proofs.Keeping.{step-sound}
 use Rattle.sched_core.proofs.Reading.{get_or-past, parts-set}
@@ -56,8 +56,8 @@ count-set xs w x f g size within old new others v below = go (cases_eq v w)
 
 -- the state after another stage of a module
 pub state-stage : (t : Table) (m : ℕ) (x : Stage) → m < length t.stages
-    → state_of (record t { stages = set t.stages m x }) ≡ record (state_of t) { stage = put m (inherited t.heirs x) (state_of t).stage }
-state-stage t m x within = ap (λ f. record (state_of t) { stage = f }) (parts-set (inherited t.heirs) Waiting t.stages m x within)
+    → state_of (record t { stages = set t.stages m x }) ≡ record (state_of t) { stage = put m (stage_with_heirs t.heirs x) (state_of t).stage }
+state-stage t m x within = ap (λ f. record (state_of t) { stage = f }) (parts-set (stage_with_heirs t.heirs) Waiting t.stages m x within)
 
 -- a module that does not wait has a place
 pub stage-within : (t : Table) (m : ℕ) → is_waiting ((state_of t).stage m) ≡ false → m < length t.stages
@@ -65,7 +65,7 @@ stage-within t m is = go (cases_lt m (length t.stages))
   where
     go : (m < length t.stages) ⊎ (length t.stages ≤ m) → m < length t.stages
     go (inl within) = within
-    go (inr past) = absurd (true≢false (ap (λ x. is_waiting (inherited t.heirs x)) (sym (get_or-past t.stages m Waiting past)) ∙ is))
+    go (inr past) = absurd (true≢false (ap (λ x. is_waiting (stage_with_heirs t.heirs x)) (sym (get_or-past t.stages m Waiting past)) ∙ is))
 
 -- who holds a module is one of 64
 pub holder-lt : (t : Table) (m w : ℕ) → IsKept t → is_held_by w ((state_of t).stage m) ≡ true → w < 64

@@ -8,7 +8,7 @@ use Rattle.sched_core.specs.declared.parts.Stage.TheVariants.{Owed, Taken, Done}
 use Rattle.sched_core.specs.declared.event.Event.TheVariants.{Claim, Take, PutDone}
 use Rattle.sched_core.specs.Sums.{sum_below, one_if, put}
 use Rattle.sched_core.specs.State.{State, callees_of, callee, leaves, is_waiting, is_done, is_done_by, is_held_by, IsThere}
-use Rattle.sched_core.specs.Happenings.{May, step, claimed}
+use Rattle.sched_core.specs.Events.{May, step, draw_leaf}
 use Rattle.sched_core.specs.Counts.{sum_edges, uses_of, busy_of, untold_of, is_untold}
 use Rattle.sched_core.specs.Table.{Table, state_of, HasPlaces, IsKept}
 use Rattle.sched_core.proofs.SumLemmas.{sum_below-le}
@@ -25,7 +25,7 @@ places-stage t m x places = record {
   stages = length-set t.stages m x ∙ places.stages;
   edges = places.edges;
   rows = places.rows;
-  pending = places.pending;
+  pending_edges = places.pending_edges;
   uses = places.uses;
   workers = places.workers;
   heirs = places.heirs;
@@ -41,7 +41,7 @@ places-busy t w n places = record {
   stages = places.stages;
   edges = places.edges;
   rows = places.rows;
-  pending = places.pending;
+  pending_edges = places.pending_edges;
   uses = places.uses;
   workers = places.workers;
   heirs = places.heirs;
@@ -57,7 +57,7 @@ places-untold t w n places = record {
   stages = places.stages;
   edges = places.edges;
   rows = places.rows;
-  pending = places.pending;
+  pending_edges = places.pending_edges;
   uses = places.uses;
   workers = places.workers;
   heirs = places.heirs;
@@ -171,8 +171,8 @@ draw-writes t w m b kept may drawn is_busy few =
       untold = λ v below. kept.untold v below ∙ sym (untold-put (state_of t) m v (Owed w) (not_done ((state_of t).stage m) waits) refl) ∙ ap (λ s. untold_of s v) is_claim;
     })
   where
-    is_claim : claimed (state_of t) w (Some m) ≡ step (state_of t) (Claim w)
-    is_claim = ap (claimed (state_of t) w) (sym drawn)
+    is_claim : draw_leaf (state_of t) w (Some m) ≡ step (state_of t) (Claim w)
+    is_claim = ap (draw_leaf (state_of t) w) (sym drawn)
 
     waits : is_waiting ((state_of t).stage m) ≡ true
     waits = next_leaf-waits (state_of t) m kept.sound drawn
@@ -188,7 +188,7 @@ draw-writes t w m b kept may drawn is_busy few =
       stages = places.stages;
       edges = places.edges;
       rows = places.rows;
-      pending = places.pending;
+      pending_edges = places.pending_edges;
       uses = places.uses;
       workers = places.workers;
       heirs = places.heirs;

@@ -9,7 +9,7 @@ use Rattle.sched_core.specs.declared.parts.Fill.{Fill}
 use Rattle.sched_core.specs.declared.parts.Fill.TheVariants.{Empty, Full, Emptied}
 use Rattle.sched_core.specs.State.{callees_of, IsEdge, is_busy_with, is_emptied, IsThere, IsFree, HasReported, new_edge}
 use Rattle.sched_core.specs.Counts.{busy_of, untold_of}
-use Rattle.sched_core.specs.Table.{Table, state_of, inherited, IsKept}
+use Rattle.sched_core.specs.Table.{Table, state_of, stage_with_heirs, IsKept}
 use Rattle.sched_core.proofs.Reading.{get_or-past}
 use Rattle.sched_core.proofs.Busy.{busy-free, free_of_busy}
 use Rattle.sched_core.proofs.Untold.{untold-reported, reported_of_untold}
@@ -39,7 +39,7 @@ free-test t w n kept there is = (forth, back)
 
         by_place : (m < length t.callees) ⊎ (length t.callees ≤ m) → is_busy_with w ((state_of t).stage m) ≡ false
         by_place (inl within) = free_of_busy (state_of t) w none m within
-        by_place (inr past) = ap (λ x. is_busy_with w (inherited t.heirs x)) (get_or-past t.stages m Waiting (let places : length t.stages ≡ length t.callees = kept.places.stages in omega arith))
+        by_place (inr past) = ap (λ x. is_busy_with w (stage_with_heirs t.heirs x)) (get_or-past t.stages m Waiting (let places : length t.stages ≡ length t.callees = kept.places.stages in omega arith))
 
     back : IsFree (state_of t) w → IsTrue (n == 0)
     back free = zero_is n (count ∙ busy-free (state_of t) w free)

@@ -7,7 +7,7 @@ use Rattle.sched_core.specs.declared.parts.Stage.TheVariants.{Waiting, Owed, Tak
 use Rattle.sched_core.specs.declared.parts.Edge.{Edge}
 use Rattle.sched_core.specs.Sums.{one_if, put}
 use Rattle.sched_core.specs.State.{State, callee, IsEdge, is_done, is_done_by, HasReported}
-use Rattle.sched_core.specs.Happenings.{passed_on, with_edge}
+use Rattle.sched_core.specs.Events.{reassign, with_edge}
 use Rattle.sched_core.specs.Sound.{Sound}
 use Rattle.sched_core.specs.Counts.{sum_edges, uses_of, is_untold, untold_of}
 use Rattle.sched_core.proofs.EdgeSums.{sum_edges-same, sum_edges-changed, sum_edges-add, sum_edges-none, none_of_edges}
@@ -108,9 +108,9 @@ untold-told s w c i v edge done open_ =
     elsewhere a b e (inr apart) = put_edge_cases (λ x. x ≡ s.edge a b) c i e s.edge a b (λ here here'. absurd (apart here')) refl
 
 -- what one worker did passes to another, once it has nothing more to report
-pub untold-passed_on : (s : State) (kept gone v : ℕ) → HasReported s gone → untold_of (record s { stage = λ m. passed_on kept gone (s.stage m) }) v ≡ untold_of s v
-untold-passed_on s kept gone v told =
-    sum_edges-same s.callees (λ c i. one_if (not (s.edge c i).reported && is_done_by v (passed_on kept gone (s.stage (callee s.callees c i))))) (λ c i. one_if (is_untold s v c i))
+pub untold-reassign : (s : State) (kept gone v : ℕ) → HasReported s gone → untold_of (record s { stage = λ m. reassign kept gone (s.stage m) }) v ≡ untold_of s v
+untold-reassign s kept gone v told =
+    sum_edges-same s.callees (λ c i. one_if (not (s.edge c i).reported && is_done_by v (reassign kept gone (s.stage (callee s.callees c i))))) (λ c i. one_if (is_untold s v c i))
     (λ c i edge. each c i edge (s.stage (callee s.callees c i)) refl)
   where
     other_doer : (c i w : ℕ) → IsEdge s.callees c i → s.stage (callee s.callees c i) ≡ Done w → (s.edge c i).reported ≡ false → w ≢ gone
@@ -119,7 +119,7 @@ untold-passed_on s kept gone v told =
         true≢false (sym (told c i edge done) ∙ open_)
 
     each : (c i : ℕ) → IsEdge s.callees c i → (x : Stage) → s.stage (callee s.callees c i) ≡ x
-        → one_if (not (s.edge c i).reported && is_done_by v (passed_on kept gone x)) ≡ one_if (not (s.edge c i).reported && is_done_by v x)
+        → one_if (not (s.edge c i).reported && is_done_by v (reassign kept gone x)) ≡ one_if (not (s.edge c i).reported && is_done_by v x)
     each c i edge Waiting is = refl
     each c i edge (Owed w) is = refl
     each c i edge (Taken w) is = refl

@@ -10,12 +10,12 @@ use Rattle.sched_core.specs.declared.parts.Worker.{Worker}
 use Rattle.sched_core.specs.declared.event.Event.TheVariants.{Claim, Split, Join}
 use Rattle.sched_core.specs.Sums.{put}
 use Rattle.sched_core.specs.State.{State, leaves, new_worker, no_worker}
-use Rattle.sched_core.specs.Happenings.{May, step, claimed, passed_on}
+use Rattle.sched_core.specs.Events.{May, step, draw_leaf, reassign}
 use Rattle.sched_core.specs.Counts.{busy_of, untold_of}
-use Rattle.sched_core.specs.Table.{Table, state_of, inherited, heir_after, HasPlaces, IsKept}
+use Rattle.sched_core.specs.Table.{Table, state_of, stage_with_heirs, heir_after, HasPlaces, IsKept}
 use Rattle.sched_core.proofs.Puts.{put_keeps}
-use Rattle.sched_core.proofs.Busy.{busy-passed_on}
-use Rattle.sched_core.proofs.Untold.{untold-passed_on}
+use Rattle.sched_core.proofs.Busy.{busy-reassign}
+use Rattle.sched_core.proofs.Untold.{untold-reassign}
 use Rattle.sched_core.proofs.Reading.{get_or-past, part-set, parts-set}
 use Rattle.sched_core.proofs.Tested.{there-lt}
 use Rattle.sched_core.proofs.Shapes.{Writes, counted}
@@ -31,7 +31,7 @@ workers-places t workers heirs leaf splits size many places = record {
   stages = places.stages;
   edges = places.edges;
   rows = places.rows;
-  pending = places.pending;
+  pending_edges = places.pending_edges;
   uses = places.uses;
   workers = size;
   heirs = many;
@@ -60,8 +60,8 @@ pass-writes t w old kept may drawn is = subst (λ y. Writes t (record t { worker
     within : w < length t.workers
     within = let few : w < 64 = there-lt t w kept may.0 in let size : length t.workers ≡ 64 = kept.places.workers in omega arith
 
-    is_claim : claimed (state_of t) w None ≡ step (state_of t) (Claim w)
-    is_claim = ap (claimed (state_of t) w) (sym drawn)
+    is_claim : draw_leaf (state_of t) w None ≡ step (state_of t) (Claim w)
+    is_claim = ap (draw_leaf (state_of t) w) (sym drawn)
 
 pub split-writes : (t : Table) → IsKept t → May (state_of t) Split → Writes t (record t { splits = t.splits + 1; workers = set t.workers (t.splits + 1) new_worker }) Split
 split-writes t kept may = counted t (record t { splits = t.splits + 1; workers = set t.workers (t.splits + 1) new_worker }) Split kept may (record {
@@ -80,7 +80,7 @@ split-writes t kept may = counted t (record t { splits = t.splits + 1; workers =
     within = let room : t.splits < 63 = may.1 in let size : length t.workers ≡ 64 = kept.places.workers in omega arith
 
 -- what is inherited afterwards is what was inherited, passed on
-inherited-after : (heirs : List ℕ) (keeps gone : ℕ) (x : Stage) → gone < 64 → inherited (map (heir_after keeps gone) heirs) x ≡ passed_on keeps gone (inherited heirs x)
+inherited-after : (heirs : List ℕ) (keeps gone : ℕ) (x : Stage) → gone < 64 → stage_with_heirs (map (heir_after keeps gone) heirs) x ≡ reassign keeps gone (stage_with_heirs heirs x)
 inherited-after heirs keeps gone Waiting few = refl
 inherited-after heirs keeps gone (Owed w) few = refl
 inherited-after heirs keeps gone (Taken w) few = refl
@@ -101,12 +101,12 @@ join-writes t keeps gone old kept may is = subst (λ y. Writes t (record t { wor
       places = workers-places t (set t.workers gone going) (map (heir_after keeps gone) t.heirs) t.leaf t.splits (length-set t.workers gone going ∙ kept.places.workers)
           (length-map t.heirs (heir_after keeps gone) ∙ kept.places.heirs) kept.places;
       state = ap (λ f. record (state_of (record t { workers = set t.workers gone going })) { stage = f }) (fun_ext (λ m. inherited-after t.heirs keeps gone (get_or t.stages m Waiting) few))
-          ∙ ap (λ (s : State). record s { stage = λ m. passed_on keeps gone ((state_of t).stage m) }) (state-worker t gone going within);
+          ∙ ap (λ (s : State). record s { stage = λ m. reassign keeps gone ((state_of t).stage m) }) (state-worker t gone going within);
       leaf_modules = kept.leaf_modules;
       uses = kept.uses;
       own = own;
-      busy = λ v below. kept.busy v below ∙ sym (busy-passed_on (state_of t) keeps gone v);
-      untold = λ v below. kept.untold v below ∙ sym (untold-passed_on (state_of t) keeps gone v may.4);
+      busy = λ v below. kept.busy v below ∙ sym (busy-reassign (state_of t) keeps gone v);
+      untold = λ v below. kept.untold v below ∙ sym (untold-reassign (state_of t) keeps gone v may.4);
     }))
   where
     going : Worker

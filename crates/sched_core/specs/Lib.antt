@@ -1,6 +1,6 @@
 pub mod Sums
 pub mod State
-pub mod Happenings
+pub mod Events
 pub mod Sound
 pub mod Runs
 pub mod Counts

@@ -5,7 +5,7 @@ use Rattle.sched_core.specs.declared.event.Event.{Event}
 use Rattle.sched_core.specs.declared.event.Event.TheVariants.{Claim, Take, TakeEdge, PutDone, PutEdge, Report, Split, Join}
 use Rattle.sched_core.specs.Sums.{one_if}
 use Rattle.sched_core.specs.State.{State, callees_of, callee, IsEdge, is_done, IsFree}
-use Rattle.sched_core.specs.Happenings.{May, step}
+use Rattle.sched_core.specs.Events.{May, step}
 
 -- the lists of callees of a schedule: no module is its own callee, directly or through others, the callees are modules
 -- of the list, and there are fewer than 2^32 modules and entries of each

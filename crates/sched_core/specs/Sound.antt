@@ -19,7 +19,7 @@ passed_workers s = sum_below s.workers (λ w. one_if (s.worker w).passed)
 -- a sound state
 pub record Sound (s : State) : Type 0 where
   -- a caller's pending number is that of its edges that are not reported
-  pub pending : (c : ℕ) → s.pending c ≡ unreported_edges s c
+  pub pending_edges : (c : ℕ) → s.pending_edges c ≡ unreported_edges s c
   -- a reported edge's callee is done, and the edge is full or emptied
   pub reported : (c i : ℕ) → IsEdge s.callees c i → (s.edge c i).reported ≡ true
       → (is_done (s.stage (callee s.callees c i)) ≡ true) × (is_empty (s.edge c i).fill ≡ false)
@@ -31,7 +31,7 @@ pub record Sound (s : State) : Type 0 where
   -- a done module's edges are all emptied
   pub done : (m i : ℕ) → IsEdge s.callees m i → is_done (s.stage m) ≡ true → is_emptied (s.edge m i).fill ≡ true
   -- a module with callees waits exactly where it has pending edges
-  pub callers : (m : ℕ) → 0 < length (callees_of s.callees m) → is_waiting (s.stage m) ≡ nat_lt 0 (s.pending m)
+  pub callers : (m : ℕ) → 0 < length (callees_of s.callees m) → is_waiting (s.stage m) ≡ nat_lt 0 (s.pending_edges m)
   -- a leaf waits exactly where its number is not below that of the leaves drawn
   pub drawn : (k m : ℕ) → slice_get (leaves s.callees) k ≡ Some m → is_waiting (s.stage m) ≡ nat_le s.leaf k
   -- a module that is owed, taken or done is so by one worker

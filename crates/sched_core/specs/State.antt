@@ -18,7 +18,7 @@ pub record State : Type 0 where
   -- each edge, by its caller and its position
   pub edge : ℕ → ℕ → Edge
   -- how many edges of each caller are not reported
-  pub pending : ℕ → ℕ
+  pub pending_edges : ℕ → ℕ
   -- how often a leaf was drawn
   pub leaf : ℕ
   -- each worker
@@ -140,7 +140,7 @@ first callees = record {
   callees = callees;
   stage = λ m. Waiting;
   edge = λ c i. new_edge;
-  pending = λ c. length (callees_of callees c);
+  pending_edges = λ c. length (callees_of callees c);
   leaf = 0;
   worker = put 0 new_worker (λ w. no_worker);
   workers = 1;

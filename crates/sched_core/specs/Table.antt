@@ -22,7 +22,7 @@ pub record Table : Type 0 where
   -- each module's edges from its callees
   pub edges : List (List Edge)
   -- how many of them are not reported
-  pub pending : List ℕ
+  pub pending_edges : List ℕ
   -- how often a leaf was drawn
   pub leaf : ℕ
   -- how often the first worker has split
@@ -37,11 +37,11 @@ pub record Table : Type 0 where
   pub untold : List ℕ
 
 -- the stage with the doer's heir for the doer; 64 is no worker
-abbrev pub inherited : List ℕ → Stage → Stage
-inherited heirs Waiting = Waiting
-inherited heirs (Owed w) = Owed w
-inherited heirs (Taken w) = Taken w
-inherited heirs (Done w) = Done (slice_index_or heirs w 64)
+abbrev pub stage_with_heirs : List ℕ → Stage → Stage
+stage_with_heirs heirs Waiting = Waiting
+stage_with_heirs heirs (Owed w) = Owed w
+stage_with_heirs heirs (Taken w) = Taken w
+stage_with_heirs heirs (Done w) = Done (slice_index_or heirs w 64)
 
 -- an heir after a worker has gone and another has kept what it did
 abbrev pub heir_after : ℕ → ℕ → ℕ → ℕ
@@ -51,9 +51,9 @@ heir_after kept gone heir = cond (heir == gone) kept heir
 abbrev pub state_of : Table → State
 state_of t = record {
   callees = t.callees;
-  stage = λ m. inherited t.heirs (slice_index_or t.stages m Waiting);
+  stage = λ m. stage_with_heirs t.heirs (slice_index_or t.stages m Waiting);
   edge = λ c i. slice_index_or (slice_index_or t.edges c []) i new_edge;
-  pending = λ c. slice_index_or t.pending c 0;
+  pending_edges = λ c. slice_index_or t.pending_edges c 0;
   leaf = t.leaf;
   worker = λ w. slice_index_or t.workers w no_worker;
   workers = t.splits + 1;
@@ -66,7 +66,7 @@ pub record HasPlaces (t : Table) : Type 0 where
   pub stages : length t.stages ≡ length t.callees
   pub edges : length t.edges ≡ length t.callees
   pub rows : (c : ℕ) → length (slice_index_or t.edges c []) ≡ length (callees_of t.callees c)
-  pub pending : length t.pending ≡ length t.callees
+  pub pending_edges : length t.pending_edges ≡ length t.callees
   pub uses : length t.uses ≡ length t.callees
   pub workers : length t.workers ≡ 64
   pub heirs : length t.heirs ≡ 64

@@ -5,7 +5,7 @@ ghost use Rattle.sched_core.specs.declared.event.Event.{Event};
 ghost use Rattle.sched_core.specs.declared.event.Event.TheVariants.{Take};
 ghost use Rattle.sched_core.specs.Sums.{one_if};
 ghost use Rattle.sched_core.specs.State.{State, IsEdge, callee, leaves, is_done, first};
-ghost use Rattle.sched_core.specs.Happenings.{May, step};
+ghost use Rattle.sched_core.specs.Events.{May, step};
 ghost use Rattle.sched_core.specs.Sound.{Sound};
 ghost use Rattle.sched_core.specs.Runs.{AreCallees, Allowed, after, times_done, IsSettled};
 

@@ -7,7 +7,7 @@ ghost use Rattle.sched_core.specs.declared.parts.Fill.TheVariants.{Emptied};
 ghost use Rattle.sched_core.specs.declared.event.Event.TheVariants.{Claim, Take, TakeEdge, PutDone, PutEdge, Report, Split, Join};
 ghost use Rattle.sched_core.specs.State.{State, IsEdge, callee, leaves, IsThere, IsFree, HasReported, is_emptied, first};
 ghost use Rattle.sched_core.specs.Runs.{AreCallees};
-ghost use Rattle.sched_core.specs.Happenings.{May, step};
+ghost use Rattle.sched_core.specs.Events.{May, step};
 ghost use Rattle.sched_core.specs.Sound.{Sound};
 ghost use Rattle.sched_core.specs.Table.{state_of, heir_after};
 
@@ -26,7 +26,7 @@ pub struct Sched {
     uses: Vec<u64>,
     stages: Vec<Stage>,
     edges: Vec<Vec<Edge>>,
-    pending: Vec<usize>,
+    pending_edges: Vec<usize>,
     leaf: u64,
     splits: u32,
     workers: Vec<Worker>,
@@ -81,12 +81,12 @@ impl Sched {
         ensures { IfOk result (λ s. state_of s ≡ first (map (λ row. row.items) callees.now)) }
     {
         Ok(Sched {
-            callees: making::copied(alloc, callees)?,
+            callees: making::clone_callees(alloc, callees)?,
             leaves: making::leaf_modules(alloc, callees)?,
             uses: making::uses(alloc, callees)?,
             stages: making::waiting(alloc, callees.len())?,
             edges: making::new_edges(alloc, callees)?,
-            pending: making::lengths(alloc, callees)?,
+            pending_edges: making::lengths(alloc, callees)?,
             leaf: 0,
             splits: 0,
             workers: making::first_worker(alloc)?,
@@ -369,7 +369,7 @@ impl Sched {
     // a report after which the caller has pending edges
     fn report_more(&mut self, w: u32, c: u32, i: u32)
         requires may { May (state_of self.old) (Report w c i) }
-        requires more { (state_of self.old).pending c ≢ 1 }
+        requires more { (state_of self.old).pending_edges c ≢ 1 }
         ensures { state_of self.new ≡ step (state_of self.old) (Report w c i) }
     {
         let edge = self.edge(c, i);
@@ -377,14 +377,14 @@ impl Sched {
             fill: edge.fill,
             reported: true,
         };
-        self.pending[c as usize] -= 1;
+        self.pending_edges[c as usize] -= 1;
         self.untold[w as usize] -= 1;
     }
 
     // the last report of the caller's edges
     fn report_last(&mut self, w: u32, c: u32, i: u32)
         requires may { May (state_of self.old) (Report w c i) }
-        requires last { (state_of self.old).pending c ≡ 1 }
+        requires last { (state_of self.old).pending_edges c ≡ 1 }
         ensures { state_of self.new ≡ step (state_of self.old) (Report w c i) }
     {
         let edge = self.edge(c, i);
@@ -392,24 +392,24 @@ impl Sched {
             fill: edge.fill,
             reported: true,
         };
-        self.pending[c as usize] -= 1;
+        self.pending_edges[c as usize] -= 1;
         self.untold[w as usize] -= 1;
         self.stages[c as usize] = Stage::Owed(w);
         self.busy[w as usize] += 1;
     }
 
     // how many edges of the caller are not reported
-    fn pending(&self, c: u32) -> usize
-        ensures { result ≡ (state_of self.now).pending c }
+    fn pending_edges(&self, c: u32) -> usize
+        ensures { result ≡ (state_of self.now).pending_edges c }
     {
-        self.pending.get(c as usize).copied().unwrap_or(0)
+        self.pending_edges.get(c as usize).copied().unwrap_or(0)
     }
 
     fn report(&mut self, w: u32, c: u32, i: u32)
         requires { May (state_of self.old) (Report w c i) }
         ensures { state_of self.new ≡ step (state_of self.old) (Report w c i) }
     {
-        if self.pending(c) == 1 {
+        if self.pending_edges(c) == 1 {
             self.report_last(w, c, i);
         } else {
             self.report_more(w, c, i);

@@ -62,7 +62,7 @@ fn a_refusal_is_one_line(rt: HostRuntime) -> Result<(), Fail> {
             refusal_text(&mut sink, name, source, &refusal).is_ok(),
             "{name}"
         );
-        assert_eq!(rt; sink.held(), wanted.as_bytes(), "{name}");
+        assert_eq!(rt; sink.contents(), wanted.as_bytes(), "{name}");
     }
     Ok(())
 }

@@ -22,7 +22,7 @@ use Rattle.verilog_model.specs.Tree.Expr.{as_signed, odd, repeated}
 use Rattle.verilog_model.specs.Tree.Exprs.{last}
 use Rattle.verilog_model.specs.Grammar.{strength, primary_level}
 use Rattle.verilog_model.specs.Checks.{divides}
-use Rattle.verilog_model.specs.Expression.{context_of, arithmetic, shifted, own_value}
+use Rattle.verilog_model.specs.Expression.{context_of, arithmetic, shift_word, own_value}
 use Rattle.verilog_model.specs.Expression.Context.{both_operands, left_operand}
 use Rattle.verilog_expr.specs.Building.{literal_of, placed, unsigned_at, of_one_expr, of_two_exprs, of_three_exprs, unsigned_pair, variadic_expr, unsigned_shift, signed_shift, unsigned_division, signed_division, comparison, selected, first_width, conditional, built, division_expr, shift_expr, variadic_operator, division_operator, shift_operator, is_signed_division, is_signed_shift}
 use Rattle.verilog_expr.specs.Values.{HasBits, HaveBits, IsBuildable, IsDividedBy}
@@ -115,24 +115,24 @@ module _ (widths : Name → ℕ) (ρ : Name → Word) where
       refl
 
   unsigned_shift_gives : (P : Type 0) (o : Operator) (w : ℕ) (a b : Expr) → context_of o ≡ left_operand
-      → ((x : Word) (n : ℕ) → length (shifted o false x n) ≡ length x) → HasBits widths ρ w a
-      → Gives widths ρ P w (unsigned_shift o a b) (shifted o false (own_value widths ρ a) (number (own_value widths ρ b)))
+      → ((x : Word) (n : ℕ) → length (shift_word o false x n) ≡ length x) → HasBits widths ρ w a
+      → Gives widths ρ P w (unsigned_shift o a b) (shift_word o false (own_value widths ρ a) (number (own_value widths ρ b)))
   unsigned_shift_gives P o w a b context keeps first =
       let c : Expr = placed (suc (strength o)) b in
       gives widths ρ P w false (unsigned_shift o a b) _ _
       (shift_is widths ρ o w false (unsigned_at (strength o) a) c (own_value widths ρ a) context (unsigned_at_is widths ρ (strength o) w a first)
       (keeps (own_value widths ρ a) (number (own_value widths ρ c)) ∙ first.worth))
-      (ap (λ x. shifted o false (own_value widths ρ a) (number x)) (placed_own widths ρ (suc (strength o)) b))
+      (ap (λ x. shift_word o false (own_value widths ρ a) (number x)) (placed_own widths ρ (suc (strength o)) b))
 
   signed_shift_gives : (P : Type 0) (o : Operator) (w : ℕ) (a b : Expr) → context_of o ≡ left_operand
-      → ((x : Word) (n : ℕ) → length (shifted o true x n) ≡ length x) → HasBits widths ρ w a
-      → Gives widths ρ P w (signed_shift o a b) (shifted o true (own_value widths ρ a) (number (own_value widths ρ b)))
+      → ((x : Word) (n : ℕ) → length (shift_word o true x n) ≡ length x) → HasBits widths ρ w a
+      → Gives widths ρ P w (signed_shift o a b) (shift_word o true (own_value widths ρ a) (number (own_value widths ρ b)))
   signed_shift_gives P o w a b context keeps first =
       let c : Expr = placed (suc (strength o)) b in
       gives widths ρ P w true (signed_shift o a b) _ _
       (shift_is widths ρ o w true (as_signed a) c (own_value widths ρ a) context (signed_is widths ρ w a first)
       (keeps (own_value widths ρ a) (number (own_value widths ρ c)) ∙ first.worth))
-      (ap (λ x. shifted o true (own_value widths ρ a) (number x)) (placed_own widths ρ (suc (strength o)) b))
+      (ap (λ x. shift_word o true (own_value widths ρ a) (number x)) (placed_own widths ρ (suc (strength o)) b))
 
   unsigned_division_gives : (P : Type 0) (o : Operator) (w divisor : ℕ) (a b : Expr) → context_of o ≡ both_operands
       → ((x y : Word) → length (arithmetic o false x y) ≡ length x) → w < 2 ^ 64 → HasBits widths ρ w a → (P → own_value widths ρ b ≡ bits w divisor)
@@ -204,7 +204,7 @@ module _ (widths : Name → ℕ) (ρ : Name → Word) where
       (either_division_gives P (is_signed_division d) (division_operator d) w divisor a b (division_context d) (divides_division d) small first always)
 
   either_shift_gives : (P : Type 0) (s : Bool) (o : Operator) (w : ℕ) (a b : Expr) → context_of o ≡ left_operand → HasBits widths ρ w a
-      → Gives widths ρ P w (shift_expr s o a b) (shifted o s (own_value widths ρ a) (number (own_value widths ρ b)))
+      → Gives widths ρ P w (shift_expr s o a b) (shift_word o s (own_value widths ρ a) (number (own_value widths ρ b)))
   either_shift_gives P false o w a b context first = unsigned_shift_gives P o w a b context (λ x n. length-shifted o false x n context) first
   either_shift_gives P true o w a b context first = signed_shift_gives P o w a b context (λ x n. length-shifted o true x n context) first
 

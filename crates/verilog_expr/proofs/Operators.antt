@@ -8,7 +8,7 @@ use Rattle.hw_model.specs.Value.{division_value, shift_value}
 use Rattle.verilog_model.specs.Tree.{Operator}
 use Rattle.verilog_model.specs.Tree.Operator.{times, over, modulo, left_shift, right_shift, signed_right_shift}
 use Rattle.verilog_model.specs.Checks.{divides}
-use Rattle.verilog_model.specs.Expression.{context_of, arithmetic, shifted}
+use Rattle.verilog_model.specs.Expression.{context_of, arithmetic, shift_word}
 use Rattle.verilog_model.specs.Expression.Context.{both_operands, left_operand}
 use Rattle.verilog_expr.specs.Building.{variadic_operator, division_operator, shift_operator, is_signed_division, is_signed_shift}
 use Rattle.verilog_expr.specs.Forms.{operator_of, operator_in_code}
@@ -36,7 +36,7 @@ plain_shift s = grind arith
 pub division_computes : (d : Division) (x y : Word) → arithmetic (division_operator d) (is_signed_division d) x y ≡ division_value d x y
 division_computes d x y = grind arith
 
-pub shift_computes : (s : Shift) (x : Word) (n : ℕ) → shifted (shift_operator s) (is_signed_shift s) x n ≡ shift_value s x n
+pub shift_computes : (s : Shift) (x : Word) (n : ℕ) → shift_word (shift_operator s) (is_signed_shift s) x n ≡ shift_value s x n
 shift_computes s x n = grind arith
 
 -- a quotient and a remainder are as long as what is divided
@@ -48,7 +48,7 @@ length-divided modulo false x y h = length-rest x y
 length-divided _ s x y h = cc
 
 -- what is shifted stays as long
-pub length-shifted : (o : Operator) (s : Bool) (x : Word) (n : ℕ) → context_of o ≡ left_operand → length (shifted o s x n) ≡ length x
+pub length-shifted : (o : Operator) (s : Bool) (x : Word) (n : ℕ) → context_of o ≡ left_operand → length (shift_word o s x n) ≡ length x
 length-shifted left_shift s x n h = length-shift_left x n
 length-shifted right_shift s x n h = length-shift_right x n
 length-shifted signed_right_shift true x n h = length-shift_right_signed x n

@@ -7,7 +7,7 @@ use Rattle.verilog_model.specs.Numerals.{decimal_number}
 use Rattle.verilog_model.specs.Tree.{Operator, Expr}
 use Rattle.verilog_model.specs.Tree.Expr.{as_signed, as_unsigned, paren, binary, choice}
 use Rattle.verilog_model.specs.Grammar.{level}
-use Rattle.verilog_model.specs.Expression.{context_of, binary_length, is_signed, length_of, binary_signed, Operand, binary_value, extended, is_true, arithmetic, shifted, compared, value, own_value}
+use Rattle.verilog_model.specs.Expression.{context_of, binary_length, is_signed, length_of, binary_signed, Operand, binary_value, extended, is_true, arithmetic, shift_word, compare_words, value, own_value}
 use Rattle.verilog_model.specs.Expression.Context.{both_operands, left_operand, no_operand}
 use Rattle.verilog_model.proofs.Numerals.{decimal_number-decimal}
 use Rattle.verilog_expr.specs.Building.{literal_of, unsigned, placed, unsigned_at}
@@ -115,16 +115,16 @@ module _ (widths : Name → ℕ) (ρ : Name → Word) where
       }
 
   pub shift_is : (o : Operator) (w : ℕ) (s : Bool) (a b : Expr) (x : Word) → context_of o ≡ left_operand → Is widths ρ w s a x
-      → length (shifted o s x (number (own_value widths ρ b))) ≡ w → Is widths ρ w s (binary o a b) (shifted o s x (number (own_value widths ρ b)))
+      → length (shift_word o s x (number (own_value widths ρ b))) ≡ w → Is widths ρ w s (binary o a b) (shift_word o s x (number (own_value widths ρ b)))
   shift_is o w s a b x context first size = record {
     long = ap (λ c. binary_length c (length_of widths a) (length_of widths b)) context ∙ first.long;
     signed = ap (λ c. binary_signed c (is_signed a) (is_signed b)) context ∙ first.signed;
-    worth = ap (λ c. binary_value c o w s (operand a) (operand b)) context ∙ ap (λ u. shifted o s u (number (own_value widths ρ b))) first.worth;
+    worth = ap (λ c. binary_value c o w s (operand a) (operand b)) context ∙ ap (λ u. shift_word o s u (number (own_value widths ρ b))) first.worth;
     size = size;
   }
 
   pub compare_is : (o : Operator) (w : ℕ) (s : Bool) (a b : Expr) (x y : Word) → context_of o ≡ no_operand → Is widths ρ w s a x → Is widths ρ w s b y
-      → Is widths ρ 1 false (binary o a b) (flag (compared o s x y))
+      → Is widths ρ 1 false (binary o a b) (flag (compare_words o s x y))
   compare_is o w s a b x y context first second =
       let l : length_of widths a ≡ w = first.long in
       let m : length_of widths b ≡ w = second.long in
@@ -133,9 +133,9 @@ module _ (widths : Name → ℕ) (ρ : Name → Word) where
         long = ap (λ c. binary_length c (length_of widths a) (length_of widths b)) context;
         signed = ap (λ c. binary_signed c (is_signed a) (is_signed b)) context;
         worth = ap (λ c. binary_value c o 1 false (operand a) (operand b)) context
-            ∙ ap₂ (λ k t. extended 1 false (flag (compared o t (value widths ρ k t a) (value widths ρ k t b)))) greater (signs s (is_signed a) (is_signed b) first.signed second.signed)
-            ∙ ap₂ (λ u v. extended 1 false (flag (compared o s u v))) first.worth second.worth
-            ∙ extended_full 1 false (flag (compared o s x y)) refl;
+            ∙ ap₂ (λ k t. extended 1 false (flag (compare_words o t (value widths ρ k t a) (value widths ρ k t b)))) greater (signs s (is_signed a) (is_signed b) first.signed second.signed)
+            ∙ ap₂ (λ u v. extended 1 false (flag (compare_words o s u v))) first.worth second.worth
+            ∙ extended_full 1 false (flag (compare_words o s x y)) refl;
         size = refl;
       }
 

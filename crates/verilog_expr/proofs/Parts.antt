@@ -7,7 +7,7 @@ use Rattle.bits_core.specs.Word.{Word, extract, copies}
 use Rattle.bits_core.proofs.Numbers.{length-copies, length-extract}
 use Rattle.bits_core.proofs.First.{extract_all}
 use Rattle.hw_model.specs.Types.{Name, HwType, width}
-use Rattle.hw_model.specs.Value.{joined as joined_words, is_high}
+use Rattle.hw_model.specs.Value.{concat_words as joined_words, is_high}
 use Rattle.verilog_model.specs.Numerals.{decimal_number}
 use Rattle.verilog_model.specs.Tree.{Expr}
 use Rattle.verilog_model.specs.Tree.Expr.{name, bit_select, part_select, repeated}

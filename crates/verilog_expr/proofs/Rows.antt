@@ -14,7 +14,7 @@ use Rattle.verilog_model.specs.Tree.{Operator, Expr}
 use Rattle.verilog_model.specs.Tree.Operator.{below, at_most, above, at_least, equals, differs}
 use Rattle.verilog_model.specs.Tree.Expr.{as_signed, odd, binary}
 use Rattle.verilog_model.specs.Grammar.{strength}
-use Rattle.verilog_model.specs.Expression.{context_of, arithmetic, compared, own_value}
+use Rattle.verilog_model.specs.Expression.{context_of, arithmetic, compare_words, own_value}
 use Rattle.verilog_model.specs.Expression.Context.{both_operands, no_operand}
 use Rattle.verilog_expr.specs.Building.{placed, unsigned_at, unsigned_pair, chained, variadic_expr, signed_pair, comparison}
 use Rattle.verilog_expr.specs.Values.{HasBits}
@@ -106,14 +106,14 @@ module _ (widths : Name → ℕ) (ρ : Name → Word) where
   -- ---- comparisons
 
   unsigned_compared : (P : Type 0) (o : Operator) (w : ℕ) (a b : Expr) → context_of o ≡ no_operand → HasBits widths ρ w a → HasBits widths ρ w b
-      → Gives widths ρ P 1 (unsigned_pair o a b) (flag (compared o false (own_value widths ρ a) (own_value widths ρ b)))
+      → Gives widths ρ P 1 (unsigned_pair o a b) (flag (compare_words o false (own_value widths ρ a) (own_value widths ρ b)))
   unsigned_compared P o w a b context first second =
       gives P 1 false (unsigned_pair o a b) _ _
       (compare_is widths ρ o w false (unsigned_at (strength o) a) (unsigned_at (suc (strength o)) b) (own_value widths ρ a) (own_value widths ρ b) context
       (unsigned_at_is widths ρ (strength o) w a first) (unsigned_at_is widths ρ (suc (strength o)) w b second)) refl
 
   signed_compared : (P : Type 0) (o : Operator) (w : ℕ) (a b : Expr) → context_of o ≡ no_operand → HasBits widths ρ w a → HasBits widths ρ w b
-      → Gives widths ρ P 1 (signed_pair o a b) (flag (compared o true (own_value widths ρ a) (own_value widths ρ b)))
+      → Gives widths ρ P 1 (signed_pair o a b) (flag (compare_words o true (own_value widths ρ a) (own_value widths ρ b)))
   signed_compared P o w a b context first second =
       gives P 1 false (signed_pair o a b) _ _
       (compare_is widths ρ o w true (as_signed a) (as_signed b) (own_value widths ρ a) (own_value widths ρ b) context

@@ -1,5 +1,5 @@
 //! The tokens that are left of a text.
-use crate::fault::{Fault, must, there};
+use crate::fault::{Fault, require, require_some};
 use crate::tokens::{Token, begins_name, decimal, is_name_byte};
 use std::alloc::Global;
 
@@ -68,12 +68,12 @@ impl<'r, 't> Cursor<'r, 't> {
 
     /// Passes this mark, which has to come first.
     pub fn mark(&mut self, mark: u8) -> Result<(), Fault> {
-        must(self.takes_mark(mark))
+        require(self.takes_mark(mark))
     }
 
     /// Passes this word, which has to come first.
     pub fn word(&mut self, word: &[u8]) -> Result<(), Fault> {
-        must(self.takes_word(word))
+        require(self.takes_word(word))
     }
 
     /// Passes this operator, which has to come first.
@@ -101,14 +101,14 @@ impl<'r, 't> Cursor<'r, 't> {
     /// The name that comes first.
     pub fn name(&mut self) -> Result<&'t [u8], Fault> {
         let word = self.any_word()?;
-        must(is_name(word))?;
+        require(is_name(word))?;
         Ok(word)
     }
 
     /// The decimal number that comes first.
     pub fn number(&mut self) -> Result<u32, Fault> {
         let word = self.any_word()?;
-        there(decimal(word))
+        require_some(decimal(word))
     }
 
     /// A range `[h:0]`, by how many bits it has, or none.
@@ -120,7 +120,7 @@ impl<'r, 't> Cursor<'r, 't> {
         self.mark(b':')?;
         let low = self.number()?;
         self.mark(b']')?;
-        must(low == 0 && high < 128)?;
+        require(low == 0 && high < 128)?;
         Ok(high.checked_add(1))
     }
 }

@@ -1,6 +1,6 @@
 //! Expressions of a text (IEEE 1364-2005, Annex A.8: expressions; 5.1.2: precedence of operators).
 use crate::cursor::Cursor;
-use crate::fault::{Fault, must, there};
+use crate::fault::{Fault, require, require_some};
 use crate::tokens::{Token, decimal, hexadecimal, literal_parts};
 use crate::tree::{Declared, Expression, Node, Operator, place_of};
 use bits_core::Bits;
@@ -48,7 +48,7 @@ fn long_operator(bytes: &[u8]) -> Option<Operator> {
 }
 
 // Puts a part after those that are there, and says where it stands.
-fn added(nodes: &mut Vec<Node>, node: Node) -> Result<usize, Fault> {
+fn add_node(nodes: &mut Vec<Node>, node: Node) -> Result<usize, Fault> {
     let at = nodes.len();
     nodes.push(node)?;
     Ok(at)
@@ -63,7 +63,7 @@ fn literal(word: &[u8]) -> Option<Node> {
         return None;
     }
     Some(Node::Literal {
-        word: Bits::truncated(width, value),
+        word: Bits::truncate(width, value),
         is_signed,
     })
 }
@@ -113,13 +113,13 @@ impl<'r, 't> Cursor<'r, 't> {
             };
             let stronger = operator.strength() + 1;
             let right = self.operands(declared, nodes, room - 1, stronger)?;
-            must(!operator.divides() || is_divisor(nodes.as_slice(), right))?;
+            require(!operator.divides() || is_divisor(nodes.as_slice(), right))?;
             let node = Node::Binary {
                 operator,
                 left,
                 right,
             };
-            left = added(nodes, node)?;
+            left = add_node(nodes, node)?;
         }
         if strength > 1 || !self.takes_mark(b'?') {
             return Ok(left);
@@ -139,7 +139,7 @@ impl<'r, 't> Cursor<'r, 't> {
         let yes = self.operands(declared, nodes, room, 1)?;
         self.mark(b':')?;
         let no = self.operands(declared, nodes, room, 1)?;
-        added(nodes, Node::Choice { condition, yes, no })
+        add_node(nodes, Node::Choice { condition, yes, no })
     }
 
     // A primary, or `^` and a primary.
@@ -152,7 +152,7 @@ impl<'r, 't> Cursor<'r, 't> {
     ) -> Result<usize, Fault> {
         if self.takes_mark(b'^') {
             let operand = self.primary(declared, nodes, room)?;
-            return added(nodes, Node::Odd { operand });
+            return add_node(nodes, Node::Odd { operand });
         }
         self.primary(declared, nodes, room)
     }
@@ -169,25 +169,25 @@ impl<'r, 't> Cursor<'r, 't> {
             return Err(Fault::Unreadable);
         }
         if self.takes_mark(b'(') {
-            return self.enclosed(declared, nodes, room - 1);
+            return self.parenthesized_expression(declared, nodes, room - 1);
         }
         if self.takes_mark(b'{') {
-            return self.braced(declared, nodes, room - 1);
+            return self.concat_or_replicate(declared, nodes, room - 1);
         }
         let word = self.any_word()?;
         if word == b"$signed".as_slice() || word == b"$unsigned".as_slice() {
             self.mark(b'(')?;
-            let operand = self.enclosed(declared, nodes, room - 1)?;
+            let operand = self.parenthesized_expression(declared, nodes, room - 1)?;
             let is_signed = word.len() == 7;
-            return added(nodes, Node::Cast { is_signed, operand });
+            return add_node(nodes, Node::Cast { is_signed, operand });
         }
         let node = self.simple(declared, word)?;
-        added(nodes, node)
+        add_node(nodes, node)
     }
 
     // An expression after `(`, and `)`.
     #[cycle(expression)]
-    fn enclosed(
+    fn parenthesized_expression(
         &mut self,
         declared: &[Declared],
         nodes: &mut Vec<Node>,
@@ -200,18 +200,18 @@ impl<'r, 't> Cursor<'r, 't> {
 
     // A concatenation or a replication after `{`.
     #[cycle(expression)]
-    fn braced(
+    fn concat_or_replicate(
         &mut self,
         declared: &[Declared],
         nodes: &mut Vec<Node>,
         room: u32,
     ) -> Result<usize, Fault> {
         let Some(count) = self.copies() else {
-            return self.joined(declared, nodes, room);
+            return self.concat_parts(declared, nodes, room);
         };
-        let part = self.joined(declared, nodes, room)?;
+        let part = self.concat_parts(declared, nodes, room)?;
         self.mark(b'}')?;
-        added(nodes, Node::Repeated { count, part })
+        add_node(nodes, Node::Repeated { count, part })
     }
 
     // How many copies a replication has, where a number and `{` come first.
@@ -226,21 +226,21 @@ impl<'r, 't> Cursor<'r, 't> {
 
     // The parts of a concatenation after `{`, and `}`.
     #[cycle(expression)]
-    fn joined(
+    fn concat_parts(
         &mut self,
         declared: &[Declared],
         nodes: &mut Vec<Node>,
         room: u32,
     ) -> Result<usize, Fault> {
         let part = self.operands(declared, nodes, room, 1)?;
-        let mut all = added(nodes, Node::Joined { before: None, part })?;
+        let mut all = add_node(nodes, Node::Joined { before: None, part })?;
         for _ in 0..self.rest.len() {
             if !self.takes_mark(b',') {
                 break;
             }
             let part = self.operands(declared, nodes, room, 1)?;
             let before = Some(all);
-            all = added(nodes, Node::Joined { before, part })?;
+            all = add_node(nodes, Node::Joined { before, part })?;
         }
         self.mark(b'}')?;
         Ok(all)
@@ -251,8 +251,8 @@ impl<'r, 't> Cursor<'r, 't> {
         if let Some(node) = literal(word) {
             return Ok(node);
         }
-        let net = there(place_of(declared, word))?;
-        let named = there(declared.get(net).copied())?;
+        let net = require_some(place_of(declared, word))?;
+        let named = require_some(declared.get(net).copied())?;
         if self.takes_mark(b'[') {
             return self.select(net, named);
         }
@@ -274,7 +274,7 @@ impl<'r, 't> Cursor<'r, 't> {
         if low > high || high >= 128 {
             return Err(Fault::Unreadable);
         }
-        must(named.has_range && high < named.width)?;
+        require(named.has_range && high < named.width)?;
         Ok(Node::Select {
             net,
             low,

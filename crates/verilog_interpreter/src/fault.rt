@@ -34,7 +34,7 @@ impl<T: Drop> From<AllocFailed<T>> for Fault {
 }
 
 /// What is there, or the fault that it is not.
-pub fn there<T: Drop>(found: Option<T>) -> Result<T, Fault> {
+pub fn require_some<T: Drop>(found: Option<T>) -> Result<T, Fault> {
     match found {
         Some(value) => Ok(value),
         None => Err(Fault::Unreadable),
@@ -42,7 +42,7 @@ pub fn there<T: Drop>(found: Option<T>) -> Result<T, Fault> {
 }
 
 /// The fault of a text where something does not hold.
-pub fn must(holds: bool) -> Result<(), Fault> {
+pub fn require(holds: bool) -> Result<(), Fault> {
     if holds {
         Ok(())
     } else {

@@ -1,12 +1,12 @@
 //! Runs the modules of a Verilog text by cycles, for tests (IEEE 1364-2005, 6.1: continuous assignments; 9.2.2:
 //! nonblocking assignments; 12.3: ports): nets are settled by passes over what drives them until all have values. That
 //! it does what `specs/` says is not proved, only that it is safe and ends.
-use crate::fault::{Fault, must, there};
+use crate::fault::{Fault, require, require_some};
 use crate::tree::{
     Always, Branch, Connection, Declared, Expression, Instance, Item, Module, Node, Role,
     find_module, place_of,
 };
-use crate::values::{Scope, Shape, assigned, extended, is_known, is_true, lowest, value_under};
+use crate::values::{Scope, Shape, assigned_value, extended, is_known, is_true, low_bits, value_under};
 use bits_core::Bits;
 use std::alloc::Global;
 
@@ -59,7 +59,7 @@ pub struct Stepped {
 
 // The sum of two places.
 fn sum(a: usize, b: usize) -> Result<usize, Fault> {
-    there(a.checked_add(b))
+    require_some(a.checked_add(b))
 }
 
 // The name that an expression is, if it is one alone.
@@ -79,7 +79,7 @@ impl<'p> Machine<'p> {
         modules: &'p [Module<'t>],
         top: &[u8],
     ) -> Result<Machine<'p>, Fault> {
-        let module = there(find_module(modules, top))?;
+        let module = require_some(find_module(modules, top))?;
         let mut machine = Machine {
             widths: Vec::new(alloc),
             drivers: Vec::new(alloc),
@@ -96,7 +96,7 @@ impl<'p> Machine<'p> {
     fn nets_of(&mut self, declared: &[Declared]) -> Result<usize, Fault> {
         let start = self.widths.len();
         for thing in declared {
-            must(self.widths.len() < MOST_NETS)?;
+            require(self.widths.len() < MOST_NETS)?;
             self.widths.push(thing.width)?;
         }
         Ok(start)
@@ -166,7 +166,7 @@ impl<'p> Machine<'p> {
         if room == 0 {
             return Err(Fault::Unreadable);
         }
-        let module = there(find_module(modules, child.module_name))?;
+        let module = require_some(find_module(modules, child.module_name))?;
         let start = self.nets_of(module.declared.as_slice())?;
         for connection in child.connections.as_slice() {
             self.connect(module.declared.as_slice(), connection, outer, start)?;
@@ -182,8 +182,8 @@ impl<'p> Machine<'p> {
         outer: usize,
         start: usize,
     ) -> Result<(), Fault> {
-        let at = there(place_of(declared, connection.port))?;
-        let port = there(declared.get(at).copied())?;
+        let at = require_some(place_of(declared, connection.port))?;
+        let port = require_some(declared.get(at).copied())?;
         let inner = sum(start, at)?;
         match port.role {
             Role::Input => {
@@ -192,7 +192,7 @@ impl<'p> Machine<'p> {
                 self.drive(inner, Source::Given { start, value })
             }
             Role::Output => {
-                let net = there(only_name(&connection.value))?;
+                let net = require_some(only_name(&connection.value))?;
                 let target = sum(outer, net)?;
                 self.drive(target, Source::Net(inner))
             }
@@ -205,21 +205,21 @@ impl<'p> Machine<'p> {
     /// The inputs stand in port order, and the content in text order, an instance's in its place. `Unreadable` where they
     /// do not fit, or a net depends on itself or has nothing that drives it.
     pub fn step(&self, alloc: Global, inputs: &[Bits], content: &[Bits]) -> Result<Stepped, Fault> {
-        let nets = self.settled(alloc, inputs, content)?;
+        let nets = self.net_values(alloc, inputs, content)?;
         let mut outputs = Vec::new(alloc);
         for output in self.outputs.as_slice() {
             let scope = Scope {
                 nets: nets.as_slice(),
                 start: *output,
             };
-            outputs.push(there(scope.value(0))?)?;
+            outputs.push(require_some(scope.value(0))?)?;
         }
         let content = self.next(alloc, nets.as_slice(), content)?;
         Ok(Stepped { outputs, content })
     }
 
     // The values of all nets.
-    fn settled(
+    fn net_values(
         &self,
         alloc: Global,
         inputs: &[Bits],
@@ -235,7 +235,7 @@ impl<'p> Machine<'p> {
             }
         }
         for net in nets.as_slice() {
-            must(net.is_some())?;
+            require(net.is_some())?;
         }
         Ok(nets)
     }
@@ -253,7 +253,7 @@ impl<'p> Machine<'p> {
             if !is_open(nets.as_slice(), driver.target) {
                 continue;
             }
-            let value = self.driven(alloc, inputs, content, nets.as_slice(), driver)?;
+            let value = self.driver_value(alloc, inputs, content, nets.as_slice(), driver)?;
             moved = moved || value.is_some();
             if let Some(slot) = nets.get_mut(driver.target) {
                 *slot = value;
@@ -263,7 +263,7 @@ impl<'p> Machine<'p> {
     }
 
     // What a driver gives to its net, if all that it reads is known.
-    fn driven(
+    fn driver_value(
         &self,
         alloc: Global,
         inputs: &[Bits],
@@ -271,17 +271,17 @@ impl<'p> Machine<'p> {
         nets: &[Option<Bits>],
         driver: &Driver<'p>,
     ) -> Result<Option<Bits>, Fault> {
-        let width = there(self.widths.get(driver.target).copied())?;
+        let width = require_some(self.widths.get(driver.target).copied())?;
         match driver.source {
-            Source::Input(number) => exactly(inputs, number, width),
-            Source::Held(number) => exactly(content, number, width),
-            Source::Net(start) => copied(&Scope { nets, start }, width),
+            Source::Input(number) => word_of_width(inputs, number, width),
+            Source::Held(number) => word_of_width(content, number, width),
+            Source::Net(start) => net_value(&Scope { nets, start }, width),
             Source::Given { start, value } => {
                 let scope = Scope { nets, start };
                 if !is_known(value, &scope) {
                     return Ok(None);
                 }
-                let word = assigned(alloc, value, width, &scope)?;
+                let word = assigned_value(alloc, value, width, &scope)?;
                 Ok(Some(word))
             }
         }
@@ -294,12 +294,12 @@ impl<'p> Machine<'p> {
         nets: &[Option<Bits>],
         content: &[Bits],
     ) -> Result<Vec<Bits>, Fault> {
-        must(content.len() == self.registers.len())?;
+        require(content.len() == self.registers.len())?;
         let mut next = Vec::new(alloc);
         for (at, slot) in self.registers.as_slice().iter().enumerate() {
-            let old = there(content.get(at).copied())?;
+            let old = require_some(content.get(at).copied())?;
             let start = slot.start;
-            let word = loaded(alloc, slot.register, &Scope { nets, start }, old)?;
+            let word = next_value(alloc, slot.register, &Scope { nets, start }, old)?;
             next.push(word)?;
         }
         Ok(next)
@@ -315,14 +315,14 @@ fn is_open(nets: &[Option<Bits>], net: usize) -> bool {
 }
 
 // The word of a number, which has to be there with this width.
-fn exactly(words: &[Bits], number: usize, width: u32) -> Result<Option<Bits>, Fault> {
-    let word = there(words.get(number).copied())?;
-    must(word.width() == width)?;
+fn word_of_width(words: &[Bits], number: usize, width: u32) -> Result<Option<Bits>, Fault> {
+    let word = require_some(words.get(number).copied())?;
+    require(word.width() == width)?;
     Ok(Some(word))
 }
 
 // The value of a net as one of this many bits, if it is known.
-fn copied(scope: &Scope, width: u32) -> Result<Option<Bits>, Fault> {
+fn net_value(scope: &Scope, width: u32) -> Result<Option<Bits>, Fault> {
     let Some(word) = scope.value(0) else {
         return Ok(None);
     };
@@ -330,19 +330,19 @@ fn copied(scope: &Scope, width: u32) -> Result<Option<Bits>, Fault> {
         width: width.max(word.width()),
         is_signed: false,
     };
-    let wide = there(extended(word, shape))?;
-    Ok(lowest(wide, width))
+    let wide = require_some(extended(word, shape))?;
+    Ok(low_bits(wide, width))
 }
 
 // What a register takes: where the lowest bit of its clock is 1, the value of the first branch that holds.
-fn loaded(alloc: Global, register: &Always, scope: &Scope, old: Bits) -> Result<Bits, Fault> {
-    let clock = there(scope.value(register.clock))?;
+fn next_value(alloc: Global, register: &Always, scope: &Scope, old: Bits) -> Result<Bits, Fault> {
+    let clock = require_some(scope.value(register.clock))?;
     if clock.value() % 2 == 0 {
         return Ok(old);
     }
     for branch in register.branches.as_slice() {
         if holds(alloc, branch, scope)? {
-            return assigned(alloc, &branch.value, old.width(), scope);
+            return assigned_value(alloc, &branch.value, old.width(), scope);
         }
     }
     Ok(old)

@@ -1,7 +1,7 @@
 //! Reads a Verilog text of the subset that is printed (IEEE 1364-2005, Annex A), for tests. That it reads by the grammar
 //! of `specs/` is not proved, only that it is safe and ends.
 use crate::cursor::Cursor;
-use crate::fault::{Fault, must, there};
+use crate::fault::{Fault, require, require_some};
 use crate::tokens::{Token, tokens};
 use crate::tree::{
     Always, Branch, Connection, Declared, Expression, Instance, Item, Module, Role, place_of,
@@ -36,15 +36,15 @@ fn all_modules<'t>(alloc: Global, tokens: &[Token<'t>]) -> Result<Vec<Module<'t>
 
 // Puts a declared name after those that are there.
 fn declare<'t>(declared: &mut Vec<Declared<'t>>, thing: Declared<'t>) -> Result<(), Fault> {
-    must(place_of(declared.as_slice(), thing.name).is_none())?;
+    require(place_of(declared.as_slice(), thing.name).is_none())?;
     declared.push(thing)?;
     Ok(())
 }
 
 // The place of a declared name of this kind.
 fn place_as(declared: &[Declared], name: &[u8], roles: &[Role]) -> Result<usize, Fault> {
-    let at = there(place_of(declared, name))?;
-    let found = there(declared.get(at).copied())?;
+    let at = require_some(place_of(declared, name))?;
+    let found = require_some(declared.get(at).copied())?;
     for role in roles {
         if *role == found.role {
             return Ok(at);
@@ -130,13 +130,13 @@ impl<'r, 't> Cursor<'r, 't> {
             self.declaration(declared, Role::Reg)?;
             return self.mark(b';');
         }
-        let item = self.made(declared.as_slice())?;
+        let item = self.module_item(declared.as_slice())?;
         items.push(item)?;
         Ok(())
     }
 
     // An assignment, a register or an instance.
-    fn made(&mut self, declared: &[Declared]) -> Result<Item<'t>, Fault> {
+    fn module_item(&mut self, declared: &[Declared]) -> Result<Item<'t>, Fault> {
         if self.takes_word(b"assign") {
             return self.assignment(declared);
         }
@@ -170,7 +170,7 @@ impl<'r, 't> Cursor<'r, 't> {
         let target = self.branch(declared, &mut branches)?;
         if branches_go_on(branches.as_slice()) && self.takes_word(b"else") {
             let other = self.branch(declared, &mut branches)?;
-            must(other == target)?;
+            require(other == target)?;
         }
         Ok(Always {
             clock,

@@ -55,7 +55,7 @@ fn sort_of(byte: u8) -> Sort {
 
 // The sort of a byte after the bytes that belong together: after a word with `'` in it `?` is a digit of that number
 // (IEEE 1364-2005, 3.5.1).
-fn sort_behind(open: Sort, bytes: &[u8], byte: u8) -> Sort {
+fn sort_after(open: Sort, bytes: &[u8], byte: u8) -> Sort {
     if byte == b'?' && open == Sort::Word && is_among(b'\'', bytes) {
         Sort::Word
     } else {
@@ -88,7 +88,7 @@ pub fn tokens(alloc: Global, text: &[u8]) -> Result<Vec<Token<'_>>, AllocError> 
     let mut start = 0;
     let mut open = Sort::Blank;
     for (at, byte) in text.iter().enumerate() {
-        let sort = sort_behind(open, piece(text, start, at), *byte);
+        let sort = sort_after(open, piece(text, start, at), *byte);
         if sort != open || sort == Sort::Mark {
             if let Some(whole) = whole_token(open, piece(text, start, at)) {
                 all.push(whole)?;

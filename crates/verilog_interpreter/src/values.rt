@@ -2,7 +2,7 @@
 //! the whole, then from the whole to the parts that stand in its context, then values. Words have 1 to 128 bits.
 ghost use Rattle.std.specs.Prelude.{◌≡◌, length};
 
-use crate::fault::{Fault, must, there};
+use crate::fault::{Fault, require, require_some};
 use crate::tree::{Context, Expression, Node, Operator};
 use bits_core::Bits;
 use std::alloc::Global;
@@ -102,8 +102,8 @@ fn binary_shape(operator: Operator, left: Shape, right: Shape) -> Option<Shape> 
 fn own_shapes(alloc: Global, nodes: &[Node]) -> Result<Vec<Shape>, Fault> {
     let mut shapes = Vec::new(alloc);
     for node in nodes {
-        let shape = there(shape_of(node, shapes.as_slice()))?;
-        must(shape.width > 0 && shape.width <= 128)?;
+        let shape = require_some(shape_of(node, shapes.as_slice()))?;
+        require(shape.width > 0 && shape.width <= 128)?;
         shapes.push(shape)?;
     }
     Ok(shapes)
@@ -171,8 +171,8 @@ fn pushed_shapes(
         whole.width = whole.width.max(width);
     }
     for at in (0..nodes.len()).rev() {
-        let node = there(nodes.get(at))?;
-        let pushed = there(contexts.get(at).copied())?;
+        let node = require_some(nodes.get(at))?;
+        let pushed = require_some(contexts.get(at).copied())?;
         push_down(node, pushed, shapes, &mut contexts);
     }
     Ok(contexts)
@@ -194,11 +194,11 @@ pub fn extended(word: Bits, shape: Shape) -> Option<Bits> {
     } else {
         0
     };
-    Some(Bits::truncated(shape.width, word.value() | fill))
+    Some(Bits::truncate(shape.width, word.value() | fill))
 }
 
 /// The lowest bits of a word; None where it has fewer.
-pub fn lowest(word: Bits, width: u32) -> Option<Bits> {
+pub fn low_bits(word: Bits, width: u32) -> Option<Bits> {
     if width == 0 || width > word.width() {
         return None;
     }
@@ -215,7 +215,7 @@ fn selected(word: Bits, low: u32, width: u32) -> Option<Bits> {
 }
 
 // One word after another.
-fn behind(high: Option<Bits>, low: Bits) -> Option<Bits> {
+fn concat_words(high: Option<Bits>, low: Bits) -> Option<Bits> {
     let Some(high) = high else {
         return Some(low);
     };
@@ -226,10 +226,10 @@ fn behind(high: Option<Bits>, low: Bits) -> Option<Bits> {
 }
 
 // Copies of a word, one after another.
-fn repeated(word: Bits, count: u32) -> Option<Bits> {
+fn replicate(word: Bits, count: u32) -> Option<Bits> {
     let mut all = None;
     for _ in 0..count {
-        all = Some(behind(all, word)?);
+        all = Some(concat_words(all, word)?);
     }
     all
 }
@@ -260,7 +260,7 @@ fn arithmetic(operator: Operator, is_signed: bool, a: Bits, b: Bits) -> Option<B
 }
 
 // A shift of a word by the number of another one.
-fn shifted(operator: Operator, is_signed: bool, a: Bits, b: Bits) -> Option<Bits> {
+fn shift(operator: Operator, is_signed: bool, a: Bits, b: Bits) -> Option<Bits> {
     match operator {
         Operator::LeftShift => Some(a.shl(&b)),
         Operator::RightShift => Some(a.shru(&b)),
@@ -271,7 +271,7 @@ fn shifted(operator: Operator, is_signed: bool, a: Bits, b: Bits) -> Option<Bits
 }
 
 // Whether words of one width compare so.
-fn compared(operator: Operator, is_signed: bool, a: Bits, b: Bits) -> Option<bool> {
+fn compare(operator: Operator, is_signed: bool, a: Bits, b: Bits) -> Option<bool> {
     if a.width() != b.width() {
         return None;
     }
@@ -309,10 +309,10 @@ impl<'p> Parts<'p> {
         let b = self.value(right)?;
         match operator.context() {
             Context::BothOperands => arithmetic(operator, pushed.is_signed, a, b),
-            Context::LeftOperand => shifted(operator, pushed.is_signed, a, b),
+            Context::LeftOperand => shift(operator, pushed.is_signed, a, b),
             Context::NoOperand => {
                 let is_signed = self.is_signed(left)? && self.is_signed(right)?;
-                let holds = compared(operator, is_signed, a, b)?;
+                let holds = compare(operator, is_signed, a, b)?;
                 extended(Bits::from(holds), pushed)
             }
         }
@@ -328,8 +328,8 @@ impl<'p> Parts<'p> {
             Node::Joined {
                 before: Some(before),
                 part,
-            } => behind(self.value(before), self.value(part)?),
-            Node::Repeated { count, part } => repeated(self.value(part)?, count),
+            } => concat_words(self.value(before), self.value(part)?),
+            Node::Repeated { count, part } => replicate(self.value(part)?, count),
             Node::Cast { operand, .. } => self.value(operand),
             Node::Odd { operand } => Some(self.value(operand)?.parity()),
             Node::Binary { .. } | Node::Choice { .. } => None,
@@ -370,26 +370,26 @@ pub fn value_under(
     let contexts = pushed_shapes(alloc, nodes, shapes.as_slice(), width)?;
     let mut values = Vec::new(alloc);
     for (at, node) in nodes.iter().enumerate() {
-        let pushed = there(contexts.get(at).copied())?;
+        let pushed = require_some(contexts.get(at).copied())?;
         let parts = Parts {
             shapes: shapes.as_slice(),
             values: values.as_slice(),
         };
-        let value = there(parts.pushed_value(node, pushed, scope))?;
+        let value = require_some(parts.pushed_value(node, pushed, scope))?;
         values.push(value)?;
     }
-    there(values.last().copied())
+    require_some(values.last().copied())
 }
 
 /// What an assignment of an expression gives to a name of this many bits.
-pub fn assigned(
+pub fn assigned_value(
     alloc: Global,
     expression: &Expression,
     width: u32,
     scope: &Scope,
 ) -> Result<Bits, Fault> {
     let value = value_under(alloc, expression, width, scope)?;
-    there(lowest(value, width))
+    require_some(low_bits(value, width))
 }
 
 /// Whether all names of an expression have values.

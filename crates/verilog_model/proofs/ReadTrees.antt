@@ -7,7 +7,7 @@ use Rattle.verilog_model.specs.Tokens.Piece.{word, operator, mark, gap}
 use Rattle.verilog_model.specs.Tree.{Numeral, Expr, VPort, Load, Block, Connection, Item, Tree}
 use Rattle.verilog_model.specs.Tree.Block.{load, if_load, if_else, if_else_if}
 use Rattle.verilog_model.specs.Tree.Item.{wire, reg, assign, always, instance}
-use Rattle.verilog_model.specs.Grammar.{expr_spelled, load_spelled, if_spelled, block_spelled, more_connections_spelled, connections_spelled, range_spelled, direction, port_spelled, more_ports_spelled, ports_spelled, item_spelled, items_spelled, spelled, open_paren, close_paren, semicolon, arrow}
+use Rattle.verilog_model.specs.Grammar.{expr_spelled, load_spelled, if_spelled, block_spelled, more_connections_spelled, connections_spelled, range_spelled, direction, port_spelled, more_ports_spelled, ports_spelled, item_spelled, items_spelled, spell_tree, open_paren, close_paren, semicolon, arrow}
 use Rattle.verilog_model.specs.Reserved.{reserved_words}
 use Rattle.verilog_model.specs.Checks.{contains_name}
 use Rattle.verilog_model.proofs.TokenReader.{Rest, State, Class, class_of, next, run, on_word, load_behind, if_behind, with_block, block_word, else_word, after_if_word, item_word, instance_behind, connection_behind, first_connection, range_or_name, more_or_end, skip}
@@ -166,13 +166,13 @@ read_head : (n : Name) (ports : List VPort) (f : Tree → Tree) (ps : List Piece
 read_head n [] f ps = refl
 read_head n (p ∷ rest) f ps = read_ports p rest (λ (qs : List VPort) (is : List Item) (t : Tree). f (record { name = n; ports = qs; items = is } ∷ t)) ps
 
-read_modules : (t : Tree) (f : Tree → Tree) → ClearTree t → run (modules f) (spelled t) ≡ f t
+read_modules : (t : Tree) (f : Tree → Tree) → ClearTree t → run (modules f) (spell_tree t) ≡ f t
 read_modules [] f h = refl
 read_modules (m ∷ ms) f h =
-    read_head m.name m.ports f (items_spelled m.items (word (codes "endmodule") ∷ spelled ms))
-    ∙ read_items m.items (λ (is : List Item) (t : Tree). f (record { name = m.name; ports = m.ports; items = is } ∷ t)) (spelled ms) h.0
+    read_head m.name m.ports f (items_spelled m.items (word (codes "endmodule") ∷ spell_tree ms))
+    ∙ read_items m.items (λ (is : List Item) (t : Tree). f (record { name = m.name; ports = m.ports; items = is } ∷ t)) (spell_tree ms) h.0
     ∙ read_modules ms (λ (t : Tree). f (m ∷ t)) h.1
 
 -- from the tokens of a tree the tree is read
-pub read_tree : (t : Tree) → ClearTree t → run (modules (λ (t : Tree). t)) (spelled t) ≡ t
+pub read_tree : (t : Tree) → ClearTree t → run (modules (λ (t : Tree). t)) (spell_tree t) ≡ t
 read_tree t h = read_modules t (λ (t : Tree). t) h

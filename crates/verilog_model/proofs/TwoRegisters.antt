@@ -15,7 +15,7 @@ use Rattle.verilog_model.specs.Tree.Item.{wire, reg, assign, always, instance}
 use Rattle.verilog_model.specs.Reserved.{reserved_words}
 use Rattle.verilog_model.specs.Hierarchy.{VNet, VPath, VInstance, vnet, Drive, drive, drive_at, find_instance, find_vmodule, vmodule_at, width_at, vregisters, vstate}
 use Rattle.verilog_model.specs.Hierarchy.Drive.{nothing}
-use Rattle.verilog_model.specs.Meaning.{TreeSettled, tree_machine, driven, tree_outputs, next_vcontent}
+use Rattle.verilog_model.specs.Meaning.{TreeSettled, tree_machine, drive_value, tree_outputs, next_vcontent}
 use Rattle.verilog_model.specs.Behaviour.{IsVerilog}
 
 abbrev high : Option Name
@@ -85,7 +85,7 @@ layered_is_verilog = record { spelled = refl; fits = refl; checks = refl }
 -- the map of the nets after k rounds from none
 abbrev rounds : ℕ → Tree → Word → Word → VNet → Word
 rounds zero t inputs content v = []
-rounds (suc k) t inputs content v = driven t (codes "Two") inputs content (rounds k t inputs content) (width_at (vmodule_at t (codes "Two") v.path) v.name) (drive t (codes "Two") v)
+rounds (suc k) t inputs content v = drive_value t (codes "Two") inputs content (rounds k t inputs content) (width_at (vmodule_at t (codes "Two") v.path) v.name) (drive t (codes "Two") v)
 
 -- the outputs of each step, where a map is given for inputs and content
 abbrev outputs_over : Tree → (Word → Word → VNet → Word) → Word → List Word → List Word
@@ -129,7 +129,7 @@ layered_steps = refl
 -- after k rounds another round changes nothing of what the drive gives
 abbrev Steady : Tree → ℕ → Drive → Type 0
 Steady t k d =
-    (s content : Word) (w : ℕ) → driven t (codes "Two") s content (rounds k t s content) w d ≡ driven t (codes "Two") s content (rounds (suc k) t s content) w d
+    (s content : Word) (w : ℕ) → drive_value t (codes "Two") s content (rounds k t s content) w d ≡ drive_value t (codes "Two") s content (rounds (suc k) t s content) w d
 
 -- what holds of each name of a list
 abbrev Each : (Name → Type 0) → List Name → Type 0
@@ -173,7 +173,7 @@ flat_outside u (w ∷ q) = ap (λ o. bind o (λ (m : VModule). bind (find_instan
 flat_settled : (s content : Word) → TreeSettled flat (codes "Two") s content (rounds 2 flat s content)
 flat_settled s content v = go v.path where
   go : (q : VPath) → rounds 2 flat s content (vnet q v.name)
-      ≡ driven flat (codes "Two") s content (rounds 2 flat s content) (width_at (vmodule_at flat (codes "Two") q) v.name) (drive flat (codes "Two") (vnet q v.name))
+      ≡ drive_value flat (codes "Two") s content (rounds 2 flat s content) (width_at (vmodule_at flat (codes "Two") q) v.name) (drive flat (codes "Two") (vnet q v.name))
   go [] = flat_steady v.name s content (width_at (vmodule_at flat (codes "Two") []) v.name)
   go (u ∷ q) = subst (λ o. Steady flat 1 (drive_at flat (codes "Two") (u ∷ q) v.name o)) (sym (flat_outside u q)) (λ s c w. refl) s content (width_at (vmodule_at flat (codes "Two") (u ∷ q)) v.name)
 
@@ -256,7 +256,7 @@ inner_has_none u (w ∷ q) = subst HasNone (sym (within_none u (vmodule_at layer
 layered_settled : (s content : Word) → TreeSettled layered (codes "Two") s content (rounds 4 layered s content)
 layered_settled s content v = go v.path where
   go : (q : VPath) → rounds 4 layered s content (vnet q v.name)
-      ≡ driven layered (codes "Two") s content (rounds 4 layered s content) (width_at (vmodule_at layered (codes "Two") q) v.name) (drive layered (codes "Two") (vnet q v.name))
+      ≡ drive_value layered (codes "Two") s content (rounds 4 layered s content) (width_at (vmodule_at layered (codes "Two") q) v.name) (drive layered (codes "Two") (vnet q v.name))
   go [] = top_steady v.name s content (width_at (vmodule_at layered (codes "Two") []) v.name)
   go (u ∷ []) = inner_steady u v.name s content (width_at (vmodule_at layered (codes "Two") (u ∷ [])) v.name)
   go (u ∷ w ∷ q) =

@@ -6,14 +6,14 @@ use Rattle.hw_model.specs.Machine.{Same}
 use Rattle.hw_model.specs.Meaning.{machine}
 use Rattle.verilog_model.specs.Tree.{VPort, VModule, Tree}
 use Rattle.verilog_model.specs.Tokens.{tokens}
-use Rattle.verilog_model.specs.Grammar.{spelled, tree_fits}
+use Rattle.verilog_model.specs.Grammar.{spell_tree, tree_fits}
 use Rattle.verilog_model.specs.Checks.{tree_checks}
 use Rattle.verilog_model.specs.Hierarchy.{find_vmodule, range_width}
 use Rattle.verilog_model.specs.Meaning.{tree_machine}
 
 -- the text is the tree's: its tokens are the tree's spelling, which keeps precedence, and the tree meets the checks
 pub record IsVerilog (text : List ℕ) (t : Tree) : Type 0 where
-  pub spelled : tokens text ≡ spelled t
+  pub spelled : tokens text ≡ spell_tree t
   pub fits : IsTrue (tree_fits t)
   pub checks : IsTrue (tree_checks t)
 

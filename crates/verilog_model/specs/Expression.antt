@@ -99,21 +99,21 @@ arithmetic bit_or s a b = or_words a b
 arithmetic _ s a b = []
 
 -- `a` shifted by a number of bits in the sign s
-abbrev pub shifted : Operator → Bool → Word → ℕ → Word
-shifted left_shift s a n = shift_left a n
-shifted right_shift s a n = shift_right a n
-shifted signed_right_shift s a n = cond s (shift_right_signed a n) (shift_right a n)
-shifted _ s a n = []
+abbrev pub shift_word : Operator → Bool → Word → ℕ → Word
+shift_word left_shift s a n = shift_left a n
+shift_word right_shift s a n = shift_right a n
+shift_word signed_right_shift s a n = cond s (shift_right_signed a n) (shift_right a n)
+shift_word _ s a n = []
 
 -- whether `a` and `b`, read in the sign s, stand in the order that is asked
-abbrev pub compared : Operator → Bool → Word → Word → Bool
-compared below s a b = cond s (signed_less a b) (less a b)
-compared at_most s a b = not (cond s (signed_less b a) (less b a))
-compared above s a b = cond s (signed_less b a) (less b a)
-compared at_least s a b = not (cond s (signed_less a b) (less a b))
-compared equals s a b = same_word a b
-compared differs s a b = not (same_word a b)
-compared _ s a b = false
+abbrev pub compare_words : Operator → Bool → Word → Word → Bool
+compare_words below s a b = cond s (signed_less a b) (less a b)
+compare_words at_most s a b = not (cond s (signed_less b a) (less b a))
+compare_words above s a b = cond s (signed_less b a) (less b a)
+compare_words at_least s a b = not (cond s (signed_less a b) (less a b))
+compare_words equals s a b = same_word a b
+compare_words differs s a b = not (same_word a b)
+compare_words _ s a b = false
 
 -- an operand: its value under each width and sign, its own width, its own sign
 pub record Operand : Type 0 where
@@ -127,9 +127,9 @@ own x = x.value_at x.long x.is_signed
 
 abbrev pub binary_value : Context → Operator → ℕ → Bool → Operand → Operand → Word
 binary_value both_operands o k s a b = arithmetic o s (a.value_at k s) (b.value_at k s)
-binary_value left_operand o k s a b = shifted o s (a.value_at k s) (number (own b))
+binary_value left_operand o k s a b = shift_word o s (a.value_at k s) (number (own b))
 binary_value no_operand o k s a b =
-    extended k s (flag (compared o (a.is_signed && b.is_signed)
+    extended k s (flag (compare_words o (a.is_signed && b.is_signed)
     (a.value_at (max a.long b.long) (a.is_signed && b.is_signed))
     (b.value_at (max a.long b.long) (a.is_signed && b.is_signed))))
 

@@ -166,9 +166,9 @@ items_spelled (i ∷ is) ps = item_spelled i (items_spelled is ps)
 abbrev pub module_spelled : VModule → Spelling → Spelling
 module_spelled m ps = word (codes "module") ∷ word m.name ∷ ports_spelled m.ports (semicolon ∷ items_spelled m.items (word (codes "endmodule") ∷ ps))
 
-abbrev pub spelled : Tree → Spelling
-spelled [] = []
-spelled (m ∷ ms) = module_spelled m (spelled ms)
+abbrev pub spell_tree : Tree → Spelling
+spell_tree [] = []
+spell_tree (m ∷ ms) = module_spelled m (spell_tree ms)
 
 -- ---- precedence and association
 

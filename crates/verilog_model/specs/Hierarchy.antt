@@ -168,14 +168,14 @@ abbrev pub drive_of_connection : VPath → Option Connection → Drive
 drive_of_connection q None = nothing
 drive_of_connection q (Some c) = expression q c.value
 
-abbrev pub connected : VPath → Name → Option VInstance → Drive
-connected q n None = nothing
-connected q n (Some i) = drive_of_connection q (find_connection i.connections n)
+abbrev pub connection_drive : VPath → Name → Option VInstance → Drive
+connection_drive q n None = nothing
+connection_drive q n (Some i) = drive_of_connection q (find_connection i.connections n)
 
 -- an input port: at the top its bits of the inputs, in an instance what the instance joins to it
 abbrev pub input_drive : Tree → Name → VPath → VModule → VPort → Drive
 input_drive t top [] m p = input (input_width_before p.name m.ports) (range_width p.high)
-input_drive t top (u ∷ q) m p = connected q p.name (bind (vmodule_at t top q) (λ (o : VModule). find_instance o.items u))
+input_drive t top (u ∷ q) m p = connection_drive q p.name (bind (vmodule_at t top q) (λ (o : VModule). find_instance o.items u))
 
 -- whether the expression is that name alone
 abbrev pub is_name : Name → Expr → Bool

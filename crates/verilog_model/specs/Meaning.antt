@@ -3,7 +3,7 @@
 use Rattle.std.specs.Prelude.{◌≡◌, ℕ, Bool, false, cond, List, [], ◌∷◌, ◌++◌, map, drop, filter}
 use Rattle.bits_core.specs.Word.{Word, first}
 use Rattle.hw_model.specs.Types.{Name}
-use Rattle.hw_model.specs.Value.{joined, is_high}
+use Rattle.hw_model.specs.Value.{concat_words, is_high}
 use Rattle.hw_model.specs.Machine.{Machine}
 use Rattle.verilog_model.specs.Tree.{Expr, VPort, Load, Block, VModule, Tree}
 use Rattle.verilog_model.specs.Tree.Block.{load, if_load, if_else, if_else_if}
@@ -16,17 +16,17 @@ abbrev pub names_at : VPath → (VNet → Word) → Name → Word
 names_at q ρ n = ρ (vnet q n)
 
 -- what a drive gives to a net of k bits
-abbrev pub driven : Tree → Name → Word → Word → (VNet → Word) → ℕ → Drive → Word
-driven t top inputs content ρ k nothing = []
-driven t top inputs content ρ k (input start w) = first w (drop start inputs)
-driven t top inputs content ρ k (held start w) = first w (drop start content)
-driven t top inputs content ρ k (expression q e) = assigned (width_at (vmodule_at t top q)) (names_at q ρ) k e
-driven t top inputs content ρ k (net v) = low_bits k (extended k false (ρ v))
+abbrev pub drive_value : Tree → Name → Word → Word → (VNet → Word) → ℕ → Drive → Word
+drive_value t top inputs content ρ k nothing = []
+drive_value t top inputs content ρ k (input start w) = first w (drop start inputs)
+drive_value t top inputs content ρ k (held start w) = first w (drop start content)
+drive_value t top inputs content ρ k (expression q e) = assigned (width_at (vmodule_at t top q)) (names_at q ρ) k e
+drive_value t top inputs content ρ k (net v) = low_bits k (extended k false (ρ v))
 
 -- under the map each net has what drives it
 abbrev pub TreeSettled : Tree → Name → Word → Word → (VNet → Word) → Type 0
 TreeSettled t top inputs content ρ =
-    (v : VNet) → ρ v ≡ driven t top inputs content ρ (width_at (vmodule_at t top v.path) v.name) (drive t top v)
+    (v : VNet) → ρ v ≡ drive_value t top inputs content ρ (width_at (vmodule_at t top v.path) v.name) (drive t top v)
 
 -- ---- registers
 
@@ -63,7 +63,7 @@ output_ports ps = filter (λ (p : VPort). p.is_output) ps
 
 -- the output ports' words, in port order
 abbrev pub tree_outputs : Tree → Name → (VNet → Word) → Word
-tree_outputs t top ρ = joined (map (λ (p : VPort). ρ (vnet [] p.name)) (output_ports (vports_of (find_vmodule t top))))
+tree_outputs t top ρ = concat_words (map (λ (p : VPort). ρ (vnet [] p.name)) (output_ports (vports_of (find_vmodule t top))))
 
 -- what the module of a name does
 abbrev pub tree_machine : Tree → Name → Machine VNet

@@ -23,11 +23,11 @@ fn step(
 }
 
 fn byte(value: u128) -> Bits {
-    Bits::truncated(8, value)
+    Bits::truncate(8, value)
 }
 
 fn bit(value: u128) -> Bits {
-    Bits::truncated(1, value)
+    Bits::truncate(1, value)
 }
 
 // The word of the only output, with its width, where the step has one.
@@ -150,7 +150,7 @@ fn expressions_have_their_values(rt: HostRuntime) -> Result<(), Fail> {
 fn sums_of_128_bits_wrap(rt: HostRuntime) {
     let text =
         b"module T(input wire [127:0] a, output wire [127:0] o); assign o = a + 128'h1; endmodule";
-    let most = Bits::truncated(128, u128::MAX);
+    let most = Bits::truncate(128, u128::MAX);
     let stepped = step(rt.alloc(), text.as_slice(), b"T", &[most], &[]);
     assert_eq!(rt; only_word(stepped), Some((128, 0)));
 }

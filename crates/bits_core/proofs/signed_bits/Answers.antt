@@ -6,4 +6,4 @@ pub returns-then-negative : goal.returns-then-negative
 returns-then-negative c =
     let fits : c.args.magnitude ≤ 2 ^ 128 = omega arith in
     rw c.if-negative.true
-    (c.truncated.ensures ∙ bits_wrapped_neg c.args.width c.args.magnitude c.requires.most fits)
+    (c.truncate.ensures ∙ bits_wrapped_neg c.args.width c.args.magnitude c.requires.most fits)

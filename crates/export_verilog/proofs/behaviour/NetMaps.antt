@@ -17,7 +17,7 @@ use Rattle.hw_model.proofs.Sorts.{Sort, sort_of}
 use Rattle.hw_model.proofs.Sorts.Sort.{a_register, an_instance as is_an_instance, an_output, a_made}
 use Rattle.verilog_model.specs.Hierarchy.{VPath, VNet, vnet, Drive, drive, drive_at, vmodule_at, width_at}
 use Rattle.verilog_model.specs.Hierarchy.Drive.{nothing}
-use Rattle.verilog_model.specs.Meaning.{names_at, driven, TreeSettled}
+use Rattle.verilog_model.specs.Meaning.{names_at, drive_value, TreeSettled}
 use Rattle.verilog_expr.specs.Spilling.{is_pure}
 use Rattle.verilog_expr.specs.Values.{is_division, HoldConstants}
 use Rattle.verilog_expr.proofs.Bodies.{gives_values-pure, map_map}
@@ -178,7 +178,7 @@ module _ (d : Design) (x : Setting d) (top : Name) (inputs content : Word) (m0 :
     pub settled_given : (p : Path) (m : Module) (here : module_at d top p ≡ Some m) (k : Key) → In k (module_keys m) → σ (vnet (vpath_of d top p) (key_text m k)) ≡ drives σ p m k
     settled_given p m here k within =
         settled (vnet (vpath_of d top p) (key_text m k))
-        ∙ ap (λ w. driven (tree_of d) (symbol_name d top) inputs content σ w (key_drive d x top p m k)) (width_here d x top p m here k within)
+        ∙ ap (λ w. drive_value (tree_of d) (symbol_name d top) inputs content σ w (key_drive d x top p m k)) (width_here d x top p m here k within)
 
     tree_words : HaveWords d x top inputs content σ
     tree_words p m here k within = ap length (settled_given p m here k within) ∙ given_long d x top inputs content p m here σ k within

@@ -21,7 +21,7 @@ use Rattle.hw_model.proofs.Sorts.{instance_found}
 use Rattle.verilog_model.specs.Expression.{own_value, assigned, extended, low_bits}
 use Rattle.verilog_model.specs.Hierarchy.{VNet, vnet, Drive, vmodule_at, width_in, width_at}
 use Rattle.verilog_model.specs.Hierarchy.Drive.{nothing, held, expression as driven_by, net as driven_from}
-use Rattle.verilog_model.specs.Meaning.{names_at, driven}
+use Rattle.verilog_model.specs.Meaning.{names_at, drive_value}
 use Rattle.verilog_expr.specs.Expressions.{value_width, AreExprs}
 use Rattle.verilog_expr.specs.Spilling.{inner_needs}
 use Rattle.verilog_expr.specs.Values.{HasBits, is_division, gives_values, IsWritable, AreNamed, HoldConstants}
@@ -74,7 +74,7 @@ module _ (d : Design) (x : Setting d) (top : Name) (inputs content : Word) where
 
   -- what drives a thing's net gives
   abbrev pub given : (VNet → Word) → Path → Module → Key → Word
-  given σ p m k = driven (tree_of d) (symbol_name d top) inputs content σ (key_width m k) (key_drive d x top p m k)
+  given σ p m k = drive_value (tree_of d) (symbol_name d top) inputs content σ (key_width m k) (key_drive d x top p m k)
 
   -- what the source of a net gives
   abbrev pub evaluated : (Net → Word) → Path → Ref → Word
@@ -150,7 +150,7 @@ module _ (d : Design) (x : Setting d) (top : Name) (inputs content : Word) where
 
       -- an assignment of an expression of as many bits
       pub assigned_own : (k : ℕ) (r : Ref) → value_width m.ports m.body r ≡ k
-          → driven (tree_of d) (symbol_name d top) inputs content σ k (driven_by (vpath_of d top p) (expression m r)) ≡ own σ p m r
+          → drive_value (tree_of d) (symbol_name d top) inputs content σ k (driven_by (vpath_of d top p) (expression m r)) ≡ own σ p m r
       assigned_own k r size =
           ap (λ v. assigned (width_at v) (names_at (vpath_of d top p) σ) k (expression m r)) (vplace d x top p m here)
           ∙ assigned_same (width_in (vmodule d m)) (names_at (vpath_of d top p) σ) k (expression m r)
@@ -174,7 +174,7 @@ module _ (d : Design) (x : Setting d) (top : Name) (inputs content : Word) where
       net_given i o t there role typed hold =
           let h = made_of_role m.ports m.body i o role in
           let gives : gives_values o ≡ true = made_gives o h.0 h.1 h.2 in
-          ap₂ (λ w z. driven (tree_of d) (symbol_name d top) inputs content σ w z) (result_width_is i 0 o t there typed) (drive_net d x top p m here i o there role)
+          ap₂ (λ w z. drive_value (tree_of d) (symbol_name d top) inputs content σ w z) (result_width_is i 0 o t there typed) (drive_net d x top p m here i o there role)
           ∙ ap (λ v. assigned (width_at v) (names_at (vpath_of d top p) σ) (width t) (assigned_expr m (result i 0))) (vplace d x top p m here)
           ∙ assigned_same (width_in (vmodule d m)) (names_at (vpath_of d top p) σ) (width t) (assigned_expr m (result i 0))
           (body_own_bits (named m) m.ports m.body (expression m) (width_in (vmodule d m)) (names_at (vpath_of d top p) σ) can_write no_inner_cycle are_exprs names_fit i 0 o t there gives typed)
@@ -183,19 +183,19 @@ module _ (d : Design) (x : Setting d) (top : Name) (inputs content : Word) where
     -- what drives a thing's net gives as many bits as it has
     pub given_long : (σ : VNet → Word) (k : Key) → In k (module_keys m) → length (given σ p m k) ≡ key_width m k
     given_long σ k within = go (owner_of m k within) where
-      by_drive : (l : Key) → k ≡ l → (w : Drive) → key_drive d x top p m l ≡ w → length (driven (tree_of d) (symbol_name d top) inputs content σ (key_width m l) w) ≡ key_width m l → length (given σ p m k) ≡ key_width m k
-      by_drive l same w drives long = ap (λ z. length (given σ p m z)) same ∙ ap (λ z. length (driven (tree_of d) (symbol_name d top) inputs content σ (key_width m l) z)) drives
+      by_drive : (l : Key) → k ≡ l → (w : Drive) → key_drive d x top p m l ≡ w → length (drive_value (tree_of d) (symbol_name d top) inputs content σ (key_width m l) w) ≡ key_width m l → length (given σ p m k) ≡ key_width m k
+      by_drive l same w drives long = ap (λ z. length (given σ p m z)) same ∙ ap (λ z. length (drive_value (tree_of d) (symbol_name d top) inputs content σ (key_width m l) z)) drives
           ∙ long ∙ sym (ap (key_width m) same)
 
       input_long : (p' : Path) → p ≡ p' → (here' : module_at d top p' ≡ Some m) → (j : ℕ) (y : Port) → slice_get m.ports j ≡ Some y → y.is_output ≡ false → k ≡ port_key j
           → length (given σ p' m k) ≡ key_width m k
       input_long [] same_path here' j y there inward same =
-          ap (λ z. length (given σ [] m z)) same ∙ ap (λ z. length (driven (tree_of d) (symbol_name d top) inputs content σ (key_width m (port_key j)) z)) (drive_top_input d x top m here' j y there inward)
+          ap (λ z. length (given σ [] m z)) same ∙ ap (λ z. length (drive_value (tree_of d) (symbol_name d top) inputs content σ (key_width m (port_key j)) z)) (drive_top_input d x top m here' j y there inward)
           ∙ length-first (width y.type) (drop (input_width (take j m.ports)) inputs) ∙ sym (port_width_is j y there) ∙ sym (ap (key_width m) same)
       input_long (u ∷ q) same_path here' j y there inward same =
           let f = further d x top u q m here' in
           ap (λ z. length (given σ (u ∷ q) m z)) same
-          ∙ ap (λ z. length (driven (tree_of d) (symbol_name d top) inputs content σ (key_width m (port_key j)) z)) (drive_inner_input d x top u q m here' f j y there inward)
+          ∙ ap (λ z. length (drive_value (tree_of d) (symbol_name d top) inputs content σ (key_width m (port_key j)) z)) (drive_inner_input d x top u q m here' f j y there inward)
           ∙ assigned_long (width_at (vmodule_at (tree_of d) (symbol_name d top) (vpath_of d top q))) (names_at (vpath_of d top q) σ) (key_width m (port_key j))
           (expr_for (expression f.outer) (slice_get f.op.operands (input_count (take j m.ports)))) ∙ sym (ap (key_width m) same)
 
@@ -249,14 +249,14 @@ module _ (d : Design) (x : Setting d) (top : Name) (inputs content : Word) where
         let same : Some o.0 ≡ Some r = sym o.1 ∙ gives in
         let refs : o.0 ≡ r = cc in
         let typed : type_in m.ports m.body r ≡ Some y.type = ap (type_in m.ports m.body) (sym refs) ∙ o.2 in
-        ap₂ (λ w z. driven (tree_of d) (symbol_name d top) inputs content σ w z) (port_width_is p m here j y there) (drive_output d x top p m here j y there out)
-        ∙ ap (λ z. driven (tree_of d) (symbol_name d top) inputs content σ (width y.type) (driven_by (vpath_of d top p) (expr_for (expression m) z))) gives
+        ap₂ (λ w z. drive_value (tree_of d) (symbol_name d top) inputs content σ w z) (port_width_is p m here j y there) (drive_output d x top p m here j y there out)
+        ∙ ap (λ z. drive_value (tree_of d) (symbol_name d top) inputs content σ (width y.type) (driven_by (vpath_of d top p) (expr_for (expression m) z))) gives
         ∙ assigned_own p m here σ good.words (width y.type) r (ap width_of typed)
 
     top_input_agrees : (m : Module) (here : module_at d top [] ≡ Some m) (j : ℕ) (y : Port) → slice_get m.ports j ≡ Some y → y.is_output ≡ false
         → given σ [] m (port_key j) ≡ evaluated τ [] (port j)
     top_input_agrees m here j y there inward =
-        ap (driven (tree_of d) (symbol_name d top) inputs content σ (key_width m (port_key j))) (drive_top_input d x top m here j y there inward)
+        ap (drive_value (tree_of d) (symbol_name d top) inputs content σ (key_width m (port_key j))) (drive_top_input d x top m here j y there inward)
         ∙ sym (evaluated_as τ [] (port j) (from_input (input_width (take j m.ports)) (width y.type))
         (ap (input_source j) here ∙ ap (λ z. input_of z (input_width (take j m.ports))) there ∙ ap (λ b. cond b nowhere (from_input (input_width (take j m.ports)) (width y.type))) inward))
 
@@ -264,8 +264,8 @@ module _ (d : Design) (x : Setting d) (top : Name) (inputs content : Word) where
         → ((r : Ref) → own σ p f.outer r ≡ τ (at p r)) → given σ (u ∷ p) m (port_key j) ≡ evaluated τ (u ∷ p) (port j)
     inner_input_agrees u p m here f j y there inward own_is =
         let o = operand in
-        ap₂ (λ w z. driven (tree_of d) (symbol_name d top) inputs content σ w z) (port_width_is (u ∷ p) m here j y there) (drive_inner_input d x top u p m here f j y there inward)
-        ∙ ap (λ z. driven (tree_of d) (symbol_name d top) inputs content σ (width y.type) (driven_by (vpath_of d top p) (expr_for (expression f.outer) z))) o.1
+        ap₂ (λ w z. drive_value (tree_of d) (symbol_name d top) inputs content σ w z) (port_width_is (u ∷ p) m here j y there) (drive_inner_input d x top u p m here f j y there inward)
+        ∙ ap (λ z. drive_value (tree_of d) (symbol_name d top) inputs content σ (width y.type) (driven_by (vpath_of d top p) (expr_for (expression f.outer) z))) o.1
         ∙ assigned_own p f.outer f.here σ good.words (width y.type) o.0 (ap width_of o.2)
         ∙ own_is o.0
         ∙ sym (evaluated_as τ (u ∷ p) (port j) (copy (at p o.0)) (joined_is u p m f j (Some o.0)
@@ -293,7 +293,7 @@ module _ (d : Design) (x : Setting d) (top : Name) (inputs content : Word) where
     variable_agrees p m here i o there role =
         let t = first_type p m here i o there (inr role) in
         let h = register_of_role m.ports m.body i o role in
-        ap (driven (tree_of d) (symbol_name d top) inputs content σ (key_width m (value_key i 0))) (drive_variable d x top p m here i o there role ∙ ap (λ z. held (base d top p + body_state (state d) (take i m.body)) (width_of z)) t.1)
+        ap (drive_value (tree_of d) (symbol_name d top) inputs content σ (key_width m (value_key i 0))) (drive_variable d x top p m here i o there role ∙ ap (λ z. held (base d top p + body_state (state d) (take i m.body)) (width_of z)) t.1)
         ∙ sym (evaluated_as τ p (result i 0) (from_held (offset d top p m i) (width t.0))
         (register_from d top p m here i 0 o h.0 there h.1 ∙ ap (held_of (offset d top p m i)) t.1))
 
@@ -312,7 +312,7 @@ module _ (d : Design) (x : Setting d) (top : Name) (inputs content : Word) where
               good.words (number_of m.body i ∷ p) c.module_of inside.0 (port_key e.place) (port_in c.module_of e.place e.port e.there)
               ∙ port_width_is (number_of m.body i ∷ p) c.module_of inside.0 e.place e.port e.there ∙ ap width e.type in
               let k' = instance_of_role m.ports m.body i o role in
-              ap₂ (λ w z. driven (tree_of d) (symbol_name d top) inputs content σ w z) w (drive_result d x top p m here i k o r c there role found e)
+              ap₂ (λ w z. drive_value (tree_of d) (symbol_name d top) inputs content σ w z) w (drive_result d x top p m here i k o r c there role found e)
               ∙ low_whole (width r.type) (σ (vnet (vpath_of d top (number_of m.body i ∷ p)) (key_text c.module_of (port_key e.place)))) long
               ∙ shows (number_of m.body i ∷ p) c.module_of inside.0 e.place e.port g.0 e.there e.out g.1
               ∙ sym (evaluated_as τ p (result i k) (copy (at (number_of m.body i ∷ p) g.0))

@@ -8,7 +8,7 @@ use Rattle.hw_model.specs.Design.Ref.{result}
 use Rattle.hw_model.specs.Equality.{name_self, name_from}
 use Rattle.hw_model.specs.Flat.{Path, module_at, width_of, base, body_state, state, input_count, input_width}
 use Rattle.verilog_model.specs.Tree.{Expr, VPort, VModule, Connection}
-use Rattle.verilog_model.specs.Hierarchy.{VPath, vnet, Drive, drive, drive_at, drive_in, inner_drive, drive_or_nothing, input_drive, connected, drive_of_connection, find_port, find_instance, find_connection, vmodule_at, width_in, width_at, range_width, input_width_before}
+use Rattle.verilog_model.specs.Hierarchy.{VPath, vnet, Drive, drive, drive_at, drive_in, inner_drive, drive_or_nothing, input_drive, connection_drive, drive_of_connection, find_port, find_instance, find_connection, vmodule_at, width_in, width_at, range_width, input_width_before}
 use Rattle.verilog_model.specs.Hierarchy.Drive.{nothing, input, held, expression as driven_by, net as driven_from}
 use Rattle.verilog_expr.specs.Numerals.{high_of}
 use Rattle.export_verilog.specs.Keys.{Key, each, role_of, module_keys, key_text}
@@ -160,9 +160,9 @@ module _ (d : Design) (x : Setting d) (top : Name) where
       → key_drive (u ∷ p) m (port_key j) ≡ driven_by (vpath_of d top p) (expr_for (expression f.outer) (slice_get f.op.operands (input_count (take j m.ports))))
   drive_inner_input u p m here f j y there out =
       drive_input (u ∷ p) m here j y there out
-      ∙ ap (λ z. connected (vpath_of d top p) (key_text m (port_key j)) (bind z (λ (v : VModule). find_instance v.items (step_name (module_at d top p) u)))) (vplace d x top p f.outer f.here)
-      ∙ ap (λ z. connected (vpath_of d top p) (key_text m (port_key j)) (find_instance (vitems d f.outer) z)) step
-      ∙ ap (connected (vpath_of d top p) (key_text m (port_key j))) found
+      ∙ ap (λ z. connection_drive (vpath_of d top p) (key_text m (port_key j)) (bind z (λ (v : VModule). find_instance v.items (step_name (module_at d top p) u)))) (vplace d x top p f.outer f.here)
+      ∙ ap (λ z. connection_drive (vpath_of d top p) (key_text m (port_key j)) (find_instance (vitems d f.outer) z)) step
+      ∙ ap (connection_drive (vpath_of d top p) (key_text m (port_key j))) found
       ∙ ap (λ z. drive_of_connection (vpath_of d top p) (find_connection (connections_to z f.outer f.place f.op) (key_text m (port_key j)))) f.called.there
       ∙ joined m f.inside there where
         names : AreNames f.outer

@@ -12,7 +12,7 @@ use Rattle.hw_model.specs.Design.Ref.{port, result, undefined}
 use Rattle.hw_model.specs.Flat.{Path, source_at, module_at, instances, input_source, copy_of, joined_at, result_source, Register, register_in}
 use Rattle.hw_model.specs.Meaning.{needs_of, HasNoCycle, machine}
 use Rattle.hw_model.specs.Machine.{Same}
-use Rattle.hw_model.specs.Hierarchy.{calls, called, HasNoRecursion}
+use Rattle.hw_model.specs.Hierarchy.{calls, callee_symbols, HasNoRecursion}
 use Rattle.hw_model.specs.Sound.{Sound, SoundBody, OpFits, InstanceFits, type_in, body_of}
 use Rattle.hw_model.proofs.Samples.{operation}
 use Rattle.verilog_model.specs.Meaning.{tree_machine}
@@ -80,7 +80,7 @@ sound s m is = subst (λ (z : Module). SoundBody one_register z.ports z.body) (f
 
 no_calls : (s : Name) → calls one_register s ≡ []
 no_calls s = go (same_name (codes "Reg") s) where
-  go : (b : Bool) → called (body_of (cond b (Some register_module) None)) ≡ []
+  go : (b : Bool) → callee_symbols (body_of (cond b (Some register_module) None)) ≡ []
   go true = refl
   go false = refl
 

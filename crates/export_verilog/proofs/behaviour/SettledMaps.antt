@@ -15,7 +15,7 @@ use Rattle.hw_model.specs.Sound.{type_in, input_type}
 use Rattle.hw_model.proofs.Finite.{heights_from_no_cycle}
 use Rattle.hw_model.proofs.NetWidths.{value_widths}
 use Rattle.verilog_model.specs.Hierarchy.{VNet, vnet, drive, vmodule_at, width_at}
-use Rattle.verilog_model.specs.Meaning.{names_at, driven}
+use Rattle.verilog_model.specs.Meaning.{names_at, drive_value}
 use Rattle.verilog_expr.specs.Values.{HoldConstants}
 use Rattle.export_verilog.specs.Keys.{Key, role_of, module_keys, key_text, named}
 use Rattle.export_verilog.specs.Keys.Key.{port_key, value_key, instance_key}
@@ -51,7 +51,7 @@ module _ (d : Design) (x : Setting d) (top : Name) (inputs content : Word) (m0 :
   -- what an instance's name stands for
   instance_given : (σ : VNet → Word) (p : Path) (m : Module) (here : module_at d top p ≡ Some m) (i : ℕ) (o : Op) → slice_get m.body i ≡ Some o → role_of m.ports m.body i o ≡ block
       → drives d x top inputs content m0 top_is σ p m (instance_key i) ≡ []
-  instance_given σ p m here i o there role = ap (driven (tree_of d) (symbol_name d top) inputs content σ 0) (drive_instance d x top p m here i o there role)
+  instance_given σ p m here i o there role = ap (drive_value (tree_of d) (symbol_name d top) inputs content σ 0) (drive_instance d x top p m here i o there role)
 
   module _ (ρ : Net → Word) (settled : IsDesignSettled d x top inputs content m0 top_is ρ) where
     typed_long : (p : Path) (m : Module) (r : Ref) (t : HwType) → module_at d top p ≡ Some m → type_in m.ports m.body r ≡ Some t → length (ρ (at p r)) ≡ width t
@@ -169,10 +169,10 @@ module _ (d : Design) (x : Setting d) (top : Name) (inputs content : Word) (m0 :
 
     pub over_settled : IsTreeSettled d x top inputs content m0 top_is (over ρ)
     over_settled = by_owner_of d x top m0 top_is
-        (λ v. over ρ v ≡ driven (tree_of d) (symbol_name d top) inputs content (over ρ) (width_at (vmodule_at (tree_of d) (symbol_name d top) v.path) v.name) (drive (tree_of d) (symbol_name d top) v))
+        (λ v. over ρ v ≡ drive_value (tree_of d) (symbol_name d top) inputs content (over ρ) (width_at (vmodule_at (tree_of d) (symbol_name d top) v.path) v.name) (drive (tree_of d) (symbol_name d top) v))
         (λ p m here k within. over_key ρ p m here k within ∙ over_given p m here k within
-        ∙ sym (ap (λ w. driven (tree_of d) (symbol_name d top) inputs content (over ρ) w (key_drive d x top p m k)) (width_here d x top p m here k within)))
-        (λ v none free. free ρ ∙ sym (ap (driven (tree_of d) (symbol_name d top) inputs content (over ρ) (width_at (vmodule_at (tree_of d) (symbol_name d top) v.path) v.name)) none))
+        ∙ sym (ap (λ w. drive_value (tree_of d) (symbol_name d top) inputs content (over ρ) w (key_drive d x top p m k)) (width_here d x top p m here k within)))
+        (λ v none free. free ρ ∙ sym (ap (drive_value (tree_of d) (symbol_name d top) inputs content (over ρ) (width_at (vmodule_at (tree_of d) (symbol_name d top) v.path) v.name)) none))
 
   -- ---- each settled map of the tree comes from one of the design
 
@@ -215,4 +215,4 @@ module _ (d : Design) (x : Setting d) (top : Name) (inputs content : Word) (m0 :
     round = by_owner_of d x top m0 top_is (λ v. over (from σ) v ≡ σ v)
         (λ p m here k within. over_key (from σ) p m here k within ∙ shown_again p m here k within)
         (λ v none free. free (from σ)
-        ∙ sym (settled v ∙ ap (driven (tree_of d) (symbol_name d top) inputs content σ (width_at (vmodule_at (tree_of d) (symbol_name d top) v.path) v.name)) none))
+        ∙ sym (settled v ∙ ap (drive_value (tree_of d) (symbol_name d top) inputs content σ (width_at (vmodule_at (tree_of d) (symbol_name d top) v.path) v.name)) none))

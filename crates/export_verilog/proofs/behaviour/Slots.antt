@@ -8,7 +8,7 @@ use Rattle.hw_model.specs.Design.{Ref, Port, OpResult, Op, Module, Design, find_
 use Rattle.hw_model.specs.Design.Ref.{result}
 use Rattle.hw_model.specs.Value.{is_high}
 use Rattle.hw_model.specs.Flat.{Path, Net, net as at, module_at, instances, width_of, held_width, Slot, Register, ResetBy, register_in, instance_registers, op_registers, body_registers, registers_of, module_registers, registers, depth}
-use Rattle.hw_model.specs.Meaning.{enabled, reset, loaded, next_content}
+use Rattle.hw_model.specs.Meaning.{value_if_enabled, reset, next_value, next_content}
 use Rattle.hw_model.specs.Sound.{type_in}
 use Rattle.hw_model.proofs.Sorts.{Sort, sort_of}
 use Rattle.hw_model.proofs.Sorts.Sort.{a_register, an_instance as is_an_instance, an_output, a_made}
@@ -231,7 +231,7 @@ module _ (d : Design) (x : Setting d) (top : Name) (inputs content : Word) (m0 :
 
     block_is : (i : ℕ) (t : HwType) (g : Register) → AreOperands (type_in m.ports m.body) t g → (old : Word)
         → block_value (vmodule d m) (names_at (vpath_of d top p) over) (width t) old (block_of (expression m) (key_text m (value_key i 0)) g.next g.enable g.reset)
-        ≡ reset g.reset (λ r. ρ (at p r)) (enabled g.enable (λ r. ρ (at p r)) old (ρ (at p g.next)))
+        ≡ reset g.reset (λ r. ρ (at p r)) (value_if_enabled g.enable (λ r. ρ (at p r)) old (ρ (at p g.next)))
     block_is i t g typed old = go g.enable refl g.reset refl where
       next_is : load_value (vmodule d m) (names_at (vpath_of d top p) over) (width t) (loads (key_text m (value_key i 0)) (expression m g.next)) ≡ ρ (at p g.next)
       next_is = load_is (width t) (key_text m (value_key i 0)) g.next t typed.next refl
@@ -241,7 +241,7 @@ module _ (d : Design) (x : Setting d) (top : Name) (inputs content : Word) (m0 :
 
       go : (e : Option Ref) → g.enable ≡ e → (f : Option ResetBy) → g.reset ≡ f
           → block_value (vmodule d m) (names_at (vpath_of d top p) over) (width t) old (block_of (expression m) (key_text m (value_key i 0)) g.next e f)
-          ≡ reset f (λ r. ρ (at p r)) (enabled e (λ r. ρ (at p r)) old (ρ (at p g.next)))
+          ≡ reset f (λ r. ρ (at p r)) (value_if_enabled e (λ r. ρ (at p r)) old (ρ (at p g.next)))
       go None ee None fe = next_is
       go (Some e) ee None fe = ap₂ (λ b w. cond b w old) (holds_is e (typed.enable e ee)) next_is
       go None ee (Some f) fe = ap₂ (λ b (w : Word × Word). cond b w.0 w.1) (holds_is f.signal (typed.signal f fe)) (ap₂ (λ v w. (v, w)) (reset_is f fe) next_is)
@@ -265,7 +265,7 @@ module _ (d : Design) (x : Setting d) (top : Name) (inputs content : Word) (m0 :
   slot_width_is s v is = let h = symbol_at_path d x top s.path is.m is.here in
       ap slot_width is.same ∙ ap (width_in (vmodule d is.m)) (block_name d x h.0 is.m h.1 top [] is.place is.parts) ∙ variable_width d x h.0 is.m h.1 is.place s.op is.there is.role
 
-  slot_is : (s : Slot) (v : VSlot) → IsSlot d x top s v → (old : Word) → slot_value over (held_width s.op) old v ≡ loaded (register_in s.op) (λ r. ρ (at s.path r)) old
+  slot_is : (s : Slot) (v : VSlot) → IsSlot d x top s v → (old : Word) → slot_value over (held_width s.op) old v ≡ next_value (register_in s.op) (λ r. ρ (at s.path r)) old
   slot_is s v is old =
       let h = symbol_at_path d x top s.path is.m is.here in
       let r = first_result d x h.0 is.m h.1 is.place s.op is.there (inr is.role) in
@@ -276,7 +276,7 @@ module _ (d : Design) (x : Setting d) (top : Name) (inputs content : Word) (m0 :
       let wide : held_width s.op ≡ width r.0.type = ap width_of typed in
       ap₂ (λ k z. slot_value over k old z) wide (is.same ∙ ap (vslot d x top (vpath_of d top s.path) is.m is.place) one)
       ∙ ap₂ (λ c b. cond (is_high c) b old) (clock_is s.path is.m is.here is.place s.op g.0 is.there g.1 g.2.clocked) (block_is s.path is.m is.here is.place r.0.type g.0 g.2 old)
-      ∙ sym (ap (λ z. loaded z (λ r. ρ (at s.path r)) old) g.1)
+      ∙ sym (ap (λ z. next_value z (λ r. ρ (at s.path r)) old) g.1)
 
   pub next_is : (ss : List Slot) (vs : List VSlot) → AreSlots d x top ss vs → (c : Word) → next_vcontent vs over c ≡ next_content ss ρ c
   next_is [] [] are c = refl

@@ -4,7 +4,7 @@ use mathlib.Core.Path.{fun_ext}
 use Rattle.bits_core.specs.Word.{Word}
 use Rattle.hw_model.specs.Types.{Name, HwType}
 use Rattle.hw_model.specs.Design.{Ref, Port, Module, Design, find_module, output_refs}
-use Rattle.hw_model.specs.Value.{joined}
+use Rattle.hw_model.specs.Value.{concat_words}
 use Rattle.hw_model.specs.Flat.{Net, net as at, registers}
 use Rattle.hw_model.specs.Meaning.{machine, outputs, outputs_of}
 use Rattle.hw_model.specs.Machine.{Same, Carries}
@@ -61,9 +61,9 @@ module _ (d : Design) (x : Setting d) (top : Name) (m0 : Module) (top_is : find_
 
   outputs_same : (ρ : Net → Word) → tree_outputs (tree_of d) (symbol_name d top) (over ρ) ≡ outputs d top ρ
   outputs_same ρ =
-      ap (λ v. joined (map (λ (p : VPort). over ρ (vnet [] p.name)) (output_ports (vports_of v)))) (vmodule_found d x.ok x.symbols top m0 top_is)
-      ∙ ap joined (outputs_show (over ρ) ρ m0 (type_in m0.ports m0.body) 0 m0.ports (output_refs m0.body) (module_sound d x top m0 top_is).outputs shows)
-      ∙ sym (ap (λ o. joined (map (λ r. ρ (at [] r)) (outputs_of o))) top_is) where
+      ap (λ v. concat_words (map (λ (p : VPort). over ρ (vnet [] p.name)) (output_ports (vports_of v)))) (vmodule_found d x.ok x.symbols top m0 top_is)
+      ∙ ap concat_words (outputs_show (over ρ) ρ m0 (type_in m0.ports m0.body) 0 m0.ports (output_refs m0.body) (module_sound d x top m0 top_is).outputs shows)
+      ∙ sym (ap (λ o. concat_words (map (λ r. ρ (at [] r)) (outputs_of o))) top_is) where
         shows : (a : ℕ) (y : Port) (r : Ref) → slice_get m0.ports a ≡ Some y → y.is_output ≡ true → slice_get (output_refs m0.body) (output_count (take a m0.ports)) ≡ Some r
             → over ρ (vnet [] (key_text m0 (port_key (0 + a)))) ≡ ρ (at [] r)
         shows a y r there out gives =

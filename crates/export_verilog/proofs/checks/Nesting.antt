@@ -7,7 +7,7 @@ use Rattle.wiring.proofs.Heights.{height-le, FallsAlong-height}
 use Rattle.hw_model.specs.Types.{Name}
 use Rattle.hw_model.specs.Kinds.{Instance}
 use Rattle.hw_model.specs.Design.{Op, Module, Design, find_module, instance_in}
-use Rattle.hw_model.specs.Hierarchy.{calls, called}
+use Rattle.hw_model.specs.Hierarchy.{calls, callee_symbols}
 use Rattle.hw_model.specs.Sound.{body_of}
 use Rattle.hw_model.proofs.Content.{call_heights}
 use Rattle.hw_model.proofs.Finite.{calls_within}
@@ -63,7 +63,7 @@ module _ (d : Design) (x : Setting d) where
   unfolding h
   lower s m is i o y there kind =
       FallsAlong-height (calls d) (heights.0) (heights.1) s y.symbol
-      (subst (λ z. In y.symbol (called (body_of z))) (sym is) (called_In m.body o y (In-slice_get o m.body i there) kind))
+      (subst (λ z. In y.symbol (callee_symbols (body_of z))) (sym is) (called_In m.body o y (In-slice_get o m.body i there) kind))
 
   ends_by_height : (n : ℕ) (s : Name) (m : Module) → find_module d s ≡ Some m → h s ≤ n → ends_within n (tree_of d) (symbol_name d s) ≡ true
   unfolding h

@@ -5,7 +5,7 @@ use Rattle.verilog_model.specs.Tokens.Piece.{word, operator, mark}
 use Rattle.verilog_model.specs.Tree.{Numeral, Expr, VPort, Load, Block, Connection, Item, VModule, Tree}
 use Rattle.verilog_model.specs.Tree.Block.{load, if_load, if_else, if_else_if}
 use Rattle.verilog_model.specs.Tree.Item.{wire, reg, assign, always, instance}
-use Rattle.verilog_model.specs.Grammar.{direction, range_spelled, port_spelled, more_ports_spelled, ports_spelled, load_spelled, if_spelled, block_spelled, connection_spelled, more_connections_spelled, connections_spelled, item_spelled, items_spelled, module_spelled, spelled}
+use Rattle.verilog_model.specs.Grammar.{direction, range_spelled, port_spelled, more_ports_spelled, ports_spelled, load_spelled, if_spelled, block_spelled, connection_spelled, more_connections_spelled, connections_spelled, item_spelled, items_spelled, module_spelled, spell_tree}
 use Rattle.verilog_expr.specs.Text.{expr_text}
 use Rattle.verilog_expr.proofs.TextRead.{IsWord, IsSpellable, GoesOn, word_read, expr_read}
 use Rattle.export_verilog.specs.Layout.{Text, range_text, port_text, port_lines, ports_text, load_text, if_text, block_text, connection_text, connection_lines, connections_text, item_text, items_text, module_text, further_text, tree_text}
@@ -191,12 +191,12 @@ module_read m rest is =
     ∙ ap (λ ts. word m.name ∷ ts) (ports_read m.ports (items_text m.items (codes "endmodule" ++ (10 ∷ rest))) is.ports
     ∙ ap (λ ts. ports_spelled m.ports (mark 59 ∷ ts)) (items_read m.items (codes "endmodule" ++ (10 ∷ rest)) is.items)))
 
-further_read : (t : Tree) → IsSpellableTree t → tokens (further_text t) ≡ spelled t
+further_read : (t : Tree) → IsSpellableTree t → tokens (further_text t) ≡ spell_tree t
 unfolding further_text
 further_read [] are = refl
 further_read (m ∷ ms) are = module_read m (further_text ms) are.0 ∙ ap (module_spelled m) (further_read ms are.1)
 
-pub tree_read : (t : Tree) → IsSpellableTree t → tokens (tree_text t) ≡ spelled t
+pub tree_read : (t : Tree) → IsSpellableTree t → tokens (tree_text t) ≡ spell_tree t
 unfolding tree_text
 tree_read [] are = refl
 tree_read (m ∷ ms) are = module_read m (further_text ms) are.0 ∙ ap (module_spelled m) (further_read ms are.1)

@@ -5,7 +5,7 @@ use Rattle.hw_model.specs.Types.{Name}
 use Rattle.mlir_lexer.specs.Classes.{is_space, is_digit, is_name_start, is_name_byte, is_suffix_byte}
 use Rattle.mlir_lexer.specs.Runs.{run}
 use Rattle.mlir_lexer.specs.Contents.{content_of}
-use Rattle.mlir_lexer.specs.Fronts.{front_of, sign_front, suffixed, suffix_length}
+use Rattle.mlir_lexer.specs.Fronts.{front_of, sign_front, suffix_token, suffix_length}
 use Rattle.mlir_lexer.specs.Tokens.{Lexeme}
 use Rattle.mlir_lexer.specs.declared.token.TokenKind.{TokenKind}
 use Rattle.mlir_lexer.specs.declared.token.TokenKind.TheVariants as kind
@@ -100,14 +100,14 @@ pub none_zero : (n : ℕ) → 1 ≤ n → (n == 0) ≡ false
 none_zero n h = grind (arith, h)
 
 suffixed_whole : (k : TokenKind) (name rest : List ℕ) → 1 ≤ length name → suffix_length name ≡ length name → Stops rest
-    → suffixed k (name ++ rest) ≡ Token k (length name + 1)
+    → suffix_token k (name ++ rest) ≡ Token k (length name + 1)
 suffixed_whole k name rest some whole stops =
     let e = suffix_whole name rest some whole stops in
     let none = none_zero (length name) some in
     ap (λ n. cond (n == 0) (Bad 0) (Token k (n + 1))) e ∙ cond-false (length name == 0) (Bad 0) _ none
 
 -- a token of a sign and a suffix
-pub signed_lexed : {k : TokenKind} (b : ℕ) (name : List ℕ) → ((bs : List ℕ) → front_of b (name ++ bs) ≡ suffixed k (name ++ bs)) → 1 ≤ length name
+pub signed_lexed : {k : TokenKind} (b : ℕ) (name : List ℕ) → ((bs : List ℕ) → front_of b (name ++ bs) ≡ suffix_token k (name ++ bs)) → 1 ≤ length name
     → suffix_length name ≡ length name → Lexed (One (λ (t : Lexeme). (t.kind ≡ k) × (t.text ≡ b ∷ name))) (b ∷ name)
 signed_lexed {k} b name front some whole = record {
   lex = λ rest place at stops.

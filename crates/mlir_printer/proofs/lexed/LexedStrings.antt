@@ -6,8 +6,8 @@ use Rattle.std.proofs.Math.Seq.{take-append_seam}
 use Rattle.std.proofs.lemmas.Bool.{cond-true, cond-false, eqb-true, and_parts}
 use Rattle.mlir_lexer.specs.Classes.{is_hex_digit}
 use Rattle.mlir_lexer.specs.Strings.{is_escape_letter, reading_after, string_rest, string_length}
-use Rattle.mlir_lexer.specs.Contents.{hex_value, decoded, unescaped, content_of}
-use Rattle.mlir_lexer.specs.Fronts.{front_of, sign_front, quoted}
+use Rattle.mlir_lexer.specs.Contents.{hex_value, decode, unescape, content_of}
+use Rattle.mlir_lexer.specs.Fronts.{front_of, sign_front, string_token}
 use Rattle.mlir_lexer.specs.declared.token.TokenKind.TheVariants as kind
 use Rattle.mlir_lexer.specs.declared.strings.Reading.TheVariants.{Plain, Escape, HexPair, Closed}
 use Rattle.mlir_lexer.specs.declared.contents.Pending.TheVariants.{Nothing as NothingPending}
@@ -72,7 +72,7 @@ counted {n = n} k e m count = let same : n + k ≡ m = omega (arith, count) in a
 -- a byte is read as itself
 record IsRead (b : ℕ) (bytes : List ℕ) : Type 0 where
   rest : (left : List ℕ) (n : ℕ) → string_rest Plain left ≡ Some n → string_rest Plain (bytes ++ left) ≡ Some (length bytes + n)
-  content : (left : List ℕ) → decoded NothingPending (bytes ++ left) ≡ b ∷ decoded NothingPending left
+  content : (left : List ℕ) → decode NothingPending (bytes ++ left) ≡ b ∷ decode NothingPending left
 
 plain_read : (b : ℕ) → is_plain b ≡ true → IsRead b (b ∷ [])
 plain_read b h =
@@ -103,7 +103,7 @@ hex_read b small =
           let last = ap (λ r. string_rest r left) pair ∙ e in
           let middle = ap (λ r. string_rest r (hex_digit (b % 16) ∷ left)) escape ∙ counted 1 last (1 + n) refl in
           counted 1 (counted 1 middle (2 + n) (omega arith)) (3 + n) (omega arith);
-      content = λ left. cond-true _ _ _ high.digit ∙ ap (λ v. v ∷ decoded NothingPending left) value;
+      content = λ left. cond-true _ _ _ high.digit ∙ ap (λ v. v ∷ decode NothingPending left) value;
     }
 
 byte_read : (b : ℕ) → b < 256 → IsRead b (escaped_byte b)
@@ -131,7 +131,7 @@ bytes_rest (b ∷ bs) small rest =
     ap (string_rest Plain) (append_assoc (escaped_byte b) (escaped_bytes bs) (34 ∷ rest))
     ∙ (byte_read b small.0).rest (escaped_bytes bs ++ (34 ∷ rest)) (length (escaped_bytes bs) + 1) more ∙ ap Some count
 
-bytes_content : (text : List ℕ) → AreBytes text → decoded NothingPending (escaped_bytes text) ≡ text
+bytes_content : (text : List ℕ) → AreBytes text → decode NothingPending (escaped_bytes text) ≡ text
 bytes_content [] small = refl
 bytes_content (b ∷ bs) small = (byte_read b small.0).content (escaped_bytes bs) ∙ ap (λ x. b ∷ x) (bytes_content bs small.1)
 
@@ -147,9 +147,9 @@ quoted_length text small rest =
     ap (string_rest Plain) (append_assoc (escaped_bytes text) (34 ∷ []) rest) ∙ bytes_rest text small rest ∙ ap Some (sym (quoted_count text))
 
 -- what stands between the quotes
-body_bytes : (text : List ℕ) → AreBytes text → (n : ℕ) → n ≡ length (escaped_bytes text) → unescaped (take n (quoted_bytes text)) ≡ text
+body_bytes : (text : List ℕ) → AreBytes text → (n : ℕ) → n ≡ length (escaped_bytes text) → unescape (take n (quoted_bytes text)) ≡ text
 body_bytes text small n count =
-    ap (λ m. unescaped (take m (quoted_bytes text))) count ∙ ap unescaped (take-append_seam (escaped_bytes text) (34 ∷ [])) ∙ bytes_content text small
+    ap (λ m. unescape (take m (quoted_bytes text))) count ∙ ap unescape (take-append_seam (escaped_bytes text) (34 ∷ [])) ∙ bytes_content text small
 
 string_content : (text : List ℕ) → AreBytes text → content_of kind.StringLiteral (34 ∷ quoted_bytes text) ≡ text
 string_content text small =
@@ -161,11 +161,11 @@ symbol_content text small =
     let e = quoted_count text in
     body_bytes text small (suc (suc (length (quoted_bytes text))) - 3) (omega (arith, e))
 
-string_front : (bs : List ℕ) → front_of 34 bs ≡ quoted kind.StringLiteral 0 (string_length bs)
+string_front : (bs : List ℕ) → front_of 34 bs ≡ string_token kind.StringLiteral 0 (string_length bs)
 unfolding front_of sign_front
 string_front bs = refl
 
-symbol_string_front : (bs : List ℕ) → front_of 64 (34 ∷ bs) ≡ quoted kind.SymbolString 1 (string_length bs)
+symbol_string_front : (bs : List ℕ) → front_of 64 (34 ∷ bs) ≡ string_token kind.SymbolString 1 (string_length bs)
 unfolding front_of sign_front
 symbol_string_front bs = refl
 
@@ -175,7 +175,7 @@ unfolding string_bytes
 string_lexed text small = record {
   lex = λ rest place at.
       one_token 34 (quoted_bytes text) rest place at
-      (string_front (quoted_bytes text ++ rest) ∙ ap (quoted kind.StringLiteral 0) (quoted_length text small rest)) (omega arith)
+      (string_front (quoted_bytes text ++ rest) ∙ ap (string_token kind.StringLiteral 0) (quoted_length text small rest)) (omega arith)
       (λ t k e. (k, ap (content_of kind.StringLiteral) e ∙ string_content text small));
 }
 
@@ -185,6 +185,6 @@ unfolding string_bytes
 symbol_string_lexed text small = record {
   lex = λ rest place at.
       one_token 64 (34 ∷ quoted_bytes text) rest place at
-      (symbol_string_front (quoted_bytes text ++ rest) ∙ ap (quoted kind.SymbolString 1) (quoted_length text small rest)) (omega arith)
+      (symbol_string_front (quoted_bytes text ++ rest) ∙ ap (string_token kind.SymbolString 1) (quoted_length text small rest)) (omega arith)
       (λ t k e. (k, ap (content_of kind.SymbolString) e ∙ symbol_content text small));
 }

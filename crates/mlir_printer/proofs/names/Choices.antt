@@ -5,7 +5,7 @@ use Rattle.std.specs.Cmp.Lexicographic.{pointwise}
 use Rattle.std.proofs.lemmas.Bool.{cond-false}
 use Rattle.std.proofs.lemmas.List.Elements.{All-head, All-tail, All-push, All-weaker}
 use Rattle.hw_model.specs.Types.{Name}
-use Rattle.fresh_names.specs.Fresh.{is_taken, suffixed, free_from, free_name}
+use Rattle.fresh_names.specs.Fresh.{is_taken, with_suffix, free_from, free_name}
 use Rattle.fresh_names.specs.declared.taken_names.NameId.{NameId}
 use Rattle.fresh_names.proofs.Free.{suffix_free, name_stays}
 use Rattle.fresh_names.proofs.Taken.{same_back}
@@ -107,23 +107,23 @@ free_number ns n free k le small =
 -- ---- free names
 
 -- a suffixed name begins as the name
-begins_suffixed : (w : Name) (k : ℕ) → 1 ≤ length w → begins is_digit (suffixed w k) ≡ begins is_digit w
-unfolding suffixed
+begins_suffixed : (w : Name) (k : ℕ) → 1 ≤ length w → begins is_digit (with_suffix w k) ≡ begins is_digit w
+unfolding with_suffix
 begins_suffixed [] k some = absurd (omega (arith, some))
 begins_suffixed (b ∷ bs) k some = refl
 
 -- where as much is taken, what is found is found among more as well
-from_same : (xs ys : List Name) (w : Name) (n m k : ℕ) → ((j : ℕ) → is_taken xs (suffixed w j) ≡ is_taken ys (suffixed w j)) → n ≤ m
+from_same : (xs ys : List Name) (w : Name) (n m k : ℕ) → ((j : ℕ) → is_taken xs (with_suffix w j) ≡ is_taken ys (with_suffix w j)) → n ≤ m
     → is_taken xs (free_from xs w n k) ≡ false → free_from xs w n k ≡ free_from ys w m k
 from_same xs ys w zero zero k same le free = refl
-from_same xs ys w zero (suc m) k same le free = sym (cond-false (is_taken ys (suffixed w k)) (free_from ys w m (k + 1)) (suffixed w k) (sym (same k) ∙ free))
+from_same xs ys w zero (suc m) k same le free = sym (cond-false (is_taken ys (with_suffix w k)) (free_from ys w m (k + 1)) (with_suffix w k) (sym (same k) ∙ free))
 from_same xs ys w (suc n) zero k same le free = absurd (omega (arith, le))
 from_same xs ys w (suc n) (suc m) k same le free =
-    go (is_taken xs (suffixed w k)) (is_taken ys (suffixed w k)) (same k) free (from_same xs ys w n m (k + 1) same (omega (arith, le)))
+    go (is_taken xs (with_suffix w k)) (is_taken ys (with_suffix w k)) (same k) free (from_same xs ys w n m (k + 1) same (omega (arith, le)))
   where
-    go : (a b : Bool) → a ≡ b → is_taken xs (cond a (free_from xs w n (k + 1)) (suffixed w k)) ≡ false
+    go : (a b : Bool) → a ≡ b → is_taken xs (cond a (free_from xs w n (k + 1)) (with_suffix w k)) ≡ false
         → (is_taken xs (free_from xs w n (k + 1)) ≡ false → free_from xs w n (k + 1) ≡ free_from ys w m (k + 1))
-        → cond a (free_from xs w n (k + 1)) (suffixed w k) ≡ cond b (free_from ys w m (k + 1)) (suffixed w k)
+        → cond a (free_from xs w n (k + 1)) (with_suffix w k) ≡ cond b (free_from ys w m (k + 1)) (with_suffix w k)
     go true true e f r = r f
     go false false e f r = refl
     go true false e f r = cc
@@ -136,7 +136,7 @@ unfolding free_name
 free_same ws ns w some word have le small =
     ap (λ b. cond b (free_from ws w (length ws) 0) w) (sym (have w word))
     ∙ ap (λ x. cond (is_taken ns w) x w)
-    (from_same ws ns w (length ws) (length ns) 0 (λ j. sym (have (suffixed w j) (begins_suffixed w j some ∙ word))) le (suffix_free ws w small))
+    (from_same ws ns w (length ws) (length ns) 0 (λ j. sym (have (with_suffix w j) (begins_suffixed w j some ∙ word))) le (suffix_free ws w small))
 
 -- a number is its own free name
 pub number_free : (ns : List Name) (n : ℕ) → n < 2 ^ 64 → AreFree ns n → free_name ns (decimal n) ≡ decimal n

@@ -6,7 +6,7 @@ use Rattle.std.proofs.lemmas.Fmt.{decimal_injective}
 use Rattle.std.proofs.lemmas.Bool.{cond-true, cond-false, false≢true, eqb-true, eq-eqb, not-true, and_parts}
 use Rattle.std.proofs.lemmas.List.{append-nil}
 use Rattle.hw_model.specs.Types.{Name}
-use Rattle.fresh_names.specs.Fresh.{is_taken, suffixed, free_from, free_name, fresh}
+use Rattle.fresh_names.specs.Fresh.{is_taken, with_suffix, free_from, free_name, fresh}
 use Rattle.fresh_names.proofs.Taken.{one_more}
 use Rattle.fresh_names.proofs.Free.{name_stays}
 use Rattle.mlir_lexer.specs.Classes.{is_digit, is_suffix_byte, is_name_start}
@@ -136,16 +136,16 @@ record Begins (w name : Name) : Type 0 where
   whole : AllMeet is_suffix_byte more
   is : name ≡ w ++ more
 
-suffixed_begins : (w : Name) (k : ℕ) → k < 2 ^ 64 → Begins w (suffixed w k)
-unfolding suffixed
+suffixed_begins : (w : Name) (k : ℕ) → k < 2 ^ 64 → Begins w (with_suffix w k)
+unfolding with_suffix
 suffixed_begins w k small =
     record { more = 95 ∷ decimal k; whole = (refl, all_wider is_digit is_suffix_byte (decimal k) digit_suffix (decimal_digits k small).whole); is = refl }
 
 from_begins : (taken : List Name) (w : Name) (n k : ℕ) → k + n < 2 ^ 64 → Begins w (free_from taken w n k)
 from_begins taken w zero k small = suffixed_begins w k (omega (arith, small))
-from_begins taken w (suc n) k small = go (is_taken taken (suffixed w k)) (from_begins taken w n (k + 1) (omega (arith, small)))
+from_begins taken w (suc n) k small = go (is_taken taken (with_suffix w k)) (from_begins taken w n (k + 1) (omega (arith, small)))
   where
-    go : (b : Bool) → Begins w (free_from taken w n (k + 1)) → Begins w (cond b (free_from taken w n (k + 1)) (suffixed w k))
+    go : (b : Bool) → Begins w (free_from taken w n (k + 1)) → Begins w (cond b (free_from taken w n (k + 1)) (with_suffix w k))
     go true r = r
     go false r = suffixed_begins w k (omega (arith, small))
 

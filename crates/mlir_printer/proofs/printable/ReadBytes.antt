@@ -13,7 +13,7 @@ use Rattle.hw_model.specs.Kinds.Literal.{leaf, parts}
 use Rattle.hw_model.specs.Design.{Attribute, Attributes, Entry}
 use Rattle.hw_model.specs.Design.Attribute.{unit_value, text_value, symbol_value, truth_value, integer_value, list_value}
 use Rattle.mlir_lexer.specs.Classes.{is_digit, is_hex_digit}
-use Rattle.mlir_lexer.specs.Contents.{hex_value, escaped, decoded, content_of}
+use Rattle.mlir_lexer.specs.Contents.{hex_value, unescape_byte, decode, content_of}
 use Rattle.mlir_lexer.specs.Fronts.{front_of}
 use Rattle.mlir_lexer.specs.Tokens.{Lexeme, told, tokens_behind, tokens}
 use Rattle.mlir_lexer.specs.declared.contents.Pending.{Pending}
@@ -118,7 +118,7 @@ hex_small b = digit (is_digit b) refl
     digit true h = let p = leb-true b 57 (and_parts (nat_le 48 b) (nat_le b 57) h).1 in omega (arith, p)
     digit false h = low (nat_le 97 b && nat_le b 102) refl
 
-escaped_small : (b : ℕ) → b < 256 → escaped b < 256
+escaped_small : (b : ℕ) → b < 256 → unescape_byte b < 256
 escaped_small b h = go (b == 110) (b == 116)
   where
     go : (s t : Bool) → cond s 10 (cond t 9 b) < 256
@@ -126,18 +126,18 @@ escaped_small b h = go (b == 110) (b == 116)
     go false true = omega arith
     go false false = h
 
-decoded_bytes : (p : Pending) (bs : List ℕ) → AreBytes bs → AreBytes (decoded p bs)
+decoded_bytes : (p : Pending) (bs : List ℕ) → AreBytes bs → AreBytes (decode p bs)
 decoded_bytes p [] h = tt
 decoded_bytes Nothing (b ∷ bs) h = go (b == 92) (decoded_bytes Backslash bs h.1) (decoded_bytes Nothing bs h.1)
   where
-    go : (t : Bool) → AreBytes (decoded Backslash bs) → AreBytes (decoded Nothing bs)
-        → AreBytes (cond t (decoded Backslash bs) (b ∷ decoded Nothing bs))
+    go : (t : Bool) → AreBytes (decode Backslash bs) → AreBytes (decode Nothing bs)
+        → AreBytes (cond t (decode Backslash bs) (b ∷ decode Nothing bs))
     go true x y = x
     go false x y = (h.0, y)
 decoded_bytes Backslash (b ∷ bs) h = go (is_hex_digit b) (decoded_bytes (HighDigit b) bs h.1) (decoded_bytes Nothing bs h.1)
   where
-    go : (t : Bool) → AreBytes (decoded (HighDigit b) bs) → AreBytes (decoded Nothing bs)
-        → AreBytes (cond t (decoded (HighDigit b) bs) (escaped b ∷ decoded Nothing bs))
+    go : (t : Bool) → AreBytes (decode (HighDigit b) bs) → AreBytes (decode Nothing bs)
+        → AreBytes (cond t (decode (HighDigit b) bs) (unescape_byte b ∷ decode Nothing bs))
     go true x y = x
     go false x y = (escaped_small b h.0, y)
 decoded_bytes (HighDigit high) (b ∷ bs) h = (let x = hex_small high in let y = hex_small b in omega (arith, x, y), decoded_bytes Nothing bs h.1)

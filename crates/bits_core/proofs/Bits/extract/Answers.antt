@@ -8,8 +8,8 @@ overflow_shr-self-inside c =
     let wide : length c.args.self.now ≡ c.self.inside.width = ap length (sym c.self.view_is) ∙ length-bits _ _ in
     omega arith
 
-pub truncated-requires-clause-most : goal.truncated-requires-clause-most
-truncated-requires-clause-most c =
+pub truncate-requires-clause-most : goal.truncate-requires-clause-most
+truncate-requires-clause-most c =
     let wide : length c.args.self.now ≡ c.self.inside.width = ap length (sym c.self.view_is) ∙ length-bits _ _ in
     omega arith
 

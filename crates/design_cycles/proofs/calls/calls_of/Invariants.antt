@@ -1,5 +1,5 @@
 use Rattle.std.proofs.Common.{◌≡◌, map, take}
-use Rattle.hw_model.specs.Hierarchy.{called}
+use Rattle.hw_model.specs.Hierarchy.{callee_symbols}
 use Rattle.ir_store.specs.Bodies.{ops_of}
 use Rattle.ir_store.specs.Numbered.{numbered}
 use Rattle.ir_store.specs.Designs.{StoredModule, modules_of}
@@ -8,4 +8,4 @@ use Rattle.design_cycles.proofs.calls.calls_of.Given as goal
 
 abbrev pub invariant-loop-position : goal.invariant-loop-position
 invariant-loop-position l =
-    l.nodes.items ≡ numbers_of (map (λ (m : StoredModule). m.symbol) (modules_of l.design)) (called (take l.position (numbered (ops_of l.body))))
+    l.nodes.items ≡ numbers_of (map (λ (m : StoredModule). m.symbol) (modules_of l.design)) (callee_symbols (take l.position (numbered (ops_of l.body))))

@@ -4,7 +4,7 @@ use Rattle.ir_store.specs.Bodies.{ids_of, ops_of}
 use Rattle.ir_store.specs.Numbered.{numbered}
 use Rattle.ir_store.specs.Designs.{StoredModule, modules_of, design_of, module_of}
 use Rattle.design_cycles.specs.Asked.{IsCyclicAt}
-use Rattle.design_cycles.specs.Graphs.{lists_of, edges, marked, ReturnsWithin}
+use Rattle.design_cycles.specs.Graphs.{lists_of, edges, has_mark, ReturnsWithin}
 use Rattle.design_cycles.specs.Nodes.{rows_by}
 use Rattle.design_cycles.specs.Places.{ids_at}
 use Rattle.design_cycles.proofs.Cyclic.{position_cyclic, position_acyclic, cyclic_within}
@@ -38,7 +38,7 @@ index-span-requires c =
 pub has_cycle-requires-clause-placed : goal.has_cycle-requires-clause-placed
 has_cycle-requires-clause-placed c =
     λ v mark around. placed_no_cycle (lists_of c.as_slice.result.now) c.in_ok-order.order.placed.items c.in_ok-order.order.nodes.items c.in_ok-order.ensures.order v
-    (subst (λ ms. marked ms v ≡ true) c.as_slice-in-loop-position-2.ensures.value mark)
+    (subst (λ ms. has_mark ms v ≡ true) c.as_slice-in-loop-position-2.ensures.value mark)
     (subst (λ g. Depends (edges (lists_of g)) v v) (c.as_slice-in-loop-position.ensures.value ∙ sym c.as_slice.ensures.value) around)
 
 pub returns-then-branch : goal.returns-then-branch

@@ -8,7 +8,7 @@ use Rattle.design_cycles.proofs.in_order.are_in_order.Goals as goal
 
 pub loop-position-preserved : goal.loop-position-preserved
 loop-position-preserved c =
-    one_behind (numbered (ops_of c.args.body.now)) c.loop-position.position c.loop-position.invariant (if_true _ _ c.stands_behind.result c.if-not-stands_behind.false c.stands_behind.ensures)
+    one_behind (numbered (ops_of c.args.body.now)) c.loop-position.position c.loop-position.invariant (if_true _ _ c.stands_after.result c.if-not-stands_after.false c.stands_after.ensures)
 
 pub returns : goal.returns
 returns c =

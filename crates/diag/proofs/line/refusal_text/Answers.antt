@@ -6,7 +6,7 @@ use Rattle.diag.proofs.line.refusal_text.Goals as goal
 
 pub returns-in-Err-put_three-clause-err : goal.returns-in-Err-put_three-clause-err
 returns-in-Err-put_three-clause-err g c =
-    let head = c.shown.result.now ++ (codes ":" ++ c.as_bytes-line.result.now)
+    let head = c.display_name.result.now ++ (codes ":" ++ c.as_bytes-line.result.now)
     in
     let col = codes ":" ++ (c.as_bytes-col.result.now ++ codes ": error: '")
     in
@@ -16,7 +16,7 @@ returns-in-Err-put_three-clause-err g c =
 
 pub returns-in-Err-put_three-2-clause-err : goal.returns-in-Err-put_three-2-clause-err
 returns-in-Err-put_three-2-clause-err g c =
-    let head = c.shown.result.now ++ (codes ":" ++ c.as_bytes-line.result.now)
+    let head = c.display_name.result.now ++ (codes ":" ++ c.as_bytes-line.result.now)
     in
     let col = codes ":" ++ (c.as_bytes-col.result.now ++ codes ": error: '")
     in
@@ -30,7 +30,7 @@ returns-in-Err-put_three-2-clause-err g c =
 
 pub returns-clause-ok : goal.returns-clause-ok
 returns-clause-ok g c =
-    let head = c.shown.result.now ++ (codes ":" ++ c.as_bytes-line.result.now)
+    let head = c.display_name.result.now ++ (codes ":" ++ c.as_bytes-line.result.now)
     in
     let col = codes ":" ++ (c.as_bytes-col.result.now ++ codes ": error: '")
     in
@@ -44,7 +44,7 @@ returns-clause-ok g c =
 
 pub returns-clause-err : goal.returns-clause-err
 returns-clause-err g c =
-    let head = c.shown.result.now ++ (codes ":" ++ c.as_bytes-line.result.now)
+    let head = c.display_name.result.now ++ (codes ":" ++ c.as_bytes-line.result.now)
     in
     let col = codes ":" ++ (c.as_bytes-col.result.now ++ codes ": error: '")
     in

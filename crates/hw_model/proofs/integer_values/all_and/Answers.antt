@@ -7,7 +7,7 @@ use Rattle.hw_model.proofs.integer_values.all_and.Goals as goal
 pub loop-left-init : goal.loop-left-init
 loop-left-init c = record {
   within = omega arith;
-  value = c.truncated-all.ensures ∙ bits_of_ones c.args.width c.requires.most ∙ ap (and_all c.args.width) (sym (drop_all (length c.args.operands.now) c.args.operands.now (omega arith)));
+  value = c.truncate-all.ensures ∙ bits_of_ones c.args.width c.requires.most ∙ ap (and_all c.args.width) (sym (drop_all (length c.args.operands.now) c.args.operands.now (omega arith)));
 }
 
 pub and-all-requires : goal.and-all-requires

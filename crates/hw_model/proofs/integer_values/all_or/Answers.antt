@@ -8,7 +8,7 @@ use Rattle.hw_model.proofs.integer_values.all_or.Goals as goal
 pub loop-left-init : goal.loop-left-init
 loop-left-init c = record {
   within = omega arith;
-  value = c.truncated-all.ensures ∙ bits-zero c.args.width ∙ ap (or_all c.args.width) (sym (drop_all (length c.args.operands.now) c.args.operands.now (omega arith)));
+  value = c.truncate-all.ensures ∙ bits-zero c.args.width ∙ ap (or_all c.args.width) (sym (drop_all (length c.args.operands.now) c.args.operands.now (omega arith)));
 }
 
 pub or-all-requires : goal.or-all-requires

@@ -9,7 +9,7 @@ use Rattle.hw_model.proofs.integer_values.all_xor.Goals as goal
 pub loop-left-init : goal.loop-left-init
 loop-left-init c = record {
   within = omega arith;
-  value = c.truncated-all.ensures ∙ bits-zero c.args.width ∙ ap (xor_all c.args.width) (sym (drop_all (length c.args.operands.now) c.args.operands.now (omega arith)));
+  value = c.truncate-all.ensures ∙ bits-zero c.args.width ∙ ap (xor_all c.args.width) (sym (drop_all (length c.args.operands.now) c.args.operands.now (omega arith)));
 }
 
 pub xor-all-requires : goal.xor-all-requires

@@ -6,12 +6,12 @@ use Rattle.sched_core.proofs.sched.Sched.new.Goals as goal
 pub invariant_of-result : goal.invariant_of-result
 invariant_of-result c =
     new-kept (λ v. v.items) c.args.callees.now (table_of record {
-      callees = c.in_ok-copied.field-0;
+      callees = c.in_ok-clone_callees.field-0;
       leaves = c.in_ok-leaf_modules.field-0;
       uses = c.in_ok-uses.field-0;
       stages = c.in_ok-waiting.field-0;
       edges = c.in_ok-new_edges.field-0;
-      pending = c.in_ok-lengths.field-0;
+      pending_edges = c.in_ok-lengths.field-0;
       leaf = 0;
       splits = 0;
       workers = c.in_ok-first_worker.field-0;
@@ -19,13 +19,13 @@ invariant_of-result c =
       busy = c.in_ok-no_modules.field-0;
       untold = c.in_ok-no_edges.field-0;
     }) (record {
-      callees = c.in_ok-copied.ensures {u = tt};
+      callees = c.in_ok-clone_callees.ensures {u = tt};
       leaf_modules = c.in_ok-leaf_modules.ensures {u = tt};
       size = (c.in_ok-uses.ensures {u = tt}).len;
       uses = (c.in_ok-uses.ensures {u = tt}).counts;
       stages = c.in_ok-waiting.ensures {u = tt};
       edges = c.in_ok-new_edges.ensures {u = tt};
-      pending = c.in_ok-lengths.ensures {u = tt};
+      pending_edges = c.in_ok-lengths.ensures {u = tt};
       leaf = refl;
       splits = refl;
       workers = c.in_ok-first_worker.ensures {u = tt};
@@ -38,12 +38,12 @@ invariant_of-result c =
 pub returns : goal.returns
 returns c =
     new-state (λ v. v.items) c.args.callees.now (table_of record {
-      callees = c.in_ok-copied.field-0;
+      callees = c.in_ok-clone_callees.field-0;
       leaves = c.in_ok-leaf_modules.field-0;
       uses = c.in_ok-uses.field-0;
       stages = c.in_ok-waiting.field-0;
       edges = c.in_ok-new_edges.field-0;
-      pending = c.in_ok-lengths.field-0;
+      pending_edges = c.in_ok-lengths.field-0;
       leaf = 0;
       splits = 0;
       workers = c.in_ok-first_worker.field-0;
@@ -51,13 +51,13 @@ returns c =
       busy = c.in_ok-no_modules.field-0;
       untold = c.in_ok-no_edges.field-0;
     }) (record {
-      callees = c.in_ok-copied.ensures {u = tt};
+      callees = c.in_ok-clone_callees.ensures {u = tt};
       leaf_modules = c.in_ok-leaf_modules.ensures {u = tt};
       size = (c.in_ok-uses.ensures {u = tt}).len;
       uses = (c.in_ok-uses.ensures {u = tt}).counts;
       stages = c.in_ok-waiting.ensures {u = tt};
       edges = c.in_ok-new_edges.ensures {u = tt};
-      pending = c.in_ok-lengths.ensures {u = tt};
+      pending_edges = c.in_ok-lengths.ensures {u = tt};
       leaf = refl;
       splits = refl;
       workers = c.in_ok-first_worker.ensures {u = tt};

@@ -49,9 +49,9 @@ invariant_of-self c =
     let t = table_of c.self.inside in
     let few = reporter-lt t c.args.w c.args.c c.args.i c.self.invariant may in
     let within = edge_within t.callees c.args.c c.args.i may.0 in
-    let read : c.index_mut-3.result.now ≡ (state_of t).pending c.args.c = get_or_read t.pending _ _ (omega (arith, within, c.self.invariant.places.pending)) c.index_mut-3.ensures.value 0 in
-    let shown : (state_of t).pending c.args.c ≡ (state_of c.args.self.now).pending c.args.c = ap (λ (s : Table). (state_of s).pending c.args.c) c.self.view_is in
-    subst (λ rows. Writes t (record t { edges = rows; pending = set t.pending c.args.c (c.index_mut-3.result.now - 1); untold = set t.untold c.args.w (c.index_mut-4.result.now - 1); stages = set t.stages c.args.c (Owed c.args.w); busy = set t.busy c.args.w (c.index_mut-6.result.now + 1) }) (Report c.args.w c.args.c c.args.i))
+    let read : c.index_mut-3.result.now ≡ (state_of t).pending_edges c.args.c = get_or_read t.pending_edges _ _ (omega (arith, within, c.self.invariant.places.pending_edges)) c.index_mut-3.ensures.value 0 in
+    let shown : (state_of t).pending_edges c.args.c ≡ (state_of c.args.self.now).pending_edges c.args.c = ap (λ (s : Table). (state_of s).pending_edges c.args.c) c.self.view_is in
+    subst (λ rows. Writes t (record t { edges = rows; pending_edges = set t.pending_edges c.args.c (c.index_mut-3.result.now - 1); untold = set t.untold c.args.w (c.index_mut-4.result.now - 1); stages = set t.stages c.args.c (Owed c.args.w); busy = set t.busy c.args.w (c.index_mut-6.result.now + 1) }) (Report c.args.w c.args.c c.args.i))
     (sym (rows-set (λ v. v.items) c.self.inside.edges.items c.args.c c.args.i (record c.edge-edge.result { reported = true }) c.index_mut.result.now
     (with_item c.index_mut.result.now c.args.i (record c.edge-edge.result { reported = true })) (caller-within t c.args.c c.args.i c.self.invariant.places may.0) c.index_mut.ensures.value refl))
     (report_last-read t c.args.w c.args.c c.args.i c.index_mut-4.result.now c.index_mut-6.result.now c.index_mut-3.result.now c.edge-edge.result c.self.invariant may
@@ -66,9 +66,9 @@ returns c =
     let t = table_of c.self.inside in
     let few = reporter-lt t c.args.w c.args.c c.args.i c.self.invariant may in
     let within = edge_within t.callees c.args.c c.args.i may.0 in
-    let read : c.index_mut-3.result.now ≡ (state_of t).pending c.args.c = get_or_read t.pending _ _ (omega (arith, within, c.self.invariant.places.pending)) c.index_mut-3.ensures.value 0 in
-    let shown : (state_of t).pending c.args.c ≡ (state_of c.args.self.now).pending c.args.c = ap (λ (s : Table). (state_of s).pending c.args.c) c.self.view_is in
-    subst (λ rows. Writes t (record t { edges = rows; pending = set t.pending c.args.c (c.index_mut-3.result.now - 1); untold = set t.untold c.args.w (c.index_mut-4.result.now - 1); stages = set t.stages c.args.c (Owed c.args.w); busy = set t.busy c.args.w (c.index_mut-6.result.now + 1) }) (Report c.args.w c.args.c c.args.i))
+    let read : c.index_mut-3.result.now ≡ (state_of t).pending_edges c.args.c = get_or_read t.pending_edges _ _ (omega (arith, within, c.self.invariant.places.pending_edges)) c.index_mut-3.ensures.value 0 in
+    let shown : (state_of t).pending_edges c.args.c ≡ (state_of c.args.self.now).pending_edges c.args.c = ap (λ (s : Table). (state_of s).pending_edges c.args.c) c.self.view_is in
+    subst (λ rows. Writes t (record t { edges = rows; pending_edges = set t.pending_edges c.args.c (c.index_mut-3.result.now - 1); untold = set t.untold c.args.w (c.index_mut-4.result.now - 1); stages = set t.stages c.args.c (Owed c.args.w); busy = set t.busy c.args.w (c.index_mut-6.result.now + 1) }) (Report c.args.w c.args.c c.args.i))
     (sym (rows-set (λ v. v.items) c.self.inside.edges.items c.args.c c.args.i (record c.edge-edge.result { reported = true }) c.index_mut.result.now
     (with_item c.index_mut.result.now c.args.i (record c.edge-edge.result { reported = true })) (caller-within t c.args.c c.args.i c.self.invariant.places may.0) c.index_mut.ensures.value refl))
     (report_last-read t c.args.w c.args.c c.args.i c.index_mut-4.result.now c.index_mut-6.result.now c.index_mut-3.result.now c.edge-edge.result c.self.invariant may

@@ -13,11 +13,11 @@ decreases-operands l = 6 * l.room + 2
 abbrev pub decreases-choice : goal.decreases-choice
 decreases-choice l = 6 * l.room + 3
 
-abbrev pub decreases-enclosed : goal.decreases-enclosed
-decreases-enclosed l = 6 * l.room + 3
+abbrev pub decreases-parenthesized_expression : goal.decreases-parenthesized_expression
+decreases-parenthesized_expression l = 6 * l.room + 3
 
-abbrev pub decreases-joined : goal.decreases-joined
-decreases-joined l = 6 * l.room + 3
+abbrev pub decreases-concat_parts : goal.decreases-concat_parts
+decreases-concat_parts l = 6 * l.room + 3
 
-abbrev pub decreases-braced : goal.decreases-braced
-decreases-braced l = 6 * l.room + 4
+abbrev pub decreases-concat_or_replicate : goal.decreases-concat_or_replicate
+decreases-concat_or_replicate l = 6 * l.room + 4
