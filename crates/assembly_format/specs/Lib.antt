@@ -1,2 +1,2 @@
 -- The words of this crate's contracts.
-pub mod Shapes
+pub mod Formats

@@ -1,5 +1,5 @@
 //! The assembly formats of operations: which pieces stand after an operation's name.
 #![tactic(auto)]
 
-pub mod pieces;
-pub mod shapes;
+pub mod elements;
+pub mod formats;

@@ -6,7 +6,7 @@ ghost use Rattle.circt_top.specs.Runs.{IsStop};
 
 use circt_top::run::run_circt;
 use circt_top::status::Status;
-use circt_top::stopped;
+use circt_top::stop;
 use command_line::usage::UsageKind;
 use io_edge::real_files::RealFiles;
 use io_edge::real_sink::RealSink;
@@ -21,7 +21,7 @@ fn main(rt: HostRuntime) -> ExitCode {
     let words = match words(&rt) {
         Ok(words) => words,
         Err(status) => {
-            let status = stopped(&mut err, status);
+            let status = stop(&mut err, status);
             return ExitCode::from(status.code());
         }
     };

@@ -4,7 +4,7 @@ use Rattle.diag.specs.declared.refusal.Refusal.{Refusal}
 use Rattle.io_edge.specs.declared.file_access.FileFail.{FileFail}
 use Rattle.io_edge.specs.declared.file_access.FileFail.TheVariants.{Failed}
 use Rattle.io_edge.specs.declared.file_access.FileFail.TheVariants as file
-use Rattle.circt_top.specs.Runs.{unread}
+use Rattle.circt_top.specs.Runs.{read_failure}
 use Rattle.circt_top.specs.Answer.{OnRefused, OnDone, OnWriteFault, IsReadFaultOrNoMemory}
 use Rattle.circt_top.specs.declared.status.Status.{Status}
 use Rattle.circt_top.specs.declared.status.Status.TheVariants.{Done, Refused, Usage, ReadFault, WriteFault, NoMemory}
@@ -44,11 +44,11 @@ front_on D E P Q WriteFault f h x = (x.0, f x.0 x.1, h x.0 x.2)
 front_on D E P Q NoMemory f h x = tt
 
 -- nothing is refused where nothing was read
-pub unread_refuses : (P : Refusal → Type 0) (fail : FileFail) → OnRefused (unread fail) P
+pub unread_refuses : (P : Refusal → Type 0) (fail : FileFail) → OnRefused (read_failure fail) P
 unread_refuses P Failed = tt
 unread_refuses P file.NoMemory = tt
 
 -- a run whose input was not read ends so
-pub unread_ends : (fail : FileFail) → IsReadFaultOrNoMemory (unread fail)
+pub unread_ends : (fail : FileFail) → IsReadFaultOrNoMemory (read_failure fail)
 unread_ends Failed = tt
 unread_ends file.NoMemory = tt

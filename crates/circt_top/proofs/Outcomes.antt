@@ -27,8 +27,8 @@ use Rattle.mlir_printer.specs.Printable.{Printable}
 use Rattle.mlir_printer.specs.Spellable.{AreBytes}
 use Rattle.mlir_printer.specs.Texts.{ir_text}
 use Rattle.circt_top.specs.Accepting.{Accepted, IsRefused, unaccepted}
-use Rattle.circt_top.specs.Accepting.{unread as unread_text}
-use Rattle.circt_top.specs.Outcomes.{IsTaken, unread, unverified}
+use Rattle.circt_top.specs.Accepting.{read_failure as unread_text}
+use Rattle.circt_top.specs.Outcomes.{IsTaken, read_failure, verify_failure}
 use Rattle.circt_top.specs.Exports.{Exports}
 use Rattle.circt_top.specs.Outcome.{IsOutcome, Gives}
 use Rattle.circt_top.specs.Reprint.{IsReprint, IsSaidAgain}
@@ -98,10 +98,10 @@ refused_gives c source (Refused r) h = refused_by c source r h
 refused_gives c source NoMemory h = tt
 
 -- what is not read is refused, and what is not verified
-pub unread_taken : (source : List ℕ) (fail : ReadFail) → ReadsDesign (Err fail) (read source) → IsTaken source (Err (unread fail))
+pub unread_taken : (source : List ℕ) (fail : ReadFail) → ReadsDesign (Err fail) (read source) → IsTaken source (Err (read_failure fail))
 unread_taken source (reading.Refused r) h = unread_text r h
 unread_taken source reading.NoMemory h = tt
 
-pub unverified_taken : (source : List ℕ) (d : Design) (fail : VerifyFail) → read source ≡ Ok d → Explains d fail → IsTaken source (Err (unverified fail))
+pub unverified_taken : (source : List ℕ) (d : Design) (fail : VerifyFail) → read source ≡ Ok d → Explains d fail → IsTaken source (Err (verify_failure fail))
 unverified_taken source d (verifying.Refused r) h e = unaccepted d r h e
 unverified_taken source d verifying.NoMemory h e = tt

@@ -17,10 +17,10 @@ IsTaken bytes (Err (Refused r)) = IsRefused bytes r
 IsTaken bytes (Err NoMemory) = Unit {0}
 
 -- why no text is made of what is not read, of what is not verified
-abbrev pub unread : ReadFail → OutcomeFail
-unread (read.Refused r) = Refused r
-unread read.NoMemory = NoMemory
+abbrev pub read_failure : ReadFail → OutcomeFail
+read_failure (read.Refused r) = Refused r
+read_failure read.NoMemory = NoMemory
 
-abbrev pub unverified : VerifyFail → OutcomeFail
-unverified (verify.Refused r) = Refused r
-unverified verify.NoMemory = NoMemory
+abbrev pub verify_failure : VerifyFail → OutcomeFail
+verify_failure (verify.Refused r) = Refused r
+verify_failure verify.NoMemory = NoMemory

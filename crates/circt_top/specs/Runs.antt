@@ -17,6 +17,6 @@ IsWorked ReadFault = ⊥
 IsWorked _ = Unit {0}
 
 -- how a run ends whose input was not read
-abbrev pub unread : FileFail → Status
-unread file.Failed = ReadFault
-unread file.NoMemory = NoMemory
+abbrev pub read_failure : FileFail → Status
+read_failure file.Failed = ReadFault
+read_failure file.NoMemory = NoMemory

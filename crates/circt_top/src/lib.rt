@@ -9,4 +9,4 @@ mod report;
 pub mod run;
 pub mod status;
 
-pub use report::stopped;
+pub use report::stop;

@@ -9,7 +9,7 @@ ghost use Rattle.circt_top.specs.Accepting.{Accepted};
 ghost use Rattle.circt_top.specs.Reprint.{IsReprint};
 ghost use Rattle.circt_top.specs.Exports.{Exports};
 ghost use Rattle.circt_top.specs.Outcome.{Gives};
-ghost use Rattle.circt_top.specs.Outcomes.{IsTaken, unread, unverified};
+ghost use Rattle.circt_top.specs.Outcomes.{IsTaken, read_failure, verify_failure};
 
 use command_line::invocation::Invocation;
 use diag::refusal::Refusal;
@@ -57,33 +57,33 @@ pub fn outcome(
 ) -> Result<Text, OutcomeFail>
     ensures { Gives (command_of invocation.now) source.now result }
 {
-    let verified = match accepted(alloc, source) {
+    let verified = match accept(alloc, source) {
         Ok(verified) => verified,
         Err(fail) => return Err(fail),
     };
     match invocation {
-        Invocation::Opt(_) => Ok(reprinted(alloc, source, verified)?),
-        Invocation::Translate(_) => translated(alloc, &verified),
+        Invocation::Opt(_) => Ok(reprint(alloc, source, verified)?),
+        Invocation::Translate(_) => translate(alloc, &verified),
     }
 }
 
 /// The design that a text says, where nothing of it is refused.
-fn accepted(alloc: Global, source: &[u8]) -> Result<Verified, OutcomeFail>
+fn accept(alloc: Global, source: &[u8]) -> Result<Verified, OutcomeFail>
     ensures { IsTaken source.now result }
 {
     let design = match read_design(alloc, source) {
         Ok(design) => design,
-        Err(fail) => return Err(unread(fail)),
+        Err(fail) => return Err(read_failure(fail)),
     };
     match verify(alloc, design) {
         Ok(verified) => Ok(verified),
-        Err(fail) => Err(unverified(fail)),
+        Err(fail) => Err(verify_failure(fail)),
     }
 }
 
 /// Why no text is made of what is not read.
-fn unread(fail: ReadFail) -> OutcomeFail
-    ensures { result ≡ unread fail }
+fn read_failure(fail: ReadFail) -> OutcomeFail
+    ensures { result ≡ read_failure fail }
 {
     match fail {
         ReadFail::Refused(refusal) => OutcomeFail::Refused(refusal),
@@ -92,8 +92,8 @@ fn unread(fail: ReadFail) -> OutcomeFail
 }
 
 /// Why no text is made of what is not verified.
-fn unverified(fail: VerifyFail) -> OutcomeFail
-    ensures { result ≡ unverified fail }
+fn verify_failure(fail: VerifyFail) -> OutcomeFail
+    ensures { result ≡ verify_failure fail }
 {
     match fail {
         VerifyFail::Refused(refusal) => OutcomeFail::Refused(refusal),
@@ -102,7 +102,7 @@ fn unverified(fail: VerifyFail) -> OutcomeFail
 }
 
 /// The text of the accepted design that a text says.
-fn reprinted(alloc: Global, source: &[u8], verified: Verified) -> Result<Text, AllocError>
+fn reprint(alloc: Global, source: &[u8], verified: Verified) -> Result<Text, AllocError>
     requires { Accepted source.now (design_of verified.design) }
     ensures { IfOk result (IsReprint source.now) }
 {
@@ -117,17 +117,17 @@ fn reprinted(alloc: Global, source: &[u8], verified: Verified) -> Result<Text, A
 }
 
 /// The Verilog of an accepted design, of any text that says it, or the refusal of its first header or operation with an aggregate.
-fn translated(alloc: Global, verified: &Verified) -> Result<Text, OutcomeFail>
+fn translate(alloc: Global, verified: &Verified) -> Result<Text, OutcomeFail>
     ensures { (source : List ℕ) (paths : Paths) → Accepted source (design_of verified.now.design) → Gives (translate paths) source result }
 {
     accepted_designs_are_exportable();
     exported_designs_behave();
     stored_designs_have_room(verified.design());
-    exported(alloc, verified)
+    export_text(alloc, verified)
 }
 
 /// The Verilog text of a design without aggregates, or the refusal of its first header or operation that has one.
-fn exported(alloc: Global, verified: &Verified) -> Result<Text, OutcomeFail>
+fn export_text(alloc: Global, verified: &Verified) -> Result<Text, OutcomeFail>
     ensures { Exports (design_of verified.now.design) result }
 {
     match first_aggregate(alloc, verified.design())? {

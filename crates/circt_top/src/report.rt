@@ -23,7 +23,7 @@ pub fn report<E: Sink>(err: &mut E, paths: &Paths<'_>, source: &[u8], status: &S
 }
 
 /// An end before any file is read, with its line.
-pub fn stopped<E: Sink>(err: &mut E, status: Status) -> Status
+pub fn stop<E: Sink>(err: &mut E, status: Status) -> Status
     requires { IsStop status }
     ensures status { result ≡ status }
     ensures report { (paths : _) → Reports E.told E.faults err.old err.new (line_of paths [] status) }

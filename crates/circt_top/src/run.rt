@@ -7,11 +7,11 @@ ghost use Rattle.circt_top.specs.Words.{input_of, output_of, paths_in, paths_nam
 ghost use Rattle.circt_top.specs.Outcome.{IsOutcome, IsAnswered};
 ghost use Rattle.circt_top.specs.Delivery.{HasOutputFault};
 ghost use Rattle.circt_top.specs.Answer.{told_at, usage_of, IsReadOf, IsUsage, OnRefused, OnReadFault, OnWriteFault, OnDone, Unwritten, ForCommand, IsMissing, IsMadeOf, IsRefusalOf, ReadsThen, Delivers, DeliversFront, IsDoneOrNoMemory, IsReadFaultOrNoMemory, IsRefusedOrNoMemory, line_of, Reports, ReportsEnd};
-ghost use Rattle.circt_top.specs.Runs.{IsWorked, unread};
+ghost use Rattle.circt_top.specs.Runs.{IsWorked, read_failure};
 
 use crate::delivery::{Delivery, deliver};
 use crate::outcome::{OutcomeFail, outcome};
-use crate::report::{report, stopped};
+use crate::report::{report, stop};
 use crate::status::Status;
 use command_line::invocation::{Invocation, LineFail, Paths, read_line};
 use command_line::normalise::{WordsFail, normalise};
@@ -61,13 +61,13 @@ pub fn run_circt<R: Threads + Sync, F: Files, O: Sink, E: Sink>(
     let _ = rt;
     let regular = match normalise(alloc, words) {
         Ok(regular) => regular,
-        Err(WordsFail::Reserved) => return stopped(err, Status::Usage(UsageKind::Words)),
-        Err(WordsFail::NoMemory) => return stopped(err, Status::NoMemory),
+        Err(WordsFail::Reserved) => return stop(err, Status::Usage(UsageKind::Words)),
+        Err(WordsFail::NoMemory) => return stop(err, Status::NoMemory),
     };
     match read_line(alloc, &regular) {
         Ok(invocation) => run_on(alloc, &invocation, files, out, err),
-        Err(LineFail::Usage(kind)) => stopped(err, Status::Usage(kind)),
-        Err(LineFail::NoMemory) => stopped(err, Status::NoMemory),
+        Err(LineFail::Usage(kind)) => stop(err, Status::Usage(kind)),
+        Err(LineFail::NoMemory) => stop(err, Status::NoMemory),
     }
 }
 
@@ -103,7 +103,7 @@ fn run_on<F: Files, O: Sink, E: Sink>(
     let source = match files.read(alloc, paths.input, READ_LIMIT) {
         Ok(source) => source,
         Err(fail) => {
-            let status = unread(fail);
+            let status = read_failure(fail);
             report(err, &paths, b"", &status);
             return status;
         }
@@ -121,8 +121,8 @@ fn run_on<F: Files, O: Sink, E: Sink>(
 }
 
 // How a run ends whose input was not read.
-fn unread(fail: FileFail) -> Status
-    ensures { result ≡ unread fail }
+fn read_failure(fail: FileFail) -> Status
+    ensures { result ≡ read_failure fail }
 {
     match fail {
         FileFail::Failed => Status::ReadFault,

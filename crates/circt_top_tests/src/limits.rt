@@ -167,7 +167,7 @@ fn a_text_that_is_too_long_is_refused(rt: HostRuntime) -> Result<(), Fail> {
 }
 
 // The first characters of the adder's text.
-fn cut(alloc: Global, end: usize) -> Result<String, AllocError> {
+fn cut_text(alloc: Global, end: usize) -> Result<String, AllocError> {
     let mut text = String::new(alloc);
     for c in ADDER.chars().take(end) {
         text.push(c)?;
@@ -181,7 +181,7 @@ fn a_text_that_is_cut_is_refused(rt: HostRuntime) -> Result<(), Fail> {
     assert_eq!(rt; ADDER.len(), 104);
     for end in 0..105 {
         let whole = end == 0 || end >= 103;
-        let text = cut(rt.alloc(), end)?;
+        let text = cut_text(rt.alloc(), end)?;
         let run = run_words(&rt, "opt", text.as_str(), Failing::No)?;
         let answer = (
             run.code,

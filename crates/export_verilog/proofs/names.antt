@@ -1,9 +1,9 @@
 pub mod Adding
 pub mod Apart
 pub mod GivenNames
-pub mod KeyNames
-pub mod KeyWishes
-pub mod KeysOf
+pub mod IdentifierNames
+pub mod IdentifierNameHints
+pub mod IdentifiersOf
 pub mod ModuleNames
 pub mod PortLists
 pub mod PortNames

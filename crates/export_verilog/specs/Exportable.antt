@@ -10,7 +10,7 @@ use Rattle.hw_model.specs.Meaning.{HasNoCycle}
 use Rattle.hw_model.specs.Sound.{Sound, type_in}
 use Rattle.verilog_expr.specs.Expressions.{value_width}
 use Rattle.verilog_expr.specs.Values.{is_aggregate_kind, is_variadic, is_division, IsDivision}
-use Rattle.export_verilog.specs.Keys.{module_keys}
+use Rattle.export_verilog.specs.Identifiers.{module_identifiers}
 
 -- the bits of each result are one or more
 abbrev pub HaveBits : List OpResult → Type 0
@@ -45,7 +45,7 @@ pub record IsExportableModule (m : Module) : Type 0 where
   -- a clock is an input port: no operation gives one
   pub clocks : (r : Ref) → type_in m.ports m.body r ≡ Some clock → (j : ℕ) × (r ≡ port j)
   -- names are told apart by numbers of a machine
-  pub room : length (module_keys m) + 130 < 2 ^ 64
+  pub room : length (module_identifiers m) + 130 < 2 ^ 64
 
 -- a design on integers that is sound, with distinct symbols, no module within itself, and no net that depends on itself
 pub record IsExportable (d : Design) : Type 0 where

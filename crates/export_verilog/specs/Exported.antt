@@ -16,9 +16,9 @@ use Rattle.verilog_expr.specs.Numerals.{high_of}
 use Rattle.verilog_expr.specs.Building.{no_expr}
 use Rattle.verilog_expr.specs.Expressions.{expr_to, own_expr}
 use Rattle.verilog_expr.specs.Spilling.{height_limit}
-use Rattle.export_verilog.specs.Keys.{Role, each, role_of, key_text, name_or_nothing, named}
-use Rattle.export_verilog.specs.Keys.Key.{port_key, value_key, instance_key}
-use Rattle.export_verilog.specs.Keys.Role.{hidden, net, variable, block}
+use Rattle.export_verilog.specs.Identifiers.{Emission, each, emission_of, identifier_text, name_or_nothing, named}
+use Rattle.export_verilog.specs.Identifiers.Identifier.{port_identifier, value_identifier, instance_identifier}
+use Rattle.export_verilog.specs.Identifiers.Emission.{hidden, net, variable, block}
 
 -- ---- module names
 
@@ -46,7 +46,7 @@ assigned_expr m r = own_expr (named m) m.ports m.body (expression m) r
 -- ---- ports
 
 abbrev pub vport : Module → ℕ → Port → List VPort
-vport m j p = record { is_output = p.is_output; high = high_of (width p.type); name = key_text m (port_key j) } ∷ []
+vport m j p = record { is_output = p.is_output; high = high_of (width p.type); name = identifier_text m (port_identifier j) } ∷ []
 
 abbrev pub vports : Module → List VPort
 vports m = each (vport m) 0 m.ports
@@ -55,16 +55,16 @@ vports m = each (vport m) 0 m.ports
 
 abbrev pub result_wires : Module → ℕ → ℕ → List OpResult → List Item
 result_wires m i k [] = []
-result_wires m i k (r ∷ rs) = wire (high_of (width r.type)) (key_text m (value_key i k)) ∷ result_wires m i (suc k) rs
+result_wires m i k (r ∷ rs) = wire (high_of (width r.type)) (identifier_text m (value_identifier i k)) ∷ result_wires m i (suc k) rs
 
-abbrev pub declared_as : Module → ℕ → Op → Role → List Item
+abbrev pub declared_as : Module → ℕ → Op → Emission → List Item
 declared_as m i o hidden = []
-declared_as m i o net = wire (high_of (width_of (result_type o 0))) (key_text m (value_key i 0)) ∷ []
-declared_as m i o variable = reg (high_of (width_of (result_type o 0))) (key_text m (value_key i 0)) ∷ []
+declared_as m i o net = wire (high_of (width_of (result_type o 0))) (identifier_text m (value_identifier i 0)) ∷ []
+declared_as m i o variable = reg (high_of (width_of (result_type o 0))) (identifier_text m (value_identifier i 0)) ∷ []
 declared_as m i o block = result_wires m i 0 o.results
 
 abbrev pub declares : Module → ℕ → Op → List Item
-declares m i o = declared_as m i o (role_of m.ports m.body i o)
+declares m i o = declared_as m i o (emission_of m.ports m.body i o)
 
 -- ---- registers
 
@@ -98,8 +98,8 @@ abbrev pub connections_of : Module → Module → ℕ → ℕ → ℕ → List P
 connections_of c m i j k [] rs = []
 connections_of c m i j k (p ∷ ps) rs =
     cond p.is_output
-    (record { port = key_text c (port_key j); value = name (key_text m (value_key i k)) } ∷ connections_of c m i (suc j) (suc k) ps rs)
-    (record { port = key_text c (port_key j); value = expr_or_none (expression m) rs } ∷ connections_of c m i (suc j) k ps (others rs))
+    (record { port = identifier_text c (port_identifier j); value = name (identifier_text m (value_identifier i k)) } ∷ connections_of c m i (suc j) (suc k) ps rs)
+    (record { port = identifier_text c (port_identifier j); value = expr_or_none (expression m) rs } ∷ connections_of c m i (suc j) k ps (others rs))
 
 abbrev pub connections_to : Option Module → Module → ℕ → Op → List Connection
 connections_to None m i o = []
@@ -108,25 +108,25 @@ connections_to (Some c) m i o = connections_of c m i 0 0 c.ports o.operands
 abbrev pub instance_of : Design → Module → ℕ → Op → Option Instance → List Item
 instance_of d m i o None = []
 instance_of d m i o (Some x) =
-    instance (symbol_name d x.symbol) (key_text m (instance_key i)) (connections_to (find_module d x.symbol) m i o) ∷ []
+    instance (symbol_name d x.symbol) (identifier_text m (instance_identifier i)) (connections_to (find_module d x.symbol) m i o) ∷ []
 
 -- ---- statements
 
-abbrev pub stated_as : Design → Module → ℕ → Op → Role → List Item
+abbrev pub stated_as : Design → Module → ℕ → Op → Emission → List Item
 stated_as d m i o hidden = []
-stated_as d m i o net = assign (key_text m (value_key i 0)) (assigned_expr m (result i 0)) ∷ []
-stated_as d m i o variable = always_of m (key_text m (value_key i 0)) (register_in o)
+stated_as d m i o net = assign (identifier_text m (value_identifier i 0)) (assigned_expr m (result i 0)) ∷ []
+stated_as d m i o variable = always_of m (identifier_text m (value_identifier i 0)) (register_in o)
 stated_as d m i o block = instance_of d m i o (instance_in o.kind)
 
 abbrev pub states : Design → Module → ℕ → Op → List Item
-states d m i o = stated_as d m i o (role_of m.ports m.body i o)
+states d m i o = stated_as d m i o (emission_of m.ports m.body i o)
 
 -- the assignments to the output ports from the j-th port on
 abbrev pub output_assigns : Module → ℕ → List Port → List Ref → List Item
 output_assigns m j [] rs = []
 output_assigns m j (p ∷ ps) rs =
     cond p.is_output
-    (assign (key_text m (port_key j)) (expr_or_none (expression m) rs) ∷ output_assigns m (suc j) ps (others rs))
+    (assign (identifier_text m (port_identifier j)) (expr_or_none (expression m) rs) ∷ output_assigns m (suc j) ps (others rs))
     (output_assigns m (suc j) ps rs)
 
 -- ---- modules

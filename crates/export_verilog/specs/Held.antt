@@ -8,19 +8,19 @@ use Rattle.ir_store.specs.declared.body.Op as body
 use Rattle.ir_store.specs.Bodies.{op_id, read_op}
 use Rattle.ir_store.specs.Numbered.{op_by}
 use Rattle.verilog_expr.specs.Spilling.{is_wire_kind, hint_of}
-use Rattle.export_verilog.specs.Keys.{Role, or_name, result_wish, key_name}
-use Rattle.export_verilog.specs.Keys.Key.{port_key}
-use Rattle.export_verilog.specs.Keys.Role.{hidden, net, variable, block}
+use Rattle.export_verilog.specs.Identifiers.{Emission, or_name, result_name_hint, identifier_name}
+use Rattle.export_verilog.specs.Identifiers.Identifier.{port_identifier}
+use Rattle.export_verilog.specs.Identifiers.Emission.{hidden, net, variable, block}
 
 -- the names that any module with some ports gives to them
 abbrev pub ArePortNames : List Port → List Name → Type 0
-ArePortNames ps ns = (m : Module) → m.ports ≡ ps → (j : ℕ) (p : Port) → slice_get ps j ≡ Some p → key_name m (port_key j) ≡ slice_get ns j
+ArePortNames ps ns = (m : Module) → m.ports ≡ ps → (j : ℕ) (p : Port) → slice_get ps j ≡ Some p → identifier_name m (port_identifier j) ≡ slice_get ns j
 
 -- ---- operations
 
 -- what an operation of a kind is, whose first result has a wire or not
-abbrev pub role_by : Bool → Kind → Role
-role_by wired k =
+abbrev pub emission_by : Bool → Kind → Emission
+emission_by wired k =
     cond (is_some (register_form k)) variable
     (cond (is_some (instance_in k)) block
     (cond (is_output_kind k) hidden
@@ -32,42 +32,42 @@ abbrev pub op_seen : body.Op → Op
 op_seen o = op_by (λ i. i) (read_op (op_id 0) o)
 
 -- the name that is wanted for the value of an operation that is no instance
-abbrev pub own_wish : Op → Name
-own_wish o =
+abbrev pub own_name_hint : Op → Name
+own_name_hint o =
     cond (is_register o) (or_name o.name (codes "_reg"))
     (cond (is_wire_kind o.kind) (or_name o.name (codes "_wire")) (or_name (hint_of o) (codes "_GEN")))
 
 -- the names that are wanted for so many results of an instance, from the k-th on
-abbrev pub result_wishes : Instance → ℕ → ℕ → List Name
-result_wishes i k zero = []
-result_wishes i k (suc n) = result_wish i k ∷ result_wishes i (suc k) n
+abbrev pub result_name_hints : Instance → ℕ → ℕ → List Name
+result_name_hints i k zero = []
+result_name_hints i k (suc n) = result_name_hint i k ∷ result_name_hints i (suc k) n
 
 -- the names that are wanted for the things of an operation of a role
-abbrev pub wishes_of : Role → Option Instance → Op → List Name
-wishes_of hidden x o = []
-wishes_of net x o = own_wish o ∷ []
-wishes_of variable x o = own_wish o ∷ []
-wishes_of block None o = []
-wishes_of block (Some i) o = i.name ∷ result_wishes i 0 (length o.results)
+abbrev pub name_hints_of : Emission → Option Instance → Op → List Name
+name_hints_of hidden x o = []
+name_hints_of net x o = own_name_hint o ∷ []
+name_hints_of variable x o = own_name_hint o ∷ []
+name_hints_of block None o = []
+name_hints_of block (Some i) o = i.name ∷ result_name_hints i 0 (length o.results)
 
-abbrev pub op_wishes : Role → Op → List Name
-op_wishes r o = wishes_of r (instance_in o.kind) o
+abbrev pub op_name_hints : Emission → Op → List Name
+op_name_hints r o = name_hints_of r (instance_in o.kind) o
 
 -- the names of an operation's results, where others are taken
-abbrev pub results_of : List Name → Role → Option Instance → Op → List (Option Name)
+abbrev pub results_of : List Name → Emission → Option Instance → Op → List (Option Name)
 results_of taken hidden x o = []
-results_of taken net x o = Some (legal_name taken (own_wish o)) ∷ []
-results_of taken variable x o = Some (legal_name taken (own_wish o)) ∷ []
+results_of taken net x o = Some (legal_name taken (own_name_hint o)) ∷ []
+results_of taken variable x o = Some (legal_name taken (own_name_hint o)) ∷ []
 results_of taken block None o = []
-results_of taken block (Some i) o = map (λ (n : Name). Some n) (legal_after (taken ++ legal_name taken i.name ∷ []) (result_wishes i 0 (length o.results)))
+results_of taken block (Some i) o = map (λ (n : Name). Some n) (legal_after (taken ++ legal_name taken i.name ∷ []) (result_name_hints i 0 (length o.results)))
 
-abbrev pub op_results : List Name → Role → Op → List (Option Name)
+abbrev pub op_results : List Name → Emission → Op → List (Option Name)
 op_results taken r o = results_of taken r (instance_in o.kind) o
 
 -- the own name of an operation that is an instance, where others are taken
-abbrev pub own_name_of : List Name → Role → Option Instance → Name
+abbrev pub own_name_of : List Name → Emission → Option Instance → Name
 own_name_of taken block (Some i) = legal_name taken i.name
 own_name_of taken _ _ = []
 
-abbrev pub op_own_name : List Name → Role → Op → Name
+abbrev pub op_own_name : List Name → Emission → Op → Name
 op_own_name taken r o = own_name_of taken r (instance_in o.kind)

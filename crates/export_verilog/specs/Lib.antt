@@ -1,15 +1,15 @@
 -- The words of this crate's contracts.
-pub mod Keys
+pub mod Identifiers
 pub mod Exported
 pub mod Layout
 pub mod Exportable
-pub mod Behaving
+pub mod Behaviour
 pub mod Aggregates
 pub mod Room
 pub mod Written
 pub mod WrittenViews
 pub mod Held
-pub mod RoleViews
+pub mod EmissionViews
 pub mod Walks
 pub mod ModuleNames
 pub mod Values

@@ -5,7 +5,7 @@ use Rattle.hw_model.specs.Design.{Ref}
 use Rattle.hw_model.specs.Flat.{Register}
 use Rattle.verilog_model.specs.Tree.{Expr, Item}
 use Rattle.verilog_model.specs.Tree.Item.{always}
-use Rattle.export_verilog.specs.Keys.{name_or_nothing}
+use Rattle.export_verilog.specs.Identifiers.{name_or_nothing}
 use Rattle.export_verilog.specs.Exported.{block_of}
 
 -- the block of a register under a name (IEEE 1364-2005, 9.7.2: event control)

@@ -13,8 +13,8 @@ use Rattle.verilog_expr.specs.Scopes.{scope_ports, scope_ops}
 use Rattle.verilog_expr.specs.Named.{named_of}
 use Rattle.verilog_expr.specs.declared.scope.Scope.{Scope}
 use Rattle.verilog_expr.specs.declared.value_names.ValueNames.{ValueNames}
-use Rattle.export_verilog.specs.Keys.{Role, name_or_nothing}
-use Rattle.export_verilog.specs.Keys.Role.{hidden, net, variable, block}
+use Rattle.export_verilog.specs.Identifiers.{Emission, name_or_nothing}
+use Rattle.export_verilog.specs.Identifiers.Emission.{hidden, net, variable, block}
 use Rattle.export_verilog.specs.Layout.{Text}
 use Rattle.export_verilog.specs.Written.{WrittenReset}
 
@@ -50,7 +50,7 @@ value_wires s v i k zero = []
 value_wires s v i k (suc n) = value_wire s v (result i k) ∷ value_wires s v i (k + 1) n
 
 -- the declarations of operation i, which has so many results
-abbrev pub declared_items : Scope → ValueNames → ℕ → ℕ → Role → List Item
+abbrev pub declared_items : Scope → ValueNames → ℕ → ℕ → Emission → List Item
 declared_items s v i n hidden = []
 declared_items s v i n net = value_wire s v (result i 0) ∷ []
 declared_items s v i n variable = value_variable s v (result i 0) ∷ []

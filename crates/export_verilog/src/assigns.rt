@@ -5,7 +5,7 @@ ghost use Rattle.verilog_expr.specs.Expressions.{own_expr};
 ghost use Rattle.verilog_expr.specs.Scopes.{scope_ports, scope_ops, scope_ref};
 ghost use Rattle.verilog_expr.specs.Named.{named_of};
 ghost use Rattle.export_verilog.specs.Exported.{expr_or_none};
-ghost use Rattle.export_verilog.specs.Keys.{name_or_nothing};
+ghost use Rattle.export_verilog.specs.Identifiers.{name_or_nothing};
 ghost use Rattle.export_verilog.specs.Layout.{item_text};
 ghost use Rattle.export_verilog.specs.Values.{value_expr};
 

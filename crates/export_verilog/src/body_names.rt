@@ -5,10 +5,10 @@ ghost use Rattle.name_legalise.specs.LegalViews.{legal_names};
 ghost use Rattle.verilog_expr.specs.Scopes.{scope_ports, scope_ops};
 ghost use Rattle.verilog_expr.specs.PartTables.{AreWires};
 ghost use Rattle.export_verilog.specs.Held.{op_results, op_own_name};
-ghost use Rattle.export_verilog.specs.Walks.{body_wishes, body_given, result_lists};
+ghost use Rattle.export_verilog.specs.Walks.{body_name_hints, body_given, result_lists};
 
 use crate::op_names::add_op;
-use crate::wishes::role_of;
+use crate::name_hints::emission_of;
 use io_edge::byte_text::Text;
 use name_legalise::names::Names;
 use std::alloc::{AllocError, Global};
@@ -26,7 +26,7 @@ pub fn add_ops(
     wires: &Wires,
 ) -> Result<Vec<Text>, AllocError>
     requires wires { AreWires (scope_ports scope.now) (scope_ops scope.now) wires.now.wires.items }
-    ensures names { OnOk result (legal_names names.new ≡ legal_names names.old ++ legal_after (legal_names names.old) (body_wishes (scope_ports scope.now) (scope_ops scope.now) 0 (scope_ops scope.now))) }
+    ensures names { OnOk result (legal_names names.new ≡ legal_names names.old ++ legal_after (legal_names names.old) (body_name_hints (scope_ports scope.now) (scope_ops scope.now) 0 (scope_ops scope.now))) }
     ensures results { OnOk result (result_lists values.new ≡ result_lists values.old ++ body_given op_results (scope_ports scope.now) (scope_ops scope.now) (legal_names names.old) 0 (scope_ops scope.now)) }
     ensures ports { OnOk result (values.new.ports ≡ values.old.ports) }
     ensures own { IfOk result (λ own. own.items ≡ body_given op_own_name (scope_ports scope.now) (scope_ops scope.now) (legal_names names.old) 0 (scope_ops scope.now)) }
@@ -34,8 +34,8 @@ pub fn add_ops(
     let mut own = Vec::new(alloc);
     for place in 0..scope.count() {
         let op = scope.op_at(place);
-        let role = role_of(op.kind, wires.has_wire(place));
-        let given = add_op(alloc, names, &op, role)?;
+        let emission = emission_of(op.kind, wires.has_wire(place));
+        let given = add_op(alloc, names, &op, emission)?;
         values.push_op(given.results)?;
         own.push(given.instance)?;
     }

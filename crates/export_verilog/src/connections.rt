@@ -9,7 +9,7 @@ ghost use Rattle.verilog_expr.specs.Text.{expr_text};
 ghost use Rattle.verilog_model.specs.Tree.Item.{instance};
 ghost use Rattle.export_verilog.specs.Layout.{item_text};
 ghost use Rattle.export_verilog.specs.Exported.{expr_or_none};
-ghost use Rattle.export_verilog.specs.Keys.{name_or_nothing};
+ghost use Rattle.export_verilog.specs.Identifiers.{name_or_nothing};
 ghost use Rattle.export_verilog.specs.Values.{value_expr};
 ghost use Rattle.export_verilog.specs.Written.{connections_left};
 ghost use Rattle.export_verilog.specs.Joined.{joined};
@@ -24,7 +24,7 @@ use ir_store::operation::{OpId, Value};
 use std::alloc::AllocError;
 
 // One more where it is asked for.
-fn counted(number: usize, more: bool) -> usize
+fn count_if(number: usize, more: bool) -> usize
     requires { number + 1 < 2 ^ 64 }
     ensures { result ≡ cond more (number + 1) number }
 {
@@ -98,8 +98,8 @@ pub fn push_connections(
             value.as_bytes(),
             line_end(j + 1 < ports.len()),
         )?;
-        results = counted(results, is_output);
-        inputs = counted(inputs, !is_output);
+        results = count_if(results, is_output);
+        inputs = count_if(inputs, !is_output);
     }
     Ok(())
 }

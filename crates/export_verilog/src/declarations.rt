@@ -4,12 +4,12 @@ ghost use Rattle.ir_store.specs.Numbered.{position_of};
 ghost use Rattle.verilog_expr.specs.Scopes.{scope_ports, scope_ops, scope_ids, scope_ref};
 ghost use Rattle.export_verilog.specs.Layout.{item_text, items_text};
 ghost use Rattle.export_verilog.specs.Values.{value_wire, value_variable, value_wires, declared_items};
-ghost use Rattle.export_verilog.specs.RoleViews.{role_seen};
+ghost use Rattle.export_verilog.specs.EmissionViews.{emission_seen};
 
 use crate::lines::{push_reg, push_wire};
 use crate::module_writer::ModuleWriter;
 use crate::values::name_text;
-use crate::wishes::Role;
+use crate::name_hints::Emission;
 use io_edge::byte_text::Text;
 use ir_store::operation::{OpId, Value};
 use std::alloc::AllocError;
@@ -61,15 +61,15 @@ pub fn push_declared(
     out: &mut Text,
     id: OpId,
     count: u32,
-    role: Role,
+    emission: Emission,
 ) -> Result<(), AllocError>
-    ensures { OnOk result (out.new ≡ out.old ++ items_text (declared_items writer.now.scope writer.now.names.values (position_of (scope_ids writer.now.scope) id.index) count (role_seen role)) []) }
+    ensures { OnOk result (out.new ≡ out.old ++ items_text (declared_items writer.now.scope writer.now.names.values (position_of (scope_ids writer.now.scope) id.index) count (emission_seen emission)) []) }
 {
-    match role {
-        Role::Hidden => {}
-        Role::Net => push_value_wire(writer, out, Value::Result(id, 0))?,
-        Role::Variable => push_value_variable(writer, out, Value::Result(id, 0))?,
-        Role::Block => push_wires(writer, out, id, count)?,
+    match emission {
+        Emission::Hidden => {}
+        Emission::Net => push_value_wire(writer, out, Value::Result(id, 0))?,
+        Emission::Variable => push_value_variable(writer, out, Value::Result(id, 0))?,
+        Emission::Block => push_wires(writer, out, id, count)?,
     }
     Ok(())
 }

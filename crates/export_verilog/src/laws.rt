@@ -7,7 +7,7 @@ ghost use Rattle.verilog_model.specs.Meaning.{tree_machine};
 ghost use Rattle.export_verilog.specs.Exported.{tree_of, symbol_name};
 ghost use Rattle.export_verilog.specs.Layout.{verilog_text};
 ghost use Rattle.export_verilog.specs.Exportable.{IsExportable};
-ghost use Rattle.export_verilog.specs.Behaving.{BehavesAs};
+ghost use Rattle.export_verilog.specs.Behaviour.{BehavesAs};
 
 /// Does nothing. Its clause says that the Verilog of a design behaves as the design: each module of the tree has as many
 /// bits of register content as the design's module, settles exactly once for all inputs and content, and has the same runs

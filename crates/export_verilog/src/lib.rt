@@ -24,7 +24,7 @@ mod ports;
 mod register_blocks;
 mod statements;
 mod values;
-mod wishes;
+mod name_hints;
 
 pub use acceptance::{accepted_designs_are_exportable, stored_designs_have_room};
 pub use laws::{exported_designs_behave, exported_modules_behave_the_same};

@@ -5,14 +5,14 @@ ghost use Rattle.hw_model.specs.KindViews.{kind_of};
 ghost use Rattle.ir_store.specs.Designs.{design_of};
 ghost use Rattle.verilog_expr.specs.Scopes.{scope_ports, scope_ops, scope_ref};
 ghost use Rattle.export_verilog.specs.Layout.{items_text};
-ghost use Rattle.export_verilog.specs.Keys.{each};
+ghost use Rattle.export_verilog.specs.Identifiers.{each};
 ghost use Rattle.export_verilog.specs.Exported.{declares, states, output_assigns, vitems};
 ghost use Rattle.export_verilog.specs.ScopeModules.{scope_module};
 
 use crate::assigns::push_output;
 use crate::module_writer::ModuleWriter;
 use crate::statements::{push_declarations, push_statements};
-use crate::wishes::role_of;
+use crate::name_hints::emission_of;
 use hw_model::kinds::OpKind;
 use io_edge::byte_text::Text;
 use ir_store::operation::Value;
@@ -48,8 +48,8 @@ fn push_all_declarations(writer: &ModuleWriter<'_>, out: &mut Text) -> Result<()
 {
     for place in 0..writer.scope.count() {
         let op = writer.scope.op_at(place);
-        let role = role_of(op.kind, writer.wires.has_wire(place));
-        push_declarations(writer, out, writer.scope.id_at(place), &op, role)?;
+        let emission = emission_of(op.kind, writer.wires.has_wire(place));
+        push_declarations(writer, out, writer.scope.id_at(place), &op, emission)?;
     }
     Ok(())
 }
@@ -60,8 +60,8 @@ fn push_all_statements(writer: &ModuleWriter<'_>, out: &mut Text) -> Result<(), 
 {
     for place in 0..writer.scope.count() {
         let op = writer.scope.op_at(place);
-        let role = role_of(op.kind, writer.wires.has_wire(place));
-        push_statements(writer, out, writer.scope.id_at(place), place, &op, role)?;
+        let emission = emission_of(op.kind, writer.wires.has_wire(place));
+        push_statements(writer, out, writer.scope.id_at(place), place, &op, emission)?;
     }
     Ok(())
 }

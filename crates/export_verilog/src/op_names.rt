@@ -3,11 +3,11 @@ ghost use Rattle.std.specs.Prelude.{◌≡◌, ◌++◌, ◌∷◌, [], map, len
 ghost use Rattle.hw_model.specs.KindViews.{instance_of};
 ghost use Rattle.name_legalise.specs.Legal.{legal_name, legal_after};
 ghost use Rattle.name_legalise.specs.LegalViews.{legal_names};
-ghost use Rattle.export_verilog.specs.Held.{op_seen, result_wishes, op_wishes, op_results, op_own_name};
-ghost use Rattle.export_verilog.specs.RoleViews.{role_seen};
+ghost use Rattle.export_verilog.specs.Held.{op_seen, result_name_hints, op_name_hints, op_results, op_own_name};
+ghost use Rattle.export_verilog.specs.EmissionViews.{emission_seen};
 
 use crate::legal_names::MOST_NAMES;
-use crate::wishes::{Role, own_wish, result_wish};
+use crate::name_hints::{Emission, own_name_hint, result_name_hint};
 use hw_model::kinds::{Instance, OpKind};
 use io_edge::byte_text::Text;
 use ir_store::body::Op;
@@ -44,13 +44,13 @@ fn add_results(
     instance: &Instance,
     count: usize,
 ) -> Result<NameList, AllocError>
-    ensures names { OnOk result (legal_names names.new ≡ legal_names names.old ++ legal_after (legal_names names.old) (result_wishes (instance_of instance.now) 0 count)) }
-    ensures list { IfOk result (λ l. l.names.items ≡ map (λ (n : _). Some n) (legal_after (legal_names names.old) (result_wishes (instance_of instance.now) 0 count))) }
+    ensures names { OnOk result (legal_names names.new ≡ legal_names names.old ++ legal_after (legal_names names.old) (result_name_hints (instance_of instance.now) 0 count)) }
+    ensures list { IfOk result (λ l. l.names.items ≡ map (λ (n : _). Some n) (legal_after (legal_names names.old) (result_name_hints (instance_of instance.now) 0 count))) }
 {
     let mut list = Vec::new(alloc);
     for number in 0..count {
-        let wish = result_wish(alloc, instance, number)?;
-        let name = add_name(alloc, names, wish.as_bytes())?;
+        let name_hint = result_name_hint(alloc, instance, number)?;
+        let name = add_name(alloc, names, name_hint.as_bytes())?;
         list.push(Some(name))?;
     }
     Ok(NameList { names: list })
@@ -63,8 +63,8 @@ fn add_instance(
     instance: &Instance,
     count: usize,
 ) -> Result<OpNames, AllocError>
-    ensures names { OnOk result (legal_names names.new ≡ legal_names names.old ++ legal_after (legal_names names.old) ((instance_of instance.now).name ∷ result_wishes (instance_of instance.now) 0 count)) }
-    ensures results { IfOk result (λ r. r.results.names.items ≡ map (λ (n : _). Some n) (legal_after (legal_names names.old ++ legal_name (legal_names names.old) (instance_of instance.now).name ∷ []) (result_wishes (instance_of instance.now) 0 count))) }
+    ensures names { OnOk result (legal_names names.new ≡ legal_names names.old ++ legal_after (legal_names names.old) ((instance_of instance.now).name ∷ result_name_hints (instance_of instance.now) 0 count)) }
+    ensures results { IfOk result (λ r. r.results.names.items ≡ map (λ (n : _). Some n) (legal_after (legal_names names.old ++ legal_name (legal_names names.old) (instance_of instance.now).name ∷ []) (result_name_hints (instance_of instance.now) 0 count))) }
     ensures instance { IfOk result (λ r. r.instance ≡ legal_name (legal_names names.old) (instance_of instance.now).name) }
 {
     let own = add_name(alloc, names, instance.name.as_bytes())?;
@@ -108,16 +108,16 @@ pub fn add_op(
     alloc: Global,
     names: &mut Names,
     op: &Op<'_>,
-    role: Role,
+    emission: Emission,
 ) -> Result<OpNames, AllocError>
-    ensures names { OnOk result (legal_names names.new ≡ legal_names names.old ++ legal_after (legal_names names.old) (op_wishes (role_seen role) (op_seen op.now))) }
-    ensures results { IfOk result (λ r. r.results.names.items ≡ op_results (legal_names names.old) (role_seen role) (op_seen op.now)) }
-    ensures instance { IfOk result (λ r. r.instance ≡ op_own_name (legal_names names.old) (role_seen role) (op_seen op.now)) }
+    ensures names { OnOk result (legal_names names.new ≡ legal_names names.old ++ legal_after (legal_names names.old) (op_name_hints (emission_seen emission) (op_seen op.now))) }
+    ensures results { IfOk result (λ r. r.results.names.items ≡ op_results (legal_names names.old) (emission_seen emission) (op_seen op.now)) }
+    ensures instance { IfOk result (λ r. r.instance ≡ op_own_name (legal_names names.old) (emission_seen emission) (op_seen op.now)) }
 {
-    match role {
-        Role::Hidden => Ok(no_names(alloc)),
-        Role::Net | Role::Variable => add_value(alloc, names, own_wish(op)),
-        Role::Block => match op.kind {
+    match emission {
+        Emission::Hidden => Ok(no_names(alloc)),
+        Emission::Net | Emission::Variable => add_value(alloc, names, own_name_hint(op)),
+        Emission::Block => match op.kind {
             OpKind::Instance(instance) => { add_instance(alloc, names, instance, op.results.len()) }
             _ => Ok(no_names(alloc)),
         },

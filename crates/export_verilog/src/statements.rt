@@ -9,7 +9,7 @@ ghost use Rattle.verilog_expr.specs.Scopes.{scope_ops, scope_ids, op_read};
 ghost use Rattle.export_verilog.specs.Layout.{items_text};
 ghost use Rattle.export_verilog.specs.Exported.{symbol_name, declared_as, instance_of, stated_as};
 ghost use Rattle.export_verilog.specs.NamedDesigns.{AreNamesOf, AreNamesWhere};
-ghost use Rattle.export_verilog.specs.RoleViews.{role_seen};
+ghost use Rattle.export_verilog.specs.EmissionViews.{emission_seen};
 ghost use Rattle.export_verilog.specs.ScopeModules.{scope_module};
 
 use crate::assigns::push_net;
@@ -20,7 +20,7 @@ use crate::module_writer::ModuleWriter;
 use crate::named_design::{NamedDesign, names_in};
 use crate::register_blocks::push_register;
 use crate::values::name_text;
-use crate::wishes::Role;
+use crate::name_hints::Emission;
 use hw_model::kinds::OpKind;
 use io_edge::byte_text::Text;
 use ir_store::body::Op;
@@ -35,15 +35,15 @@ pub fn push_declarations(
     out: &mut Text,
     id: OpId,
     op: &Op<'_>,
-    role: Role,
+    emission: Emission,
 ) -> Result<(), AllocError>
     requires { slice_get (scope_ops writer.now.scope) (position_of (scope_ids writer.now.scope) id.index) ≡ Some (op_read writer.now.scope op.now) }
-    ensures { OnOk result (out.new ≡ out.old ++ items_text (declared_as (scope_module writer.now.scope) (position_of (scope_ids writer.now.scope) id.index) (op_read writer.now.scope op.now) (role_seen role)) []) }
+    ensures { OnOk result (out.new ≡ out.old ++ items_text (declared_as (scope_module writer.now.scope) (position_of (scope_ids writer.now.scope) id.index) (op_read writer.now.scope op.now) (emission_seen emission)) []) }
 {
     let Ok(count) = u32::try_from(op.results.len()) else {
         return Err(AllocError);
     };
-    push_declared(writer, out, id, count, role)?;
+    push_declared(writer, out, id, count, emission)?;
     Ok(())
 }
 
@@ -142,21 +142,21 @@ pub fn push_statements(
     id: OpId,
     place: usize,
     op: &Op<'_>,
-    role: Role,
+    emission: Emission,
 ) -> Result<(), AllocError>
     requires there { slice_get (scope_ops writer.now.scope) place ≡ Some (op_read writer.now.scope op.now) }
     requires id { position_of (scope_ids writer.now.scope) id.index ≡ place }
-    ensures { OnOk result (out.new ≡ out.old ++ items_text (stated_as (design_of writer.now.design.now.design.now) (scope_module writer.now.scope) place (op_read writer.now.scope op.now) (role_seen role)) []) }
+    ensures { OnOk result (out.new ≡ out.old ++ items_text (stated_as (design_of writer.now.design.now.design.now) (scope_module writer.now.scope) place (op_read writer.now.scope op.now) (emission_seen emission)) []) }
 {
     let value = Value::Result(id, 0);
-    match role {
-        Role::Hidden => {}
-        Role::Net => push_net(writer, out, value)?,
-        Role::Variable => {
+    match emission {
+        Emission::Hidden => {}
+        Emission::Net => push_net(writer, out, value)?,
+        Emission::Variable => {
             let name = name_text(writer, value);
             push_register(writer, out, name, op)?;
         }
-        Role::Block => push_call(writer, out, id, place, op)?,
+        Emission::Block => push_call(writer, out, id, place, op)?,
     }
     Ok(())
 }

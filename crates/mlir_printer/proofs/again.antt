@@ -7,5 +7,5 @@ pub mod KindsKept
 pub mod OperationsAgain
 pub mod PlacesChosen
 pub mod PrintedDesigns
-pub mod SaidForms
+pub mod ViewForms
 pub mod SpellableExample

@@ -8,7 +8,7 @@ pub mod LexedNames
 pub mod LexedNumbers
 pub mod LexedOperands
 pub mod LexedOperations
-pub mod LexedPieces
+pub mod LexedElements
 pub mod LexedStrings
 pub mod LexedTexts
 pub mod LexedTypes

@@ -2,5 +2,5 @@ pub mod PrintableExample
 pub mod ReadBytes
 pub mod ReadModules
 pub mod ReadOperations
-pub mod ReadPieces
+pub mod ReadElements
 pub mod VerifiedDesigns

@@ -10,11 +10,11 @@ pub record Chosen : Type 0 where
   pub next : ℕ
 
 -- a name more
-abbrev pub with_wish : Chosen → Option Name → Chosen
-with_wish c None = record { names = c.names ++ free_name c.names (decimal c.next) ∷ []; next = c.next + 1 }
-with_wish c (Some name) = record { names = c.names ++ free_name c.names (standing name) ∷ []; next = c.next }
+abbrev pub with_name_hint : Chosen → Option Name → Chosen
+with_name_hint c None = record { names = c.names ++ free_name c.names (decimal c.next) ∷ []; next = c.next + 1 }
+with_name_hint c (Some name) = record { names = c.names ++ free_name c.names (standing name) ∷ []; next = c.next }
 
 -- names more, one after another
-abbrev pub with_wishes : Chosen → List (Option Name) → Chosen
-with_wishes c [] = c
-with_wishes c (w ∷ ws) = with_wishes (with_wish c w) ws
+abbrev pub with_name_hints : Chosen → List (Option Name) → Chosen
+with_name_hints c [] = c
+with_name_hints c (w ∷ ws) = with_name_hints (with_name_hint c w) ws

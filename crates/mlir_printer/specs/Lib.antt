@@ -5,7 +5,7 @@ pub mod Commas
 pub mod Types
 pub mod Attributes
 pub mod Literals
-pub mod Pieces
+pub mod Elements
 pub mod Operations
 pub mod Modules
 pub mod Naming

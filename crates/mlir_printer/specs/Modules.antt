@@ -5,7 +5,7 @@ use Rattle.hw_model.specs.Design.{same_name, Entry}
 use Rattle.mlir_printer.specs.Strings.{string_bytes, name_bytes, symbol_bytes}
 use Rattle.mlir_printer.specs.Types.{type_bytes}
 use Rattle.mlir_printer.specs.Attributes.{dictionary_bytes}
-use Rattle.mlir_printer.specs.Pieces.{value_name_bytes}
+use Rattle.mlir_printer.specs.Elements.{value_name_bytes}
 use Rattle.mlir_printer.specs.Operations.{OperationText, operation_lines}
 use Rattle.mlir_printer.specs.Commas.{commas}
 

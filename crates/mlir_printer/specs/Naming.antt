@@ -13,7 +13,7 @@ use Rattle.mlir_syntax.specs.OperandText.{ResultNames}
 use Rattle.mlir_syntax.specs.OperandText.ResultNames.{no_names, names, pack}
 use Rattle.mlir_printer.specs.Strings.{standing}
 use Rattle.mlir_printer.specs.Numbers.{integer_bytes, truth_bytes, shown_number, is_shown_as_truth, is_one}
-use Rattle.mlir_printer.specs.Pieces.{ValueText, no_value}
+use Rattle.mlir_printer.specs.Elements.{ValueText, no_value}
 
 -- ---- what is wanted
 
@@ -23,63 +23,63 @@ constant_name w z =
     cond (is_shown_as_truth (int w) z) (truth_bytes (is_one z)) (codes "c" ++ (integer_bytes (shown_number w z) ++ (codes "_i" ++ decimal w)))
 
 -- what a constant wants: one that is no integer wants nothing
-abbrev pub constant_wish : List HwType → ℤ → Option Name
-constant_wish (int w ∷ ts) z = Some (constant_name w z)
-constant_wish _ z = None
+abbrev pub constant_name_hint : List HwType → ℤ → Option Name
+constant_name_hint (int w ∷ ts) z = Some (constant_name w z)
+constant_name_hint _ z = None
 
 -- what a register or a wire wants: an empty name is none
-abbrev pub own_wish : Name → Option Name
-own_wish [] = None
-own_wish (b ∷ bs) = Some (b ∷ bs)
+abbrev pub own_name_hint : Name → Option Name
+own_name_hint [] = None
+own_name_hint (b ∷ bs) = Some (b ∷ bs)
 
 -- `INSTANCE.PORT`
 unfoldable pub instance_name : Name → Name → Name
 instance_name u q = u ++ ((46 ∷ []) ++ q)
 
 -- what the results of an instance want
-abbrev pub instance_wishes : Name → List Name → List (Option Name)
-instance_wishes u [] = []
-instance_wishes u (q ∷ qs) = Some (instance_name u q) ∷ instance_wishes u qs
+abbrev pub instance_name_hints : Name → List Name → List (Option Name)
+instance_name_hints u [] = []
+instance_name_hints u (q ∷ qs) = Some (instance_name u q) ∷ instance_name_hints u qs
 
 -- what the fields of a struct want together
-abbrev pub pack_wishes : ℕ → List (Option Name)
-pack_wishes zero = []
-pack_wishes (suc n) = None ∷ []
+abbrev pub pack_name_hints : ℕ → List (Option Name)
+pack_name_hints zero = []
+pack_name_hints (suc n) = None ∷ []
 
 -- what the results of an operation want, a pack one name
-unfoldable pub wishes_of : Kind → List HwType → Name → ℕ → List (Option Name)
-wishes_of (constant z) ts own n = constant_wish ts z ∷ []
-wishes_of (on_struct struct_explode) ts own n = pack_wishes n
-wishes_of wire ts own n = own_wish own ∷ []
-wishes_of (instance i) ts own n = instance_wishes i.name i.outputs
-wishes_of output ts own n = []
-wishes_of (register f r) ts own n = own_wish own ∷ []
-wishes_of _ ts own n = None ∷ []
+unfoldable pub name_hints_of : Kind → List HwType → Name → ℕ → List (Option Name)
+name_hints_of (constant z) ts own n = constant_name_hint ts z ∷ []
+name_hints_of (on_struct struct_explode) ts own n = pack_name_hints n
+name_hints_of wire ts own n = own_name_hint own ∷ []
+name_hints_of (instance i) ts own n = instance_name_hints i.name i.outputs
+name_hints_of output ts own n = []
+name_hints_of (register f r) ts own n = own_name_hint own ∷ []
+name_hints_of _ ts own n = None ∷ []
 
 -- what the results of an operation want
-abbrev pub wishes : OpParts → List (Option Name)
-wishes o = wishes_of o.kind o.types o.name (length o.results)
+abbrev pub name_hints : OpParts → List (Option Name)
+name_hints o = name_hints_of o.kind o.types o.name (length o.results)
 
 -- how many names an operation takes
 abbrev pub name_count : OpParts → ℕ
-name_count o = length (wishes o)
+name_count o = length (name_hints o)
 
 -- what the results of operations want, in order
-abbrev pub body_wishes : List OpParts → List (Option Name)
-body_wishes [] = []
-body_wishes (o ∷ os) = wishes o ++ body_wishes os
+abbrev pub body_name_hints : List OpParts → List (Option Name)
+body_name_hints [] = []
+body_name_hints (o ∷ os) = name_hints o ++ body_name_hints os
 
 -- what a port wants: an input its name
-abbrev pub port_wish : Port → List (Option Name)
-port_wish p = cond p.is_output [] (Some p.name ∷ [])
+abbrev pub port_name_hint : Port → List (Option Name)
+port_name_hint p = cond p.is_output [] (Some p.name ∷ [])
 
-abbrev pub port_wishes : List Port → List (Option Name)
-port_wishes [] = []
-port_wishes (p ∷ ps) = port_wish p ++ port_wishes ps
+abbrev pub port_name_hints : List Port → List (Option Name)
+port_name_hints [] = []
+port_name_hints (p ∷ ps) = port_name_hint p ++ port_name_hints ps
 
 -- how many input ports there are
 abbrev pub input_count : List Port → ℕ
-input_count ps = length (port_wishes ps)
+input_count ps = length (port_name_hints ps)
 
 -- the names that are wanted: what wants nothing wants the next number
 abbrev pub wanted : ℕ → List (Option Name) → List Name
@@ -89,7 +89,7 @@ wanted n (Some name ∷ ws) = standing name ∷ wanted n ws
 
 -- the names of ports and results, in order
 abbrev pub names_given : List Port → List OpParts → List Name
-names_given ps os = fresh [] (wanted 0 (port_wishes ps ++ body_wishes os))
+names_given ps os = fresh [] (wanted 0 (port_name_hints ps ++ body_name_hints os))
 
 -- ---- what is named
 
@@ -129,7 +129,7 @@ value_in ns (o ∷ os) (suc i) k = value_in (drop (name_count o) ns) os i k
 abbrev pub port_value : List Name → List Port → ℕ → ValueText
 port_value ns [] j = no_value
 port_value ns (p ∷ ps) zero = cond p.is_output no_value (called (first_name ns))
-port_value ns (p ∷ ps) (suc j) = port_value (drop (length (port_wish p)) ns) ps j
+port_value ns (p ∷ ps) (suc j) = port_value (drop (length (port_name_hint p)) ns) ps j
 
 -- a value, where the names are given; what nothing defines has no name
 abbrev pub value_named : List Name → List Port → List OpParts → Ref → ValueText

@@ -6,15 +6,15 @@ use Rattle.opcode.specs.Listed.{name_of_listed}
 use Rattle.hw_model.specs.Types.{HwType}
 use Rattle.mlir_syntax.specs.OperandText.{ResultNames}
 use Rattle.mlir_syntax.specs.OperandText.ResultNames.{no_names, names, pack}
-use Rattle.mlir_syntax.specs.PieceText.{Extra}
-use Rattle.mlir_syntax.specs.PieceText.Extra.{number}
+use Rattle.mlir_syntax.specs.ElementText.{InherentAttributes}
+use Rattle.mlir_syntax.specs.ElementText.InherentAttributes.{number}
 use Rattle.hw_model.specs.Design.{Entry}
-use Rattle.assembly_format.specs.Shapes.{shape_of, front_pieces, type_pieces}
-use Rattle.assembly_format.specs.declared.pieces.Piece.{Piece}
-use Rattle.assembly_format.specs.declared.pieces.Shape.{Shape}
-use Rattle.assembly_format.specs.declared.pieces.Shape.TheVariants as shape
+use Rattle.assembly_format.specs.Formats.{format_of, front_elements, type_elements}
+use Rattle.assembly_format.specs.declared.elements.FormatElement.{FormatElement}
+use Rattle.assembly_format.specs.declared.elements.Format.{Format}
+use Rattle.assembly_format.specs.declared.elements.Format.TheVariants as format
 use Rattle.mlir_printer.specs.Numbers.{count_bytes, is_shown_as_truth}
-use Rattle.mlir_printer.specs.Pieces.{ValueText, Pending, value_name_bytes, pieces_bytes, left_behind}
+use Rattle.mlir_printer.specs.Elements.{ValueText, Pending, value_name_bytes, elements_bytes, left_behind}
 use Rattle.mlir_printer.specs.Attributes.{dictionary_bytes}
 use Rattle.mlir_printer.specs.Commas.{commas}
 
@@ -37,44 +37,44 @@ unfoldable pub bin_bytes : Bool → List ℕ
 bin_bytes b = cond b (codes " bin") []
 
 -- whether what is said of a constant of the first of some types is printed as `true` or `false`
-abbrev pub is_truth_said : List HwType → Extra → Bool
-is_truth_said (t ∷ ts) (number z) = is_shown_as_truth t z
-is_truth_said _ _ = false
+abbrev pub is_truth_view : List HwType → InherentAttributes → Bool
+is_truth_view (t ∷ ts) (number z) = is_shown_as_truth t z
+is_truth_view _ _ = false
 
 -- an output with values has their types
-abbrev pub output_shape : List ValueText → Shape
-output_shape [] = shape.Nothing
-output_shape (o ∷ os) = shape.Joined
+abbrev pub output_format : List ValueText → Format
+output_format [] = format.Nothing
+output_format (o ∷ os) = format.Joined
 
 -- the form of an operation
-unfoldable pub shape_shown : Listed → Pending → Shape
-shape_shown listed.HwConstant g = cond (is_truth_said g.types g.extra) shape.Truth shape.Integer
-shape_shown listed.HwOutput g = output_shape g.operands
-shape_shown o g = shape_of o None
+unfoldable pub format_shown : Listed → Pending → Format
+format_shown listed.HwConstant g = cond (is_truth_view g.types g.inherent) format.Truth format.Integer
+format_shown listed.HwOutput g = output_format g.operands
+format_shown o g = format_of o None
 
 -- a blank before what stands after a name
-abbrev pub after_blank : List Piece → List ℕ → List ℕ
+abbrev pub after_blank : List FormatElement → List ℕ → List ℕ
 after_blank [] bytes = bytes
 after_blank (p ∷ ps) bytes = codes " " ++ bytes
 
 -- what is left after pieces
-abbrev pub left_behind_all : List Piece → Pending → Pending
+abbrev pub left_behind_all : List FormatElement → Pending → Pending
 left_behind_all [] g = g
 left_behind_all (p ∷ ps) g = left_behind_all ps (left_behind p g)
 
 -- a form: pieces, a dictionary, and the types
-unfoldable pub form_bytes : List Piece → List Piece → Pending → List Entry → List ℕ
+unfoldable pub form_bytes : List FormatElement → List FormatElement → Pending → List Entry → List ℕ
 form_bytes front types g es =
-    after_blank front (pieces_bytes front g) ++ (dictionary_bytes (codes " ") es ++ pieces_bytes types (left_behind_all front g))
+    after_blank front (elements_bytes front g) ++ (dictionary_bytes (codes " ") es ++ elements_bytes types (left_behind_all front g))
 
 -- an operation of a form
-unfoldable pub shaped_bytes : Shape → OperationText → List ℕ
+unfoldable pub shaped_bytes : Format → OperationText → List ℕ
 shaped_bytes s o =
-    results_bytes o.results ++ (name_of_listed o.name ++ (bin_bytes o.bin ++ form_bytes (front_pieces s) (type_pieces s) o.pending o.dictionary))
+    results_bytes o.results ++ (name_of_listed o.name ++ (bin_bytes o.bin ++ form_bytes (front_elements s) (type_elements s) o.pending o.dictionary))
 
 -- an operation
 unfoldable pub operation_bytes : OperationText → List ℕ
-operation_bytes o = shaped_bytes (shape_shown o.name o.pending) o
+operation_bytes o = shaped_bytes (format_shown o.name o.pending) o
 
 -- a line of a body
 unfoldable pub operation_line : OperationText → List ℕ

@@ -19,7 +19,7 @@ use Rattle.mlir_syntax.specs.Numerals.{count_limit}
 use Rattle.mlir_syntax.specs.OperationText.{takes_bin, string_keys}
 use Rattle.mlir_syntax.specs.ModuleText.{module_keys}
 use Rattle.mlir_reader.specs.Resolving.{kept_by_first, kept_literals, is_dropped, has_name, type_or_none}
-use Rattle.mlir_printer.specs.Naming.{is_pack, port_wishes, body_wishes}
+use Rattle.mlir_printer.specs.Naming.{is_pack, port_name_hints, body_name_hints}
 use Rattle.mlir_printer.specs.Texts.{parts_in}
 use Rattle.mlir_printer.specs.Spellable.{Each, AreBytes, MayBeBytes, IsInteger, IsAnyType, AreLiterals, IsEntry}
 
@@ -188,7 +188,7 @@ pub record IsPrintableModule (m : Module) : Type 0 where
   -- the body ends with its one output
   pub ends : EndsWithOutput m.body
   -- fewer than 2^64 names are given
-  pub few : length (port_wishes m.ports ++ body_wishes (map parts_in m.body)) < 2 ^ 64
+  pub few : length (port_name_hints m.ports ++ body_name_hints (map parts_in m.body)) < 2 ^ 64
 
 -- each module can be printed
 abbrev pub Printable : Design → Type 0

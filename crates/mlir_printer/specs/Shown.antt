@@ -6,7 +6,7 @@ use Rattle.ir_store.specs.OperationViews.{OpParts}
 use Rattle.ir_store.specs.BodyOps.{BodyOp}
 use Rattle.ir_store.specs.Designs.{StoredModule}
 use Rattle.mlir_printer.specs.Naming.{name_count}
-use Rattle.mlir_printer.specs.Pieces.{ValueText}
+use Rattle.mlir_printer.specs.Elements.{ValueText}
 use Rattle.mlir_printer.specs.Operations.{OperationText}
 use Rattle.mlir_printer.specs.Modules.{ModuleText}
 use Rattle.mlir_printer.specs.Texts.{operation_shown, ports_shown}

@@ -19,18 +19,18 @@ use Rattle.mlir_syntax.specs.TypeText.{most_open}
 use Rattle.mlir_syntax.specs.AttributeText.{is_among, is_stored}
 use Rattle.mlir_syntax.specs.OperandText.{OperandName, ResultNames}
 use Rattle.mlir_syntax.specs.OperandText.ResultNames.{no_names, names, pack}
-use Rattle.assembly_format.specs.Shapes.{front_pieces, type_pieces}
-use Rattle.mlir_syntax.specs.PieceText.{Extra, Gathered, gathered_nothing, with_operands, with_types, with_extra}
-use Rattle.mlir_syntax.specs.PieceText.Extra.{with_reset, predicate, position, number, literals, field_name, child}
+use Rattle.assembly_format.specs.Formats.{front_elements, type_elements}
+use Rattle.mlir_syntax.specs.ElementText.{InherentAttributes, Gathered, gathered_nothing, with_operands, with_types, with_inherent}
+use Rattle.mlir_syntax.specs.ElementText.InherentAttributes.{with_reset, predicate, position, number, literals, field_name, child}
 use Rattle.mlir_syntax.specs.OperationText.{OperationText as OperationSaid, takes_bin, string_keys, is_last}
 use Rattle.mlir_syntax.specs.ModuleText.{PortText as PortSaid, ModuleText as ModuleSaid, module_keys}
 use Rattle.mlir_syntax.specs.Spelling.{AreOnce, StandsInBody, FilePhrase, token_of}
-use Rattle.assembly_format.specs.declared.pieces.Piece.{Piece}
-use Rattle.assembly_format.specs.declared.pieces.Piece.TheVariants as piece
-use Rattle.assembly_format.specs.declared.pieces.Shape.{Shape}
+use Rattle.assembly_format.specs.declared.elements.FormatElement.{FormatElement}
+use Rattle.assembly_format.specs.declared.elements.FormatElement.TheVariants as element
+use Rattle.assembly_format.specs.declared.elements.Format.{Format}
 use Rattle.mlir_printer.specs.Numbers.{is_truth}
-use Rattle.mlir_printer.specs.Pieces.{ValueText, Pending, first_operand, left_behind}
-use Rattle.mlir_printer.specs.Operations.{OperationText, shape_shown, left_behind_all}
+use Rattle.mlir_printer.specs.Elements.{ValueText, Pending, first_operand, left_behind}
+use Rattle.mlir_printer.specs.Operations.{OperationText, format_shown, left_behind_all}
 use Rattle.mlir_printer.specs.Modules.{PortText, ModuleText}
 
 -- ---- what a reader reads
@@ -46,7 +46,7 @@ said_operand o = record { name = o.name; number = said_number o.number }
 
 -- what is gathered of an operation
 abbrev pub said_pending : Pending → Gathered
-said_pending p = record { operands = map said_operand p.operands; types = p.types; extra = p.extra }
+said_pending p = record { operands = map said_operand p.operands; types = p.types; inherent = p.inherent }
 
 -- an operation as a reader reads it, at some place
 abbrev pub said_operation : OperationText → OperationSaid
@@ -64,8 +64,8 @@ abbrev pub said_port : PortText → PortSaid
 said_port p = record { value = p.value; name = p.name; type = p.type }
 
 -- a module as a reader reads it, at some place
-abbrev pub said : ModuleText → ModuleSaid
-said m = record {
+abbrev pub inherent_view : ModuleText → ModuleSaid
+inherent_view m = record {
   symbol = m.symbol;
   is_private = m.is_private;
   ports = map said_port m.ports;
@@ -199,37 +199,37 @@ HasType [] = ⊥
 HasType (t ∷ ts) = IsAnyType t
 
 -- two operands stand after a reset
-abbrev pub MayReset : Extra → List ValueText → Type 0
+abbrev pub MayReset : InherentAttributes → List ValueText → Type 0
 MayReset with_reset os = IsOperand (first_operand os) × IsOperand (first_operand (drop 1 os))
 MayReset _ os = ⊤
 
 -- a predicate is said
-abbrev pub SaysPredicate : Extra → Type 0
+abbrev pub SaysPredicate : InherentAttributes → Type 0
 SaysPredicate (predicate p) = ⊤
 SaysPredicate _ = ⊥
 
 -- a position below the limit is said
-abbrev pub SaysPosition : Extra → Type 0
+abbrev pub SaysPosition : InherentAttributes → Type 0
 SaysPosition (position n) = n < count_limit
 SaysPosition _ = ⊥
 
 -- 0 or 1 is said
-abbrev pub SaysTruth : Extra → Type 0
+abbrev pub SaysTruth : InherentAttributes → Type 0
 SaysTruth (number z) = is_truth z ≡ true
 SaysTruth _ = ⊥
 
 -- an integer is said
-abbrev pub SaysInteger : Extra → Type 0
+abbrev pub SaysInteger : InherentAttributes → Type 0
 SaysInteger (number z) = IsInteger z
 SaysInteger _ = ⊥
 
 -- constants are said; their brackets have opened one list
-abbrev pub SaysLiterals : Extra → Type 0
+abbrev pub SaysLiterals : InherentAttributes → Type 0
 SaysLiterals (literals ls) = AreLiterals ls 31
 SaysLiterals _ = ⊥
 
 -- the name of a field is said
-abbrev pub SaysField : Extra → Type 0
+abbrev pub SaysField : InherentAttributes → Type 0
 SaysField (field_name name) = AreBytes name
 SaysField _ = ⊥
 
@@ -255,28 +255,28 @@ pub record IsInstance (i : Instance) (os : List ValueText) (ts : List HwType) : 
   pub types_count : length ts ≡ length i.inputs + length i.outputs
 
 -- an instance is said, with operands and types of its own
-abbrev pub SaysInstance : Extra → List ValueText → List HwType → Type 0
+abbrev pub SaysInstance : InherentAttributes → List ValueText → List HwType → Type 0
 SaysInstance (child i) os ts = IsInstance i os ts
 SaysInstance _ os ts = ⊥
 
 -- what a piece needs of what is left, where so much is gathered before
-abbrev pub Needs : Piece → Pending → Gathered → Type 0
-Needs (piece.Mark k) p g = IsMark k
-Needs (piece.Word w) p g = ⊤
-Needs piece.Operand p g = IsOperand (first_operand p.operands)
-Needs piece.Operands p g = (1 ≤ length p.operands) × Each IsOperand p.operands
-Needs piece.Group p g = Each IsOperand p.operands
-Needs piece.Predicate p g = SaysPredicate p.extra
-Needs piece.Number p g = SaysPosition p.extra
-Needs piece.Truth p g = SaysTruth p.extra
-Needs piece.Integer p g = SaysInteger p.extra
-Needs piece.Literals p g = SaysLiterals p.extra
-Needs piece.Field p g = SaysField p.extra
-Needs piece.Instance p g = SaysInstance p.extra p.operands p.types
-Needs piece.Reset p g = MayReset p.extra p.operands
-Needs piece.SyncReset p g = MayReset p.extra p.operands
-Needs piece.Type p g = HasType p.types
-Needs piece.Types p g = (length p.types ≡ length g.operands) × Each IsAnyType p.types
+abbrev pub Needs : FormatElement → Pending → Gathered → Type 0
+Needs (element.Mark k) p g = IsMark k
+Needs (element.Word w) p g = ⊤
+Needs element.Operand p g = IsOperand (first_operand p.operands)
+Needs element.Operands p g = (1 ≤ length p.operands) × Each IsOperand p.operands
+Needs element.Group p g = Each IsOperand p.operands
+Needs element.Predicate p g = SaysPredicate p.inherent
+Needs element.Number p g = SaysPosition p.inherent
+Needs element.Truth p g = SaysTruth p.inherent
+Needs element.Integer p g = SaysInteger p.inherent
+Needs element.Literals p g = SaysLiterals p.inherent
+Needs element.Field p g = SaysField p.inherent
+Needs element.Instance p g = SaysInstance p.inherent p.operands p.types
+Needs element.Reset p g = MayReset p.inherent p.operands
+Needs element.SyncReset p g = MayReset p.inherent p.operands
+Needs element.Type p g = HasType p.types
+Needs element.Types p g = (length p.types ≡ length g.operands) × Each IsAnyType p.types
 
 -- the first type, where there is one
 abbrev pub first_type : List HwType → List HwType
@@ -284,54 +284,54 @@ first_type [] = []
 first_type (t ∷ ts) = t ∷ []
 
 -- what is gathered with a reset
-abbrev pub gathered_reset : Extra → List ValueText → Gathered → Gathered
+abbrev pub gathered_reset : InherentAttributes → List ValueText → Gathered → Gathered
 gathered_reset with_reset os g =
-    with_extra (with_operands g (said_operand (first_operand os) ∷ said_operand (first_operand (drop 1 os)) ∷ [])) with_reset
+    with_inherent (with_operands g (said_operand (first_operand os) ∷ said_operand (first_operand (drop 1 os)) ∷ [])) with_reset
 gathered_reset _ os g = g
 
 -- what is gathered with a piece of what is left, where so much is gathered before
-abbrev pub gathered_with : Piece → Pending → Gathered → Gathered
-gathered_with (piece.Mark k) p g = g
-gathered_with (piece.Word w) p g = g
-gathered_with piece.Operand p g = with_operands g (said_operand (first_operand p.operands) ∷ [])
-gathered_with piece.Operands p g = with_operands g (map said_operand p.operands)
-gathered_with piece.Group p g = with_operands g (map said_operand p.operands)
-gathered_with piece.Truth p g = with_extra (with_types g (int 1 ∷ [])) p.extra
-gathered_with piece.Predicate p g = with_extra g p.extra
-gathered_with piece.Number p g = with_extra g p.extra
-gathered_with piece.Integer p g = with_extra g p.extra
-gathered_with piece.Literals p g = with_extra g p.extra
-gathered_with piece.Field p g = with_extra g p.extra
-gathered_with piece.Instance p g = with_extra (with_types (with_operands g (map said_operand p.operands)) p.types) p.extra
-gathered_with piece.Reset p g = gathered_reset p.extra p.operands g
-gathered_with piece.SyncReset p g = gathered_reset p.extra p.operands g
-gathered_with piece.Type p g = with_types g (first_type p.types)
-gathered_with piece.Types p g = with_types g p.types
+abbrev pub gathered_with : FormatElement → Pending → Gathered → Gathered
+gathered_with (element.Mark k) p g = g
+gathered_with (element.Word w) p g = g
+gathered_with element.Operand p g = with_operands g (said_operand (first_operand p.operands) ∷ [])
+gathered_with element.Operands p g = with_operands g (map said_operand p.operands)
+gathered_with element.Group p g = with_operands g (map said_operand p.operands)
+gathered_with element.Truth p g = with_inherent (with_types g (int 1 ∷ [])) p.inherent
+gathered_with element.Predicate p g = with_inherent g p.inherent
+gathered_with element.Number p g = with_inherent g p.inherent
+gathered_with element.Integer p g = with_inherent g p.inherent
+gathered_with element.Literals p g = with_inherent g p.inherent
+gathered_with element.Field p g = with_inherent g p.inherent
+gathered_with element.Instance p g = with_inherent (with_types (with_operands g (map said_operand p.operands)) p.types) p.inherent
+gathered_with element.Reset p g = gathered_reset p.inherent p.operands g
+gathered_with element.SyncReset p g = gathered_reset p.inherent p.operands g
+gathered_with element.Type p g = with_types g (first_type p.types)
+gathered_with element.Types p g = with_types g p.types
 
 -- what is gathered with pieces
-abbrev pub gathered_with_all : List Piece → Pending → Gathered → Gathered
+abbrev pub gathered_with_all : List FormatElement → Pending → Gathered → Gathered
 gathered_with_all [] p g = g
 gathered_with_all (x ∷ xs) p g = gathered_with_all xs (left_behind x p) (gathered_with x p g)
 
 -- what pieces need
-abbrev pub NeedAll : List Piece → Pending → Gathered → Type 0
+abbrev pub NeedAll : List FormatElement → Pending → Gathered → Type 0
 NeedAll [] p g = ⊤
 NeedAll (x ∷ xs) p g = Needs x p g × NeedAll xs (left_behind x p) (gathered_with x p g)
 
 -- ---- operations
 
 -- what is gathered before the types of a form
-abbrev pub gathered_front : Shape → Pending → Gathered
-gathered_front s p = gathered_with_all (front_pieces s) p gathered_nothing
+abbrev pub gathered_front : Format → Pending → Gathered
+gathered_front s p = gathered_with_all (front_elements s) p gathered_nothing
 
 -- what is said in a form
-pub record IsSaidAs (s : Shape) (p : Pending) : Type 0 where
+pub record IsViewAs (s : Format) (p : Pending) : Type 0 where
   -- the pieces before the types have what they need
-  pub front : NeedAll (front_pieces s) p gathered_nothing
+  pub front : NeedAll (front_elements s) p gathered_nothing
   -- so have those of the types, of what is left after the front
-  pub types : NeedAll (type_pieces s) (left_behind_all (front_pieces s) p) (gathered_front s p)
+  pub types : NeedAll (type_elements s) (left_behind_all (front_elements s) p) (gathered_front s p)
   -- what is gathered with them is all that is said
-  pub all : gathered_with_all (type_pieces s) (left_behind_all (front_pieces s) p) (gathered_front s p) ≡ said_pending p
+  pub all : gathered_with_all (type_elements s) (left_behind_all (front_elements s) p) (gathered_front s p) ≡ said_pending p
 
 -- names of results, or a pack of fewer than its limit
 abbrev pub AreResults : ResultNames → Type 0
@@ -348,7 +348,7 @@ pub record IsSpellableOperation (o : OperationText) : Type 0 where
   -- it has the mark `bin` only where that may stand
   pub bin : o.bin ≡ true → takes_bin o.name ≡ true
   -- its form says what there is to say
-  pub form : IsSaidAs (shape_shown o.name o.pending) o.pending
+  pub form : IsViewAs (format_shown o.name o.pending) o.pending
   -- its dictionary can be read
   pub dictionary : IsDictionary (string_keys o.name) o.dictionary
 
@@ -388,4 +388,4 @@ pub record IsSpellable (m : ModuleText) : Type 0 where
 
 -- bytes are read as what modules say, wherever it stands
 abbrev pub AreSpelled : List ℕ → List ModuleText → Type 0
-AreSpelled bytes ms = (ts : List Lexeme) × (tokens bytes ≡ map token_of ts) × FilePhrase (λ t place. Unit {0}) (map said ms) ts
+AreSpelled bytes ms = (ts : List Lexeme) × (tokens bytes ≡ map token_of ts) × FilePhrase (λ t place. Unit {0}) (map inherent_view ms) ts

@@ -9,33 +9,33 @@ use Rattle.hw_model.specs.Opcodes.{opcode_of}
 use Rattle.hw_model.specs.Design.{Entry, Ref, Port, Op, Module, Design, same_name}
 use Rattle.hw_model.specs.Design.Attribute.{text_value}
 use Rattle.ir_store.specs.OperationViews.{OpParts}
-use Rattle.mlir_syntax.specs.PieceText.{Extra}
-use Rattle.mlir_syntax.specs.PieceText.Extra.{nothing, with_reset, predicate, position, number, literals, field_name, child}
+use Rattle.mlir_syntax.specs.ElementText.{InherentAttributes}
+use Rattle.mlir_syntax.specs.ElementText.InherentAttributes.{nothing, with_reset, predicate, position, number, literals, field_name, child}
 use Rattle.mlir_reader.specs.Resolving.{put_entry}
 use Rattle.mlir_printer.specs.Numbers.{shown_by_first, shown_literals}
-use Rattle.mlir_printer.specs.Naming.{name_count, input_count, port_wish, names_given, first_name, value_named, results_named}
+use Rattle.mlir_printer.specs.Naming.{name_count, input_count, port_name_hint, names_given, first_name, value_named, results_named}
 use Rattle.mlir_printer.specs.Modules.{PortText, ModuleText, file_bytes}
-use Rattle.mlir_printer.specs.Pieces.{ValueText, Pending}
+use Rattle.mlir_printer.specs.Elements.{ValueText, Pending}
 use Rattle.mlir_printer.specs.Operations.{OperationText}
 
 -- ---- operations
 
 -- what a reset says
-abbrev pub reset_extra : Reset → Extra
-reset_extra no_reset = nothing
-reset_extra sync_reset = with_reset
+abbrev pub reset_inherent : Reset → InherentAttributes
+reset_inherent no_reset = nothing
+reset_inherent sync_reset = with_reset
 
 -- what a kind says besides operands and types, of operations with these types; constants are shown signed
-unfoldable pub extra_shown : Kind → List HwType → Extra
-extra_shown (icmp p) ts = predicate p
-extra_shown (extract low) ts = position low
-extra_shown (constant z) ts = number (shown_by_first ts z)
-extra_shown (aggregate_constant ls) ts = literals (shown_literals ls)
-extra_shown (on_struct (struct_extract name)) ts = field_name name
-extra_shown (on_struct (struct_inject name)) ts = field_name name
-extra_shown (instance i) ts = child i
-extra_shown (register f r) ts = reset_extra r
-extra_shown _ ts = nothing
+unfoldable pub inherent_shown : Kind → List HwType → InherentAttributes
+inherent_shown (icmp p) ts = predicate p
+inherent_shown (extract low) ts = position low
+inherent_shown (constant z) ts = number (shown_by_first ts z)
+inherent_shown (aggregate_constant ls) ts = literals (shown_literals ls)
+inherent_shown (on_struct (struct_extract name)) ts = field_name name
+inherent_shown (on_struct (struct_inject name)) ts = field_name name
+inherent_shown (instance i) ts = child i
+inherent_shown (register f r) ts = reset_inherent r
+inherent_shown _ ts = nothing
 
 -- the entry that gives an operation its name
 abbrev pub name_entry : Name → Entry
@@ -56,7 +56,7 @@ entries_shown own printed es = cond (names_itself own printed) es (named_entries
 
 -- what stands after an operation's name
 abbrev pub pending_shown : OpParts → List ValueText → Pending
-pending_shown p os = record { operands = os; types = p.types; extra = extra_shown p.kind p.types }
+pending_shown p os = record { operands = os; types = p.types; inherent = inherent_shown p.kind p.types }
 
 -- an operation with its operands named so, where the names of its results begin so
 abbrev pub operation_shown : OpParts → List ValueText → List Name → OperationText
@@ -101,7 +101,7 @@ port_shown ns p = record { value = value_shown p ns; name = p.name; type = p.typ
 abbrev pub ports_shown : List Name → List Port → List PortText
 ports_shown ns [] = []
 ports_shown ns (p ∷ ps) =
-    port_shown ns p ∷ ports_shown (drop (length (port_wish p)) ns) ps
+    port_shown ns p ∷ ports_shown (drop (length (port_name_hint p)) ns) ps
 
 -- a module where the names are given
 abbrev pub module_named : List Name → Module → ModuleText

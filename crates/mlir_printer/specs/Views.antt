@@ -5,19 +5,19 @@ use Rattle.hw_model.specs.TypeViews.{type_of}
 use Rattle.hw_model.specs.KindViews.{predicate_of, integer_of, literals_in, instance_of}
 use Rattle.ir_store.specs.declared.operation.Value.{Value}
 use Rattle.ir_store.specs.declared.operation.Value.TheVariants.{Port, Result, Undefined}
-use Rattle.mlir_syntax.specs.PieceText.{Extra}
-use Rattle.mlir_syntax.specs.PieceText as text
+use Rattle.mlir_syntax.specs.ElementText.{InherentAttributes}
+use Rattle.mlir_syntax.specs.ElementText as text
 use Rattle.mlir_printer.specs.Numbers.{shown_literals}
-use Rattle.mlir_printer.specs.Pieces.{ValueText as Shown, Pending as Left, no_value}
+use Rattle.mlir_printer.specs.Elements.{ValueText as Shown, Pending as Left, no_value}
 use Rattle.mlir_printer.specs.Naming.{first_name, called}
 use Rattle.mlir_printer.specs.Chosen.{Chosen}
 use Rattle.mlir_printer.specs.ChosenViews.{names_in, chosen_in}
 use Rattle.mlir_printer.specs.declared.value_names.ValueText.{ValueText}
 use Rattle.mlir_printer.specs.declared.value_names.ValueNames.{ValueNames}
-use Rattle.mlir_printer.specs.declared.value_names.Place.{Place}
-use Rattle.mlir_printer.specs.declared.said.Said.{Said}
-use Rattle.mlir_printer.specs.declared.said.Said.TheVariants as said
-use Rattle.mlir_printer.specs.declared.said.Pending.{Pending}
+use Rattle.mlir_printer.specs.declared.value_names.Slot.{Slot}
+use Rattle.mlir_printer.specs.declared.inherent_view.InherentView.{InherentView}
+use Rattle.mlir_printer.specs.declared.inherent_view.InherentView.TheVariants as inherent_view
+use Rattle.mlir_printer.specs.declared.inherent_view.Pending.{Pending}
 
 -- a value as it is printed
 abbrev pub value_of : ValueText → Shown
@@ -32,15 +32,15 @@ abbrev pub chosen : ValueNames → Chosen
 chosen v = chosen_in v.names
 
 -- result k of a place
-abbrev pub place_value : List Name → Place → ℕ → Shown
-place_value ns p k =
+abbrev pub slot_value : List Name → Slot → ℕ → Shown
+slot_value ns p k =
     cond (nat_lt k p.count)
     (cond p.pack (record { name = first_name (drop p.first ns); number = Some k }) (called (first_name (drop (p.first + k) ns))))
     no_value
 
-abbrev pub placed : List Name → Option Place → ℕ → Shown
+abbrev pub placed : List Name → Option Slot → ℕ → Shown
 placed ns None k = no_value
-placed ns (Some p) k = place_value ns p k
+placed ns (Some p) k = slot_value ns p k
 
 -- the value of a port
 abbrev pub port_placed : List Name → Option (Option ℕ) → Shown
@@ -55,16 +55,16 @@ value_held v (Result id k) = placed (names_held v) (slice_get v.places.items id.
 value_held v Undefined = no_value
 
 -- what an operation says besides operands and types
-abbrev pub extra_of : Said → Extra
-extra_of said.Nothing = text.Extra.nothing
-extra_of said.WithReset = text.Extra.with_reset
-extra_of (said.Predicate p) = text.Extra.predicate (predicate_of p)
-extra_of (said.Position n) = text.Extra.position n
-extra_of (said.Number z) = text.Extra.number (integer_of z)
-extra_of (said.Literals ls) = text.Extra.literals (shown_literals (literals_in ls.now))
-extra_of (said.FieldName name) = text.Extra.field_name name.now
-extra_of (said.Child i) = text.Extra.child (instance_of i.now)
+abbrev pub inherent_of : InherentView → InherentAttributes
+inherent_of inherent_view.Nothing = text.InherentAttributes.nothing
+inherent_of inherent_view.WithReset = text.InherentAttributes.with_reset
+inherent_of (inherent_view.Predicate p) = text.InherentAttributes.predicate (predicate_of p)
+inherent_of (inherent_view.Position n) = text.InherentAttributes.position n
+inherent_of (inherent_view.Number z) = text.InherentAttributes.number (integer_of z)
+inherent_of (inherent_view.Literals ls) = text.InherentAttributes.literals (shown_literals (literals_in ls.now))
+inherent_of (inherent_view.FieldName name) = text.InherentAttributes.field_name name.now
+inherent_of (inherent_view.Child i) = text.InherentAttributes.child (instance_of i.now)
 
 -- what is left of an operation, where values are named so
 abbrev pub pending_of : ValueNames → Pending → Left
-pending_of v p = record { operands = map (value_held v) p.operands.now; types = map type_of p.types.now; extra = extra_of p.said }
+pending_of v p = record { operands = map (value_held v) p.operands.now; types = map type_of p.types.now; inherent = inherent_of p.inherent_view }

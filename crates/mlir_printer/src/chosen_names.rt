@@ -45,7 +45,7 @@ impl ChosenNames {
     ghost use Rattle.mlir_lexer.specs.Classes.{is_digit};
     ghost use Rattle.mlir_lexer.specs.Runs.{begins};
     ghost use Rattle.mlir_printer.specs.Naming.{first_name};
-    ghost use Rattle.mlir_printer.specs.Chosen.{with_wish};
+    ghost use Rattle.mlir_printer.specs.Chosen.{with_name_hint};
     ghost use Rattle.mlir_printer.specs.ChosenViews.{names_in, chosen_in};
 
     /// No names. It takes no memory.
@@ -62,7 +62,7 @@ impl ChosenNames {
     }
 
     /// The same memory without names. The digits of numbers are kept.
-    pub fn emptied(self) -> ChosenNames
+    pub fn cleared(self) -> ChosenNames
         ensures names { names_in result ≡ [] }
         ensures next { result.numbered ≡ 0 }
     {
@@ -117,7 +117,7 @@ impl ChosenNames {
 
     /// Chooses the next number, and gives the number of the name.
     pub fn take_number(&mut self) -> Result<u32, AllocError>
-        ensures chosen { OnOk result (chosen_in self.new ≡ with_wish (chosen_in self.old) None) }
+        ensures chosen { OnOk result (chosen_in self.new ≡ with_name_hint (chosen_in self.old) None) }
         ensures number { IfOk result (λ n. n ≡ length (names_in self.old)) }
     {
         let number = self.next()?;

@@ -4,15 +4,15 @@ ghost use Rattle.hw_model.specs.TypeViews.{type_of};
 ghost use Rattle.ir_store.specs.Designs.{port_of, module_of, numbered_module};
 ghost use Rattle.mlir_printer.specs.Commas.{commas};
 ghost use Rattle.mlir_printer.specs.Modules.{input_port_bytes, output_port_bytes, port_name_bytes, port_bytes, private_bytes, header_bytes, module_bytes};
-ghost use Rattle.mlir_printer.specs.Naming.{port_wish, input_count};
+ghost use Rattle.mlir_printer.specs.Naming.{port_name_hint, input_count};
 ghost use Rattle.mlir_printer.specs.Texts.{port_shown, ports_shown, module_shown};
 ghost use Rattle.mlir_printer.specs.Shown.{header_shown};
 ghost use Rattle.mlir_printer.specs.Views.{names_held};
 
 use crate::commas::push_comma;
 use crate::dictionaries::push_dictionary;
-use crate::operations::{moved, push_operations};
-use crate::pieces::push_value_name;
+use crate::operations::{saturating_add, push_operations};
+use crate::elements::push_value_name;
 use crate::strings::{push_name, push_string, push_symbol};
 use crate::types::push_type;
 use crate::value_names::ValueNames;
@@ -77,7 +77,7 @@ fn push_port(
 
 // How many names a port takes: an input one.
 fn port_names(port: &Port) -> usize
-    ensures count { result ≡ length (port_wish (port_of port.now)) }
+    ensures count { result ≡ length (port_name_hint (port_of port.now)) }
     ensures few { result ≤ 1 }
 {
     if port.out { 0 } else { 1 }
@@ -102,7 +102,7 @@ fn input_count(ports: &[Port]) -> u32
 {
     let mut count: u32 = 0;
     for port in ports {
-        count = moved(count, port_names(port));
+        count = saturating_add(count, port_names(port));
     }
     count
 }

@@ -6,23 +6,23 @@ ghost use Rattle.ir_store.specs.Bodies.{ops_of, read_parts};
 ghost use Rattle.ir_store.specs.OperationViews.{types_in};
 ghost use Rattle.ir_store.specs.DictionaryViews.{entries_in};
 ghost use Rattle.mlir_printer.specs.Commas.{commas};
-ghost use Rattle.mlir_printer.specs.Pieces.{value_name_bytes, pieces_bytes};
-ghost use Rattle.mlir_printer.specs.Operations.{results_bytes, bin_bytes, form_bytes, is_truth_said, shape_shown, after_blank, left_behind_all, operation_line, operation_lines, shaped_bytes};
-ghost use Rattle.assembly_format.specs.Shapes.{front_pieces, type_pieces};
+ghost use Rattle.mlir_printer.specs.Elements.{value_name_bytes, elements_bytes};
+ghost use Rattle.mlir_printer.specs.Operations.{results_bytes, bin_bytes, form_bytes, is_truth_view, format_shown, after_blank, left_behind_all, operation_line, operation_lines, shaped_bytes};
+ghost use Rattle.assembly_format.specs.Formats.{front_elements, type_elements};
 ghost use Rattle.mlir_printer.specs.Naming.{first_name, firsts, listed_names, name_count, results_named};
-ghost use Rattle.mlir_printer.specs.Texts.{extra_shown, entries_shown, operation_shown};
+ghost use Rattle.mlir_printer.specs.Texts.{inherent_shown, entries_shown, operation_shown};
 ghost use Rattle.mlir_printer.specs.Shown.{stored_shown};
-ghost use Rattle.mlir_printer.specs.Views.{names_held, value_held, pending_of, extra_of};
+ghost use Rattle.mlir_printer.specs.Views.{names_held, value_held, pending_of, inherent_of};
 
 use crate::commas::{push_comma, push_few};
 use crate::dictionaries::push_named_dictionary;
 use crate::numbers::{is_shown_as_truth, push_length};
-use crate::pieces::{push_pieces, push_value_name};
-use crate::said::{Pending, Said, said_of};
+use crate::elements::{push_elements, push_value_name};
+use crate::inherent_view::{Pending, InherentView, inherent_view_of};
 use crate::value_names::ValueNames;
 use crate::wanted::{is_pack, name_count};
-use assembly_format::pieces::{Piece, Shape};
-use assembly_format::shapes::{front_pieces, shape_of, type_pieces};
+use assembly_format::elements::{FormatElement, Format};
+use assembly_format::formats::{front_elements, format_of, type_elements};
 use hw_model::kinds::OpKind;
 use hw_model::types::Ty;
 use io_edge::byte_text::Text;
@@ -31,26 +31,26 @@ use opcode::listed::Listed;
 use std::alloc::AllocError;
 
 // Whether what is said of a constant is printed as `true` or `false`.
-fn is_truth_said(types: &[Ty], said: Said<'_>) -> bool
-    ensures { result ≡ is_truth_said (map type_of types.now) (extra_of said.entry) }
+fn is_truth_view(types: &[Ty], inherent_view: InherentView<'_>) -> bool
+    ensures { result ≡ is_truth_view (map type_of types.now) (inherent_of inherent_view.entry) }
 {
-    match (types.first(), said) {
-        (Some(ty), Said::Number(value)) => is_shown_as_truth(ty, value),
+    match (types.first(), inherent_view) {
+        (Some(ty), InherentView::Number(value)) => is_shown_as_truth(ty, value),
         _ => false,
     }
 }
 
 // The form of an operation.
-#[tactic(auto, unfolding(crate::specs::Operations::shape_shown))]
-fn shape_shown(name: Listed, names: &ValueNames, pending: &Pending<'_>) -> Shape
-    ensures { result ≡ shape_shown name (pending_of names.now pending.now) }
+#[tactic(auto, unfolding(crate::specs::Operations::format_shown))]
+fn format_shown(name: Listed, names: &ValueNames, pending: &Pending<'_>) -> Format
+    ensures { result ≡ format_shown name (pending_of names.now pending.now) }
 {
     match name {
-        Listed::HwConstant if is_truth_said(pending.types, pending.said) => Shape::Truth,
-        Listed::HwConstant => Shape::Integer,
-        Listed::HwOutput if pending.operands.is_empty() => Shape::Nothing,
-        Listed::HwOutput => Shape::Joined,
-        _ => shape_of(name, None),
+        Listed::HwConstant if is_truth_view(pending.types, pending.inherent_view) => Format::Truth,
+        Listed::HwConstant => Format::Integer,
+        Listed::HwOutput if pending.operands.is_empty() => Format::Nothing,
+        Listed::HwOutput => Format::Joined,
+        _ => format_of(name, None),
     }
 }
 
@@ -83,7 +83,7 @@ fn push_listed(
 {
     for i in 0..count {
         push_comma(out, i)?;
-        push_value_name(out, names.behind(first, i))?;
+        push_value_name(out, names.after(first, i))?;
     }
     Ok(())
 }
@@ -114,16 +114,16 @@ fn push_results(
 fn push_front<'d>(
     out: &mut Text,
     names: &ValueNames,
-    pieces: &[Piece],
+    elements: &[FormatElement],
     pending: Pending<'d>,
 ) -> Result<Pending<'d>, AllocError>
-    ensures bytes { OnOk result (out.new ≡ out.old ++ after_blank pieces.now (pieces_bytes pieces.now (pending_of names.now pending.entry))) }
-    ensures left { IfOk result (λ left. pending_of names.now left ≡ left_behind_all pieces.now (pending_of names.now pending.entry)) }
+    ensures bytes { OnOk result (out.new ≡ out.old ++ after_blank elements.now (elements_bytes elements.now (pending_of names.now pending.entry))) }
+    ensures left { IfOk result (λ left. pending_of names.now left ≡ left_behind_all elements.now (pending_of names.now pending.entry)) }
 {
-    if !pieces.is_empty() {
+    if !elements.is_empty() {
         out.push(b' ')?;
     }
-    push_pieces(out, names, pieces, pending)
+    push_elements(out, names, elements, pending)
 }
 
 // Adds a form: pieces, a dictionary, and the types.
@@ -131,17 +131,17 @@ fn push_front<'d>(
 fn push_form(
     out: &mut Text,
     names: &ValueNames,
-    shape: Shape,
+    format: Format,
     pending: Pending<'_>,
     op: &Op<'_>,
     first: u32,
 ) -> Result<(), AllocError>
-    ensures { OnOk result (out.new ≡ out.old ++ form_bytes (front_pieces shape) (type_pieces shape) (pending_of names.now pending.entry) (entries_shown op.now.name.now (first_name (drop first (names_held names.now))) (entries_in op.now.dictionary.now))) }
+    ensures { OnOk result (out.new ≡ out.old ++ form_bytes (front_elements format) (type_elements format) (pending_of names.now pending.entry) (entries_shown op.now.name.now (first_name (drop first (names_held names.now))) (entries_in op.now.dictionary.now))) }
 {
     let printed = names.nth(first as usize);
-    let left = push_front(out, names, front_pieces(shape), pending)?;
+    let left = push_front(out, names, front_elements(format), pending)?;
     push_named_dictionary(out, op.name.as_bytes(), printed, &op.dictionary.entries)?;
-    push_pieces(out, names, type_pieces(shape), left)?;
+    push_elements(out, names, type_elements(format), left)?;
     Ok(())
 }
 
@@ -149,12 +149,12 @@ fn push_form(
 fn pending_of<'d>(op: &Op<'d>) -> Pending<'d>
     ensures operands { result.operands.now ≡ op.now.operands.now }
     ensures types { map type_of result.types.now ≡ types_in op.now.types.now }
-    ensures said { extra_of result.said ≡ extra_shown (kind_of op.now.kind.now) (types_in op.now.types.now) }
+    ensures inherent_view { inherent_of result.inherent_view ≡ inherent_shown (kind_of op.now.kind.now) (types_in op.now.types.now) }
 {
     Pending {
         operands: op.operands,
         types: op.types.as_slice(),
-        said: said_of(op.kind, op.types.as_slice()),
+        inherent_view: inherent_view_of(op.kind, op.types.as_slice()),
     }
 }
 
@@ -171,12 +171,12 @@ pub fn push_operation(
 {
     let name = op.kind.listed();
     let pending = pending_of(op);
-    let shape = shape_shown(name, names, &pending);
+    let format = format_shown(name, names, &pending);
     push_few(out, b"    ")?;
     push_results(out, names, op, first)?;
     out.push_bytes(name.name())?;
     push_bin(out, op.bin)?;
-    push_form(out, names, shape, pending, op, first)?;
+    push_form(out, names, format, pending, op, first)?;
     out.push(b'\n')?;
     Ok(())
 }
@@ -205,13 +205,13 @@ pub fn push_operations(
     for id in body.ops() {
         let op = body.op(id);
         push_operation(out, names, &op, first)?;
-        first = moved(first, name_count(&op));
+        first = saturating_add(first, name_count(&op));
     }
     Ok(())
 }
 
 /// A number and so many more, at most the greatest one.
-pub fn moved(first: u32, count: usize) -> u32
+pub fn saturating_add(first: u32, count: usize) -> u32
     ensures { result ≡ min (first + count) u32.MAX }
 {
     match u32::try_from(count) {

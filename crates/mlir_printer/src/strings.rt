@@ -124,7 +124,7 @@ fn suffix_byte(byte: u8) -> u8
 }
 
 /// A name with `_` in the place of each byte that may not stand after `%`, and one `_` before it.
-pub fn spelled(alloc: Global, name: &[u8]) -> Result<Text, AllocError>
+pub fn legal_suffix(alloc: Global, name: &[u8]) -> Result<Text, AllocError>
     ensures { IfOk result (λ text. text ≡ 95 ∷ map suffix_byte name.now) }
 {
     let mut text = Text::new(alloc);

@@ -3,7 +3,7 @@ ghost use Rattle.std.specs.Prelude.{◌≡◌, ℕ, cond, nat_eq, OnOk};
 ghost use Rattle.mlir_printer.specs.Places.{place_for};
 
 use crate::chosen_names::ChosenNames;
-use crate::strings::{spelled, stands};
+use crate::strings::{legal_suffix, stands};
 use crate::wanted::{constant_name, instance_name, is_pack, name_count};
 use hw_model::kinds::{Instance, Integer, OpKind};
 use hw_model::types::Ty;
@@ -14,7 +14,7 @@ use std::alloc::{AllocError, Global};
 
 /// Where the names of an operation's results stand.
 #[derive(Clone, Copy, Debug)]
-pub struct Place {
+pub struct Slot {
     /// How many names stand before.
     pub first: u32,
     /// How many results are named.
@@ -41,7 +41,7 @@ pub struct ValueNames {
     // of each port the number of its name, of an output none
     ports: Vec<Option<u32>>,
     // of each operation, by its number, where its names stand
-    places: Vec<Place>,
+    places: Vec<Slot>,
 }
 
 impl ValueNames {
@@ -52,11 +52,11 @@ impl ValueNames {
     ghost use Rattle.ir_store.specs.Bodies.{ids_of, ops_of, read_parts};
     ghost use Rattle.ir_store.specs.Designs.{port_of, ports_in};
     ghost use Rattle.ir_store.specs.Numbered.{position_of, ref_by};
-    ghost use Rattle.mlir_printer.specs.Naming.{constant_wish, own_wish, instance_wishes, wishes, body_wishes, port_wish, port_wishes, input_count, names_given, first_name, value_named};
-    ghost use Rattle.mlir_printer.specs.Chosen.{with_wish, with_wishes};
+    ghost use Rattle.mlir_printer.specs.Naming.{constant_name_hint, own_name_hint, instance_name_hints, name_hints, body_name_hints, port_name_hint, port_name_hints, input_count, names_given, first_name, value_named};
+    ghost use Rattle.mlir_printer.specs.Chosen.{with_name_hint, with_name_hints};
     ghost use Rattle.mlir_printer.specs.Places.{HavePlaces, place_at, port_places};
     ghost use Rattle.mlir_printer.specs.Shown.{parts_in_body};
-    ghost use Rattle.mlir_printer.specs.Views.{names_held, chosen, value_held, value_of, placed, port_placed, place_value};
+    ghost use Rattle.mlir_printer.specs.Views.{names_held, chosen, value_held, value_of, placed, port_placed, slot_value};
 
     /// The names of the values of a module.
     pub fn of(alloc: Global, one: &Module) -> Result<ValueNames, AllocError>
@@ -71,7 +71,7 @@ impl ValueNames {
         ensures names { IfOk result (λ v. names_held v ≡ names_given (ports_in one.now.ports) (parts_in_body (ops_of one.now.body))) }
         ensures values { IfOk result (λ v. (x : Value) → value_held v x ≡ value_named (names_held v) (ports_in one.now.ports) (parts_in_body (ops_of one.now.body)) (ref_by (position_of (ids_of one.now.body)) x)) }
     {
-        let mut names = room.emptied();
+        let mut names = room.cleared();
         names.add_ports(alloc, &one.ports.ports)?;
         names.add_operations(alloc, &one.body)?;
         Ok(names)
@@ -92,7 +92,7 @@ impl ValueNames {
     }
 
     // The same memory without names.
-    fn emptied(self) -> ValueNames
+    fn cleared(self) -> ValueNames
         ensures names { names_held result ≡ [] }
         ensures numbered { result.names.numbered ≡ 0 }
         ensures ports { result.ports.items ≡ [] }
@@ -106,7 +106,7 @@ impl ValueNames {
         ports.clear();
         places.clear();
         ValueNames {
-            names: names.emptied(),
+            names: names.cleared(),
             ports,
             places,
         }
@@ -115,7 +115,7 @@ impl ValueNames {
     // Takes the name of a value that wants one; where it may not stand, as it is spelled then.
     #[tactic(auto, unfolding(crate::specs::Strings::standing))]
     fn take_name(&mut self, alloc: Global, wanted: &[u8]) -> Result<u32, AllocError>
-        ensures chosen { OnOk result (chosen self.new ≡ with_wish (chosen self.old) (Some wanted.now)) }
+        ensures chosen { OnOk result (chosen self.new ≡ with_name_hint (chosen self.old) (Some wanted.now)) }
         ensures number { IfOk result (λ n. n ≡ length (names_held self.old)) }
         ensures ports { self.new.ports ≡ self.old.ports }
         ensures places { self.new.places ≡ self.old.places }
@@ -123,13 +123,13 @@ impl ValueNames {
         if stands(wanted) {
             return self.names.take_word(wanted);
         }
-        let name = spelled(alloc, wanted)?;
+        let name = legal_suffix(alloc, wanted)?;
         self.names.take_word(name.as_bytes())
     }
 
     // Takes the own name of a register or a wire.
     fn take_own(&mut self, alloc: Global, own: &[u8]) -> Result<u32, AllocError>
-        ensures chosen { OnOk result (chosen self.new ≡ with_wish (chosen self.old) (own_wish own.now)) }
+        ensures chosen { OnOk result (chosen self.new ≡ with_name_hint (chosen self.old) (own_name_hint own.now)) }
         ensures ports { self.new.ports ≡ self.old.ports }
         ensures places { self.new.places ≡ self.old.places }
     {
@@ -142,7 +142,7 @@ impl ValueNames {
 
     // Takes the names of ports.
     fn add_ports(&mut self, alloc: Global, ports: &[Port]) -> Result<(), AllocError>
-        ensures chosen { OnOk result (chosen self.new ≡ with_wishes (chosen self.old) (port_wishes (map port_of ports.now))) }
+        ensures chosen { OnOk result (chosen self.new ≡ with_name_hints (chosen self.old) (port_name_hints (map port_of ports.now))) }
         ensures ports { OnOk result (self.new.ports.items ≡ self.old.ports.items ++ port_places (length (names_held self.old)) (map port_of ports.now)) }
         ensures places { OnOk result (self.new.places ≡ self.old.places) }
     {
@@ -155,7 +155,7 @@ impl ValueNames {
 
     // Takes the name of a port, where it is an input.
     fn add_port(&mut self, alloc: Global, port: &Port) -> Result<Option<u32>, AllocError>
-        ensures chosen { OnOk result (chosen self.new ≡ with_wishes (chosen self.old) (port_wish (port_of port.now))) }
+        ensures chosen { OnOk result (chosen self.new ≡ with_name_hints (chosen self.old) (port_name_hint (port_of port.now))) }
         ensures number { IfOk result (λ n. n ∷ [] ≡ port_places (length (names_held self.old)) (port_of port.now ∷ [])) }
         ensures ports { self.new.ports ≡ self.old.ports }
         ensures places { self.new.places ≡ self.old.places }
@@ -169,21 +169,21 @@ impl ValueNames {
     // Takes the names of the results of a body.
     fn add_operations(&mut self, alloc: Global, body: &Body) -> Result<(), AllocError>
         requires { self.old.places.items ≡ [] }
-        ensures chosen { OnOk result (chosen self.new ≡ with_wishes (chosen self.old) (body_wishes (parts_in_body (ops_of body.now)))) }
+        ensures chosen { OnOk result (chosen self.new ≡ with_name_hints (chosen self.old) (body_name_hints (parts_in_body (ops_of body.now)))) }
         ensures ports { OnOk result (self.new.ports ≡ self.old.ports) }
         ensures places { OnOk result (HavePlaces (length (names_held self.old)) (ops_of body.now) self.new.places.items) }
     {
         for id in body.ops() {
             let op = body.op(id);
             let place = self.add_operation(alloc, &op)?;
-            put_place(&mut self.places, id.number() as usize, place)?;
+            put_slot(&mut self.places, id.number() as usize, place)?;
         }
         Ok(())
     }
 
     // Takes the names of an operation's results, and gives where they stand.
-    fn add_operation(&mut self, alloc: Global, op: &Op<'_>) -> Result<Place, AllocError>
-        ensures chosen { OnOk result (chosen self.new ≡ with_wishes (chosen self.old) (wishes (read_parts op.now))) }
+    fn add_operation(&mut self, alloc: Global, op: &Op<'_>) -> Result<Slot, AllocError>
+        ensures chosen { OnOk result (chosen self.new ≡ with_name_hints (chosen self.old) (name_hints (read_parts op.now))) }
         ensures place { IfOk result (λ place. place ≡ place_at (length (names_held self.old)) (read_parts op.now)) }
         ensures ports { self.new.ports ≡ self.old.ports }
         ensures places { self.new.places ≡ self.old.places }
@@ -193,13 +193,13 @@ impl ValueNames {
         let results = op.results.len();
         let pack = is_pack(op.kind, results);
         let count = if pack { results } else { name_count(op) };
-        Ok(Place { first, count, pack })
+        Ok(Slot { first, count, pack })
     }
 
     // Takes the names of an operation's results.
-    #[tactic(auto, unfolding(crate::specs::Naming::wishes_of))]
+    #[tactic(auto, unfolding(crate::specs::Naming::name_hints_of))]
     fn take_results(&mut self, alloc: Global, op: &Op<'_>) -> Result<(), AllocError>
-        ensures chosen { OnOk result (chosen self.new ≡ with_wishes (chosen self.old) (wishes (read_parts op.now))) }
+        ensures chosen { OnOk result (chosen self.new ≡ with_name_hints (chosen self.old) (name_hints (read_parts op.now))) }
         ensures ports { self.new.ports ≡ self.old.ports }
         ensures places { self.new.places ≡ self.old.places }
     {
@@ -231,7 +231,7 @@ impl ValueNames {
         types: &[Ty],
         value: Integer,
     ) -> Result<u32, AllocError>
-        ensures chosen { OnOk result (chosen self.new ≡ with_wish (chosen self.old) (constant_wish (map type_of types.now) (integer_of value))) }
+        ensures chosen { OnOk result (chosen self.new ≡ with_name_hint (chosen self.old) (constant_name_hint (map type_of types.now) (integer_of value))) }
         ensures ports { self.new.ports ≡ self.old.ports }
         ensures places { self.new.places ≡ self.old.places }
     {
@@ -243,7 +243,7 @@ impl ValueNames {
 
     // Takes the name of a constant of a type.
     fn take_typed(&mut self, alloc: Global, ty: &Ty, value: Integer) -> Result<u32, AllocError>
-        ensures chosen { OnOk result (chosen self.new ≡ with_wish (chosen self.old) (constant_wish (type_of ty.now ∷ []) (integer_of value))) }
+        ensures chosen { OnOk result (chosen self.new ≡ with_name_hint (chosen self.old) (constant_name_hint (type_of ty.now ∷ []) (integer_of value))) }
         ensures ports { self.new.ports ≡ self.old.ports }
         ensures places { self.new.places ≡ self.old.places }
     {
@@ -258,7 +258,7 @@ impl ValueNames {
 
     // Takes the names of an instance's results.
     fn take_outputs(&mut self, alloc: Global, instance: &Instance) -> Result<(), AllocError>
-        ensures chosen { OnOk result (chosen self.new ≡ with_wishes (chosen self.old) (instance_wishes (instance_of instance.now).name (instance_of instance.now).outputs)) }
+        ensures chosen { OnOk result (chosen self.new ≡ with_name_hints (chosen self.old) (instance_name_hints (instance_of instance.now).name (instance_of instance.now).outputs)) }
         ensures ports { self.new.ports ≡ self.old.ports }
         ensures places { self.new.places ≡ self.old.places }
     {
@@ -277,7 +277,7 @@ impl ValueNames {
     }
 
     /// The name after so many others and so many more; the empty one where there is none.
-    pub fn behind(&self, first: u32, number: usize) -> &[u8]
+    pub fn after(&self, first: u32, number: usize) -> &[u8]
         ensures { result.now ≡ first_name (drop (first + number) (names_held self.now)) }
     {
         match (first as usize).checked_add(number) {
@@ -287,7 +287,7 @@ impl ValueNames {
     }
 
     // Where the names of the results of an operation of this id stand.
-    fn place(&self, id: OpId) -> Option<Place>
+    fn place(&self, id: OpId) -> Option<Slot>
         ensures { result ≡ slice_get self.now.places.items id.index }
     {
         self.places.get(id.number() as usize).copied()
@@ -329,7 +329,7 @@ impl ValueNames {
         ensures { value_of result ≡ placed (names_held self.now) (slice_get self.now.places.items id.index) number }
     {
         match self.place(id) {
-            Some(place) => self.placed(place, number),
+            Some(place) => self.slot_name(place, number),
             None => ValueText {
                 name: &[],
                 number: None,
@@ -338,8 +338,8 @@ impl ValueNames {
     }
 
     // A result of a place.
-    fn placed(&self, place: Place, number: u32) -> ValueText<'_>
-        ensures { value_of result ≡ place_value (names_held self.now) place number }
+    fn slot_name(&self, place: Slot, number: u32) -> ValueText<'_>
+        ensures { value_of result ≡ slot_value (names_held self.now) place number }
     {
         if (number as usize) >= place.count {
             return ValueText {
@@ -361,11 +361,11 @@ impl ValueNames {
 }
 
 // Puts a place at a position, after empty ones where there are fewer.
-fn put_place(places: &mut Vec<Place>, position: usize, place: Place) -> Result<(), AllocError>
+fn put_slot(places: &mut Vec<Slot>, position: usize, place: Slot) -> Result<(), AllocError>
     ensures { OnOk result ((id : ℕ) → place_for places.new.items id ≡ cond (nat_eq position id) place (place_for places.old.items id)) }
 {
     for _ in places.len()..position {
-        places.push(Place {
+        places.push(Slot {
             first: 0,
             count: 0,
             pack: false,

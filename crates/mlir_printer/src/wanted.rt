@@ -42,7 +42,7 @@ pub fn instance_name(alloc: Global, instance: &[u8], port: &[u8]) -> Result<Text
 }
 
 /// How many names the results of an operation take, a pack one.
-#[tactic(auto, unfolding(crate::specs::Naming::wishes_of))]
+#[tactic(auto, unfolding(crate::specs::Naming::name_hints_of))]
 pub fn name_count(op: &Op<'_>) -> usize
     ensures { result ≡ name_count (read_parts op.now) }
 {

@@ -24,7 +24,7 @@ use Rattle.mlir_syntax.proofs.AgainTokens.{is_kind_of, unlike, is_word_of, no_wo
 use Rattle.mlir_syntax.proofs.AgainTypes.{again_any_type}
 use Rattle.mlir_syntax.proofs.AgainAttributes.{again_dictionary}
 use Rattle.mlir_syntax.proofs.AgainOperands.{again_value_name}
-use Rattle.mlir_syntax.proofs.AgainPieces.{word_first, other_first, symbol_first, module_symbol_at}
+use Rattle.mlir_syntax.proofs.AgainElements.{word_first, other_first, symbol_first, module_symbol_at}
 use Rattle.mlir_syntax.proofs.AgainOperations.{body_at}
 
 -- ---- ports

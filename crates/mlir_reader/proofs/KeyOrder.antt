@@ -7,7 +7,7 @@ use Rattle.std.proofs.lemmas.Cmp.{nat_list_cmp_total}
 use Rattle.std.proofs.lemmas.List.Sorted.{ranks_by}
 use Rattle.ir_store.specs.DictionaryViews.{entry_of}
 use Rattle.ir_store.specs.declared.dictionary.Entry.{Entry}
-use Rattle.mlir_reader.specs.Resolving.{put_entry, sorted}
+use Rattle.mlir_reader.specs.Resolving.{put_entry, sort_entries}
 use Rattle.mlir_reader.proofs.Sorting.{put, in_order}
 
 -- whether an entry's key is less
@@ -26,6 +26,6 @@ put_seen e (x ∷ xs) = go (is_less x e) (put_seen e xs)
     go true r = ap (λ rest. entry_of x ∷ rest) r
     go false r = refl
 
-pub order_seen : (es : List Entry) → map entry_of (in_order is_less is_order es) ≡ sorted (map entry_of es)
+pub order_seen : (es : List Entry) → map entry_of (in_order is_less is_order es) ≡ sort_entries (map entry_of es)
 order_seen [] = refl
 order_seen (e ∷ es) = put_seen e (in_order is_less is_order es) ∙ ap (put_entry (entry_of e)) (order_seen es)

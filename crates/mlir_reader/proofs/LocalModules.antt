@@ -24,16 +24,16 @@ use Rattle.mlir_syntax.specs.Numerals.{count_limit}
 use Rattle.mlir_syntax.specs.TypeText.{any_type, most_open}
 use Rattle.mlir_syntax.specs.AttributeText.{is_symbol}
 use Rattle.mlir_syntax.specs.OperandText.{ResultNames}
-use Rattle.assembly_format.specs.Shapes.{text_of_keyword, shape_of, front_pieces, type_pieces}
-use Rattle.mlir_syntax.specs.PieceText.{Gathered, gathered_nothing, with_operands, with_types, with_extra, predicate_named, bare_text, as_known, predicate_text, truth_named, truth_text, truth_number, string_text, group_text, further_types, types_text, reset_operands, reset_text, want_sync, sync_reset_text, input_text, output_text, inner_symbol, module_symbol, inputs_text, outputs_text, instance_with, with_instance, instance_text, piece_text, pieces_text}
-use Rattle.mlir_syntax.specs.PieceText.Extra.{with_reset, predicate, position, number, literals, field_name}
+use Rattle.assembly_format.specs.Formats.{text_of_keyword, format_of, front_elements, type_elements}
+use Rattle.mlir_syntax.specs.ElementText.{Gathered, gathered_nothing, with_operands, with_types, with_inherent, predicate_named, bare_text, as_known, predicate_text, truth_named, truth_text, truth_number, string_text, group_text, further_types, types_text, reset_operands, reset_text, want_sync, sync_reset_text, input_text, output_text, inner_symbol, module_symbol, inputs_text, outputs_text, instance_with, with_instance, instance_text, element_text, elements_text}
+use Rattle.mlir_syntax.specs.ElementText.InherentAttributes.{with_reset, predicate, position, number, literals, field_name}
 use Rattle.mlir_syntax.specs.OperationText.{NameClass, operation, module_name, file_name, locations, outside, unknown, class_of, misplaced, is_outside, no_operation, takes_bin, bin_text, string_keys, OperationText, given_entries, late_dictionary, form_text, named_operation, classed_operation, operation_behind, operation_text, is_last, operations_text}
 use Rattle.mlir_syntax.specs.ModuleText.{header, port_name, port_type, input_port, output_port, port_text, ports_text, ModuleText, module_keys, attributes_text, private_text, body_text, module_behind, classed_module, module_text, is_end, modules_text, file_symbol, want_end, wrapped_text, is_file_name, file_text}
 use Rattle.mlir_reader.specs.Reading.{text_limit, design_read, read}
 use Rattle.mlir_reader.specs.Locality.{symbol_place, IsOfItsSymbol}
-use Rattle.assembly_format.specs.declared.pieces.Piece.{Piece}
-use Rattle.assembly_format.specs.declared.pieces.Piece.TheVariants as piece
-use Rattle.assembly_format.specs.declared.pieces.Shape.{Shape}
+use Rattle.assembly_format.specs.declared.elements.FormatElement.{FormatElement}
+use Rattle.assembly_format.specs.declared.elements.FormatElement.TheVariants as element
+use Rattle.assembly_format.specs.declared.elements.Format.{Format}
 use Rattle.mlir_syntax.proofs.SoundOperations.{sound_operation}
 use Rattle.mlir_reader.proofs.SoundModules.{sound_module}
 use Rattle.mlir_syntax.proofs.Local.{Whole, Same, place_first, whole_behind, same_of, same_is_first, Given, Near, Loc, Local, loc_same, loc_on, loc_on_less, loc_if, loc_next, loc_cond, loc_first, loc_after, loc_give, loc_err, loc_refused, loc_unexpected, loc_zero, loc_step, local_all}
@@ -71,7 +71,7 @@ local_reset_operands : (op : OpName) (g : Gathered) → Local (reset_operands op
 unfolding reset_operands
 local_reset_operands op g c n =
     loc_on (local_operand op c n) (λ r. loc_on (local_want op kind.Comma c n) (λ _. loc_on (local_operand op c n) (λ v.
-    loc_give {y = with_extra (with_operands g (r ∷ v ∷ [])) with_reset})))
+    loc_give {y = with_inherent (with_operands g (r ∷ v ∷ [])) with_reset})))
 
 local_reset : (op : OpName) (g : Gathered) → Local (reset_text op g)
 unfolding reset_text
@@ -121,29 +121,29 @@ local_instance op g c n =
     loc_on (local_string op c n) (λ name. loc_on (local_inner op c n) (λ inner. loc_on (local_module_symbol op c n) (λ symbol. loc_on (local_inputs op c n) (λ ins.
     loc_on (local_outputs op c n) (λ outs. loc_give {y = with_instance g (instance_with name inner symbol ins outs) ins outs})))))
 
-local_piece : (op : OpName) (p : Piece) (g : Gathered) → Local (piece_text op p g)
-unfolding piece_text predicate_text truth_text any_type
-local_piece op (piece.Mark k) g c n = loc_on (local_want op k c n) (λ _. loc_give {y = g})
-local_piece op (piece.Word w) g c n = loc_on (local_word op (text_of_keyword w) c n) (λ _. loc_give {y = g})
-local_piece op piece.Operand g c n = loc_on (local_operand op c n) (λ o. loc_give {y = with_operands g (o ∷ [])})
-local_piece op piece.Operands g c n = loc_on (local_some op (local_operand op) c n) (λ os. loc_give {y = with_operands g os})
-local_piece op piece.Group g c n = loc_on (local_group op c n) (λ os. loc_give {y = with_operands g os})
-local_piece op piece.Predicate g c n = loc_on (local_known op predicate_named c n) (λ p. loc_give {y = with_extra g (predicate p)})
-local_piece op piece.Number g c n = loc_on (local_number count_limit op c n) (λ x. loc_give {y = with_extra g (position x)})
-local_piece op piece.Truth g c n =
-    loc_on (local_known op truth_named c n) (λ b. loc_give {y = with_extra (with_types g (int 1 ∷ [])) (number (truth_number b))})
-local_piece op piece.Integer g c n = loc_on (local_integer op c n) (λ z. loc_give {y = with_extra g (number z)})
-local_piece op piece.Literals g c n = loc_on (local_aggregate op c n) (λ ls. loc_give {y = with_extra g (literals ls)})
-local_piece op piece.Field g c n = loc_on (local_string op c n) (λ name. loc_give {y = with_extra g (field_name name)})
-local_piece op piece.Instance g c n = local_instance op g c n
-local_piece op piece.Reset g c n = local_reset op g c n
-local_piece op piece.SyncReset g c n = local_sync_reset op g c n
-local_piece op piece.Type g c n = loc_on (local_type most_open op c n) (λ t. loc_give {y = with_types g (t ∷ [])})
-local_piece op piece.Types g c n = loc_on (local_types op (length g.operands) c n) (λ ts. loc_give {y = with_types g ts})
+local_element : (op : OpName) (p : FormatElement) (g : Gathered) → Local (element_text op p g)
+unfolding element_text predicate_text truth_text any_type
+local_element op (element.Mark k) g c n = loc_on (local_want op k c n) (λ _. loc_give {y = g})
+local_element op (element.Word w) g c n = loc_on (local_word op (text_of_keyword w) c n) (λ _. loc_give {y = g})
+local_element op element.Operand g c n = loc_on (local_operand op c n) (λ o. loc_give {y = with_operands g (o ∷ [])})
+local_element op element.Operands g c n = loc_on (local_some op (local_operand op) c n) (λ os. loc_give {y = with_operands g os})
+local_element op element.Group g c n = loc_on (local_group op c n) (λ os. loc_give {y = with_operands g os})
+local_element op element.Predicate g c n = loc_on (local_known op predicate_named c n) (λ p. loc_give {y = with_inherent g (predicate p)})
+local_element op element.Number g c n = loc_on (local_number count_limit op c n) (λ x. loc_give {y = with_inherent g (position x)})
+local_element op element.Truth g c n =
+    loc_on (local_known op truth_named c n) (λ b. loc_give {y = with_inherent (with_types g (int 1 ∷ [])) (number (truth_number b))})
+local_element op element.Integer g c n = loc_on (local_integer op c n) (λ z. loc_give {y = with_inherent g (number z)})
+local_element op element.Literals g c n = loc_on (local_aggregate op c n) (λ ls. loc_give {y = with_inherent g (literals ls)})
+local_element op element.Field g c n = loc_on (local_string op c n) (λ name. loc_give {y = with_inherent g (field_name name)})
+local_element op element.Instance g c n = local_instance op g c n
+local_element op element.Reset g c n = local_reset op g c n
+local_element op element.SyncReset g c n = local_sync_reset op g c n
+local_element op element.Type g c n = loc_on (local_type most_open op c n) (λ t. loc_give {y = with_types g (t ∷ [])})
+local_element op element.Types g c n = loc_on (local_types op (length g.operands) c n) (λ ts. loc_give {y = with_types g ts})
 
-local_pieces : (op : OpName) (ps : List Piece) (g : Gathered) → Local (pieces_text op ps g)
-local_pieces op [] g c n = loc_give {y = g}
-local_pieces op (p ∷ ps) g c n = loc_on (local_piece op p g c n) (λ h. local_pieces op ps h c n)
+local_elements : (op : OpName) (ps : List FormatElement) (g : Gathered) → Local (elements_text op ps g)
+local_elements op [] g c n = loc_give {y = g}
+local_elements op (p ∷ ps) g c n = loc_on (local_element op p g c n) (λ h. local_elements op ps h c n)
 
 -- ---- operations
 
@@ -158,17 +158,17 @@ unfolding late_dictionary
 local_late op keys (Some es) c n = loc_give {y = es}
 local_late op keys None c n = loc_on (local_maybe op keys c n) (λ es. loc_give {y = given_entries es})
 
-local_form : (op : OpName) (keys : List Name) (shape : Shape) → Local (form_text op keys shape)
+local_form : (op : OpName) (keys : List Name) (format : Format) → Local (form_text op keys format)
 unfolding form_text
-local_form op keys shape c n =
-    loc_on (local_pieces op (front_pieces shape) gathered_nothing c n) (λ g. loc_on (local_maybe op keys c n) (λ es.
-    loc_on (local_pieces op (type_pieces shape) g c n) (λ h. loc_on (local_late op keys es c n) (λ all. loc_give {y = record { gathered = h; dictionary = all }}))))
+local_form op keys format c n =
+    loc_on (local_elements op (front_elements format) gathered_nothing c n) (λ g. loc_on (local_maybe op keys c n) (λ es.
+    loc_on (local_elements op (type_elements format) g c n) (λ h. loc_on (local_late op keys es c n) (λ all. loc_give {y = record { gathered = h; dictionary = all }}))))
 
 local_named : (results : ResultNames) (o : Listed) (place : Place) → Local (named_operation results o place)
 unfolding named_operation
 local_named results o place c n =
     loc_on (local_bin o c n) (λ bin.
-    loc_on (loc_first (λ next _ s. form_text (op.Listed o) (string_keys o) (shape_of o next) s) (λ next. local_form (op.Listed o) (string_keys o) (shape_of o next) c n))
+    loc_on (loc_first (λ next _ s. form_text (op.Listed o) (string_keys o) (format_of o next) s) (λ next. local_form (op.Listed o) (string_keys o) (format_of o next) c n))
     (λ t. loc_give {y = record { results = results; name = o; bin = bin; gathered = t.gathered; dictionary = t.dictionary; place = place }}))
 
 alike_no_operation : (around : OpName) (y : Symbol) (a b : List Symbol) → no_operation around (y ∷ a) ≡ no_operation around (y ∷ b)

@@ -8,7 +8,7 @@ use Rattle.ir_store.specs.Numbered.{op_by, numbered}
 use Rattle.ir_store.specs.Designs.{numbered_module}
 use Rattle.ir_store.specs.OperationViews.{place_of}
 use Rattle.mlir_syntax.specs.ModuleText.{ModuleText}
-use Rattle.mlir_reader.specs.Resolving.{Meanings, no_meaning, with_definitions, port_definitions, ports_from, operations_from, meanings, port_meanings, kept_entries, ends_with_output, has_outputs, left_out_output, completed, module_of}
+use Rattle.mlir_reader.specs.Resolving.{Meanings, no_meaning, with_definitions, port_definitions, ports_from, operations_from, meanings, port_meanings, kept_entries, ends_with_output, has_outputs, left_out_output, with_output, module_of}
 use Rattle.mlir_reader.specs.Meanings.{numbers_below}
 use Rattle.mlir_reader.proofs.BodySteps.{numbers_more}
 use Rattle.mlir_reader.proofs.Positions.{body_is, either}
@@ -33,7 +33,7 @@ module _ (m : ModuleText) (ops₀ ops : List BodyOp) (names seen₀ seen : Meani
       map (op_by (λ i. i)) ops₀ ≡ operations_from names seen 0 m.operations →
       map (op_by (λ i. i)) ops ≡ cond ends (map (op_by (λ i. i)) ops₀) (map (op_by (λ i. i)) ops₀ ++ left_out_output m.close ∷ []) →
       ends ≡ (ends_with_output m.operations || has_outputs m.ports) →
-      map (op_by (λ i. i)) ops ≡ completed m (operations_from (meanings m) (port_meanings m.ports) 0 m.operations)
+      map (op_by (λ i. i)) ops ≡ with_output m (operations_from (meanings m) (port_meanings m.ports) 0 m.operations)
   body_seen n s t o w e =
       let all : map (op_by (λ i. i)) ops₀ ≡ operations_from (meanings m) (port_meanings m.ports) 0 m.operations =
       o ∙ ap (λ f. operations_from f seen 0 m.operations) n

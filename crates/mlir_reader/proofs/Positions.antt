@@ -15,7 +15,7 @@ use Rattle.mlir_syntax.specs.OperandText.ResultNames.{no_names, names, pack}
 use Rattle.mlir_syntax.specs.OperationText.{OperationText}
 use Rattle.mlir_syntax.specs.ModuleText.{PortText, ModuleText}
 use Rattle.diag.specs.declared.refusal.Place as code
-use Rattle.mlir_reader.specs.Resolving.{Meanings, Defined, Definition, with_definition, with_definitions, no_meaning, known_or, ref_in, resolved, operation_at, operations_from, operation_definitions, body_definitions, names_defined, names_from, port_definition, port_definitions, own_count, meanings, port_meanings, completed, ends_with_output, has_outputs, left_out_output}
+use Rattle.mlir_reader.specs.Resolving.{Meanings, Defined, Definition, with_definition, with_definitions, no_meaning, known_or, ref_in, resolve_operand, operation_at, operations_from, operation_definitions, body_definitions, names_defined, names_from, port_definition, port_definitions, own_count, meanings, port_meanings, with_output, ends_with_output, has_outputs, left_out_output}
 use Rattle.mlir_reader.specs.Resolving.Defined.{is_port, are_results}
 use Rattle.mlir_reader.specs.Meanings.{numbers_from, numbers_below}
 
@@ -134,7 +134,7 @@ ref_stays n (Some (are_results i f count)) k h = go (nat_lt k count)
     go true = ap (λ p. result p (f + k)) (position_below n i h)
     go false = refl
 
-refs_stay : (n : ℕ) (m : Meanings) (os : List OperandName) → ((q : Name) → StandsBelow n (m q)) → map (moved (position_of (numbers_below n))) (map (resolved m) os) ≡ map (resolved m) os
+refs_stay : (n : ℕ) (m : Meanings) (os : List OperandName) → ((q : Name) → StandsBelow n (m q)) → map (moved (position_of (numbers_below n))) (map (resolve_operand m) os) ≡ map (resolve_operand m) os
 refs_stay n m [] h = refl
 refs_stay n m (o ∷ os) h = rw (ref_stays n (m o.name) o.number (h o.name), refs_stay n m os h) refl
 
@@ -164,12 +164,12 @@ completed_stays false false pos os place h = map-append (renumbered pos) os (lef
 
 -- a body whose ids are positions is the body of its text
 pub body_is : (m : ModuleText) (ops : List BodyOp) (n : ℕ) → length m.operations ≤ n → ids_in ops ≡ numbers_below n →
-    map (op_by (λ i. i)) ops ≡ completed m (operations_from (meanings m) (port_meanings m.ports) 0 m.operations) →
-    numbered ops ≡ completed m (operations_from (meanings m) (port_meanings m.ports) 0 m.operations)
+    map (op_by (λ i. i)) ops ≡ with_output m (operations_from (meanings m) (port_meanings m.ports) 0 m.operations) →
+    numbered ops ≡ with_output m (operations_from (meanings m) (port_meanings m.ports) 0 m.operations)
 body_is m ops n few ids seen =
     let pos = position_of (numbers_below n) in
     let body = operations_from (meanings m) (port_meanings m.ports) 0 m.operations in
-    numbered_is ops n (completed m body) ids seen
+    numbered_is ops n (with_output m body) ids seen
     (completed_stays (ends_with_output m.operations) (has_outputs m.ports) pos body m.close
     (operations_stay n (meanings m) (port_meanings m.ports) 0 m.operations (module_below m.ports m.operations n few)))
 

@@ -29,7 +29,7 @@ use Rattle.mlir_syntax.proofs.SoundTokens.{pair, mark, kind_is, kept_ok, said_wo
 use Rattle.mlir_syntax.proofs.SoundTypes.{sound_type}
 use Rattle.mlir_syntax.proofs.SoundAttributes.{sound_dictionary}
 use Rattle.mlir_syntax.proofs.SoundOperands.{sound_value_name}
-use Rattle.mlir_syntax.proofs.SoundPieces.{sound_module_symbol}
+use Rattle.mlir_syntax.proofs.SoundElements.{sound_module_symbol}
 use Rattle.mlir_syntax.proofs.SoundOperations.{ClassSays, class_says, all_operations}
 
 -- ---- ports

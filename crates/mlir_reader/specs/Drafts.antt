@@ -8,14 +8,14 @@ use Rattle.ir_store.specs.declared.body.Body.{Body}
 use Rattle.mlir_reader.specs.Meanings.{meanings_of, op_of, numbers_below}
 use Rattle.mlir_syntax.specs.OperandText.{OperandName}
 use Rattle.mlir_syntax.specs.OperationText.{OperationText}
-use Rattle.mlir_reader.specs.Resolving.{Meanings, resolved, with_definitions, body_definitions, operations_from}
+use Rattle.mlir_reader.specs.Resolving.{Meanings, resolve_operand, with_definitions, body_definitions, operations_from}
 use Rattle.mlir_syntax.specs.Views.{operand_of}
 use Rattle.mlir_reader.specs.declared.draft.Draft.{Draft}
 use Rattle.mlir_reader.specs.declared.draft.DraftOperation.{DraftOperation}
 
 -- an operation whose operands are names, where names stand for this
 abbrev pub drafted : Meanings → DraftOperation → Op
-drafted means d = record (op_of d.operation) { operands = map (resolved means) (map operand_of d.operands.items) }
+drafted means d = record (op_of d.operation) { operands = map (resolve_operand means) (map operand_of d.operands.items) }
 
 -- how many operands stand before the first whose name stands for nothing
 abbrev pub found_count : Meanings → List OperandName → ℕ

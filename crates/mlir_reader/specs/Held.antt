@@ -7,7 +7,7 @@ use Rattle.ir_store.specs.declared.body.Body.{Body}
 use Rattle.mlir_reader.specs.Drafts.{Keeps, drafted}
 use Rattle.mlir_reader.specs.Meanings.{meanings_of, numbers_below}
 use Rattle.mlir_syntax.specs.OperandText.{OperandName}
-use Rattle.mlir_reader.specs.Resolving.{Meanings, resolved}
+use Rattle.mlir_reader.specs.Resolving.{Meanings, resolve_operand}
 use Rattle.mlir_syntax.specs.Views.{operand_of}
 use Rattle.mlir_reader.specs.declared.draft.Draft.{Draft}
 use Rattle.mlir_reader.specs.declared.draft.DraftOperation.{DraftOperation}
@@ -22,11 +22,11 @@ IsNumbered b = (ids_of b ≡ numbers_below (length (ids_of b))) × (gaps b ≡ 0
 
 -- this operand names this value, whatever is read further
 abbrev pub IsSettled : Meanings → OperandName → Ref → Type 0
-IsSettled means o ref = (later : Meanings) → Keeps means later → ref ≡ resolved later o
+IsSettled means o ref = (later : Meanings) → Keeps means later → ref ≡ resolve_operand later o
 
 -- these operands name these values, whatever is read further
 abbrev pub AreSettled : Meanings → List OperandName → List Ref → Type 0
-AreSettled means os refs = (later : Meanings) → Keeps means later → refs ≡ map (resolved later) os
+AreSettled means os refs = (later : Meanings) → Keeps means later → refs ≡ map (resolve_operand later) os
 
 -- an operation with these operands
 abbrev pub with_operands : Op → List Ref → Op

@@ -4,13 +4,13 @@ use Rattle.hw_model.specs.Design.{Op}
 use Rattle.ir_store.specs.OperationViews.{place_of}
 use Rattle.mlir_syntax.specs.OperandText.{named_count}
 use Rattle.mlir_syntax.specs.OperationText.{OperationText}
-use Rattle.mlir_reader.specs.Resolving.{Meanings, kind_named, resolved, marked_results, own_types, own_name, kept_entries}
+use Rattle.mlir_reader.specs.Resolving.{Meanings, kind_named, resolve_operand, marked_results, own_types, own_name, kept_entries}
 
 -- an operation whose names have these marks
 abbrev pub operation_marked : Meanings → List Bool → OperationText → Op
 operation_marked means found o = record {
-  kind = kind_named o.name o.gathered.extra o.gathered.types;
-  operands = map (resolved means) o.gathered.operands;
+  kind = kind_named o.name o.gathered.inherent o.gathered.types;
+  operands = map (resolve_operand means) o.gathered.operands;
   types = o.gathered.types;
   results = marked_results (own_types o) found;
   named = named_count o.results;

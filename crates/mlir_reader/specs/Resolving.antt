@@ -25,8 +25,8 @@ use Rattle.ir_store.specs.OperationViews.{place_of}
 use Rattle.ir_store.specs.ResultTypes.{result_types, result_count}
 use Rattle.mlir_syntax.specs.OperandText.{OperandName, ResultNames, named_count}
 use Rattle.mlir_syntax.specs.OperandText.ResultNames.{no_names, names, pack}
-use Rattle.mlir_syntax.specs.PieceText.{Extra}
-use Rattle.mlir_syntax.specs.PieceText.Extra.{with_reset, predicate, position, number, literals, field_name, child}
+use Rattle.mlir_syntax.specs.ElementText.{InherentAttributes}
+use Rattle.mlir_syntax.specs.ElementText.InherentAttributes.{with_reset, predicate, position, number, literals, field_name, child}
 use Rattle.mlir_syntax.specs.OperationText.{OperationText, is_last}
 use Rattle.mlir_syntax.specs.ModuleText.{PortText, ModuleText}
 
@@ -62,55 +62,55 @@ abbrev mutual
 -- ---- kinds
 
 -- what the text says of one thing, or what it never leaves out
-abbrev pub said_predicate : Extra → Predicate
-said_predicate (predicate p) = p
-said_predicate _ = eq
+abbrev pub inherent_predicate : InherentAttributes → Predicate
+inherent_predicate (predicate p) = p
+inherent_predicate _ = eq
 
-abbrev pub said_position : Extra → ℕ
-said_position (position n) = n
-said_position _ = 0
+abbrev pub inherent_position : InherentAttributes → ℕ
+inherent_position (position n) = n
+inherent_position _ = 0
 
-abbrev pub said_number : Extra → ℤ
-said_number (number z) = z
-said_number _ = pos 0
+abbrev pub inherent_number : InherentAttributes → ℤ
+inherent_number (number z) = z
+inherent_number _ = pos 0
 
-abbrev pub said_literals : Extra → Literals
-said_literals (literals ls) = ls
-said_literals _ = no_literals
+abbrev pub inherent_literals : InherentAttributes → Literals
+inherent_literals (literals ls) = ls
+inherent_literals _ = no_literals
 
-abbrev pub said_field : Extra → Name
-said_field (field_name name) = name
-said_field _ = []
+abbrev pub inherent_field : InherentAttributes → Name
+inherent_field (field_name name) = name
+inherent_field _ = []
 
-abbrev pub said_instance : Extra → Instance
-said_instance (child i) = i
-said_instance _ = record { name = []; inner_symbol = None; symbol = []; inputs = []; outputs = [] }
+abbrev pub inherent_instance : InherentAttributes → Instance
+inherent_instance (child i) = i
+inherent_instance _ = record { name = []; inner_symbol = None; symbol = []; inputs = []; outputs = [] }
 
-abbrev pub said_reset : Extra → Reset
-said_reset with_reset = sync_reset
-said_reset _ = no_reset
+abbrev pub inherent_reset : InherentAttributes → Reset
+inherent_reset with_reset = sync_reset
+inherent_reset _ = no_reset
 
 -- the kind of an operation that its name and the rest of its text tell
-unfoldable pub said_kind : Listed → Extra → List HwType → Kind
-said_kind listed.CombIcmp e ts = icmp (said_predicate e)
-said_kind listed.CombExtract e ts = extract (said_position e)
-said_kind listed.HwConstant e ts = constant (kept_by_first ts (said_number e))
-said_kind listed.HwAggregateConstant e ts = aggregate_constant (kept_literals (said_literals e))
-said_kind listed.HwStructExtract e ts = on_struct (struct_extract (said_field e))
-said_kind listed.HwStructInject e ts = on_struct (struct_inject (said_field e))
-said_kind listed.HwInstance e ts = instance (said_instance e)
-said_kind listed.SeqCompreg e ts = register compreg (said_reset e)
-said_kind listed.SeqCompregCe e ts = register compreg_ce (said_reset e)
-said_kind listed.SeqFirreg e ts = register firreg (said_reset e)
-said_kind _ e ts = output
+unfoldable pub inherent_kind : Listed → InherentAttributes → List HwType → Kind
+inherent_kind listed.CombIcmp e ts = icmp (inherent_predicate e)
+inherent_kind listed.CombExtract e ts = extract (inherent_position e)
+inherent_kind listed.HwConstant e ts = constant (kept_by_first ts (inherent_number e))
+inherent_kind listed.HwAggregateConstant e ts = aggregate_constant (kept_literals (inherent_literals e))
+inherent_kind listed.HwStructExtract e ts = on_struct (struct_extract (inherent_field e))
+inherent_kind listed.HwStructInject e ts = on_struct (struct_inject (inherent_field e))
+inherent_kind listed.HwInstance e ts = instance (inherent_instance e)
+inherent_kind listed.SeqCompreg e ts = register compreg (inherent_reset e)
+inherent_kind listed.SeqCompregCe e ts = register compreg_ce (inherent_reset e)
+inherent_kind listed.SeqFirreg e ts = register firreg (inherent_reset e)
+inherent_kind _ e ts = output
 
 abbrev pub kind_or : Option Kind → Kind → Kind
 kind_or None k = k
 kind_or (Some k) other = k
 
 -- the kind of an operation
-abbrev pub kind_named : Listed → Extra → List HwType → Kind
-kind_named o e ts = kind_or (kind_named_by o) (said_kind o e ts)
+abbrev pub kind_named : Listed → InherentAttributes → List HwType → Kind
+kind_named o e ts = kind_or (kind_named_by o) (inherent_kind o e ts)
 
 -- ---- dictionaries and names
 
@@ -120,9 +120,9 @@ put_entry e [] = e ∷ []
 put_entry e (x ∷ xs) = cond (is_lt (slice_cmp nat_cmp x.key e.key)) (x ∷ put_entry e xs) (e ∷ x ∷ xs)
 
 -- entries by the bytes of their keys
-abbrev pub sorted : List Entry → List Entry
-sorted [] = []
-sorted (e ∷ es) = put_entry e (sorted es)
+abbrev pub sort_entries : List Entry → List Entry
+sort_entries [] = []
+sort_entries (e ∷ es) = put_entry e (sort_entries es)
 
 -- a hint that is empty is none
 abbrev pub is_empty_text : Attribute → Bool
@@ -154,7 +154,7 @@ is_dropped o e = cond (is_empty_hint e) true (has_name o && is_name_entry e)
 
 -- the entries that are kept of an operation
 abbrev pub kept_entries : Listed → List Entry → List Entry
-kept_entries o es = sorted (without (is_dropped o) es)
+kept_entries o es = sort_entries (without (is_dropped o) es)
 
 -- the entries that are kept of a module, which has no name of its own
 abbrev pub kept_module_entries : List Entry → List Entry
@@ -213,11 +213,11 @@ port_definitions j (p ∷ ps) = port_definition j p.value ++ port_definitions (j
 
 -- the results that an operation has of its own
 abbrev pub own_types : OperationText → List (Option HwType)
-own_types o = result_types (kind_named o.name o.gathered.extra o.gathered.types) o.gathered.types (length o.gathered.operands)
+own_types o = result_types (kind_named o.name o.gathered.inherent o.gathered.types) o.gathered.types (length o.gathered.operands)
 
 -- how many they are
 abbrev pub own_count : OperationText → ℕ
-own_count o = result_count (kind_named o.name o.gathered.extra o.gathered.types) o.gathered.types
+own_count o = result_count (kind_named o.name o.gathered.inherent o.gathered.types) o.gathered.types
 
 -- names one by one, from a result of an operation on
 abbrev pub names_from : ℕ → ℕ → List Name → List Definition
@@ -267,8 +267,8 @@ ref_in (Some (is_port j)) n = cond (n == 0) (port j) undefined
 ref_in (Some (are_results i k count)) n = cond (nat_lt n count) (result i (k + n)) undefined
 
 -- the value that an operand names
-abbrev pub resolved : Meanings → OperandName → Ref
-resolved means o = ref_in (means o.name) o.number
+abbrev pub resolve_operand : Meanings → OperandName → Ref
+resolve_operand means o = ref_in (means o.name) o.number
 
 -- ---- marks of names that were defined earlier
 
@@ -299,8 +299,8 @@ marked_results (t ∷ ts) (m ∷ ms) = record { type = type_or_none t; again = m
 -- an operation at a position of a body, where names stand for this, and some for something earlier
 abbrev pub operation_at : Meanings → Meanings → ℕ → OperationText → Op
 operation_at means earlier i o = record {
-  kind = kind_named o.name o.gathered.extra o.gathered.types;
-  operands = map (resolved means) o.gathered.operands;
+  kind = kind_named o.name o.gathered.inherent o.gathered.types;
+  operands = map (resolve_operand means) o.gathered.operands;
   types = o.gathered.types;
   results = marked_results (own_types o) (marks earlier (operation_definitions i o));
   named = named_count o.results;
@@ -354,8 +354,8 @@ left_out_output place = record {
 }
 
 -- a module without output ports may leave its output out
-abbrev pub completed : ModuleText → List Op → List Op
-completed m os = cond (ends_with_output m.operations) os (cond (has_outputs m.ports) os (os ++ left_out_output m.close ∷ []))
+abbrev pub with_output : ModuleText → List Op → List Op
+with_output m os = cond (ends_with_output m.operations) os (cond (has_outputs m.ports) os (os ++ left_out_output m.close ∷ []))
 
 -- what the names of its ports stand for
 abbrev pub port_meanings : List PortText → Meanings
@@ -372,7 +372,7 @@ module_of m = record {
   is_private = m.is_private;
   ports = ports_from no_meaning 0 m.ports;
   dictionary = kept_module_entries m.dictionary;
-  body = completed m (operations_from (meanings m) (port_meanings m.ports) 0 m.operations);
+  body = with_output m (operations_from (meanings m) (port_meanings m.ports) 0 m.operations);
   place = place_of m.place;
 }
 

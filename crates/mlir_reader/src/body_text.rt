@@ -77,7 +77,7 @@ fn operations_text<'s>(
             Err(fail) => return Err(fail),
         };
         if is_last(operation.name) && !reader.is_next(TokenKind::RightBrace) {
-            return Err(ReadFail::Refused(reader.unexpected(HEADER)));
+            return Err(ReadFail::Refused(reader.unexpected_token(HEADER)));
         }
         ends = ends || is_last(operation.name);
         draft.add(reader.alloc(), operation)?;

@@ -6,13 +6,13 @@ ghost use Rattle.hw_model.specs.Sound.{field_list};
 ghost use Rattle.ir_store.specs.ResultTypes.{first_type, field_count, result_count};
 ghost use Rattle.mlir_syntax.specs.OperandText.{named_count};
 ghost use Rattle.mlir_syntax.specs.OperandText.ResultNames.{pack};
-ghost use Rattle.mlir_reader.specs.Resolving.{kind_named, said_instance, names_from, with_definitions, port_definition, names_defined, operation_definitions, body_definitions, marks, is_marked};
-ghost use Rattle.mlir_syntax.specs.Views.{names_of, extra_of, operation_of};
+ghost use Rattle.mlir_reader.specs.Resolving.{kind_named, inherent_instance, names_from, with_definitions, port_definition, names_defined, operation_definitions, body_definitions, marks, is_marked};
+ghost use Rattle.mlir_syntax.specs.Views.{names_of, inherent_of, operation_of};
 ghost use Rattle.mlir_reader.specs.Meanings.{meanings_of, HasFewNames};
 
 use crate::names::{Defined, Names};
 use hw_model::types::{Field, Ty};
-use mlir_syntax::syntax::{Extra, OperationText, ResultNames};
+use mlir_syntax::syntax::{InherentAttributes, OperationText, ResultNames};
 use opcode::listed::Listed;
 use smallvec::SmallVec;
 use std::alloc::{AllocError, Global};
@@ -48,19 +48,19 @@ pub fn define_operation<'s>(
     ensures means { OnOk result (meanings_of names.new ≡ with_definitions (meanings_of names.old) (operation_definitions position (operation_of operation.now))) }
 {
     let types = operation.gathered.types.as_slice();
-    let own = result_count(operation.name, &operation.gathered.extra, types);
+    let own = result_count(operation.name, &operation.gathered.inherent, types);
     define_results(names, position, own, &operation.results, found)
 }
 
 // How many results an operation has of its own.
-#[tactic(auto, unfolding(crate::specs::Resolving::said_kind, ir_store::specs::ResultTypes::result_count))]
-fn result_count(name: Listed, extra: &Extra, types: &[Ty]) -> usize
-    ensures { result ≡ result_count (kind_named name (extra_of extra.now) (map type_of types.now)) (map type_of types.now) }
+#[tactic(auto, unfolding(crate::specs::Resolving::inherent_kind, ir_store::specs::ResultTypes::result_count))]
+fn result_count(name: Listed, inherent: &InherentAttributes, types: &[Ty]) -> usize
+    ensures { result ≡ result_count (kind_named name (inherent_of inherent.now) (map type_of types.now)) (map type_of types.now) }
 {
     match name {
         Listed::HwModule | Listed::HwOutput => 0,
         Listed::HwStructExplode => field_count(types.first()),
-        Listed::HwInstance => types.len().saturating_sub(input_count(extra)),
+        Listed::HwInstance => types.len().saturating_sub(input_count(inherent)),
         _ => 1,
     }
 }
@@ -70,24 +70,24 @@ fn field_count(ty: Option<&Ty>) -> usize
     ensures { result ≡ field_count (option_map (λ t. type_of t.now) ty.entry) }
 {
     match ty {
-        Some(Ty::Struct(list)) => counted(&list.fields),
+        Some(Ty::Struct(list)) => number_of_fields(&list.fields),
         Some(Ty::Int(_) | Ty::Clock | Ty::Array(..)) | None => 0,
     }
 }
 
 // How many fields there are.
-fn counted(fields: &[Field]) -> usize
+fn number_of_fields(fields: &[Field]) -> usize
     ensures { result ≡ length (field_list (fields_of (map field_of fields.now))) }
 {
     fields.len()
 }
 
 // How many inputs an instance names.
-fn input_count(extra: &Extra) -> usize
-    ensures { result ≡ length (said_instance (extra_of extra.now)).inputs }
+fn input_count(inherent: &InherentAttributes) -> usize
+    ensures { result ≡ length (inherent_instance (inherent_of inherent.now)).inputs }
 {
-    match extra {
-        Extra::Child(instance) => instance.inputs.len(),
+    match inherent {
+        InherentAttributes::Child(instance) => instance.inputs.len(),
         _ => 0,
     }
 }

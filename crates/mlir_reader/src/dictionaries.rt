@@ -1,7 +1,7 @@
 //! What is kept of the dictionary that a text gives, and the names that it holds.
 ghost use Rattle.std.specs.Prelude.{◌≡◌, ◌++◌, map, IfOk, Some};
 ghost use Rattle.ir_store.specs.DictionaryViews.{attribute_of, entry_of, entries_in};
-ghost use Rattle.mlir_reader.specs.Resolving.{is_empty_text, is_empty_hint, is_name_entry, has_name, is_dropped, without, kept_entries, kept_module_entries, sorted};
+ghost use Rattle.mlir_reader.specs.Resolving.{is_empty_text, is_empty_hint, is_name_entry, has_name, is_dropped, without, kept_entries, kept_module_entries, sort_entries};
 
 use io_edge::byte_text::Text;
 use ir_store::dictionary::{Attribute, Dictionary, Entry};
@@ -67,8 +67,8 @@ fn entries_without(
 }
 
 // Entries by the bytes of their keys.
-fn sorted(entries: Vec<Entry>) -> Result<Vec<Entry>, AllocError>
-    ensures { IfOk result (λ by_key. map entry_of by_key.items ≡ sorted (map entry_of entries.items)) }
+fn sort_entries(entries: Vec<Entry>) -> Result<Vec<Entry>, AllocError>
+    ensures { IfOk result (λ by_key. map entry_of by_key.items ≡ sort_entries (map entry_of entries.items)) }
 {
     let mut entries = entries;
     entries.sort_by(|a, b| a.key.cmp(&b.key))?;
@@ -87,6 +87,6 @@ pub fn kept_entries(
     if dictionary.entries.is_empty() {
         return Ok(dictionary);
     }
-    let entries = sorted(entries_without(alloc, name, dictionary)?)?;
+    let entries = sort_entries(entries_without(alloc, name, dictionary)?)?;
     Ok(Dictionary { entries })
 }

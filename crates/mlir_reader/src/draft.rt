@@ -224,9 +224,9 @@ fn new_operation(
     let Gathered {
         operands: names,
         types,
-        extra,
+        inherent,
     } = text.gathered;
-    let kind = kind_named(alloc, text.name, extra, types.as_slice())?;
+    let kind = kind_named(alloc, text.name, inherent, types.as_slice())?;
     let results = results_of(alloc, &kind, types.as_slice(), names.len(), marks)?;
     let dictionary = kept_entries(alloc, text.name, text.dictionary)?;
     Ok(NewOp {
@@ -309,7 +309,7 @@ fn settled_operands<'s>(
     let mut values = SmallVec::new(alloc);
     values.reserve(operands.len())?;
     for operand in operands {
-        match settled(names, *operand) {
+        match value_of_operand(names, *operand) {
             Some(value) => values.push(value)?,
             None => return Ok(None),
         }
@@ -318,7 +318,7 @@ fn settled_operands<'s>(
 }
 
 // The value that an operand names, where its name stands for something.
-fn settled(names: &Names<'_>, operand: OperandName<'_>) -> Option<Value>
+fn value_of_operand(names: &Names<'_>, operand: OperandName<'_>) -> Option<Value>
     ensures { IfSome result (λ value. IsSettled (meanings_of names.now) (operand_of operand.entry) (ref_by (λ i. i) value)) }
 {
     match names.find(operand.name) {

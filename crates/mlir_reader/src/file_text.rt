@@ -117,7 +117,7 @@ fn see_end(reader: &Reader<'_>) -> Result<(), ReadFail>
     if reader.is_end() {
         Ok(())
     } else {
-        Err(ReadFail::Refused(reader.unexpected(OpName::File)))
+        Err(ReadFail::Refused(reader.unexpected_token(OpName::File)))
     }
 }
 

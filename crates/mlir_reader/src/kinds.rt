@@ -3,14 +3,14 @@ ghost use Rattle.std.specs.Prelude.{◌≡◌, ◌-◌, ◌^◌, true, map, IfOk
 ghost use Rattle.std.specs.Box.{box_value};
 ghost use Rattle.hw_model.specs.TypeViews.{type_of};
 ghost use Rattle.hw_model.specs.KindViews.{kind_of, integer_of, predicate_of, reset_of, literal_of, literals_in, instance_of};
-ghost use Rattle.mlir_reader.specs.Resolving.{has_negative, kept_number, kept_integer, kept_by_first, kept_literal, kept_literals, kind_named, said_kind, said_predicate, said_position, said_number, said_literals, said_field, said_instance, said_reset};
-ghost use Rattle.mlir_syntax.specs.PieceText.Extra.{nothing};
-ghost use Rattle.mlir_syntax.specs.Views.{extra_of};
+ghost use Rattle.mlir_reader.specs.Resolving.{has_negative, kept_number, kept_integer, kept_by_first, kept_literal, kept_literals, kind_named, inherent_kind, inherent_predicate, inherent_position, inherent_number, inherent_literals, inherent_field, inherent_instance, inherent_reset};
+ghost use Rattle.mlir_syntax.specs.ElementText.InherentAttributes.{nothing};
+ghost use Rattle.mlir_syntax.specs.Views.{inherent_of};
 
 use hw_model::kinds::{Instance, Integer, Literal, LiteralList, OpKind, Predicate, Reset};
 use hw_model::types::Ty;
 use io_edge::byte_text::Text;
-use mlir_syntax::syntax::Extra;
+use mlir_syntax::syntax::InherentAttributes;
 use opcode::listed::Listed;
 use std::alloc::{AllocError, Global};
 
@@ -18,76 +18,76 @@ use std::alloc::{AllocError, Global};
 pub fn kind_named(
     alloc: Global,
     name: Listed,
-    extra: Extra,
+    inherent: InherentAttributes,
     types: &[Ty],
 ) -> Result<OpKind, AllocError>
-    ensures { IfOk result (λ kind. kind_of kind ≡ kind_named name (extra_of extra) (map type_of types.now)) }
+    ensures { IfOk result (λ kind. kind_of kind ≡ kind_named name (inherent_of inherent) (map type_of types.now)) }
 {
     match OpKind::of_listed(name) {
         Some(kind) => Ok(kind),
-        None => said_kind(alloc, name, extra, types),
+        None => inherent_kind(alloc, name, inherent, types),
     }
 }
 
 // The kind of an operation that its name and the rest of its text tell.
-#[tactic(auto, unfolding(crate::specs::Resolving::said_kind))]
-fn said_kind(alloc: Global, name: Listed, extra: Extra, types: &[Ty]) -> Result<OpKind, AllocError>
-    ensures { IfOk result (λ kind. kind_of kind ≡ said_kind name (extra_of extra) (map type_of types.now)) }
+#[tactic(auto, unfolding(crate::specs::Resolving::inherent_kind))]
+fn inherent_kind(alloc: Global, name: Listed, inherent: InherentAttributes, types: &[Ty]) -> Result<OpKind, AllocError>
+    ensures { IfOk result (λ kind. kind_of kind ≡ inherent_kind name (inherent_of inherent) (map type_of types.now)) }
 {
     match name {
-        Listed::CombIcmp => Ok(OpKind::Icmp(said_predicate(extra))),
-        Listed::CombExtract => Ok(OpKind::Extract(said_position(extra))),
-        Listed::HwConstant => Ok(OpKind::Constant(kept_by_first(types, said_number(extra)))),
+        Listed::CombIcmp => Ok(OpKind::Icmp(inherent_predicate(inherent))),
+        Listed::CombExtract => Ok(OpKind::Extract(inherent_position(inherent))),
+        Listed::HwConstant => Ok(OpKind::Constant(kept_by_first(types, inherent_number(inherent)))),
         Listed::HwAggregateConstant => {
-            let kept = kept_literals(alloc, said_literals(alloc, extra))?;
+            let kept = kept_literals(alloc, inherent_literals(alloc, inherent))?;
             Ok(OpKind::AggregateConstant(kept))
         }
-        Listed::HwStructExtract => Ok(OpKind::StructExtract(said_field(alloc, extra))),
-        Listed::HwStructInject => Ok(OpKind::StructInject(said_field(alloc, extra))),
-        Listed::HwInstance => Ok(OpKind::Instance(said_instance(alloc, extra)?)),
-        Listed::SeqCompreg => Ok(OpKind::CompReg(said_reset(extra))),
-        Listed::SeqCompregCe => Ok(OpKind::CompRegCe(said_reset(extra))),
-        Listed::SeqFirreg => Ok(OpKind::FirReg(said_reset(extra))),
+        Listed::HwStructExtract => Ok(OpKind::StructExtract(inherent_field(alloc, inherent))),
+        Listed::HwStructInject => Ok(OpKind::StructInject(inherent_field(alloc, inherent))),
+        Listed::HwInstance => Ok(OpKind::Instance(inherent_instance(alloc, inherent)?)),
+        Listed::SeqCompreg => Ok(OpKind::CompReg(inherent_reset(inherent))),
+        Listed::SeqCompregCe => Ok(OpKind::CompRegCe(inherent_reset(inherent))),
+        Listed::SeqFirreg => Ok(OpKind::FirReg(inherent_reset(inherent))),
         _ => Ok(OpKind::Output),
     }
 }
 
 // The predicate that is said.
-fn said_predicate(extra: Extra) -> Predicate
-    ensures { predicate_of result ≡ said_predicate (extra_of extra) }
+fn inherent_predicate(inherent: InherentAttributes) -> Predicate
+    ensures { predicate_of result ≡ inherent_predicate (inherent_of inherent) }
 {
-    match extra {
-        Extra::Predicate(predicate) => predicate,
+    match inherent {
+        InherentAttributes::Predicate(predicate) => predicate,
         _ => Predicate::Eq,
     }
 }
 
 // The position that is said.
-fn said_position(extra: Extra) -> u32
-    ensures { result ≡ said_position (extra_of extra) }
+fn inherent_position(inherent: InherentAttributes) -> u32
+    ensures { result ≡ inherent_position (inherent_of inherent) }
 {
-    match extra {
-        Extra::Position(position) => position,
+    match inherent {
+        InherentAttributes::Position(position) => position,
         _ => 0,
     }
 }
 
 // The number that is said.
-fn said_number(extra: Extra) -> Integer
-    ensures { integer_of result ≡ said_number (extra_of extra) }
+fn inherent_number(inherent: InherentAttributes) -> Integer
+    ensures { integer_of result ≡ inherent_number (inherent_of inherent) }
 {
-    match extra {
-        Extra::Number(number) => number,
+    match inherent {
+        InherentAttributes::Number(number) => number,
         _ => Integer::NonNegative(0),
     }
 }
 
 // The constants that are said.
-fn said_literals(alloc: Global, extra: Extra) -> LiteralList
-    ensures { literals_in result ≡ said_literals (extra_of extra) }
+fn inherent_literals(alloc: Global, inherent: InherentAttributes) -> LiteralList
+    ensures { literals_in result ≡ inherent_literals (inherent_of inherent) }
 {
-    match extra {
-        Extra::Literals(list) => list,
+    match inherent {
+        InherentAttributes::Literals(list) => list,
         _ => LiteralList {
             literals: Vec::new(alloc),
         },
@@ -95,28 +95,28 @@ fn said_literals(alloc: Global, extra: Extra) -> LiteralList
 }
 
 // The name of a field that is said.
-fn said_field(alloc: Global, extra: Extra) -> Text
-    ensures { result ≡ said_field (extra_of extra) }
+fn inherent_field(alloc: Global, inherent: InherentAttributes) -> Text
+    ensures { result ≡ inherent_field (inherent_of inherent) }
 {
-    match extra {
-        Extra::FieldName(name) => name,
+    match inherent {
+        InherentAttributes::FieldName(name) => name,
         _ => Text::new(alloc),
     }
 }
 
 // The instance that is said.
-fn said_instance(alloc: Global, extra: Extra) -> Result<Box<Instance>, AllocError>
-    ensures { IfOk result (λ i. instance_of (box_value i) ≡ said_instance (extra_of extra)) }
+fn inherent_instance(alloc: Global, inherent: InherentAttributes) -> Result<Box<Instance>, AllocError>
+    ensures { IfOk result (λ i. instance_of (box_value i) ≡ inherent_instance (inherent_of inherent)) }
 {
-    match extra {
-        Extra::Child(instance) => Ok(instance),
+    match inherent {
+        InherentAttributes::Child(instance) => Ok(instance),
         _ => Ok(Box::new(alloc, nameless_instance(alloc))?),
     }
 }
 
 // An instance without names, of a module without a name.
 fn nameless_instance(alloc: Global) -> Instance
-    ensures { instance_of result ≡ said_instance nothing }
+    ensures { instance_of result ≡ inherent_instance nothing }
 {
     Instance {
         name: Text::new(alloc),
@@ -128,11 +128,11 @@ fn nameless_instance(alloc: Global) -> Instance
 }
 
 // Whether a reset is said.
-fn said_reset(extra: Extra) -> Reset
-    ensures { reset_of result ≡ said_reset (extra_of extra) }
+fn inherent_reset(inherent: InherentAttributes) -> Reset
+    ensures { reset_of result ≡ inherent_reset (inherent_of inherent) }
 {
-    match extra {
-        Extra::WithReset => Reset::Sync,
+    match inherent {
+        InherentAttributes::WithReset => Reset::Sync,
         _ => Reset::No,
     }
 }

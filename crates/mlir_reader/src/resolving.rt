@@ -5,7 +5,7 @@ ghost use Rattle.ir_store.specs.Numbered.{ref_by, op_by};
 ghost use Rattle.ir_store.specs.Designs.{ports_in};
 ghost use Rattle.mlir_syntax.specs.ModuleText.{ModuleText as Written};
 ghost use Rattle.mlir_reader.specs.ModuleViews.{IsHead, IsBodyText, IsModule, body_in};
-ghost use Rattle.mlir_reader.specs.Resolving.{resolved, ref_in, no_meaning, ports_from, port_definitions, port_meanings, with_definitions, has_outputs, left_out_output};
+ghost use Rattle.mlir_reader.specs.Resolving.{resolve_operand, ref_in, no_meaning, ports_from, port_definitions, port_meanings, with_definitions, has_outputs, left_out_output};
 ghost use Rattle.mlir_syntax.specs.OperandText.{named_count};
 ghost use Rattle.mlir_syntax.specs.Views.{operand_of, names_of, port_text_of};
 ghost use Rattle.mlir_reader.specs.Meanings.{meanings_of, defined_of, op_of};
@@ -82,7 +82,7 @@ pub fn whole_module(alloc: Global, head: ModuleHead, body: BodyText) -> Result<M
     ensures { IfOk result (λ whole. (text : Written) → IsHead text head → IsBodyText (port_meanings text.ports) (body_in text) body → IsModule text whole) }
 {
     let ends = body.operations.ends || head.outputs;
-    let completed = completed(alloc, body.operations.body, ends, body.close)?;
+    let completed = with_output(alloc, body.operations.body, ends, body.close)?;
     let dictionary = kept_entries(alloc, Listed::HwModule, body.dictionary)?;
     Ok(Module {
         symbol: head.symbol,
@@ -120,7 +120,7 @@ fn resolved_ports<'s>(
 }
 
 // A body with the output that its text leaves out, unless that ends already.
-fn completed(alloc: Global, body: Body, ends: bool, close: Place) -> Result<Body, AllocError>
+fn with_output(alloc: Global, body: Body, ends: bool, close: Place) -> Result<Body, AllocError>
     requires count { length (ids_of body) + 1 < 2 ^ 32 }
     requires gaps { gaps body ≡ 0 }
     ensures ops { IfOk result (λ whole. map (op_by (λ i. i)) (ops_of whole) ≡ cond ends (map (op_by (λ i. i)) (ops_of body)) (map (op_by (λ i. i)) (ops_of body) ++ left_out_output close ∷ [])) }
@@ -152,19 +152,19 @@ pub fn resolved_operands<'s>(
     names: &Names<'s>,
     operands: &[OperandName<'s>],
 ) -> Result<SmallVec<Value, 4, Global>, AllocError>
-    ensures { IfOk result (λ values. map (ref_by (λ i. i)) values.items ≡ map (resolved (meanings_of names.now)) (map operand_of operands.now)) }
+    ensures { IfOk result (λ values. map (ref_by (λ i. i)) values.items ≡ map (resolve_operand (meanings_of names.now)) (map operand_of operands.now)) }
 {
     let mut values = SmallVec::new(alloc);
     values.reserve(operands.len())?;
     for operand in operands {
-        values.push(resolved(names, *operand))?;
+        values.push(resolve_operand(names, *operand))?;
     }
     Ok(values)
 }
 
 // The value that an operand names.
-fn resolved(names: &Names<'_>, operand: OperandName<'_>) -> Value
-    ensures { ref_by (λ i. i) result ≡ resolved (meanings_of names.now) (operand_of operand.entry) }
+fn resolve_operand(names: &Names<'_>, operand: OperandName<'_>) -> Value
+    ensures { ref_by (λ i. i) result ≡ resolve_operand (meanings_of names.now) (operand_of operand.entry) }
 {
     match names.find(operand.name) {
         Some(defined) => value_of(defined, operand.number),

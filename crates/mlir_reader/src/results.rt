@@ -40,19 +40,19 @@ fn one_type(alloc: Global, kind: &OpKind, types: &[Ty]) -> Result<Option<Option<
 {
     match kind.family() {
         Family::Icmp(_) | Family::Parity => Ok(Some(Some(Ty::Int(1)))),
-        Family::Extract(_) | Family::Replicate => Ok(Some(copied(alloc, types.get(1))?)),
+        Family::Extract(_) | Family::Replicate => Ok(Some(clone_type(alloc, types.get(1))?)),
         Family::Variadic(_) | Family::Sub | Family::Division(_) | Family::Shift(_) => {
-            Ok(Some(copied(alloc, types.first())?))
+            Ok(Some(clone_type(alloc, types.first())?))
         }
         Family::Mux | Family::Constant(_) | Family::Wire | Family::Register(..) => {
-            Ok(Some(copied(alloc, types.first())?))
+            Ok(Some(clone_type(alloc, types.first())?))
         }
         _ => Ok(None),
     }
 }
 
 // An equal type with memory of its own, where there is one.
-fn copied(alloc: Global, ty: Option<&Ty>) -> Result<Option<Ty>, AllocError>
+fn clone_type(alloc: Global, ty: Option<&Ty>) -> Result<Option<Ty>, AllocError>
     ensures { IfOk result (λ copy. option_map type_of copy ≡ option_map (λ t. type_of t.now) ty.entry) }
 {
     match ty {

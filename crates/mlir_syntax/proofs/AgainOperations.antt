@@ -14,14 +14,14 @@ use Rattle.mlir_lexer.specs.TokenKinds.{is_kind}
 use Rattle.mlir_syntax.specs.Reads.{on}
 use Rattle.mlir_syntax.specs.OperandText.{ResultNames}
 use Rattle.mlir_syntax.specs.OperandText.ResultNames.{no_names, names, pack}
-use Rattle.assembly_format.specs.Shapes.{shape_of}
+use Rattle.assembly_format.specs.Formats.{format_of}
 use Rattle.mlir_syntax.specs.OperationText.{OperationText, operation, class_of, takes_bin, bin_text, string_keys, form_text, named_operation, classed_operation, operation_behind, operation_text, is_last, operations_text}
 use Rattle.mlir_syntax.specs.Spelling.{Phrase, Mark, Then, ValueName, ResultsPhrase, BinPhrase, FormPhrase, TailPhrase, StandsInBody, OperationPhrase, OperationsPhrase, IsPlaceOf}
 use Rattle.mlir_syntax.proofs.Again.{At, at_then, at_one, at_where, at_nothing, on_ok, if_true, if_false, Leads, leads_one, leads_then, leads_where, starts, starts_test, shorter}
 use Rattle.mlir_syntax.proofs.AgainTokens.{is_kind_of, unlike, no_word, other_word, next_at, no_next, leads_commas, no_mark, both_true, false_too}
 use Rattle.mlir_syntax.proofs.AgainOperands.{NoValue, again_results, leads_value}
-use Rattle.mlir_syntax.proofs.AgainPieces.{word_first}
-use Rattle.mlir_syntax.proofs.AgainForms.{OperationEnd, form_at, no_bin, shape_at}
+use Rattle.mlir_syntax.proofs.AgainElements.{word_first}
+use Rattle.mlir_syntax.proofs.AgainForms.{OperationEnd, form_at, no_bin, format_at}
 
 -- ---- names of operations
 
@@ -85,15 +85,15 @@ named_at : (o : OperationText) {s left : List Symbol} → OperationEnd left → 
 unfolding named_operation
 named_at o {s} {left} last out a =
     let (m, b, c) = at_then a in
-    let (shape, has, p) = c.says in
+    let (format, has, p) = c.says in
     let (next, is) = has in
-    let inside : At (FormPhrase (string_keys o.name) shape o.gathered o.dictionary) m left = record { passed = c.passed; same = c.same; says = p } in
-    let shaped : At (FormPhrase (string_keys o.name) (shape_of o.name next) o.gathered o.dictionary) m left =
+    let inside : At (FormPhrase (string_keys o.name) format o.gathered o.dictionary) m left = record { passed = c.passed; same = c.same; says = p } in
+    let shaped : At (FormPhrase (string_keys o.name) (format_of o.name next) o.gathered o.dictionary) m left =
     subst (λ x. At (FormPhrase (string_keys o.name) x o.gathered o.dictionary) m left) is inside in
-    let same = shape_at o.name next (string_keys o.name) o.gathered o.dictionary out shaped in
-    on_ok _ (bin_at o.name o.bin (no_bin (string_keys o.name) shape o.gathered o.dictionary last inside) b)
+    let same = format_at o.name next (string_keys o.name) o.gathered o.dictionary out shaped in
+    on_ok _ (bin_at o.name o.bin (no_bin (string_keys o.name) format o.gathered o.dictionary last inside) b)
     (on_ok _ (ap (λ x. form_text (op.Listed o.name) (string_keys o.name) x m) same
-    ∙ form_at (op.Listed o.name) (string_keys o.name) (shape_of o.name next) o.gathered o.dictionary last shaped) refl)
+    ∙ form_at (op.Listed o.name) (string_keys o.name) (format_of o.name next) o.gathered o.dictionary last shaped) refl)
 
 operation_at : (o : OperationText) {s left : List Symbol} → OperationEnd left → (is_last o.name ≡ true → NoValue left) → At (OperationPhrase IsPlaceOf o) s left
     → operation_text s ≡ Ok (o, left)

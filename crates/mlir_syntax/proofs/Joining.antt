@@ -8,7 +8,7 @@ use Rattle.hw_model.specs.Types.{HwType}
 use Rattle.mlir_lexer.specs.Tokens.{Lexeme}
 use Rattle.mlir_syntax.specs.Reads.{Read, Reads, on, items, want}
 use Rattle.mlir_syntax.specs.TypeText.{any_type, name_text}
-use Rattle.mlir_syntax.specs.PieceText.{further_types, input_text}
+use Rattle.mlir_syntax.specs.ElementText.{further_types, input_text}
 use Rattle.mlir_syntax.specs.Views.{ReadsAs}
 use Rattle.mlir_syntax.specs.declared.fail.ReadFail.{ReadFail}
 use Rattle.mlir_syntax.specs.declared.fail.ReadFail.TheVariants.{Refused, NoMemory}

@@ -18,7 +18,7 @@ pub mod AgainTypes
 pub mod AgainAttributes
 pub mod AgainLiterals
 pub mod AgainOperands
-pub mod AgainPieces
+pub mod AgainElements
 pub mod AgainForms
 pub mod AgainOperations
 pub mod Sound
@@ -27,7 +27,7 @@ pub mod SoundTypes
 pub mod SoundAttributes
 pub mod SoundLiterals
 pub mod SoundOperands
-pub mod SoundPieces
+pub mod SoundElements
 pub mod SoundOperations
 pub mod Local
 pub mod LocalParts

@@ -23,7 +23,7 @@ use Rattle.mlir_syntax.specs.TypeText.TypeHead.{integer_type as integer_head, cl
 use Rattle.mlir_syntax.specs.AttributeText.{AttributeHead, text_head, symbol_head, truth_head, number_head, list_head, alias_head, no_head, is_symbol, attribute_head, is_stored, stored_integer, integer_type, typed_integer, in_order, list_text, attribute_with, attribute_text, is_among, new_key, string_value, value_of_key, entry_value, entry_text, entries, dictionary_text, maybe_dictionary}
 use Rattle.mlir_syntax.specs.LiteralText.{LiteralHead, truth_literal, number_literal, list_literal, no_literal, literal_head, number_leaf, literals_in_order, truth_leaf, parts_text, list_part, literal_with, literal_text, aggregate_text}
 use Rattle.mlir_syntax.specs.OperandText.{value_name, pack_number, operand_text, no_names, names, pack, names_behind, results_text, maybe_results}
-use Rattle.mlir_syntax.specs.PieceText.{symbol_text}
+use Rattle.mlir_syntax.specs.ElementText.{symbol_text}
 use Rattle.mlir_syntax.proofs.Local.{Loc, Local, loc_same, loc_on, loc_next, loc_cond, loc_first, loc_after, loc_less, loc_give, loc_refused, loc_unexpected, loc_zero, loc_step, local_all}
 
 -- ---- a token

@@ -18,16 +18,16 @@ use Rattle.mlir_lexer.specs.TokenKinds.{is_kind}
 use Rattle.mlir_syntax.specs.Reads.{on, give}
 use Rattle.mlir_syntax.specs.AttributeText.{is_among}
 use Rattle.mlir_syntax.specs.OperandText.{ResultNames}
-use Rattle.assembly_format.specs.Shapes.{shape_of, front_pieces, type_pieces}
-use Rattle.mlir_syntax.specs.PieceText.{gathered_nothing}
+use Rattle.assembly_format.specs.Formats.{format_of, front_elements, type_elements}
+use Rattle.mlir_syntax.specs.ElementText.{gathered_nothing}
 use Rattle.mlir_syntax.specs.OperationText.{file_names, left_out, is_foreign, NameClass, operation, module_name, file_name, locations, outside, unknown, class_of_listed, class_of_other, class_by, class_of, takes_bin, bin_text, string_keys, OperationText, given_entries, late_dictionary, Tail, form_text, named_operation, classed_operation, operation_behind, operation_text, is_last, operations_text}
-use Rattle.mlir_syntax.specs.Spelling.{Phrase, MaybeDictionary, IsOneOf, FormPhrase, BinPhrase, MayHaveShape, OperationPhrase, OperationsPhrase, ResultsPhrase, StandsInBody, IsPlaceOf}
-use Rattle.assembly_format.specs.declared.pieces.Shape.{Shape}
+use Rattle.mlir_syntax.specs.Spelling.{Phrase, MaybeDictionary, IsOneOf, FormPhrase, BinPhrase, MayHaveFormat, OperationPhrase, OperationsPhrase, ResultsPhrase, StandsInBody, IsPlaceOf}
+use Rattle.assembly_format.specs.declared.elements.Format.{Format}
 use Rattle.mlir_syntax.proofs.Sound.{Said, Sound, Behind, one_more, sound_on, sound_last, sound_give, sound_refused, sound_if, sound_past}
 use Rattle.mlir_syntax.proofs.SoundTokens.{pair, kind_is, said_word}
 use Rattle.mlir_syntax.proofs.SoundAttributes.{sound_maybe}
 use Rattle.mlir_syntax.proofs.SoundOperands.{sound_maybe_results}
-use Rattle.mlir_syntax.proofs.SoundPieces.{sound_pieces}
+use Rattle.mlir_syntax.proofs.SoundElements.{sound_elements}
 
 -- ---- names of operations
 
@@ -75,22 +75,22 @@ unfolding late_dictionary
 sound_late op keys (Some es) = sound_give {y = es} (None, (refl, refl), refl)
 sound_late op keys None = sound_last given_entries (sound_maybe op keys) (λ es a p. (es, refl, p))
 
-sound_form : (op : OpName) (keys : List Name) (shape : Shape) → Sound (form_text op keys shape) (λ t. FormPhrase keys shape t.gathered t.dictionary)
+sound_form : (op : OpName) (keys : List Name) (format : Format) → Sound (form_text op keys format) (λ t. FormPhrase keys format t.gathered t.dictionary)
 unfolding form_text
-sound_form op keys shape =
-    sound_on (sound_pieces op (front_pieces shape) gathered_nothing) (λ g. sound_on (sound_maybe op keys) (λ es.
-    sound_on (sound_pieces op (type_pieces shape) g) (λ h. sound_last (λ all. record { gathered = h; dictionary = all }) (sound_late op keys es)
+sound_form op keys format =
+    sound_on (sound_elements op (front_elements format) gathered_nothing) (λ g. sound_on (sound_maybe op keys) (λ es.
+    sound_on (sound_elements op (type_elements format) g) (λ h. sound_last (λ all. record { gathered = h; dictionary = all }) (sound_late op keys es)
     (λ all d pd c pc b pb a pa. (g, es, pd.0, pd.1, pair a (b ++ (c ++ d)) pa (pair b (c ++ d) pb (pair c d pc pd.2)))))))
 
 -- what is after an operation's name and mark
 abbrev ShapedPhrase : Listed → Tail → Phrase
-ShapedPhrase o t ts = (shape : Shape) × MayHaveShape o shape × FormPhrase (string_keys o) shape t.gathered t.dictionary ts
+ShapedPhrase o t ts = (format : Format) × MayHaveFormat o format × FormPhrase (string_keys o) format t.gathered t.dictionary ts
 
-sound_shaped : (o : Listed) → Sound (λ s. form_text (op.Listed o) (string_keys o) (shape_of o (first s)) s) (ShapedPhrase o)
+sound_shaped : (o : Listed) → Sound (λ s. form_text (op.Listed o) (string_keys o) (format_of o (first s)) s) (ShapedPhrase o)
 sound_shaped o = record {
   said = λ s left x h.
-      let (a, ea, p) = (sound_form (op.Listed o) (string_keys o) (shape_of o (first s))).said s left x h in
-      (a, ea, (shape_of o (first s), (first s, refl), p));
+      let (a, ea, p) = (sound_form (op.Listed o) (string_keys o) (format_of o (first s))).said s left x h in
+      (a, ea, (format_of o (first s), (first s, refl), p));
 }
 
 -- what is after a name, where the name and the names of results stand before

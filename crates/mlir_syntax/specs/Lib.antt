@@ -6,7 +6,7 @@ pub mod TypeText
 pub mod AttributeText
 pub mod LiteralText
 pub mod OperandText
-pub mod PieceText
+pub mod ElementText
 pub mod OperationText
 pub mod ModuleText
 pub mod Views
@@ -15,5 +15,5 @@ pub mod TypeHeads
 pub mod AttributeHeads
 pub mod LiteralHeads
 pub mod NameClasses
-pub mod PieceHeads
+pub mod ElementHeads
 pub mod Spelling

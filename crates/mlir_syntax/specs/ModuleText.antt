@@ -16,7 +16,7 @@ use Rattle.mlir_syntax.specs.Reads.{Reads, Read, on, want, items_until}
 use Rattle.mlir_syntax.specs.TypeText.{any_type, name_text}
 use Rattle.mlir_syntax.specs.AttributeText.{dictionary_text, is_symbol}
 use Rattle.mlir_syntax.specs.OperandText.{value_name}
-use Rattle.mlir_syntax.specs.PieceText.{symbol_text, module_symbol}
+use Rattle.mlir_syntax.specs.ElementText.{symbol_text, module_symbol}
 use Rattle.mlir_syntax.specs.OperationText.{OperationText, NameClass, operation, module_name, file_name, locations, outside, unknown, class_of, misplaced, no_operation, operations_text}
 
 -- the operation that refusals in a module's header name

@@ -19,9 +19,9 @@ use Rattle.mlir_lexer.specs.TokenKinds.{is_kind}
 use Rattle.mlir_syntax.specs.Reads.{Reads, Read, on}
 use Rattle.mlir_syntax.specs.AttributeText.{maybe_dictionary, is_among}
 use Rattle.mlir_syntax.specs.OperandText.{ResultNames, maybe_results}
-use Rattle.assembly_format.specs.Shapes.{shape_of, front_pieces, type_pieces}
-use Rattle.mlir_syntax.specs.PieceText.{Gathered, gathered_nothing, pieces_text}
-use Rattle.assembly_format.specs.declared.pieces.Shape.{Shape}
+use Rattle.assembly_format.specs.Formats.{format_of, front_elements, type_elements}
+use Rattle.mlir_syntax.specs.ElementText.{Gathered, gathered_nothing, elements_text}
+use Rattle.assembly_format.specs.declared.elements.Format.{Format}
 
 -- ---- names of operations
 
@@ -138,16 +138,16 @@ pub record Tail : Type 0 where
   pub dictionary : List Entry
 
 -- the pieces of a form, and a dictionary
-unfoldable pub form_text : OpName → List Name → Shape → Reads Tail
-form_text op keys shape s =
-    on (pieces_text op (front_pieces shape) gathered_nothing s) (λ g s1. on (maybe_dictionary op keys s1) (λ es s2.
-    on (pieces_text op (type_pieces shape) g s2) (λ h s3. on (late_dictionary op keys es s3) (λ all s4.
+unfoldable pub form_text : OpName → List Name → Format → Reads Tail
+form_text op keys format s =
+    on (elements_text op (front_elements format) gathered_nothing s) (λ g s1. on (maybe_dictionary op keys s1) (λ es s2.
+    on (elements_text op (type_elements format) g s2) (λ h s3. on (late_dictionary op keys es s3) (λ all s4.
     Ok (record { gathered = h; dictionary = all }, s4)))))
 
 -- an operation after its name
 unfoldable pub named_operation : ResultNames → Listed → Place → Reads OperationText
 named_operation results o place s =
-    on (bin_text o s) (λ bin s1. on (form_text (op.Listed o) (string_keys o) (shape_of o (first s1)) s1) (λ t s2.
+    on (bin_text o s) (λ bin s1. on (form_text (op.Listed o) (string_keys o) (format_of o (first s1)) s1) (λ t s2.
     Ok (record { results = results; name = o; bin = bin; gathered = t.gathered; dictionary = t.dictionary; place = place }, s2)))
 
 -- an operation of a class

@@ -24,14 +24,14 @@ use Rattle.mlir_syntax.specs.AttributeText.{is_among, is_stored, in_order}
 use Rattle.mlir_syntax.specs.LiteralText.{literals_in_order, truth_leaf}
 use Rattle.mlir_syntax.specs.OperandText.{OperandName, ResultNames}
 use Rattle.mlir_syntax.specs.OperandText.ResultNames.{no_names, names, pack}
-use Rattle.assembly_format.specs.Shapes.{text_of_keyword, shape_of, front_pieces, type_pieces}
-use Rattle.mlir_syntax.specs.PieceText.{Gathered, gathered_nothing, with_operands, with_types, with_extra, predicate_named, truth_number, Joined, instance_with, with_instance}
-use Rattle.mlir_syntax.specs.PieceText.Extra.{with_reset, predicate, position, number, literals, field_name}
+use Rattle.assembly_format.specs.Formats.{text_of_keyword, format_of, front_elements, type_elements}
+use Rattle.mlir_syntax.specs.ElementText.{Gathered, gathered_nothing, with_operands, with_types, with_inherent, predicate_named, truth_number, Joined, instance_with, with_instance}
+use Rattle.mlir_syntax.specs.ElementText.InherentAttributes.{with_reset, predicate, position, number, literals, field_name}
 use Rattle.mlir_syntax.specs.OperationText.{OperationText, takes_bin, string_keys, is_last, given_entries}
 use Rattle.mlir_syntax.specs.ModuleText.{PortText, ModuleText, module_keys}
-use Rattle.assembly_format.specs.declared.pieces.Piece.{Piece}
-use Rattle.assembly_format.specs.declared.pieces.Piece.TheVariants as piece
-use Rattle.assembly_format.specs.declared.pieces.Shape.{Shape}
+use Rattle.assembly_format.specs.declared.elements.FormatElement.{FormatElement}
+use Rattle.assembly_format.specs.declared.elements.FormatElement.TheVariants as element
+use Rattle.assembly_format.specs.declared.elements.Format.{Format}
 
 -- ---- the words of the grammar
 
@@ -241,7 +241,7 @@ ResultsPhrase (pack n k) = Then (ValueName n) (Then (Mark kind.Colon) (Then (Num
 -- `reset %r, %v` with this word
 abbrev pub ResetPhrase : Phrase → Gathered → Gathered → Phrase
 ResetPhrase Reset g h ts =
-    (r v : OperandName) × (h ≡ with_extra (with_operands g (r ∷ v ∷ [])) with_reset)
+    (r v : OperandName) × (h ≡ with_inherent (with_operands g (r ∷ v ∷ [])) with_reset)
     × Then Reset (Then (OperandPhrase r) (Then (Mark kind.Comma) (OperandPhrase v))) ts
 
 -- `p: %v: T`
@@ -268,32 +268,32 @@ InstancePhrase g h ts =
     (Then (Mark kind.Arrow) (Between kind.LeftParenthesis kind.RightParenthesis (Commas OutputPhrase outs)))))) ts
 
 -- a piece, between what is gathered before it and with it
-abbrev pub PiecePhrase : Piece → Gathered → Gathered → Phrase
-PiecePhrase (piece.Mark k) g h = Where (h ≡ g) (Mark k)
-PiecePhrase (piece.Word w) g h = Where (h ≡ g) (Word (text_of_keyword w))
-PiecePhrase piece.Operand g h = λ ts. (o : OperandName) × (h ≡ with_operands g (o ∷ [])) × OperandPhrase o ts
-PiecePhrase piece.Operands g h = λ ts. (o : OperandName) × (os : List OperandName) × (h ≡ with_operands g (o ∷ os)) × Commas OperandPhrase (o ∷ os) ts
-PiecePhrase piece.Group g h =
+abbrev pub FormatElementPhrase : FormatElement → Gathered → Gathered → Phrase
+FormatElementPhrase (element.Mark k) g h = Where (h ≡ g) (Mark k)
+FormatElementPhrase (element.Word w) g h = Where (h ≡ g) (Word (text_of_keyword w))
+FormatElementPhrase element.Operand g h = λ ts. (o : OperandName) × (h ≡ with_operands g (o ∷ [])) × OperandPhrase o ts
+FormatElementPhrase element.Operands g h = λ ts. (o : OperandName) × (os : List OperandName) × (h ≡ with_operands g (o ∷ os)) × Commas OperandPhrase (o ∷ os) ts
+FormatElementPhrase element.Group g h =
     λ ts. (os : List OperandName) × (h ≡ with_operands g os) × Between kind.LeftParenthesis kind.RightParenthesis (Commas OperandPhrase os) ts
-PiecePhrase piece.Predicate g h =
-    λ ts. (p : Predicate) × (name : Name) × (h ≡ with_extra g (predicate p)) × (predicate_named name ≡ Some p) × Word name ts
-PiecePhrase piece.Number g h = λ ts. (n : ℕ) × (h ≡ with_extra g (position n)) × NumberPhrase count_limit n ts
-PiecePhrase piece.Truth g h =
-    λ ts. (b : Bool) × (h ≡ with_extra (with_types g (int 1 ∷ [])) (number (truth_number b))) × TruthWord b ts
-PiecePhrase piece.Integer g h = λ ts. (z : ℤ) × (h ≡ with_extra g (number z)) × IntegerPhrase z ts
-PiecePhrase piece.Literals g h = λ ts. (ls : Literals) × (h ≡ with_extra g (literals ls)) × AggregatePhrase ls ts
-PiecePhrase piece.Field g h = λ ts. (name : Name) × (h ≡ with_extra g (field_name name)) × Holding kind.StringLiteral name ts
-PiecePhrase piece.Instance g h = InstancePhrase g h
-PiecePhrase piece.Reset g h = Either (ResetPhrase (Word (codes "reset")) g h) (Where (h ≡ g) Nothing)
-PiecePhrase piece.SyncReset g h = Either (ResetPhrase (Then (Word (codes "reset")) (Word (codes "sync"))) g h) (Where (h ≡ g) Nothing)
-PiecePhrase piece.Type g h = λ ts. (t : HwType) × (h ≡ with_types g (t ∷ [])) × TypePhrase most_open t ts
-PiecePhrase piece.Types g h =
+FormatElementPhrase element.Predicate g h =
+    λ ts. (p : Predicate) × (name : Name) × (h ≡ with_inherent g (predicate p)) × (predicate_named name ≡ Some p) × Word name ts
+FormatElementPhrase element.Number g h = λ ts. (n : ℕ) × (h ≡ with_inherent g (position n)) × NumberPhrase count_limit n ts
+FormatElementPhrase element.Truth g h =
+    λ ts. (b : Bool) × (h ≡ with_inherent (with_types g (int 1 ∷ [])) (number (truth_number b))) × TruthWord b ts
+FormatElementPhrase element.Integer g h = λ ts. (z : ℤ) × (h ≡ with_inherent g (number z)) × IntegerPhrase z ts
+FormatElementPhrase element.Literals g h = λ ts. (ls : Literals) × (h ≡ with_inherent g (literals ls)) × AggregatePhrase ls ts
+FormatElementPhrase element.Field g h = λ ts. (name : Name) × (h ≡ with_inherent g (field_name name)) × Holding kind.StringLiteral name ts
+FormatElementPhrase element.Instance g h = InstancePhrase g h
+FormatElementPhrase element.Reset g h = Either (ResetPhrase (Word (codes "reset")) g h) (Where (h ≡ g) Nothing)
+FormatElementPhrase element.SyncReset g h = Either (ResetPhrase (Then (Word (codes "reset")) (Word (codes "sync"))) g h) (Where (h ≡ g) Nothing)
+FormatElementPhrase element.Type g h = λ ts. (t : HwType) × (h ≡ with_types g (t ∷ [])) × TypePhrase most_open t ts
+FormatElementPhrase element.Types g h =
     λ ts. (l : List HwType) × (h ≡ with_types g l) × (length l ≡ length g.operands) × Commas (TypePhrase most_open) l ts
 
 -- pieces, one after another
-abbrev pub PiecesPhrase : List Piece → Gathered → Gathered → Phrase
-PiecesPhrase [] g h = Where (h ≡ g) Nothing
-PiecesPhrase (p ∷ ps) g h = λ ts. (m : Gathered) × Then (PiecePhrase p g m) (PiecesPhrase ps m h) ts
+abbrev pub ElementsPhrase : List FormatElement → Gathered → Gathered → Phrase
+ElementsPhrase [] g h = Where (h ≡ g) Nothing
+ElementsPhrase (p ∷ ps) g h = λ ts. (m : Gathered) × Then (FormatElementPhrase p g m) (ElementsPhrase ps m h) ts
 
 -- ---- operations
 
@@ -308,11 +308,11 @@ IsOneOf (Some es) late all = (late ≡ None) × (all ≡ es)
 IsOneOf None late all = all ≡ given_entries late
 
 -- the pieces of a form, and one dictionary at most, before the types or after them
-abbrev pub FormPhrase : List Name → Shape → Gathered → List Entry → Phrase
-FormPhrase strings shape h es ts =
+abbrev pub FormPhrase : List Name → Format → Gathered → List Entry → Phrase
+FormPhrase strings format h es ts =
     (g : Gathered) × (early late : Option (List Entry)) × IsOneOf early late es
-    × Then (PiecesPhrase (front_pieces shape) gathered_nothing g) (Then (MaybeDictionary strings early)
-    (Then (PiecesPhrase (type_pieces shape) g h) (MaybeDictionary strings late))) ts
+    × Then (ElementsPhrase (front_elements format) gathered_nothing g) (Then (MaybeDictionary strings early)
+    (Then (ElementsPhrase (type_elements format) g h) (MaybeDictionary strings late))) ts
 
 -- the mark `bin`, or nothing
 abbrev pub BinPhrase : Listed → Bool → Phrase
@@ -320,12 +320,12 @@ BinPhrase o false = Nothing
 BinPhrase o true = Where (takes_bin o ≡ true) (Word (codes "bin"))
 
 -- a form that an operation has before some token
-abbrev pub MayHaveShape : Listed → Shape → Type 0
-MayHaveShape o shape = (next : Option Lexeme) × (shape ≡ shape_of o next)
+abbrev pub MayHaveFormat : Listed → Format → Type 0
+MayHaveFormat o format = (next : Option Lexeme) × (format ≡ format_of o next)
 
 -- what is after an operation's name
 abbrev pub TailPhrase : OperationText → Phrase
-TailPhrase o ts = (shape : Shape) × MayHaveShape o.name shape × FormPhrase (string_keys o.name) shape o.gathered o.dictionary ts
+TailPhrase o ts = (format : Format) × MayHaveFormat o.name format × FormPhrase (string_keys o.name) format o.gathered o.dictionary ts
 
 -- a place is that of a token
 abbrev pub Stands : Type 1

@@ -8,7 +8,7 @@ use Rattle.ir_store.specs.DictionaryViews.{entries_in}
 use Rattle.mlir_syntax.specs.Stream.{Symbol}
 use Rattle.mlir_syntax.specs.Reads.{Read}
 use Rattle.mlir_syntax.specs.OperandText as text
-use Rattle.mlir_syntax.specs.PieceText as piece
+use Rattle.mlir_syntax.specs.ElementText as element
 use Rattle.mlir_syntax.specs.OperationText as operation
 use Rattle.mlir_syntax.specs.ModuleText as file
 use Rattle.mlir_syntax.specs.declared.fail.ReadFail.{ReadFail}
@@ -16,8 +16,8 @@ use Rattle.mlir_syntax.specs.declared.fail.ReadFail.TheVariants.{Refused, NoMemo
 use Rattle.mlir_syntax.specs.declared.syntax.OperandName.{OperandName}
 use Rattle.mlir_syntax.specs.declared.syntax.ResultNames.{ResultNames}
 use Rattle.mlir_syntax.specs.declared.syntax.ResultNames.TheVariants.{Unnamed, Names, Pack}
-use Rattle.mlir_syntax.specs.declared.syntax.Extra.{Extra}
-use Rattle.mlir_syntax.specs.declared.syntax.Extra.TheVariants as extra
+use Rattle.mlir_syntax.specs.declared.syntax.InherentAttributes.{InherentAttributes}
+use Rattle.mlir_syntax.specs.declared.syntax.InherentAttributes.TheVariants as inherent
 use Rattle.mlir_syntax.specs.declared.syntax.Gathered.{Gathered}
 use Rattle.mlir_syntax.specs.declared.syntax.OperationText.{OperationText}
 use Rattle.mlir_syntax.specs.declared.syntax.PortText.{PortText}
@@ -42,18 +42,18 @@ names_of Unnamed = text.ResultNames.no_names
 names_of (Names n ns) = text.ResultNames.names n.now (map (λ (m : _). m.now) ns.items)
 names_of (Pack n k) = text.ResultNames.pack n.now k
 
-abbrev pub extra_of : Extra → piece.Extra
-extra_of extra.Nothing = piece.Extra.nothing
-extra_of extra.WithReset = piece.Extra.with_reset
-extra_of (extra.Predicate p) = piece.Extra.predicate (predicate_of p)
-extra_of (extra.Position n) = piece.Extra.position n
-extra_of (extra.Number z) = piece.Extra.number (integer_of z)
-extra_of (extra.Literals ls) = piece.Extra.literals (literals_in ls)
-extra_of (extra.FieldName name) = piece.Extra.field_name name
-extra_of (extra.Child i) = piece.Extra.child (instance_of (box_value i))
+abbrev pub inherent_of : InherentAttributes → element.InherentAttributes
+inherent_of inherent.Nothing = element.InherentAttributes.nothing
+inherent_of inherent.WithReset = element.InherentAttributes.with_reset
+inherent_of (inherent.Predicate p) = element.InherentAttributes.predicate (predicate_of p)
+inherent_of (inherent.Position n) = element.InherentAttributes.position n
+inherent_of (inherent.Number z) = element.InherentAttributes.number (integer_of z)
+inherent_of (inherent.Literals ls) = element.InherentAttributes.literals (literals_in ls)
+inherent_of (inherent.FieldName name) = element.InherentAttributes.field_name name
+inherent_of (inherent.Child i) = element.InherentAttributes.child (instance_of (box_value i))
 
-abbrev pub gathered_of : Gathered → piece.Gathered
-gathered_of g = record { operands = map operand_of g.operands.items; types = types_in g.types; extra = extra_of g.extra }
+abbrev pub gathered_of : Gathered → element.Gathered
+gathered_of g = record { operands = map operand_of g.operands.items; types = types_in g.types; inherent = inherent_of g.inherent }
 
 abbrev pub operation_of : OperationText → operation.OperationText
 operation_of o = record {

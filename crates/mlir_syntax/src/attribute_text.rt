@@ -64,9 +64,9 @@ impl<'s> Reader<'s> {
             }
             AttributeHead::Number => self.typed_integer(op, room),
             AttributeHead::List if room > 0 => self.list_text(op, room - 1),
-            AttributeHead::List => Err(ReadFail::Refused(self.refused(Cause::TooDeep, op))),
-            AttributeHead::Alias => Err(ReadFail::Refused(self.refused(Cause::OutsideProfile, op))),
-            AttributeHead::Nothing => Err(ReadFail::Refused(self.unexpected(op))),
+            AttributeHead::List => Err(ReadFail::Refused(self.refusal_for(Cause::TooDeep, op))),
+            AttributeHead::Alias => Err(ReadFail::Refused(self.refusal_for(Cause::OutsideProfile, op))),
+            AttributeHead::Nothing => Err(ReadFail::Refused(self.unexpected_token(op))),
         }
     }
 
@@ -117,7 +117,7 @@ impl<'s> Reader<'s> {
         ensures shorter { OnOk result (length self.new ≤ length self.old) }
     {
         let minus = self.pass(TokenKind::Minus);
-        let too_large = self.refused(Cause::NumberTooLarge, op);
+        let too_large = self.refusal_for(Cause::NumberTooLarge, op);
         match self.number(op) {
             Ok(distance) => {
                 let value = signed(minus, distance);

@@ -128,7 +128,7 @@ impl<'s> Reader<'s> {
         ensures new { IfOk result (λ key. is_among key keys.now.keys ≡ false) }
         ensures shorter { OnOk result (length self.new ≤ length self.old) }
     {
-        let twice = self.refused(Cause::Unexpected, op);
+        let twice = self.refusal_for(Cause::Unexpected, op);
         let key = self.name_text(op)?;
         if is_among(&key, keys) {
             Err(ReadFail::Refused(twice))
@@ -151,7 +151,7 @@ impl<'s> Reader<'s> {
         if self.pass(TokenKind::Equals) {
             self.value_of_key(op, strings, key)
         } else if strings.has(key) {
-            Err(ReadFail::Refused(self.unexpected(op)))
+            Err(ReadFail::Refused(self.unexpected_token(op)))
         } else {
             Ok(unit_value())
         }

@@ -5,14 +5,14 @@ ghost use Rattle.hw_model.specs.KindViews.{instance_of};
 ghost use Rattle.ir_store.specs.OperationViews.{types_in};
 ghost use Rattle.mlir_lexer.specs.declared.token.TokenKind.TheVariants as kind;
 ghost use Rattle.mlir_syntax.specs.Reads.{some_items, items_until};
-ghost use Rattle.mlir_syntax.specs.PieceText.{input_text, inputs_text, output_text, outputs_text, instance_text, instance_with, with_instance, piece_text};
-ghost use Rattle.mlir_syntax.specs.PieceHeads.{joined_of};
+ghost use Rattle.mlir_syntax.specs.ElementText.{input_text, inputs_text, output_text, outputs_text, instance_text, instance_with, with_instance, element_text};
+ghost use Rattle.mlir_syntax.specs.ElementHeads.{joined_of};
 ghost use Rattle.mlir_syntax.specs.Views.{ReadsAs, gathered_of, operand_of};
-ghost use Rattle.assembly_format.specs.declared.pieces.Piece.TheVariants as piece;
+ghost use Rattle.assembly_format.specs.declared.elements.FormatElement.TheVariants as element;
 
 use crate::fail::ReadFail;
 use crate::reader::Reader;
-use crate::syntax::{Extra, Gathered, OperandName};
+use crate::syntax::{InherentAttributes, Gathered, OperandName};
 use crate::type_text::MOST_OPEN;
 use diag::refusal::OpName;
 use hw_model::kinds::Instance;
@@ -37,13 +37,13 @@ impl<'s> Reader<'s> {
     /// that are gathered before.
     ///
     /// Refuses the first token that no instance has there.
-    #[tactic(auto, unfolding(crate::specs::PieceText::piece_text, crate::specs::PieceText::instance_text))]
-    pub fn instance_piece(
+    #[tactic(auto, unfolding(crate::specs::ElementText::element_text, crate::specs::ElementText::instance_text))]
+    pub fn instance_element(
         &mut self,
         op: OpName,
         gathered: &mut Gathered<'s>,
     ) -> Result<(), ReadFail>
-        ensures gives { ReadsAs (λ (_ : Unit {0}). gathered_of gathered.new) result self.new (piece_text op piece.Instance (gathered_of gathered.old) self.old) }
+        ensures gives { ReadsAs (λ (_ : Unit {0}). gathered_of gathered.new) result self.new (element_text op element.Instance (gathered_of gathered.old) self.old) }
         ensures shorter { OnOk result (length self.new ≤ length self.old) }
     {
         let name = self.string_text(op)?;
@@ -61,12 +61,12 @@ impl<'s> Reader<'s> {
             inputs,
             outputs,
         };
-        gathered.extra = Extra::Child(Box::new(alloc, instance)?);
+        gathered.inherent = InherentAttributes::Child(Box::new(alloc, instance)?);
         Ok(())
     }
 
     // `(p: %v: T, ..)`
-    #[tactic(auto, unfolding(crate::specs::PieceText::inputs_text, crate::specs::Reads::items_until))]
+    #[tactic(auto, unfolding(crate::specs::ElementText::inputs_text, crate::specs::Reads::items_until))]
     fn inputs_text(&mut self, op: OpName) -> Result<Vec<Joined<'s>>, ReadFail>
         ensures gives { ReadsAs (λ joined. map joined_of joined.items) result self.new (inputs_text op self.old) }
         ensures shorter { OnOk result (length self.new ≤ length self.old) }
@@ -98,7 +98,7 @@ impl<'s> Reader<'s> {
     }
 
     // `p: %v: T`
-    #[tactic(auto, unfolding(crate::specs::PieceText::input_text))]
+    #[tactic(auto, unfolding(crate::specs::ElementText::input_text))]
     fn input_text(&mut self, op: OpName) -> Result<Joined<'s>, ReadFail>
         ensures gives { ReadsAs joined_of result self.new (input_text op self.old) }
         ensures shorter { OnOk result (length self.new ≤ length self.old) }
@@ -112,7 +112,7 @@ impl<'s> Reader<'s> {
     }
 
     // `-> (q: T, ..)`
-    #[tactic(auto, unfolding(crate::specs::PieceText::outputs_text, crate::specs::Reads::items_until))]
+    #[tactic(auto, unfolding(crate::specs::ElementText::outputs_text, crate::specs::Reads::items_until))]
     fn outputs_text(&mut self, op: OpName) -> Result<Vec<Field>, ReadFail>
         ensures gives { ReadsAs (λ fields. map field_of fields.items) result self.new (outputs_text op self.old) }
         ensures shorter { OnOk result (length self.new ≤ length self.old) }

@@ -11,7 +11,7 @@ pub mod numerals;
 pub mod operand_text;
 pub mod operation_names;
 pub mod operation_text;
-pub mod piece_text;
+pub mod element_text;
 pub mod port_text;
 pub mod reader;
 pub mod syntax;

@@ -59,8 +59,8 @@ impl<'s> Reader<'s> {
             }
             LiteralHead::Number => self.number_leaf(op, room),
             LiteralHead::List if room > 0 => self.list_part(op, room - 1),
-            LiteralHead::List => Err(ReadFail::Refused(self.refused(Cause::TooDeep, op))),
-            LiteralHead::Nothing => Err(ReadFail::Refused(self.unexpected(op))),
+            LiteralHead::List => Err(ReadFail::Refused(self.refusal_for(Cause::TooDeep, op))),
+            LiteralHead::Nothing => Err(ReadFail::Refused(self.unexpected_token(op))),
         }
     }
 

@@ -22,7 +22,7 @@ impl<'s> Reader<'s> {
         ensures gives { ReadsAs (λ n. n) result self.new (number_below count_limit op self.old) }
         ensures shorter { OnOk result (length self.new ≤ length self.old) }
     {
-        let too_large = self.refused(Cause::NumberTooLarge, op);
+        let too_large = self.refusal_for(Cause::NumberTooLarge, op);
         let token = self.want(op, TokenKind::Integer)?;
         match count_of(number_of(token.text)) {
             Some(count) => Ok(count),
@@ -38,7 +38,7 @@ impl<'s> Reader<'s> {
         ensures gives { ReadsAs (λ n. n) result self.new (number_below number_limit op self.old) }
         ensures shorter { OnOk result (length self.new ≤ length self.old) }
     {
-        let too_large = self.refused(Cause::NumberTooLarge, op);
+        let too_large = self.refusal_for(Cause::NumberTooLarge, op);
         let token = self.want(op, TokenKind::Integer)?;
         match number_of(token.text) {
             Some(number) => Ok(number),

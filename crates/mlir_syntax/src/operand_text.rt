@@ -39,7 +39,7 @@ impl<'s> Reader<'s> {
         if !self.is_next(TokenKind::ResultNumber) {
             return Ok(0);
         }
-        let too_large = self.refused(Cause::NumberTooLarge, op);
+        let too_large = self.refusal_for(Cause::NumberTooLarge, op);
         let token = self.want(op, TokenKind::ResultNumber)?;
         match decimal(behind_sign(token.text)) {
             Some(number) => Ok(number),

@@ -7,7 +7,7 @@ ghost use Rattle.mlir_syntax.specs.AttributeHeads.{keys_of};
 ghost use Rattle.mlir_syntax.specs.ModuleText.{header};
 ghost use Rattle.mlir_syntax.specs.NameClasses.{class_seen};
 ghost use Rattle.mlir_syntax.specs.OperationText.{bin_text, string_keys, form_text, late_dictionary, named_operation, classed_operation, operation_behind, operation_text, misplaced, no_operation, is_outside, other_name};
-ghost use Rattle.mlir_syntax.specs.PieceText.{gathered_nothing};
+ghost use Rattle.mlir_syntax.specs.ElementText.{gathered_nothing};
 ghost use Rattle.mlir_syntax.specs.Stream.{first, is_first};
 ghost use Rattle.mlir_syntax.specs.Views.{ReadsAs, gathered_of, names_of, operation_of};
 
@@ -15,9 +15,9 @@ use crate::dictionary_text::StringKeys;
 use crate::fail::ReadFail;
 use crate::operation_names::{NameClass, class_of, takes_bin};
 use crate::reader::Reader;
-use crate::syntax::{Extra, Gathered, OperationText, ResultNames};
-use assembly_format::pieces::Shape;
-use assembly_format::shapes::{front_pieces, shape_of, type_pieces};
+use crate::syntax::{InherentAttributes, Gathered, OperationText, ResultNames};
+use assembly_format::elements::Format;
+use assembly_format::formats::{front_elements, format_of, type_elements};
 use diag::cause::Cause;
 use diag::refusal::{OpName, Place, Refusal};
 use ir_store::dictionary::Dictionary;
@@ -32,7 +32,7 @@ pub const HEADER: OpName = OpName::Listed(Listed::HwModule);
 
 impl<'s> Gathered<'s> {
     ghost use Rattle.std.specs.Prelude.{◌≡◌};
-    ghost use Rattle.mlir_syntax.specs.PieceText.{gathered_nothing};
+    ghost use Rattle.mlir_syntax.specs.ElementText.{gathered_nothing};
     ghost use Rattle.mlir_syntax.specs.Views.{gathered_of};
 
     /// Nothing yet. It takes no memory.
@@ -42,7 +42,7 @@ impl<'s> Gathered<'s> {
         Gathered {
             operands: SmallVec::new(alloc),
             types: TyList::new(),
-            extra: Extra::Nothing,
+            inherent: InherentAttributes::Nothing,
         }
     }
 }
@@ -107,10 +107,10 @@ impl<'s> Reader<'s> {
         ensures shorter { OnOk result (length self.new ≤ length self.old) }
     {
         let bin = self.bin_text(name);
-        let shape = shape_of(name, self.first());
+        let format = format_of(name, self.first());
         let mut gathered = Gathered::new(self.alloc());
         let op = OpName::Listed(name);
-        let dictionary = self.form_text(op, string_keys(name), shape, &mut gathered)?;
+        let dictionary = self.form_text(op, string_keys(name), format, &mut gathered)?;
         Ok(OperationText {
             results,
             name,
@@ -136,16 +136,16 @@ impl<'s> Reader<'s> {
         &mut self,
         op: OpName,
         keys: StringKeys,
-        shape: Shape,
+        format: Format,
         gathered: &mut Gathered<'s>,
     ) -> Result<Dictionary, ReadFail>
         requires nothing { gathered_of gathered.old ≡ gathered_nothing }
-        ensures gives { ReadsAs (λ d. record { gathered = gathered_of gathered.new; dictionary = entries_in d }) result self.new (form_text op (keys_of keys) shape self.old) }
+        ensures gives { ReadsAs (λ d. record { gathered = gathered_of gathered.new; dictionary = entries_in d }) result self.new (form_text op (keys_of keys) format self.old) }
         ensures shorter { OnOk result (length self.new ≤ length self.old) }
     {
-        self.pieces_text(op, front_pieces(shape), gathered)?;
+        self.elements_text(op, front_elements(format), gathered)?;
         let dictionary = self.maybe_dictionary(op, keys)?;
-        self.pieces_text(op, type_pieces(shape), gathered)?;
+        self.elements_text(op, type_elements(format), gathered)?;
         self.late_dictionary(op, keys, dictionary)
     }
 
@@ -176,12 +176,12 @@ impl<'s> Reader<'s> {
         ensures { result ≡ misplaced around self.now (lexeme_of token.entry) (class_seen class) }
     {
         match class {
-            NameClass::Operation(name) => self.refused(Cause::Unexpected, OpName::Listed(name)),
-            NameClass::Module => self.refused(Cause::Unexpected, HEADER),
-            NameClass::File => self.refused(Cause::Unexpected, OpName::File),
-            NameClass::Locations => self.refused(Cause::OutsideProfile, around),
-            NameClass::Outside => self.refused(Cause::OutsideProfile, other_name(token)),
-            NameClass::Unknown => self.refused(Cause::UnknownOperation, other_name(token)),
+            NameClass::Operation(name) => self.refusal_for(Cause::Unexpected, OpName::Listed(name)),
+            NameClass::Module => self.refusal_for(Cause::Unexpected, HEADER),
+            NameClass::File => self.refusal_for(Cause::Unexpected, OpName::File),
+            NameClass::Locations => self.refusal_for(Cause::OutsideProfile, around),
+            NameClass::Outside => self.refusal_for(Cause::OutsideProfile, other_name(token)),
+            NameClass::Unknown => self.refusal_for(Cause::UnknownOperation, other_name(token)),
         }
     }
 
@@ -191,9 +191,9 @@ impl<'s> Reader<'s> {
         ensures { result ≡ no_operation around self.now }
     {
         if self.is_outside() {
-            self.refused(Cause::OutsideProfile, around)
+            self.refusal_for(Cause::OutsideProfile, around)
         } else {
-            self.unexpected(around)
+            self.unexpected_token(around)
         }
     }
 

@@ -53,7 +53,7 @@ impl<'s> Reader<'s> {
     {
         self.want(HEADER, TokenKind::LeftParenthesis)?;
         if self.is_next(TokenKind::ValueName) {
-            return Err(ReadFail::Refused(self.refused(Cause::OutsideProfile, HEADER)));
+            return Err(ReadFail::Refused(self.refusal_for(Cause::OutsideProfile, HEADER)));
         }
         if self.pass(TokenKind::RightParenthesis) {
             return Ok(Vec::new(self.alloc()));
@@ -92,7 +92,7 @@ impl<'s> Reader<'s> {
         if self.pass_word(b"out") {
             return self.output_port();
         }
-        Err(ReadFail::Refused(self.unexpected(HEADER)))
+        Err(ReadFail::Refused(self.unexpected_token(HEADER)))
     }
 
     // `%v ["name"] : T` after `in`.
@@ -127,7 +127,7 @@ impl<'s> Reader<'s> {
     }
 
     // `"name"`, or nothing, which means the name of the value.
-    #[tactic(auto, unfolding(crate::specs::ModuleText::port_name, crate::specs::PieceText::string_text))]
+    #[tactic(auto, unfolding(crate::specs::ModuleText::port_name, crate::specs::ElementText::string_text))]
     fn port_name(&mut self, value: &'s [u8]) -> Result<Text, ReadFail>
         ensures gives { ReadsAs (λ name. name) result self.new (port_name value.now self.old) }
         ensures shorter { OnOk result (length self.new ≤ length self.old) }

@@ -6,10 +6,10 @@ ghost use Rattle.mlir_syntax.specs.Stream.{stream_of, is_word, first, is_next, i
 ghost use Rattle.mlir_lexer.specs.TokenKinds.{tag, is_kind};
 ghost use Rattle.mlir_syntax.specs.Heads.{stream_left, symbols};
 ghost use Rattle.mlir_syntax.specs.ModuleText.{is_end};
-ghost use Rattle.mlir_syntax.specs.PieceText.{Gathered as Gathering, piece_text};
+ghost use Rattle.mlir_syntax.specs.ElementText.{Gathered as Gathering, element_text};
 ghost use Rattle.mlir_syntax.specs.Reads.{want, want_word};
 ghost use Rattle.mlir_syntax.specs.Views.{ReadsAs};
-ghost use Rattle.assembly_format.specs.declared.pieces.Piece.TheVariants as piece;
+ghost use Rattle.assembly_format.specs.declared.elements.FormatElement.TheVariants as element;
 
 use crate::fail::ReadFail;
 use crate::head::Head;
@@ -138,7 +138,7 @@ impl<'s> Reader<'s> {
                 Ok(token)
             }
             Head::Token(_) | Head::Bad(_) | Head::End(_) => {
-                Err(ReadFail::Refused(self.unexpected(op)))
+                Err(ReadFail::Refused(self.unexpected_token(op)))
             }
         }
     }
@@ -146,9 +146,9 @@ impl<'s> Reader<'s> {
     /// Passes a token that is always the same.
     ///
     /// Refuses everything else that stands there.
-    #[tactic(auto, unfolding(crate::specs::Reads::want, crate::specs::PieceText::piece_text))]
-    pub fn mark_piece(&mut self, op: OpName, kind: TokenKind) -> Result<(), ReadFail>
-        ensures gives { (g : Gathering) → ReadsAs (λ (_ : Unit {0}). g) result self.new (piece_text op (piece.Mark kind) g self.old) }
+    #[tactic(auto, unfolding(crate::specs::Reads::want, crate::specs::ElementText::element_text))]
+    pub fn mark_element(&mut self, op: OpName, kind: TokenKind) -> Result<(), ReadFail>
+        ensures gives { (g : Gathering) → ReadsAs (λ (_ : Unit {0}). g) result self.new (element_text op (element.Mark kind) g self.old) }
         ensures shorter { OnOk result (length self.new ≤ length self.old) }
     {
         match self.head {
@@ -157,7 +157,7 @@ impl<'s> Reader<'s> {
                 Ok(())
             }
             Head::Token(_) | Head::Bad(_) | Head::End(_) => {
-                Err(ReadFail::Refused(self.unexpected(op)))
+                Err(ReadFail::Refused(self.unexpected_token(op)))
             }
         }
     }
@@ -176,13 +176,13 @@ impl<'s> Reader<'s> {
                 Ok(token)
             }
             Head::Token(_) | Head::Bad(_) | Head::End(_) => {
-                Err(ReadFail::Refused(self.unexpected(op)))
+                Err(ReadFail::Refused(self.unexpected_token(op)))
             }
         }
     }
 
     /// The refusal of what stands first, where no form has it there.
-    pub fn unexpected(&self, op: OpName) -> Refusal
+    pub fn unexpected_token(&self, op: OpName) -> Refusal
         ensures { result ≡ unexpected op self.now }
     {
         match self.head {
@@ -193,7 +193,7 @@ impl<'s> Reader<'s> {
     }
 
     /// The refusal of what stands first, where it is a token for this cause.
-    pub fn refused(&self, cause: Cause, op: OpName) -> Refusal
+    pub fn refusal_for(&self, cause: Cause, op: OpName) -> Refusal
         ensures { result ≡ refused cause op self.now }
     {
         match self.head {

@@ -31,7 +31,7 @@ pub enum ResultNames<'s> {
 
 /// What the text of an operation says besides its operands and types.
 #[derive(Debug, Drop)]
-pub enum Extra {
+pub enum InherentAttributes {
     /// Nothing.
     Nothing,
     /// That the register has a reset.
@@ -58,7 +58,7 @@ pub struct Gathered<'s> {
     /// The types that are written, in text order.
     pub types: TyList,
     /// The rest.
-    pub extra: Extra,
+    pub inherent: InherentAttributes,
 }
 
 /// An operation as its text says it.

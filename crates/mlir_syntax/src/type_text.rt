@@ -61,10 +61,10 @@ impl<'s> Reader<'s> {
             }
             TypeHead::Array if room > 0 => self.array_text(op, room - 1),
             TypeHead::Struct if room > 0 => self.struct_text(op, room - 1),
-            TypeHead::Array => Err(ReadFail::Refused(self.refused(Cause::TooDeep, op))),
-            TypeHead::Struct => Err(ReadFail::Refused(self.refused(Cause::TooDeep, op))),
-            TypeHead::Foreign => Err(ReadFail::Refused(self.refused(Cause::OutsideProfile, op))),
-            TypeHead::Nothing => Err(ReadFail::Refused(self.unexpected(op))),
+            TypeHead::Array => Err(ReadFail::Refused(self.refusal_for(Cause::TooDeep, op))),
+            TypeHead::Struct => Err(ReadFail::Refused(self.refusal_for(Cause::TooDeep, op))),
+            TypeHead::Foreign => Err(ReadFail::Refused(self.refusal_for(Cause::OutsideProfile, op))),
+            TypeHead::Nothing => Err(ReadFail::Refused(self.unexpected_token(op))),
         }
     }
 
@@ -99,7 +99,7 @@ impl<'s> Reader<'s> {
                 self.advance();
                 Ok(Ty::Int(width))
             }
-            None => Err(ReadFail::Refused(self.refused(Cause::NumberTooLarge, op))),
+            None => Err(ReadFail::Refused(self.refusal_for(Cause::NumberTooLarge, op))),
         }
     }
 
@@ -142,9 +142,9 @@ impl<'s> Reader<'s> {
             }
             Some(glued) => match width_digits(glued) {
                 Some(digits) => self.width_type(op, digits),
-                None => Err(ReadFail::Refused(self.unexpected(op))),
+                None => Err(ReadFail::Refused(self.unexpected_token(op))),
             },
-            None => Err(ReadFail::Refused(self.unexpected(op))),
+            None => Err(ReadFail::Refused(self.unexpected_token(op))),
         }
     }
 
@@ -223,7 +223,7 @@ impl<'s> Reader<'s> {
                 self.advance();
                 Ok(name)
             }
-            Some(_) | None => Err(ReadFail::Refused(self.unexpected(op))),
+            Some(_) | None => Err(ReadFail::Refused(self.unexpected_token(op))),
         }
     }
 

@@ -70,7 +70,7 @@ pub(crate) fn put(
     Ok(true)
 }
 
-pub(crate) fn erased(body: &mut Body, op: OpId) -> bool {
+pub(crate) fn erase(body: &mut Body, op: OpId) -> bool {
     let may = body.contains(op) && body.is_unused(op);
     if may {
         body.erase(op);
@@ -78,7 +78,7 @@ pub(crate) fn erased(body: &mut Body, op: OpId) -> bool {
     may
 }
 
-fn inserted(body: &mut Body, op: OpId, at: u32, value: Value) -> Result<bool, AllocError> {
+fn insert(body: &mut Body, op: OpId, at: u32, value: Value) -> Result<bool, AllocError> {
     let may = body.contains(op) && at as usize <= body.op(op).operands.len();
     if may {
         body.insert_operand(op, at, value)?;
@@ -86,7 +86,7 @@ fn inserted(body: &mut Body, op: OpId, at: u32, value: Value) -> Result<bool, Al
     Ok(may)
 }
 
-fn written(body: &mut Body, op: OpId, at: u32, value: Value) -> bool {
+fn set_operand(body: &mut Body, op: OpId, at: u32, value: Value) -> bool {
     let may = body.contains(op) && (at as usize) < body.op(op).operands.len();
     if may {
         body.set_operand(op, at, value);
@@ -94,7 +94,7 @@ fn written(body: &mut Body, op: OpId, at: u32, value: Value) -> bool {
     may
 }
 
-fn dropped(body: &mut Body, op: OpId, at: u32) -> bool {
+fn drop_operand(body: &mut Body, op: OpId, at: u32) -> bool {
     let may = body.contains(op) && (at as usize) < body.op(op).operands.len();
     if may {
         body.drop_operand(op, at);
@@ -108,10 +108,10 @@ fn changed(alloc: Global, body: &mut Body, change: Change) -> Result<bool, Alloc
             let values = values_of(alloc, operands)?;
             put(alloc, body, before, values.as_slice())
         }
-        Erase { op } => Ok(erased(body, OpId::nth(op))),
-        Insert { op, at, value } => inserted(body, OpId::nth(op), at, value_of(value)),
-        Set { op, at, value } => Ok(written(body, OpId::nth(op), at, value_of(value))),
-        DropAt { op, at } => Ok(dropped(body, OpId::nth(op), at)),
+        Erase { op } => Ok(erase(body, OpId::nth(op))),
+        Insert { op, at, value } => insert(body, OpId::nth(op), at, value_of(value)),
+        Set { op, at, value } => Ok(set_operand(body, OpId::nth(op), at, value_of(value))),
+        DropAt { op, at } => Ok(drop_operand(body, OpId::nth(op), at)),
         Replace { from, to } => {
             body.replace_all_uses(value_of(from), value_of(to));
             Ok(true)

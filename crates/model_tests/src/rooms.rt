@@ -2,7 +2,7 @@
 ghost use Rattle.std.specs.Prelude.{◌≡◌, map, IfOk};
 ghost use Rattle.ir_store.specs.Bodies.{ids_of, op_id};
 
-use crate::bodies::{erased, put};
+use crate::bodies::{erase, put};
 use diag::refusal::Place;
 use io_edge::byte_text::Text;
 use ir_store::body::Body;
@@ -28,7 +28,7 @@ fn erase_first(body: &mut Body) -> bool {
     let Some(op) = body.ops().next() else {
         return false;
     };
-    let is_erased = erased(body, op);
+    let is_erased = erase(body, op);
     let after = body.spare();
     is_erased && after.0.saturating_sub(before.0) >= 1 && after.1.saturating_sub(before.1) >= 2
 }
@@ -72,7 +72,7 @@ fn positions_are_told_by_ids(rt: HostRuntime) -> Result<(), Fail> {
     }
     let positions = positions_in(rt.alloc(), &body)?;
     assert_eq!(rt; positions.as_slice(), [2, 0, 1].as_slice());
-    assert!(rt; erased(&mut body, OpId::nth(1)));
+    assert!(rt; erase(&mut body, OpId::nth(1)));
     // an id that is gone has as its position the number of ids
     let positions = positions_in(rt.alloc(), &body)?;
     assert_eq!(rt; positions.as_slice(), [1, 2, 0].as_slice());

@@ -10,7 +10,7 @@ use Rattle.verilog_model.proofs.Numerals.{and_intro, and_first, and_second}
 use Rattle.fresh_names.specs.Fresh.{is_taken, with_suffix, free_name}
 use Rattle.fresh_names.proofs.Taken.{same_is, taken_more, taken_last, one_more}
 use Rattle.fresh_names.proofs.Free.{name_free, name_stays}
-use Rattle.name_legalise.specs.Legal.{cleaned, legal_name, legal_after}
+use Rattle.name_legalise.specs.Legal.{clean, legal_name, legal_after}
 use Rattle.name_legalise.proofs.Members.{is_taken-append, contains_name-is_taken, free_first, free_second, free_both}
 use Rattle.name_legalise.proofs.Suffixes.{reserved_count, suffixed_unreserved, least_within}
 use Rattle.name_legalise.proofs.NameBytes.{cleaned_same, starts_named, bytes_named}
@@ -42,7 +42,7 @@ legal_count ts (w ∷ ws) = ap suc (legal_count (ts ++ legal_name ts w ∷ []) w
 -- ---- free names
 
 pub legal_free : (ts : List Name) (w : Name) → length ts + 125 < 2 ^ 64 → is_taken (reserved_words ++ ts) (legal_name ts w) ≡ false
-legal_free ts w small = name_free (reserved_words ++ ts) (cleaned w) (omega (arith, length-append reserved_words ts, reserved_count, small))
+legal_free ts w small = name_free (reserved_words ++ ts) (clean w) (omega (arith, length-append reserved_words ts, reserved_count, small))
 
 more_small : (ts : List Name) (n : Name) (k : ℕ) → length ts + suc k + 124 < 2 ^ 64 → length (ts ++ n ∷ []) + k + 124 < 2 ^ 64
 more_small ts n k small = omega (arith, one_more ts n, small)
@@ -114,18 +114,18 @@ either : (a b : Bool) → (a || b) ≡ true → a ≡ false → b ≡ true
 either true b e f = cc
 either false b e f = e
 
-pub legal_least : (ts : List Name) (w : Name) → length ts + 125 < 2 ^ 64 → contains_name (cleaned w) (reserved_words ++ ts) ≡ true
-    → (n : ℕ) × (legal_name ts w ≡ with_suffix (cleaned w) n) × ((k : ℕ) → k < n → contains_name (with_suffix (cleaned w) k) ts ≡ true)
+pub legal_least : (ts : List Name) (w : Name) → length ts + 125 < 2 ^ 64 → contains_name (clean w) (reserved_words ++ ts) ≡ true
+    → (n : ℕ) × (legal_name ts w ≡ with_suffix (clean w) n) × ((k : ℕ) → k < n → contains_name (with_suffix (clean w) k) ts ≡ true)
 legal_least ts w small t = (found.0, found.1, below) where
   count : length (reserved_words ++ ts) ≡ 124 + length ts
   count = length-append reserved_words ts ∙ ap (λ n. n + length ts) reserved_count
 
-  found : (n : ℕ) × (free_name (reserved_words ++ ts) (cleaned w) ≡ with_suffix (cleaned w) n) × ((k : ℕ) → k < n → is_taken (reserved_words ++ ts) (with_suffix (cleaned w) k) ≡ true) × (n ≤ length (reserved_words ++ ts))
-  found = least_within (reserved_words ++ ts) (cleaned w) (sym (contains_name-is_taken (cleaned w) (reserved_words ++ ts)) ∙ t)
+  found : (n : ℕ) × (free_name (reserved_words ++ ts) (clean w) ≡ with_suffix (clean w) n) × ((k : ℕ) → k < n → is_taken (reserved_words ++ ts) (with_suffix (clean w) k) ≡ true) × (n ≤ length (reserved_words ++ ts))
+  found = least_within (reserved_words ++ ts) (clean w) (sym (contains_name-is_taken (clean w) (reserved_words ++ ts)) ∙ t)
 
-  below : (k : ℕ) → k < found.0 → contains_name (with_suffix (cleaned w) k) ts ≡ true
+  below : (k : ℕ) → k < found.0 → contains_name (with_suffix (clean w) k) ts ≡ true
   below k lt =
-      let name = with_suffix (cleaned w) k in
+      let name = with_suffix (clean w) k in
       contains_name-is_taken name ts
       ∙ either (is_taken reserved_words name) (is_taken ts name) (sym (is_taken-append reserved_words ts name) ∙ found.2 k lt)
-      (suffixed_unreserved (cleaned w) k (omega (arith, lt, found.3, count, small)))
+      (suffixed_unreserved (clean w) k (omega (arith, lt, found.3, count, small)))

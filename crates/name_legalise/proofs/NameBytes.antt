@@ -6,15 +6,15 @@ use Rattle.verilog_model.specs.Numerals.{all_bytes, is_nonempty}
 use Rattle.verilog_model.specs.Checks.{starts_name}
 use Rattle.verilog_model.proofs.Numerals.{and_intro, and_first, and_second, all_bytes-append, all_bytes_weaker, is_decimal-decimal}
 use Rattle.fresh_names.specs.Fresh.{with_suffix, free_name}
-use Rattle.name_legalise.specs.Legal.{name_byte, cleaned}
+use Rattle.name_legalise.specs.Legal.{name_byte, clean}
 use Rattle.name_legalise.proofs.Suffixes.{name_within}
 
-pub cleaned_stays : (w : Name) → starts_name (map name_byte w) ≡ true → cleaned w ≡ map name_byte w
-unfolding cleaned
+pub cleaned_stays : (w : Name) → starts_name (map name_byte w) ≡ true → clean w ≡ map name_byte w
+unfolding clean
 cleaned_stays w e = ap (λ b. cond b (map name_byte w) (95 ∷ map name_byte w)) e
 
-pub cleaned_fronted : (w : Name) → starts_name (map name_byte w) ≡ false → cleaned w ≡ 95 ∷ map name_byte w
-unfolding cleaned
+pub cleaned_fronted : (w : Name) → starts_name (map name_byte w) ≡ false → clean w ≡ 95 ∷ map name_byte w
+unfolding clean
 cleaned_fronted w e = ap (λ b. cond b (map name_byte w) (95 ∷ map name_byte w)) e
 
 -- ---- a name whose bytes are cleaned
@@ -29,15 +29,15 @@ mapped_bytes : (w : Name) → IsTrue (all_bytes is_name_byte (map name_byte w))
 mapped_bytes [] = refl
 mapped_bytes (b ∷ w) = and_intro (is_name_byte (name_byte b)) (all_bytes is_name_byte (map name_byte w)) (name_byte_is b) (mapped_bytes w)
 
-pub cleaned_bytes : (w : Name) → IsTrue (all_bytes is_name_byte (cleaned w))
-unfolding cleaned
+pub cleaned_bytes : (w : Name) → IsTrue (all_bytes is_name_byte (clean w))
+unfolding clean
 cleaned_bytes w = go (starts_name (map name_byte w)) where
   go : (t : Bool) → IsTrue (all_bytes is_name_byte (cond t (map name_byte w) (95 ∷ map name_byte w)))
   go true = mapped_bytes w
   go false = mapped_bytes w
 
-pub cleaned_starts : (w : Name) → IsTrue (starts_name (cleaned w))
-unfolding cleaned
+pub cleaned_starts : (w : Name) → IsTrue (starts_name (clean w))
+unfolding clean
 cleaned_starts w = go (starts_name (map name_byte w)) refl where
   go : (t : Bool) → starts_name (map name_byte w) ≡ t → IsTrue (starts_name (cond t (map name_byte w) (95 ∷ map name_byte w)))
   go true e = e
@@ -53,11 +53,11 @@ mapped_same (b ∷ w) h =
     ∙ ap (λ l. b ∷ l) (mapped_same w (and_second (is_name_byte b) (all_bytes is_name_byte w) h))
 
 -- what has the bytes of a name, and begins as one once it is cleaned, stays
-pub clean_same : (w : Name) → starts_name (map name_byte w) ≡ true → IsTrue (all_bytes is_name_byte w) → cleaned w ≡ w
+pub clean_same : (w : Name) → starts_name (map name_byte w) ≡ true → IsTrue (all_bytes is_name_byte w) → clean w ≡ w
 clean_same w s h = cleaned_stays w s ∙ mapped_same w h
 
 -- what has the bytes of a name, and begins as one, stays
-pub cleaned_same : (w : Name) → IsTrue (starts_name w) → IsTrue (all_bytes is_name_byte w) → cleaned w ≡ w
+pub cleaned_same : (w : Name) → IsTrue (starts_name w) → IsTrue (all_bytes is_name_byte w) → clean w ≡ w
 cleaned_same w s h = let same = mapped_same w h in cleaned_stays w (ap starts_name same ∙ s) ∙ same
 
 -- ---- a suffixed name
@@ -83,10 +83,10 @@ bytes_suffixed w k small h =
 
 -- ---- the free name of a cleaned one
 
-pub bytes_named : (ts : List Name) (w : Name) → length ts < 2 ^ 64 → IsTrue (all_bytes is_name_byte (free_name ts (cleaned w)))
+pub bytes_named : (ts : List Name) (w : Name) → length ts < 2 ^ 64 → IsTrue (all_bytes is_name_byte (free_name ts (clean w)))
 bytes_named ts w small =
-    name_within ts (cleaned w) (λ n. IsTrue (all_bytes is_name_byte n)) small (cleaned_bytes w) (λ k few. bytes_suffixed (cleaned w) k few (cleaned_bytes w))
+    name_within ts (clean w) (λ n. IsTrue (all_bytes is_name_byte n)) small (cleaned_bytes w) (λ k few. bytes_suffixed (clean w) k few (cleaned_bytes w))
 
-pub starts_named : (ts : List Name) (w : Name) → length ts < 2 ^ 64 → IsTrue (starts_name (free_name ts (cleaned w)))
+pub starts_named : (ts : List Name) (w : Name) → length ts < 2 ^ 64 → IsTrue (starts_name (free_name ts (clean w)))
 starts_named ts w small =
-    name_within ts (cleaned w) (λ n. IsTrue (starts_name n)) small (cleaned_starts w) (λ k few. starts_suffixed (cleaned w) k (cleaned_starts w))
+    name_within ts (clean w) (λ n. IsTrue (starts_name n)) small (cleaned_starts w) (λ k few. starts_suffixed (clean w) k (cleaned_starts w))

@@ -15,12 +15,12 @@ abbrev pub fronted : Name → Name
 fronted n = cond (starts_name n) n (95 ∷ n)
 
 -- a name whose bytes all stand in Verilog names, and whose first one may begin them
-unfoldable pub cleaned : Name → Name
-cleaned wanted = fronted (map name_byte wanted)
+unfoldable pub clean : Name → Name
+clean wanted = fronted (map name_byte wanted)
 
 -- the legal name of a wanted one, after the names that are taken: no reserved word (Annex B), and declared once (12.7: scope rules)
 abbrev pub legal_name : List Name → Name → Name
-legal_name taken wanted = free_name (reserved_words ++ taken) (cleaned wanted)
+legal_name taken wanted = free_name (reserved_words ++ taken) (clean wanted)
 
 -- the legal names of wanted ones, in order, after those taken
 abbrev pub legal_after : List Name → List Name → List Name

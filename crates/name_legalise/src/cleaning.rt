@@ -3,7 +3,7 @@ ghost use Rattle.std.specs.Prelude.{◌≡◌, ◌++◌, IfOk, IsTrue, map, take
 ghost use Rattle.verilog_model.specs.Tokens.{is_name_start, is_name_byte};
 ghost use Rattle.verilog_model.specs.Numerals.{all_bytes};
 ghost use Rattle.verilog_model.specs.Checks.{starts_name};
-ghost use Rattle.name_legalise.specs.Legal.{name_byte, cleaned};
+ghost use Rattle.name_legalise.specs.Legal.{name_byte, clean};
 
 use std::alloc::{AllocError, Global};
 
@@ -52,15 +52,15 @@ fn has_name_bytes(wanted: &[u8]) -> bool
 
 /// Whether a wanted name is clean as it is: its bytes are those of names, and it begins with a letter or `_`.
 pub fn is_clean(wanted: &[u8]) -> bool
-    ensures { IsTrue result → cleaned wanted.now ≡ wanted.now }
+    ensures { IsTrue result → clean wanted.now ≡ wanted.now }
 {
     starts_name(wanted) && has_name_bytes(wanted)
 }
 
 /// The wanted name with each byte that stands in no name made `_`, and `_` before it where it does not begin with a
 /// letter or `_`. Fails where memory runs out.
-pub fn cleaned(alloc: Global, wanted: &[u8]) -> Result<Vec<u8>, AllocError>
-    ensures { IfOk result (λ name. name.items ≡ cleaned wanted.now) }
+pub fn clean(alloc: Global, wanted: &[u8]) -> Result<Vec<u8>, AllocError>
+    ensures { IfOk result (λ name. name.items ≡ clean wanted.now) }
 {
     let mut name = Vec::with_capacity(alloc, wanted.len() + 1)?;
     if !starts_name(wanted) {

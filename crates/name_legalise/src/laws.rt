@@ -4,7 +4,7 @@ ghost use Rattle.hw_model.specs.Types.{Name};
 ghost use Rattle.fresh_names.specs.Fresh.{with_suffix};
 ghost use Rattle.verilog_model.specs.Reserved.{reserved_words};
 ghost use Rattle.verilog_model.specs.Checks.{contains_name, is_identifier, names_check};
-ghost use Rattle.name_legalise.specs.Legal.{cleaned, legal_name, legal_after, legal};
+ghost use Rattle.name_legalise.specs.Legal.{clean, legal_name, legal_after, legal};
 
 /// Does nothing. Its clauses say that legal names are identifiers of which none stands twice (IEEE 1364-2005, 3.7 and
 /// 12.7), also after names that are taken; that there are as many as are wanted; and that none of them was taken before.
@@ -20,6 +20,6 @@ pub fn legal_names_are_identifiers()
 /// reserved or taken once its bytes are those of names gets the least number of which the suffixed name is not taken.
 pub fn legal_names_are_least()
     ensures stays { (taken : List Name) (wanted : Name) → is_identifier wanted ≡ true → contains_name wanted taken ≡ false → legal_name taken wanted ≡ wanted }
-    ensures least { (taken : List Name) (wanted : Name) → length taken + 125 < 2 ^ 64 → contains_name (cleaned wanted) (reserved_words ++ taken) ≡ true
-        → (n : ℕ) × (legal_name taken wanted ≡ with_suffix (cleaned wanted) n) × ((k : ℕ) → k < n → contains_name (with_suffix (cleaned wanted) k) taken ≡ true) }
+    ensures least { (taken : List Name) (wanted : Name) → length taken + 125 < 2 ^ 64 → contains_name (clean wanted) (reserved_words ++ taken) ≡ true
+        → (n : ℕ) × (legal_name taken wanted ≡ with_suffix (clean wanted) n) × ((k : ℕ) → k < n → contains_name (with_suffix (clean wanted) k) taken ≡ true) }
 {}

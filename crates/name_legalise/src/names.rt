@@ -3,9 +3,9 @@ ghost use Rattle.std.specs.Prelude.{◌≡◌, ◌+◌, ◌<◌, ◌^◌, ◌⊎
 ghost use Rattle.fresh_names.specs.Fresh.{free_name};
 ghost use Rattle.fresh_names.specs.TakenViews.{taken_names};
 ghost use Rattle.name_legalise.specs.Kept.{IsTable, with_reserved};
-ghost use Rattle.name_legalise.specs.Legal.{cleaned, legal};
+ghost use Rattle.name_legalise.specs.Legal.{clean, legal};
 
-use crate::cleaning::{cleaned, is_clean};
+use crate::cleaning::{clean, is_clean};
 use crate::reserved::is_reserved;
 use fresh_names::taken_names as table;
 use fresh_names::taken_names::TakenNames;
@@ -49,15 +49,15 @@ fn take_cleaned(
     taken: &mut TakenNames,
     wanted: &[u8],
 ) -> Result<table::NameId, AllocError>
-    requires { length (with_reserved (taken_names taken.old) (cleaned wanted.now)) + 1 < 2 ^ 32 }
-    ensures ok { OnOk result (taken_names taken.new ≡ with_reserved (taken_names taken.old) (cleaned wanted.now) ++ free_name (with_reserved (taken_names taken.old) (cleaned wanted.now)) (cleaned wanted.now) ∷ []) }
-    ensures id { IfOk result (λ id. id.index ≡ length (with_reserved (taken_names taken.old) (cleaned wanted.now))) }
-    ensures err { OnErr result ((taken_names taken.new ≡ taken_names taken.old) ⊎ (taken_names taken.new ≡ with_reserved (taken_names taken.old) (cleaned wanted.now))) }
+    requires { length (with_reserved (taken_names taken.old) (clean wanted.now)) + 1 < 2 ^ 32 }
+    ensures ok { OnOk result (taken_names taken.new ≡ with_reserved (taken_names taken.old) (clean wanted.now) ++ free_name (with_reserved (taken_names taken.old) (clean wanted.now)) (clean wanted.now) ∷ []) }
+    ensures id { IfOk result (λ id. id.index ≡ length (with_reserved (taken_names taken.old) (clean wanted.now))) }
+    ensures err { OnErr result ((taken_names taken.new ≡ taken_names taken.old) ⊎ (taken_names taken.new ≡ with_reserved (taken_names taken.old) (clean wanted.now))) }
 {
     if is_clean(wanted) {
         return take_unreserved(taken, wanted);
     }
-    let name = cleaned(alloc, wanted)?;
+    let name = clean(alloc, wanted)?;
     take_unreserved(taken, name.as_slice())
 }
 

@@ -14,7 +14,7 @@ use std::test::Fail;
 type Outcome = Result<u64, (u32, Cause)>;
 
 // the column and the cause of a refusal; column 0 for out of memory
-fn told(fail: ReadFail) -> (u32, Cause) {
+fn column_and_cause(fail: ReadFail) -> (u32, Cause) {
     match fail {
         ReadFail::Refused(refusal) => (refusal.place.col, refusal.cause),
         ReadFail::NoMemory => (0, Cause::Unexpected),
@@ -25,7 +25,7 @@ fn told(fail: ReadFail) -> (u32, Cause) {
 fn width_of(alloc: Global, source: &[u8]) -> Outcome {
     match Reader::new(alloc, source).type_text(OpName::File, MOST_OPEN) {
         Ok(ty) => Ok(ty.width()),
-        Err(fail) => Err(told(fail)),
+        Err(fail) => Err(column_and_cause(fail)),
     }
 }
 
@@ -33,7 +33,7 @@ fn width_of(alloc: Global, source: &[u8]) -> Outcome {
 fn entries_of(alloc: Global, source: &[u8]) -> Outcome {
     match Reader::new(alloc, source).dictionary_text(OpName::File, StringKeys::Hint) {
         Ok(dictionary) => Ok(dictionary.entries.len() as u64),
-        Err(fail) => Err(told(fail)),
+        Err(fail) => Err(column_and_cause(fail)),
     }
 }
 
@@ -41,7 +41,7 @@ fn entries_of(alloc: Global, source: &[u8]) -> Outcome {
 fn constants_of(alloc: Global, source: &[u8]) -> Outcome {
     match Reader::new(alloc, source).aggregate_text(OpName::File) {
         Ok(list) => Ok(list.literals.len() as u64),
-        Err(fail) => Err(told(fail)),
+        Err(fail) => Err(column_and_cause(fail)),
     }
 }
 
@@ -51,7 +51,7 @@ fn results_of(alloc: Global, source: &[u8]) -> Outcome {
         Ok(ResultNames::Unnamed) => Ok(0),
         Ok(ResultNames::Names(_, others)) => Ok((others.len() as u64).saturating_add(1)),
         Ok(ResultNames::Pack(_, count)) => Ok(u64::from(count)),
-        Err(fail) => Err(told(fail)),
+        Err(fail) => Err(column_and_cause(fail)),
     }
 }
 
@@ -191,7 +191,7 @@ fn parts_are_read_or_refused(rt: HostRuntime) {
 }
 
 // a text that opens so many arrays
-fn nested(alloc: Global, depth: u32) -> Result<Text, AllocError> {
+fn nested_arrays(alloc: Global, depth: u32) -> Result<Text, AllocError> {
     let mut text = Text::new(alloc);
     for _ in 0..depth {
         text.push_bytes(b"!hw.array<1x")?;
@@ -206,7 +206,7 @@ fn nested(alloc: Global, depth: u32) -> Result<Text, AllocError> {
 #[test]
 fn the_33rd_open_type_is_refused(rt: HostRuntime) -> Result<(), Fail> {
     for (depth, outcome) in [(32, Ok(1)), (33, Err((385, Cause::TooDeep)))] {
-        let text = nested(rt.alloc(), depth)?;
+        let text = nested_arrays(rt.alloc(), depth)?;
         assert_eq!(rt; width_of(rt.alloc(), text.as_bytes()), outcome);
     }
     Ok(())

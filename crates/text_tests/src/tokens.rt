@@ -6,43 +6,43 @@ use std::test::Fail;
 
 // A token as a test states it: its kind, line, column, position and bytes.
 #[derive(Drop)]
-struct Wanted(TokenKind, u32, u32, u64, &'static str);
+struct Expected(TokenKind, u32, u32, u64, &'static str);
 
 #[test]
 fn a_text_is_its_tokens(rt: HostRuntime) -> Result<(), Fail> {
     let source =
         "hw.module @\"a\\22b\" // c\n  %x-1:02 = !seq.clock 0x1Fi8 \"\\n\\09\"\r\n\t->-#3#m<007xi8> @N.k(){}[],_9";
     let wanted = [
-        Wanted(TokenKind::BareName, 1, 1, 0, "hw.module"),
-        Wanted(TokenKind::SymbolString, 1, 11, 10, "@\"a\\22b\""),
-        Wanted(TokenKind::ValueName, 2, 3, 26, "%x-1"),
-        Wanted(TokenKind::Colon, 2, 7, 30, ":"),
-        Wanted(TokenKind::Integer, 2, 8, 31, "02"),
-        Wanted(TokenKind::Equals, 2, 11, 34, "="),
-        Wanted(TokenKind::TypeName, 2, 13, 36, "!seq.clock"),
-        Wanted(TokenKind::Integer, 2, 24, 47, "0x1F"),
-        Wanted(TokenKind::BareName, 2, 28, 51, "i8"),
-        Wanted(TokenKind::StringLiteral, 2, 31, 54, "\"\\n\\09\""),
-        Wanted(TokenKind::Arrow, 3, 2, 64, "->"),
-        Wanted(TokenKind::Minus, 3, 4, 66, "-"),
-        Wanted(TokenKind::ResultNumber, 3, 5, 67, "#3"),
-        Wanted(TokenKind::AttributeAlias, 3, 7, 69, "#m"),
-        Wanted(TokenKind::Less, 3, 9, 71, "<"),
-        Wanted(TokenKind::Integer, 3, 10, 72, "007"),
-        Wanted(TokenKind::BareName, 3, 13, 75, "xi8"),
-        Wanted(TokenKind::Greater, 3, 16, 78, ">"),
-        Wanted(TokenKind::SymbolName, 3, 18, 80, "@N.k"),
-        Wanted(TokenKind::LeftParenthesis, 3, 22, 84, "("),
-        Wanted(TokenKind::RightParenthesis, 3, 23, 85, ")"),
-        Wanted(TokenKind::LeftBrace, 3, 24, 86, "{"),
-        Wanted(TokenKind::RightBrace, 3, 25, 87, "}"),
-        Wanted(TokenKind::LeftBracket, 3, 26, 88, "["),
-        Wanted(TokenKind::RightBracket, 3, 27, 89, "]"),
-        Wanted(TokenKind::Comma, 3, 28, 90, ","),
-        Wanted(TokenKind::BareName, 3, 29, 91, "_9"),
+        Expected(TokenKind::BareName, 1, 1, 0, "hw.module"),
+        Expected(TokenKind::SymbolString, 1, 11, 10, "@\"a\\22b\""),
+        Expected(TokenKind::ValueName, 2, 3, 26, "%x-1"),
+        Expected(TokenKind::Colon, 2, 7, 30, ":"),
+        Expected(TokenKind::Integer, 2, 8, 31, "02"),
+        Expected(TokenKind::Equals, 2, 11, 34, "="),
+        Expected(TokenKind::TypeName, 2, 13, 36, "!seq.clock"),
+        Expected(TokenKind::Integer, 2, 24, 47, "0x1F"),
+        Expected(TokenKind::BareName, 2, 28, 51, "i8"),
+        Expected(TokenKind::StringLiteral, 2, 31, 54, "\"\\n\\09\""),
+        Expected(TokenKind::Arrow, 3, 2, 64, "->"),
+        Expected(TokenKind::Minus, 3, 4, 66, "-"),
+        Expected(TokenKind::ResultNumber, 3, 5, 67, "#3"),
+        Expected(TokenKind::AttributeAlias, 3, 7, 69, "#m"),
+        Expected(TokenKind::Less, 3, 9, 71, "<"),
+        Expected(TokenKind::Integer, 3, 10, 72, "007"),
+        Expected(TokenKind::BareName, 3, 13, 75, "xi8"),
+        Expected(TokenKind::Greater, 3, 16, 78, ">"),
+        Expected(TokenKind::SymbolName, 3, 18, 80, "@N.k"),
+        Expected(TokenKind::LeftParenthesis, 3, 22, 84, "("),
+        Expected(TokenKind::RightParenthesis, 3, 23, 85, ")"),
+        Expected(TokenKind::LeftBrace, 3, 24, 86, "{"),
+        Expected(TokenKind::RightBrace, 3, 25, 87, "}"),
+        Expected(TokenKind::LeftBracket, 3, 26, 88, "["),
+        Expected(TokenKind::RightBracket, 3, 27, 89, "]"),
+        Expected(TokenKind::Comma, 3, 28, 90, ","),
+        Expected(TokenKind::BareName, 3, 29, 91, "_9"),
     ];
     let mut tokens = Tokens::new(source.as_bytes());
-    for Wanted(kind, line, col, at, text) in wanted {
+    for Expected(kind, line, col, at, text) in wanted {
         let Ok(Some(token)) = tokens.next() else {
             panic!(rt; "no token at {line}:{col}");
         };

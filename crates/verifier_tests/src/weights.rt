@@ -66,7 +66,7 @@ fn doubling(alloc: Global, count: u8) -> Result<Design, AllocError> {
 }
 
 // Whether a value depends on itself, and the first module that is too large, where no module is in itself.
-fn searched(alloc: Global, design: &Design) -> Result<(bool, Option<u32>), AllocError> {
+fn search(alloc: Global, design: &Design) -> Result<(bool, Option<u32>), AllocError> {
     if !has_distinct_symbols(design) {
         return Err(AllocError);
     }
@@ -88,7 +88,7 @@ fn searched(alloc: Global, design: &Design) -> Result<(bool, Option<u32>), Alloc
 fn doubled_weights(rt: HostRuntime) -> Result<(), Fail> {
     for (count, too_large) in [(24, None), (31, Some(24))] {
         let design = doubling(rt.alloc(), count)?;
-        let found = searched(rt.alloc(), &design)?;
+        let found = search(rt.alloc(), &design)?;
         assert_eq!(rt; found, (false, too_large), "of {count}");
     }
     Ok(())

@@ -23,7 +23,7 @@ use Rattle.verilog_expr.specs.Expressions.{value_width, constant_number, constan
 use Rattle.verilog_expr.specs.Spilling.{is_pure, is_wire_kind, is_constant_kind, is_narrower, inner_of, inner_needs}
 use Rattle.verilog_expr.specs.Values.{HasBits, HaveBits, IsWholeName, IsBuildable, IsDividedBy, IsDivision, is_division, is_item_kind, gives_values, IsWritable, AreNamed, HoldConstants}
 use Rattle.verilog_expr.proofs.Own.{extended_full, Is-own, literal_is}
-use Rattle.verilog_expr.proofs.Rows.{as_bits}
+use Rattle.verilog_expr.proofs.Templates.{as_bits}
 use Rattle.verilog_expr.proofs.Built.{built_bits, built_worth}
 use Rattle.verilog_expr.proofs.Nets.{results, IsWithin-results}
 

@@ -28,7 +28,7 @@ use Rattle.verilog_expr.specs.Building.{literal_of, placed, unsigned_at, of_one_
 use Rattle.verilog_expr.specs.Values.{HasBits, HaveBits, IsBuildable, IsDividedBy}
 use Rattle.verilog_expr.proofs.Operators.{division_context, shift_context, divides_division, division_computes, shift_computes, length-divided, length-shifted}
 use Rattle.verilog_expr.proofs.Own.{Is, Is-own, HasBits-Is, placed_own, unsigned_at_is, signed_is, literal_is, both_is, shift_is}
-use Rattle.verilog_expr.proofs.Rows.{Gives, gives, AllBits, folded, added, multiplied, from_right, variadic_gives, comparison_gives, odd_gives}
+use Rattle.verilog_expr.proofs.Templates.{Gives, gives, AllBits, folded, added, multiplied, from_right, variadic_gives, comparison_gives, odd_gives}
 use Rattle.verilog_expr.proofs.Parts.{selected_gives, concatenation_gives, repeated_gives, conditional_gives}
 
 module _ (widths : Name → ℕ) (ρ : Name → Word) where
@@ -90,12 +90,12 @@ module _ (widths : Name → ℕ) (ρ : Name → Word) where
   as_many (x ∷ xs) (e ∷ es) have = let rest : length xs ≡ length es = as_many xs es have.1 in omega arith
 
   -- an operator between all operands
-  row : (P : Type 0) (o : Operator) (t : HwType) (op : List Word → Word) → context_of o ≡ both_operands
+  template : (P : Type 0) (o : Operator) (t : HwType) (op : List Word → Word) → context_of o ≡ both_operands
       → ((x y : Word) → length x ≡ width t → length y ≡ width t → length (arithmetic o false x y) ≡ width t)
       → ((x : Word) (ys : List Word) → length x ≡ width t → ((y : Word) → In y ys → length y ≡ width t) → folded (arithmetic o false) x ys ≡ op (x ∷ ys))
       → (xs : List (Option HwType)) (es : List Expr) → AllAre t xs → 1 ≤ length xs → HaveBits widths ρ xs es
       → Gives widths ρ P (width t) (variadic_expr o es) (op (map (own_value widths ρ) es))
-  row P o t op context keeps folds xs es fits some have =
+  template P o t op context keeps folds xs es fits some have =
       variadic_gives widths ρ P o (width t) op context keeps folds es (all_bits t xs es fits have)
       (let same : length xs ≡ length es = as_many xs es have in omega arith)
 
@@ -172,19 +172,19 @@ module _ (widths : Name → ℕ) (ρ : Name → Word) where
   variadic_built : {P : Type 0} (v : Variadic) (t : HwType) (xs : List (Option HwType)) (es : List Expr) → AllAre t xs → 1 ≤ length xs → HaveBits widths ρ xs es
       → Gives widths ρ P (width t) (variadic_expr (variadic_operator v) es) (variadic_value v (width t) (map (own_value widths ρ) es))
   variadic_built add t xs es fits some have =
-      row _ plus t (λ ys. bits (width t) (total (map number ys))) refl (λ x y first second. length-add x y ∙ first) (λ x ys size sizes. added (width t) x ys size) xs es fits some have
+      template _ plus t (λ ys. bits (width t) (total (map number ys))) refl (λ x y first second. length-add x y ∙ first) (λ x ys size sizes. added (width t) x ys size) xs es fits some have
   variadic_built mul t xs es fits some have =
-      row _ times t (λ ys. bits (width t) (product (map number ys))) refl (λ x y first second. length-mul x y ∙ first) (λ x ys size sizes. multiplied (width t) x ys size) xs es fits some have
+      template _ times t (λ ys. bits (width t) (product (map number ys))) refl (λ x y first second. length-mul x y ∙ first) (λ x ys size sizes. multiplied (width t) x ys size) xs es fits some have
   variadic_built and t xs es fits some have =
-      row _ bit_and t (and_all (width t)) refl (bitwise_keeps _ (width t))
+      template _ bit_and t (and_all (width t)) refl (bitwise_keeps _ (width t))
       (from_right and_words (and_all (width t)) (width t) and_words_assoc (λ x size. ap (λ n. and_words x (ones n)) (sym size) ∙ and_words-ones x) (λ y ys. refl) (bitwise_keeps _ (width t)))
       xs es fits some have
   variadic_built or t xs es fits some have =
-      row _ bit_or t (or_all (width t)) refl (bitwise_keeps _ (width t))
+      template _ bit_or t (or_all (width t)) refl (bitwise_keeps _ (width t))
       (from_right or_words (or_all (width t)) (width t) or_words_assoc (λ x size. ap (λ n. or_words x (zeros n)) (sym size) ∙ or_words-zeros x) (λ y ys. refl) (bitwise_keeps _ (width t)))
       xs es fits some have
   variadic_built xor t xs es fits some have =
-      row _ bit_xor t (xor_all (width t)) refl (bitwise_keeps _ (width t))
+      template _ bit_xor t (xor_all (width t)) refl (bitwise_keeps _ (width t))
       (from_right xor_words (xor_all (width t)) (width t) xor_words_assoc (λ x size. ap (λ n. xor_words x (zeros n)) (sym size) ∙ xor_words-zeros x) (λ y ys. refl) (bitwise_keeps _ (width t)))
       xs es fits some have
 

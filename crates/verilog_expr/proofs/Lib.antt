@@ -8,11 +8,11 @@ pub mod HeightSteps
 pub mod HeightPaths
 pub mod TextParts
 pub mod FormTexts
-pub mod FormRows
+pub mod FormTemplates
 pub mod Writing
 pub mod Own
 pub mod Assigned
-pub mod Rows
+pub mod Templates
 pub mod Parts
 pub mod Built
 pub mod Nets

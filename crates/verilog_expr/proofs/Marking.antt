@@ -10,7 +10,7 @@ use Rattle.hw_model.specs.Flat.{width_of}
 use Rattle.ir_store.specs.Positions.{same_ref}
 use Rattle.verilog_expr.specs.Expressions.{value_width}
 use Rattle.verilog_expr.specs.Spilling.{one_if, places_in, use_count, cuts, joins, some_op}
-use Rattle.verilog_expr.specs.Marks.{no_mark, mark_at, noted, one_use, after_operands, is_cut_by, after_ops}
+use Rattle.verilog_expr.specs.Marks.{no_mark, mark_at, note_use, one_use, after_operands, is_cut_by, after_ops}
 use Rattle.verilog_expr.specs.declared.marks.Mark.{Mark}
 use Rattle.verilog_expr.proofs.Drops.{drop_none, split}
 
@@ -55,7 +55,7 @@ pub operand_first : (r : Ref) (cut joined : Bool) (x : Ref) (xs : List Ref) (m :
     → after_operands r cut joined xs (one_use r cut joined x m) ≡ after_operands r cut joined (x ∷ xs) m
 operand_first r cut joined x xs m = go (same_ref x r)
   where
-    go : (b : Bool) → after_operands r cut joined xs (cond b (noted cut joined m) m)
+    go : (b : Bool) → after_operands r cut joined xs (cond b (note_use cut joined m) m)
         ≡ record { uses = min 2 (m.uses + (one_if b + places_in r xs)); cut = m.cut || (cut && nat_lt 0 (one_if b + places_in r xs)); joined = m.joined || (joined && nat_lt 0 (one_if b + places_in r xs)) }
     go true =
         let u : min 2 (min 2 (m.uses + 1) + places_in r xs) ≡ min 2 (m.uses + (1 + places_in r xs)) = omega arith in
@@ -79,12 +79,12 @@ or_none true c = refl
 or_none false true = refl
 or_none false false = refl
 
-abbrev made : ℕ → Bool → Bool → Mark
-made u c j = record { uses = u; cut = c; joined = j }
+abbrev node : ℕ → Bool → Bool → Mark
+node u c j = record { uses = u; cut = c; joined = j }
 
-same_mark : (u : ℕ) (c j : Bool) (m : Mark) → u ≡ m.uses → c ≡ m.cut → j ≡ m.joined → made u c j ≡ m
+same_mark : (u : ℕ) (c j : Bool) (m : Mark) → u ≡ m.uses → c ≡ m.cut → j ≡ m.joined → node u c j ≡ m
 same_mark u c j m p q r =
-    ap (λ x. made x c j) p ∙ ap (λ x. made m.uses x j) q ∙ ap (λ x. made m.uses m.cut x) r
+    ap (λ x. node x c j) p ∙ ap (λ x. node m.uses x j) q ∙ ap (λ x. node m.uses m.cut x) r
 
 no_more : (r : Ref) (cut joined : Bool) (m : Mark) → m.uses < 3 → after_operands r cut joined [] m ≡ m
 no_more r cut joined m few =

@@ -18,7 +18,7 @@ use Rattle.verilog_model.proofs.Numerals.{decimal_number-decimal}
 use Rattle.verilog_expr.specs.Building.{unsigned, placed, unsigned_at, select, selected, exprs_of, concatenation, conditional}
 use Rattle.verilog_expr.specs.Values.{HasBits, HaveBits, IsWholeName}
 use Rattle.verilog_expr.proofs.Own.{extended_full, placed_own, unsigned_is, unsigned_at_is, choice_is}
-use Rattle.verilog_expr.proofs.Rows.{Gives, gives}
+use Rattle.verilog_expr.proofs.Templates.{Gives, gives}
 
 is_true-high : (x : Word) → length x ≡ 1 → is_true x ≡ is_high x
 is_true-high [] size = absurd (omega arith)

@@ -5,23 +5,23 @@ use Rattle.hw_model.specs.Kinds.Predicate.{eq, ne, slt, sle, sgt, sge, ult, ule,
 use Rattle.hw_model.specs.Kinds.Kind.{variadic, sub, division, shift, icmp, parity, extract, concat, replicate, mux, constant, bitcast, wire}
 use Rattle.verilog_expr.specs.Building.{variadic_operator, division_operator, shift_operator, is_signed_division, is_signed_shift}
 use Rattle.verilog_expr.specs.Forms.{asks_unsigned, operator_in_code}
-use Rattle.verilog_expr.specs.Rows.{chain_row, row_of_count, division_form, shift_form, comparison_form, extract_row, row_for}
+use Rattle.verilog_expr.specs.Templates.{chain_template, template_of_count, division_form, shift_form, comparison_form, extract_template, template_for}
 use Rattle.verilog_expr.specs.Signs.{is_signed_order, is_unsigned_place}
 use Rattle.verilog_expr.specs.declared.form.Operator.{Operator}
 use Rattle.verilog_expr.specs.declared.form.Operator.TheVariants as signs
 use Rattle.verilog_expr.specs.declared.form.Form.{Form}
 use Rattle.verilog_expr.specs.declared.form.Form.TheVariants.{Same, Chain, UnsignedShift, SignedShift, UnsignedDivision, SignedDivision, Parity, Braces, Copies, Choice}
-use Rattle.verilog_expr.specs.declared.row.Row.TheVariants.{Missing, Select, Operands}
+use Rattle.verilog_expr.specs.declared.template.Template.TheVariants.{Missing, Select, Operands}
 
 module _ (f : Form) (i : ℕ) (other : f ≡ Same → ⊥) where
-  of_chain : (n : ℕ) (o : Operator) → chain_row n o ≡ Operands f → asks_unsigned f i ≡ true
+  of_chain : (n : ℕ) (o : Operator) → chain_template n o ≡ Operands f → asks_unsigned f i ≡ true
   of_chain n o is = go (n == 0) (n == 1) is where
     go : (b c : Bool) → cond b Missing (cond c (Operands Same) (Operands (Chain o))) ≡ Operands f → asks_unsigned f i ≡ true
     go true c e = cc
     go false true e = let same : Same ≡ f = cc in absurd (other (sym same))
     go false false e = let same : Chain o ≡ f = cc in ap (λ g. asks_unsigned g i) (sym same)
 
-  of_count : (n m : ℕ) (g : Form) → row_of_count n m g ≡ Operands f → asks_unsigned f i ≡ asks_unsigned g i
+  of_count : (n m : ℕ) (g : Form) → template_of_count n m g ≡ Operands f → asks_unsigned f i ≡ asks_unsigned g i
   of_count n m g is = go (n == m) is where
     go : (b : Bool) → cond b (Operands g) Missing ≡ Operands f → asks_unsigned f i ≡ asks_unsigned g i
     go true e = let same : g ≡ f = cc in ap (λ h. asks_unsigned h i) (sym same)
@@ -33,7 +33,7 @@ module _ (f : Form) (i : ℕ) (other : f ≡ Same → ⊥) where
     go true e = cc
     go false e = let same : g ≡ f = cc in ap (λ h. asks_unsigned h i) (sym same)
 
-  of_extract : (n low w v : ℕ) → extract_row n low w v ≡ Operands f → asks_unsigned f i ≡ false
+  of_extract : (n low w v : ℕ) → extract_template n low w v ≡ Operands f → asks_unsigned f i ≡ false
   of_extract n low w v is = go (n == 1) (low == 0 && w == v) is where
     go : (b c : Bool) → cond b (cond c (Operands Same) (Select low w)) Missing ≡ Operands f → asks_unsigned f i ≡ false
     go true true e = let same : Same ≡ f = cc in absurd (other (sym same))
@@ -64,7 +64,7 @@ shift_place : (b : Bool) (o : Operator) (i : ℕ) → asks_unsigned (shift_form 
 shift_place false o i = refl
 shift_place true o i = refl
 
-pub places_asked : (kind : Kind) (w v divisor n i : ℕ) (f : Form) → row_for kind w v divisor n ≡ Operands f → (f ≡ Same → ⊥) → asks_unsigned f i ≡ is_unsigned_place kind i
+pub places_asked : (kind : Kind) (w v divisor n i : ℕ) (f : Form) → template_for kind w v divisor n ≡ Operands f → (f ≡ Same → ⊥) → asks_unsigned f i ≡ is_unsigned_place kind i
 places_asked (variadic o) w v divisor n i f is other = of_chain f i other n (operator_in_code (variadic_operator o)) is
 places_asked sub w v divisor n i f is other = of_count f i other n 2 (Chain signs.Minus) is
 places_asked (division d) w v divisor n i f is other =

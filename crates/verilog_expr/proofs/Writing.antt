@@ -17,17 +17,17 @@ use Rattle.verilog_expr.specs.Expressions.{value_width, divisor_in, name_or, typ
 use Rattle.verilog_expr.specs.Text.{expr_text}
 use Rattle.verilog_expr.specs.Scopes.{scope_ports, scope_ops, scope_ref}
 use Rattle.verilog_expr.specs.Forms.{wanted}
-use Rattle.verilog_expr.specs.Rows.{row_for, row_text, row_signed, row_level}
+use Rattle.verilog_expr.specs.Templates.{template_for, template_text, template_signed, template_level}
 use Rattle.verilog_expr.specs.Named.{named_of}
 use Rattle.verilog_expr.specs.declared.value_names.ValueNames.{ValueNames}
 use Rattle.verilog_expr.specs.declared.form.Form.TheVariants.{Same}
-use Rattle.verilog_expr.specs.Made.{expr_at, exprs_at, IsOnly, sole_name, head_width, select_text, row_name, name_of_one, IsMade, IsResultOf, wrap_for, open_text, close_text}
-use Rattle.verilog_expr.specs.declared.look.Wrap.TheVariants.{Bare, Paren}
-use Rattle.verilog_expr.specs.declared.row.Row.{Row}
-use Rattle.verilog_expr.specs.declared.row.Row.TheVariants.{Missing, Operands}
+use Rattle.verilog_expr.specs.ExprNode.{expr_at, exprs_at, IsOnly, sole_name, head_width, select_text, template_name, name_of_one, IsMade, IsResultOf, wrap_for, open_text, close_text}
+use Rattle.verilog_expr.specs.declared.info.Wrap.TheVariants.{Bare, Paren}
+use Rattle.verilog_expr.specs.declared.template.Template.{Template}
+use Rattle.verilog_expr.specs.declared.template.Template.TheVariants.{Missing, Operands}
 use Rattle.verilog_expr.specs.declared.scope.Scope.{Scope}
 use Rattle.verilog_expr.proofs.TextParts.{text_behind}
-use Rattle.verilog_expr.proofs.FormRows.{built_is}
+use Rattle.verilog_expr.proofs.FormTemplates.{built_is}
 
 -- ---- what an operation makes
 
@@ -46,10 +46,10 @@ module _ (s : Scope) (o : Op) (k : ℕ) (r : Ref) (found : IsResultOf s o k r) w
       ∙ ap (result_expr named (scope_ports s) (scope_ops s) ex k) found.there
       ∙ ap (typed_expr named (scope_ports s) (scope_ops s) ex o) typed
 
-  pub made_none : (row : Row) (operands : List Value) → is_some (result_type o k) ≡ false → row ≡ Missing → IsMade s r row operands
-  made_none row operands none is = go (result_type o k) refl none
+  pub node_none : (template : Template) (operands : List Value) → is_some (result_type o k) ≡ false → template ≡ Missing → IsMade s r template operands
+  node_none template operands none is = go (result_type o k) refl none
     where
-      go : (m : Option HwType) → result_type o k ≡ m → is_some m ≡ false → IsMade s r row operands
+      go : (m : Option HwType) → result_type o k ≡ m → is_some m ≡ false → IsMade s r template operands
       go (Some t) typed h = cc
       go None typed h = subst (λ q. IsMade s r q operands) (sym is) (record {
         text = λ named ex. ap (λ x. expr_text x []) (own_is None typed named ex);
@@ -58,12 +58,12 @@ module _ (s : Scope) (o : Op) (k : ℕ) (r : Ref) (found : IsResultOf s o k r) w
         called = λ named ex. ap sole_name (own_is None typed named ex);
       })
 
-  pub made_is : (row : Row) (operands : List Value) (w d v n : ℕ) → is_some (result_type o k) ≡ true → o.operands ≡ map (scope_ref s) operands
+  pub node_is : (template : Template) (operands : List Value) (w d v n : ℕ) → is_some (result_type o k) ≡ true → o.operands ≡ map (scope_ref s) operands
       → w ≡ width_of (result_type o k) → v ≡ head_width (scope_ports s) (scope_ops s) o.operands → d ≡ divisor_in (scope_ops s) w o.operands → n ≡ length operands
-      → row ≡ row_for o.kind w v d n → IsMade s r row operands
-  made_is row operands w d v n some os wide head by count is = go (result_type o k) refl some
+      → template ≡ template_for o.kind w v d n → IsMade s r template operands
+  node_is template operands w d v n some os wide head by count is = go (result_type o k) refl some
     where
-      go : (m : Option HwType) → result_type o k ≡ m → is_some m ≡ true → IsMade s r row operands
+      go : (m : Option HwType) → result_type o k ≡ m → is_some m ≡ true → IsMade s r template operands
       go None typed h = cc
       go (Some t) typed h =
           let ws : List ℕ = map (value_width (scope_ports s) (scope_ops s)) o.operands in
@@ -73,22 +73,22 @@ module _ (s : Scope) (o : Op) (k : ℕ) (r : Ref) (found : IsResultOf s o k r) w
           let same : (ex : Ref → Expr) → map ex o.operands ≡ map ex (map (scope_ref s) operands) = λ ex. ap (map ex) os in
           let counted : (ex : Ref → Expr) → n ≡ length (map ex o.operands) = λ ex.
           count ∙ sym (length-map operands (scope_ref s)) ∙ sym (ap length os) ∙ sym (length-map o.operands ex) in
-          let rows : (ex : Ref → Expr) → row_for o.kind (width t) (first_width ws) (divisor_in (scope_ops s) (width t) o.operands) (length (map ex o.operands)) ≡ row = λ ex.
-          sym (is ∙ ap (λ x. row_for o.kind x v d n) at_width ∙ ap (λ x. row_for o.kind (width t) x d n) first ∙ ap (λ x. row_for o.kind (width t) (first_width ws) x n) by_width
-          ∙ ap (row_for o.kind (width t) (first_width ws) (divisor_in (scope_ops s) (width t) o.operands)) (counted ex)) in
+          let rows : (ex : Ref → Expr) → template_for o.kind (width t) (first_width ws) (divisor_in (scope_ops s) (width t) o.operands) (length (map ex o.operands)) ≡ template = λ ex.
+          sym (is ∙ ap (λ x. template_for o.kind x v d n) at_width ∙ ap (λ x. template_for o.kind (width t) x d n) first ∙ ap (λ x. template_for o.kind (width t) (first_width ws) x n) by_width
+          ∙ ap (template_for o.kind (width t) (first_width ws) (divisor_in (scope_ops s) (width t) o.operands)) (counted ex)) in
           record {
             text = λ named ex. ap (λ x. expr_text x []) (own_is (Some t) typed named ex)
                 ∙ (built_is o.kind (width t) ws (divisor_in (scope_ops s) (width t) o.operands) (map ex o.operands)).text
-                ∙ ap (λ q. row_text q (map ex o.operands)) (rows ex) ∙ ap (row_text row) (same ex);
+                ∙ ap (λ q. template_text q (map ex o.operands)) (rows ex) ∙ ap (template_text template) (same ex);
             signed = λ named ex. ap is_signed (own_is (Some t) typed named ex)
                 ∙ (built_is o.kind (width t) ws (divisor_in (scope_ops s) (width t) o.operands) (map ex o.operands)).signed
-                ∙ ap (λ q. row_signed q (map ex o.operands)) (rows ex) ∙ ap (row_signed row) (same ex);
+                ∙ ap (λ q. template_signed q (map ex o.operands)) (rows ex) ∙ ap (template_signed template) (same ex);
             level_is = λ named ex. ap level (own_is (Some t) typed named ex)
                 ∙ (built_is o.kind (width t) ws (divisor_in (scope_ops s) (width t) o.operands) (map ex o.operands)).level_is
-                ∙ ap (λ q. row_level q (map ex o.operands)) (rows ex) ∙ ap (row_level row) (same ex);
+                ∙ ap (λ q. template_level q (map ex o.operands)) (rows ex) ∙ ap (template_level template) (same ex);
             called = λ named ex. ap sole_name (own_is (Some t) typed named ex)
                 ∙ (built_is o.kind (width t) ws (divisor_in (scope_ops s) (width t) o.operands) (map ex o.operands)).called
-                ∙ ap (λ q. row_name q (map ex o.operands)) (rows ex) ∙ ap (row_name row) (same ex);
+                ∙ ap (λ q. template_name q (map ex o.operands)) (rows ex) ∙ ap (template_name template) (same ex);
           }
 
 -- ---- depths
@@ -165,49 +165,49 @@ wrapped true l e low = go (is_signed e)
 
 -- ---- what is seen of a value without a name
 
-module _ (s : Scope) (v : ValueNames) (n : ℕ) (x : Value) (row : Row) (xs : List Value) (some : n ≢ 0) (unnamed : None ≡ named_of v (scope_ref s x))
-    (made : IsMade s (scope_ref s x) row xs) where
+module _ (s : Scope) (v : ValueNames) (n : ℕ) (x : Value) (template : Template) (xs : List Value) (some : n ≢ 0) (unnamed : None ≡ named_of v (scope_ref s x))
+    (node : IsMade s (scope_ref s x) template xs) where
   own : expr_at s v n x ≡ own_expr (named_of v) (scope_ports s) (scope_ops s) (λ r. expr_to (named_of v) (scope_ports s) (scope_ops s) (n - 1) r) (scope_ref s x)
   own = at_own (named_of v) (scope_ports s) (scope_ops s) (scope_ref s x) n some (sym unnamed)
 
-  pub own_text : row_text row (exprs_at s v (n - 1) xs) ≡ expr_text (expr_at s v n x) []
+  pub own_text : template_text template (exprs_at s v (n - 1) xs) ≡ expr_text (expr_at s v n x) []
   own_text =
-      sym (ap (λ e. expr_text e []) own ∙ made.text (named_of v) (λ r. expr_to (named_of v) (scope_ports s) (scope_ops s) (n - 1) r)
-      ∙ ap (row_text row) (maps (scope_ref s) (λ r. expr_to (named_of v) (scope_ports s) (scope_ops s) (n - 1) r) xs))
+      sym (ap (λ e. expr_text e []) own ∙ node.text (named_of v) (λ r. expr_to (named_of v) (scope_ports s) (scope_ops s) (n - 1) r)
+      ∙ ap (template_text template) (maps (scope_ref s) (λ r. expr_to (named_of v) (scope_ports s) (scope_ops s) (n - 1) r) xs))
 
-  own_sign : is_signed (expr_at s v n x) ≡ row_signed row (exprs_at s v (n - 1) xs)
-  own_sign = ap is_signed own ∙ made.signed (named_of v) (λ r. expr_to (named_of v) (scope_ports s) (scope_ops s) (n - 1) r)
-      ∙ ap (row_signed row) (maps (scope_ref s) (λ r. expr_to (named_of v) (scope_ports s) (scope_ops s) (n - 1) r) xs)
+  own_sign : is_signed (expr_at s v n x) ≡ template_signed template (exprs_at s v (n - 1) xs)
+  own_sign = ap is_signed own ∙ node.signed (named_of v) (λ r. expr_to (named_of v) (scope_ports s) (scope_ops s) (n - 1) r)
+      ∙ ap (template_signed template) (maps (scope_ref s) (λ r. expr_to (named_of v) (scope_ports s) (scope_ops s) (n - 1) r) xs)
 
-  own_level : level (expr_at s v n x) ≡ row_level row (exprs_at s v (n - 1) xs)
-  own_level = ap level own ∙ made.level_is (named_of v) (λ r. expr_to (named_of v) (scope_ports s) (scope_ops s) (n - 1) r)
-      ∙ ap (row_level row) (maps (scope_ref s) (λ r. expr_to (named_of v) (scope_ports s) (scope_ops s) (n - 1) r) xs)
+  own_level : level (expr_at s v n x) ≡ template_level template (exprs_at s v (n - 1) xs)
+  own_level = ap level own ∙ node.level_is (named_of v) (λ r. expr_to (named_of v) (scope_ports s) (scope_ops s) (n - 1) r)
+      ∙ ap (template_level template) (maps (scope_ref s) (λ r. expr_to (named_of v) (scope_ports s) (scope_ops s) (n - 1) r) xs)
 
-  own_name : sole_name (expr_at s v n x) ≡ row_name row (exprs_at s v (n - 1) xs)
-  own_name = ap sole_name own ∙ made.called (named_of v) (λ r. expr_to (named_of v) (scope_ports s) (scope_ops s) (n - 1) r)
-      ∙ ap (row_name row) (maps (scope_ref s) (λ r. expr_to (named_of v) (scope_ports s) (scope_ops s) (n - 1) r) xs)
+  own_name : sole_name (expr_at s v n x) ≡ template_name template (exprs_at s v (n - 1) xs)
+  own_name = ap sole_name own ∙ node.called (named_of v) (λ r. expr_to (named_of v) (scope_ports s) (scope_ops s) (n - 1) r)
+      ∙ ap (template_name template) (maps (scope_ref s) (λ r. expr_to (named_of v) (scope_ports s) (scope_ops s) (n - 1) r) xs)
 
-  pub seen_same : (y : Value) → row ≡ Operands Same → slice_get xs 0 ≡ Some y
+  pub seen_same : (y : Value) → template ≡ Operands Same → slice_get xs 0 ≡ Some y
       → (sole_name (expr_at s v (n - 1) y) ≡ sole_name (expr_at s v n x)) × (is_signed (expr_at s v (n - 1) y) ≡ is_signed (expr_at s v n x)) × (level (expr_at s v (n - 1) y) ≡ level (expr_at s v n x))
   seen_same y is at = (
-    sym (own_name ∙ ap (λ q. row_name q (exprs_at s v (n - 1) xs)) is ∙ name_first xs at),
-    sym (own_sign ∙ ap (λ q. row_signed q (exprs_at s v (n - 1) xs)) is ∙ sign_first xs at),
-    sym (own_level ∙ ap (λ q. row_level q (exprs_at s v (n - 1) xs)) is ∙ level_first xs at),
+    sym (own_name ∙ ap (λ q. template_name q (exprs_at s v (n - 1) xs)) is ∙ name_first xs at),
+    sym (own_sign ∙ ap (λ q. template_signed q (exprs_at s v (n - 1) xs)) is ∙ sign_first xs at),
+    sym (own_level ∙ ap (λ q. template_level q (exprs_at s v (n - 1) xs)) is ∙ level_first xs at),
   )
     where
-      name_first : (zs : List Value) → slice_get zs 0 ≡ Some y → row_name (Operands Same) (exprs_at s v (n - 1) zs) ≡ sole_name (expr_at s v (n - 1) y)
+      name_first : (zs : List Value) → slice_get zs 0 ≡ Some y → template_name (Operands Same) (exprs_at s v (n - 1) zs) ≡ sole_name (expr_at s v (n - 1) y)
       name_first [] e = cc
       name_first (z ∷ zs) e = let same : z ≡ y = cc in ap (λ z. sole_name (expr_at s v (n - 1) z)) same
 
-      sign_first : (zs : List Value) → slice_get zs 0 ≡ Some y → row_signed (Operands Same) (exprs_at s v (n - 1) zs) ≡ is_signed (expr_at s v (n - 1) y)
+      sign_first : (zs : List Value) → slice_get zs 0 ≡ Some y → template_signed (Operands Same) (exprs_at s v (n - 1) zs) ≡ is_signed (expr_at s v (n - 1) y)
       sign_first [] e = cc
       sign_first (z ∷ zs) e = let same : z ≡ y = cc in ap (λ z. is_signed (expr_at s v (n - 1) z)) same
 
-      level_first : (zs : List Value) → slice_get zs 0 ≡ Some y → row_level (Operands Same) (exprs_at s v (n - 1) zs) ≡ level (expr_at s v (n - 1) y)
+      level_first : (zs : List Value) → slice_get zs 0 ≡ Some y → template_level (Operands Same) (exprs_at s v (n - 1) zs) ≡ level (expr_at s v (n - 1) y)
       level_first [] e = cc
       level_first (z ∷ zs) e = let same : z ≡ y = cc in ap (λ z. level (expr_at s v (n - 1) z)) same
 
-  pub seen_other : IsOnly row xs None → (None ≡ sole_name (expr_at s v n x)) × (row_signed row [] ≡ is_signed (expr_at s v n x)) × (row_level row [] ≡ level (expr_at s v n x))
+  pub seen_other : IsOnly template xs None → (None ≡ sole_name (expr_at s v n x)) × (template_signed template [] ≡ is_signed (expr_at s v n x)) × (template_level template [] ≡ level (expr_at s v n x))
   seen_other other =
       let o = other (exprs_at s v (n - 1) xs) (length-map xs (expr_at s v (n - 1))) in
       (sym (own_name ∙ o.2), sym (own_sign ∙ o.0), sym (own_level ∙ o.1))

@@ -10,8 +10,8 @@ pub mod Marks
 pub mod PartTables
 pub mod Named
 pub mod Forms
-pub mod Rows
-pub mod Made
+pub mod Templates
+pub mod ExprNode
 pub mod Parentheses
 pub mod Signs
 pub mod WireRules

@@ -27,12 +27,12 @@ abbrev pub mark_at : List Mark → ℕ → Mark
 mark_at ms i = slice_index_or ms i no_mark
 
 -- the mark after one more use
-abbrev pub noted : Bool → Bool → Mark → Mark
-noted cut joined m = record { uses = min 2 (m.uses + 1); cut = m.cut || cut; joined = m.joined || joined }
+abbrev pub note_use : Bool → Bool → Mark → Mark
+note_use cut joined m = record { uses = min 2 (m.uses + 1); cut = m.cut || cut; joined = m.joined || joined }
 
 -- the mark of a value after a use of some value
 abbrev pub one_use : Ref → Bool → Bool → Ref → Mark → Mark
-one_use r cut joined x m = cond (same_ref x r) (noted cut joined m) m
+one_use r cut joined x m = cond (same_ref x r) (note_use cut joined m) m
 
 -- the mark after the operands of an operation, which cuts the value or not, and is an instance or not
 abbrev pub after_operands : Ref → Bool → Bool → List Ref → Mark → Mark

@@ -5,14 +5,14 @@ ghost use Rattle.verilog_expr.specs.Expressions.{own_expr};
 ghost use Rattle.verilog_expr.specs.Text.{expr_text};
 ghost use Rattle.verilog_expr.specs.Scopes.{scope_ports, scope_ops, scope_ref};
 ghost use Rattle.verilog_expr.specs.Forms.{wanted, form_text};
-ghost use Rattle.verilog_expr.specs.Rows.{row_text};
-ghost use Rattle.verilog_expr.specs.Made.{expr_at, exprs_at, select_text, shown_values};
+ghost use Rattle.verilog_expr.specs.Templates.{template_text};
+ghost use Rattle.verilog_expr.specs.ExprNode.{expr_at, exprs_at, select_text, shown_values};
 
 use crate::form::{Form, asks_level, asks_unsigned, push_before, push_behind};
 use crate::literals::{push_decimal, push_literal};
-use crate::look::{look_at, only_name, push_close, push_open, wrap_for};
-use crate::made::made_at;
-use crate::row::Row;
+use crate::info::{info_at, only_name, push_close, push_open, wrap_for};
+use crate::node::node_at;
+use crate::template::Template;
 use crate::scope::Scope;
 use crate::value_names::ValueNames;
 use io_edge::byte_text::Text;
@@ -48,7 +48,7 @@ fn push_missing(out: &mut Text) -> Result<(), AllocError>
 }
 
 // The first of operands, for those whose form shows it alone, or all.
-fn shown(form: Form, operands: &[Value]) -> &[Value]
+fn operands_in_text(form: Form, operands: &[Value]) -> &[Value]
     ensures { result.now ≡ shown_values form operands.now }
 {
     match form {
@@ -74,7 +74,7 @@ fn push_value(
     requires { level < 12 }
     ensures { OnOk result (out.new ≡ out.old ++ expr_text (wanted unsigned level (expr_at scope.now names.now depth value)) []) }
 {
-    let wrap = wrap_for(unsigned, level, &look_at(scope, names, value, depth));
+    let wrap = wrap_for(unsigned, level, &info_at(scope, names, value, depth));
     push_open(out, wrap)?;
     push_bare(out, scope, names, value, depth)?;
     push_close(out, wrap)?;
@@ -100,31 +100,31 @@ fn push_bare(
         out.push_bytes(name)?;
         return Ok(());
     }
-    let made = made_at(scope, value);
-    push_row(out, scope, names, made.row, made.operands, depth - 1)?;
+    let node = node_at(scope, value);
+    push_template(out, scope, names, node.template, node.operands, depth - 1)?;
     Ok(())
 }
 
 // Adds the expression of a row over operands, each down to a depth.
 #[cycle(expr)]
-fn push_row(
+fn push_template(
     out: &mut Text,
     scope: &Scope<'_>,
     names: &ValueNames,
-    row: Row,
+    template: Template,
     operands: &[Value],
     depth: usize,
 ) -> Result<(), AllocError>
-    ensures { OnOk result (out.new ≡ out.old ++ row_text row (exprs_at scope.now names.now depth operands.now)) }
+    ensures { OnOk result (out.new ≡ out.old ++ template_text template (exprs_at scope.now names.now depth operands.now)) }
 {
-    match row {
-        Row::Missing => push_missing(out)?,
-        Row::Number(width, number) => push_literal(out, width, false, number)?,
-        Row::Select(low, width) => {
+    match template {
+        Template::Missing => push_missing(out)?,
+        Template::Number(width, number) => push_literal(out, width, false, number)?,
+        Template::Select(low, width) => {
             push_select(out, only_name(scope, names, operands, depth), low, width)?;
         }
-        Row::Operands(form) => {
-            push_form(out, scope, names, form, shown(form, operands), depth)?;
+        Template::Operands(form) => {
+            push_form(out, scope, names, form, operands_in_text(form, operands), depth)?;
         }
     }
     Ok(())
@@ -199,8 +199,8 @@ impl Expr {
         ensures { IfOk result (λ e. e.text ≡ expr_text (own_expr (named_of names.now) (scope_ports scope.now) (scope_ops scope.now) (λ r. expr_to (named_of names.now) (scope_ports scope.now) (scope_ops scope.now) (suc height_limit) r) (scope_ref scope.now value)) []) }
     {
         let mut text = Text::new(alloc);
-        let made = made_at(scope, value);
-        push_row(&mut text, scope, names, made.row, made.operands, DEPTH)?;
+        let node = node_at(scope, value);
+        push_template(&mut text, scope, names, node.template, node.operands, DEPTH)?;
         Ok(Expr { text })
     }
 

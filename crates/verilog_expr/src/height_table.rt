@@ -47,7 +47,7 @@ fn wrapped(height: u32) -> u32
 }
 
 // How high a value stands in the expression of an operation that uses it, where that is known.
-fn standing(scope: &Scope<'_>, parts: &[Part], heights: &[Option<u32>], value: Value) -> Stand
+fn stand_of(scope: &Scope<'_>, parts: &[Part], heights: &[Option<u32>], value: Value) -> Stand
     requires parts { AreParts (scope_ports scope.now) (scope_ops scope.now) parts.now }
     requires part_count { length parts.now ≡ length (scope_ops scope.now) }
     requires known { AreKnown (scope_ports scope.now) (scope_ops scope.now) heights.now }
@@ -79,7 +79,7 @@ fn go_on(scope: &Scope<'_>, parts: &[Part], heights: &[Option<u32>], waiting: Wa
     let operands = scope.op_at(waiting.place).operands;
     let mut most = waiting.most;
     for passed in waiting.passed..operands.len() {
-        match standing(scope, parts, heights, operands[passed]) {
+        match stand_of(scope, parts, heights, operands[passed]) {
             Stand::Known(height) => most = height.max(most),
             Stand::Unknown(below) => {
                 return Step::Down(

@@ -18,10 +18,10 @@ ghost use Rattle.verilog_model.specs.Hierarchy.{range_width};
 ghost use Rattle.verilog_expr.specs.Numerals.{hex, high_of};
 ghost use Rattle.verilog_expr.specs.Building.{built};
 ghost use Rattle.verilog_expr.specs.Forms.{asks_unsigned, wanted};
-ghost use Rattle.verilog_expr.specs.Rows.{row_for};
+ghost use Rattle.verilog_expr.specs.Templates.{template_for};
 ghost use Rattle.verilog_expr.specs.declared.form.Form.{Form};
 ghost use Rattle.verilog_expr.specs.declared.form.Form.TheVariants.{Same};
-ghost use Rattle.verilog_expr.specs.declared.row.Row.TheVariants.{Operands};
+ghost use Rattle.verilog_expr.specs.declared.template.Template.TheVariants.{Operands};
 ghost use Rattle.verilog_expr.specs.Expressions.{op_at, value_width, own_expr, AreExprs, expr_to};
 ghost use Rattle.verilog_expr.specs.Spilling.{is_pure, is_constant_kind, AreHeights, height, height_limit, spilled, inner_needs};
 ghost use Rattle.verilog_expr.specs.Parentheses.{tight, opened};
@@ -125,7 +125,7 @@ pub fn parentheses_are_needed()
 /// it does so in none of its operands' expressions, in each expression of a body, each down to a depth, and in what is
 /// assigned to a name, whatever names the values have.
 pub fn signs_are_kept()
-    ensures asked { (kind : Kind) (w v divisor n i : ℕ) (f : Form) → row_for kind w v divisor n ≡ Operands f → (f ≡ Same → ⊥)
+    ensures asked { (kind : Kind) (w v divisor n i : ℕ) (f : Form) → template_for kind w v divisor n ≡ Operands f → (f ≡ Same → ⊥)
         → asks_unsigned f i ≡ is_unsigned_place kind i }
     ensures places { (l : ℕ) (e : Expr) → is_signed (wanted true l e) ≡ false }
     ensures kinds { (kind : Kind) (w : ℕ) (ws : List ℕ) (divisor : ℕ) (es : List Expr) → is_signed_kind kind ≡ true → length es ≡ 2

@@ -7,7 +7,7 @@ ghost use Rattle.hw_model.specs.KindViews.{kind_of};
 ghost use Rattle.verilog_expr.specs.Spilling.{is_narrower};
 ghost use Rattle.verilog_expr.specs.Expressions.{value_width};
 ghost use Rattle.verilog_expr.specs.Scopes.{scope_ports, scope_ops, scope_ref};
-ghost use Rattle.verilog_expr.specs.Marks.{AreMarks, mark_at, noted, one_use, after_operands};
+ghost use Rattle.verilog_expr.specs.Marks.{AreMarks, mark_at, note_use, one_use, after_operands};
 
 use crate::scope::{Scope, result_width};
 use hw_model::kinds::OpKind;
@@ -47,9 +47,9 @@ fn is_instance(kind: &OpKind) -> bool
 }
 
 // The mark after one more use.
-fn noted(mark: Mark, cut: bool, joined: bool) -> Mark
+fn note_use(mark: Mark, cut: bool, joined: bool) -> Mark
     requires { mark.uses < 3 }
-    ensures { result ≡ noted cut joined mark }
+    ensures { result ≡ note_use cut joined mark }
 {
     Mark {
         uses: (mark.uses + 1).min(2),
@@ -67,7 +67,7 @@ fn mark_value(scope: &Scope<'_>, value: Value, kind: &OpKind, width: u64, marks:
 {
     if let Some(place) = scope.place(value) {
         let cut = is_narrower(kind, width, scope.width(value));
-        marks[place] = noted(marks[place], cut, is_instance(kind));
+        marks[place] = note_use(marks[place], cut, is_instance(kind));
     }
 }
 

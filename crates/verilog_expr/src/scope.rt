@@ -90,7 +90,7 @@ impl<'m> Scope<'m> {
     pub fn position(&self, id: OpId) -> usize
         ensures { result ≡ position_of (ids_of self.now.body.now) id.index }
     {
-        match self.known(id) {
+        match self.position_of(id) {
             Some(position) => (position as usize).min(self.ids.len()),
             None => self.ids.len(),
         }
@@ -152,7 +152,7 @@ impl<'m> Scope<'m> {
     }
 
     // What the table has for an id.
-    fn known(&self, id: OpId) -> Option<u32>
+    fn position_of(&self, id: OpId) -> Option<u32>
         ensures { result ≡ slice_get self.now.positions.items id.index }
     {
         self.positions.get(id.number() as usize).copied()

@@ -18,8 +18,8 @@ use Rattle.op_verifier.specs.Verdict.{IsAccepted}
 use Rattle.op_verifier.proofs.Widths.{neither}
 use Rattle.verilog_expr.specs.Spilling.{is_wire_kind, spilled}
 use Rattle.verilog_expr.specs.Values.{is_aggregate_kind}
-use Rattle.export_verilog.specs.Keys.{Key, each, result_keys, keys_of, op_keys, port_keys, module_keys}
-use Rattle.export_verilog.specs.Keys.Role.{hidden, net, variable, block}
+use Rattle.export_verilog.specs.Identifiers.{Identifier, each, result_identifiers, identifiers_of, op_identifiers, port_identifiers, module_identifiers}
+use Rattle.export_verilog.specs.Identifiers.Emission.{hidden, net, variable, block}
 use Rattle.export_verilog.specs.Aggregates.{is_aggregate, HasNoAggregates}
 use Rattle.export_verilog.proofs.accepted.AcceptedOps.{IsTested, found, op_tested}
 use Rattle.export_verilog.proofs.accepted.NoAggregates.{IsPlain, ports_plain, op_plain}
@@ -41,12 +41,12 @@ leaves_of_all (t ∷ ts) h =
     omega (arith, p, q)
 
 port_leaves : (i : ℕ) (ps : List Port) → list_any (λ (p : Port). is_aggregate p.type) ps ≡ false
-    → length (each port_keys i ps) ≡ leaf_count (map (λ (p : Port). p.type) ps)
+    → length (each port_identifiers i ps) ≡ leaf_count (map (λ (p : Port). p.type) ps)
 port_leaves i [] h = refl
 port_leaves i (p ∷ ps) h =
     let a = neither (is_aggregate p.type) (list_any (λ (p : Port). is_aggregate p.type) ps) h in
     let one : length (leaves p.type) ≡ 1 = one_leaf p.type a.0 in
-    let rest : length (each port_keys (suc i) ps) ≡ leaf_count (map (λ (p : Port). p.type) ps) = port_leaves (suc i) ps a.1 in
+    let rest : length (each port_identifiers (suc i) ps) ≡ leaf_count (map (λ (p : Port). p.type) ps) = port_leaves (suc i) ps a.1 in
     omega (arith, one, rest)
 
 -- ---- operations
@@ -92,50 +92,50 @@ module _ (inner : Name → ℕ) where
       let p = leaves_of_all ts plain in omega (arith, p, results)
   instance_weighs kind ts n count is plain results = cc
 
-long_results : (i k : ℕ) (rs : List OpResult) → length (result_keys i k rs) ≡ length rs
+long_results : (i k : ℕ) (rs : List OpResult) → length (result_identifiers i k rs) ≡ length rs
 long_results i k [] = refl
 long_results i k (r ∷ rs) = ap suc (long_results i (suc k) rs)
 
 -- what is no instance has at most one name
-one_key : (a b c e f : Bool) (i : ℕ) (o : Op) → b ≡ false → length (keys_of (cond a variable (cond b block (cond c hidden (cond e net (cond f net hidden))))) i o) ≤ 1
-one_key true b c e f i o h = omega arith
-one_key false true c e f i o h = cc
-one_key false false true e f i o h = omega arith
-one_key false false false true f i o h = omega arith
-one_key false false false false true i o h = omega arith
-one_key false false false false false i o h = omega arith
+one_identifier : (a b c e f : Bool) (i : ℕ) (o : Op) → b ≡ false → length (identifiers_of (cond a variable (cond b block (cond c hidden (cond e net (cond f net hidden))))) i o) ≤ 1
+one_identifier true b c e f i o h = omega arith
+one_identifier false true c e f i o h = cc
+one_identifier false false true e f i o h = omega arith
+one_identifier false false false true f i o h = omega arith
+one_identifier false false false false true i o h = omega arith
+one_identifier false false false false false i o h = omega arith
 
 -- nothing has more than one beside its results
-some_keys : (a c e f : Bool) (i : ℕ) (o : Op) → length (keys_of (cond a variable (cond true block (cond c hidden (cond e net (cond f net hidden))))) i o) ≤ 1 + length o.results
-some_keys true c e f i o = omega arith
-some_keys false c e f i o = let p = long_results i 0 o.results in omega (arith, p)
+some_identifiers : (a c e f : Bool) (i : ℕ) (o : Op) → length (identifiers_of (cond a variable (cond true block (cond c hidden (cond e net (cond f net hidden))))) i o) ≤ 1 + length o.results
+some_identifiers true c e f i o = omega arith
+some_identifiers false c e f i o = let p = long_results i 0 o.results in omega (arith, p)
 
-keys_weigh : (inner : Name → ℕ) (ports : List Port) (os : List Op) (i : ℕ) (o : Op) → IsTested ports os o → IsPlain o
-    → length (op_keys ports os i o) ≤ kind_weight inner o.kind o.types (length o.operands)
-keys_weigh inner ports os i o tests plain = go (is_instance o) refl
+identifiers_weigh : (inner : Name → ℕ) (ports : List Port) (os : List Op) (i : ℕ) (o : Op) → IsTested ports os o → IsPlain o
+    → length (op_identifiers ports os i o) ≤ kind_weight inner o.kind o.types (length o.operands)
+identifiers_weigh inner ports os i o tests plain = go (is_instance o) refl
   where
     w : ℕ
     w = kind_weight inner o.kind o.types (length o.operands)
 
-    go : (b : Bool) → is_instance o ≡ b → length (op_keys ports os i o) ≤ w
+    go : (b : Bool) → is_instance o ≡ b → length (op_identifiers ports os i o) ≤ w
     go true e =
-        let p = some_keys (is_register o) (is_output_op o) (is_wire_kind o.kind) (spilled ports os (result i 0)) i o in
-        let q : length (op_keys ports os i o) ≤ 1 + length o.results =
-        subst (λ (b : Bool). length (keys_of (cond (is_register o) variable (cond b block (cond (is_output_op o) hidden (cond (is_wire_kind o.kind) net (cond (spilled ports os (result i 0)) net hidden))))) i o) ≤ 1 + length o.results) (sym e) p in
+        let p = some_identifiers (is_register o) (is_output_op o) (is_wire_kind o.kind) (spilled ports os (result i 0)) i o in
+        let q : length (op_identifiers ports os i o) ≤ 1 + length o.results =
+        subst (λ (b : Bool). length (identifiers_of (cond (is_register o) variable (cond b block (cond (is_output_op o) hidden (cond (is_wire_kind o.kind) net (cond (spilled ports os (result i 0)) net hidden))))) i o) ≤ 1 + length o.results) (sym e) p in
         let r = instance_weighs inner o.kind o.types (length o.operands) (length o.results) e plain.types tests.results in
         omega (arith, q, r)
     go false e =
-        let q = one_key (is_register o) (is_instance o) (is_output_op o) (is_wire_kind o.kind) (spilled ports os (result i 0)) i o e in
+        let q = one_identifier (is_register o) (is_instance o) (is_output_op o) (is_wire_kind o.kind) (spilled ports os (result i 0)) i o e in
         let r = weighs inner o.kind o.types (length o.operands) plain.kind plain.types tests.types in
         omega (arith, q, r)
 
-body_keys : (inner : Name → ℕ) (f : ℕ → Op → List Key) (i : ℕ) (os : List Op)
+body_identifiers : (inner : Name → ℕ) (f : ℕ → Op → List Identifier) (i : ℕ) (os : List Op)
     → ((j : ℕ) (o : Op) → slice_get os j ≡ Some o → (i : ℕ) → length (f i o) ≤ kind_weight inner o.kind o.types (length o.operands))
     → length (each f i os) ≤ body_weight inner os
-body_keys inner f i [] all = omega arith
-body_keys inner f i (o ∷ os) all =
+body_identifiers inner f i [] all = omega arith
+body_identifiers inner f i (o ∷ os) all =
     let p = all 0 o refl i in
-    let q = body_keys inner f (suc i) os (λ j x there. all (suc j) x there) in
+    let q = body_identifiers inner f (suc i) os (λ j x there. all (suc j) x there) in
     let r : length (each f i (o ∷ os)) ≡ length (f i o) + length (each f (suc i) os) = length-append (f i o) (each f (suc i) os) in
     omega (arith, p, q, r)
 
@@ -149,19 +149,19 @@ module _ (d : Design) (fine : IsAccepted d) (none : HasNoAggregates d) (n : ℕ)
       go true e = absurd (fine.light n m there (ltb-true (2 ^ 28) (weight d m.symbol) e))
       go false e = ltb-false (2 ^ 28) (weight d m.symbol) e
 
-  keys_within : (inner : Name → ℕ) → length (module_keys m) ≤ weight_of inner (Some m)
-  keys_within inner =
+  identifiers_within : (inner : Name → ℕ) → length (module_identifiers m) ≤ weight_of inner (Some m)
+  identifiers_within inner =
       let ports = port_leaves 0 m.ports (ports_plain d none n m there) in
-      let ops = body_keys inner (op_keys m.ports m.body) 0 m.body
-      (λ j o at i. keys_weigh inner m.ports m.body i o (op_tested d fine n m there j o at) (op_plain d none n m there j o at)) in
-      let all = length-append (each port_keys 0 m.ports) (each (op_keys m.ports m.body) 0 m.body) in
+      let ops = body_identifiers inner (op_identifiers m.ports m.body) 0 m.body
+      (λ j o at i. identifiers_weigh inner m.ports m.body i o (op_tested d fine n m there j o at) (op_plain d none n m there j o at)) in
+      let all = length-append (each port_identifiers 0 m.ports) (each (op_identifiers m.ports m.body) 0 m.body) in
       omega (arith, ports, ops, all)
 
   -- a module has few names
-  pub few_names : length (module_keys m) + 130 < 2 ^ 64
+  pub few_names : length (module_identifiers m) + 130 < 2 ^ 64
   few_names =
       let inner = module_weight (length d) d in
       let same : weight d m.symbol ≡ weight_of inner (Some m) = ap (weight_of inner) (found d fine n m there) in
       let p = light in
-      let q = keys_within inner in
+      let q = identifiers_within inner in
       omega (arith, p, q, same)

@@ -11,7 +11,7 @@ use Rattle.export_verilog.specs.Exported.{symbol_names, symbol_name, vmodule, vp
 use Rattle.export_verilog.specs.Layout.{verilog_text}
 use Rattle.export_verilog.specs.Written.{ports_named}
 use Rattle.export_verilog.specs.Exportable.{IsExportable}
-use Rattle.export_verilog.specs.Behaving.{legal_symbols, legal_ports, shown_under, shown_ports, BehavesAs}
+use Rattle.export_verilog.specs.Behaviour.{legal_symbols, legal_ports, shown_under, shown_ports, BehavesAs}
 use Rattle.export_verilog.proofs.names.PortNames.{port_names_are, vports_are}
 use Rattle.export_verilog.proofs.text.TextRead.{tree_read}
 use Rattle.export_verilog.proofs.names.Symbols.{module_at_position, symbol_at, vmodule_found}

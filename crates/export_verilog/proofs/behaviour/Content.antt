@@ -15,15 +15,15 @@ use Rattle.verilog_model.specs.Tree.{Item, VModule}
 use Rattle.verilog_model.specs.Tree.Item.{wire, reg, assign, always, instance}
 use Rattle.verilog_model.specs.Hierarchy.{block_target, items_state, vstate_of, vmodule_state, vstate, until, is_instance_named, loads, vstate_before, vbase, width_in}
 use Rattle.verilog_expr.specs.Spilling.{is_wire_kind, spilled}
-use Rattle.export_verilog.specs.Keys.{Key, Role, each, role_of, module_keys, key_text, named, name_or_nothing}
-use Rattle.export_verilog.specs.Keys.Key.{port_key, value_key, instance_key}
-use Rattle.export_verilog.specs.Keys.Role.{hidden, net, variable, block}
+use Rattle.export_verilog.specs.Identifiers.{Identifier, Emission, each, emission_of, module_identifiers, identifier_text, named, name_or_nothing}
+use Rattle.export_verilog.specs.Identifiers.Identifier.{port_identifier, value_identifier, instance_identifier}
+use Rattle.export_verilog.specs.Identifiers.Emission.{hidden, net, variable, block}
 use Rattle.export_verilog.specs.Exported.{symbol_name, expression, result_wires, declared_as, declares, block_of, always_of, instance_of, stated_as, states, output_assigns, expr_or_none, others, vitems, vmodule, tree_of}
-use Rattle.export_verilog.proofs.names.KeyNames.{AreNames, texts_apart}
-use Rattle.export_verilog.proofs.names.KeysOf.{role_of_register, role_of_instance, role_of_output, role_of_made, instance_of_role, register_of_role, variable_in, instance_in_keys}
+use Rattle.export_verilog.proofs.names.IdentifierNames.{AreNames, texts_apart}
+use Rattle.export_verilog.proofs.names.IdentifiersOf.{emission_of_register, emission_of_instance, emission_of_output, emission_of_made, instance_of_emission, register_of_emission, variable_in, instance_in_identifiers}
 use Rattle.export_verilog.proofs.names.Symbols.{vmodule_found}
 use Rattle.export_verilog.proofs.items.Lookups.{width_under}
-use Rattle.export_verilog.proofs.items.Settings.{Setting, Called, called_by_role, module_ok, result_at_first}
+use Rattle.export_verilog.proofs.items.Settings.{Setting, Called, called_by_emission, module_ok, result_at_first}
 use Rattle.export_verilog.proofs.items.Registers.{register_of}
 use Rattle.export_verilog.proofs.items.Drives.{block_name}
 use Rattle.export_verilog.proofs.behaviour.Places.{symbol_at_path, Further, further, name_of_step, vplace, vpath_of}
@@ -39,7 +39,7 @@ module _ (f : Name → ℕ) (v : VModule) where
   no_state_wires m i k [] = refl
   no_state_wires m i k (r ∷ rs) = zero-add (items_state f v (result_wires m i (suc k) rs)) ∙ no_state_wires m i (suc k) rs
 
-  no_state_declared : (m : Module) (i : ℕ) (o : Op) (r : Role) → items_state f v (declared_as m i o r) ≡ 0
+  no_state_declared : (m : Module) (i : ℕ) (o : Op) (r : Emission) → items_state f v (declared_as m i o r) ≡ 0
   no_state_declared m i o hidden = refl
   no_state_declared m i o net = refl
   no_state_declared m i o variable = refl
@@ -49,13 +49,13 @@ module _ (f : Name → ℕ) (v : VModule) where
   no_state_declares m i [] = refl
   no_state_declares m i (o ∷ os) =
       state-append (declares m i o) (each (declares m) (suc i) os)
-      ∙ ap₂ (λ a b. a + b) (no_state_declared m i o (role_of m.ports m.body i o)) (no_state_declares m (suc i) os)
+      ∙ ap₂ (λ a b. a + b) (no_state_declared m i o (emission_of m.ports m.body i o)) (no_state_declares m (suc i) os)
 
   no_state_outputs : (m : Module) (j : ℕ) (ps : List Port) (rs : List Ref) → items_state f v (output_assigns m j ps rs) ≡ 0
   no_state_outputs m j [] rs = refl
   no_state_outputs m j (p ∷ ps) rs = go p.is_output (no_state_outputs m (suc j) ps (others rs)) (no_state_outputs m (suc j) ps rs) where
     go : (b : Bool) → items_state f v (output_assigns m (suc j) ps (others rs)) ≡ 0 → items_state f v (output_assigns m (suc j) ps rs) ≡ 0
-        → items_state f v (cond b (assign (key_text m (port_key j)) (expr_or_none (expression m) rs) ∷ output_assigns m (suc j) ps (others rs)) (output_assigns m (suc j) ps rs)) ≡ 0
+        → items_state f v (cond b (assign (identifier_text m (port_identifier j)) (expr_or_none (expression m) rs) ∷ output_assigns m (suc j) ps (others rs)) (output_assigns m (suc j) ps rs)) ≡ 0
     go true first second = zero-add (items_state f v (output_assigns m (suc j) ps (others rs))) ∙ first
     go false first second = second
 
@@ -85,17 +85,17 @@ module _ (d : Design) (x : Setting d) (s : Name) (m : Module) (is : find_module 
   are : AreNames m
   are = x.names s m is
 
-  pub variable_width : (i : ℕ) (o : Op) → slice_get m.body i ≡ Some o → role_of m.ports m.body i o ≡ variable
-      → width_in (vmodule d m) (key_text m (value_key i 0)) ≡ held_width o
-  variable_width i o there role =
-      width_under x.say d m (module_ok d x s m is) are (result_at_first d x s m is) (value_key i 0) (variable_in m i o there role)
+  pub variable_width : (i : ℕ) (o : Op) → slice_get m.body i ≡ Some o → emission_of m.ports m.body i o ≡ variable
+      → width_in (vmodule d m) (identifier_text m (value_identifier i 0)) ≡ held_width o
+  variable_width i o there emission =
+      width_under x.say d m (module_ok d x s m is) are (result_at_first d x s m is) (value_identifier i 0) (variable_in m i o there emission)
       ∙ ap (λ z. width_of (Rattle.wiring.specs.Options.bind z (λ (o : Op). result_type o 0))) there
 
   module _ (f g : Name → ℕ) (agree : (i : ℕ) (o : Op) (c : Called d m o) → slice_get m.body i ≡ Some o → f (symbol_name d c.kind.symbol) ≡ g c.kind.symbol) where
     state_of_op : (i : ℕ) (o : Op) → slice_get m.body i ≡ Some o → items_state f (vmodule d m) (states d m i o) ≡ op_state g o
     state_of_op i o there = go (sort_of o.kind) where
-      by_role : (r : Role) → role_of m.ports m.body i o ≡ r → items_state f (vmodule d m) (states d m i o) ≡ items_state f (vmodule d m) (stated_as d m i o r)
-      by_role r role = ap (λ z. items_state f (vmodule d m) (stated_as d m i o z)) role
+      by_emission : (r : Emission) → emission_of m.ports m.body i o ≡ r → items_state f (vmodule d m) (states d m i o) ≡ items_state f (vmodule d m) (stated_as d m i o r)
+      by_emission r emission = ap (λ z. items_state f (vmodule d m) (stated_as d m i o z)) emission
 
       at_register : (h : RegisterForm) → register_form o.kind ≡ Some h → op_state g o ≡ held_width o
       at_register h r = ap (λ z. cond (is_some z) (held_width o) (instance_state g (instance_in o.kind))) r
@@ -110,20 +110,20 @@ module _ (d : Design) (x : Setting d) (s : Name) (m : Module) (is : find_module 
 
       go : Sort o.kind → items_state f (vmodule d m) (states d m i o) ≡ op_state g o
       go (a_register h r n u) =
-          let role = role_of_register m.ports m.body i o h r in
-          let g' = register_of d x s m is i o there role in
-          by_role variable role
-          ∙ ap (λ z. items_state f (vmodule d m) (always_of m (key_text m (value_key i 0)) z)) g'.1
-          ∙ add-zero (width_in (vmodule d m) (block_target (block_of (expression m) (key_text m (value_key i 0)) g'.0.next g'.0.enable g'.0.reset)))
-          ∙ ap (width_in (vmodule d m)) (block_name d x s m is s [] i g'.0) ∙ variable_width i o there role ∙ sym (at_register h r)
+          let emission = emission_of_register m.ports m.body i o h r in
+          let g' = register_of d x s m is i o there emission in
+          by_emission variable emission
+          ∙ ap (λ z. items_state f (vmodule d m) (always_of m (identifier_text m (value_identifier i 0)) z)) g'.1
+          ∙ add-zero (width_in (vmodule d m) (block_target (block_of (expression m) (identifier_text m (value_identifier i 0)) g'.0.next g'.0.enable g'.0.reset)))
+          ∙ ap (width_in (vmodule d m)) (block_name d x s m is s [] i g'.0) ∙ variable_width i o there emission ∙ sym (at_register h r)
       go (is_an_instance k r n u) =
-          let role = role_of_instance m.ports m.body i o k r n in
-          let c = called_by_role d x s m is i o there role in
-          by_role block role
+          let emission = emission_of_instance m.ports m.body i o k r n in
+          let c = called_by_emission d x s m is i o there emission in
+          by_emission block emission
           ∙ ap (λ z. items_state f (vmodule d m) (instance_of d m i o z)) c.is_kind
           ∙ add-zero (f (symbol_name d c.kind.symbol)) ∙ agree i o c there ∙ sym (at_other (Some c.kind) r c.is_kind)
-      go (an_output r n u) = by_role hidden (role_of_output m.ports m.body i o r n u) ∙ sym (at_other None r n)
-      go (a_made r n u) = ap (λ z. items_state f (vmodule d m) (stated_as d m i o z)) (role_of_made m.ports m.body i o r n u)
+      go (an_output r n u) = by_emission hidden (emission_of_output m.ports m.body i o r n u) ∙ sym (at_other None r n)
+      go (a_made r n u) = ap (λ z. items_state f (vmodule d m) (stated_as d m i o z)) (emission_of_made m.ports m.body i o r n u)
           ∙ none_made (is_wire_kind o.kind) (spilled m.ports m.body (result i 0)) ∙ sym (at_other None r n)
 
     state_of_body : (j : ℕ) (os : List Op) → ((a : ℕ) (o : Op) → slice_get os a ≡ Some o → slice_get m.body (j + a) ≡ Some o)
@@ -167,11 +167,11 @@ module _ (d : Design) (x : Setting d) (s : Name) (m : Module) (is : find_module 
 
     -- ---- the two tests
 
-    apart : (k l : Key) → In k (module_keys m) → In l (module_keys m) → (k ≡ l → ⊥) → same_name (key_text m k) (key_text m l) ≡ false
-    apart k l here there differ = go (same_name (key_text m k) (key_text m l)) refl where
-      go : (b : Bool) → same_name (key_text m k) (key_text m l) ≡ b → b ≡ false
+    apart : (k l : Identifier) → In k (module_identifiers m) → In l (module_identifiers m) → (k ≡ l → ⊥) → same_name (identifier_text m k) (identifier_text m l) ≡ false
+    apart k l here there differ = go (same_name (identifier_text m k) (identifier_text m l)) refl where
+      go : (b : Bool) → same_name (identifier_text m k) (identifier_text m l) ≡ b → b ≡ false
       go false e = refl
-      go true e = absurd (differ (texts_apart m are k l here there (name_from (key_text m k) (key_text m l) e)))
+      go true e = absurd (differ (texts_apart m are k l here there (name_from (identifier_text m k) (identifier_text m l) e)))
 
     not_wires : (test : Item → Bool) → ((h : _) (n : Name) → test (wire h n) ≡ false) → (i k : ℕ) (rs : List OpResult) (y : Item) → In y (result_wires m i k rs) → test y ≡ false
     not_wires test wires i k [] y here = absurd here
@@ -179,7 +179,7 @@ module _ (d : Design) (x : Setting d) (s : Name) (m : Module) (is : find_module 
     not_wires test wires i k (r ∷ rs) y (inr here) = not_wires test wires i (suc k) rs y here
 
     not_declared : (test : Item → Bool) → ((h : _) (n : Name) → test (wire h n) ≡ false) → ((h : _) (n : Name) → test (reg h n) ≡ false)
-        → (i : ℕ) (o : Op) (r : Role) (y : Item) → In y (declared_as m i o r) → test y ≡ false
+        → (i : ℕ) (o : Op) (r : Emission) (y : Item) → In y (declared_as m i o r) → test y ≡ false
     not_declared test wires regs i o hidden y here = absurd here
     not_declared test wires regs i o net y (inl same) = ap test same ∙ wires _ _
     not_declared test wires regs i o net y (inr never) = absurd never
@@ -190,86 +190,86 @@ module _ (d : Design) (x : Setting d) (s : Name) (m : Module) (is : find_module 
     not_declares : (test : Item → Bool) → ((h : _) (n : Name) → test (wire h n) ≡ false) → ((h : _) (n : Name) → test (reg h n) ≡ false)
         → (y : Item) → In y (each (declares m) 0 m.body) → test y ≡ false
     not_declares test wires regs y here =
-        let e = Rattle.export_verilog.proofs.names.KeysOf.from_each (declares m) m.body y here in
-        not_declared test wires regs e.0 e.1 (role_of m.ports m.body e.0 e.1) y e.3
+        let e = Rattle.export_verilog.proofs.names.IdentifiersOf.from_each (declares m) m.body y here in
+        not_declared test wires regs e.0 e.1 (emission_of m.ports m.body e.0 e.1) y e.3
 
     -- a register's content begins after that of the operations before it
-    pub state_before_register : (i : ℕ) (o : Op) → slice_get m.body i ≡ Some o → role_of m.ports m.body i o ≡ variable
-        → items_state f (vmodule d m) (until (loads (key_text m (value_key i 0))) (vitems d m)) ≡ body_state g (take i m.body)
-    state_before_register i o there role =
-        state_before_op (loads (key_text m (value_key i 0))) i o there
-        (not_declares (loads (key_text m (value_key i 0))) (λ h n. refl) (λ h n. refl)) earlier passes where
+    pub state_before_register : (i : ℕ) (o : Op) → slice_get m.body i ≡ Some o → emission_of m.ports m.body i o ≡ variable
+        → items_state f (vmodule d m) (until (loads (identifier_text m (value_identifier i 0))) (vitems d m)) ≡ body_state g (take i m.body)
+    state_before_register i o there emission =
+        state_before_op (loads (identifier_text m (value_identifier i 0))) i o there
+        (not_declares (loads (identifier_text m (value_identifier i 0))) (λ h n. refl) (λ h n. refl)) earlier passes where
           test : Item → Bool
-          test = loads (key_text m (value_key i 0))
+          test = loads (identifier_text m (value_identifier i 0))
 
-          in_block : (a : ℕ) (z : Op) → a < i → slice_get m.body a ≡ Some z → role_of m.ports m.body a z ≡ variable → (r : Option Register) (y : Item)
-              → In y (always_of m (key_text m (value_key a 0)) r) → loads (key_text m (value_key i 0)) y ≡ false
-          in_block a z below at role' None y here = absurd here
-          in_block a z below at role' (Some r) y (inl same) =
-              ap (loads (key_text m (value_key i 0))) same
-              ∙ ap (λ n. same_name n (key_text m (value_key i 0))) (block_name d x s m is s [] a r)
-              ∙ apart (value_key a 0) (value_key i 0) (variable_in m a z at role') (variable_in m i o there role) (λ e. (let h : a ≡ i = cc in omega arith))
-          in_block a z below at role' (Some r) y (inr never) = absurd never
+          in_block : (a : ℕ) (z : Op) → a < i → slice_get m.body a ≡ Some z → emission_of m.ports m.body a z ≡ variable → (r : Option Register) (y : Item)
+              → In y (always_of m (identifier_text m (value_identifier a 0)) r) → loads (identifier_text m (value_identifier i 0)) y ≡ false
+          in_block a z below at emission' None y here = absurd here
+          in_block a z below at emission' (Some r) y (inl same) =
+              ap (loads (identifier_text m (value_identifier i 0))) same
+              ∙ ap (λ n. same_name n (identifier_text m (value_identifier i 0))) (block_name d x s m is s [] a r)
+              ∙ apart (value_identifier a 0) (value_identifier i 0) (variable_in m a z at emission') (variable_in m i o there emission) (λ e. (let h : a ≡ i = cc in omega arith))
+          in_block a z below at emission' (Some r) y (inr never) = absurd never
 
-          in_instance : (a : ℕ) (z : Op) (k : Option Instance) (y : Item) → In y (instance_of d m a z k) → loads (key_text m (value_key i 0)) y ≡ false
+          in_instance : (a : ℕ) (z : Op) (k : Option Instance) (y : Item) → In y (instance_of d m a z k) → loads (identifier_text m (value_identifier i 0)) y ≡ false
           in_instance a z None y here = absurd here
-          in_instance a z (Some k) y (inl same) = ap (loads (key_text m (value_key i 0))) same
+          in_instance a z (Some k) y (inl same) = ap (loads (identifier_text m (value_identifier i 0))) same
           in_instance a z (Some k) y (inr never) = absurd never
 
-          by_role : (a : ℕ) (z : Op) → a < i → slice_get m.body a ≡ Some z → (r : Role) → role_of m.ports m.body a z ≡ r → (y : Item) → In y (stated_as d m a z r)
-              → loads (key_text m (value_key i 0)) y ≡ false
-          by_role a z below at hidden role' y here = absurd here
-          by_role a z below at net role' y (inl same) = ap (loads (key_text m (value_key i 0))) same
-          by_role a z below at net role' y (inr never) = absurd never
-          by_role a z below at variable role' y here = in_block a z below at role' (register_in z) y here
-          by_role a z below at block role' y here = in_instance a z (instance_in z.kind) y here
+          by_emission : (a : ℕ) (z : Op) → a < i → slice_get m.body a ≡ Some z → (r : Emission) → emission_of m.ports m.body a z ≡ r → (y : Item) → In y (stated_as d m a z r)
+              → loads (identifier_text m (value_identifier i 0)) y ≡ false
+          by_emission a z below at hidden emission' y here = absurd here
+          by_emission a z below at net emission' y (inl same) = ap (loads (identifier_text m (value_identifier i 0))) same
+          by_emission a z below at net emission' y (inr never) = absurd never
+          by_emission a z below at variable emission' y here = in_block a z below at emission' (register_in z) y here
+          by_emission a z below at block emission' y here = in_instance a z (instance_in z.kind) y here
 
-          earlier : (a : ℕ) (z : Op) → a < i → slice_get m.body a ≡ Some z → (y : Item) → In y (states d m a z) → loads (key_text m (value_key i 0)) y ≡ false
-          earlier a z below at y here = by_role a z below at (role_of m.ports m.body a z) refl y here
+          earlier : (a : ℕ) (z : Op) → a < i → slice_get m.body a ≡ Some z → (y : Item) → In y (states d m a z) → loads (identifier_text m (value_identifier i 0)) y ≡ false
+          earlier a z below at y here = by_emission a z below at (emission_of m.ports m.body a z) refl y here
 
-          passes : (r : List Item) → until (loads (key_text m (value_key i 0))) (states d m i o ++ r) ≡ []
+          passes : (r : List Item) → until (loads (identifier_text m (value_identifier i 0))) (states d m i o ++ r) ≡ []
           passes r =
-              let g' = register_of d x s m is i o there role in
-              ap (λ z. until (loads (key_text m (value_key i 0))) (stated_as d m i o z ++ r)) role
-              ∙ ap (λ z. until (loads (key_text m (value_key i 0))) (always_of m (key_text m (value_key i 0)) z ++ r)) g'.1
-              ∙ ap (λ b. cond b [] (always (name_or_nothing (named m g'.0.clock)) (block_of (expression m) (key_text m (value_key i 0)) g'.0.next g'.0.enable g'.0.reset) ∷ until (loads (key_text m (value_key i 0))) r))
-              (ap (λ n. same_name n (key_text m (value_key i 0))) (block_name d x s m is s [] i g'.0) ∙ name_self (key_text m (value_key i 0)))
+              let g' = register_of d x s m is i o there emission in
+              ap (λ z. until (loads (identifier_text m (value_identifier i 0))) (stated_as d m i o z ++ r)) emission
+              ∙ ap (λ z. until (loads (identifier_text m (value_identifier i 0))) (always_of m (identifier_text m (value_identifier i 0)) z ++ r)) g'.1
+              ∙ ap (λ b. cond b [] (always (name_or_nothing (named m g'.0.clock)) (block_of (expression m) (identifier_text m (value_identifier i 0)) g'.0.next g'.0.enable g'.0.reset) ∷ until (loads (identifier_text m (value_identifier i 0))) r))
+              (ap (λ n. same_name n (identifier_text m (value_identifier i 0))) (block_name d x s m is s [] i g'.0) ∙ name_self (identifier_text m (value_identifier i 0)))
 
-    pub state_before_instance : (i : ℕ) (o : Op) → slice_get m.body i ≡ Some o → role_of m.ports m.body i o ≡ block
-        → items_state f (vmodule d m) (until (is_instance_named (key_text m (instance_key i))) (vitems d m)) ≡ body_state g (take i m.body)
-    state_before_instance i o there role =
-        state_before_op (is_instance_named (key_text m (instance_key i))) i o there
-        (not_declares (is_instance_named (key_text m (instance_key i))) (λ h n. refl) (λ h n. refl)) earlier passes where
-          in_block : (a : ℕ) (z : Op) (r : Option Register) (y : Item) → In y (always_of m (key_text m (value_key a 0)) r) → is_instance_named (key_text m (instance_key i)) y ≡ false
+    pub state_before_instance : (i : ℕ) (o : Op) → slice_get m.body i ≡ Some o → emission_of m.ports m.body i o ≡ block
+        → items_state f (vmodule d m) (until (is_instance_named (identifier_text m (instance_identifier i))) (vitems d m)) ≡ body_state g (take i m.body)
+    state_before_instance i o there emission =
+        state_before_op (is_instance_named (identifier_text m (instance_identifier i))) i o there
+        (not_declares (is_instance_named (identifier_text m (instance_identifier i))) (λ h n. refl) (λ h n. refl)) earlier passes where
+          in_block : (a : ℕ) (z : Op) (r : Option Register) (y : Item) → In y (always_of m (identifier_text m (value_identifier a 0)) r) → is_instance_named (identifier_text m (instance_identifier i)) y ≡ false
           in_block a z None y here = absurd here
-          in_block a z (Some r) y (inl same) = ap (is_instance_named (key_text m (instance_key i))) same
+          in_block a z (Some r) y (inl same) = ap (is_instance_named (identifier_text m (instance_identifier i))) same
           in_block a z (Some r) y (inr never) = absurd never
 
-          in_instance : (a : ℕ) (z : Op) → a < i → slice_get m.body a ≡ Some z → role_of m.ports m.body a z ≡ block → (k : Option Instance) (y : Item) → In y (instance_of d m a z k)
-              → is_instance_named (key_text m (instance_key i)) y ≡ false
-          in_instance a z below at role' None y here = absurd here
-          in_instance a z below at role' (Some k) y (inl same) = ap (is_instance_named (key_text m (instance_key i))) same
-              ∙ apart (instance_key a) (instance_key i) (instance_in_keys m a z at role') (instance_in_keys m i o there role) (λ e. (let h : a ≡ i = cc in omega arith))
-          in_instance a z below at role' (Some k) y (inr never) = absurd never
+          in_instance : (a : ℕ) (z : Op) → a < i → slice_get m.body a ≡ Some z → emission_of m.ports m.body a z ≡ block → (k : Option Instance) (y : Item) → In y (instance_of d m a z k)
+              → is_instance_named (identifier_text m (instance_identifier i)) y ≡ false
+          in_instance a z below at emission' None y here = absurd here
+          in_instance a z below at emission' (Some k) y (inl same) = ap (is_instance_named (identifier_text m (instance_identifier i))) same
+              ∙ apart (instance_identifier a) (instance_identifier i) (instance_in_identifiers m a z at emission') (instance_in_identifiers m i o there emission) (λ e. (let h : a ≡ i = cc in omega arith))
+          in_instance a z below at emission' (Some k) y (inr never) = absurd never
 
-          by_role : (a : ℕ) (z : Op) → a < i → slice_get m.body a ≡ Some z → (r : Role) → role_of m.ports m.body a z ≡ r → (y : Item) → In y (stated_as d m a z r)
-              → is_instance_named (key_text m (instance_key i)) y ≡ false
-          by_role a z below at hidden role' y here = absurd here
-          by_role a z below at net role' y (inl same) = ap (is_instance_named (key_text m (instance_key i))) same
-          by_role a z below at net role' y (inr never) = absurd never
-          by_role a z below at variable role' y here = in_block a z (register_in z) y here
-          by_role a z below at block role' y here = in_instance a z below at role' (instance_in z.kind) y here
+          by_emission : (a : ℕ) (z : Op) → a < i → slice_get m.body a ≡ Some z → (r : Emission) → emission_of m.ports m.body a z ≡ r → (y : Item) → In y (stated_as d m a z r)
+              → is_instance_named (identifier_text m (instance_identifier i)) y ≡ false
+          by_emission a z below at hidden emission' y here = absurd here
+          by_emission a z below at net emission' y (inl same) = ap (is_instance_named (identifier_text m (instance_identifier i))) same
+          by_emission a z below at net emission' y (inr never) = absurd never
+          by_emission a z below at variable emission' y here = in_block a z (register_in z) y here
+          by_emission a z below at block emission' y here = in_instance a z below at emission' (instance_in z.kind) y here
 
-          earlier : (a : ℕ) (z : Op) → a < i → slice_get m.body a ≡ Some z → (y : Item) → In y (states d m a z) → is_instance_named (key_text m (instance_key i)) y ≡ false
-          earlier a z below at y here = by_role a z below at (role_of m.ports m.body a z) refl y here
+          earlier : (a : ℕ) (z : Op) → a < i → slice_get m.body a ≡ Some z → (y : Item) → In y (states d m a z) → is_instance_named (identifier_text m (instance_identifier i)) y ≡ false
+          earlier a z below at y here = by_emission a z below at (emission_of m.ports m.body a z) refl y here
 
-          passes : (r : List Item) → until (is_instance_named (key_text m (instance_key i))) (states d m i o ++ r) ≡ []
+          passes : (r : List Item) → until (is_instance_named (identifier_text m (instance_identifier i))) (states d m i o ++ r) ≡ []
           passes r =
-              let k = instance_of_role m.ports m.body i o role in
-              ap (λ z. until (is_instance_named (key_text m (instance_key i))) (stated_as d m i o z ++ r)) role
-              ∙ ap (λ z. until (is_instance_named (key_text m (instance_key i))) (instance_of d m i o z ++ r)) k.2
-              ∙ ap (λ b. cond b [] (instance (symbol_name d k.0.symbol) (key_text m (instance_key i)) (Rattle.export_verilog.specs.Exported.connections_to (find_module d k.0.symbol) m i o)
-              ∷ until (is_instance_named (key_text m (instance_key i))) r)) (name_self (key_text m (instance_key i)))
+              let k = instance_of_emission m.ports m.body i o emission in
+              ap (λ z. until (is_instance_named (identifier_text m (instance_identifier i))) (stated_as d m i o z ++ r)) emission
+              ∙ ap (λ z. until (is_instance_named (identifier_text m (instance_identifier i))) (instance_of d m i o z ++ r)) k.2
+              ∙ ap (λ b. cond b [] (instance (symbol_name d k.0.symbol) (identifier_text m (instance_identifier i)) (Rattle.export_verilog.specs.Exported.connections_to (find_module d k.0.symbol) m i o)
+              ∷ until (is_instance_named (identifier_text m (instance_identifier i))) r)) (name_self (identifier_text m (instance_identifier i)))
 
 -- ---- a design
 
@@ -297,13 +297,13 @@ module _ (d : Design) (x : Setting d) where
           let at = symbol_at_path d x top p f.outer f.here in
           ap (vbase (tree_of d) (symbol_name d top)) (name_of_step d x top u p m f)
           ∙ ap₂ (λ a b. a + b) (rest f.outer f.here)
-          (ap (vstate_before (tree_of d) (is_instance_named (key_text f.outer (instance_key f.place)))) (vplace d x top p f.outer f.here)
-          ∙ state_before_instance d x at.0 f.outer at.1 (vstate (tree_of d)) (state d) (agrees f.outer) f.place f.op f.there f.role
+          (ap (vstate_before (tree_of d) (is_instance_named (identifier_text f.outer (instance_identifier f.place)))) (vplace d x top p f.outer f.here)
+          ∙ state_before_instance d x at.0 f.outer at.1 (vstate (tree_of d)) (state d) (agrees f.outer) f.place f.op f.there f.emission
           ∙ ap (body_state (state d)) (sym (ap (λ v. before_instance v f.outer.body) (sym f.is_number) ∙ before_position f.outer.body f.place f.op f.called.kind f.there f.called.is_kind))
           ∙ sym (ap (state_before d u) f.here))
 
-    pub register_base : (p : Path) (m : Module) → module_at d top p ≡ Some m → (i : ℕ) (o : Op) → slice_get m.body i ≡ Some o → role_of m.ports m.body i o ≡ variable
-        → vbase (tree_of d) (symbol_name d top) (vpath_of d top p) + vstate_before (tree_of d) (loads (key_text m (value_key i 0))) (Some (vmodule d m)) ≡ base d top p + body_state (state d) (take i m.body)
-    register_base p m here i o there role =
+    pub register_base : (p : Path) (m : Module) → module_at d top p ≡ Some m → (i : ℕ) (o : Op) → slice_get m.body i ≡ Some o → emission_of m.ports m.body i o ≡ variable
+        → vbase (tree_of d) (symbol_name d top) (vpath_of d top p) + vstate_before (tree_of d) (loads (identifier_text m (value_identifier i 0))) (Some (vmodule d m)) ≡ base d top p + body_state (state d) (take i m.body)
+    register_base p m here i o there emission =
         let at = symbol_at_path d x top p m here in
-        ap₂ (λ a b. a + b) (base_same p m here) (state_before_register d x at.0 m at.1 (vstate (tree_of d)) (state d) (agrees m) i o there role)
+        ap₂ (λ a b. a + b) (base_same p m here) (state_before_register d x at.0 m at.1 (vstate (tree_of d)) (state d) (agrees m) i o there emission)

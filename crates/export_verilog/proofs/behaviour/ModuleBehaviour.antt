@@ -10,10 +10,10 @@ use Rattle.verilog_model.specs.Meaning.{tree_machine}
 use Rattle.name_legalise.specs.Legal.{legal}
 use Rattle.name_legalise.proofs.Legals.{legal_checks, legal_count}
 use Rattle.verilog_expr.proofs.Numerals.{range_width-high_of}
-use Rattle.export_verilog.specs.Keys.{module_keys, names, wish}
+use Rattle.export_verilog.specs.Identifiers.{module_identifiers, names, name_hint}
 use Rattle.export_verilog.specs.Exported.{symbol_names, symbol_name, tree_of}
 use Rattle.export_verilog.specs.Exportable.{IsExportable}
-use Rattle.export_verilog.proofs.names.KeyNames.{AreNames}
+use Rattle.export_verilog.proofs.names.IdentifierNames.{AreNames}
 use Rattle.export_verilog.proofs.names.Symbols.{AreSymbols, found_symbol}
 use Rattle.export_verilog.proofs.items.Settings.{Setting}
 use Rattle.export_verilog.proofs.behaviour.TreeBehaviour.{exported_same_by}
@@ -24,11 +24,11 @@ legal_long ws = legal_count [] ws
 legal_good : (ws : List Name) → length ws + 130 < 2 ^ 64 → IsTrue (names_check (legal ws))
 legal_good ws room = legal_checks [] ws (omega (arith, room))
 
-pub module_names : (m : Module) → length (module_keys m) + 130 < 2 ^ 64 → AreNames m
+pub module_names : (m : Module) → length (module_identifiers m) + 130 < 2 ^ 64 → AreNames m
 unfolding names
 module_names m room = record {
-  many = legal_long (map (wish m) (module_keys m)) ∙ length-map (module_keys m) (wish m);
-  check = legal_good (map (wish m) (module_keys m)) (omega (arith, room, length-map (module_keys m) (wish m)));
+  many = legal_long (map (name_hint m) (module_identifiers m)) ∙ length-map (module_identifiers m) (name_hint m);
+  check = legal_good (map (name_hint m) (module_identifiers m)) (omega (arith, room, length-map (module_identifiers m) (name_hint m)));
 }
 
 pub module_symbols : (d : Design) → length d + 130 < 2 ^ 64 → AreSymbols d

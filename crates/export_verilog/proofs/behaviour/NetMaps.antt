@@ -21,19 +21,19 @@ use Rattle.verilog_model.specs.Meaning.{names_at, drive_value, TreeSettled}
 use Rattle.verilog_expr.specs.Spilling.{is_pure}
 use Rattle.verilog_expr.specs.Values.{is_division, HoldConstants}
 use Rattle.verilog_expr.proofs.Bodies.{gives_values-pure, map_map}
-use Rattle.export_verilog.specs.Keys.{Key, role_of, module_keys, key_text, named}
-use Rattle.export_verilog.specs.Keys.Key.{port_key, value_key, instance_key}
-use Rattle.export_verilog.specs.Keys.Role.{net}
+use Rattle.export_verilog.specs.Identifiers.{Identifier, emission_of, module_identifiers, identifier_text, named}
+use Rattle.export_verilog.specs.Identifiers.Identifier.{port_identifier, value_identifier, instance_identifier}
+use Rattle.export_verilog.specs.Identifiers.Emission.{net}
 use Rattle.export_verilog.specs.Exported.{symbol_name, expression, vmodule, tree_of}
-use Rattle.export_verilog.proofs.names.KeysOf.{Owner, owner_of, register_of_role, instance_of_role, port_in, net_in}
-use Rattle.export_verilog.proofs.names.KeysOf.Owner.{a_port, a_net, a_variable, an_instance, a_result}
+use Rattle.export_verilog.proofs.names.IdentifiersOf.{Owner, owner_of, register_of_emission, instance_of_emission, port_in, net_in}
+use Rattle.export_verilog.proofs.names.IdentifiersOf.Owner.{a_port, a_net, a_variable, an_instance, a_result}
 use Rattle.export_verilog.proofs.items.Items.{output_count}
 use Rattle.export_verilog.proofs.items.Settings.{Setting, Called, module_sound, called_by, callee_is}
 use Rattle.export_verilog.proofs.behaviour.Sources.{register_from, instance_from, made_from, rest_from, no_op_from, pure_sort}
 use Rattle.export_verilog.proofs.items.Writable.{NamedAs, named_as}
 use Rattle.export_verilog.proofs.items.Writable.NamedAs.{by_port, by_value}
 use Rattle.export_verilog.proofs.behaviour.Places.{vpath_of, further}
-use Rattle.export_verilog.proofs.behaviour.Nets.{key_drive, width_here}
+use Rattle.export_verilog.proofs.behaviour.Nets.{identifier_drive, width_here}
 use Rattle.export_verilog.proofs.items.Operands.{output_type_at, none_at}
 use Rattle.export_verilog.proofs.behaviour.NetValues.{own, given, evaluated, evaluated_as, HaveWords, IsGood, symbol_there, found_there, can_write, own_named, own_absent, own_unnamed, made_worth, net_given, given_long, joined_is, constant_form, ShowOutputs, output_agrees, value_agrees}
 
@@ -47,7 +47,7 @@ module _ (d : Design) (x : Setting d) (top : Name) (inputs content : Word) (m0 :
   abbrev pub got : (Net → Word) → Path → Ref → Word
   got τ p r = evaluated d x top inputs content τ p r
 
-  abbrev pub drives : (VNet → Word) → Path → Module → Key → Word
+  abbrev pub drives : (VNet → Word) → Path → Module → Identifier → Word
   drives σ p m k = given d x top inputs content σ p m k
 
   abbrev pub IsTreeSettled : (VNet → Word) → Type 0
@@ -150,35 +150,35 @@ module _ (d : Design) (x : Setting d) (top : Name) (inputs content : Word) (m0 :
   pub named_agrees : (σ : VNet → Word) (good : IsGood d x top inputs content σ) (τ : Net → Word)
       → ((p : Path) (m : Module) → module_at d top p ≡ Some m → (r : Ref) → worth σ p m r ≡ τ (at p r)) → ShowOutputs d x top inputs content σ good τ
       → (p : Path) (m : Module) (here : module_at d top p ≡ Some m) (r : Ref) (n : Name) → NamedAs d x (symbol_there d x top inputs content p m here) m (found_there d x top inputs content p m here) n r
-      → (k : Key) × In k (module_keys m) × (n ≡ key_text m k) × (drives σ p m k ≡ got τ p r)
+      → (k : Identifier) × In k (module_identifiers m) × (n ≡ identifier_text m k) × (drives σ p m k ≡ got τ p r)
   named_agrees σ good τ own_is shows p m here r n (by_port j y there inward same called) = (
-    port_key j,
+    port_identifier j,
     port_in m j y there,
     called,
-    value_agrees d x top inputs content σ good τ own_is shows p m here (port_key j) r (port_in m j y there) as_port (λ i l e. cc) (λ i e. cc),
+    value_agrees d x top inputs content σ good τ own_is shows p m here (port_identifier j) r (port_in m j y there) as_port (λ i l e. cc) (λ i e. cc),
   ) where
-    as_port : (a : ℕ) (z : Port) → slice_get m.ports a ≡ Some z → port_key j ≡ port_key a → (z.is_output ≡ false) × (r ≡ port a)
+    as_port : (a : ℕ) (z : Port) → slice_get m.ports a ≡ Some z → port_identifier j ≡ port_identifier a → (z.is_output ≡ false) × (r ≡ port a)
     as_port a z other e =
         let places : j ≡ a = cc in
         let ports : Some y ≡ Some z = sym there ∙ ap (slice_get m.ports) places ∙ other in
         let one : y ≡ z = cc in
         (ap (λ (w : Port). w.is_output) (sym one) ∙ inward, same ∙ ap port places)
   named_agrees σ good τ own_is shows p m here r n (by_value i k within same called) = (
-    value_key i k,
+    value_identifier i k,
     within,
     called,
-    value_agrees d x top inputs content σ good τ own_is shows p m here (value_key i k) r within (λ j y there e. cc) as_value (λ a e. cc),
+    value_agrees d x top inputs content σ good τ own_is shows p m here (value_identifier i k) r within (λ j y there e. cc) as_value (λ a e. cc),
   ) where
-    as_value : (a l : ℕ) → value_key i k ≡ value_key a l → r ≡ result a l
+    as_value : (a l : ℕ) → value_identifier i k ≡ value_identifier a l → r ≡ result a l
     as_value a l e = let f : i ≡ a = cc in let g : k ≡ l = cc in same ∙ ap₂ result f g
 
   -- ---- a settled map of the tree
 
   module _ (σ : VNet → Word) (settled : IsTreeSettled σ) where
-    pub settled_given : (p : Path) (m : Module) (here : module_at d top p ≡ Some m) (k : Key) → In k (module_keys m) → σ (vnet (vpath_of d top p) (key_text m k)) ≡ drives σ p m k
+    pub settled_given : (p : Path) (m : Module) (here : module_at d top p ≡ Some m) (k : Identifier) → In k (module_identifiers m) → σ (vnet (vpath_of d top p) (identifier_text m k)) ≡ drives σ p m k
     settled_given p m here k within =
-        settled (vnet (vpath_of d top p) (key_text m k))
-        ∙ ap (λ w. drive_value (tree_of d) (symbol_name d top) inputs content σ w (key_drive d x top p m k)) (width_here d x top p m here k within)
+        settled (vnet (vpath_of d top p) (identifier_text m k))
+        ∙ ap (λ w. drive_value (tree_of d) (symbol_name d top) inputs content σ w (identifier_drive d x top p m k)) (width_here d x top p m here k within)
 
     tree_words : HaveWords d x top inputs content σ
     tree_words p m here k within = ap length (settled_given p m here k within) ∙ given_long d x top inputs content p m here σ k within
@@ -192,29 +192,29 @@ module _ (d : Design) (x : Setting d) (top : Name) (inputs content : Word) (m0 :
           same_op : (a : ℕ) (o' : Op) → i ≡ a → slice_get m.body a ≡ Some o' → o ≡ o'
           same_op a o' e at' = let h : Some o ≡ Some o' = sym there ∙ ap (slice_get m.body) e ∙ at' in let g : o ≡ o' = cc in g
 
-          by_owner : (a k : ℕ) → i ≡ a → (within : In (value_key a k) (module_keys m)) → n ≡ key_text m (value_key a k) → Owner m (value_key a k) → σ (vnet (vpath_of d top p) n) ≡ bits_of_ℤ (width t) z
-          by_owner a k place within is (a_port j y at' e) = absurd (let h : value_key a k ≡ port_key j = e in cc)
-          by_owner a k place within is (an_instance b o' at' role e) = absurd (let h : value_key a k ≡ instance_key b = e in cc)
-          by_owner a k place within is (a_variable b o' at' role e) = absurd (
+          by_owner : (a k : ℕ) → i ≡ a → (within : In (value_identifier a k) (module_identifiers m)) → n ≡ identifier_text m (value_identifier a k) → Owner m (value_identifier a k) → σ (vnet (vpath_of d top p) n) ≡ bits_of_ℤ (width t) z
+          by_owner a k place within is (a_port j y at' e) = absurd (let h : value_identifier a k ≡ port_identifier j = e in cc)
+          by_owner a k place within is (an_instance b o' at' emission e) = absurd (let h : value_identifier a k ≡ instance_identifier b = e in cc)
+          by_owner a k place within is (a_variable b o' at' emission e) = absurd (
               let places : i ≡ b = (let h : a ≡ b = cc in place ∙ h) in
-              let f = register_of_role m.ports m.body b o' role in
+              let f = register_of_emission m.ports m.body b o' emission in
               let h : None ≡ Some f.0 = sym form.0 ∙ ap (λ (w : Op). register_form w.kind) (same_op b o' places at') ∙ f.1 in cc)
-          by_owner a k place within is (a_result b l o' r at' role found e) = absurd (
+          by_owner a k place within is (a_result b l o' r at' emission found e) = absurd (
               let places : i ≡ b = (let h : a ≡ b = cc in place ∙ h) in
-              let f = instance_of_role m.ports m.body b o' role in
+              let f = instance_of_emission m.ports m.body b o' emission in
               let h : None ≡ Some f.0 = sym form.1 ∙ ap (λ (w : Op). instance_in w.kind) (same_op b o' places at') ∙ f.2 in cc)
-          by_owner a k place within is (a_net b o' at' role e) =
+          by_owner a k place within is (a_net b o' at' emission e) =
               let places : i ≡ b = (let h : a ≡ b = cc in place ∙ h) in
               let ops : o ≡ o' = same_op b o' places at' in
-              let role' : role_of m.ports m.body i o ≡ net = ap₂ (role_of m.ports m.body) places ops ∙ role in
-              ap (λ w. σ (vnet (vpath_of d top p) w)) (is ∙ ap (key_text m) (e ∙ ap (λ w. value_key w 0) (sym places)))
-              ∙ settled_given p m here (value_key i 0) (net_in m i o there role')
-              ∙ net_given d x top inputs content p m here σ tree_words i o t there role' typed (λ h. absurd (let g : false ≡ true = sym form.2 ∙ h in cc))
+              let emission' : emission_of m.ports m.body i o ≡ net = ap₂ (emission_of m.ports m.body) places ops ∙ emission in
+              ap (λ w. σ (vnet (vpath_of d top p) w)) (is ∙ ap (identifier_text m) (e ∙ ap (λ w. value_identifier w 0) (sym places)))
+              ∙ settled_given p m here (value_identifier i 0) (net_in m i o there emission')
+              ∙ net_given d x top inputs content p m here σ tree_words i o t there emission' typed (λ h. absurd (let g : false ≡ true = sym form.2 ∙ h in cc))
               ∙ ap (λ w. op_value w o.types t 0 (map (worth σ p m) o.operands)) kind
 
           go : NamedAs d x (symbol_there d x top inputs content p m here) m (found_there d x top inputs content p m here) n (result i 0) → σ (vnet (vpath_of d top p) n) ≡ bits_of_ℤ (width t) z
           go (by_port j y at' inward same is) = absurd (let h : result i 0 ≡ port j = same in cc)
-          go (by_value a k within same is) = by_owner a k (let h : i ≡ a = cc in h) within is (owner_of m (value_key a k) within)
+          go (by_value a k within same is) = by_owner a k (let h : i ≡ a = cc in h) within is (owner_of m (value_identifier a k) within)
 
     pub tree_good : IsGood d x top inputs content σ
     tree_good = record { words = tree_words; constants = tree_constants }
@@ -241,9 +241,9 @@ module _ (d : Design) (x : Setting d) (top : Name) (inputs content : Word) (m0 :
     back_own p m here r = sym (back_here σ p m r here)
 
     pub output_shown : (p : Path) (m : Module) → module_at d top p ≡ Some m → (j : ℕ) (y : Port) (r : Ref) → slice_get m.ports j ≡ Some y → y.is_output ≡ true
-        → slice_get (output_refs m.body) (output_count (take j m.ports)) ≡ Some r → σ (vnet (vpath_of d top p) (key_text m (port_key j))) ≡ back σ (at p r)
+        → slice_get (output_refs m.body) (output_count (take j m.ports)) ≡ Some r → σ (vnet (vpath_of d top p) (identifier_text m (port_identifier j))) ≡ back σ (at p r)
     output_shown p m here j y r there out gives =
-        settled_given σ settled p m here (port_key j) (port_in m j y there)
+        settled_given σ settled p m here (port_identifier j) (port_in m j y there)
         ∙ output_agrees d x top inputs content σ (tree_good σ settled) (back σ) p m here j y r there out gives
         ∙ back_own p m here r
 

@@ -29,21 +29,21 @@ use Rattle.verilog_expr.proofs.Own.{extended_full}
 use Rattle.verilog_expr.proofs.Assigned.{assigned_same, assigned_long}
 use Rattle.verilog_expr.proofs.Bodies.{is_name, is_own, body_absent, body_bits, body_own_bits, body_worth, map_map}
 use Rattle.verilog_expr.proofs.Depths.{expressions_hold}
-use Rattle.export_verilog.specs.Keys.{Key, role_of, module_keys, key_text, named}
-use Rattle.export_verilog.specs.Keys.Key.{port_key, value_key, instance_key}
-use Rattle.export_verilog.specs.Keys.Role.{net, variable, block}
+use Rattle.export_verilog.specs.Identifiers.{Identifier, emission_of, module_identifiers, identifier_text, named}
+use Rattle.export_verilog.specs.Identifiers.Identifier.{port_identifier, value_identifier, instance_identifier}
+use Rattle.export_verilog.specs.Identifiers.Emission.{net, variable, block}
 use Rattle.export_verilog.specs.Exported.{symbol_name, expression, assigned_expr, vmodule, tree_of}
-use Rattle.export_verilog.proofs.names.KeysOf.{Owner, owner_of, made_of_role, register_of_role, instance_of_role, port_in}
-use Rattle.export_verilog.proofs.names.KeysOf.Owner.{a_port, a_net, a_variable, an_instance, a_result}
+use Rattle.export_verilog.proofs.names.IdentifiersOf.{Owner, owner_of, made_of_emission, register_of_emission, instance_of_emission, port_in}
+use Rattle.export_verilog.proofs.names.IdentifiersOf.Owner.{a_port, a_net, a_variable, an_instance, a_result}
 use Rattle.export_verilog.proofs.items.Items.{output_count, expr_for}
-use Rattle.export_verilog.proofs.items.Lookups.{key_width}
-use Rattle.export_verilog.proofs.items.Settings.{Setting, Called, module_sound, called_by_role, one_result_of, first_result, callee_is}
+use Rattle.export_verilog.proofs.items.Lookups.{identifier_width}
+use Rattle.export_verilog.proofs.items.Settings.{Setting, Called, module_sound, called_by_emission, one_result_of, first_result, callee_is}
 use Rattle.export_verilog.proofs.items.Drives.{OutputAt, output_of_number}
 use Rattle.export_verilog.proofs.behaviour.Sources.{register_from, instance_from, made_from, inner_acyclic}
 use Rattle.export_verilog.proofs.items.Writable.{NamedAs, named_as, writable}
 use Rattle.export_verilog.proofs.items.Writable.NamedAs.{by_port, by_value}
 use Rattle.export_verilog.proofs.behaviour.Places.{number_of, vpath_of, symbol_at_path, Further, further, vplace, inside_instance}
-use Rattle.export_verilog.proofs.behaviour.Nets.{key_drive, module_width, drive_net, drive_variable, drive_result, drive_instance, drive_output, drive_top_input, drive_inner_input}
+use Rattle.export_verilog.proofs.behaviour.Nets.{identifier_drive, module_width, drive_net, drive_variable, drive_result, drive_instance, drive_output, drive_top_input, drive_inner_input}
 use Rattle.export_verilog.proofs.items.Operands.{output_ref_at, operand_at, output_type_at}
 
 -- ---- words
@@ -73,8 +73,8 @@ module _ (d : Design) (x : Setting d) (top : Name) (inputs content : Word) where
   own σ p m r = own_value (width_in (vmodule d m)) (names_at (vpath_of d top p) σ) (expression m r)
 
   -- what drives a thing's net gives
-  abbrev pub given : (VNet → Word) → Path → Module → Key → Word
-  given σ p m k = drive_value (tree_of d) (symbol_name d top) inputs content σ (key_width m k) (key_drive d x top p m k)
+  abbrev pub given : (VNet → Word) → Path → Module → Identifier → Word
+  given σ p m k = drive_value (tree_of d) (symbol_name d top) inputs content σ (identifier_width m k) (identifier_drive d x top p m k)
 
   -- what the source of a net gives
   abbrev pub evaluated : (Net → Word) → Path → Ref → Word
@@ -85,7 +85,7 @@ module _ (d : Design) (x : Setting d) (top : Name) (inputs content : Word) where
 
   -- the names have words of their widths
   abbrev pub HaveWords : (VNet → Word) → Type 0
-  HaveWords σ = (p : Path) (m : Module) → module_at d top p ≡ Some m → (k : Key) → In k (module_keys m) → length (σ (vnet (vpath_of d top p) (key_text m k))) ≡ key_width m k
+  HaveWords σ = (p : Path) (m : Module) → module_at d top p ≡ Some m → (k : Identifier) → In k (module_identifiers m) → length (σ (vnet (vpath_of d top p) (identifier_text m k))) ≡ identifier_width m k
 
   pub record IsGood (σ : VNet → Word) : Type 0 where
     pub words : HaveWords σ
@@ -107,13 +107,13 @@ module _ (d : Design) (x : Setting d) (top : Name) (inputs content : Word) where
     are_exprs : AreExprs (named m) m.ports m.body (expression m)
     are_exprs = expressions_hold (named m) m.ports m.body can_write no_inner_cycle
 
-    pub port_width_is : (j : ℕ) (y : Port) → slice_get m.ports j ≡ Some y → key_width m (port_key j) ≡ width y.type
+    pub port_width_is : (j : ℕ) (y : Port) → slice_get m.ports j ≡ Some y → identifier_width m (port_identifier j) ≡ width y.type
     port_width_is j y there = ap (λ z. width_of (omap (λ (q : Port). q.type) z)) there
 
     pub input_width_is : (j : ℕ) (y : Port) → slice_get m.ports j ≡ Some y → y.is_output ≡ false → value_width m.ports m.body (port j) ≡ width y.type
     input_width_is j y there inward = ap (λ z. width_of (input_type z)) there ∙ ap (λ b. width_of (cond b None (Some y.type))) inward
 
-    pub result_width_is : (i k : ℕ) (o : Op) (t : HwType) → slice_get m.body i ≡ Some o → result_type o k ≡ Some t → key_width m (value_key i k) ≡ width t
+    pub result_width_is : (i k : ℕ) (o : Op) (t : HwType) → slice_get m.body i ≡ Some o → result_type o k ≡ Some t → identifier_width m (value_identifier i k) ≡ width t
     result_width_is i k o t there typed = ap (λ z. width_of (bind z (λ (o : Op). result_type o k))) there ∙ ap width_of typed
 
     module _ (σ : VNet → Word) (words : HaveWords σ) where
@@ -124,15 +124,15 @@ module _ (d : Design) (x : Setting d) (top : Name) (inputs content : Word) where
       }
         where
           by_long : (r : Ref) (n : Name) → NamedAs d x symbol_there m found_there n r → width_in (vmodule d m) n ≡ value_width m.ports m.body r
-          by_long r n (by_port j y there inward same called) = ap (width_in (vmodule d m)) called ∙ module_width d x top p m here (port_key j) (port_in m j y there)
+          by_long r n (by_port j y there inward same called) = ap (width_in (vmodule d m)) called ∙ module_width d x top p m here (port_identifier j) (port_in m j y there)
               ∙ port_width_is j y there ∙ sym (ap (value_width m.ports m.body) same ∙ input_width_is j y there inward)
-          by_long r n (by_value i k within same called) = ap (width_in (vmodule d m)) called ∙ module_width d x top p m here (value_key i k) within
+          by_long r n (by_value i k within same called) = ap (width_in (vmodule d m)) called ∙ module_width d x top p m here (value_identifier i k) within
               ∙ sym (ap (value_width m.ports m.body) same)
 
           by_word : (r : Ref) (n : Name) → NamedAs d x symbol_there m found_there n r → length (σ (vnet (vpath_of d top p) n)) ≡ value_width m.ports m.body r
-          by_word r n (by_port j y there inward same called) = ap (λ z. length (σ (vnet (vpath_of d top p) z))) called ∙ words p m here (port_key j) (port_in m j y there)
+          by_word r n (by_port j y there inward same called) = ap (λ z. length (σ (vnet (vpath_of d top p) z))) called ∙ words p m here (port_identifier j) (port_in m j y there)
               ∙ port_width_is j y there ∙ sym (ap (value_width m.ports m.body) same ∙ input_width_is j y there inward)
-          by_word r n (by_value i k within same called) = ap (λ z. length (σ (vnet (vpath_of d top p) z))) called ∙ words p m here (value_key i k) within
+          by_word r n (by_value i k within same called) = ap (λ z. length (σ (vnet (vpath_of d top p) z))) called ∙ words p m here (value_identifier i k) within
               ∙ sym (ap (value_width m.ports m.body) same)
 
       pub own_bits : (r : Ref) → HasBits (width_in (vmodule d m)) (names_at (vpath_of d top p) σ) (value_width m.ports m.body r) (expression m r)
@@ -168,56 +168,56 @@ module _ (d : Design) (x : Setting d) (top : Name) (inputs content : Word) where
           (is_own (named m) m.ports m.body (expression m) (width_in (vmodule d m)) (names_at (vpath_of d top p) σ) are_exprs r e)
 
       -- what drives the wire of a made operation
-      pub net_given : (i : ℕ) (o : Op) (t : HwType) → slice_get m.body i ≡ Some o → role_of m.ports m.body i o ≡ net → result_type o 0 ≡ Some t
+      pub net_given : (i : ℕ) (o : Op) (t : HwType) → slice_get m.body i ≡ Some o → emission_of m.ports m.body i o ≡ net → result_type o 0 ≡ Some t
           → (is_division o.kind ≡ true → HoldConstants (named m) m.body (names_at (vpath_of d top p) σ))
-          → given σ p m (value_key i 0) ≡ op_value o.kind o.types t 0 (map (own σ p m) o.operands)
-      net_given i o t there role typed hold =
-          let h = made_of_role m.ports m.body i o role in
+          → given σ p m (value_identifier i 0) ≡ op_value o.kind o.types t 0 (map (own σ p m) o.operands)
+      net_given i o t there emission typed hold =
+          let h = made_of_emission m.ports m.body i o emission in
           let gives : gives_values o ≡ true = made_gives o h.0 h.1 h.2 in
-          ap₂ (λ w z. drive_value (tree_of d) (symbol_name d top) inputs content σ w z) (result_width_is i 0 o t there typed) (drive_net d x top p m here i o there role)
+          ap₂ (λ w z. drive_value (tree_of d) (symbol_name d top) inputs content σ w z) (result_width_is i 0 o t there typed) (drive_net d x top p m here i o there emission)
           ∙ ap (λ v. assigned (width_at v) (names_at (vpath_of d top p) σ) (width t) (assigned_expr m (result i 0))) (vplace d x top p m here)
           ∙ assigned_same (width_in (vmodule d m)) (names_at (vpath_of d top p) σ) (width t) (assigned_expr m (result i 0))
           (body_own_bits (named m) m.ports m.body (expression m) (width_in (vmodule d m)) (names_at (vpath_of d top p) σ) can_write no_inner_cycle are_exprs names_fit i 0 o t there gives typed)
           ∙ made_worth i 0 o t there gives typed hold
 
     -- what drives a thing's net gives as many bits as it has
-    pub given_long : (σ : VNet → Word) (k : Key) → In k (module_keys m) → length (given σ p m k) ≡ key_width m k
+    pub given_long : (σ : VNet → Word) (k : Identifier) → In k (module_identifiers m) → length (given σ p m k) ≡ identifier_width m k
     given_long σ k within = go (owner_of m k within) where
-      by_drive : (l : Key) → k ≡ l → (w : Drive) → key_drive d x top p m l ≡ w → length (drive_value (tree_of d) (symbol_name d top) inputs content σ (key_width m l) w) ≡ key_width m l → length (given σ p m k) ≡ key_width m k
-      by_drive l same w drives long = ap (λ z. length (given σ p m z)) same ∙ ap (λ z. length (drive_value (tree_of d) (symbol_name d top) inputs content σ (key_width m l) z)) drives
-          ∙ long ∙ sym (ap (key_width m) same)
+      by_drive : (l : Identifier) → k ≡ l → (w : Drive) → identifier_drive d x top p m l ≡ w → length (drive_value (tree_of d) (symbol_name d top) inputs content σ (identifier_width m l) w) ≡ identifier_width m l → length (given σ p m k) ≡ identifier_width m k
+      by_drive l same w drives long = ap (λ z. length (given σ p m z)) same ∙ ap (λ z. length (drive_value (tree_of d) (symbol_name d top) inputs content σ (identifier_width m l) z)) drives
+          ∙ long ∙ sym (ap (identifier_width m) same)
 
-      input_long : (p' : Path) → p ≡ p' → (here' : module_at d top p' ≡ Some m) → (j : ℕ) (y : Port) → slice_get m.ports j ≡ Some y → y.is_output ≡ false → k ≡ port_key j
-          → length (given σ p' m k) ≡ key_width m k
+      input_long : (p' : Path) → p ≡ p' → (here' : module_at d top p' ≡ Some m) → (j : ℕ) (y : Port) → slice_get m.ports j ≡ Some y → y.is_output ≡ false → k ≡ port_identifier j
+          → length (given σ p' m k) ≡ identifier_width m k
       input_long [] same_path here' j y there inward same =
-          ap (λ z. length (given σ [] m z)) same ∙ ap (λ z. length (drive_value (tree_of d) (symbol_name d top) inputs content σ (key_width m (port_key j)) z)) (drive_top_input d x top m here' j y there inward)
-          ∙ length-first (width y.type) (drop (input_width (take j m.ports)) inputs) ∙ sym (port_width_is j y there) ∙ sym (ap (key_width m) same)
+          ap (λ z. length (given σ [] m z)) same ∙ ap (λ z. length (drive_value (tree_of d) (symbol_name d top) inputs content σ (identifier_width m (port_identifier j)) z)) (drive_top_input d x top m here' j y there inward)
+          ∙ length-first (width y.type) (drop (input_width (take j m.ports)) inputs) ∙ sym (port_width_is j y there) ∙ sym (ap (identifier_width m) same)
       input_long (u ∷ q) same_path here' j y there inward same =
           let f = further d x top u q m here' in
           ap (λ z. length (given σ (u ∷ q) m z)) same
-          ∙ ap (λ z. length (drive_value (tree_of d) (symbol_name d top) inputs content σ (key_width m (port_key j)) z)) (drive_inner_input d x top u q m here' f j y there inward)
-          ∙ assigned_long (width_at (vmodule_at (tree_of d) (symbol_name d top) (vpath_of d top q))) (names_at (vpath_of d top q) σ) (key_width m (port_key j))
-          (expr_for (expression f.outer) (slice_get f.op.operands (input_count (take j m.ports)))) ∙ sym (ap (key_width m) same)
+          ∙ ap (λ z. length (drive_value (tree_of d) (symbol_name d top) inputs content σ (identifier_width m (port_identifier j)) z)) (drive_inner_input d x top u q m here' f j y there inward)
+          ∙ assigned_long (width_at (vmodule_at (tree_of d) (symbol_name d top) (vpath_of d top q))) (names_at (vpath_of d top q) σ) (identifier_width m (port_identifier j))
+          (expr_for (expression f.outer) (slice_get f.op.operands (input_count (take j m.ports)))) ∙ sym (ap (identifier_width m) same)
 
-      by_way : (j : ℕ) (y : Port) → slice_get m.ports j ≡ Some y → (b : Bool) → y.is_output ≡ b → k ≡ port_key j → length (given σ p m k) ≡ key_width m k
-      by_way j y there true out same = by_drive (port_key j) same (driven_by (vpath_of d top p) (expr_for (expression m) (slice_get (output_refs m.body) (output_count (take j m.ports))))) (drive_output d x top p m here j y there out)
-          (assigned_long (width_at (vmodule_at (tree_of d) (symbol_name d top) (vpath_of d top p))) (names_at (vpath_of d top p) σ) (key_width m (port_key j))
+      by_way : (j : ℕ) (y : Port) → slice_get m.ports j ≡ Some y → (b : Bool) → y.is_output ≡ b → k ≡ port_identifier j → length (given σ p m k) ≡ identifier_width m k
+      by_way j y there true out same = by_drive (port_identifier j) same (driven_by (vpath_of d top p) (expr_for (expression m) (slice_get (output_refs m.body) (output_count (take j m.ports))))) (drive_output d x top p m here j y there out)
+          (assigned_long (width_at (vmodule_at (tree_of d) (symbol_name d top) (vpath_of d top p))) (names_at (vpath_of d top p) σ) (identifier_width m (port_identifier j))
           (expr_for (expression m) (slice_get (output_refs m.body) (output_count (take j m.ports)))))
       by_way j y there false out same = input_long p refl here j y there out same
 
-      go : Owner m k → length (given σ p m k) ≡ key_width m k
+      go : Owner m k → length (given σ p m k) ≡ identifier_width m k
       go (a_port j y there same) = by_way j y there y.is_output refl same
-      go (a_net i o there role same) = by_drive (value_key i 0) same (driven_by (vpath_of d top p) (assigned_expr m (result i 0))) (drive_net d x top p m here i o there role)
-          (assigned_long (width_at (vmodule_at (tree_of d) (symbol_name d top) (vpath_of d top p))) (names_at (vpath_of d top p) σ) (key_width m (value_key i 0)) (assigned_expr m (result i 0)))
-      go (a_variable i o there role same) = by_drive (value_key i 0) same (held (base d top p + body_state (state d) (take i m.body)) (width_of (result_type o 0))) (drive_variable d x top p m here i o there role)
+      go (a_net i o there emission same) = by_drive (value_identifier i 0) same (driven_by (vpath_of d top p) (assigned_expr m (result i 0))) (drive_net d x top p m here i o there emission)
+          (assigned_long (width_at (vmodule_at (tree_of d) (symbol_name d top) (vpath_of d top p))) (names_at (vpath_of d top p) σ) (identifier_width m (value_identifier i 0)) (assigned_expr m (result i 0)))
+      go (a_variable i o there emission same) = by_drive (value_identifier i 0) same (held (base d top p + body_state (state d) (take i m.body)) (width_of (result_type o 0))) (drive_variable d x top p m here i o there emission)
           (length-first (width_of (result_type o 0)) (drop (base d top p + body_state (state d) (take i m.body)) content) ∙ sym (ap (λ z. width_of (bind z (λ (o : Op). result_type o 0))) there))
-      go (an_instance i o there role same) = by_drive (instance_key i) same nothing (drive_instance d x top p m here i o there role) refl
-      go (a_result i l o r there role found same) =
-          let c = called_by_role d x symbol_there m found_there i o there role in
+      go (an_instance i o there emission same) = by_drive (instance_identifier i) same nothing (drive_instance d x top p m here i o there emission) refl
+      go (a_result i l o r there emission found same) =
+          let c = called_by_emission d x symbol_there m found_there i o there emission in
           let typed : slice_get (output_types c.module_of.ports) l ≡ Some r.type = output_type_at d m o c l ∙ ap (omap (λ (z : OpResult). z.type)) found in
           let e = output_of_number c.module_of.ports l r.type typed in
-          by_drive (value_key i l) same (driven_from (vnet (vpath_of d top (number_of m.body i ∷ p)) (key_text c.module_of (port_key e.place)))) (drive_result d x top p m here i l o r c there role found e)
-          (low_long (key_width m (value_key i l)) false (σ (vnet (vpath_of d top (number_of m.body i ∷ p)) (key_text c.module_of (port_key e.place)))))
+          by_drive (value_identifier i l) same (driven_from (vnet (vpath_of d top (number_of m.body i ∷ p)) (identifier_text c.module_of (port_identifier e.place)))) (drive_result d x top p m here i l o r c there emission found e)
+          (low_long (identifier_width m (value_identifier i l)) false (σ (vnet (vpath_of d top (number_of m.body i ∷ p)) (identifier_text c.module_of (port_identifier e.place)))))
 
   -- what is joined to an input port
   pub joined_is : (u : ℕ) (p : Path) (m : Module) → (f : Further d x top p u m) → (j : ℕ) (z : Option Ref)
@@ -236,14 +236,14 @@ module _ (d : Design) (x : Setting d) (top : Name) (inputs content : Word) where
     -- an output port of an inner module shows what its module gives to it
     abbrev pub ShowOutputs : Type 0
     ShowOutputs = (p : Path) (m : Module) → module_at d top p ≡ Some m → (j : ℕ) (y : Port) (r : Ref) → slice_get m.ports j ≡ Some y → y.is_output ≡ true
-        → slice_get (output_refs m.body) (output_count (take j m.ports)) ≡ Some r → σ (vnet (vpath_of d top p) (key_text m (port_key j))) ≡ τ (at p r)
+        → slice_get (output_refs m.body) (output_count (take j m.ports)) ≡ Some r → σ (vnet (vpath_of d top p) (identifier_text m (port_identifier j))) ≡ τ (at p r)
 
     operands_agree : (p : Path) (m : Module) (rs : List Ref) → ((r : Ref) → In r rs → own σ p m r ≡ τ (at p r)) → map (own σ p m) rs ≡ map τ (map (at p) rs)
     operands_agree p m rs same = map_same (own σ p m) (λ r. τ (at p r)) rs same ∙ sym (map_map (at p) τ rs)
 
     -- an output port
     pub output_agrees : (p : Path) (m : Module) (here : module_at d top p ≡ Some m) (j : ℕ) (y : Port) (r : Ref) → slice_get m.ports j ≡ Some y → y.is_output ≡ true
-        → slice_get (output_refs m.body) (output_count (take j m.ports)) ≡ Some r → given σ p m (port_key j) ≡ own σ p m r
+        → slice_get (output_refs m.body) (output_count (take j m.ports)) ≡ Some r → given σ p m (port_identifier j) ≡ own σ p m r
     output_agrees p m here j y r there out gives =
         let o = output_ref_at d m (module_sound d x (symbol_there p m here) m (found_there p m here)) j y there out in
         let same : Some o.0 ≡ Some r = sym o.1 ∙ gives in
@@ -254,14 +254,14 @@ module _ (d : Design) (x : Setting d) (top : Name) (inputs content : Word) where
         ∙ assigned_own p m here σ good.words (width y.type) r (ap width_of typed)
 
     top_input_agrees : (m : Module) (here : module_at d top [] ≡ Some m) (j : ℕ) (y : Port) → slice_get m.ports j ≡ Some y → y.is_output ≡ false
-        → given σ [] m (port_key j) ≡ evaluated τ [] (port j)
+        → given σ [] m (port_identifier j) ≡ evaluated τ [] (port j)
     top_input_agrees m here j y there inward =
-        ap (drive_value (tree_of d) (symbol_name d top) inputs content σ (key_width m (port_key j))) (drive_top_input d x top m here j y there inward)
+        ap (drive_value (tree_of d) (symbol_name d top) inputs content σ (identifier_width m (port_identifier j))) (drive_top_input d x top m here j y there inward)
         ∙ sym (evaluated_as τ [] (port j) (from_input (input_width (take j m.ports)) (width y.type))
         (ap (input_source j) here ∙ ap (λ z. input_of z (input_width (take j m.ports))) there ∙ ap (λ b. cond b nowhere (from_input (input_width (take j m.ports)) (width y.type))) inward))
 
     inner_input_agrees : (u : ℕ) (p : Path) (m : Module) (here : module_at d top (u ∷ p) ≡ Some m) (f : Further d x top p u m) (j : ℕ) (y : Port) → slice_get m.ports j ≡ Some y → y.is_output ≡ false
-        → ((r : Ref) → own σ p f.outer r ≡ τ (at p r)) → given σ (u ∷ p) m (port_key j) ≡ evaluated τ (u ∷ p) (port j)
+        → ((r : Ref) → own σ p f.outer r ≡ τ (at p r)) → given σ (u ∷ p) m (port_identifier j) ≡ evaluated τ (u ∷ p) (port j)
     inner_input_agrees u p m here f j y there inward own_is =
         let o = operand in
         ap₂ (λ w z. drive_value (tree_of d) (symbol_name d top) inputs content σ w z) (port_width_is (u ∷ p) m here j y there) (drive_inner_input d x top u p m here f j y there inward)
@@ -275,45 +275,45 @@ module _ (d : Design) (x : Setting d) (top : Name) (inputs content : Word) where
               (λ h. operand_at d f.outer f.op f.called j y h inward) there
 
     first_type : (p : Path) (m : Module) (here : module_at d top p ≡ Some m) (i : ℕ) (o : Op) → slice_get m.body i ≡ Some o
-        → (role_of m.ports m.body i o ≡ net) ⊎ (role_of m.ports m.body i o ≡ variable) → (t : HwType) × (result_type o 0 ≡ Some t)
-    first_type p m here i o there role = let h = first_result d x (symbol_there p m here) m (found_there p m here) i o there role in
+        → (emission_of m.ports m.body i o ≡ net) ⊎ (emission_of m.ports m.body i o ≡ variable) → (t : HwType) × (result_type o 0 ≡ Some t)
+    first_type p m here i o there emission = let h = first_result d x (symbol_there p m here) m (found_there p m here) i o there emission in
         (h.0.type, ap (λ rs. omap (λ (z : OpResult). z.type) (slice_get rs 0)) h.1)
 
-    net_agrees : (p : Path) (m : Module) (here : module_at d top p ≡ Some m) (i : ℕ) (o : Op) → slice_get m.body i ≡ Some o → role_of m.ports m.body i o ≡ net
-        → ((r : Ref) → own σ p m r ≡ τ (at p r)) → given σ p m (value_key i 0) ≡ evaluated τ p (result i 0)
-    net_agrees p m here i o there role own_is =
-        let t = first_type p m here i o there (inl role) in
-        let h = made_of_role m.ports m.body i o role in
-        net_given p m here σ good.words i o t.0 there role t.1 (λ e. good.constants p m here)
+    net_agrees : (p : Path) (m : Module) (here : module_at d top p ≡ Some m) (i : ℕ) (o : Op) → slice_get m.body i ≡ Some o → emission_of m.ports m.body i o ≡ net
+        → ((r : Ref) → own σ p m r ≡ τ (at p r)) → given σ p m (value_identifier i 0) ≡ evaluated τ p (result i 0)
+    net_agrees p m here i o there emission own_is =
+        let t = first_type p m here i o there (inl emission) in
+        let h = made_of_emission m.ports m.body i o emission in
+        net_given p m here σ good.words i o t.0 there emission t.1 (λ e. good.constants p m here)
         ∙ ap (op_value o.kind o.types t.0 0) (operands_agree p m o.operands (λ r within. own_is r))
         ∙ sym (evaluated_as τ p (result i 0) (made o.kind o.types t.0 0 (map (at p) o.operands)) (made_from d top p m here i 0 o t.0 there h.0 h.1 h.2 t.1))
 
-    variable_agrees : (p : Path) (m : Module) (here : module_at d top p ≡ Some m) (i : ℕ) (o : Op) → slice_get m.body i ≡ Some o → role_of m.ports m.body i o ≡ variable
-        → given σ p m (value_key i 0) ≡ evaluated τ p (result i 0)
-    variable_agrees p m here i o there role =
-        let t = first_type p m here i o there (inr role) in
-        let h = register_of_role m.ports m.body i o role in
-        ap (drive_value (tree_of d) (symbol_name d top) inputs content σ (key_width m (value_key i 0))) (drive_variable d x top p m here i o there role ∙ ap (λ z. held (base d top p + body_state (state d) (take i m.body)) (width_of z)) t.1)
+    variable_agrees : (p : Path) (m : Module) (here : module_at d top p ≡ Some m) (i : ℕ) (o : Op) → slice_get m.body i ≡ Some o → emission_of m.ports m.body i o ≡ variable
+        → given σ p m (value_identifier i 0) ≡ evaluated τ p (result i 0)
+    variable_agrees p m here i o there emission =
+        let t = first_type p m here i o there (inr emission) in
+        let h = register_of_emission m.ports m.body i o emission in
+        ap (drive_value (tree_of d) (symbol_name d top) inputs content σ (identifier_width m (value_identifier i 0))) (drive_variable d x top p m here i o there emission ∙ ap (λ z. held (base d top p + body_state (state d) (take i m.body)) (width_of z)) t.1)
         ∙ sym (evaluated_as τ p (result i 0) (from_held (offset d top p m i) (width t.0))
         (register_from d top p m here i 0 o h.0 there h.1 ∙ ap (held_of (offset d top p m i)) t.1))
 
-    result_agrees : (p : Path) (m : Module) (here : module_at d top p ≡ Some m) (i k : ℕ) (o : Op) (r : OpResult) → slice_get m.body i ≡ Some o → role_of m.ports m.body i o ≡ block
-        → slice_get o.results k ≡ Some r → ShowOutputs → given σ p m (value_key i k) ≡ evaluated τ p (result i k)
-    result_agrees p m here i k o r there role found shows =
-        let c = called_by_role d x (symbol_there p m here) m (found_there p m here) i o there role in
+    result_agrees : (p : Path) (m : Module) (here : module_at d top p ≡ Some m) (i k : ℕ) (o : Op) (r : OpResult) → slice_get m.body i ≡ Some o → emission_of m.ports m.body i o ≡ block
+        → slice_get o.results k ≡ Some r → ShowOutputs → given σ p m (value_identifier i k) ≡ evaluated τ p (result i k)
+    result_agrees p m here i k o r there emission found shows =
+        let c = called_by_emission d x (symbol_there p m here) m (found_there p m here) i o there emission in
         let typed : slice_get (output_types c.module_of.ports) k ≡ Some r.type = output_type_at d m o c k ∙ ap (omap (λ (z : OpResult). z.type)) found in
         by_output c (output_of_number c.module_of.ports k r.type typed) where
-          by_output : (c : Called d m o) → OutputAt c.module_of.ports k r.type → given σ p m (value_key i k) ≡ evaluated τ p (result i k)
+          by_output : (c : Called d m o) → OutputAt c.module_of.ports k r.type → given σ p m (value_identifier i k) ≡ evaluated τ p (result i k)
           by_output c e =
               let inside = inside_instance d x top p m here i o c there in
               let g = output_ref_at d c.module_of (module_sound d x c.kind.symbol c.module_of c.there) e.place e.port e.there e.out in
-              let w : key_width m (value_key i k) ≡ width r.type = result_width_is p m here i k o r.type there (ap (omap (λ (z : OpResult). z.type)) found) in
-              let long : length (σ (vnet (vpath_of d top (number_of m.body i ∷ p)) (key_text c.module_of (port_key e.place)))) ≡ width r.type =
-              good.words (number_of m.body i ∷ p) c.module_of inside.0 (port_key e.place) (port_in c.module_of e.place e.port e.there)
+              let w : identifier_width m (value_identifier i k) ≡ width r.type = result_width_is p m here i k o r.type there (ap (omap (λ (z : OpResult). z.type)) found) in
+              let long : length (σ (vnet (vpath_of d top (number_of m.body i ∷ p)) (identifier_text c.module_of (port_identifier e.place)))) ≡ width r.type =
+              good.words (number_of m.body i ∷ p) c.module_of inside.0 (port_identifier e.place) (port_in c.module_of e.place e.port e.there)
               ∙ port_width_is (number_of m.body i ∷ p) c.module_of inside.0 e.place e.port e.there ∙ ap width e.type in
-              let k' = instance_of_role m.ports m.body i o role in
-              ap₂ (λ w z. drive_value (tree_of d) (symbol_name d top) inputs content σ w z) w (drive_result d x top p m here i k o r c there role found e)
-              ∙ low_whole (width r.type) (σ (vnet (vpath_of d top (number_of m.body i ∷ p)) (key_text c.module_of (port_key e.place)))) long
+              let k' = instance_of_emission m.ports m.body i o emission in
+              ap₂ (λ w z. drive_value (tree_of d) (symbol_name d top) inputs content σ w z) w (drive_result d x top p m here i k o r c there emission found e)
+              ∙ low_whole (width r.type) (σ (vnet (vpath_of d top (number_of m.body i ∷ p)) (identifier_text c.module_of (port_identifier e.place)))) long
               ∙ shows (number_of m.body i ∷ p) c.module_of inside.0 e.place e.port g.0 e.there e.out g.1
               ∙ sym (evaluated_as τ p (result i k) (copy (at (number_of m.body i ∷ p) g.0))
               (instance_from d top p m here i k o k'.0 there k'.1 k'.2
@@ -322,22 +322,22 @@ module _ (d : Design) (x : Setting d) (top : Name) (inputs content : Word) where
 
     -- a named value
     pub value_agrees : ((p : Path) (m : Module) → module_at d top p ≡ Some m → (r : Ref) → own σ p m r ≡ τ (at p r)) → ShowOutputs
-        → (p : Path) (m : Module) (here : module_at d top p ≡ Some m) (k : Key) (r : Ref) → In k (module_keys m)
-        → ((j : ℕ) (y : Port) → slice_get m.ports j ≡ Some y → k ≡ port_key j → (y.is_output ≡ false) × (r ≡ port j))
-        → ((i l : ℕ) → k ≡ value_key i l → r ≡ result i l) → ((i : ℕ) → k ≡ instance_key i → ⊥)
+        → (p : Path) (m : Module) (here : module_at d top p ≡ Some m) (k : Identifier) (r : Ref) → In k (module_identifiers m)
+        → ((j : ℕ) (y : Port) → slice_get m.ports j ≡ Some y → k ≡ port_identifier j → (y.is_output ≡ false) × (r ≡ port j))
+        → ((i l : ℕ) → k ≡ value_identifier i l → r ≡ result i l) → ((i : ℕ) → k ≡ instance_identifier i → ⊥)
         → given σ p m k ≡ evaluated τ p r
     value_agrees own_is shows p m here k r within as_port as_value as_instance = go (owner_of m k within) where
-      moved : (l : Key) (z : Ref) → k ≡ l → r ≡ z → given σ p m l ≡ evaluated τ p z → given σ p m k ≡ evaluated τ p r
+      moved : (l : Identifier) (z : Ref) → k ≡ l → r ≡ z → given σ p m l ≡ evaluated τ p z → given σ p m k ≡ evaluated τ p r
       moved l z same refs e = ap (given σ p m) same ∙ e ∙ ap (evaluated τ p) (sym refs)
 
-      by_path : (q : Path) → (here' : module_at d top q ≡ Some m) (j : ℕ) (y : Port) → slice_get m.ports j ≡ Some y → y.is_output ≡ false → given σ q m (port_key j) ≡ evaluated τ q (port j)
+      by_path : (q : Path) → (here' : module_at d top q ≡ Some m) (j : ℕ) (y : Port) → slice_get m.ports j ≡ Some y → y.is_output ≡ false → given σ q m (port_identifier j) ≡ evaluated τ q (port j)
       by_path [] here' j y there inward = top_input_agrees m here' j y there inward
       by_path (u ∷ q) here' j y there inward = let f = further d x top u q m here' in
           inner_input_agrees u q m here' f j y there inward (λ r. own_is q f.outer f.here r)
 
       go : Owner m k → given σ p m k ≡ evaluated τ p r
-      go (a_port j y there same) = let h = as_port j y there same in moved (port_key j) (port j) same h.1 (by_path p here j y there h.0)
-      go (a_net i o there role same) = moved (value_key i 0) (result i 0) same (as_value i 0 same) (net_agrees p m here i o there role (own_is p m here))
-      go (a_variable i o there role same) = moved (value_key i 0) (result i 0) same (as_value i 0 same) (variable_agrees p m here i o there role)
-      go (an_instance i o there role same) = absurd (as_instance i same)
-      go (a_result i l o y there role found same) = moved (value_key i l) (result i l) same (as_value i l same) (result_agrees p m here i l o y there role found shows)
+      go (a_port j y there same) = let h = as_port j y there same in moved (port_identifier j) (port j) same h.1 (by_path p here j y there h.0)
+      go (a_net i o there emission same) = moved (value_identifier i 0) (result i 0) same (as_value i 0 same) (net_agrees p m here i o there emission (own_is p m here))
+      go (a_variable i o there emission same) = moved (value_identifier i 0) (result i 0) same (as_value i 0 same) (variable_agrees p m here i o there emission)
+      go (an_instance i o there emission same) = absurd (as_instance i same)
+      go (a_result i l o y there emission found same) = moved (value_identifier i l) (result i l) same (as_value i l same) (result_agrees p m here i l o y there emission found shows)

@@ -11,53 +11,53 @@ use Rattle.verilog_model.specs.Tree.{Expr, VPort, VModule, Connection}
 use Rattle.verilog_model.specs.Hierarchy.{VPath, vnet, Drive, drive, drive_at, drive_in, inner_drive, drive_or_nothing, input_drive, connection_drive, drive_of_connection, find_port, find_instance, find_connection, vmodule_at, width_in, width_at, range_width, input_width_before}
 use Rattle.verilog_model.specs.Hierarchy.Drive.{nothing, input, held, expression as driven_by, net as driven_from}
 use Rattle.verilog_expr.specs.Numerals.{high_of}
-use Rattle.export_verilog.specs.Keys.{Key, each, role_of, module_keys, key_text}
-use Rattle.export_verilog.specs.Keys.Key.{port_key, value_key, instance_key}
-use Rattle.export_verilog.specs.Keys.Role.{net, variable, block}
+use Rattle.export_verilog.specs.Identifiers.{Identifier, each, emission_of, module_identifiers, identifier_text}
+use Rattle.export_verilog.specs.Identifiers.Identifier.{port_identifier, value_identifier, instance_identifier}
+use Rattle.export_verilog.specs.Identifiers.Emission.{net, variable, block}
 use Rattle.export_verilog.specs.Exported.{symbol_name, expression, assigned_expr, connections_of, connections_to, vport, vports, vitems, vmodule, tree_of}
 use Rattle.export_verilog.specs.Exportable.{IsExportableModule}
-use Rattle.export_verilog.proofs.names.KeyNames.{AreNames, texts_apart}
-use Rattle.export_verilog.proofs.names.KeysOf.{port_in, net_in, variable_in, instance_in_keys, result_in_keys}
+use Rattle.export_verilog.proofs.names.IdentifierNames.{AreNames, texts_apart}
+use Rattle.export_verilog.proofs.names.IdentifiersOf.{port_in, net_in, variable_in, instance_in_identifiers, result_in_identifiers}
 use Rattle.export_verilog.proofs.items.Items.{output_count, expr_for, connection_of}
-use Rattle.export_verilog.proofs.items.Lookups.{vport_at, port_value, port_under, key_width, width_under, port_width, instance_of_kind, instance_under, connection_under}
+use Rattle.export_verilog.proofs.items.Lookups.{vport_at, port_value, port_under, identifier_width, width_under, port_width, instance_of_kind, instance_under, connection_under}
 use Rattle.export_verilog.proofs.items.Settings.{Setting, Called, module_ok, result_at_first}
-use Rattle.export_verilog.proofs.items.Drives.{output_place, OutputAt, place_of_output, drive_value, drive_under, no_drive_under, value_by_role, value_of_result}
+use Rattle.export_verilog.proofs.items.Drives.{output_place, OutputAt, place_of_output, drive_value, drive_under, no_drive_under, value_by_emission, value_of_result}
 use Rattle.export_verilog.proofs.behaviour.Places.{number_of, vpath_of, step_name, symbol_at_path, names_at_path, Further, vplace, inside_instance}
 use Rattle.export_verilog.proofs.behaviour.Content.{variable_width, register_base}
 
 -- the bits of the inputs before one
 inputs_before : (m : Module) (j : ℕ) (ps : List Port) (n : ℕ) (p : Port) → slice_get ps n ≡ Some p
-    → ((a : ℕ) (q : Port) → slice_get ps a ≡ Some q → (key_text m (port_key (j + a)) ≡ key_text m (port_key (j + n)) → a ≡ n) × (range_width (high_of (width q.type)) ≡ width q.type))
-    → input_width_before (key_text m (port_key (j + n))) (each (vport m) j ps) ≡ input_width (take n ps)
+    → ((a : ℕ) (q : Port) → slice_get ps a ≡ Some q → (identifier_text m (port_identifier (j + a)) ≡ identifier_text m (port_identifier (j + n)) → a ≡ n) × (range_width (high_of (width q.type)) ≡ width q.type))
+    → input_width_before (identifier_text m (port_identifier (j + n))) (each (vport m) j ps) ≡ input_width (take n ps)
 inputs_before m j [] n p there each_ok = cc
 inputs_before m j (x ∷ ps) zero p there each_ok =
-    ap (λ b. cond b 0 (cond x.is_output (input_width_before (key_text m (port_key (j + 0))) (each (vport m) (suc j) ps)) (range_width (high_of (width x.type)) + input_width_before (key_text m (port_key (j + 0))) (each (vport m) (suc j) ps))))
-    (ap (λ a. same_name (key_text m (port_key j)) (key_text m (port_key a))) (add-zero j) ∙ name_self (key_text m (port_key j)))
+    ap (λ b. cond b 0 (cond x.is_output (input_width_before (identifier_text m (port_identifier (j + 0))) (each (vport m) (suc j) ps)) (range_width (high_of (width x.type)) + input_width_before (identifier_text m (port_identifier (j + 0))) (each (vport m) (suc j) ps))))
+    (ap (λ a. same_name (identifier_text m (port_identifier j)) (identifier_text m (port_identifier a))) (add-zero j) ∙ name_self (identifier_text m (port_identifier j)))
 inputs_before m j (x ∷ ps) (suc n) p there each_ok =
-    ap (λ b. cond b 0 (rest_of (input_width_before (key_text m (port_key (j + suc n))) (each (vport m) (suc j) ps)))) other
-    ∙ ap rest_of (ap (λ a. input_width_before (key_text m (port_key a)) (each (vport m) (suc j) ps)) (add-suc j n ∙ sym (suc-add j n))
+    ap (λ b. cond b 0 (rest_of (input_width_before (identifier_text m (port_identifier (j + suc n))) (each (vport m) (suc j) ps)))) other
+    ∙ ap rest_of (ap (λ a. input_width_before (identifier_text m (port_identifier a)) (each (vport m) (suc j) ps)) (add-suc j n ∙ sym (suc-add j n))
     ∙ inputs_before m (suc j) ps n p there later)
     ∙ ap (λ w. cond x.is_output (input_width (take n ps)) (w + input_width (take n ps))) (each_ok 0 x refl).1 where
       rest_of : ℕ → ℕ
       rest_of w = cond x.is_output w (range_width (high_of (width x.type)) + w)
 
-      other : same_name (key_text m (port_key j)) (key_text m (port_key (j + suc n))) ≡ false
-      other = go (same_name (key_text m (port_key j)) (key_text m (port_key (j + suc n)))) refl where
-        go : (b : Bool) → same_name (key_text m (port_key j)) (key_text m (port_key (j + suc n))) ≡ b → b ≡ false
+      other : same_name (identifier_text m (port_identifier j)) (identifier_text m (port_identifier (j + suc n))) ≡ false
+      other = go (same_name (identifier_text m (port_identifier j)) (identifier_text m (port_identifier (j + suc n)))) refl where
+        go : (b : Bool) → same_name (identifier_text m (port_identifier j)) (identifier_text m (port_identifier (j + suc n))) ≡ b → b ≡ false
         go false e = refl
-        go true e = absurd (let h : 0 ≡ suc n = (each_ok 0 x refl).0 (ap (λ a. key_text m (port_key a)) (add-zero j) ∙ name_from (key_text m (port_key j)) (key_text m (port_key (j + suc n))) e) in omega arith)
+        go true e = absurd (let h : 0 ≡ suc n = (each_ok 0 x refl).0 (ap (λ a. identifier_text m (port_identifier a)) (add-zero j) ∙ name_from (identifier_text m (port_identifier j)) (identifier_text m (port_identifier (j + suc n))) e) in omega arith)
 
-      later : (a : ℕ) (q : Port) → slice_get ps a ≡ Some q → (key_text m (port_key (suc j + a)) ≡ key_text m (port_key (suc j + n)) → a ≡ n) × (range_width (high_of (width q.type)) ≡ width q.type)
+      later : (a : ℕ) (q : Port) → slice_get ps a ≡ Some q → (identifier_text m (port_identifier (suc j + a)) ≡ identifier_text m (port_identifier (suc j + n)) → a ≡ n) × (range_width (high_of (width q.type)) ≡ width q.type)
       later a q at = let h = each_ok (suc a) q at in
-          (λ e. (let g : suc a ≡ suc n = h.0 (ap (λ z. key_text m (port_key z)) (add-suc j a ∙ sym (suc-add j a)) ∙ e ∙ ap (λ z. key_text m (port_key z)) (suc-add j n ∙ sym (add-suc j n))) in omega arith), h.1)
+          (λ e. (let g : suc a ≡ suc n = h.0 (ap (λ z. identifier_text m (port_identifier z)) (add-suc j a ∙ sym (suc-add j a)) ∙ e ∙ ap (λ z. identifier_text m (port_identifier z)) (suc-add j n ∙ sym (add-suc j n))) in omega arith), h.1)
 
 module _ (d : Design) (x : Setting d) (top : Name) where
   abbrev pub here_path : Path → VPath
   here_path p = vpath_of d top p
 
   -- a net of the tree by its place and its key
-  abbrev pub key_drive : Path → Module → Key → Drive
-  key_drive p m k = drive (tree_of d) (symbol_name d top) (vnet (vpath_of d top p) (key_text m k))
+  abbrev pub identifier_drive : Path → Module → Identifier → Drive
+  identifier_drive p m k = drive (tree_of d) (symbol_name d top) (vnet (vpath_of d top p) (identifier_text m k))
 
   module _ (p : Path) (m : Module) (here : module_at d top p ≡ Some m) where
     symbol_of : Name
@@ -70,72 +70,72 @@ module _ (d : Design) (x : Setting d) (top : Name) where
     are : AreNames m
     are = names_at_path d x top p m here
 
-    pub width_here : (k : Key) → In k (module_keys m) → width_at (vmodule_at (tree_of d) (symbol_name d top) (vpath_of d top p)) (key_text m k) ≡ key_width m k
-    width_here k within = ap (λ v. width_at v (key_text m k)) (vplace d x top p m here)
+    pub width_here : (k : Identifier) → In k (module_identifiers m) → width_at (vmodule_at (tree_of d) (symbol_name d top) (vpath_of d top p)) (identifier_text m k) ≡ identifier_width m k
+    width_here k within = ap (λ v. width_at v (identifier_text m k)) (vplace d x top p m here)
         ∙ width_under x.say d m (module_ok d x symbol_of m found_here) are (result_at_first d x symbol_of m found_here) k within
 
-    pub module_width : (k : Key) → In k (module_keys m) → width_in (vmodule d m) (key_text m k) ≡ key_width m k
+    pub module_width : (k : Identifier) → In k (module_identifiers m) → width_in (vmodule d m) (identifier_text m k) ≡ identifier_width m k
     module_width k within = width_under x.say d m (module_ok d x symbol_of m found_here) are (result_at_first d x symbol_of m found_here) k within
 
     drive_found : (n : Name) → drive (tree_of d) (symbol_name d top) (vnet (vpath_of d top p) n) ≡ drive_in (tree_of d) (symbol_name d top) (vpath_of d top p) (vmodule d m) n (find_port (vports m) n)
     drive_found n = ap (drive_at (tree_of d) (symbol_name d top) (vpath_of d top p) n) (vplace d x top p m here)
 
-    drive_of_key : (k : Key) → In k (module_keys m) → key_drive p m k ≡ drive_in (tree_of d) (symbol_name d top) (vpath_of d top p) (vmodule d m) (key_text m k) (port_value m k)
-    drive_of_key k within = drive_found (key_text m k) ∙ ap (drive_in (tree_of d) (symbol_name d top) (vpath_of d top p) (vmodule d m) (key_text m k)) (port_under m are k within)
+    drive_of_identifier : (k : Identifier) → In k (module_identifiers m) → identifier_drive p m k ≡ drive_in (tree_of d) (symbol_name d top) (vpath_of d top p) (vmodule d m) (identifier_text m k) (port_value m k)
+    drive_of_identifier k within = drive_found (identifier_text m k) ∙ ap (drive_in (tree_of d) (symbol_name d top) (vpath_of d top p) (vmodule d m) (identifier_text m k)) (port_under m are k within)
 
-    inner_of_key : (k : Key) → In k (module_keys m) → inner_drive (tree_of d) (symbol_name d top) (vpath_of d top p) (vmodule d m) (key_text m k)
+    inner_of_identifier : (k : Identifier) → In k (module_identifiers m) → inner_drive (tree_of d) (symbol_name d top) (vpath_of d top p) (vmodule d m) (identifier_text m k)
         ≡ drive_or_nothing (drive_value d x symbol_of m found_here (symbol_name d top) (vpath_of d top p) k)
-    inner_of_key k within = drive_under d x symbol_of m found_here (symbol_name d top) (vpath_of d top p) k within
+    inner_of_identifier k within = drive_under d x symbol_of m found_here (symbol_name d top) (vpath_of d top p) k within
 
-    pub no_drive_here : (n : Name) → ((k : Key) → In k (module_keys m) → n ≡ key_text m k → ⊥) → drive (tree_of d) (symbol_name d top) (vnet (vpath_of d top p) n) ≡ nothing
+    pub no_drive_here : (n : Name) → ((k : Identifier) → In k (module_identifiers m) → n ≡ identifier_text m k → ⊥) → drive (tree_of d) (symbol_name d top) (vnet (vpath_of d top p) n) ≡ nothing
     no_drive_here n never = drive_found n ∙ no_drive_under d x symbol_of m found_here (symbol_name d top) (vpath_of d top p) n never
 
-    pub drive_net : (i : ℕ) (o : Op) → slice_get m.body i ≡ Some o → role_of m.ports m.body i o ≡ net → key_drive p m (value_key i 0) ≡ driven_by (vpath_of d top p) (assigned_expr m (result i 0))
-    drive_net i o there role =
-        drive_of_key (value_key i 0) (net_in m i o there role) ∙ inner_of_key (value_key i 0) (net_in m i o there role)
-        ∙ ap drive_or_nothing (value_by_role d x symbol_of m found_here (symbol_name d top) (vpath_of d top p) i 0 o net there role)
+    pub drive_net : (i : ℕ) (o : Op) → slice_get m.body i ≡ Some o → emission_of m.ports m.body i o ≡ net → identifier_drive p m (value_identifier i 0) ≡ driven_by (vpath_of d top p) (assigned_expr m (result i 0))
+    drive_net i o there emission =
+        drive_of_identifier (value_identifier i 0) (net_in m i o there emission) ∙ inner_of_identifier (value_identifier i 0) (net_in m i o there emission)
+        ∙ ap drive_or_nothing (value_by_emission d x symbol_of m found_here (symbol_name d top) (vpath_of d top p) i 0 o net there emission)
 
-    pub drive_variable : (i : ℕ) (o : Op) → slice_get m.body i ≡ Some o → role_of m.ports m.body i o ≡ variable
-        → key_drive p m (value_key i 0) ≡ held (base d top p + body_state (state d) (take i m.body)) (width_of (result_type o 0))
-    drive_variable i o there role =
-        drive_of_key (value_key i 0) (variable_in m i o there role) ∙ inner_of_key (value_key i 0) (variable_in m i o there role)
-        ∙ ap drive_or_nothing (value_by_role d x symbol_of m found_here (symbol_name d top) (vpath_of d top p) i 0 o variable there role)
-        ∙ ap₂ held (register_base d x top p m here i o there role) (variable_width d x symbol_of m found_here i o there role)
+    pub drive_variable : (i : ℕ) (o : Op) → slice_get m.body i ≡ Some o → emission_of m.ports m.body i o ≡ variable
+        → identifier_drive p m (value_identifier i 0) ≡ held (base d top p + body_state (state d) (take i m.body)) (width_of (result_type o 0))
+    drive_variable i o there emission =
+        drive_of_identifier (value_identifier i 0) (variable_in m i o there emission) ∙ inner_of_identifier (value_identifier i 0) (variable_in m i o there emission)
+        ∙ ap drive_or_nothing (value_by_emission d x symbol_of m found_here (symbol_name d top) (vpath_of d top p) i 0 o variable there emission)
+        ∙ ap₂ held (register_base d x top p m here i o there emission) (variable_width d x symbol_of m found_here i o there emission)
 
-    pub drive_result : (i k : ℕ) (o : Op) (r : OpResult) (c : Called d m o) → slice_get m.body i ≡ Some o → role_of m.ports m.body i o ≡ block → slice_get o.results k ≡ Some r
-        → (e : OutputAt c.module_of.ports k r.type) → key_drive p m (value_key i k) ≡ driven_from (vnet (vpath_of d top (number_of m.body i ∷ p)) (key_text c.module_of (port_key e.place)))
-    drive_result i k o r c there role at e =
-        drive_of_key (value_key i k) (result_in_keys m i k o r there role at) ∙ inner_of_key (value_key i k) (result_in_keys m i k o r there role at)
-        ∙ ap drive_or_nothing (value_of_result d x symbol_of m found_here (symbol_name d top) (vpath_of d top p) i o c there role k e.place
+    pub drive_result : (i k : ℕ) (o : Op) (r : OpResult) (c : Called d m o) → slice_get m.body i ≡ Some o → emission_of m.ports m.body i o ≡ block → slice_get o.results k ≡ Some r
+        → (e : OutputAt c.module_of.ports k r.type) → identifier_drive p m (value_identifier i k) ≡ driven_from (vnet (vpath_of d top (number_of m.body i ∷ p)) (identifier_text c.module_of (port_identifier e.place)))
+    drive_result i k o r c there emission at e =
+        drive_of_identifier (value_identifier i k) (result_in_identifiers m i k o r there emission at) ∙ inner_of_identifier (value_identifier i k) (result_in_identifiers m i k o r there emission at)
+        ∙ ap drive_or_nothing (value_of_result d x symbol_of m found_here (symbol_name d top) (vpath_of d top p) i o c there emission k e.place
         (ap (λ a. output_place a c.module_of.ports) (sym e.number) ∙ (place_of_output c.module_of.ports e.place e.port e.there e.out).0))
-        ∙ ap (λ q. driven_from (vnet q (key_text c.module_of (port_key e.place)))) (sym (inside_instance d x top p m here i o c there).1)
+        ∙ ap (λ q. driven_from (vnet q (identifier_text c.module_of (port_identifier e.place)))) (sym (inside_instance d x top p m here i o c there).1)
 
-    pub drive_instance : (i : ℕ) (o : Op) → slice_get m.body i ≡ Some o → role_of m.ports m.body i o ≡ block → key_drive p m (instance_key i) ≡ nothing
-    drive_instance i o there role = drive_of_key (instance_key i) (instance_in_keys m i o there role) ∙ inner_of_key (instance_key i) (instance_in_keys m i o there role)
+    pub drive_instance : (i : ℕ) (o : Op) → slice_get m.body i ≡ Some o → emission_of m.ports m.body i o ≡ block → identifier_drive p m (instance_identifier i) ≡ nothing
+    drive_instance i o there emission = drive_of_identifier (instance_identifier i) (instance_in_identifiers m i o there emission) ∙ inner_of_identifier (instance_identifier i) (instance_in_identifiers m i o there emission)
 
     port_here : (j : ℕ) (y : Port) → slice_get m.ports j ≡ Some y
-        → key_drive p m (port_key j) ≡ drive_in (tree_of d) (symbol_name d top) (vpath_of d top p) (vmodule d m) (key_text m (port_key j)) (Some (vport_at m j y))
-    port_here j y there = drive_of_key (port_key j) (port_in m j y there)
-        ∙ ap (λ z. drive_in (tree_of d) (symbol_name d top) (vpath_of d top p) (vmodule d m) (key_text m (port_key j)) (omap (vport_at m j) z)) there
+        → identifier_drive p m (port_identifier j) ≡ drive_in (tree_of d) (symbol_name d top) (vpath_of d top p) (vmodule d m) (identifier_text m (port_identifier j)) (Some (vport_at m j y))
+    port_here j y there = drive_of_identifier (port_identifier j) (port_in m j y there)
+        ∙ ap (λ z. drive_in (tree_of d) (symbol_name d top) (vpath_of d top p) (vmodule d m) (identifier_text m (port_identifier j)) (omap (vport_at m j) z)) there
 
     pub drive_output : (j : ℕ) (y : Port) → slice_get m.ports j ≡ Some y → y.is_output ≡ true
-        → key_drive p m (port_key j) ≡ driven_by (vpath_of d top p) (expr_for (expression m) (slice_get (output_refs m.body) (output_count (take j m.ports))))
+        → identifier_drive p m (port_identifier j) ≡ driven_by (vpath_of d top p) (expr_for (expression m) (slice_get (output_refs m.body) (output_count (take j m.ports))))
     drive_output j y there out =
         port_here j y there
-        ∙ ap (λ b. cond b (inner_drive (tree_of d) (symbol_name d top) (vpath_of d top p) (vmodule d m) (key_text m (port_key j))) (input_drive (tree_of d) (symbol_name d top) (vpath_of d top p) (vmodule d m) (vport_at m j y))) out
-        ∙ inner_of_key (port_key j) (port_in m j y there)
+        ∙ ap (λ b. cond b (inner_drive (tree_of d) (symbol_name d top) (vpath_of d top p) (vmodule d m) (identifier_text m (port_identifier j))) (input_drive (tree_of d) (symbol_name d top) (vpath_of d top p) (vmodule d m) (vport_at m j y))) out
+        ∙ inner_of_identifier (port_identifier j) (port_in m j y there)
         ∙ ap (λ z. drive_or_nothing (bind z (λ (y : Port). cond y.is_output (Some (driven_by (vpath_of d top p) (expr_for (expression m) (slice_get (output_refs m.body) (output_count (take j m.ports)))))) None))) there
         ∙ ap (λ b. drive_or_nothing (cond b (Some (driven_by (vpath_of d top p) (expr_for (expression m) (slice_get (output_refs m.body) (output_count (take j m.ports)))))) None)) out
 
     pub drive_input : (j : ℕ) (y : Port) → slice_get m.ports j ≡ Some y → y.is_output ≡ false
-        → key_drive p m (port_key j) ≡ input_drive (tree_of d) (symbol_name d top) (vpath_of d top p) (vmodule d m) (vport_at m j y)
+        → identifier_drive p m (port_identifier j) ≡ input_drive (tree_of d) (symbol_name d top) (vpath_of d top p) (vmodule d m) (vport_at m j y)
     drive_input j y there out =
         port_here j y there
-        ∙ ap (λ b. cond b (inner_drive (tree_of d) (symbol_name d top) (vpath_of d top p) (vmodule d m) (key_text m (port_key j))) (input_drive (tree_of d) (symbol_name d top) (vpath_of d top p) (vmodule d m) (vport_at m j y))) out
+        ∙ ap (λ b. cond b (inner_drive (tree_of d) (symbol_name d top) (vpath_of d top p) (vmodule d m) (identifier_text m (port_identifier j))) (input_drive (tree_of d) (symbol_name d top) (vpath_of d top p) (vmodule d m) (vport_at m j y))) out
 
   -- an input of the top: its bits of the inputs
   pub drive_top_input : (m : Module) → (here : module_at d top [] ≡ Some m) → (j : ℕ) (y : Port) → slice_get m.ports j ≡ Some y → y.is_output ≡ false
-      → key_drive [] m (port_key j) ≡ input (input_width (take j m.ports)) (width y.type)
+      → identifier_drive [] m (port_identifier j) ≡ input (input_width (take j m.ports)) (width y.type)
   drive_top_input m here j y there out =
       drive_input [] m here j y there out ∙ ap₂ input before (port_width x.say d m ok names j y there) where
         names : AreNames m
@@ -144,49 +144,49 @@ module _ (d : Design) (x : Setting d) (top : Name) where
         ok : IsExportableModule m
         ok = module_ok d x (symbol_at_path d x top [] m here).0 m (symbol_at_path d x top [] m here).1
 
-        ports_ok : (a : ℕ) (q : Port) → slice_get m.ports a ≡ Some q → (key_text m (port_key (0 + a)) ≡ key_text m (port_key (0 + j)) → a ≡ j) × (range_width (high_of (width q.type)) ≡ width q.type)
+        ports_ok : (a : ℕ) (q : Port) → slice_get m.ports a ≡ Some q → (identifier_text m (port_identifier (0 + a)) ≡ identifier_text m (port_identifier (0 + j)) → a ≡ j) × (range_width (high_of (width q.type)) ≡ width q.type)
         ports_ok a q at = (same_place, port_width x.say d m ok names a q at) where
-          same_place : key_text m (port_key (0 + a)) ≡ key_text m (port_key (0 + j)) → a ≡ j
+          same_place : identifier_text m (port_identifier (0 + a)) ≡ identifier_text m (port_identifier (0 + j)) → a ≡ j
           same_place e =
-              let texts : key_text m (port_key a) ≡ key_text m (port_key j) = ap (λ z. key_text m (port_key z)) (sym (zero-add a)) ∙ e ∙ ap (λ z. key_text m (port_key z)) (zero-add j) in
-              let keys : port_key a ≡ port_key j = texts_apart m names (port_key a) (port_key j) (port_in m a q at) (port_in m j y there) texts in
+              let texts : identifier_text m (port_identifier a) ≡ identifier_text m (port_identifier j) = ap (λ z. identifier_text m (port_identifier z)) (sym (zero-add a)) ∙ e ∙ ap (λ z. identifier_text m (port_identifier z)) (zero-add j) in
+              let identifiers : port_identifier a ≡ port_identifier j = texts_apart m names (port_identifier a) (port_identifier j) (port_in m a q at) (port_in m j y there) texts in
               let places : a ≡ j = cc in places
 
-        before : input_width_before (key_text m (port_key j)) (vports m) ≡ input_width (take j m.ports)
-        before = ap (λ z. input_width_before (key_text m (port_key z)) (vports m)) (sym (zero-add j)) ∙ inputs_before m 0 m.ports j y there ports_ok
+        before : input_width_before (identifier_text m (port_identifier j)) (vports m) ≡ input_width (take j m.ports)
+        before = ap (λ z. input_width_before (identifier_text m (port_identifier z)) (vports m)) (sym (zero-add j)) ∙ inputs_before m 0 m.ports j y there ports_ok
 
   -- an input further inside: what the instance joins to it
   pub drive_inner_input : (u : ℕ) (p : Path) (m : Module) → (here : module_at d top (u ∷ p) ≡ Some m) → (f : Further d x top p u m) → (j : ℕ) (y : Port) → slice_get m.ports j ≡ Some y → y.is_output ≡ false
-      → key_drive (u ∷ p) m (port_key j) ≡ driven_by (vpath_of d top p) (expr_for (expression f.outer) (slice_get f.op.operands (input_count (take j m.ports))))
+      → identifier_drive (u ∷ p) m (port_identifier j) ≡ driven_by (vpath_of d top p) (expr_for (expression f.outer) (slice_get f.op.operands (input_count (take j m.ports))))
   drive_inner_input u p m here f j y there out =
       drive_input (u ∷ p) m here j y there out
-      ∙ ap (λ z. connection_drive (vpath_of d top p) (key_text m (port_key j)) (bind z (λ (v : VModule). find_instance v.items (step_name (module_at d top p) u)))) (vplace d x top p f.outer f.here)
-      ∙ ap (λ z. connection_drive (vpath_of d top p) (key_text m (port_key j)) (find_instance (vitems d f.outer) z)) step
-      ∙ ap (connection_drive (vpath_of d top p) (key_text m (port_key j))) found
-      ∙ ap (λ z. drive_of_connection (vpath_of d top p) (find_connection (connections_to z f.outer f.place f.op) (key_text m (port_key j)))) f.called.there
+      ∙ ap (λ z. connection_drive (vpath_of d top p) (identifier_text m (port_identifier j)) (bind z (λ (v : VModule). find_instance v.items (step_name (module_at d top p) u)))) (vplace d x top p f.outer f.here)
+      ∙ ap (λ z. connection_drive (vpath_of d top p) (identifier_text m (port_identifier j)) (find_instance (vitems d f.outer) z)) step
+      ∙ ap (connection_drive (vpath_of d top p) (identifier_text m (port_identifier j))) found
+      ∙ ap (λ z. drive_of_connection (vpath_of d top p) (find_connection (connections_to z f.outer f.place f.op) (identifier_text m (port_identifier j)))) f.called.there
       ∙ joined m f.inside there where
         names : AreNames f.outer
         names = names_at_path d x top p f.outer f.here
 
-        step : step_name (module_at d top p) u ≡ key_text f.outer (instance_key f.place)
-        step = ap (λ z. step_name z u) f.here ∙ ap (λ i. key_text f.outer (instance_key i)) f.is_place
+        step : step_name (module_at d top p) u ≡ identifier_text f.outer (instance_identifier f.place)
+        step = ap (λ z. step_name z u) f.here ∙ ap (λ i. identifier_text f.outer (instance_identifier i)) f.is_place
 
-        found : find_instance (vitems d f.outer) (key_text f.outer (instance_key f.place)) ≡ Some (instance_of_kind d f.outer f.place f.op f.called.kind)
-        found = instance_under d f.outer names (instance_key f.place) (instance_in_keys f.outer f.place f.op f.there f.role)
+        found : find_instance (vitems d f.outer) (identifier_text f.outer (instance_identifier f.place)) ≡ Some (instance_of_kind d f.outer f.place f.op f.called.kind)
+        found = instance_under d f.outer names (instance_identifier f.place) (instance_in_identifiers f.outer f.place f.op f.there f.emission)
             ∙ ap (λ z. bind z (λ (o : Op). omap (instance_of_kind d f.outer f.place o) (instance_in o.kind))) f.there
             ∙ ap (omap (instance_of_kind d f.outer f.place f.op)) f.called.is_kind
 
         joined_own : slice_get f.called.module_of.ports j ≡ Some y
-            → drive_of_connection (vpath_of d top p) (find_connection (connections_of f.called.module_of f.outer f.place 0 0 f.called.module_of.ports f.op.operands) (key_text f.called.module_of (port_key j)))
+            → drive_of_connection (vpath_of d top p) (find_connection (connections_of f.called.module_of f.outer f.place 0 0 f.called.module_of.ports f.op.operands) (identifier_text f.called.module_of (port_identifier j)))
             ≡ driven_by (vpath_of d top p) (expr_for (expression f.outer) (slice_get f.op.operands (input_count (take j f.called.module_of.ports))))
         joined_own at =
             ap (drive_of_connection (vpath_of d top p))
-            (connection_under f.called.module_of f.outer f.place f.op (x.names f.called.kind.symbol f.called.module_of f.called.there) (port_key j) (port_in f.called.module_of j y at)
+            (connection_under f.called.module_of f.outer f.place f.op (x.names f.called.kind.symbol f.called.module_of f.called.there) (port_identifier j) (port_in f.called.module_of j y at)
             ∙ ap (omap (λ q. connection_of f.called.module_of f.outer f.place j 0 (take j f.called.module_of.ports) q f.op.operands)) at)
-            ∙ ap (λ b. driven_by (vpath_of d top p) (cond b (Rattle.verilog_model.specs.Tree.Expr.name (key_text f.outer (value_key f.place (0 + output_count (take j f.called.module_of.ports))))) (expr_for (expression f.outer) (slice_get f.op.operands (input_count (take j f.called.module_of.ports)))))) out
+            ∙ ap (λ b. driven_by (vpath_of d top p) (cond b (Rattle.verilog_model.specs.Tree.Expr.name (identifier_text f.outer (value_identifier f.place (0 + output_count (take j f.called.module_of.ports))))) (expr_for (expression f.outer) (slice_get f.op.operands (input_count (take j f.called.module_of.ports)))))) out
 
         joined : (z : Module) → f.called.module_of ≡ z → slice_get z.ports j ≡ Some y
-            → drive_of_connection (vpath_of d top p) (find_connection (connections_of f.called.module_of f.outer f.place 0 0 f.called.module_of.ports f.op.operands) (key_text z (port_key j)))
+            → drive_of_connection (vpath_of d top p) (find_connection (connections_of f.called.module_of f.outer f.place 0 0 f.called.module_of.ports f.op.operands) (identifier_text z (port_identifier j)))
             ≡ driven_by (vpath_of d top p) (expr_for (expression f.outer) (slice_get f.op.operands (input_count (take j z.ports))))
-        joined z same = subst (λ y'. slice_get y'.ports j ≡ Some y → drive_of_connection (vpath_of d top p) (find_connection (connections_of f.called.module_of f.outer f.place 0 0 f.called.module_of.ports f.op.operands) (key_text y' (port_key j)))
+        joined z same = subst (λ y'. slice_get y'.ports j ≡ Some y → drive_of_connection (vpath_of d top p) (find_connection (connections_of f.called.module_of f.outer f.place 0 0 f.called.module_of.ports f.op.operands) (identifier_text y' (port_identifier j)))
             ≡ driven_by (vpath_of d top p) (expr_for (expression f.outer) (slice_get f.op.operands (input_count (take j y'.ports))))) same joined_own

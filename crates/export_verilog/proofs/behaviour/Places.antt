@@ -16,16 +16,16 @@ use Rattle.hw_model.proofs.Finite.{path_chain}
 use Rattle.hw_model.proofs.Content.{before_position}
 use Rattle.verilog_model.specs.Tree.{VModule}
 use Rattle.verilog_model.specs.Hierarchy.{VPath, VInstance, vmodule_at, find_instance, find_vmodule}
-use Rattle.export_verilog.specs.Keys.{Key, role_of, module_keys, key_text}
-use Rattle.export_verilog.specs.Keys.Key.{instance_key}
-use Rattle.export_verilog.specs.Keys.Role.{block}
+use Rattle.export_verilog.specs.Identifiers.{Identifier, emission_of, module_identifiers, identifier_text}
+use Rattle.export_verilog.specs.Identifiers.Identifier.{instance_identifier}
+use Rattle.export_verilog.specs.Identifiers.Emission.{block}
 use Rattle.export_verilog.specs.Exported.{symbol_name, vitems, vmodule, tree_of}
-use Rattle.export_verilog.proofs.names.KeyNames.{AreNames, texts_apart}
-use Rattle.export_verilog.proofs.names.KeysOf.{role_of_instance, Owner, owner_of, instance_in_keys}
-use Rattle.export_verilog.proofs.names.KeysOf.Owner.{a_port, a_net, a_variable, an_instance, a_result}
+use Rattle.export_verilog.proofs.names.IdentifierNames.{AreNames, texts_apart}
+use Rattle.export_verilog.proofs.names.IdentifiersOf.{emission_of_instance, Owner, owner_of, instance_in_identifiers}
+use Rattle.export_verilog.proofs.names.IdentifiersOf.Owner.{a_port, a_net, a_variable, an_instance, a_result}
 use Rattle.export_verilog.proofs.names.Symbols.{vmodule_found}
 use Rattle.export_verilog.proofs.items.Lookups.{instance_of_kind, instance_value, instance_under, no_instance_under}
-use Rattle.export_verilog.proofs.items.Settings.{Setting, Called, called_by, called_by_role, callee_is}
+use Rattle.export_verilog.proofs.items.Settings.{Setting, Called, called_by, called_by_emission, callee_is}
 
 -- ---- instances by number
 
@@ -56,16 +56,16 @@ place_number os i o k there kind = ap length (before_position os i o k there kin
 
 -- ---- a thing of a name, or none
 
-pub key_of_name : (m : Module) (n : Name) (ks : List Key) → ((k : Key) × In k ks × (n ≡ key_text m k)) ⊎ ((k : Key) → In k ks → n ≡ key_text m k → ⊥)
-key_of_name m n [] = inr (λ k here e. here)
-key_of_name m n (l ∷ ks) = go (same_name n (key_text m l)) refl (key_of_name m n ks) where
-  go : (b : Bool) → same_name n (key_text m l) ≡ b → ((k : Key) × In k ks × (n ≡ key_text m k)) ⊎ ((k : Key) → In k ks → n ≡ key_text m k → ⊥)
-      → ((k : Key) × In k (l ∷ ks) × (n ≡ key_text m k)) ⊎ ((k : Key) → In k (l ∷ ks) → n ≡ key_text m k → ⊥)
-  go true e rest = inl (l, inl refl, name_from n (key_text m l) e)
+pub identifier_of_name : (m : Module) (n : Name) (ks : List Identifier) → ((k : Identifier) × In k ks × (n ≡ identifier_text m k)) ⊎ ((k : Identifier) → In k ks → n ≡ identifier_text m k → ⊥)
+identifier_of_name m n [] = inr (λ k here e. here)
+identifier_of_name m n (l ∷ ks) = go (same_name n (identifier_text m l)) refl (identifier_of_name m n ks) where
+  go : (b : Bool) → same_name n (identifier_text m l) ≡ b → ((k : Identifier) × In k ks × (n ≡ identifier_text m k)) ⊎ ((k : Identifier) → In k ks → n ≡ identifier_text m k → ⊥)
+      → ((k : Identifier) × In k (l ∷ ks) × (n ≡ identifier_text m k)) ⊎ ((k : Identifier) → In k (l ∷ ks) → n ≡ identifier_text m k → ⊥)
+  go true e rest = inl (l, inl refl, name_from n (identifier_text m l) e)
   go false e (inl h) = inl (h.0, inr h.1, h.2)
   go false e (inr never) = inr neither where
-    neither : (k : Key) → In k (l ∷ ks) → n ≡ key_text m k → ⊥
-    neither k (inl same) is = let h : same_name n (key_text m l) ≡ true = ap (λ z. same_name n (key_text m z)) (sym same) ∙ ap (same_name n) (sym is) ∙ name_self n in cc
+    neither : (k : Identifier) → In k (l ∷ ks) → n ≡ identifier_text m k → ⊥
+    neither k (inl same) is = let h : same_name n (identifier_text m l) ≡ true = ap (λ z. same_name n (identifier_text m z)) (sym same) ∙ ap (same_name n) (sym is) ∙ name_self n in cc
     neither k (inr here) is = never k here is
 
 -- ---- paths
@@ -73,7 +73,7 @@ key_of_name m n (l ∷ ks) = go (same_name n (key_text m l)) refl (key_of_name m
 -- the name of instance u of a module
 abbrev pub step_name : Option Module → ℕ → Name
 step_name None u = []
-step_name (Some m) u = key_text m (instance_key (place_of m.body u))
+step_name (Some m) u = identifier_text m (instance_identifier (place_of m.body u))
 
 abbrev pub vpath_of : Design → Name → Path → VPath
 vpath_of d top [] = []
@@ -93,7 +93,7 @@ module _ (d : Design) (x : Setting d) (top : Name) where
     pub place : ℕ
     pub op : Op
     pub there : slice_get outer.body place ≡ Some op
-    pub role : role_of outer.ports outer.body place op ≡ block
+    pub emission : emission_of outer.ports outer.body place op ≡ block
     pub called : Called d outer op
     pub inside : called.module_of ≡ c
     pub is_place : place_of outer.body u ≡ place
@@ -118,27 +118,27 @@ module _ (d : Design) (x : Setting d) (top : Name) where
               place = place_of m.body u;
               op = o;
               there = there;
-              role = by_sort (sort_of o.kind);
+              emission = by_sort (sort_of o.kind);
               called = called;
               inside = let e : called.module_of ≡ c = cc in e;
               is_place = refl;
               is_number = number;
             } where
-              by_sort : Sort o.kind → role_of m.ports m.body (place_of m.body u) o ≡ block
-              by_sort (is_an_instance z r n y) = role_of_instance m.ports m.body (place_of m.body u) o z r n
+              by_sort : Sort o.kind → emission_of m.ports m.body (place_of m.body u) o ≡ block
+              by_sort (is_an_instance z r n y) = emission_of_instance m.ports m.body (place_of m.body u) o z r n
               by_sort (a_register f r n y) = absurd (let h : None ≡ Some k = sym n ∙ kind in cc)
               by_sort (an_output r n y) = absurd (let h : None ≡ Some k = sym n ∙ kind in cc)
               by_sort (a_made r n y) = absurd (let h : None ≡ Some k = sym n ∙ kind in cc)
 
   -- the name of the step
-  pub name_of_step : (u : ℕ) (p : Path) (c : Module) (f : Further p u c) → vpath_of d top (u ∷ p) ≡ key_text f.outer (instance_key f.place) ∷ vpath_of d top p
+  pub name_of_step : (u : ℕ) (p : Path) (c : Module) (f : Further p u c) → vpath_of d top (u ∷ p) ≡ identifier_text f.outer (instance_identifier f.place) ∷ vpath_of d top p
   name_of_step u p c f = ap (λ y. step_name y u ∷ vpath_of d top p) f.here
-      ∙ ap (λ i. key_text f.outer (instance_key i) ∷ vpath_of d top p) f.is_place
+      ∙ ap (λ i. identifier_text f.outer (instance_identifier i) ∷ vpath_of d top p) f.is_place
 
-  instance_there : (m : Module) (are : AreNames m) (i : ℕ) (o : Op) (c : Called d m o) → slice_get m.body i ≡ Some o → role_of m.ports m.body i o ≡ block
-      → find_instance (vitems d m) (key_text m (instance_key i)) ≡ Some (instance_of_kind d m i o c.kind)
-  instance_there m are i o c there role =
-      instance_under d m are (instance_key i) (instance_in_keys m i o there role)
+  instance_there : (m : Module) (are : AreNames m) (i : ℕ) (o : Op) (c : Called d m o) → slice_get m.body i ≡ Some o → emission_of m.ports m.body i o ≡ block
+      → find_instance (vitems d m) (identifier_text m (instance_identifier i)) ≡ Some (instance_of_kind d m i o c.kind)
+  instance_there m are i o c there emission =
+      instance_under d m are (instance_identifier i) (instance_in_identifiers m i o there emission)
       ∙ ap (λ z. bind z (λ (o : Op). omap (instance_of_kind d m i o) (instance_in o.kind))) there
       ∙ ap (omap (instance_of_kind d m i o)) c.is_kind
 
@@ -150,19 +150,19 @@ module _ (d : Design) (x : Setting d) (top : Name) where
         → vmodule_at (tree_of d) (symbol_name d top) (vpath_of d top (u ∷ p)) ≡ Some (vmodule d m)
     step f rest =
         ap (vmodule_at (tree_of d) (symbol_name d top)) (name_of_step u p m f)
-        ∙ ap (λ z. bind z (λ (v : VModule). bind (find_instance v.items (key_text f.outer (instance_key f.place))) (λ (i : VInstance). find_vmodule (tree_of d) i.module_name))) (rest f.outer f.here)
-        ∙ ap (λ z. bind z (λ (i : VInstance). find_vmodule (tree_of d) i.module_name)) (instance_there f.outer (names_at_path p f.outer f.here) f.place f.op f.called f.there f.role)
+        ∙ ap (λ z. bind z (λ (v : VModule). bind (find_instance v.items (identifier_text f.outer (instance_identifier f.place))) (λ (i : VInstance). find_vmodule (tree_of d) i.module_name))) (rest f.outer f.here)
+        ∙ ap (λ z. bind z (λ (i : VInstance). find_vmodule (tree_of d) i.module_name)) (instance_there f.outer (names_at_path p f.outer f.here) f.place f.op f.called f.there f.emission)
         ∙ vmodule_found d x.ok x.symbols f.called.kind.symbol f.called.module_of f.called.there
         ∙ ap (λ y. Some (vmodule d y)) f.inside
 
   -- an instance leads on
   pub inside_instance : (p : Path) (m : Module) → module_at d top p ≡ Some m → (i : ℕ) (o : Op) (c : Called d m o) → slice_get m.body i ≡ Some o
-      → (module_at d top (number_of m.body i ∷ p) ≡ Some c.module_of) × (vpath_of d top (number_of m.body i ∷ p) ≡ key_text m (instance_key i) ∷ vpath_of d top p)
+      → (module_at d top (number_of m.body i ∷ p) ≡ Some c.module_of) × (vpath_of d top (number_of m.body i ∷ p) ≡ identifier_text m (instance_identifier i) ∷ vpath_of d top p)
   inside_instance p m here i o c there = (
     ap (λ z. bind z (λ (y : Module). bind (slice_get (instances y.body) (number_of m.body i)) (callee d))) here
         ∙ ap (λ z. bind z (callee d)) (instance_found m.body i o c.kind there c.is_kind) ∙ callee_is d m o c,
     ap (λ z. step_name z (number_of m.body i) ∷ vpath_of d top p) here
-        ∙ ap (λ z. key_text m (instance_key z) ∷ vpath_of d top p) (place_number m.body i o c.kind there c.is_kind),
+        ∙ ap (λ z. identifier_text m (instance_identifier z) ∷ vpath_of d top p) (place_number m.body i o c.kind there c.is_kind),
   )
 
   -- two paths of one name are one
@@ -174,17 +174,17 @@ module _ (d : Design) (x : Setting d) (top : Name) where
     go : Further p u m → Further r v n
         → ((a b : Module) → module_at d top p ≡ Some a → module_at d top r ≡ Some b → vpath_of d top p ≡ vpath_of d top r → p ≡ r) → u ∷ p ≡ v ∷ r
     go f g rest =
-        let both : key_text f.outer (instance_key f.place) ∷ vpath_of d top p ≡ key_text g.outer (instance_key g.place) ∷ vpath_of d top r =
+        let both : identifier_text f.outer (instance_identifier f.place) ∷ vpath_of d top p ≡ identifier_text g.outer (instance_identifier g.place) ∷ vpath_of d top r =
         sym (name_of_step u p m f) ∙ same ∙ name_of_step v r n g in
         let tails : vpath_of d top p ≡ vpath_of d top r = cc in
         let paths : p ≡ r = rest f.outer g.outer f.here g.here tails in
         let found : Some f.outer ≡ Some g.outer = sym f.here ∙ ap (module_at d top) paths ∙ g.here in
         let modules : f.outer ≡ g.outer = cc in
-        let heads : key_text f.outer (instance_key f.place) ≡ key_text g.outer (instance_key g.place) = cc in
-        let texts : key_text f.outer (instance_key f.place) ≡ key_text f.outer (instance_key g.place) = heads ∙ ap (λ y. key_text y (instance_key g.place)) (sym modules) in
-        let gin : In (instance_key g.place) (module_keys f.outer) = subst (λ y. In (instance_key g.place) (module_keys y)) (sym modules) (instance_in_keys g.outer g.place g.op g.there g.role) in
-        let keys : instance_key f.place ≡ instance_key g.place =
-        texts_apart f.outer (names_at_path p f.outer f.here) (instance_key f.place) (instance_key g.place) (instance_in_keys f.outer f.place f.op f.there f.role) gin texts in
+        let heads : identifier_text f.outer (instance_identifier f.place) ≡ identifier_text g.outer (instance_identifier g.place) = cc in
+        let texts : identifier_text f.outer (instance_identifier f.place) ≡ identifier_text f.outer (instance_identifier g.place) = heads ∙ ap (λ y. identifier_text y (instance_identifier g.place)) (sym modules) in
+        let gin : In (instance_identifier g.place) (module_identifiers f.outer) = subst (λ y. In (instance_identifier g.place) (module_identifiers y)) (sym modules) (instance_in_identifiers g.outer g.place g.op g.there g.emission) in
+        let identifiers : instance_identifier f.place ≡ instance_identifier g.place =
+        texts_apart f.outer (names_at_path p f.outer f.here) (instance_identifier f.place) (instance_identifier g.place) (instance_in_identifiers f.outer f.place f.op f.there f.emission) gin texts in
         let places : f.place ≡ g.place = cc in
         let numbers : u ≡ v = sym f.is_number ∙ ap₂ (λ (y : Module) i. number_of y.body i) modules places ∙ g.is_number in
         ap₂ (λ a b. a ∷ b) numbers paths
@@ -200,7 +200,7 @@ module _ (d : Design) (x : Setting d) (top : Name) where
     path_of (n ∷ q) = go (path_of q) where
       go : PathOf q → PathOf (n ∷ q)
       go (no_path none) = no_path (ap (λ z. bind z (λ (v : VModule). bind (find_instance v.items n) (λ (i : VInstance). find_vmodule (tree_of d) i.module_name))) none)
-      go (a_path p m here same) = by_key (key_of_name m n (module_keys m)) where
+      go (a_path p m here same) = by_identifier (identifier_of_name m n (module_identifiers m)) where
         at : vmodule_at (tree_of d) (symbol_name d top) q ≡ Some (vmodule d m)
         at = ap (vmodule_at (tree_of d) (symbol_name d top)) (sym same) ∙ vplace p m here
 
@@ -208,22 +208,22 @@ module _ (d : Design) (x : Setting d) (top : Name) where
         nowhere none = no_path (ap (λ z. bind z (λ (v : VModule). bind (find_instance v.items n) (λ (i : VInstance). find_vmodule (tree_of d) i.module_name))) at
             ∙ ap (λ z. bind z (λ (i : VInstance). find_vmodule (tree_of d) i.module_name)) none)
 
-        by_owner : (k : Key) → In k (module_keys m) → n ≡ key_text m k → Owner m k → PathOf (n ∷ q)
-        by_owner k within is (an_instance i o there role same_key) =
+        by_owner : (k : Identifier) → In k (module_identifiers m) → n ≡ identifier_text m k → Owner m k → PathOf (n ∷ q)
+        by_owner k within is (an_instance i o there emission same_identifier) =
             let s = symbol_at_path p m here in
-            let c = called_by_role d x s.0 m s.1 i o there role in
+            let c = called_by_emission d x s.0 m s.1 i o there emission in
             let inside = inside_instance p m here i o c there in
             a_path (number_of m.body i ∷ p) c.module_of inside.0
-            (inside.1 ∙ ap₂ (λ a b. a ∷ b) (ap (key_text m) (sym same_key) ∙ sym is) same)
-        by_owner k within is (a_port j y there same_key) =
-            nowhere (ap (find_instance (vitems d m)) is ∙ instance_under d m (names_at_path p m here) k within ∙ ap (instance_value d m) same_key)
-        by_owner k within is (a_net i o there role same_key) =
-            nowhere (ap (find_instance (vitems d m)) is ∙ instance_under d m (names_at_path p m here) k within ∙ ap (instance_value d m) same_key)
-        by_owner k within is (a_variable i o there role same_key) =
-            nowhere (ap (find_instance (vitems d m)) is ∙ instance_under d m (names_at_path p m here) k within ∙ ap (instance_value d m) same_key)
-        by_owner k within is (a_result i l o r there role found same_key) =
-            nowhere (ap (find_instance (vitems d m)) is ∙ instance_under d m (names_at_path p m here) k within ∙ ap (instance_value d m) same_key)
+            (inside.1 ∙ ap₂ (λ a b. a ∷ b) (ap (identifier_text m) (sym same_identifier) ∙ sym is) same)
+        by_owner k within is (a_port j y there same_identifier) =
+            nowhere (ap (find_instance (vitems d m)) is ∙ instance_under d m (names_at_path p m here) k within ∙ ap (instance_value d m) same_identifier)
+        by_owner k within is (a_net i o there emission same_identifier) =
+            nowhere (ap (find_instance (vitems d m)) is ∙ instance_under d m (names_at_path p m here) k within ∙ ap (instance_value d m) same_identifier)
+        by_owner k within is (a_variable i o there emission same_identifier) =
+            nowhere (ap (find_instance (vitems d m)) is ∙ instance_under d m (names_at_path p m here) k within ∙ ap (instance_value d m) same_identifier)
+        by_owner k within is (a_result i l o r there emission found same_identifier) =
+            nowhere (ap (find_instance (vitems d m)) is ∙ instance_under d m (names_at_path p m here) k within ∙ ap (instance_value d m) same_identifier)
 
-        by_key : ((k : Key) × In k (module_keys m) × (n ≡ key_text m k)) ⊎ ((k : Key) → In k (module_keys m) → n ≡ key_text m k → ⊥) → PathOf (n ∷ q)
-        by_key (inl h) = by_owner h.0 h.1 h.2 (owner_of m h.0 h.1)
-        by_key (inr never) = nowhere (no_instance_under d m (names_at_path p m here) n never)
+        by_identifier : ((k : Identifier) × In k (module_identifiers m) × (n ≡ identifier_text m k)) ⊎ ((k : Identifier) → In k (module_identifiers m) → n ≡ identifier_text m k → ⊥) → PathOf (n ∷ q)
+        by_identifier (inl h) = by_owner h.0 h.1 h.2 (owner_of m h.0 h.1)
+        by_identifier (inr never) = nowhere (no_instance_under d m (names_at_path p m here) n never)

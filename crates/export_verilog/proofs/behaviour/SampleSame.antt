@@ -18,7 +18,7 @@ use Rattle.hw_model.proofs.Samples.{operation}
 use Rattle.verilog_model.specs.Meaning.{tree_machine}
 use Rattle.verilog_expr.specs.Expressions.{value_width}
 use Rattle.verilog_expr.specs.Spilling.{spilled, height}
-use Rattle.export_verilog.specs.Keys.{module_keys}
+use Rattle.export_verilog.specs.Identifiers.{module_identifiers}
 use Rattle.export_verilog.specs.Exported.{symbol_name, tree_of}
 use Rattle.export_verilog.specs.Exportable.{IsClocked, IsExportableOp, IsExportableModule, IsExportable}
 use Rattle.export_verilog.proofs.text.Samples.{register_module}
@@ -218,9 +218,9 @@ clocks (result (suc zero) (suc k)) is = cc
 clocks (result (suc (suc zero)) k) is = cc
 clocks (result (suc (suc (suc i))) k) is = cc
 
-key_room : length (module_keys register_module) + 130 < 2 ^ 64
+identifier_room : length (module_identifiers register_module) + 130 < 2 ^ 64
 unfolding spilled height
-key_room = let e : length (module_keys register_module) ≡ 6 = refl in omega (arith, e)
+identifier_room = let e : length (module_identifiers register_module) ≡ 6 = refl in omega (arith, e)
 
 module_exportable : IsExportableModule register_module
 module_exportable = record {
@@ -229,7 +229,7 @@ module_exportable = record {
   narrow = narrow;
   narrow_ports = λ j p is. (each_port j p is).1;
   clocks = clocks;
-  room = key_room;
+  room = identifier_room;
 }
 
 pub register_is_exportable : IsExportable one_register

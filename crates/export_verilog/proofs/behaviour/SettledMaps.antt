@@ -17,23 +17,23 @@ use Rattle.hw_model.proofs.NetWidths.{value_widths}
 use Rattle.verilog_model.specs.Hierarchy.{VNet, vnet, drive, vmodule_at, width_at}
 use Rattle.verilog_model.specs.Meaning.{names_at, drive_value}
 use Rattle.verilog_expr.specs.Values.{HoldConstants}
-use Rattle.export_verilog.specs.Keys.{Key, role_of, module_keys, key_text, named}
-use Rattle.export_verilog.specs.Keys.Key.{port_key, value_key, instance_key}
-use Rattle.export_verilog.specs.Keys.Role.{net, variable, block}
+use Rattle.export_verilog.specs.Identifiers.{Identifier, emission_of, module_identifiers, identifier_text, named}
+use Rattle.export_verilog.specs.Identifiers.Identifier.{port_identifier, value_identifier, instance_identifier}
+use Rattle.export_verilog.specs.Identifiers.Emission.{net, variable, block}
 use Rattle.export_verilog.specs.Exported.{symbol_name, tree_of}
-use Rattle.export_verilog.proofs.names.KeysOf.{Owner, owner_of, port_in}
-use Rattle.export_verilog.proofs.names.KeysOf.Owner.{a_port, a_net, a_variable, an_instance, a_result}
-use Rattle.export_verilog.proofs.items.Lookups.{key_width}
+use Rattle.export_verilog.proofs.names.IdentifiersOf.{Owner, owner_of, port_in}
+use Rattle.export_verilog.proofs.names.IdentifiersOf.Owner.{a_port, a_net, a_variable, an_instance, a_result}
+use Rattle.export_verilog.proofs.items.Lookups.{identifier_width}
 use Rattle.export_verilog.proofs.items.Settings.{Setting, module_sound, first_result}
 use Rattle.export_verilog.proofs.behaviour.Sources.{made_from}
 use Rattle.export_verilog.proofs.items.Writable.{NamedAs, named_as, named_result, named_input}
 use Rattle.export_verilog.proofs.items.Writable.NamedAs.{by_port, by_value}
 use Rattle.export_verilog.proofs.behaviour.Places.{vpath_of}
-use Rattle.export_verilog.proofs.behaviour.Nets.{key_drive, width_here, drive_instance}
+use Rattle.export_verilog.proofs.behaviour.Nets.{identifier_drive, width_here, drive_instance}
 use Rattle.export_verilog.proofs.items.Operands.{output_ref_at}
 use Rattle.export_verilog.proofs.behaviour.NetValues.{evaluated_as, HaveWords, IsGood, symbol_there, found_there, port_width_is, own_named, own_absent, constant_form, ShowOutputs, output_agrees}
 use Rattle.export_verilog.proofs.behaviour.NetMaps.{worth, drives, IsTreeSettled, IsDesignSettled, unnamed_agrees, named_agrees, settled_given, tree_good, back, back_here, back_own, output_shown}
-use Rattle.export_verilog.proofs.behaviour.Owners.{shown_ref, input_shows, output_shows, to, to_key, by_owner_of}
+use Rattle.export_verilog.proofs.behaviour.Owners.{shown_ref, input_shows, output_shows, to, to_identifier, by_owner_of}
 
 module _ (d : Design) (x : Setting d) (top : Name) (inputs content : Word) (m0 : Module) (top_is : find_module d top ≡ Some m0) where
   pub heights : HasHeights d top
@@ -45,30 +45,30 @@ module _ (d : Design) (x : Setting d) (top : Name) (inputs content : Word) (m0 :
   abbrev from : (VNet → Word) → Net → Word
   from σ = back d x top inputs content m0 top_is σ
 
-  over_key : (ρ : Net → Word) (p : Path) (m : Module) → module_at d top p ≡ Some m → (k : Key) → In k (module_keys m) → over ρ (vnet (vpath_of d top p) (key_text m k)) ≡ ρ (at p (shown_ref d x top m0 top_is m k))
-  over_key ρ p m here k within = to_key d x top m0 top_is ρ p m here k within
+  over_identifier : (ρ : Net → Word) (p : Path) (m : Module) → module_at d top p ≡ Some m → (k : Identifier) → In k (module_identifiers m) → over ρ (vnet (vpath_of d top p) (identifier_text m k)) ≡ ρ (at p (shown_ref d x top m0 top_is m k))
+  over_identifier ρ p m here k within = to_identifier d x top m0 top_is ρ p m here k within
 
   -- what an instance's name stands for
-  instance_given : (σ : VNet → Word) (p : Path) (m : Module) (here : module_at d top p ≡ Some m) (i : ℕ) (o : Op) → slice_get m.body i ≡ Some o → role_of m.ports m.body i o ≡ block
-      → drives d x top inputs content m0 top_is σ p m (instance_key i) ≡ []
-  instance_given σ p m here i o there role = ap (drive_value (tree_of d) (symbol_name d top) inputs content σ 0) (drive_instance d x top p m here i o there role)
+  instance_given : (σ : VNet → Word) (p : Path) (m : Module) (here : module_at d top p ≡ Some m) (i : ℕ) (o : Op) → slice_get m.body i ≡ Some o → emission_of m.ports m.body i o ≡ block
+      → drives d x top inputs content m0 top_is σ p m (instance_identifier i) ≡ []
+  instance_given σ p m here i o there emission = ap (drive_value (tree_of d) (symbol_name d top) inputs content σ 0) (drive_instance d x top p m here i o there emission)
 
   module _ (ρ : Net → Word) (settled : IsDesignSettled d x top inputs content m0 top_is ρ) where
     typed_long : (p : Path) (m : Module) (r : Ref) (t : HwType) → module_at d top p ≡ Some m → type_in m.ports m.body r ≡ Some t → length (ρ (at p r)) ≡ width t
     typed_long p m r t here typed = value_widths d top x.ok.sound inputs content ρ heights settled p m r t here typed
 
     result_long : (p : Path) (m : Module) (i k : ℕ) (o : Op) (t : HwType) → module_at d top p ≡ Some m → slice_get m.body i ≡ Some o → result_type o k ≡ Some t
-        → length (ρ (at p (result i k))) ≡ key_width m (value_key i k)
+        → length (ρ (at p (result i k))) ≡ identifier_width m (value_identifier i k)
     result_long p m i k o t here there typed =
         typed_long p m (result i k) t here (ap (λ z. bind z (λ (o : Op). result_type o k)) there ∙ typed)
         ∙ sym (ap (λ z. width_of (bind z (λ (o : Op). result_type o k))) there ∙ ap width_of typed)
 
     over_words : HaveWords d x top inputs content (over ρ)
-    over_words p m here k within = ap length (over_key ρ p m here k within) ∙ go (owner_of m k within) where
-      moved : (l : Key) → k ≡ l → length (ρ (at p (shown_ref d x top m0 top_is m l))) ≡ key_width m l → length (ρ (at p (shown_ref d x top m0 top_is m k))) ≡ key_width m k
-      moved l same e = subst (λ z. length (ρ (at p (shown_ref d x top m0 top_is m z))) ≡ key_width m z) (sym same) e
+    over_words p m here k within = ap length (over_identifier ρ p m here k within) ∙ go (owner_of m k within) where
+      moved : (l : Identifier) → k ≡ l → length (ρ (at p (shown_ref d x top m0 top_is m l))) ≡ identifier_width m l → length (ρ (at p (shown_ref d x top m0 top_is m k))) ≡ identifier_width m k
+      moved l same e = subst (λ z. length (ρ (at p (shown_ref d x top m0 top_is m z))) ≡ identifier_width m z) (sym same) e
 
-      by_way : (j : ℕ) (y : Port) → slice_get m.ports j ≡ Some y → (b : Bool) → y.is_output ≡ b → length (ρ (at p (shown_ref d x top m0 top_is m (port_key j)))) ≡ key_width m (port_key j)
+      by_way : (j : ℕ) (y : Port) → slice_get m.ports j ≡ Some y → (b : Bool) → y.is_output ≡ b → length (ρ (at p (shown_ref d x top m0 top_is m (port_identifier j)))) ≡ identifier_width m (port_identifier j)
       by_way j y there true out =
           let o = output_ref_at d m (module_sound d x (symbol_there d x top inputs content p m here) m (found_there d x top inputs content p m here)) j y there out in
           ap (λ z. length (ρ (at p z))) (output_shows d x top m0 top_is m j y o.0 there out o.1) ∙ typed_long p m o.0 y.type here o.2
@@ -78,26 +78,26 @@ module _ (d : Design) (x : Setting d) (top : Name) (inputs content : Word) (m0 :
           ∙ typed_long p m (port j) y.type here (ap input_type there ∙ ap (λ b. cond b None (Some y.type)) inward)
           ∙ sym (port_width_is d x top inputs content p m here j y there)
 
-      first_long : (i : ℕ) (o : Op) → slice_get m.body i ≡ Some o → (role_of m.ports m.body i o ≡ net) ⊎ (role_of m.ports m.body i o ≡ variable) → length (ρ (at p (result i 0))) ≡ key_width m (value_key i 0)
-      first_long i o there role =
-          let h = first_result d x (symbol_there d x top inputs content p m here) m (found_there d x top inputs content p m here) i o there role in
+      first_long : (i : ℕ) (o : Op) → slice_get m.body i ≡ Some o → (emission_of m.ports m.body i o ≡ net) ⊎ (emission_of m.ports m.body i o ≡ variable) → length (ρ (at p (result i 0))) ≡ identifier_width m (value_identifier i 0)
+      first_long i o there emission =
+          let h = first_result d x (symbol_there d x top inputs content p m here) m (found_there d x top inputs content p m here) i o there emission in
           result_long p m i 0 o h.0.type here there (ap (λ rs. omap (λ (z : OpResult). z.type) (slice_get rs 0)) h.1)
 
-      go : Owner m k → length (ρ (at p (shown_ref d x top m0 top_is m k))) ≡ key_width m k
-      go (a_port j y there same) = moved (port_key j) same (by_way j y there y.is_output refl)
-      go (a_net i o there role same) = moved (value_key i 0) same (first_long i o there (inl role))
-      go (a_variable i o there role same) = moved (value_key i 0) same (first_long i o there (inr role))
-      go (an_instance i o there role same) = moved (instance_key i) same (ap length (settled (at p undefined)))
-      go (a_result i l o r there role found same) = moved (value_key i l) same (result_long p m i l o r.type here there (ap (omap (λ (z : OpResult). z.type)) found))
+      go : Owner m k → length (ρ (at p (shown_ref d x top m0 top_is m k))) ≡ identifier_width m k
+      go (a_port j y there same) = moved (port_identifier j) same (by_way j y there y.is_output refl)
+      go (a_net i o there emission same) = moved (value_identifier i 0) same (first_long i o there (inl emission))
+      go (a_variable i o there emission same) = moved (value_identifier i 0) same (first_long i o there (inr emission))
+      go (an_instance i o there emission same) = moved (instance_identifier i) same (ap length (settled (at p undefined)))
+      go (a_result i l o r there emission found same) = moved (value_identifier i l) same (result_long p m i l o r.type here there (ap (omap (λ (z : OpResult). z.type)) found))
 
     -- a name shows its value
     pub name_shows : (p : Path) (m : Module) (here : module_at d top p ≡ Some m) (r : Ref) (n : Name)
         → NamedAs d x (symbol_there d x top inputs content p m here) m (found_there d x top inputs content p m here) n r → over ρ (vnet (vpath_of d top p) n) ≡ ρ (at p r)
     name_shows p m here r n (by_port j y there inward same called) =
-        ap (λ w. over ρ (vnet (vpath_of d top p) w)) called ∙ over_key ρ p m here (port_key j) (port_in m j y there)
+        ap (λ w. over ρ (vnet (vpath_of d top p) w)) called ∙ over_identifier ρ p m here (port_identifier j) (port_in m j y there)
         ∙ ap (λ z. ρ (at p z)) (input_shows d x top m0 top_is m j y there inward ∙ sym same)
     name_shows p m here r n (by_value i k within same called) =
-        ap (λ w. over ρ (vnet (vpath_of d top p) w)) called ∙ over_key ρ p m here (value_key i k) within ∙ ap (λ z. ρ (at p z)) (sym same)
+        ap (λ w. over ρ (vnet (vpath_of d top p) w)) called ∙ over_identifier ρ p m here (value_identifier i k) within ∙ ap (λ z. ρ (at p z)) (sym same)
 
     over_constants : (p : Path) (m : Module) → module_at d top p ≡ Some m → HoldConstants (named m) m.body (names_at (vpath_of d top p) (over ρ))
     over_constants p m here i o z t n there kind typed called =
@@ -129,20 +129,20 @@ module _ (d : Design) (x : Setting d) (top : Name) (inputs content : Word) (m0 :
     own_is p m here r = own_at (at p r) m here
 
     shows : ShowOutputs d x top inputs content (over ρ) over_good ρ
-    shows p m here j y r there out gives = over_key ρ p m here (port_key j) (port_in m j y there) ∙ ap (λ z. ρ (at p z)) (output_shows d x top m0 top_is m j y r there out gives)
+    shows p m here j y r there out gives = over_identifier ρ p m here (port_identifier j) (port_in m j y there) ∙ ap (λ z. ρ (at p z)) (output_shows d x top m0 top_is m j y r there out gives)
 
-    over_given : (p : Path) (m : Module) (here : module_at d top p ≡ Some m) (k : Key) → In k (module_keys m)
+    over_given : (p : Path) (m : Module) (here : module_at d top p ≡ Some m) (k : Identifier) → In k (module_identifiers m)
         → ρ (at p (shown_ref d x top m0 top_is m k)) ≡ drives d x top inputs content m0 top_is (over ρ) p m k
     over_given p m here k within = go (owner_of m k within) where
-      by_name : (r : Ref) (n : Name) → n ≡ key_text m k → shown_ref d x top m0 top_is m k ≡ r
+      by_name : (r : Ref) (n : Name) → n ≡ identifier_text m k → shown_ref d x top m0 top_is m k ≡ r
           → NamedAs d x (symbol_there d x top inputs content p m here) m (found_there d x top inputs content p m here) n r
           → ρ (at p (shown_ref d x top m0 top_is m k)) ≡ drives d x top inputs content m0 top_is (over ρ) p m k
       by_name r n is same called =
           let h = named_agrees d x top inputs content m0 top_is (over ρ) over_good ρ own_is shows p m here r n called in
-          let keys : k ≡ h.0 = Rattle.export_verilog.proofs.names.KeyNames.texts_apart m (Rattle.export_verilog.proofs.behaviour.Places.names_at_path d x top p m here) k h.0 within h.1 (sym is ∙ h.2) in
-          ap (λ z. ρ (at p z)) same ∙ settled (at p r) ∙ sym h.3 ∙ ap (drives d x top inputs content m0 top_is (over ρ) p m) (sym keys)
+          let identifiers : k ≡ h.0 = Rattle.export_verilog.proofs.names.IdentifierNames.texts_apart m (Rattle.export_verilog.proofs.behaviour.Places.names_at_path d x top p m here) k h.0 within h.1 (sym is ∙ h.2) in
+          ap (λ z. ρ (at p z)) same ∙ settled (at p r) ∙ sym h.3 ∙ ap (drives d x top inputs content m0 top_is (over ρ) p m) (sym identifiers)
 
-      by_way : (j : ℕ) (y : Port) → slice_get m.ports j ≡ Some y → k ≡ port_key j → (b : Bool) → y.is_output ≡ b
+      by_way : (j : ℕ) (y : Port) → slice_get m.ports j ≡ Some y → k ≡ port_identifier j → (b : Bool) → y.is_output ≡ b
           → ρ (at p (shown_ref d x top m0 top_is m k)) ≡ drives d x top inputs content m0 top_is (over ρ) p m k
       by_way j y there same true out =
           let o = output_ref_at d m (module_sound d x (symbol_there d x top inputs content p m here) m (found_there d x top inputs content p m here)) j y there out in
@@ -150,42 +150,42 @@ module _ (d : Design) (x : Setting d) (top : Name) (inputs content : Word) (m0 :
           ∙ sym (own_is p m here o.0) ∙ sym (output_agrees d x top inputs content (over ρ) over_good ρ p m here j y o.0 there out o.1)
           ∙ ap (drives d x top inputs content m0 top_is (over ρ) p m) (sym same)
       by_way j y there same false inward =
-          by_name (port j) (key_text m (port_key j)) (ap (key_text m) (sym same))
+          by_name (port j) (identifier_text m (port_identifier j)) (ap (identifier_text m) (sym same))
           (ap (shown_ref d x top m0 top_is m) same ∙ input_shows d x top m0 top_is m j y there inward)
           (by_port j y there inward refl refl)
 
-      by_result : (i l : ℕ) → k ≡ value_key i l → ρ (at p (shown_ref d x top m0 top_is m k)) ≡ drives d x top inputs content m0 top_is (over ρ) p m k
-      by_result i l same = by_name (result i l) (key_text m (value_key i l)) (ap (key_text m) (sym same)) (ap (shown_ref d x top m0 top_is m) same)
-          (by_value i l (subst (λ z. In z (module_keys m)) same within) refl refl)
+      by_result : (i l : ℕ) → k ≡ value_identifier i l → ρ (at p (shown_ref d x top m0 top_is m k)) ≡ drives d x top inputs content m0 top_is (over ρ) p m k
+      by_result i l same = by_name (result i l) (identifier_text m (value_identifier i l)) (ap (identifier_text m) (sym same)) (ap (shown_ref d x top m0 top_is m) same)
+          (by_value i l (subst (λ z. In z (module_identifiers m)) same within) refl refl)
 
       go : Owner m k → ρ (at p (shown_ref d x top m0 top_is m k)) ≡ drives d x top inputs content m0 top_is (over ρ) p m k
       go (a_port j y there same) = by_way j y there same y.is_output refl
-      go (a_net i o there role same) = by_result i 0 same
-      go (a_variable i o there role same) = by_result i 0 same
-      go (an_instance i o there role same) =
+      go (a_net i o there emission same) = by_result i 0 same
+      go (a_variable i o there emission same) = by_result i 0 same
+      go (an_instance i o there emission same) =
           ap (λ z. ρ (at p (shown_ref d x top m0 top_is m z))) same ∙ settled (at p undefined)
-          ∙ sym (instance_given (over ρ) p m here i o there role) ∙ ap (drives d x top inputs content m0 top_is (over ρ) p m) (sym same)
-      go (a_result i l o r there role found same) = by_result i l same
+          ∙ sym (instance_given (over ρ) p m here i o there emission) ∙ ap (drives d x top inputs content m0 top_is (over ρ) p m) (sym same)
+      go (a_result i l o r there emission found same) = by_result i l same
 
     pub over_settled : IsTreeSettled d x top inputs content m0 top_is (over ρ)
     over_settled = by_owner_of d x top m0 top_is
         (λ v. over ρ v ≡ drive_value (tree_of d) (symbol_name d top) inputs content (over ρ) (width_at (vmodule_at (tree_of d) (symbol_name d top) v.path) v.name) (drive (tree_of d) (symbol_name d top) v))
-        (λ p m here k within. over_key ρ p m here k within ∙ over_given p m here k within
-        ∙ sym (ap (λ w. drive_value (tree_of d) (symbol_name d top) inputs content (over ρ) w (key_drive d x top p m k)) (width_here d x top p m here k within)))
+        (λ p m here k within. over_identifier ρ p m here k within ∙ over_given p m here k within
+        ∙ sym (ap (λ w. drive_value (tree_of d) (symbol_name d top) inputs content (over ρ) w (identifier_drive d x top p m k)) (width_here d x top p m here k within)))
         (λ v none free. free ρ ∙ sym (ap (drive_value (tree_of d) (symbol_name d top) inputs content (over ρ) (width_at (vmodule_at (tree_of d) (symbol_name d top) v.path) v.name)) none))
 
   -- ---- each settled map of the tree comes from one of the design
 
   module _ (σ : VNet → Word) (settled : IsTreeSettled d x top inputs content m0 top_is σ) where
-    shown_again : (p : Path) (m : Module) (here : module_at d top p ≡ Some m) (k : Key) → In k (module_keys m)
-        → from σ (at p (shown_ref d x top m0 top_is m k)) ≡ σ (vnet (vpath_of d top p) (key_text m k))
+    shown_again : (p : Path) (m : Module) (here : module_at d top p ≡ Some m) (k : Identifier) → In k (module_identifiers m)
+        → from σ (at p (shown_ref d x top m0 top_is m k)) ≡ σ (vnet (vpath_of d top p) (identifier_text m k))
     shown_again p m here k within = back_here d x top inputs content m0 top_is σ p m (shown_ref d x top m0 top_is m k) here ∙ go (owner_of m k within) where
-      moved : (l : Key) → k ≡ l → worth d x top inputs content m0 top_is σ p m (shown_ref d x top m0 top_is m l) ≡ σ (vnet (vpath_of d top p) (key_text m l))
-          → worth d x top inputs content m0 top_is σ p m (shown_ref d x top m0 top_is m k) ≡ σ (vnet (vpath_of d top p) (key_text m k))
-      moved l same e = subst (λ z. worth d x top inputs content m0 top_is σ p m (shown_ref d x top m0 top_is m z) ≡ σ (vnet (vpath_of d top p) (key_text m z))) (sym same) e
+      moved : (l : Identifier) → k ≡ l → worth d x top inputs content m0 top_is σ p m (shown_ref d x top m0 top_is m l) ≡ σ (vnet (vpath_of d top p) (identifier_text m l))
+          → worth d x top inputs content m0 top_is σ p m (shown_ref d x top m0 top_is m k) ≡ σ (vnet (vpath_of d top p) (identifier_text m k))
+      moved l same e = subst (λ z. worth d x top inputs content m0 top_is σ p m (shown_ref d x top m0 top_is m z) ≡ σ (vnet (vpath_of d top p) (identifier_text m z))) (sym same) e
 
       by_way : (j : ℕ) (y : Port) → slice_get m.ports j ≡ Some y → (b : Bool) → y.is_output ≡ b
-          → worth d x top inputs content m0 top_is σ p m (shown_ref d x top m0 top_is m (port_key j)) ≡ σ (vnet (vpath_of d top p) (key_text m (port_key j)))
+          → worth d x top inputs content m0 top_is σ p m (shown_ref d x top m0 top_is m (port_identifier j)) ≡ σ (vnet (vpath_of d top p) (identifier_text m (port_identifier j)))
       by_way j y there true out =
           let o = output_ref_at d m (module_sound d x (symbol_there d x top inputs content p m here) m (found_there d x top inputs content p m here)) j y there out in
           ap (worth d x top inputs content m0 top_is σ p m) (output_shows d x top m0 top_is m j y o.0 there out o.1)
@@ -193,26 +193,26 @@ module _ (d : Design) (x : Setting d) (top : Name) (inputs content : Word) (m0 :
           ∙ sym (output_shown d x top inputs content m0 top_is σ settled p m here j y o.0 there out o.1)
       by_way j y there false inward =
           ap (worth d x top inputs content m0 top_is σ p m) (input_shows d x top m0 top_is m j y there inward)
-          ∙ own_named d x top inputs content p m here σ (tree_good d x top inputs content m0 top_is σ settled).words (port j) (key_text m (port_key j))
+          ∙ own_named d x top inputs content p m here σ (tree_good d x top inputs content m0 top_is σ settled).words (port j) (identifier_text m (port_identifier j))
           (named_input d x (symbol_there d x top inputs content p m here) m (found_there d x top inputs content p m here) j y there inward)
 
-      by_result : (i l : ℕ) → k ≡ value_key i l → worth d x top inputs content m0 top_is σ p m (shown_ref d x top m0 top_is m k) ≡ σ (vnet (vpath_of d top p) (key_text m k))
-      by_result i l same = moved (value_key i l) same
-          (own_named d x top inputs content p m here σ (tree_good d x top inputs content m0 top_is σ settled).words (result i l) (key_text m (value_key i l))
-          (named_result d x (symbol_there d x top inputs content p m here) m (found_there d x top inputs content p m here) i l (subst (λ z. In z (module_keys m)) same within)))
+      by_result : (i l : ℕ) → k ≡ value_identifier i l → worth d x top inputs content m0 top_is σ p m (shown_ref d x top m0 top_is m k) ≡ σ (vnet (vpath_of d top p) (identifier_text m k))
+      by_result i l same = moved (value_identifier i l) same
+          (own_named d x top inputs content p m here σ (tree_good d x top inputs content m0 top_is σ settled).words (result i l) (identifier_text m (value_identifier i l))
+          (named_result d x (symbol_there d x top inputs content p m here) m (found_there d x top inputs content p m here) i l (subst (λ z. In z (module_identifiers m)) same within)))
 
-      go : Owner m k → worth d x top inputs content m0 top_is σ p m (shown_ref d x top m0 top_is m k) ≡ σ (vnet (vpath_of d top p) (key_text m k))
-      go (a_port j y there same) = moved (port_key j) same (by_way j y there y.is_output refl)
-      go (a_net i o there role same) = by_result i 0 same
-      go (a_variable i o there role same) = by_result i 0 same
-      go (an_instance i o there role same) = moved (instance_key i) same
+      go : Owner m k → worth d x top inputs content m0 top_is σ p m (shown_ref d x top m0 top_is m k) ≡ σ (vnet (vpath_of d top p) (identifier_text m k))
+      go (a_port j y there same) = moved (port_identifier j) same (by_way j y there y.is_output refl)
+      go (a_net i o there emission same) = by_result i 0 same
+      go (a_variable i o there emission same) = by_result i 0 same
+      go (an_instance i o there emission same) = moved (instance_identifier i) same
           (own_absent d x top inputs content p m here σ (tree_good d x top inputs content m0 top_is σ settled).words undefined refl refl
-          ∙ sym (instance_given σ p m here i o there role)
-          ∙ sym (settled_given d x top inputs content m0 top_is σ settled p m here (instance_key i) (subst (λ z. In z (module_keys m)) same within)))
-      go (a_result i l o r there role found same) = by_result i l same
+          ∙ sym (instance_given σ p m here i o there emission)
+          ∙ sym (settled_given d x top inputs content m0 top_is σ settled p m here (instance_identifier i) (subst (λ z. In z (module_identifiers m)) same within)))
+      go (a_result i l o r there emission found same) = by_result i l same
 
     pub round : (v : VNet) → over (from σ) v ≡ σ v
     round = by_owner_of d x top m0 top_is (λ v. over (from σ) v ≡ σ v)
-        (λ p m here k within. over_key (from σ) p m here k within ∙ shown_again p m here k within)
+        (λ p m here k within. over_identifier (from σ) p m here k within ∙ shown_again p m here k within)
         (λ v none free. free (from σ)
         ∙ sym (settled v ∙ ap (drive_value (tree_of d) (symbol_name d top) inputs content σ (width_at (vmodule_at (tree_of d) (symbol_name d top) v.path) v.name)) none))

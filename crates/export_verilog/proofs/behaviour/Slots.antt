@@ -21,14 +21,14 @@ use Rattle.verilog_model.specs.Meaning.{names_at, load_value, holds, block_value
 use Rattle.verilog_expr.specs.Spilling.{is_wire_kind, spilled}
 use Rattle.verilog_expr.specs.Values.{HasBits}
 use Rattle.verilog_expr.proofs.Assigned.{assigned_same}
-use Rattle.export_verilog.specs.Keys.{Role, each, role_of, key_text, named, name_or_nothing}
-use Rattle.export_verilog.specs.Keys.Key.{port_key, value_key, instance_key}
-use Rattle.export_verilog.specs.Keys.Role.{hidden, net, variable, block}
+use Rattle.export_verilog.specs.Identifiers.{Emission, each, emission_of, identifier_text, named, name_or_nothing}
+use Rattle.export_verilog.specs.Identifiers.Identifier.{port_identifier, value_identifier, instance_identifier}
+use Rattle.export_verilog.specs.Identifiers.Emission.{hidden, net, variable, block}
 use Rattle.export_verilog.specs.Exportable.{IsClocked}
 use Rattle.export_verilog.specs.Exported.{symbol_name, expression, result_wires, declared_as, declares, loads, block_of, always_of, instance_of, stated_as, states, output_assigns, expr_or_none, others, vitems, vmodule, tree_of}
-use Rattle.export_verilog.proofs.names.KeysOf.{role_of_register, role_of_instance, role_of_output, role_of_made}
+use Rattle.export_verilog.proofs.names.IdentifiersOf.{emission_of_register, emission_of_instance, emission_of_output, emission_of_made}
 use Rattle.export_verilog.proofs.names.Symbols.{vmodule_found}
-use Rattle.export_verilog.proofs.items.Settings.{Setting, module_ok, called_by_role, first_result}
+use Rattle.export_verilog.proofs.items.Settings.{Setting, module_ok, called_by_emission, first_result}
 use Rattle.export_verilog.proofs.items.Registers.{AreOperands, typed_register, register_of}
 use Rattle.export_verilog.proofs.items.Drives.{block_name}
 use Rattle.export_verilog.proofs.behaviour.Places.{number_of, vpath_of, symbol_at_path, inside_instance}
@@ -52,7 +52,7 @@ module _ (f : VPath → Name → List VSlot) (q : VPath) (v : VModule) where
   none_in_wires m i k [] = refl
   none_in_wires m i k (r ∷ rs) = none_in_wires m i (suc k) rs
 
-  none_declared : (m : Module) (i : ℕ) (o : Op) (r : Role) → items_registers f q v (declared_as m i o r) ≡ []
+  none_declared : (m : Module) (i : ℕ) (o : Op) (r : Emission) → items_registers f q v (declared_as m i o r) ≡ []
   none_declared m i o hidden = refl
   none_declared m i o net = refl
   none_declared m i o variable = refl
@@ -61,13 +61,13 @@ module _ (f : VPath → Name → List VSlot) (q : VPath) (v : VModule) where
   none_in_declares : (m : Module) (i : ℕ) (os : List Op) → items_registers f q v (each (declares m) i os) ≡ []
   none_in_declares m i [] = refl
   none_in_declares m i (o ∷ os) = registers-append (declares m i o) (each (declares m) (suc i) os)
-      ∙ ap₂ (λ a b. a ++ b) (none_declared m i o (role_of m.ports m.body i o)) (none_in_declares m (suc i) os)
+      ∙ ap₂ (λ a b. a ++ b) (none_declared m i o (emission_of m.ports m.body i o)) (none_in_declares m (suc i) os)
 
   none_in_outputs : (m : Module) (j : ℕ) (ps : List Port) (rs : List Ref) → items_registers f q v (output_assigns m j ps rs) ≡ []
   none_in_outputs m j [] rs = refl
   none_in_outputs m j (p ∷ ps) rs = go p.is_output (none_in_outputs m (suc j) ps (others rs)) (none_in_outputs m (suc j) ps rs) where
     go : (b : Bool) → items_registers f q v (output_assigns m (suc j) ps (others rs)) ≡ [] → items_registers f q v (output_assigns m (suc j) ps rs) ≡ []
-        → items_registers f q v (cond b (assign (key_text m (port_key j)) (expr_or_none (expression m) rs) ∷ output_assigns m (suc j) ps (others rs)) (output_assigns m (suc j) ps rs)) ≡ []
+        → items_registers f q v (cond b (assign (identifier_text m (port_identifier j)) (expr_or_none (expression m) rs) ∷ output_assigns m (suc j) ps (others rs)) (output_assigns m (suc j) ps rs)) ≡ []
     go true first second = first
     go false first second = second
 
@@ -93,7 +93,7 @@ module _ (d : Design) (x : Setting d) (top : Name) where
     path = q;
     in_module = vmodule d m;
     clock = name_or_nothing (named m r.clock);
-    block = block_of (expression m) (key_text m (value_key i 0)) r.next r.enable r.reset;
+    block = block_of (expression m) (identifier_text m (value_identifier i 0)) r.next r.enable r.reset;
   }
 
   pub record IsSlot (s : Slot) (v : VSlot) : Type 0 where
@@ -101,7 +101,7 @@ module _ (d : Design) (x : Setting d) (top : Name) where
     pub here : module_at d top s.path ≡ Some m
     pub place : ℕ
     pub there : slice_get m.body place ≡ Some s.op
-    pub role : role_of m.ports m.body place s.op ≡ variable
+    pub emission : emission_of m.ports m.body place s.op ≡ variable
     pub parts : Register
     pub is_parts : register_in s.op ≡ Some parts
     pub same : v ≡ vslot (vpath_of d top s.path) m place parts
@@ -126,9 +126,9 @@ module _ (d : Design) (x : Setting d) (top : Name) where
 
     op_slots : (i : ℕ) (o : Op) → slice_get m.body i ≡ Some o → AreSlots (op_registers f p (number_of m.body i) o) (items_of (states d m i o))
     op_slots i o there = by_sort (sort_of o.kind) where
-      from_role : (r : Role) → role_of m.ports m.body i o ≡ r → (ss : List Slot) → op_registers f p (number_of m.body i) o ≡ ss → AreSlots ss (items_of (stated_as d m i o r))
+      from_emission : (r : Emission) → emission_of m.ports m.body i o ≡ r → (ss : List Slot) → op_registers f p (number_of m.body i) o ≡ ss → AreSlots ss (items_of (stated_as d m i o r))
           → AreSlots (op_registers f p (number_of m.body i) o) (items_of (states d m i o))
-      from_role r role ss regs are = subst (λ z. AreSlots z (items_of (states d m i o))) (sym regs) (subst (λ z. AreSlots ss (items_of (stated_as d m i o z))) (sym role) are)
+      from_emission r emission ss regs are = subst (λ z. AreSlots z (items_of (states d m i o))) (sym regs) (subst (λ z. AreSlots ss (items_of (stated_as d m i o z))) (sym emission) are)
 
       no_registers : register_form o.kind ≡ None → instance_in o.kind ≡ None → op_registers f p (number_of m.body i) o ≡ []
       no_registers r n = ap (λ z. cond (is_some z) (record { path = p; op = o } ∷ []) (instance_registers f p (number_of m.body i) (instance_in o.kind))) r ∙ ap (instance_registers f p (number_of m.body i)) n
@@ -140,26 +140,26 @@ module _ (d : Design) (x : Setting d) (top : Name) where
 
       by_sort : Sort o.kind → AreSlots (op_registers f p (number_of m.body i) o) (items_of (states d m i o))
       by_sort (a_register h r n u) =
-          let role = role_of_register m.ports m.body i o h r in
-          let parts = register_of d x s m is i o there role in
-          from_role variable role (record { path = p; op = o } ∷ [])
+          let emission = emission_of_register m.ports m.body i o h r in
+          let parts = register_of d x s m is i o there emission in
+          from_emission variable emission (record { path = p; op = o } ∷ [])
           (ap (λ z. cond (is_some z) (record { path = p; op = o } ∷ []) (instance_registers f p (number_of m.body i) (instance_in o.kind))) r)
-          (subst (λ z. AreSlots (record { path = p; op = o } ∷ []) (items_of (always_of m (key_text m (value_key i 0)) z))) (sym parts.1)
-          (record { m = m; here = here; place = i; there = there; role = role; parts = parts.0; is_parts = parts.1; same = refl }, tt))
+          (subst (λ z. AreSlots (record { path = p; op = o } ∷ []) (items_of (always_of m (identifier_text m (value_identifier i 0)) z))) (sym parts.1)
+          (record { m = m; here = here; place = i; there = there; emission = emission; parts = parts.0; is_parts = parts.1; same = refl }, tt))
       by_sort (is_an_instance k r n u) =
-          let role = role_of_instance m.ports m.body i o k r n in
-          let c = called_by_role d x s m is i o there role in
+          let emission = emission_of_instance m.ports m.body i o k r n in
+          let c = called_by_emission d x s m is i o there emission in
           let inside = inside_instance d x top p m here i o c there in
-          let are : AreSlots (f (number_of m.body i ∷ p) c.kind.symbol) (g (key_text m (instance_key i) ∷ vpath_of d top p) (symbol_name d c.kind.symbol)) =
+          let are : AreSlots (f (number_of m.body i ∷ p) c.kind.symbol) (g (identifier_text m (instance_identifier i) ∷ vpath_of d top p) (symbol_name d c.kind.symbol)) =
           subst (λ q. AreSlots (f (number_of m.body i ∷ p) c.kind.symbol) (g q (symbol_name d c.kind.symbol))) inside.1
           (inner (number_of m.body i ∷ p) c.kind.symbol c.module_of inside.0 c.there) in
-          from_role block role (f (number_of m.body i ∷ p) c.kind.symbol)
+          from_emission block emission (f (number_of m.body i ∷ p) c.kind.symbol)
           (ap (λ z. cond (is_some z) (record { path = p; op = o } ∷ []) (instance_registers f p (number_of m.body i) (instance_in o.kind))) r ∙ ap (instance_registers f p (number_of m.body i)) c.is_kind)
           (subst (λ z. AreSlots (f (number_of m.body i ∷ p) c.kind.symbol) (items_of (instance_of d m i o z))) (sym c.is_kind)
-          (subst (AreSlots (f (number_of m.body i ∷ p) c.kind.symbol)) (sym (append-nil (g (key_text m (instance_key i) ∷ vpath_of d top p) (symbol_name d c.kind.symbol)))) are))
-      by_sort (an_output r n u) = from_role hidden (role_of_output m.ports m.body i o r n u) [] (no_registers r n) tt
+          (subst (AreSlots (f (number_of m.body i ∷ p) c.kind.symbol)) (sym (append-nil (g (identifier_text m (instance_identifier i) ∷ vpath_of d top p) (symbol_name d c.kind.symbol)))) are))
+      by_sort (an_output r n u) = from_emission hidden (emission_of_output m.ports m.body i o r n u) [] (no_registers r n) tt
       by_sort (a_made r n u) =
-          from_role (cond (is_wire_kind o.kind) net (cond (spilled m.ports m.body (result i 0)) net hidden)) (role_of_made m.ports m.body i o r n u) [] (no_registers r n)
+          from_emission (cond (is_wire_kind o.kind) net (cond (spilled m.ports m.body (result i 0)) net hidden)) (emission_of_made m.ports m.body i o r n u) [] (no_registers r n)
           (subst (AreSlots []) (sym (none_made (is_wire_kind o.kind) (spilled m.ports m.body (result i 0)))) tt)
 
     body_slots : (j : ℕ) (os : List Op) → ((a : ℕ) (o : Op) → slice_get os a ≡ Some o → slice_get m.body (j + a) ≡ Some o) → (u : ℕ) → u ≡ number_of m.body j
@@ -230,23 +230,23 @@ module _ (d : Design) (x : Setting d) (top : Name) (inputs content : Word) (m0 :
     holds_is r typed = ap is_true (own_is d x top inputs content m0 top_is ρ settled p m here r) ∙ high_of_one (ρ (at p r)) (typed_length r (int 1) typed)
 
     block_is : (i : ℕ) (t : HwType) (g : Register) → AreOperands (type_in m.ports m.body) t g → (old : Word)
-        → block_value (vmodule d m) (names_at (vpath_of d top p) over) (width t) old (block_of (expression m) (key_text m (value_key i 0)) g.next g.enable g.reset)
+        → block_value (vmodule d m) (names_at (vpath_of d top p) over) (width t) old (block_of (expression m) (identifier_text m (value_identifier i 0)) g.next g.enable g.reset)
         ≡ reset g.reset (λ r. ρ (at p r)) (value_if_enabled g.enable (λ r. ρ (at p r)) old (ρ (at p g.next)))
     block_is i t g typed old = go g.enable refl g.reset refl where
-      next_is : load_value (vmodule d m) (names_at (vpath_of d top p) over) (width t) (loads (key_text m (value_key i 0)) (expression m g.next)) ≡ ρ (at p g.next)
-      next_is = load_is (width t) (key_text m (value_key i 0)) g.next t typed.next refl
+      next_is : load_value (vmodule d m) (names_at (vpath_of d top p) over) (width t) (loads (identifier_text m (value_identifier i 0)) (expression m g.next)) ≡ ρ (at p g.next)
+      next_is = load_is (width t) (identifier_text m (value_identifier i 0)) g.next t typed.next refl
 
-      reset_is : (b : ResetBy) → g.reset ≡ Some b → load_value (vmodule d m) (names_at (vpath_of d top p) over) (width t) (loads (key_text m (value_key i 0)) (expression m b.value)) ≡ ρ (at p b.value)
-      reset_is b is = load_is (width t) (key_text m (value_key i 0)) b.value t (typed.value b is) refl
+      reset_is : (b : ResetBy) → g.reset ≡ Some b → load_value (vmodule d m) (names_at (vpath_of d top p) over) (width t) (loads (identifier_text m (value_identifier i 0)) (expression m b.value)) ≡ ρ (at p b.value)
+      reset_is b is = load_is (width t) (identifier_text m (value_identifier i 0)) b.value t (typed.value b is) refl
 
       go : (e : Option Ref) → g.enable ≡ e → (f : Option ResetBy) → g.reset ≡ f
-          → block_value (vmodule d m) (names_at (vpath_of d top p) over) (width t) old (block_of (expression m) (key_text m (value_key i 0)) g.next e f)
+          → block_value (vmodule d m) (names_at (vpath_of d top p) over) (width t) old (block_of (expression m) (identifier_text m (value_identifier i 0)) g.next e f)
           ≡ reset f (λ r. ρ (at p r)) (value_if_enabled e (λ r. ρ (at p r)) old (ρ (at p g.next)))
       go None ee None fe = next_is
       go (Some e) ee None fe = ap₂ (λ b w. cond b w old) (holds_is e (typed.enable e ee)) next_is
       go None ee (Some f) fe = ap₂ (λ b (w : Word × Word). cond b w.0 w.1) (holds_is f.signal (typed.signal f fe)) (ap₂ (λ v w. (v, w)) (reset_is f fe) next_is)
       go (Some e) ee (Some f) fe =
-          ap₂ (λ b v. cond b v (cond (holds (vmodule d m) (names_at (vpath_of d top p) over) (expression m e)) (load_value (vmodule d m) (names_at (vpath_of d top p) over) (width t) (loads (key_text m (value_key i 0)) (expression m g.next))) old))
+          ap₂ (λ b v. cond b v (cond (holds (vmodule d m) (names_at (vpath_of d top p) over) (expression m e)) (load_value (vmodule d m) (names_at (vpath_of d top p) over) (width t) (loads (identifier_text m (value_identifier i 0)) (expression m g.next))) old))
           (holds_is f.signal (typed.signal f fe)) (reset_is f fe)
           ∙ ap₂ (λ b v. cond (is_high (ρ (at p f.signal))) (ρ (at p f.value)) (cond b v old)) (holds_is e (typed.enable e ee)) next_is
 
@@ -255,22 +255,22 @@ module _ (d : Design) (x : Setting d) (top : Name) (inputs content : Word) (m0 :
         → low_bits 1 (over (vnet (vpath_of d top p) (name_or_nothing (named m g.clock)))) ≡ ρ (at p g.clock)
     clock_is i o g there is typed =
         let c : IsClocked m.ports g = ((module_ok d x (symbol_there d x top inputs content p m here) m (found_there d x top inputs content p m here)).ops i o there).clocked g is in
-        let called : named m g.clock ≡ Some (key_text m (port_key c.number)) =
+        let called : named m g.clock ≡ Some (identifier_text m (port_identifier c.number)) =
         ap (named m) c.is_port ∙ named_input d x (symbol_there d x top inputs content p m here) m (found_there d x top inputs content p m here) c.number c.clock c.there c.input in
         ap (λ n. low_bits 1 (over (vnet (vpath_of d top p) (name_or_nothing n)))) called
-        ∙ ap (low_bits 1) (name_shows d x top inputs content m0 top_is ρ settled p m here g.clock (key_text m (port_key c.number)) (by_port c.number c.clock c.there c.input c.is_port refl))
+        ∙ ap (low_bits 1) (name_shows d x top inputs content m0 top_is ρ settled p m here g.clock (identifier_text m (port_identifier c.number)) (by_port c.number c.clock c.there c.input c.is_port refl))
         ∙ low_all 1 (ρ (at p g.clock)) (typed_length g.clock clock typed)
 
   slot_width_is : (s : Slot) (v : VSlot) → IsSlot d x top s v → slot_width v ≡ held_width s.op
   slot_width_is s v is = let h = symbol_at_path d x top s.path is.m is.here in
-      ap slot_width is.same ∙ ap (width_in (vmodule d is.m)) (block_name d x h.0 is.m h.1 top [] is.place is.parts) ∙ variable_width d x h.0 is.m h.1 is.place s.op is.there is.role
+      ap slot_width is.same ∙ ap (width_in (vmodule d is.m)) (block_name d x h.0 is.m h.1 top [] is.place is.parts) ∙ variable_width d x h.0 is.m h.1 is.place s.op is.there is.emission
 
   slot_is : (s : Slot) (v : VSlot) → IsSlot d x top s v → (old : Word) → slot_value over (held_width s.op) old v ≡ next_value (register_in s.op) (λ r. ρ (at s.path r)) old
   slot_is s v is old =
       let h = symbol_at_path d x top s.path is.m is.here in
-      let r = first_result d x h.0 is.m h.1 is.place s.op is.there (inr is.role) in
+      let r = first_result d x h.0 is.m h.1 is.place s.op is.there (inr is.emission) in
       let typed : result_type s.op 0 ≡ Some r.0.type = ap (λ rs. omap (λ (z : OpResult). z.type) (slice_get rs 0)) r.1 in
-      let g = typed_register d x h.0 is.m h.1 is.place s.op is.there is.role r.0.type typed in
+      let g = typed_register d x h.0 is.m h.1 is.place s.op is.there is.emission r.0.type typed in
       let parts : Some is.parts ≡ Some g.0 = sym is.is_parts ∙ g.1 in
       let one : is.parts ≡ g.0 = cc in
       let wide : held_width s.op ≡ width r.0.type = ap width_of typed in

@@ -14,38 +14,38 @@ use Rattle.hw_model.proofs.Finite.{settles_without_cycle}
 use Rattle.verilog_model.specs.Tree.{VPort}
 use Rattle.verilog_model.specs.Hierarchy.{VNet, vnet, vports_of, vregisters}
 use Rattle.verilog_model.specs.Meaning.{tree_machine, tree_outputs, output_ports}
-use Rattle.export_verilog.specs.Keys.{each, key_text}
-use Rattle.export_verilog.specs.Keys.Key.{port_key}
+use Rattle.export_verilog.specs.Identifiers.{each, identifier_text}
+use Rattle.export_verilog.specs.Identifiers.Identifier.{port_identifier}
 use Rattle.export_verilog.specs.Exported.{symbol_name, vport, tree_of}
-use Rattle.export_verilog.proofs.names.KeysOf.{port_in}
+use Rattle.export_verilog.proofs.names.IdentifiersOf.{port_in}
 use Rattle.export_verilog.proofs.items.Items.{output_count}
 use Rattle.export_verilog.proofs.names.Symbols.{vmodule_found, module_at_position}
 use Rattle.export_verilog.proofs.items.Settings.{Setting, module_sound}
 use Rattle.export_verilog.proofs.behaviour.Content.{state_is}
 use Rattle.export_verilog.proofs.behaviour.NetMaps.{back, back_settled}
-use Rattle.export_verilog.proofs.behaviour.Owners.{to, to_key, output_shows}
+use Rattle.export_verilog.proofs.behaviour.Owners.{to, to_identifier, output_shows}
 use Rattle.export_verilog.proofs.behaviour.SettledMaps.{over_settled, round}
 use Rattle.export_verilog.proofs.behaviour.Slots.{are_slots, next_is}
 
 -- the words of the output ports, where each shows what its module gives to it
 outputs_show : (σ : VNet → Word) (ρ : Net → Word) (m : Module) (type_of : Ref → Option HwType) (j : ℕ) (ps : List Port) (rs : List Ref)
     → map type_of rs ≡ map (λ (t : HwType). Some t) (output_types ps)
-    → ((a : ℕ) (y : Port) (r : Ref) → slice_get ps a ≡ Some y → y.is_output ≡ true → slice_get rs (output_count (take a ps)) ≡ Some r → σ (vnet [] (key_text m (port_key (j + a)))) ≡ ρ (at [] r))
+    → ((a : ℕ) (y : Port) (r : Ref) → slice_get ps a ≡ Some y → y.is_output ≡ true → slice_get rs (output_count (take a ps)) ≡ Some r → σ (vnet [] (identifier_text m (port_identifier (j + a)))) ≡ ρ (at [] r))
     → map (λ (v : VPort). σ (vnet [] v.name)) (output_ports (each (vport m) j ps)) ≡ map (λ r. ρ (at [] r)) rs
 outputs_show σ ρ m type_of j [] [] typed shows = refl
 outputs_show σ ρ m type_of j [] (r ∷ rs) typed shows = cc
 outputs_show σ ρ m type_of j (y ∷ ps) rs typed shows =
-    go y.is_output refl rs typed (λ a z r there out gives. ap (λ n. σ (vnet [] (key_text m (port_key n)))) (suc-add j a ∙ sym (add-suc j a)) ∙ shows (suc a) z r there out gives)
-    (λ r out gives. ap (λ n. σ (vnet [] (key_text m (port_key n)))) (sym (add-zero j)) ∙ shows 0 y r refl out gives)
+    go y.is_output refl rs typed (λ a z r there out gives. ap (λ n. σ (vnet [] (identifier_text m (port_identifier n)))) (suc-add j a ∙ sym (add-suc j a)) ∙ shows (suc a) z r there out gives)
+    (λ r out gives. ap (λ n. σ (vnet [] (identifier_text m (port_identifier n)))) (sym (add-zero j)) ∙ shows 0 y r refl out gives)
     (λ zs t s. outputs_show σ ρ m type_of (suc j) ps zs t s) where
       go : (b : Bool) → y.is_output ≡ b → (zs : List Ref) → map type_of zs ≡ map (λ (t : HwType). Some t) (cond b (y.type ∷ output_types ps) (output_types ps))
           → ((a : ℕ) (z : Port) (r : Ref) → slice_get ps a ≡ Some z → z.is_output ≡ true → slice_get zs (cond y.is_output (suc (output_count (take a ps))) (output_count (take a ps))) ≡ Some r
-          → σ (vnet [] (key_text m (port_key (suc j + a)))) ≡ ρ (at [] r))
-          → ((r : Ref) → y.is_output ≡ true → slice_get zs 0 ≡ Some r → σ (vnet [] (key_text m (port_key j))) ≡ ρ (at [] r))
+          → σ (vnet [] (identifier_text m (port_identifier (suc j + a)))) ≡ ρ (at [] r))
+          → ((r : Ref) → y.is_output ≡ true → slice_get zs 0 ≡ Some r → σ (vnet [] (identifier_text m (port_identifier j))) ≡ ρ (at [] r))
           → ((ws : List Ref) → map type_of ws ≡ map (λ (t : HwType). Some t) (output_types ps)
-          → ((a : ℕ) (z : Port) (r : Ref) → slice_get ps a ≡ Some z → z.is_output ≡ true → slice_get ws (output_count (take a ps)) ≡ Some r → σ (vnet [] (key_text m (port_key (suc j + a)))) ≡ ρ (at [] r))
+          → ((a : ℕ) (z : Port) (r : Ref) → slice_get ps a ≡ Some z → z.is_output ≡ true → slice_get ws (output_count (take a ps)) ≡ Some r → σ (vnet [] (identifier_text m (port_identifier (suc j + a)))) ≡ ρ (at [] r))
           → map (λ (v : VPort). σ (vnet [] v.name)) (output_ports (each (vport m) (suc j) ps)) ≡ map (λ r. ρ (at [] r)) ws)
-          → map (λ (v : VPort). σ (vnet [] v.name)) (cond b (record { is_output = y.is_output; high = Rattle.verilog_expr.specs.Numerals.high_of (Rattle.hw_model.specs.Types.width y.type); name = key_text m (port_key j) } ∷ output_ports (each (vport m) (suc j) ps)) (output_ports (each (vport m) (suc j) ps)))
+          → map (λ (v : VPort). σ (vnet [] v.name)) (cond b (record { is_output = y.is_output; high = Rattle.verilog_expr.specs.Numerals.high_of (Rattle.hw_model.specs.Types.width y.type); name = identifier_text m (port_identifier j) } ∷ output_ports (each (vport m) (suc j) ps)) (output_ports (each (vport m) (suc j) ps)))
           ≡ map (λ r. ρ (at [] r)) zs
       go true out [] same later first rest = cc
       go true out (r ∷ zs) same later first rest =
@@ -65,10 +65,10 @@ module _ (d : Design) (x : Setting d) (top : Name) (m0 : Module) (top_is : find_
       ∙ ap concat_words (outputs_show (over ρ) ρ m0 (type_in m0.ports m0.body) 0 m0.ports (output_refs m0.body) (module_sound d x top m0 top_is).outputs shows)
       ∙ sym (ap (λ o. concat_words (map (λ r. ρ (at [] r)) (outputs_of o))) top_is) where
         shows : (a : ℕ) (y : Port) (r : Ref) → slice_get m0.ports a ≡ Some y → y.is_output ≡ true → slice_get (output_refs m0.body) (output_count (take a m0.ports)) ≡ Some r
-            → over ρ (vnet [] (key_text m0 (port_key (0 + a)))) ≡ ρ (at [] r)
+            → over ρ (vnet [] (identifier_text m0 (port_identifier (0 + a)))) ≡ ρ (at [] r)
         shows a y r there out gives =
-            ap (λ n. over ρ (vnet [] (key_text m0 (port_key n)))) (zero-add a)
-            ∙ to_key d x top m0 top_is ρ [] m0 top_is (port_key a) (port_in m0 a y there)
+            ap (λ n. over ρ (vnet [] (identifier_text m0 (port_identifier n)))) (zero-add a)
+            ∙ to_identifier d x top m0 top_is ρ [] m0 top_is (port_identifier a) (port_in m0 a y there)
             ∙ ap (λ z. ρ (at [] z)) (output_shows d x top m0 top_is m0 a y r there out gives)
 
   design_settles : AlwaysSettles (machine d top)

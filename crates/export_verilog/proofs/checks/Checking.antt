@@ -11,12 +11,12 @@ use Rattle.verilog_model.specs.Checks.{Declared, declared_by, declared_ports, de
 use Rattle.verilog_model.specs.Checks.Role.{block_name}
 use Rattle.verilog_model.proofs.Numerals.{and_intro}
 use Rattle.verilog_expr.specs.Numerals.{high_of}
-use Rattle.export_verilog.specs.Keys.{Key, each, role_of, result_keys, key_text, module_keys}
-use Rattle.export_verilog.specs.Keys.Key.{port_key, value_key, instance_key}
-use Rattle.export_verilog.specs.Keys.Role.{net, variable, block}
+use Rattle.export_verilog.specs.Identifiers.{Identifier, each, emission_of, result_identifiers, identifier_text, module_identifiers}
+use Rattle.export_verilog.specs.Identifiers.Identifier.{port_identifier, value_identifier, instance_identifier}
+use Rattle.export_verilog.specs.Identifiers.Emission.{net, variable, block}
 use Rattle.export_verilog.specs.Exported.{symbol_names, symbol_name, vport, vports, vitems, vmodule, tree_of}
 use Rattle.export_verilog.proofs.items.Lists.{in_append}
-use Rattle.export_verilog.proofs.names.KeysOf.{from_each, into_each, results_in, port_in, net_in, variable_in, instance_in_keys, result_in_keys}
+use Rattle.export_verilog.proofs.names.IdentifiersOf.{from_each, into_each, results_in, port_in, net_in, variable_in, instance_in_identifiers, result_in_identifiers}
 use Rattle.export_verilog.proofs.names.Symbols.{module_at_position, symbol_at}
 use Rattle.export_verilog.proofs.items.Items.{From, from_items}
 use Rattle.export_verilog.proofs.items.Items.From.{net_wire, variable_reg, result_wire, net_assign, variable_block, an_instance, output_assign}
@@ -24,10 +24,10 @@ use Rattle.export_verilog.proofs.items.Settings.{Setting, module_ok}
 use Rattle.export_verilog.proofs.checks.Known.{in_declared_items}
 use Rattle.export_verilog.proofs.checks.Stated.{high_decimal}
 use Rattle.export_verilog.proofs.checks.Ordered.{items_are_checked}
-use Rattle.export_verilog.proofs.checks.Declares.{op_wires, wire_keys, wire_kind, names_are_checked}
+use Rattle.export_verilog.proofs.checks.Declares.{op_wires, wire_identifiers, wire_kind, names_are_checked}
 use Rattle.export_verilog.proofs.checks.Nesting.{nesting_is_checked}
 use Rattle.export_verilog.proofs.checks.Clocks.{clocks_are_checked}
-use Rattle.export_verilog.proofs.checks.Driven.{output_keys, output_among, among_output, driven_once, driven_never}
+use Rattle.export_verilog.proofs.checks.Driven.{output_identifiers, output_among, among_output, driven_once, driven_never}
 
 module _ (d : Design) (x : Setting d) (s : Name) (m : Module) (is : find_module d s ≡ Some m) where
   -- ---- ports
@@ -48,87 +48,87 @@ module _ (d : Design) (x : Setting d) (s : Name) (m : Module) (is : find_module 
   Due : Declared → Type 0
   Due y = (driver_count (tree_of d) y.name (vitems d m) == drivers_due y.role) ≡ true
 
-  wire_due : (k : Key) (here : In k (module_keys m)) (y : Declared) → In k (each (op_wires m) 0 m.body) → y.name ≡ key_text m k → drivers_due y.role ≡ 1 → Due y
+  wire_due : (k : Identifier) (here : In k (module_identifiers m)) (y : Declared) → In k (each (op_wires m) 0 m.body) → y.name ≡ identifier_text m k → drivers_due y.role ≡ 1 → Due y
   unfolding Due
   wire_due k here y wired called due =
       eq-eqb (driver_count (tree_of d) y.name (vitems d m)) (drivers_due y.role)
       (ap (λ n. driver_count (tree_of d) n (vitems d m)) called
-      ∙ driven_once d x s m is k here (In-append_left k (each (op_wires m) 0 m.body) (output_keys d x s m is k here 0 m.ports) wired) ∙ sym due)
+      ∙ driven_once d x s m is k here (In-append_left k (each (op_wires m) 0 m.body) (output_identifiers d x s m is k here 0 m.ports) wired) ∙ sym due)
 
-  of_port : (j : ℕ) (p : Port) → slice_get m.ports j ≡ Some p → (y : Declared) → y ≡ record { name = key_text m (port_key j); role = port_role p.is_output; high = high_of (width p.type) } → Due y
+  of_port : (j : ℕ) (p : Port) → slice_get m.ports j ≡ Some p → (y : Declared) → y ≡ record { name = identifier_text m (port_identifier j); role = port_role p.is_output; high = high_of (width p.type) } → Due y
   unfolding Due
   of_port j p there y same = ap (λ (z : Declared). driver_count (tree_of d) z.name (vitems d m) == drivers_due z.role) same ∙ go p.is_output refl where
-    k : Key
-    k = port_key j
+    k : Identifier
+    k = port_identifier j
 
-    here : In (port_key j) (module_keys m)
+    here : In (port_identifier j) (module_identifiers m)
     here = port_in m j p there
 
-    apart : (i l n : ℕ) → port_key n ≡ value_key i l → ⊥
+    apart : (i l n : ℕ) → port_identifier n ≡ value_identifier i l → ⊥
     apart i l n e = cc
 
-    go : (b : Bool) → p.is_output ≡ b → (driver_count (tree_of d) (key_text m (port_key j)) (vitems d m) == drivers_due (port_role b)) ≡ true
-    go true out = eq-eqb (driver_count (tree_of d) (key_text m (port_key j)) (vitems d m)) 1
-        (driven_once d x s m is (port_key j) here (In-append_right (port_key j) (each (op_wires m) 0 m.body) (output_keys d x s m is (port_key j) here 0 m.ports)
-        (subst (λ n. In (port_key n) (output_keys d x s m is (port_key j) here 0 m.ports)) (zero-add j) (among_output d x s m is (port_key j) here 0 m.ports j p there out))))
-    go false out = eq-eqb (driver_count (tree_of d) (key_text m (port_key j)) (vitems d m)) 0
-        (driven_never d x s m is (port_key j) here (λ h. away (in_append (port_key j) (each (op_wires m) 0 m.body) (output_keys d x s m is (port_key j) here 0 m.ports) h))) where
-          other : (n : ℕ) (q : Port) → slice_get m.ports n ≡ Some q → q.is_output ≡ true → port_key j ≡ port_key (0 + n) → ⊥
+    go : (b : Bool) → p.is_output ≡ b → (driver_count (tree_of d) (identifier_text m (port_identifier j)) (vitems d m) == drivers_due (port_role b)) ≡ true
+    go true out = eq-eqb (driver_count (tree_of d) (identifier_text m (port_identifier j)) (vitems d m)) 1
+        (driven_once d x s m is (port_identifier j) here (In-append_right (port_identifier j) (each (op_wires m) 0 m.body) (output_identifiers d x s m is (port_identifier j) here 0 m.ports)
+        (subst (λ n. In (port_identifier n) (output_identifiers d x s m is (port_identifier j) here 0 m.ports)) (zero-add j) (among_output d x s m is (port_identifier j) here 0 m.ports j p there out))))
+    go false out = eq-eqb (driver_count (tree_of d) (identifier_text m (port_identifier j)) (vitems d m)) 0
+        (driven_never d x s m is (port_identifier j) here (λ h. away (in_append (port_identifier j) (each (op_wires m) 0 m.body) (output_identifiers d x s m is (port_identifier j) here 0 m.ports) h))) where
+          other : (n : ℕ) (q : Port) → slice_get m.ports n ≡ Some q → q.is_output ≡ true → port_identifier j ≡ port_identifier (0 + n) → ⊥
           other n q at way e =
               let f : j ≡ n = (let g : j ≡ 0 + n = cc in g ∙ zero-add n) in
               let g : Some q ≡ Some p = sym at ∙ ap (slice_get m.ports) (sym f) ∙ there in
               let h : q ≡ p = cc in
               let clash : true ≡ false = sym way ∙ ap (λ (z : Port). z.is_output) h ∙ out in cc
 
-          away : In (port_key j) (each (op_wires m) 0 m.body) ⊎ In (port_key j) (output_keys d x s m is (port_key j) here 0 m.ports) → ⊥
-          away (inl u) = let e = wire_kind m (port_key j) u in apart e.0 e.1 j e.2
-          away (inr u) = let e = output_among d x s m is (port_key j) here 0 m.ports (port_key j) u in other e.0 e.1 e.2 e.3 e.4
+          away : In (port_identifier j) (each (op_wires m) 0 m.body) ⊎ In (port_identifier j) (output_identifiers d x s m is (port_identifier j) here 0 m.ports) → ⊥
+          away (inl u) = let e = wire_kind m (port_identifier j) u in apart e.0 e.1 j e.2
+          away (inr u) = let e = output_among d x s m is (port_identifier j) here 0 m.ports (port_identifier j) u in other e.0 e.1 e.2 e.3 e.4
 
-  wired_net : (i : ℕ) (o : Op) → slice_get m.body i ≡ Some o → role_of m.ports m.body i o ≡ net → In (value_key i 0) (each (op_wires m) 0 m.body)
-  wired_net i o there role = into_each (op_wires m) m.body (value_key i 0) i o there (subst (λ r. In (value_key i 0) (wire_keys r i o)) (sym role) (inl refl))
+  wired_net : (i : ℕ) (o : Op) → slice_get m.body i ≡ Some o → emission_of m.ports m.body i o ≡ net → In (value_identifier i 0) (each (op_wires m) 0 m.body)
+  wired_net i o there emission = into_each (op_wires m) m.body (value_identifier i 0) i o there (subst (λ r. In (value_identifier i 0) (wire_identifiers r i o)) (sym emission) (inl refl))
 
-  wired_variable : (i : ℕ) (o : Op) → slice_get m.body i ≡ Some o → role_of m.ports m.body i o ≡ variable → In (value_key i 0) (each (op_wires m) 0 m.body)
-  wired_variable i o there role = into_each (op_wires m) m.body (value_key i 0) i o there (subst (λ r. In (value_key i 0) (wire_keys r i o)) (sym role) (inl refl))
+  wired_variable : (i : ℕ) (o : Op) → slice_get m.body i ≡ Some o → emission_of m.ports m.body i o ≡ variable → In (value_identifier i 0) (each (op_wires m) 0 m.body)
+  wired_variable i o there emission = into_each (op_wires m) m.body (value_identifier i 0) i o there (subst (λ r. In (value_identifier i 0) (wire_identifiers r i o)) (sym emission) (inl refl))
 
-  wired_result : (i k : ℕ) (o : Op) (r : OpResult) → slice_get m.body i ≡ Some o → role_of m.ports m.body i o ≡ block → slice_get o.results k ≡ Some r → In (value_key i k) (each (op_wires m) 0 m.body)
-  wired_result i k o r there role at = into_each (op_wires m) m.body (value_key i k) i o there
-      (subst (λ q. In (value_key i k) (wire_keys q i o)) (sym role) (subst (λ n. In (value_key i n) (result_keys i 0 o.results)) (zero-add k) (results_in i 0 o.results k r at)))
+  wired_result : (i k : ℕ) (o : Op) (r : OpResult) → slice_get m.body i ≡ Some o → emission_of m.ports m.body i o ≡ block → slice_get o.results k ≡ Some r → In (value_identifier i k) (each (op_wires m) 0 m.body)
+  wired_result i k o r there emission at = into_each (op_wires m) m.body (value_identifier i k) i o there
+      (subst (λ q. In (value_identifier i k) (wire_identifiers q i o)) (sym emission) (subst (λ n. In (value_identifier i n) (result_identifiers i 0 o.results)) (zero-add k) (results_in i 0 o.results k r at)))
 
   of_item : (z : Item) → From d m z → (y : Declared) → In y (declared_by z) → Due y
   unfolding Due
-  of_item z (net_wire i o there role same) y here = go (subst (λ q. In y (declared_by q)) same here) where
-    go : In y (declared_by (wire (high_of (width_of (result_type o 0))) (key_text m (value_key i 0)))) → Due y
-    go (inl e) = wire_due (value_key i 0) (net_in m i o there role) y (wired_net i o there role) (ap (λ (q : Declared). q.name) e) (ap (λ (q : Declared). drivers_due q.role) e)
+  of_item z (net_wire i o there emission same) y here = go (subst (λ q. In y (declared_by q)) same here) where
+    go : In y (declared_by (wire (high_of (width_of (result_type o 0))) (identifier_text m (value_identifier i 0)))) → Due y
+    go (inl e) = wire_due (value_identifier i 0) (net_in m i o there emission) y (wired_net i o there emission) (ap (λ (q : Declared). q.name) e) (ap (λ (q : Declared). drivers_due q.role) e)
     go (inr never) = absurd never
-  of_item z (variable_reg i o there role same) y here = go (subst (λ q. In y (declared_by q)) same here) where
-    go : In y (declared_by (reg (high_of (width_of (result_type o 0))) (key_text m (value_key i 0)))) → Due y
-    go (inl e) = wire_due (value_key i 0) (variable_in m i o there role) y (wired_variable i o there role) (ap (λ (q : Declared). q.name) e) (ap (λ (q : Declared). drivers_due q.role) e)
+  of_item z (variable_reg i o there emission same) y here = go (subst (λ q. In y (declared_by q)) same here) where
+    go : In y (declared_by (reg (high_of (width_of (result_type o 0))) (identifier_text m (value_identifier i 0)))) → Due y
+    go (inl e) = wire_due (value_identifier i 0) (variable_in m i o there emission) y (wired_variable i o there emission) (ap (λ (q : Declared). q.name) e) (ap (λ (q : Declared). drivers_due q.role) e)
     go (inr never) = absurd never
-  of_item z (result_wire i k o r there role at same) y here = go (subst (λ q. In y (declared_by q)) same here) where
-    go : In y (declared_by (wire (high_of (width r.type)) (key_text m (value_key i k)))) → Due y
-    go (inl e) = wire_due (value_key i k) (result_in_keys m i k o r there role at) y (wired_result i k o r there role at) (ap (λ (q : Declared). q.name) e) (ap (λ (q : Declared). drivers_due q.role) e)
+  of_item z (result_wire i k o r there emission at same) y here = go (subst (λ q. In y (declared_by q)) same here) where
+    go : In y (declared_by (wire (high_of (width r.type)) (identifier_text m (value_identifier i k)))) → Due y
+    go (inl e) = wire_due (value_identifier i k) (result_in_identifiers m i k o r there emission at) y (wired_result i k o r there emission at) (ap (λ (q : Declared). q.name) e) (ap (λ (q : Declared). drivers_due q.role) e)
     go (inr never) = absurd never
-  of_item z (net_assign i o there role same) y here = absurd (subst (λ q. In y (declared_by q)) same here)
-  of_item z (variable_block i o r there role at same) y here = absurd (subst (λ q. In y (declared_by q)) same here)
-  of_item z (an_instance i o w there role at same) y here = go (subst (λ q. In y (declared_by q)) same here) where
-    apart : (a l : ℕ) → instance_key i ≡ value_key a l → ⊥
+  of_item z (net_assign i o there emission same) y here = absurd (subst (λ q. In y (declared_by q)) same here)
+  of_item z (variable_block i o r there emission at same) y here = absurd (subst (λ q. In y (declared_by q)) same here)
+  of_item z (an_instance i o w there emission at same) y here = go (subst (λ q. In y (declared_by q)) same here) where
+    apart : (a l : ℕ) → instance_identifier i ≡ value_identifier a l → ⊥
     apart a l e = cc
 
-    port_apart : (n : ℕ) → instance_key i ≡ port_key n → ⊥
+    port_apart : (n : ℕ) → instance_identifier i ≡ port_identifier n → ⊥
     port_apart n e = cc
 
-    key_here : In (instance_key i) (module_keys m)
-    key_here = instance_in_keys m i o there role
+    identifier_here : In (instance_identifier i) (module_identifiers m)
+    identifier_here = instance_in_identifiers m i o there emission
 
-    away : In (instance_key i) (each (op_wires m) 0 m.body) ⊎ In (instance_key i) (output_keys d x s m is (instance_key i) key_here 0 m.ports) → ⊥
-    away (inl u) = let e = wire_kind m (instance_key i) u in apart e.0 e.1 e.2
-    away (inr u) = let e = output_among d x s m is (instance_key i) key_here 0 m.ports (instance_key i) u in port_apart (0 + e.0) e.4
+    away : In (instance_identifier i) (each (op_wires m) 0 m.body) ⊎ In (instance_identifier i) (output_identifiers d x s m is (instance_identifier i) identifier_here 0 m.ports) → ⊥
+    away (inl u) = let e = wire_kind m (instance_identifier i) u in apart e.0 e.1 e.2
+    away (inr u) = let e = output_among d x s m is (instance_identifier i) identifier_here 0 m.ports (instance_identifier i) u in port_apart (0 + e.0) e.4
 
-    none : driver_count (tree_of d) (key_text m (instance_key i)) (vitems d m) ≡ 0
-    none = driven_never d x s m is (instance_key i) key_here (λ h. away (in_append (instance_key i) (each (op_wires m) 0 m.body) (output_keys d x s m is (instance_key i) key_here 0 m.ports) h))
+    none : driver_count (tree_of d) (identifier_text m (instance_identifier i)) (vitems d m) ≡ 0
+    none = driven_never d x s m is (instance_identifier i) identifier_here (λ h. away (in_append (instance_identifier i) (each (op_wires m) 0 m.body) (output_identifiers d x s m is (instance_identifier i) identifier_here 0 m.ports) h))
 
-    go : In y (record { name = key_text m (instance_key i); role = block_name; high = None } ∷ []) → Due y
-    go (inl e) = ap (λ (q : Declared). driver_count (tree_of d) q.name (vitems d m) == drivers_due q.role) e ∙ eq-eqb (driver_count (tree_of d) (key_text m (instance_key i)) (vitems d m)) 0 none
+    go : In y (record { name = identifier_text m (instance_identifier i); role = block_name; high = None } ∷ []) → Due y
+    go (inl e) = ap (λ (q : Declared). driver_count (tree_of d) q.name (vitems d m) == drivers_due q.role) e ∙ eq-eqb (driver_count (tree_of d) (identifier_text m (instance_identifier i)) (vitems d m)) 0 none
     go (inr never) = absurd never
   of_item z (output_assign j p there out same) y here = absurd (subst (λ q. In y (declared_by q)) same here)
 

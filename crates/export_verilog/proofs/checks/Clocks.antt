@@ -18,12 +18,12 @@ use Rattle.verilog_model.specs.Checks.{inner_clock, uses_clock, any_uses_clock, 
 use Rattle.verilog_model.proofs.Numerals.{and_intro}
 use Rattle.verilog_expr.proofs.Depths.{expressions_hold}
 use Rattle.verilog_expr.specs.Expressions.{name_or, own_expr}
-use Rattle.export_verilog.specs.Keys.{role_of, key_text, named, name_or_nothing}
-use Rattle.export_verilog.specs.Keys.Key.{port_key, value_key}
-use Rattle.export_verilog.specs.Keys.Role.{variable}
+use Rattle.export_verilog.specs.Identifiers.{emission_of, identifier_text, named, name_or_nothing}
+use Rattle.export_verilog.specs.Identifiers.Identifier.{port_identifier, value_identifier}
+use Rattle.export_verilog.specs.Identifiers.Emission.{variable}
 use Rattle.export_verilog.specs.Exported.{symbol_name, expression, connections_of, connections_to, vports, vitems, tree_of}
-use Rattle.export_verilog.proofs.names.KeyNames.{texts_apart}
-use Rattle.export_verilog.proofs.names.KeysOf.{port_in}
+use Rattle.export_verilog.proofs.names.IdentifierNames.{texts_apart}
+use Rattle.export_verilog.proofs.names.IdentifiersOf.{port_in}
 use Rattle.export_verilog.proofs.names.Symbols.{vmodule_found}
 use Rattle.export_verilog.proofs.items.Items.{output_count, expr_for, connection_of, from_connections, From, from_items}
 use Rattle.export_verilog.proofs.items.Items.From.{net_wire, variable_reg, result_wire, net_assign, variable_block, an_instance, output_assign}
@@ -41,7 +41,7 @@ pub record IsClockInput (c : Module) (n : Name) : Type 0 where
   pub there : slice_get c.ports number ≡ Some port_of
   pub input : port_of.is_output ≡ false
   pub type : port_of.type ≡ clock
-  pub called : n ≡ key_text c (port_key number)
+  pub called : n ≡ identifier_text c (port_identifier number)
 
 either : (a b : Bool) → (a || b) ≡ true → (a ≡ true) ⊎ (b ≡ true)
 either true b h = inl refl
@@ -55,7 +55,7 @@ module _ (d : Design) (x : Setting d) where
     pub there : slice_get m.ports number ≡ Some port_of
     pub input : port_of.is_output ≡ false
     pub type : port_of.type ≡ clock
-    pub written : expression m r ≡ name (key_text m (port_key number))
+    pub written : expression m r ≡ name (identifier_text m (port_identifier number))
 
   pub clock_ref : (s : Name) (m : Module) → find_module d s ≡ Some m → (r : Ref) → type_in m.ports m.body r ≡ Some clock → IsClockRef m r
   clock_ref s m is r typed = let p = (module_ok d x s m is).clocks r typed in at_port p.0 p.1 where
@@ -87,10 +87,10 @@ module _ (d : Design) (x : Setting d) where
       (g.0, g.1, clock_ref s m is g.0 (g.2 ∙ ap (λ (u : HwType). Some u) is_clock_type))
 
   -- the port that a connection names, where that is a clock of its module
-  same_port : (m : Module) (o : Op) (c : Called d m o) (i : ℕ) (j : ℕ) (p : Port) → slice_get c.module_of.ports j ≡ Some p → IsClockInput c.module_of (key_text c.module_of (port_key j))
+  same_port : (m : Module) (o : Op) (c : Called d m o) (i : ℕ) (j : ℕ) (p : Port) → slice_get c.module_of.ports j ≡ Some p → IsClockInput c.module_of (identifier_text c.module_of (port_identifier j))
       → (p.is_output ≡ false) × (p.type ≡ clock)
   same_port m o c i j p there k =
-      let e : port_key j ≡ port_key k.number = texts_apart c.module_of (x.names c.kind.symbol c.module_of c.there) (port_key j) (port_key k.number) (port_in c.module_of j p there) (port_in c.module_of k.number k.port_of k.there) k.called in
+      let e : port_identifier j ≡ port_identifier k.number = texts_apart c.module_of (x.names c.kind.symbol c.module_of c.there) (port_identifier j) (port_identifier k.number) (port_in c.module_of j p there) (port_in c.module_of k.number k.port_of k.there) k.called in
       let f : j ≡ k.number = cc in
       let g : Some p ≡ Some k.port_of = sym there ∙ ap (slice_get c.module_of.ports) f ∙ k.there in
       let q : p ≡ k.port_of = cc in
@@ -105,15 +105,15 @@ module _ (d : Design) (x : Setting d) where
         inner : Name → Name → Bool
         inner = is_clock n (tree_of d)
 
-        in_register : (i : ℕ) (o : Op) (r : Register) → slice_get c.body i ≡ Some o → role_of c.ports c.body i o ≡ variable → register_in o ≡ Some r → same_name (name_or_nothing (named c r.clock)) a ≡ true → IsClockInput c a
-        in_register i o r there role at same =
-            let first = result_at_first d x s c is i o there (inr role) in
-            let typed = typed_register d x s c is i o there role first.0.type (ap (omap (λ (z : OpResult). z.type)) first.1) in
+        in_register : (i : ℕ) (o : Op) (r : Register) → slice_get c.body i ≡ Some o → emission_of c.ports c.body i o ≡ variable → register_in o ≡ Some r → same_name (name_or_nothing (named c r.clock)) a ≡ true → IsClockInput c a
+        in_register i o r there emission at same =
+            let first = result_at_first d x s c is i o there (inr emission) in
+            let typed = typed_register d x s c is i o there emission first.0.type (ap (omap (λ (z : OpResult). z.type)) first.1) in
             let e : Some typed.0 ≡ Some r = sym typed.1 ∙ at in
             let f : typed.0 ≡ r = cc in
             let k = clock_ref s c is r.clock (ap (λ (z : Register). type_in c.ports c.body z.clock) (sym f) ∙ typed.2.clocked) in
             let g = ((module_ok d x s c is).ops i o there).clocked r at in
-            let clock_name : name_or_nothing (named c r.clock) ≡ key_text c (port_key g.number) = ap (λ z. name_or_nothing (named c z)) g.is_port ∙ ap name_or_nothing (named_input d x s c is g.number g.clock g.there g.input) in
+            let clock_name : name_or_nothing (named c r.clock) ≡ identifier_text c (port_identifier g.number) = ap (λ z. name_or_nothing (named c z)) g.is_port ∙ ap name_or_nothing (named_input d x s c is g.number g.clock g.there g.input) in
             record {
               number = g.number;
               port_of = g.clock;
@@ -129,11 +129,11 @@ module _ (d : Design) (x : Setting d) where
             → (inner (symbol_name d y.kind.symbol) e.port && is_name a e.value) ≡ true → IsClockInput c a
         in_connection i o y j p there e as_it below both =
             let u = both_of (inner (symbol_name d y.kind.symbol) e.port) (is_name a e.value) both in
-            let k : IsClockInput y.module_of (key_text y.module_of (port_key j)) = subst (IsClockInput y.module_of) (ap (λ (z : Connection). z.port) as_it) (below y.kind.symbol y.module_of y.there e.port u.0) in
+            let k : IsClockInput y.module_of (identifier_text y.module_of (port_identifier j)) = subst (IsClockInput y.module_of) (ap (λ (z : Connection). z.port) as_it) (below y.kind.symbol y.module_of y.there e.port u.0) in
             let q = same_port c o y i j p there k in
             let g = joined_clock s c is o y j p there q.0 q.1 in
-            let value : e.value ≡ name (key_text c (port_key g.2.number)) = ap (λ (z : Connection). z.value) as_it
-            ∙ ap (λ b. cond b (name (key_text c (value_key i (0 + output_count (take j y.module_of.ports))))) (expr_for (expression c) (slice_get o.operands (input_count (take j y.module_of.ports))))) q.0
+            let value : e.value ≡ name (identifier_text c (port_identifier g.2.number)) = ap (λ (z : Connection). z.value) as_it
+            ∙ ap (λ b. cond b (name (identifier_text c (value_identifier i (0 + output_count (take j y.module_of.ports))))) (expr_for (expression c) (slice_get o.operands (input_count (take j y.module_of.ports))))) q.0
             ∙ ap (expr_for (expression c)) g.1 ∙ g.2.written in
             record {
               number = g.2.number;
@@ -141,7 +141,7 @@ module _ (d : Design) (x : Setting d) where
               there = g.2.there;
               input = g.2.input;
               type = g.2.type;
-              called = sym (name_from (key_text c (port_key g.2.number)) a (ap (is_name a) (sym value) ∙ u.1));
+              called = sym (name_from (identifier_text c (port_identifier g.2.number)) a (ap (is_name a) (sym value) ∙ u.1));
             }
 
         in_connections : (i : ℕ) (o : Op) (y : Called d c o) (es : List Connection) → ((e : Connection) → In e es → (j : ℕ) × (p : Port) × (slice_get y.module_of.ports j ≡ Some p) × (e ≡ connection_of y.module_of c i j 0 (take j y.module_of.ports) p o.operands))
@@ -155,12 +155,12 @@ module _ (d : Design) (x : Setting d) where
 
         in_item : (y : Item) → From d c y → ((t : Name) (z : Module) → find_module d t ≡ Some z → (w : Name) → is_clock n (tree_of d) (symbol_name d t) w ≡ true → IsClockInput z w)
             → uses_clock inner a y ≡ true → IsClockInput c a
-        in_item y (net_wire i o there role same) below h = absurd (false≢true (ap (uses_clock inner a) (sym same) ∙ h))
-        in_item y (variable_reg i o there role same) below h = absurd (false≢true (ap (uses_clock inner a) (sym same) ∙ h))
-        in_item y (result_wire i k o r there role at same) below h = absurd (false≢true (ap (uses_clock inner a) (sym same) ∙ h))
-        in_item y (net_assign i o there role same) below h = absurd (false≢true (ap (uses_clock inner a) (sym same) ∙ h))
-        in_item y (variable_block i o r there role at same) below h = in_register i o r there role at (ap (uses_clock inner a) (sym same) ∙ h)
-        in_item y (an_instance i o z there role at same) below h =
+        in_item y (net_wire i o there emission same) below h = absurd (false≢true (ap (uses_clock inner a) (sym same) ∙ h))
+        in_item y (variable_reg i o there emission same) below h = absurd (false≢true (ap (uses_clock inner a) (sym same) ∙ h))
+        in_item y (result_wire i k o r there emission at same) below h = absurd (false≢true (ap (uses_clock inner a) (sym same) ∙ h))
+        in_item y (net_assign i o there emission same) below h = absurd (false≢true (ap (uses_clock inner a) (sym same) ∙ h))
+        in_item y (variable_block i o r there emission at same) below h = in_register i o r there emission at (ap (uses_clock inner a) (sym same) ∙ h)
+        in_item y (an_instance i o z there emission at same) below h =
             let e : Called d c o = called_by d x s c is i o there z at in
             in_connections i o e (connections_of e.module_of c i 0 0 e.module_of.ports o.operands)
             (λ f w. let g = from_connections e.module_of c i 0 0 e.module_of.ports o.operands f w in
@@ -182,17 +182,17 @@ module _ (d : Design) (x : Setting d) where
       → e ≡ connection_of y.module_of m i j 0 (take j y.module_of.ports) p o.operands
       → (not (is_clock (suc (length (tree_of d))) (tree_of d) (symbol_name d y.kind.symbol) e.port) || is_input_name (vports m) e.value) ≡ true
   connection_clock s m is i o y j p there e as_it = go (is_clock (suc (length (tree_of d))) (tree_of d) (symbol_name d y.kind.symbol) e.port) refl where
-    is_input : (n : ℕ) (q : Port) → slice_get m.ports n ≡ Some q → q.is_output ≡ false → is_input_name (vports m) (name (key_text m (port_key n))) ≡ true
-    is_input n q at out = simp (port_under m (x.names s m is) (port_key n) (port_in m n q at) ∙ ap (omap (vport_at m n)) at, out) refl
+    is_input : (n : ℕ) (q : Port) → slice_get m.ports n ≡ Some q → q.is_output ≡ false → is_input_name (vports m) (name (identifier_text m (port_identifier n))) ≡ true
+    is_input n q at out = simp (port_under m (x.names s m is) (port_identifier n) (port_in m n q at) ∙ ap (omap (vport_at m n)) at, out) refl
 
     go : (b : Bool) → is_clock (suc (length (tree_of d))) (tree_of d) (symbol_name d y.kind.symbol) e.port ≡ b → (not b || is_input_name (vports m) e.value) ≡ true
     go false used = refl
     go true used =
-        let k : IsClockInput y.module_of (key_text y.module_of (port_key j)) = subst (IsClockInput y.module_of) (ap (λ (z : Connection). z.port) as_it) (clock_input (suc (length (tree_of d))) y.kind.symbol y.module_of y.there e.port used) in
+        let k : IsClockInput y.module_of (identifier_text y.module_of (port_identifier j)) = subst (IsClockInput y.module_of) (ap (λ (z : Connection). z.port) as_it) (clock_input (suc (length (tree_of d))) y.kind.symbol y.module_of y.there e.port used) in
         let q = same_port m o y i j p there k in
         let g = joined_clock s m is o y j p there q.0 q.1 in
-        let value : e.value ≡ name (key_text m (port_key g.2.number)) = ap (λ (z : Connection). z.value) as_it
-        ∙ ap (λ b. cond b (name (key_text m (value_key i (0 + output_count (take j y.module_of.ports))))) (expr_for (expression m) (slice_get o.operands (input_count (take j y.module_of.ports))))) q.0
+        let value : e.value ≡ name (identifier_text m (port_identifier g.2.number)) = ap (λ (z : Connection). z.value) as_it
+        ∙ ap (λ b. cond b (name (identifier_text m (value_identifier i (0 + output_count (take j y.module_of.ports))))) (expr_for (expression m) (slice_get o.operands (input_count (take j y.module_of.ports))))) q.0
         ∙ ap (expr_for (expression m)) g.1 ∙ g.2.written in
         ap (is_input_name (vports m)) value ∙ is_input g.2.number g.2.port_of g.2.there g.2.input
 
@@ -219,12 +219,12 @@ module _ (d : Design) (x : Setting d) where
 
     one_clocked : (y : Item) → From d m y → item_clocks y ≡ true
     unfolding item_clocks
-    one_clocked y (net_wire i o there role same) = ap item_clocks same
-    one_clocked y (variable_reg i o there role same) = ap item_clocks same
-    one_clocked y (result_wire i k o r there role at same) = ap item_clocks same
-    one_clocked y (net_assign i o there role same) = ap item_clocks same
-    one_clocked y (variable_block i o r there role at same) = ap item_clocks same
-    one_clocked y (an_instance i o z there role at same) =
+    one_clocked y (net_wire i o there emission same) = ap item_clocks same
+    one_clocked y (variable_reg i o there emission same) = ap item_clocks same
+    one_clocked y (result_wire i k o r there emission at same) = ap item_clocks same
+    one_clocked y (net_assign i o there emission same) = ap item_clocks same
+    one_clocked y (variable_block i o r there emission at same) = ap item_clocks same
+    one_clocked y (an_instance i o z there emission at same) =
         let e : Called d m o = called_by d x s m is i o there z at in
         ap item_clocks same ∙ ap (λ q. clocks_joined (tree_of d) (vports m) (symbol_name d z.symbol) (connections_to q m i o)) e.there
         ∙ connections_clocked i o e (connections_of e.module_of m i 0 0 e.module_of.ports o.operands)

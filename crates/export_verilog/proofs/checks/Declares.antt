@@ -9,14 +9,14 @@ use Rattle.verilog_model.specs.Tree.{Item}
 use Rattle.verilog_model.specs.Tree.Item.{assign}
 use Rattle.verilog_model.specs.Checks.{is_identifier, all_identifiers, names_check, are_distinct, Declared, declared_by, declared_ports, declared_items, declared_in}
 use Rattle.verilog_model.proofs.Numerals.{and_intro}
-use Rattle.export_verilog.specs.Keys.{Key, Role, each, role_of, result_keys, key_text, module_keys}
-use Rattle.export_verilog.specs.Keys.Key.{port_key, value_key, instance_key}
-use Rattle.export_verilog.specs.Keys.Role.{hidden, net, variable, block}
+use Rattle.export_verilog.specs.Identifiers.{Identifier, Emission, each, emission_of, result_identifiers, identifier_text, module_identifiers}
+use Rattle.export_verilog.specs.Identifiers.Identifier.{port_identifier, value_identifier, instance_identifier}
+use Rattle.export_verilog.specs.Identifiers.Emission.{hidden, net, variable, block}
 use Rattle.export_verilog.specs.Exported.{expression, expr_or_none, others, vport, vports, vitems, vmodule, result_wires, declared_as, declares, always_of, instance_of, stated_as, states, output_assigns}
 use Rattle.export_verilog.proofs.items.Lists.{in_append}
-use Rattle.export_verilog.proofs.names.KeyNames.{AreNames, text_named, name_is_identifier}
-use Rattle.export_verilog.proofs.names.KeysOf.{from_each, in_results, instance_of_role, net_in, variable_in, instance_in_keys, result_in_keys}
-use Rattle.export_verilog.proofs.names.Apart.{AreApart, joined_apart, texts_distinct, port_keys_from, port_keys_above, port_keys_apart, port_keys_within}
+use Rattle.export_verilog.proofs.names.IdentifierNames.{AreNames, text_named, name_is_identifier}
+use Rattle.export_verilog.proofs.names.IdentifiersOf.{from_each, in_results, instance_of_emission, net_in, variable_in, instance_in_identifiers, result_in_identifiers}
+use Rattle.export_verilog.proofs.names.Apart.{AreApart, joined_apart, texts_distinct, port_identifiers_from, port_identifiers_above, port_identifiers_apart, port_identifiers_within}
 
 name_of_declared : Declared → Name
 name_of_declared y = y.name
@@ -24,27 +24,27 @@ name_of_declared y = y.name
 -- ---- the keys of what is declared
 
 -- the keys of an operation's declarations, and of its statements
-abbrev pub wire_keys : Role → ℕ → Op → List Key
-wire_keys hidden i o = []
-wire_keys net i o = value_key i 0 ∷ []
-wire_keys variable i o = value_key i 0 ∷ []
-wire_keys block i o = result_keys i 0 o.results
+abbrev pub wire_identifiers : Emission → ℕ → Op → List Identifier
+wire_identifiers hidden i o = []
+wire_identifiers net i o = value_identifier i 0 ∷ []
+wire_identifiers variable i o = value_identifier i 0 ∷ []
+wire_identifiers block i o = result_identifiers i 0 o.results
 
-abbrev pub block_keys : Role → ℕ → Op → List Key
-block_keys hidden i o = []
-block_keys net i o = []
-block_keys variable i o = []
-block_keys block i o = instance_key i ∷ []
+abbrev pub block_identifiers : Emission → ℕ → Op → List Identifier
+block_identifiers hidden i o = []
+block_identifiers net i o = []
+block_identifiers variable i o = []
+block_identifiers block i o = instance_identifier i ∷ []
 
 module _ (m : Module) where
-  abbrev pub op_wires : ℕ → Op → List Key
-  op_wires i o = wire_keys (role_of m.ports m.body i o) i o
+  abbrev pub op_wires : ℕ → Op → List Identifier
+  op_wires i o = wire_identifiers (emission_of m.ports m.body i o) i o
 
-  abbrev pub op_blocks : ℕ → Op → List Key
-  op_blocks i o = block_keys (role_of m.ports m.body i o) i o
+  abbrev pub op_blocks : ℕ → Op → List Identifier
+  op_blocks i o = block_identifiers (emission_of m.ports m.body i o) i o
 
-  abbrev pub declared_keys : List Key
-  declared_keys = port_keys_from 0 m.ports ++ (each op_wires 0 m.body ++ each op_blocks 0 m.body)
+  abbrev pub declared_identifiers : List Identifier
+  declared_identifiers = port_identifiers_from 0 m.ports ++ (each op_wires 0 m.body ++ each op_blocks 0 m.body)
 
   -- ---- the names that are declared are those of the keys
 
@@ -58,55 +58,55 @@ module _ (m : Module) where
       map-append name_of_declared (declared_by y) (declared_items (xs ++ ys)) ∙ ap (λ z. map name_of_declared (declared_by y) ++ z) (names_joined xs ys)
       ∙ sym (append_assoc (map name_of_declared (declared_by y)) (names_of xs) (names_of ys)) ∙ ap (λ z. z ++ names_of ys) (sym (map-append name_of_declared (declared_by y) (declared_items xs)))
 
-  names_each : (f : ℕ → Op → List Item) (g : ℕ → Op → List Key) (i : ℕ) (os : List Op) → ((j : ℕ) (o : Op) → names_of (f j o) ≡ map (key_text m) (g j o))
-      → names_of (each f i os) ≡ map (key_text m) (each g i os)
+  names_each : (f : ℕ → Op → List Item) (g : ℕ → Op → List Identifier) (i : ℕ) (os : List Op) → ((j : ℕ) (o : Op) → names_of (f j o) ≡ map (identifier_text m) (g j o))
+      → names_of (each f i os) ≡ map (identifier_text m) (each g i os)
   unfolding names_of
   names_each f g i [] same = refl
   names_each f g i (o ∷ os) same =
-      names_joined (f i o) (each f (suc i) os) ∙ ap₂ (λ a b. a ++ b) (same i o) (names_each f g (suc i) os same) ∙ sym (map-append (key_text m) (g i o) (each g (suc i) os))
+      names_joined (f i o) (each f (suc i) os) ∙ ap₂ (λ a b. a ++ b) (same i o) (names_each f g (suc i) os same) ∙ sym (map-append (identifier_text m) (g i o) (each g (suc i) os))
 
-  result_names : (i k : ℕ) (rs : List OpResult) → names_of (result_wires m i k rs) ≡ map (key_text m) (result_keys i k rs)
+  result_names : (i k : ℕ) (rs : List OpResult) → names_of (result_wires m i k rs) ≡ map (identifier_text m) (result_identifiers i k rs)
   unfolding names_of name_of_declared
   result_names i k [] = refl
-  result_names i k (r ∷ rs) = ap (λ z. key_text m (value_key i k) ∷ z) (result_names i (suc k) rs)
+  result_names i k (r ∷ rs) = ap (λ z. identifier_text m (value_identifier i k) ∷ z) (result_names i (suc k) rs)
 
-  wire_names : (i : ℕ) (o : Op) → names_of (declares m i o) ≡ map (key_text m) (op_wires i o)
+  wire_names : (i : ℕ) (o : Op) → names_of (declares m i o) ≡ map (identifier_text m) (op_wires i o)
   unfolding names_of name_of_declared
-  wire_names i o = go (role_of m.ports m.body i o) where
-    go : (r : Role) → names_of (declared_as m i o r) ≡ map (key_text m) (wire_keys r i o)
+  wire_names i o = go (emission_of m.ports m.body i o) where
+    go : (r : Emission) → names_of (declared_as m i o r) ≡ map (identifier_text m) (wire_identifiers r i o)
     go hidden = refl
     go net = refl
     go variable = refl
     go block = result_names i 0 o.results
 
-  block_names : (d : Design) (i : ℕ) (o : Op) → names_of (states d m i o) ≡ map (key_text m) (op_blocks i o)
+  block_names : (d : Design) (i : ℕ) (o : Op) → names_of (states d m i o) ≡ map (identifier_text m) (op_blocks i o)
   unfolding names_of name_of_declared
-  block_names d i o = go (role_of m.ports m.body i o) refl where
+  block_names d i o = go (emission_of m.ports m.body i o) refl where
     in_always : (q : Name) (r : Option Register) → names_of (always_of m q r) ≡ []
     in_always q None = refl
     in_always q (Some r) = refl
 
-    go : (r : Role) → role_of m.ports m.body i o ≡ r → names_of (stated_as d m i o r) ≡ map (key_text m) (block_keys r i o)
+    go : (r : Emission) → emission_of m.ports m.body i o ≡ r → names_of (stated_as d m i o r) ≡ map (identifier_text m) (block_identifiers r i o)
     go hidden e = refl
     go net e = refl
-    go variable e = in_always (key_text m (value_key i 0)) (register_in o)
-    go block e = ap (λ z. names_of (instance_of d m i o z)) (instance_of_role m.ports m.body i o e).2
+    go variable e = in_always (identifier_text m (value_identifier i 0)) (register_in o)
+    go block e = ap (λ z. names_of (instance_of d m i o z)) (instance_of_emission m.ports m.body i o e).2
 
   output_names : (j : ℕ) (ps : List Port) (rs : List Ref) → names_of (output_assigns m j ps rs) ≡ []
   unfolding names_of
   output_names j [] rs = refl
   output_names j (p ∷ ps) rs = go p.is_output (output_names (suc j) ps (others rs)) (output_names (suc j) ps rs) where
     go : (b : Bool) → names_of (output_assigns m (suc j) ps (others rs)) ≡ [] → names_of (output_assigns m (suc j) ps rs) ≡ []
-        → names_of (cond b (assign (key_text m (port_key j)) (expr_or_none (expression m) rs) ∷ output_assigns m (suc j) ps (others rs)) (output_assigns m (suc j) ps rs)) ≡ []
+        → names_of (cond b (assign (identifier_text m (port_identifier j)) (expr_or_none (expression m) rs) ∷ output_assigns m (suc j) ps (others rs)) (output_assigns m (suc j) ps rs)) ≡ []
     go true u v = u
     go false u v = v
 
-  port_names : (j : ℕ) (ps : List Port) → map name_of_declared (declared_ports (each (vport m) j ps)) ≡ map (key_text m) (port_keys_from j ps)
-  unfolding name_of_declared port_keys_from
+  port_names : (j : ℕ) (ps : List Port) → map name_of_declared (declared_ports (each (vport m) j ps)) ≡ map (identifier_text m) (port_identifiers_from j ps)
+  unfolding name_of_declared port_identifiers_from
   port_names j [] = refl
-  port_names j (p ∷ ps) = ap (λ z. key_text m (port_key j) ∷ z) (port_names (suc j) ps)
+  port_names j (p ∷ ps) = ap (λ z. identifier_text m (port_identifier j) ∷ z) (port_names (suc j) ps)
 
-  pub declared_names : (d : Design) → map (λ (y : Declared). y.name) (declared_in (vmodule d m)) ≡ map (key_text m) declared_keys
+  pub declared_names : (d : Design) → map (λ (y : Declared). y.name) (declared_in (vmodule d m)) ≡ map (identifier_text m) declared_identifiers
   unfolding names_of name_of_declared
   declared_names d =
       map-append name_of_declared (declared_ports (vports m)) (declared_items (vitems d m))
@@ -115,23 +115,23 @@ module _ (m : Module) where
       ∙ ap₂ (λ a b. a ++ b) (names_each (declares m) op_wires 0 m.body wire_names)
       (names_joined (each (states d m) 0 m.body) (output_assigns m 0 m.ports (output_refs m.body))
       ∙ ap₂ (λ a b. a ++ b) (names_each (states d m) op_blocks 0 m.body (block_names d)) (output_names 0 m.ports (output_refs m.body))
-      ∙ append-nil (map (key_text m) (each op_blocks 0 m.body)))
-      ∙ sym (map-append (key_text m) (each op_wires 0 m.body) (each op_blocks 0 m.body)))
-      ∙ sym (map-append (key_text m) (port_keys_from 0 m.ports) (each op_wires 0 m.body ++ each op_blocks 0 m.body))
+      ∙ append-nil (map (identifier_text m) (each op_blocks 0 m.body)))
+      ∙ sym (map-append (identifier_text m) (each op_wires 0 m.body) (each op_blocks 0 m.body)))
+      ∙ sym (map-append (identifier_text m) (port_identifiers_from 0 m.ports) (each op_wires 0 m.body ++ each op_blocks 0 m.body))
 
 -- ---- no thing is declared twice
 
 -- the position that a key names
-pub key_place : Key → ℕ
-key_place (port_key j) = j
-key_place (value_key i k) = i
-key_place (instance_key i) = i
+pub identifier_place : Identifier → ℕ
+identifier_place (port_identifier j) = j
+identifier_place (value_identifier i k) = i
+identifier_place (instance_identifier i) = i
 
-module _ {A : Type 0} (f : ℕ → A → List Key) (placed : (i : ℕ) (x : A) (k : Key) → In k (f i x) → key_place k ≡ i) (apart : (i : ℕ) (x : A) → AreApart (f i x)) where
-  each_above : (i : ℕ) (xs : List A) (k : Key) → In k (each f i xs) → (n : ℕ) × (key_place k ≡ i + n)
+module _ {A : Type 0} (f : ℕ → A → List Identifier) (placed : (i : ℕ) (x : A) (k : Identifier) → In k (f i x) → identifier_place k ≡ i) (apart : (i : ℕ) (x : A) → AreApart (f i x)) where
+  each_above : (i : ℕ) (xs : List A) (k : Identifier) → In k (each f i xs) → (n : ℕ) × (identifier_place k ≡ i + n)
   each_above i [] k here = absurd here
   each_above i (x ∷ xs) k here = go (in_append k (f i x) (each f (suc i) xs) here) (each_above (suc i) xs k) where
-    go : In k (f i x) ⊎ In k (each f (suc i) xs) → (In k (each f (suc i) xs) → (n : ℕ) × (key_place k ≡ suc i + n)) → (n : ℕ) × (key_place k ≡ i + n)
+    go : In k (f i x) ⊎ In k (each f (suc i) xs) → (In k (each f (suc i) xs) → (n : ℕ) × (identifier_place k ≡ suc i + n)) → (n : ℕ) × (identifier_place k ≡ i + n)
     go (inl h) rest = (0, placed i x k h ∙ sym (add-zero i))
     go (inr h) rest = let e = rest h in (suc e.0, e.1 ∙ suc-add i e.0 ∙ sym (add-suc i e.0))
 
@@ -140,131 +140,131 @@ module _ {A : Type 0} (f : ℕ → A → List Key) (placed : (i : ℕ) (x : A) (
   each_apart i (x ∷ xs) =
       joined_apart (f i x) (each f (suc i) xs) (apart i x) (each_apart (suc i) xs)
       (λ k u v. let e = each_above (suc i) xs k v in clash k (placed i x k u) e.0 e.1) where
-        clash : (k : Key) → key_place k ≡ i → (n : ℕ) → key_place k ≡ suc i + n → ⊥
+        clash : (k : Identifier) → identifier_place k ≡ i → (n : ℕ) → identifier_place k ≡ suc i + n → ⊥
         clash k a n b = omega (arith, a, b)
 
-result_keys_above : (i k : ℕ) (rs : List OpResult) (key : Key) → In key (result_keys i k rs) → (n : ℕ) × (key ≡ value_key i (k + n))
-result_keys_above i k rs key here = let e = in_results i k rs key here in (e.0, e.3)
+result_identifiers_above : (i k : ℕ) (rs : List OpResult) (identifier : Identifier) → In identifier (result_identifiers i k rs) → (n : ℕ) × (identifier ≡ value_identifier i (k + n))
+result_identifiers_above i k rs identifier here = let e = in_results i k rs identifier here in (e.0, e.3)
 
-result_keys_apart : (i k : ℕ) (rs : List OpResult) → AreApart (result_keys i k rs)
-result_keys_apart i k [] = tt
-result_keys_apart i k (r ∷ rs) = ((λ h. let e = result_keys_above i (suc k) rs (value_key i k) h in clash e.0 e.1), result_keys_apart i (suc k) rs) where
-  clash : (n : ℕ) → value_key i k ≡ value_key i (suc k + n) → ⊥
+result_identifiers_apart : (i k : ℕ) (rs : List OpResult) → AreApart (result_identifiers i k rs)
+result_identifiers_apart i k [] = tt
+result_identifiers_apart i k (r ∷ rs) = ((λ h. let e = result_identifiers_above i (suc k) rs (value_identifier i k) h in clash e.0 e.1), result_identifiers_apart i (suc k) rs) where
+  clash : (n : ℕ) → value_identifier i k ≡ value_identifier i (suc k + n) → ⊥
   clash n e = let f : k ≡ suc k + n = cc in omega (arith, f)
 
 module _ (m : Module) where
-  pub wires_placed : (i : ℕ) (o : Op) (k : Key) → In k (op_wires m i o) → key_place k ≡ i
-  unfolding key_place
-  wires_placed i o k here = go (role_of m.ports m.body i o) here where
-    single : In k (value_key i 0 ∷ []) → key_place k ≡ i
-    single (inl e) = ap key_place e
+  pub wires_placed : (i : ℕ) (o : Op) (k : Identifier) → In k (op_wires m i o) → identifier_place k ≡ i
+  unfolding identifier_place
+  wires_placed i o k here = go (emission_of m.ports m.body i o) here where
+    single : In k (value_identifier i 0 ∷ []) → identifier_place k ≡ i
+    single (inl e) = ap identifier_place e
     single (inr never) = absurd never
 
-    go : (r : Role) → In k (wire_keys r i o) → key_place k ≡ i
+    go : (r : Emission) → In k (wire_identifiers r i o) → identifier_place k ≡ i
     go hidden h = absurd h
     go net h = single h
     go variable h = single h
-    go block h = ap key_place (result_keys_above i 0 o.results k h).1
+    go block h = ap identifier_place (result_identifiers_above i 0 o.results k h).1
 
   pub wires_apart : (i : ℕ) (o : Op) → AreApart (op_wires m i o)
-  wires_apart i o = go (role_of m.ports m.body i o) where
-    go : (r : Role) → AreApart (wire_keys r i o)
+  wires_apart i o = go (emission_of m.ports m.body i o) where
+    go : (r : Emission) → AreApart (wire_identifiers r i o)
     go hidden = tt
     go net = ((λ h. h), tt)
     go variable = ((λ h. h), tt)
-    go block = result_keys_apart i 0 o.results
+    go block = result_identifiers_apart i 0 o.results
 
-  blocks_placed : (i : ℕ) (o : Op) (k : Key) → In k (op_blocks m i o) → (k ≡ instance_key i) × (key_place k ≡ i)
-  unfolding key_place
-  blocks_placed i o k here = go (role_of m.ports m.body i o) here where
-    go : (r : Role) → In k (block_keys r i o) → (k ≡ instance_key i) × (key_place k ≡ i)
+  blocks_placed : (i : ℕ) (o : Op) (k : Identifier) → In k (op_blocks m i o) → (k ≡ instance_identifier i) × (identifier_place k ≡ i)
+  unfolding identifier_place
+  blocks_placed i o k here = go (emission_of m.ports m.body i o) here where
+    go : (r : Emission) → In k (block_identifiers r i o) → (k ≡ instance_identifier i) × (identifier_place k ≡ i)
     go hidden h = absurd h
     go net h = absurd h
     go variable h = absurd h
-    go block (inl e) = (e, ap key_place e)
+    go block (inl e) = (e, ap identifier_place e)
     go block (inr never) = absurd never
 
   blocks_apart : (i : ℕ) (o : Op) → AreApart (op_blocks m i o)
-  blocks_apart i o = go (role_of m.ports m.body i o) where
-    go : (r : Role) → AreApart (block_keys r i o)
+  blocks_apart i o = go (emission_of m.ports m.body i o) where
+    go : (r : Emission) → AreApart (block_identifiers r i o)
     go hidden = tt
     go net = tt
     go variable = tt
     go block = ((λ h. h), tt)
 
   -- a wire's key is a value's, and a block's an instance's
-  pub wire_kind : (k : Key) → In k (each (op_wires m) 0 m.body) → (i n : ℕ) × (k ≡ value_key i n)
-  wire_kind k here = let e = from_each (op_wires m) m.body k here in go e.0 e.1 (role_of m.ports m.body e.0 e.1) e.3 where
-    single : (i : ℕ) → In k (value_key i 0 ∷ []) → (j n : ℕ) × (k ≡ value_key j n)
+  pub wire_kind : (k : Identifier) → In k (each (op_wires m) 0 m.body) → (i n : ℕ) × (k ≡ value_identifier i n)
+  wire_kind k here = let e = from_each (op_wires m) m.body k here in go e.0 e.1 (emission_of m.ports m.body e.0 e.1) e.3 where
+    single : (i : ℕ) → In k (value_identifier i 0 ∷ []) → (j n : ℕ) × (k ≡ value_identifier j n)
     single i (inl e) = (i, 0, e)
     single i (inr never) = absurd never
 
-    go : (i : ℕ) (o : Op) (r : Role) → In k (wire_keys r i o) → (j n : ℕ) × (k ≡ value_key j n)
+    go : (i : ℕ) (o : Op) (r : Emission) → In k (wire_identifiers r i o) → (j n : ℕ) × (k ≡ value_identifier j n)
     go i o hidden h = absurd h
     go i o net h = single i h
     go i o variable h = single i h
-    go i o block h = let e = result_keys_above i 0 o.results k h in (i, 0 + e.0, e.1)
+    go i o block h = let e = result_identifiers_above i 0 o.results k h in (i, 0 + e.0, e.1)
 
-  pub block_kind : (k : Key) → In k (each (op_blocks m) 0 m.body) → (i : ℕ) × (k ≡ instance_key i)
+  pub block_kind : (k : Identifier) → In k (each (op_blocks m) 0 m.body) → (i : ℕ) × (k ≡ instance_identifier i)
   block_kind k here = let e = from_each (op_blocks m) m.body k here in (e.0, (blocks_placed e.0 e.1 k e.3).0)
 
-  pub port_kind : (k : Key) → In k (port_keys_from 0 m.ports) → (j : ℕ) × (k ≡ port_key j)
-  port_kind k here = let e = port_keys_above 0 m.ports k here in (0 + e.0, e.3)
+  pub port_kind : (k : Identifier) → In k (port_identifiers_from 0 m.ports) → (j : ℕ) × (k ≡ port_identifier j)
+  port_kind k here = let e = port_identifiers_above 0 m.ports k here in (0 + e.0, e.3)
 
-  pub declared_apart : AreApart (declared_keys m)
+  pub declared_apart : AreApart (declared_identifiers m)
   declared_apart =
-      joined_apart (port_keys_from 0 m.ports) (each (op_wires m) 0 m.body ++ each (op_blocks m) 0 m.body) (port_keys_apart 0 m.ports)
+      joined_apart (port_identifiers_from 0 m.ports) (each (op_wires m) 0 m.body ++ each (op_blocks m) 0 m.body) (port_identifiers_apart 0 m.ports)
       (joined_apart (each (op_wires m) 0 m.body) (each (op_blocks m) 0 m.body) (each_apart (op_wires m) wires_placed wires_apart 0 m.body)
       (each_apart (op_blocks m) (λ i o k h. (blocks_placed i o k h).1) blocks_apart 0 m.body)
       (λ k u v. let a = wire_kind k u in let b = block_kind k v in value_instance a.0 a.1 b.0 (sym a.2 ∙ b.1)))
       (λ k u v. let a = port_kind k u in go k a.0 a.1 (in_append k (each (op_wires m) 0 m.body) (each (op_blocks m) 0 m.body) v)) where
-        value_instance : (i n j : ℕ) → value_key i n ≡ instance_key j → ⊥
+        value_instance : (i n j : ℕ) → value_identifier i n ≡ instance_identifier j → ⊥
         value_instance i n j e = cc
 
-        port_value : (j i n : ℕ) → port_key j ≡ value_key i n → ⊥
+        port_value : (j i n : ℕ) → port_identifier j ≡ value_identifier i n → ⊥
         port_value j i n e = cc
 
-        port_instance : (j i : ℕ) → port_key j ≡ instance_key i → ⊥
+        port_instance : (j i : ℕ) → port_identifier j ≡ instance_identifier i → ⊥
         port_instance j i e = cc
 
-        go : (k : Key) (j : ℕ) → k ≡ port_key j → In k (each (op_wires m) 0 m.body) ⊎ In k (each (op_blocks m) 0 m.body) → ⊥
+        go : (k : Identifier) (j : ℕ) → k ≡ port_identifier j → In k (each (op_wires m) 0 m.body) ⊎ In k (each (op_blocks m) 0 m.body) → ⊥
         go k j e (inl h) = let b = wire_kind k h in port_value j b.0 b.1 (sym e ∙ b.2)
         go k j e (inr h) = let b = block_kind k h in port_instance j b.0 (sym e ∙ b.1)
 
-  pub declared_within : (k : Key) → In k (declared_keys m) → In k (module_keys m)
-  declared_within k here = go (in_append k (port_keys_from 0 m.ports) (each (op_wires m) 0 m.body ++ each (op_blocks m) 0 m.body) here) where
-    of_wire : (i : ℕ) (o : Op) → slice_get m.body i ≡ Some o → (r : Role) → role_of m.ports m.body i o ≡ r → In k (wire_keys r i o) → In k (module_keys m)
-    of_wire i o there hidden role h = absurd h
-    of_wire i o there net role (inl e) = subst (λ z. In z (module_keys m)) (sym e) (net_in m i o there role)
-    of_wire i o there net role (inr never) = absurd never
-    of_wire i o there variable role (inl e) = subst (λ z. In z (module_keys m)) (sym e) (variable_in m i o there role)
-    of_wire i o there variable role (inr never) = absurd never
-    of_wire i o there block role h = let e = in_results i 0 o.results k h in
-        subst (λ z. In z (module_keys m)) (sym (e.3 ∙ ap (value_key i) (zero-add e.0))) (result_in_keys m i e.0 o e.1 there role e.2)
+  pub declared_within : (k : Identifier) → In k (declared_identifiers m) → In k (module_identifiers m)
+  declared_within k here = go (in_append k (port_identifiers_from 0 m.ports) (each (op_wires m) 0 m.body ++ each (op_blocks m) 0 m.body) here) where
+    of_wire : (i : ℕ) (o : Op) → slice_get m.body i ≡ Some o → (r : Emission) → emission_of m.ports m.body i o ≡ r → In k (wire_identifiers r i o) → In k (module_identifiers m)
+    of_wire i o there hidden emission h = absurd h
+    of_wire i o there net emission (inl e) = subst (λ z. In z (module_identifiers m)) (sym e) (net_in m i o there emission)
+    of_wire i o there net emission (inr never) = absurd never
+    of_wire i o there variable emission (inl e) = subst (λ z. In z (module_identifiers m)) (sym e) (variable_in m i o there emission)
+    of_wire i o there variable emission (inr never) = absurd never
+    of_wire i o there block emission h = let e = in_results i 0 o.results k h in
+        subst (λ z. In z (module_identifiers m)) (sym (e.3 ∙ ap (value_identifier i) (zero-add e.0))) (result_in_identifiers m i e.0 o e.1 there emission e.2)
 
-    of_block : (i : ℕ) (o : Op) → slice_get m.body i ≡ Some o → (r : Role) → role_of m.ports m.body i o ≡ r → In k (block_keys r i o) → In k (module_keys m)
-    of_block i o there hidden role h = absurd h
-    of_block i o there net role h = absurd h
-    of_block i o there variable role h = absurd h
-    of_block i o there block role (inl e) = subst (λ z. In z (module_keys m)) (sym e) (instance_in_keys m i o there role)
-    of_block i o there block role (inr never) = absurd never
+    of_block : (i : ℕ) (o : Op) → slice_get m.body i ≡ Some o → (r : Emission) → emission_of m.ports m.body i o ≡ r → In k (block_identifiers r i o) → In k (module_identifiers m)
+    of_block i o there hidden emission h = absurd h
+    of_block i o there net emission h = absurd h
+    of_block i o there variable emission h = absurd h
+    of_block i o there block emission (inl e) = subst (λ z. In z (module_identifiers m)) (sym e) (instance_in_identifiers m i o there emission)
+    of_block i o there block emission (inr never) = absurd never
 
-    behind : In k (each (op_wires m) 0 m.body) ⊎ In k (each (op_blocks m) 0 m.body) → In k (module_keys m)
-    behind (inl h) = let e = from_each (op_wires m) m.body k h in of_wire e.0 e.1 e.2 (role_of m.ports m.body e.0 e.1) refl e.3
-    behind (inr h) = let e = from_each (op_blocks m) m.body k h in of_block e.0 e.1 e.2 (role_of m.ports m.body e.0 e.1) refl e.3
+    behind : In k (each (op_wires m) 0 m.body) ⊎ In k (each (op_blocks m) 0 m.body) → In k (module_identifiers m)
+    behind (inl h) = let e = from_each (op_wires m) m.body k h in of_wire e.0 e.1 e.2 (emission_of m.ports m.body e.0 e.1) refl e.3
+    behind (inr h) = let e = from_each (op_blocks m) m.body k h in of_block e.0 e.1 e.2 (emission_of m.ports m.body e.0 e.1) refl e.3
 
-    go : In k (port_keys_from 0 m.ports) ⊎ In k (each (op_wires m) 0 m.body ++ each (op_blocks m) 0 m.body) → In k (module_keys m)
-    go (inl h) = port_keys_within m k h
+    go : In k (port_identifiers_from 0 m.ports) ⊎ In k (each (op_wires m) 0 m.body ++ each (op_blocks m) 0 m.body) → In k (module_identifiers m)
+    go (inl h) = port_identifiers_within m k h
     go (inr h) = behind (in_append k (each (op_wires m) 0 m.body) (each (op_blocks m) 0 m.body) h)
 
-  identifiers_of : (are : AreNames m) (ks : List Key) → ((k : Key) → In k ks → In k (module_keys m)) → all_identifiers (map (key_text m) ks) ≡ true
+  identifiers_of : (are : AreNames m) (ks : List Identifier) → ((k : Identifier) → In k ks → In k (module_identifiers m)) → all_identifiers (map (identifier_text m) ks) ≡ true
   identifiers_of are [] within = refl
   identifiers_of are (k ∷ ks) within =
-      and_intro (is_identifier (key_text m k)) (all_identifiers (map (key_text m) ks)) (name_is_identifier m are k (key_text m k) (text_named m are k (within k (inl refl))))
+      and_intro (is_identifier (identifier_text m k)) (all_identifiers (map (identifier_text m) ks)) (name_is_identifier m are k (identifier_text m k) (text_named m are k (within k (inl refl))))
       (identifiers_of are ks (λ l h. within l (inr h)))
 
   pub names_are_checked : (d : Design) (are : AreNames m) → names_check (map (λ (y : Declared). y.name) (declared_in (vmodule d m))) ≡ true
   names_are_checked d are =
       ap names_check (declared_names m d)
-      ∙ and_intro (are_distinct (map (key_text m) (declared_keys m))) (all_identifiers (map (key_text m) (declared_keys m)))
-      (texts_distinct m are (declared_keys m) declared_within declared_apart) (identifiers_of are (declared_keys m) declared_within)
+      ∙ and_intro (are_distinct (map (identifier_text m) (declared_identifiers m))) (all_identifiers (map (identifier_text m) (declared_identifiers m)))
+      (texts_distinct m are (declared_identifiers m) declared_within declared_apart) (identifiers_of are (declared_identifiers m) declared_within)

@@ -13,9 +13,9 @@ use Rattle.verilog_model.specs.Grammar.{fits, item_fits, items_fit, connections_
 use Rattle.verilog_model.proofs.Numerals.{and_intro}
 use Rattle.verilog_expr.specs.Spilling.{height_limit}
 use Rattle.verilog_expr.proofs.Fit.{depth_fits, own_fits}
-use Rattle.export_verilog.specs.Keys.{Role, each, role_of, key_text, name_or_nothing, named}
-use Rattle.export_verilog.specs.Keys.Key.{port_key, value_key}
-use Rattle.export_verilog.specs.Keys.Role.{hidden, net, variable, block}
+use Rattle.export_verilog.specs.Identifiers.{Emission, each, emission_of, identifier_text, name_or_nothing, named}
+use Rattle.export_verilog.specs.Identifiers.Identifier.{port_identifier, value_identifier}
+use Rattle.export_verilog.specs.Identifiers.Emission.{hidden, net, variable, block}
 use Rattle.export_verilog.specs.Exported.{expression, assigned_expr, expr_or_none, others, result_wires, declared_as, declares, always_of, block_of, connections_of, connections_to, instance_of, stated_as, states, output_assigns, vitems, vmodule, tree_of}
 
 expression_fits : (m : Module) (r : Ref) → fits (expression m r) ≡ true
@@ -45,8 +45,8 @@ wires_fit m i k [] = refl
 wires_fit m i k (r ∷ rs) = wires_fit m i (suc k) rs
 
 declares_fit : (m : Module) (i : ℕ) (o : Op) → items_fit (declares m i o) ≡ true
-declares_fit m i o = go (role_of m.ports m.body i o) where
-  go : (r : Role) → items_fit (declared_as m i o r) ≡ true
+declares_fit m i o = go (emission_of m.ports m.body i o) where
+  go : (r : Emission) → items_fit (declared_as m i o r) ≡ true
   go hidden = refl
   go net = refl
   go variable = refl
@@ -57,11 +57,11 @@ connections_fit_all c m i j k [] rs = refl
 connections_fit_all c m i j k (p ∷ ps) rs =
     go p.is_output (connections_fit_all c m i (suc j) (suc k) ps rs) (and_intro (fits (expr_or_none (expression m) rs)) (connections_fit (connections_of c m i (suc j) k ps (others rs))) (expr_fits m rs) (connections_fit_all c m i (suc j) k ps (others rs))) where
       head : Expr → Connection
-      head e = record { port = key_text c (port_key j); value = e }
+      head e = record { port = identifier_text c (port_identifier j); value = e }
 
       go : (b : Bool) → connections_fit (connections_of c m i (suc j) (suc k) ps rs) ≡ true
           → (fits (expr_or_none (expression m) rs) && connections_fit (connections_of c m i (suc j) k ps (others rs))) ≡ true
-          → connections_fit (cond b (head (name (key_text m (value_key i k))) ∷ connections_of c m i (suc j) (suc k) ps rs) (head (expr_or_none (expression m) rs) ∷ connections_of c m i (suc j) k ps (others rs))) ≡ true
+          → connections_fit (cond b (head (name (identifier_text m (value_identifier i k))) ∷ connections_of c m i (suc j) (suc k) ps rs) (head (expr_or_none (expression m) rs) ∷ connections_of c m i (suc j) k ps (others rs))) ≡ true
       go true x y = x
       go false x y = y
 
@@ -88,11 +88,11 @@ instance_fits d m i o (Some x) = and_intro (connections_fit (connections_to (fin
   go (Some c) = connections_fit_all c m i 0 0 c.ports o.operands
 
 states_fit : (d : Design) (m : Module) (i : ℕ) (o : Op) → items_fit (states d m i o) ≡ true
-states_fit d m i o = go (role_of m.ports m.body i o) where
-  go : (r : Role) → items_fit (stated_as d m i o r) ≡ true
+states_fit d m i o = go (emission_of m.ports m.body i o) where
+  go : (r : Emission) → items_fit (stated_as d m i o r) ≡ true
   go hidden = refl
   go net = and_intro (fits (assigned_expr m (result i 0))) true (assigned_fits m (result i 0)) refl
-  go variable = always_fits m (key_text m (value_key i 0)) (register_in o)
+  go variable = always_fits m (identifier_text m (value_identifier i 0)) (register_in o)
   go block = instance_fits d m i o (instance_in o.kind)
 
 outputs_fit : (m : Module) (j : ℕ) (ps : List Port) (rs : List Ref) → items_fit (output_assigns m j ps rs) ≡ true
@@ -100,7 +100,7 @@ outputs_fit m j [] rs = refl
 outputs_fit m j (p ∷ ps) rs =
     go p.is_output (and_intro (fits (expr_or_none (expression m) rs)) (items_fit (output_assigns m (suc j) ps (others rs))) (expr_fits m rs) (outputs_fit m (suc j) ps (others rs))) (outputs_fit m (suc j) ps rs) where
       go : (b : Bool) → (fits (expr_or_none (expression m) rs) && items_fit (output_assigns m (suc j) ps (others rs))) ≡ true → items_fit (output_assigns m (suc j) ps rs) ≡ true
-          → items_fit (cond b (assign (key_text m (port_key j)) (expr_or_none (expression m) rs) ∷ output_assigns m (suc j) ps (others rs)) (output_assigns m (suc j) ps rs)) ≡ true
+          → items_fit (cond b (assign (identifier_text m (port_identifier j)) (expr_or_none (expression m) rs) ∷ output_assigns m (suc j) ps (others rs)) (output_assigns m (suc j) ps rs)) ≡ true
       go true x y = x
       go false x y = y
 

@@ -44,12 +44,12 @@ module _ (d : Design) (x : Setting d) where
   -- each instance's module ends
   module _ (s : Name) (m : Module) (is : find_module d s ≡ Some m) (ends : Name → Bool) (each_ends : (i : ℕ) (o : Op) (y : Instance) → slice_get m.body i ≡ Some o → instance_in o.kind ≡ Some y → ends (symbol_name d y.symbol) ≡ true) where
     one_ends : (y : Item) → From d m y → item_ends ends y ≡ true
-    one_ends y (net_wire i o there role same) = ap (item_ends ends) same
-    one_ends y (variable_reg i o there role same) = ap (item_ends ends) same
-    one_ends y (result_wire i k o r there role at same) = ap (item_ends ends) same
-    one_ends y (net_assign i o there role same) = ap (item_ends ends) same
-    one_ends y (variable_block i o r there role at same) = ap (item_ends ends) same
-    one_ends y (an_instance i o z there role at same) = ap (item_ends ends) same ∙ each_ends i o z there at
+    one_ends y (net_wire i o there emission same) = ap (item_ends ends) same
+    one_ends y (variable_reg i o there emission same) = ap (item_ends ends) same
+    one_ends y (result_wire i k o r there emission at same) = ap (item_ends ends) same
+    one_ends y (net_assign i o there emission same) = ap (item_ends ends) same
+    one_ends y (variable_block i o r there emission at same) = ap (item_ends ends) same
+    one_ends y (an_instance i o z there emission at same) = ap (item_ends ends) same ∙ each_ends i o z there at
     one_ends y (output_assign j p there out same) = ap (item_ends ends) same
 
     all_end : (ys : List Item) → ((y : Item) → In y ys → From d m y) → instances_end ends ys ≡ true

@@ -11,11 +11,11 @@ use Rattle.verilog_model.specs.Tree.{VPort, Connection, Item}
 use Rattle.verilog_model.specs.Hierarchy.{find_vmodule, find_port, find_connection, vports_of}
 use Rattle.verilog_model.specs.Checks.{Declared, connections_check, connection_checks, joins_inputs, ports_joined, item_checks, declared_by, items_check, declared_ports, are_distinct}
 use Rattle.verilog_model.proofs.Numerals.{and_intro}
-use Rattle.export_verilog.specs.Keys.{each, role_of}
-use Rattle.export_verilog.specs.Keys.Key.{port_key}
-use Rattle.export_verilog.specs.Keys.Role.{block}
+use Rattle.export_verilog.specs.Identifiers.{each, emission_of}
+use Rattle.export_verilog.specs.Identifiers.Identifier.{port_identifier}
+use Rattle.export_verilog.specs.Identifiers.Emission.{block}
 use Rattle.export_verilog.specs.Exported.{symbol_name, connections_of, connections_to, vport, vports, vitems, vmodule, tree_of, declares, states, output_assigns}
-use Rattle.export_verilog.proofs.names.KeysOf.{from_each, port_in}
+use Rattle.export_verilog.proofs.names.IdentifiersOf.{from_each, port_in}
 use Rattle.export_verilog.proofs.names.Symbols.{vmodule_found}
 use Rattle.export_verilog.proofs.items.Items.{connection_of, from_connections, instance_at, From, from_items}
 use Rattle.export_verilog.proofs.items.Items.From.{net_wire, variable_reg, result_wire, net_assign, variable_block, an_instance, output_assign}
@@ -43,7 +43,7 @@ module _ (d : Design) (x : Setting d) (s : Name) (m : Module) (is : find_module 
         there : (j : ℕ) (q : Port) → slice_get c.module_of.ports j ≡ Some q → In p (vport c.module_of j q) → is_some (find_connection cs p.name) ≡ true
         there j q at (inl e) =
             ap (λ (z : VPort). is_some (find_connection cs z.name)) e
-            ∙ ap is_some (connection_under c.module_of m i o (x.names c.kind.symbol c.module_of c.there) (port_key j) (port_in c.module_of j q at)
+            ∙ ap is_some (connection_under c.module_of m i o (x.names c.kind.symbol c.module_of c.there) (port_identifier j) (port_in c.module_of j q at)
             ∙ ap (omap (λ z. connection_of c.module_of m i j 0 (take j c.module_of.ports) z o.operands)) at)
         there j q at (inr never) = absurd never
 
@@ -51,30 +51,30 @@ module _ (d : Design) (x : Setting d) (s : Name) (m : Module) (is : find_module 
         joined e = there e.0 e.1 e.2 e.3
 
   module _ (known : List Declared) (knows : KnowsAll d x s m is known) where
-    instance_good : (i : ℕ) (o : Op) (y : Instance) → slice_get m.body i ≡ Some o → role_of m.ports m.body i o ≡ block → instance_in o.kind ≡ Some y → item_checks (tree_of d) known (instance_at d m i o y) ≡ true
-    instance_good i o y there role kind =
+    instance_good : (i : ℕ) (o : Op) (y : Instance) → slice_get m.body i ≡ Some o → emission_of m.ports m.body i o ≡ block → instance_in o.kind ≡ Some y → item_checks (tree_of d) known (instance_at d m i o y) ≡ true
+    instance_good i o y there emission kind =
         let c : Called d m o = called_by d x s m is i o there y kind in
         let found_so : find_vmodule (tree_of d) (symbol_name d y.symbol) ≡ Some (vmodule d c.module_of) = vmodule_found d x.ok x.symbols y.symbol c.module_of c.there in
         let cs = connections_of c.module_of m i 0 0 c.module_of.ports o.operands in
         let joined_here : connections_to (find_module d y.symbol) m i o ≡ cs = ap (λ z. connections_to z m i o) c.there in
         ap₂ (λ f es. is_some f && (connections_check known (vports_of f) es && ports_joined (vports_of f) es)) found_so joined_here
         ∙ and_intro (connections_check known (vports c.module_of) cs) (ports_joined (vports c.module_of) cs)
-        (all_connections d x s m is known knows i o there role c cs (λ e h. each_good i o there role c e (from_connections c.module_of m i 0 0 c.module_of.ports o.operands e h)))
+        (all_connections d x s m is known knows i o there emission c cs (λ e h. each_good i o there emission c e (from_connections c.module_of m i 0 0 c.module_of.ports o.operands e h)))
         (and_intro (joins_inputs (vports c.module_of) cs) (are_distinct (map (λ (z : Connection). z.port) cs)) (inputs_joined i o c (vports c.module_of) (λ p h. h))
         (ports_distinct c.module_of m (x.names c.kind.symbol c.module_of c.there) i o.operands)) where
-          each_good : (i : ℕ) (o : Op) → slice_get m.body i ≡ Some o → role_of m.ports m.body i o ≡ block → (c : Called d m o) → (e : Connection)
+          each_good : (i : ℕ) (o : Op) → slice_get m.body i ≡ Some o → emission_of m.ports m.body i o ≡ block → (c : Called d m o) → (e : Connection)
               → (n : ℕ) × (p : Port) × (slice_get c.module_of.ports n ≡ Some p) × (e ≡ connection_of c.module_of m i (0 + n) 0 (take n c.module_of.ports) p o.operands)
               → connection_checks known (find_port (vports c.module_of) e.port) e.value ≡ true
-          each_good i o there role c e h =
-              connection_good d x s m is known knows i o there role c h.0 h.1 h.2 e (h.3 ∙ ap (λ a. connection_of c.module_of m i a 0 (take h.0 c.module_of.ports) h.1 o.operands) (zero-add h.0))
+          each_good i o there emission c e h =
+              connection_good d x s m is known knows i o there emission c h.0 h.1 h.2 e (h.3 ∙ ap (λ a. connection_of c.module_of m i a 0 (take h.0 c.module_of.ports) h.1 o.operands) (zero-add h.0))
 
     item_good : (y : Item) → From d m y → item_checks (tree_of d) known y ≡ true
-    item_good y (net_wire i o there role same) = ap (item_checks (tree_of d) known) same ∙ high_decimal (width_of (result_type o 0)) (first_small d x s m is i o there)
-    item_good y (variable_reg i o there role same) = ap (item_checks (tree_of d) known) same ∙ high_decimal (width_of (result_type o 0)) (first_small d x s m is i o there)
-    item_good y (result_wire i k o r there role at same) = ap (item_checks (tree_of d) known) same ∙ high_decimal (width r.type) (result_small d x s m is i k o r there at)
-    item_good y (net_assign i o there role same) = ap (item_checks (tree_of d) known) same ∙ net_good d x s m is known knows i o there role
-    item_good y (variable_block i o r there role at same) = ap (item_checks (tree_of d) known) same ∙ register_good d x s m is known knows i o r there role at
-    item_good y (an_instance i o z there role at same) = ap (item_checks (tree_of d) known) same ∙ instance_good i o z there role at
+    item_good y (net_wire i o there emission same) = ap (item_checks (tree_of d) known) same ∙ high_decimal (width_of (result_type o 0)) (first_small d x s m is i o there)
+    item_good y (variable_reg i o there emission same) = ap (item_checks (tree_of d) known) same ∙ high_decimal (width_of (result_type o 0)) (first_small d x s m is i o there)
+    item_good y (result_wire i k o r there emission at same) = ap (item_checks (tree_of d) known) same ∙ high_decimal (width r.type) (result_small d x s m is i k o r there at)
+    item_good y (net_assign i o there emission same) = ap (item_checks (tree_of d) known) same ∙ net_good d x s m is known knows i o there emission
+    item_good y (variable_block i o r there emission at same) = ap (item_checks (tree_of d) known) same ∙ register_good d x s m is known knows i o r there emission at
+    item_good y (an_instance i o z there emission at same) = ap (item_checks (tree_of d) known) same ∙ instance_good i o z there emission at
     item_good y (output_assign j p there out same) = ap (item_checks (tree_of d) known) same ∙ output_good d x s m is known knows j p there out
 
   all_good : (known : List Declared) → KnowsAll d x s m is known → (ys : List Item) → ((y : Item) → In y ys → From d m y) → items_check (tree_of d) known ys ≡ true

@@ -16,36 +16,36 @@ use Rattle.verilog_expr.proofs.Checked.{IsWell, IsWide}
 use Rattle.verilog_expr.proofs.BodiesChecked.{AreKnown, body_well, own_well}
 use Rattle.verilog_expr.proofs.Depths.{expressions_hold}
 use Rattle.verilog_expr.specs.Values.{gives_values}
-use Rattle.export_verilog.specs.Keys.{Key, Role, role_of, key_text, module_keys, named}
-use Rattle.export_verilog.specs.Keys.Key.{port_key, value_key}
-use Rattle.export_verilog.specs.Keys.Role.{hidden, net, variable, block}
+use Rattle.export_verilog.specs.Identifiers.{Identifier, Emission, emission_of, identifier_text, module_identifiers, named}
+use Rattle.export_verilog.specs.Identifiers.Identifier.{port_identifier, value_identifier}
+use Rattle.export_verilog.specs.Identifiers.Emission.{hidden, net, variable, block}
 use Rattle.export_verilog.specs.Exported.{expression, assigned_expr}
-use Rattle.export_verilog.proofs.names.KeyNames.{text_named, name_is_identifier}
-use Rattle.export_verilog.proofs.names.KeysOf.{Owner, owner_of, port_in}
-use Rattle.export_verilog.proofs.names.KeysOf.Owner.{a_port, a_net, a_variable, an_instance as owns_instance, a_result}
+use Rattle.export_verilog.proofs.names.IdentifierNames.{text_named, name_is_identifier}
+use Rattle.export_verilog.proofs.names.IdentifiersOf.{Owner, owner_of, port_in}
+use Rattle.export_verilog.proofs.names.IdentifiersOf.Owner.{a_port, a_net, a_variable, an_instance as owns_instance, a_result}
 use Rattle.export_verilog.proofs.items.Settings.{Setting, module_ok, one_result_of, result_at_first}
 use Rattle.export_verilog.proofs.items.Writable.{NamedAs, named_as, writable}
 use Rattle.export_verilog.proofs.behaviour.Sources.{inner_acyclic}
 use Rattle.export_verilog.proofs.items.Writable.NamedAs.{by_port, by_value}
-use Rattle.export_verilog.proofs.checks.Known.{identifier_word, declared_port, declared_result, result_role, KnowsAll}
+use Rattle.export_verilog.proofs.checks.Known.{identifier_word, declared_port, declared_result, result_emission, KnowsAll}
 
 module _ (d : Design) (x : Setting d) (s : Name) (m : Module) (is : find_module d s ≡ Some m) (known : List Declared) (knows : KnowsAll d x s m is known) where
   -- what a thing that is no instance is declared as
-  pub record IsDeclared (k : Key) : Type 0 where
+  pub record IsDeclared (k : Identifier) : Type 0 where
     pub as_it : Declared
-    pub found : find_declared known (key_text m k) ≡ Some as_it
+    pub found : find_declared known (identifier_text m k) ≡ Some as_it
 
-  pub found_port : (j : ℕ) (p : Port) → slice_get m.ports j ≡ Some p → find_declared known (key_text m (port_key j)) ≡ Some (declared_port m j p)
+  pub found_port : (j : ℕ) (p : Port) → slice_get m.ports j ≡ Some p → find_declared known (identifier_text m (port_identifier j)) ≡ Some (declared_port m j p)
   unfolding KnowsAll
-  found_port j p there = knows (port_key j) (declared_port m j p) (port_in m j p there) (ap (omap (declared_port m j)) there)
+  found_port j p there = knows (port_identifier j) (declared_port m j p) (port_in m j p there) (ap (omap (declared_port m j)) there)
 
-  pub found_result : (i k : ℕ) (o : Op) (r : OpResult) → In (value_key i k) (module_keys m) → slice_get m.body i ≡ Some o → slice_get o.results k ≡ Some r
-      → find_declared known (key_text m (value_key i k)) ≡ Some (declared_result m i k o r)
+  pub found_result : (i k : ℕ) (o : Op) (r : OpResult) → In (value_identifier i k) (module_identifiers m) → slice_get m.body i ≡ Some o → slice_get o.results k ≡ Some r
+      → find_declared known (identifier_text m (value_identifier i k)) ≡ Some (declared_result m i k o r)
   unfolding KnowsAll
   found_result i k o r here there at =
-      knows (value_key i k) (declared_result m i k o r) here (ap (λ z. bind z (λ (q : Op). omap (declared_result m i k q) (slice_get q.results k))) there ∙ ap (omap (declared_result m i k o)) at)
+      knows (value_identifier i k) (declared_result m i k o r) here (ap (λ z. bind z (λ (q : Op). omap (declared_result m i k q) (slice_get q.results k))) there ∙ ap (omap (declared_result m i k o)) at)
 
-  readable : (q : Role) → can_read (result_role q) ≡ true
+  readable : (q : Emission) → can_read (result_emission q) ≡ true
   readable hidden = refl
   readable net = refl
   readable variable = refl
@@ -65,33 +65,33 @@ module _ (d : Design) (x : Setting d) (s : Name) (m : Module) (is : find_module 
     pub result_of : OpResult
     pub at : slice_get op.results k ≡ Some result_of
 
-  pub result_of_key : (i k : ℕ) → In (value_key i k) (module_keys m) → ResultAt i k
-  result_of_key i k here = go (owner_of m (value_key i k) here) where
-    value_places : (j l : ℕ) → value_key i k ≡ value_key j l → (j ≡ i) × (l ≡ k)
+  pub result_of_identifier : (i k : ℕ) → In (value_identifier i k) (module_identifiers m) → ResultAt i k
+  result_of_identifier i k here = go (owner_of m (value_identifier i k) here) where
+    value_places : (j l : ℕ) → value_identifier i k ≡ value_identifier j l → (j ≡ i) × (l ≡ k)
     value_places j l e = let f : j ≡ i = cc in let g : l ≡ k = cc in (f, g)
 
     at_place : (j l : ℕ) (o : Op) (r : OpResult) → slice_get m.body j ≡ Some o → slice_get o.results l ≡ Some r → (j ≡ i) × (l ≡ k) → ResultAt i k
     at_place j l o r there at e = record { op = o; there = ap (slice_get m.body) (sym e.0) ∙ there; result_of = r; at = ap (slice_get o.results) (sym e.1) ∙ at }
 
-    go : Owner m (value_key i k) → ResultAt i k
+    go : Owner m (value_identifier i k) → ResultAt i k
     go (a_port j p there e) = cc
-    go (a_net j o there role e) = let r = result_at_first d x s m is j o there (inl role) in at_place j 0 o r.0 there r.1 (value_places j 0 e)
-    go (a_variable j o there role e) = let r = result_at_first d x s m is j o there (inr role) in at_place j 0 o r.0 there r.1 (value_places j 0 e)
-    go (owns_instance j o there role e) = cc
-    go (a_result j l o r there role at e) = at_place j l o r there at (value_places j l e)
+    go (a_net j o there emission e) = let r = result_at_first d x s m is j o there (inl emission) in at_place j 0 o r.0 there r.1 (value_places j 0 e)
+    go (a_variable j o there emission e) = let r = result_at_first d x s m is j o there (inr emission) in at_place j 0 o r.0 there r.1 (value_places j 0 e)
+    go (owns_instance j o there emission e) = cc
+    go (a_result j l o r there emission at e) = at_place j l o r there at (value_places j l e)
 
-  name_well : (k : Key) (c : Declared) → In k (module_keys m) → find_declared known (key_text m k) ≡ Some c → can_read c.role ≡ true → IsWell known (name (key_text m k))
+  name_well : (k : Identifier) (c : Declared) → In k (module_identifiers m) → find_declared known (identifier_text m k) ≡ Some c → can_read c.role ≡ true → IsWell known (name (identifier_text m k))
   name_well k c here found_so can = record {
-    words = identifier_word (key_text m k) (name_is_identifier m (x.names s m is) k (key_text m k) (text_named m (x.names s m is) k here));
+    words = identifier_word (identifier_text m k) (name_is_identifier m (x.names s m is) k (identifier_text m k) (text_named m (x.names s m is) k here));
     checks = ap (has_role can_read) found_so ∙ can;
   }
 
-  name_wide : (w : ℕ) (k : Key) (c : Declared) → In k (module_keys m) → find_declared known (key_text m k) ≡ Some c → can_read c.role ≡ true → c.high ≡ high_of w → 1 < w → w < 2 ^ 64
-      → IsWide known w (name (key_text m k))
+  name_wide : (w : ℕ) (k : Identifier) (c : Declared) → In k (module_identifiers m) → find_declared known (identifier_text m k) ≡ Some c → can_read c.role ≡ true → c.high ≡ high_of w → 1 < w → w < 2 ^ 64
+      → IsWide known w (name (identifier_text m k))
   name_wide w k c here found_so can high many small = record {
-    called = key_text m k;
+    called = identifier_text m k;
     same = refl;
-    word = identifier_word (key_text m k) (name_is_identifier m (x.names s m is) k (key_text m k) (text_named m (x.names s m is) k here));
+    word = identifier_word (identifier_text m k) (name_is_identifier m (x.names s m is) k (identifier_text m k) (text_named m (x.names s m is) k here));
     bits = λ b below. ap (λ o. has_bit o b) found_so ∙ ap₂ (λ p h. p && within h b) can high ∙ bit_within w b many below small;
   }
 
@@ -107,9 +107,9 @@ module _ (d : Design) (x : Setting d) (s : Name) (m : Module) (is : find_module 
   names_well : (r : Ref) (n : Name) → named m r ≡ Some n → IsWell known (name n)
   names_well r n e = go (named_as d x s m is r n e) where
     go : NamedAs d x s m is n r → IsWell known (name n)
-    go (by_port j p there out e f) = subst (λ z. IsWell known (name z)) (sym f) (name_well (port_key j) (declared_port m j p) (port_in m j p there) (found_port j p there) (ap (λ b. can_read (port_role b)) out))
-    go (by_value i k here e f) = let r = result_of_key i k here in
-        subst (λ z. IsWell known (name z)) (sym f) (name_well (value_key i k) (declared_result m i k r.op r.result_of) here (found_result i k r.op r.result_of here r.there r.at) (readable (role_of m.ports m.body i r.op)))
+    go (by_port j p there out e f) = subst (λ z. IsWell known (name z)) (sym f) (name_well (port_identifier j) (declared_port m j p) (port_in m j p there) (found_port j p there) (ap (λ b. can_read (port_role b)) out))
+    go (by_value i k here e f) = let r = result_of_identifier i k here in
+        subst (λ z. IsWell known (name z)) (sym f) (name_well (value_identifier i k) (declared_result m i k r.op r.result_of) here (found_result i k r.op r.result_of here r.there r.at) (readable (emission_of m.ports m.body i r.op)))
 
   names_wide : (r : Ref) (n : Name) → named m r ≡ Some n → 1 < value_width m.ports m.body r → IsWide known (value_width m.ports m.body r) (name n)
   names_wide r n e many = go (named_as d x s m is r n e) where
@@ -120,13 +120,13 @@ module _ (d : Design) (x : Setting d) (s : Name) (m : Module) (is : find_module 
     go (by_port j p there out e f) =
         let whole : value_width m.ports m.body r ≡ width p.type = ap (value_width m.ports m.body) e ∙ width_of_port j p there out in
         subst (λ z. IsWide known (value_width m.ports m.body r) (name z)) (sym f)
-        (name_wide (value_width m.ports m.body r) (port_key j) (declared_port m j p) (port_in m j p there) (found_port j p there) (ap (λ b. can_read (port_role b)) out) (ap high_of (sym whole)) many small)
+        (name_wide (value_width m.ports m.body r) (port_identifier j) (declared_port m j p) (port_in m j p there) (found_port j p there) (ap (λ b. can_read (port_role b)) out) (ap high_of (sym whole)) many small)
     go (by_value i k here e f) =
-        let q = result_of_key i k here in
+        let q = result_of_identifier i k here in
         let whole : value_width m.ports m.body r ≡ width q.result_of.type = ap (value_width m.ports m.body) e ∙ width_of_result i k q in
         subst (λ z. IsWide known (value_width m.ports m.body r) (name z)) (sym f)
-        (name_wide (value_width m.ports m.body r) (value_key i k) (declared_result m i k q.op q.result_of) here (found_result i k q.op q.result_of here q.there q.at)
-        (readable (role_of m.ports m.body i q.op)) (ap high_of (sym whole)) many small)
+        (name_wide (value_width m.ports m.body r) (value_identifier i k) (declared_result m i k q.op q.result_of) here (found_result i k q.op q.result_of here q.there q.at)
+        (readable (emission_of m.ports m.body i q.op)) (ap high_of (sym whole)) many small)
 
   are_known : AreKnown known (named m) m.ports m.body
   are_known = record { well = names_well; wide = names_wide }

@@ -16,18 +16,18 @@ use Rattle.verilog_model.specs.Checks.{Declared, find_declared, can_assign, is_v
 use Rattle.verilog_model.proofs.Numerals.{and_intro, is_decimal-decimal}
 use Rattle.verilog_expr.specs.Numerals.{high_of}
 use Rattle.verilog_expr.specs.Values.{gives_values}
-use Rattle.export_verilog.specs.Keys.{Role, each, role_of, key_text, named, name_or_nothing}
-use Rattle.export_verilog.specs.Keys.Key.{port_key, value_key}
-use Rattle.export_verilog.specs.Keys.Role.{hidden, net, variable, block}
+use Rattle.export_verilog.specs.Identifiers.{Emission, each, emission_of, identifier_text, named, name_or_nothing}
+use Rattle.export_verilog.specs.Identifiers.Identifier.{port_identifier, value_identifier}
+use Rattle.export_verilog.specs.Identifiers.Emission.{hidden, net, variable, block}
 use Rattle.export_verilog.specs.Exported.{expression, assigned_expr, block_of, loads, vports, tree_of, declares, declared_as}
-use Rattle.export_verilog.proofs.names.KeysOf.{from_each, port_in, net_in, variable_in, result_in_keys, made_of_role}
+use Rattle.export_verilog.proofs.names.IdentifiersOf.{from_each, port_in, net_in, variable_in, result_in_identifiers, made_of_emission}
 use Rattle.export_verilog.proofs.items.Items.{output_count, expr_for, connection_of, from_wires, block_at}
 use Rattle.export_verilog.proofs.items.Lookups.{port_under, vport_at}
 use Rattle.export_verilog.proofs.items.Drives.{place_of_output}
 use Rattle.export_verilog.proofs.items.Registers.{AreOperands, typed_register}
 use Rattle.export_verilog.proofs.items.Settings.{Setting, Called, module_ok, module_sound, result_at_first}
 use Rattle.export_verilog.proofs.items.Writable.{named_input}
-use Rattle.export_verilog.proofs.checks.Known.{result_role, KnowsAll}
+use Rattle.export_verilog.proofs.checks.Known.{result_emission, KnowsAll}
 use Rattle.export_verilog.proofs.checks.Readable.{found_port, found_result, expression_well, assigned_well}
 
 -- ---- ranges
@@ -85,14 +85,14 @@ module _ (d : Design) (x : Setting d) (s : Name) (m : Module) (is : find_module 
 
   -- a declaration meets the checks whatever is known
   pub declaration_checks : (y : Item) (kn : List Declared) → In y (each (declares m) 0 m.body) → item_checks t kn y ≡ true
-  declaration_checks y kn here = let e = from_each (declares m) m.body y here in go e.0 e.1 e.2 (role_of m.ports m.body e.0 e.1) refl e.3 where
-    go : (i : ℕ) (o : Op) → slice_get m.body i ≡ Some o → (role : Role) → role_of m.ports m.body i o ≡ role → In y (declared_as m i o role) → item_checks t kn y ≡ true
-    go i o there hidden role h = absurd h
-    go i o there net role (inl e) = ap (item_checks t kn) e ∙ high_decimal (width_of (result_type o 0)) (first_small i o there)
-    go i o there net role (inr never) = absurd never
-    go i o there variable role (inl e) = ap (item_checks t kn) e ∙ high_decimal (width_of (result_type o 0)) (first_small i o there)
-    go i o there variable role (inr never) = absurd never
-    go i o there block role h = let w = from_wires m i 0 o.results y h in
+  declaration_checks y kn here = let e = from_each (declares m) m.body y here in go e.0 e.1 e.2 (emission_of m.ports m.body e.0 e.1) refl e.3 where
+    go : (i : ℕ) (o : Op) → slice_get m.body i ≡ Some o → (emission : Emission) → emission_of m.ports m.body i o ≡ emission → In y (declared_as m i o emission) → item_checks t kn y ≡ true
+    go i o there hidden emission h = absurd h
+    go i o there net emission (inl e) = ap (item_checks t kn) e ∙ high_decimal (width_of (result_type o 0)) (first_small i o there)
+    go i o there net emission (inr never) = absurd never
+    go i o there variable emission (inl e) = ap (item_checks t kn) e ∙ high_decimal (width_of (result_type o 0)) (first_small i o there)
+    go i o there variable emission (inr never) = absurd never
+    go i o there block emission h = let w = from_wires m i 0 o.results y h in
         ap (item_checks t kn) w.3 ∙ high_decimal (width w.1.type) (result_small i w.0 o w.1 there w.2)
 
   module _ (known : List Declared) (knows : KnowsAll d x s m is known) where
@@ -126,41 +126,41 @@ module _ (d : Design) (x : Setting d) (s : Name) (m : Module) (is : find_module 
           (and_intro (expr_checks known (expression m b.signal)) (load_checks known q (loads q (expression m b.value))) (good b.signal _ (are.signal b v)) (load_good q b.value ty (are.value b v)))
           (and_intro (expr_checks known (expression m e)) (load_checks known q (loads q (expression m r.next))) (good e _ (are.enable e u)) next_good)
 
-    pub register_good : (i : ℕ) (o : Op) (r : Register) → slice_get m.body i ≡ Some o → role_of m.ports m.body i o ≡ variable → register_in o ≡ Some r → item_checks t known (block_at m i r) ≡ true
-    register_good i o r there role is_register_of =
-        let first = result_at_first d x s m is i o there (inr role) in
-        let typed = typed_register d x s m is i o there role first.0.type (typed_first o first.0 first.1) in
+    pub register_good : (i : ℕ) (o : Op) (r : Register) → slice_get m.body i ≡ Some o → emission_of m.ports m.body i o ≡ variable → register_in o ≡ Some r → item_checks t known (block_at m i r) ≡ true
+    register_good i o r there emission is_register_of =
+        let first = result_at_first d x s m is i o there (inr emission) in
+        let typed = typed_register d x s m is i o there emission first.0.type (typed_first o first.0 first.1) in
         let same : typed.0 ≡ r = (let e : Some typed.0 ≡ Some r = sym typed.1 ∙ is_register_of in let f : typed.0 ≡ r = cc in f) in
         let are : AreOperands (type_in m.ports m.body) first.0.type r = subst (AreOperands (type_in m.ports m.body) first.0.type) same typed.2 in
         let c = ((module_ok d x s m is).ops i o there).clocked r is_register_of in
-        let clock_name : name_or_nothing (named m r.clock) ≡ key_text m (port_key c.number) = ap (λ z. name_or_nothing (named m z)) c.is_port ∙ ap name_or_nothing (named_input d x s m is c.number c.clock c.there c.input) in
-        let q = key_text m (value_key i 0) in
+        let clock_name : name_or_nothing (named m r.clock) ≡ identifier_text m (port_identifier c.number) = ap (λ z. name_or_nothing (named m z)) c.is_port ∙ ap name_or_nothing (named_input d x s m is c.number c.clock c.there c.input) in
+        let q = identifier_text m (value_identifier i 0) in
         let b = block_of (expression m) q r.next r.enable r.reset in
         let target : block_target b ≡ q = target_of q r.next r.enable r.reset in
         and_intro (has_role is_input (find_declared known (name_or_nothing (named m r.clock)))) (has_role is_variable (find_declared known (block_target b)) && block_checks known (block_target b) b)
         (ap (λ n. has_role is_input (find_declared known n)) clock_name ∙ ap (has_role is_input) (found_port d x s m is known knows c.number c.clock c.there) ∙ ap (λ z. is_input (port_role z)) c.input)
         (and_intro (has_role is_variable (find_declared known (block_target b))) (block_checks known (block_target b) b)
-        (ap (λ n. has_role is_variable (find_declared known n)) target ∙ ap (has_role is_variable) (found_result d x s m is known knows i 0 o first.0 (variable_in m i o there role) there first.1) ∙ ap (λ z. is_variable (result_role z)) role)
+        (ap (λ n. has_role is_variable (find_declared known n)) target ∙ ap (has_role is_variable) (found_result d x s m is known knows i 0 o first.0 (variable_in m i o there emission) there first.1) ∙ ap (λ z. is_variable (result_emission z)) emission)
         (ap (λ n. block_checks known n b) target ∙ block_good q first.0.type r are))
 
     -- ---- wires and outputs
 
-    pub net_good : (i : ℕ) (o : Op) → slice_get m.body i ≡ Some o → role_of m.ports m.body i o ≡ net → item_checks t known (assign (key_text m (value_key i 0)) (assigned_expr m (result i 0))) ≡ true
-    net_good i o there role =
-        let first = result_at_first d x s m is i o there (inl role) in
-        let sort = made_of_role m.ports m.body i o role in
-        and_intro (has_role can_assign (find_declared known (key_text m (value_key i 0)))) (expr_checks known (assigned_expr m (result i 0)))
-        (ap (has_role can_assign) (found_result d x s m is known knows i 0 o first.0 (net_in m i o there role) there first.1) ∙ ap (λ z. can_assign (result_role z)) role)
+    pub net_good : (i : ℕ) (o : Op) → slice_get m.body i ≡ Some o → emission_of m.ports m.body i o ≡ net → item_checks t known (assign (identifier_text m (value_identifier i 0)) (assigned_expr m (result i 0))) ≡ true
+    net_good i o there emission =
+        let first = result_at_first d x s m is i o there (inl emission) in
+        let sort = made_of_emission m.ports m.body i o emission in
+        and_intro (has_role can_assign (find_declared known (identifier_text m (value_identifier i 0)))) (expr_checks known (assigned_expr m (result i 0)))
+        (ap (has_role can_assign) (found_result d x s m is known knows i 0 o first.0 (net_in m i o there emission) there first.1) ∙ ap (λ z. can_assign (result_emission z)) emission)
         ((assigned_well d x s m is known knows i 0 o first.0.type there (values sort.0 sort.1 sort.2) (typed_first o first.0 first.1)).checks) where
           values : register_form o.kind ≡ None → instance_in o.kind ≡ None → is_output_kind o.kind ≡ false → gives_values o ≡ true
           values r n u = simp (r, n, u) refl
 
     pub output_good : (j : ℕ) (p : Port) → slice_get m.ports j ≡ Some p → p.is_output ≡ true
-        → item_checks t known (assign (key_text m (port_key j)) (expr_for (expression m) (slice_get (output_refs m.body) (output_count (take j m.ports))))) ≡ true
+        → item_checks t known (assign (identifier_text m (port_identifier j)) (expr_for (expression m) (slice_get (output_refs m.body) (output_count (take j m.ports))))) ≡ true
     output_good j p there out =
         let at = place_of_output m.ports j p there out in
         let g = placed_in (type_in m.ports m.body) (λ (u : HwType). Some u) (output_refs m.body) (output_types m.ports) (output_count (take j m.ports)) p.type ((module_sound d x s m is).outputs) at.1 in
-        and_intro (has_role can_assign (find_declared known (key_text m (port_key j)))) (expr_checks known (expr_for (expression m) (slice_get (output_refs m.body) (output_count (take j m.ports)))))
+        and_intro (has_role can_assign (find_declared known (identifier_text m (port_identifier j)))) (expr_checks known (expr_for (expression m) (slice_get (output_refs m.body) (output_count (take j m.ports)))))
         (ap (has_role can_assign) (found_port d x s m is known knows j p there) ∙ ap (λ z. can_assign (port_role z)) out)
         (ap (λ z. expr_checks known (expr_for (expression m) z)) g.1 ∙ good g.0 p.type g.2)
 
@@ -176,30 +176,30 @@ module _ (d : Design) (x : Setting d) (s : Name) (m : Module) (is : find_module 
           map_same [] = refl
           map_same (u ∷ us) = ap (λ z. u ∷ z) (map_same us)
 
-    pub connection_good : (i : ℕ) (o : Op) → slice_get m.body i ≡ Some o → role_of m.ports m.body i o ≡ block → (c : Called d m o) → (j : ℕ) (p : Port) → slice_get c.module_of.ports j ≡ Some p
+    pub connection_good : (i : ℕ) (o : Op) → slice_get m.body i ≡ Some o → emission_of m.ports m.body i o ≡ block → (c : Called d m o) → (j : ℕ) (p : Port) → slice_get c.module_of.ports j ≡ Some p
         → (e : Connection) → e ≡ connection_of c.module_of m i j 0 (take j c.module_of.ports) p o.operands
         → connection_checks known (find_port (vports c.module_of) e.port) e.value ≡ true
-    connection_good i o there role c j p at e same =
+    connection_good i o there emission c j p at e same =
         ap (λ (z : Connection). connection_checks known (find_port (vports c.module_of) z.port) z.value) same
         ∙ ap (λ z. connection_checks known z (connection_of c.module_of m i j 0 (take j c.module_of.ports) p o.operands).value)
-        (port_under c.module_of (x.names c.kind.symbol c.module_of c.there) (port_key j) (port_in c.module_of j p at) ∙ ap (omap (vport_at c.module_of j)) at)
+        (port_under c.module_of (x.names c.kind.symbol c.module_of c.there) (port_identifier j) (port_in c.module_of j p at) ∙ ap (omap (vport_at c.module_of j)) at)
         ∙ go p.is_output refl where
           n : ℕ
           n = output_count (take j c.module_of.ports)
 
           value_at : Bool → Expr
-          value_at b = cond b (name (key_text m (value_key i (0 + n)))) (expr_for (expression m) (slice_get o.operands (input_count (take j c.module_of.ports))))
+          value_at b = cond b (name (identifier_text m (value_identifier i (0 + n)))) (expr_for (expression m) (slice_get o.operands (input_count (take j c.module_of.ports))))
 
           go : (b : Bool) → p.is_output ≡ b → cond b (joins_net known (value_at b)) (expr_checks known (value_at b)) ≡ true
           go true out = let r = result_there i o c j p at out in
-              ap (λ a. has_role can_assign (find_declared known (key_text m (value_key i a)))) (zero-add n)
-              ∙ ap (has_role can_assign) (found_result d x s m is known knows i n o r.0 (result_in_keys m i n o r.0 there role r.1) there r.1) ∙ ap (λ z. can_assign (result_role z)) role
+              ap (λ a. has_role can_assign (find_declared known (identifier_text m (value_identifier i a)))) (zero-add n)
+              ∙ ap (has_role can_assign) (found_result d x s m is known knows i n o r.0 (result_in_identifiers m i n o r.0 there emission r.1) there r.1) ∙ ap (λ z. can_assign (result_emission z)) emission
           go false out =
               let g = placed_in (type_in m.ports m.body) (λ (u : HwType). Some u) o.operands (input_types c.module_of.ports) (input_count (take j c.module_of.ports)) p.type c.inputs (place_of_input c.module_of.ports j p at out) in
               ap (λ z. expr_checks known (expr_for (expression m) z)) g.1 ∙ good g.0 p.type g.2
 
-    pub all_connections : (i : ℕ) (o : Op) → slice_get m.body i ≡ Some o → role_of m.ports m.body i o ≡ block → (c : Called d m o) → (cs : List Connection)
+    pub all_connections : (i : ℕ) (o : Op) → slice_get m.body i ≡ Some o → emission_of m.ports m.body i o ≡ block → (c : Called d m o) → (cs : List Connection)
         → ((e : Connection) → In e cs → connection_checks known (find_port (vports c.module_of) e.port) e.value ≡ true) → connections_check known (vports c.module_of) cs ≡ true
-    all_connections i o there role c [] all = refl
-    all_connections i o there role c (e ∷ cs) all =
-        and_intro (connection_checks known (find_port (vports c.module_of) e.port) e.value) (connections_check known (vports c.module_of) cs) (all e (inl refl)) (all_connections i o there role c cs (λ f h. all f (inr h)))
+    all_connections i o there emission c [] all = refl
+    all_connections i o there emission c (e ∷ cs) all =
+        and_intro (connection_checks known (find_port (vports c.module_of) e.port) e.value) (connections_check known (vports c.module_of) cs) (all e (inl refl)) (all_connections i o there emission c cs (λ f h. all f (inr h)))

@@ -14,19 +14,19 @@ use Rattle.verilog_model.specs.Tree.Expr.{name}
 use Rattle.verilog_model.specs.Tree.Item.{assign}
 use Rattle.verilog_model.specs.Hierarchy.{first_some, or_else, when, find_port, VPath, vnet, Drive, block_target, loads, vbase, vstate_before, is_name, joined_output, vports_of, item_drive, inner_drive, drive_in, drive_or_nothing, width_in}
 use Rattle.verilog_model.specs.Hierarchy.Drive.{nothing, held, expression as driven_by, net as driven_from}
-use Rattle.export_verilog.specs.Keys.{Key, Role, role_of, key_text, module_keys}
-use Rattle.export_verilog.specs.Keys.Key.{port_key, value_key, instance_key}
-use Rattle.export_verilog.specs.Keys.Role.{hidden, net, variable, block}
+use Rattle.export_verilog.specs.Identifiers.{Identifier, Emission, emission_of, identifier_text, module_identifiers}
+use Rattle.export_verilog.specs.Identifiers.Identifier.{port_identifier, value_identifier, instance_identifier}
+use Rattle.export_verilog.specs.Identifiers.Emission.{hidden, net, variable, block}
 use Rattle.export_verilog.specs.Exported.{expression, assigned_expr, block_of, connections_of, connections_to, vports, vitems, vmodule, tree_of}
 use Rattle.export_verilog.proofs.items.Lists.{first_found}
-use Rattle.export_verilog.proofs.names.KeyNames.{AreNames, texts_apart}
-use Rattle.export_verilog.proofs.names.KeysOf.{Owner, owner_of, port_in, net_in, variable_in, result_in_keys}
-use Rattle.export_verilog.proofs.names.KeysOf.Owner.{a_port, a_net, a_variable, an_instance as owns_instance, a_result}
+use Rattle.export_verilog.proofs.names.IdentifierNames.{AreNames, texts_apart}
+use Rattle.export_verilog.proofs.names.IdentifiersOf.{Owner, owner_of, port_in, net_in, variable_in, result_in_identifiers}
+use Rattle.export_verilog.proofs.names.IdentifiersOf.Owner.{a_port, a_net, a_variable, an_instance as owns_instance, a_result}
 use Rattle.export_verilog.proofs.names.Symbols.{when_some, vmodule_found}
 use Rattle.export_verilog.proofs.items.Items.{output_count, expr_for, connection_of, from_connections, into_connections, output_item, block_at, instance_at, From, from_items, into_items}
 use Rattle.export_verilog.proofs.items.Items.From.{net_wire, variable_reg, result_wire, net_assign, variable_block, an_instance, output_assign}
 use Rattle.export_verilog.proofs.items.Lookups.{found, unfound, vport_at, port_under, no_port_under}
-use Rattle.export_verilog.proofs.items.Settings.{Setting, Called, called_by, called_by_role, callee_is}
+use Rattle.export_verilog.proofs.items.Settings.{Setting, Called, called_by, called_by_emission, callee_is}
 use Rattle.export_verilog.proofs.items.Registers.{register_of}
 
 pub first_from : {A B : Type 0} (f : A → Option B) (xs : List A) (b : B) → first_some f xs ≡ Some b → (x : A) × In x xs × (f x ≡ Some b)
@@ -81,34 +81,34 @@ output_of_number (x ∷ ps) k t is = go x.is_output refl k is (λ n h. output_of
 
 module _ (c m : Module) (are : AreNames c) (i : ℕ) (o : Op) (q : VPath) (u n : Name) where
   abbrev output_drive : ℕ → Drive
-  output_drive j = driven_from (vnet (u ∷ q) (key_text c (port_key j)))
+  output_drive j = driven_from (vnet (u ∷ q) (identifier_text c (port_identifier j)))
 
   joined_at : (j : ℕ) (p : Port) → slice_get c.ports j ≡ Some p → joined_output q u n (vports c) (connection_of c m i j 0 (take j c.ports) p o.operands)
-      ≡ cond p.is_output (when (is_name n (cond p.is_output (name (key_text m (value_key i (0 + output_count (take j c.ports))))) (expr_for (expression m) (slice_get o.operands (input_count (take j c.ports)))))) (output_drive j)) None
+      ≡ cond p.is_output (when (is_name n (cond p.is_output (name (identifier_text m (value_identifier i (0 + output_count (take j c.ports))))) (expr_for (expression m) (slice_get o.operands (input_count (take j c.ports)))))) (output_drive j)) None
   joined_at j p there =
-      ap (λ z. bind z (λ (y : VPort). cond y.is_output (when (is_name n (cond p.is_output (name (key_text m (value_key i (0 + output_count (take j c.ports))))) (expr_for (expression m) (slice_get o.operands (input_count (take j c.ports)))))) (driven_from (vnet (u ∷ q) y.name))) None))
-      (port_under c are (port_key j) (port_in c j p there) ∙ ap (omap (vport_at c j)) there)
+      ap (λ z. bind z (λ (y : VPort). cond y.is_output (when (is_name n (cond p.is_output (name (identifier_text m (value_identifier i (0 + output_count (take j c.ports))))) (expr_for (expression m) (slice_get o.operands (input_count (take j c.ports)))))) (driven_from (vnet (u ∷ q) y.name))) None))
+      (port_under c are (port_identifier j) (port_in c j p there) ∙ ap (omap (vport_at c j)) there)
 
   pub joined_gives : (y : Connection) (w : Drive) → In y (connections_of c m i 0 0 c.ports o.operands) → joined_output q u n (vports c) y ≡ Some w
-      → (j : ℕ) × (p : Port) × (slice_get c.ports j ≡ Some p) × (p.is_output ≡ true) × (n ≡ key_text m (value_key i (output_count (take j c.ports)))) × (output_drive j ≡ w)
+      → (j : ℕ) × (p : Port) × (slice_get c.ports j ≡ Some p) × (p.is_output ≡ true) × (n ≡ identifier_text m (value_identifier i (output_count (take j c.ports)))) × (output_drive j ≡ w)
   joined_gives y w here gives =
       let e = from_connections c m i 0 0 c.ports o.operands y here in
       let same : y ≡ connection_of c m i e.0 0 (take e.0 c.ports) e.1 o.operands = e.3 ∙ ap (λ a. connection_of c m i a 0 (take e.0 c.ports) e.1 o.operands) (zero-add e.0) in
       go e.0 e.1 e.2 e.1.is_output refl (sym (joined_at e.0 e.1 e.2) ∙ sym (ap (joined_output q u n (vports c)) same) ∙ gives) where
         go : (j : ℕ) (p : Port) → slice_get c.ports j ≡ Some p → (b : Bool) → p.is_output ≡ b
-            → cond b (when (is_name n (cond b (name (key_text m (value_key i (0 + output_count (take j c.ports))))) (expr_for (expression m) (slice_get o.operands (input_count (take j c.ports)))))) (output_drive j)) None ≡ Some w
-            → (j : ℕ) × (p : Port) × (slice_get c.ports j ≡ Some p) × (p.is_output ≡ true) × (n ≡ key_text m (value_key i (output_count (take j c.ports)))) × (output_drive j ≡ w)
+            → cond b (when (is_name n (cond b (name (identifier_text m (value_identifier i (0 + output_count (take j c.ports))))) (expr_for (expression m) (slice_get o.operands (input_count (take j c.ports)))))) (output_drive j)) None ≡ Some w
+            → (j : ℕ) × (p : Port) × (slice_get c.ports j ≡ Some p) × (p.is_output ≡ true) × (n ≡ identifier_text m (value_identifier i (output_count (take j c.ports)))) × (output_drive j ≡ w)
         go j p there true way is =
-            let h = when_some (same_name (key_text m (value_key i (0 + output_count (take j c.ports)))) n) (output_drive j) w is in
-            (j, p, there, way, sym (name_from (key_text m (value_key i (0 + output_count (take j c.ports)))) n h.0) ∙ ap (λ a. key_text m (value_key i a)) (zero-add (output_count (take j c.ports))), h.1)
+            let h = when_some (same_name (identifier_text m (value_identifier i (0 + output_count (take j c.ports)))) n) (output_drive j) w is in
+            (j, p, there, way, sym (name_from (identifier_text m (value_identifier i (0 + output_count (take j c.ports)))) n h.0) ∙ ap (λ a. identifier_text m (value_identifier i a)) (zero-add (output_count (take j c.ports))), h.1)
         go j p there false way is = cc
 
-  pub output_joined : (j : ℕ) (p : Port) → slice_get c.ports j ≡ Some p → p.is_output ≡ true → n ≡ key_text m (value_key i (output_count (take j c.ports)))
+  pub output_joined : (j : ℕ) (p : Port) → slice_get c.ports j ≡ Some p → p.is_output ≡ true → n ≡ identifier_text m (value_identifier i (output_count (take j c.ports)))
       → joined_output q u n (vports c) (connection_of c m i j 0 (take j c.ports) p o.operands) ≡ Some (output_drive j)
   output_joined j p there out called =
       joined_at j p there
-      ∙ ap (λ b. cond b (when (is_name n (cond b (name (key_text m (value_key i (0 + output_count (take j c.ports))))) (expr_for (expression m) (slice_get o.operands (input_count (take j c.ports)))))) (output_drive j)) None) out
-      ∙ ap (λ b. when b (output_drive j)) (ap (λ z. same_name z n) (ap (λ a. key_text m (value_key i a)) (zero-add (output_count (take j c.ports))) ∙ sym called) ∙ name_self n)
+      ∙ ap (λ b. cond b (when (is_name n (cond b (name (identifier_text m (value_identifier i (0 + output_count (take j c.ports))))) (expr_for (expression m) (slice_get o.operands (input_count (take j c.ports)))))) (output_drive j)) None) out
+      ∙ ap (λ b. when b (output_drive j)) (ap (λ z. same_name z n) (ap (λ a. identifier_text m (value_identifier i a)) (zero-add (output_count (take j c.ports))) ∙ sym called) ∙ name_self n)
 
 -- ---- what an item of the module drives
 
@@ -120,35 +120,35 @@ module _ (d : Design) (x : Setting d) (s : Name) (m : Module) (is : find_module 
   are = x.names s m is
 
   abbrev pub held_drive : ℕ → Drive
-  held_drive i = held (vbase (tree_of d) top q + vstate_before (tree_of d) (loads (key_text m (value_key i 0))) (Some (vmodule d m))) (width_in (vmodule d m) (key_text m (value_key i 0)))
+  held_drive i = held (vbase (tree_of d) top q + vstate_before (tree_of d) (loads (identifier_text m (value_identifier i 0))) (Some (vmodule d m))) (width_in (vmodule d m) (identifier_text m (value_identifier i 0)))
 
   abbrev pub result_drive : ℕ → ℕ → Op → Option Drive
-  result_drive i k o = bind (callee d o) (λ (c : Module). omap (λ j. driven_from (vnet (key_text m (instance_key i) ∷ q) (key_text c (port_key j)))) (output_place k c.ports))
+  result_drive i k o = bind (callee d o) (λ (c : Module). omap (λ j. driven_from (vnet (identifier_text m (instance_identifier i) ∷ q) (identifier_text c (port_identifier j)))) (output_place k c.ports))
 
-  abbrev pub role_drive : ℕ → ℕ → Op → Role → Option Drive
-  role_drive i k o hidden = None
-  role_drive i k o net = Some (driven_by q (assigned_expr m (result i 0)))
-  role_drive i k o variable = Some (held_drive i)
-  role_drive i k o block = result_drive i k o
+  abbrev pub emission_drive : ℕ → ℕ → Op → Emission → Option Drive
+  emission_drive i k o hidden = None
+  emission_drive i k o net = Some (driven_by q (assigned_expr m (result i 0)))
+  emission_drive i k o variable = Some (held_drive i)
+  emission_drive i k o block = result_drive i k o
 
   abbrev pub output_expr : ℕ → Expr
   output_expr j = expr_for (expression m) (slice_get (output_refs m.body) (output_count (take j m.ports)))
 
-  abbrev pub drive_value : Key → Option Drive
-  drive_value (port_key j) = bind (slice_get m.ports j) (λ (p : Port). cond p.is_output (Some (driven_by q (output_expr j))) None)
-  drive_value (value_key i k) = bind (slice_get m.body i) (λ (o : Op). role_drive i k o (role_of m.ports m.body i o))
-  drive_value (instance_key i) = None
+  abbrev pub drive_value : Identifier → Option Drive
+  drive_value (port_identifier j) = bind (slice_get m.ports j) (λ (p : Port). cond p.is_output (Some (driven_by q (output_expr j))) None)
+  drive_value (value_identifier i k) = bind (slice_get m.body i) (λ (o : Op). emission_drive i k o (emission_of m.ports m.body i o))
+  drive_value (instance_identifier i) = None
 
   -- the value of a thing that an operation has
-  pub value_by_role : (i k : ℕ) (o : Op) (r : Role) → slice_get m.body i ≡ Some o → role_of m.ports m.body i o ≡ r → drive_value (value_key i k) ≡ role_drive i k o r
-  value_by_role i k o r there role = ap (λ z. bind z (λ (o : Op). role_drive i k o (role_of m.ports m.body i o))) there ∙ ap (role_drive i k o) role
+  pub value_by_emission : (i k : ℕ) (o : Op) (r : Emission) → slice_get m.body i ≡ Some o → emission_of m.ports m.body i o ≡ r → drive_value (value_identifier i k) ≡ emission_drive i k o r
+  value_by_emission i k o r there emission = ap (λ z. bind z (λ (o : Op). emission_drive i k o (emission_of m.ports m.body i o))) there ∙ ap (emission_drive i k o) emission
 
   abbrev gives : Name → Item → Option Drive
   gives n y = item_drive (tree_of d) top q (vmodule d m) n y
 
-  pub block_name : (i : ℕ) (r : Register) → block_target (block_of (expression m) (key_text m (value_key i 0)) r.next r.enable r.reset) ≡ key_text m (value_key i 0)
+  pub block_name : (i : ℕ) (r : Register) → block_target (block_of (expression m) (identifier_text m (value_identifier i 0)) r.next r.enable r.reset) ≡ identifier_text m (value_identifier i 0)
   block_name i r = go r.enable r.reset where
-    go : (e : _) (f : _) → block_target (block_of (expression m) (key_text m (value_key i 0)) r.next e f) ≡ key_text m (value_key i 0)
+    go : (e : _) (f : _) → block_target (block_of (expression m) (identifier_text m (value_identifier i 0)) r.next e f) ≡ identifier_text m (value_identifier i 0)
     go None None = refl
     go (Some e) None = refl
     go None (Some f) = refl
@@ -156,80 +156,80 @@ module _ (d : Design) (x : Setting d) (s : Name) (m : Module) (is : find_module 
 
   -- an instance's items
   instance_drive : (n : Name) (i : ℕ) (o : Op) (c : Called d m o) → gives n (instance_at d m i o c.kind)
-      ≡ first_some (joined_output q (key_text m (instance_key i)) n (vports c.module_of)) (connections_of c.module_of m i 0 0 c.module_of.ports o.operands)
-  instance_drive n i o c = ap₂ (λ v f. first_some (joined_output q (key_text m (instance_key i)) n (vports_of v)) (connections_to f m i o))
+      ≡ first_some (joined_output q (identifier_text m (instance_identifier i)) n (vports c.module_of)) (connections_of c.module_of m i 0 0 c.module_of.ports o.operands)
+  instance_drive n i o c = ap₂ (λ v f. first_some (joined_output q (identifier_text m (instance_identifier i)) n (vports_of v)) (connections_to f m i o))
       (vmodule_found d x.ok x.symbols c.kind.symbol c.module_of c.there) c.there
 
-  pub value_of_result : (i : ℕ) (o : Op) (c : Called d m o) → slice_get m.body i ≡ Some o → role_of m.ports m.body i o ≡ block → (k j : ℕ) → output_place k c.module_of.ports ≡ Some j
-      → drive_value (value_key i k) ≡ Some (driven_from (vnet (key_text m (instance_key i) ∷ q) (key_text c.module_of (port_key j))))
-  value_of_result i o c there role k j at =
-      value_by_role i k o block there role
-      ∙ ap (λ z. bind z (λ (y : Module). omap (λ a. driven_from (vnet (key_text m (instance_key i) ∷ q) (key_text y (port_key a)))) (output_place k y.ports))) (callee_is d m o c)
-      ∙ ap (omap (λ a. driven_from (vnet (key_text m (instance_key i) ∷ q) (key_text c.module_of (port_key a))))) at
+  pub value_of_result : (i : ℕ) (o : Op) (c : Called d m o) → slice_get m.body i ≡ Some o → emission_of m.ports m.body i o ≡ block → (k j : ℕ) → output_place k c.module_of.ports ≡ Some j
+      → drive_value (value_identifier i k) ≡ Some (driven_from (vnet (identifier_text m (instance_identifier i) ∷ q) (identifier_text c.module_of (port_identifier j))))
+  value_of_result i o c there emission k j at =
+      value_by_emission i k o block there emission
+      ∙ ap (λ z. bind z (λ (y : Module). omap (λ a. driven_from (vnet (identifier_text m (instance_identifier i) ∷ q) (identifier_text y (port_identifier a)))) (output_place k y.ports))) (callee_is d m o c)
+      ∙ ap (omap (λ a. driven_from (vnet (identifier_text m (instance_identifier i) ∷ q) (identifier_text c.module_of (port_identifier a))))) at
 
-  drives_back : (n : Name) (y : Item) (w : Drive) → In y (vitems d m) → gives n y ≡ Some w → (k : Key) × In k (module_keys m) × (n ≡ key_text m k) × (drive_value k ≡ Some w)
+  drives_back : (n : Name) (y : Item) (w : Drive) → In y (vitems d m) → gives n y ≡ Some w → (k : Identifier) × In k (module_identifiers m) × (n ≡ identifier_text m k) × (drive_value k ≡ Some w)
   drives_back n y w here is_given = go (from_items d m y here) where
-    by_instance : (i : ℕ) (o : Op) (c : Called d m o) → slice_get m.body i ≡ Some o → role_of m.ports m.body i o ≡ block → gives n (instance_at d m i o c.kind) ≡ Some w
-        → (k : Key) × In k (module_keys m) × (n ≡ key_text m k) × (drive_value k ≡ Some w)
-    by_instance i o c there role given =
-        let u : Name = key_text m (instance_key i) in
+    by_instance : (i : ℕ) (o : Op) (c : Called d m o) → slice_get m.body i ≡ Some o → emission_of m.ports m.body i o ≡ block → gives n (instance_at d m i o c.kind) ≡ Some w
+        → (k : Identifier) × In k (module_identifiers m) × (n ≡ identifier_text m k) × (drive_value k ≡ Some w)
+    by_instance i o c there emission given =
+        let u : Name = identifier_text m (instance_identifier i) in
         let f = first_from (joined_output q u n (vports c.module_of)) (connections_of c.module_of m i 0 0 c.module_of.ports o.operands) w (sym (instance_drive n i o c) ∙ given) in
         let j = joined_gives c.module_of m (x.names c.kind.symbol c.module_of c.there) i o q u n f.0 w f.1 f.2 in
         let p = place_of_output c.module_of.ports j.0 j.1 j.2 j.3 in
         let typed : omap (λ (r : OpResult). r.type) (slice_get o.results (output_count (take j.0 c.module_of.ports))) ≡ Some j.1.type =
         sym (slice_of_map o.results (output_count (take j.0 c.module_of.ports))) ∙ ap (λ ts. slice_get ts (output_count (take j.0 c.module_of.ports))) c.outputs ∙ p.1 in
         let r = omap_some (λ (r : OpResult). r.type) (slice_get o.results (output_count (take j.0 c.module_of.ports))) typed in (
-          value_key i (output_count (take j.0 c.module_of.ports)),
-          result_in_keys m i (output_count (take j.0 c.module_of.ports)) o r.0 there role r.1,
+          value_identifier i (output_count (take j.0 c.module_of.ports)),
+          result_in_identifiers m i (output_count (take j.0 c.module_of.ports)) o r.0 there emission r.1,
           j.4,
-          value_of_result i o c there role (output_count (take j.0 c.module_of.ports)) j.0 p.0 ∙ ap (λ (z : Drive). Some z) j.5,
+          value_of_result i o c there emission (output_count (take j.0 c.module_of.ports)) j.0 p.0 ∙ ap (λ (z : Drive). Some z) j.5,
         ) where
           slice_of_map : (rs : List OpResult) (k : ℕ) → slice_get (map (λ (r : OpResult). r.type) rs) k ≡ omap (λ (r : OpResult). r.type) (slice_get rs k)
           slice_of_map [] k = refl
           slice_of_map (r ∷ rs) zero = refl
           slice_of_map (r ∷ rs) (suc k) = slice_of_map rs k
 
-    go : From d m y → (k : Key) × In k (module_keys m) × (n ≡ key_text m k) × (drive_value k ≡ Some w)
-    go (net_assign i o there role same) =
-        let h = when_some (same_name (key_text m (value_key i 0)) n) (driven_by q (assigned_expr m (result i 0))) w (sym (ap (gives n) same) ∙ is_given) in
-        (value_key i 0, net_in m i o there role, sym (name_from (key_text m (value_key i 0)) n h.0), value_by_role i 0 o net there role ∙ ap (λ (z : Drive). Some z) h.1)
-    go (variable_block i o r there role at same) =
+    go : From d m y → (k : Identifier) × In k (module_identifiers m) × (n ≡ identifier_text m k) × (drive_value k ≡ Some w)
+    go (net_assign i o there emission same) =
+        let h = when_some (same_name (identifier_text m (value_identifier i 0)) n) (driven_by q (assigned_expr m (result i 0))) w (sym (ap (gives n) same) ∙ is_given) in
+        (value_identifier i 0, net_in m i o there emission, sym (name_from (identifier_text m (value_identifier i 0)) n h.0), value_by_emission i 0 o net there emission ∙ ap (λ (z : Drive). Some z) h.1)
+    go (variable_block i o r there emission at same) =
         let given : gives n (block_at m i r) ≡ Some w = sym (ap (gives n) same) ∙ is_given in
         let held_under : Name → Drive = λ z. held (vbase (tree_of d) top q + vstate_before (tree_of d) (loads z) (Some (vmodule d m))) (width_in (vmodule d m) z) in
-        let h = when_some (same_name (key_text m (value_key i 0)) n) (held_under n) w (ap (λ z. when (same_name z n) (held_under n)) (sym (block_name i r)) ∙ given) in
-        let called : key_text m (value_key i 0) ≡ n = name_from (key_text m (value_key i 0)) n h.0 in
-        (value_key i 0, variable_in m i o there role, sym called, value_by_role i 0 o variable there role ∙ ap (λ z. Some (held_under z)) called ∙ ap (λ (z : Drive). Some z) h.1)
-    go (an_instance i o k there role kind same) = by_instance i o (called_by d x s m is i o there k kind) there role (sym (ap (gives n) same) ∙ is_given)
+        let h = when_some (same_name (identifier_text m (value_identifier i 0)) n) (held_under n) w (ap (λ z. when (same_name z n) (held_under n)) (sym (block_name i r)) ∙ given) in
+        let called : identifier_text m (value_identifier i 0) ≡ n = name_from (identifier_text m (value_identifier i 0)) n h.0 in
+        (value_identifier i 0, variable_in m i o there emission, sym called, value_by_emission i 0 o variable there emission ∙ ap (λ z. Some (held_under z)) called ∙ ap (λ (z : Drive). Some z) h.1)
+    go (an_instance i o k there emission kind same) = by_instance i o (called_by d x s m is i o there k kind) there emission (sym (ap (gives n) same) ∙ is_given)
     go (output_assign j p there out same) =
-        let h = when_some (same_name (key_text m (port_key j)) n) (driven_by q (output_expr j)) w (sym (ap (gives n) same) ∙ is_given) in (
-          port_key j,
+        let h = when_some (same_name (identifier_text m (port_identifier j)) n) (driven_by q (output_expr j)) w (sym (ap (gives n) same) ∙ is_given) in (
+          port_identifier j,
           port_in m j p there,
-          sym (name_from (key_text m (port_key j)) n h.0),
+          sym (name_from (identifier_text m (port_identifier j)) n h.0),
           ap (λ z. bind z (λ (p : Port). cond p.is_output (Some (driven_by q (output_expr j))) None)) there ∙ ap (λ b. cond b (Some (driven_by q (output_expr j))) None) out ∙ ap (λ (z : Drive). Some z) h.1,
         )
-    go (net_wire i o there role same) = absurd (let h : None ≡ Some w = sym (ap (gives n) same) ∙ is_given in cc)
-    go (variable_reg i o there role same) = absurd (let h : None ≡ Some w = sym (ap (gives n) same) ∙ is_given in cc)
-    go (result_wire i k o r there role at same) = absurd (let h : None ≡ Some w = sym (ap (gives n) same) ∙ is_given in cc)
+    go (net_wire i o there emission same) = absurd (let h : None ≡ Some w = sym (ap (gives n) same) ∙ is_given in cc)
+    go (variable_reg i o there emission same) = absurd (let h : None ≡ Some w = sym (ap (gives n) same) ∙ is_given in cc)
+    go (result_wire i k o r there emission at same) = absurd (let h : None ≡ Some w = sym (ap (gives n) same) ∙ is_given in cc)
 
-  drives_forth : (k : Key) (w : Drive) → In k (module_keys m) → drive_value k ≡ Some w → (y : Item) × In y (vitems d m) × (gives (key_text m k) y ≡ Some w)
+  drives_forth : (k : Identifier) (w : Drive) → In k (module_identifiers m) → drive_value k ≡ Some w → (y : Item) × In y (vitems d m) × (gives (identifier_text m k) y ≡ Some w)
   drives_forth k w here value = go (owner_of m k here) where
-    chosen : (l : Key) (v : Drive) → k ≡ l → drive_value l ≡ Some v → when (same_name (key_text m l) (key_text m k)) v ≡ Some w
-    chosen l v same given = ap (λ z. when (same_name (key_text m z) (key_text m k)) v) (sym same) ∙ ap (λ b. when b v) (name_self (key_text m k))
+    chosen : (l : Identifier) (v : Drive) → k ≡ l → drive_value l ≡ Some v → when (same_name (identifier_text m l) (identifier_text m k)) v ≡ Some w
+    chosen l v same given = ap (λ z. when (same_name (identifier_text m z) (identifier_text m k)) v) (sym same) ∙ ap (λ b. when b v) (name_self (identifier_text m k))
         ∙ sym given ∙ ap drive_value (sym same) ∙ value
 
-    of_port : (j : ℕ) (p : Port) → slice_get m.ports j ≡ Some p → k ≡ port_key j → (b : Bool) → p.is_output ≡ b → (y : Item) × In y (vitems d m) × (gives (key_text m k) y ≡ Some w)
+    of_port : (j : ℕ) (p : Port) → slice_get m.ports j ≡ Some p → k ≡ port_identifier j → (b : Bool) → p.is_output ≡ b → (y : Item) × In y (vitems d m) × (gives (identifier_text m k) y ≡ Some w)
     of_port j p there same true out = (
       output_item m j (take j m.ports) (output_refs m.body),
       into_items d m (output_item m j (take j m.ports) (output_refs m.body)) (output_assign j p there out refl),
-      chosen (port_key j) (driven_by q (output_expr j)) same
+      chosen (port_identifier j) (driven_by q (output_expr j)) same
           (ap (λ z. bind z (λ (p : Port). cond p.is_output (Some (driven_by q (output_expr j))) None)) there ∙ ap (λ b. cond b (Some (driven_by q (output_expr j))) None) out),
     )
     of_port j p there same false out = absurd (let h : None ≡ Some w =
         sym (ap drive_value same ∙ ap (λ z. bind z (λ (p : Port). cond p.is_output (Some (driven_by q (output_expr j))) None)) there ∙ ap (λ b. cond b (Some (driven_by q (output_expr j))) None) out) ∙ value in cc)
 
-    of_result : (i l : ℕ) (o : Op) (r : OpResult) → slice_get m.body i ≡ Some o → role_of m.ports m.body i o ≡ block → slice_get o.results l ≡ Some r → k ≡ value_key i l → (c : Called d m o)
-        → (y : Item) × In y (vitems d m) × (gives (key_text m k) y ≡ Some w)
-    of_result i l o r there role at same c = found_output (output_of_number c.module_of.ports l r.type typed) where
+    of_result : (i l : ℕ) (o : Op) (r : OpResult) → slice_get m.body i ≡ Some o → emission_of m.ports m.body i o ≡ block → slice_get o.results l ≡ Some r → k ≡ value_identifier i l → (c : Called d m o)
+        → (y : Item) × In y (vitems d m) × (gives (identifier_text m k) y ≡ Some w)
+    of_result i l o r there emission at same c = found_output (output_of_number c.module_of.ports l r.type typed) where
       slice_of_map : (rs : List OpResult) (k : ℕ) → slice_get (map (λ (r : OpResult). r.type) rs) k ≡ omap (λ (r : OpResult). r.type) (slice_get rs k)
       slice_of_map [] k = refl
       slice_of_map (r ∷ rs) zero = refl
@@ -238,66 +238,66 @@ module _ (d : Design) (x : Setting d) (s : Name) (m : Module) (is : find_module 
       typed : slice_get (output_types c.module_of.ports) l ≡ Some r.type
       typed = ap (λ ts. slice_get ts l) (sym c.outputs) ∙ slice_of_map o.results l ∙ ap (omap (λ (r : OpResult). r.type)) at
 
-      found_output : OutputAt c.module_of.ports l r.type → (y : Item) × In y (vitems d m) × (gives (key_text m k) y ≡ Some w)
+      found_output : OutputAt c.module_of.ports l r.type → (y : Item) × In y (vitems d m) × (gives (identifier_text m k) y ≡ Some w)
       found_output e = (
         instance_at d m i o c.kind,
-        into_items d m (instance_at d m i o c.kind) (an_instance i o c.kind there role c.is_kind refl),
-        instance_drive (key_text m k) i o c
-            ∙ first_found (joined_output q (key_text m (instance_key i)) (key_text m k) (vports c.module_of)) (the_drive e.place) (connections_of c.module_of m i 0 0 c.module_of.ports o.operands)
+        into_items d m (instance_at d m i o c.kind) (an_instance i o c.kind there emission c.is_kind refl),
+        instance_drive (identifier_text m k) i o c
+            ∙ first_found (joined_output q (identifier_text m (instance_identifier i)) (identifier_text m k) (vports c.module_of)) (the_drive e.place) (connections_of c.module_of m i 0 0 c.module_of.ports o.operands)
             (connection_of c.module_of m i e.place 0 (take e.place c.module_of.ports) e.port o.operands)
             (subst (λ a. In (connection_of c.module_of m i a 0 (take e.place c.module_of.ports) e.port o.operands) (connections_of c.module_of m i 0 0 c.module_of.ports o.operands)) (zero-add e.place)
             (into_connections c.module_of m i 0 0 c.module_of.ports o.operands e.place e.port e.there))
-            (output_joined c.module_of m (x.names c.kind.symbol c.module_of c.there) i o q (key_text m (instance_key i)) (key_text m k) e.place e.port e.there e.out
-            (ap (key_text m) same ∙ ap (λ a. key_text m (value_key i a)) (sym e.number)))
+            (output_joined c.module_of m (x.names c.kind.symbol c.module_of c.there) i o q (identifier_text m (instance_identifier i)) (identifier_text m k) e.place e.port e.there e.out
+            (ap (identifier_text m) same ∙ ap (λ a. identifier_text m (value_identifier i a)) (sym e.number)))
             only
-            ∙ sym (value_of_result i o c there role l e.place at_place) ∙ ap drive_value (sym same) ∙ value,
+            ∙ sym (value_of_result i o c there emission l e.place at_place) ∙ ap drive_value (sym same) ∙ value,
       ) where
         the_drive : ℕ → Drive
-        the_drive a = driven_from (vnet (key_text m (instance_key i) ∷ q) (key_text c.module_of (port_key a)))
+        the_drive a = driven_from (vnet (identifier_text m (instance_identifier i) ∷ q) (identifier_text c.module_of (port_identifier a)))
 
         at_place : output_place l c.module_of.ports ≡ Some e.place
         at_place = ap (λ a. output_place a c.module_of.ports) (sym e.number) ∙ (place_of_output c.module_of.ports e.place e.port e.there e.out).0
 
         only : (y : Connection) (v : Drive) → In y (connections_of c.module_of m i 0 0 c.module_of.ports o.operands)
-            → joined_output q (key_text m (instance_key i)) (key_text m k) (vports c.module_of) y ≡ Some v → v ≡ the_drive e.place
+            → joined_output q (identifier_text m (instance_identifier i)) (identifier_text m k) (vports c.module_of) y ≡ Some v → v ≡ the_drive e.place
         only y v within given =
-            let j = joined_gives c.module_of m (x.names c.kind.symbol c.module_of c.there) i o q (key_text m (instance_key i)) (key_text m k) y v within given in
+            let j = joined_gives c.module_of m (x.names c.kind.symbol c.module_of c.there) i o q (identifier_text m (instance_identifier i)) (identifier_text m k) y v within given in
             let p = place_of_output c.module_of.ports j.0 j.1 j.2 j.3 in
-            let other : In (value_key i (output_count (take j.0 c.module_of.ports))) (module_keys m) = other_in j.0 j.1 p.1 in
-            let keys : k ≡ value_key i (output_count (take j.0 c.module_of.ports)) = texts_apart m are k (value_key i (output_count (take j.0 c.module_of.ports))) here other j.4 in
-            let both : value_key i l ≡ value_key i (output_count (take j.0 c.module_of.ports)) = sym same ∙ keys in
+            let other : In (value_identifier i (output_count (take j.0 c.module_of.ports))) (module_identifiers m) = other_in j.0 j.1 p.1 in
+            let identifiers : k ≡ value_identifier i (output_count (take j.0 c.module_of.ports)) = texts_apart m are k (value_identifier i (output_count (take j.0 c.module_of.ports))) here other j.4 in
+            let both : value_identifier i l ≡ value_identifier i (output_count (take j.0 c.module_of.ports)) = sym same ∙ identifiers in
             let number : l ≡ output_count (take j.0 c.module_of.ports) = cc in
             let places : Some e.place ≡ Some j.0 = sym at_place ∙ ap (λ a. output_place a c.module_of.ports) number ∙ p.0 in
             let place : e.place ≡ j.0 = cc in
             sym j.5 ∙ ap the_drive (sym place) where
               other_in : (j : ℕ) (p : Port) → slice_get (output_types c.module_of.ports) (output_count (take j c.module_of.ports)) ≡ Some p.type
-                  → In (value_key i (output_count (take j c.module_of.ports))) (module_keys m)
+                  → In (value_identifier i (output_count (take j c.module_of.ports))) (module_identifiers m)
               other_in j p at =
                   let n : ℕ = output_count (take j c.module_of.ports) in
                   let t : omap (λ (r : OpResult). r.type) (slice_get o.results n) ≡ Some p.type = sym (slice_of_map o.results n) ∙ ap (λ ts. slice_get ts n) c.outputs ∙ at in
                   let r = omap_some (λ (r : OpResult). r.type) (slice_get o.results n) t in
-                  result_in_keys m i n o r.0 there role r.1
+                  result_in_identifiers m i n o r.0 there emission r.1
 
-    go : Owner m k → (y : Item) × In y (vitems d m) × (gives (key_text m k) y ≡ Some w)
+    go : Owner m k → (y : Item) × In y (vitems d m) × (gives (identifier_text m k) y ≡ Some w)
     go (a_port j p there same) = of_port j p there same p.is_output refl
-    go (a_net i o there role same) = (
-      assign (key_text m (value_key i 0)) (assigned_expr m (result i 0)),
-      into_items d m (assign (key_text m (value_key i 0)) (assigned_expr m (result i 0))) (net_assign i o there role refl),
-      chosen (value_key i 0) (driven_by q (assigned_expr m (result i 0))) same (value_by_role i 0 o net there role),
+    go (a_net i o there emission same) = (
+      assign (identifier_text m (value_identifier i 0)) (assigned_expr m (result i 0)),
+      into_items d m (assign (identifier_text m (value_identifier i 0)) (assigned_expr m (result i 0))) (net_assign i o there emission refl),
+      chosen (value_identifier i 0) (driven_by q (assigned_expr m (result i 0))) same (value_by_emission i 0 o net there emission),
     )
-    go (a_variable i o there role same) =
-        let r = register_of d x s m is i o there role in (
+    go (a_variable i o there emission same) =
+        let r = register_of d x s m is i o there emission in (
           block_at m i r.0,
-          into_items d m (block_at m i r.0) (variable_block i o r.0 there role r.1 refl),
-          ap₂ (λ a b. when (same_name a (key_text m k)) (held (vbase (tree_of d) top q + vstate_before (tree_of d) (loads (key_text m b)) (Some (vmodule d m))) (width_in (vmodule d m) (key_text m b)))) (block_name i r.0) same
-              ∙ chosen (value_key i 0) (held_drive i) same (value_by_role i 0 o variable there role),
+          into_items d m (block_at m i r.0) (variable_block i o r.0 there emission r.1 refl),
+          ap₂ (λ a b. when (same_name a (identifier_text m k)) (held (vbase (tree_of d) top q + vstate_before (tree_of d) (loads (identifier_text m b)) (Some (vmodule d m))) (width_in (vmodule d m) (identifier_text m b)))) (block_name i r.0) same
+              ∙ chosen (value_identifier i 0) (held_drive i) same (value_by_emission i 0 o variable there emission),
         )
-    go (owns_instance i o there role same) = absurd (let h : None ≡ Some w = sym (ap drive_value same) ∙ value in cc)
-    go (a_result i l o r there role at same) = of_result i l o r there role at same (called_by_role d x s m is i o there role)
+    go (owns_instance i o there emission same) = absurd (let h : None ≡ Some w = sym (ap drive_value same) ∙ value in cc)
+    go (a_result i l o r there emission at same) = of_result i l o r there emission at same (called_by_emission d x s m is i o there emission)
 
-  pub drive_under : (k : Key) → In k (module_keys m) → inner_drive (tree_of d) top q (vmodule d m) (key_text m k) ≡ drive_or_nothing (drive_value k)
+  pub drive_under : (k : Identifier) → In k (module_identifiers m) → inner_drive (tree_of d) top q (vmodule d m) (identifier_text m k) ≡ drive_or_nothing (drive_value k)
   drive_under k here = ap drive_or_nothing (found m are (item_drive (tree_of d) top q (vmodule d m)) (vitems d m) drive_value drives_back drives_forth k here)
 
-  pub no_drive_under : (n : Name) → ((k : Key) → In k (module_keys m) → n ≡ key_text m k → ⊥) → drive_in (tree_of d) top q (vmodule d m) n (find_port (vports m) n) ≡ nothing
+  pub no_drive_under : (n : Name) → ((k : Identifier) → In k (module_identifiers m) → n ≡ identifier_text m k → ⊥) → drive_in (tree_of d) top q (vmodule d m) n (find_port (vports m) n) ≡ nothing
   no_drive_under n never = ap (drive_in (tree_of d) top q (vmodule d m) n) (no_port_under m are n never)
       ∙ ap drive_or_nothing (unfound m are (item_drive (tree_of d) top q (vmodule d m)) (vitems d m) drive_value drives_back drives_forth n never)

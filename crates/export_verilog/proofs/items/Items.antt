@@ -12,12 +12,12 @@ use Rattle.verilog_model.specs.Tree.Expr.{name}
 use Rattle.verilog_model.specs.Tree.Item.{wire, reg, assign, always, instance}
 use Rattle.verilog_expr.specs.Numerals.{high_of}
 use Rattle.verilog_expr.specs.Building.{no_expr}
-use Rattle.export_verilog.specs.Keys.{Role, each, role_of, key_text, name_or_nothing, named}
-use Rattle.export_verilog.specs.Keys.Key.{port_key, value_key, instance_key}
-use Rattle.export_verilog.specs.Keys.Role.{hidden, net, variable, block}
+use Rattle.export_verilog.specs.Identifiers.{Emission, each, emission_of, identifier_text, name_or_nothing, named}
+use Rattle.export_verilog.specs.Identifiers.Identifier.{port_identifier, value_identifier, instance_identifier}
+use Rattle.export_verilog.specs.Identifiers.Emission.{hidden, net, variable, block}
 use Rattle.export_verilog.specs.Exported.{symbol_name, expression, assigned_expr, result_wires, declared_as, declares, block_of, always_of, expr_or_none, others, connections_of, connections_to, instance_of, stated_as, states, output_assigns, vitems}
 use Rattle.export_verilog.proofs.items.Lists.{in_append}
-use Rattle.export_verilog.proofs.names.KeysOf.{from_each, into_each}
+use Rattle.export_verilog.proofs.names.IdentifiersOf.{from_each, into_each}
 
 -- ---- outputs among ports, and the expression for an operand that may be missing
 
@@ -41,8 +41,8 @@ later_expr (r ∷ rs) n = refl
 
 abbrev pub connection_of : Module → Module → ℕ → ℕ → ℕ → List Port → Port → List Ref → Connection
 connection_of c m i j k before p rs = record {
-  port = key_text c (port_key j);
-  value = cond p.is_output (name (key_text m (value_key i (k + output_count before)))) (expr_for (expression m) (slice_get rs (input_count before)));
+  port = identifier_text c (port_identifier j);
+  value = cond p.is_output (name (identifier_text m (value_identifier i (k + output_count before)))) (expr_for (expression m) (slice_get rs (input_count before)));
 }
 
 -- after an output, and after an input
@@ -53,8 +53,8 @@ shifted_output c m i j k n x before p rs out =
     ∙ ap (λ b. connection_with (j + suc n) (k + cond b (suc (output_count before)) (output_count before)) (cond b (input_count before) (suc (input_count before)))) (sym out) where
       connection_with : ℕ → ℕ → ℕ → Connection
       connection_with a b e = record {
-        port = key_text c (port_key a);
-        value = cond p.is_output (name (key_text m (value_key i b))) (expr_for (expression m) (slice_get rs e));
+        port = identifier_text c (port_identifier a);
+        value = cond p.is_output (name (identifier_text m (value_identifier i b))) (expr_for (expression m) (slice_get rs e));
       }
 
 shifted_input : (c m : Module) (i j k n : ℕ) (x : Port) (before : List Port) (p : Port) (rs : List Ref) → x.is_output ≡ false
@@ -64,8 +64,8 @@ shifted_input c m i j k n x before p rs out =
     ∙ ap (λ b. connection_with (j + suc n) (cond b (suc (output_count before)) (output_count before)) (slice_get rs (cond b (input_count before) (suc (input_count before))))) (sym out) where
       connection_with : ℕ → ℕ → Option Ref → Connection
       connection_with a b e = record {
-        port = key_text c (port_key a);
-        value = cond p.is_output (name (key_text m (value_key i (k + b)))) (expr_for (expression m) e);
+        port = identifier_text c (port_identifier a);
+        value = cond p.is_output (name (identifier_text m (value_identifier i (k + b)))) (expr_for (expression m) e);
       }
 
 module _ (c m : Module) (i : ℕ) where
@@ -74,13 +74,13 @@ module _ (c m : Module) (i : ℕ) where
   from_connections j k [] rs y here = absurd here
   from_connections j k (x ∷ ps) rs y here = go x.is_output refl here (from_connections (suc j) (suc k) ps rs y) (from_connections (suc j) k ps (others rs) y) where
     head : Expr → Connection
-    head e = record { port = key_text c (port_key j); value = e }
+    head e = record { port = identifier_text c (port_identifier j); value = e }
 
     place : (n : ℕ) → j ≡ n → connection_of c m i j k [] x rs ≡ connection_of c m i n k [] x rs
     place n e = ap (λ a. connection_of c m i a k [] x rs) e
 
     go : (b : Bool) → x.is_output ≡ b
-        → In y (cond b (head (name (key_text m (value_key i k))) ∷ connections_of c m i (suc j) (suc k) ps rs) (head (expr_or_none (expression m) rs) ∷ connections_of c m i (suc j) k ps (others rs)))
+        → In y (cond b (head (name (identifier_text m (value_identifier i k))) ∷ connections_of c m i (suc j) (suc k) ps rs) (head (expr_or_none (expression m) rs) ∷ connections_of c m i (suc j) k ps (others rs)))
         → (In y (connections_of c m i (suc j) (suc k) ps rs) → (n : ℕ) × (p : Port) × (slice_get ps n ≡ Some p) × (y ≡ connection_of c m i (suc j + n) (suc k) (take n ps) p rs))
         → (In y (connections_of c m i (suc j) k ps (others rs)) → (n : ℕ) × (p : Port) × (slice_get ps n ≡ Some p) × (y ≡ connection_of c m i (suc j + n) k (take n ps) p (others rs)))
         → (n : ℕ) × (p : Port) × (slice_get (x ∷ ps) n ≡ Some p) × (y ≡ connection_of c m i (j + n) k (take n (x ∷ ps)) p rs)
@@ -88,8 +88,8 @@ module _ (c m : Module) (i : ℕ) where
       0,
       x,
       refl,
-      same ∙ ap (λ n. head (name (key_text m (value_key i n)))) (sym (add-zero k))
-          ∙ ap (λ b. head (cond b (name (key_text m (value_key i (k + 0)))) (expr_for (expression m) (slice_get rs 0)))) (sym out) ∙ place (j + 0) (sym (add-zero j)),
+      same ∙ ap (λ n. head (name (identifier_text m (value_identifier i n)))) (sym (add-zero k))
+          ∙ ap (λ b. head (cond b (name (identifier_text m (value_identifier i (k + 0)))) (expr_for (expression m) (slice_get rs 0)))) (sym out) ∙ place (j + 0) (sym (add-zero j)),
     )
     go true out (inr later) first second = let h = first later in
         (suc h.0, h.1, h.2, h.3 ∙ shifted_output c m i j k h.0 x (take h.0 ps) h.1 rs out)
@@ -98,7 +98,7 @@ module _ (c m : Module) (i : ℕ) where
       x,
       refl,
       same ∙ ap head (first_expr (expression m) rs)
-          ∙ ap (λ b. head (cond b (name (key_text m (value_key i (k + 0)))) (expr_for (expression m) (slice_get rs 0)))) (sym out) ∙ place (j + 0) (sym (add-zero j)),
+          ∙ ap (λ b. head (cond b (name (identifier_text m (value_identifier i (k + 0)))) (expr_for (expression m) (slice_get rs 0)))) (sym out) ∙ place (j + 0) (sym (add-zero j)),
     )
     go false out (inr later) first second = let h = second later in
         (suc h.0, h.1, h.2, h.3 ∙ shifted_input c m i j k h.0 x (take h.0 ps) h.1 rs out)
@@ -108,10 +108,10 @@ module _ (c m : Module) (i : ℕ) where
   into_connections j k [] rs n p is = cc
   into_connections j k (x ∷ ps) rs n p is = go x.is_output refl n is (λ a h. into_connections (suc j) (suc k) ps rs a p h) (λ a h. into_connections (suc j) k ps (others rs) a p h) where
     head : Expr → Connection
-    head e = record { port = key_text c (port_key j); value = e }
+    head e = record { port = identifier_text c (port_identifier j); value = e }
 
     both : (b : Bool) → List Connection
-    both b = cond b (head (name (key_text m (value_key i k))) ∷ connections_of c m i (suc j) (suc k) ps rs) (head (expr_or_none (expression m) rs) ∷ connections_of c m i (suc j) k ps (others rs))
+    both b = cond b (head (name (identifier_text m (value_identifier i k))) ∷ connections_of c m i (suc j) (suc k) ps rs) (head (expr_or_none (expression m) rs) ∷ connections_of c m i (suc j) k ps (others rs))
 
     place : (n : ℕ) (q : Port) → j ≡ n → x ≡ q → connection_of c m i j k [] x rs ≡ connection_of c m i n k [] q rs
     place n q e f = ap₂ (λ a (z : Port). connection_of c m i a k [] z rs) e f
@@ -120,13 +120,13 @@ module _ (c m : Module) (i : ℕ) where
         → ((a : ℕ) → slice_get ps a ≡ Some p → In (connection_of c m i (suc j + a) (suc k) (take a ps) p rs) (connections_of c m i (suc j) (suc k) ps rs))
         → ((a : ℕ) → slice_get ps a ≡ Some p → In (connection_of c m i (suc j + a) k (take a ps) p (others rs)) (connections_of c m i (suc j) k ps (others rs)))
         → In (connection_of c m i (j + n) k (take n (x ∷ ps)) p rs) (both b)
-    go true out zero is first second = inl (sym (ap (λ n. head (name (key_text m (value_key i n)))) (sym (add-zero k))
-        ∙ ap (λ b. head (cond b (name (key_text m (value_key i (k + 0)))) (expr_for (expression m) (slice_get rs 0)))) (sym out)
+    go true out zero is first second = inl (sym (ap (λ n. head (name (identifier_text m (value_identifier i n)))) (sym (add-zero k))
+        ∙ ap (λ b. head (cond b (name (identifier_text m (value_identifier i (k + 0)))) (expr_for (expression m) (slice_get rs 0)))) (sym out)
         ∙ place (j + 0) p (sym (add-zero j)) (let e : x ≡ p = cc in e)))
     go true out (suc n) is first second = inr (subst (λ y. In y (connections_of c m i (suc j) (suc k) ps rs)) (shifted_output c m i j k n x (take n ps) p rs out)
         (first n is))
     go false out zero is first second = inl (sym (ap head (first_expr (expression m) rs)
-        ∙ ap (λ b. head (cond b (name (key_text m (value_key i (k + 0)))) (expr_for (expression m) (slice_get rs 0)))) (sym out)
+        ∙ ap (λ b. head (cond b (name (identifier_text m (value_identifier i (k + 0)))) (expr_for (expression m) (slice_get rs 0)))) (sym out)
         ∙ place (j + 0) p (sym (add-zero j)) (let e : x ≡ p = cc in e)))
     go false out (suc n) is first second = inr (subst (λ y. In y (connections_of c m i (suc j) k ps (others rs))) (shifted_input c m i j k n x (take n ps) p rs out)
         (second n is))
@@ -135,7 +135,7 @@ module _ (c m : Module) (i : ℕ) where
 
 module _ (m : Module) where
   abbrev pub output_item : ℕ → List Port → List Ref → Item
-  output_item j before rs = assign (key_text m (port_key j)) (expr_for (expression m) (slice_get rs (output_count before)))
+  output_item j before rs = assign (identifier_text m (port_identifier j)) (expr_for (expression m) (slice_get rs (output_count before)))
 
   pub from_outputs : (j : ℕ) (ps : List Port) (rs : List Ref) (y : Item) → In y (output_assigns m j ps rs)
       → (n : ℕ) × (p : Port) × (slice_get ps n ≡ Some p) × (p.is_output ≡ true) × (y ≡ output_item (j + n) (take n ps) rs)
@@ -145,19 +145,19 @@ module _ (m : Module) where
     moved n a = ap (λ z. output_item z (take n ps) rs) (suc-add j n ∙ sym (add-suc j n))
 
     go : (b : Bool) → x.is_output ≡ b
-        → In y (cond b (assign (key_text m (port_key j)) (expr_or_none (expression m) rs) ∷ output_assigns m (suc j) ps (others rs)) (output_assigns m (suc j) ps rs))
+        → In y (cond b (assign (identifier_text m (port_identifier j)) (expr_or_none (expression m) rs) ∷ output_assigns m (suc j) ps (others rs)) (output_assigns m (suc j) ps rs))
         → (In y (output_assigns m (suc j) ps (others rs)) → (n : ℕ) × (p : Port) × (slice_get ps n ≡ Some p) × (p.is_output ≡ true) × (y ≡ output_item (suc j + n) (take n ps) (others rs)))
         → (In y (output_assigns m (suc j) ps rs) → (n : ℕ) × (p : Port) × (slice_get ps n ≡ Some p) × (p.is_output ≡ true) × (y ≡ output_item (suc j + n) (take n ps) rs))
         → (n : ℕ) × (p : Port) × (slice_get (x ∷ ps) n ≡ Some p) × (p.is_output ≡ true) × (y ≡ output_item (j + n) (take n (x ∷ ps)) rs)
-    go true out (inl same) first second = (0, x, refl, out, same ∙ ap₂ (λ a e. assign (key_text m (port_key a)) e) (sym (add-zero j)) (first_expr (expression m) rs))
+    go true out (inl same) first second = (0, x, refl, out, same ∙ ap₂ (λ a e. assign (identifier_text m (port_identifier a)) e) (sym (add-zero j)) (first_expr (expression m) rs))
     go true out (inr later) first second = let h = first later in (
       suc h.0,
       h.1,
       h.2,
       h.3,
       h.4
-          ∙ ap₂ (λ a e. assign (key_text m (port_key a)) (expr_for (expression m) e)) (suc-add j h.0 ∙ sym (add-suc j h.0)) (later_expr rs (output_count (take h.0 ps)))
-          ∙ ap (λ b. assign (key_text m (port_key (j + suc h.0))) (expr_for (expression m) (slice_get rs (cond b (suc (output_count (take h.0 ps))) (output_count (take h.0 ps)))))) (sym out),
+          ∙ ap₂ (λ a e. assign (identifier_text m (port_identifier a)) (expr_for (expression m) e)) (suc-add j h.0 ∙ sym (add-suc j h.0)) (later_expr rs (output_count (take h.0 ps)))
+          ∙ ap (λ b. assign (identifier_text m (port_identifier (j + suc h.0))) (expr_for (expression m) (slice_get rs (cond b (suc (output_count (take h.0 ps))) (output_count (take h.0 ps)))))) (sym out),
     )
     go false out later first second = let h = second later in (
       suc h.0,
@@ -165,7 +165,7 @@ module _ (m : Module) where
       h.2,
       h.3,
       h.4 ∙ moved h.0 0
-          ∙ ap (λ b. assign (key_text m (port_key (j + suc h.0))) (expr_for (expression m) (slice_get rs (cond b (suc (output_count (take h.0 ps))) (output_count (take h.0 ps)))))) (sym out),
+          ∙ ap (λ b. assign (identifier_text m (port_identifier (j + suc h.0))) (expr_for (expression m) (slice_get rs (cond b (suc (output_count (take h.0 ps))) (output_count (take h.0 ps)))))) (sym out),
     )
 
   pub into_outputs : (j : ℕ) (ps : List Port) (rs : List Ref) (n : ℕ) (p : Port) → slice_get ps n ≡ Some p → p.is_output ≡ true
@@ -176,55 +176,55 @@ module _ (m : Module) where
         → ((a : ℕ) → slice_get ps a ≡ Some p → In (output_item (suc j + a) (take a ps) (others rs)) (output_assigns m (suc j) ps (others rs)))
         → ((a : ℕ) → slice_get ps a ≡ Some p → In (output_item (suc j + a) (take a ps) rs) (output_assigns m (suc j) ps rs))
         → In (output_item (j + n) (take n (x ∷ ps)) rs)
-        (cond b (assign (key_text m (port_key j)) (expr_or_none (expression m) rs) ∷ output_assigns m (suc j) ps (others rs)) (output_assigns m (suc j) ps rs))
-    go true way zero is first second = inl (sym (ap₂ (λ a e. assign (key_text m (port_key a)) e) (sym (add-zero j)) (first_expr (expression m) rs)))
+        (cond b (assign (identifier_text m (port_identifier j)) (expr_or_none (expression m) rs) ∷ output_assigns m (suc j) ps (others rs)) (output_assigns m (suc j) ps rs))
+    go true way zero is first second = inl (sym (ap₂ (λ a e. assign (identifier_text m (port_identifier a)) e) (sym (add-zero j)) (first_expr (expression m) rs)))
     go true way (suc n) is first second = inr (subst (λ y. In y (output_assigns m (suc j) ps (others rs)))
-        (ap₂ (λ a e. assign (key_text m (port_key a)) (expr_for (expression m) e)) (suc-add j n ∙ sym (add-suc j n)) (later_expr rs (output_count (take n ps)))
-        ∙ ap (λ b. assign (key_text m (port_key (j + suc n))) (expr_for (expression m) (slice_get rs (cond b (suc (output_count (take n ps))) (output_count (take n ps)))))) (sym way))
+        (ap₂ (λ a e. assign (identifier_text m (port_identifier a)) (expr_for (expression m) e)) (suc-add j n ∙ sym (add-suc j n)) (later_expr rs (output_count (take n ps)))
+        ∙ ap (λ b. assign (identifier_text m (port_identifier (j + suc n))) (expr_for (expression m) (slice_get rs (cond b (suc (output_count (take n ps))) (output_count (take n ps)))))) (sym way))
         (first n is))
     go false way zero is first second = absurd (let e : x ≡ p = cc in let f : x.is_output ≡ true = ap (λ (z : Port). z.is_output) e ∙ out in cc)
     go false way (suc n) is first second = subst (λ y. In y (output_assigns m (suc j) ps rs))
         (ap (λ a. output_item a (take n ps) rs) (suc-add j n ∙ sym (add-suc j n))
-        ∙ ap (λ b. assign (key_text m (port_key (j + suc n))) (expr_for (expression m) (slice_get rs (cond b (suc (output_count (take n ps))) (output_count (take n ps)))))) (sym way))
+        ∙ ap (λ b. assign (identifier_text m (port_identifier (j + suc n))) (expr_for (expression m) (slice_get rs (cond b (suc (output_count (take n ps))) (output_count (take n ps)))))) (sym way))
         (second n is)
 
 -- ---- the wires of an instance's results
 
 pub from_wires : (m : Module) (i k : ℕ) (rs : List OpResult) (y : Item) → In y (result_wires m i k rs)
-    → (n : ℕ) × (r : OpResult) × (slice_get rs n ≡ Some r) × (y ≡ wire (high_of (width r.type)) (key_text m (value_key i (k + n))))
+    → (n : ℕ) × (r : OpResult) × (slice_get rs n ≡ Some r) × (y ≡ wire (high_of (width r.type)) (identifier_text m (value_identifier i (k + n))))
 from_wires m i k [] y here = absurd here
-from_wires m i k (r ∷ rs) y (inl same) = (0, r, refl, same ∙ ap (λ n. wire (high_of (width r.type)) (key_text m (value_key i n))) (sym (add-zero k)))
+from_wires m i k (r ∷ rs) y (inl same) = (0, r, refl, same ∙ ap (λ n. wire (high_of (width r.type)) (identifier_text m (value_identifier i n))) (sym (add-zero k)))
 from_wires m i k (r ∷ rs) y (inr here) = let h = from_wires m i (suc k) rs y here in
-    (suc h.0, h.1, h.2, h.3 ∙ ap (λ n. wire (high_of (width h.1.type)) (key_text m (value_key i n))) (suc-add k h.0 ∙ sym (add-suc k h.0)))
+    (suc h.0, h.1, h.2, h.3 ∙ ap (λ n. wire (high_of (width h.1.type)) (identifier_text m (value_identifier i n))) (suc-add k h.0 ∙ sym (add-suc k h.0)))
 
 pub into_wires : (m : Module) (i k : ℕ) (rs : List OpResult) (n : ℕ) (r : OpResult) → slice_get rs n ≡ Some r
-    → In (wire (high_of (width r.type)) (key_text m (value_key i (k + n)))) (result_wires m i k rs)
+    → In (wire (high_of (width r.type)) (identifier_text m (value_identifier i (k + n)))) (result_wires m i k rs)
 into_wires m i k [] n r is = cc
 into_wires m i k (x ∷ rs) zero r is = inl (let e : x ≡ r = cc in
-    ap₂ (λ (z : OpResult) a. wire (high_of (width z.type)) (key_text m (value_key i a))) (sym e) (add-zero k))
+    ap₂ (λ (z : OpResult) a. wire (high_of (width z.type)) (identifier_text m (value_identifier i a))) (sym e) (add-zero k))
 into_wires m i k (x ∷ rs) (suc n) r is =
-    inr (subst (λ a. In (wire (high_of (width r.type)) (key_text m (value_key i a))) (result_wires m i (suc k) rs)) (suc-add k n ∙ sym (add-suc k n)) (into_wires m i (suc k) rs n r is))
+    inr (subst (λ a. In (wire (high_of (width r.type)) (identifier_text m (value_identifier i a))) (result_wires m i (suc k) rs)) (suc-add k n ∙ sym (add-suc k n)) (into_wires m i (suc k) rs n r is))
 
 -- ---- items
 
 abbrev pub block_at : Module → ℕ → Register → Item
-block_at m i r = always (name_or_nothing (named m r.clock)) (block_of (expression m) (key_text m (value_key i 0)) r.next r.enable r.reset)
+block_at m i r = always (name_or_nothing (named m r.clock)) (block_of (expression m) (identifier_text m (value_identifier i 0)) r.next r.enable r.reset)
 
 abbrev pub instance_at : Design → Module → ℕ → Op → Instance → Item
-instance_at d m i o x = instance (symbol_name d x.symbol) (key_text m (instance_key i)) (connections_to (find_module d x.symbol) m i o)
+instance_at d m i o x = instance (symbol_name d x.symbol) (identifier_text m (instance_identifier i)) (connections_to (find_module d x.symbol) m i o)
 
 pub data From (d : Design) (m : Module) (y : Item) : Type 0 where
-  net_wire : (i : ℕ) (o : Op) → slice_get m.body i ≡ Some o → role_of m.ports m.body i o ≡ net
-      → y ≡ wire (high_of (width_of (result_type o 0))) (key_text m (value_key i 0)) → From d m y
-  variable_reg : (i : ℕ) (o : Op) → slice_get m.body i ≡ Some o → role_of m.ports m.body i o ≡ variable
-      → y ≡ reg (high_of (width_of (result_type o 0))) (key_text m (value_key i 0)) → From d m y
-  result_wire : (i k : ℕ) (o : Op) (r : OpResult) → slice_get m.body i ≡ Some o → role_of m.ports m.body i o ≡ block → slice_get o.results k ≡ Some r
-      → y ≡ wire (high_of (width r.type)) (key_text m (value_key i k)) → From d m y
-  net_assign : (i : ℕ) (o : Op) → slice_get m.body i ≡ Some o → role_of m.ports m.body i o ≡ net
-      → y ≡ assign (key_text m (value_key i 0)) (assigned_expr m (result i 0)) → From d m y
-  variable_block : (i : ℕ) (o : Op) (r : Register) → slice_get m.body i ≡ Some o → role_of m.ports m.body i o ≡ variable → register_in o ≡ Some r
+  net_wire : (i : ℕ) (o : Op) → slice_get m.body i ≡ Some o → emission_of m.ports m.body i o ≡ net
+      → y ≡ wire (high_of (width_of (result_type o 0))) (identifier_text m (value_identifier i 0)) → From d m y
+  variable_reg : (i : ℕ) (o : Op) → slice_get m.body i ≡ Some o → emission_of m.ports m.body i o ≡ variable
+      → y ≡ reg (high_of (width_of (result_type o 0))) (identifier_text m (value_identifier i 0)) → From d m y
+  result_wire : (i k : ℕ) (o : Op) (r : OpResult) → slice_get m.body i ≡ Some o → emission_of m.ports m.body i o ≡ block → slice_get o.results k ≡ Some r
+      → y ≡ wire (high_of (width r.type)) (identifier_text m (value_identifier i k)) → From d m y
+  net_assign : (i : ℕ) (o : Op) → slice_get m.body i ≡ Some o → emission_of m.ports m.body i o ≡ net
+      → y ≡ assign (identifier_text m (value_identifier i 0)) (assigned_expr m (result i 0)) → From d m y
+  variable_block : (i : ℕ) (o : Op) (r : Register) → slice_get m.body i ≡ Some o → emission_of m.ports m.body i o ≡ variable → register_in o ≡ Some r
       → y ≡ block_at m i r → From d m y
-  an_instance : (i : ℕ) (o : Op) (x : Instance) → slice_get m.body i ≡ Some o → role_of m.ports m.body i o ≡ block → instance_in o.kind ≡ Some x
+  an_instance : (i : ℕ) (o : Op) (x : Instance) → slice_get m.body i ≡ Some o → emission_of m.ports m.body i o ≡ block → instance_in o.kind ≡ Some x
       → y ≡ instance_at d m i o x → From d m y
   output_assign : (j : ℕ) (p : Port) → slice_get m.ports j ≡ Some p → p.is_output ≡ true
       → y ≡ output_item m j (take j m.ports) (output_refs m.body) → From d m y
@@ -232,44 +232,44 @@ pub data From (d : Design) (m : Module) (y : Item) : Type 0 where
 module _ (d : Design) (m : Module) where
   pub from_items : (y : Item) → In y (vitems d m) → From d m y
   from_items y here = by_part (in_append y (each (declares m) 0 m.body) (each (states d m) 0 m.body ++ output_assigns m 0 m.ports (output_refs m.body)) here) where
-    declared : (i : ℕ) (o : Op) → slice_get m.body i ≡ Some o → (r : Role) → role_of m.ports m.body i o ≡ r → In y (declared_as m i o r) → From d m y
-    declared i o there hidden role within = absurd within
-    declared i o there net role (inl same) = net_wire i o there role same
-    declared i o there net role (inr never) = absurd never
-    declared i o there variable role (inl same) = variable_reg i o there role same
-    declared i o there variable role (inr never) = absurd never
-    declared i o there block role within = let h = from_wires m i 0 o.results y within in
-        result_wire i h.0 o h.1 there role h.2 (h.3 ∙ ap (λ n. wire (high_of (width h.1.type)) (key_text m (value_key i n))) (zero-add h.0))
+    declared : (i : ℕ) (o : Op) → slice_get m.body i ≡ Some o → (r : Emission) → emission_of m.ports m.body i o ≡ r → In y (declared_as m i o r) → From d m y
+    declared i o there hidden emission within = absurd within
+    declared i o there net emission (inl same) = net_wire i o there emission same
+    declared i o there net emission (inr never) = absurd never
+    declared i o there variable emission (inl same) = variable_reg i o there emission same
+    declared i o there variable emission (inr never) = absurd never
+    declared i o there block emission within = let h = from_wires m i 0 o.results y within in
+        result_wire i h.0 o h.1 there emission h.2 (h.3 ∙ ap (λ n. wire (high_of (width h.1.type)) (identifier_text m (value_identifier i n))) (zero-add h.0))
 
-    in_block : (i : ℕ) (o : Op) → slice_get m.body i ≡ Some o → role_of m.ports m.body i o ≡ variable → (r : Option Register) → register_in o ≡ r
-        → In y (always_of m (key_text m (value_key i 0)) r) → From d m y
-    in_block i o there role None is within = absurd within
-    in_block i o there role (Some r) is (inl same) = variable_block i o r there role is same
-    in_block i o there role (Some r) is (inr never) = absurd never
+    in_block : (i : ℕ) (o : Op) → slice_get m.body i ≡ Some o → emission_of m.ports m.body i o ≡ variable → (r : Option Register) → register_in o ≡ r
+        → In y (always_of m (identifier_text m (value_identifier i 0)) r) → From d m y
+    in_block i o there emission None is within = absurd within
+    in_block i o there emission (Some r) is (inl same) = variable_block i o r there emission is same
+    in_block i o there emission (Some r) is (inr never) = absurd never
 
-    in_instance : (i : ℕ) (o : Op) → slice_get m.body i ≡ Some o → role_of m.ports m.body i o ≡ block → (x : Option Instance) → instance_in o.kind ≡ x
+    in_instance : (i : ℕ) (o : Op) → slice_get m.body i ≡ Some o → emission_of m.ports m.body i o ≡ block → (x : Option Instance) → instance_in o.kind ≡ x
         → In y (instance_of d m i o x) → From d m y
-    in_instance i o there role None is within = absurd within
-    in_instance i o there role (Some x) is (inl same) = an_instance i o x there role is same
-    in_instance i o there role (Some x) is (inr never) = absurd never
+    in_instance i o there emission None is within = absurd within
+    in_instance i o there emission (Some x) is (inl same) = an_instance i o x there emission is same
+    in_instance i o there emission (Some x) is (inr never) = absurd never
 
-    stated : (i : ℕ) (o : Op) → slice_get m.body i ≡ Some o → (r : Role) → role_of m.ports m.body i o ≡ r → In y (stated_as d m i o r) → From d m y
-    stated i o there hidden role within = absurd within
-    stated i o there net role (inl same) = net_assign i o there role same
-    stated i o there net role (inr never) = absurd never
-    stated i o there variable role within = in_block i o there role (register_in o) refl within
-    stated i o there block role within = in_instance i o there role (instance_in o.kind) refl within
+    stated : (i : ℕ) (o : Op) → slice_get m.body i ≡ Some o → (r : Emission) → emission_of m.ports m.body i o ≡ r → In y (stated_as d m i o r) → From d m y
+    stated i o there hidden emission within = absurd within
+    stated i o there net emission (inl same) = net_assign i o there emission same
+    stated i o there net emission (inr never) = absurd never
+    stated i o there variable emission within = in_block i o there emission (register_in o) refl within
+    stated i o there block emission within = in_instance i o there emission (instance_in o.kind) refl within
 
     outward : In y (output_assigns m 0 m.ports (output_refs m.body)) → From d m y
     outward within = let h = from_outputs m 0 m.ports (output_refs m.body) y within in
         output_assign h.0 h.1 h.2 h.3 (h.4 ∙ ap (λ n. output_item m n (take h.0 m.ports) (output_refs m.body)) (zero-add h.0))
 
     by_rest : In y (each (states d m) 0 m.body) ⊎ In y (output_assigns m 0 m.ports (output_refs m.body)) → From d m y
-    by_rest (inl h) = let e = from_each (states d m) m.body y h in stated e.0 e.1 e.2 (role_of m.ports m.body e.0 e.1) refl e.3
+    by_rest (inl h) = let e = from_each (states d m) m.body y h in stated e.0 e.1 e.2 (emission_of m.ports m.body e.0 e.1) refl e.3
     by_rest (inr h) = outward h
 
     by_part : In y (each (declares m) 0 m.body) ⊎ In y (each (states d m) 0 m.body ++ output_assigns m 0 m.ports (output_refs m.body)) → From d m y
-    by_part (inl h) = let e = from_each (declares m) m.body y h in declared e.0 e.1 e.2 (role_of m.ports m.body e.0 e.1) refl e.3
+    by_part (inl h) = let e = from_each (declares m) m.body y h in declared e.0 e.1 e.2 (emission_of m.ports m.body e.0 e.1) refl e.3
     by_part (inr h) = by_rest (in_append y (each (states d m) 0 m.body) (output_assigns m 0 m.ports (output_refs m.body)) h)
 
   among_declares : (y : Item) (i : ℕ) (o : Op) → slice_get m.body i ≡ Some o → In y (declares m i o) → In y (vitems d m)
@@ -287,14 +287,14 @@ module _ (d : Design) (m : Module) where
       (In-append_right y (each (states d m) 0 m.body) (output_assigns m 0 m.ports (output_refs m.body)) within)
 
   pub into_items : (y : Item) → From d m y → In y (vitems d m)
-  into_items y (net_wire i o there role same) = among_declares y i o there (subst (λ r. In y (declared_as m i o r)) (sym role) (inl same))
-  into_items y (variable_reg i o there role same) = among_declares y i o there (subst (λ r. In y (declared_as m i o r)) (sym role) (inl same))
-  into_items y (result_wire i k o r there role found same) = among_declares y i o there (subst (λ x. In y (declared_as m i o x)) (sym role)
-      (subst (λ z. In z (result_wires m i 0 o.results)) (sym (same ∙ ap (λ n. wire (high_of (width r.type)) (key_text m (value_key i n))) (sym (zero-add k)))) (into_wires m i 0 o.results k r found)))
-  into_items y (net_assign i o there role same) = among_states y i o there (subst (λ r. In y (stated_as d m i o r)) (sym role) (inl same))
-  into_items y (variable_block i o r there role is same) = among_states y i o there (subst (λ x. In y (stated_as d m i o x)) (sym role)
-      (subst (λ x. In y (always_of m (key_text m (value_key i 0)) x)) (sym is) (inl same)))
-  into_items y (an_instance i o x there role is same) = among_states y i o there (subst (λ r. In y (stated_as d m i o r)) (sym role)
+  into_items y (net_wire i o there emission same) = among_declares y i o there (subst (λ r. In y (declared_as m i o r)) (sym emission) (inl same))
+  into_items y (variable_reg i o there emission same) = among_declares y i o there (subst (λ r. In y (declared_as m i o r)) (sym emission) (inl same))
+  into_items y (result_wire i k o r there emission found same) = among_declares y i o there (subst (λ x. In y (declared_as m i o x)) (sym emission)
+      (subst (λ z. In z (result_wires m i 0 o.results)) (sym (same ∙ ap (λ n. wire (high_of (width r.type)) (identifier_text m (value_identifier i n))) (sym (zero-add k)))) (into_wires m i 0 o.results k r found)))
+  into_items y (net_assign i o there emission same) = among_states y i o there (subst (λ r. In y (stated_as d m i o r)) (sym emission) (inl same))
+  into_items y (variable_block i o r there emission is same) = among_states y i o there (subst (λ x. In y (stated_as d m i o x)) (sym emission)
+      (subst (λ x. In y (always_of m (identifier_text m (value_identifier i 0)) x)) (sym is) (inl same)))
+  into_items y (an_instance i o x there emission is same) = among_states y i o there (subst (λ r. In y (stated_as d m i o r)) (sym emission)
       (subst (λ z. In y (instance_of d m i o z)) (sym is) (inl same)))
   into_items y (output_assign j p there out same) = among_outputs y
       (subst (λ z. In z (output_assigns m 0 m.ports (output_refs m.body))) (sym (same ∙ ap (λ n. output_item m n (take j m.ports) (output_refs m.body)) (sym (zero-add j))))

@@ -3,7 +3,7 @@ use Rattle.std.proofs.Common.{◌≡◌, ℕ, zero, suc, ◌+◌, ◌⊎◌, Lis
 use Rattle.wiring.specs.Wiring.{In}
 use Rattle.wiring.proofs.Members.{In-append_left, In-append_right}
 use Rattle.verilog_model.specs.Hierarchy.{first_some, or_else}
-use Rattle.export_verilog.specs.Keys.{each}
+use Rattle.export_verilog.specs.Identifiers.{each}
 
 module _ {A : Type 0} where
   pub in_append : (x : A) (xs ys : List A) → In x (xs ++ ys) → In x xs ⊎ In x ys

@@ -7,11 +7,11 @@ use Rattle.wiring.specs.Options.{bind}
 use Rattle.hw_model.specs.Sound.{type_in, input_types, output_types, SoundBody}
 use Rattle.hw_model.proofs.Sorts.{Sort, sort_of}
 use Rattle.hw_model.proofs.Sorts.Sort.{a_register, an_instance, an_output, a_made}
-use Rattle.export_verilog.specs.Keys.{role_of}
-use Rattle.export_verilog.specs.Keys.Role.{net, variable, block}
+use Rattle.export_verilog.specs.Identifiers.{emission_of}
+use Rattle.export_verilog.specs.Identifiers.Emission.{net, variable, block}
 use Rattle.export_verilog.specs.Exportable.{IsExportable, IsExportableModule}
-use Rattle.export_verilog.proofs.names.KeyNames.{AreNames}
-use Rattle.export_verilog.proofs.names.KeysOf.{register_of_role, made_of_role, instance_of_role}
+use Rattle.export_verilog.proofs.names.IdentifierNames.{AreNames}
+use Rattle.export_verilog.proofs.names.IdentifiersOf.{register_of_emission, made_of_emission, instance_of_emission}
 use Rattle.export_verilog.proofs.names.Symbols.{AreSymbols, found_symbol}
 use Rattle.export_verilog.proofs.items.Lookups.{SayWidths}
 
@@ -41,24 +41,24 @@ module _ (d : Design) (x : Setting d) (s : Name) (m : Module) (is : find_module 
   called_by i o there k kind = let h = module_sound.instances i o there k kind in
       record { kind = k; is_kind = kind; module_of = h.0; there = h.1; inputs = h.2; outputs = h.3 }
 
-  pub called_by_role : (i : ℕ) (o : Op) → slice_get m.body i ≡ Some o → role_of m.ports m.body i o ≡ block → Called d m o
-  called_by_role i o there role = let k = instance_of_role m.ports m.body i o role in called_by i o there k.0 k.2
+  pub called_by_emission : (i : ℕ) (o : Op) → slice_get m.body i ≡ Some o → emission_of m.ports m.body i o ≡ block → Called d m o
+  called_by_emission i o there emission = let k = instance_of_emission m.ports m.body i o emission in called_by i o there k.0 k.2
 
   pub one_result_of : (i : ℕ) (o : Op) → slice_get m.body i ≡ Some o → instance_in o.kind ≡ None → is_output_kind o.kind ≡ false → (r : OpResult) × (o.results ≡ r ∷ [])
   one_result_of i o there inst out = (module_ok.ops i o there).one_result (ap₂ (λ a b. is_some a || b) inst out)
 
   -- what has a wire or a variable of its own has one result
-  pub first_result : (i : ℕ) (o : Op) → slice_get m.body i ≡ Some o → (role_of m.ports m.body i o ≡ net) ⊎ (role_of m.ports m.body i o ≡ variable) → (r : OpResult) × (o.results ≡ r ∷ [])
-  first_result i o there (inl role) = let h = made_of_role m.ports m.body i o role in one_result_of i o there h.1 h.2
-  first_result i o there (inr role) = let h = register_of_role m.ports m.body i o role in by_sort (sort_of o.kind) h.1 where
+  pub first_result : (i : ℕ) (o : Op) → slice_get m.body i ≡ Some o → (emission_of m.ports m.body i o ≡ net) ⊎ (emission_of m.ports m.body i o ≡ variable) → (r : OpResult) × (o.results ≡ r ∷ [])
+  first_result i o there (inl emission) = let h = made_of_emission m.ports m.body i o emission in one_result_of i o there h.1 h.2
+  first_result i o there (inr emission) = let h = register_of_emission m.ports m.body i o emission in by_sort (sort_of o.kind) h.1 where
     by_sort : Sort o.kind → {f : _} → register_form o.kind ≡ Some f → (r : OpResult) × (o.results ≡ r ∷ [])
     by_sort (a_register g r n u) e = one_result_of i o there n u
     by_sort (an_instance k r n u) e = absurd (let z : None ≡ Some _ = sym r ∙ e in cc)
     by_sort (an_output r n u) e = absurd (let z : None ≡ Some _ = sym r ∙ e in cc)
     by_sort (a_made r n u) e = absurd (let z : None ≡ Some _ = sym r ∙ e in cc)
 
-  pub result_at_first : (i : ℕ) (o : Op) → slice_get m.body i ≡ Some o → (role_of m.ports m.body i o ≡ net) ⊎ (role_of m.ports m.body i o ≡ variable) → (r : OpResult) × (slice_get o.results 0 ≡ Some r)
-  result_at_first i o there role = let h = first_result i o there role in (h.0, ap (λ rs. slice_get rs 0) h.1)
+  pub result_at_first : (i : ℕ) (o : Op) → slice_get m.body i ≡ Some o → (emission_of m.ports m.body i o ≡ net) ⊎ (emission_of m.ports m.body i o ≡ variable) → (r : OpResult) × (slice_get o.results 0 ≡ Some r)
+  result_at_first i o there emission = let h = first_result i o there emission in (h.0, ap (λ rs. slice_get rs 0) h.1)
 
 pub callee_is : (d : Design) (m : Module) (o : Op) (c : Called d m o) → callee d o ≡ Some c.module_of
 callee_is d m o c = ap (λ k. bind k (λ (i : Instance). find_module d i.symbol)) c.is_kind ∙ c.there

@@ -17,11 +17,11 @@ use Rattle.verilog_expr.specs.Expressions.{value_width}
 use Rattle.verilog_expr.specs.Spilling.{is_pure, is_wire_kind, is_constant_kind, is_narrower, places_in, one_if, cuts, some_op, is_shared, part_of_op, has_wire, height, spilled, spilled_op}
 use Rattle.verilog_expr.specs.Spilling.Part.{flat, shared, nested}
 use Rattle.verilog_expr.specs.Values.{gives_values, IsWritable}
-use Rattle.export_verilog.specs.Keys.{role_of, module_keys, key_text, key_name, named, input_name}
-use Rattle.export_verilog.specs.Keys.Key.{port_key, value_key}
-use Rattle.export_verilog.specs.Keys.Role.{hidden, net}
-use Rattle.export_verilog.proofs.names.KeyNames.{AreNames, text_named, name_has_key, text_of_key}
-use Rattle.export_verilog.proofs.names.KeysOf.{role_of_register, role_of_instance, role_of_made, port_in, net_in, variable_in, result_in_keys}
+use Rattle.export_verilog.specs.Identifiers.{emission_of, module_identifiers, identifier_text, identifier_name, named, input_name}
+use Rattle.export_verilog.specs.Identifiers.Identifier.{port_identifier, value_identifier}
+use Rattle.export_verilog.specs.Identifiers.Emission.{hidden, net}
+use Rattle.export_verilog.proofs.names.IdentifierNames.{AreNames, text_named, name_has_identifier, text_of_identifier}
+use Rattle.export_verilog.proofs.names.IdentifiersOf.{emission_of_register, emission_of_instance, emission_of_made, port_in, net_in, variable_in, result_in_identifiers}
 use Rattle.export_verilog.proofs.items.Settings.{Setting, module_ok, module_sound, one_result_of}
 use Rattle.export_verilog.proofs.behaviour.Sources.{pure_sort}
 
@@ -86,38 +86,38 @@ module _ (d : Design) (x : Setting d) (s : Name) (m : Module) (is : find_module 
   are : AreNames m
   are = x.names s m is
 
-  pub named_result : (i k : ℕ) → In (value_key i k) (module_keys m) → named m (result i k) ≡ Some (key_text m (value_key i k))
-  named_result i k here = text_named m are (value_key i k) here
+  pub named_result : (i k : ℕ) → In (value_identifier i k) (module_identifiers m) → named m (result i k) ≡ Some (identifier_text m (value_identifier i k))
+  named_result i k here = text_named m are (value_identifier i k) here
 
-  pub named_input : (j : ℕ) (p : Port) → slice_get m.ports j ≡ Some p → p.is_output ≡ false → named m (port j) ≡ Some (key_text m (port_key j))
+  pub named_input : (j : ℕ) (p : Port) → slice_get m.ports j ≡ Some p → p.is_output ≡ false → named m (port j) ≡ Some (identifier_text m (port_identifier j))
   named_input j p there out =
-      ap (input_name m j) there ∙ ap (λ b. cond b None (key_name m (port_key j))) out ∙ text_named m are (port_key j) (port_in m j p there)
+      ap (input_name m j) there ∙ ap (λ b. cond b None (identifier_name m (port_identifier j))) out ∙ text_named m are (port_identifier j) (port_in m j p there)
 
   -- a value that has a name is an input, or a result with a key
   pub data NamedAs (n : Name) (r : Ref) : Type 0 where
-    by_port : (j : ℕ) (p : Port) → slice_get m.ports j ≡ Some p → p.is_output ≡ false → r ≡ port j → n ≡ key_text m (port_key j) → NamedAs n r
-    by_value : (i k : ℕ) → In (value_key i k) (module_keys m) → r ≡ result i k → n ≡ key_text m (value_key i k) → NamedAs n r
+    by_port : (j : ℕ) (p : Port) → slice_get m.ports j ≡ Some p → p.is_output ≡ false → r ≡ port j → n ≡ identifier_text m (port_identifier j) → NamedAs n r
+    by_value : (i k : ℕ) → In (value_identifier i k) (module_identifiers m) → r ≡ result i k → n ≡ identifier_text m (value_identifier i k) → NamedAs n r
 
   pub named_as : (r : Ref) (n : Name) → named m r ≡ Some n → NamedAs n r
   named_as (port j) n e = go (slice_get m.ports j) refl e where
-    by_way : (p : Port) → slice_get m.ports j ≡ Some p → (b : Bool) → p.is_output ≡ b → cond b None (key_name m (port_key j)) ≡ Some n → NamedAs n (port j)
+    by_way : (p : Port) → slice_get m.ports j ≡ Some p → (b : Bool) → p.is_output ≡ b → cond b None (identifier_name m (port_identifier j)) ≡ Some n → NamedAs n (port j)
     by_way p there true out h = cc
-    by_way p there false out h = by_port j p there out refl (sym (text_of_key m are (port_key j) n h))
+    by_way p there false out h = by_port j p there out refl (sym (text_of_identifier m are (port_identifier j) n h))
 
     go : (p : Option Port) → slice_get m.ports j ≡ p → input_name m j p ≡ Some n → NamedAs n (port j)
     go None there h = cc
     go (Some p) there h = by_way p there p.is_output refl h
-  named_as (result i k) n e = by_value i k (name_has_key m are (value_key i k) n e) refl (sym (text_of_key m are (value_key i k) n e))
+  named_as (result i k) n e = by_value i k (name_has_identifier m are (value_identifier i k) n e) refl (sym (text_of_identifier m are (value_identifier i k) n e))
   named_as undefined n e = cc
 
-  role_named : (i : ℕ) (o : Op) → slice_get m.body i ≡ Some o → role_of m.ports m.body i o ≡ net → is_some (named m (result i 0)) ≡ true
-  role_named i o there role = some_is (named m (result i 0)) (key_text m (value_key i 0)) (named_result i 0 (net_in m i o there role))
+  emission_named : (i : ℕ) (o : Op) → slice_get m.body i ≡ Some o → emission_of m.ports m.body i o ≡ net → is_some (named m (result i 0)) ≡ true
+  emission_named i o there emission = some_is (named m (result i 0)) (identifier_text m (value_identifier i 0)) (named_result i 0 (net_in m i o there emission))
 
   inputs_named : (j : ℕ) (t : HwType) → type_in m.ports m.body (port j) ≡ Some t → is_some (named m (port j)) ≡ true
   inputs_named j t typed = go (slice_get m.ports j) refl typed where
     by_way : (p : Port) → slice_get m.ports j ≡ Some p → (b : Bool) → p.is_output ≡ b → cond b None (Some p.type) ≡ Some t → is_some (named m (port j)) ≡ true
     by_way p there true out h = cc
-    by_way p there false out h = some_is (named m (port j)) (key_text m (port_key j)) (named_input j p there out)
+    by_way p there false out h = some_is (named m (port j)) (identifier_text m (port_identifier j)) (named_input j p there out)
 
     go : (p : Option Port) → slice_get m.ports j ≡ p → input_type p ≡ Some t → is_some (named m (port j)) ≡ true
     go None there h = cc
@@ -141,7 +141,7 @@ module _ (d : Design) (x : Setting d) (s : Name) (m : Module) (is : find_module 
   -- whether a made value has a wire
   made_named : (i : ℕ) (o : Op) → slice_get m.body i ≡ Some o → register_form o.kind ≡ None → instance_in o.kind ≡ None → is_output_kind o.kind ≡ false
       → (is_wire_kind o.kind ≡ true) ⊎ (spilled m.ports m.body (result i 0) ≡ true) → is_some (named m (result i 0)) ≡ true
-  made_named i o there r n u which = role_named i o there (role_of_made m.ports m.body i o r n u ∙ go (is_wire_kind o.kind) (spilled m.ports m.body (result i 0)) which) where
+  made_named i o there r n u which = emission_named i o there (emission_of_made m.ports m.body i o r n u ∙ go (is_wire_kind o.kind) (spilled m.ports m.body (result i 0)) which) where
     go : (a b : Bool) → (a ≡ true) ⊎ (b ≡ true) → cond a net (cond b net hidden) ≡ net
     go true b w = refl
     go false true w = refl
@@ -157,10 +157,10 @@ module _ (d : Design) (x : Setting d) (s : Name) (m : Module) (is : find_module 
     go : Sort o.kind → is_some (named m (result i k)) ≡ true
     go (a_register f r n u) =
         by_first i k (made_first i k o t there typed n u)
-        (some_is (named m (result i 0)) (key_text m (value_key i 0)) (named_result i 0 (variable_in m i o there (role_of_register m.ports m.body i o f r))))
+        (some_is (named m (result i 0)) (identifier_text m (value_identifier i 0)) (named_result i 0 (variable_in m i o there (emission_of_register m.ports m.body i o f r))))
     go (an_instance y r n u) =
         let h = omap_some (λ (z : OpResult). z.type) (slice_get o.results k) typed in
-        some_is (named m (result i k)) (key_text m (value_key i k)) (named_result i k (result_in_keys m i k o h.0 there (role_of_instance m.ports m.body i o y r n) h.1))
+        some_is (named m (result i k)) (identifier_text m (value_identifier i k)) (named_result i k (result_in_identifiers m i k o h.0 there (emission_of_instance m.ports m.body i o y r n) h.1))
     go (an_output r n u) = absurd (no_results i k o t there typed u)
     go (a_made r n u) = by_first i k (made_first i k o t there typed n u) (made_named i o there r n u (inl (wire r n u (is_wire_kind o.kind) refl)))
 

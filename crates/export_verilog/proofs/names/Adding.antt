@@ -5,8 +5,8 @@ use Rattle.hw_model.specs.Types.{Name}
 use Rattle.hw_model.specs.Kinds.{Instance}
 use Rattle.name_legalise.specs.Legal.{legal_name, legal_after}
 use Rattle.verilog_expr.proofs.Drops.{split, drop_none}
-use Rattle.export_verilog.specs.Keys.{result_wish}
-use Rattle.export_verilog.specs.Held.{result_wishes}
+use Rattle.export_verilog.specs.Identifiers.{result_name_hint}
+use Rattle.export_verilog.specs.Held.{result_name_hints}
 
 module _ (ts us ws wholeN : List Name) (list one wholeL : List (Option Name)) (k : ℕ) (w n : Name) (lt : k < length ws) (at : w ≡ get_or ws k w)
     (is : n ≡ legal_name ts w) (took : us ≡ ts ++ legal_name ts w ∷ []) where
@@ -36,17 +36,17 @@ list_end ts ws list wholeL k le inv = sym (append-nil list) ∙ ap (λ l. list +
 
 -- ---- the names that are wanted for an instance's results
 
-pub wish_count : (i : Instance) (k n : ℕ) → length (result_wishes i k n) ≡ n
-wish_count i k zero = refl
-wish_count i k (suc n) = ap suc (wish_count i (suc k) n)
+pub name_hint_count : (i : Instance) (k n : ℕ) → length (result_name_hints i k n) ≡ n
+name_hint_count i k zero = refl
+name_hint_count i k (suc n) = ap suc (name_hint_count i (suc k) n)
 
-pub wish_at : (i : Instance) (k n j : ℕ) → j < n → result_wish i (k + j) ≡ get_or (result_wishes i k n) j (result_wish i (k + j))
-wish_at i k zero j lt = absurd (omega (arith, lt))
-wish_at i k (suc n) zero lt = ap (result_wish i) (add-zero k)
-wish_at i k (suc n) (suc j) lt =
-    ap (result_wish i) (add-suc k j ∙ sym (suc-add k j)) ∙ wish_at i (suc k) n j (omega (arith, lt))
-    ∙ ap (λ m. get_or (result_wishes i (suc k) n) j (result_wish i m)) (suc-add k j ∙ sym (add-suc k j))
+pub name_hint_at : (i : Instance) (k n j : ℕ) → j < n → result_name_hint i (k + j) ≡ get_or (result_name_hints i k n) j (result_name_hint i (k + j))
+name_hint_at i k zero j lt = absurd (omega (arith, lt))
+name_hint_at i k (suc n) zero lt = ap (result_name_hint i) (add-zero k)
+name_hint_at i k (suc n) (suc j) lt =
+    ap (result_name_hint i) (add-suc k j ∙ sym (suc-add k j)) ∙ name_hint_at i (suc k) n j (omega (arith, lt))
+    ∙ ap (λ m. get_or (result_name_hints i (suc k) n) j (result_name_hint i m)) (suc-add k j ∙ sym (add-suc k j))
 
-pub wish_first : (i : Instance) (n j : ℕ) → j < n → result_wish i j ≡ get_or (result_wishes i 0 n) j (result_wish i j)
-wish_first i n j lt =
-    ap (result_wish i) (sym (zero-add j)) ∙ wish_at i 0 n j lt ∙ ap (λ m. get_or (result_wishes i 0 n) j (result_wish i m)) (zero-add j)
+pub name_hint_first : (i : Instance) (n j : ℕ) → j < n → result_name_hint i j ≡ get_or (result_name_hints i 0 n) j (result_name_hint i j)
+name_hint_first i n j lt =
+    ap (result_name_hint i) (sym (zero-add j)) ∙ name_hint_at i 0 n j lt ∙ ap (λ m. get_or (result_name_hints i 0 n) j (result_name_hint i m)) (zero-add j)

@@ -7,12 +7,12 @@ use Rattle.verilog_model.specs.Tree.{Expr, Connection}
 use Rattle.verilog_model.specs.Tree.Expr.{name}
 use Rattle.verilog_model.specs.Checks.{contains_name, are_distinct}
 use Rattle.verilog_model.proofs.Numerals.{and_intro}
-use Rattle.export_verilog.specs.Keys.{Key, key_text, module_keys}
-use Rattle.export_verilog.specs.Keys.Key.{port_key, value_key}
+use Rattle.export_verilog.specs.Identifiers.{Identifier, identifier_text, module_identifiers}
+use Rattle.export_verilog.specs.Identifiers.Identifier.{port_identifier, value_identifier}
 use Rattle.export_verilog.specs.Exported.{expression, expr_or_none, connections_of, others}
 use Rattle.export_verilog.proofs.items.Lists.{in_append}
-use Rattle.export_verilog.proofs.names.KeyNames.{AreNames, texts_apart}
-use Rattle.export_verilog.proofs.names.KeysOf.{port_in}
+use Rattle.export_verilog.proofs.names.IdentifierNames.{AreNames, texts_apart}
+use Rattle.export_verilog.proofs.names.IdentifiersOf.{port_in}
 
 -- no element stands twice
 abbrev pub AreApart : {A : Type 0} → List A → Type 0
@@ -31,62 +31,62 @@ joined_apart (k ∷ ks) ls a b disjoint =
 -- ---- names
 
 -- a name that is no thing's text
-pub not_contained : (m : Module) (k : Key) (ks : List Key) → ((l : Key) → In l ks → key_text m k ≡ key_text m l → ⊥) → contains_name (key_text m k) (map (key_text m) ks) ≡ false
+pub not_contained : (m : Module) (k : Identifier) (ks : List Identifier) → ((l : Identifier) → In l ks → identifier_text m k ≡ identifier_text m l → ⊥) → contains_name (identifier_text m k) (map (identifier_text m) ks) ≡ false
 not_contained m k [] away = refl
-not_contained m k (l ∷ ks) away = go (same_name (key_text m l) (key_text m k)) refl (not_contained m k ks (λ h u e. away h (inr u) e)) where
-  go : (b : Bool) → same_name (key_text m l) (key_text m k) ≡ b → contains_name (key_text m k) (map (key_text m) ks) ≡ false → (b || contains_name (key_text m k) (map (key_text m) ks)) ≡ false
-  go true e rest = absurd (away l (inl refl) (sym (name_from (key_text m l) (key_text m k) e)))
+not_contained m k (l ∷ ks) away = go (same_name (identifier_text m l) (identifier_text m k)) refl (not_contained m k ks (λ h u e. away h (inr u) e)) where
+  go : (b : Bool) → same_name (identifier_text m l) (identifier_text m k) ≡ b → contains_name (identifier_text m k) (map (identifier_text m) ks) ≡ false → (b || contains_name (identifier_text m k) (map (identifier_text m) ks)) ≡ false
+  go true e rest = absurd (away l (inl refl) (sym (name_from (identifier_text m l) (identifier_text m k) e)))
   go false e rest = rest
 
-pub texts_distinct : (m : Module) (are : AreNames m) (ks : List Key) → ((k : Key) → In k ks → In k (module_keys m)) → AreApart ks → are_distinct (map (key_text m) ks) ≡ true
+pub texts_distinct : (m : Module) (are : AreNames m) (ks : List Identifier) → ((k : Identifier) → In k ks → In k (module_identifiers m)) → AreApart ks → are_distinct (map (identifier_text m) ks) ≡ true
 texts_distinct m are [] within apart = refl
 texts_distinct m are (k ∷ ks) within apart =
-    and_intro (not (contains_name (key_text m k) (map (key_text m) ks))) (are_distinct (map (key_text m) ks))
+    and_intro (not (contains_name (identifier_text m k) (map (identifier_text m) ks))) (are_distinct (map (identifier_text m) ks))
     (ap not (not_contained m k ks (λ l here e. apart.0 (subst (λ z. In z ks) (sym (texts_apart m are k l (within k (inl refl)) (within l (inr here)) e)) here))))
     (texts_distinct m are ks (λ l h. within l (inr h)) apart.1)
 
 -- ---- the ports of a module
 
 -- the keys of so many ports from one on
-unfoldable pub port_keys_from : ℕ → List Port → List Key
-port_keys_from j [] = []
-port_keys_from j (p ∷ ps) = port_key j ∷ port_keys_from (suc j) ps
+unfoldable pub port_identifiers_from : ℕ → List Port → List Identifier
+port_identifiers_from j [] = []
+port_identifiers_from j (p ∷ ps) = port_identifier j ∷ port_identifiers_from (suc j) ps
 
-pub port_keys_above : (j : ℕ) (ps : List Port) (k : Key) → In k (port_keys_from j ps) → (n : ℕ) × (p : Port) × (slice_get ps n ≡ Some p) × (k ≡ port_key (j + n))
-unfolding port_keys_from
-port_keys_above j [] k here = absurd here
-port_keys_above j (p ∷ ps) k (inl same) = (0, p, refl, same ∙ ap port_key (sym (add-zero j)))
-port_keys_above j (p ∷ ps) k (inr here) = let h = port_keys_above (suc j) ps k here in
-    (suc h.0, h.1, h.2, h.3 ∙ ap port_key (suc-add j h.0 ∙ sym (add-suc j h.0)))
+pub port_identifiers_above : (j : ℕ) (ps : List Port) (k : Identifier) → In k (port_identifiers_from j ps) → (n : ℕ) × (p : Port) × (slice_get ps n ≡ Some p) × (k ≡ port_identifier (j + n))
+unfolding port_identifiers_from
+port_identifiers_above j [] k here = absurd here
+port_identifiers_above j (p ∷ ps) k (inl same) = (0, p, refl, same ∙ ap port_identifier (sym (add-zero j)))
+port_identifiers_above j (p ∷ ps) k (inr here) = let h = port_identifiers_above (suc j) ps k here in
+    (suc h.0, h.1, h.2, h.3 ∙ ap port_identifier (suc-add j h.0 ∙ sym (add-suc j h.0)))
 
-pub port_keys_apart : (j : ℕ) (ps : List Port) → AreApart (port_keys_from j ps)
-unfolding port_keys_from
-port_keys_apart j [] = tt
-port_keys_apart j (p ∷ ps) =
-    ((λ h. let e = port_keys_above (suc j) ps (port_key j) h in clash e.0 e.3), port_keys_apart (suc j) ps) where
-      clash : (n : ℕ) → port_key j ≡ port_key (suc j + n) → ⊥
+pub port_identifiers_apart : (j : ℕ) (ps : List Port) → AreApart (port_identifiers_from j ps)
+unfolding port_identifiers_from
+port_identifiers_apart j [] = tt
+port_identifiers_apart j (p ∷ ps) =
+    ((λ h. let e = port_identifiers_above (suc j) ps (port_identifier j) h in clash e.0 e.3), port_identifiers_apart (suc j) ps) where
+      clash : (n : ℕ) → port_identifier j ≡ port_identifier (suc j + n) → ⊥
       clash n e = let f : j ≡ suc j + n = cc in omega (arith, f)
 
-pub port_keys_within : (m : Module) (k : Key) → In k (port_keys_from 0 m.ports) → In k (module_keys m)
-port_keys_within m k here = let e = port_keys_above 0 m.ports k here in
-    subst (λ z. In z (module_keys m)) (sym (e.3 ∙ ap port_key (zero-add e.0))) (port_in m e.0 e.1 e.2)
+pub port_identifiers_within : (m : Module) (k : Identifier) → In k (port_identifiers_from 0 m.ports) → In k (module_identifiers m)
+port_identifiers_within m k here = let e = port_identifiers_above 0 m.ports k here in
+    subst (λ z. In z (module_identifiers m)) (sym (e.3 ∙ ap port_identifier (zero-add e.0))) (port_in m e.0 e.1 e.2)
 
 -- the ports that an instance joins
-pub connected_ports : (c m : Module) (i j k : ℕ) (ps : List Port) (rs : List Ref) → map (λ (y : Connection). y.port) (connections_of c m i j k ps rs) ≡ map (key_text c) (port_keys_from j ps)
-unfolding port_keys_from
+pub connected_ports : (c m : Module) (i j k : ℕ) (ps : List Port) (rs : List Ref) → map (λ (y : Connection). y.port) (connections_of c m i j k ps rs) ≡ map (identifier_text c) (port_identifiers_from j ps)
+unfolding port_identifiers_from
 connected_ports c m i j k [] rs = refl
 connected_ports c m i j k (p ∷ ps) rs = go p.is_output (connected_ports c m i (suc j) (suc k) ps rs) (connected_ports c m i (suc j) k ps (others rs)) where
   head : Expr → Connection
-  head e = record { port = key_text c (port_key j); value = e }
+  head e = record { port = identifier_text c (port_identifier j); value = e }
 
-  go : (b : Bool) → map (λ (y : Connection). y.port) (connections_of c m i (suc j) (suc k) ps rs) ≡ map (key_text c) (port_keys_from (suc j) ps)
-      → map (λ (y : Connection). y.port) (connections_of c m i (suc j) k ps (others rs)) ≡ map (key_text c) (port_keys_from (suc j) ps)
-      → map (λ (y : Connection). y.port) (cond b (head (name (key_text m (value_key i k))) ∷ connections_of c m i (suc j) (suc k) ps rs) (head (expr_or_none (expression m) rs) ∷ connections_of c m i (suc j) k ps (others rs)))
-      ≡ key_text c (port_key j) ∷ map (key_text c) (port_keys_from (suc j) ps)
-  go true x y = ap (λ z. key_text c (port_key j) ∷ z) x
-  go false x y = ap (λ z. key_text c (port_key j) ∷ z) y
+  go : (b : Bool) → map (λ (y : Connection). y.port) (connections_of c m i (suc j) (suc k) ps rs) ≡ map (identifier_text c) (port_identifiers_from (suc j) ps)
+      → map (λ (y : Connection). y.port) (connections_of c m i (suc j) k ps (others rs)) ≡ map (identifier_text c) (port_identifiers_from (suc j) ps)
+      → map (λ (y : Connection). y.port) (cond b (head (name (identifier_text m (value_identifier i k))) ∷ connections_of c m i (suc j) (suc k) ps rs) (head (expr_or_none (expression m) rs) ∷ connections_of c m i (suc j) k ps (others rs)))
+      ≡ identifier_text c (port_identifier j) ∷ map (identifier_text c) (port_identifiers_from (suc j) ps)
+  go true x y = ap (λ z. identifier_text c (port_identifier j) ∷ z) x
+  go false x y = ap (λ z. identifier_text c (port_identifier j) ∷ z) y
 
 pub ports_distinct : (c m : Module) (are : AreNames c) (i : ℕ) (rs : List Ref) → are_distinct (map (λ (y : Connection). y.port) (connections_of c m i 0 0 c.ports rs)) ≡ true
 ports_distinct c m are i rs =
     ap are_distinct (connected_ports c m i 0 0 c.ports rs)
-    ∙ texts_distinct c are (port_keys_from 0 c.ports) (port_keys_within c) (port_keys_apart 0 c.ports)
+    ∙ texts_distinct c are (port_identifiers_from 0 c.ports) (port_identifiers_within c) (port_identifiers_apart 0 c.ports)

@@ -11,15 +11,15 @@ use Rattle.name_legalise.proofs.Legals.{legal_count}
 use Rattle.verilog_expr.specs.Named.{name_in, result_name, named_of}
 use Rattle.verilog_expr.specs.declared.value_names.NameList.{NameList}
 use Rattle.verilog_expr.specs.declared.value_names.ValueNames.{ValueNames}
-use Rattle.export_verilog.specs.Keys.{Key, each, port_keys, op_keys, module_keys, name_among, key_name, name_or_nothing, input_name, named}
-use Rattle.export_verilog.specs.Keys.Key.{port_key, value_key, instance_key}
+use Rattle.export_verilog.specs.Identifiers.{Identifier, each, port_identifiers, op_identifiers, module_identifiers, name_among, identifier_name, name_or_nothing, input_name, named}
+use Rattle.export_verilog.specs.Identifiers.Identifier.{port_identifier, value_identifier, instance_identifier}
 use Rattle.export_verilog.specs.Held.{op_results, op_own_name}
-use Rattle.export_verilog.specs.Walks.{body_wishes, body_given, result_lists}
+use Rattle.export_verilog.specs.Walks.{body_name_hints, body_given, result_lists}
 use Rattle.export_verilog.specs.PortValues.{port_values}
 use Rattle.export_verilog.specs.ModuleNames.{AreModuleNames}
 use Rattle.export_verilog.proofs.items.Lists.{in_each}
 use Rattle.export_verilog.proofs.names.PortNames.{port_names_are}
-use Rattle.export_verilog.proofs.names.KeyWishes.{names_are}
+use Rattle.export_verilog.proofs.names.IdentifierNameHints.{names_are}
 use Rattle.export_verilog.proofs.names.GivenNames.{among_later, given_name, values_given, instances_given, given_count}
 
 -- ---- what stands at places of lists of one length
@@ -41,7 +41,7 @@ listed_name (l ∷ ls) zero k = refl
 listed_name (l ∷ ls) (suc i) k = listed_name ls i k
 
 -- the names of the values of ports
-input_at : (m : Module) (i : ℕ) (ps : List Port) (ns : List Name) (j : ℕ) → length ns ≡ length ps → ((p : Port) → slice_get ps j ≡ Some p → key_name m (port_key i) ≡ slice_get ns j)
+input_at : (m : Module) (i : ℕ) (ps : List Port) (ns : List Name) (j : ℕ) → length ns ≡ length ps → ((p : Port) → slice_get ps j ≡ Some p → identifier_name m (port_identifier i) ≡ slice_get ns j)
     → name_in (port_values ps ns) j ≡ input_name m i (slice_get ps j)
 input_at m i [] ns j count at = refl
 input_at m i (p ∷ ps) [] j count at = absurd (omega (arith, count))
@@ -50,13 +50,13 @@ input_at m i (p ∷ ps) (n ∷ ns) (suc j) count at = input_at m i ps ns j (omeg
 
 -- ---- ports come first
 
-port_count : (o : ℕ) (ps : List Port) → length (each port_keys o ps) ≡ length ps
+port_count : (o : ℕ) (ps : List Port) → length (each port_identifiers o ps) ≡ length ps
 port_count o [] = refl
 port_count o (p ∷ ps) = ap suc (port_count (suc o) ps)
 
-never_port : (ps : List Port) (key : Key) → ((j : ℕ) → key ≡ port_key j → ⊥) → In key (each port_keys 0 ps) → ⊥
-never_port ps key never here = let e = in_each port_keys 0 ps key here in go e.place e.within where
-  go : (n : ℕ) → (key ≡ port_key (0 + n)) ⊎ ⊥ → ⊥
+never_port : (ps : List Port) (identifier : Identifier) → ((j : ℕ) → identifier ≡ port_identifier j → ⊥) → In identifier (each port_identifiers 0 ps) → ⊥
+never_port ps identifier never here = let e = in_each port_identifiers 0 ps identifier here in go e.place e.within where
+  go : (n : ℕ) → (identifier ≡ port_identifier (0 + n)) ⊎ ⊥ → ⊥
   go n (inl same) = never (0 + n) same
   go n (inr none) = none
 
@@ -64,27 +64,27 @@ module _ (m : Module) (ns : List Name) (e : ns ≡ legal (map (λ (p : Port). p.
   count : length ns ≡ length m.ports
   count = ap length e ∙ legal_count [] (map (λ (p : Port). p.name) m.ports) ∙ length-map m.ports (λ (p : Port). p.name)
 
-  port_at : (j : ℕ) (p : Port) → slice_get m.ports j ≡ Some p → key_name m (port_key j) ≡ slice_get ns j
+  port_at : (j : ℕ) (p : Port) → slice_get m.ports j ≡ Some p → identifier_name m (port_identifier j) ≡ slice_get ns j
   port_at j p at = port_names_are m.ports m refl j p at ∙ ap (λ l. slice_get l j) (sym e)
 
-  body_name : (key : Key) → ((j : ℕ) → key ≡ port_key j → ⊥)
-      → key_name m key ≡ name_among (each (op_keys m.ports m.body) 0 m.body) (legal_after ns (body_wishes m.ports m.body 0 m.body)) key
-  body_name key never =
-      ap (λ l. name_among (module_keys m) l key) (names_are m ns e)
-      ∙ among_later (each port_keys 0 m.ports) (each (op_keys m.ports m.body) 0 m.body) ns (legal_after ns (body_wishes m.ports m.body 0 m.body)) key
-      (count ∙ sym (port_count 0 m.ports)) (never_port m.ports key never)
+  body_name : (identifier : Identifier) → ((j : ℕ) → identifier ≡ port_identifier j → ⊥)
+      → identifier_name m identifier ≡ name_among (each (op_identifiers m.ports m.body) 0 m.body) (legal_after ns (body_name_hints m.ports m.body 0 m.body)) identifier
+  body_name identifier never =
+      ap (λ l. name_among (module_identifiers m) l identifier) (names_are m ns e)
+      ∙ among_later (each port_identifiers 0 m.ports) (each (op_identifiers m.ports m.body) 0 m.body) ns (legal_after ns (body_name_hints m.ports m.body 0 m.body)) identifier
+      (count ∙ sym (port_count 0 m.ports)) (never_port m.ports identifier never)
 
-  value_named : (i k : ℕ) → key_name m (value_key i k) ≡ given_name (slice_get (body_given op_results m.ports m.body ns 0 m.body) i) k
+  value_named : (i k : ℕ) → identifier_name m (value_identifier i k) ≡ given_name (slice_get (body_given op_results m.ports m.body ns 0 m.body) i) k
   value_named i k =
-      body_name (value_key i k) (λ j h. cc)
-      ∙ ap (λ n. name_among (each (op_keys m.ports m.body) 0 m.body) (legal_after ns (body_wishes m.ports m.body 0 m.body)) (value_key n k)) (sym (zero-add i))
+      body_name (value_identifier i k) (λ j h. cc)
+      ∙ ap (λ n. name_among (each (op_identifiers m.ports m.body) 0 m.body) (legal_after ns (body_name_hints m.ports m.body 0 m.body)) (value_identifier n k)) (sym (zero-add i))
       ∙ values_given m.ports m.body ns 0 m.body i k
 
   instance_named : (i : ℕ) (o : Op) (x : Instance) → slice_get m.body i ≡ Some o → instance_in o.kind ≡ Some x
-      → key_name m (instance_key i) ≡ slice_get (body_given op_own_name m.ports m.body ns 0 m.body) i
+      → identifier_name m (instance_identifier i) ≡ slice_get (body_given op_own_name m.ports m.body ns 0 m.body) i
   instance_named i o x at is =
-      body_name (instance_key i) (λ j h. cc)
-      ∙ ap (λ n. name_among (each (op_keys m.ports m.body) 0 m.body) (legal_after ns (body_wishes m.ports m.body 0 m.body)) (instance_key n)) (sym (zero-add i))
+      body_name (instance_identifier i) (λ j h. cc)
+      ∙ ap (λ n. name_among (each (op_identifiers m.ports m.body) 0 m.body) (legal_after ns (body_name_hints m.ports m.body 0 m.body)) (instance_identifier n)) (sym (zero-add i))
       ∙ instances_given m.ports m.body ns 0 m.body i o x at is
 
   module _ (v : ValueNames) (inputs : v.ports.items ≡ port_values m.ports ns) (results : result_lists v ≡ body_given op_results m.ports m.body ns 0 m.body) where
@@ -98,8 +98,8 @@ module _ (m : Module) (ns : List Name) (e : ns ≡ legal (map (λ (p : Port). p.
         let many : length own ≡ length m.body = ap length is ∙ given_count m.ports m.body op_own_name ns 0 m.body in
         record {
           many = count;
-          ports_are = λ j p at. text_there m.ports ns j p (key_name m (port_key j)) count at (port_at j p at);
+          ports_are = λ j p at. text_there m.ports ns j p (identifier_name m (port_identifier j)) count at (port_at j p at);
           values_are = value_is;
           own_many = many;
-          own_are = λ i o x at inst. text_there m.body own i o (key_name m (instance_key i)) many at (instance_named i o x at inst ∙ ap (λ l. slice_get l i) (sym is));
+          own_are = λ i o x at inst. text_there m.body own i o (identifier_name m (instance_identifier i)) many at (instance_named i o x at inst ∙ ap (λ l. slice_get l i) (sym is));
         }

@@ -12,7 +12,7 @@ use Rattle.verilog_model.proofs.Numerals.{and_first, and_second}
 use Rattle.export_verilog.specs.Exported.{symbol_names, symbol_among, symbol_name, vmodule, tree_of}
 use Rattle.export_verilog.specs.Exportable.{IsExportable}
 use Rattle.export_verilog.proofs.items.Lists.{first_found}
-use Rattle.export_verilog.proofs.names.KeyNames.{contains_in}
+use Rattle.export_verilog.proofs.names.IdentifierNames.{contains_in}
 
 pub when_some : {A : Type 0} (b : Bool) (a c : A) → when b a ≡ Some c → (b ≡ true) × (a ≡ c)
 when_some true a c e = (refl, cc)

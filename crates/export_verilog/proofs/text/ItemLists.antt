@@ -4,7 +4,7 @@ use Rattle.std.proofs.lemmas.List.{append-nil}
 use Rattle.wiring.proofs.Lists.{drop_some}
 use Rattle.verilog_model.specs.Tree.{Item}
 use Rattle.verilog_expr.proofs.Drops.{drop_none}
-use Rattle.export_verilog.specs.Keys.{each}
+use Rattle.export_verilog.specs.Identifiers.{each}
 use Rattle.export_verilog.specs.Layout.{Text, items_text}
 use Rattle.export_verilog.proofs.text.ItemRests.{items_added}
 

@@ -7,8 +7,8 @@ use Rattle.hw_model.specs.Types.{Name}
 use Rattle.hw_model.specs.Design.{Port, Module, Design}
 use Rattle.verilog_model.specs.Tree.{VPort, Item, VModule, Tree}
 use Rattle.verilog_expr.proofs.Drops.{split, drop_none}
-use Rattle.export_verilog.specs.Keys.{key_text, name_or_nothing}
-use Rattle.export_verilog.specs.Keys.Key.{port_key}
+use Rattle.export_verilog.specs.Identifiers.{identifier_text, name_or_nothing}
+use Rattle.export_verilog.specs.Identifiers.Identifier.{port_identifier}
 use Rattle.export_verilog.specs.Exported.{vports, vmodule}
 use Rattle.export_verilog.specs.Layout.{Text, ports_text, items_text, module_text, further_text, tree_text, verilog_text}
 use Rattle.export_verilog.specs.Written.{ports_named}
@@ -20,8 +20,8 @@ use Rattle.export_verilog.proofs.text.ItemRests.{items_rest}
 -- ---- ports under their names
 
 pub named_ports : (m : Module) (ns : List Name) → length ns ≡ length m.ports
-    → ((j : ℕ) (p : Port) → slice_get m.ports j ≡ Some p → slice_get ns j ≡ Some (key_text m (port_key j))) → ports_named ns m.ports ≡ vports m
-named_ports m ns count are = sym (ports_from m 0 m.ports ns count (λ j p there. ap (λ i. key_text m (port_key i)) (zero-add j) ∙ sym (ap name_or_nothing (are j p there))))
+    → ((j : ℕ) (p : Port) → slice_get m.ports j ≡ Some p → slice_get ns j ≡ Some (identifier_text m (port_identifier j))) → ports_named ns m.ports ≡ vports m
+named_ports m ns count are = sym (ports_from m 0 m.ports ns count (λ j p there. ap (λ i. identifier_text m (port_identifier i)) (zero-add j) ∙ sym (ap name_or_nothing (are j p there))))
 
 -- ---- the rest of a text stands after a module
 

@@ -7,8 +7,8 @@ use Rattle.hw_model.specs.Design.{Ref, Port, Op, Module, is_output_op, output_re
 use Rattle.verilog_model.specs.Tree.{Expr, Item}
 use Rattle.verilog_model.specs.Tree.Item.{assign}
 use Rattle.verilog_expr.proofs.Drops.{drop_none}
-use Rattle.export_verilog.specs.Keys.{key_text}
-use Rattle.export_verilog.specs.Keys.Key.{port_key}
+use Rattle.export_verilog.specs.Identifiers.{identifier_text}
+use Rattle.export_verilog.specs.Identifiers.Identifier.{port_identifier}
 use Rattle.export_verilog.specs.Exported.{expression, expr_or_none, others, output_assigns}
 use Rattle.export_verilog.specs.Layout.{Text, item_text, items_text}
 use Rattle.export_verilog.proofs.text.ItemRests.{items_first}
@@ -50,7 +50,7 @@ module _ {A : Type 0} (m : Module) (view : A → Ref) (xs : List A) where
     given = map view (drop u xs)
 
     abbrev here : Item
-    here = assign (key_text m (port_key i)) (expr_or_none (expression m) given)
+    here = assign (identifier_text m (port_identifier i)) (expr_or_none (expression m) given)
 
     -- what is left, by the direction of the port
     by_direction : (b : Bool) → p.is_output ≡ b → out ++ items_text (cond b (here ∷ rest (others given)) (rest given)) [] ≡ whole
@@ -58,13 +58,13 @@ module _ {A : Type 0} (m : Module) (view : A → Ref) (xs : List A) where
         sym (ap (λ z. out ++ items_text (cond z (here ∷ rest (others given)) (rest given)) []) is)
         ∙ ap (λ l. out ++ items_text (output_assigns m i l given) []) (sym (drop_some m.ports i p at)) ∙ inv
 
-    pub outputs_assigned : (n : Name) (ex : Ref → Expr) (one : Text) → p.is_output ≡ true → n ≡ key_text m (port_key i) → ((r : Ref) → ex r ≡ expression m r)
+    pub outputs_assigned : (n : Name) (ex : Ref → Expr) (one : Text) → p.is_output ≡ true → n ≡ identifier_text m (port_identifier i) → ((r : Ref) → ex r ≡ expression m r)
         → one ≡ out ++ item_text (assign n (expr_or_none ex given)) [] → one ++ outputs_left (i + 1) (u + 1) ≡ whole
     outputs_assigned n ex one is named same e =
         ap (λ k. one ++ items_text (output_assigns m k (drop k m.ports) (map view (drop (u + 1) xs))) []) next
         ∙ ap (λ rs. one ++ items_text (rest rs) []) (sym (others_drop view xs u))
         ∙ ap (λ x. x ++ items_text (rest (others given)) [])
-        (e ∙ ap (λ x. out ++ item_text (assign x (expr_or_none ex given)) []) named ∙ ap (λ x. out ++ item_text (assign (key_text m (port_key i)) x) []) (or_none_same ex (expression m) same given))
+        (e ∙ ap (λ x. out ++ item_text (assign x (expr_or_none ex given)) []) named ∙ ap (λ x. out ++ item_text (assign (identifier_text m (port_identifier i)) x) []) (or_none_same ex (expression m) same given))
         ∙ append_assoc out (item_text here []) (items_text (rest (others given)) [])
         ∙ ap (λ x. out ++ x) (sym (items_first here (rest (others given)))) ∙ by_direction true is
 

@@ -6,7 +6,7 @@ use Rattle.verilog_model.specs.Tree.Item.{always}
 use Rattle.verilog_expr.specs.Named.{named_of}
 use Rattle.verilog_expr.specs.declared.scope.Scope.{Scope}
 use Rattle.verilog_expr.specs.declared.value_names.ValueNames.{ValueNames}
-use Rattle.export_verilog.specs.Keys.{name_or_nothing}
+use Rattle.export_verilog.specs.Identifiers.{name_or_nothing}
 use Rattle.export_verilog.specs.Layout.{Text, item_text}
 use Rattle.export_verilog.specs.Written.{written_block}
 use Rattle.export_verilog.specs.Values.{value_expr, used_text, reset_text}

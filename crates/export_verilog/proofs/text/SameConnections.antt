@@ -7,19 +7,19 @@ use Rattle.hw_model.specs.Sound.{ports_of}
 use Rattle.verilog_model.specs.Tree.{Expr, Connection}
 use Rattle.verilog_model.specs.Tree.Expr.{name}
 use Rattle.verilog_model.specs.Tree.Item.{instance}
-use Rattle.export_verilog.specs.Keys.{key_name, key_text, name_or_nothing}
-use Rattle.export_verilog.specs.Keys.Key.{port_key, value_key, instance_key}
+use Rattle.export_verilog.specs.Identifiers.{identifier_name, identifier_text, name_or_nothing}
+use Rattle.export_verilog.specs.Identifiers.Identifier.{port_identifier, value_identifier, instance_identifier}
 use Rattle.export_verilog.specs.Exported.{expression, expr_or_none, others, symbol_name, connections_of, connections_to, instance_of}
 use Rattle.export_verilog.specs.Held.{ArePortNames}
 use Rattle.export_verilog.specs.Joined.{joined}
 
-module _ (m : Module) (i : ℕ) (ex : Ref → Expr) (given : ℕ → Name) (same : (r : Ref) → ex r ≡ expression m r) (results : (k : ℕ) → given k ≡ key_text m (value_key i k)) where
+module _ (m : Module) (i : ℕ) (ex : Ref → Expr) (given : ℕ → Name) (same : (r : Ref) → ex r ≡ expression m r) (results : (k : ℕ) → given k ≡ identifier_text m (value_identifier i k)) where
   operand_same : (rs : List Ref) → expr_or_none ex rs ≡ expr_or_none (expression m) rs
   operand_same [] = refl
   operand_same (r ∷ rs) = same r
 
   joined_from : (c : Module) (j k : ℕ) (ps : List Port) (ns : List Name) (rs : List Ref) → length ns ≡ length ps
-      → ((n : ℕ) (p : Port) → slice_get ps n ≡ Some p → key_name c (port_key (j + n)) ≡ slice_get ns n)
+      → ((n : ℕ) (p : Port) → slice_get ps n ≡ Some p → identifier_name c (port_identifier (j + n)) ≡ slice_get ns n)
       → joined ex given k ns ps rs ≡ connections_of c m i j k ps rs
   joined_from c j k [] [] rs count at = refl
   joined_from c j k [] (n ∷ ns) rs count at = absurd (omega (arith, count))
@@ -29,32 +29,32 @@ module _ (m : Module) (i : ℕ) (ex : Ref → Expr) (given : ℕ → Name) (same
         fewer : length ns ≡ length ps
         fewer = omega (arith, count)
 
-        later : (l : ℕ) (q : Port) → slice_get ps l ≡ Some q → key_name c (port_key (suc j + l)) ≡ slice_get ns l
-        later l q there = ap (λ z. key_name c (port_key z)) (suc-add j l ∙ sym (add-suc j l)) ∙ at (suc l) q there
+        later : (l : ℕ) (q : Port) → slice_get ps l ≡ Some q → identifier_name c (port_identifier (suc j + l)) ≡ slice_get ns l
+        later l q there = ap (λ z. identifier_name c (port_identifier z)) (suc-add j l ∙ sym (add-suc j l)) ∙ at (suc l) q there
 
-        first : n ≡ key_text c (port_key j)
-        first = sym (ap name_or_nothing (ap (λ z. key_name c (port_key z)) (sym (add-zero j)) ∙ at 0 p refl))
+        first : n ≡ identifier_text c (port_identifier j)
+        first = sym (ap name_or_nothing (ap (λ z. identifier_name c (port_identifier z)) (sym (add-zero j)) ∙ at 0 p refl))
 
         go : (b : Bool) → joined ex given (suc k) ns ps rs ≡ connections_of c m i (suc j) (suc k) ps rs
             → joined ex given k ns ps (others rs) ≡ connections_of c m i (suc j) k ps (others rs)
             → cond b (record { port = n; value = name (given k) } ∷ joined ex given (k + 1) ns ps rs) (record { port = n; value = expr_or_none ex rs } ∷ joined ex given k ns ps (others rs))
-            ≡ cond b (record { port = key_text c (port_key j); value = name (key_text m (value_key i k)) } ∷ connections_of c m i (suc j) (suc k) ps rs)
-            (record { port = key_text c (port_key j); value = expr_or_none (expression m) rs } ∷ connections_of c m i (suc j) k ps (others rs))
+            ≡ cond b (record { port = identifier_text c (port_identifier j); value = name (identifier_text m (value_identifier i k)) } ∷ connections_of c m i (suc j) (suc k) ps rs)
+            (record { port = identifier_text c (port_identifier j); value = expr_or_none (expression m) rs } ∷ connections_of c m i (suc j) k ps (others rs))
         go true out inward =
             ap (λ z. record { port = z; value = name (given k) } ∷ joined ex given (k + 1) ns ps rs) first
-            ∙ ap (λ z. record { port = key_text c (port_key j); value = name z } ∷ joined ex given (k + 1) ns ps rs) (results k)
-            ∙ ap (λ l. record { port = key_text c (port_key j); value = name (key_text m (value_key i k)) } ∷ l) (ap (λ z. joined ex given z ns ps rs) (add-one k) ∙ out)
+            ∙ ap (λ z. record { port = identifier_text c (port_identifier j); value = name z } ∷ joined ex given (k + 1) ns ps rs) (results k)
+            ∙ ap (λ l. record { port = identifier_text c (port_identifier j); value = name (identifier_text m (value_identifier i k)) } ∷ l) (ap (λ z. joined ex given z ns ps rs) (add-one k) ∙ out)
         go false out inward =
             ap (λ z. record { port = z; value = expr_or_none ex rs } ∷ joined ex given k ns ps (others rs)) first
-            ∙ ap (λ e. record { port = key_text c (port_key j); value = e } ∷ joined ex given k ns ps (others rs)) (operand_same rs)
-            ∙ ap (λ l. record { port = key_text c (port_key j); value = expr_or_none (expression m) rs } ∷ l) inward
+            ∙ ap (λ e. record { port = identifier_text c (port_identifier j); value = e } ∷ joined ex given k ns ps (others rs)) (operand_same rs)
+            ∙ ap (λ l. record { port = identifier_text c (port_identifier j); value = expr_or_none (expression m) rs } ∷ l) inward
 
   joined_found : (found : Option Module) (o : Op) (ns : List Name) → length ns ≡ length (ports_of found) → ArePortNames (ports_of found) ns
       → joined ex given 0 ns (ports_of found) o.operands ≡ connections_to found m i o
   joined_found None o [] count are = refl
   joined_found None o (n ∷ ns) count are = absurd (omega (arith, count))
   joined_found (Some c) o ns count are =
-      joined_from c 0 0 c.ports ns o.operands count (λ n p there. ap (λ z. key_name c (port_key z)) (zero-add n) ∙ are c refl n p there)
+      joined_from c 0 0 c.ports ns o.operands count (λ n p there. ap (λ z. identifier_name c (port_identifier z)) (zero-add n) ∙ are c refl n p there)
 
   -- the connections of an instance of a module that is found, or of none
   pub joined_same : (found : Option Module) (o : Op) (ns : List Name) (ps : List Port) → ps ≡ ports_of found → length ns ≡ length ps → ArePortNames (ports_of found) ns
@@ -63,7 +63,7 @@ module _ (m : Module) (i : ℕ) (ex : Ref → Expr) (given : ℕ → Name) (same
 
 -- the instance, by the parts that code has of it
 pub instance_same : (d : Design) (m : Module) (i : ℕ) (o : Op) (x : Instance) (symbol callee own : Name) (cs : List Connection) → symbol ≡ x.symbol → callee ≡ symbol_name d symbol
-    → own ≡ key_text m (instance_key i) → cs ≡ connections_to (find_module d symbol) m i o → instance callee own cs ∷ [] ≡ instance_of d m i o (Some x)
+    → own ≡ identifier_text m (instance_identifier i) → cs ≡ connections_to (find_module d symbol) m i o → instance callee own cs ∷ [] ≡ instance_of d m i o (Some x)
 instance_same d m i o x symbol callee own cs is a b e =
     ap (λ n. instance n own cs ∷ []) a ∙ ap₂ (λ n l. instance (symbol_name d symbol) n l ∷ []) b e
-    ∙ ap (λ q. instance (symbol_name d q) (key_text m (instance_key i)) (connections_to (find_module d q) m i o) ∷ []) is
+    ∙ ap (λ q. instance (symbol_name d q) (identifier_text m (instance_identifier i)) (connections_to (find_module d q) m i o) ∷ []) is

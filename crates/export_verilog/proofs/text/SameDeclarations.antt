@@ -12,9 +12,9 @@ use Rattle.verilog_expr.specs.Scopes.{scope_ports, scope_ops}
 use Rattle.verilog_expr.specs.Named.{named_of}
 use Rattle.verilog_expr.specs.declared.scope.Scope.{Scope}
 use Rattle.verilog_expr.specs.declared.value_names.ValueNames.{ValueNames}
-use Rattle.export_verilog.specs.Keys.{Role, name_or_nothing, named, key_text}
-use Rattle.export_verilog.specs.Keys.Key.{value_key}
-use Rattle.export_verilog.specs.Keys.Role.{hidden, net, variable, block}
+use Rattle.export_verilog.specs.Identifiers.{Emission, name_or_nothing, named, identifier_text}
+use Rattle.export_verilog.specs.Identifiers.Identifier.{value_identifier}
+use Rattle.export_verilog.specs.Identifiers.Emission.{hidden, net, variable, block}
 use Rattle.export_verilog.specs.Exported.{result_wires, declared_as}
 use Rattle.export_verilog.specs.ScopeModules.{scope_module}
 use Rattle.export_verilog.specs.Values.{value_wire, value_variable, value_wires, declared_items}
@@ -23,25 +23,25 @@ module _ (s : Scope) (v : ValueNames) (i : ℕ) (o : Op) (there : slice_get (sco
   width_at : (k : ℕ) → value_width (scope_ports s) (scope_ops s) (result i k) ≡ width_of (result_type o k)
   width_at k = ap (λ x. width_of (bind x (λ (p : Op). result_type p k))) there
 
-  name_at : (k : ℕ) → name_or_nothing (named_of v (result i k)) ≡ key_text (scope_module s) (value_key i k)
+  name_at : (k : ℕ) → name_or_nothing (named_of v (result i k)) ≡ identifier_text (scope_module s) (value_identifier i k)
   name_at k = ap name_or_nothing (values (result i k))
 
-  wire_same : (k : ℕ) → value_wire s v (result i k) ≡ wire (high_of (width_of (result_type o k))) (key_text (scope_module s) (value_key i k))
+  wire_same : (k : ℕ) → value_wire s v (result i k) ≡ wire (high_of (width_of (result_type o k))) (identifier_text (scope_module s) (value_identifier i k))
   wire_same k = ap₂ (λ w n. wire (high_of w) n) (width_at k) (name_at k)
 
-  variable_same : (k : ℕ) → value_variable s v (result i k) ≡ reg (high_of (width_of (result_type o k))) (key_text (scope_module s) (value_key i k))
+  variable_same : (k : ℕ) → value_variable s v (result i k) ≡ reg (high_of (width_of (result_type o k))) (identifier_text (scope_module s) (value_identifier i k))
   variable_same k = ap₂ (λ w n. reg (high_of w) n) (width_at k) (name_at k)
 
   wires_from : (k : ℕ) (rs : List OpResult) → ((j : ℕ) → slice_get o.results (k + j) ≡ slice_get rs j) → value_wires s v i k (length rs) ≡ result_wires (scope_module s) i k rs
   wires_from k [] at = refl
   wires_from k (r ∷ rs) at =
       let type : result_type o k ≡ Some r.type = ap (omap (λ (x : OpResult). x.type)) (ap (slice_get o.results) (sym (add-zero k)) ∙ at 0) in
-      ap (λ x. x ∷ value_wires s v i (k + 1) (length rs)) (wire_same k ∙ ap (λ t. wire (high_of (width_of t)) (key_text (scope_module s) (value_key i k))) type)
-      ∙ ap (λ l. wire (high_of (width r.type)) (key_text (scope_module s) (value_key i k)) ∷ l)
+      ap (λ x. x ∷ value_wires s v i (k + 1) (length rs)) (wire_same k ∙ ap (λ t. wire (high_of (width_of t)) (identifier_text (scope_module s) (value_identifier i k))) type)
+      ∙ ap (λ l. wire (high_of (width r.type)) (identifier_text (scope_module s) (value_identifier i k)) ∷ l)
       (ap (λ n. value_wires s v i n (length rs)) (add-one k) ∙ wires_from (suc k) rs (λ j. ap (slice_get o.results) (suc-add k j ∙ sym (add-suc k j)) ∙ at (suc j)))
 
   -- the declarations of an operation of a role
-  pub declared_same : (r : Role) → declared_items s v i (length o.results) r ≡ declared_as (scope_module s) i o r
+  pub declared_same : (r : Emission) → declared_items s v i (length o.results) r ≡ declared_as (scope_module s) i o r
   declared_same hidden = refl
   declared_same net = ap (λ x. x ∷ []) (wire_same 0)
   declared_same variable = ap (λ x. x ∷ []) (variable_same 0)

@@ -12,9 +12,9 @@ use Rattle.verilog_model.specs.Tree.Item.{wire, reg, assign, always, instance}
 use Rattle.name_legalise.specs.Legal.{legal}
 use Rattle.verilog_expr.specs.Numerals.{high_of}
 use Rattle.verilog_expr.specs.Spilling.{height_limit}
-use Rattle.export_verilog.specs.Keys.{Key, Role, each, role_of, wish, module_keys, names, name_among, key_name, key_text, name_or_nothing, input_name, named}
-use Rattle.export_verilog.specs.Keys.Key.{port_key, value_key, instance_key}
-use Rattle.export_verilog.specs.Keys.Role.{hidden, net, variable, block}
+use Rattle.export_verilog.specs.Identifiers.{Identifier, Emission, each, emission_of, name_hint, module_identifiers, names, name_among, identifier_name, identifier_text, name_or_nothing, input_name, named}
+use Rattle.export_verilog.specs.Identifiers.Identifier.{port_identifier, value_identifier, instance_identifier}
+use Rattle.export_verilog.specs.Identifiers.Emission.{hidden, net, variable, block}
 use Rattle.export_verilog.specs.Exported.{expression, assigned_expr, vport, vports, result_wires, declared_as, declares, loads, block_of, always_of, expr_or_none, others, connections_of, connections_to, instance_of, stated_as, states, output_assigns, symbol_name, vitems}
 use Rattle.export_verilog.specs.ModuleTexts.{module_under}
 use Rattle.export_verilog.proofs.names.SameNames.{own_same, expr_same}
@@ -46,32 +46,32 @@ module _ (m : Module) (symbol : Name) (is_private : Bool) (dictionary : List Ent
 
   -- ---- names
 
-  wish_same : (k : Key) → wish m k ≡ wish other k
-  wish_same (port_key j) = refl
-  wish_same (value_key i k) = refl
-  wish_same (instance_key i) = refl
+  name_hint_same : (k : Identifier) → name_hint m k ≡ name_hint other k
+  name_hint_same (port_identifier j) = refl
+  name_hint_same (value_identifier i k) = refl
+  name_hint_same (instance_identifier i) = refl
 
-  wishes_same : (ks : List Key) → map (wish m) ks ≡ map (wish other) ks
-  wishes_same [] = refl
-  wishes_same (k ∷ ks) = ap₂ (λ n ns. n ∷ ns) (wish_same k) (wishes_same ks)
+  name_hints_same : (ks : List Identifier) → map (name_hint m) ks ≡ map (name_hint other) ks
+  name_hints_same [] = refl
+  name_hints_same (k ∷ ks) = ap₂ (λ n ns. n ∷ ns) (name_hint_same k) (name_hints_same ks)
 
   names_same : names m ≡ names other
   unfolding names
-  names_same = ap legal (wishes_same (module_keys m))
+  names_same = ap legal (name_hints_same (module_identifiers m))
 
-  key_same : (k : Key) → key_name m k ≡ key_name other k
-  key_same k = ap (λ ns. name_among (module_keys m) ns k) names_same
+  identifier_same : (k : Identifier) → identifier_name m k ≡ identifier_name other k
+  identifier_same k = ap (λ ns. name_among (module_identifiers m) ns k) names_same
 
-  text_same : (k : Key) → key_text m k ≡ key_text other k
-  text_same k = ap name_or_nothing (key_same k)
+  text_same : (k : Identifier) → identifier_text m k ≡ identifier_text other k
+  text_same k = ap name_or_nothing (identifier_same k)
 
   input_same : (j : ℕ) (p : Option Port) → input_name m j p ≡ input_name other j p
   input_same j None = refl
-  input_same j (Some p) = ap (cond p.is_output None) (key_same (port_key j))
+  input_same j (Some p) = ap (cond p.is_output None) (identifier_same (port_identifier j))
 
   named_same : (r : Ref) → named m r ≡ named other r
   named_same (port j) = input_same j (slice_get m.ports j)
-  named_same (result i k) = key_same (value_key i k)
+  named_same (result i k) = identifier_same (value_identifier i k)
   named_same undefined = refl
 
   expression_same : (r : Ref) → expression m r ≡ expression other r
@@ -84,12 +84,12 @@ module _ (m : Module) (symbol : Name) (is_private : Bool) (dictionary : List Ent
 
   wires_same : (i k : ℕ) (rs : List OpResult) → result_wires m i k rs ≡ result_wires other i k rs
   wires_same i k [] = refl
-  wires_same i k (r ∷ rs) = ap₂ (λ n is. wire (high_of (width r.type)) n ∷ is) (text_same (value_key i k)) (wires_same i (suc k) rs)
+  wires_same i k (r ∷ rs) = ap₂ (λ n is. wire (high_of (width r.type)) n ∷ is) (text_same (value_identifier i k)) (wires_same i (suc k) rs)
 
-  declared_same : (i : ℕ) (o : Op) (q : Role) → declared_as m i o q ≡ declared_as other i o q
+  declared_same : (i : ℕ) (o : Op) (q : Emission) → declared_as m i o q ≡ declared_as other i o q
   declared_same i o hidden = refl
-  declared_same i o net = ap (λ n. wire (high_of (width_of (result_type o 0))) n ∷ []) (text_same (value_key i 0))
-  declared_same i o variable = ap (λ n. reg (high_of (width_of (result_type o 0))) n ∷ []) (text_same (value_key i 0))
+  declared_same i o net = ap (λ n. wire (high_of (width_of (result_type o 0))) n ∷ []) (text_same (value_identifier i 0))
+  declared_same i o variable = ap (λ n. reg (high_of (width_of (result_type o 0))) n ∷ []) (text_same (value_identifier i 0))
   declared_same i o block = wires_same i 0 o.results
 
   -- ---- statements
@@ -106,8 +106,8 @@ module _ (m : Module) (symbol : Name) (is_private : Bool) (dictionary : List Ent
   connections_same c i j k [] rs = refl
   connections_same c i j k (p ∷ ps) rs =
       ap₂ (cond p.is_output)
-      (ap₂ (λ n cs. record { port = key_text c (port_key j); value = name n } ∷ cs) (text_same (value_key i k)) (connections_same c i (suc j) (suc k) ps rs))
-      (ap₂ (λ e cs. record { port = key_text c (port_key j); value = e } ∷ cs) (operand_same rs) (connections_same c i (suc j) k ps (others rs)))
+      (ap₂ (λ n cs. record { port = identifier_text c (port_identifier j); value = name n } ∷ cs) (text_same (value_identifier i k)) (connections_same c i (suc j) (suc k) ps rs))
+      (ap₂ (λ e cs. record { port = identifier_text c (port_identifier j); value = e } ∷ cs) (operand_same rs) (connections_same c i (suc j) k ps (others rs)))
 
   joined_same : (c : Option Module) (i : ℕ) (o : Op) → connections_to c m i o ≡ connections_to c other i o
   joined_same None i o = refl
@@ -116,32 +116,32 @@ module _ (m : Module) (symbol : Name) (is_private : Bool) (dictionary : List Ent
   instance_same : (d : Design) (i : ℕ) (o : Op) (x : Option Instance) → instance_of d m i o x ≡ instance_of d other i o x
   instance_same d i o None = refl
   instance_same d i o (Some x) =
-      ap₂ (λ n cs. instance (symbol_name d x.symbol) n cs ∷ []) (text_same (instance_key i)) (joined_same (find_module d x.symbol) i o)
+      ap₂ (λ n cs. instance (symbol_name d x.symbol) n cs ∷ []) (text_same (instance_identifier i)) (joined_same (find_module d x.symbol) i o)
 
-  stated_same : (d : Design) (i : ℕ) (o : Op) (q : Role) → stated_as d m i o q ≡ stated_as d other i o q
+  stated_same : (d : Design) (i : ℕ) (o : Op) (q : Emission) → stated_as d m i o q ≡ stated_as d other i o q
   stated_same d i o hidden = refl
-  stated_same d i o net = ap₂ (λ n e. assign n e ∷ []) (text_same (value_key i 0)) (assigned_same (result i 0))
-  stated_same d i o variable = always_same (key_text m (value_key i 0)) (key_text other (value_key i 0)) (text_same (value_key i 0)) (register_in o)
+  stated_same d i o net = ap₂ (λ n e. assign n e ∷ []) (text_same (value_identifier i 0)) (assigned_same (result i 0))
+  stated_same d i o variable = always_same (identifier_text m (value_identifier i 0)) (identifier_text other (value_identifier i 0)) (text_same (value_identifier i 0)) (register_in o)
   stated_same d i o block = instance_same d i o (instance_in o.kind)
 
   outputs_same : (j : ℕ) (ps : List Port) (rs : List Ref) → output_assigns m j ps rs ≡ output_assigns other j ps rs
   outputs_same j [] rs = refl
   outputs_same j (p ∷ ps) rs =
       ap₂ (cond p.is_output)
-      (ap₂ (λ n is. n ∷ is) (ap₂ assign (text_same (port_key j)) (operand_same rs)) (outputs_same (suc j) ps (others rs)))
+      (ap₂ (λ n is. n ∷ is) (ap₂ assign (text_same (port_identifier j)) (operand_same rs)) (outputs_same (suc j) ps (others rs)))
       (outputs_same (suc j) ps rs)
 
   -- ---- modules
 
   items_same : (d : Design) → vitems d m ≡ vitems d other
   items_same d =
-      ap₂ (λ a b. a ++ b) (each_same (declares m) (declares other) (λ i o. declared_same i o (role_of m.ports m.body i o)) 0 m.body)
-      (ap₂ (λ a b. a ++ b) (each_same (states d m) (states d other) (λ i o. stated_same d i o (role_of m.ports m.body i o)) 0 m.body)
+      ap₂ (λ a b. a ++ b) (each_same (declares m) (declares other) (λ i o. declared_same i o (emission_of m.ports m.body i o)) 0 m.body)
+      (ap₂ (λ a b. a ++ b) (each_same (states d m) (states d other) (λ i o. stated_same d i o (emission_of m.ports m.body i o)) 0 m.body)
       (outputs_same 0 m.ports (output_refs m.body)))
 
   ports_same : vports m ≡ vports other
   ports_same =
-      each_same (vport m) (vport other) (λ j p. ap (λ n. record { is_output = p.is_output; high = high_of (width p.type); name = n } ∷ []) (text_same (port_key j))) 0 m.ports
+      each_same (vport m) (vport other) (λ j p. ap (λ n. record { is_output = p.is_output; high = high_of (width p.type); name = n } ∷ []) (text_same (port_identifier j))) 0 m.ports
 
   pub under_same : (d : Design) (n : Name) → module_under d n m ≡ module_under d n other
   under_same d n = ap₂ (λ ps is. record { name = n; ports = ps; items = is }) ports_same (items_same d)

@@ -13,9 +13,9 @@ use Rattle.verilog_expr.specs.Scopes.{scope_ports, scope_ops}
 use Rattle.verilog_expr.specs.Named.{named_of}
 use Rattle.verilog_expr.specs.declared.scope.Scope.{Scope}
 use Rattle.verilog_expr.specs.declared.value_names.ValueNames.{ValueNames}
-use Rattle.export_verilog.specs.Keys.{name_or_nothing, named, key_text}
-use Rattle.export_verilog.specs.Keys.Key.{value_key}
-use Rattle.export_verilog.specs.Keys.Role.{net, variable}
+use Rattle.export_verilog.specs.Identifiers.{name_or_nothing, named, identifier_text}
+use Rattle.export_verilog.specs.Identifiers.Identifier.{value_identifier}
+use Rattle.export_verilog.specs.Identifiers.Emission.{net, variable}
 use Rattle.export_verilog.specs.Exported.{expression, assigned_expr, loads, block_of, always_of, stated_as}
 use Rattle.export_verilog.specs.ScopeModules.{scope_module}
 use Rattle.export_verilog.specs.Statements.{register_items}
@@ -49,7 +49,7 @@ module _ (s : Scope) (v : ValueNames) (values : (r : Ref) → named_of v r ≡ n
 
   -- what is stated for an operation at a place
   module _ (d : Design) (i j : ℕ) (o : Op) (place : j ≡ i) where
-    own_name : name_or_nothing (named_of v (result j 0)) ≡ key_text (scope_module s) (value_key i 0)
+    own_name : name_or_nothing (named_of v (result j 0)) ≡ identifier_text (scope_module s) (value_identifier i 0)
     own_name = ap (λ n. name_or_nothing (named_of v (result n 0))) place ∙ ap name_or_nothing (values (result i 0))
 
     pub net_same : assign (name_or_nothing (named_of v (result j 0))) (own_expr (named_of v) (scope_ports s) (scope_ops s) (value_expr s v) (result j 0)) ∷ []

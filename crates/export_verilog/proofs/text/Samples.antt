@@ -10,9 +10,9 @@ use Rattle.hw_model.specs.Design.{Ref, Port, Op, Module, Design}
 use Rattle.hw_model.specs.Design.Ref.{port, result}
 use Rattle.hw_model.proofs.Samples.{operation, in_port, out_port, module_of}
 use Rattle.export_verilog.specs.Layout.{verilog_text, tree_text, further_text, module_text, items_text, item_text, connections_text, connection_lines, connection_text, block_text, if_text, load_text, ports_text, port_lines, port_text, range_text}
-use Rattle.export_verilog.specs.Keys.{names}
+use Rattle.export_verilog.specs.Identifiers.{names}
 use Rattle.export_verilog.specs.Exported.{symbol_names}
-use Rattle.name_legalise.specs.Legal.{cleaned}
+use Rattle.name_legalise.specs.Legal.{clean}
 use Rattle.fresh_names.specs.Fresh.{free_name}
 use Rattle.verilog_model.specs.Reserved.{reserved_words}
 use Rattle.verilog_expr.specs.Expressions.{expr_to}
@@ -101,5 +101,5 @@ two_lines =
     (codes "endmodule" ∷ []) ∷ []
 
 two_registers_text : verilog_text two_registers ≡ lines register_lines (lines two_lines [])
-unfolding verilog_text tree_text further_text module_text items_text item_text connections_text connection_lines connection_text block_text if_text load_text ports_text port_lines port_text range_text names symbol_names cleaned free_name reserved_words expr_to spilled height hex expr_text exprs_text
+unfolding verilog_text tree_text further_text module_text items_text item_text connections_text connection_lines connection_text block_text if_text load_text ports_text port_lines port_text range_text names symbol_names clean free_name reserved_words expr_to spilled height hex expr_text exprs_text
 two_registers_text = refl

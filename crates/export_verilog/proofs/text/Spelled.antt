@@ -16,13 +16,13 @@ use Rattle.verilog_expr.specs.Numerals.{high_of}
 use Rattle.verilog_expr.specs.Values.{gives_values}
 use Rattle.verilog_expr.proofs.TextRead.{IsWord, IsSpellable}
 use Rattle.verilog_expr.proofs.Checked.{decimal_word}
-use Rattle.export_verilog.specs.Keys.{Key, role_of, key_text, module_keys, named, name_or_nothing}
-use Rattle.export_verilog.specs.Keys.Key.{port_key, value_key, instance_key}
-use Rattle.export_verilog.specs.Keys.Role.{net, variable, block}
+use Rattle.export_verilog.specs.Identifiers.{Identifier, emission_of, identifier_text, module_identifiers, named, name_or_nothing}
+use Rattle.export_verilog.specs.Identifiers.Identifier.{port_identifier, value_identifier, instance_identifier}
+use Rattle.export_verilog.specs.Identifiers.Emission.{net, variable, block}
 use Rattle.export_verilog.specs.Exported.{expression, assigned_expr, symbol_names, symbol_name, block_of, loads, connections_of, connections_to, vport, vports, vitems, vmodule, tree_of}
 use Rattle.export_verilog.proofs.text.TextRead.{IsHigh, IsSpellablePort, ArePorts, IsSpellableLoad, IsSpellableBlock, IsSpellableConnection, AreConnections, IsSpellableItem, AreItems, IsSpellableTree}
-use Rattle.export_verilog.proofs.names.KeyNames.{text_named, name_is_identifier, identifier_among}
-use Rattle.export_verilog.proofs.names.KeysOf.{from_each, port_in, net_in, variable_in, instance_in_keys, result_in_keys, made_of_role}
+use Rattle.export_verilog.proofs.names.IdentifierNames.{text_named, name_is_identifier, identifier_among}
+use Rattle.export_verilog.proofs.names.IdentifiersOf.{from_each, port_in, net_in, variable_in, instance_in_identifiers, result_in_identifiers, made_of_emission}
 use Rattle.export_verilog.proofs.names.Symbols.{found_symbol, symbol_at, module_at_position}
 use Rattle.export_verilog.proofs.items.Items.{output_count, expr_for, connection_of, from_connections, From, from_items}
 use Rattle.export_verilog.proofs.items.Items.From.{net_wire, variable_reg, result_wire, net_assign, variable_block, an_instance, output_assign}
@@ -47,8 +47,8 @@ module _ (d : Design) (x : Setting d) where
       (identifier_word (symbol_name d m.symbol) (identifier_among (symbol_names d) (symbol_name d m.symbol) (and_second (are_distinct (symbol_names d)) (all_identifiers (symbol_names d)) x.symbols.check)
       (In-slice_get (symbol_name d m.symbol) (symbol_names d) at.0 (symbol_at d x.ok x.symbols at.0 m at.1))))
 
-  key_word : (s : Name) (m : Module) → find_module d s ≡ Some m → (k : Key) → In k (module_keys m) → IsWord (key_text m k)
-  key_word s m is k here = identifier_word (key_text m k) (name_is_identifier m (x.names s m is) k (key_text m k) (text_named m (x.names s m is) k here))
+  word_of_identifier : (s : Name) (m : Module) → find_module d s ≡ Some m → (k : Identifier) → In k (module_identifiers m) → IsWord (identifier_text m k)
+  word_of_identifier s m is k here = identifier_word (identifier_text m k) (name_is_identifier m (x.names s m is) k (identifier_text m k) (text_named m (x.names s m is) k here))
 
   module _ (s : Name) (m : Module) (is : find_module d s ≡ Some m) where
     -- ---- ports
@@ -57,7 +57,7 @@ module _ (d : Design) (x : Setting d) where
     ports_spelled [] within = tt
     ports_spelled (p ∷ ps) within = (from_port (from_each (vport m) m.ports p (within p (inl refl))), ports_spelled ps (λ q h. within q (inr h))) where
       at_port : (j : ℕ) (q : Port) → slice_get m.ports j ≡ Some q → In p (vport m j q) → IsSpellablePort p
-      at_port j q there (inl e) = subst IsSpellablePort (sym e) (record { name = key_word s m is (port_key j) (port_in m j q there); high = high_word (width q.type) ((module_ok d x s m is).narrow_ports j q there) })
+      at_port j q there (inl e) = subst IsSpellablePort (sym e) (record { name = word_of_identifier s m is (port_identifier j) (port_in m j q there); high = high_word (width q.type) ((module_ok d x s m is).narrow_ports j q there) })
       at_port j q there (inr never) = absurd never
 
       from_port : (j : ℕ) × (q : Port) × (slice_get m.ports j ≡ Some q) × In p (vport m j q) → IsSpellablePort p
@@ -70,62 +70,62 @@ module _ (d : Design) (x : Setting d) where
 
     -- ---- registers
 
-    load_spelled : (i : ℕ) → In (value_key i 0) (module_keys m) → (r : Ref) (t : HwType) → type_in m.ports m.body r ≡ Some t → IsSpellableLoad (loads (key_text m (value_key i 0)) (expression m r))
-    load_spelled i here r t typed = record { target = key_word s m is (value_key i 0) here; value = written r t typed }
+    load_spelled : (i : ℕ) → In (value_identifier i 0) (module_identifiers m) → (r : Ref) (t : HwType) → type_in m.ports m.body r ≡ Some t → IsSpellableLoad (loads (identifier_text m (value_identifier i 0)) (expression m r))
+    load_spelled i here r t typed = record { target = word_of_identifier s m is (value_identifier i 0) here; value = written r t typed }
 
-    block_spelled : (i : ℕ) → In (value_key i 0) (module_keys m) → (t : HwType) (r : Register) → AreOperands (type_in m.ports m.body) t r
-        → IsSpellableBlock (block_of (expression m) (key_text m (value_key i 0)) r.next r.enable r.reset)
+    block_spelled : (i : ℕ) → In (value_identifier i 0) (module_identifiers m) → (t : HwType) (r : Register) → AreOperands (type_in m.ports m.body) t r
+        → IsSpellableBlock (block_of (expression m) (identifier_text m (value_identifier i 0)) r.next r.enable r.reset)
     block_spelled i here t r are = go r.enable r.reset refl refl where
-      next : IsSpellableLoad (loads (key_text m (value_key i 0)) (expression m r.next))
+      next : IsSpellableLoad (loads (identifier_text m (value_identifier i 0)) (expression m r.next))
       next = load_spelled i here r.next t are.next
 
-      go : (e : Option Ref) (b : Option ResetBy) → r.enable ≡ e → r.reset ≡ b → IsSpellableBlock (block_of (expression m) (key_text m (value_key i 0)) r.next e b)
+      go : (e : Option Ref) (b : Option ResetBy) → r.enable ≡ e → r.reset ≡ b → IsSpellableBlock (block_of (expression m) (identifier_text m (value_identifier i 0)) r.next e b)
       go None None u v = next
       go (Some e) None u v = (written e _ (are.enable e u), next)
       go None (Some b) u v = (written b.signal _ (are.signal b v), (load_spelled i here b.value t (are.value b v), next))
       go (Some e) (Some b) u v = (written b.signal _ (are.signal b v), (load_spelled i here b.value t (are.value b v), (written e _ (are.enable e u), next)))
 
-    register_spelled : (i : ℕ) (o : Op) (r : Register) → slice_get m.body i ≡ Some o → role_of m.ports m.body i o ≡ variable → register_in o ≡ Some r
-        → IsWord (name_or_nothing (named m r.clock)) × IsSpellableBlock (block_of (expression m) (key_text m (value_key i 0)) r.next r.enable r.reset)
-    register_spelled i o r there role at =
-        let first = result_at_first d x s m is i o there (inr role) in
-        let typed = typed_register d x s m is i o there role first.0.type (ap (omap (λ (z : OpResult). z.type)) first.1) in
+    register_spelled : (i : ℕ) (o : Op) (r : Register) → slice_get m.body i ≡ Some o → emission_of m.ports m.body i o ≡ variable → register_in o ≡ Some r
+        → IsWord (name_or_nothing (named m r.clock)) × IsSpellableBlock (block_of (expression m) (identifier_text m (value_identifier i 0)) r.next r.enable r.reset)
+    register_spelled i o r there emission at =
+        let first = result_at_first d x s m is i o there (inr emission) in
+        let typed = typed_register d x s m is i o there emission first.0.type (ap (omap (λ (z : OpResult). z.type)) first.1) in
         let e : Some typed.0 ≡ Some r = sym typed.1 ∙ at in
         let f : typed.0 ≡ r = cc in
         let c = ((module_ok d x s m is).ops i o there).clocked r at in
-        let clock_name : name_or_nothing (named m r.clock) ≡ key_text m (port_key c.number) = ap (λ z. name_or_nothing (named m z)) c.is_port ∙ ap name_or_nothing (named_input d x s m is c.number c.clock c.there c.input) in (
-          subst IsWord (sym clock_name) (key_word s m is (port_key c.number) (port_in m c.number c.clock c.there)),
-          block_spelled i (variable_in m i o there role) first.0.type r (subst (AreOperands (type_in m.ports m.body) first.0.type) f typed.2),
+        let clock_name : name_or_nothing (named m r.clock) ≡ identifier_text m (port_identifier c.number) = ap (λ z. name_or_nothing (named m z)) c.is_port ∙ ap name_or_nothing (named_input d x s m is c.number c.clock c.there c.input) in (
+          subst IsWord (sym clock_name) (word_of_identifier s m is (port_identifier c.number) (port_in m c.number c.clock c.there)),
+          block_spelled i (variable_in m i o there emission) first.0.type r (subst (AreOperands (type_in m.ports m.body) first.0.type) f typed.2),
         )
 
     -- ---- instances
 
-    connection_spelled : (i : ℕ) (o : Op) → slice_get m.body i ≡ Some o → role_of m.ports m.body i o ≡ block → (c : Called d m o) → (j : ℕ) (p : Port) → slice_get c.module_of.ports j ≡ Some p
+    connection_spelled : (i : ℕ) (o : Op) → slice_get m.body i ≡ Some o → emission_of m.ports m.body i o ≡ block → (c : Called d m o) → (j : ℕ) (p : Port) → slice_get c.module_of.ports j ≡ Some p
         → IsSpellableConnection (connection_of c.module_of m i j 0 (take j c.module_of.ports) p o.operands)
-    connection_spelled i o there role c j p at = record { port = key_word c.kind.symbol c.module_of c.there (port_key j) (port_in c.module_of j p at); value = go p.is_output refl } where
+    connection_spelled i o there emission c j p at = record { port = word_of_identifier c.kind.symbol c.module_of c.there (port_identifier j) (port_in c.module_of j p at); value = go p.is_output refl } where
       n : ℕ
       n = output_count (take j c.module_of.ports)
 
-      go : (b : Bool) → p.is_output ≡ b → IsSpellable (cond b (name (key_text m (value_key i (0 + n)))) (expr_for (expression m) (slice_get o.operands (input_count (take j c.module_of.ports)))))
+      go : (b : Bool) → p.is_output ≡ b → IsSpellable (cond b (name (identifier_text m (value_identifier i (0 + n)))) (expr_for (expression m) (slice_get o.operands (input_count (take j c.module_of.ports)))))
       go true out = let r = result_there d x s m is (known_first m) (knows_first d x s m is) i o c j p at out in
-          subst (λ a. IsWord (key_text m (value_key i a))) (sym (zero-add n)) (key_word s m is (value_key i n) (result_in_keys m i n o r.0 there role r.1))
+          subst (λ a. IsWord (identifier_text m (value_identifier i a))) (sym (zero-add n)) (word_of_identifier s m is (value_identifier i n) (result_in_identifiers m i n o r.0 there emission r.1))
       go false out =
           let g = placed_in (type_in m.ports m.body) (λ (u : HwType). Some u) o.operands (input_types c.module_of.ports) (input_count (take j c.module_of.ports)) p.type c.inputs (place_of_input c.module_of.ports j p at out) in
           subst (λ z. IsSpellable (expr_for (expression m) z)) (sym g.1) (written g.0 p.type g.2)
 
-    connections_spelled : (i : ℕ) (o : Op) → slice_get m.body i ≡ Some o → role_of m.ports m.body i o ≡ block → (c : Called d m o) → (es : List Connection)
+    connections_spelled : (i : ℕ) (o : Op) → slice_get m.body i ≡ Some o → emission_of m.ports m.body i o ≡ block → (c : Called d m o) → (es : List Connection)
         → ((e : Connection) → In e es → In e (connections_of c.module_of m i 0 0 c.module_of.ports o.operands)) → AreConnections es
-    connections_spelled i o there role c [] within = tt
-    connections_spelled i o there role c (e ∷ es) within = (at_connection (from_connections c.module_of m i 0 0 c.module_of.ports o.operands e (within e (inl refl))), connections_spelled i o there role c es (λ f h. within f (inr h))) where
+    connections_spelled i o there emission c [] within = tt
+    connections_spelled i o there emission c (e ∷ es) within = (at_connection (from_connections c.module_of m i 0 0 c.module_of.ports o.operands e (within e (inl refl))), connections_spelled i o there emission c es (λ f h. within f (inr h))) where
       at_connection : (n : ℕ) × (p : Port) × (slice_get c.module_of.ports n ≡ Some p) × (e ≡ connection_of c.module_of m i (0 + n) 0 (take n c.module_of.ports) p o.operands) → IsSpellableConnection e
-      at_connection h = subst IsSpellableConnection (sym (h.3 ∙ ap (λ a. connection_of c.module_of m i a 0 (take h.0 c.module_of.ports) h.1 o.operands) (zero-add h.0))) (connection_spelled i o there role c h.0 h.1 h.2)
+      at_connection h = subst IsSpellableConnection (sym (h.3 ∙ ap (λ a. connection_of c.module_of m i a 0 (take h.0 c.module_of.ports) h.1 o.operands) (zero-add h.0))) (connection_spelled i o there emission c h.0 h.1 h.2)
 
     -- ---- items
 
-    net_spelled : (i : ℕ) (o : Op) → slice_get m.body i ≡ Some o → role_of m.ports m.body i o ≡ net → IsSpellable (assigned_expr m (result i 0))
-    net_spelled i o there role =
-        let first = result_at_first d x s m is i o there (inl role) in
-        let sort = made_of_role m.ports m.body i o role in
+    net_spelled : (i : ℕ) (o : Op) → slice_get m.body i ≡ Some o → emission_of m.ports m.body i o ≡ net → IsSpellable (assigned_expr m (result i 0))
+    net_spelled i o there emission =
+        let first = result_at_first d x s m is i o there (inl emission) in
+        let sort = made_of_emission m.ports m.body i o emission in
         (assigned_well d x s m is (known_first m) (knows_first d x s m is) i 0 o first.0.type there (values sort.0 sort.1 sort.2) (ap (omap (λ (z : OpResult). z.type)) first.1)).words where
           values : register_form o.kind ≡ None → instance_in o.kind ≡ None → is_output_kind o.kind ≡ false → gives_values o ≡ true
           values r n u = simp (r, n, u) refl
@@ -136,21 +136,21 @@ module _ (d : Design) (x : Setting d) where
         subst (λ z. IsSpellable (expr_for (expression m) z)) (sym g.1) (written g.0 p.type g.2)
 
     item_spelled : (y : Item) → From d m y → IsSpellableItem y
-    item_spelled y (net_wire i o there role same) = subst IsSpellableItem (sym same) (high_word (width_of (result_type o 0)) (first_small d x s m is i o there), key_word s m is (value_key i 0) (net_in m i o there role))
-    item_spelled y (variable_reg i o there role same) = subst IsSpellableItem (sym same) (high_word (width_of (result_type o 0)) (first_small d x s m is i o there), key_word s m is (value_key i 0) (variable_in m i o there role))
-    item_spelled y (result_wire i k o r there role at same) = subst IsSpellableItem (sym same) (high_word (width r.type) (result_small d x s m is i k o r there at), key_word s m is (value_key i k) (result_in_keys m i k o r there role at))
-    item_spelled y (net_assign i o there role same) = subst IsSpellableItem (sym same) (key_word s m is (value_key i 0) (net_in m i o there role), net_spelled i o there role)
-    item_spelled y (variable_block i o r there role at same) = subst IsSpellableItem (sym same) (register_spelled i o r there role at)
-    item_spelled y (an_instance i o z there role at same) =
+    item_spelled y (net_wire i o there emission same) = subst IsSpellableItem (sym same) (high_word (width_of (result_type o 0)) (first_small d x s m is i o there), word_of_identifier s m is (value_identifier i 0) (net_in m i o there emission))
+    item_spelled y (variable_reg i o there emission same) = subst IsSpellableItem (sym same) (high_word (width_of (result_type o 0)) (first_small d x s m is i o there), word_of_identifier s m is (value_identifier i 0) (variable_in m i o there emission))
+    item_spelled y (result_wire i k o r there emission at same) = subst IsSpellableItem (sym same) (high_word (width r.type) (result_small d x s m is i k o r there at), word_of_identifier s m is (value_identifier i k) (result_in_identifiers m i k o r there emission at))
+    item_spelled y (net_assign i o there emission same) = subst IsSpellableItem (sym same) (word_of_identifier s m is (value_identifier i 0) (net_in m i o there emission), net_spelled i o there emission)
+    item_spelled y (variable_block i o r there emission at same) = subst IsSpellableItem (sym same) (register_spelled i o r there emission at)
+    item_spelled y (an_instance i o z there emission at same) =
         let c : Called d m o = called_by d x s m is i o there z at in
         subst IsSpellableItem (sym same) (
           symbol_word z.symbol c.module_of c.there,
           (
-            key_word s m is (instance_key i) (instance_in_keys m i o there role),
-            subst (λ q. AreConnections (connections_to q m i o)) (sym c.there) (connections_spelled i o there role c (connections_of c.module_of m i 0 0 c.module_of.ports o.operands) (λ e h. h)),
+            word_of_identifier s m is (instance_identifier i) (instance_in_identifiers m i o there emission),
+            subst (λ q. AreConnections (connections_to q m i o)) (sym c.there) (connections_spelled i o there emission c (connections_of c.module_of m i 0 0 c.module_of.ports o.operands) (λ e h. h)),
           ),
         )
-    item_spelled y (output_assign j p there out same) = subst IsSpellableItem (sym same) (key_word s m is (port_key j) (port_in m j p there), output_spelled j p there out)
+    item_spelled y (output_assign j p there out same) = subst IsSpellableItem (sym same) (word_of_identifier s m is (port_identifier j) (port_in m j p there), output_spelled j p there out)
 
     items_spelled : (ys : List Item) → ((y : Item) → In y ys → From d m y) → AreItems ys
     items_spelled [] from = tt

@@ -8,12 +8,12 @@ use Rattle.hw_model.specs.Design.Ref.{port, result, undefined}
 use Rattle.fresh_names.proofs.Distinct.{AreFresh, fresh_are_new}
 use Rattle.fresh_names.proofs.Giving.{fresh_count}
 use Rattle.mlir_syntax.specs.OperationText.{OperationText}
-use Rattle.mlir_reader.specs.Resolving.{Meanings, Defined, Definition, with_definitions, no_meaning, resolved, port_definition, port_definitions, operation_definitions, body_definitions, operations_from, ports_from, is_marked, ends_with_output, has_outputs, left_out_output, port_meanings, meanings, module_of, design_of}
+use Rattle.mlir_reader.specs.Resolving.{Meanings, Defined, Definition, with_definitions, no_meaning, resolve_operand, port_definition, port_definitions, operation_definitions, body_definitions, operations_from, ports_from, is_marked, ends_with_output, has_outputs, left_out_output, port_meanings, meanings, module_of, design_of}
 use Rattle.mlir_reader.proofs.Defining.{definitions_append}
-use Rattle.mlir_printer.specs.Pieces.{ValueText}
-use Rattle.mlir_printer.specs.Naming.{port_wish, port_wishes, input_count, body_wishes, wishes, wanted, names_given, name_count, first_name, firsts, value_named}
+use Rattle.mlir_printer.specs.Elements.{ValueText}
+use Rattle.mlir_printer.specs.Naming.{port_name_hint, port_name_hints, input_count, body_name_hints, name_hints, wanted, names_given, name_count, first_name, firsts, value_named}
 use Rattle.mlir_printer.specs.Texts.{parts_in, operation_shown, operations_shown, port_shown, ports_shown, module_shown, modules_shown}
-use Rattle.mlir_printer.specs.Spellable.{Each, said_operand, said_operation, said_port, said}
+use Rattle.mlir_printer.specs.Spellable.{Each, said_operand, said_operation, said_port, inherent_view}
 use Rattle.mlir_printer.specs.Printable.{IsDefined, IsPrintableOp, IsPrintablePort, EndsWithOutput, IsPrintableModule, Printable}
 use Rattle.mlir_printer.proofs.names.NameTables.{Among, Finds, finds_left, finds_right, AreNew, new_left, new_right, found, all_new}
 use Rattle.mlir_printer.proofs.names.NamedDefinitions.{name_of, map_append, firsts_add, firsts_all, ports_names, body_names}
@@ -25,8 +25,8 @@ use Rattle.mlir_printer.proofs.again.OperationsAgain.{are_counted, operation_aga
 -- ---- bodies
 
 body_again : (ports : List Port) (body : List Op) (m earlier : Meanings) (means : Ref → ValueText) (i : ℕ) (ns : List Name) (os : List Op)
-    → ((r : Ref) → IsDefined ports body r → resolved m (said_operand (means r)) ≡ r)
-    → AreNew earlier (body_definitions i (map said_operation (operations_shown means ns os))) → Suits (body_wishes (map parts_in os)) ns
+    → ((r : Ref) → IsDefined ports body r → resolve_operand m (said_operand (means r)) ≡ r)
+    → AreNew earlier (body_definitions i (map said_operation (operations_shown means ns os))) → Suits (body_name_hints (map parts_in os)) ns
     → Each (IsPrintableOp ports body) os
     → map op_without_place (operations_from m earlier i (map said_operation (operations_shown means ns os))) ≡ map op_without_place os
 body_again ports body m earlier means i ns [] resolve new suits p = refl
@@ -36,11 +36,11 @@ body_again ports body m earlier means i ns (o ∷ os) resolve new suits p =
     let later = with_definitions earlier (operation_definitions i here) in
     ap (λ x. x ∷ map op_without_place (operations_from m later (i + 1) rest))
     (operation_again ports body o p.0 m earlier means i ns resolve (new_left earlier (operation_definitions i here) (body_definitions (i + 1) rest) new)
-    (suit_first (wishes (parts_in o)) (body_wishes (map parts_in os)) ns suits))
+    (suit_first (name_hints (parts_in o)) (body_name_hints (map parts_in os)) ns suits))
     ∙ ap (λ l. op_without_place o ∷ l)
     (body_again ports body m later means (i + 1) (drop (name_count (parts_in o)) ns) os resolve
     (new_right earlier (operation_definitions i here) (body_definitions (i + 1) rest) new)
-    (suit_behind (wishes (parts_in o)) (body_wishes (map parts_in os)) ns suits) p.1)
+    (suit_behind (name_hints (parts_in o)) (body_name_hints (map parts_in os)) ns suits) p.1)
 
 output_there : (means : Ref → ValueText) (ns : List Name) (os : List Op) → EndsWithOutput os
     → ends_with_output (map said_operation (operations_shown means ns os)) ≡ true
@@ -68,13 +68,13 @@ ports_again : (earlier : Meanings) (j : ℕ) (ns : List Name) (ps : List Port) �
 ports_again earlier j ns [] new p = refl
 ports_again earlier j ns (q ∷ ps) new p =
     let value = (port_shown ns q).value in
-    let rest = map said_port (ports_shown (drop (length (port_wish q)) ns) ps) in
+    let rest = map said_port (ports_shown (drop (length (port_name_hint q)) ns) ps) in
     let later = with_definitions earlier (port_definition j value) in
     let unmarked : is_marked earlier value ≡ q.again = not_marked earlier j q.is_output (first_name ns) (port_definitions (j + 1) rest) new ∙ sym p.0.first in
     ap (λ x. record { name = q.name; is_output = x; type = q.type; again = is_marked earlier value } ∷ ports_from later (j + 1) rest)
     (direction q.is_output (first_name ns))
     ∙ ap (λ x. record { name = q.name; is_output = q.is_output; type = q.type; again = x } ∷ ports_from later (j + 1) rest) unmarked
-    ∙ ap (λ l. q ∷ l) (ports_again later (j + 1) (drop (length (port_wish q)) ns) ps
+    ∙ ap (λ l. q ∷ l) (ports_again later (j + 1) (drop (length (port_name_hint q)) ns) ps
     (new_right earlier (port_definition j value) (port_definitions (j + 1) rest) new) p.1)
 
 -- ---- modules
@@ -104,62 +104,62 @@ module _ (m : Module) (p : IsPrintableModule m) where
   abbrev body_defs : List Definition
   body_defs = body_definitions 0 texts
 
-  given_length : length given ≡ length (port_wishes m.ports ++ body_wishes (map parts_in m.body))
+  given_length : length given ≡ length (port_name_hints m.ports ++ body_name_hints (map parts_in m.body))
   given_length =
-      fresh_count [] (wanted 0 (port_wishes m.ports ++ body_wishes (map parts_in m.body))) ∙ wanted_length 0
-      (port_wishes m.ports ++ body_wishes (map parts_in m.body))
+      fresh_count [] (wanted 0 (port_name_hints m.ports ++ body_name_hints (map parts_in m.body))) ∙ wanted_length 0
+      (port_name_hints m.ports ++ body_name_hints (map parts_in m.body))
 
   all_names : map name_of (port_defs ++ body_defs) ≡ given
   all_names =
       map_append name_of port_defs body_defs
       ∙ ap (λ l. l ++ map name_of body_defs) (ports_names 0 given m.ports)
       ∙ ap (λ l. firsts (input_count m.ports) given ++ l) (body_names means 0 behind m.body)
-      ∙ sym (firsts_add (input_count m.ports) (length (body_wishes (map parts_in m.body))) given)
-      ∙ ap (λ k. firsts k given) (sym (length-append (port_wishes m.ports) (body_wishes (map parts_in m.body))) ∙ sym given_length)
+      ∙ sym (firsts_add (input_count m.ports) (length (body_name_hints (map parts_in m.body))) given)
+      ∙ ap (λ k. firsts k given) (sym (length-append (port_name_hints m.ports) (body_name_hints (map parts_in m.body))) ∙ sym given_length)
       ∙ firsts_all given
 
   are_fresh : AreFresh [] given
   are_fresh =
       let few = p.few in
-      fresh_are_new [] (wanted 0 (port_wishes m.ports ++ body_wishes (map parts_in m.body)))
-      (omega (arith, few, wanted_length 0 (port_wishes m.ports ++ body_wishes (map parts_in m.body))))
+      fresh_are_new [] (wanted 0 (port_name_hints m.ports ++ body_name_hints (map parts_in m.body)))
+      (omega (arith, few, wanted_length 0 (port_name_hints m.ports ++ body_name_hints (map parts_in m.body))))
 
   all_are_new : AreNew no_meaning (port_defs ++ body_defs)
   all_are_new = all_new (port_defs ++ body_defs) (subst (AreFresh []) (sym all_names) are_fresh)
 
-  all_suit : Suits (port_wishes m.ports ++ body_wishes (map parts_in m.body)) given
-  all_suit = given_suit (port_wishes m.ports ++ body_wishes (map parts_in m.body)) p.few
+  all_suit : Suits (port_name_hints m.ports ++ body_name_hints (map parts_in m.body)) given
+  all_suit = given_suit (port_name_hints m.ports ++ body_name_hints (map parts_in m.body)) p.few
 
   -- each name is found again
-  finds : Finds (meanings (said (module_shown m))) (port_defs ++ body_defs)
+  finds : Finds (meanings (inherent_view (module_shown m))) (port_defs ++ body_defs)
   finds =
       subst (λ (k : Meanings). Finds k (port_defs ++ body_defs)) (definitions_append no_meaning port_defs body_defs)
       (found no_meaning (port_defs ++ body_defs) all_are_new)
 
-  resolves : (r : Ref) → IsDefined m.ports m.body r → resolved (meanings (said (module_shown m))) (said_operand (means r)) ≡ r
+  resolves : (r : Ref) → IsDefined m.ports m.body r → resolve_operand (meanings (inherent_view (module_shown m))) (said_operand (means r)) ≡ r
   resolves (port j) h =
       let z : 0 + j ≡ j = omega arith in
-      port_found (meanings (said (module_shown m))) given m.ports 0 j h.0 (finds_left (meanings (said (module_shown m))) port_defs body_defs finds) h.1 h.2
+      port_found (meanings (inherent_view (module_shown m))) given m.ports 0 j h.0 (finds_left (meanings (inherent_view (module_shown m))) port_defs body_defs finds) h.1 h.2
       ∙ ap (λ k. port k) z
   resolves (result i k) h =
       let z : 0 + i ≡ i = omega arith in
-      result_found (meanings (said (module_shown m))) means behind m.body 0 i k h.0
-      (finds_right (meanings (said (module_shown m))) port_defs body_defs finds) h.1
+      result_found (meanings (inherent_view (module_shown m))) means behind m.body 0 i k h.0
+      (finds_right (meanings (inherent_view (module_shown m))) port_defs body_defs finds) h.1
       (λ x ms a. are_counted m.ports m.body x (each_among (IsPrintableOp m.ports m.body) m.body x p.operations a) means ms) h.2
       ∙ ap (λ j. result j k) z
   resolves undefined h = absurd h
 
-  body_said : map op_without_place (module_of (said (module_shown m))).body ≡ map op_without_place m.body
+  body_said : map op_without_place (module_of (inherent_view (module_shown m))).body ≡ map op_without_place m.body
   body_said =
-      let os = operations_from (meanings (said (module_shown m))) (port_meanings (said (module_shown m)).ports) 0 texts in
-      ap (λ b. map op_without_place (cond b os (cond (has_outputs (said (module_shown m)).ports) os
-      (os ++ left_out_output (said (module_shown m)).close ∷ []))))
+      let os = operations_from (meanings (inherent_view (module_shown m))) (port_meanings (inherent_view (module_shown m)).ports) 0 texts in
+      ap (λ b. map op_without_place (cond b os (cond (has_outputs (inherent_view (module_shown m)).ports) os
+      (os ++ left_out_output (inherent_view (module_shown m)).close ∷ []))))
       (output_there means behind m.body p.ends)
-      ∙ body_again m.ports m.body (meanings (said (module_shown m))) (port_meanings (said (module_shown m)).ports) means 0 behind m.body resolves
+      ∙ body_again m.ports m.body (meanings (inherent_view (module_shown m))) (port_meanings (inherent_view (module_shown m)).ports) means 0 behind m.body resolves
       (new_right no_meaning port_defs body_defs all_are_new)
-      (suit_behind (port_wishes m.ports) (body_wishes (map parts_in m.body)) given all_suit) p.operations
+      (suit_behind (port_name_hints m.ports) (body_name_hints (map parts_in m.body)) given all_suit) p.operations
 
-  pub module_again : module_without_places m ≡ module_without_places (module_of (said (module_shown m)))
+  pub module_again : module_without_places m ≡ module_without_places (module_of (inherent_view (module_shown m)))
   module_again =
       let ps = ports_again no_meaning 0 given m.ports (new_left no_meaning port_defs body_defs all_are_new) p.ports in
       let es = kept_itself listed.HwModule m.dictionary p.dictionary.in_order p.dictionary.kept in
@@ -167,8 +167,8 @@ module _ (m : Module) (p : IsPrintableModule m) where
       sym (rw (ps, es, os) refl)
 
 -- the text of a design says the design, but for places
-pub printable_designs_are_said : (d : Design) → Printable d → IsSameDesign d (design_of (map said (modules_shown d)))
+pub printable_designs_are_said : (d : Design) → Printable d → IsSameDesign d (design_of (map inherent_view (modules_shown d)))
 printable_designs_are_said [] p = refl
 printable_designs_are_said (m ∷ d) p =
     ap (λ x. x ∷ without_places d) (module_again m p.0)
-    ∙ ap (λ l. module_without_places (module_of (said (module_shown m))) ∷ l) (printable_designs_are_said d p.1)
+    ∙ ap (λ l. module_without_places (module_of (inherent_view (module_shown m))) ∷ l) (printable_designs_are_said d p.1)

@@ -14,8 +14,8 @@ use Rattle.ir_store.specs.OperationViews.{OpParts}
 use Rattle.mlir_syntax.specs.Numerals.{count_limit}
 use Rattle.mlir_syntax.specs.OperandText.{ResultNames}
 use Rattle.mlir_syntax.specs.Spelling.{StandsInBody}
-use Rattle.mlir_printer.specs.Pieces.{ValueText, no_value}
-use Rattle.mlir_printer.specs.Naming.{wishes, port_wish, port_wishes, input_count, body_wishes, names_given, name_count, first_name, firsts, called, is_pack, value_at, value_in, port_value, value_named, listed_names, results_named}
+use Rattle.mlir_printer.specs.Elements.{ValueText, no_value}
+use Rattle.mlir_printer.specs.Naming.{name_hints, port_name_hint, port_name_hints, input_count, body_name_hints, names_given, name_count, first_name, firsts, called, is_pack, value_at, value_in, port_value, value_named, listed_names, results_named}
 use Rattle.mlir_printer.specs.Texts.{parts_in, operation_shown, operations_shown, ports_shown, module_shown, modules_shown}
 use Rattle.mlir_printer.specs.Spellable.{Each, IsValueName, IsOperand, AreResults, MayBeValue, IsSpellableOperation, AreSpellable, IsSpellablePort, IsSpellable}
 use Rattle.mlir_printer.specs.Printable.{IsDefined, operands_written, types_written, IsPrintableOp, IsPrintablePort, EndsWithOutput, IsPrintableModule, Printable}
@@ -52,15 +52,15 @@ record NamesFit (o : OpParts) : Type 0 where
   few : is_pack o.kind (length o.results) ≡ true → length o.results < count_limit
   listed : is_pack o.kind (length o.results) ≡ false → name_count o ≡ length o.results
 
-results_fit : (o : OpParts) (ns : List Name) → NamesFit o → Suits (wishes o) ns → AreResults (results_named o ns)
+results_fit : (o : OpParts) (ns : List Name) → NamesFit o → Suits (name_hints o) ns → AreResults (results_named o ns)
 results_fit o ns fit suits = go (is_pack o.kind (length o.results)) refl
   where
     go : (b : Bool) → is_pack o.kind (length o.results) ≡ b
         → AreResults (cond b (ResultNames.pack (first_name ns) (length o.results)) (listed_names (firsts (name_count o) ns)))
-    go true h = (name_at (wishes o) ns 0 suits (let e = pack_named o.kind o.types o.name (length o.results) h in omega (arith, e)), fit.few h)
-    go false h = listed_fit (firsts (name_count o) ns) (names_fit (wishes o) ns suits)
+    go true h = (name_at (name_hints o) ns 0 suits (let e = pack_named o.kind o.types o.name (length o.results) h in omega (arith, e)), fit.few h)
+    go false h = listed_fit (firsts (name_count o) ns) (names_fit (name_hints o) ns suits)
 
-value_fits : (o : OpParts) (ns : List Name) (k : ℕ) → NamesFit o → Suits (wishes o) ns → k < length o.results → IsOperand (value_at o ns k)
+value_fits : (o : OpParts) (ns : List Name) (k : ℕ) → NamesFit o → Suits (name_hints o) ns → k < length o.results → IsOperand (value_at o ns k)
 value_fits o ns k fit suits lt = go (is_pack o.kind (length o.results)) refl
   where
     go : (b : Bool) → is_pack o.kind (length o.results) ≡ b
@@ -70,36 +70,36 @@ value_fits o ns k fit suits lt = go (is_pack o.kind (length o.results)) refl
         let few = fit.few h in
         subst (λ b. IsOperand (cond b (record { name = first_name ns; number = Some k }) no_value)) (sym (lt-ltb k (length o.results) lt))
         (record {
-          name = name_at (wishes o) ns 0 suits (let e = pack_named o.kind o.types o.name (length o.results) h in omega (arith, e));
+          name = name_at (name_hints o) ns 0 suits (let e = pack_named o.kind o.types o.name (length o.results) h in omega (arith, e));
           number = omega (arith, lt, few);
         })
     go false h =
         let within : k < name_count o = let e = fit.listed h in omega (arith, lt, e) in
         subst (λ b. IsOperand (cond b (called (first_name (drop k ns))) no_value)) (sym (lt-ltb k (name_count o) within))
-        (record { name = name_at (wishes o) ns k suits within; number = tt })
+        (record { name = name_at (name_hints o) ns k suits within; number = tt })
 
-port_fits : (ns : List Name) (ps : List Port) (j : ℕ) (p : Port) → Suits (port_wishes ps) ns → slice_get ps j ≡ Some p → p.is_output ≡ false
+port_fits : (ns : List Name) (ps : List Port) (j : ℕ) (p : Port) → Suits (port_name_hints ps) ns → slice_get ps j ≡ Some p → p.is_output ≡ false
     → IsOperand (port_value ns ps j)
 port_fits ns [] j p suits at input = cc
 port_fits ns (q ∷ ps) zero p suits at input =
     let same : q ≡ p = cc in
     go q.is_output (ap (λ (x : Port). x.is_output) same ∙ input) suits
   where
-    go : (b : Bool) → b ≡ false → Suits (cond b [] (Some q.name ∷ []) ++ port_wishes ps) ns → IsOperand (cond b no_value (called (first_name ns)))
+    go : (b : Bool) → b ≡ false → Suits (cond b [] (Some q.name ∷ []) ++ port_name_hints ps) ns → IsOperand (cond b no_value (called (first_name ns)))
     go true e h = cc
-    go false e h = record { name = name_at (Some q.name ∷ port_wishes ps) ns 0 h (omega arith); number = tt }
+    go false e h = record { name = name_at (Some q.name ∷ port_name_hints ps) ns 0 h (omega arith); number = tt }
 port_fits ns (q ∷ ps) (suc j) p suits at input =
-    port_fits (drop (length (port_wish q)) ns) ps j p (suit_behind (port_wish q) (port_wishes ps) ns suits) at input
+    port_fits (drop (length (port_name_hint q)) ns) ps j p (suit_behind (port_name_hint q) (port_name_hints ps) ns suits) at input
 
-result_fits : (ns : List Name) (os : List Op) (i k : ℕ) (o : Op) → Suits (body_wishes (map parts_in os)) ns → slice_get os i ≡ Some o
+result_fits : (ns : List Name) (os : List Op) (i k : ℕ) (o : Op) → Suits (body_name_hints (map parts_in os)) ns → slice_get os i ≡ Some o
     → ((x : Op) → Among x os → NamesFit (parts_in x)) → k < length o.results → IsOperand (value_in ns (map parts_in os) i k)
 result_fits ns [] i k o suits at fit lt = cc
 result_fits ns (x ∷ os) zero k o suits at fit lt =
     let same : x ≡ o = cc in
-    value_fits (parts_in x) ns k (fit x (inl refl)) (suit_first (wishes (parts_in x)) (body_wishes (map parts_in os)) ns suits)
+    value_fits (parts_in x) ns k (fit x (inl refl)) (suit_first (name_hints (parts_in x)) (body_name_hints (map parts_in os)) ns suits)
     (subst (λ (y : Op). k < length y.results) (sym same) lt)
 result_fits ns (x ∷ os) (suc i) k o suits at fit lt =
-    result_fits (drop (name_count (parts_in x)) ns) os i k o (suit_behind (wishes (parts_in x)) (body_wishes (map parts_in os)) ns suits) at
+    result_fits (drop (name_count (parts_in x)) ns) os i k o (suit_behind (name_hints (parts_in x)) (body_name_hints (map parts_in os)) ns suits) at
     (λ y h. fit y (inr h)) lt
 
 -- ---- operations
@@ -124,7 +124,7 @@ module _ (ports : List Port) (body : List Op) (o : Op) (p : IsPrintableOp ports 
   op_names : NamesFit (parts_in o)
   op_names = record { few = p.few; listed = (are_counted ports body o p (λ r. no_value) []).listed }
 
-  op_fits : (means : Ref → ValueText) (ns : List Name) → ((r : Ref) → IsDefined ports body r → IsOperand (means r)) → Suits (wishes (parts_in o)) ns
+  op_fits : (means : Ref → ValueText) (ns : List Name) → ((r : Ref) → IsDefined ports body r → IsOperand (means r)) → Suits (name_hints (parts_in o)) ns
       → IsSpellableOperation (operation_shown (parts_in o) (map means o.operands) ns)
   op_fits means ns f suits =
       let n : length (map means o.operands) ≡ length o.operands = length-map o.operands means in
@@ -140,51 +140,51 @@ module _ (ports : List Port) (body : List Op) (o : Op) (p : IsPrintableOp ports 
       }
 
 body_fits : (ports : List Port) (body : List Op) (means : Ref → ValueText) (ns : List Name) (os : List Op)
-    → ((r : Ref) → IsDefined ports body r → IsOperand (means r)) → Suits (body_wishes (map parts_in os)) ns → Each (IsPrintableOp ports body) os
+    → ((r : Ref) → IsDefined ports body r → IsOperand (means r)) → Suits (body_name_hints (map parts_in os)) ns → Each (IsPrintableOp ports body) os
     → EndsWithOutput os → AreSpellable (operations_shown means ns os)
 body_fits ports body means ns [] f suits p ends = tt
 body_fits ports body means ns (o ∷ []) f suits p ends =
-    (op_fits ports body o p.0 means ns f (suit_first (wishes (parts_in o)) [] ns suits), (λ last. refl), tt)
+    (op_fits ports body o p.0 means ns f (suit_first (name_hints (parts_in o)) [] ns suits), (λ last. refl), tt)
 body_fits ports body means ns (o ∷ x ∷ os) f suits p ends = (
-  op_fits ports body o p.0 means ns f (suit_first (wishes (parts_in o)) (body_wishes (map parts_in (x ∷ os))) ns suits),
+  op_fits ports body o p.0 means ns f (suit_first (name_hints (parts_in o)) (body_name_hints (map parts_in (x ∷ os))) ns suits),
   (λ last. absurd (false≢true (sym (last_output o.kind ∙ ends.0) ∙ last))),
   body_fits ports body means (drop (name_count (parts_in o)) ns) (x ∷ os) f
-      (suit_behind (wishes (parts_in o)) (body_wishes (map parts_in (x ∷ os))) ns suits) p.1 ends.1,
+      (suit_behind (name_hints (parts_in o)) (body_name_hints (map parts_in (x ∷ os))) ns suits) p.1 ends.1,
 )
 
 -- ---- modules
 
-ports_fit : (ns : List Name) (ps : List Port) → Suits (port_wishes ps) ns → Each IsPrintablePort ps → Each IsSpellablePort (ports_shown ns ps)
+ports_fit : (ns : List Name) (ps : List Port) → Suits (port_name_hints ps) ns → Each IsPrintablePort ps → Each IsSpellablePort (ports_shown ns ps)
 ports_fit ns [] suits p = tt
 ports_fit ns (q ∷ ps) suits p = (
   record { value = value q.is_output suits; name = p.0.name; type = p.0.type },
-  ports_fit (drop (length (port_wish q)) ns) ps (suit_behind (port_wish q) (port_wishes ps) ns suits) p.1,
+  ports_fit (drop (length (port_name_hint q)) ns) ps (suit_behind (port_name_hint q) (port_name_hints ps) ns suits) p.1,
 )
   where
-    value : (b : Bool) → Suits (cond b [] (Some q.name ∷ []) ++ port_wishes ps) ns → MayBeValue (cond b None (Some (first_name ns)))
+    value : (b : Bool) → Suits (cond b [] (Some q.name ∷ []) ++ port_name_hints ps) ns → MayBeValue (cond b None (Some (first_name ns)))
     value true h = tt
-    value false h = name_at (Some q.name ∷ port_wishes ps) ns 0 h (omega arith)
+    value false h = name_at (Some q.name ∷ port_name_hints ps) ns 0 h (omega arith)
 
 module_fits : (m : Module) → IsPrintableModule m → IsSpellable (module_shown m)
 module_fits m p =
     let ns = names_given m.ports (map parts_in m.body) in
-    let all : Suits (port_wishes m.ports ++ body_wishes (map parts_in m.body)) ns = given_suit
-    (port_wishes m.ports ++ body_wishes (map parts_in m.body)) p.few in
-    let behind : Suits (body_wishes (map parts_in m.body)) (drop (input_count m.ports) ns) = suit_behind (port_wishes m.ports)
-    (body_wishes (map parts_in m.body)) ns all in
+    let all : Suits (port_name_hints m.ports ++ body_name_hints (map parts_in m.body)) ns = given_suit
+    (port_name_hints m.ports ++ body_name_hints (map parts_in m.body)) p.few in
+    let behind : Suits (body_name_hints (map parts_in m.body)) (drop (input_count m.ports) ns) = suit_behind (port_name_hints m.ports)
+    (body_name_hints (map parts_in m.body)) ns all in
     record {
       symbol = p.symbol;
-      ports = ports_fit ns m.ports (suit_first (port_wishes m.ports) (body_wishes (map parts_in m.body)) ns all) p.ports;
+      ports = ports_fit ns m.ports (suit_first (port_name_hints m.ports) (body_name_hints (map parts_in m.body)) ns all) p.ports;
       dictionary = kept_fits listed.HwModule _ m.dictionary p.dictionary;
       operations =
           body_fits m.ports m.body (value_named ns m.ports (map parts_in m.body)) (drop (input_count m.ports) ns) m.body
           (values ns all behind) behind p.operations p.ends;
     }
   where
-    values : (ns : List Name) → Suits (port_wishes m.ports ++ body_wishes (map parts_in m.body)) ns
-        → Suits (body_wishes (map parts_in m.body)) (drop (input_count m.ports) ns)
+    values : (ns : List Name) → Suits (port_name_hints m.ports ++ body_name_hints (map parts_in m.body)) ns
+        → Suits (body_name_hints (map parts_in m.body)) (drop (input_count m.ports) ns)
         → (r : Ref) → IsDefined m.ports m.body r → IsOperand (value_named ns m.ports (map parts_in m.body) r)
-    values ns all behind (port j) h = port_fits ns m.ports j h.0 (suit_first (port_wishes m.ports) (body_wishes (map parts_in m.body)) ns all) h.1 h.2
+    values ns all behind (port j) h = port_fits ns m.ports j h.0 (suit_first (port_name_hints m.ports) (body_name_hints (map parts_in m.body)) ns all) h.1 h.2
     values ns all behind (result i k) h =
         result_fits (drop (input_count m.ports) ns) m.body i k h.0 behind h.1
         (λ x a. op_names m.ports m.body x (each_among (IsPrintableOp m.ports m.body) m.body x p.operations a)) h.2

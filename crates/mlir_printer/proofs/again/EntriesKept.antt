@@ -13,7 +13,7 @@ use Rattle.hw_model.specs.Design.{Entry, same_name}
 use Rattle.hw_model.specs.Equality.{name_from}
 use Rattle.mlir_lexer.specs.Classes.{is_digit}
 use Rattle.mlir_lexer.specs.Runs.{run}
-use Rattle.mlir_reader.specs.Resolving.{put_entry, sorted, is_empty_hint, without, has_name, is_name_entry, is_dropped, kept_entries, text_in, given_name, unless_digits, name_or}
+use Rattle.mlir_reader.specs.Resolving.{put_entry, sort_entries, is_empty_hint, without, has_name, is_name_entry, is_dropped, kept_entries, text_in, given_name, unless_digits, name_or}
 use Rattle.mlir_printer.specs.Texts.{name_entry, named_entries, entries_shown}
 use Rattle.mlir_printer.specs.Spellable.{Each}
 use Rattle.mlir_printer.specs.Printable.{AreInOrder}
@@ -35,7 +35,7 @@ put_front : (e : Entry) (es : List Entry) → AreInOrder (e ∷ es) → put_entr
 put_front e [] h = refl
 put_front e (f ∷ es) h = cond-false (is_less f e) (f ∷ put_entry e es) (e ∷ f ∷ es) (is_order.one_way e f h.0)
 
-pub sorted_itself : (es : List Entry) → AreInOrder es → sorted es ≡ es
+pub sorted_itself : (es : List Entry) → AreInOrder es → sort_entries es ≡ es
 sorted_itself [] h = refl
 sorted_itself (e ∷ es) h = ap (put_entry e) (sorted_itself es (in_order_rest e es h)) ∙ put_front e es h
 
@@ -54,7 +54,7 @@ without_put test e (f ∷ es) h = go (is_less f e) (without_put test e es h)
     go false r = cond-true (test e) (without test (f ∷ es)) (e ∷ without test (f ∷ es)) h
 
 pub kept_itself : (o : Listed) (es : List Entry) → AreInOrder es → Each (λ (e : Entry). is_dropped o e ≡ false) es → kept_entries o es ≡ es
-kept_itself o es up kept = ap sorted (without_none (is_dropped o) es kept) ∙ sorted_itself es up
+kept_itself o es up kept = ap sort_entries (without_none (is_dropped o) es kept) ∙ sorted_itself es up
 
 name_dropped : (o : Listed) (own : Name) → has_name o ≡ true → is_dropped o (name_entry own) ≡ true
 name_dropped o own h = ap (λ b. b && true) h
@@ -71,7 +71,7 @@ shown_kept o (b ∷ bs) printed es up kept named = go (same_name (b ∷ bs) prin
 
     go : (t : Bool) → kept_entries o (cond t es (named_entries (b ∷ bs) es)) ≡ es
     go true = kept_itself o es up kept
-    go false = ap sorted (without_put (is_dropped o) (name_entry (b ∷ bs)) es (name_dropped o (b ∷ bs) (has (has_name o) refl))) ∙ kept_itself o es up kept
+    go false = ap sort_entries (without_put (is_dropped o) (name_entry (b ∷ bs)) es (name_dropped o (b ∷ bs) (has (has_name o) refl))) ∙ kept_itself o es up kept
 
 -- ---- own names
 

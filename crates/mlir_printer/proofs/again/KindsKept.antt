@@ -13,11 +13,11 @@ use Rattle.hw_model.specs.Kinds.StructOp.{struct_create}
 use Rattle.hw_model.specs.Kinds.RegisterOp.{compreg, compreg_ce, firreg}
 use Rattle.hw_model.specs.Kinds.Kind.{variadic, division, shift, constant, aggregate_constant, on_array, on_struct, register}
 use Rattle.hw_model.specs.Opcodes.{opcode_of, variadic_opcode, division_opcode, shift_opcode, array_opcode, kind_named_by}
-use Rattle.mlir_syntax.specs.PieceText.{Extra}
-use Rattle.mlir_syntax.specs.PieceText.Extra.{nothing}
+use Rattle.mlir_syntax.specs.ElementText.{InherentAttributes}
+use Rattle.mlir_syntax.specs.ElementText.InherentAttributes.{nothing}
 use Rattle.mlir_reader.specs.Resolving.{has_negative, kept_number, kept_integer, kept_by_first, kept_literal, kept_literals, said_kind, kind_or, kind_named}
 use Rattle.mlir_printer.specs.Numbers.{is_negative, shown_number, shown_integer, shown_by_first, shown_literal, shown_literals}
-use Rattle.mlir_printer.specs.Texts.{extra_shown}
+use Rattle.mlir_printer.specs.Texts.{inherent_shown}
 use Rattle.mlir_printer.specs.Printable.{KeepsConstants}
 
 -- ---- constants
@@ -76,7 +76,7 @@ mutual
 -- ---- kinds
 
 -- a kind that its opcode alone tells
-told : (k : Kind) (e : Extra) (ts : List HwType) → kind_named_by (opcode_of k) ≡ Some k → kind_named (opcode_of k) e ts ≡ k
+told : (k : Kind) (e : InherentAttributes) (ts : List HwType) → kind_named_by (opcode_of k) ≡ Some k → kind_named (opcode_of k) e ts ≡ k
 told k e ts found = ap (λ o. kind_or o (said_kind (opcode_of k) e ts)) found
 
 variadic_told : (v : Variadic) → kind_named_by (variadic_opcode v) ≡ Some (variadic v)
@@ -91,8 +91,8 @@ shift_told s = grind arith
 array_told : (a : ArrayOp) → kind_named_by (array_opcode a) ≡ Some (on_array a)
 array_told a = grind arith
 
-pub kind_again : (k : Kind) (ts : List HwType) → KeepsConstants k ts → kind_named (opcode_of k) (extra_shown k ts) ts ≡ k
-unfolding extra_shown said_kind
+pub kind_again : (k : Kind) (ts : List HwType) → KeepsConstants k ts → kind_named (opcode_of k) (inherent_shown k ts) ts ≡ k
+unfolding inherent_shown said_kind
 kind_again (variadic v) ts h = told (variadic v) nothing ts (variadic_told v)
 kind_again (division d) ts h = told (division d) nothing ts (division_told d)
 kind_again (shift s) ts h = told (shift s) nothing ts (shift_told s)

@@ -17,9 +17,9 @@ use Rattle.mlir_syntax.specs.OperandText.ResultNames.{no_names, names, pack}
 use Rattle.mlir_syntax.specs.OperationText.{OperationText, is_last}
 use Rattle.mlir_reader.specs.Resolving as read
 use Rattle.mlir_reader.specs.Resolving.Defined.{are_results}
-use Rattle.mlir_reader.specs.Resolving.{Meanings, Definition, resolved, marks, marked_results, names_from, names_defined, own_types, own_count, operation_at, operation_definitions, has_name, name_or, given_name, unless_digits, own_name_of}
-use Rattle.mlir_printer.specs.Pieces.{ValueText}
-use Rattle.mlir_printer.specs.Naming.{wishes, wishes_of, own_wish, pack_wishes, name_count, first_name, firsts, is_pack, listed_names, results_named}
+use Rattle.mlir_reader.specs.Resolving.{Meanings, Definition, resolve_operand, marks, marked_results, names_from, names_defined, own_types, own_count, operation_at, operation_definitions, has_name, name_or, given_name, unless_digits, own_name_of}
+use Rattle.mlir_printer.specs.Elements.{ValueText}
+use Rattle.mlir_printer.specs.Naming.{name_hints, name_hints_of, own_name_hint, pack_name_hints, name_count, first_name, firsts, is_pack, listed_names, results_named}
 use Rattle.mlir_printer.specs.Texts.{parts_in, operation_shown, entries_shown}
 use Rattle.mlir_printer.specs.Spellable.{Each, said_operand, said_operation}
 use Rattle.mlir_printer.specs.Printable.{IsDefined, settled_result, types_written, IsPrintableOp}
@@ -48,12 +48,12 @@ types_counted (instance i) ts n = length-map (drop (length i.inputs) ts) (λ (t 
 types_counted _ ts n = refl
 
 names_counted : (k : Kind) (ts : List HwType) (own : Name) (n c : ℕ) → n ≡ result_count k ts → length ts ≡ types_written k c → is_pack k n ≡ false
-    → length (wishes_of k ts own n) ≡ n
-unfolding wishes_of result_count types_written
+    → length (name_hints_of k ts own n) ≡ n
+unfolding name_hints_of result_count types_written
 names_counted output ts own n c e t h = sym e
 names_counted (on_struct struct_explode) ts own n c e t h = few n h
   where
-    few : (n : ℕ) → is_pack (on_struct struct_explode) n ≡ false → length (pack_wishes n) ≡ n
+    few : (n : ℕ) → is_pack (on_struct struct_explode) n ≡ false → length (pack_name_hints n) ≡ n
     few zero h = refl
     few (suc n) h = let le : suc n ≤ 1 = ltb-false 1 (suc n) h in omega (arith, le)
 names_counted (instance i) ts own n c e t h = instance_length i.name i.outputs ∙ omega (arith, e, t)
@@ -66,11 +66,11 @@ op_equal : (a b : Op) → a.kind ≡ b.kind → a.operands ≡ b.operands → a.
 op_equal a b e1 e2 e3 e4 e5 e6 e7 e8 = rw (e1, e2, e3, e4, e5, e6, e7, e8) refl
 
 operands_again : (m : Meanings) (means : Ref → ValueText) (Defined : Ref → Type 0) (rs : List Ref)
-    → ((r : Ref) → Defined r → resolved m (said_operand (means r)) ≡ r) → Each Defined rs
-    → map (resolved m) (map said_operand (map means rs)) ≡ rs
+    → ((r : Ref) → Defined r → resolve_operand m (said_operand (means r)) ≡ r) → Each Defined rs
+    → map (resolve_operand m) (map said_operand (map means rs)) ≡ rs
 operands_again m means Defined [] f h = refl
 operands_again m means Defined (r ∷ rs) f h =
-    ap (λ x. x ∷ map (resolved m) (map said_operand (map means rs))) (f r h.0) ∙ ap (λ l. r ∷ l) (operands_again m means Defined rs f h.1)
+    ap (λ x. x ∷ map (resolve_operand m) (map said_operand (map means rs))) (f r h.0) ∙ ap (λ l. r ∷ l) (operands_again m means Defined rs f h.1)
 
 marked_none : (ts : List (Option HwType)) (n : ℕ) → n ≤ length ts → marked_results ts (replicate n false) ≡ map settled_result ts
 marked_none [] zero h = refl
@@ -105,18 +105,18 @@ is_named _ = false
 named_listed : (k : Kind) → has_name (opcode_of k) ≡ is_named k
 named_listed k = grind arith
 
-named_wishes : (k : Kind) (ts : List HwType) (own : Name) (n : ℕ) → is_named k ≡ true
-    → (wishes_of k ts own n ≡ own_wish own ∷ []) × (is_pack k n ≡ false)
-unfolding wishes_of
-named_wishes wire ts own n h = (refl, refl)
-named_wishes (register f r) ts own n h = (refl, refl)
-named_wishes _ ts own n h = cc
+named_name_hints : (k : Kind) (ts : List HwType) (own : Name) (n : ℕ) → is_named k ≡ true
+    → (name_hints_of k ts own n ≡ own_name_hint own ∷ []) × (is_pack k n ≡ false)
+unfolding name_hints_of
+named_name_hints wire ts own n h = (refl, refl)
+named_name_hints (register f r) ts own n h = (refl, refl)
+named_name_hints _ ts own n h = cc
 
 named_kind : (k : Kind) (ts : List HwType) (own : Name) (n : ℕ) → has_name (opcode_of k) ≡ true
-    → (wishes_of k ts own n ≡ own_wish own ∷ []) × (is_pack k n ≡ false)
-named_kind k ts own n h = named_wishes k ts own n (sym (named_listed k) ∙ h)
+    → (name_hints_of k ts own n ≡ own_name_hint own ∷ []) × (is_pack k n ≡ false)
+named_kind k ts own n h = named_name_hints k ts own n (sym (named_listed k) ∙ h)
 
-suits_own : (own : Name) (ns : List Name) → Suits (own_wish own ∷ []) ns → SuitsOwn own (first_name ns)
+suits_own : (own : Name) (ns : List Name) → Suits (own_name_hint own ∷ []) ns → SuitsOwn own (first_name ns)
 suits_own [] [] h = absurd h
 suits_own [] (n ∷ ns) h = h.0
 suits_own (b ∷ bs) [] h = absurd h
@@ -196,7 +196,7 @@ module _ (ports : List Port) (body : List Op) (o : Op) (p : IsPrintableOp ports 
           ∙ listed (firsts (name_count (parts_in o)) ns) ∙ firsts_length (name_count (parts_in o)) ns
           ∙ names_counted o.kind o.types o.name (length o.results) (length o.operands) results_length p.types h
 
-  name_again : (ns : List Name) → Suits (wishes (parts_in o)) ns
+  name_again : (ns : List Name) → Suits (name_hints (parts_in o)) ns
       → own_name_of (opcode_of o.kind) (results_named (parts_in o) ns) (entries_shown o.name (first_name ns) o.dictionary) ≡ o.name
   name_again ns suits = go (has_name (opcode_of o.kind)) refl
     where
@@ -223,8 +223,8 @@ module _ (ports : List Port) (body : List Op) (o : Op) (p : IsPrintableOp ports 
 
   -- the operation that is said is the one that is printed, but for its place
   pub operation_again : (m earlier : Meanings) (means : Ref → ValueText) (i : ℕ) (ns : List Name)
-      → ((r : Ref) → IsDefined ports body r → resolved m (said_operand (means r)) ≡ r)
-      → AreNew earlier (operation_definitions i (shown means ns)) → Suits (wishes (parts_in o)) ns
+      → ((r : Ref) → IsDefined ports body r → resolve_operand m (said_operand (means r)) ≡ r)
+      → AreNew earlier (operation_definitions i (shown means ns)) → Suits (name_hints (parts_in o)) ns
       → op_without_place (operation_at m earlier i (shown means ns)) ≡ op_without_place o
   operation_again m earlier means i ns resolve new suits =
       op_equal (operation_at m earlier i (shown means ns)) o

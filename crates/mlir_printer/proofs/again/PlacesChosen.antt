@@ -6,7 +6,7 @@ use Rattle.hw_model.specs.Design.{Op, Design, op_without_place, module_without_p
 use Rattle.mlir_lexer.specs.Tokens.{Lexeme}
 use Rattle.mlir_syntax.specs.OperationText.{OperationText, is_last}
 use Rattle.mlir_syntax.specs.ModuleText.{ModuleText}
-use Rattle.mlir_reader.specs.Resolving.{Meanings, with_definitions, operation_definitions, body_definitions, operation_at, operations_from, ends_with_output, has_outputs, left_out_output, completed, port_meanings, meanings, module_of, design_of}
+use Rattle.mlir_reader.specs.Resolving.{Meanings, with_definitions, operation_definitions, body_definitions, operation_at, operations_from, ends_with_output, has_outputs, left_out_output, with_output, port_meanings, meanings, module_of, design_of}
 use Rattle.mlir_syntax.specs.Spelling.{Stands, IsPlaceOf, OperationPhrase, OperationsPhrase, ModulePhrase, ModulesPhrase, FilePhrase}
 use Rattle.mlir_reader.specs.Spelling.{Spells, SpellsPlacelessly}
 
@@ -43,7 +43,7 @@ abbrev completed_by : Bool → Bool → List Op → List Op
 completed_by ends outs os = cond ends os (cond outs os (os ++ op_without_place (left_out_output start_place) ∷ []))
 
 completed_without : (m : ModuleText) (os : List Op)
-    → map op_without_place (completed m os) ≡ completed_by (ends_with_output m.operations) (has_outputs m.ports) (map op_without_place os)
+    → map op_without_place (with_output m os) ≡ completed_by (ends_with_output m.operations) (has_outputs m.ports) (map op_without_place os)
 completed_without m os = go (ends_with_output m.operations) (has_outputs m.ports)
   where
     go : (a b : Bool) → map op_without_place (cond a os (cond b os (os ++ left_out_output m.close ∷ []))) ≡ completed_by a b (map op_without_place os)

@@ -4,7 +4,7 @@ use Rattle.hw_model.specs.Design.{Design, IsSameDesign}
 use Rattle.mlir_reader.specs.Spelling.{Spells, SpellsPlacelessly}
 use Rattle.mlir_reader.specs.Reading.{text_limit, read}
 use Rattle.mlir_printer.specs.Texts.{modules_shown, ir_text}
-use Rattle.mlir_printer.specs.Spellable.{said}
+use Rattle.mlir_printer.specs.Spellable.{inherent_view}
 use Rattle.mlir_printer.specs.Printable.{Printable}
 use Rattle.mlir_printer.proofs.lexed.LexedModules.{spellable_texts_are_spelled}
 use Rattle.mlir_printer.proofs.again.DesignsAgain.{printable_designs_are_said}
@@ -15,7 +15,7 @@ pub printable_designs_are_spelled : (d : Design) → Printable d → SpellsPlace
 unfolding ir_text
 printable_designs_are_spelled d p =
     let bytes = spellable_texts_are_spelled (modules_shown d) (printable_designs_are_spellable d p) in
-    (map said (modules_shown d), bytes.0, bytes.1, bytes.2, printable_designs_are_said d p)
+    (map inherent_view (modules_shown d), bytes.0, bytes.1, bytes.2, printable_designs_are_said d p)
 
 -- it spells one with the places of its tokens, and is read as that one, since what is spelled is read
 pub printed_designs_are_read_again : ((source : List ℕ) (d : Design) → Spells source d → length source ≤ text_limit → read source ≡ Ok d)

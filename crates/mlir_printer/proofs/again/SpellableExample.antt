@@ -5,14 +5,14 @@ use Rattle.opcode.specs.declared.listed.Listed.TheVariants as listed
 use Rattle.hw_model.specs.Types.{Name, HwType}
 use Rattle.hw_model.specs.Types.HwType.{int}
 use Rattle.mlir_syntax.specs.OperandText.ResultNames.{no_names, names}
-use Rattle.assembly_format.specs.Shapes.{shape_of}
-use Rattle.mlir_syntax.specs.PieceText.Extra.{nothing}
-use Rattle.mlir_printer.specs.Pieces.{ValueText}
-use Rattle.mlir_printer.specs.Operations.{OperationText, shape_shown}
+use Rattle.assembly_format.specs.Formats.{format_of}
+use Rattle.mlir_syntax.specs.ElementText.InherentAttributes.{nothing}
+use Rattle.mlir_printer.specs.Elements.{ValueText}
+use Rattle.mlir_printer.specs.Operations.{OperationText, format_shown}
 use Rattle.mlir_printer.specs.Modules.{ModuleText, file_bytes}
 use Rattle.mlir_printer.specs.Spellable.{IsValueName, IsOperand, IsSpellable, AreSpelled}
 use Rattle.mlir_printer.proofs.lexed.LexedModules.{spellable_texts_are_spelled}
-use Rattle.mlir_printer.proofs.again.SaidForms.{pending, says_variadic, says_joined}
+use Rattle.mlir_printer.proofs.again.ViewForms.{pending, says_variadic, says_joined}
 
 byte : HwType
 byte = int 8
@@ -58,7 +58,7 @@ name_0 : IsValueName (codes "0")
 name_0 = record { some = omega arith; whole = refl }
 
 adder_is_spellable : IsSpellable adder
-unfolding adder addition output byte called shape_shown shape_of
+unfolding adder addition output byte called format_shown format_of
 adder_is_spellable = record {
   symbol = (omega arith, (omega arith, (omega arith, (omega arith, (omega arith, tt)))));
   ports = (

@@ -8,12 +8,12 @@ use Rattle.hw_model.specs.Kinds.{Instance}
 use Rattle.mlir_lexer.specs.declared.token.TokenKind.TheVariants as kind
 use Rattle.mlir_syntax.specs.TypeText.{most_open}
 use Rattle.mlir_syntax.specs.OperandText.{OperandName}
-use Rattle.mlir_syntax.specs.PieceText.{Gathered, Joined, instance_with, with_instance, with_extra, with_types, with_operands}
-use Rattle.mlir_syntax.specs.PieceText.Extra.{child}
+use Rattle.mlir_syntax.specs.ElementText.{Gathered, Joined, instance_with, with_instance, with_inherent, with_types, with_operands}
+use Rattle.mlir_syntax.specs.ElementText.InherentAttributes.{child}
 use Rattle.mlir_syntax.specs.Spelling.{Phrase, Mark, Then, Commas, Between, TypePhrase, InputPhrase, OutputPhrase, InnerSymbol, InstancePhrase}
 use Rattle.mlir_printer.specs.Strings.{symbol_bytes, string_bytes}
 use Rattle.mlir_printer.specs.Commas.{commas}
-use Rattle.mlir_printer.specs.Pieces.{ValueText, InputText, input_bytes, output_bytes, inputs_joined, outputs_joined, inner_bytes, instance_head, connections_bytes, instance_bytes}
+use Rattle.mlir_printer.specs.Elements.{ValueText, InputText, input_bytes, output_bytes, inputs_joined, outputs_joined, inner_bytes, instance_head, connections_bytes, instance_bytes}
 use Rattle.mlir_printer.specs.Spellable.{Each, AreBytes, IsAnyType, IsOperand, MayBeBytes, IsInstance, said_operand}
 use Rattle.mlir_printer.proofs.lexed.LexedTexts.{Stops, Whole, Lexed, lexed, lexed_as, lexed_by, then, then_on, then_whole, nothing, blank_on, blank_behind, left_parenthesis, right_parenthesis}
 use Rattle.mlir_printer.proofs.lexed.LexedStrings.{string_lexed}
@@ -88,7 +88,7 @@ abbrev gathered_of : Gathered → Instance → List OperandName → List HwType 
 gathered_of g i os ts ps qs = record {
   operands = g.operands ++ os;
   types = ts;
-  extra = child (record { name = i.name; inner_symbol = i.inner_symbol; symbol = i.symbol; inputs = ps; outputs = qs });
+  inherent = child (record { name = i.name; inner_symbol = i.inner_symbol; symbol = i.symbol; inputs = ps; outputs = qs });
 }
 
 same_gathered : (g : Gathered) (i : Instance) (os os' : List OperandName) (ts ts' : List HwType) (ps ps' qs qs' : List Name) → os ≡ os' → ts ≡ ts'
@@ -122,7 +122,7 @@ types_out outs = map (λ (q : NamedType). q.type) outs
 
 -- what connections say is what there is
 instance_says : (g : Gathered) (i : Instance) (os : List ValueText) (ts : List HwType) → IsInstance i os ts
-    → with_extra (with_types (with_operands g (map said_operand os)) ts) (child i)
+    → with_inherent (with_types (with_operands g (map said_operand os)) ts) (child i)
     ≡ with_instance g (instance_with i.name i.inner_symbol i.symbol (inputs_of i os ts) (outputs_of i ts)) (inputs_of i os ts) (outputs_of i ts)
 instance_says g i os ts h =
     let types = h.types_count in
@@ -180,7 +180,7 @@ connections_lexed i os ts h =
 
 -- an instance is read as itself
 pub instance_lexed : (g : Gathered) (i : Instance) (os : List ValueText) (ts : List HwType) → IsInstance i os ts
-    → Lexed (InstancePhrase g (with_extra (with_types (with_operands g (map said_operand os)) ts) (child i))) (instance_bytes i os ts)
+    → Lexed (InstancePhrase g (with_inherent (with_types (with_operands g (map said_operand os)) ts) (child i))) (instance_bytes i os ts)
 unfolding instance_bytes instance_head
 instance_lexed g i os ts h =
     let connections = connections_lexed i os ts h in

@@ -17,7 +17,7 @@ use Rattle.mlir_printer.specs.Strings.{symbol_bytes, string_bytes}
 use Rattle.mlir_printer.specs.Commas.{commas}
 use Rattle.mlir_printer.specs.Attributes.{dictionary_bytes}
 use Rattle.mlir_printer.specs.Modules.{PortText, ModuleText, port_name_bytes, input_port_bytes, output_port_bytes, port_bytes_by, port_bytes, private_bytes, header_bytes, module_bytes, modules_bytes, file_bytes}
-use Rattle.mlir_printer.specs.Spellable.{Each, AreBytes, IsAnyType, IsDictionary, MayBeValue, IsSpellablePort, IsSpellable, AreSpelled, said, said_port}
+use Rattle.mlir_printer.specs.Spellable.{Each, AreBytes, IsAnyType, IsDictionary, MayBeValue, IsSpellablePort, IsSpellable, AreSpelled, inherent_view, said_port}
 use Rattle.mlir_printer.proofs.lexed.LexedTexts.{Stops, Whole, Lexed, lexed, lexed_as, whole_as, whole_by, then, then_on, then_whole, closed, nothing, blank_on, blank_on_whole, blank_behind, line_behind, left_brace, right_brace, left_parenthesis, right_parenthesis}
 use Rattle.mlir_printer.proofs.lexed.LexedStrings.{string_lexed}
 use Rattle.mlir_printer.proofs.lexed.LexedNames.{bare_lexed, name_lexed, symbol_lexed, value_name_lexed}
@@ -99,7 +99,7 @@ regrouped : (a b c p d brace x : List ℕ)
     ≡ (a ++ (b ++ (c ++ (codes "(" ++ (p ++ (codes ")" ++ (d ++ brace))))))) ++ x
 regrouped a b c p d brace x = simp append_assoc
 
-module_whole : (m : ModuleText) → IsSpellable m → Whole (ModulePhrase Anywhere (said m)) (module_bytes m)
+module_whole : (m : ModuleText) → IsSpellable m → Whole (ModulePhrase Anywhere (inherent_view m)) (module_bytes m)
 unfolding module_bytes header_bytes
 module_whole m h =
     let body = then_whole open_line (then_whole (operations_whole m.operations h.operations) close_line) in
@@ -110,17 +110,17 @@ module_whole m h =
     whole_by (regrouped (codes "  hw.module ") (private_bytes m.is_private) (symbol_bytes m.symbol) (commas port_bytes m.ports)
     (dictionary_bytes (codes " attributes ") m.dictionary) (codes " {" ++ (10 ∷ [])) _) all
 
-modules_whole : (ms : List ModuleText) → Each IsSpellable ms → Whole (ModulesPhrase Anywhere (map said ms)) (modules_bytes ms)
+modules_whole : (ms : List ModuleText) → Each IsSpellable ms → Whole (ModulesPhrase Anywhere (map inherent_view ms)) (modules_bytes ms)
 modules_whole [] h = nothing
 modules_whole (m ∷ ms) h = then_whole (module_whole m h.0) (modules_whole ms h.1)
 
 -- ---- files
 
-file_whole : (ms : List ModuleText) → Each IsSpellable ms → Whole (FilePhrase Anywhere (map said ms)) (file_bytes ms)
+file_whole : (ms : List ModuleText) → Each IsSpellable ms → Whole (FilePhrase Anywhere (map inherent_view ms)) (file_bytes ms)
 unfolding file_bytes
 file_whole ms h =
     let word : Whole FileWord (codes "module ") = whole_as (λ ts w. inl w) (blank_behind (bare_lexed (codes "module") refl)) in
-    let inside : Whole (Between kind.LeftBrace kind.RightBrace (ModulesPhrase Anywhere (map said ms)))
+    let inside : Whole (Between kind.LeftBrace kind.RightBrace (ModulesPhrase Anywhere (map inherent_view ms)))
     (codes "{" ++ ((10 ∷ []) ++ (modules_bytes ms ++ (codes "}" ++ (10 ∷ []))))) =
     then_whole (line_behind (lexed left_brace)) (then_whole (modules_whole ms h) (line_behind (lexed right_brace))) in
     whole_as (λ ts w. inr ([], w)) (then_whole word (whole_as (λ ts w. ([], ts, refl, inr refl, ([], ts, refl, inr (refl, refl), w))) inside))

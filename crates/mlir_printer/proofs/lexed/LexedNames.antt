@@ -12,7 +12,7 @@ use Rattle.mlir_lexer.specs.declared.token.TokenKind.TheVariants as kind
 use Rattle.mlir_lexer.specs.declared.fronts.Front.TheVariants.{LineEnd, Token, Bad}
 use Rattle.mlir_syntax.specs.Spelling.{One, Word, Holding, NamePhrase, SymbolPhrase, ValueName, TypeWord}
 use Rattle.mlir_printer.specs.Strings.{is_bare, name_bytes, symbol_bytes, string_bytes}
-use Rattle.mlir_printer.specs.Pieces.{value_name_bytes}
+use Rattle.mlir_printer.specs.Elements.{value_name_bytes}
 use Rattle.mlir_printer.specs.Spellable.{AreBytes, IsValueName}
 use Rattle.mlir_printer.proofs.lexed.LexedTexts.{Stops, Lexed, one_token, lexed, lexed_as}
 use Rattle.mlir_printer.proofs.lexed.LexedStrings.{unlike_byte, string_lexed, symbol_string_lexed}

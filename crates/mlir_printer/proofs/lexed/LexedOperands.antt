@@ -7,14 +7,14 @@ use Rattle.hw_model.specs.Kinds.Predicate.{eq, ne, slt, sle, sgt, sge, ult, ule,
 use Rattle.mlir_lexer.specs.Tokens.{Lexeme}
 use Rattle.mlir_lexer.specs.declared.token.TokenKind.{TokenKind}
 use Rattle.mlir_lexer.specs.declared.token.TokenKind.TheVariants as kind
-use Rattle.assembly_format.specs.Shapes.{text_of_keyword}
-use Rattle.mlir_syntax.specs.PieceText.{predicate_named}
+use Rattle.assembly_format.specs.Formats.{text_of_keyword}
+use Rattle.mlir_syntax.specs.ElementText.{predicate_named}
 use Rattle.mlir_syntax.specs.Spelling.{Phrase, Mark, Word, Commas, OperandPhrase}
-use Rattle.assembly_format.specs.declared.pieces.Keyword.{Keyword}
-use Rattle.assembly_format.specs.declared.pieces.Keyword.TheVariants.{From, Clock}
+use Rattle.assembly_format.specs.declared.elements.Keyword.{Keyword}
+use Rattle.assembly_format.specs.declared.elements.Keyword.TheVariants.{From, Clock}
 use Rattle.mlir_printer.specs.Strings.{is_bare}
 use Rattle.mlir_printer.specs.Commas.{commas}
-use Rattle.mlir_printer.specs.Pieces.{ValueText, value_name_bytes, pack_number_bytes, operand_bytes, mark_bytes, word_bytes, predicate_bytes}
+use Rattle.mlir_printer.specs.Elements.{ValueText, value_name_bytes, pack_number_bytes, operand_bytes, mark_bytes, word_bytes, predicate_bytes}
 use Rattle.mlir_printer.specs.Spellable.{Each, IsValueName, IsNumber, IsOperand, IsMark, said_number, said_operand}
 use Rattle.mlir_printer.proofs.lexed.LexedTexts.{Stops, Whole, Lexed, lexed, lexed_as, then, nothing, blank_behind, blank_on_whole, left_parenthesis, right_parenthesis, left_brace, right_brace, left_bracket, right_bracket, less_mark, greater_mark}
 use Rattle.mlir_printer.proofs.lexed.LexedNames.{bare_lexed, value_name_lexed}

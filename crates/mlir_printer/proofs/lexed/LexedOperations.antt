@@ -13,24 +13,24 @@ use Rattle.mlir_lexer.specs.declared.token.TokenKind.{TokenKind}
 use Rattle.mlir_lexer.specs.declared.token.TokenKind.TheVariants as kind
 use Rattle.mlir_syntax.specs.OperandText.{ResultNames}
 use Rattle.mlir_syntax.specs.OperandText.ResultNames.{no_names, names, pack}
-use Rattle.assembly_format.specs.Shapes.{shape_of, front_pieces, type_pieces}
-use Rattle.mlir_syntax.specs.PieceText.{Gathered, gathered_nothing}
+use Rattle.assembly_format.specs.Formats.{format_of, front_elements, type_elements}
+use Rattle.mlir_syntax.specs.ElementText.{Gathered, gathered_nothing}
 use Rattle.mlir_syntax.specs.OperationText.{string_keys, takes_bin}
-use Rattle.mlir_syntax.specs.Spelling.{One, Stands, ResultsPhrase, PiecesPhrase, MaybeDictionary, IsOneOf, FormPhrase, BinPhrase, MayHaveShape, OperationPhrase, OperationsPhrase, ValueName}
-use Rattle.assembly_format.specs.declared.pieces.Piece.{Piece}
-use Rattle.assembly_format.specs.declared.pieces.Shape.{Shape}
-use Rattle.assembly_format.specs.declared.pieces.Shape.TheVariants as shape
+use Rattle.mlir_syntax.specs.Spelling.{One, Stands, ResultsPhrase, ElementsPhrase, MaybeDictionary, IsOneOf, FormPhrase, BinPhrase, MayHaveFormat, OperationPhrase, OperationsPhrase, ValueName}
+use Rattle.assembly_format.specs.declared.elements.FormatElement.{FormatElement}
+use Rattle.assembly_format.specs.declared.elements.Format.{Format}
+use Rattle.assembly_format.specs.declared.elements.Format.TheVariants as format
 use Rattle.mlir_printer.specs.Strings.{is_bare}
 use Rattle.mlir_printer.specs.Attributes.{dictionary_bytes}
-use Rattle.mlir_printer.specs.Pieces.{Pending, ValueText, value_name_bytes, pieces_bytes}
-use Rattle.mlir_printer.specs.Operations.{OperationText, results_bytes, bin_bytes, is_truth_said, output_shape, shape_shown, after_blank, left_behind_all, form_bytes, shaped_bytes, operation_bytes, operation_line, operation_lines}
-use Rattle.mlir_printer.specs.Spellable.{AreResults, IsDictionary, gathered_front, IsSaidAs, IsSpellableOperation, AreSpellable, said_pending, said_operation}
+use Rattle.mlir_printer.specs.Elements.{Pending, ValueText, value_name_bytes, elements_bytes}
+use Rattle.mlir_printer.specs.Operations.{OperationText, results_bytes, bin_bytes, is_truth_view, output_format, format_shown, after_blank, left_behind_all, form_bytes, shaped_bytes, operation_bytes, operation_line, operation_lines}
+use Rattle.mlir_printer.specs.Spellable.{AreResults, IsDictionary, gathered_front, IsViewAs, IsSpellableOperation, AreSpellable, said_pending, said_operation}
 use Rattle.mlir_printer.proofs.lexed.LexedTexts.{Stops, Whole, Lexed, lexed, lexed_as, whole_as, then, then_on, then_whole, closed, nothing, blank, blank_on, line_behind, behind_nothing, with_nothing, colon_mark}
 use Rattle.mlir_printer.proofs.lexed.LexedNames.{bare_lexed, value_name_lexed}
 use Rattle.mlir_printer.proofs.lexed.LexedNumbers.{count_lexed}
 use Rattle.mlir_printer.proofs.lexed.LexedCommas.{blank_equals, commas_lexed, each_of}
 use Rattle.mlir_printer.proofs.lexed.LexedAttributes.{dictionary_lexed}
-use Rattle.mlir_printer.proofs.lexed.LexedPieces.{pieces_lexed, pieces_stop, stops_at, is_parted}
+use Rattle.mlir_printer.proofs.lexed.LexedElements.{elements_lexed, elements_stop, stops_at, is_parted}
 
 -- places are not told
 abbrev pub Anywhere : Stands
@@ -60,104 +60,104 @@ operation_name o place = lexed_as (λ ts w. (w.0, w.1, (w.2.0, w.2.1, tt))) (bar
 
 -- ---- forms
 
-front_parted : (s : Shape) → is_parted (front_pieces s) ≡ true
-unfolding front_pieces
-front_parted shape.Variadic = refl
-front_parted shape.Binary = refl
-front_parted shape.Comparison = refl
-front_parted shape.Unary = refl
-front_parted shape.Extraction = refl
-front_parted shape.Joined = refl
-front_parted shape.Conversion = refl
-front_parted shape.Choice = refl
-front_parted shape.Truth = refl
-front_parted shape.Integer = refl
-front_parted shape.Aggregate = refl
-front_parted shape.Element = refl
-front_parted shape.Slice = refl
-front_parted shape.ElementChange = refl
-front_parted shape.Struct = refl
-front_parted shape.Field = refl
-front_parted shape.FieldChange = refl
-front_parted shape.Instance = refl
-front_parted shape.Nothing = refl
-front_parted shape.Register = refl
-front_parted shape.EnabledRegister = refl
-front_parted shape.ClockedRegister = refl
+front_parted : (s : Format) → is_parted (front_elements s) ≡ true
+unfolding front_elements
+front_parted format.Variadic = refl
+front_parted format.Binary = refl
+front_parted format.Comparison = refl
+front_parted format.Unary = refl
+front_parted format.Extraction = refl
+front_parted format.Joined = refl
+front_parted format.Conversion = refl
+front_parted format.Choice = refl
+front_parted format.Truth = refl
+front_parted format.Integer = refl
+front_parted format.Aggregate = refl
+front_parted format.Element = refl
+front_parted format.Slice = refl
+front_parted format.ElementChange = refl
+front_parted format.Struct = refl
+front_parted format.Field = refl
+front_parted format.FieldChange = refl
+front_parted format.Instance = refl
+front_parted format.Nothing = refl
+front_parted format.Register = refl
+front_parted format.EnabledRegister = refl
+front_parted format.ClockedRegister = refl
 
-types_parted : (s : Shape) → is_parted (type_pieces s) ≡ true
-unfolding type_pieces
-types_parted shape.Variadic = refl
-types_parted shape.Binary = refl
-types_parted shape.Comparison = refl
-types_parted shape.Unary = refl
-types_parted shape.Extraction = refl
-types_parted shape.Joined = refl
-types_parted shape.Conversion = refl
-types_parted shape.Choice = refl
-types_parted shape.Truth = refl
-types_parted shape.Integer = refl
-types_parted shape.Aggregate = refl
-types_parted shape.Element = refl
-types_parted shape.Slice = refl
-types_parted shape.ElementChange = refl
-types_parted shape.Struct = refl
-types_parted shape.Field = refl
-types_parted shape.FieldChange = refl
-types_parted shape.Instance = refl
-types_parted shape.Nothing = refl
-types_parted shape.Register = refl
-types_parted shape.EnabledRegister = refl
-types_parted shape.ClockedRegister = refl
+types_parted : (s : Format) → is_parted (type_elements s) ≡ true
+unfolding type_elements
+types_parted format.Variadic = refl
+types_parted format.Binary = refl
+types_parted format.Comparison = refl
+types_parted format.Unary = refl
+types_parted format.Extraction = refl
+types_parted format.Joined = refl
+types_parted format.Conversion = refl
+types_parted format.Choice = refl
+types_parted format.Truth = refl
+types_parted format.Integer = refl
+types_parted format.Aggregate = refl
+types_parted format.Element = refl
+types_parted format.Slice = refl
+types_parted format.ElementChange = refl
+types_parted format.Struct = refl
+types_parted format.Field = refl
+types_parted format.FieldChange = refl
+types_parted format.Instance = refl
+types_parted format.Nothing = refl
+types_parted format.Register = refl
+types_parted format.EnabledRegister = refl
+types_parted format.ClockedRegister = refl
 
-types_stop : (s : Shape) → stops_at (type_pieces s) ≡ true
-unfolding type_pieces
-types_stop shape.Variadic = refl
-types_stop shape.Binary = refl
-types_stop shape.Comparison = refl
-types_stop shape.Unary = refl
-types_stop shape.Extraction = refl
-types_stop shape.Joined = refl
-types_stop shape.Conversion = refl
-types_stop shape.Choice = refl
-types_stop shape.Truth = refl
-types_stop shape.Integer = refl
-types_stop shape.Aggregate = refl
-types_stop shape.Element = refl
-types_stop shape.Slice = refl
-types_stop shape.ElementChange = refl
-types_stop shape.Struct = refl
-types_stop shape.Field = refl
-types_stop shape.FieldChange = refl
-types_stop shape.Instance = refl
-types_stop shape.Nothing = refl
-types_stop shape.Register = refl
-types_stop shape.EnabledRegister = refl
-types_stop shape.ClockedRegister = refl
+types_stop : (s : Format) → stops_at (type_elements s) ≡ true
+unfolding type_elements
+types_stop format.Variadic = refl
+types_stop format.Binary = refl
+types_stop format.Comparison = refl
+types_stop format.Unary = refl
+types_stop format.Extraction = refl
+types_stop format.Joined = refl
+types_stop format.Conversion = refl
+types_stop format.Choice = refl
+types_stop format.Truth = refl
+types_stop format.Integer = refl
+types_stop format.Aggregate = refl
+types_stop format.Element = refl
+types_stop format.Slice = refl
+types_stop format.ElementChange = refl
+types_stop format.Struct = refl
+types_stop format.Field = refl
+types_stop format.FieldChange = refl
+types_stop format.Instance = refl
+types_stop format.Nothing = refl
+types_stop format.Register = refl
+types_stop format.EnabledRegister = refl
+types_stop format.ClockedRegister = refl
 
 -- a token that is a name of a kind
 sample : TokenKind → Lexeme
 sample k = record { kind = k; place = start_place; at = 0; text = [] }
 
-constant_shape : (b : Bool) → MayHaveShape listed.HwConstant (cond b shape.Truth shape.Integer)
-unfolding shape_of sample
-constant_shape true = (Some (sample kind.BareName), refl)
-constant_shape false = (None, refl)
+constant_format : (b : Bool) → MayHaveFormat listed.HwConstant (cond b format.Truth format.Integer)
+unfolding format_of sample
+constant_format true = (Some (sample kind.BareName), refl)
+constant_format false = (None, refl)
 
-output_may : (os : List ValueText) → MayHaveShape listed.HwOutput (output_shape os)
-unfolding shape_of sample
+output_may : (os : List ValueText) → MayHaveFormat listed.HwOutput (output_format os)
+unfolding format_of sample
 output_may [] = (None, refl)
 output_may (o ∷ os) = (Some (sample kind.ValueName), refl)
 
 -- the form of an operation is one that it has before some token
-may_have : (o : Listed) (p : Pending) → MayHaveShape o (shape_shown o p)
-unfolding shape_shown
-may_have listed.HwConstant p = constant_shape (is_truth_said p.types p.extra)
+may_have : (o : Listed) (p : Pending) → MayHaveFormat o (format_shown o p)
+unfolding format_shown
+may_have listed.HwConstant p = constant_format (is_truth_view p.types p.inherent)
 may_have listed.HwOutput p = output_may p.operands
 may_have _ p = (None, refl)
 
-front_lexed : (xs : List Piece) (p : Pending) (g h : Gathered) → Lexed (PiecesPhrase xs g h) (pieces_bytes xs p)
-    → Lexed (PiecesPhrase xs g h) (after_blank xs (pieces_bytes xs p))
+front_lexed : (xs : List FormatElement) (p : Pending) (g h : Gathered) → Lexed (ElementsPhrase xs g h) (elements_bytes xs p)
+    → Lexed (ElementsPhrase xs g h) (after_blank xs (elements_bytes xs p))
 front_lexed [] p g h one = one
 front_lexed (x ∷ xs) p g h one = blank_on one
 
@@ -183,33 +183,33 @@ unfolding dictionary_bytes
 dictionary_stops front first [] rest stops = stops
 dictionary_stops front first (e ∷ es) rest stops = rw (append_assoc front _ rest) (first _)
 
-front_stops : (xs : List Piece) (p : Pending) (rest : List ℕ) → Stops rest → Stops (after_blank xs (pieces_bytes xs p) ++ rest)
+front_stops : (xs : List FormatElement) (p : Pending) (rest : List ℕ) → Stops rest → Stops (after_blank xs (elements_bytes xs p) ++ rest)
 front_stops [] p rest stops = stops
 front_stops (x ∷ xs) p rest stops = refl
 
 -- what stands after the pieces before the types
-behind_stops : (s : Shape) (p : Pending) (es : List Entry) → IsSaidAs s p
-    → Stops (dictionary_bytes (codes " ") es ++ pieces_bytes (type_pieces s) (left_behind_all (front_pieces s) p))
+behind_stops : (s : Format) (p : Pending) (es : List Entry) → IsViewAs s p
+    → Stops (dictionary_bytes (codes " ") es ++ elements_bytes (type_elements s) (left_behind_all (front_elements s) p))
 behind_stops s p es h =
-    dictionary_stops (codes " ") (λ rest. refl) es (pieces_bytes (type_pieces s) (left_behind_all (front_pieces s) p))
-    (pieces_stop (type_pieces s) (left_behind_all (front_pieces s) p) (gathered_front s p) h.types (types_stop s))
+    dictionary_stops (codes " ") (λ rest. refl) es (elements_bytes (type_elements s) (left_behind_all (front_elements s) p))
+    (elements_stop (type_elements s) (left_behind_all (front_elements s) p) (gathered_front s p) h.types (types_stop s))
 
-form_stops : (s : Shape) (p : Pending) (es : List Entry) → IsSaidAs s p → Stops (form_bytes (front_pieces s) (type_pieces s) p es)
+form_stops : (s : Format) (p : Pending) (es : List Entry) → IsViewAs s p → Stops (form_bytes (front_elements s) (type_elements s) p es)
 unfolding form_bytes
-form_stops s p es h = front_stops (front_pieces s) p _ (behind_stops s p es h)
+form_stops s p es h = front_stops (front_elements s) p _ (behind_stops s p es h)
 
 -- a form is read as itself
-form_lexed : (strings : List Name) (s : Shape) (p : Pending) (es : List Entry) → IsSaidAs s p → IsDictionary strings es
-    → Lexed (FormPhrase strings s (said_pending p) es) (form_bytes (front_pieces s) (type_pieces s) p es)
+form_lexed : (strings : List Name) (s : Format) (p : Pending) (es : List Entry) → IsViewAs s p → IsDictionary strings es
+    → Lexed (FormPhrase strings s (said_pending p) es) (form_bytes (front_elements s) (type_elements s) p es)
 unfolding form_bytes
 form_lexed strings s p es h d =
-    let types = pieces_lexed (type_pieces s) (left_behind_all (front_pieces s) p) (gathered_front s p) h.types (types_parted s) in
-    let said = subst (λ x. Lexed (PiecesPhrase (type_pieces s) (gathered_front s p) x)
-    (pieces_bytes (type_pieces s) (left_behind_all (front_pieces s) p))) h.all types in
-    let behind = then (given_lexed strings es d) (lexed_as with_nothing said)
-    (pieces_stop (type_pieces s) (left_behind_all (front_pieces s) p) (gathered_front s p) h.types (types_stop s)) in
-    let front = front_lexed (front_pieces s) p gathered_nothing (gathered_front s p)
-    (pieces_lexed (front_pieces s) p gathered_nothing h.front (front_parted s)) in
+    let types = elements_lexed (type_elements s) (left_behind_all (front_elements s) p) (gathered_front s p) h.types (types_parted s) in
+    let inherent_view = subst (λ x. Lexed (ElementsPhrase (type_elements s) (gathered_front s p) x)
+    (elements_bytes (type_elements s) (left_behind_all (front_elements s) p))) h.all types in
+    let behind = then (given_lexed strings es d) (lexed_as with_nothing inherent_view)
+    (elements_stop (type_elements s) (left_behind_all (front_elements s) p) (gathered_front s p) h.types (types_stop s)) in
+    let front = front_lexed (front_elements s) p gathered_nothing (gathered_front s p)
+    (elements_lexed (front_elements s) p gathered_nothing h.front (front_parted s)) in
     lexed_as (λ ts w. (gathered_front s p, given es, None, given_once es, w)) (then front behind (behind_stops s p es h))
 
 -- ---- operations
@@ -228,7 +228,7 @@ bin_stops false rest stops = stops
 pub operation_lexed : (o : OperationText) → IsSpellableOperation o → Lexed (OperationPhrase Anywhere (said_operation o)) (operation_bytes o)
 unfolding operation_bytes shaped_bytes
 operation_lexed o h =
-    let s = shape_shown o.name o.pending in
+    let s = format_shown o.name o.pending in
     let form = form_lexed (string_keys o.name) s o.pending o.dictionary h.form h.dictionary in
     let tail = lexed_as (λ ts w. (s, may_have o.name o.pending, w)) form in
     let stops = form_stops s o.pending o.dictionary h.form in

@@ -12,8 +12,8 @@ use Rattle.ir_store.specs.OperationViews.{OpParts}
 use Rattle.mlir_syntax.specs.OperandText.{ResultNames}
 use Rattle.mlir_reader.specs.Resolving.{Definition, names_from, names_defined, port_definitions, port_definition, operation_definitions, body_definitions, own_count}
 use Rattle.mlir_reader.specs.Resolving.Defined.{are_results}
-use Rattle.mlir_printer.specs.Pieces.{ValueText}
-use Rattle.mlir_printer.specs.Naming.{wishes, wishes_of, pack_wishes, name_count, body_wishes, port_wish, port_wishes, input_count, first_name, firsts, is_pack, listed_names, results_named}
+use Rattle.mlir_printer.specs.Elements.{ValueText}
+use Rattle.mlir_printer.specs.Naming.{name_hints, name_hints_of, pack_name_hints, name_count, body_name_hints, port_name_hint, port_name_hints, input_count, first_name, firsts, is_pack, listed_names, results_named}
 use Rattle.mlir_printer.specs.Texts.{parts_in, operations_shown, operation_shown, ports_shown}
 use Rattle.mlir_printer.specs.Spellable.{said_operation, said_port}
 
@@ -59,13 +59,13 @@ pub pack_kind : (k : Kind) (n : ℕ) → is_pack k n ≡ true → (k ≡ (on_str
 pack_kind (on_struct struct_explode) n h = (refl, ltb-true 1 n h)
 pack_kind _ n h = cc
 
-pub pack_named : (k : Kind) (ts : List HwType) (own : Name) (n : ℕ) → is_pack k n ≡ true → length (wishes_of k ts own n) ≡ 1
-unfolding wishes_of
+pub pack_named : (k : Kind) (ts : List HwType) (own : Name) (n : ℕ) → is_pack k n ≡ true → length (name_hints_of k ts own n) ≡ 1
+unfolding name_hints_of
 pack_named k ts own n h =
     let p = pack_kind k n h in
-    ap (λ kind. length (wishes_of kind ts own n)) p.0 ∙ some_fields n p.1
+    ap (λ kind. length (name_hints_of kind ts own n)) p.0 ∙ some_fields n p.1
   where
-    some_fields : (n : ℕ) → 1 < n → length (pack_wishes n) ≡ 1
+    some_fields : (n : ℕ) → 1 < n → length (pack_name_hints n) ≡ 1
     some_fields zero lt = absurd (omega (arith, lt))
     some_fields (suc n) lt = refl
 
@@ -103,19 +103,19 @@ results_names i own o ns = go (is_pack o.kind (length o.results)) refl
 pub ports_names : (j : ℕ) (ns : List Name) (ps : List Port)
     → map name_of (port_definitions j (map said_port (ports_shown ns ps))) ≡ firsts (input_count ps) ns
 ports_names j ns [] = refl
-ports_names j ns (p ∷ ps) = go p.is_output (ports_names (j + 1) (drop (length (port_wish p)) ns) ps)
+ports_names j ns (p ∷ ps) = go p.is_output (ports_names (j + 1) (drop (length (port_name_hint p)) ns) ps)
   where
     go : (b : Bool)
         → map name_of (port_definitions (j + 1) (map said_port (ports_shown (drop (length (cond b [] (Some p.name ∷ []))) ns) ps)))
         ≡ firsts (input_count ps) (drop (length (cond b [] (Some p.name ∷ []))) ns)
         → map name_of (port_definition j (cond b None (Some (first_name ns))) ++ port_definitions (j + 1)
         (map said_port (ports_shown (drop (length (cond b [] (Some p.name ∷ []))) ns) ps)))
-        ≡ firsts (length (cond b [] (Some p.name ∷ []) ++ port_wishes ps)) ns
+        ≡ firsts (length (cond b [] (Some p.name ∷ []) ++ port_name_hints ps)) ns
     go true r = r
     go false r = ap (λ l. first_name ns ∷ l) r
 
 pub body_names : (means : Ref → ValueText) (i : ℕ) (ns : List Name) (os : List Op)
-    → map name_of (body_definitions i (map said_operation (operations_shown means ns os))) ≡ firsts (length (body_wishes (map parts_in os))) ns
+    → map name_of (body_definitions i (map said_operation (operations_shown means ns os))) ≡ firsts (length (body_name_hints (map parts_in os))) ns
 body_names means i ns [] = refl
 body_names means i ns (o ∷ os) =
     let here = said_operation (operation_shown (parts_in o) (map means o.operands) ns) in
@@ -123,5 +123,5 @@ body_names means i ns (o ∷ os) =
     map_append name_of (operation_definitions i here) (body_definitions (i + 1) rest)
     ∙ ap (λ l. l ++ map name_of (body_definitions (i + 1) rest)) (results_names i (own_count here) (parts_in o) ns)
     ∙ ap (λ l. firsts (name_count (parts_in o)) ns ++ l) (body_names means (i + 1) (drop (name_count (parts_in o)) ns) os)
-    ∙ sym (firsts_add (name_count (parts_in o)) (length (body_wishes (map parts_in os))) ns)
-    ∙ sym (ap (λ k. firsts k ns) (length-append (wishes (parts_in o)) (body_wishes (map parts_in os))))
+    ∙ sym (firsts_add (name_count (parts_in o)) (length (body_name_hints (map parts_in os))) ns)
+    ∙ sym (ap (λ k. firsts k ns) (length-append (name_hints (parts_in o)) (body_name_hints (map parts_in os))))

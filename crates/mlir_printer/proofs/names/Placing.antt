@@ -9,11 +9,11 @@ use Rattle.ir_store.specs.BodyOps.{BodyOp, ids_in}
 use Rattle.ir_store.specs.Ids.{times}
 use Rattle.ir_store.specs.Live.{AreDistinct}
 use Rattle.ir_store.specs.Numbered.{position_of}
-use Rattle.mlir_printer.specs.Naming.{first_name, called, is_pack, name_count, port_wish, port_value, value_at, value_in}
-use Rattle.mlir_printer.specs.Pieces.{no_value}
+use Rattle.mlir_printer.specs.Naming.{first_name, called, is_pack, name_count, port_name_hint, port_value, value_at, value_in}
+use Rattle.mlir_printer.specs.Elements.{no_value}
 use Rattle.mlir_printer.specs.Places.{no_place, place_at, place_in, place_for, port_places}
 use Rattle.mlir_printer.specs.Shown.{parts_in_body}
-use Rattle.mlir_printer.specs.Views.{placed, place_value, port_placed}
+use Rattle.mlir_printer.specs.Views.{placed, slot_value, port_placed}
 use Rattle.mlir_printer.specs.declared.value_names.Place.{Place}
 use Rattle.mlir_printer.proofs.steps.Passing.{drop_again}
 
@@ -27,7 +27,7 @@ port_called ns (p ∷ ps) first zero = go p.is_output
     go true = refl
     go false = refl
 port_called ns (p ∷ ps) first (suc j) =
-    port_called ns ps (first + length (port_wish p)) j ∙ ap (λ l. port_value l ps j) (sym (drop_again (length (port_wish p)) first ns))
+    port_called ns ps (first + length (port_name_hint p)) j ∙ ap (λ l. port_value l ps j) (sym (drop_again (length (port_name_hint p)) first ns))
 
 -- ---- results
 
@@ -38,15 +38,15 @@ none_below k = go (nat_lt k 0) refl
     go true e = absurd (omega (arith, ltb-true k 0 e))
     go false e = e
 
-nowhere : (ns : List Name) (k : ℕ) → place_value ns no_place k ≡ no_value
+nowhere : (ns : List Name) (k : ℕ) → slot_value ns no_place k ≡ no_value
 nowhere ns k = ap (λ b. cond b (called (first_name (drop (0 + k) ns))) no_value) (none_below k)
 
-pub table_called : (ns : List Name) (places : List Place) (id k : ℕ) → placed ns (slice_get places id) k ≡ place_value ns (place_for places id) k
+pub table_called : (ns : List Name) (places : List Place) (id k : ℕ) → placed ns (slice_get places id) k ≡ slot_value ns (place_for places id) k
 table_called ns [] id k = sym (nowhere ns k)
 table_called ns (p ∷ places) zero k = refl
 table_called ns (p ∷ places) (suc id) k = table_called ns places id k
 
-at_place : (ns : List Name) (first k : ℕ) (o : OpParts) → place_value ns (place_at first o) k ≡ value_at o (drop first ns) k
+at_place : (ns : List Name) (first k : ℕ) (o : OpParts) → slot_value ns (place_at first o) k ≡ value_at o (drop first ns) k
 at_place ns first k o = go (is_pack o.kind (length o.results))
   where
     go : (b : Bool) →
@@ -57,12 +57,12 @@ at_place ns first k o = go (is_pack o.kind (length o.results))
     go false = ap (λ l. cond (nat_lt k (name_count o)) (called (first_name l)) no_value) (sym (drop_again k first ns))
 
 pub result_called : (ns : List Name) (ops : List BodyOp) (first id k : ℕ)
-    → place_value ns (place_in first ops id) k ≡ value_in (drop first ns) (parts_in_body ops) (position_of (ids_in ops) id) k
+    → slot_value ns (place_in first ops id) k ≡ value_in (drop first ns) (parts_in_body ops) (position_of (ids_in ops) id) k
 result_called ns [] first id k = nowhere ns k
 result_called ns (o ∷ ops) first id k = go (nat_eq o.id id) (result_called ns ops (first + name_count o.parts) id k)
   where
-    go : (b : Bool) → place_value ns (place_in (first + name_count o.parts) ops id) k ≡ value_in (drop (first + name_count o.parts) ns) (parts_in_body ops) (position_of (ids_in ops) id) k
-        → place_value ns (cond b (place_at first o.parts) (place_in (first + name_count o.parts) ops id)) k
+    go : (b : Bool) → slot_value ns (place_in (first + name_count o.parts) ops id) k ≡ value_in (drop (first + name_count o.parts) ns) (parts_in_body ops) (position_of (ids_in ops) id) k
+        → slot_value ns (cond b (place_at first o.parts) (place_in (first + name_count o.parts) ops id)) k
         ≡ value_in (drop first ns) (parts_in_body (o ∷ ops)) (cond b 0 (suc (position_of (ids_in ops) id))) k
     go true rest = at_place ns first k o.parts
     go false rest = rest ∙ ap (λ l. value_in l (parts_in_body ops) (position_of (ids_in ops) id) k) (sym (drop_again (name_count o.parts) first ns))

@@ -6,10 +6,10 @@ use Rattle.hw_model.specs.Types.{Name}
 use Rattle.hw_model.specs.Design.{Ref, Port, Op}
 use Rattle.hw_model.specs.Design.Ref.{port, result}
 use Rattle.ir_store.specs.OperationViews.{OpParts}
-use Rattle.mlir_reader.specs.Resolving.{Meanings, Definition, names_from, names_defined, port_definitions, port_definition, operation_definitions, body_definitions, own_count, ref_in, resolved}
+use Rattle.mlir_reader.specs.Resolving.{Meanings, Definition, names_from, names_defined, port_definitions, port_definition, operation_definitions, body_definitions, own_count, ref_in, resolve_operand}
 use Rattle.mlir_reader.specs.Resolving.Defined.{is_port, are_results}
-use Rattle.mlir_printer.specs.Pieces.{ValueText, no_value}
-use Rattle.mlir_printer.specs.Naming.{name_count, port_wish, first_name, called, firsts, is_pack, value_at, value_in, port_value, results_named}
+use Rattle.mlir_printer.specs.Elements.{ValueText, no_value}
+use Rattle.mlir_printer.specs.Naming.{name_count, port_name_hint, first_name, called, firsts, is_pack, value_at, value_in, port_value, results_named}
 use Rattle.mlir_printer.specs.Texts.{parts_in, operations_shown, operation_shown, ports_shown, port_shown}
 use Rattle.mlir_printer.specs.Spellable.{said_operand, said_operation, said_port}
 use Rattle.mlir_printer.proofs.names.NameTables.{Among, Finds, finds_left, finds_right}
@@ -18,12 +18,12 @@ use Rattle.mlir_printer.proofs.names.NamedDefinitions.{pack_defined, each_define
 -- ---- ports
 
 here_port : (m : Meanings) (j : ℕ) (n : Name) (ds : List Definition) → Finds m (port_definition j (Some n) ++ ds)
-    → resolved m (said_operand (called n)) ≡ port j
+    → resolve_operand m (said_operand (called n)) ≡ port j
 here_port m j n ds f = ap (λ o. ref_in o 0) (f (record { name = n; defined = is_port j }) (inl refl))
 
 pub port_found : (m : Meanings) (ns : List Name) (ps : List Port) (first j : ℕ) (p : Port)
     → Finds m (port_definitions first (map said_port (ports_shown ns ps))) → slice_get ps j ≡ Some p → p.is_output ≡ false
-    → resolved m (said_operand (port_value ns ps j)) ≡ port (first + j)
+    → resolve_operand m (said_operand (port_value ns ps j)) ≡ port (first + j)
 port_found m ns [] first j p f at input = cc
 port_found m ns (q ∷ ps) first zero p f at input =
     let same : q ≡ p = cc in
@@ -34,14 +34,14 @@ port_found m ns (q ∷ ps) first zero p f at input =
     go : (b : Bool) → b ≡ false
         → Finds m (port_definition first (cond b None (Some (first_name ns))) ++ port_definitions (first + 1)
         (map said_port (ports_shown (drop (length (cond b [] (Some q.name ∷ []))) ns) ps)))
-        → resolved m (said_operand (cond b no_value (called (first_name ns)))) ≡ port first
+        → resolve_operand m (said_operand (cond b no_value (called (first_name ns)))) ≡ port first
     go true e g = cc
     go false e g = here_port m first (first_name ns) (port_definitions (first + 1) (map said_port (ports_shown (drop 1 ns) ps))) g
 port_found m ns (q ∷ ps) first (suc j) p f at input =
     let s : first + 1 + j ≡ first + suc j = omega arith in
-    port_found m (drop (length (port_wish q)) ns) ps (first + 1) j p
+    port_found m (drop (length (port_name_hint q)) ns) ps (first + 1) j p
     (finds_right m (port_definition first (port_shown ns q).value)
-    (port_definitions (first + 1) (map said_port (ports_shown (drop (length (port_wish q)) ns) ps))) f) at input
+    (port_definitions (first + 1) (map said_port (ports_shown (drop (length (port_name_hint q)) ns) ps))) f) at input
     ∙ ap (λ k. port k) s
 
 -- ---- results
@@ -70,10 +70,10 @@ pub record AreCounted (own : ℕ) (o : OpParts) : Type 0 where
 
 pub result_at : (m : Meanings) (i own k : ℕ) (o : OpParts) (ns : List Name)
     → Finds m (names_defined i own (results_named o ns)) → AreCounted own o → k < length o.results
-    → resolved m (said_operand (value_at o ns k)) ≡ result i k
+    → resolve_operand m (said_operand (value_at o ns k)) ≡ result i k
 result_at m i own k o ns f counts lt = go (is_pack o.kind (length o.results)) refl
   where
-    go : (b : Bool) → is_pack o.kind (length o.results) ≡ b → resolved m (said_operand (value_at o ns k)) ≡ result i k
+    go : (b : Bool) → is_pack o.kind (length o.results) ≡ b → resolve_operand m (said_operand (value_at o ns k)) ≡ result i k
     go true h =
         let all : List Definition = record { name = first_name ns; defined = are_results i 0 (min (length o.results) own) } ∷ [] in
         let g : Finds m all = subst (λ ds. Finds m ds) (pack_defined i own o ns h) f in
@@ -83,7 +83,7 @@ result_at m i own k o ns f counts lt = go (is_pack o.kind (length o.results)) re
         ap (λ b. cond b (cond (nat_lt k (length o.results)) (record { name = first_name ns; number = Some k }) no_value)
         (cond (nat_lt k (name_count o)) (called (first_name (drop k ns))) no_value)) h
         ∙ ap (λ b. cond b (record { name = first_name ns; number = Some k }) no_value) (lt-ltb k (length o.results) lt) in
-        ap (λ x. resolved m (said_operand x)) v
+        ap (λ x. resolve_operand m (said_operand x)) v
         ∙ ap (λ d. ref_in d k) (g (record { name = first_name ns; defined = are_results i 0 (min (length o.results) own) }) (inl refl))
         ∙ ap (λ b. cond b (result i (0 + k)) Ref.undefined) (lt-ltb k (min (length o.results) own) within)
         ∙ ap (λ j. result i j) z
@@ -95,7 +95,7 @@ result_at m i own k o ns f counts lt = go (is_pack o.kind (length o.results)) re
         ap (λ b. cond b (cond (nat_lt k (length o.results)) (record { name = first_name ns; number = Some k }) no_value)
         (cond (nat_lt k (name_count o)) (called (first_name (drop k ns))) no_value)) h
         ∙ ap (λ b. cond b (called (first_name (drop k ns))) no_value) (lt-ltb k (name_count o) c) in
-        ap (λ x. resolved m (said_operand x)) v
+        ap (λ x. resolve_operand m (said_operand x)) v
         ∙ ap (λ d. ref_in d 0) (g (record { name = first_name (drop k ns); defined = are_results i (0 + k) 1 }) (names_among i 0 (name_count o) k ns c))
         ∙ ap (λ j. result i j) z
 
@@ -103,7 +103,7 @@ pub result_found : (m : Meanings) (means : Ref → ValueText) (ns : List Name) (
     → Finds m (body_definitions first (map said_operation (operations_shown means ns os))) → slice_get os i ≡ Some o
     → ((x : Op) (ms : List Name) → Among x os → AreCounted (own_count (said_operation (operation_shown (parts_in x) (map means x.operands) ms))) (parts_in x))
     → k < length o.results
-    → resolved m (said_operand (value_in ns (map parts_in os) i k)) ≡ result (first + i) k
+    → resolve_operand m (said_operand (value_in ns (map parts_in os) i k)) ≡ result (first + i) k
 result_found m means ns [] first i k o f at counts lt = cc
 result_found m means ns (x ∷ os) first zero k o f at counts lt =
     let same : x ≡ o = cc in

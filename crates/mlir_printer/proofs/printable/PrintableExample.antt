@@ -8,7 +8,7 @@ use Rattle.hw_model.specs.Design.{Port, Module, nowhere_place}
 use Rattle.hw_model.specs.Design.Ref.{port, result}
 use Rattle.ir_store.specs.ResultTypes.{result_types, result_type}
 use Rattle.mlir_reader.specs.Spelling.{SpellsPlacelessly}
-use Rattle.mlir_printer.specs.Naming.{wishes_of}
+use Rattle.mlir_printer.specs.Naming.{name_hints_of}
 use Rattle.mlir_printer.specs.Texts.{ir_text}
 use Rattle.mlir_printer.specs.Printable.{operands_written, types_written, Printable}
 use Rattle.mlir_printer.proofs.again.PrintedDesigns.{printable_designs_are_spelled}
@@ -53,7 +53,7 @@ adder = record {
 }
 
 adder_is_printable : Printable (adder ∷ [])
-unfolding adder byte input operands_written types_written result_types result_type wishes_of
+unfolding adder byte input operands_written types_written result_types result_type name_hints_of
 adder_is_printable = (
   record {
     symbol = (omega arith, (omega arith, (omega arith, (omega arith, (omega arith, tt)))));

@@ -18,17 +18,17 @@ use Rattle.mlir_syntax.specs.Numerals.{count_limit}
 use Rattle.mlir_syntax.specs.TypeText.{most_open}
 use Rattle.mlir_syntax.specs.OperandText.{ResultNames, named_count}
 use Rattle.mlir_syntax.specs.OperandText.ResultNames.{no_names, names, pack}
-use Rattle.mlir_syntax.specs.PieceText.{Extra, Gathered, gathered_nothing}
-use Rattle.mlir_syntax.specs.PieceText.Extra.{child}
-use Rattle.assembly_format.specs.Shapes.{front_pieces, type_pieces}
+use Rattle.mlir_syntax.specs.ElementText.{InherentAttributes, Gathered, gathered_nothing}
+use Rattle.mlir_syntax.specs.ElementText.InherentAttributes.{child}
+use Rattle.assembly_format.specs.Formats.{front_elements, type_elements}
 use Rattle.mlir_syntax.specs.OperationText.{OperationText}
 use Rattle.mlir_syntax.specs.ModuleText.{PortText, ModuleText, module_keys}
-use Rattle.mlir_reader.specs.Resolving.{Meanings, said_instance, said_kind, kind_named, with_definitions, operation_definitions, operation_at, operations_from, port_definition, ports_from, no_meaning, port_meanings, meanings, ends_with_output, has_outputs, left_out_output, completed, module_of, design_of}
-use Rattle.mlir_syntax.specs.Spelling.{Phrase, Either, Holding, Where, Nothing, Stands, IsPlaceOf, Commas, ValueName, OutputPhrase, PiecePhrase, PiecesPhrase, ResultsPhrase, OperationPhrase, OperationsPhrase, PortPhrase, AttributesPhrase, ModulePhrase, ModulesPhrase, FilePhrase}
+use Rattle.mlir_reader.specs.Resolving.{Meanings, said_instance, said_kind, kind_named, with_definitions, operation_definitions, operation_at, operations_from, port_definition, ports_from, no_meaning, port_meanings, meanings, ends_with_output, has_outputs, left_out_output, with_output, module_of, design_of}
+use Rattle.mlir_syntax.specs.Spelling.{Phrase, Either, Holding, Where, Nothing, Stands, IsPlaceOf, Commas, ValueName, OutputPhrase, FormatElementPhrase, ElementsPhrase, ResultsPhrase, OperationPhrase, OperationsPhrase, PortPhrase, AttributesPhrase, ModulePhrase, ModulesPhrase, FilePhrase}
 use Rattle.mlir_reader.specs.Spelling.{Spells}
-use Rattle.assembly_format.specs.declared.pieces.Piece.{Piece}
-use Rattle.assembly_format.specs.declared.pieces.Piece.TheVariants as piece
-use Rattle.mlir_printer.specs.Naming.{wishes, wishes_of, pack_wishes, body_wishes, port_wishes}
+use Rattle.assembly_format.specs.declared.elements.FormatElement.{FormatElement}
+use Rattle.assembly_format.specs.declared.elements.FormatElement.TheVariants as element
+use Rattle.mlir_printer.specs.Naming.{name_hints, name_hints_of, pack_name_hints, body_name_hints, port_name_hints}
 use Rattle.mlir_printer.specs.Texts.{parts_in}
 use Rattle.mlir_printer.specs.Spellable.{Each, AreBytes, IsAnyType}
 use Rattle.mlir_printer.specs.Printable.{IsKeptDictionary}
@@ -79,7 +79,7 @@ port_some p ts (inr h) =
 -- ---- names are few
 
 -- how many outputs are said
-abbrev outputs_said : Extra → ℕ
+abbrev outputs_said : InherentAttributes → ℕ
 outputs_said (child i) = length i.outputs
 outputs_said _ = 0
 
@@ -87,45 +87,45 @@ abbrev outputs_of : Kind → ℕ
 outputs_of (instance i) = length i.outputs
 outputs_of _ = 0
 
-instance_outputs : (e : Extra) → length (said_instance e).outputs ≤ outputs_said e
+instance_outputs : (e : InherentAttributes) → length (said_instance e).outputs ≤ outputs_said e
 instance_outputs (child i) = omega arith
 instance_outputs _ = omega arith
 
-kind_outputs : (o : Listed) (e : Extra) (ts : List HwType) → outputs_of (kind_named o e ts) ≤ outputs_said e
+kind_outputs : (o : Listed) (e : InherentAttributes) (ts : List HwType) → outputs_of (kind_named o e ts) ≤ outputs_said e
 unfolding said_kind
 kind_outputs listed.HwInstance e ts = instance_outputs e
 kind_outputs _ e ts = omega arith
 
-wishes_few : (k : Kind) (ts : List HwType) (own : Name) (n m : ℕ) → 1 ≤ m → outputs_of k ≤ m → length (wishes_of k ts own n) ≤ m
-unfolding wishes_of
-wishes_few output ts own n m some few = omega arith
-wishes_few (on_struct struct_explode) ts own n m some few = go n
+name_hints_few : (k : Kind) (ts : List HwType) (own : Name) (n m : ℕ) → 1 ≤ m → outputs_of k ≤ m → length (name_hints_of k ts own n) ≤ m
+unfolding name_hints_of
+name_hints_few output ts own n m some few = omega arith
+name_hints_few (on_struct struct_explode) ts own n m some few = go n
   where
-    go : (n : ℕ) → length (pack_wishes n) ≤ m
+    go : (n : ℕ) → length (pack_name_hints n) ≤ m
     go zero = omega arith
     go (suc n) = some
-wishes_few (instance i) ts own n m some few = let e = instance_length i.name i.outputs in omega (arith, e, few)
-wishes_few _ ts own n m some few = some
+name_hints_few (instance i) ts own n m some few = let e = instance_length i.name i.outputs in omega (arith, e, few)
+name_hints_few _ ts own n m some few = some
 
-said_none : (g h : Gathered) (n : ℕ) → outputs_said h.extra ≡ 0 → outputs_said h.extra ≤ outputs_said g.extra + n
+said_none : (g h : Gathered) (n : ℕ) → outputs_said h.inherent ≡ 0 → outputs_said h.inherent ≤ outputs_said g.inherent + n
 said_none g h n e = omega (arith, e)
 
-said_same : (g h : Gathered) (n : ℕ) → h.extra ≡ g.extra → outputs_said h.extra ≤ outputs_said g.extra + n
+said_same : (g h : Gathered) (n : ℕ) → h.inherent ≡ g.inherent → outputs_said h.inherent ≤ outputs_said g.inherent + n
 said_same g h n e = let f = ap outputs_said e in omega (arith, f)
 
-piece_few : (p : Piece) (g h : Gathered) (ts : List Lexeme) → PiecePhrase p g h ts → outputs_said h.extra ≤ outputs_said g.extra + length ts
-piece_few (piece.Mark k) g h ts i = said_same g h (length ts) (ap (λ (x : Gathered). x.extra) i.0)
-piece_few (piece.Word w) g h ts i = said_same g h (length ts) (ap (λ (x : Gathered). x.extra) i.0)
-piece_few piece.Operand g h ts i = said_same g h (length ts) (ap (λ (x : Gathered). x.extra) i.1)
-piece_few piece.Operands g h ts i = said_same g h (length ts) (ap (λ (x : Gathered). x.extra) i.2)
-piece_few piece.Group g h ts i = said_same g h (length ts) (ap (λ (x : Gathered). x.extra) i.1)
-piece_few piece.Predicate g h ts i = said_none g h (length ts) (ap (λ (x : Gathered). outputs_said x.extra) i.2)
-piece_few piece.Number g h ts i = said_none g h (length ts) (ap (λ (x : Gathered). outputs_said x.extra) i.1)
-piece_few piece.Truth g h ts i = said_none g h (length ts) (ap (λ (x : Gathered). outputs_said x.extra) i.1)
-piece_few piece.Integer g h ts i = said_none g h (length ts) (ap (λ (x : Gathered). outputs_said x.extra) i.1)
-piece_few piece.Literals g h ts i = said_none g h (length ts) (ap (λ (x : Gathered). outputs_said x.extra) i.1)
-piece_few piece.Field g h ts i = said_none g h (length ts) (ap (λ (x : Gathered). outputs_said x.extra) i.1)
-piece_few piece.Instance g h ts i =
+element_few : (p : FormatElement) (g h : Gathered) (ts : List Lexeme) → FormatElementPhrase p g h ts → outputs_said h.inherent ≤ outputs_said g.inherent + length ts
+element_few (element.Mark k) g h ts i = said_same g h (length ts) (ap (λ (x : Gathered). x.inherent) i.0)
+element_few (element.Word w) g h ts i = said_same g h (length ts) (ap (λ (x : Gathered). x.inherent) i.0)
+element_few element.Operand g h ts i = said_same g h (length ts) (ap (λ (x : Gathered). x.inherent) i.1)
+element_few element.Operands g h ts i = said_same g h (length ts) (ap (λ (x : Gathered). x.inherent) i.2)
+element_few element.Group g h ts i = said_same g h (length ts) (ap (λ (x : Gathered). x.inherent) i.1)
+element_few element.Predicate g h ts i = said_none g h (length ts) (ap (λ (x : Gathered). outputs_said x.inherent) i.2)
+element_few element.Number g h ts i = said_none g h (length ts) (ap (λ (x : Gathered). outputs_said x.inherent) i.1)
+element_few element.Truth g h ts i = said_none g h (length ts) (ap (λ (x : Gathered). outputs_said x.inherent) i.1)
+element_few element.Integer g h ts i = said_none g h (length ts) (ap (λ (x : Gathered). outputs_said x.inherent) i.1)
+element_few element.Literals g h ts i = said_none g h (length ts) (ap (λ (x : Gathered). outputs_said x.inherent) i.1)
+element_few element.Field g h ts i = said_none g h (length ts) (ap (λ (x : Gathered). outputs_said x.inherent) i.1)
+element_few element.Instance g h ts i =
     let a = i.6 in
     let c1 = parts_count ts a.0 a.1 a.2 in
     let b = a.4 in
@@ -141,28 +141,28 @@ piece_few piece.Instance g h ts i =
     let q = r.4 in
     let c7 = parts_count r.1 q.0 q.1 q.2 in
     let few = commas_few OutputPhrase output_some i.4 q.0 q.3 in
-    let n = ap (λ (x : Gathered). outputs_said x.extra) i.5 in
+    let n = ap (λ (x : Gathered). outputs_said x.inherent) i.5 in
     let m = length-map i.4 (λ (t : NamedType). t.name) in
     omega (arith, c1, c2, c3, c4, c5, c6, c7, few, n, m)
-piece_few piece.Reset g h ts (inl i) = said_none g h (length ts) (ap (λ (x : Gathered). outputs_said x.extra) i.2)
-piece_few piece.Reset g h ts (inr i) = said_same g h (length ts) (ap (λ (x : Gathered). x.extra) i.0)
-piece_few piece.SyncReset g h ts (inl i) = said_none g h (length ts) (ap (λ (x : Gathered). outputs_said x.extra) i.2)
-piece_few piece.SyncReset g h ts (inr i) = said_same g h (length ts) (ap (λ (x : Gathered). x.extra) i.0)
-piece_few piece.Type g h ts i = said_same g h (length ts) (ap (λ (x : Gathered). x.extra) i.1)
-piece_few piece.Types g h ts i = said_same g h (length ts) (ap (λ (x : Gathered). x.extra) i.1)
+element_few element.Reset g h ts (inl i) = said_none g h (length ts) (ap (λ (x : Gathered). outputs_said x.inherent) i.2)
+element_few element.Reset g h ts (inr i) = said_same g h (length ts) (ap (λ (x : Gathered). x.inherent) i.0)
+element_few element.SyncReset g h ts (inl i) = said_none g h (length ts) (ap (λ (x : Gathered). outputs_said x.inherent) i.2)
+element_few element.SyncReset g h ts (inr i) = said_same g h (length ts) (ap (λ (x : Gathered). x.inherent) i.0)
+element_few element.Type g h ts i = said_same g h (length ts) (ap (λ (x : Gathered). x.inherent) i.1)
+element_few element.Types g h ts i = said_same g h (length ts) (ap (λ (x : Gathered). x.inherent) i.1)
 
-pieces_few : (ps : List Piece) (g h : Gathered) (ts : List Lexeme) → PiecesPhrase ps g h ts → outputs_said h.extra ≤ outputs_said g.extra + length ts
-pieces_few [] g h ts i = said_same g h (length ts) (ap (λ (x : Gathered). x.extra) i.0)
-pieces_few (p ∷ ps) g h ts i =
+elements_few : (ps : List FormatElement) (g h : Gathered) (ts : List Lexeme) → ElementsPhrase ps g h ts → outputs_said h.inherent ≤ outputs_said g.inherent + length ts
+elements_few [] g h ts i = said_same g h (length ts) (ap (λ (x : Gathered). x.inherent) i.0)
+elements_few (p ∷ ps) g h ts i =
     let t = i.1 in
     let c = parts_count ts t.0 t.1 t.2 in
-    let first = piece_few p g i.0 t.0 t.3 in
-    let more = pieces_few ps i.0 h t.1 t.4 in
+    let first = element_few p g i.0 t.0 t.3 in
+    let more = elements_few ps i.0 h t.1 t.4 in
     omega (arith, c, first, more)
 
 -- an operation takes no more names than it has tokens, and names fewer results than the limit
 record HasFew (n : ℕ) (o : Op) : Type 0 where
-  wanted : length (wishes (parts_in o)) ≤ n
+  wanted : length (name_hints (parts_in o)) ≤ n
   named : o.named < count_limit
 
 names_few : (r : ResultNames) (ts : List Lexeme) → length ts < count_limit → ResultsPhrase r ts → named_count r < count_limit
@@ -190,13 +190,13 @@ op_few At o ts m earlier i small h =
     let c5 = parts_count p.1 q.0 q.1 q.2 in
     let r = q.4 in
     let c6 = parts_count q.1 r.0 r.1 r.2 in
-    let front = pieces_few (front_pieces c.4.0) gathered_nothing f.0 p.0 p.3 in
-    let types = pieces_few (type_pieces c.4.0) f.0 o.gathered r.0 r.3 in
-    let said = kind_outputs o.name o.gathered.extra o.gathered.types in
+    let front = elements_few (front_elements c.4.0) gathered_nothing f.0 p.0 p.3 in
+    let types = elements_few (type_elements c.4.0) f.0 o.gathered r.0 r.3 in
+    let inherent_view = kind_outputs o.name o.gathered.inherent o.gathered.types in
     let x = operation_at m earlier i o in
     record {
-      wanted = wishes_few x.kind x.types x.name (length x.results) (length ts) (omega (arith, c1, c2, one))
-          (omega (arith, c1, c2, c3, c4, c5, c6, front, types, said));
+      wanted = name_hints_few x.kind x.types x.name (length x.results) (length ts) (omega (arith, c1, c2, one))
+          (omega (arith, c1, c2, c3, c4, c5, c6, front, types, inherent_view));
       named = names_few o.results a.0 (omega (arith, c1, small)) a.3;
     }
 
@@ -206,7 +206,7 @@ op_few At o ts m earlier i small h =
 record IsReadBody (n : ℕ) (os : List Op) : Type 0 where
   each : Each IsReadOp os
   named : Each (λ (o : Op). o.named < count_limit) os
-  wanted : length (body_wishes (map parts_in os)) ≤ n
+  wanted : length (body_name_hints (map parts_in os)) ≤ n
 
 body_read : (At : Stands) (os : List OperationText) (ts : List Lexeme) (m earlier : Meanings) (i : ℕ) → AreTexts ts → length ts < count_limit
     → OperationsPhrase At os ts → IsReadBody (length ts) (operations_from m earlier i os)
@@ -224,7 +224,7 @@ body_read At (o ∷ os) ts m earlier i texts small h =
     record {
       each = (op_read At o a.0 m earlier i s.0 a.3, rest.each);
       named = (few.named, rest.named);
-      wanted = omega (arith, length-append (wishes (parts_in x)) (body_wishes (map parts_in xs)), wanted, more, c);
+      wanted = omega (arith, length-append (name_hints (parts_in x)) (body_name_hints (map parts_in xs)), wanted, more, c);
     }
 
 left_out_read : (place : code.Place) → IsReadOp (left_out_output place)
@@ -243,17 +243,17 @@ left_out_read place = record {
 
 -- with the output that a text leaves out
 with_left_out : (n : ℕ) (os : List Op) (place : code.Place) → IsReadBody n os → IsReadBody n (os ++ left_out_output place ∷ [])
-unfolding wishes_of
+unfolding name_hints_of
 with_left_out n [] place h = record { each = (left_out_read place, tt); named = (omega arith, tt); wanted = omega arith }
 with_left_out n (o ∷ os) place h =
     let w = h.wanted in
-    let l = length-append (wishes (parts_in o)) (body_wishes (map parts_in os)) in
-    let rest = with_left_out (length (body_wishes (map parts_in os))) os place (record { each = h.each.1; named = h.named.1; wanted = omega arith }) in
+    let l = length-append (name_hints (parts_in o)) (body_name_hints (map parts_in os)) in
+    let rest = with_left_out (length (body_name_hints (map parts_in os))) os place (record { each = h.each.1; named = h.named.1; wanted = omega arith }) in
     let more = rest.wanted in
-    let k = length-append (wishes (parts_in o)) (body_wishes (map parts_in (os ++ left_out_output place ∷ []))) in
+    let k = length-append (name_hints (parts_in o)) (body_name_hints (map parts_in (os ++ left_out_output place ∷ []))) in
     record { each = (h.each.0, rest.each); named = (h.named.0, rest.named); wanted = omega (arith, k, l, more, w) }
 
-completed_read : (n : ℕ) (m : ModuleText) (os : List Op) → IsReadBody n os → IsReadBody n (completed m os)
+completed_read : (n : ℕ) (m : ModuleText) (os : List Op) → IsReadBody n os → IsReadBody n (with_output m os)
 completed_read n m os h = go (ends_with_output m.operations) (has_outputs m.ports)
   where
     go : (a b : Bool) → IsReadBody n (cond a os (cond b os (os ++ left_out_output m.close ∷ [])))
@@ -301,14 +301,14 @@ ports_read : (earlier : Meanings) (j : ℕ) (ps : List PortText) → Each IsRead
 ports_read earlier j [] h = tt
 ports_read earlier j (p ∷ ps) h = (record { name = h.0.0; type = h.0.1 }, ports_read (with_definitions earlier (port_definition j p.value)) (j + 1) ps h.1)
 
-ports_few : (earlier : Meanings) (j : ℕ) (ps : List PortText) → length (port_wishes (ports_from earlier j ps)) ≤ length ps
+ports_few : (earlier : Meanings) (j : ℕ) (ps : List PortText) → length (port_name_hints (ports_from earlier j ps)) ≤ length ps
 ports_few earlier j [] = omega arith
 ports_few earlier j (p ∷ ps) = go (not (is_some p.value)) (ports_few (with_definitions earlier (port_definition j p.value)) (j + 1) ps)
   where
     rest : List Port
     rest = ports_from (with_definitions earlier (port_definition j p.value)) (j + 1) ps
 
-    go : (b : Bool) → length (port_wishes rest) ≤ length ps → length (cond b [] (Some p.name ∷ []) ++ port_wishes rest) ≤ suc (length ps)
+    go : (b : Bool) → length (port_name_hints rest) ≤ length ps → length (cond b [] (Some p.name ∷ []) ++ port_name_hints rest) ≤ suc (length ps)
     go true r = omega (arith, r)
     go false r = omega (arith, r)
 
@@ -321,7 +321,7 @@ pub record IsReadModule (m : Module) : Type 0 where
   pub dictionary : IsKeptDictionary listed.HwModule module_keys m.dictionary
   pub operations : Each IsReadOp m.body
   pub named : Each (λ (o : Op). o.named < count_limit) m.body
-  pub few : length (port_wishes m.ports ++ body_wishes (map parts_in m.body)) < 2 ^ 64
+  pub few : length (port_name_hints m.ports ++ body_name_hints (map parts_in m.body)) < 2 ^ 64
 
 attributes_read : (es : List Entry) (ts : List Lexeme) → AreTexts ts → AttributesPhrase es ts → IsReadDictionary module_keys es
 attributes_read es ts texts (inl h) = dictionary_read module_keys es h.1 (parts_of ts h.0 h.1 h.2 texts).1 h.4
@@ -369,7 +369,7 @@ module_read At m ts texts small h =
       named = whole.named;
       few = omega (
         arith,
-        length-append (port_wishes (module_of m).ports) (body_wishes (map parts_in (module_of m).body)),
+        length-append (port_name_hints (module_of m).ports) (body_name_hints (map parts_in (module_of m).body)),
         ports,
         port_tokens,
         wanted,

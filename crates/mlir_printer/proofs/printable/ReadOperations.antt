@@ -23,19 +23,19 @@ use Rattle.mlir_syntax.specs.Numerals.{count_limit}
 use Rattle.mlir_syntax.specs.AttributeText.{is_among}
 use Rattle.mlir_syntax.specs.OperandText.{ResultNames}
 use Rattle.mlir_syntax.specs.OperandText.ResultNames.{no_names, names, pack}
-use Rattle.mlir_syntax.specs.PieceText.{Extra, Gathered, gathered_nothing}
-use Rattle.mlir_syntax.specs.PieceText.Extra.{position, number, literals, field_name, child}
-use Rattle.assembly_format.specs.Shapes.{front_pieces, type_pieces}
-use Rattle.assembly_format.specs.declared.pieces.Shape.{Shape}
+use Rattle.mlir_syntax.specs.ElementText.{InherentAttributes, Gathered, gathered_nothing}
+use Rattle.mlir_syntax.specs.ElementText.InherentAttributes.{position, number, literals, field_name, child}
+use Rattle.assembly_format.specs.Formats.{front_elements, type_elements}
+use Rattle.assembly_format.specs.declared.elements.Format.{Format}
 use Rattle.mlir_syntax.specs.OperationText.{OperationText, takes_bin, string_keys, given_entries}
 use Rattle.mlir_reader.specs.Resolving as read
-use Rattle.mlir_reader.specs.Resolving.{Meanings, resolved, has_negative, kept_number, kept_integer, kept_by_first, kept_literal, kept_literals, said_position, said_number, said_literals, said_field, said_instance, said_kind, kind_named, sorted, without, is_dropped, has_name, is_name_entry, kept_entries, text_in, given_name, unless_digits, name_or, own_name_of, marks, marked_results, operation_definitions, operation_at}
+use Rattle.mlir_reader.specs.Resolving.{Meanings, resolve_operand, has_negative, kept_number, kept_integer, kept_by_first, kept_literal, kept_literals, said_position, said_number, said_literals, said_field, said_instance, said_kind, kind_named, sort_entries, without, is_dropped, has_name, is_name_entry, kept_entries, text_in, given_name, unless_digits, name_or, own_name_of, marks, marked_results, operation_definitions, operation_at}
 use Rattle.mlir_syntax.specs.Spelling.{Stands, AreOnce, DictionaryPhrase, EntryPhrase, MaybeDictionary, IsOneOf, FormPhrase, BinPhrase, ResultsPhrase, StandsInBody, OperationPhrase}
 use Rattle.mlir_printer.specs.Spellable.{Each, AreBytes, IsInteger, IsAnyType, IsLiteral, AreLiterals, IsValue, IsEntry}
 use Rattle.mlir_printer.specs.Printable.{AreInOrder, IsKeptDictionary, KeepsConstants, IsWritten, IsWrittenInstance}
 use Rattle.mlir_printer.proofs.again.DictionariesFit.{put_in_order, each_put}
 use Rattle.mlir_printer.proofs.printable.ReadBytes.{AreTexts, parts_of, held_bytes, each_read, entry_read}
-use Rattle.mlir_printer.proofs.printable.ReadPieces.{each_weaker, IsReadExtra, IsReadPart, pieces_read}
+use Rattle.mlir_printer.proofs.printable.ReadElements.{each_weaker, IsReadInherentAttributes, IsReadPart, elements_read}
 
 -- ---- dictionaries
 
@@ -93,13 +93,13 @@ none_left test (e ∷ es) = go (test e) refl (none_left test es)
     go true h r = r
     go false h r = (h, r)
 
-each_sorted : (P : Entry → Type 0) (es : List Entry) → Each P es → Each P (sorted es)
+each_sorted : (P : Entry → Type 0) (es : List Entry) → Each P es → Each P (sort_entries es)
 each_sorted P [] h = tt
-each_sorted P (e ∷ es) h = each_put P e (sorted es) h.0 (each_sorted P es h.1)
+each_sorted P (e ∷ es) h = each_put P e (sort_entries es) h.0 (each_sorted P es h.1)
 
-sorted_in_order : (es : List Entry) → AreApart es → AreInOrder (sorted es)
+sorted_in_order : (es : List Entry) → AreApart es → AreInOrder (sort_entries es)
 sorted_in_order [] h = tt
-sorted_in_order (e ∷ es) h = put_in_order e (sorted es) (sorted_in_order es h.1) (each_sorted (λ (x : Entry). same_name e.key x.key ≡ false) es h.0)
+sorted_in_order (e ∷ es) h = put_in_order e (sort_entries es) (sorted_in_order es h.1) (each_sorted (λ (x : Entry). same_name e.key x.key ≡ false) es h.0)
 
 -- a dictionary as it is read
 pub record IsReadDictionary (strings : List Name) (es : List Entry) : Type 0 where
@@ -197,38 +197,38 @@ mutual
 
 -- ---- kinds
 
-listed_again : (o : Listed) (e : Extra) (ts : List HwType) → StandsInBody o → opcode_of (kind_named o e ts) ≡ o
+listed_again : (o : Listed) (e : InherentAttributes) (ts : List HwType) → StandsInBody o → opcode_of (kind_named o e ts) ≡ o
 unfolding said_kind
 listed_again listed.HwModule e ts h = absurd h
 listed_again _ e ts h = refl
 
-constants_kept : (o : Listed) (e : Extra) (ts : List HwType) → KeepsConstants (kind_named o e ts) ts
+constants_kept : (o : Listed) (e : InherentAttributes) (ts : List HwType) → KeepsConstants (kind_named o e ts) ts
 unfolding said_kind
 constants_kept listed.HwConstant e ts = by_first_kept ts (said_number e)
 constants_kept listed.HwAggregateConstant e ts = literals_kept (said_literals e)
 constants_kept _ e ts = tt
 
-position_written : (e : Extra) → IsReadExtra e → said_position e < count_limit
+position_written : (e : InherentAttributes) → IsReadInherentAttributes e → said_position e < count_limit
 position_written (position n) h = h
 position_written _ h = omega arith
 
-number_written : (e : Extra) → IsReadExtra e → IsInteger (said_number e)
+number_written : (e : InherentAttributes) → IsReadInherentAttributes e → IsInteger (said_number e)
 number_written (number z) h = h
 number_written _ h = omega arith
 
-literals_written : (e : Extra) → IsReadExtra e → AreLiterals (said_literals e) 31
+literals_written : (e : InherentAttributes) → IsReadInherentAttributes e → AreLiterals (said_literals e) 31
 literals_written (literals ls) h = h
 literals_written _ h = tt
 
-field_written : (e : Extra) → IsReadExtra e → AreBytes (said_field e)
+field_written : (e : InherentAttributes) → IsReadInherentAttributes e → AreBytes (said_field e)
 field_written (field_name name) h = h
 field_written _ h = tt
 
-instance_written : (e : Extra) → IsReadExtra e → IsWrittenInstance (said_instance e)
+instance_written : (e : InherentAttributes) → IsReadInherentAttributes e → IsWrittenInstance (said_instance e)
 instance_written (child i) h = h
 instance_written _ h = record { name = tt; inner = tt; symbol = tt; inputs = tt; outputs = tt }
 
-kind_written : (o : Listed) (e : Extra) (ts : List HwType) → IsReadExtra e → IsWritten (kind_named o e ts)
+kind_written : (o : Listed) (e : InherentAttributes) (ts : List HwType) → IsReadInherentAttributes e → IsWritten (kind_named o e ts)
 unfolding said_kind
 kind_written listed.CombExtract e ts h = position_written e h
 kind_written listed.HwConstant e ts h = by_first_small ts (said_number e) (number_written e h)
@@ -300,18 +300,18 @@ record IsReadTail (strings : List Name) (g : Gathered) (es : List Entry) : Type 
   part : IsReadPart g
   dictionary : IsReadDictionary strings es
 
-form_read : (strings : List Name) (shape : Shape) (h : Gathered) (es : List Entry) (ts : List Lexeme) → AreTexts ts → FormPhrase strings shape h es ts
+form_read : (strings : List Name) (format : Format) (h : Gathered) (es : List Entry) (ts : List Lexeme) → AreTexts ts → FormPhrase strings format h es ts
     → IsReadTail strings h es
-form_read strings shape h es ts texts f =
+form_read strings format h es ts texts f =
     let a = f.4 in
     let s1 = parts_of ts a.0 a.1 a.2 texts in
     let b = a.4 in
     let s2 = parts_of a.1 b.0 b.1 b.2 s1.1 in
     let c = b.4 in
     let s3 = parts_of b.1 c.0 c.1 c.2 s2.1 in
-    let front = pieces_read (front_pieces shape) gathered_nothing f.0 a.0 s1.0 (record { types = tt; extra = tt }) a.3 in
+    let front = elements_read (front_elements format) gathered_nothing f.0 a.0 s1.0 (record { types = tt; inherent = tt }) a.3 in
     record {
-      part = pieces_read (type_pieces shape) f.0 h c.0 s3.0 front c.3;
+      part = elements_read (type_elements format) f.0 h c.0 s3.0 front c.3;
       dictionary = one_read strings f.1 f.2 es f.3 (maybe_read strings f.1 b.0 s2.0 b.3) (maybe_read strings f.2 c.1 s3.1 c.4);
     }
 
@@ -326,16 +326,16 @@ op_read At o ts means earlier i texts h =
     let s3 = parts_of b.1 c.0 c.1 c.2 s2.1 in
     let f = c.4 in
     let tail = form_read (string_keys o.name) f.0 o.gathered o.dictionary c.1 s3.1 f.2 in
-    let k = kind_named o.name o.gathered.extra o.gathered.types in
-    let same : opcode_of k ≡ o.name = listed_again o.name o.gathered.extra o.gathered.types h.0 in
+    let k = kind_named o.name o.gathered.inherent o.gathered.types in
+    let same : opcode_of k ≡ o.name = listed_again o.name o.gathered.inherent o.gathered.types h.0 in
     record {
       again = marks earlier (operation_definitions i o);
       results =
           ap (λ n. marked_results (result_types k o.gathered.types n) (marks earlier (operation_definitions i o)))
-          (sym (length-map o.gathered.operands (resolved means)));
+          (sym (length-map o.gathered.operands (resolve_operand means)));
       readable = tail.part.types;
-      kept = constants_kept o.name o.gathered.extra o.gathered.types;
-      written = kind_written o.name o.gathered.extra o.gathered.types tail.part.extra;
+      kept = constants_kept o.name o.gathered.inherent o.gathered.types;
+      written = kind_written o.name o.gathered.inherent o.gathered.types tail.part.inherent;
       nameless = λ e. cond-false (has_name o.name) (name_or (given_name o.dictionary) (read.first_name o.results)) [] (ap has_name (sym same) ∙ e);
       name = own_bytes o.name o.results (string_keys o.name) o.dictionary (first_bytes o.results a.0 s1.0 a.3) tail.dictionary.each;
       dictionary =

@@ -3,15 +3,15 @@ use Rattle.std.proofs.Common.{◌≡◌, ℕ, zero, suc, ◌+◌, ◌<◌, ◌�
 use Rattle.std.proofs.lemmas.List.{drop_more, append-nil, drop_all}
 use Rattle.hw_model.specs.Types.{Name, HwType}
 use Rattle.hw_model.specs.TypeViews.{type_of}
-use Rattle.assembly_format.specs.declared.pieces.Piece.{Piece}
+use Rattle.assembly_format.specs.declared.elements.FormatElement.{FormatElement}
 use Rattle.mlir_printer.specs.Commas.{comma_bytes, items_from}
-use Rattle.mlir_printer.specs.Pieces.{ValueText, input_bytes, output_bytes, inputs_joined, outputs_joined, operands_taken, types_taken, left_behind}
-use Rattle.mlir_printer.specs.Views.{value_held, pending_of, extra_of}
+use Rattle.mlir_printer.specs.Elements.{ValueText, input_bytes, output_bytes, inputs_joined, outputs_joined, operands_taken, types_taken, left_behind}
+use Rattle.mlir_printer.specs.Views.{value_held, pending_of, inherent_of}
 use Rattle.mlir_printer.specs.declared.value_names.ValueNames.{ValueNames}
-use Rattle.mlir_printer.specs.declared.said.Pending.{Pending}
+use Rattle.mlir_printer.specs.declared.inherent_view.Pending.{Pending}
 use Rattle.std.proofs.Math.Seq.{drop-nil}
 use Rattle.hw_model.specs.Design.{Port}
-use Rattle.mlir_printer.specs.Naming.{port_wish}
+use Rattle.mlir_printer.specs.Naming.{port_name_hint}
 use Rattle.mlir_printer.specs.Modules.{port_bytes}
 use Rattle.mlir_printer.specs.Texts.{port_shown, ports_shown}
 use Rattle.mlir_printer.proofs.steps.Steps.{added}
@@ -47,15 +47,15 @@ outputs_step h ps ts i p t out one two whole lp lt ap' at inv e1 e2 =
     (sym (ap (λ l. out ++ items_from output_bytes i l) d) ∙ inv) e1 e2
 
 -- what is left after a piece, as it is seen
-pub pending_behind : (v : ValueNames) (p : Piece) (l m : Pending) → m.operands.now ≡ drop (operands_taken p) l.operands.now
-    → m.types.now ≡ drop (types_taken p) l.types.now → m.said ≡ l.said → pending_of v m ≡ left_behind p (pending_of v l)
+pub pending_behind : (v : ValueNames) (p : FormatElement) (l m : Pending) → m.operands.now ≡ drop (operands_taken p) l.operands.now
+    → m.types.now ≡ drop (types_taken p) l.types.now → m.inherent_view ≡ l.inherent_view → pending_of v m ≡ left_behind p (pending_of v l)
 pending_behind v p l m e f g =
     let os : map (value_held v) m.operands.now ≡ drop (operands_taken p) (map (value_held v) l.operands.now) =
     ap (map (value_held v)) e ∙ map_drop (value_held v) (operands_taken p) l.operands.now in
     let ts : map type_of m.types.now ≡ drop (types_taken p) (map type_of l.types.now) = ap (map type_of) f ∙ map_drop type_of (types_taken p) l.types.now in
-    ap (λ x. record { operands = x; types = map type_of m.types.now; extra = extra_of m.said }) os
-    ∙ ap (λ x. record { operands = drop (operands_taken p) (map (value_held v) l.operands.now); types = x; extra = extra_of m.said }) ts
-    ∙ ap (λ x. record { operands = drop (operands_taken p) (map (value_held v) l.operands.now); types = drop (types_taken p) (map type_of l.types.now); extra = extra_of x }) g
+    ap (λ x. record { operands = x; types = map type_of m.types.now; inherent = inherent_of m.inherent_view }) os
+    ∙ ap (λ x. record { operands = drop (operands_taken p) (map (value_held v) l.operands.now); types = x; inherent = inherent_of m.inherent_view }) ts
+    ∙ ap (λ x. record { operands = drop (operands_taken p) (map (value_held v) l.operands.now); types = drop (types_taken p) (map type_of l.types.now); inherent = inherent_of x }) g
 
 inputs_no_operands : (ps : List Name) (ts : List HwType) → inputs_joined ps [] ts ≡ []
 inputs_no_operands [] ts = refl
@@ -102,7 +102,7 @@ drop_again k (suc f) (x ∷ xs) = let e : suc (f + k) ≡ suc f + k = omega arit
 
 -- the port at a position is added
 pub ports_step : {A : Type 0} (view : A → Port) (ns : List Name) (xs : List A) (i first k : ℕ) (x : A) (out one two whole : List ℕ) → i < length xs → x ≡ get_or xs i x
-    → k ≡ length (port_wish (view x)) → out ++ items_from port_bytes i (ports_shown (drop first ns) (map view (drop i xs))) ≡ whole
+    → k ≡ length (port_name_hint (view x)) → out ++ items_from port_bytes i (ports_shown (drop first ns) (map view (drop i xs))) ≡ whole
     → one ≡ out ++ comma_bytes i → two ≡ one ++ port_bytes (port_shown (drop first ns) (view x))
     → two ++ items_from port_bytes (i + 1) (ports_shown (drop (first + k) ns) (map view (drop (i + 1) xs))) ≡ whole
 ports_step view ns xs i first k x out one two whole lt at count inv e1 e2 =

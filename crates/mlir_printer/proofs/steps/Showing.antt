@@ -10,7 +10,7 @@ use Rattle.ir_store.specs.BodyOps.{BodyOp, ids_in}
 use Rattle.ir_store.specs.Numbered.{position_of, ref_by, op_by, numbered}
 use Rattle.ir_store.specs.Designs.{StoredModule, numbered_module}
 use Rattle.mlir_printer.specs.Naming.{name_count, input_count, names_given, value_named}
-use Rattle.mlir_printer.specs.Pieces.{ValueText}
+use Rattle.mlir_printer.specs.Elements.{ValueText}
 use Rattle.mlir_printer.specs.Operations.{OperationText, operation_line, operation_lines}
 use Rattle.mlir_printer.specs.Modules.{ModuleText, header_bytes, module_bytes}
 use Rattle.mlir_printer.specs.Texts.{parts_in, operation_shown, operations_shown, module_named, module_shown}

@@ -12,13 +12,13 @@ use Rattle.circt_top.proofs.run.run_circt.Goals as goal
 
 pub returns-in-Err-Reserved-clause-report : goal.returns-in-Err-Reserved-clause-report
 returns-in-Err-Reserved-clause-report g c =
-    stopped_ends g.E.Sink.told g.E.Sink.faults (map string_bytes c.args.words.now) (g.F.Files.files c.args.files.now) c.stopped.result c.args.err.now c.stopped.new.err
-    (rw c.stopped.ensures.status tt) (rw c.stopped.ensures.status c.stopped.ensures.report)
+    stopped_ends g.E.Sink.told g.E.Sink.faults (map string_bytes c.args.words.now) (g.F.Files.files c.args.files.now) c.stop.result c.args.err.now c.stop.new.err
+    (rw c.stop.ensures.status tt) (rw c.stop.ensures.status c.stop.ensures.report)
 
 pub returns-in-Err-NoMemory-clause-report : goal.returns-in-Err-NoMemory-clause-report
 returns-in-Err-NoMemory-clause-report g c =
-    stopped_ends g.E.Sink.told g.E.Sink.faults (map string_bytes c.args.words.now) (g.F.Files.files c.args.files.now) c.stopped-in-Err-NoMemory.result c.args.err.now c.stopped-in-Err-NoMemory.new.err
-    (rw c.stopped-in-Err-NoMemory.ensures.status tt) (rw c.stopped-in-Err-NoMemory.ensures.status c.stopped-in-Err-NoMemory.ensures.report)
+    stopped_ends g.E.Sink.told g.E.Sink.faults (map string_bytes c.args.words.now) (g.F.Files.files c.args.files.now) c.stop-in-Err-NoMemory.result c.args.err.now c.stop-in-Err-NoMemory.new.err
+    (rw c.stop-in-Err-NoMemory.ensures.status tt) (rw c.stop-in-Err-NoMemory.ensures.status c.stop-in-Err-NoMemory.ensures.report)
 
 pub returns-in-Ok-read_line-clause-refused : goal.returns-in-Ok-read_line-clause-refused
 returns-in-Ok-read_line-clause-refused g c =
@@ -79,10 +79,10 @@ returns-in-Ok-read_line-clause-missing g c = λ p h missing.
 
 pub returns-in-Err-Usage-clause-report : goal.returns-in-Err-Usage-clause-report
 returns-in-Err-Usage-clause-report g c =
-    stopped_ends g.E.Sink.told g.E.Sink.faults (map string_bytes c.args.words.now) (g.F.Files.files c.args.files.now) c.stopped-in-Err-Usage.result c.args.err.now c.stopped-in-Err-Usage.new.err
-    (rw c.stopped-in-Err-Usage.ensures.status tt) (rw c.stopped-in-Err-Usage.ensures.status c.stopped-in-Err-Usage.ensures.report)
+    stopped_ends g.E.Sink.told g.E.Sink.faults (map string_bytes c.args.words.now) (g.F.Files.files c.args.files.now) c.stop-in-Err-Usage.result c.args.err.now c.stop-in-Err-Usage.new.err
+    (rw c.stop-in-Err-Usage.ensures.status tt) (rw c.stop-in-Err-Usage.ensures.status c.stop-in-Err-Usage.ensures.report)
 
 pub returns-clause-report : goal.returns-clause-report
 returns-clause-report g c =
-    stopped_ends g.E.Sink.told g.E.Sink.faults (map string_bytes c.args.words.now) (g.F.Files.files c.args.files.now) c.stopped-in-Err-NoMemory-read_line.result c.args.err.now c.stopped-in-Err-NoMemory-read_line.new.err
-    (rw c.stopped-in-Err-NoMemory-read_line.ensures.status tt) (rw c.stopped-in-Err-NoMemory-read_line.ensures.status c.stopped-in-Err-NoMemory-read_line.ensures.report)
+    stopped_ends g.E.Sink.told g.E.Sink.faults (map string_bytes c.args.words.now) (g.F.Files.files c.args.files.now) c.stop-in-Err-NoMemory-read_line.result c.args.err.now c.stop-in-Err-NoMemory-read_line.new.err
+    (rw c.stop-in-Err-NoMemory-read_line.ensures.status tt) (rw c.stop-in-Err-NoMemory-read_line.ensures.status c.stop-in-Err-NoMemory-read_line.ensures.report)

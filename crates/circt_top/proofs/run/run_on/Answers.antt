@@ -10,11 +10,11 @@ use Rattle.circt_top.proofs.run.run_on.Goals as goal
 
 pub returns-in-Err-clause-report : goal.returns-in-Err-clause-report
 returns-in-Err-clause-report g c =
-    subst (λ (p : Paths). (source : List ℕ) × OnRefused c.unread-status.result (λ r. IsReadOf (told_at p.input (g.F.Files.files c.args.files.now)) source) × Reports g.E.Sink.told g.E.Sink.faults c.args.err.now c.report.new.err (line_of p source c.unread-status.result)) c.paths_of-paths.ensures
-    ([], rw c.unread-status.ensures (unread_refuses _ c.in-Err.fail), c.report.ensures)
+    subst (λ (p : Paths). (source : List ℕ) × OnRefused c.read_failure-status.result (λ r. IsReadOf (told_at p.input (g.F.Files.files c.args.files.now)) source) × Reports g.E.Sink.told g.E.Sink.faults c.args.err.now c.report.new.err (line_of p source c.read_failure-status.result)) c.paths_of-paths.ensures
+    ([], rw c.read_failure-status.ensures (unread_refuses _ c.in-Err.fail), c.report.ensures)
 
 pub returns-in-Err-clause-missing : goal.returns-in-Err-clause-missing
-returns-in-Err-clause-missing g c = λ missing. rw c.unread-status.ensures (unread_ends c.in-Err.fail)
+returns-in-Err-clause-missing g c = λ missing. rw c.read_failure-status.ensures (unread_ends c.in-Err.fail)
 
 pub returns-clause-missing : goal.returns-clause-missing
 returns-clause-missing g c =
@@ -31,7 +31,7 @@ returns-clause-refused g c =
     (refused_on _ _ c.answer-status.result (λ r. refused_whole (command_of c.args.invocation.now) c.paths_of-paths.result.input.now (g.F.Files.files c.args.files.now) c.as_bytes.result.now r read) c.answer-status.ensures.refused)
 
 pub returns-in-Err-clause-read_once : goal.returns-in-Err-clause-read_once
-returns-in-Err-clause-read_once g c = rw c.unread-status.ensures (unread_refuses _ c.in-Err.fail)
+returns-in-Err-clause-read_once g c = rw c.read_failure-status.ensures (unread_refuses _ c.in-Err.fail)
 
 pub returns-clause-read_once : goal.returns-clause-read_once
 returns-clause-read_once g c =

@@ -3,7 +3,7 @@ use Rattle.verilog_model.specs.Tree.Item.{assign}
 use Rattle.verilog_expr.specs.Expressions.{own_expr}
 use Rattle.verilog_expr.specs.Scopes.{scope_ports, scope_ops, scope_ref}
 use Rattle.verilog_expr.specs.Named.{named_of}
-use Rattle.export_verilog.specs.Keys.{name_or_nothing}
+use Rattle.export_verilog.specs.Identifiers.{name_or_nothing}
 use Rattle.export_verilog.specs.Layout.{item_text}
 use Rattle.export_verilog.specs.Written.{written}
 use Rattle.export_verilog.specs.Values.{value_expr}

@@ -4,7 +4,7 @@ use Rattle.ir_store.specs.Designs.{port_of}
 use Rattle.ir_store.specs.Numbered.{position_of}
 use Rattle.verilog_expr.specs.Scopes.{scope_ids, scope_ref}
 use Rattle.verilog_expr.specs.Named.{named_of}
-use Rattle.export_verilog.specs.Keys.{name_or_nothing}
+use Rattle.export_verilog.specs.Identifiers.{name_or_nothing}
 use Rattle.export_verilog.specs.Values.{value_expr}
 use Rattle.export_verilog.specs.Written.{connections_left}
 use Rattle.export_verilog.specs.Joined.{joined}

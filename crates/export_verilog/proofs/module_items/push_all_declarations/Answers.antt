@@ -2,9 +2,9 @@ use Rattle.std.specs.Prelude.{[]}
 use Rattle.std.proofs.Common.{◌≡◌, ◌<◌, ◌++◌, length, slice_get, ap, ◌∙◌, arith}
 use Rattle.hw_model.specs.KindViews.{kind_of}
 use Rattle.verilog_expr.specs.Scopes.{scope_ports, scope_ops, op_read}
-use Rattle.export_verilog.specs.Keys.{role_of}
-use Rattle.export_verilog.specs.RoleViews.{role_seen}
-use Rattle.export_verilog.specs.Held.{role_by}
+use Rattle.export_verilog.specs.Identifiers.{emission_of}
+use Rattle.export_verilog.specs.EmissionViews.{emission_seen}
+use Rattle.export_verilog.specs.Held.{emission_by}
 use Rattle.export_verilog.specs.Exported.{declares, declared_as}
 use Rattle.export_verilog.specs.Layout.{items_text}
 use Rattle.export_verilog.specs.ScopeModules.{scope_module}
@@ -24,11 +24,11 @@ loop-place-preserved c =
     let i = c.loop-place.place in
     let o = c.op_at-op.result in
     let x = op_read s o in
-    let r = role_seen c.role_of-role.result in
+    let r = emission_seen c.emission_of-emission.result in
     let lt : i < length O = omega (arith, c.loop-place-test.true, c.count-place-end.ensures) in
-    let role : r ≡ role_of (scope_ports s) O i x = c.role_of-role.ensures ∙ ap (λ b. role_by b (kind_of o.kind.now)) (c.has_wire.ensures ∙ c.args.writer.now.wires_are i lt) in
+    let emission : r ≡ emission_of (scope_ports s) O i x = c.emission_of-emission.ensures ∙ ap (λ b. emission_by b (kind_of o.kind.now)) (c.has_wire.ensures ∙ c.args.writer.now.wires_are i lt) in
     each_step (declares m) O i x (declared_as m i x r) c.loop-place.out c.push_declarations.new.out (c.args.out.now ++ each_left (declares m) O 0) c.op_at-op.ensures
-    (ap (declared_as m i x) role) (c.in_ok-push_declarations.ensures ∙ ap (λ j. c.loop-place.out ++ items_text (declared_as m j x r) []) c.id_at.ensures) c.loop-place.invariant
+    (ap (declared_as m i x) emission) (c.in_ok-push_declarations.ensures ∙ ap (λ j. c.loop-place.out ++ items_text (declared_as m j x r) []) c.id_at.ensures) c.loop-place.invariant
 
 pub returns : goal.returns
 returns c =

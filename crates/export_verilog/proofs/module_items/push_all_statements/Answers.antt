@@ -2,9 +2,9 @@ use Rattle.std.proofs.Common.{◌≡◌, ◌<◌, ◌++◌, length, ap, ◌∙�
 use Rattle.hw_model.specs.KindViews.{kind_of}
 use Rattle.ir_store.specs.Designs.{design_of}
 use Rattle.verilog_expr.specs.Scopes.{scope_ports, scope_ops, op_read}
-use Rattle.export_verilog.specs.Keys.{role_of}
-use Rattle.export_verilog.specs.RoleViews.{role_seen}
-use Rattle.export_verilog.specs.Held.{role_by}
+use Rattle.export_verilog.specs.Identifiers.{emission_of}
+use Rattle.export_verilog.specs.EmissionViews.{emission_seen}
+use Rattle.export_verilog.specs.Held.{emission_by}
 use Rattle.export_verilog.specs.Exported.{states, stated_as}
 use Rattle.export_verilog.specs.ScopeModules.{scope_module}
 use Rattle.export_verilog.proofs.text.ItemLists.{each_left, each_step, each_end}
@@ -22,11 +22,11 @@ loop-place-preserved c =
     let i = c.loop-place.place in
     let o = c.op_at-op.result in
     let x = op_read s o in
-    let r = role_seen c.role_of-role.result in
+    let r = emission_seen c.emission_of-emission.result in
     let lt : i < length O = omega (arith, c.loop-place-test.true, c.count-place-end.ensures) in
-    let role : r ≡ role_of (scope_ports s) O i x = c.role_of-role.ensures ∙ ap (λ b. role_by b (kind_of o.kind.now)) (c.has_wire.ensures ∙ c.args.writer.now.wires_are i lt) in
+    let emission : r ≡ emission_of (scope_ports s) O i x = c.emission_of-emission.ensures ∙ ap (λ b. emission_by b (kind_of o.kind.now)) (c.has_wire.ensures ∙ c.args.writer.now.wires_are i lt) in
     each_step (states d m) O i x (stated_as d m i x r) c.loop-place.out c.push_statements.new.out (c.args.out.now ++ each_left (states d m) O 0) c.op_at-op.ensures
-    (ap (stated_as d m i x) role) c.in_ok-push_statements.ensures c.loop-place.invariant
+    (ap (stated_as d m i x) emission) c.in_ok-push_statements.ensures c.loop-place.invariant
 
 pub returns : goal.returns
 returns c =

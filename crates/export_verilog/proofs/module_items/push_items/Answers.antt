@@ -3,7 +3,7 @@ use Rattle.std.specs.Prelude.{[]}
 use Rattle.hw_model.specs.Design.{output_refs}
 use Rattle.ir_store.specs.Designs.{design_of}
 use Rattle.verilog_expr.specs.Scopes.{scope_ports}
-use Rattle.export_verilog.specs.Keys.{each}
+use Rattle.export_verilog.specs.Identifiers.{each}
 use Rattle.export_verilog.specs.Exported.{declares, states, output_assigns}
 use Rattle.export_verilog.specs.Layout.{items_text}
 use Rattle.export_verilog.specs.ScopeModules.{scope_module}

@@ -9,8 +9,8 @@ use Rattle.ir_store.specs.Numbered.{position_of}
 use Rattle.verilog_expr.specs.Scopes.{scope_ids, op_read}
 use Rattle.verilog_expr.specs.Named.{named_of}
 use Rattle.export_verilog.specs.Held.{ArePortNames}
-use Rattle.export_verilog.specs.Keys.{name_or_nothing, key_text}
-use Rattle.export_verilog.specs.Keys.Key.{value_key, instance_key}
+use Rattle.export_verilog.specs.Identifiers.{name_or_nothing, identifier_text}
+use Rattle.export_verilog.specs.Identifiers.Identifier.{value_identifier, instance_identifier}
 use Rattle.export_verilog.specs.Exported.{connections_to, instance_of}
 use Rattle.export_verilog.specs.Joined.{joined}
 use Rattle.export_verilog.specs.Layout.{items_text}
@@ -38,9 +38,9 @@ returns-in_ok-push_instance c =
     let values = c.args.writer.now.names_are.values_are in
     let given : ℕ → Name = λ k. name_or_nothing (named_of v (result j k)) in
     let kind : instance_in (kind_of c.args.op.now.kind.now) ≡ Some x = ap (λ k. instance_in (kind_of k)) c.in-Instance.is ∙ ap (λ y. Some (instance_seen y)) (sym c.deref.ensures) in
-    let own_is : own ≡ key_text m (instance_key i) =
-    c.as_bytes-in-Instance.ensures ∙ c.index.ensures ∙ get_or_from_slice_get c.args.writer.now.names.own.items i (key_text m (instance_key i)) _ (c.args.writer.now.names_are.own_are i o x c.requires.there kind) in
-    let results : (k : ℕ) → given k ≡ key_text m (value_key i k) = λ k. ap (λ n. name_or_nothing (named_of v (result n k))) c.requires.id ∙ ap name_or_nothing (values (result i k)) in
+    let own_is : own ≡ identifier_text m (instance_identifier i) =
+    c.as_bytes-in-Instance.ensures ∙ c.index.ensures ∙ get_or_from_slice_get c.args.writer.now.names.own.items i (identifier_text m (instance_identifier i)) _ (c.args.writer.now.names_are.own_are i o x c.requires.there kind) in
+    let results : (k : ℕ) → given k ≡ identifier_text m (value_identifier i k) = λ k. ap (λ n. name_or_nothing (named_of v (result n k))) c.requires.id ∙ ap name_or_nothing (values (result i k)) in
     let joins : joined (value_expr s v) given 0 port_names (map port_of called.ports.now) o.operands ≡ connections_to (find_module d q) m i o =
     joined_same m i (value_expr s v) given (used_same s v values) results (find_module d q) o port_names (map port_of called.ports.now) c.callee_of-called.ensures.ports
     c.chosen_names-port_names.ensures.0 (subst (λ ps. ArePortNames ps port_names) c.callee_of-called.ensures.ports c.chosen_names-port_names.ensures.1) in

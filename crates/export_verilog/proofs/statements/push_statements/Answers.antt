@@ -4,7 +4,7 @@ use Rattle.ir_store.specs.Numbered.{position_of}
 use Rattle.verilog_expr.specs.Scopes.{scope_ids, op_read}
 use Rattle.export_verilog.specs.Exported.{stated_as}
 use Rattle.export_verilog.specs.Layout.{items_text}
-use Rattle.export_verilog.specs.RoleViews.{role_seen}
+use Rattle.export_verilog.specs.EmissionViews.{emission_seen}
 use Rattle.export_verilog.specs.ScopeModules.{scope_module}
 use Rattle.export_verilog.proofs.text.SameStatements.{net_same, variable_same}
 use Rattle.export_verilog.proofs.statements.push_statements.Goals as goal
@@ -18,7 +18,7 @@ returns-in_ok-push_net-in-Net c =
     let o = op_read s c.args.op.now in
     c.in_ok-push_net-in-Net.ensures
     ∙ ap (λ is. c.args.out.now ++ items_text is [])
-    (net_same s c.args.writer.now.names.values c.args.writer.now.names_are.values_are d i (position_of (scope_ids s) c.args.id.index) o c.requires.id ∙ ap (λ r. stated_as d (scope_module s) i o (role_seen r)) (sym c.in-Net.is))
+    (net_same s c.args.writer.now.names.values c.args.writer.now.names_are.values_are d i (position_of (scope_ids s) c.args.id.index) o c.requires.id ∙ ap (λ r. stated_as d (scope_module s) i o (emission_seen r)) (sym c.in-Net.is))
 
 pub returns-in_ok-push_register-in-Variable : goal.returns-in_ok-push_register-in-Variable
 returns-in_ok-push_register-in-Variable c =
@@ -29,4 +29,4 @@ returns-in_ok-push_register-in-Variable c =
     c.in_ok-push_register-in-Variable.ensures
     ∙ ap (λ is. c.args.out.now ++ items_text is [])
     (variable_same s c.args.writer.now.names.values c.args.writer.now.names_are.values_are d i (position_of (scope_ids s) c.args.id.index) o c.requires.id c.name_text-name.result.now c.name_text-name.ensures
-    ∙ ap (λ r. stated_as d (scope_module s) i o (role_seen r)) (sym c.in-Variable.is))
+    ∙ ap (λ r. stated_as d (scope_module s) i o (emission_seen r)) (sym c.in-Variable.is))

@@ -1,6 +1,6 @@
 use Rattle.std.proofs.Common.{◌≡◌, ◌+◌, ◌-◌, ◌++◌, drop}
 use Rattle.mlir_printer.specs.Commas.{items_from, commas}
-use Rattle.mlir_printer.specs.Pieces.{value_name_bytes}
+use Rattle.mlir_printer.specs.Elements.{value_name_bytes}
 use Rattle.mlir_printer.specs.Naming.{firsts}
 use Rattle.mlir_printer.specs.Views.{names_held}
 use Rattle.mlir_printer.proofs.operations.push_listed.Given as goal

@@ -44,7 +44,7 @@ loop-id-preserved c =
     record {
       live = All-tail live c.in-Some.id (ids_left c.next.new.self) (subst (λ (is : List OpId). All live is) c.in-Some.ensures.steps c.loop-id.invariant.live);
       bytes =
-          line_step (value_held names) (names_held names) c.loop-id.first c.name_count.result c.moved-first.result o before after c.loop-id.out c.push_operation.new.out
+          line_step (value_held names) (names_held names) c.loop-id.first c.name_count.result c.saturating_add-first.result o before after c.loop-id.out c.push_operation.new.out
           (c.args.out.now ++ operation_lines (stored_shown (value_held names) (drop c.args.start (names_held names)) (ops_of b)))
-          (names_few names) steps c.name_count.ensures c.moved-first.ensures c.in_ok-push_operation.ensures c.loop-id.invariant.bytes;
+          (names_few names) steps c.name_count.ensures c.saturating_add-first.ensures c.in_ok-push_operation.ensures c.loop-id.invariant.bytes;
     }

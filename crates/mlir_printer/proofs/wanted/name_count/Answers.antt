@@ -1,8 +1,8 @@
 use Rattle.std.proofs.Common.{arith}
-use Rattle.mlir_printer.specs.Naming.{wishes_of}
+use Rattle.mlir_printer.specs.Naming.{name_hints_of}
 use Rattle.mlir_printer.proofs.steps.Listing.{instance_length}
 use Rattle.mlir_printer.proofs.wanted.name_count.Goals as goal
 
 pub returns-in-Instance : goal.returns-in-Instance
-unfolding wishes_of
+unfolding name_hints_of
 returns-in-Instance c = grind (arith, instance_length)

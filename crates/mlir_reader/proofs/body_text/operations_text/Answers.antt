@@ -31,7 +31,7 @@ pub returns-then-not-is_next-clause-gives : goal.returns-then-not-is_next-clause
 returns-then-not-is_next-clause-gives c =
     output_at (operation_of c.in-Ok.operation) c.operation_text.new.self c.loop-reader.invariant.standing (sym c.is_next.ensures ∙ c.loop-reader-test.true)
     c.in-Ok.ensures.gives (sym c.is_last.ensures ∙ c.if-is_last.true) (sym c.is_next-then-is_last.ensures ∙ c.if-not-is_next.true)
-    ∙ ap Err (sym c.unexpected.ensures)
+    ∙ ap Err (sym c.unexpected_token.ensures)
 
 pub loop-reader-preserved : goal.loop-reader-preserved
 loop-reader-preserved c =

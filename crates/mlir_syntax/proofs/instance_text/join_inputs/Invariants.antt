@@ -1,7 +1,7 @@
 use Rattle.std.proofs.Common.{◌≡◌, ◌++◌, map, length}
 use Rattle.std.specs.Vec.Iter.{into_iter_items, into_iter_len}
 use Rattle.ir_store.specs.OperationViews.{types_in}
-use Rattle.mlir_syntax.specs.PieceHeads.{joined_of}
+use Rattle.mlir_syntax.specs.ElementHeads.{joined_of}
 use Rattle.mlir_syntax.specs.Views.{operand_of}
 use Rattle.mlir_syntax.proofs.instance_text.join_inputs.Given as goal
 

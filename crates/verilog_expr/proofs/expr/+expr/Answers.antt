@@ -3,9 +3,9 @@ use Rattle.verilog_model.specs.Grammar.{level}
 use Rattle.verilog_model.specs.Expression.{is_signed}
 use Rattle.verilog_expr.specs.Text.{expr_text}
 use Rattle.verilog_expr.specs.Scopes.{scope_ports, scope_ops, scope_ref}
-use Rattle.verilog_expr.specs.Rows.{row_text}
+use Rattle.verilog_expr.specs.Templates.{template_text}
 use Rattle.verilog_expr.specs.Named.{named_of}
-use Rattle.verilog_expr.specs.Made.{expr_at, exprs_at, select_text, wrap_for, open_text, close_text}
+use Rattle.verilog_expr.specs.ExprNode.{expr_at, exprs_at, select_text, wrap_for, open_text, close_text}
 use Rattle.verilog_expr.proofs.Writing.{at_zero, at_name, name_text, own_text, selects, three, wrapped}
 use Rattle.verilog_expr.proofs.expr.+expr.Goals as goal
 
@@ -22,24 +22,24 @@ push_bare-returns-in-Some t c =
 
 pub push_bare-returns : goal.push_bare-returns
 push_bare-returns t c =
-    c.in_ok-push_row.ensures ∙ ap (λ b. c.args.out.now ++ b)
-    (own_text c.args.scope.now c.args.names.now c.args.depth c.args.value c.made_at-made.result.row c.made_at-made.result.operands.now c.if-depth-eq0.false c.in_default.ensures
-    c.made_at-made.ensures)
+    c.in_ok-push_template.ensures ∙ ap (λ b. c.args.out.now ++ b)
+    (own_text c.args.scope.now c.args.names.now c.args.depth c.args.value c.node_at-node.result.template c.node_at-node.result.operands.now c.if-depth-eq0.false c.in_default.ensures
+    c.node_at-node.ensures)
 
-pub push_row-returns-in_ok-push_select-in-Select : goal.push_row-returns-in_ok-push_select-in-Select
-push_row-returns-in_ok-push_select-in-Select t c =
+pub push_template-returns-in_ok-push_select-in-Select : goal.push_template-returns-in_ok-push_select-in-Select
+push_template-returns-in_ok-push_select-in-Select t c =
     c.in_ok-push_select-in-Select.ensures ∙ ap (λ b. c.args.out.now ++ b)
     (ap (λ m. select_text m c.in-Select.low c.in-Select.width) c.only_name.ensures
     ∙ sym (selects c.in-Select.low c.in-Select.width (exprs_at c.args.scope.now c.args.names.now c.args.depth c.args.operands.now))
-    ∙ sym (ap (λ q. row_text q (exprs_at c.args.scope.now c.args.names.now c.args.depth c.args.operands.now)) c.in-Select.is))
+    ∙ sym (ap (λ q. template_text q (exprs_at c.args.scope.now c.args.names.now c.args.depth c.args.operands.now)) c.in-Select.is))
 
 pub push_value-returns : goal.push_value-returns
 push_value-returns t c =
     let e = expr_at c.args.scope.now c.args.names.now c.args.depth c.args.value in
     let w = wrap_for c.args.unsigned c.args.level (is_signed e) (level e) in
     let same : c.wrap_for-wrap.result ≡ w =
-    c.wrap_for-wrap.ensures ∙ ap (λ b. wrap_for c.args.unsigned c.args.level b c.look_at.result.level) c.look_at.ensures.signed
-    ∙ ap (λ l. wrap_for c.args.unsigned c.args.level (is_signed e) l) c.look_at.ensures.level in
+    c.wrap_for-wrap.ensures ∙ ap (λ b. wrap_for c.args.unsigned c.args.level b c.info_at.result.level) c.info_at.ensures.signed
+    ∙ ap (λ l. wrap_for c.args.unsigned c.args.level (is_signed e) l) c.info_at.ensures.level in
     three c.args.out.now c.push_open.new.out c.push_bare.new.out c.push_close.new.out (open_text w) (expr_text e []) (close_text w)
     (c.in_ok-push_open.ensures ∙ ap (λ x. c.args.out.now ++ open_text x) same) c.in_ok-push_bare.ensures
     (c.in_ok-push_close.ensures ∙ ap (λ x. c.push_bare.new.out ++ close_text x) same)

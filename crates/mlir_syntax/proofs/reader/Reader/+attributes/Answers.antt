@@ -28,13 +28,13 @@ attribute_text-returns-in-List-clause-gives t c = rw (list_at c.args.room c.args
 
 pub attribute_text-returns-in-List-2-clause-gives : goal.attribute_text-returns-in-List-2-clause-gives
 attribute_text-returns-in-List-2-clause-gives t c =
-    rw c.refused.ensures (deep_list_at c.args.room c.args.op c.args.self.now c.in-List-2.ensures (omega (arith, c.if-room-gt0.false)))
+    rw c.refusal_for.ensures (deep_list_at c.args.room c.args.op c.args.self.now c.in-List-2.ensures (omega (arith, c.if-room-gt0.false)))
 
 pub attribute_text-returns-in-Alias-clause-gives : goal.attribute_text-returns-in-Alias-clause-gives
-attribute_text-returns-in-Alias-clause-gives t c = rw (alias_at c.args.room c.args.op c.args.self.now c.in-Alias.ensures, c.refused-in-Alias.ensures) refl
+attribute_text-returns-in-Alias-clause-gives t c = rw (alias_at c.args.room c.args.op c.args.self.now c.in-Alias.ensures, c.refusal_for-in-Alias.ensures) refl
 
 pub attribute_text-returns-in-Nothing-clause-gives : goal.attribute_text-returns-in-Nothing-clause-gives
-attribute_text-returns-in-Nothing-clause-gives t c = rw (nothing_at c.args.room c.args.op c.args.self.now c.in-Nothing.ensures, c.unexpected.ensures) refl
+attribute_text-returns-in-Nothing-clause-gives t c = rw (nothing_at c.args.room c.args.op c.args.self.now c.in-Nothing.ensures, c.unexpected_token.ensures) refl
 
 pub some_attributes-returns-in-Err-clause-gives : goal.some_attributes-returns-in-Err-clause-gives
 some_attributes-returns-in-Err-clause-gives t c =

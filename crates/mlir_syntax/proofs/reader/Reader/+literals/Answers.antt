@@ -20,10 +20,10 @@ literal_text-returns-in-List-clause-gives t c = rw (list_at c.args.room c.args.o
 
 pub literal_text-returns-in-List-2-clause-gives : goal.literal_text-returns-in-List-2-clause-gives
 literal_text-returns-in-List-2-clause-gives t c =
-    rw c.refused.ensures (deep_list_at c.args.room c.args.op c.args.self.now c.in-List-2.ensures (omega (arith, c.if-room-gt0.false)))
+    rw c.refusal_for.ensures (deep_list_at c.args.room c.args.op c.args.self.now c.in-List-2.ensures (omega (arith, c.if-room-gt0.false)))
 
 pub literal_text-returns-in-Nothing-clause-gives : goal.literal_text-returns-in-Nothing-clause-gives
-literal_text-returns-in-Nothing-clause-gives t c = rw (nothing_at c.args.room c.args.op c.args.self.now c.in-Nothing.ensures, c.unexpected.ensures) refl
+literal_text-returns-in-Nothing-clause-gives t c = rw (nothing_at c.args.room c.args.op c.args.self.now c.in-Nothing.ensures, c.unexpected_token.ensures) refl
 
 pub some_literals-returns-in-Err-clause-gives : goal.some_literals-returns-in-Err-clause-gives
 some_literals-returns-in-Err-clause-gives t c =

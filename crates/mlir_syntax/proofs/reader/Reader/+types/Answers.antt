@@ -43,18 +43,18 @@ pub type_text-returns-in-Struct-clause-gives : goal.type_text-returns-in-Struct-
 type_text-returns-in-Struct-clause-gives t c = rw (struct_at c.args.room c.args.op c.args.self.now c.in-Struct.ensures c.if-room-gt0-2.true) c.struct_text.ensures.gives
 
 pub type_text-returns-in-Foreign-clause-gives : goal.type_text-returns-in-Foreign-clause-gives
-type_text-returns-in-Foreign-clause-gives t c = rw (foreign_at c.args.room c.args.op c.args.self.now c.in-Foreign.ensures, c.refused-in-Foreign.ensures) refl
+type_text-returns-in-Foreign-clause-gives t c = rw (foreign_at c.args.room c.args.op c.args.self.now c.in-Foreign.ensures, c.refusal_for-in-Foreign.ensures) refl
 
 pub type_text-returns-in-Nothing-clause-gives : goal.type_text-returns-in-Nothing-clause-gives
-type_text-returns-in-Nothing-clause-gives t c = rw (nothing_at c.args.room c.args.op c.args.self.now c.in-Nothing.ensures, c.unexpected.ensures) refl
+type_text-returns-in-Nothing-clause-gives t c = rw (nothing_at c.args.room c.args.op c.args.self.now c.in-Nothing.ensures, c.unexpected_token.ensures) refl
 
 pub type_text-returns-in-Array-2-clause-gives : goal.type_text-returns-in-Array-2-clause-gives
 type_text-returns-in-Array-2-clause-gives t c =
-    rw c.refused.ensures (deep_array_at c.args.room c.args.op c.args.self.now c.in-Array-2.ensures (omega (arith, c.if-room-gt0.false)))
+    rw c.refusal_for.ensures (deep_array_at c.args.room c.args.op c.args.self.now c.in-Array-2.ensures (omega (arith, c.if-room-gt0.false)))
 
 pub type_text-returns-in-Struct-2-clause-gives : goal.type_text-returns-in-Struct-2-clause-gives
 type_text-returns-in-Struct-2-clause-gives t c =
-    rw c.refused-in-Struct-2.ensures (deep_struct_at c.args.room c.args.op c.args.self.now c.in-Struct-2.ensures (omega (arith, c.if-room-gt0-2.false)))
+    rw c.refusal_for-in-Struct-2.ensures (deep_struct_at c.args.room c.args.op c.args.self.now c.in-Struct-2.ensures (omega (arith, c.if-room-gt0-2.false)))
 
 pub struct_text-returns-in_err-fields-clause-gives : goal.struct_text-returns-in_err-fields-clause-gives
 unfolding struct_text

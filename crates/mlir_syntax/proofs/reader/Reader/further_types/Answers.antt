@@ -2,7 +2,7 @@
 use Rattle.std.proofs.Common.{◌+◌, ◌-◌, ap, ◌∙◌, arith}
 use Rattle.ir_store.specs.OperationViews.{types_in}
 use Rattle.mlir_syntax.specs.Reads.{on}
-use Rattle.mlir_syntax.specs.PieceText.{further_types}
+use Rattle.mlir_syntax.specs.ElementText.{further_types}
 use Rattle.mlir_syntax.proofs.Joining.{behind, further_at, further_fails, further_ends}
 use Rattle.mlir_syntax.proofs.reader.Reader.further_types.Goals as goal
 

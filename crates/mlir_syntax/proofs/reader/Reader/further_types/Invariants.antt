@@ -1,6 +1,6 @@
 use Rattle.std.proofs.Common.{◌≡◌, ◌-◌, ◌≤◌, length}
 use Rattle.ir_store.specs.OperationViews.{types_in}
-use Rattle.mlir_syntax.specs.PieceText.{further_types}
+use Rattle.mlir_syntax.specs.ElementText.{further_types}
 use Rattle.mlir_syntax.proofs.Joining.{behind}
 use Rattle.mlir_syntax.proofs.reader.Reader.further_types.Given as goal
 

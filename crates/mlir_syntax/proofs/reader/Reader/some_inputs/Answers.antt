@@ -1,6 +1,6 @@
 -- Operands are gathered until no comma stands after one.
 use Rattle.std.proofs.Common.{map, Vec, Global}
-use Rattle.mlir_syntax.specs.PieceHeads.{joined_of}
+use Rattle.mlir_syntax.specs.ElementHeads.{joined_of}
 use Rattle.mlir_syntax.specs.declared.instance_text.Joined.{Joined}
 use Rattle.mlir_syntax.proofs.Lists.{fails, ends, goes_on}
 use Rattle.mlir_syntax.proofs.Joining.{is_input}

@@ -1,6 +1,6 @@
 use Rattle.std.proofs.Common.{length}
-use Rattle.mlir_syntax.specs.PieceText.{input_text}
-use Rattle.mlir_syntax.specs.PieceHeads.{joined_of}
+use Rattle.mlir_syntax.specs.ElementText.{input_text}
+use Rattle.mlir_syntax.specs.ElementHeads.{joined_of}
 use Rattle.mlir_syntax.proofs.Lists.{Gathering}
 use Rattle.mlir_syntax.proofs.reader.Reader.some_inputs.Given as goal
 

@@ -17,6 +17,6 @@ returns-then-is_stored-clause-gives c =
 
 pub returns-else-is_stored-clause-gives : goal.returns-else-is_stored-clause-gives
 returns-else-is_stored-clause-gives c =
-    rw c.refused-too_large.ensures
+    rw c.refusal_for-too_large.ensures
     (stored_given c.args.op c.args.self.now c.pass-minus.new.self c.number.new.self c.pass-minus.result c.in-Ok.distance (integer_of c.signed-value.result) false
     c.pass-minus.ensures.is c.pass-minus.ensures.after c.in-Ok.ensures.gives c.signed-value.ensures (sym c.is_stored.ensures ∙ c.if-is_stored.false))

@@ -1,0 +1,114 @@
+-- The expression of a value, and what is seen of it before it is written.
+use Rattle.std.specs.Prelude.{◌≡◌, ℕ, ◌+◌, ◌-◌, Bool, cond, ◌&&◌, ◌==◌, nat_lt, slice_get, length, List, [], ◌∷◌, ◌++◌, map, Option, Some, None, decimal, codes}
+use Rattle.hw_model.specs.Types.{Name}
+use Rattle.hw_model.specs.Design.{Ref, Port, Op}
+use Rattle.hw_model.specs.Design.Ref.{result}
+use Rattle.ir_store.specs.declared.operation.Value.{Value}
+use Rattle.verilog_model.specs.Tree.{Expr}
+use Rattle.verilog_model.specs.Tree.Expr.{name}
+use Rattle.verilog_model.specs.Grammar.{level}
+use Rattle.verilog_model.specs.Expression.{is_signed}
+use Rattle.verilog_expr.specs.Building.{no_expr}
+use Rattle.verilog_expr.specs.Expressions.{value_width, own_expr, expr_to}
+use Rattle.verilog_expr.specs.Text.{expr_text}
+use Rattle.verilog_expr.specs.Scopes.{scope_ports, scope_ops, scope_ref}
+use Rattle.verilog_expr.specs.Named.{named_of}
+use Rattle.verilog_expr.specs.Templates.{template_text, template_signed, template_level}
+use Rattle.verilog_expr.specs.declared.info.Wrap.{Wrap}
+use Rattle.verilog_expr.specs.declared.info.Wrap.TheVariants.{Bare, Unsigned, Paren}
+use Rattle.verilog_expr.specs.declared.form.Form.{Form}
+use Rattle.verilog_expr.specs.declared.form.Form.TheVariants.{Same, UnsignedDivision, SignedDivision}
+use Rattle.verilog_expr.specs.declared.template.Template.{Template}
+use Rattle.verilog_expr.specs.declared.template.Template.TheVariants.{Operands}
+use Rattle.verilog_expr.specs.declared.scope.Scope.{Scope}
+use Rattle.verilog_expr.specs.declared.value_names.ValueNames.{ValueNames}
+
+-- the expression of a value, down to a depth
+abbrev pub expr_at : Scope → ValueNames → ℕ → Value → Expr
+expr_at s v n x = expr_to (named_of v) (scope_ports s) (scope_ops s) n (scope_ref s x)
+
+abbrev pub exprs_at : Scope → ValueNames → ℕ → List Value → List Expr
+exprs_at s v n xs = map (expr_at s v n) xs
+
+-- the name that an expression is
+abbrev pub sole_name : Expr → Option Name
+sole_name (name n) = Some n
+sole_name _ = None
+
+-- the bits of the first of values
+abbrev pub head_width : List Port → List Op → List Ref → ℕ
+head_width ports os [] = 0
+head_width ports os (r ∷ rs) = value_width ports os r
+
+-- the text of some bits of a name
+abbrev pub select_text : Option Name → ℕ → ℕ → List ℕ
+select_text None low w = expr_text no_expr []
+select_text (Some n) low w =
+    n ++ (codes "[" ++ cond (w == 1) (decimal low ++ codes "]") (decimal (low + w - 1) ++ (codes ":" ++ (decimal low ++ codes "]"))))
+
+-- the name that an operation's expression is: that of its one operand where nothing is written round it
+abbrev pub first_name_of : List Expr → Option Name
+first_name_of [] = None
+first_name_of (e ∷ es) = sole_name e
+
+abbrev pub template_name : Template → List Expr → Option Name
+template_name (Operands Same) es = first_name_of es
+template_name _ es = None
+
+-- the name that the only one of expressions is
+abbrev pub name_of_one : List Expr → Option Name
+name_of_one (e ∷ []) = sole_name e
+name_of_one _ = None
+
+-- the operand that a row's expression is, or what is seen of the expression without its operands
+abbrev pub IsOnly : Template → List Value → Option Value → Type 0
+IsOnly template xs (Some x) = (template ≡ Operands Same) × (slice_get xs 0 ≡ Some x)
+IsOnly template xs None = (es : List Expr) → length es ≡ length xs → (template_signed template es ≡ template_signed template []) × (template_level template es ≡ template_level template []) × (template_name template es ≡ None)
+
+-- an operation is one of the body
+pub record IsOpOf (s : Scope) (o : Op) : Type 0 where
+  pub place : ℕ
+  pub there : slice_get (scope_ops s) place ≡ Some o
+
+-- a value is a result of an operation of the body
+pub record IsResultOf (s : Scope) (o : Op) (k : ℕ) (r : Ref) : Type 0 where
+  pub place : ℕ
+  pub is : r ≡ result place k
+  pub there : slice_get (scope_ops s) place ≡ Some o
+
+-- the operands that are written
+abbrev pub first_value : List Value → List Value
+first_value [] = []
+first_value (x ∷ xs) = x ∷ []
+
+abbrev pub shown_values : Form → List Value → List Value
+shown_values (UnsignedDivision o w d) xs = first_value xs
+shown_values (SignedDivision o w d) xs = first_value xs
+shown_values _ xs = xs
+
+-- ---- places
+
+-- how an expression goes into a place that asks for an unsigned one or not and for so much binding strength
+abbrev pub wrap_for : Bool → ℕ → Bool → ℕ → Wrap
+wrap_for u l is_signed level = cond (u && is_signed) Unsigned (cond (nat_lt level l) Paren Bare)
+
+abbrev pub open_text : Wrap → List ℕ
+open_text Bare = []
+open_text Unsigned = codes "$unsigned("
+open_text Paren = codes "("
+
+abbrev pub close_text : Wrap → List ℕ
+close_text Bare = []
+close_text Unsigned = codes ")"
+close_text Paren = codes ")"
+
+-- the expression of a value's own operation is that of a row over values
+pub record IsMade (s : Scope) (r : Ref) (template : Template) (operands : List Value) : Type 0 where
+  pub text : (named : Ref → Option Name) (ex : Ref → Expr)
+      → expr_text (own_expr named (scope_ports s) (scope_ops s) ex r) [] ≡ template_text template (map ex (map (scope_ref s) operands))
+  pub signed : (named : Ref → Option Name) (ex : Ref → Expr)
+      → is_signed (own_expr named (scope_ports s) (scope_ops s) ex r) ≡ template_signed template (map ex (map (scope_ref s) operands))
+  pub level_is : (named : Ref → Option Name) (ex : Ref → Expr)
+      → level (own_expr named (scope_ports s) (scope_ops s) ex r) ≡ template_level template (map ex (map (scope_ref s) operands))
+  pub called : (named : Ref → Option Name) (ex : Ref → Expr)
+      → sole_name (own_expr named (scope_ports s) (scope_ops s) ex r) ≡ template_name template (map ex (map (scope_ref s) operands))
