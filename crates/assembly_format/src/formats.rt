@@ -5,7 +5,7 @@ ghost use Rattle.std.specs.Option.{option_map};
 ghost use Rattle.mlir_lexer.specs.Tokens.{lexeme_of};
 ghost use Rattle.assembly_format.specs.Formats.{format_of, is_of, front_elements, type_elements, text_of_keyword};
 
-use crate::elements::{Keyword, FormatElement, Format};
+use crate::elements::{Format, FormatElement, Keyword};
 use mlir_lexer::token::{Token, TokenKind, is_kind};
 use opcode::listed::Listed;
 
@@ -21,13 +21,28 @@ const OPERANDS: [FormatElement; 1] = [FormatElement::Operands];
 
 const BINARY: [FormatElement; 3] = [FormatElement::Operand, COMMA, FormatElement::Operand];
 
-const COMPARISON: [FormatElement; 4] = [FormatElement::Predicate, FormatElement::Operand, COMMA, FormatElement::Operand];
+const COMPARISON: [FormatElement; 4] = [
+    FormatElement::Predicate,
+    FormatElement::Operand,
+    COMMA,
+    FormatElement::Operand,
+];
 
 const UNARY: [FormatElement; 1] = [FormatElement::Operand];
 
-const EXTRACTION: [FormatElement; 3] = [FormatElement::Operand, FormatElement::Word(Keyword::From), FormatElement::Number];
+const EXTRACTION: [FormatElement; 3] = [
+    FormatElement::Operand,
+    FormatElement::Word(Keyword::From),
+    FormatElement::Number,
+];
 
-const CHOICE: [FormatElement; 5] = [FormatElement::Operand, COMMA, FormatElement::Operand, COMMA, FormatElement::Operand];
+const CHOICE: [FormatElement; 5] = [
+    FormatElement::Operand,
+    COMMA,
+    FormatElement::Operand,
+    COMMA,
+    FormatElement::Operand,
+];
 
 const TRUTH: [FormatElement; 1] = [FormatElement::Truth];
 
@@ -61,7 +76,12 @@ const FIELD_CHANGE: [FormatElement; 6] = [
 
 const INSTANCE: [FormatElement; 1] = [FormatElement::Instance];
 
-const REGISTER: [FormatElement; 4] = [FormatElement::Operand, COMMA, FormatElement::Operand, FormatElement::Reset];
+const REGISTER: [FormatElement; 4] = [
+    FormatElement::Operand,
+    COMMA,
+    FormatElement::Operand,
+    FormatElement::Reset,
+];
 
 const ENABLED_REGISTER: [FormatElement; 6] = [
     FormatElement::Operand,

@@ -9,7 +9,7 @@ ghost use Rattle.circt_top.specs.Answer.{line_of, shown_output, OnRefused, Repor
 
 use crate::status::Status;
 use command_line::invocation::Paths;
-use diag::line::{put_three, refusal_text, display_name};
+use diag::line::{display_name, put_three, refusal_text};
 use diag::refusal::{OpName, Refusal};
 use io_edge::sinks::{Failed, Sink, put_all};
 

@@ -342,7 +342,8 @@ fn is_answered(group: &Group, run: &Ended) -> bool {
         None => false,
     };
     (run.code == group.code && is_held)
-        && (run.out.contents() == group.out.as_bytes() && run.err.contents() == group.err.as_bytes())
+        && (run.out.contents() == group.out.as_bytes()
+            && run.err.contents() == group.err.as_bytes())
 }
 
 // The first of the words of a group that has another answer.

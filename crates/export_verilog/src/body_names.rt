@@ -7,8 +7,8 @@ ghost use Rattle.verilog_expr.specs.PartTables.{AreWires};
 ghost use Rattle.export_verilog.specs.Held.{op_results, op_own_name};
 ghost use Rattle.export_verilog.specs.Walks.{body_name_hints, body_given, result_lists};
 
-use crate::op_names::add_op;
 use crate::name_hints::emission_of;
+use crate::op_names::add_op;
 use io_edge::byte_text::Text;
 use name_legalise::names::Names;
 use std::alloc::{AllocError, Global};

@@ -8,8 +8,8 @@ ghost use Rattle.export_verilog.specs.EmissionViews.{emission_seen};
 
 use crate::lines::{push_reg, push_wire};
 use crate::module_writer::ModuleWriter;
-use crate::values::name_text;
 use crate::name_hints::Emission;
+use crate::values::name_text;
 use io_edge::byte_text::Text;
 use ir_store::operation::{OpId, Value};
 use std::alloc::AllocError;

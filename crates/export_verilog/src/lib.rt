@@ -18,13 +18,13 @@ mod module_items;
 mod module_names;
 mod module_text;
 mod module_writer;
+mod name_hints;
 mod named_design;
 mod op_names;
 mod ports;
 mod register_blocks;
 mod statements;
 mod values;
-mod name_hints;
 
 pub use acceptance::{accepted_designs_are_exportable, stored_designs_have_room};
 pub use laws::{exported_designs_behave, exported_modules_behave_the_same};

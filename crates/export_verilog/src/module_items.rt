@@ -11,8 +11,8 @@ ghost use Rattle.export_verilog.specs.ScopeModules.{scope_module};
 
 use crate::assigns::push_output;
 use crate::module_writer::ModuleWriter;
-use crate::statements::{push_declarations, push_statements};
 use crate::name_hints::emission_of;
+use crate::statements::{push_declarations, push_statements};
 use hw_model::kinds::OpKind;
 use io_edge::byte_text::Text;
 use ir_store::operation::Value;

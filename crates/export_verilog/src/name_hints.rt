@@ -34,7 +34,13 @@ pub fn emission_of(kind: &OpKind, has_wire: bool) -> Emission
         OpKind::Instance(_) => Emission::Block,
         OpKind::Output => Emission::Hidden,
         OpKind::Wire => Emission::Net,
-        _ => { if has_wire { Emission::Net } else { Emission::Hidden } }
+        _ => {
+            if has_wire {
+                Emission::Net
+            } else {
+                Emission::Hidden
+            }
+        }
     }
 }
 
@@ -73,7 +79,11 @@ fn output_name(instance: &Instance, number: usize) -> &[u8]
 
 /// The name that is wanted for a result of an instance: `_INSTANCE_PORT`.
 #[tactic(auto, using(std::proofs::Common::append_assoc))]
-pub fn result_name_hint(alloc: Global, instance: &Instance, number: usize) -> Result<Text, AllocError>
+pub fn result_name_hint(
+    alloc: Global,
+    instance: &Instance,
+    number: usize,
+) -> Result<Text, AllocError>
     ensures { IfOk result (λ name_hint. name_hint ≡ result_name_hint (instance_of instance.now) number) }
 {
     let mut name_hint = Text::new(alloc);

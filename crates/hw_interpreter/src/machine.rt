@@ -21,7 +21,7 @@ use crate::modules::{find_module, held_width, output_operands};
 use crate::nets::{net_value, operand_values, pad};
 use crate::refusal::Refusal;
 use crate::registers::{Register, ResetBy, Slot, register_in, registers};
-use crate::values::{is_high, concat_words};
+use crate::values::{concat_words, is_high};
 use crate::word_parts::bits_after;
 use std::alloc::Global;
 

@@ -10,13 +10,13 @@ ghost use Rattle.mlir_printer.specs.Elements.{mark_bytes, word_bytes, predicate_
 ghost use Rattle.mlir_printer.specs.Views.{value_held, pending_of, inherent_of};
 
 use crate::commas::{push_comma, push_few};
+use crate::inherent_view::{InherentView, Pending};
 use crate::literals::push_literals;
 use crate::numbers::{is_one, push_count, push_integer, truth_text};
-use crate::inherent_view::{Pending, InherentView};
 use crate::strings::{push_name, push_string, push_symbol};
 use crate::types::{push_type, push_types};
 use crate::value_names::ValueNames;
-use assembly_format::elements::{Keyword, FormatElement};
+use assembly_format::elements::{FormatElement, Keyword};
 use hw_model::kinds::{Instance, Predicate};
 use hw_model::types::Ty;
 use io_edge::byte_text::Text;
@@ -310,9 +310,14 @@ fn push_inherent(
             out.push_bytes(predicate_text(predicate))?;
         }
         (FormatElement::Number, InherentView::Position(position)) => push_count(out, position)?,
-        (FormatElement::Truth, InherentView::Number(value)) => out.push_bytes(truth_text(is_one(value)))?,
+        (FormatElement::Truth, InherentView::Number(value)) => out.push_bytes(truth_text(is_one(
+            value,
+        )))?,
         (FormatElement::Integer, InherentView::Number(value)) => push_integer(out, value)?,
-        (FormatElement::Literals, InherentView::Literals(list)) => push_literals(out, &list.literals)?,
+        (FormatElement::Literals, InherentView::Literals(list)) => push_literals(
+            out,
+            &list.literals,
+        )?,
         (FormatElement::Field, InherentView::FieldName(name)) => push_string(out, name)?,
         (FormatElement::Instance, InherentView::Child(instance)) => {
             push_instance(out, names, instance, pending.operands, pending.types)?;
@@ -355,7 +360,11 @@ fn push_element(
         FormatElement::SyncReset => push_reset(out, names, b" reset sync ", pending)?,
         FormatElement::Type => push_first_type(out, pending.types)?,
         FormatElement::Types => push_types(out, pending.types)?,
-        FormatElement::Number | FormatElement::Truth | FormatElement::Integer | FormatElement::Field | FormatElement::Instance => {
+        FormatElement::Number
+        | FormatElement::Truth
+        | FormatElement::Integer
+        | FormatElement::Field
+        | FormatElement::Instance => {
             push_inherent(out, names, element, pending)?;
         }
     }

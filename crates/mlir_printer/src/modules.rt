@@ -11,8 +11,8 @@ ghost use Rattle.mlir_printer.specs.Views.{names_held};
 
 use crate::commas::push_comma;
 use crate::dictionaries::push_dictionary;
-use crate::operations::{saturating_add, push_operations};
 use crate::elements::push_value_name;
+use crate::operations::{push_operations, saturating_add};
 use crate::strings::{push_name, push_string, push_symbol};
 use crate::types::push_type;
 use crate::value_names::ValueNames;

@@ -16,13 +16,13 @@ ghost use Rattle.mlir_printer.specs.Views.{names_held, value_held, pending_of, i
 
 use crate::commas::{push_comma, push_few};
 use crate::dictionaries::push_named_dictionary;
-use crate::numbers::{is_shown_as_truth, push_length};
 use crate::elements::{push_elements, push_value_name};
-use crate::inherent_view::{Pending, InherentView, inherent_view_of};
+use crate::inherent_view::{InherentView, Pending, inherent_view_of};
+use crate::numbers::{is_shown_as_truth, push_length};
 use crate::value_names::ValueNames;
 use crate::wanted::{is_pack, name_count};
-use assembly_format::elements::{FormatElement, Format};
-use assembly_format::formats::{front_elements, format_of, type_elements};
+use assembly_format::elements::{Format, FormatElement};
+use assembly_format::formats::{format_of, front_elements, type_elements};
 use hw_model::kinds::OpKind;
 use hw_model::types::Ty;
 use io_edge::byte_text::Text;

@@ -31,7 +31,12 @@ pub fn kind_named(
 
 // The kind of an operation that its name and the rest of its text tell.
 #[tactic(auto, unfolding(crate::specs::Resolving::inherent_kind))]
-fn inherent_kind(alloc: Global, name: Listed, inherent: InherentAttributes, types: &[Ty]) -> Result<OpKind, AllocError>
+fn inherent_kind(
+    alloc: Global,
+    name: Listed,
+    inherent: InherentAttributes,
+    types: &[Ty],
+) -> Result<OpKind, AllocError>
     ensures { IfOk result (λ kind. kind_of kind ≡ inherent_kind name (inherent_of inherent) (map type_of types.now)) }
 {
     match name {
@@ -105,7 +110,10 @@ fn inherent_field(alloc: Global, inherent: InherentAttributes) -> Text
 }
 
 // The instance that is said.
-fn inherent_instance(alloc: Global, inherent: InherentAttributes) -> Result<Box<Instance>, AllocError>
+fn inherent_instance(
+    alloc: Global,
+    inherent: InherentAttributes,
+) -> Result<Box<Instance>, AllocError>
     ensures { IfOk result (λ i. instance_of (box_value i) ≡ inherent_instance (inherent_of inherent)) }
 {
     match inherent {

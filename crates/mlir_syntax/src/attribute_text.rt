@@ -65,7 +65,10 @@ impl<'s> Reader<'s> {
             AttributeHead::Number => self.typed_integer(op, room),
             AttributeHead::List if room > 0 => self.list_text(op, room - 1),
             AttributeHead::List => Err(ReadFail::Refused(self.refusal_for(Cause::TooDeep, op))),
-            AttributeHead::Alias => Err(ReadFail::Refused(self.refusal_for(Cause::OutsideProfile, op))),
+            AttributeHead::Alias => Err(ReadFail::Refused(self.refusal_for(
+                Cause::OutsideProfile,
+                op,
+            ))),
             AttributeHead::Nothing => Err(ReadFail::Refused(self.unexpected_token(op))),
         }
     }

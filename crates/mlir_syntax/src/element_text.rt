@@ -12,8 +12,8 @@ ghost use Rattle.assembly_format.specs.declared.elements.FormatElement.TheVarian
 
 use crate::fail::ReadFail;
 use crate::reader::Reader;
-use crate::syntax::{InherentAttributes, Gathered, OperandName};
-use assembly_format::elements::{Keyword, FormatElement};
+use crate::syntax::{Gathered, InherentAttributes, OperandName};
+use assembly_format::elements::{FormatElement, Keyword};
 use assembly_format::formats::text_of_keyword;
 use diag::cause::Cause;
 use diag::refusal::OpName;
@@ -227,7 +227,11 @@ impl<'s> Reader<'s> {
 
     // `reset sync %r, %v`, or nothing.
     #[tactic(auto, unfolding(crate::specs::ElementText::element_text, crate::specs::ElementText::sync_reset_text))]
-    fn sync_reset_element(&mut self, op: OpName, gathered: &mut Gathered<'s>) -> Result<(), ReadFail>
+    fn sync_reset_element(
+        &mut self,
+        op: OpName,
+        gathered: &mut Gathered<'s>,
+    ) -> Result<(), ReadFail>
         ensures gives { ReadsAs (λ (_ : Unit {0}). gathered_of gathered.new) result self.new (element_text op element.SyncReset (gathered_of gathered.old) self.old) }
         ensures shorter { OnOk result (length self.new ≤ length self.old) }
     {

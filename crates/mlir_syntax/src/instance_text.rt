@@ -12,7 +12,7 @@ ghost use Rattle.assembly_format.specs.declared.elements.FormatElement.TheVarian
 
 use crate::fail::ReadFail;
 use crate::reader::Reader;
-use crate::syntax::{InherentAttributes, Gathered, OperandName};
+use crate::syntax::{Gathered, InherentAttributes, OperandName};
 use crate::type_text::MOST_OPEN;
 use diag::refusal::OpName;
 use hw_model::kinds::Instance;

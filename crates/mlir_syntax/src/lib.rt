@@ -3,6 +3,7 @@
 
 pub mod attribute_text;
 pub mod dictionary_text;
+pub mod element_text;
 pub mod fail;
 pub mod head;
 pub mod instance_text;
@@ -11,7 +12,6 @@ pub mod numerals;
 pub mod operand_text;
 pub mod operation_names;
 pub mod operation_text;
-pub mod element_text;
 pub mod port_text;
 pub mod reader;
 pub mod syntax;

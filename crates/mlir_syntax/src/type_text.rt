@@ -63,7 +63,10 @@ impl<'s> Reader<'s> {
             TypeHead::Struct if room > 0 => self.struct_text(op, room - 1),
             TypeHead::Array => Err(ReadFail::Refused(self.refusal_for(Cause::TooDeep, op))),
             TypeHead::Struct => Err(ReadFail::Refused(self.refusal_for(Cause::TooDeep, op))),
-            TypeHead::Foreign => Err(ReadFail::Refused(self.refusal_for(Cause::OutsideProfile, op))),
+            TypeHead::Foreign => Err(ReadFail::Refused(self.refusal_for(
+                Cause::OutsideProfile,
+                op,
+            ))),
             TypeHead::Nothing => Err(ReadFail::Refused(self.unexpected_token(op))),
         }
     }

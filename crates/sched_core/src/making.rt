@@ -10,7 +10,10 @@ use crate::parts::{Edge, Fill, Stage, Worker};
 use std::alloc::{AllocError, Global};
 
 /// The same lists of callees.
-pub(crate) fn clone_callees(alloc: Global, callees: &[Vec<u32>]) -> Result<Vec<Vec<u32>>, AllocError>
+pub(crate) fn clone_callees(
+    alloc: Global,
+    callees: &[Vec<u32>],
+) -> Result<Vec<Vec<u32>>, AllocError>
     ensures { IfOk result (λ v. map (λ row. row.items) v.items ≡ map (λ row. row.items) callees.now) }
 {
     let mut rows = Vec::new(alloc);

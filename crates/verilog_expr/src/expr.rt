@@ -9,11 +9,11 @@ ghost use Rattle.verilog_expr.specs.Templates.{template_text};
 ghost use Rattle.verilog_expr.specs.ExprNode.{expr_at, exprs_at, select_text, shown_values};
 
 use crate::form::{Form, asks_level, asks_unsigned, push_before, push_behind};
-use crate::literals::{push_decimal, push_literal};
 use crate::info::{info_at, only_name, push_close, push_open, wrap_for};
+use crate::literals::{push_decimal, push_literal};
 use crate::node::node_at;
-use crate::template::Template;
 use crate::scope::Scope;
+use crate::template::Template;
 use crate::value_names::ValueNames;
 use io_edge::byte_text::Text;
 use ir_store::operation::Value;
@@ -124,7 +124,14 @@ fn push_template(
             push_select(out, only_name(scope, names, operands, depth), low, width)?;
         }
         Template::Operands(form) => {
-            push_form(out, scope, names, form, operands_in_text(form, operands), depth)?;
+            push_form(
+                out,
+                scope,
+                names,
+                form,
+                operands_in_text(form, operands),
+                depth,
+            )?;
         }
     }
     Ok(())

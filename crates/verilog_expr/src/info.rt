@@ -8,8 +8,8 @@ ghost use Rattle.verilog_expr.specs.ExprNode.{expr_at, exprs_at, sole_name, IsOn
 
 use crate::form::{Form, strength};
 use crate::node::{ExprNode, node_at};
-use crate::template::Template;
 use crate::scope::Scope;
+use crate::template::Template;
 use crate::value_names::ValueNames;
 use io_edge::byte_text::Text;
 use ir_store::operation::Value;

@@ -4,14 +4,14 @@
 pub mod expr;
 mod form;
 mod height_table;
+mod info;
 mod laws;
 mod literals;
-mod info;
-mod node;
 mod marks;
 mod nesting;
-mod template;
+mod node;
 pub mod scope;
+mod template;
 pub mod value_names;
 pub mod wires;
 

@@ -8,8 +8,8 @@ ghost use Rattle.verilog_expr.specs.Scopes.{scope_ports, scope_ops, scope_ref, o
 ghost use Rattle.verilog_expr.specs.ExprNode.{IsMade, IsOpOf, IsResultOf, head_width};
 ghost use Rattle.verilog_expr.specs.declared.template.Template.TheVariants.{Missing};
 
-use crate::template::{Template, constant_number, template_for};
 use crate::scope::{Scope, result_width};
+use crate::template::{Template, constant_number, template_for};
 use hw_model::kinds::OpKind;
 use ir_store::body::Op;
 use ir_store::operation::Value;

@@ -140,7 +140,13 @@ fn copies(width: u64, operand_width: u64) -> u64
 
 /// The row of an operation of a kind with a result of `width` bits and `count` operands, of which the first has
 /// `operand_width` bits, and `divisor` the number of the constant that it divides by.
-pub fn template_for(kind: &OpKind, width: u64, operand_width: u64, divisor: u128, count: usize) -> Template
+pub fn template_for(
+    kind: &OpKind,
+    width: u64,
+    operand_width: u64,
+    divisor: u128,
+    count: usize,
+) -> Template
     requires { width < 129 }
     ensures { result ≡ template_for (kind_of kind.now) width operand_width divisor count }
 {
@@ -173,7 +179,11 @@ fn family_template(
                 Template::Operands(Form::Braces)
             }
         }
-        Family::Replicate => template_of_count(count, 1, Form::Copies(copies(width, operand_width))),
+        Family::Replicate => template_of_count(
+            count,
+            1,
+            Form::Copies(copies(width, operand_width)),
+        ),
         Family::Mux => template_of_count(count, 3, Form::Choice),
         Family::Constant(value) => Template::Number(width, constant_number(width, value)),
         Family::Bitcast | Family::Wire => template_of_count(count, 1, Form::Same),

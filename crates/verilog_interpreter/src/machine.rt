@@ -6,7 +6,9 @@ use crate::tree::{
     Always, Branch, Connection, Declared, Expression, Instance, Item, Module, Node, Role,
     find_module, place_of,
 };
-use crate::values::{Scope, Shape, assigned_value, extended, is_known, is_true, low_bits, value_under};
+use crate::values::{
+    Scope, Shape, assigned_value, extended, is_known, is_true, low_bits, value_under,
+};
 use bits_core::Bits;
 use std::alloc::Global;
 
