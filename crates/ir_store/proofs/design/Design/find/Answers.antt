@@ -7,16 +7,16 @@ use Rattle.ir_store.proofs.design.Design.find.Goals as goal
 
 pub returns-clause-place : goal.returns-clause-place
 returns-clause-place c =
-    c.clone_type.ensures ∙ (c.get.ensures.value ∙ (c.args.self.now.found c.args.symbol.now ∙ sym (ap (symbol_place c.args.symbol.now) (symbols_seen c.args.self.now.modules.items))))
+    c.copied.ensures ∙ (c.get.ensures.value ∙ (c.args.self.now.found c.args.symbol.now ∙ sym (ap (symbol_place c.args.symbol.now) (symbols_seen c.args.self.now.modules.items))))
 
 pub returns-clause-module : goal.returns-clause-module
 returns-clause-module c =
-    let place : c.clone_type.result ≡ symbol_place c.args.symbol.now (map (λ (m : StoredModule). m.symbol) (modules_of c.args.self.now)) =
-    c.clone_type.ensures ∙ (c.get.ensures.value ∙ (c.args.self.now.found c.args.symbol.now ∙ sym (ap (symbol_place c.args.symbol.now) (symbols_seen c.args.self.now.modules.items)))) in
+    let place : c.copied.result ≡ symbol_place c.args.symbol.now (map (λ (m : StoredModule). m.symbol) (modules_of c.args.self.now)) =
+    c.copied.ensures ∙ (c.get.ensures.value ∙ (c.args.self.now.found c.args.symbol.now ∙ sym (ap (symbol_place c.args.symbol.now) (symbols_seen c.args.self.now.modules.items)))) in
     ap (λ n. option_and_then (slice_get (design_of c.args.self.now)) n) place ∙ module-symbol_place c.args.symbol.now (modules_of c.args.self.now)
 
 pub returns-clause-some : goal.returns-clause-some
 returns-clause-some c =
-    let place : c.clone_type.result ≡ symbol_place c.args.symbol.now (map (λ (m : StoredModule). m.symbol) (modules_of c.args.self.now)) =
-    c.clone_type.ensures ∙ (c.get.ensures.value ∙ (c.args.self.now.found c.args.symbol.now ∙ sym (ap (symbol_place c.args.symbol.now) (symbols_seen c.args.self.now.modules.items)))) in
+    let place : c.copied.result ≡ symbol_place c.args.symbol.now (map (λ (m : StoredModule). m.symbol) (modules_of c.args.self.now)) =
+    c.copied.ensures ∙ (c.get.ensures.value ∙ (c.args.self.now.found c.args.symbol.now ∙ sym (ap (symbol_place c.args.symbol.now) (symbols_seen c.args.self.now.modules.items)))) in
     ap is_some place ∙ some-symbol_place c.args.symbol.now (modules_of c.args.self.now)
