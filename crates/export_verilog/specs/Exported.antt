@@ -18,7 +18,7 @@ use Rattle.verilog_expr.specs.Expressions.{expr_to, own_expr}
 use Rattle.verilog_expr.specs.Spilling.{height_limit}
 use Rattle.export_verilog.specs.Identifiers.{Emission, each, emission_of, identifier_text, name_or_nothing, named}
 use Rattle.export_verilog.specs.Identifiers.Identifier.{port_identifier, value_identifier, instance_identifier}
-use Rattle.export_verilog.specs.Identifiers.Emission.{hidden, net, variable, block}
+use Rattle.export_verilog.specs.Identifiers.Emission.{inline, as_wire, as_reg, as_instance}
 
 -- ---- module names
 

@@ -10,7 +10,7 @@ use Rattle.ir_store.specs.Numbered.{op_by}
 use Rattle.verilog_expr.specs.Spilling.{is_wire_kind, hint_of}
 use Rattle.export_verilog.specs.Identifiers.{Emission, or_name, result_name_hint, identifier_name}
 use Rattle.export_verilog.specs.Identifiers.Identifier.{port_identifier}
-use Rattle.export_verilog.specs.Identifiers.Emission.{hidden, net, variable, block}
+use Rattle.export_verilog.specs.Identifiers.Emission.{inline, as_wire, as_reg, as_instance}
 
 -- the names that any module with some ports gives to them
 abbrev pub ArePortNames : List Port → List Name → Type 0
@@ -21,11 +21,11 @@ ArePortNames ps ns = (m : Module) → m.ports ≡ ps → (j : ℕ) (p : Port) �
 -- what an operation of a kind is, whose first result has a wire or not
 abbrev pub emission_by : Bool → Kind → Emission
 emission_by wired k =
-    cond (is_some (register_form k)) variable
-    (cond (is_some (instance_in k)) block
-    (cond (is_output_kind k) hidden
-    (cond (is_wire_kind k) net
-    (cond wired net hidden))))
+    cond (is_some (register_form k)) as_reg
+    (cond (is_some (instance_in k)) as_instance
+    (cond (is_output_kind k) inline
+    (cond (is_wire_kind k) as_wire
+    (cond wired as_wire inline))))
 
 -- an operation that is read from a body, but for the positions of its operands
 abbrev pub op_seen : body.Op → Op
@@ -44,29 +44,29 @@ result_name_hints i k (suc n) = result_name_hint i k ∷ result_name_hints i (su
 
 -- the names that are wanted for the things of an operation of a role
 abbrev pub name_hints_of : Emission → Option Instance → Op → List Name
-name_hints_of hidden x o = []
-name_hints_of net x o = own_name_hint o ∷ []
-name_hints_of variable x o = own_name_hint o ∷ []
-name_hints_of block None o = []
-name_hints_of block (Some i) o = i.name ∷ result_name_hints i 0 (length o.results)
+name_hints_of inline x o = []
+name_hints_of as_wire x o = own_name_hint o ∷ []
+name_hints_of as_reg x o = own_name_hint o ∷ []
+name_hints_of as_instance None o = []
+name_hints_of as_instance (Some i) o = i.name ∷ result_name_hints i 0 (length o.results)
 
 abbrev pub op_name_hints : Emission → Op → List Name
 op_name_hints r o = name_hints_of r (instance_in o.kind) o
 
 -- the names of an operation's results, where others are taken
 abbrev pub results_of : List Name → Emission → Option Instance → Op → List (Option Name)
-results_of taken hidden x o = []
-results_of taken net x o = Some (legal_name taken (own_name_hint o)) ∷ []
-results_of taken variable x o = Some (legal_name taken (own_name_hint o)) ∷ []
-results_of taken block None o = []
-results_of taken block (Some i) o = map (λ (n : Name). Some n) (legal_after (taken ++ legal_name taken i.name ∷ []) (result_name_hints i 0 (length o.results)))
+results_of taken inline x o = []
+results_of taken as_wire x o = Some (legal_name taken (own_name_hint o)) ∷ []
+results_of taken as_reg x o = Some (legal_name taken (own_name_hint o)) ∷ []
+results_of taken as_instance None o = []
+results_of taken as_instance (Some i) o = map (λ (n : Name). Some n) (legal_after (taken ++ legal_name taken i.name ∷ []) (result_name_hints i 0 (length o.results)))
 
 abbrev pub op_results : List Name → Emission → Op → List (Option Name)
 op_results taken r o = results_of taken r (instance_in o.kind) o
 
 -- the own name of an operation that is an instance, where others are taken
 abbrev pub own_name_of : List Name → Emission → Option Instance → Name
-own_name_of taken block (Some i) = legal_name taken i.name
+own_name_of taken as_instance (Some i) = legal_name taken i.name
 own_name_of taken _ _ = []
 
 abbrev pub op_own_name : List Name → Emission → Op → Name

@@ -29,33 +29,33 @@ each f i (x ∷ xs) = f i x ++ each f (suc i) xs
 
 pub data Emission : Type 0 where
   -- nothing by itself: the module's output, or a value that is written where it is used
-  hidden : Emission
+  inline : Emission
   -- a wire with an assignment
-  net : Emission
+  as_wire : Emission
   -- a variable with an `always` block
-  variable : Emission
+  as_reg : Emission
   -- an instance, with a wire for each result
-  block : Emission
+  as_instance : Emission
 
 abbrev pub emission_of : List Port → List Op → ℕ → Op → Emission
 emission_of ports os i o =
-    cond (is_register o) variable
-    (cond (is_instance o) block
-    (cond (is_output_op o) hidden
-    (cond (is_wire_kind o.kind) net
-    (cond (spilled ports os (result i 0)) net hidden))))
+    cond (is_register o) as_reg
+    (cond (is_instance o) as_instance
+    (cond (is_output_op o) inline
+    (cond (is_wire_kind o.kind) as_wire
+    (cond (spilled ports os (result i 0)) as_wire inline))))
 
--- ---- keys
+-- ---- identifiers
 
 abbrev pub result_identifiers : ℕ → ℕ → List OpResult → List Identifier
 result_identifiers i k [] = []
 result_identifiers i k (r ∷ rs) = value_identifier i k ∷ result_identifiers i (suc k) rs
 
 abbrev pub identifiers_of : Emission → ℕ → Op → List Identifier
-identifiers_of hidden i o = []
-identifiers_of net i o = value_identifier i 0 ∷ []
-identifiers_of variable i o = value_identifier i 0 ∷ []
-identifiers_of block i o = instance_identifier i ∷ result_identifiers i 0 o.results
+identifiers_of inline i o = []
+identifiers_of as_wire i o = value_identifier i 0 ∷ []
+identifiers_of as_reg i o = value_identifier i 0 ∷ []
+identifiers_of as_instance i o = instance_identifier i ∷ result_identifiers i 0 o.results
 
 abbrev pub op_identifiers : List Port → List Op → ℕ → Op → List Identifier
 op_identifiers ports os i o = identifiers_of (emission_of ports os i o) i o

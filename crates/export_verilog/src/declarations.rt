@@ -66,10 +66,10 @@ pub fn push_declared(
     ensures { OnOk result (out.new ≡ out.old ++ items_text (declared_items writer.now.scope writer.now.names.values (position_of (scope_ids writer.now.scope) id.index) count (emission_seen emission)) []) }
 {
     match emission {
-        Emission::Hidden => {}
-        Emission::Net => push_value_wire(writer, out, Value::Result(id, 0))?,
-        Emission::Variable => push_value_variable(writer, out, Value::Result(id, 0))?,
-        Emission::Block => push_wires(writer, out, id, count)?,
+        Emission::Inline => {}
+        Emission::Wire => push_value_wire(writer, out, Value::Result(id, 0))?,
+        Emission::Reg => push_value_variable(writer, out, Value::Result(id, 0))?,
+        Emission::Instance => push_wires(writer, out, id, count)?,
     }
     Ok(())
 }

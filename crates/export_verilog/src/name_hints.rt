@@ -12,17 +12,17 @@ use ir_store::body::Op;
 use std::alloc::{AllocError, Global};
 use verilog_expr::hint_in;
 
-/// What an operation is in Verilog.
+/// How an operation is emitted in Verilog.
 #[derive(Clone, Copy, Debug)]
 pub enum Emission {
     /// Nothing by itself: the module's output, or a value that is written where it is used.
-    Hidden,
+    Inline,
     /// A wire with an assignment.
-    Net,
+    Wire,
     /// A variable with an `always` block.
-    Variable,
+    Reg,
     /// An instance, with a wire for each result.
-    Block,
+    Instance,
 }
 
 /// What an operation of a kind is, whose first result has a wire or not.
@@ -30,15 +30,15 @@ pub fn emission_of(kind: &OpKind, has_wire: bool) -> Emission
     ensures { emission_seen result ≡ emission_by has_wire (kind_of kind.now) }
 {
     match kind {
-        OpKind::CompReg(_) | OpKind::CompRegCe(_) | OpKind::FirReg(_) => Emission::Variable,
-        OpKind::Instance(_) => Emission::Block,
-        OpKind::Output => Emission::Hidden,
-        OpKind::Wire => Emission::Net,
+        OpKind::CompReg(_) | OpKind::CompRegCe(_) | OpKind::FirReg(_) => Emission::Reg,
+        OpKind::Instance(_) => Emission::Instance,
+        OpKind::Output => Emission::Inline,
+        OpKind::Wire => Emission::Wire,
         _ => {
             if has_wire {
-                Emission::Net
+                Emission::Wire
             } else {
-                Emission::Hidden
+                Emission::Inline
             }
         }
     }

@@ -115,9 +115,9 @@ pub fn add_op(
     ensures instance { IfOk result (λ r. r.instance ≡ op_own_name (legal_names names.old) (emission_seen emission) (op_seen op.now)) }
 {
     match emission {
-        Emission::Hidden => Ok(no_names(alloc)),
-        Emission::Net | Emission::Variable => add_value(alloc, names, own_name_hint(op)),
-        Emission::Block => match op.kind {
+        Emission::Inline => Ok(no_names(alloc)),
+        Emission::Wire | Emission::Reg => add_value(alloc, names, own_name_hint(op)),
+        Emission::Instance => match op.kind {
             OpKind::Instance(instance) => { add_instance(alloc, names, instance, op.results.len()) }
             _ => Ok(no_names(alloc)),
         },

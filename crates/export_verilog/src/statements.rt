@@ -150,13 +150,13 @@ pub fn push_statements(
 {
     let value = Value::Result(id, 0);
     match emission {
-        Emission::Hidden => {}
-        Emission::Net => push_net(writer, out, value)?,
-        Emission::Variable => {
+        Emission::Inline => {}
+        Emission::Wire => push_net(writer, out, value)?,
+        Emission::Reg => {
             let name = name_text(writer, value);
             push_register(writer, out, name, op)?;
         }
-        Emission::Block => push_call(writer, out, id, place, op)?,
+        Emission::Instance => push_call(writer, out, id, place, op)?,
     }
     Ok(())
 }

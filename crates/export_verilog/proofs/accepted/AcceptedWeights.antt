@@ -19,7 +19,7 @@ use Rattle.op_verifier.proofs.Widths.{neither}
 use Rattle.verilog_expr.specs.Spilling.{is_wire_kind, spilled}
 use Rattle.verilog_expr.specs.Values.{is_aggregate_kind}
 use Rattle.export_verilog.specs.Identifiers.{Identifier, each, result_identifiers, identifiers_of, op_identifiers, port_identifiers, module_identifiers}
-use Rattle.export_verilog.specs.Identifiers.Emission.{hidden, net, variable, block}
+use Rattle.export_verilog.specs.Identifiers.Emission.{inline, as_wire, as_reg, as_instance}
 use Rattle.export_verilog.specs.Aggregates.{is_aggregate, HasNoAggregates}
 use Rattle.export_verilog.proofs.accepted.AcceptedOps.{IsTested, found, op_tested}
 use Rattle.export_verilog.proofs.accepted.NoAggregates.{IsPlain, ports_plain, op_plain}
@@ -97,7 +97,7 @@ long_results i k [] = refl
 long_results i k (r ∷ rs) = ap suc (long_results i (suc k) rs)
 
 -- what is no instance has at most one name
-one_identifier : (a b c e f : Bool) (i : ℕ) (o : Op) → b ≡ false → length (identifiers_of (cond a variable (cond b block (cond c hidden (cond e net (cond f net hidden))))) i o) ≤ 1
+one_identifier : (a b c e f : Bool) (i : ℕ) (o : Op) → b ≡ false → length (identifiers_of (cond a as_reg (cond b as_instance (cond c inline (cond e as_wire (cond f as_wire inline))))) i o) ≤ 1
 one_identifier true b c e f i o h = omega arith
 one_identifier false true c e f i o h = cc
 one_identifier false false true e f i o h = omega arith
@@ -106,7 +106,7 @@ one_identifier false false false false true i o h = omega arith
 one_identifier false false false false false i o h = omega arith
 
 -- nothing has more than one beside its results
-some_identifiers : (a c e f : Bool) (i : ℕ) (o : Op) → length (identifiers_of (cond a variable (cond true block (cond c hidden (cond e net (cond f net hidden))))) i o) ≤ 1 + length o.results
+some_identifiers : (a c e f : Bool) (i : ℕ) (o : Op) → length (identifiers_of (cond a as_reg (cond true as_instance (cond c inline (cond e as_wire (cond f as_wire inline))))) i o) ≤ 1 + length o.results
 some_identifiers true c e f i o = omega arith
 some_identifiers false c e f i o = let p = long_results i 0 o.results in omega (arith, p)
 
@@ -121,7 +121,7 @@ identifiers_weigh inner ports os i o tests plain = go (is_instance o) refl
     go true e =
         let p = some_identifiers (is_register o) (is_output_op o) (is_wire_kind o.kind) (spilled ports os (result i 0)) i o in
         let q : length (op_identifiers ports os i o) ≤ 1 + length o.results =
-        subst (λ (b : Bool). length (identifiers_of (cond (is_register o) variable (cond b block (cond (is_output_op o) hidden (cond (is_wire_kind o.kind) net (cond (spilled ports os (result i 0)) net hidden))))) i o) ≤ 1 + length o.results) (sym e) p in
+        subst (λ (b : Bool). length (identifiers_of (cond (is_register o) as_reg (cond b as_instance (cond (is_output_op o) inline (cond (is_wire_kind o.kind) as_wire (cond (spilled ports os (result i 0)) as_wire inline))))) i o) ≤ 1 + length o.results) (sym e) p in
         let r = instance_weighs inner o.kind o.types (length o.operands) (length o.results) e plain.types tests.results in
         omega (arith, q, r)
     go false e =

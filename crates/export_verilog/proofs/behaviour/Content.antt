@@ -17,7 +17,7 @@ use Rattle.verilog_model.specs.Hierarchy.{block_target, items_state, vstate_of, 
 use Rattle.verilog_expr.specs.Spilling.{is_wire_kind, spilled}
 use Rattle.export_verilog.specs.Identifiers.{Identifier, Emission, each, emission_of, module_identifiers, identifier_text, named, name_or_nothing}
 use Rattle.export_verilog.specs.Identifiers.Identifier.{port_identifier, value_identifier, instance_identifier}
-use Rattle.export_verilog.specs.Identifiers.Emission.{hidden, net, variable, block}
+use Rattle.export_verilog.specs.Identifiers.Emission.{inline, as_wire, as_reg, as_instance}
 use Rattle.export_verilog.specs.Exported.{symbol_name, expression, result_wires, declared_as, declares, block_of, always_of, instance_of, stated_as, states, output_assigns, expr_or_none, others, vitems, vmodule, tree_of}
 use Rattle.export_verilog.proofs.names.IdentifierNames.{AreNames, texts_apart}
 use Rattle.export_verilog.proofs.names.IdentifiersOf.{emission_of_register, emission_of_instance, emission_of_output, emission_of_made, instance_of_emission, register_of_emission, variable_in, instance_in_identifiers}
@@ -85,7 +85,7 @@ module _ (d : Design) (x : Setting d) (s : Name) (m : Module) (is : find_module 
   are : AreNames m
   are = x.names s m is
 
-  pub variable_width : (i : ℕ) (o : Op) → slice_get m.body i ≡ Some o → emission_of m.ports m.body i o ≡ variable
+  pub variable_width : (i : ℕ) (o : Op) → slice_get m.body i ≡ Some o → emission_of m.ports m.body i o ≡ as_reg
       → width_in (vmodule d m) (identifier_text m (value_identifier i 0)) ≡ held_width o
   variable_width i o there emission =
       width_under x.say d m (module_ok d x s m is) are (result_at_first d x s m is) (value_identifier i 0) (variable_in m i o there emission)
@@ -103,7 +103,7 @@ module _ (d : Design) (x : Setting d) (s : Name) (m : Module) (is : find_module 
       at_other : (k : Option Instance) → register_form o.kind ≡ None → instance_in o.kind ≡ k → op_state g o ≡ instance_state g k
       at_other k r n = ap (λ z. cond (is_some z) (held_width o) (instance_state g (instance_in o.kind))) r ∙ ap (instance_state g) n
 
-      none_made : (a b : Bool) → items_state f (vmodule d m) (stated_as d m i o (cond a net (cond b net hidden))) ≡ 0
+      none_made : (a b : Bool) → items_state f (vmodule d m) (stated_as d m i o (cond a as_wire (cond b as_wire inline))) ≡ 0
       none_made true b = refl
       none_made false true = refl
       none_made false false = refl
@@ -112,17 +112,17 @@ module _ (d : Design) (x : Setting d) (s : Name) (m : Module) (is : find_module 
       go (a_register h r n u) =
           let emission = emission_of_register m.ports m.body i o h r in
           let g' = register_of d x s m is i o there emission in
-          by_emission variable emission
+          by_emission as_reg emission
           ∙ ap (λ z. items_state f (vmodule d m) (always_of m (identifier_text m (value_identifier i 0)) z)) g'.1
           ∙ add-zero (width_in (vmodule d m) (block_target (block_of (expression m) (identifier_text m (value_identifier i 0)) g'.0.next g'.0.enable g'.0.reset)))
           ∙ ap (width_in (vmodule d m)) (block_name d x s m is s [] i g'.0) ∙ variable_width i o there emission ∙ sym (at_register h r)
       go (is_an_instance k r n u) =
           let emission = emission_of_instance m.ports m.body i o k r n in
           let c = called_by_emission d x s m is i o there emission in
-          by_emission block emission
+          by_emission as_instance emission
           ∙ ap (λ z. items_state f (vmodule d m) (instance_of d m i o z)) c.is_kind
           ∙ add-zero (f (symbol_name d c.kind.symbol)) ∙ agree i o c there ∙ sym (at_other (Some c.kind) r c.is_kind)
-      go (an_output r n u) = by_emission hidden (emission_of_output m.ports m.body i o r n u) ∙ sym (at_other None r n)
+      go (an_output r n u) = by_emission inline (emission_of_output m.ports m.body i o r n u) ∙ sym (at_other None r n)
       go (a_made r n u) = ap (λ z. items_state f (vmodule d m) (stated_as d m i o z)) (emission_of_made m.ports m.body i o r n u)
           ∙ none_made (is_wire_kind o.kind) (spilled m.ports m.body (result i 0)) ∙ sym (at_other None r n)
 
@@ -180,12 +180,12 @@ module _ (d : Design) (x : Setting d) (s : Name) (m : Module) (is : find_module 
 
     not_declared : (test : Item → Bool) → ((h : _) (n : Name) → test (wire h n) ≡ false) → ((h : _) (n : Name) → test (reg h n) ≡ false)
         → (i : ℕ) (o : Op) (r : Emission) (y : Item) → In y (declared_as m i o r) → test y ≡ false
-    not_declared test wires regs i o hidden y here = absurd here
-    not_declared test wires regs i o net y (inl same) = ap test same ∙ wires _ _
-    not_declared test wires regs i o net y (inr never) = absurd never
-    not_declared test wires regs i o variable y (inl same) = ap test same ∙ regs _ _
-    not_declared test wires regs i o variable y (inr never) = absurd never
-    not_declared test wires regs i o block y here = not_wires test wires i 0 o.results y here
+    not_declared test wires regs i o inline y here = absurd here
+    not_declared test wires regs i o as_wire y (inl same) = ap test same ∙ wires _ _
+    not_declared test wires regs i o as_wire y (inr never) = absurd never
+    not_declared test wires regs i o as_reg y (inl same) = ap test same ∙ regs _ _
+    not_declared test wires regs i o as_reg y (inr never) = absurd never
+    not_declared test wires regs i o as_instance y here = not_wires test wires i 0 o.results y here
 
     not_declares : (test : Item → Bool) → ((h : _) (n : Name) → test (wire h n) ≡ false) → ((h : _) (n : Name) → test (reg h n) ≡ false)
         → (y : Item) → In y (each (declares m) 0 m.body) → test y ≡ false
@@ -194,7 +194,7 @@ module _ (d : Design) (x : Setting d) (s : Name) (m : Module) (is : find_module 
         not_declared test wires regs e.0 e.1 (emission_of m.ports m.body e.0 e.1) y e.3
 
     -- a register's content begins after that of the operations before it
-    pub state_before_register : (i : ℕ) (o : Op) → slice_get m.body i ≡ Some o → emission_of m.ports m.body i o ≡ variable
+    pub state_before_register : (i : ℕ) (o : Op) → slice_get m.body i ≡ Some o → emission_of m.ports m.body i o ≡ as_reg
         → items_state f (vmodule d m) (until (loads (identifier_text m (value_identifier i 0))) (vitems d m)) ≡ body_state g (take i m.body)
     state_before_register i o there emission =
         state_before_op (loads (identifier_text m (value_identifier i 0))) i o there
@@ -202,7 +202,7 @@ module _ (d : Design) (x : Setting d) (s : Name) (m : Module) (is : find_module 
           test : Item → Bool
           test = loads (identifier_text m (value_identifier i 0))
 
-          in_block : (a : ℕ) (z : Op) → a < i → slice_get m.body a ≡ Some z → emission_of m.ports m.body a z ≡ variable → (r : Option Register) (y : Item)
+          in_block : (a : ℕ) (z : Op) → a < i → slice_get m.body a ≡ Some z → emission_of m.ports m.body a z ≡ as_reg → (r : Option Register) (y : Item)
               → In y (always_of m (identifier_text m (value_identifier a 0)) r) → loads (identifier_text m (value_identifier i 0)) y ≡ false
           in_block a z below at emission' None y here = absurd here
           in_block a z below at emission' (Some r) y (inl same) =
@@ -218,11 +218,11 @@ module _ (d : Design) (x : Setting d) (s : Name) (m : Module) (is : find_module 
 
           by_emission : (a : ℕ) (z : Op) → a < i → slice_get m.body a ≡ Some z → (r : Emission) → emission_of m.ports m.body a z ≡ r → (y : Item) → In y (stated_as d m a z r)
               → loads (identifier_text m (value_identifier i 0)) y ≡ false
-          by_emission a z below at hidden emission' y here = absurd here
-          by_emission a z below at net emission' y (inl same) = ap (loads (identifier_text m (value_identifier i 0))) same
-          by_emission a z below at net emission' y (inr never) = absurd never
-          by_emission a z below at variable emission' y here = in_block a z below at emission' (register_in z) y here
-          by_emission a z below at block emission' y here = in_instance a z (instance_in z.kind) y here
+          by_emission a z below at inline emission' y here = absurd here
+          by_emission a z below at as_wire emission' y (inl same) = ap (loads (identifier_text m (value_identifier i 0))) same
+          by_emission a z below at as_wire emission' y (inr never) = absurd never
+          by_emission a z below at as_reg emission' y here = in_block a z below at emission' (register_in z) y here
+          by_emission a z below at as_instance emission' y here = in_instance a z (instance_in z.kind) y here
 
           earlier : (a : ℕ) (z : Op) → a < i → slice_get m.body a ≡ Some z → (y : Item) → In y (states d m a z) → loads (identifier_text m (value_identifier i 0)) y ≡ false
           earlier a z below at y here = by_emission a z below at (emission_of m.ports m.body a z) refl y here
@@ -235,7 +235,7 @@ module _ (d : Design) (x : Setting d) (s : Name) (m : Module) (is : find_module 
               ∙ ap (λ b. cond b [] (always (name_or_nothing (named m g'.0.clock)) (block_of (expression m) (identifier_text m (value_identifier i 0)) g'.0.next g'.0.enable g'.0.reset) ∷ until (loads (identifier_text m (value_identifier i 0))) r))
               (ap (λ n. same_name n (identifier_text m (value_identifier i 0))) (block_name d x s m is s [] i g'.0) ∙ name_self (identifier_text m (value_identifier i 0)))
 
-    pub state_before_instance : (i : ℕ) (o : Op) → slice_get m.body i ≡ Some o → emission_of m.ports m.body i o ≡ block
+    pub state_before_instance : (i : ℕ) (o : Op) → slice_get m.body i ≡ Some o → emission_of m.ports m.body i o ≡ as_instance
         → items_state f (vmodule d m) (until (is_instance_named (identifier_text m (instance_identifier i))) (vitems d m)) ≡ body_state g (take i m.body)
     state_before_instance i o there emission =
         state_before_op (is_instance_named (identifier_text m (instance_identifier i))) i o there
@@ -245,7 +245,7 @@ module _ (d : Design) (x : Setting d) (s : Name) (m : Module) (is : find_module 
           in_block a z (Some r) y (inl same) = ap (is_instance_named (identifier_text m (instance_identifier i))) same
           in_block a z (Some r) y (inr never) = absurd never
 
-          in_instance : (a : ℕ) (z : Op) → a < i → slice_get m.body a ≡ Some z → emission_of m.ports m.body a z ≡ block → (k : Option Instance) (y : Item) → In y (instance_of d m a z k)
+          in_instance : (a : ℕ) (z : Op) → a < i → slice_get m.body a ≡ Some z → emission_of m.ports m.body a z ≡ as_instance → (k : Option Instance) (y : Item) → In y (instance_of d m a z k)
               → is_instance_named (identifier_text m (instance_identifier i)) y ≡ false
           in_instance a z below at emission' None y here = absurd here
           in_instance a z below at emission' (Some k) y (inl same) = ap (is_instance_named (identifier_text m (instance_identifier i))) same
@@ -254,11 +254,11 @@ module _ (d : Design) (x : Setting d) (s : Name) (m : Module) (is : find_module 
 
           by_emission : (a : ℕ) (z : Op) → a < i → slice_get m.body a ≡ Some z → (r : Emission) → emission_of m.ports m.body a z ≡ r → (y : Item) → In y (stated_as d m a z r)
               → is_instance_named (identifier_text m (instance_identifier i)) y ≡ false
-          by_emission a z below at hidden emission' y here = absurd here
-          by_emission a z below at net emission' y (inl same) = ap (is_instance_named (identifier_text m (instance_identifier i))) same
-          by_emission a z below at net emission' y (inr never) = absurd never
-          by_emission a z below at variable emission' y here = in_block a z (register_in z) y here
-          by_emission a z below at block emission' y here = in_instance a z below at emission' (instance_in z.kind) y here
+          by_emission a z below at inline emission' y here = absurd here
+          by_emission a z below at as_wire emission' y (inl same) = ap (is_instance_named (identifier_text m (instance_identifier i))) same
+          by_emission a z below at as_wire emission' y (inr never) = absurd never
+          by_emission a z below at as_reg emission' y here = in_block a z (register_in z) y here
+          by_emission a z below at as_instance emission' y here = in_instance a z below at emission' (instance_in z.kind) y here
 
           earlier : (a : ℕ) (z : Op) → a < i → slice_get m.body a ≡ Some z → (y : Item) → In y (states d m a z) → is_instance_named (identifier_text m (instance_identifier i)) y ≡ false
           earlier a z below at y here = by_emission a z below at (emission_of m.ports m.body a z) refl y here
@@ -302,7 +302,7 @@ module _ (d : Design) (x : Setting d) where
           ∙ ap (body_state (state d)) (sym (ap (λ v. before_instance v f.outer.body) (sym f.is_number) ∙ before_position f.outer.body f.place f.op f.called.kind f.there f.called.is_kind))
           ∙ sym (ap (state_before d u) f.here))
 
-    pub register_base : (p : Path) (m : Module) → module_at d top p ≡ Some m → (i : ℕ) (o : Op) → slice_get m.body i ≡ Some o → emission_of m.ports m.body i o ≡ variable
+    pub register_base : (p : Path) (m : Module) → module_at d top p ≡ Some m → (i : ℕ) (o : Op) → slice_get m.body i ≡ Some o → emission_of m.ports m.body i o ≡ as_reg
         → vbase (tree_of d) (symbol_name d top) (vpath_of d top p) + vstate_before (tree_of d) (loads (identifier_text m (value_identifier i 0))) (Some (vmodule d m)) ≡ base d top p + body_state (state d) (take i m.body)
     register_base p m here i o there emission =
         let at = symbol_at_path d x top p m here in

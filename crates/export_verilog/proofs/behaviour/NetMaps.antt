@@ -23,7 +23,7 @@ use Rattle.verilog_expr.specs.Values.{is_division, HoldConstants}
 use Rattle.verilog_expr.proofs.Bodies.{gives_values-pure, map_map}
 use Rattle.export_verilog.specs.Identifiers.{Identifier, emission_of, module_identifiers, identifier_text, named}
 use Rattle.export_verilog.specs.Identifiers.Identifier.{port_identifier, value_identifier, instance_identifier}
-use Rattle.export_verilog.specs.Identifiers.Emission.{net}
+use Rattle.export_verilog.specs.Identifiers.Emission.{as_wire}
 use Rattle.export_verilog.specs.Exported.{symbol_name, expression, vmodule, tree_of}
 use Rattle.export_verilog.proofs.names.IdentifiersOf.{Owner, owner_of, register_of_emission, instance_of_emission, port_in, net_in}
 use Rattle.export_verilog.proofs.names.IdentifiersOf.Owner.{a_port, a_net, a_variable, an_instance, a_result}

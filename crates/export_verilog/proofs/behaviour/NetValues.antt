@@ -31,7 +31,7 @@ use Rattle.verilog_expr.proofs.Bodies.{is_name, is_own, body_absent, body_bits, 
 use Rattle.verilog_expr.proofs.Depths.{expressions_hold}
 use Rattle.export_verilog.specs.Identifiers.{Identifier, emission_of, module_identifiers, identifier_text, named}
 use Rattle.export_verilog.specs.Identifiers.Identifier.{port_identifier, value_identifier, instance_identifier}
-use Rattle.export_verilog.specs.Identifiers.Emission.{net, variable, block}
+use Rattle.export_verilog.specs.Identifiers.Emission.{as_wire, as_reg, as_instance}
 use Rattle.export_verilog.specs.Exported.{symbol_name, expression, assigned_expr, vmodule, tree_of}
 use Rattle.export_verilog.proofs.names.IdentifiersOf.{Owner, owner_of, made_of_emission, register_of_emission, instance_of_emission, port_in}
 use Rattle.export_verilog.proofs.names.IdentifiersOf.Owner.{a_port, a_net, a_variable, an_instance, a_result}
@@ -168,7 +168,7 @@ module _ (d : Design) (x : Setting d) (top : Name) (inputs content : Word) where
           (is_own (named m) m.ports m.body (expression m) (width_in (vmodule d m)) (names_at (vpath_of d top p) σ) are_exprs r e)
 
       -- what drives the wire of a made operation
-      pub net_given : (i : ℕ) (o : Op) (t : HwType) → slice_get m.body i ≡ Some o → emission_of m.ports m.body i o ≡ net → result_type o 0 ≡ Some t
+      pub net_given : (i : ℕ) (o : Op) (t : HwType) → slice_get m.body i ≡ Some o → emission_of m.ports m.body i o ≡ as_wire → result_type o 0 ≡ Some t
           → (is_division o.kind ≡ true → HoldConstants (named m) m.body (names_at (vpath_of d top p) σ))
           → given σ p m (value_identifier i 0) ≡ op_value o.kind o.types t 0 (map (own σ p m) o.operands)
       net_given i o t there emission typed hold =
@@ -275,11 +275,11 @@ module _ (d : Design) (x : Setting d) (top : Name) (inputs content : Word) where
               (λ h. operand_at d f.outer f.op f.called j y h inward) there
 
     first_type : (p : Path) (m : Module) (here : module_at d top p ≡ Some m) (i : ℕ) (o : Op) → slice_get m.body i ≡ Some o
-        → (emission_of m.ports m.body i o ≡ net) ⊎ (emission_of m.ports m.body i o ≡ variable) → (t : HwType) × (result_type o 0 ≡ Some t)
+        → (emission_of m.ports m.body i o ≡ as_wire) ⊎ (emission_of m.ports m.body i o ≡ as_reg) → (t : HwType) × (result_type o 0 ≡ Some t)
     first_type p m here i o there emission = let h = first_result d x (symbol_there p m here) m (found_there p m here) i o there emission in
         (h.0.type, ap (λ rs. omap (λ (z : OpResult). z.type) (slice_get rs 0)) h.1)
 
-    net_agrees : (p : Path) (m : Module) (here : module_at d top p ≡ Some m) (i : ℕ) (o : Op) → slice_get m.body i ≡ Some o → emission_of m.ports m.body i o ≡ net
+    net_agrees : (p : Path) (m : Module) (here : module_at d top p ≡ Some m) (i : ℕ) (o : Op) → slice_get m.body i ≡ Some o → emission_of m.ports m.body i o ≡ as_wire
         → ((r : Ref) → own σ p m r ≡ τ (at p r)) → given σ p m (value_identifier i 0) ≡ evaluated τ p (result i 0)
     net_agrees p m here i o there emission own_is =
         let t = first_type p m here i o there (inl emission) in
@@ -288,7 +288,7 @@ module _ (d : Design) (x : Setting d) (top : Name) (inputs content : Word) where
         ∙ ap (op_value o.kind o.types t.0 0) (operands_agree p m o.operands (λ r within. own_is r))
         ∙ sym (evaluated_as τ p (result i 0) (made o.kind o.types t.0 0 (map (at p) o.operands)) (made_from d top p m here i 0 o t.0 there h.0 h.1 h.2 t.1))
 
-    variable_agrees : (p : Path) (m : Module) (here : module_at d top p ≡ Some m) (i : ℕ) (o : Op) → slice_get m.body i ≡ Some o → emission_of m.ports m.body i o ≡ variable
+    variable_agrees : (p : Path) (m : Module) (here : module_at d top p ≡ Some m) (i : ℕ) (o : Op) → slice_get m.body i ≡ Some o → emission_of m.ports m.body i o ≡ as_reg
         → given σ p m (value_identifier i 0) ≡ evaluated τ p (result i 0)
     variable_agrees p m here i o there emission =
         let t = first_type p m here i o there (inr emission) in
@@ -297,7 +297,7 @@ module _ (d : Design) (x : Setting d) (top : Name) (inputs content : Word) where
         ∙ sym (evaluated_as τ p (result i 0) (from_held (offset d top p m i) (width t.0))
         (register_from d top p m here i 0 o h.0 there h.1 ∙ ap (held_of (offset d top p m i)) t.1))
 
-    result_agrees : (p : Path) (m : Module) (here : module_at d top p ≡ Some m) (i k : ℕ) (o : Op) (r : OpResult) → slice_get m.body i ≡ Some o → emission_of m.ports m.body i o ≡ block
+    result_agrees : (p : Path) (m : Module) (here : module_at d top p ≡ Some m) (i k : ℕ) (o : Op) (r : OpResult) → slice_get m.body i ≡ Some o → emission_of m.ports m.body i o ≡ as_instance
         → slice_get o.results k ≡ Some r → ShowOutputs → given σ p m (value_identifier i k) ≡ evaluated τ p (result i k)
     result_agrees p m here i k o r there emission found shows =
         let c = called_by_emission d x (symbol_there p m here) m (found_there p m here) i o there emission in

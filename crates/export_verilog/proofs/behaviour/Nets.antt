@@ -13,7 +13,7 @@ use Rattle.verilog_model.specs.Hierarchy.Drive.{nothing, input, held, expression
 use Rattle.verilog_expr.specs.Numerals.{high_of}
 use Rattle.export_verilog.specs.Identifiers.{Identifier, each, emission_of, module_identifiers, identifier_text}
 use Rattle.export_verilog.specs.Identifiers.Identifier.{port_identifier, value_identifier, instance_identifier}
-use Rattle.export_verilog.specs.Identifiers.Emission.{net, variable, block}
+use Rattle.export_verilog.specs.Identifiers.Emission.{as_wire, as_reg, as_instance}
 use Rattle.export_verilog.specs.Exported.{symbol_name, expression, assigned_expr, connections_of, connections_to, vport, vports, vitems, vmodule, tree_of}
 use Rattle.export_verilog.specs.Exportable.{IsExportableModule}
 use Rattle.export_verilog.proofs.names.IdentifierNames.{AreNames, texts_apart}
@@ -90,19 +90,19 @@ module _ (d : Design) (x : Setting d) (top : Name) where
     pub no_drive_here : (n : Name) → ((k : Identifier) → In k (module_identifiers m) → n ≡ identifier_text m k → ⊥) → drive (tree_of d) (symbol_name d top) (vnet (vpath_of d top p) n) ≡ nothing
     no_drive_here n never = drive_found n ∙ no_drive_under d x symbol_of m found_here (symbol_name d top) (vpath_of d top p) n never
 
-    pub drive_net : (i : ℕ) (o : Op) → slice_get m.body i ≡ Some o → emission_of m.ports m.body i o ≡ net → identifier_drive p m (value_identifier i 0) ≡ driven_by (vpath_of d top p) (assigned_expr m (result i 0))
+    pub drive_net : (i : ℕ) (o : Op) → slice_get m.body i ≡ Some o → emission_of m.ports m.body i o ≡ as_wire → identifier_drive p m (value_identifier i 0) ≡ driven_by (vpath_of d top p) (assigned_expr m (result i 0))
     drive_net i o there emission =
         drive_of_identifier (value_identifier i 0) (net_in m i o there emission) ∙ inner_of_identifier (value_identifier i 0) (net_in m i o there emission)
-        ∙ ap drive_or_nothing (value_by_emission d x symbol_of m found_here (symbol_name d top) (vpath_of d top p) i 0 o net there emission)
+        ∙ ap drive_or_nothing (value_by_emission d x symbol_of m found_here (symbol_name d top) (vpath_of d top p) i 0 o as_wire there emission)
 
-    pub drive_variable : (i : ℕ) (o : Op) → slice_get m.body i ≡ Some o → emission_of m.ports m.body i o ≡ variable
+    pub drive_variable : (i : ℕ) (o : Op) → slice_get m.body i ≡ Some o → emission_of m.ports m.body i o ≡ as_reg
         → identifier_drive p m (value_identifier i 0) ≡ held (base d top p + body_state (state d) (take i m.body)) (width_of (result_type o 0))
     drive_variable i o there emission =
         drive_of_identifier (value_identifier i 0) (variable_in m i o there emission) ∙ inner_of_identifier (value_identifier i 0) (variable_in m i o there emission)
-        ∙ ap drive_or_nothing (value_by_emission d x symbol_of m found_here (symbol_name d top) (vpath_of d top p) i 0 o variable there emission)
+        ∙ ap drive_or_nothing (value_by_emission d x symbol_of m found_here (symbol_name d top) (vpath_of d top p) i 0 o as_reg there emission)
         ∙ ap₂ held (register_base d x top p m here i o there emission) (variable_width d x symbol_of m found_here i o there emission)
 
-    pub drive_result : (i k : ℕ) (o : Op) (r : OpResult) (c : Called d m o) → slice_get m.body i ≡ Some o → emission_of m.ports m.body i o ≡ block → slice_get o.results k ≡ Some r
+    pub drive_result : (i k : ℕ) (o : Op) (r : OpResult) (c : Called d m o) → slice_get m.body i ≡ Some o → emission_of m.ports m.body i o ≡ as_instance → slice_get o.results k ≡ Some r
         → (e : OutputAt c.module_of.ports k r.type) → identifier_drive p m (value_identifier i k) ≡ driven_from (vnet (vpath_of d top (number_of m.body i ∷ p)) (identifier_text c.module_of (port_identifier e.place)))
     drive_result i k o r c there emission at e =
         drive_of_identifier (value_identifier i k) (result_in_identifiers m i k o r there emission at) ∙ inner_of_identifier (value_identifier i k) (result_in_identifiers m i k o r there emission at)
@@ -110,7 +110,7 @@ module _ (d : Design) (x : Setting d) (top : Name) where
         (ap (λ a. output_place a c.module_of.ports) (sym e.number) ∙ (place_of_output c.module_of.ports e.place e.port e.there e.out).0))
         ∙ ap (λ q. driven_from (vnet q (identifier_text c.module_of (port_identifier e.place)))) (sym (inside_instance d x top p m here i o c there).1)
 
-    pub drive_instance : (i : ℕ) (o : Op) → slice_get m.body i ≡ Some o → emission_of m.ports m.body i o ≡ block → identifier_drive p m (instance_identifier i) ≡ nothing
+    pub drive_instance : (i : ℕ) (o : Op) → slice_get m.body i ≡ Some o → emission_of m.ports m.body i o ≡ as_instance → identifier_drive p m (instance_identifier i) ≡ nothing
     drive_instance i o there emission = drive_of_identifier (instance_identifier i) (instance_in_identifiers m i o there emission) ∙ inner_of_identifier (instance_identifier i) (instance_in_identifiers m i o there emission)
 
     port_here : (j : ℕ) (y : Port) → slice_get m.ports j ≡ Some y

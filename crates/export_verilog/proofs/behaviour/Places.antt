@@ -18,7 +18,7 @@ use Rattle.verilog_model.specs.Tree.{VModule}
 use Rattle.verilog_model.specs.Hierarchy.{VPath, VInstance, vmodule_at, find_instance, find_vmodule}
 use Rattle.export_verilog.specs.Identifiers.{Identifier, emission_of, module_identifiers, identifier_text}
 use Rattle.export_verilog.specs.Identifiers.Identifier.{instance_identifier}
-use Rattle.export_verilog.specs.Identifiers.Emission.{block}
+use Rattle.export_verilog.specs.Identifiers.Emission.{as_instance}
 use Rattle.export_verilog.specs.Exported.{symbol_name, vitems, vmodule, tree_of}
 use Rattle.export_verilog.proofs.names.IdentifierNames.{AreNames, texts_apart}
 use Rattle.export_verilog.proofs.names.IdentifiersOf.{emission_of_instance, Owner, owner_of, instance_in_identifiers}
@@ -93,7 +93,7 @@ module _ (d : Design) (x : Setting d) (top : Name) where
     pub place : ℕ
     pub op : Op
     pub there : slice_get outer.body place ≡ Some op
-    pub emission : emission_of outer.ports outer.body place op ≡ block
+    pub emission : emission_of outer.ports outer.body place op ≡ as_instance
     pub called : Called d outer op
     pub inside : called.module_of ≡ c
     pub is_place : place_of outer.body u ≡ place
@@ -124,7 +124,7 @@ module _ (d : Design) (x : Setting d) (top : Name) where
               is_place = refl;
               is_number = number;
             } where
-              by_sort : Sort o.kind → emission_of m.ports m.body (place_of m.body u) o ≡ block
+              by_sort : Sort o.kind → emission_of m.ports m.body (place_of m.body u) o ≡ as_instance
               by_sort (is_an_instance z r n y) = emission_of_instance m.ports m.body (place_of m.body u) o z r n
               by_sort (a_register f r n y) = absurd (let h : None ≡ Some k = sym n ∙ kind in cc)
               by_sort (an_output r n y) = absurd (let h : None ≡ Some k = sym n ∙ kind in cc)
@@ -135,7 +135,7 @@ module _ (d : Design) (x : Setting d) (top : Name) where
   name_of_step u p c f = ap (λ y. step_name y u ∷ vpath_of d top p) f.here
       ∙ ap (λ i. identifier_text f.outer (instance_identifier i) ∷ vpath_of d top p) f.is_place
 
-  instance_there : (m : Module) (are : AreNames m) (i : ℕ) (o : Op) (c : Called d m o) → slice_get m.body i ≡ Some o → emission_of m.ports m.body i o ≡ block
+  instance_there : (m : Module) (are : AreNames m) (i : ℕ) (o : Op) (c : Called d m o) → slice_get m.body i ≡ Some o → emission_of m.ports m.body i o ≡ as_instance
       → find_instance (vitems d m) (identifier_text m (instance_identifier i)) ≡ Some (instance_of_kind d m i o c.kind)
   instance_there m are i o c there emission =
       instance_under d m are (instance_identifier i) (instance_in_identifiers m i o there emission)

@@ -19,7 +19,7 @@ use Rattle.verilog_model.specs.Meaning.{names_at, drive_value}
 use Rattle.verilog_expr.specs.Values.{HoldConstants}
 use Rattle.export_verilog.specs.Identifiers.{Identifier, emission_of, module_identifiers, identifier_text, named}
 use Rattle.export_verilog.specs.Identifiers.Identifier.{port_identifier, value_identifier, instance_identifier}
-use Rattle.export_verilog.specs.Identifiers.Emission.{net, variable, block}
+use Rattle.export_verilog.specs.Identifiers.Emission.{as_wire, as_reg, as_instance}
 use Rattle.export_verilog.specs.Exported.{symbol_name, tree_of}
 use Rattle.export_verilog.proofs.names.IdentifiersOf.{Owner, owner_of, port_in}
 use Rattle.export_verilog.proofs.names.IdentifiersOf.Owner.{a_port, a_net, a_variable, an_instance, a_result}
@@ -49,7 +49,7 @@ module _ (d : Design) (x : Setting d) (top : Name) (inputs content : Word) (m0 :
   over_identifier ρ p m here k within = to_identifier d x top m0 top_is ρ p m here k within
 
   -- what an instance's name stands for
-  instance_given : (σ : VNet → Word) (p : Path) (m : Module) (here : module_at d top p ≡ Some m) (i : ℕ) (o : Op) → slice_get m.body i ≡ Some o → emission_of m.ports m.body i o ≡ block
+  instance_given : (σ : VNet → Word) (p : Path) (m : Module) (here : module_at d top p ≡ Some m) (i : ℕ) (o : Op) → slice_get m.body i ≡ Some o → emission_of m.ports m.body i o ≡ as_instance
       → drives d x top inputs content m0 top_is σ p m (instance_identifier i) ≡ []
   instance_given σ p m here i o there emission = ap (drive_value (tree_of d) (symbol_name d top) inputs content σ 0) (drive_instance d x top p m here i o there emission)
 
@@ -78,7 +78,7 @@ module _ (d : Design) (x : Setting d) (top : Name) (inputs content : Word) (m0 :
           ∙ typed_long p m (port j) y.type here (ap input_type there ∙ ap (λ b. cond b None (Some y.type)) inward)
           ∙ sym (port_width_is d x top inputs content p m here j y there)
 
-      first_long : (i : ℕ) (o : Op) → slice_get m.body i ≡ Some o → (emission_of m.ports m.body i o ≡ net) ⊎ (emission_of m.ports m.body i o ≡ variable) → length (ρ (at p (result i 0))) ≡ identifier_width m (value_identifier i 0)
+      first_long : (i : ℕ) (o : Op) → slice_get m.body i ≡ Some o → (emission_of m.ports m.body i o ≡ as_wire) ⊎ (emission_of m.ports m.body i o ≡ as_reg) → length (ρ (at p (result i 0))) ≡ identifier_width m (value_identifier i 0)
       first_long i o there emission =
           let h = first_result d x (symbol_there d x top inputs content p m here) m (found_there d x top inputs content p m here) i o there emission in
           result_long p m i 0 o h.0.type here there (ap (λ rs. omap (λ (z : OpResult). z.type) (slice_get rs 0)) h.1)

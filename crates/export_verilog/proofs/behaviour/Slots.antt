@@ -23,7 +23,7 @@ use Rattle.verilog_expr.specs.Values.{HasBits}
 use Rattle.verilog_expr.proofs.Assigned.{assigned_same}
 use Rattle.export_verilog.specs.Identifiers.{Emission, each, emission_of, identifier_text, named, name_or_nothing}
 use Rattle.export_verilog.specs.Identifiers.Identifier.{port_identifier, value_identifier, instance_identifier}
-use Rattle.export_verilog.specs.Identifiers.Emission.{hidden, net, variable, block}
+use Rattle.export_verilog.specs.Identifiers.Emission.{inline, as_wire, as_reg, as_instance}
 use Rattle.export_verilog.specs.Exportable.{IsClocked}
 use Rattle.export_verilog.specs.Exported.{symbol_name, expression, result_wires, declared_as, declares, loads, block_of, always_of, instance_of, stated_as, states, output_assigns, expr_or_none, others, vitems, vmodule, tree_of}
 use Rattle.export_verilog.proofs.names.IdentifiersOf.{emission_of_register, emission_of_instance, emission_of_output, emission_of_made}
@@ -101,7 +101,7 @@ module _ (d : Design) (x : Setting d) (top : Name) where
     pub here : module_at d top s.path ≡ Some m
     pub place : ℕ
     pub there : slice_get m.body place ≡ Some s.op
-    pub emission : emission_of m.ports m.body place s.op ≡ variable
+    pub emission : emission_of m.ports m.body place s.op ≡ as_reg
     pub parts : Register
     pub is_parts : register_in s.op ≡ Some parts
     pub same : v ≡ vslot (vpath_of d top s.path) m place parts
@@ -133,7 +133,7 @@ module _ (d : Design) (x : Setting d) (top : Name) where
       no_registers : register_form o.kind ≡ None → instance_in o.kind ≡ None → op_registers f p (number_of m.body i) o ≡ []
       no_registers r n = ap (λ z. cond (is_some z) (record { path = p; op = o } ∷ []) (instance_registers f p (number_of m.body i) (instance_in o.kind))) r ∙ ap (instance_registers f p (number_of m.body i)) n
 
-      none_made : (a b : Bool) → items_of (stated_as d m i o (cond a net (cond b net hidden))) ≡ []
+      none_made : (a b : Bool) → items_of (stated_as d m i o (cond a as_wire (cond b as_wire inline))) ≡ []
       none_made true b = refl
       none_made false true = refl
       none_made false false = refl
@@ -142,7 +142,7 @@ module _ (d : Design) (x : Setting d) (top : Name) where
       by_sort (a_register h r n u) =
           let emission = emission_of_register m.ports m.body i o h r in
           let parts = register_of d x s m is i o there emission in
-          from_emission variable emission (record { path = p; op = o } ∷ [])
+          from_emission as_reg emission (record { path = p; op = o } ∷ [])
           (ap (λ z. cond (is_some z) (record { path = p; op = o } ∷ []) (instance_registers f p (number_of m.body i) (instance_in o.kind))) r)
           (subst (λ z. AreSlots (record { path = p; op = o } ∷ []) (items_of (always_of m (identifier_text m (value_identifier i 0)) z))) (sym parts.1)
           (record { m = m; here = here; place = i; there = there; emission = emission; parts = parts.0; is_parts = parts.1; same = refl }, tt))
@@ -153,13 +153,13 @@ module _ (d : Design) (x : Setting d) (top : Name) where
           let are : AreSlots (f (number_of m.body i ∷ p) c.kind.symbol) (g (identifier_text m (instance_identifier i) ∷ vpath_of d top p) (symbol_name d c.kind.symbol)) =
           subst (λ q. AreSlots (f (number_of m.body i ∷ p) c.kind.symbol) (g q (symbol_name d c.kind.symbol))) inside.1
           (inner (number_of m.body i ∷ p) c.kind.symbol c.module_of inside.0 c.there) in
-          from_emission block emission (f (number_of m.body i ∷ p) c.kind.symbol)
+          from_emission as_instance emission (f (number_of m.body i ∷ p) c.kind.symbol)
           (ap (λ z. cond (is_some z) (record { path = p; op = o } ∷ []) (instance_registers f p (number_of m.body i) (instance_in o.kind))) r ∙ ap (instance_registers f p (number_of m.body i)) c.is_kind)
           (subst (λ z. AreSlots (f (number_of m.body i ∷ p) c.kind.symbol) (items_of (instance_of d m i o z))) (sym c.is_kind)
           (subst (AreSlots (f (number_of m.body i ∷ p) c.kind.symbol)) (sym (append-nil (g (identifier_text m (instance_identifier i) ∷ vpath_of d top p) (symbol_name d c.kind.symbol)))) are))
-      by_sort (an_output r n u) = from_emission hidden (emission_of_output m.ports m.body i o r n u) [] (no_registers r n) tt
+      by_sort (an_output r n u) = from_emission inline (emission_of_output m.ports m.body i o r n u) [] (no_registers r n) tt
       by_sort (a_made r n u) =
-          from_emission (cond (is_wire_kind o.kind) net (cond (spilled m.ports m.body (result i 0)) net hidden)) (emission_of_made m.ports m.body i o r n u) [] (no_registers r n)
+          from_emission (cond (is_wire_kind o.kind) as_wire (cond (spilled m.ports m.body (result i 0)) as_wire inline)) (emission_of_made m.ports m.body i o r n u) [] (no_registers r n)
           (subst (AreSlots []) (sym (none_made (is_wire_kind o.kind) (spilled m.ports m.body (result i 0)))) tt)
 
     body_slots : (j : ℕ) (os : List Op) → ((a : ℕ) (o : Op) → slice_get os a ≡ Some o → slice_get m.body (j + a) ≡ Some o) → (u : ℕ) → u ≡ number_of m.body j

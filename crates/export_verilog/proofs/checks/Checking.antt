@@ -13,7 +13,7 @@ use Rattle.verilog_model.proofs.Numerals.{and_intro}
 use Rattle.verilog_expr.specs.Numerals.{high_of}
 use Rattle.export_verilog.specs.Identifiers.{Identifier, each, emission_of, result_identifiers, identifier_text, module_identifiers}
 use Rattle.export_verilog.specs.Identifiers.Identifier.{port_identifier, value_identifier, instance_identifier}
-use Rattle.export_verilog.specs.Identifiers.Emission.{net, variable, block}
+use Rattle.export_verilog.specs.Identifiers.Emission.{as_wire, as_reg, as_instance}
 use Rattle.export_verilog.specs.Exported.{symbol_names, symbol_name, vport, vports, vitems, vmodule, tree_of}
 use Rattle.export_verilog.proofs.items.Lists.{in_append}
 use Rattle.export_verilog.proofs.names.IdentifiersOf.{from_each, into_each, results_in, port_in, net_in, variable_in, instance_in_identifiers, result_in_identifiers}
@@ -84,13 +84,13 @@ module _ (d : Design) (x : Setting d) (s : Name) (m : Module) (is : find_module 
           away (inl u) = let e = wire_kind m (port_identifier j) u in apart e.0 e.1 j e.2
           away (inr u) = let e = output_among d x s m is (port_identifier j) here 0 m.ports (port_identifier j) u in other e.0 e.1 e.2 e.3 e.4
 
-  wired_net : (i : ℕ) (o : Op) → slice_get m.body i ≡ Some o → emission_of m.ports m.body i o ≡ net → In (value_identifier i 0) (each (op_wires m) 0 m.body)
+  wired_net : (i : ℕ) (o : Op) → slice_get m.body i ≡ Some o → emission_of m.ports m.body i o ≡ as_wire → In (value_identifier i 0) (each (op_wires m) 0 m.body)
   wired_net i o there emission = into_each (op_wires m) m.body (value_identifier i 0) i o there (subst (λ r. In (value_identifier i 0) (wire_identifiers r i o)) (sym emission) (inl refl))
 
-  wired_variable : (i : ℕ) (o : Op) → slice_get m.body i ≡ Some o → emission_of m.ports m.body i o ≡ variable → In (value_identifier i 0) (each (op_wires m) 0 m.body)
+  wired_variable : (i : ℕ) (o : Op) → slice_get m.body i ≡ Some o → emission_of m.ports m.body i o ≡ as_reg → In (value_identifier i 0) (each (op_wires m) 0 m.body)
   wired_variable i o there emission = into_each (op_wires m) m.body (value_identifier i 0) i o there (subst (λ r. In (value_identifier i 0) (wire_identifiers r i o)) (sym emission) (inl refl))
 
-  wired_result : (i k : ℕ) (o : Op) (r : OpResult) → slice_get m.body i ≡ Some o → emission_of m.ports m.body i o ≡ block → slice_get o.results k ≡ Some r → In (value_identifier i k) (each (op_wires m) 0 m.body)
+  wired_result : (i k : ℕ) (o : Op) (r : OpResult) → slice_get m.body i ≡ Some o → emission_of m.ports m.body i o ≡ as_instance → slice_get o.results k ≡ Some r → In (value_identifier i k) (each (op_wires m) 0 m.body)
   wired_result i k o r there emission at = into_each (op_wires m) m.body (value_identifier i k) i o there
       (subst (λ q. In (value_identifier i k) (wire_identifiers q i o)) (sym emission) (subst (λ n. In (value_identifier i n) (result_identifiers i 0 o.results)) (zero-add k) (results_in i 0 o.results k r at)))
 

@@ -20,7 +20,7 @@ use Rattle.verilog_expr.proofs.Depths.{expressions_hold}
 use Rattle.verilog_expr.specs.Expressions.{name_or, own_expr}
 use Rattle.export_verilog.specs.Identifiers.{emission_of, identifier_text, named, name_or_nothing}
 use Rattle.export_verilog.specs.Identifiers.Identifier.{port_identifier, value_identifier}
-use Rattle.export_verilog.specs.Identifiers.Emission.{variable}
+use Rattle.export_verilog.specs.Identifiers.Emission.{as_reg}
 use Rattle.export_verilog.specs.Exported.{symbol_name, expression, connections_of, connections_to, vports, vitems, tree_of}
 use Rattle.export_verilog.proofs.names.IdentifierNames.{texts_apart}
 use Rattle.export_verilog.proofs.names.IdentifiersOf.{port_in}
@@ -105,7 +105,7 @@ module _ (d : Design) (x : Setting d) where
         inner : Name → Name → Bool
         inner = is_clock n (tree_of d)
 
-        in_register : (i : ℕ) (o : Op) (r : Register) → slice_get c.body i ≡ Some o → emission_of c.ports c.body i o ≡ variable → register_in o ≡ Some r → same_name (name_or_nothing (named c r.clock)) a ≡ true → IsClockInput c a
+        in_register : (i : ℕ) (o : Op) (r : Register) → slice_get c.body i ≡ Some o → emission_of c.ports c.body i o ≡ as_reg → register_in o ≡ Some r → same_name (name_or_nothing (named c r.clock)) a ≡ true → IsClockInput c a
         in_register i o r there emission at same =
             let first = result_at_first d x s c is i o there (inr emission) in
             let typed = typed_register d x s c is i o there emission first.0.type (ap (omap (λ (z : OpResult). z.type)) first.1) in

@@ -11,7 +11,7 @@ use Rattle.verilog_model.specs.Checks.{is_identifier, all_identifiers, names_che
 use Rattle.verilog_model.proofs.Numerals.{and_intro}
 use Rattle.export_verilog.specs.Identifiers.{Identifier, Emission, each, emission_of, result_identifiers, identifier_text, module_identifiers}
 use Rattle.export_verilog.specs.Identifiers.Identifier.{port_identifier, value_identifier, instance_identifier}
-use Rattle.export_verilog.specs.Identifiers.Emission.{hidden, net, variable, block}
+use Rattle.export_verilog.specs.Identifiers.Emission.{inline, as_wire, as_reg, as_instance}
 use Rattle.export_verilog.specs.Exported.{expression, expr_or_none, others, vport, vports, vitems, vmodule, result_wires, declared_as, declares, always_of, instance_of, stated_as, states, output_assigns}
 use Rattle.export_verilog.proofs.items.Lists.{in_append}
 use Rattle.export_verilog.proofs.names.IdentifierNames.{AreNames, text_named, name_is_identifier}
@@ -25,16 +25,16 @@ name_of_declared y = y.name
 
 -- the keys of an operation's declarations, and of its statements
 abbrev pub wire_identifiers : Emission → ℕ → Op → List Identifier
-wire_identifiers hidden i o = []
-wire_identifiers net i o = value_identifier i 0 ∷ []
-wire_identifiers variable i o = value_identifier i 0 ∷ []
-wire_identifiers block i o = result_identifiers i 0 o.results
+wire_identifiers inline i o = []
+wire_identifiers as_wire i o = value_identifier i 0 ∷ []
+wire_identifiers as_reg i o = value_identifier i 0 ∷ []
+wire_identifiers as_instance i o = result_identifiers i 0 o.results
 
 abbrev pub block_identifiers : Emission → ℕ → Op → List Identifier
-block_identifiers hidden i o = []
-block_identifiers net i o = []
-block_identifiers variable i o = []
-block_identifiers block i o = instance_identifier i ∷ []
+block_identifiers inline i o = []
+block_identifiers as_wire i o = []
+block_identifiers as_reg i o = []
+block_identifiers as_instance i o = instance_identifier i ∷ []
 
 module _ (m : Module) where
   abbrev pub op_wires : ℕ → Op → List Identifier
@@ -87,10 +87,10 @@ module _ (m : Module) where
     in_always q (Some r) = refl
 
     go : (r : Emission) → emission_of m.ports m.body i o ≡ r → names_of (stated_as d m i o r) ≡ map (identifier_text m) (block_identifiers r i o)
-    go hidden e = refl
-    go net e = refl
-    go variable e = in_always (identifier_text m (value_identifier i 0)) (register_in o)
-    go block e = ap (λ z. names_of (instance_of d m i o z)) (instance_of_emission m.ports m.body i o e).2
+    go inline e = refl
+    go as_wire e = refl
+    go as_reg e = in_always (identifier_text m (value_identifier i 0)) (register_in o)
+    go as_instance e = ap (λ z. names_of (instance_of d m i o z)) (instance_of_emission m.ports m.body i o e).2
 
   output_names : (j : ℕ) (ps : List Port) (rs : List Ref) → names_of (output_assigns m j ps rs) ≡ []
   unfolding names_of
@@ -161,10 +161,10 @@ module _ (m : Module) where
     single (inr never) = absurd never
 
     go : (r : Emission) → In k (wire_identifiers r i o) → identifier_place k ≡ i
-    go hidden h = absurd h
-    go net h = single h
-    go variable h = single h
-    go block h = ap identifier_place (result_identifiers_above i 0 o.results k h).1
+    go inline h = absurd h
+    go as_wire h = single h
+    go as_reg h = single h
+    go as_instance h = ap identifier_place (result_identifiers_above i 0 o.results k h).1
 
   pub wires_apart : (i : ℕ) (o : Op) → AreApart (op_wires m i o)
   wires_apart i o = go (emission_of m.ports m.body i o) where
@@ -178,11 +178,11 @@ module _ (m : Module) where
   unfolding identifier_place
   blocks_placed i o k here = go (emission_of m.ports m.body i o) here where
     go : (r : Emission) → In k (block_identifiers r i o) → (k ≡ instance_identifier i) × (identifier_place k ≡ i)
-    go hidden h = absurd h
-    go net h = absurd h
-    go variable h = absurd h
-    go block (inl e) = (e, ap identifier_place e)
-    go block (inr never) = absurd never
+    go inline h = absurd h
+    go as_wire h = absurd h
+    go as_reg h = absurd h
+    go as_instance (inl e) = (e, ap identifier_place e)
+    go as_instance (inr never) = absurd never
 
   blocks_apart : (i : ℕ) (o : Op) → AreApart (op_blocks m i o)
   blocks_apart i o = go (emission_of m.ports m.body i o) where
@@ -200,10 +200,10 @@ module _ (m : Module) where
     single i (inr never) = absurd never
 
     go : (i : ℕ) (o : Op) (r : Emission) → In k (wire_identifiers r i o) → (j n : ℕ) × (k ≡ value_identifier j n)
-    go i o hidden h = absurd h
-    go i o net h = single i h
-    go i o variable h = single i h
-    go i o block h = let e = result_identifiers_above i 0 o.results k h in (i, 0 + e.0, e.1)
+    go i o inline h = absurd h
+    go i o as_wire h = single i h
+    go i o as_reg h = single i h
+    go i o as_instance h = let e = result_identifiers_above i 0 o.results k h in (i, 0 + e.0, e.1)
 
   pub block_kind : (k : Identifier) → In k (each (op_blocks m) 0 m.body) → (i : ℕ) × (k ≡ instance_identifier i)
   block_kind k here = let e = from_each (op_blocks m) m.body k here in (e.0, (blocks_placed e.0 e.1 k e.3).0)
@@ -234,20 +234,20 @@ module _ (m : Module) where
   pub declared_within : (k : Identifier) → In k (declared_identifiers m) → In k (module_identifiers m)
   declared_within k here = go (in_append k (port_identifiers_from 0 m.ports) (each (op_wires m) 0 m.body ++ each (op_blocks m) 0 m.body) here) where
     of_wire : (i : ℕ) (o : Op) → slice_get m.body i ≡ Some o → (r : Emission) → emission_of m.ports m.body i o ≡ r → In k (wire_identifiers r i o) → In k (module_identifiers m)
-    of_wire i o there hidden emission h = absurd h
-    of_wire i o there net emission (inl e) = subst (λ z. In z (module_identifiers m)) (sym e) (net_in m i o there emission)
-    of_wire i o there net emission (inr never) = absurd never
-    of_wire i o there variable emission (inl e) = subst (λ z. In z (module_identifiers m)) (sym e) (variable_in m i o there emission)
-    of_wire i o there variable emission (inr never) = absurd never
-    of_wire i o there block emission h = let e = in_results i 0 o.results k h in
+    of_wire i o there inline emission h = absurd h
+    of_wire i o there as_wire emission (inl e) = subst (λ z. In z (module_identifiers m)) (sym e) (net_in m i o there emission)
+    of_wire i o there as_wire emission (inr never) = absurd never
+    of_wire i o there as_reg emission (inl e) = subst (λ z. In z (module_identifiers m)) (sym e) (variable_in m i o there emission)
+    of_wire i o there as_reg emission (inr never) = absurd never
+    of_wire i o there as_instance emission h = let e = in_results i 0 o.results k h in
         subst (λ z. In z (module_identifiers m)) (sym (e.3 ∙ ap (value_identifier i) (zero-add e.0))) (result_in_identifiers m i e.0 o e.1 there emission e.2)
 
     of_block : (i : ℕ) (o : Op) → slice_get m.body i ≡ Some o → (r : Emission) → emission_of m.ports m.body i o ≡ r → In k (block_identifiers r i o) → In k (module_identifiers m)
-    of_block i o there hidden emission h = absurd h
-    of_block i o there net emission h = absurd h
-    of_block i o there variable emission h = absurd h
-    of_block i o there block emission (inl e) = subst (λ z. In z (module_identifiers m)) (sym e) (instance_in_identifiers m i o there emission)
-    of_block i o there block emission (inr never) = absurd never
+    of_block i o there inline emission h = absurd h
+    of_block i o there as_wire emission h = absurd h
+    of_block i o there as_reg emission h = absurd h
+    of_block i o there as_instance emission (inl e) = subst (λ z. In z (module_identifiers m)) (sym e) (instance_in_identifiers m i o there emission)
+    of_block i o there as_instance emission (inr never) = absurd never
 
     behind : In k (each (op_wires m) 0 m.body) ⊎ In k (each (op_blocks m) 0 m.body) → In k (module_identifiers m)
     behind (inl h) = let e = from_each (op_wires m) m.body k h in of_wire e.0 e.1 e.2 (emission_of m.ports m.body e.0 e.1) refl e.3

@@ -15,7 +15,7 @@ use Rattle.verilog_expr.specs.Spilling.{height_limit}
 use Rattle.verilog_expr.proofs.Fit.{depth_fits, own_fits}
 use Rattle.export_verilog.specs.Identifiers.{Emission, each, emission_of, identifier_text, name_or_nothing, named}
 use Rattle.export_verilog.specs.Identifiers.Identifier.{port_identifier, value_identifier}
-use Rattle.export_verilog.specs.Identifiers.Emission.{hidden, net, variable, block}
+use Rattle.export_verilog.specs.Identifiers.Emission.{inline, as_wire, as_reg, as_instance}
 use Rattle.export_verilog.specs.Exported.{expression, assigned_expr, expr_or_none, others, result_wires, declared_as, declares, always_of, block_of, connections_of, connections_to, instance_of, stated_as, states, output_assigns, vitems, vmodule, tree_of}
 
 expression_fits : (m : Module) (r : Ref) → fits (expression m r) ≡ true

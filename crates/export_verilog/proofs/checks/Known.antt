@@ -21,7 +21,7 @@ use Rattle.verilog_expr.specs.Numerals.{high_of}
 use Rattle.verilog_expr.proofs.TextRead.{IsWord}
 use Rattle.export_verilog.specs.Identifiers.{Identifier, Emission, each, emission_of, identifier_text, module_identifiers}
 use Rattle.export_verilog.specs.Identifiers.Identifier.{port_identifier, value_identifier, instance_identifier}
-use Rattle.export_verilog.specs.Identifiers.Emission.{hidden, net, variable, block}
+use Rattle.export_verilog.specs.Identifiers.Emission.{inline, as_wire, as_reg, as_instance}
 use Rattle.export_verilog.specs.Exported.{result_wires, declared_as, declares, vport, vports}
 use Rattle.export_verilog.proofs.items.Lists.{in_append}
 use Rattle.export_verilog.proofs.names.IdentifiersOf.{from_each, into_each, Owner, owner_of, port_in, net_in, variable_in, result_in_identifiers}
@@ -107,18 +107,18 @@ module _ (d : Design) (x : Setting d) (s : Name) (m : Module) (is : find_module 
           by_in (inr never) = absurd never
 
         go : (i : ℕ) (o : Op) → slice_get m.body i ≡ Some o → (emission : Emission) → emission_of m.ports m.body i o ≡ emission → In z (declared_as m i o emission) → Backed n c
-        go i o there hidden emission h = absurd h
-        go i o there net emission (inl e) = let r = result_at_first d x s m is i o there (inl emission) in
-            wired i 0 o r.0 net there r.1 (net_in m i o there emission) emission (e ∙ ap (λ h. wire h (identifier_text m (value_identifier i 0))) (high_first o r.0 r.1)) refl within
-        go i o there net emission (inr never) = absurd never
-        go i o there variable emission (inl e) = let r = result_at_first d x s m is i o there (inr emission) in by_in r.0 r.1 (subst (λ q. In y (declared_by q)) e within) where
+        go i o there inline emission h = absurd h
+        go i o there as_wire emission (inl e) = let r = result_at_first d x s m is i o there (inl emission) in
+            wired i 0 o r.0 as_wire there r.1 (net_in m i o there emission) emission (e ∙ ap (λ h. wire h (identifier_text m (value_identifier i 0))) (high_first o r.0 r.1)) refl within
+        go i o there as_wire emission (inr never) = absurd never
+        go i o there as_reg emission (inl e) = let r = result_at_first d x s m is i o there (inr emission) in by_in r.0 r.1 (subst (λ q. In y (declared_by q)) e within) where
           by_in : (r : OpResult) → slice_get o.results 0 ≡ Some r → In y (record { name = identifier_text m (value_identifier i 0); role = variable_role; high = high_of (width_of (result_type o 0)) } ∷ []) → Backed n c
           by_in r at (inl f) = own i 0 o r there at (variable_in m i o there emission)
               (f ∙ ap₂ (λ q h. record { name = identifier_text m (value_identifier i 0); role = q; high = h }) (ap result_emission (sym emission)) (high_first o r at))
           by_in r at (inr never) = absurd never
-        go i o there variable emission (inr never) = absurd never
-        go i o there block emission h = let w = from_wires m i 0 o.results z h in
-            wired i w.0 o w.1 block there w.2 (result_in_identifiers m i w.0 o w.1 there emission w.2) emission (w.3 ∙ ap (λ a. wire (high_of (width w.1.type)) (identifier_text m (value_identifier i a))) (zero-add w.0)) refl within
+        go i o there as_reg emission (inr never) = absurd never
+        go i o there as_instance emission h = let w = from_wires m i 0 o.results z h in
+            wired i w.0 o w.1 as_instance there w.2 (result_in_identifiers m i w.0 o w.1 there emission w.2) emission (w.3 ∙ ap (λ a. wire (high_of (width w.1.type)) (identifier_text m (value_identifier i a))) (zero-add w.0)) refl within
 
   ports_back : (n : Name) (y c : Declared) → In y (declared_ports (vports m)) → y.name ≡ n → y ≡ c → Backed n c
   unfolding Backed
@@ -169,18 +169,18 @@ module _ (d : Design) (x : Setting d) (s : Name) (m : Module) (is : find_module 
     go (a_net i o there emission e) = let r = result_at_first d x s m is i o there (inl emission) in
         own i 0 o r.0 there r.1 e (among_items (declared_result m i 0 o r.0) (wire (high_of (width_of (result_type o 0))) (identifier_text m (value_identifier i 0)))
         (into_each (declares m) m.body (wire (high_of (width_of (result_type o 0))) (identifier_text m (value_identifier i 0))) i o there (subst (λ q. In (wire (high_of (width_of (result_type o 0))) (identifier_text m (value_identifier i 0))) (declared_as m i o q)) (sym emission) (inl refl)))
-        (inl (sym (emission_at i 0 o r.0 net emission) ∙ ap (λ h. record { name = identifier_text m (value_identifier i 0); role = net_role; high = h }) (sym (high_first o r.0 r.1)))))
+        (inl (sym (emission_at i 0 o r.0 as_wire emission) ∙ ap (λ h. record { name = identifier_text m (value_identifier i 0); role = net_role; high = h }) (sym (high_first o r.0 r.1)))))
     go (a_variable i o there emission e) = let r = result_at_first d x s m is i o there (inr emission) in
         own i 0 o r.0 there r.1 e (among_items (declared_result m i 0 o r.0) (reg (high_of (width_of (result_type o 0))) (identifier_text m (value_identifier i 0)))
         (into_each (declares m) m.body (reg (high_of (width_of (result_type o 0))) (identifier_text m (value_identifier i 0))) i o there (subst (λ q. In (reg (high_of (width_of (result_type o 0))) (identifier_text m (value_identifier i 0))) (declared_as m i o q)) (sym emission) (inl refl)))
-        (inl (sym (emission_at i 0 o r.0 variable emission) ∙ ap (λ h. record { name = identifier_text m (value_identifier i 0); role = variable_role; high = h }) (sym (high_first o r.0 r.1)))))
+        (inl (sym (emission_at i 0 o r.0 as_reg emission) ∙ ap (λ h. record { name = identifier_text m (value_identifier i 0); role = variable_role; high = h }) (sym (high_first o r.0 r.1)))))
     go (owns_instance i o there emission e) = let g : None ≡ Some c = sym (ap (declared_value m) e) ∙ value_is in cc
     go (a_result i n o r there emission found_so e) =
         own i n o r there found_so e (among_items (declared_result m i n o r) (wire (high_of (width r.type)) (identifier_text m (value_identifier i n)))
         (into_each (declares m) m.body (wire (high_of (width r.type)) (identifier_text m (value_identifier i n))) i o there
         (subst (λ q. In (wire (high_of (width r.type)) (identifier_text m (value_identifier i n))) (declared_as m i o q)) (sym emission)
         (subst (λ a. In (wire (high_of (width r.type)) (identifier_text m (value_identifier i a))) (result_wires m i 0 o.results)) (zero-add n) (into_wires m i 0 o.results n r found_so))))
-        (inl (sym (emission_at i n o r block emission))))
+        (inl (sym (emission_at i n o r as_instance emission))))
 
   -- ---- what is known later, too
 

@@ -13,7 +13,7 @@ use Rattle.verilog_model.specs.Checks.{Declared, connections_check, connection_c
 use Rattle.verilog_model.proofs.Numerals.{and_intro}
 use Rattle.export_verilog.specs.Identifiers.{each, emission_of}
 use Rattle.export_verilog.specs.Identifiers.Identifier.{port_identifier}
-use Rattle.export_verilog.specs.Identifiers.Emission.{block}
+use Rattle.export_verilog.specs.Identifiers.Emission.{as_instance}
 use Rattle.export_verilog.specs.Exported.{symbol_name, connections_of, connections_to, vport, vports, vitems, vmodule, tree_of, declares, states, output_assigns}
 use Rattle.export_verilog.proofs.names.IdentifiersOf.{from_each, port_in}
 use Rattle.export_verilog.proofs.names.Symbols.{vmodule_found}
@@ -51,7 +51,7 @@ module _ (d : Design) (x : Setting d) (s : Name) (m : Module) (is : find_module 
         joined e = there e.0 e.1 e.2 e.3
 
   module _ (known : List Declared) (knows : KnowsAll d x s m is known) where
-    instance_good : (i : ℕ) (o : Op) (y : Instance) → slice_get m.body i ≡ Some o → emission_of m.ports m.body i o ≡ block → instance_in o.kind ≡ Some y → item_checks (tree_of d) known (instance_at d m i o y) ≡ true
+    instance_good : (i : ℕ) (o : Op) (y : Instance) → slice_get m.body i ≡ Some o → emission_of m.ports m.body i o ≡ as_instance → instance_in o.kind ≡ Some y → item_checks (tree_of d) known (instance_at d m i o y) ≡ true
     instance_good i o y there emission kind =
         let c : Called d m o = called_by d x s m is i o there y kind in
         let found_so : find_vmodule (tree_of d) (symbol_name d y.symbol) ≡ Some (vmodule d c.module_of) = vmodule_found d x.ok x.symbols y.symbol c.module_of c.there in
@@ -62,7 +62,7 @@ module _ (d : Design) (x : Setting d) (s : Name) (m : Module) (is : find_module 
         (all_connections d x s m is known knows i o there emission c cs (λ e h. each_good i o there emission c e (from_connections c.module_of m i 0 0 c.module_of.ports o.operands e h)))
         (and_intro (joins_inputs (vports c.module_of) cs) (are_distinct (map (λ (z : Connection). z.port) cs)) (inputs_joined i o c (vports c.module_of) (λ p h. h))
         (ports_distinct c.module_of m (x.names c.kind.symbol c.module_of c.there) i o.operands)) where
-          each_good : (i : ℕ) (o : Op) → slice_get m.body i ≡ Some o → emission_of m.ports m.body i o ≡ block → (c : Called d m o) → (e : Connection)
+          each_good : (i : ℕ) (o : Op) → slice_get m.body i ≡ Some o → emission_of m.ports m.body i o ≡ as_instance → (c : Called d m o) → (e : Connection)
               → (n : ℕ) × (p : Port) × (slice_get c.module_of.ports n ≡ Some p) × (e ≡ connection_of c.module_of m i (0 + n) 0 (take n c.module_of.ports) p o.operands)
               → connection_checks known (find_port (vports c.module_of) e.port) e.value ≡ true
           each_good i o there emission c e h =

@@ -18,7 +18,7 @@ use Rattle.verilog_expr.proofs.Depths.{expressions_hold}
 use Rattle.verilog_expr.specs.Values.{gives_values}
 use Rattle.export_verilog.specs.Identifiers.{Identifier, Emission, emission_of, identifier_text, module_identifiers, named}
 use Rattle.export_verilog.specs.Identifiers.Identifier.{port_identifier, value_identifier}
-use Rattle.export_verilog.specs.Identifiers.Emission.{hidden, net, variable, block}
+use Rattle.export_verilog.specs.Identifiers.Emission.{inline, as_wire, as_reg, as_instance}
 use Rattle.export_verilog.specs.Exported.{expression, assigned_expr}
 use Rattle.export_verilog.proofs.names.IdentifierNames.{text_named, name_is_identifier}
 use Rattle.export_verilog.proofs.names.IdentifiersOf.{Owner, owner_of, port_in}

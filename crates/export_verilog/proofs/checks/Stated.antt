@@ -18,7 +18,7 @@ use Rattle.verilog_expr.specs.Numerals.{high_of}
 use Rattle.verilog_expr.specs.Values.{gives_values}
 use Rattle.export_verilog.specs.Identifiers.{Emission, each, emission_of, identifier_text, named, name_or_nothing}
 use Rattle.export_verilog.specs.Identifiers.Identifier.{port_identifier, value_identifier}
-use Rattle.export_verilog.specs.Identifiers.Emission.{hidden, net, variable, block}
+use Rattle.export_verilog.specs.Identifiers.Emission.{inline, as_wire, as_reg, as_instance}
 use Rattle.export_verilog.specs.Exported.{expression, assigned_expr, block_of, loads, vports, tree_of, declares, declared_as}
 use Rattle.export_verilog.proofs.names.IdentifiersOf.{from_each, port_in, net_in, variable_in, result_in_identifiers, made_of_emission}
 use Rattle.export_verilog.proofs.items.Items.{output_count, expr_for, connection_of, from_wires, block_at}
@@ -87,12 +87,12 @@ module _ (d : Design) (x : Setting d) (s : Name) (m : Module) (is : find_module 
   pub declaration_checks : (y : Item) (kn : List Declared) → In y (each (declares m) 0 m.body) → item_checks t kn y ≡ true
   declaration_checks y kn here = let e = from_each (declares m) m.body y here in go e.0 e.1 e.2 (emission_of m.ports m.body e.0 e.1) refl e.3 where
     go : (i : ℕ) (o : Op) → slice_get m.body i ≡ Some o → (emission : Emission) → emission_of m.ports m.body i o ≡ emission → In y (declared_as m i o emission) → item_checks t kn y ≡ true
-    go i o there hidden emission h = absurd h
-    go i o there net emission (inl e) = ap (item_checks t kn) e ∙ high_decimal (width_of (result_type o 0)) (first_small i o there)
-    go i o there net emission (inr never) = absurd never
-    go i o there variable emission (inl e) = ap (item_checks t kn) e ∙ high_decimal (width_of (result_type o 0)) (first_small i o there)
-    go i o there variable emission (inr never) = absurd never
-    go i o there block emission h = let w = from_wires m i 0 o.results y h in
+    go i o there inline emission h = absurd h
+    go i o there as_wire emission (inl e) = ap (item_checks t kn) e ∙ high_decimal (width_of (result_type o 0)) (first_small i o there)
+    go i o there as_wire emission (inr never) = absurd never
+    go i o there as_reg emission (inl e) = ap (item_checks t kn) e ∙ high_decimal (width_of (result_type o 0)) (first_small i o there)
+    go i o there as_reg emission (inr never) = absurd never
+    go i o there as_instance emission h = let w = from_wires m i 0 o.results y h in
         ap (item_checks t kn) w.3 ∙ high_decimal (width w.1.type) (result_small i w.0 o w.1 there w.2)
 
   module _ (known : List Declared) (knows : KnowsAll d x s m is known) where
@@ -126,7 +126,7 @@ module _ (d : Design) (x : Setting d) (s : Name) (m : Module) (is : find_module 
           (and_intro (expr_checks known (expression m b.signal)) (load_checks known q (loads q (expression m b.value))) (good b.signal _ (are.signal b v)) (load_good q b.value ty (are.value b v)))
           (and_intro (expr_checks known (expression m e)) (load_checks known q (loads q (expression m r.next))) (good e _ (are.enable e u)) next_good)
 
-    pub register_good : (i : ℕ) (o : Op) (r : Register) → slice_get m.body i ≡ Some o → emission_of m.ports m.body i o ≡ variable → register_in o ≡ Some r → item_checks t known (block_at m i r) ≡ true
+    pub register_good : (i : ℕ) (o : Op) (r : Register) → slice_get m.body i ≡ Some o → emission_of m.ports m.body i o ≡ as_reg → register_in o ≡ Some r → item_checks t known (block_at m i r) ≡ true
     register_good i o r there emission is_register_of =
         let first = result_at_first d x s m is i o there (inr emission) in
         let typed = typed_register d x s m is i o there emission first.0.type (typed_first o first.0 first.1) in
@@ -145,7 +145,7 @@ module _ (d : Design) (x : Setting d) (s : Name) (m : Module) (is : find_module 
 
     -- ---- wires and outputs
 
-    pub net_good : (i : ℕ) (o : Op) → slice_get m.body i ≡ Some o → emission_of m.ports m.body i o ≡ net → item_checks t known (assign (identifier_text m (value_identifier i 0)) (assigned_expr m (result i 0))) ≡ true
+    pub net_good : (i : ℕ) (o : Op) → slice_get m.body i ≡ Some o → emission_of m.ports m.body i o ≡ as_wire → item_checks t known (assign (identifier_text m (value_identifier i 0)) (assigned_expr m (result i 0))) ≡ true
     net_good i o there emission =
         let first = result_at_first d x s m is i o there (inl emission) in
         let sort = made_of_emission m.ports m.body i o emission in
@@ -176,7 +176,7 @@ module _ (d : Design) (x : Setting d) (s : Name) (m : Module) (is : find_module 
           map_same [] = refl
           map_same (u ∷ us) = ap (λ z. u ∷ z) (map_same us)
 
-    pub connection_good : (i : ℕ) (o : Op) → slice_get m.body i ≡ Some o → emission_of m.ports m.body i o ≡ block → (c : Called d m o) → (j : ℕ) (p : Port) → slice_get c.module_of.ports j ≡ Some p
+    pub connection_good : (i : ℕ) (o : Op) → slice_get m.body i ≡ Some o → emission_of m.ports m.body i o ≡ as_instance → (c : Called d m o) → (j : ℕ) (p : Port) → slice_get c.module_of.ports j ≡ Some p
         → (e : Connection) → e ≡ connection_of c.module_of m i j 0 (take j c.module_of.ports) p o.operands
         → connection_checks known (find_port (vports c.module_of) e.port) e.value ≡ true
     connection_good i o there emission c j p at e same =
@@ -198,7 +198,7 @@ module _ (d : Design) (x : Setting d) (s : Name) (m : Module) (is : find_module 
               let g = placed_in (type_in m.ports m.body) (λ (u : HwType). Some u) o.operands (input_types c.module_of.ports) (input_count (take j c.module_of.ports)) p.type c.inputs (place_of_input c.module_of.ports j p at out) in
               ap (λ z. expr_checks known (expr_for (expression m) z)) g.1 ∙ good g.0 p.type g.2
 
-    pub all_connections : (i : ℕ) (o : Op) → slice_get m.body i ≡ Some o → emission_of m.ports m.body i o ≡ block → (c : Called d m o) → (cs : List Connection)
+    pub all_connections : (i : ℕ) (o : Op) → slice_get m.body i ≡ Some o → emission_of m.ports m.body i o ≡ as_instance → (c : Called d m o) → (cs : List Connection)
         → ((e : Connection) → In e cs → connection_checks known (find_port (vports c.module_of) e.port) e.value ≡ true) → connections_check known (vports c.module_of) cs ≡ true
     all_connections i o there emission c [] all = refl
     all_connections i o there emission c (e ∷ cs) all =

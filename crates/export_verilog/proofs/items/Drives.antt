@@ -16,7 +16,7 @@ use Rattle.verilog_model.specs.Hierarchy.{first_some, or_else, when, find_port, 
 use Rattle.verilog_model.specs.Hierarchy.Drive.{nothing, held, expression as driven_by, net as driven_from}
 use Rattle.export_verilog.specs.Identifiers.{Identifier, Emission, emission_of, identifier_text, module_identifiers}
 use Rattle.export_verilog.specs.Identifiers.Identifier.{port_identifier, value_identifier, instance_identifier}
-use Rattle.export_verilog.specs.Identifiers.Emission.{hidden, net, variable, block}
+use Rattle.export_verilog.specs.Identifiers.Emission.{inline, as_wire, as_reg, as_instance}
 use Rattle.export_verilog.specs.Exported.{expression, assigned_expr, block_of, connections_of, connections_to, vports, vitems, vmodule, tree_of}
 use Rattle.export_verilog.proofs.items.Lists.{first_found}
 use Rattle.export_verilog.proofs.names.IdentifierNames.{AreNames, texts_apart}
@@ -160,16 +160,16 @@ module _ (d : Design) (x : Setting d) (s : Name) (m : Module) (is : find_module 
   instance_drive n i o c = ap₂ (λ v f. first_some (joined_output q (identifier_text m (instance_identifier i)) n (vports_of v)) (connections_to f m i o))
       (vmodule_found d x.ok x.symbols c.kind.symbol c.module_of c.there) c.there
 
-  pub value_of_result : (i : ℕ) (o : Op) (c : Called d m o) → slice_get m.body i ≡ Some o → emission_of m.ports m.body i o ≡ block → (k j : ℕ) → output_place k c.module_of.ports ≡ Some j
+  pub value_of_result : (i : ℕ) (o : Op) (c : Called d m o) → slice_get m.body i ≡ Some o → emission_of m.ports m.body i o ≡ as_instance → (k j : ℕ) → output_place k c.module_of.ports ≡ Some j
       → drive_value (value_identifier i k) ≡ Some (driven_from (vnet (identifier_text m (instance_identifier i) ∷ q) (identifier_text c.module_of (port_identifier j))))
   value_of_result i o c there emission k j at =
-      value_by_emission i k o block there emission
+      value_by_emission i k o as_instance there emission
       ∙ ap (λ z. bind z (λ (y : Module). omap (λ a. driven_from (vnet (identifier_text m (instance_identifier i) ∷ q) (identifier_text y (port_identifier a)))) (output_place k y.ports))) (callee_is d m o c)
       ∙ ap (omap (λ a. driven_from (vnet (identifier_text m (instance_identifier i) ∷ q) (identifier_text c.module_of (port_identifier a))))) at
 
   drives_back : (n : Name) (y : Item) (w : Drive) → In y (vitems d m) → gives n y ≡ Some w → (k : Identifier) × In k (module_identifiers m) × (n ≡ identifier_text m k) × (drive_value k ≡ Some w)
   drives_back n y w here is_given = go (from_items d m y here) where
-    by_instance : (i : ℕ) (o : Op) (c : Called d m o) → slice_get m.body i ≡ Some o → emission_of m.ports m.body i o ≡ block → gives n (instance_at d m i o c.kind) ≡ Some w
+    by_instance : (i : ℕ) (o : Op) (c : Called d m o) → slice_get m.body i ≡ Some o → emission_of m.ports m.body i o ≡ as_instance → gives n (instance_at d m i o c.kind) ≡ Some w
         → (k : Identifier) × In k (module_identifiers m) × (n ≡ identifier_text m k) × (drive_value k ≡ Some w)
     by_instance i o c there emission given =
         let u : Name = identifier_text m (instance_identifier i) in
@@ -192,13 +192,13 @@ module _ (d : Design) (x : Setting d) (s : Name) (m : Module) (is : find_module 
     go : From d m y → (k : Identifier) × In k (module_identifiers m) × (n ≡ identifier_text m k) × (drive_value k ≡ Some w)
     go (net_assign i o there emission same) =
         let h = when_some (same_name (identifier_text m (value_identifier i 0)) n) (driven_by q (assigned_expr m (result i 0))) w (sym (ap (gives n) same) ∙ is_given) in
-        (value_identifier i 0, net_in m i o there emission, sym (name_from (identifier_text m (value_identifier i 0)) n h.0), value_by_emission i 0 o net there emission ∙ ap (λ (z : Drive). Some z) h.1)
+        (value_identifier i 0, net_in m i o there emission, sym (name_from (identifier_text m (value_identifier i 0)) n h.0), value_by_emission i 0 o as_wire there emission ∙ ap (λ (z : Drive). Some z) h.1)
     go (variable_block i o r there emission at same) =
         let given : gives n (block_at m i r) ≡ Some w = sym (ap (gives n) same) ∙ is_given in
         let held_under : Name → Drive = λ z. held (vbase (tree_of d) top q + vstate_before (tree_of d) (loads z) (Some (vmodule d m))) (width_in (vmodule d m) z) in
         let h = when_some (same_name (identifier_text m (value_identifier i 0)) n) (held_under n) w (ap (λ z. when (same_name z n) (held_under n)) (sym (block_name i r)) ∙ given) in
         let called : identifier_text m (value_identifier i 0) ≡ n = name_from (identifier_text m (value_identifier i 0)) n h.0 in
-        (value_identifier i 0, variable_in m i o there emission, sym called, value_by_emission i 0 o variable there emission ∙ ap (λ z. Some (held_under z)) called ∙ ap (λ (z : Drive). Some z) h.1)
+        (value_identifier i 0, variable_in m i o there emission, sym called, value_by_emission i 0 o as_reg there emission ∙ ap (λ z. Some (held_under z)) called ∙ ap (λ (z : Drive). Some z) h.1)
     go (an_instance i o k there emission kind same) = by_instance i o (called_by d x s m is i o there k kind) there emission (sym (ap (gives n) same) ∙ is_given)
     go (output_assign j p there out same) =
         let h = when_some (same_name (identifier_text m (port_identifier j)) n) (driven_by q (output_expr j)) w (sym (ap (gives n) same) ∙ is_given) in (
@@ -227,7 +227,7 @@ module _ (d : Design) (x : Setting d) (s : Name) (m : Module) (is : find_module 
     of_port j p there same false out = absurd (let h : None ≡ Some w =
         sym (ap drive_value same ∙ ap (λ z. bind z (λ (p : Port). cond p.is_output (Some (driven_by q (output_expr j))) None)) there ∙ ap (λ b. cond b (Some (driven_by q (output_expr j))) None) out) ∙ value in cc)
 
-    of_result : (i l : ℕ) (o : Op) (r : OpResult) → slice_get m.body i ≡ Some o → emission_of m.ports m.body i o ≡ block → slice_get o.results l ≡ Some r → k ≡ value_identifier i l → (c : Called d m o)
+    of_result : (i l : ℕ) (o : Op) (r : OpResult) → slice_get m.body i ≡ Some o → emission_of m.ports m.body i o ≡ as_instance → slice_get o.results l ≡ Some r → k ≡ value_identifier i l → (c : Called d m o)
         → (y : Item) × In y (vitems d m) × (gives (identifier_text m k) y ≡ Some w)
     of_result i l o r there emission at same c = found_output (output_of_number c.module_of.ports l r.type typed) where
       slice_of_map : (rs : List OpResult) (k : ℕ) → slice_get (map (λ (r : OpResult). r.type) rs) k ≡ omap (λ (r : OpResult). r.type) (slice_get rs k)
@@ -283,14 +283,14 @@ module _ (d : Design) (x : Setting d) (s : Name) (m : Module) (is : find_module 
     go (a_net i o there emission same) = (
       assign (identifier_text m (value_identifier i 0)) (assigned_expr m (result i 0)),
       into_items d m (assign (identifier_text m (value_identifier i 0)) (assigned_expr m (result i 0))) (net_assign i o there emission refl),
-      chosen (value_identifier i 0) (driven_by q (assigned_expr m (result i 0))) same (value_by_emission i 0 o net there emission),
+      chosen (value_identifier i 0) (driven_by q (assigned_expr m (result i 0))) same (value_by_emission i 0 o as_wire there emission),
     )
     go (a_variable i o there emission same) =
         let r = register_of d x s m is i o there emission in (
           block_at m i r.0,
           into_items d m (block_at m i r.0) (variable_block i o r.0 there emission r.1 refl),
           ap₂ (λ a b. when (same_name a (identifier_text m k)) (held (vbase (tree_of d) top q + vstate_before (tree_of d) (loads (identifier_text m b)) (Some (vmodule d m))) (width_in (vmodule d m) (identifier_text m b)))) (block_name i r.0) same
-              ∙ chosen (value_identifier i 0) (held_drive i) same (value_by_emission i 0 o variable there emission),
+              ∙ chosen (value_identifier i 0) (held_drive i) same (value_by_emission i 0 o as_reg there emission),
         )
     go (owns_instance i o there emission same) = absurd (let h : None ≡ Some w = sym (ap drive_value same) ∙ value in cc)
     go (a_result i l o r there emission at same) = of_result i l o r there emission at same (called_by_emission d x s m is i o there emission)

@@ -14,7 +14,7 @@ use Rattle.verilog_expr.specs.Numerals.{high_of}
 use Rattle.verilog_expr.specs.Building.{no_expr}
 use Rattle.export_verilog.specs.Identifiers.{Emission, each, emission_of, identifier_text, name_or_nothing, named}
 use Rattle.export_verilog.specs.Identifiers.Identifier.{port_identifier, value_identifier, instance_identifier}
-use Rattle.export_verilog.specs.Identifiers.Emission.{hidden, net, variable, block}
+use Rattle.export_verilog.specs.Identifiers.Emission.{inline, as_wire, as_reg, as_instance}
 use Rattle.export_verilog.specs.Exported.{symbol_name, expression, assigned_expr, result_wires, declared_as, declares, block_of, always_of, expr_or_none, others, connections_of, connections_to, instance_of, stated_as, states, output_assigns, vitems}
 use Rattle.export_verilog.proofs.items.Lists.{in_append}
 use Rattle.export_verilog.proofs.names.IdentifiersOf.{from_each, into_each}
@@ -214,17 +214,17 @@ abbrev pub instance_at : Design → Module → ℕ → Op → Instance → Item
 instance_at d m i o x = instance (symbol_name d x.symbol) (identifier_text m (instance_identifier i)) (connections_to (find_module d x.symbol) m i o)
 
 pub data From (d : Design) (m : Module) (y : Item) : Type 0 where
-  net_wire : (i : ℕ) (o : Op) → slice_get m.body i ≡ Some o → emission_of m.ports m.body i o ≡ net
+  net_wire : (i : ℕ) (o : Op) → slice_get m.body i ≡ Some o → emission_of m.ports m.body i o ≡ as_wire
       → y ≡ wire (high_of (width_of (result_type o 0))) (identifier_text m (value_identifier i 0)) → From d m y
-  variable_reg : (i : ℕ) (o : Op) → slice_get m.body i ≡ Some o → emission_of m.ports m.body i o ≡ variable
+  variable_reg : (i : ℕ) (o : Op) → slice_get m.body i ≡ Some o → emission_of m.ports m.body i o ≡ as_reg
       → y ≡ reg (high_of (width_of (result_type o 0))) (identifier_text m (value_identifier i 0)) → From d m y
-  result_wire : (i k : ℕ) (o : Op) (r : OpResult) → slice_get m.body i ≡ Some o → emission_of m.ports m.body i o ≡ block → slice_get o.results k ≡ Some r
+  result_wire : (i k : ℕ) (o : Op) (r : OpResult) → slice_get m.body i ≡ Some o → emission_of m.ports m.body i o ≡ as_instance → slice_get o.results k ≡ Some r
       → y ≡ wire (high_of (width r.type)) (identifier_text m (value_identifier i k)) → From d m y
-  net_assign : (i : ℕ) (o : Op) → slice_get m.body i ≡ Some o → emission_of m.ports m.body i o ≡ net
+  net_assign : (i : ℕ) (o : Op) → slice_get m.body i ≡ Some o → emission_of m.ports m.body i o ≡ as_wire
       → y ≡ assign (identifier_text m (value_identifier i 0)) (assigned_expr m (result i 0)) → From d m y
-  variable_block : (i : ℕ) (o : Op) (r : Register) → slice_get m.body i ≡ Some o → emission_of m.ports m.body i o ≡ variable → register_in o ≡ Some r
+  variable_block : (i : ℕ) (o : Op) (r : Register) → slice_get m.body i ≡ Some o → emission_of m.ports m.body i o ≡ as_reg → register_in o ≡ Some r
       → y ≡ block_at m i r → From d m y
-  an_instance : (i : ℕ) (o : Op) (x : Instance) → slice_get m.body i ≡ Some o → emission_of m.ports m.body i o ≡ block → instance_in o.kind ≡ Some x
+  an_instance : (i : ℕ) (o : Op) (x : Instance) → slice_get m.body i ≡ Some o → emission_of m.ports m.body i o ≡ as_instance → instance_in o.kind ≡ Some x
       → y ≡ instance_at d m i o x → From d m y
   output_assign : (j : ℕ) (p : Port) → slice_get m.ports j ≡ Some p → p.is_output ≡ true
       → y ≡ output_item m j (take j m.ports) (output_refs m.body) → From d m y
@@ -233,32 +233,32 @@ module _ (d : Design) (m : Module) where
   pub from_items : (y : Item) → In y (vitems d m) → From d m y
   from_items y here = by_part (in_append y (each (declares m) 0 m.body) (each (states d m) 0 m.body ++ output_assigns m 0 m.ports (output_refs m.body)) here) where
     declared : (i : ℕ) (o : Op) → slice_get m.body i ≡ Some o → (r : Emission) → emission_of m.ports m.body i o ≡ r → In y (declared_as m i o r) → From d m y
-    declared i o there hidden emission within = absurd within
-    declared i o there net emission (inl same) = net_wire i o there emission same
-    declared i o there net emission (inr never) = absurd never
-    declared i o there variable emission (inl same) = variable_reg i o there emission same
-    declared i o there variable emission (inr never) = absurd never
-    declared i o there block emission within = let h = from_wires m i 0 o.results y within in
+    declared i o there inline emission within = absurd within
+    declared i o there as_wire emission (inl same) = net_wire i o there emission same
+    declared i o there as_wire emission (inr never) = absurd never
+    declared i o there as_reg emission (inl same) = variable_reg i o there emission same
+    declared i o there as_reg emission (inr never) = absurd never
+    declared i o there as_instance emission within = let h = from_wires m i 0 o.results y within in
         result_wire i h.0 o h.1 there emission h.2 (h.3 ∙ ap (λ n. wire (high_of (width h.1.type)) (identifier_text m (value_identifier i n))) (zero-add h.0))
 
-    in_block : (i : ℕ) (o : Op) → slice_get m.body i ≡ Some o → emission_of m.ports m.body i o ≡ variable → (r : Option Register) → register_in o ≡ r
+    in_block : (i : ℕ) (o : Op) → slice_get m.body i ≡ Some o → emission_of m.ports m.body i o ≡ as_reg → (r : Option Register) → register_in o ≡ r
         → In y (always_of m (identifier_text m (value_identifier i 0)) r) → From d m y
     in_block i o there emission None is within = absurd within
     in_block i o there emission (Some r) is (inl same) = variable_block i o r there emission is same
     in_block i o there emission (Some r) is (inr never) = absurd never
 
-    in_instance : (i : ℕ) (o : Op) → slice_get m.body i ≡ Some o → emission_of m.ports m.body i o ≡ block → (x : Option Instance) → instance_in o.kind ≡ x
+    in_instance : (i : ℕ) (o : Op) → slice_get m.body i ≡ Some o → emission_of m.ports m.body i o ≡ as_instance → (x : Option Instance) → instance_in o.kind ≡ x
         → In y (instance_of d m i o x) → From d m y
     in_instance i o there emission None is within = absurd within
     in_instance i o there emission (Some x) is (inl same) = an_instance i o x there emission is same
     in_instance i o there emission (Some x) is (inr never) = absurd never
 
     stated : (i : ℕ) (o : Op) → slice_get m.body i ≡ Some o → (r : Emission) → emission_of m.ports m.body i o ≡ r → In y (stated_as d m i o r) → From d m y
-    stated i o there hidden emission within = absurd within
-    stated i o there net emission (inl same) = net_assign i o there emission same
-    stated i o there net emission (inr never) = absurd never
-    stated i o there variable emission within = in_block i o there emission (register_in o) refl within
-    stated i o there block emission within = in_instance i o there emission (instance_in o.kind) refl within
+    stated i o there inline emission within = absurd within
+    stated i o there as_wire emission (inl same) = net_assign i o there emission same
+    stated i o there as_wire emission (inr never) = absurd never
+    stated i o there as_reg emission within = in_block i o there emission (register_in o) refl within
+    stated i o there as_instance emission within = in_instance i o there emission (instance_in o.kind) refl within
 
     outward : In y (output_assigns m 0 m.ports (output_refs m.body)) → From d m y
     outward within = let h = from_outputs m 0 m.ports (output_refs m.body) y within in

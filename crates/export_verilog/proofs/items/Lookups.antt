@@ -16,7 +16,7 @@ use Rattle.verilog_model.specs.Hierarchy.{first_some, or_else, when, find_port, 
 use Rattle.verilog_expr.specs.Numerals.{high_of}
 use Rattle.export_verilog.specs.Identifiers.{Identifier, emission_of, identifier_text, module_identifiers}
 use Rattle.export_verilog.specs.Identifiers.Identifier.{port_identifier, value_identifier, instance_identifier}
-use Rattle.export_verilog.specs.Identifiers.Emission.{net, variable}
+use Rattle.export_verilog.specs.Identifiers.Emission.{as_wire, as_reg}
 use Rattle.export_verilog.specs.Exported.{symbol_name, connections_of, connections_to, vport, vports, vitems, vmodule}
 use Rattle.export_verilog.specs.Exportable.{IsExportableModule}
 use Rattle.export_verilog.proofs.items.Lists.{first_found, none_found}
@@ -191,7 +191,7 @@ module _ (say : SayWidths) (d : Design) (m : Module) (ok : IsExportableModule m)
       ∙ result_width i k o r there at
       ∙ sym (ap (identifier_width m) same ∙ ap (λ x. width_of (bind x (λ (o : Op). result_type o k))) there ∙ ap width_of (result_found o k r at))
 
-  pub width_under : ((i : ℕ) (o : Op) → slice_get m.body i ≡ Some o → (emission_of m.ports m.body i o ≡ net) ⊎ (emission_of m.ports m.body i o ≡ variable) → (r : OpResult) × (slice_get o.results 0 ≡ Some r))
+  pub width_under : ((i : ℕ) (o : Op) → slice_get m.body i ≡ Some o → (emission_of m.ports m.body i o ≡ as_wire) ⊎ (emission_of m.ports m.body i o ≡ as_reg) → (r : OpResult) × (slice_get o.results 0 ≡ Some r))
       → (k : Identifier) → In k (module_identifiers m) → width_in (vmodule d m) (identifier_text m k) ≡ identifier_width m k
   width_under first k here = go (owner_of m k here) where
     go : Owner m k → width_in (vmodule d m) (identifier_text m k) ≡ identifier_width m k

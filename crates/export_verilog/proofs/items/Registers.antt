@@ -10,7 +10,7 @@ use Rattle.hw_model.specs.Design.{Ref, OpResult, Op, Module, Design, RegisterFor
 use Rattle.hw_model.specs.Flat.{Register, ResetBy, register_parts, register_in}
 use Rattle.hw_model.specs.Sound.{type_in, register_types, Fits}
 use Rattle.export_verilog.specs.Identifiers.{emission_of}
-use Rattle.export_verilog.specs.Identifiers.Emission.{variable}
+use Rattle.export_verilog.specs.Identifiers.Emission.{as_reg}
 use Rattle.export_verilog.proofs.names.IdentifiersOf.{register_of_emission}
 use Rattle.export_verilog.proofs.items.Settings.{Setting, module_sound, result_at_first}
 
@@ -86,7 +86,7 @@ form_fits (register g r) f ts xs t k is fits =
 form_fits kind f ts xs t k is fits = cc
 
 module _ (d : Design) (x : Setting d) (s : Name) (m : Module) (is : find_module d s ≡ Some m) where
-  pub typed_register : (i : ℕ) (o : Op) → slice_get m.body i ≡ Some o → emission_of m.ports m.body i o ≡ variable → (t : HwType) → result_type o 0 ≡ Some t
+  pub typed_register : (i : ℕ) (o : Op) → slice_get m.body i ≡ Some o → emission_of m.ports m.body i o ≡ as_reg → (t : HwType) → result_type o 0 ≡ Some t
       → (r : Register) × (register_in o ≡ Some r) × AreOperands (type_in m.ports m.body) t r
   typed_register i o there emission t typed =
       let f = register_of_emission m.ports m.body i o emission in
@@ -94,7 +94,7 @@ module _ (d : Design) (x : Setting d) (s : Name) (m : Module) (is : find_module 
       let g = parts_typed (type_in m.ports m.body) t f.0.has_enable f.0.reset o.operands fits in
       (g.0, ap (λ z. bind z (λ (f : RegisterForm). register_parts f.has_enable f.reset o.operands)) f.1 ∙ g.1, g.2)
 
-  pub register_of : (i : ℕ) (o : Op) → slice_get m.body i ≡ Some o → emission_of m.ports m.body i o ≡ variable → (r : Register) × (register_in o ≡ Some r)
+  pub register_of : (i : ℕ) (o : Op) → slice_get m.body i ≡ Some o → emission_of m.ports m.body i o ≡ as_reg → (r : Register) × (register_in o ≡ Some r)
   register_of i o there emission =
       let h = result_at_first d x s m is i o there (inr emission) in
       let g = typed_register i o there emission h.0.type (ap (omap (λ (z : OpResult). z.type)) h.1) in (g.0, g.1)

@@ -8,7 +8,7 @@ use Rattle.hw_model.specs.Sound.{type_in, input_types, output_types, SoundBody}
 use Rattle.hw_model.proofs.Sorts.{Sort, sort_of}
 use Rattle.hw_model.proofs.Sorts.Sort.{a_register, an_instance, an_output, a_made}
 use Rattle.export_verilog.specs.Identifiers.{emission_of}
-use Rattle.export_verilog.specs.Identifiers.Emission.{net, variable, block}
+use Rattle.export_verilog.specs.Identifiers.Emission.{as_wire, as_reg, as_instance}
 use Rattle.export_verilog.specs.Exportable.{IsExportable, IsExportableModule}
 use Rattle.export_verilog.proofs.names.IdentifierNames.{AreNames}
 use Rattle.export_verilog.proofs.names.IdentifiersOf.{register_of_emission, made_of_emission, instance_of_emission}
@@ -41,14 +41,14 @@ module _ (d : Design) (x : Setting d) (s : Name) (m : Module) (is : find_module 
   called_by i o there k kind = let h = module_sound.instances i o there k kind in
       record { kind = k; is_kind = kind; module_of = h.0; there = h.1; inputs = h.2; outputs = h.3 }
 
-  pub called_by_emission : (i : ℕ) (o : Op) → slice_get m.body i ≡ Some o → emission_of m.ports m.body i o ≡ block → Called d m o
+  pub called_by_emission : (i : ℕ) (o : Op) → slice_get m.body i ≡ Some o → emission_of m.ports m.body i o ≡ as_instance → Called d m o
   called_by_emission i o there emission = let k = instance_of_emission m.ports m.body i o emission in called_by i o there k.0 k.2
 
   pub one_result_of : (i : ℕ) (o : Op) → slice_get m.body i ≡ Some o → instance_in o.kind ≡ None → is_output_kind o.kind ≡ false → (r : OpResult) × (o.results ≡ r ∷ [])
   one_result_of i o there inst out = (module_ok.ops i o there).one_result (ap₂ (λ a b. is_some a || b) inst out)
 
   -- what has a wire or a variable of its own has one result
-  pub first_result : (i : ℕ) (o : Op) → slice_get m.body i ≡ Some o → (emission_of m.ports m.body i o ≡ net) ⊎ (emission_of m.ports m.body i o ≡ variable) → (r : OpResult) × (o.results ≡ r ∷ [])
+  pub first_result : (i : ℕ) (o : Op) → slice_get m.body i ≡ Some o → (emission_of m.ports m.body i o ≡ as_wire) ⊎ (emission_of m.ports m.body i o ≡ as_reg) → (r : OpResult) × (o.results ≡ r ∷ [])
   first_result i o there (inl emission) = let h = made_of_emission m.ports m.body i o emission in one_result_of i o there h.1 h.2
   first_result i o there (inr emission) = let h = register_of_emission m.ports m.body i o emission in by_sort (sort_of o.kind) h.1 where
     by_sort : Sort o.kind → {f : _} → register_form o.kind ≡ Some f → (r : OpResult) × (o.results ≡ r ∷ [])
@@ -57,7 +57,7 @@ module _ (d : Design) (x : Setting d) (s : Name) (m : Module) (is : find_module 
     by_sort (an_output r n u) e = absurd (let z : None ≡ Some _ = sym r ∙ e in cc)
     by_sort (a_made r n u) e = absurd (let z : None ≡ Some _ = sym r ∙ e in cc)
 
-  pub result_at_first : (i : ℕ) (o : Op) → slice_get m.body i ≡ Some o → (emission_of m.ports m.body i o ≡ net) ⊎ (emission_of m.ports m.body i o ≡ variable) → (r : OpResult) × (slice_get o.results 0 ≡ Some r)
+  pub result_at_first : (i : ℕ) (o : Op) → slice_get m.body i ≡ Some o → (emission_of m.ports m.body i o ≡ as_wire) ⊎ (emission_of m.ports m.body i o ≡ as_reg) → (r : OpResult) × (slice_get o.results 0 ≡ Some r)
   result_at_first i o there emission = let h = first_result i o there emission in (h.0, ap (λ rs. slice_get rs 0) h.1)
 
 pub callee_is : (d : Design) (m : Module) (o : Op) (c : Called d m o) → callee d o ≡ Some c.module_of

@@ -19,7 +19,7 @@ use Rattle.verilog_expr.specs.Spilling.Part.{flat, shared, nested}
 use Rattle.verilog_expr.specs.Values.{gives_values, IsWritable}
 use Rattle.export_verilog.specs.Identifiers.{emission_of, module_identifiers, identifier_text, identifier_name, named, input_name}
 use Rattle.export_verilog.specs.Identifiers.Identifier.{port_identifier, value_identifier}
-use Rattle.export_verilog.specs.Identifiers.Emission.{hidden, net}
+use Rattle.export_verilog.specs.Identifiers.Emission.{inline, as_wire}
 use Rattle.export_verilog.proofs.names.IdentifierNames.{AreNames, text_named, name_has_identifier, text_of_identifier}
 use Rattle.export_verilog.proofs.names.IdentifiersOf.{emission_of_register, emission_of_instance, emission_of_made, port_in, net_in, variable_in, result_in_identifiers}
 use Rattle.export_verilog.proofs.items.Settings.{Setting, module_ok, module_sound, one_result_of}
@@ -110,7 +110,7 @@ module _ (d : Design) (x : Setting d) (s : Name) (m : Module) (is : find_module 
   named_as (result i k) n e = by_value i k (name_has_identifier m are (value_identifier i k) n e) refl (sym (text_of_identifier m are (value_identifier i k) n e))
   named_as undefined n e = cc
 
-  emission_named : (i : ℕ) (o : Op) → slice_get m.body i ≡ Some o → emission_of m.ports m.body i o ≡ net → is_some (named m (result i 0)) ≡ true
+  emission_named : (i : ℕ) (o : Op) → slice_get m.body i ≡ Some o → emission_of m.ports m.body i o ≡ as_wire → is_some (named m (result i 0)) ≡ true
   emission_named i o there emission = some_is (named m (result i 0)) (identifier_text m (value_identifier i 0)) (named_result i 0 (net_in m i o there emission))
 
   inputs_named : (j : ℕ) (t : HwType) → type_in m.ports m.body (port j) ≡ Some t → is_some (named m (port j)) ≡ true
@@ -142,7 +142,7 @@ module _ (d : Design) (x : Setting d) (s : Name) (m : Module) (is : find_module 
   made_named : (i : ℕ) (o : Op) → slice_get m.body i ≡ Some o → register_form o.kind ≡ None → instance_in o.kind ≡ None → is_output_kind o.kind ≡ false
       → (is_wire_kind o.kind ≡ true) ⊎ (spilled m.ports m.body (result i 0) ≡ true) → is_some (named m (result i 0)) ≡ true
   made_named i o there r n u which = emission_named i o there (emission_of_made m.ports m.body i o r n u ∙ go (is_wire_kind o.kind) (spilled m.ports m.body (result i 0)) which) where
-    go : (a b : Bool) → (a ≡ true) ⊎ (b ≡ true) → cond a net (cond b net hidden) ≡ net
+    go : (a b : Bool) → (a ≡ true) ⊎ (b ≡ true) → cond a as_wire (cond b as_wire inline) ≡ as_wire
     go true b w = refl
     go false true w = refl
     go false false (inl e) = cc

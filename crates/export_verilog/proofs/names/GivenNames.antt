@@ -11,7 +11,7 @@ use Rattle.name_legalise.proofs.Legals.{legal_count}
 use Rattle.verilog_expr.specs.Named.{name_in}
 use Rattle.export_verilog.specs.Identifiers.{Emission, Identifier, same_identifier, each, emission_of, result_identifiers, identifiers_of, op_identifiers, name_among}
 use Rattle.export_verilog.specs.Identifiers.Identifier.{port_identifier, value_identifier, instance_identifier}
-use Rattle.export_verilog.specs.Identifiers.Emission.{hidden, net, variable, block}
+use Rattle.export_verilog.specs.Identifiers.Emission.{inline, as_wire, as_reg, as_instance}
 use Rattle.export_verilog.specs.Held.{own_name_hint, result_name_hints, name_hints_of, op_name_hints, results_of, op_results, own_name_of, op_own_name}
 use Rattle.export_verilog.specs.Walks.{body_name_hints, body_given}
 use Rattle.export_verilog.proofs.names.IdentifierNames.{identifier_self, identifier_from, among_identifier}
@@ -51,13 +51,13 @@ place_of (value_identifier i k) = i
 place_of (instance_identifier i) = i
 
 own_place : (r : Emission) (i : ℕ) (o : Op) (identifier : Identifier) → In identifier (identifiers_of r i o) → place_of identifier ≡ i
-own_place hidden i o identifier here = absurd here
-own_place net i o identifier (inl same) = ap place_of same
-own_place net i o identifier (inr never) = absurd never
-own_place variable i o identifier (inl same) = ap place_of same
-own_place variable i o identifier (inr never) = absurd never
-own_place block i o identifier (inl same) = ap place_of same
-own_place block i o identifier (inr within) = let found = in_results i 0 o.results identifier within in ap place_of found.3
+own_place inline i o identifier here = absurd here
+own_place as_wire i o identifier (inl same) = ap place_of same
+own_place as_wire i o identifier (inr never) = absurd never
+own_place as_reg i o identifier (inl same) = ap place_of same
+own_place as_reg i o identifier (inr never) = absurd never
+own_place as_instance i o identifier (inl same) = ap place_of same
+own_place as_instance i o identifier (inr within) = let found = in_results i 0 o.results identifier within in ap place_of found.3
 
 module _ (ports : List Port) (os : List Op) where
   -- no thing of an operation is among those of the later ones
@@ -109,34 +109,34 @@ results_among i c (suc k) (r ∷ rs) (w ∷ ws) ls ms count none =
 
 module _ (ports : List Port) (os : List Op) (i : ℕ) (x : Op) where
   emission_count : (r : Emission) → emission_of ports os i x ≡ r → length (op_name_hints r x) ≡ length (identifiers_of r i x)
-  emission_count hidden emission = refl
-  emission_count net emission = refl
-  emission_count variable emission = refl
-  emission_count block emission =
+  emission_count inline emission = refl
+  emission_count as_wire emission = refl
+  emission_count as_reg emission = refl
+  emission_count as_instance emission =
       let is = instance_of_emission ports os i x emission in
-      ap (λ y. length (name_hints_of block y x)) is.2 ∙ ap suc (name_hint_count is.0 0 (length x.results) ∙ sym (result_count i 0 x.results))
+      ap (λ y. length (name_hints_of as_instance y x)) is.2 ∙ ap suc (name_hint_count is.0 0 (length x.results) ∙ sym (result_count i 0 x.results))
 
   own_count : (ts : List Name) → length (legal_after ts (op_name_hints (emission_of ports os i x) x)) ≡ length (op_identifiers ports os i x)
   own_count ts = legal_count ts (op_name_hints (emission_of ports os i x) x) ∙ emission_count (emission_of ports os i x) refl
 
   own_value : (r : Emission) → emission_of ports os i x ≡ r → (ts : List Name) (ls : List Identifier) (ms : List Name) (k : ℕ) → name_among ls ms (value_identifier i k) ≡ None
       → name_among (identifiers_of r i x ++ ls) (legal_after ts (op_name_hints r x) ++ ms) (value_identifier i k) ≡ name_in (op_results ts r x) k
-  own_value hidden emission ts ls ms k none = none
-  own_value net emission ts ls ms k none = one_value i k (legal_name ts (own_name_hint x)) ls ms none
-  own_value variable emission ts ls ms k none = one_value i k (legal_name ts (own_name_hint x)) ls ms none
-  own_value block emission ts ls ms k none =
+  own_value inline emission ts ls ms k none = none
+  own_value as_wire emission ts ls ms k none = one_value i k (legal_name ts (own_name_hint x)) ls ms none
+  own_value as_reg emission ts ls ms k none = one_value i k (legal_name ts (own_name_hint x)) ls ms none
+  own_value as_instance emission ts ls ms k none =
       let is = instance_of_emission ports os i x emission in
       let us = ts ++ legal_name ts (is.0).name ∷ [] in
       let ws = result_name_hints is.0 0 (length x.results) in
-      ap (λ y. name_among (identifiers_of block i x ++ ls) (legal_after ts (name_hints_of block y x) ++ ms) (value_identifier i k)) is.2
+      ap (λ y. name_among (identifiers_of as_instance i x ++ ls) (legal_after ts (name_hints_of as_instance y x) ++ ms) (value_identifier i k)) is.2
       ∙ ap (λ n. name_among (result_identifiers i 0 x.results ++ ls) (legal_after us ws ++ ms) (value_identifier i n)) (sym (zero-add k))
       ∙ results_among i 0 k x.results (legal_after us ws) ls ms (legal_count us ws ∙ name_hint_count is.0 0 (length x.results))
       (ap (λ n. name_among ls ms (value_identifier i n)) (zero-add k) ∙ none)
-      ∙ sym (ap (λ y. name_in (results_of ts block y x) k) is.2)
+      ∙ sym (ap (λ y. name_in (results_of ts as_instance y x) k) is.2)
 
-  block_emission : (y : Instance) → instance_in x.kind ≡ Some y → emission_of ports os i x ≡ block
+  block_emission : (y : Instance) → instance_in x.kind ≡ Some y → emission_of ports os i x ≡ as_instance
   block_emission y is = go (sort_of x.kind) where
-    go : Sort x.kind → emission_of ports os i x ≡ block
+    go : Sort x.kind → emission_of ports os i x ≡ as_instance
     go (a_register f r n u) = absurd (let h : None ≡ Some y = sym n ∙ is in cc)
     go (an_instance z r n u) = emission_of_instance ports os i x z r n
     go (an_output r n u) = absurd (let h : None ≡ Some y = sym n ∙ is in cc)
@@ -148,9 +148,9 @@ module _ (ports : List Port) (os : List Op) (i : ℕ) (x : Op) where
       let n = legal_name ts y.name in
       let rest = name_among (result_identifiers i 0 x.results ++ ls) (legal_after (ts ++ n ∷ []) (result_name_hints y 0 (length x.results)) ++ ms) (instance_identifier i) in
       ap (λ r. name_among (identifiers_of r i x ++ ls) (legal_after ts (op_name_hints r x) ++ ms) (instance_identifier i)) (block_emission y is)
-      ∙ ap (λ z. name_among (identifiers_of block i x ++ ls) (legal_after ts (name_hints_of block z x) ++ ms) (instance_identifier i)) is
+      ∙ ap (λ z. name_among (identifiers_of as_instance i x ++ ls) (legal_after ts (name_hints_of as_instance z x) ++ ms) (instance_identifier i)) is
       ∙ ap (λ b. cond b (Some n) rest) (identifier_self (instance_identifier i))
-      ∙ sym (ap (λ r. Some (op_own_name ts r x)) (block_emission y is) ∙ ap (λ z. Some (own_name_of ts block z)) is)
+      ∙ sym (ap (λ r. Some (op_own_name ts r x)) (block_emission y is) ∙ ap (λ z. Some (own_name_of ts as_instance z)) is)
 
 -- ---- the names of a body's things
 

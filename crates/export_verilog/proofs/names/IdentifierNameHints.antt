@@ -7,7 +7,7 @@ use Rattle.hw_model.specs.Design.{Port, OpResult, Op, Module, is_register, is_in
 use Rattle.name_legalise.specs.Legal.{legal, legal_after}
 use Rattle.verilog_expr.specs.Spilling.{is_wire_kind, hint_of}
 use Rattle.export_verilog.specs.Identifiers.{Emission, each, emission_of, result_identifiers, identifiers_of, op_identifiers, port_identifiers, name_hint, value_name_hint, instance_name_hint, instance_name, op_name_hint, instance_result_name_hint, result_name_hint, or_name, names}
-use Rattle.export_verilog.specs.Identifiers.Emission.{hidden, net, variable, block}
+use Rattle.export_verilog.specs.Identifiers.Emission.{inline, as_wire, as_reg, as_instance}
 use Rattle.export_verilog.specs.Held.{own_name_hint, result_name_hints, name_hints_of, op_name_hints}
 use Rattle.export_verilog.specs.Walks.{body_name_hints}
 use Rattle.export_verilog.proofs.names.IdentifiersOf.{register_of_emission, instance_of_emission, made_of_emission}
@@ -38,18 +38,18 @@ module _ (m : Module) where
         (cond (is_wire_kind o.kind) (or_name o.name (codes "_wire")) (or_name (hint_of o) (codes "_GEN"))))) none
 
     by_emission : (r : Emission) → emission_of m.ports m.body i o ≡ r → map (name_hint m) (identifiers_of r i o) ≡ op_name_hints r o
-    by_emission hidden emission = refl
-    by_emission net emission =
+    by_emission inline emission = refl
+    by_emission as_wire emission =
         let made = made_of_emission m.ports m.body i o emission in
         ap (λ n. n ∷ []) (ap (value_name_hint 0) at ∙ net_name_hint made.1)
-    by_emission variable emission =
+    by_emission as_reg emission =
         let is = register_of_emission m.ports m.body i o emission in
         ap (λ n. n ∷ []) (ap (value_name_hint 0) at ∙ register_name_hint (ap is_some is.1))
-    by_emission block emission =
+    by_emission as_instance emission =
         let is = instance_of_emission m.ports m.body i o emission in
         ap₂ (λ n ns. n ∷ ns) (ap instance_name_hint at ∙ ap instance_name is.2)
         (results_name_hint i 0 o is.0 o.results at (instance_name_hints is.0 (ap is_some is.1) is.2))
-        ∙ sym (ap (λ y. name_hints_of block y o) is.2)
+        ∙ sym (ap (λ y. name_hints_of as_instance y o) is.2)
 
     pub op_name_hints_are : map (name_hint m) (op_identifiers m.ports m.body i o) ≡ op_name_hints (emission_of m.ports m.body i o) o
     op_name_hints_are = by_emission (emission_of m.ports m.body i o) refl

@@ -12,7 +12,7 @@ use Rattle.verilog_expr.specs.Scopes.{op_read}
 use Rattle.verilog_expr.specs.declared.scope.Scope.{Scope}
 use Rattle.verilog_expr.proofs.Drops.{split, drop_none}
 use Rattle.export_verilog.specs.Identifiers.{Emission, emission_of}
-use Rattle.export_verilog.specs.Identifiers.Emission.{hidden, net, variable, block}
+use Rattle.export_verilog.specs.Identifiers.Emission.{inline, as_wire, as_reg, as_instance}
 use Rattle.export_verilog.specs.Held.{op_seen, name_hints_of, op_name_hints, results_of, op_results}
 use Rattle.export_verilog.specs.Walks.{body_name_hints, body_given}
 use Rattle.export_verilog.proofs.names.PortNames.{legal_append}
@@ -24,7 +24,7 @@ name_hints_seen s o hidden = refl
 name_hints_seen s o net = refl
 name_hints_seen s o variable = refl
 name_hints_seen s o block = go (instance_in (kind_of o.kind.now)) where
-  go : (x : Option Instance) → name_hints_of block x (op_seen o) ≡ name_hints_of block x (op_read s o)
+  go : (x : Option Instance) → name_hints_of as_instance x (op_seen o) ≡ name_hints_of as_instance x (op_read s o)
   go None = refl
   go (Some i) = refl
 
@@ -33,7 +33,7 @@ results_seen s o ts hidden = refl
 results_seen s o ts net = refl
 results_seen s o ts variable = refl
 results_seen s o ts block = go (instance_in (kind_of o.kind.now)) where
-  go : (x : Option Instance) → results_of ts block x (op_seen o) ≡ results_of ts block x (op_read s o)
+  go : (x : Option Instance) → results_of ts as_instance x (op_seen o) ≡ results_of ts as_instance x (op_read s o)
   go None = refl
   go (Some i) = refl
 

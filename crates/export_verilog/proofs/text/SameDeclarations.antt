@@ -14,7 +14,7 @@ use Rattle.verilog_expr.specs.declared.scope.Scope.{Scope}
 use Rattle.verilog_expr.specs.declared.value_names.ValueNames.{ValueNames}
 use Rattle.export_verilog.specs.Identifiers.{Emission, name_or_nothing, named, identifier_text}
 use Rattle.export_verilog.specs.Identifiers.Identifier.{value_identifier}
-use Rattle.export_verilog.specs.Identifiers.Emission.{hidden, net, variable, block}
+use Rattle.export_verilog.specs.Identifiers.Emission.{inline, as_wire, as_reg, as_instance}
 use Rattle.export_verilog.specs.Exported.{result_wires, declared_as}
 use Rattle.export_verilog.specs.ScopeModules.{scope_module}
 use Rattle.export_verilog.specs.Values.{value_wire, value_variable, value_wires, declared_items}

@@ -14,7 +14,7 @@ use Rattle.verilog_expr.specs.Numerals.{high_of}
 use Rattle.verilog_expr.specs.Spilling.{height_limit}
 use Rattle.export_verilog.specs.Identifiers.{Identifier, Emission, each, emission_of, name_hint, module_identifiers, names, name_among, identifier_name, identifier_text, name_or_nothing, input_name, named}
 use Rattle.export_verilog.specs.Identifiers.Identifier.{port_identifier, value_identifier, instance_identifier}
-use Rattle.export_verilog.specs.Identifiers.Emission.{hidden, net, variable, block}
+use Rattle.export_verilog.specs.Identifiers.Emission.{inline, as_wire, as_reg, as_instance}
 use Rattle.export_verilog.specs.Exported.{expression, assigned_expr, vport, vports, result_wires, declared_as, declares, loads, block_of, always_of, expr_or_none, others, connections_of, connections_to, instance_of, stated_as, states, output_assigns, symbol_name, vitems}
 use Rattle.export_verilog.specs.ModuleTexts.{module_under}
 use Rattle.export_verilog.proofs.names.SameNames.{own_same, expr_same}

@@ -15,7 +15,7 @@ use Rattle.verilog_expr.specs.declared.scope.Scope.{Scope}
 use Rattle.verilog_expr.specs.declared.value_names.ValueNames.{ValueNames}
 use Rattle.export_verilog.specs.Identifiers.{name_or_nothing, named, identifier_text}
 use Rattle.export_verilog.specs.Identifiers.Identifier.{value_identifier}
-use Rattle.export_verilog.specs.Identifiers.Emission.{net, variable}
+use Rattle.export_verilog.specs.Identifiers.Emission.{as_wire, as_reg}
 use Rattle.export_verilog.specs.Exported.{expression, assigned_expr, loads, block_of, always_of, stated_as}
 use Rattle.export_verilog.specs.ScopeModules.{scope_module}
 use Rattle.export_verilog.specs.Statements.{register_items}
@@ -53,10 +53,10 @@ module _ (s : Scope) (v : ValueNames) (values : (r : Ref) → named_of v r ≡ n
     own_name = ap (λ n. name_or_nothing (named_of v (result n 0))) place ∙ ap name_or_nothing (values (result i 0))
 
     pub net_same : assign (name_or_nothing (named_of v (result j 0))) (own_expr (named_of v) (scope_ports s) (scope_ops s) (value_expr s v) (result j 0)) ∷ []
-        ≡ stated_as d (scope_module s) i o net
+        ≡ stated_as d (scope_module s) i o as_wire
     net_same =
         ap₂ (λ n e. assign n e ∷ []) own_name
         (ap (λ n. own_expr (named_of v) (scope_ports s) (scope_ops s) (value_expr s v) (result n 0)) place ∙ assigned_same (result i 0))
 
-    pub variable_same : (q : Name) → q ≡ name_or_nothing (named_of v (result j 0)) → register_items (named_of v) (value_expr s v) q (register_in o) ≡ stated_as d (scope_module s) i o variable
+    pub variable_same : (q : Name) → q ≡ name_or_nothing (named_of v (result j 0)) → register_items (named_of v) (value_expr s v) q (register_in o) ≡ stated_as d (scope_module s) i o as_reg
     variable_same q is = register_same q (register_in o) ∙ ap (λ n. always_of (scope_module s) n (register_in o)) (is ∙ own_name)

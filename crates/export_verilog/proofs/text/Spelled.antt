@@ -18,7 +18,7 @@ use Rattle.verilog_expr.proofs.TextRead.{IsWord, IsSpellable}
 use Rattle.verilog_expr.proofs.Checked.{decimal_word}
 use Rattle.export_verilog.specs.Identifiers.{Identifier, emission_of, identifier_text, module_identifiers, named, name_or_nothing}
 use Rattle.export_verilog.specs.Identifiers.Identifier.{port_identifier, value_identifier, instance_identifier}
-use Rattle.export_verilog.specs.Identifiers.Emission.{net, variable, block}
+use Rattle.export_verilog.specs.Identifiers.Emission.{as_wire, as_reg, as_instance}
 use Rattle.export_verilog.specs.Exported.{expression, assigned_expr, symbol_names, symbol_name, block_of, loads, connections_of, connections_to, vport, vports, vitems, vmodule, tree_of}
 use Rattle.export_verilog.proofs.text.TextRead.{IsHigh, IsSpellablePort, ArePorts, IsSpellableLoad, IsSpellableBlock, IsSpellableConnection, AreConnections, IsSpellableItem, AreItems, IsSpellableTree}
 use Rattle.export_verilog.proofs.names.IdentifierNames.{text_named, name_is_identifier, identifier_among}
@@ -85,7 +85,7 @@ module _ (d : Design) (x : Setting d) where
       go None (Some b) u v = (written b.signal _ (are.signal b v), (load_spelled i here b.value t (are.value b v), next))
       go (Some e) (Some b) u v = (written b.signal _ (are.signal b v), (load_spelled i here b.value t (are.value b v), (written e _ (are.enable e u), next)))
 
-    register_spelled : (i : ℕ) (o : Op) (r : Register) → slice_get m.body i ≡ Some o → emission_of m.ports m.body i o ≡ variable → register_in o ≡ Some r
+    register_spelled : (i : ℕ) (o : Op) (r : Register) → slice_get m.body i ≡ Some o → emission_of m.ports m.body i o ≡ as_reg → register_in o ≡ Some r
         → IsWord (name_or_nothing (named m r.clock)) × IsSpellableBlock (block_of (expression m) (identifier_text m (value_identifier i 0)) r.next r.enable r.reset)
     register_spelled i o r there emission at =
         let first = result_at_first d x s m is i o there (inr emission) in
@@ -100,7 +100,7 @@ module _ (d : Design) (x : Setting d) where
 
     -- ---- instances
 
-    connection_spelled : (i : ℕ) (o : Op) → slice_get m.body i ≡ Some o → emission_of m.ports m.body i o ≡ block → (c : Called d m o) → (j : ℕ) (p : Port) → slice_get c.module_of.ports j ≡ Some p
+    connection_spelled : (i : ℕ) (o : Op) → slice_get m.body i ≡ Some o → emission_of m.ports m.body i o ≡ as_instance → (c : Called d m o) → (j : ℕ) (p : Port) → slice_get c.module_of.ports j ≡ Some p
         → IsSpellableConnection (connection_of c.module_of m i j 0 (take j c.module_of.ports) p o.operands)
     connection_spelled i o there emission c j p at = record { port = word_of_identifier c.kind.symbol c.module_of c.there (port_identifier j) (port_in c.module_of j p at); value = go p.is_output refl } where
       n : ℕ
@@ -113,7 +113,7 @@ module _ (d : Design) (x : Setting d) where
           let g = placed_in (type_in m.ports m.body) (λ (u : HwType). Some u) o.operands (input_types c.module_of.ports) (input_count (take j c.module_of.ports)) p.type c.inputs (place_of_input c.module_of.ports j p at out) in
           subst (λ z. IsSpellable (expr_for (expression m) z)) (sym g.1) (written g.0 p.type g.2)
 
-    connections_spelled : (i : ℕ) (o : Op) → slice_get m.body i ≡ Some o → emission_of m.ports m.body i o ≡ block → (c : Called d m o) → (es : List Connection)
+    connections_spelled : (i : ℕ) (o : Op) → slice_get m.body i ≡ Some o → emission_of m.ports m.body i o ≡ as_instance → (c : Called d m o) → (es : List Connection)
         → ((e : Connection) → In e es → In e (connections_of c.module_of m i 0 0 c.module_of.ports o.operands)) → AreConnections es
     connections_spelled i o there emission c [] within = tt
     connections_spelled i o there emission c (e ∷ es) within = (at_connection (from_connections c.module_of m i 0 0 c.module_of.ports o.operands e (within e (inl refl))), connections_spelled i o there emission c es (λ f h. within f (inr h))) where
@@ -122,7 +122,7 @@ module _ (d : Design) (x : Setting d) where
 
     -- ---- items
 
-    net_spelled : (i : ℕ) (o : Op) → slice_get m.body i ≡ Some o → emission_of m.ports m.body i o ≡ net → IsSpellable (assigned_expr m (result i 0))
+    net_spelled : (i : ℕ) (o : Op) → slice_get m.body i ≡ Some o → emission_of m.ports m.body i o ≡ as_wire → IsSpellable (assigned_expr m (result i 0))
     net_spelled i o there emission =
         let first = result_at_first d x s m is i o there (inl emission) in
         let sort = made_of_emission m.ports m.body i o emission in
