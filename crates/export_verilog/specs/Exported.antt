@@ -16,7 +16,7 @@ use Rattle.verilog_expr.specs.Numerals.{high_of}
 use Rattle.verilog_expr.specs.Building.{no_expr}
 use Rattle.verilog_expr.specs.Expressions.{expr_to, own_expr}
 use Rattle.verilog_expr.specs.Spilling.{height_limit}
-use Rattle.export_verilog.specs.Identifiers.{Emission, each, emission_of, identifier_text, name_or_nothing, named}
+use Rattle.export_verilog.specs.Identifiers.{Emission, each, emission_of, identifier_text, name_or_nothing, value_name}
 use Rattle.export_verilog.specs.Identifiers.Identifier.{port_identifier, value_identifier, instance_identifier}
 use Rattle.export_verilog.specs.Identifiers.Emission.{inline, as_wire, as_reg, as_instance}
 
@@ -37,11 +37,11 @@ symbol_name d s = symbol_among d (symbol_names d) s
 
 -- the expression of a value of a module: no expression is nested deeper than the limit of heights
 abbrev pub expression : Module → Ref → Expr
-expression m r = expr_to (named m) m.ports m.body (suc height_limit) r
+expression m r = expr_to (value_name m) m.ports m.body (suc height_limit) r
 
 -- what is assigned to a value's own name
 abbrev pub assigned_expr : Module → Ref → Expr
-assigned_expr m r = own_expr (named m) m.ports m.body (expression m) r
+assigned_expr m r = own_expr (value_name m) m.ports m.body (expression m) r
 
 -- ---- ports
 
@@ -80,7 +80,7 @@ block_of ex q next (Some en) (Some r) = if_else_if (ex r.signal) (loads q (ex r.
 
 abbrev pub always_of : Module → Name → Option Register → List Item
 always_of m q None = []
-always_of m q (Some r) = always (name_or_nothing (named m r.clock)) (block_of (expression m) q r.next r.enable r.reset) ∷ []
+always_of m q (Some r) = always (name_or_nothing (value_name m r.clock)) (block_of (expression m) q r.next r.enable r.reset) ∷ []
 
 -- ---- instances
 

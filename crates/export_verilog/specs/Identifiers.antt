@@ -133,7 +133,7 @@ input_name m j None = None
 input_name m j (Some p) = cond p.is_output None (identifier_name m (port_identifier j))
 
 -- the name of a value, where it has one
-abbrev pub named : Module → Ref → Option Name
-named m (port j) = input_name m j (slice_get m.ports j)
-named m (result i k) = identifier_name m (value_identifier i k)
-named m undefined = None
+abbrev pub value_name : Module → Ref → Option Name
+value_name m (port j) = input_name m j (slice_get m.ports j)
+value_name m (result i k) = identifier_name m (value_identifier i k)
+value_name m undefined = None

@@ -8,9 +8,9 @@ use Rattle.export_verilog.specs.Exported.{expr_or_none, others}
 
 -- the connections of ports with names: each input to the operand of its turn, each output to the result of its turn, whose
 -- name is given, from the k-th on (IEEE 1364-2005, 12.3.6: connecting module instance ports by name)
-abbrev pub joined : (Ref → Expr) → (ℕ → Name) → ℕ → List Name → List Port → List Ref → List Connection
-joined ex given k (n ∷ ns) (p ∷ ps) rs =
+abbrev pub connections_from : (Ref → Expr) → (ℕ → Name) → ℕ → List Name → List Port → List Ref → List Connection
+connections_from ex given k (n ∷ ns) (p ∷ ps) rs =
     cond p.is_output
-    (record { port = n; value = name (given k) } ∷ joined ex given (k + 1) ns ps rs)
-    (record { port = n; value = expr_or_none ex rs } ∷ joined ex given k ns ps (others rs))
-joined ex given k _ _ rs = []
+    (record { port = n; value = name (given k) } ∷ connections_from ex given (k + 1) ns ps rs)
+    (record { port = n; value = expr_or_none ex rs } ∷ connections_from ex given k ns ps (others rs))
+connections_from ex given k _ _ rs = []

@@ -11,13 +11,13 @@ use Rattle.export_verilog.specs.Layout.{Text, load_text, if_text, port_lines, co
 -- ---- expressions
 
 -- an expression whose text is these bytes, as a name's is
-abbrev pub written : Text → Expr
-written bytes = name bytes
+abbrev pub verbatim : Text → Expr
+verbatim bytes = name bytes
 
 -- ---- registers (IEEE 1364-2005, 9.2.2: nonblocking assignments)
 
 abbrev pub written_load : Name → Text → Load
-written_load q value = record { target = q; value = written value }
+written_load q value = record { target = q; value = verbatim value }
 
 -- what resets a register, and to what
 pub record WrittenReset : Type 0 where
@@ -27,14 +27,14 @@ pub record WrittenReset : Type 0 where
 -- the block of a register, by its name, its next value, its enable and its reset
 abbrev pub written_block : Name → Text → Option Text → Option WrittenReset → Block
 written_block q next None None = load (written_load q next)
-written_block q next (Some en) None = if_load (written en) (written_load q next)
-written_block q next None (Some r) = if_else (written r.signal) (written_load q r.value) (written_load q next)
-written_block q next (Some en) (Some r) = if_else_if (written r.signal) (written_load q r.value) (written en) (written_load q next)
+written_block q next (Some en) None = if_load (verbatim en) (written_load q next)
+written_block q next None (Some r) = if_else (verbatim r.signal) (written_load q r.value) (written_load q next)
+written_block q next (Some en) (Some r) = if_else_if (verbatim r.signal) (written_load q r.value) (verbatim en) (written_load q next)
 
 -- what stands after the reset of a register: an `else` alone on its line, or with the enable
 abbrev pub otherwise_text : Name → Text → Option Text → Text
 otherwise_text q next None = codes "    else" ++ (10 ∷ load_text (codes "      ") (written_load q next) [])
-otherwise_text q next (Some en) = if_text (codes "    else ") (written en) (load_text (codes "      ") (written_load q next) [])
+otherwise_text q next (Some en) = if_text (codes "    else ") (verbatim en) (load_text (codes "      ") (written_load q next) [])
 
 -- ---- lists of lines
 
@@ -72,7 +72,7 @@ AreNarrow ps = (j : ℕ) (p : Port) → slice_get ps j ≡ Some p → width p.ty
 
 -- a connection whose value is written
 abbrev pub written_connection : Name → Text → Connection
-written_connection port value = record { port = port; value = written value }
+written_connection port value = record { port = port; value = verbatim value }
 
 -- ---- instances
 

@@ -2,7 +2,7 @@
 ghost use Rattle.std.specs.Prelude.{◌≡◌, ◌++◌, [], None, OnOk, codes, option_map};
 ghost use Rattle.verilog_model.specs.Tree.Item.{always};
 ghost use Rattle.export_verilog.specs.Layout.{load_text, if_text, block_text, item_text};
-ghost use Rattle.export_verilog.specs.Written.{written, written_load, written_block, otherwise_text};
+ghost use Rattle.export_verilog.specs.Written.{verbatim, written_load, written_block, otherwise_text};
 ghost use Rattle.export_verilog.specs.WrittenViews.{block_held};
 
 use io_edge::byte_text::Text;
@@ -46,7 +46,7 @@ fn push_load(out: &mut Text, indent: &[u8], target: &[u8], value: &[u8]) -> Resu
 // Adds `if (c)` after what stands before it.
 #[tactic(auto, using(std::proofs::Common::append_assoc), unfolding(crate::specs::Layout::if_text, verilog_expr::specs::Text::expr_text))]
 fn push_if(out: &mut Text, front: &[u8], condition: &[u8]) -> Result<(), AllocError>
-    ensures { OnOk result (out.new ≡ out.old ++ if_text front.now (written condition.now) []) }
+    ensures { OnOk result (out.new ≡ out.old ++ if_text front.now (verbatim condition.now) []) }
 {
     out.push_bytes(front)?;
     out.push_bytes(b"if (")?;
@@ -64,7 +64,7 @@ fn push_guarded(
     target: &[u8],
     value: &[u8],
 ) -> Result<(), AllocError>
-    ensures { OnOk result (out.new ≡ out.old ++ if_text front.now (written condition.now) (load_text (codes "      ") (written_load target.now value.now) [])) }
+    ensures { OnOk result (out.new ≡ out.old ++ if_text front.now (verbatim condition.now) (load_text (codes "      ") (written_load target.now value.now) [])) }
 {
     push_if(out, front, condition)?;
     push_load(out, b"      ", target, value)?;

@@ -12,7 +12,7 @@ ghost use Rattle.export_verilog.specs.Exported.{expr_or_none};
 ghost use Rattle.export_verilog.specs.Identifiers.{name_or_nothing};
 ghost use Rattle.export_verilog.specs.Values.{value_expr};
 ghost use Rattle.export_verilog.specs.Written.{connections_left};
-ghost use Rattle.export_verilog.specs.Joined.{joined};
+ghost use Rattle.export_verilog.specs.Joined.{connections_from};
 
 use crate::instances::{push_begin, push_connection, push_end, push_head};
 use crate::module_writer::ModuleWriter;
@@ -85,7 +85,7 @@ pub fn push_connections(
     port_names: &[Text],
 ) -> Result<(), AllocError>
     requires { length port_names.now ≡ length ports.now }
-    ensures { OnOk result (out.new ≡ out.old ++ connections_left (joined (value_expr writer.now.scope writer.now.names.values) (λ k. name_or_nothing (named_of writer.now.names.values (result_ref (position_of (scope_ids writer.now.scope) id.index) k))) 0 port_names.now (map port_of ports.now) (map (scope_ref writer.now.scope) operands.now)) []) }
+    ensures { OnOk result (out.new ≡ out.old ++ connections_left (connections_from (value_expr writer.now.scope writer.now.names.values) (λ k. name_or_nothing (named_of writer.now.names.values (result_ref (position_of (scope_ids writer.now.scope) id.index) k))) 0 port_names.now (map port_of ports.now) (map (scope_ref writer.now.scope) operands.now)) []) }
 {
     let mut results: usize = 0;
     let mut inputs: usize = 0;
@@ -125,7 +125,7 @@ pub fn push_instance(
     head: &InstanceHead<'_>,
 ) -> Result<(), AllocError>
     requires { length port_names.now ≡ length ports.now }
-    ensures { OnOk result (out.new ≡ out.old ++ item_text (instance head.now.module.now head.now.name.now (joined (value_expr writer.now.scope writer.now.names.values) (λ k. name_or_nothing (named_of writer.now.names.values (result_ref (position_of (scope_ids writer.now.scope) id.index) k))) 0 port_names.now (map port_of ports.now) (map (scope_ref writer.now.scope) operands.now))) []) }
+    ensures { OnOk result (out.new ≡ out.old ++ item_text (instance head.now.module.now head.now.name.now (connections_from (value_expr writer.now.scope writer.now.names.values) (λ k. name_or_nothing (named_of writer.now.names.values (result_ref (position_of (scope_ids writer.now.scope) id.index) k))) 0 port_names.now (map port_of ports.now) (map (scope_ref writer.now.scope) operands.now))) []) }
 {
     push_head(out, head.module, head.name)?;
     push_begin(out, ports.len() > 0)?;

@@ -3,7 +3,7 @@ ghost use Rattle.std.specs.Prelude.{◌≡◌, ◌++◌, [], OnOk};
 ghost use Rattle.verilog_model.specs.Tree.Item.{wire, reg, assign};
 ghost use Rattle.verilog_expr.specs.Numerals.{high_of};
 ghost use Rattle.export_verilog.specs.Layout.{range_text, item_text};
-ghost use Rattle.export_verilog.specs.Written.{written};
+ghost use Rattle.export_verilog.specs.Written.{verbatim};
 
 use io_edge::byte_text::Text;
 use std::alloc::AllocError;
@@ -56,7 +56,7 @@ pub fn push_reg(out: &mut Text, width: u64, name: &[u8]) -> Result<(), AllocErro
 /// Adds an assignment to a net, of an expression that is already written (6.1: continuous assignments).
 #[tactic(auto, using(std::proofs::Common::append_assoc), unfolding(crate::specs::Layout::item_text, verilog_expr::specs::Text::expr_text))]
 pub fn push_assign(out: &mut Text, name: &[u8], value: &[u8]) -> Result<(), AllocError>
-    ensures { OnOk result (out.new ≡ out.old ++ item_text (assign name.now (written value.now)) []) }
+    ensures { OnOk result (out.new ≡ out.old ++ item_text (assign name.now (verbatim value.now)) []) }
 {
     out.push_bytes(b"  assign ")?;
     out.push_bytes(name)?;

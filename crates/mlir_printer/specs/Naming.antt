@@ -82,14 +82,14 @@ abbrev pub input_count : List Port → ℕ
 input_count ps = length (port_name_hints ps)
 
 -- the names that are wanted: what wants nothing wants the next number
-abbrev pub wanted : ℕ → List (Option Name) → List Name
-wanted n [] = []
-wanted n (None ∷ ws) = decimal n ∷ wanted (n + 1) ws
-wanted n (Some name ∷ ws) = standing name ∷ wanted n ws
+abbrev pub hints_or_numbers : ℕ → List (Option Name) → List Name
+hints_or_numbers n [] = []
+hints_or_numbers n (None ∷ ws) = decimal n ∷ hints_or_numbers (n + 1) ws
+hints_or_numbers n (Some name ∷ ws) = standing name ∷ hints_or_numbers n ws
 
 -- the names of ports and results, in order
 abbrev pub names_given : List Port → List OpParts → List Name
-names_given ps os = fresh [] (wanted 0 (port_name_hints ps ++ body_name_hints os))
+names_given ps os = fresh [] (hints_or_numbers 0 (port_name_hints ps ++ body_name_hints os))
 
 -- ---- what is named
 
@@ -99,8 +99,8 @@ first_name [] = []
 first_name (n ∷ ns) = n
 
 -- a value of this name
-abbrev pub called : Name → ValueText
-called name = record { name = name; number = None }
+abbrev pub name_value_text : Name → ValueText
+name_value_text name = record { name = name; number = None }
 
 -- so many names, of which the first ones are these
 abbrev pub firsts : ℕ → List Name → List Name
@@ -117,7 +117,7 @@ abbrev pub value_at : OpParts → List Name → ℕ → ValueText
 value_at o ns k =
     cond (is_pack o.kind (length o.results))
     (cond (nat_lt k (length o.results)) (record { name = first_name ns; number = Some k }) no_value)
-    (cond (nat_lt k (name_count o)) (called (first_name (drop k ns))) no_value)
+    (cond (nat_lt k (name_count o)) (name_value_text (first_name (drop k ns))) no_value)
 
 -- result k of the i-th operation, where the names of the operations begin so
 abbrev pub value_in : List Name → List OpParts → ℕ → ℕ → ValueText
@@ -128,7 +128,7 @@ value_in ns (o ∷ os) (suc i) k = value_in (drop (name_count o) ns) os i k
 -- the value of the j-th port, where the names of the ports begin so
 abbrev pub port_value : List Name → List Port → ℕ → ValueText
 port_value ns [] j = no_value
-port_value ns (p ∷ ps) zero = cond p.is_output no_value (called (first_name ns))
+port_value ns (p ∷ ps) zero = cond p.is_output no_value (name_value_text (first_name ns))
 port_value ns (p ∷ ps) (suc j) = port_value (drop (length (port_name_hint p)) ns) ps j
 
 -- a value, where the names are given; what nothing defines has no name

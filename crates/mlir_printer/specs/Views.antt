@@ -9,7 +9,7 @@ use Rattle.mlir_syntax.specs.ElementText.{InherentAttributes}
 use Rattle.mlir_syntax.specs.ElementText as text
 use Rattle.mlir_printer.specs.Numbers.{shown_literals}
 use Rattle.mlir_printer.specs.Elements.{ValueText as Shown, Pending as Left, no_value}
-use Rattle.mlir_printer.specs.Naming.{first_name, called}
+use Rattle.mlir_printer.specs.Naming.{first_name, name_value_text}
 use Rattle.mlir_printer.specs.Chosen.{Chosen}
 use Rattle.mlir_printer.specs.ChosenViews.{names_in, chosen_in}
 use Rattle.mlir_printer.specs.declared.value_names.ValueText.{ValueText}
@@ -28,30 +28,30 @@ abbrev pub names_held : ValueNames → List Name
 names_held v = names_in v.names
 
 -- the names, and the next number for what wants none
-abbrev pub chosen : ValueNames → Chosen
-chosen v = chosen_in v.names
+abbrev pub chosen_names : ValueNames → Chosen
+chosen_names v = chosen_in v.names
 
 -- result k of a place
 abbrev pub slot_value : List Name → Slot → ℕ → Shown
 slot_value ns p k =
     cond (nat_lt k p.count)
-    (cond p.pack (record { name = first_name (drop p.first ns); number = Some k }) (called (first_name (drop (p.first + k) ns))))
+    (cond p.pack (record { name = first_name (drop p.first ns); number = Some k }) (name_value_text (first_name (drop (p.first + k) ns))))
     no_value
 
-abbrev pub placed : List Name → Option Slot → ℕ → Shown
-placed ns None k = no_value
-placed ns (Some p) k = slot_value ns p k
+abbrev pub value_in_slot : List Name → Option Slot → ℕ → Shown
+value_in_slot ns None k = no_value
+value_in_slot ns (Some p) k = slot_value ns p k
 
 -- the value of a port
 abbrev pub port_placed : List Name → Option (Option ℕ) → Shown
 port_placed ns None = no_value
 port_placed ns (Some None) = no_value
-port_placed ns (Some (Some n)) = called (first_name (drop n ns))
+port_placed ns (Some (Some n)) = name_value_text (first_name (drop n ns))
 
 -- a value, as the table of names has it
 unfoldable pub value_held : ValueNames → Value → Shown
 value_held v (Port n) = port_placed (names_held v) (slice_get v.ports.items n)
-value_held v (Result id k) = placed (names_held v) (slice_get v.places.items id.index) k
+value_held v (Result id k) = value_in_slot (names_held v) (slice_get v.places.items id.index) k
 value_held v Undefined = no_value
 
 -- what an operation says besides operands and types

@@ -56,7 +56,7 @@ impl ValueNames {
     ghost use Rattle.mlir_printer.specs.Chosen.{with_name_hint, with_name_hints};
     ghost use Rattle.mlir_printer.specs.Places.{HavePlaces, place_at, port_places};
     ghost use Rattle.mlir_printer.specs.Shown.{parts_in_body};
-    ghost use Rattle.mlir_printer.specs.Views.{names_held, chosen, value_held, value_of, placed, port_placed, slot_value};
+    ghost use Rattle.mlir_printer.specs.Views.{names_held, chosen_names, value_held, value_of, value_in_slot, port_placed, slot_value};
 
     /// The names of the values of a module.
     pub fn of(alloc: Global, one: &Module) -> Result<ValueNames, AllocError>
@@ -115,7 +115,7 @@ impl ValueNames {
     // Takes the name of a value that wants one; where it may not stand, as it is spelled then.
     #[tactic(auto, unfolding(crate::specs::Strings::standing))]
     fn take_name(&mut self, alloc: Global, wanted: &[u8]) -> Result<u32, AllocError>
-        ensures chosen { OnOk result (chosen self.new ≡ with_name_hint (chosen self.old) (Some wanted.now)) }
+        ensures chosen { OnOk result (chosen_names self.new ≡ with_name_hint (chosen_names self.old) (Some wanted.now)) }
         ensures number { IfOk result (λ n. n ≡ length (names_held self.old)) }
         ensures ports { self.new.ports ≡ self.old.ports }
         ensures places { self.new.places ≡ self.old.places }
@@ -129,7 +129,7 @@ impl ValueNames {
 
     // Takes the own name of a register or a wire.
     fn take_own(&mut self, alloc: Global, own: &[u8]) -> Result<u32, AllocError>
-        ensures chosen { OnOk result (chosen self.new ≡ with_name_hint (chosen self.old) (own_name_hint own.now)) }
+        ensures chosen { OnOk result (chosen_names self.new ≡ with_name_hint (chosen_names self.old) (own_name_hint own.now)) }
         ensures ports { self.new.ports ≡ self.old.ports }
         ensures places { self.new.places ≡ self.old.places }
     {
@@ -142,7 +142,7 @@ impl ValueNames {
 
     // Takes the names of ports.
     fn add_ports(&mut self, alloc: Global, ports: &[Port]) -> Result<(), AllocError>
-        ensures chosen { OnOk result (chosen self.new ≡ with_name_hints (chosen self.old) (port_name_hints (map port_of ports.now))) }
+        ensures chosen { OnOk result (chosen_names self.new ≡ with_name_hints (chosen_names self.old) (port_name_hints (map port_of ports.now))) }
         ensures ports { OnOk result (self.new.ports.items ≡ self.old.ports.items ++ port_places (length (names_held self.old)) (map port_of ports.now)) }
         ensures places { OnOk result (self.new.places ≡ self.old.places) }
     {
@@ -155,7 +155,7 @@ impl ValueNames {
 
     // Takes the name of a port, where it is an input.
     fn add_port(&mut self, alloc: Global, port: &Port) -> Result<Option<u32>, AllocError>
-        ensures chosen { OnOk result (chosen self.new ≡ with_name_hints (chosen self.old) (port_name_hint (port_of port.now))) }
+        ensures chosen { OnOk result (chosen_names self.new ≡ with_name_hints (chosen_names self.old) (port_name_hint (port_of port.now))) }
         ensures number { IfOk result (λ n. n ∷ [] ≡ port_places (length (names_held self.old)) (port_of port.now ∷ [])) }
         ensures ports { self.new.ports ≡ self.old.ports }
         ensures places { self.new.places ≡ self.old.places }
@@ -169,7 +169,7 @@ impl ValueNames {
     // Takes the names of the results of a body.
     fn add_operations(&mut self, alloc: Global, body: &Body) -> Result<(), AllocError>
         requires { self.old.places.items ≡ [] }
-        ensures chosen { OnOk result (chosen self.new ≡ with_name_hints (chosen self.old) (body_name_hints (parts_in_body (ops_of body.now)))) }
+        ensures chosen { OnOk result (chosen_names self.new ≡ with_name_hints (chosen_names self.old) (body_name_hints (parts_in_body (ops_of body.now)))) }
         ensures ports { OnOk result (self.new.ports ≡ self.old.ports) }
         ensures places { OnOk result (HavePlaces (length (names_held self.old)) (ops_of body.now) self.new.places.items) }
     {
@@ -183,7 +183,7 @@ impl ValueNames {
 
     // Takes the names of an operation's results, and gives where they stand.
     fn add_operation(&mut self, alloc: Global, op: &Op<'_>) -> Result<Slot, AllocError>
-        ensures chosen { OnOk result (chosen self.new ≡ with_name_hints (chosen self.old) (name_hints (read_parts op.now))) }
+        ensures chosen { OnOk result (chosen_names self.new ≡ with_name_hints (chosen_names self.old) (name_hints (read_parts op.now))) }
         ensures place { IfOk result (λ place. place ≡ place_at (length (names_held self.old)) (read_parts op.now)) }
         ensures ports { self.new.ports ≡ self.old.ports }
         ensures places { self.new.places ≡ self.old.places }
@@ -199,7 +199,7 @@ impl ValueNames {
     // Takes the names of an operation's results.
     #[tactic(auto, unfolding(crate::specs::Naming::name_hints_of))]
     fn take_results(&mut self, alloc: Global, op: &Op<'_>) -> Result<(), AllocError>
-        ensures chosen { OnOk result (chosen self.new ≡ with_name_hints (chosen self.old) (name_hints (read_parts op.now))) }
+        ensures chosen { OnOk result (chosen_names self.new ≡ with_name_hints (chosen_names self.old) (name_hints (read_parts op.now))) }
         ensures ports { self.new.ports ≡ self.old.ports }
         ensures places { self.new.places ≡ self.old.places }
     {
@@ -231,7 +231,7 @@ impl ValueNames {
         types: &[Ty],
         value: Integer,
     ) -> Result<u32, AllocError>
-        ensures chosen { OnOk result (chosen self.new ≡ with_name_hint (chosen self.old) (constant_name_hint (map type_of types.now) (integer_of value))) }
+        ensures chosen { OnOk result (chosen_names self.new ≡ with_name_hint (chosen_names self.old) (constant_name_hint (map type_of types.now) (integer_of value))) }
         ensures ports { self.new.ports ≡ self.old.ports }
         ensures places { self.new.places ≡ self.old.places }
     {
@@ -243,7 +243,7 @@ impl ValueNames {
 
     // Takes the name of a constant of a type.
     fn take_typed(&mut self, alloc: Global, ty: &Ty, value: Integer) -> Result<u32, AllocError>
-        ensures chosen { OnOk result (chosen self.new ≡ with_name_hint (chosen self.old) (constant_name_hint (type_of ty.now ∷ []) (integer_of value))) }
+        ensures chosen { OnOk result (chosen_names self.new ≡ with_name_hint (chosen_names self.old) (constant_name_hint (type_of ty.now ∷ []) (integer_of value))) }
         ensures ports { self.new.ports ≡ self.old.ports }
         ensures places { self.new.places ≡ self.old.places }
     {
@@ -258,7 +258,7 @@ impl ValueNames {
 
     // Takes the names of an instance's results.
     fn take_outputs(&mut self, alloc: Global, instance: &Instance) -> Result<(), AllocError>
-        ensures chosen { OnOk result (chosen self.new ≡ with_name_hints (chosen self.old) (instance_name_hints (instance_of instance.now).name (instance_of instance.now).outputs)) }
+        ensures chosen { OnOk result (chosen_names self.new ≡ with_name_hints (chosen_names self.old) (instance_name_hints (instance_of instance.now).name (instance_of instance.now).outputs)) }
         ensures ports { self.new.ports ≡ self.old.ports }
         ensures places { self.new.places ≡ self.old.places }
     {
@@ -326,7 +326,7 @@ impl ValueNames {
 
     // A result of an operation.
     fn result(&self, id: OpId, number: u32) -> ValueText<'_>
-        ensures { value_of result ≡ placed (names_held self.now) (slice_get self.now.places.items id.index) number }
+        ensures { value_of result ≡ value_in_slot (names_held self.now) (slice_get self.now.places.items id.index) number }
     {
         match self.place(id) {
             Some(place) => self.slot_name(place, number),

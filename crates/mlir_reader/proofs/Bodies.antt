@@ -5,7 +5,7 @@ use Rattle.opcode.specs.declared.listed.Listed.TheVariants as listed
 use Rattle.diag.specs.declared.refusal.OpName.TheVariants as op
 use Rattle.mlir_lexer.specs.Tokens.{Lexeme}
 use Rattle.mlir_lexer.specs.declared.token.TokenKind.TheVariants as kind
-use Rattle.mlir_syntax.specs.Stream.{Symbol, token, bad, end, first, is_next, after, unexpected}
+use Rattle.mlir_syntax.specs.Stream.{Symbol, token, bad, end, first, is_next, after, unexpected_refusal}
 use Rattle.mlir_syntax.specs.Reads.{Read, Reads, on}
 use Rattle.mlir_syntax.specs.OperationText.{OperationText, operation_text, operation_behind, no_operation, operations_text, is_last}
 use Rattle.mlir_syntax.specs.OperandText.{maybe_results}
@@ -30,7 +30,7 @@ next-some (x ∷ xs) e = omega arith
 abbrev then_others : ℕ → OperationText → Reads (List OperationText)
 then_others n o left =
     cond (is_last o.name)
-    (cond (is_next kind.RightBrace left) (Ok (o ∷ [], left)) (Err (unexpected (op.Listed listed.HwModule) left)))
+    (cond (is_next kind.RightBrace left) (Ok (o ∷ [], left)) (Err (unexpected_refusal (op.Listed listed.HwModule) left)))
     (on (operations_text n left) (λ os behind. Ok (o ∷ os, behind)))
 
 -- some operations are read from the start on, and what is left gives the rest
@@ -80,7 +80,7 @@ closes_at {view = view} {got = got} {left = left} g close =
 pub output_at : {B : Type 0} {view : B → OperationText} {start : List Symbol} {got : List B} {left : List Symbol} (x : B) (past : List Symbol)
     → Standing view start got left → is_next kind.RightBrace left ≡ false → operation_text left ≡ Ok (view x, past)
     → is_last (view x).name ≡ true → is_next kind.RightBrace past ≡ false
-    → operations_text (length start) start ≡ Err (unexpected (op.Listed listed.HwModule) past)
+    → operations_text (length start) start ≡ Err (unexpected_refusal (op.Listed listed.HwModule) past)
 output_at {view = view} x past g more_left read last more = same_at (Ok (view x, past)) g more_left read ∙ rw (last, more) refl
 
 -- what is read after an operation, where nothing but the end may stand after an output
@@ -89,7 +89,7 @@ others : (n : ℕ) (o : OperationText) (past : List Symbol) → length past ≤ 
 others n o past enough more_left = go (is_last o.name) (is_next kind.RightBrace past) refl more_left
   where
     go : (last close : Bool) → is_next kind.RightBrace past ≡ close → (last && not close) ≡ false
-        → cond last (cond close (Ok (o ∷ [], past)) (Err (unexpected (op.Listed listed.HwModule) past))) (on (operations_text n past) (λ os behind. Ok (o ∷ os, behind)))
+        → cond last (cond close (Ok (o ∷ [], past)) (Err (unexpected_refusal (op.Listed listed.HwModule) past))) (on (operations_text n past) (λ os behind. Ok (o ∷ os, behind)))
         ≡ on (operations_text n past) (λ os behind. Ok (o ∷ os, behind))
     go true true close none = rw (ends_at n past enough close) refl
     go true false close none = cc

@@ -7,8 +7,8 @@ use Rattle.ir_store.specs.declared.body.Body.{Body}
 use Rattle.ir_store.specs.Bodies.{ops_of, ids_of, gaps}
 use Rattle.ir_store.specs.Numbered.{op_by}
 use Rattle.ir_store.specs.BodyOps.{BodyOp, ids_in}
-use Rattle.mlir_reader.specs.Drafts.{Keeps, Drafts, IsBody, drafted}
-use Rattle.mlir_reader.specs.Held.{held, IsNumbered, HoldsSame, HoldsMore}
+use Rattle.mlir_reader.specs.Drafts.{Keeps, Drafts, IsBody, operation_of_draft}
+use Rattle.mlir_reader.specs.Held.{draft_operations, IsNumbered, HoldsSame, HoldsMore}
 use Rattle.mlir_reader.specs.Marked.{operation_marked}
 use Rattle.mlir_reader.specs.Meanings.{meanings_of, numbers_below}
 use Rattle.mlir_syntax.specs.OperationText.{OperationText}
@@ -129,14 +129,14 @@ more_then s t = record {
 
 -- an operation waits after the others
 pub waits_more : (old new : Draft) (d : DraftOperation) (op : Meanings → Op) → new.names ≡ old.names → new.count ≡ old.count → new.body ≡ old.body
-    → new.waiting.items ≡ old.waiting.items ++ d ∷ [] → ((later : Meanings) → drafted later d ≡ op later) → HoldsMore old op new
+    → new.waiting.items ≡ old.waiting.items ++ d ∷ [] → ((later : Meanings) → operation_of_draft later d ≡ op later) → HoldsMore old op new
 waits_more old new d op n c b w e = record {
   names = n;
   count = c;
   ops = λ later k.
-      ap (λ (body : Body). map (op_by (λ i. i)) (ops_of body) ++ map (drafted later) new.waiting.items) b
-      ∙ waits (drafted later) (map (op_by (λ i. i)) (ops_of old.body)) d old.waiting.items new.waiting.items w
-      ∙ ap (λ o. held later old ++ o ∷ []) (e later);
+      ap (λ (body : Body). map (op_by (λ i. i)) (ops_of body) ++ map (operation_of_draft later) new.waiting.items) b
+      ∙ waits (operation_of_draft later) (map (op_by (λ i. i)) (ops_of old.body)) d old.waiting.items new.waiting.items w
+      ∙ ap (λ o. draft_operations later old ++ o ∷ []) (e later);
   numbered = λ before. subst IsNumbered (sym b) before;
 }
 
@@ -148,19 +148,19 @@ puts_more old new b op n c added numbered same none e = record {
   names = n;
   count = c;
   ops = λ later k.
-      ap (λ ds. map (op_by (λ i. i)) (ops_of new.body) ++ map (drafted later) ds) same
-      ∙ passes (drafted later) (map (op_by (λ i. i)) (ops_of old.body)) (map (op_by (λ i. i)) (ops_of new.body)) b old.waiting.items added none
-      ∙ ap (λ o. held later old ++ o ∷ []) (e later k);
+      ap (λ ds. map (op_by (λ i. i)) (ops_of new.body) ++ map (operation_of_draft later) ds) same
+      ∙ passes (operation_of_draft later) (map (op_by (λ i. i)) (ops_of old.body)) (map (op_by (λ i. i)) (ops_of new.body)) b old.waiting.items added none
+      ∙ ap (λ o. draft_operations later old ++ o ∷ []) (e later k);
   numbered = numbered;
 }
 
 -- ---- whole drafts
 
-counted : (means : Meanings) (d : Draft) → length (held means d) ≡ length (ids_of d.body) + length d.waiting.items
+counted : (means : Meanings) (d : Draft) → length (draft_operations means d) ≡ length (ids_of d.body) + length d.waiting.items
 counted means d =
-    length-append (map (op_by (λ i. i)) (ops_of d.body)) (map (drafted means) d.waiting.items)
-    ∙ ap (λ n. n + length (map (drafted means) d.waiting.items)) (length-map (ops_of d.body) (op_by (λ i. i)) ∙ sym (length-map (ops_of d.body) (λ (o : BodyOp). o.id)))
-    ∙ ap (λ n. length (ids_of d.body) + n) (length-map d.waiting.items (drafted means))
+    length-append (map (op_by (λ i. i)) (ops_of d.body)) (map (operation_of_draft means) d.waiting.items)
+    ∙ ap (λ n. n + length (map (operation_of_draft means) d.waiting.items)) (length-map (ops_of d.body) (op_by (λ i. i)) ∙ sym (length-map (ops_of d.body) (λ (o : BodyOp). o.id)))
+    ∙ ap (λ n. length (ids_of d.body) + n) (length-map d.waiting.items (operation_of_draft means))
 
 module _ (seen : Meanings) (os : List OperationText) (o : OperationText) (old mid new : Draft) (found : List Bool) where
   -- one more operation is read, and its names are defined before it
@@ -181,16 +181,16 @@ module _ (seen : Meanings) (os : List OperationText) (o : OperationText) (old mi
       ∙ ap (with_definitions seen) (sym (definitions_more 0 os o))
 
   ops_more : Drafts seen os old → IsRead → HoldsMore mid (λ later. operation_marked later found o) new → (later : Meanings) → Keeps (meanings_of new.names) later
-      → held later new ≡ operations_from later seen 0 (os ++ o ∷ [])
+      → draft_operations later new ≡ operations_from later seen 0 (os ++ o ∷ [])
   ops_more h r m later k =
       let before = meanings_of old.names in
       let defined : Keeps before (meanings_of mid.names) = subst (λ f. Keeps before f) (sym r.means) (definitions_kept before (operation_definitions old.count o)) in
       let behind : Keeps (meanings_of mid.names) later = subst (λ (n : Names). Keeps (meanings_of n) later) m.names k in
       let kept = keeps_then before (meanings_of mid.names) later defined behind in
       m.ops later behind
-      ∙ ap (λ bs. held later mid ++ operation_marked later bs o ∷ []) r.marked
-      ∙ ap (λ ops. (map (op_by (λ i. i)) ops ++ map (drafted later) mid.waiting.items) ++ operation_at later before old.count o ∷ []) r.ops
-      ∙ ap (λ ds. (map (op_by (λ i. i)) (ops_of old.body) ++ map (drafted later) ds) ++ operation_at later before old.count o ∷ []) r.waiting
+      ∙ ap (λ bs. draft_operations later mid ++ operation_marked later bs o ∷ []) r.marked
+      ∙ ap (λ ops. (map (op_by (λ i. i)) ops ++ map (operation_of_draft later) mid.waiting.items) ++ operation_at later before old.count o ∷ []) r.ops
+      ∙ ap (λ ds. (map (op_by (λ i. i)) (ops_of old.body) ++ map (operation_of_draft later) ds) ++ operation_at later before old.count o ∷ []) r.waiting
       ∙ ap (λ ops. ops ++ operation_at later before old.count o ∷ []) (h.ops later kept)
       ∙ ap (λ f. operations_from later seen 0 os ++ operation_at later f old.count o ∷ []) h.means
       ∙ ap (λ j. operations_from later seen 0 os ++ operation_at later (with_definitions seen (body_definitions 0 os)) j o ∷ []) (h.count ∙ from_first (length os))
@@ -218,7 +218,7 @@ module _ (seen : Meanings) (os : List OperationText) (o : OperationText) (old mi
 
 -- the body of a draft of which all is read
 pub body_done : (seen : Meanings) (os : List OperationText) (d : Draft) (body : Body) → Drafts seen os d
-    → map (op_by (λ i. i)) (ops_of body) ≡ held (meanings_of d.names) d → IsNumbered body → IsBody seen os body
+    → map (op_by (λ i. i)) (ops_of body) ≡ draft_operations (meanings_of d.names) d → IsNumbered body → IsBody seen os body
 body_done seen os d body h e numbered =
     let means = meanings_of d.names in
     let all = e ∙ h.ops means (keeps_all means) in

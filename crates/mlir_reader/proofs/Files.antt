@@ -5,7 +5,7 @@ use Rattle.hw_model.specs.Design.{Design}
 use Rattle.mlir_lexer.specs.declared.token.TokenKind.TheVariants as kind
 use Rattle.diag.specs.declared.refusal.OpName.TheVariants as op
 use Rattle.mlir_lexer.specs.Tokens.{Lexeme}
-use Rattle.mlir_syntax.specs.Stream.{Symbol, unexpected}
+use Rattle.mlir_syntax.specs.Stream.{Symbol, unexpected_refusal}
 use Rattle.mlir_syntax.specs.Reads.{Read, Reads, on, want}
 use Rattle.mlir_syntax.specs.OperationText.{no_operation}
 use Rattle.mlir_syntax.specs.ModuleText.{ModuleText, module_text, modules_text, is_end, want_end}
@@ -110,8 +110,8 @@ ends_alike : (front : Design) (ms : List ModuleText) (s : List Symbol)
 unfolding want_end
 ends_alike front ms s = go (is_end s)
   where
-    go : (b : Bool) → designs_behind front (cond b (Ok (ms, s)) (Err (unexpected op.File s)))
-        ≡ on (cond b (Ok (done, s)) (Err (unexpected op.File s))) (λ (_ : Unit {0}) left. Ok (front ++ map module_of ms, left))
+    go : (b : Bool) → designs_behind front (cond b (Ok (ms, s)) (Err (unexpected_refusal op.File s)))
+        ≡ on (cond b (Ok (done, s)) (Err (unexpected_refusal op.File s))) (λ (_ : Unit {0}) left. Ok (front ++ map module_of ms, left))
     go true = refl
     go false = refl
 

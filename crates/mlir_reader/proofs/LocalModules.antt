@@ -27,7 +27,7 @@ use Rattle.mlir_syntax.specs.OperandText.{ResultNames}
 use Rattle.assembly_format.specs.Formats.{text_of_keyword, format_of, front_elements, type_elements}
 use Rattle.mlir_syntax.specs.ElementText.{Gathered, gathered_nothing, with_operands, with_types, with_inherent, predicate_named, bare_text, as_known, predicate_text, truth_named, truth_text, truth_number, string_text, group_text, further_types, types_text, reset_operands, reset_text, want_sync, sync_reset_text, input_text, output_text, inner_symbol, module_symbol, inputs_text, outputs_text, instance_with, with_instance, instance_text, element_text, elements_text}
 use Rattle.mlir_syntax.specs.ElementText.InherentAttributes.{with_reset, predicate, position, number, literals, field_name}
-use Rattle.mlir_syntax.specs.OperationText.{NameClass, operation, module_name, file_name, locations, outside, unknown, class_of, misplaced, is_outside, no_operation, takes_bin, bin_text, string_keys, OperationText, given_entries, late_dictionary, form_text, named_operation, classed_operation, operation_behind, operation_text, is_last, operations_text}
+use Rattle.mlir_syntax.specs.OperationText.{NameClass, operation, module_name, file_name, locations, outside, unknown, class_of, misplaced_refusal, is_outside, no_operation, takes_bin, bin_text, string_keys, OperationText, given_entries, late_dictionary, form_text, named_operation, classed_operation, operation_behind, operation_text, is_last, operations_text}
 use Rattle.mlir_syntax.specs.ModuleText.{header, port_name, port_type, input_port, output_port, port_text, ports_text, ModuleText, module_keys, attributes_text, private_text, body_text, module_behind, classed_module, module_text, is_end, modules_text, file_symbol, want_end, wrapped_text, is_file_name, file_text}
 use Rattle.mlir_reader.specs.Reading.{text_limit, design_read, read}
 use Rattle.mlir_reader.specs.Locality.{symbol_place, IsOfItsSymbol}
@@ -191,8 +191,8 @@ place_no_operation around (end p ∷ u) w = refl
 loc_no_operation : {A : Type 0} {c n : ℕ} (around : OpName) → Loc {A = A} c n (λ _ s. Err (no_operation around s))
 loc_no_operation around = loc_err (no_operation around) (same_of (no_operation around) (alike_no_operation around)) (place_no_operation around)
 
-loc_misplaced : {A : Type 0} {c n : ℕ} (around : OpName) (t : Lexeme) (class : NameClass) → Loc {A = A} c n (λ _ s. Err (misplaced around s t class))
-unfolding misplaced
+loc_misplaced : {A : Type 0} {c n : ℕ} (around : OpName) (t : Lexeme) (class : NameClass) → Loc {A = A} c n (λ _ s. Err (misplaced_refusal around s t class))
+unfolding misplaced_refusal
 loc_misplaced around t (operation o) = loc_refused Unexpected (op.Listed o)
 loc_misplaced around t module_name = loc_refused Unexpected (op.Listed listed.HwModule)
 loc_misplaced around t file_name = loc_refused Unexpected op.File

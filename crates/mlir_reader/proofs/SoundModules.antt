@@ -14,7 +14,7 @@ use Rattle.hw_model.specs.Design.{Design}
 use Rattle.mlir_lexer.specs.Contents.{content_of}
 use Rattle.mlir_lexer.specs.Tokens.{Lexeme, tokens}
 use Rattle.mlir_lexer.specs.declared.token.TokenKind.TheVariants as kind
-use Rattle.mlir_syntax.specs.Stream.{Symbol, token, bad, end, stream, stream_of, is_first, is_next, is_word, after, unexpected}
+use Rattle.mlir_syntax.specs.Stream.{Symbol, token, bad, end, stream, stream_of, is_first, is_next, is_word, after, unexpected_refusal}
 use Rattle.mlir_lexer.specs.TokenKinds.{is_kind}
 use Rattle.mlir_syntax.specs.Reads.{Read, Reads, on, give, want}
 use Rattle.mlir_syntax.specs.TypeText.{any_type, most_open}
@@ -193,7 +193,7 @@ ends_on r f rest = record { ends = λ s left y h. let (x, m, e, g) = ok_of (r s)
 
 ends_want : {A : Type 0} (x : A) → Ends (want_end x)
 unfolding want_end
-ends_want x = record { ends = λ s left y h. kept_ok (λ _ l. is_end l ≡ true) (is_end s) x y s left (unexpected op.File s) (λ e. e) h }
+ends_want x = record { ends = λ s left y h. kept_ok (λ _ l. is_end l ≡ true) (is_end s) x y s left (unexpected_refusal op.File s) (λ e. e) h }
 
 ends_wrapped : Ends wrapped_text
 unfolding wrapped_text

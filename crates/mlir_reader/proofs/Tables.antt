@@ -10,7 +10,7 @@ use Rattle.std.specs.Cmp.Lexicographic.{bytes_decides}
 use Rattle.indexmap.specs.IndexMap.{insert_entry}
 use Rattle.hw_model.specs.Types.{Name}
 use Rattle.hw_model.specs.Design.{same_name}
-use Rattle.mlir_reader.specs.Meanings.{defined_of, definition, held, listed, number_meaning, meaning_by, meanings_of}
+use Rattle.mlir_reader.specs.Meanings.{defined_of, definition, meaning_at, table_meanings, number_meaning, meaning_by, meanings_of}
 use Rattle.mlir_reader.specs.PlainNumbers.{number_of}
 use Rattle.mlir_reader.specs.Resolving.{Meanings, Defined, Definition, known_or, with_definition}
 use Rattle.mlir_reader.specs.declared.names.Defined as code
@@ -97,7 +97,7 @@ pub at_number : (t : Names) (name : Name) (n : ℕ) → number_of name ≡ Some 
 unfolding meanings_of
 at_number t name n e = ap (meaning_by t name) e
 
-pub at_other_name : (t : Names) (name : Name) → number_of name ≡ None → meanings_of t name ≡ listed t.named.entries name
+pub at_other_name : (t : Names) (name : Name) → number_of name ≡ None → meanings_of t name ≡ table_meanings t.named.entries name
 unfolding meanings_of
 at_other_name t name e = ap (meaning_by t name) e
 
@@ -109,9 +109,9 @@ same_tables t u numbered far named = fun_ext (λ q. on q (number_of q))
   where
     on : (q : Name) (o : Option ℕ) → meaning_by u q o ≡ meaning_by t q o
     on q (Some n) =
-        ap (λ places. known_or (option_map defined_of (held places n)) (listed u.far.entries q)) numbered
-        ∙ ap (λ es. known_or (option_map defined_of (held t.numbered.items n)) (listed es q)) far
-    on q None = ap (λ es. listed es q) named
+        ap (λ places. known_or (option_map defined_of (meaning_at places n)) (table_meanings u.far.entries q)) numbered
+        ∙ ap (λ es. known_or (option_map defined_of (meaning_at t.numbered.items n)) (table_meanings es q)) far
+    on q None = ap (λ es. table_meanings es q) named
 
 -- whether a plain number stands for something already
 pub is_known : (t : Names) (name : Name) (n : ℕ) (r : Option code.Defined) (b c : Bool) → number_of name ≡ Some n
@@ -124,10 +124,10 @@ is_known t name n r b c e found is answer = ap is_some (at_number t name n e ∙
 
 -- a plain number that stands for nothing is none of those far above
 pub far_unknown : (t : Names) (name : Name) (n : ℕ) → number_of name ≡ Some n → is_some (meanings_of t name) ≡ false
-    → is_some (listed t.far.entries name) ≡ is_some (meanings_of t name)
+    → is_some (table_meanings t.far.entries name) ≡ is_some (meanings_of t name)
 far_unknown t name n e h =
     let none = sym (at_number t name n e) ∙ unknown (meanings_of t name) h in
-    let far = (none_of_both (option_map defined_of (held t.numbered.items n)) (listed t.far.entries name) none).1 in
+    let far = (none_of_both (option_map defined_of (meaning_at t.numbered.items n)) (table_meanings t.far.entries name) none).1 in
     ap is_some far ∙ sym h
 
 -- the definition of another name changes nothing
@@ -144,7 +144,7 @@ no_number q name n e f same = let h : None ≡ Some n = sym e ∙ ap number_of s
 -- a plain number that stood for nothing is put at its place
 pub number_put : (t u : Names) (name : Name) (n : ℕ) (d : code.Defined) → number_of name ≡ Some n → is_some (meanings_of t name) ≡ false
     → u.far.entries ≡ t.far.entries → u.named.entries ≡ t.named.entries
-    → ((k : ℕ) → held u.numbered.items k ≡ cond (nat_eq n k) (Some d) (held t.numbered.items k))
+    → ((k : ℕ) → meaning_at u.numbered.items k ≡ cond (nat_eq n k) (Some d) (meaning_at t.numbered.items k))
     → meanings_of u ≡ with_definition (meanings_of t) (definition name d)
 unfolding meanings_of
 number_put t u name n d e h far named put = fun_ext (λ q. on q (number_of q) refl)
@@ -153,27 +153,27 @@ number_put t u name n d e h far named put = fun_ext (λ q. on q (number_of q) re
         → number_meaning u q m ≡ known_or (number_meaning t q m) (cond (same_name q name) (Some (defined_of d)) None)
     at q m true f same =
         let name_same : q ≡ name = one_number q name n (f ∙ ap Some (sym (eqb-true n m same))) e in
-        let here : held u.numbered.items m ≡ Some d = put m ∙ ap (λ b. cond b (Some d) (held t.numbered.items m)) same in
+        let here : meaning_at u.numbered.items m ≡ Some d = put m ∙ ap (λ b. cond b (Some d) (meaning_at t.numbered.items m)) same in
         let free : number_meaning t q m ≡ None = sym (at_number t q m f) ∙ ap (meanings_of t) name_same ∙ unknown (meanings_of t name) h in
-        ap (λ o. known_or (option_map defined_of o) (listed u.far.entries q)) here
+        ap (λ o. known_or (option_map defined_of o) (table_meanings u.far.entries q)) here
         ∙ sym (ap (λ b. known_or None (cond b (Some (defined_of d)) None)) ((bytes_decides q name).1 name_same))
         ∙ sym (ap (λ o. known_or o (cond (same_name q name) (Some (defined_of d)) None)) free)
     at q m false f apart =
-        let there : held u.numbered.items m ≡ held t.numbered.items m = put m ∙ ap (λ b. cond b (Some d) (held t.numbered.items m)) apart in
-        ap (λ o. known_or (option_map defined_of o) (listed u.far.entries q)) there
-        ∙ ap (λ es. known_or (option_map defined_of (held t.numbered.items m)) (listed es q)) far
+        let there : meaning_at u.numbered.items m ≡ meaning_at t.numbered.items m = put m ∙ ap (λ b. cond b (Some d) (meaning_at t.numbered.items m)) apart in
+        ap (λ o. known_or (option_map defined_of o) (table_meanings u.far.entries q)) there
+        ∙ ap (λ es. known_or (option_map defined_of (meaning_at t.numbered.items m)) (table_meanings es q)) far
         ∙ other_name (number_meaning t q m) q name (Some (defined_of d))
         (λ same. let one : n ≡ m = some_same n m (sym e ∙ ap number_of (sym same) ∙ f) in let both : true ≡ false = sym (eq-eqb n m one) ∙ apart in cc)
 
     on : (q : Name) (o : Option ℕ) → number_of q ≡ o
         → meaning_by u q o ≡ known_or (meaning_by t q o) (cond (same_name q name) (Some (defined_of d)) None)
     on q (Some m) f = at q m (nat_eq n m) f refl
-    on q None f = ap (λ es. listed es q) named ∙ other_name (listed t.named.entries q) q name (Some (defined_of d)) (no_number q name n f e)
+    on q None f = ap (λ es. table_meanings es q) named ∙ other_name (table_meanings t.named.entries q) q name (Some (defined_of d)) (no_number q name n f e)
 
 -- a plain number that stood for nothing is put among those far above
 pub number_far : (t u : Names) (name : Name) (n : ℕ) (d : code.Defined) → number_of name ≡ Some n
     → u.numbered.items ≡ t.numbered.items → u.named.entries ≡ t.named.entries
-    → listed u.far.entries ≡ with_definition (listed t.far.entries) (definition name d)
+    → table_meanings u.far.entries ≡ with_definition (table_meanings t.far.entries) (definition name d)
     → meanings_of u ≡ with_definition (meanings_of t) (definition name d)
 unfolding meanings_of
 number_far t u name n d e numbered named far = fun_ext (λ q. on q (number_of q) refl)
@@ -183,15 +183,15 @@ number_far t u name n d e numbered named far = fun_ext (λ q. on q (number_of q)
 
     on : (q : Name) (o : Option ℕ) → number_of q ≡ o → meaning_by u q o ≡ known_or (meaning_by t q o) (new q)
     on q (Some m) f =
-        ap (λ places. known_or (option_map defined_of (held places m)) (listed u.far.entries q)) numbered
-        ∙ ap (λ means. known_or (option_map defined_of (held t.numbered.items m)) (means q)) far
-        ∙ known_or_three (option_map defined_of (held t.numbered.items m)) (listed t.far.entries q) (new q)
-    on q None f = ap (λ es. listed es q) named ∙ other_name (listed t.named.entries q) q name (Some (defined_of d)) (no_number q name n f e)
+        ap (λ places. known_or (option_map defined_of (meaning_at places m)) (table_meanings u.far.entries q)) numbered
+        ∙ ap (λ means. known_or (option_map defined_of (meaning_at t.numbered.items m)) (means q)) far
+        ∙ known_or_three (option_map defined_of (meaning_at t.numbered.items m)) (table_meanings t.far.entries q) (new q)
+    on q None f = ap (λ es. table_meanings es q) named ∙ other_name (table_meanings t.named.entries q) q name (Some (defined_of d)) (no_number q name n f e)
 
 -- a name that is no plain number is put among its like
 pub named_put : (t u : Names) (name : Name) (d : code.Defined) → number_of name ≡ None
     → u.numbered.items ≡ t.numbered.items → u.far.entries ≡ t.far.entries
-    → listed u.named.entries ≡ with_definition (listed t.named.entries) (definition name d)
+    → table_meanings u.named.entries ≡ with_definition (table_meanings t.named.entries) (definition name d)
     → meanings_of u ≡ with_definition (meanings_of t) (definition name d)
 unfolding meanings_of
 named_put t u name d e numbered far named = fun_ext (λ q. on q (number_of q) refl)
@@ -199,7 +199,7 @@ named_put t u name d e numbered far named = fun_ext (λ q. on q (number_of q) re
     on : (q : Name) (o : Option ℕ) → number_of q ≡ o
         → meaning_by u q o ≡ known_or (meaning_by t q o) (cond (same_name q name) (Some (defined_of d)) None)
     on q (Some m) f =
-        ap (λ places. known_or (option_map defined_of (held places m)) (listed u.far.entries q)) numbered
-        ∙ ap (λ es. known_or (option_map defined_of (held t.numbered.items m)) (listed es q)) far
+        ap (λ places. known_or (option_map defined_of (meaning_at places m)) (table_meanings u.far.entries q)) numbered
+        ∙ ap (λ es. known_or (option_map defined_of (meaning_at t.numbered.items m)) (table_meanings es q)) far
         ∙ other_name (number_meaning t q m) q name (Some (defined_of d)) (λ same. no_number name q m e f (sym same))
     on q None f = ap (λ means. means q) named

@@ -14,8 +14,8 @@ use Rattle.mlir_reader.specs.declared.draft.Draft.{Draft}
 use Rattle.mlir_reader.specs.declared.draft.DraftOperation.{DraftOperation}
 
 -- an operation whose operands are names, where names stand for this
-abbrev pub drafted : Meanings → DraftOperation → Op
-drafted means d = record (op_of d.operation) { operands = map (resolve_operand means) (map operand_of d.operands.items) }
+abbrev pub operation_of_draft : Meanings → DraftOperation → Op
+operation_of_draft means d = record (op_of d.operation) { operands = map (resolve_operand means) (map operand_of d.operands.items) }
 
 -- how many operands stand before the first whose name stands for nothing
 abbrev pub found_count : Meanings → List OperandName → ℕ
@@ -31,7 +31,7 @@ Keeps means later = (name : Name) → is_some (means name) ≡ true → later na
 pub record Drafts (seen : Meanings) (os : List OperationText) (d : Draft) : Type 0 where
   pub means : meanings_of d.names ≡ with_definitions seen (body_definitions 0 os)
   pub ops : (later : Meanings) → Keeps (meanings_of d.names) later
-      → map (op_by (λ i. i)) (ops_of d.body) ++ map (drafted later) d.waiting.items ≡ operations_from later seen 0 os
+      → map (op_by (λ i. i)) (ops_of d.body) ++ map (operation_of_draft later) d.waiting.items ≡ operations_from later seen 0 os
   pub ids : ids_of d.body ≡ numbers_below (length (ids_of d.body))
   pub all : length (ids_of d.body) + length d.waiting.items ≡ length os
   pub count : d.count ≡ length os

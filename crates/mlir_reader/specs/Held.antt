@@ -4,7 +4,7 @@ use Rattle.hw_model.specs.Design.{Op, Ref}
 use Rattle.ir_store.specs.Bodies.{ops_of, ids_of, gaps}
 use Rattle.ir_store.specs.Numbered.{op_by}
 use Rattle.ir_store.specs.declared.body.Body.{Body}
-use Rattle.mlir_reader.specs.Drafts.{Keeps, drafted}
+use Rattle.mlir_reader.specs.Drafts.{Keeps, operation_of_draft}
 use Rattle.mlir_reader.specs.Meanings.{meanings_of, numbers_below}
 use Rattle.mlir_syntax.specs.OperandText.{OperandName}
 use Rattle.mlir_reader.specs.Resolving.{Meanings, resolve_operand}
@@ -13,8 +13,8 @@ use Rattle.mlir_reader.specs.declared.draft.Draft.{Draft}
 use Rattle.mlir_reader.specs.declared.draft.DraftOperation.{DraftOperation}
 
 -- the operations of a draft, where names stand for this
-abbrev pub held : Meanings → Draft → List Op
-held later d = map (op_by (λ i. i)) (ops_of d.body) ++ map (drafted later) d.waiting.items
+abbrev pub draft_operations : Meanings → Draft → List Op
+draft_operations later d = map (op_by (λ i. i)) (ops_of d.body) ++ map (operation_of_draft later) d.waiting.items
 
 -- the ids of a body are its positions, and those that are next are too
 abbrev pub IsNumbered : Body → Type 0
@@ -41,12 +41,12 @@ FirstSettled means (d ∷ ds) refs = AreSettled means (map operand_of d.operands
 pub record HoldsSame (old new : Draft) : Type 0 where
   pub names : new.names ≡ old.names
   pub count : new.count ≡ old.count
-  pub ops : (later : Meanings) → Keeps (meanings_of old.names) later → held later new ≡ held later old
+  pub ops : (later : Meanings) → Keeps (meanings_of old.names) later → draft_operations later new ≡ draft_operations later old
   pub numbered : IsNumbered old.body → IsNumbered new.body
 
 -- the names of a draft are those of another, and so are its operations, with one after them that is this where names stand for that
 pub record HoldsMore (old : Draft) (op : Meanings → Op) (new : Draft) : Type 0 where
   pub names : new.names ≡ old.names
   pub count : new.count ≡ old.count
-  pub ops : (later : Meanings) → Keeps (meanings_of old.names) later → held later new ≡ held later old ++ op later ∷ []
+  pub ops : (later : Meanings) → Keeps (meanings_of old.names) later → draft_operations later new ≡ draft_operations later old ++ op later ∷ []
   pub numbered : IsNumbered old.body → IsNumbered new.body

@@ -31,21 +31,21 @@ abbrev pub definition : Name → code.Defined → Definition
 definition name d = record { name = name; defined = defined_of d }
 
 -- what a table of names holds for each
-abbrev pub listed : List (Bor Name × code.Defined) → Meanings
-listed entries name = option_map defined_of (lookup (λ k. same_name name k.now) entries)
+abbrev pub table_meanings : List (Bor Name × code.Defined) → Meanings
+table_meanings entries name = option_map defined_of (lookup (λ k. same_name name k.now) entries)
 
 -- what stands at the place of a number
-abbrev pub held : List (Option code.Defined) → ℕ → Option code.Defined
-held table n = option_flatten (slice_get table n)
+abbrev pub meaning_at : List (Option code.Defined) → ℕ → Option code.Defined
+meaning_at table n = option_flatten (slice_get table n)
 
 -- what a plain number stands for: what its place holds, or else what the table of those far above holds for its name
 abbrev pub number_meaning : Names → Name → ℕ → Option Defined
-number_meaning t name n = known_or (option_map defined_of (held t.numbered.items n)) (listed t.far.entries name)
+number_meaning t name n = known_or (option_map defined_of (meaning_at t.numbered.items n)) (table_meanings t.far.entries name)
 
 -- what a name stands for that is a plain number, or none
 abbrev pub meaning_by : Names → Name → Option ℕ → Option Defined
 meaning_by t name (Some n) = number_meaning t name n
-meaning_by t name None = listed t.named.entries name
+meaning_by t name None = table_meanings t.named.entries name
 
 -- what each name of a table stands for
 unfoldable pub meanings_of : Names → Meanings

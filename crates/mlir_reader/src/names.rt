@@ -6,7 +6,7 @@ ghost use Rattle.mlir_lexer.specs.Classes.{is_digit};
 ghost use Rattle.mlir_syntax.specs.Numerals.{number_in};
 ghost use Rattle.mlir_reader.specs.PlainNumbers.{number_of};
 ghost use Rattle.mlir_reader.specs.Resolving.{no_meaning, with_definition};
-ghost use Rattle.mlir_reader.specs.Meanings.{defined_of, held, listed, number_meaning, meanings_of, definition};
+ghost use Rattle.mlir_reader.specs.Meanings.{defined_of, meaning_at, table_meanings, number_meaning, meanings_of, definition};
 
 use indexmap::IndexMap;
 use mlir_lexer::classes::{Class, Digit};
@@ -74,7 +74,7 @@ impl<'s> Names<'s> {
 
     // What a plain number stands for that is far above those with a place.
     fn find_far(&self, name: &[u8]) -> Option<Defined>
-        ensures { option_map defined_of result ≡ listed self.now.far.entries name.now }
+        ensures { option_map defined_of result ≡ table_meanings self.now.far.entries name.now }
     {
         if self.far.is_empty() {
             return None;
@@ -120,7 +120,7 @@ impl<'s> Names<'s> {
 
 // Puts what a number stands for at its place, after empty ones where there are fewer.
 fn put(places: &mut Vec<Option<Defined>>, number: u32, defined: Defined) -> Result<(), AllocError>
-    ensures { OnOk result ((n : ℕ) → held places.new.items n ≡ cond (nat_eq number n) (Some defined) (held places.old.items n)) }
+    ensures { OnOk result ((n : ℕ) → meaning_at places.new.items n ≡ cond (nat_eq number n) (Some defined) (meaning_at places.old.items n)) }
 {
     let place = number as usize;
     if place < places.len() {
@@ -138,8 +138,8 @@ fn define_listed<'s>(
     name: &'s [u8],
     defined: Defined,
 ) -> Result<bool, AllocError>
-    ensures again { IfOk result (λ again. again ≡ is_some (listed table.old.entries name.now)) }
-    ensures means { OnOk result (listed table.new.entries ≡ with_definition (listed table.old.entries) (definition name.now defined)) }
+    ensures again { IfOk result (λ again. again ≡ is_some (table_meanings table.old.entries name.now)) }
+    ensures means { OnOk result (table_meanings table.new.entries ≡ with_definition (table_meanings table.old.entries) (definition name.now defined)) }
 {
     match table.insert(name, defined)? {
         None => Ok(false),

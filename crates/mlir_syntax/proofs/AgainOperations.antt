@@ -9,7 +9,7 @@ use Rattle.hw_model.specs.Design.{same_name}
 use Rattle.mlir_lexer.specs.Tokens.{Lexeme}
 use Rattle.mlir_lexer.specs.declared.token.TokenKind.{TokenKind}
 use Rattle.mlir_lexer.specs.declared.token.TokenKind.TheVariants as kind
-use Rattle.mlir_syntax.specs.Stream.{Symbol, token, is_first, is_next, is_word, unexpected}
+use Rattle.mlir_syntax.specs.Stream.{Symbol, token, is_first, is_next, is_word, unexpected_refusal}
 use Rattle.mlir_lexer.specs.TokenKinds.{is_kind}
 use Rattle.mlir_syntax.specs.Reads.{on}
 use Rattle.mlir_syntax.specs.OperandText.{ResultNames}
@@ -152,7 +152,7 @@ output_last os {s} {m} none close a =
 -- an operation is the last, or further ones stand after it
 last_or_more : (n : ℕ) (o : OperationText) (os : List OperationText) {k m left : List Symbol} (b : Bool) → (b ≡ true → os ≡ []) → At (Mark kind.RightBrace) m left
     → At (OperationsPhrase IsPlaceOf os) k m → operations_text n k ≡ Ok (os, m)
-    → cond b (cond (is_next kind.RightBrace k) (Ok (o ∷ [], k)) (Err (unexpected (op.Listed listed.HwModule) k)))
+    → cond b (cond (is_next kind.RightBrace k) (Ok (o ∷ [], k)) (Err (unexpected_refusal (op.Listed listed.HwModule) k)))
     (on (operations_text n k) (λ os behind. Ok (o ∷ os, behind))) ≡ Ok (o ∷ os, m)
 last_or_more n o os true once close c more =
     let (same, clear, next) = output_last os (once refl) close c in

@@ -12,7 +12,7 @@ use Rattle.mlir_lexer.specs.declared.token.TokenKind.TheVariants as kind
 use Rattle.mlir_syntax.specs.Stream.{Symbol, token, is_word, is_first, is_next, after}
 use Rattle.mlir_lexer.specs.TokenKinds.{tag, is_kind}
 use Rattle.mlir_syntax.specs.Reads.{Reads, want, want_word, items, some_items, items_until}
-use Rattle.mlir_syntax.specs.Numerals.{number_of, number_limit, limited, number_below, negative, integer}
+use Rattle.mlir_syntax.specs.Numerals.{number_of, number_limit, below_limit, number_below, negative, integer}
 use Rattle.mlir_syntax.specs.TypeText.{name_text}
 use Rattle.mlir_syntax.specs.ElementText.{symbol_text}
 use Rattle.mlir_syntax.specs.Spelling.{Phrase, One, Mark, Word, Holding, Then, Commas, NamePhrase, SymbolPhrase, NumberPhrase, IntegerPhrase}
@@ -133,8 +133,8 @@ leads_symbol bare quoted = leads_either (leads_holding bare) (leads_holding quot
 
 -- ---- numbers
 
-pub limited_is : (limit : ℕ) (op : OpName) (s left : List Symbol) (n m : ℕ) → n < limit → m ≡ n → limited limit op s m left ≡ Ok (n, left)
-unfolding limited
+pub limited_is : (limit : ℕ) (op : OpName) (s left : List Symbol) (n m : ℕ) → n < limit → m ≡ n → below_limit limit op s m left ≡ Ok (n, left)
+unfolding below_limit
 limited_is limit op s left n m small e = if_true _ (ap (λ x. nat_lt x limit) e ∙ lt-ltb n limit small) (ap (λ x. Ok (x, left)) e)
 
 pub again_number : (limit : ℕ) (op : OpName) → Again Any (number_below limit op) (NumberPhrase limit)

@@ -3,7 +3,7 @@ use Rattle.std.proofs.Common.{◌≡◌, ℕ, zero, suc, ◌-◌, ◌<◌, Bool,
 use Rattle.diag.specs.declared.refusal.OpName.{OpName}
 use Rattle.diag.specs.declared.cause.Cause.TheVariants.{OutsideProfile, TooDeep}
 use Rattle.hw_model.specs.Design.Attribute.{text_value, symbol_value, truth_value}
-use Rattle.mlir_syntax.specs.Stream.{Symbol, first, after, refused, unexpected}
+use Rattle.mlir_syntax.specs.Stream.{Symbol, first, after, refusal_at, unexpected_refusal}
 use Rattle.mlir_syntax.specs.TypeText.{too_deep}
 use Rattle.mlir_syntax.specs.AttributeText.{attribute_text, attribute_with, attribute_head, typed_integer, list_text}
 use Rattle.mlir_syntax.specs.AttributeText.AttributeHead.{text_head, symbol_head, truth_head, number_head, list_head, alias_head, no_head}
@@ -40,17 +40,17 @@ unfolding attribute_with
 list_at zero op s e some = absurd (omega arith)
 list_at (suc room) op s e some = let one : suc room - 1 ≡ room = omega arith in rw (one, sym e) refl
 
-pub deep_list_at : (room : ℕ) (op : OpName) (s : List Symbol) → list_head ≡ attribute_head (first s) → room ≡ 0 → attribute_text room op s ≡ Err (refused TooDeep op s)
+pub deep_list_at : (room : ℕ) (op : OpName) (s : List Symbol) → list_head ≡ attribute_head (first s) → room ≡ 0 → attribute_text room op s ≡ Err (refusal_at TooDeep op s)
 unfolding attribute_with too_deep
 deep_list_at zero op s e none = rw (sym e) refl
 deep_list_at (suc room) op s e none = absurd (omega arith)
 
-pub alias_at : (room : ℕ) (op : OpName) (s : List Symbol) → alias_head ≡ attribute_head (first s) → attribute_text room op s ≡ Err (refused OutsideProfile op s)
+pub alias_at : (room : ℕ) (op : OpName) (s : List Symbol) → alias_head ≡ attribute_head (first s) → attribute_text room op s ≡ Err (refusal_at OutsideProfile op s)
 unfolding attribute_with
 alias_at zero op s e = rw (sym e) refl
 alias_at (suc room) op s e = rw (sym e) refl
 
-pub nothing_at : (room : ℕ) (op : OpName) (s : List Symbol) → no_head ≡ attribute_head (first s) → attribute_text room op s ≡ Err (unexpected op s)
+pub nothing_at : (room : ℕ) (op : OpName) (s : List Symbol) → no_head ≡ attribute_head (first s) → attribute_text room op s ≡ Err (unexpected_refusal op s)
 unfolding attribute_with
 nothing_at zero op s e = rw (sym e) refl
 nothing_at (suc room) op s e = rw (sym e) refl

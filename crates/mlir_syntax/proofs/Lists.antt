@@ -3,7 +3,7 @@ use Rattle.std.proofs.Common.{◌≡◌, ℕ, zero, suc, ◌-◌, ◌≤◌, ◌
 use Rattle.std.proofs.lemmas.List.{map_push}
 use Rattle.diag.specs.declared.refusal.OpName.{OpName}
 use Rattle.mlir_lexer.specs.declared.token.TokenKind.TheVariants as kind
-use Rattle.mlir_syntax.specs.Stream.{Symbol, is_next, after, unexpected}
+use Rattle.mlir_syntax.specs.Stream.{Symbol, is_next, after, unexpected_refusal}
 use Rattle.mlir_syntax.specs.Reads.{Read, Reads, on, items}
 use Rattle.mlir_syntax.specs.Views.{ReadsAs}
 use Rattle.mlir_syntax.specs.declared.fail.ReadFail.{ReadFail}
@@ -11,7 +11,7 @@ use Rattle.mlir_syntax.specs.declared.fail.ReadFail.TheVariants.{Refused, NoMemo
 
 -- where nothing is left an item is refused
 abbrev pub IsItem : {A : Type 0} → OpName → Reads A → Type 0
-IsItem op item = item [] ≡ Err (unexpected op [])
+IsItem op item = item [] ≡ Err (unexpected_refusal op [])
 
 -- what is read after some items, with those before
 abbrev pub with_front : {A : Type 0} → List A → Read (List A) → Read (List A)

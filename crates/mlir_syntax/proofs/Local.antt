@@ -7,7 +7,7 @@ use Rattle.diag.specs.declared.refusal.Refusal.{Refusal}
 use Rattle.diag.specs.declared.refusal.OpName.{OpName}
 use Rattle.diag.specs.declared.cause.Cause.{Cause}
 use Rattle.mlir_lexer.specs.Tokens.{Lexeme}
-use Rattle.mlir_syntax.specs.Stream.{Symbol, token, bad, end, first, is_first, after, refused, unexpected}
+use Rattle.mlir_syntax.specs.Stream.{Symbol, token, bad, end, first, is_first, after, refusal_at, unexpected_refusal}
 use Rattle.mlir_syntax.specs.Reads.{Read, Reads, on}
 use Rattle.mlir_syntax.proofs.Sound.{joined}
 
@@ -263,39 +263,39 @@ pub loc_err : {A : Type 0} {c n : ℕ} (e : List Symbol → Refusal) → ((u v :
     → ((u : List Symbol) → Whole u → place_first u ≡ (e u).place) → Loc {A = A} c n (λ _ s. Err (e s))
 loc_err e same place = record { near = λ s w l. ([], s, refl, place s w, λ v wv sv k le. ap (λ r. Err r) (sym (same s v sv))) }
 
-same_refused : (cause : Cause) (op : OpName) (u v : List Symbol) → Same u v → refused cause op u ≡ refused cause op v
-same_refused cause op = same_of (refused cause op) go
+same_refused : (cause : Cause) (op : OpName) (u v : List Symbol) → Same u v → refusal_at cause op u ≡ refusal_at cause op v
+same_refused cause op = same_of (refusal_at cause op) go
   where
-    go : (y : Symbol) (a b : List Symbol) → refused cause op (y ∷ a) ≡ refused cause op (y ∷ b)
+    go : (y : Symbol) (a b : List Symbol) → refusal_at cause op (y ∷ a) ≡ refusal_at cause op (y ∷ b)
     go (token t) a b = refl
     go (bad p) a b = refl
     go (end p) a b = refl
 
-pub place_refused : (cause : Cause) (op : OpName) (u : List Symbol) → Whole u → place_first u ≡ (refused cause op u).place
+pub place_refused : (cause : Cause) (op : OpName) (u : List Symbol) → Whole u → place_first u ≡ (refusal_at cause op u).place
 place_refused cause op [] w = refl
 place_refused cause op (token t ∷ u) w = refl
 place_refused cause op (bad p ∷ u) w = refl
 place_refused cause op (end p ∷ u) w = refl
 
-same_unexpected : (op : OpName) (u v : List Symbol) → Same u v → unexpected op u ≡ unexpected op v
-same_unexpected op = same_of (unexpected op) go
+same_unexpected : (op : OpName) (u v : List Symbol) → Same u v → unexpected_refusal op u ≡ unexpected_refusal op v
+same_unexpected op = same_of (unexpected_refusal op) go
   where
-    go : (y : Symbol) (a b : List Symbol) → unexpected op (y ∷ a) ≡ unexpected op (y ∷ b)
+    go : (y : Symbol) (a b : List Symbol) → unexpected_refusal op (y ∷ a) ≡ unexpected_refusal op (y ∷ b)
     go (token t) a b = refl
     go (bad p) a b = refl
     go (end p) a b = refl
 
-place_unexpected : (op : OpName) (u : List Symbol) → Whole u → place_first u ≡ (unexpected op u).place
+place_unexpected : (op : OpName) (u : List Symbol) → Whole u → place_first u ≡ (unexpected_refusal op u).place
 place_unexpected op [] w = refl
 place_unexpected op (token t ∷ u) w = refl
 place_unexpected op (bad p ∷ u) w = refl
 place_unexpected op (end p ∷ u) w = refl
 
-pub loc_refused : {A : Type 0} {c n : ℕ} (cause : Cause) (op : OpName) → Loc {A = A} c n (λ _ s. Err (refused cause op s))
-loc_refused cause op = loc_err (refused cause op) (same_refused cause op) (place_refused cause op)
+pub loc_refused : {A : Type 0} {c n : ℕ} (cause : Cause) (op : OpName) → Loc {A = A} c n (λ _ s. Err (refusal_at cause op s))
+loc_refused cause op = loc_err (refusal_at cause op) (same_refused cause op) (place_refused cause op)
 
-pub loc_unexpected : {A : Type 0} {c n : ℕ} (op : OpName) → Loc {A = A} c n (λ _ s. Err (unexpected op s))
-loc_unexpected op = loc_err (unexpected op) (same_unexpected op) (place_unexpected op)
+pub loc_unexpected : {A : Type 0} {c n : ℕ} (op : OpName) → Loc {A = A} c n (λ _ s. Err (unexpected_refusal op s))
+loc_unexpected op = loc_err (unexpected_refusal op) (same_unexpected op) (place_unexpected op)
 
 -- ---- loops
 

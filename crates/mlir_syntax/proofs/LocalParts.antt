@@ -14,10 +14,10 @@ use Rattle.mlir_lexer.specs.Contents.{content_of}
 use Rattle.mlir_lexer.specs.Tokens.{Lexeme}
 use Rattle.mlir_lexer.specs.declared.token.TokenKind.{TokenKind}
 use Rattle.mlir_lexer.specs.declared.token.TokenKind.TheVariants as kind
-use Rattle.mlir_syntax.specs.Stream.{Symbol, token, bad, end, first, is_next, is_word, after, refused, unexpected}
+use Rattle.mlir_syntax.specs.Stream.{Symbol, token, bad, end, first, is_next, is_word, after, refusal_at, unexpected_refusal}
 use Rattle.mlir_lexer.specs.TokenKinds.{is_kind}
 use Rattle.mlir_syntax.specs.Reads.{Read, Reads, on, want, want_word, items, some_items, items_until}
-use Rattle.mlir_syntax.specs.Numerals.{number_in, number_of, count_limit, number_limit, limited, number_below, negative, integer}
+use Rattle.mlir_syntax.specs.Numerals.{number_in, number_of, count_limit, number_limit, below_limit, number_below, negative, integer}
 use Rattle.mlir_syntax.specs.TypeText.{TypeHead, width_digits, type_head, width_type, type_with, glued_element, x_rest, element_after, element_type, array_text, is_name, name_text, field_text, struct_text, too_deep, type_text}
 use Rattle.mlir_syntax.specs.TypeText.TypeHead.{integer_type as integer_head, clock_type, array_type, struct_type, foreign_type, no_type}
 use Rattle.mlir_syntax.specs.AttributeText.{AttributeHead, text_head, symbol_head, truth_head, number_head, list_head, alias_head, no_head, is_symbol, attribute_head, is_stored, stored_integer, integer_type, typed_integer, in_order, list_text, attribute_with, attribute_text, is_among, new_key, string_value, value_of_key, entry_value, entry_text, entries, dictionary_text, maybe_dictionary}
@@ -30,8 +30,8 @@ use Rattle.mlir_syntax.proofs.Local.{Loc, Local, loc_same, loc_on, loc_next, loc
 
 -- what a first token that a test tells is read as
 abbrev pub Taken : {A : Type 0} → OpName → (Lexeme → Bool) → (Lexeme → List Symbol → List Symbol → Read A) → Option Lexeme → ℕ → Reads A
-Taken op test K None k s = Err (unexpected op s)
-Taken op test K (Some t) k s = cond (test t) (K t s (after s)) (Err (unexpected op s))
+Taken op test K None k s = Err (unexpected_refusal op s)
+Taken op test K (Some t) k s = cond (test t) (K t s (after s)) (Err (unexpected_refusal op s))
 
 pub local_taken : {A : Type 0} {r : Reads A} (op : OpName) (test : Lexeme → Bool) (K : Lexeme → List Symbol → List Symbol → Read A)
     → ((k : ℕ) (s : List Symbol) → r s ≡ Taken op test K (first s) k s) → ((t : Lexeme) → Local (λ s. K t s (after s))) → Local r
@@ -89,8 +89,8 @@ local_symbol op =
 
 -- ---- numbers
 
-local_limited : (limit : ℕ) (op : OpName) (x : ℕ) → Local (λ s. limited limit op s x (after s))
-unfolding limited
+local_limited : (limit : ℕ) (op : OpName) (x : ℕ) → Local (λ s. below_limit limit op s x (after s))
+unfolding below_limit
 local_limited limit op x c n = loc_cond (nat_lt x limit) (loc_after (loc_give {y = x})) (loc_refused NumberTooLarge op)
 
 -- a token of a kind, and what is made of it at its place
@@ -98,7 +98,7 @@ kind_taken : {A : Type 0} (op : OpName) (k : TokenKind) (K : Lexeme → List Sym
     → on (want op k s) (λ t left. K t s left) ≡ Taken op (λ t. is_kind t.kind k) K (first s) j s
 unfolding want
 kind_taken op k K j [] = refl
-kind_taken op k K j (token t ∷ ts) = on_cond (is_kind t.kind k) t ts (unexpected op (token t ∷ ts)) (λ u left. K u (token t ∷ ts) left)
+kind_taken op k K j (token t ∷ ts) = on_cond (is_kind t.kind k) t ts (unexpected_refusal op (token t ∷ ts)) (λ u left. K u (token t ∷ ts) left)
 kind_taken op k K j (bad p ∷ ts) = refl
 kind_taken op k K j (end p ∷ ts) = refl
 
@@ -108,7 +108,7 @@ local_kind op k K each = local_taken op (λ t. is_kind t.kind k) K (kind_taken o
 
 pub local_number : (limit : ℕ) (op : OpName) → Local (number_below limit op)
 unfolding number_below
-local_number limit op = local_kind op kind.Integer (λ t s left. limited limit op s (number_of t.text) left) (λ t. local_limited limit op (number_of t.text))
+local_number limit op = local_kind op kind.Integer (λ t s left. below_limit limit op s (number_of t.text) left) (λ t. local_limited limit op (number_of t.text))
 
 pub local_integer : (op : OpName) → Local (integer op)
 unfolding integer
@@ -196,33 +196,33 @@ local_type (suc room) op c n =
 -- an integer made of a number, if it is one that a dictionary may hold
 abbrev stored_with : (ℕ → ℤ) → OpName → Reads ℤ
 stored_with f op s =
-    on (number_below number_limit op s) (λ x left. cond (is_stored (f x)) (Ok (f x, left)) (Err (refused NumberTooLarge op s)))
+    on (number_below number_limit op s) (λ x left. cond (is_stored (f x)) (Ok (f x, left)) (Err (refusal_at NumberTooLarge op s)))
 
 abbrev StoredAt : (ℕ → ℤ) → OpName → Lexeme → List Symbol → List Symbol → Read ℤ
 StoredAt f op t s left =
     cond (nat_lt (number_of t.text) number_limit)
-    (cond (is_stored (f (number_of t.text))) (Ok (f (number_of t.text), left)) (Err (refused NumberTooLarge op s))) (Err (refused NumberTooLarge op s))
+    (cond (is_stored (f (number_of t.text))) (Ok (f (number_of t.text), left)) (Err (refusal_at NumberTooLarge op s))) (Err (refusal_at NumberTooLarge op s))
 
 stored_token : (f : ℕ → ℤ) (op : OpName) (t : Lexeme) (ts : List Symbol) (b d : Bool)
-    → on (on (cond {A = Read Lexeme} b (Ok (t, ts)) (Err (unexpected op (token t ∷ ts))))
-    (λ u left. cond {A = Read ℕ} d (Ok (number_of t.text, left)) (Err (refused NumberTooLarge op (token t ∷ ts)))))
-    (λ x left. cond (is_stored (f x)) (Ok (f x, left)) (Err (refused NumberTooLarge op (token t ∷ ts))))
-    ≡ cond b (cond d (cond (is_stored (f (number_of t.text))) (Ok (f (number_of t.text), ts)) (Err (refused NumberTooLarge op (token t ∷ ts))))
-    (Err (refused NumberTooLarge op (token t ∷ ts)))) (Err (unexpected op (token t ∷ ts)))
+    → on (on (cond {A = Read Lexeme} b (Ok (t, ts)) (Err (unexpected_refusal op (token t ∷ ts))))
+    (λ u left. cond {A = Read ℕ} d (Ok (number_of t.text, left)) (Err (refusal_at NumberTooLarge op (token t ∷ ts)))))
+    (λ x left. cond (is_stored (f x)) (Ok (f x, left)) (Err (refusal_at NumberTooLarge op (token t ∷ ts))))
+    ≡ cond b (cond d (cond (is_stored (f (number_of t.text))) (Ok (f (number_of t.text), ts)) (Err (refusal_at NumberTooLarge op (token t ∷ ts))))
+    (Err (refusal_at NumberTooLarge op (token t ∷ ts)))) (Err (unexpected_refusal op (token t ∷ ts)))
 stored_token f op t ts true true = refl
 stored_token f op t ts true false = refl
 stored_token f op t ts false d = refl
 
 stored_taken : (f : ℕ → ℤ) (op : OpName) (j : ℕ) (s : List Symbol)
     → stored_with f op s ≡ Taken op (λ t. is_kind t.kind kind.Integer) (StoredAt f op) (first s) j s
-unfolding number_below want limited
+unfolding number_below want below_limit
 stored_taken f op j [] = refl
 stored_taken f op j (token t ∷ ts) = go (is_kind t.kind kind.Integer)
   where
-    go : (b : Bool) → on (on (cond {A = Read Lexeme} b (Ok (t, ts)) (Err (unexpected op (token t ∷ ts))))
-        (λ u left. cond {A = Read ℕ} (nat_lt (number_of u.text) number_limit) (Ok (number_of u.text, left)) (Err (refused NumberTooLarge op (token t ∷ ts)))))
-        (λ x left. cond (is_stored (f x)) (Ok (f x, left)) (Err (refused NumberTooLarge op (token t ∷ ts))))
-        ≡ cond b (StoredAt f op t (token t ∷ ts) ts) (Err (unexpected op (token t ∷ ts)))
+    go : (b : Bool) → on (on (cond {A = Read Lexeme} b (Ok (t, ts)) (Err (unexpected_refusal op (token t ∷ ts))))
+        (λ u left. cond {A = Read ℕ} (nat_lt (number_of u.text) number_limit) (Ok (number_of u.text, left)) (Err (refusal_at NumberTooLarge op (token t ∷ ts)))))
+        (λ x left. cond (is_stored (f x)) (Ok (f x, left)) (Err (refusal_at NumberTooLarge op (token t ∷ ts))))
+        ≡ cond b (StoredAt f op t (token t ∷ ts) ts) (Err (unexpected_refusal op (token t ∷ ts)))
     go true = stored_token f op t ts true (nat_lt (number_of t.text) number_limit)
     go false = refl
 stored_taken f op j (bad p ∷ ts) = refl
@@ -237,9 +237,9 @@ local_stored_with f op =
 
 stored_sides : (op : OpName) (s : List Symbol) (b : Bool) (m o : Read ℕ)
     → on (cond b (on m (λ x left. Ok (negative x, left))) (on o (λ x left. Ok (pos x, left))))
-    (λ z left. cond (is_stored z) (Ok (z, left)) (Err (refused NumberTooLarge op (cond b (after s) s))))
-    ≡ cond b (on m (λ x left. cond (is_stored (negative x)) (Ok (negative x, left)) (Err (refused NumberTooLarge op (after s)))))
-    (on o (λ x left. cond (is_stored (pos x)) (Ok (pos x, left)) (Err (refused NumberTooLarge op s))))
+    (λ z left. cond (is_stored z) (Ok (z, left)) (Err (refusal_at NumberTooLarge op (cond b (after s) s))))
+    ≡ cond b (on m (λ x left. cond (is_stored (negative x)) (Ok (negative x, left)) (Err (refusal_at NumberTooLarge op (after s)))))
+    (on o (λ x left. cond (is_stored (pos x)) (Ok (pos x, left)) (Err (refusal_at NumberTooLarge op s))))
 stored_sides op s true (Ok p) o = refl
 stored_sides op s true (Err e) o = refl
 stored_sides op s false m (Ok p) = refl
@@ -287,14 +287,14 @@ local_attribute (suc room) op c n =
 -- ---- dictionaries
 
 abbrev KeyAt : OpName → List Name → Lexeme → List Symbol → List Symbol → Read Name
-KeyAt op keys t s left = cond (is_among (content_of t.kind t.text) keys) (Err (refused Unexpected op s)) (Ok (content_of t.kind t.text, left))
+KeyAt op keys t s left = cond (is_among (content_of t.kind t.text) keys) (Err (refusal_at Unexpected op s)) (Ok (content_of t.kind t.text, left))
 
 key_taken : (op : OpName) (keys : List Name) (j : ℕ) (s : List Symbol) → new_key op keys s ≡ Taken op is_name (KeyAt op keys) (first s) j s
 unfolding new_key name_text
 key_taken op keys j [] = refl
 key_taken op keys j (token t ∷ ts) =
-    on_cond (is_name t) (content_of t.kind t.text) ts (unexpected op (token t ∷ ts))
-    (λ key left. cond (is_among key keys) (Err (refused Unexpected op (token t ∷ ts))) (Ok (key, left)))
+    on_cond (is_name t) (content_of t.kind t.text) ts (unexpected_refusal op (token t ∷ ts))
+    (λ key left. cond (is_among key keys) (Err (refusal_at Unexpected op (token t ∷ ts))) (Ok (key, left)))
 key_taken op keys j (bad p ∷ ts) = refl
 key_taken op keys j (end p ∷ ts) = refl
 
@@ -385,7 +385,7 @@ local_pack : (op : OpName) → Local (pack_number op)
 unfolding pack_number
 local_pack op c n =
     loc_next (λ t. is_kind t.kind kind.ResultNumber)
-    (local_kind op kind.ResultNumber (λ t s left. limited count_limit op s (number_in 10 0 (content_of kind.ResultNumber t.text)) left)
+    (local_kind op kind.ResultNumber (λ t s left. below_limit count_limit op s (number_in 10 0 (content_of kind.ResultNumber t.text)) left)
     (λ t. local_limited count_limit op (number_in 10 0 (content_of kind.ResultNumber t.text))) c n)
     (loc_give {y = 0})
 

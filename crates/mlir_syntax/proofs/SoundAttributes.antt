@@ -11,7 +11,7 @@ use Rattle.hw_model.specs.Design.Attribute.{unit_value, text_value, symbol_value
 use Rattle.mlir_lexer.specs.Contents.{content_of}
 use Rattle.mlir_lexer.specs.Tokens.{Lexeme}
 use Rattle.mlir_lexer.specs.declared.token.TokenKind.TheVariants as kind
-use Rattle.mlir_syntax.specs.Stream.{Symbol, token, bad, end, is_word, is_next, unexpected}
+use Rattle.mlir_syntax.specs.Stream.{Symbol, token, bad, end, is_word, is_next, unexpected_refusal}
 use Rattle.mlir_lexer.specs.TokenKinds.{is_kind}
 use Rattle.mlir_syntax.specs.Reads.{Reads, on, give, items_until}
 use Rattle.mlir_syntax.specs.Numerals.{integer}
@@ -152,7 +152,7 @@ BehindKey strings key v ts =
     Then (Mark kind.Equals) (ValuePhrase strings (entry_of key v)) ts ⊎ ((is_among key strings ≡ false) × (v ≡ unit_value) × (ts ≡ []))
 
 sound_absent : (op : OpName) (strings : List Name) (key : Name) (b : Bool) → is_among key strings ≡ b
-    → Sound (λ s. cond b (Err (unexpected op s)) (Ok (unit_value, s))) (BehindKey strings key)
+    → Sound (λ s. cond b (Err (unexpected_refusal op s)) (Ok (unit_value, s))) (BehindKey strings key)
 sound_absent op strings key true e = sound_refused
 sound_absent op strings key false e = sound_give {y = unit_value} (inr (e, refl, refl))
 

@@ -8,7 +8,7 @@ use Rattle.mlir_lexer.specs.Tokens.{Lexeme}
 use Rattle.mlir_lexer.specs.declared.token.TokenKind.TheVariants as kind
 use Rattle.mlir_syntax.specs.Stream.{Symbol, is_next}
 use Rattle.mlir_syntax.specs.Reads.{on, want}
-use Rattle.mlir_syntax.specs.Numerals.{number_in, limited, count_limit}
+use Rattle.mlir_syntax.specs.Numerals.{number_in, below_limit, count_limit}
 use Rattle.mlir_syntax.specs.OperandText.{value_name, pack_number, operand_text, ResultNames, no_names, names, pack, names_behind, results_text, maybe_results}
 use Rattle.mlir_syntax.specs.Spelling.{Phrase, One, Mark, Either, Where, Nothing, ValueName, OperandPhrase, ResultsPhrase}
 use Rattle.mlir_syntax.proofs.Sound.{Said, Sound, ok_of, sound_on, sound_last, sound_give, sound_if, sound_past}
@@ -25,10 +25,10 @@ PackPhrase n =
     (Where (n < count_limit) (One (λ (t : Lexeme). (t.kind ≡ kind.ResultNumber) × (number_in 10 0 (content_of kind.ResultNumber t.text) ≡ n))))
 
 pack_ok : (op : OpName) (s left : List Symbol) (n : ℕ)
-    → on (want op kind.ResultNumber s) (λ t left. limited count_limit op s (number_in 10 0 (content_of kind.ResultNumber t.text)) left) ≡ Ok (n, left)
+    → on (want op kind.ResultNumber s) (λ t left. below_limit count_limit op s (number_in 10 0 (content_of kind.ResultNumber t.text)) left) ≡ Ok (n, left)
     → Said (PackPhrase n) s left
 pack_ok op s left n h =
-    let (t, m, e, k) = ok_of (want op kind.ResultNumber s) (λ t left. limited count_limit op s (number_in 10 0 (content_of kind.ResultNumber t.text)) left) n left h in
+    let (t, m, e, k) = ok_of (want op kind.ResultNumber s) (λ t left. below_limit count_limit op s (number_in 10 0 (content_of kind.ResultNumber t.text)) left) n left h in
     let (a, ea, p) = (sound_want op kind.ResultNumber).said s m t e in
     limited_ok count_limit op s m left (number_in 10 0 (content_of kind.ResultNumber t.text)) n (λ z l. Said (PackPhrase z) s l)
     (λ small. (a, ea, inr (small, (t, p.0, (p.1, refl))))) k

@@ -13,7 +13,7 @@ use Rattle.hw_model.specs.Types.{Name}
 use Rattle.hw_model.specs.Design.{Entry, same_name}
 use Rattle.mlir_lexer.specs.Tokens.{Lexeme}
 use Rattle.mlir_lexer.specs.declared.token.TokenKind.TheVariants as kind
-use Rattle.mlir_syntax.specs.Stream.{Symbol, token, bad, end, first, is_first, is_next, is_word, after, unexpected}
+use Rattle.mlir_syntax.specs.Stream.{Symbol, token, bad, end, first, is_first, is_next, is_word, after, unexpected_refusal}
 use Rattle.mlir_lexer.specs.TokenKinds.{is_kind}
 use Rattle.mlir_syntax.specs.Reads.{on, give}
 use Rattle.mlir_syntax.specs.AttributeText.{is_among}
@@ -143,7 +143,7 @@ sound_operations (suc n) =
     sound_if (is_next kind.RightBrace) (sound_give {y = []} refl) (sound_on sound_operation (λ o. go o (is_last o.name) refl (sound_operations n)))
   where
     go : (o : OperationText) (b : Bool) → is_last o.name ≡ b → Sound (operations_text n) (OperationsPhrase IsPlaceOf)
-        → Sound (λ left. cond b (cond (is_next kind.RightBrace left) (Ok (o ∷ [], left)) (Err (unexpected (op.Listed listed.HwModule) left)))
+        → Sound (λ left. cond b (cond (is_next kind.RightBrace left) (Ok (o ∷ [], left)) (Err (unexpected_refusal (op.Listed listed.HwModule) left)))
         (on (operations_text n left) (λ os behind. Ok (o ∷ os, behind)))) (λ y. Behind (OperationPhrase IsPlaceOf o) (OperationsPhrase IsPlaceOf y))
     go o true e others = sound_if (is_next kind.RightBrace) (sound_give {y = o ∷ []} (λ a pa. ((λ _. refl), pair a [] pa refl))) sound_refused
     go o false e others = sound_last (λ os. o ∷ os) others (λ os b pb a pa. ((λ c. absurd cc), pair a b pa pb))

@@ -10,10 +10,10 @@ use Rattle.mlir_lexer.specs.Contents.{content_of}
 use Rattle.mlir_lexer.specs.Tokens.{Lexeme}
 use Rattle.mlir_lexer.specs.declared.token.TokenKind.{TokenKind}
 use Rattle.mlir_lexer.specs.declared.token.TokenKind.TheVariants as kind
-use Rattle.mlir_syntax.specs.Stream.{Symbol, token, bad, end, is_word, refused}
+use Rattle.mlir_syntax.specs.Stream.{Symbol, token, bad, end, is_word, refusal_at}
 use Rattle.mlir_lexer.specs.TokenKinds.{tag, is_kind}
 use Rattle.mlir_syntax.specs.Reads.{Read, Reads, give, want, want_word, items, some_items, items_until}
-use Rattle.mlir_syntax.specs.Numerals.{number_of, number_limit, limited, number_below, negative, integer}
+use Rattle.mlir_syntax.specs.Numerals.{number_of, number_limit, below_limit, number_below, negative, integer}
 use Rattle.mlir_syntax.specs.TypeText.{is_name, name_text}
 use Rattle.mlir_syntax.specs.AttributeText.{is_symbol}
 use Rattle.mlir_syntax.specs.ElementText.{symbol_text}
@@ -162,18 +162,18 @@ sound_symbol op = record { said = symbol_ok op }
 -- ---- numbers
 
 pub limited_ok : (limit : ℕ) (op : OpName) (s m left : List Symbol) (n x : ℕ) (R : ℕ → List Symbol → Type 0) → (n < limit → R n m)
-    → limited limit op s n m ≡ Ok (x, left) → R x left
-unfolding limited
+    → below_limit limit op s n m ≡ Ok (x, left) → R x left
+unfolding below_limit
 limited_ok limit op s m left n x R r h = go (nat_lt n limit) refl h
   where
-    go : (b : Bool) → nat_lt n limit ≡ b → cond {A = Read ℕ} b (Ok (n, m)) (Err (refused Rattle.diag.specs.declared.cause.Cause.TheVariants.NumberTooLarge op s)) ≡ Ok (x, left) → R x left
+    go : (b : Bool) → nat_lt n limit ≡ b → cond {A = Read ℕ} b (Ok (n, m)) (Err (refusal_at Rattle.diag.specs.declared.cause.Cause.TheVariants.NumberTooLarge op s)) ≡ Ok (x, left) → R x left
     go true e h = same_ok n x m left R h (r (ltb-true n limit e))
     go false e h = absurd cc
 
 number_ok : (limit : ℕ) (op : OpName) (s left : List Symbol) (n : ℕ) → number_below limit op s ≡ Ok (n, left) → Said (NumberPhrase limit n) s left
 unfolding number_below
 number_ok limit op s left n h =
-    let (t, m, e, k) = ok_of (want op kind.Integer s) (λ t left. limited limit op s (number_of t.text) left) n left h in
+    let (t, m, e, k) = ok_of (want op kind.Integer s) (λ t left. below_limit limit op s (number_of t.text) left) n left h in
     let (a, ea, p) = (sound_want op kind.Integer).said s m t e in
     limited_ok limit op s m left (number_of t.text) n (λ z l. Said (NumberPhrase limit z) s l) (λ small. (a, ea, (small, (t, p.0, (p.1, refl))))) k
 

@@ -16,7 +16,7 @@ use Rattle.mlir_lexer.specs.declared.token.TokenKind.TheVariants as kind
 use Rattle.mlir_syntax.specs.Stream.{Symbol, token, bad, end}
 use Rattle.mlir_lexer.specs.TokenKinds.{is_kind}
 use Rattle.mlir_syntax.specs.Reads.{Read, Reads, on, want, items_until}
-use Rattle.mlir_syntax.specs.Numerals.{number_in, limited, number_below, count_limit}
+use Rattle.mlir_syntax.specs.Numerals.{number_in, below_limit, number_below, count_limit}
 use Rattle.mlir_syntax.specs.TypeText.{TypeHead, width_digits, behind_x, bare_type, named_type, type_head, width_type, type_with, glued_element, element_after, element_type, array_text, field_text, struct_text, too_deep, type_text}
 use Rattle.mlir_syntax.specs.TypeText.TypeHead.{integer_type, clock_type, array_type, struct_type, foreign_type, no_type}
 use Rattle.mlir_syntax.specs.Spelling.{Phrase, Then, WidthPhrase, TypeWord, ElementPhrase, FieldPhrase, PlainType, TypeWith, TypePhrase}
@@ -69,7 +69,7 @@ width_ok : (Q : HwType → Phrase) (op : OpName) (t : Lexeme) (ts left : List Sy
     → run is_digit digits ≡ length digits → width_type op (token t ∷ ts) digits ≡ Ok (x, left) → Said (Q x) (token t ∷ ts) left
 unfolding width_type
 width_ok Q op t ts left front digits x to k text some all h =
-    let (w, m, e, g) = ok_of (limited count_limit op (token t ∷ ts) (number_in 10 0 digits) ts) (λ w left. Ok (int w, left)) x left h in
+    let (w, m, e, g) = ok_of (below_limit count_limit op (token t ∷ ts) (number_in 10 0 digits) ts) (λ w left. Ok (int w, left)) x left h in
     limited_ok count_limit op (token t ∷ ts) ts m (number_in 10 0 digits) w (λ z l. ◌≡◌ {A = Read HwType} (Ok (int z, l)) (Ok (x, left)) → Said (Q x) (token t ∷ ts) left)
     (λ small g. same_ok (int (number_in 10 0 digits)) x ts left (λ z l. Said (Q z) (token t ∷ ts) l) g
     (t ∷ [], refl, to (number_in 10 0 digits) (t ∷ []) (t, refl, (k, (digits, text, (some, all, refl, small)))))) e g

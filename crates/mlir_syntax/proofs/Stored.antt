@@ -3,7 +3,7 @@ use Rattle.std.proofs.Common.{◌≡◌, ℕ, ℤ, pos, Bool, true, false, cond,
 use Rattle.diag.specs.declared.refusal.OpName.{OpName}
 use Rattle.diag.specs.declared.cause.Cause.TheVariants.{NumberTooLarge}
 use Rattle.mlir_lexer.specs.declared.token.TokenKind.TheVariants as kind
-use Rattle.mlir_syntax.specs.Stream.{Symbol, is_next, after, refused}
+use Rattle.mlir_syntax.specs.Stream.{Symbol, is_next, after, refusal_at}
 use Rattle.mlir_syntax.specs.Reads.{Read, Reads, on}
 use Rattle.mlir_syntax.specs.Numerals.{number_below, number_limit, negative, signed, integer}
 use Rattle.mlir_syntax.specs.AttributeText.{is_stored, stored_integer}
@@ -15,7 +15,7 @@ on-on (Ok p) f g = refl
 -- what is stored, where the digits begin there
 abbrev pub stored_from : Bool → OpName → List Symbol → Read ℤ
 stored_from minus op digits =
-    on (number_below number_limit op digits) (λ n left. cond (is_stored (signed minus n)) (Ok (signed minus n, left)) (Err (refused NumberTooLarge op digits)))
+    on (number_below number_limit op digits) (λ n left. cond (is_stored (signed minus n)) (Ok (signed minus n, left)) (Err (refusal_at NumberTooLarge op digits)))
 
 stored_at : (op : OpName) (s : List Symbol) (minus : Bool) → minus ≡ is_next kind.Minus s → stored_integer op s ≡ stored_from minus op (cond minus (after s) s)
 unfolding stored_integer integer
@@ -28,6 +28,6 @@ stored_is op s digits minus e d = stored_at op s minus e ∙ ap (stored_from min
 
 pub stored_given : (op : OpName) (s digits left : List Symbol) (minus : Bool) (n : ℕ) (z : ℤ) (b : Bool) → minus ≡ is_next kind.Minus s
     → digits ≡ cond minus (after s) s → number_below number_limit op digits ≡ Ok (n, left) → z ≡ signed minus n → is_stored z ≡ b
-    → stored_integer op s ≡ cond b (Ok (z, left)) (Err (refused NumberTooLarge op digits))
+    → stored_integer op s ≡ cond b (Ok (z, left)) (Err (refusal_at NumberTooLarge op digits))
 stored_given op s digits left minus n z b e d given is_z is_b =
     stored_is op s digits minus e d ∙ rw (given, sym is_z, is_b) refl

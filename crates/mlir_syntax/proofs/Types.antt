@@ -3,7 +3,7 @@ use Rattle.std.proofs.Common.{◌≡◌, ℕ, zero, suc, ◌-◌, ◌<◌, List,
 use Rattle.diag.specs.declared.refusal.OpName.{OpName}
 use Rattle.diag.specs.declared.cause.Cause.TheVariants.{OutsideProfile, TooDeep}
 use Rattle.hw_model.specs.Types.HwType.{clock}
-use Rattle.mlir_syntax.specs.Stream.{Symbol, first, after, refused, unexpected}
+use Rattle.mlir_syntax.specs.Stream.{Symbol, first, after, refusal_at, unexpected_refusal}
 use Rattle.mlir_syntax.specs.TypeText.{type_text, type_with, type_head, width_type, array_text, struct_text, too_deep, field_text, name_text}
 use Rattle.mlir_syntax.specs.TypeText.TypeHead.{integer_type, clock_type, array_type, struct_type, foreign_type, no_type}
 use Rattle.mlir_syntax.proofs.Lists.{IsItem}
@@ -35,23 +35,23 @@ struct_at zero op s e some = absurd (omega arith)
 struct_at (suc room) op s e some = let one : suc room - 1 ≡ room = omega arith in rw (one, sym e) refl
 
 pub deep_array_at : (room : ℕ) (op : OpName) (s : List Symbol) → array_type ≡ type_head (first s) → room ≡ 0
-    → type_text room op s ≡ Err (refused TooDeep op s)
+    → type_text room op s ≡ Err (refusal_at TooDeep op s)
 unfolding type_with too_deep
 deep_array_at zero op s e none = rw (sym e) refl
 deep_array_at (suc room) op s e none = absurd (omega arith)
 
 pub deep_struct_at : (room : ℕ) (op : OpName) (s : List Symbol) → struct_type ≡ type_head (first s) → room ≡ 0
-    → type_text room op s ≡ Err (refused TooDeep op s)
+    → type_text room op s ≡ Err (refusal_at TooDeep op s)
 unfolding type_with too_deep
 deep_struct_at zero op s e none = rw (sym e) refl
 deep_struct_at (suc room) op s e none = absurd (omega arith)
 
-pub foreign_at : (room : ℕ) (op : OpName) (s : List Symbol) → foreign_type ≡ type_head (first s) → type_text room op s ≡ Err (refused OutsideProfile op s)
+pub foreign_at : (room : ℕ) (op : OpName) (s : List Symbol) → foreign_type ≡ type_head (first s) → type_text room op s ≡ Err (refusal_at OutsideProfile op s)
 unfolding type_with
 foreign_at zero op s e = rw (sym e) refl
 foreign_at (suc room) op s e = rw (sym e) refl
 
-pub nothing_at : (room : ℕ) (op : OpName) (s : List Symbol) → no_type ≡ type_head (first s) → type_text room op s ≡ Err (unexpected op s)
+pub nothing_at : (room : ℕ) (op : OpName) (s : List Symbol) → no_type ≡ type_head (first s) → type_text room op s ≡ Err (unexpected_refusal op s)
 unfolding type_with
 nothing_at zero op s e = rw (sym e) refl
 nothing_at (suc room) op s e = rw (sym e) refl

@@ -10,7 +10,7 @@ use Rattle.hw_model.specs.Design.Attributes.{no_attributes, attribute}
 use Rattle.mlir_lexer.specs.Contents.{content_of}
 use Rattle.mlir_lexer.specs.Tokens.{Lexeme}
 use Rattle.mlir_lexer.specs.declared.token.TokenKind.TheVariants as kind
-use Rattle.mlir_syntax.specs.Stream.{Symbol, first, is_next, is_word, after, refused, unexpected}
+use Rattle.mlir_syntax.specs.Stream.{Symbol, first, is_next, is_word, after, refusal_at, unexpected_refusal}
 use Rattle.mlir_lexer.specs.TokenKinds.{is_kind}
 use Rattle.mlir_syntax.specs.Reads.{Reads, Read, on, want, items_until}
 use Rattle.mlir_syntax.specs.Numerals.{integer}
@@ -53,7 +53,7 @@ digits_of s = cond (is_next kind.Minus s) (after s) s
 -- an integer within those bounds
 unfoldable pub stored_integer : OpName → Reads ℤ
 stored_integer op s =
-    on (integer op s) (λ z left. cond (is_stored z) (Ok (z, left)) (Err (refused NumberTooLarge op (digits_of s))))
+    on (integer op s) (λ z left. cond (is_stored z) (Ok (z, left)) (Err (refusal_at NumberTooLarge op (digits_of s))))
 
 -- `: T`, or nothing, which means i64
 unfoldable pub integer_type : ℕ → OpName → Reads HwType
@@ -79,8 +79,8 @@ attribute_with lists room op s (symbol_head name) = Ok (symbol_value name, after
 attribute_with lists room op s (truth_head b) = Ok (truth_value b, after s)
 attribute_with lists room op s number_head = typed_integer room op s
 attribute_with lists room op s list_head = lists s
-attribute_with lists room op s alias_head = Err (refused OutsideProfile op s)
-attribute_with lists room op s no_head = Err (unexpected op s)
+attribute_with lists room op s alias_head = Err (refusal_at OutsideProfile op s)
+attribute_with lists room op s no_head = Err (unexpected_refusal op s)
 
 -- an attribute, where so many more lists and types may be opened
 abbrev pub attribute_text : ℕ → OpName → Reads Attribute
@@ -96,7 +96,7 @@ is_among name (n ∷ names) = cond (same_name n name) true (is_among name names)
 
 -- a key that no earlier entry has
 unfoldable pub new_key : OpName → List Name → Reads Name
-new_key op keys s = on (name_text op s) (λ key left. cond (is_among key keys) (Err (refused Unexpected op s)) (Ok (key, left)))
+new_key op keys s = on (name_text op s) (λ key left. cond (is_among key keys) (Err (refusal_at Unexpected op s)) (Ok (key, left)))
 
 -- a value that is a string
 unfoldable pub string_value : OpName → Reads Attribute
@@ -110,7 +110,7 @@ value_of_key room op strings key s = cond (is_among key strings) (string_value o
 unfoldable pub entry_value : ℕ → OpName → List Name → Name → Reads Attribute
 entry_value room op strings key s =
     cond (is_next kind.Equals s) (value_of_key room op strings key (after s))
-    (cond (is_among key strings) (Err (unexpected op s)) (Ok (unit_value, s)))
+    (cond (is_among key strings) (Err (unexpected_refusal op s)) (Ok (unit_value, s)))
 
 -- an entry whose key no earlier one has
 unfoldable pub entry_text : ℕ → OpName → List Name → List Name → Reads Entry
@@ -119,7 +119,7 @@ entry_text room op strings keys s =
 
 -- entries with commas between them after those of some keys, so many at most
 unfoldable pub entries : ℕ → OpName → List Name → List Name → ℕ → Reads (List Entry)
-entries room op strings keys zero s = Err (unexpected op s)
+entries room op strings keys zero s = Err (unexpected_refusal op s)
 entries room op strings keys (suc n) s =
     on (entry_text room op strings keys s) (λ e left.
     cond (is_next kind.Comma left) (on (entries room op strings (keys ++ e.key ∷ []) n (after left)) (λ es behind. Ok (e ∷ es, behind))) (Ok (e ∷ [], left)))

@@ -12,7 +12,7 @@ use Rattle.hw_model.specs.Design.{same_name}
 use Rattle.mlir_lexer.specs.Contents.{content_of}
 use Rattle.mlir_lexer.specs.Tokens.{Lexeme}
 use Rattle.mlir_lexer.specs.declared.token.TokenKind.TheVariants as kind
-use Rattle.mlir_syntax.specs.Stream.{Symbol, token, bad, end, first, is_first, is_next, is_word, after, refused, unexpected}
+use Rattle.mlir_syntax.specs.Stream.{Symbol, token, bad, end, first, is_first, is_next, is_word, after, refusal_at, unexpected_refusal}
 use Rattle.mlir_lexer.specs.TokenKinds.{is_kind}
 use Rattle.mlir_syntax.specs.Reads.{Reads, Read, on, want, want_word, some_items, items_until}
 use Rattle.mlir_syntax.specs.Numerals.{number_below, count_limit, integer}
@@ -80,7 +80,7 @@ bare_text (Some t) = cond (is_kind t.kind kind.BareName) (Some t.text) None
 
 -- the first token as something, or its refusal
 abbrev pub as_known : {A : Type 0} → OpName → List Symbol → Option A → Read A
-as_known op s None = Err (unexpected op s)
+as_known op s None = Err (unexpected_refusal op s)
 as_known op s (Some x) = Ok (x, after s)
 
 unfoldable pub predicate_text : OpName → Reads Predicate
@@ -106,10 +106,10 @@ string_text op s = on (want op kind.StringLiteral s) (λ t left. Ok (content_of 
 
 -- a symbol's name
 unfoldable pub symbol_text : OpName → Reads Name
-symbol_text op [] = Err (unexpected op [])
-symbol_text op (token t ∷ ts) = cond (is_symbol t) (Ok (content_of t.kind t.text, ts)) (Err (unexpected op (token t ∷ ts)))
-symbol_text op (bad p ∷ ts) = Err (unexpected op (bad p ∷ ts))
-symbol_text op (end p ∷ ts) = Err (unexpected op (end p ∷ ts))
+symbol_text op [] = Err (unexpected_refusal op [])
+symbol_text op (token t ∷ ts) = cond (is_symbol t) (Ok (content_of t.kind t.text, ts)) (Err (unexpected_refusal op (token t ∷ ts)))
+symbol_text op (bad p ∷ ts) = Err (unexpected_refusal op (bad p ∷ ts))
+symbol_text op (end p ∷ ts) = Err (unexpected_refusal op (end p ∷ ts))
 
 -- ---- operands and types
 
@@ -142,7 +142,7 @@ reset_text op g s = cond (is_first (is_word (codes "reset")) s) (reset_operands 
 
 -- `sync`; `async` is outside the profile
 unfoldable pub want_sync : OpName → Reads Lexeme
-want_sync op s = cond (is_first (is_word (codes "async")) s) (Err (refused OutsideProfile op s)) (want_word op (codes "sync") s)
+want_sync op s = cond (is_first (is_word (codes "async")) s) (Err (refusal_at OutsideProfile op s)) (want_word op (codes "sync") s)
 
 -- `reset sync %r, %v`, or nothing
 unfoldable pub sync_reset_text : OpName → Gathered → Reads Gathered
@@ -174,7 +174,7 @@ inner_symbol op s =
 
 -- `@N`, after which no parameters may stand
 unfoldable pub module_symbol : OpName → Reads Name
-module_symbol op s = on (symbol_text op s) (λ name left. cond (is_next kind.Less left) (Err (refused OutsideProfile op left)) (Ok (name, left)))
+module_symbol op s = on (symbol_text op s) (λ name left. cond (is_next kind.Less left) (Err (refusal_at OutsideProfile op left)) (Ok (name, left)))
 
 -- `(p: %v: T, ..)`
 unfoldable pub inputs_text : OpName → Reads (List Joined)

@@ -7,7 +7,7 @@ use Rattle.hw_model.specs.Kinds.Literal.{leaf, parts}
 use Rattle.hw_model.specs.Kinds.Literals.{no_literals, literal}
 use Rattle.mlir_lexer.specs.Tokens.{Lexeme}
 use Rattle.mlir_lexer.specs.declared.token.TokenKind.TheVariants as kind
-use Rattle.mlir_syntax.specs.Stream.{Symbol, first, is_word, after, unexpected}
+use Rattle.mlir_syntax.specs.Stream.{Symbol, first, is_word, after, unexpected_refusal}
 use Rattle.mlir_lexer.specs.TokenKinds.{is_kind}
 use Rattle.mlir_syntax.specs.Reads.{Reads, Read, on, want, items_until}
 use Rattle.mlir_syntax.specs.Numerals.{integer}
@@ -53,7 +53,7 @@ unfoldable pub literal_with : Reads Literal → ℕ → OpName → List Symbol �
 literal_with lists room op s (truth_literal b) = Ok (truth_leaf b, after s)
 literal_with lists room op s number_literal = number_leaf room op s
 literal_with lists room op s list_literal = lists s
-literal_with lists room op s no_literal = Err (unexpected op s)
+literal_with lists room op s no_literal = Err (unexpected_refusal op s)
 
 -- a constant, where so many more lists and types may be opened
 abbrev pub literal_text : ℕ → OpName → Reads Literal

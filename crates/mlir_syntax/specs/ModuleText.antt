@@ -10,14 +10,14 @@ use Rattle.hw_model.specs.Design.{Entry}
 use Rattle.mlir_lexer.specs.Contents.{content_of}
 use Rattle.mlir_lexer.specs.Tokens.{Lexeme}
 use Rattle.mlir_lexer.specs.declared.token.TokenKind.TheVariants as kind
-use Rattle.mlir_syntax.specs.Stream.{Symbol, token, bad, end, is_first, is_next, is_word, after, refused, unexpected}
+use Rattle.mlir_syntax.specs.Stream.{Symbol, token, bad, end, is_first, is_next, is_word, after, refusal_at, unexpected_refusal}
 use Rattle.mlir_lexer.specs.TokenKinds.{is_kind}
 use Rattle.mlir_syntax.specs.Reads.{Reads, Read, on, want, items_until}
 use Rattle.mlir_syntax.specs.TypeText.{any_type, name_text}
 use Rattle.mlir_syntax.specs.AttributeText.{dictionary_text, is_symbol}
 use Rattle.mlir_syntax.specs.OperandText.{value_name}
 use Rattle.mlir_syntax.specs.ElementText.{symbol_text, module_symbol}
-use Rattle.mlir_syntax.specs.OperationText.{OperationText, NameClass, operation, module_name, file_name, locations, outside, unknown, class_of, misplaced, no_operation, operations_text}
+use Rattle.mlir_syntax.specs.OperationText.{OperationText, NameClass, operation, module_name, file_name, locations, outside, unknown, class_of, misplaced_refusal, no_operation, operations_text}
 
 -- the operation that refusals in a module's header name
 abbrev pub header : OpName
@@ -53,13 +53,13 @@ output_port s = on (name_text header s) (λ n s1. on (port_type s1) (λ t s2. Ok
 unfoldable pub port_text : Reads PortText
 port_text s =
     cond (is_first (is_word (codes "in")) s) (input_port (after s))
-    (cond (is_first (is_word (codes "out")) s) (output_port (after s)) (Err (unexpected header s)))
+    (cond (is_first (is_word (codes "out")) s) (output_port (after s)) (Err (unexpected_refusal header s)))
 
 -- `(PORTS)`; a list that begins with a value is that of an older form
 unfoldable pub ports_text : Reads (List PortText)
 ports_text s =
     on (want header kind.LeftParenthesis s) (λ _ s1.
-    cond (is_next kind.ValueName s1) (Err (refused OutsideProfile header s1)) (items_until header kind.RightParenthesis port_text s1))
+    cond (is_next kind.ValueName s1) (Err (refusal_at OutsideProfile header s1)) (items_until header kind.RightParenthesis port_text s1))
 
 -- ---- modules
 
@@ -106,12 +106,12 @@ module_behind place s =
 
 -- a module whose name is of this class, where refusals name what is around
 unfoldable pub classed_module : List Symbol → Lexeme → NameClass → Read ModuleText
-classed_module s t (operation o) = Err (misplaced op.File s t (operation o))
+classed_module s t (operation o) = Err (misplaced_refusal op.File s t (operation o))
 classed_module s t module_name = module_behind t.place (after s)
-classed_module s t file_name = Err (misplaced op.File s t file_name)
-classed_module s t locations = Err (misplaced op.File s t locations)
-classed_module s t outside = Err (misplaced op.File s t outside)
-classed_module s t unknown = Err (misplaced op.File s t unknown)
+classed_module s t file_name = Err (misplaced_refusal op.File s t file_name)
+classed_module s t locations = Err (misplaced_refusal op.File s t locations)
+classed_module s t outside = Err (misplaced_refusal op.File s t outside)
+classed_module s t unknown = Err (misplaced_refusal op.File s t unknown)
 
 -- a module
 unfoldable pub module_text : Reads ModuleText
@@ -132,7 +132,7 @@ is_end (end p ∷ ts) = true
 
 -- modules up to where a test holds, so many at most
 unfoldable pub modules_text : (List Symbol → Bool) → ℕ → Reads (List ModuleText)
-modules_text ends zero s = Err (unexpected op.File s)
+modules_text ends zero s = Err (unexpected_refusal op.File s)
 modules_text ends (suc n) s =
     cond (ends s) (Ok ([], s)) (on (module_text s) (λ m left. on (modules_text ends n left) (λ ms behind. Ok (m ∷ ms, behind))))
 
@@ -142,7 +142,7 @@ file_symbol s = cond (is_first is_symbol s) (on (symbol_text op.File s) (λ _ le
 
 -- the end of the text
 unfoldable pub want_end : {A : Type 0} → A → Reads A
-want_end x s = cond (is_end s) (Ok (x, s)) (Err (unexpected op.File s))
+want_end x s = cond (is_end s) (Ok (x, s)) (Err (unexpected_refusal op.File s))
 
 -- `[@N] [attributes {..}] { MODULES }` and the end, after the name of a file's module
 unfoldable pub wrapped_text : Reads (List ModuleText)

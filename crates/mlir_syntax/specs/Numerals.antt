@@ -4,7 +4,7 @@ use Rattle.diag.specs.declared.refusal.OpName.{OpName}
 use Rattle.diag.specs.declared.cause.Cause.TheVariants.{NumberTooLarge}
 use Rattle.mlir_lexer.specs.Contents.{hex_value}
 use Rattle.mlir_lexer.specs.declared.token.TokenKind.TheVariants as kind
-use Rattle.mlir_syntax.specs.Stream.{Symbol, is_next, after, refused}
+use Rattle.mlir_syntax.specs.Stream.{Symbol, is_next, after, refusal_at}
 use Rattle.mlir_syntax.specs.Reads.{Reads, Read, on, want}
 
 -- the number that digits stand for in a base, where so much stands before
@@ -31,12 +31,12 @@ abbrev pub below : ℕ → ℕ → Option ℕ
 below limit n = cond (nat_lt n limit) (Some n) None
 
 -- a number that is below a limit, or the refusal of its token
-unfoldable pub limited : ℕ → OpName → List Symbol → ℕ → List Symbol → Read ℕ
-limited limit op s n left = cond (nat_lt n limit) (Ok (n, left)) (Err (refused NumberTooLarge op s))
+unfoldable pub below_limit : ℕ → OpName → List Symbol → ℕ → List Symbol → Read ℕ
+below_limit limit op s n left = cond (nat_lt n limit) (Ok (n, left)) (Err (refusal_at NumberTooLarge op s))
 
 -- a number below a limit
 unfoldable pub number_below : ℕ → OpName → Reads ℕ
-number_below limit op s = on (want op kind.Integer s) (λ t left. limited limit op s (number_of t.text) left)
+number_below limit op s = on (want op kind.Integer s) (λ t left. below_limit limit op s (number_of t.text) left)
 
 -- the integer with a sign before it
 abbrev pub negative : ℕ → ℤ

@@ -6,7 +6,7 @@ use Rattle.mlir_lexer.specs.Contents.{content_of}
 use Rattle.mlir_lexer.specs.declared.token.TokenKind.TheVariants as kind
 use Rattle.mlir_syntax.specs.Stream.{is_next, after}
 use Rattle.mlir_syntax.specs.Reads.{Reads, on, want, some_items}
-use Rattle.mlir_syntax.specs.Numerals.{number_in, limited, number_below, count_limit}
+use Rattle.mlir_syntax.specs.Numerals.{number_in, below_limit, number_below, count_limit}
 
 -- a value as the text names it: its name, and its number within a pack
 pub record OperandName : Type 0 where
@@ -21,7 +21,7 @@ value_name op s = on (want op kind.ValueName s) (λ t left. Ok (content_of kind.
 unfoldable pub pack_number : OpName → Reads ℕ
 pack_number op s =
     cond (is_next kind.ResultNumber s)
-    (on (want op kind.ResultNumber s) (λ t left. limited count_limit op s (number_in 10 0 (content_of kind.ResultNumber t.text)) left))
+    (on (want op kind.ResultNumber s) (λ t left. below_limit count_limit op s (number_in 10 0 (content_of kind.ResultNumber t.text)) left))
     (Ok (0, s))
 
 -- `%v#i`

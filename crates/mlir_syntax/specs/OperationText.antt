@@ -14,7 +14,7 @@ use Rattle.hw_model.specs.Design.{Entry, same_name}
 use Rattle.mlir_lexer.specs.Runs.{run}
 use Rattle.mlir_lexer.specs.Tokens.{Lexeme}
 use Rattle.mlir_lexer.specs.declared.token.TokenKind.TheVariants as kind
-use Rattle.mlir_syntax.specs.Stream.{Symbol, token, bad, end, first, is_first, is_next, is_word, after, refused, unexpected}
+use Rattle.mlir_syntax.specs.Stream.{Symbol, token, bad, end, first, is_first, is_next, is_word, after, refusal_at, unexpected_refusal}
 use Rattle.mlir_lexer.specs.TokenKinds.{is_kind}
 use Rattle.mlir_syntax.specs.Reads.{Reads, Read, on}
 use Rattle.mlir_syntax.specs.AttributeText.{maybe_dictionary, is_among}
@@ -79,13 +79,13 @@ abbrev pub other_name : Lexeme → OpName
 other_name t = op.Other t.at (length t.text)
 
 -- the refusal of a name where no operation of its class may stand; a location stands nowhere
-unfoldable pub misplaced : OpName → List Symbol → Lexeme → NameClass → Refusal
-misplaced around s t (operation o) = refused Unexpected (op.Listed o) s
-misplaced around s t module_name = refused Unexpected (op.Listed listed.HwModule) s
-misplaced around s t file_name = refused Unexpected op.File s
-misplaced around s t locations = refused OutsideProfile around s
-misplaced around s t outside = refused OutsideProfile (other_name t) s
-misplaced around s t unknown = refused UnknownOperation (other_name t) s
+unfoldable pub misplaced_refusal : OpName → List Symbol → Lexeme → NameClass → Refusal
+misplaced_refusal around s t (operation o) = refusal_at Unexpected (op.Listed o) s
+misplaced_refusal around s t module_name = refusal_at Unexpected (op.Listed listed.HwModule) s
+misplaced_refusal around s t file_name = refusal_at Unexpected op.File s
+misplaced_refusal around s t locations = refusal_at OutsideProfile around s
+misplaced_refusal around s t outside = refusal_at OutsideProfile (other_name t) s
+misplaced_refusal around s t unknown = refusal_at UnknownOperation (other_name t) s
 
 -- whether a token that is no name is outside the profile in an operation's place: a string, an alias
 abbrev pub is_outside : Lexeme → Bool
@@ -93,7 +93,7 @@ is_outside t = cond (is_kind t.kind kind.StringLiteral) true (cond (is_kind t.ki
 
 -- the refusal of a first token that is no name, in an operation's or a module's place
 unfoldable pub no_operation : OpName → List Symbol → Refusal
-no_operation around s = cond (is_first is_outside s) (refused OutsideProfile around s) (unexpected around s)
+no_operation around s = cond (is_first is_outside s) (refusal_at OutsideProfile around s) (unexpected_refusal around s)
 
 -- ---- operations
 
@@ -153,11 +153,11 @@ named_operation results o place s =
 -- an operation of a class
 unfoldable pub classed_operation : ResultNames → List Symbol → Lexeme → NameClass → Read OperationText
 classed_operation results s t (operation o) = named_operation results o t.place (after s)
-classed_operation results s t module_name = Err (misplaced (op.Listed listed.HwModule) s t module_name)
-classed_operation results s t file_name = Err (misplaced (op.Listed listed.HwModule) s t file_name)
-classed_operation results s t locations = Err (misplaced (op.Listed listed.HwModule) s t locations)
-classed_operation results s t outside = Err (misplaced (op.Listed listed.HwModule) s t outside)
-classed_operation results s t unknown = Err (misplaced (op.Listed listed.HwModule) s t unknown)
+classed_operation results s t module_name = Err (misplaced_refusal (op.Listed listed.HwModule) s t module_name)
+classed_operation results s t file_name = Err (misplaced_refusal (op.Listed listed.HwModule) s t file_name)
+classed_operation results s t locations = Err (misplaced_refusal (op.Listed listed.HwModule) s t locations)
+classed_operation results s t outside = Err (misplaced_refusal (op.Listed listed.HwModule) s t outside)
+classed_operation results s t unknown = Err (misplaced_refusal (op.Listed listed.HwModule) s t unknown)
 
 -- an operation whose results are named so
 unfoldable pub operation_behind : ResultNames → Reads OperationText
@@ -178,9 +178,9 @@ is_last _ = false
 
 -- operations up to the closing brace, so many at most; what is left begins with it
 unfoldable pub operations_text : ℕ → Reads (List OperationText)
-operations_text zero s = Err (unexpected (op.Listed listed.HwModule) s)
+operations_text zero s = Err (unexpected_refusal (op.Listed listed.HwModule) s)
 operations_text (suc n) s =
     cond (is_next kind.RightBrace s) (Ok ([], s))
     (on (operation_text s) (λ o left. cond (is_last o.name)
-    (cond (is_next kind.RightBrace left) (Ok (o ∷ [], left)) (Err (unexpected (op.Listed listed.HwModule) left)))
+    (cond (is_next kind.RightBrace left) (Ok (o ∷ [], left)) (Err (unexpected_refusal (op.Listed listed.HwModule) left)))
     (on (operations_text n left) (λ os behind. Ok (o ∷ os, behind)))))

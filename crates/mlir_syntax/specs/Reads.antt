@@ -5,7 +5,7 @@ use Rattle.diag.specs.declared.refusal.OpName.{OpName}
 use Rattle.mlir_lexer.specs.Tokens.{Lexeme}
 use Rattle.mlir_lexer.specs.declared.token.TokenKind.{TokenKind}
 use Rattle.mlir_lexer.specs.declared.token.TokenKind.TheVariants as kind
-use Rattle.mlir_syntax.specs.Stream.{Symbol, token, bad, end, is_next, is_word, after, unexpected}
+use Rattle.mlir_syntax.specs.Stream.{Symbol, token, bad, end, is_next, is_word, after, unexpected_refusal}
 use Rattle.mlir_lexer.specs.TokenKinds.{is_kind}
 
 -- what is read, and what is left
@@ -30,23 +30,23 @@ give x s = Ok (x, s)
 
 -- a token of a kind
 unfoldable pub want : OpName → TokenKind → Reads Lexeme
-want op k [] = Err (unexpected op [])
-want op k (token t ∷ ts) = cond (is_kind t.kind k) (Ok (t, ts)) (Err (unexpected op (token t ∷ ts)))
-want op k (bad p ∷ ts) = Err (unexpected op (bad p ∷ ts))
-want op k (end p ∷ ts) = Err (unexpected op (end p ∷ ts))
+want op k [] = Err (unexpected_refusal op [])
+want op k (token t ∷ ts) = cond (is_kind t.kind k) (Ok (t, ts)) (Err (unexpected_refusal op (token t ∷ ts)))
+want op k (bad p ∷ ts) = Err (unexpected_refusal op (bad p ∷ ts))
+want op k (end p ∷ ts) = Err (unexpected_refusal op (end p ∷ ts))
 
 -- a bare name with this text
 unfoldable pub want_word : OpName → List ℕ → Reads Lexeme
-want_word op name [] = Err (unexpected op [])
-want_word op name (token t ∷ ts) = cond (is_word name t) (Ok (t, ts)) (Err (unexpected op (token t ∷ ts)))
-want_word op name (bad p ∷ ts) = Err (unexpected op (bad p ∷ ts))
-want_word op name (end p ∷ ts) = Err (unexpected op (end p ∷ ts))
+want_word op name [] = Err (unexpected_refusal op [])
+want_word op name (token t ∷ ts) = cond (is_word name t) (Ok (t, ts)) (Err (unexpected_refusal op (token t ∷ ts)))
+want_word op name (bad p ∷ ts) = Err (unexpected_refusal op (bad p ∷ ts))
+want_word op name (end p ∷ ts) = Err (unexpected_refusal op (end p ∷ ts))
 
 -- ---- lists
 
 -- an item, and where a comma stands after it further ones, so many at most
 unfoldable pub items : {A : Type 0} → OpName → Reads A → ℕ → Reads (List A)
-items op item zero s = Err (unexpected op s)
+items op item zero s = Err (unexpected_refusal op s)
 items op item (suc n) s =
     on (item s) (λ x left. cond (is_next kind.Comma left) (on (items op item n (after left)) (λ xs behind. Ok (x ∷ xs, behind))) (Ok (x ∷ [], left)))
 

@@ -72,15 +72,15 @@ abbrev pub refusal : Place → OpName → Cause → Refusal
 refusal place op cause = record { file = 0; place = place; op = op; cause = cause }
 
 -- what stands first is refused, a token for a cause
-abbrev pub refused : Cause → OpName → List Symbol → Refusal
-refused cause op [] = refusal (record { line = 1; col = 1 }) op Unexpected
-refused cause op (token t ∷ ts) = refusal t.place op cause
-refused cause op (bad p ∷ ts) = refusal p op BadByte
-refused cause op (end p ∷ ts) = refusal p op Unexpected
+abbrev pub refusal_at : Cause → OpName → List Symbol → Refusal
+refusal_at cause op [] = refusal (record { line = 1; col = 1 }) op Unexpected
+refusal_at cause op (token t ∷ ts) = refusal t.place op cause
+refusal_at cause op (bad p ∷ ts) = refusal p op BadByte
+refusal_at cause op (end p ∷ ts) = refusal p op Unexpected
 
 -- what stands first is not what any form has there
-abbrev pub unexpected : OpName → List Symbol → Refusal
-unexpected op [] = refusal (record { line = 1; col = 1 }) op Unexpected
-unexpected op (token t ∷ ts) = refusal t.place op (cause_of_first t)
-unexpected op (bad p ∷ ts) = refusal p op BadByte
-unexpected op (end p ∷ ts) = refusal p op Unexpected
+abbrev pub unexpected_refusal : OpName → List Symbol → Refusal
+unexpected_refusal op [] = refusal (record { line = 1; col = 1 }) op Unexpected
+unexpected_refusal op (token t ∷ ts) = refusal t.place op (cause_of_first t)
+unexpected_refusal op (bad p ∷ ts) = refusal p op BadByte
+unexpected_refusal op (end p ∷ ts) = refusal p op Unexpected

@@ -11,10 +11,10 @@ use Rattle.mlir_lexer.specs.Runs.{run}
 use Rattle.mlir_lexer.specs.Contents.{content_of}
 use Rattle.mlir_lexer.specs.Tokens.{Lexeme}
 use Rattle.mlir_lexer.specs.declared.token.TokenKind.TheVariants as kind
-use Rattle.mlir_syntax.specs.Stream.{Symbol, token, bad, end, first, after, refused, unexpected}
+use Rattle.mlir_syntax.specs.Stream.{Symbol, token, bad, end, first, after, refusal_at, unexpected_refusal}
 use Rattle.mlir_lexer.specs.TokenKinds.{is_kind}
 use Rattle.mlir_syntax.specs.Reads.{Reads, Read, on, want, items_until}
-use Rattle.mlir_syntax.specs.Numerals.{number_in, limited, number_below, count_limit}
+use Rattle.mlir_syntax.specs.Numerals.{number_in, below_limit, number_below, count_limit}
 
 -- how many types and lists may be open at a place
 abbrev pub most_open : ℕ
@@ -56,7 +56,7 @@ type_head (Some t) =
 
 -- an integer type, whose width the first token says
 unfoldable pub width_type : OpName → List Symbol → List ℕ → Read HwType
-width_type op s digits = on (limited count_limit op s (number_in 10 0 digits) (after s)) (λ w left. Ok (int w, left))
+width_type op s digits = on (below_limit count_limit op s (number_in 10 0 digits) (after s)) (λ w left. Ok (int w, left))
 
 -- a type of this head, where arrays and structs are read so
 unfoldable pub type_with : Reads HwType → Reads HwType → OpName → List Symbol → TypeHead → Read HwType
@@ -64,12 +64,12 @@ type_with arrays structs op s (integer_type digits) = width_type op s digits
 type_with arrays structs op s clock_type = Ok (clock, after s)
 type_with arrays structs op s array_type = arrays s
 type_with arrays structs op s struct_type = structs s
-type_with arrays structs op s foreign_type = Err (refused OutsideProfile op s)
-type_with arrays structs op s no_type = Err (unexpected op s)
+type_with arrays structs op s foreign_type = Err (refusal_at OutsideProfile op s)
+type_with arrays structs op s no_type = Err (unexpected_refusal op s)
 
 -- an element's type that begins within the token of the `x`
 unfoldable pub glued_element : OpName → List Symbol → Option (List ℕ) → Read HwType
-glued_element op s None = Err (unexpected op s)
+glued_element op s None = Err (unexpected_refusal op s)
 glued_element op s (Some digits) = width_type op s digits
 
 -- what the first token has after an `x`
@@ -79,7 +79,7 @@ x_rest (Some t) = cond (is_kind t.kind kind.BareName) (behind_x t.text) None
 
 -- an element's type after an `x`; nothing more may stand in the token of the `x`, or an integer type
 unfoldable pub element_after : Reads HwType → OpName → List Symbol → Option (List ℕ) → Read HwType
-element_after element op s None = Err (unexpected op s)
+element_after element op s None = Err (unexpected_refusal op s)
 element_after element op s (Some []) = element (after s)
 element_after element op s (Some (b ∷ bs)) = glued_element op s (width_digits (b ∷ bs))
 
@@ -99,10 +99,10 @@ is_name t = cond (is_kind t.kind kind.BareName) true (is_kind t.kind kind.String
 
 -- a bare name, or what a string holds
 unfoldable pub name_text : OpName → Reads Name
-name_text op [] = Err (unexpected op [])
-name_text op (token t ∷ ts) = cond (is_name t) (Ok (content_of t.kind t.text, ts)) (Err (unexpected op (token t ∷ ts)))
-name_text op (bad p ∷ ts) = Err (unexpected op (bad p ∷ ts))
-name_text op (end p ∷ ts) = Err (unexpected op (end p ∷ ts))
+name_text op [] = Err (unexpected_refusal op [])
+name_text op (token t ∷ ts) = cond (is_name t) (Ok (content_of t.kind t.text, ts)) (Err (unexpected_refusal op (token t ∷ ts)))
+name_text op (bad p ∷ ts) = Err (unexpected_refusal op (bad p ∷ ts))
+name_text op (end p ∷ ts) = Err (unexpected_refusal op (end p ∷ ts))
 
 -- `f : T`
 unfoldable pub field_text : Reads HwType → OpName → Reads NamedType
@@ -116,7 +116,7 @@ struct_text element op s =
 
 -- one more may not be opened
 unfoldable pub too_deep : {A : Type 0} → OpName → Reads A
-too_deep op s = Err (refused TooDeep op s)
+too_deep op s = Err (refusal_at TooDeep op s)
 
 -- a type, where so many more may be opened
 abbrev pub type_text : ℕ → OpName → Reads HwType

@@ -17,7 +17,7 @@ impl<'s> Reader<'s> {
     /// An integer literal that is a width, a count or a position.
     ///
     /// Refuses what is no integer literal, and a number of 2^32 or more.
-    #[tactic(auto, unfolding(crate::specs::Numerals::number_below, crate::specs::Numerals::limited))]
+    #[tactic(auto, unfolding(crate::specs::Numerals::number_below, crate::specs::Numerals::below_limit))]
     pub fn count(&mut self, op: OpName) -> Result<u32, ReadFail>
         ensures gives { ReadsAs (λ n. n) result self.new (number_below count_limit op self.old) }
         ensures shorter { OnOk result (length self.new ≤ length self.old) }
@@ -33,7 +33,7 @@ impl<'s> Reader<'s> {
     /// An integer literal.
     ///
     /// Refuses what is no integer literal, and a number of 2^128 or more.
-    #[tactic(auto, unfolding(crate::specs::Numerals::number_below, crate::specs::Numerals::limited))]
+    #[tactic(auto, unfolding(crate::specs::Numerals::number_below, crate::specs::Numerals::below_limit))]
     pub fn number(&mut self, op: OpName) -> Result<u128, ReadFail>
         ensures gives { ReadsAs (λ n. n) result self.new (number_below number_limit op self.old) }
         ensures shorter { OnOk result (length self.new ≤ length self.old) }

@@ -31,7 +31,7 @@ impl<'s> Reader<'s> {
     /// `#i`, or nothing, which means 0: a number within a pack.
     ///
     /// Refuses a number of 2^32 or more.
-    #[tactic(auto, unfolding(crate::specs::OperandText::pack_number, crate::specs::Numerals::limited))]
+    #[tactic(auto, unfolding(crate::specs::OperandText::pack_number, crate::specs::Numerals::below_limit))]
     pub fn pack_number(&mut self, op: OpName) -> Result<u32, ReadFail>
         ensures gives { ReadsAs (λ n. n) result self.new (pack_number op self.old) }
         ensures shorter { OnOk result (length self.new ≤ length self.old) }

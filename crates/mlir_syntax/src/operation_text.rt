@@ -6,7 +6,7 @@ ghost use Rattle.mlir_lexer.specs.Tokens.{lexeme_of};
 ghost use Rattle.mlir_syntax.specs.AttributeHeads.{keys_of};
 ghost use Rattle.mlir_syntax.specs.ModuleText.{header};
 ghost use Rattle.mlir_syntax.specs.NameClasses.{class_seen};
-ghost use Rattle.mlir_syntax.specs.OperationText.{bin_text, string_keys, form_text, late_dictionary, named_operation, classed_operation, operation_behind, operation_text, misplaced, no_operation, is_outside, other_name};
+ghost use Rattle.mlir_syntax.specs.OperationText.{bin_text, string_keys, form_text, late_dictionary, named_operation, classed_operation, operation_behind, operation_text, misplaced_refusal, no_operation, is_outside, other_name};
 ghost use Rattle.mlir_syntax.specs.ElementText.{gathered_nothing};
 ghost use Rattle.mlir_syntax.specs.Stream.{first, is_first};
 ghost use Rattle.mlir_syntax.specs.Views.{ReadsAs, gathered_of, names_of, operation_of};
@@ -171,9 +171,9 @@ impl<'s> Reader<'s> {
 
     /// The refusal of the first token, a name of this class, where no operation of the class may
     /// stand.
-    #[tactic(auto, unfolding(crate::specs::OperationText::misplaced))]
+    #[tactic(auto, unfolding(crate::specs::OperationText::misplaced_refusal))]
     pub fn misplaced(&self, around: OpName, token: Token<'s>, class: NameClass) -> Refusal
-        ensures { result ≡ misplaced around self.now (lexeme_of token.entry) (class_seen class) }
+        ensures { result ≡ misplaced_refusal around self.now (lexeme_of token.entry) (class_seen class) }
     {
         match class {
             NameClass::Operation(name) => self.refusal_for(Cause::Unexpected, OpName::Listed(name)),

@@ -2,7 +2,7 @@
 ghost use Rattle.std.specs.Prelude.{◌≡◌, ◌<◌, ◌≤◌, length, cond, OnOk, IsTrue};
 ghost use Rattle.std.specs.Option.{option_map};
 ghost use Rattle.mlir_lexer.specs.Tokens.{lexeme_of};
-ghost use Rattle.mlir_syntax.specs.Stream.{stream_of, is_word, first, is_next, is_first, after, refused, unexpected, refusal, cause_of_first};
+ghost use Rattle.mlir_syntax.specs.Stream.{stream_of, is_word, first, is_next, is_first, after, refusal_at, unexpected_refusal, refusal, cause_of_first};
 ghost use Rattle.mlir_lexer.specs.TokenKinds.{tag, is_kind};
 ghost use Rattle.mlir_syntax.specs.Heads.{stream_left, symbols};
 ghost use Rattle.mlir_syntax.specs.ModuleText.{is_end};
@@ -183,7 +183,7 @@ impl<'s> Reader<'s> {
 
     /// The refusal of what stands first, where no form has it there.
     pub fn unexpected_token(&self, op: OpName) -> Refusal
-        ensures { result ≡ unexpected op self.now }
+        ensures { result ≡ unexpected_refusal op self.now }
     {
         match self.head {
             Head::Token(token) => refusal(token.place, op, cause_of_first(token)),
@@ -194,7 +194,7 @@ impl<'s> Reader<'s> {
 
     /// The refusal of what stands first, where it is a token for this cause.
     pub fn refusal_for(&self, cause: Cause, op: OpName) -> Refusal
-        ensures { result ≡ refused cause op self.now }
+        ensures { result ≡ refusal_at cause op self.now }
     {
         match self.head {
             Head::Token(token) => refusal(token.place, op, cause),

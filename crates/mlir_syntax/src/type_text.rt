@@ -92,7 +92,7 @@ impl<'s> Reader<'s> {
     }
 
     // An integer type of the width that the digits say, which the first token has.
-    #[tactic(auto, unfolding(crate::specs::TypeText::width_type, crate::specs::Numerals::limited))]
+    #[tactic(auto, unfolding(crate::specs::TypeText::width_type, crate::specs::Numerals::below_limit))]
     fn width_type(&mut self, op: OpName, digits: &[u8]) -> Result<Ty, ReadFail>
         ensures gives { ReadsAs type_of result self.new (width_type op self.old digits.now) }
         ensures shorter { OnOk result (length self.new ≤ length self.old) }

@@ -8,7 +8,7 @@ use Rattle.verilog_model.proofs.Numerals.{and_first, and_second}
 use Rattle.fresh_names.proofs.Taken.{same_is}
 use Rattle.name_legalise.specs.declared.reserved.Group.{Group}
 use Rattle.name_legalise.specs.Words.{begins_with, all_begin, groups_begin, words_in}
-use Rattle.name_legalise.specs.WordViews.{lettered}
+use Rattle.name_legalise.specs.WordViews.{letter_group}
 
 pub contains-append : (n : Name) (ms ns : List Name) → contains_name n (ms ++ ns) ≡ (contains_name n ms || contains_name n ns)
 contains-append n [] ns = refl
@@ -42,35 +42,35 @@ other_letter first letter n (w ∷ ws) h all apart = go (same_name w n) refl (ot
 -- ---- a list of groups, from one of them on
 
 abbrev words_of : Group → List Name
-words_of g = (lettered g).words
+words_of g = (letter_group g).words
 
-rest_drop : (gs : List Group) (i : ℕ) → IsTrue (groups_begin (map lettered (drop i gs))) → IsTrue (groups_begin (map lettered (drop (suc i) gs)))
+rest_drop : (gs : List Group) (i : ℕ) → IsTrue (groups_begin (map letter_group (drop i gs))) → IsTrue (groups_begin (map letter_group (drop (suc i) gs)))
 rest_drop [] zero h = refl
 rest_drop [] (suc i) h = refl
-rest_drop (g ∷ gs) zero h = and_second (all_begin g.letter (words_of g)) (groups_begin (map lettered gs)) h
+rest_drop (g ∷ gs) zero h = and_second (all_begin g.letter (words_of g)) (groups_begin (map letter_group gs)) h
 rest_drop (g ∷ gs) (suc i) h = rest_drop gs i h
 
-pub rest_begin : (gs : List Group) (i : ℕ) → IsTrue (groups_begin (map lettered (drop i gs))) → IsTrue (groups_begin (map lettered (drop (i + 1) gs)))
+pub rest_begin : (gs : List Group) (i : ℕ) → IsTrue (groups_begin (map letter_group (drop i gs))) → IsTrue (groups_begin (map letter_group (drop (i + 1) gs)))
 rest_begin gs i h = rw add-one (rest_drop gs i h)
 
 module _ (gs : List Group) (i : ℕ) (d : Group) (lt : i < length gs) where
   here : drop i gs ≡ get_or gs i d ∷ drop (i + 1) gs
   here = rw (add-one, drop-cons gs i d)
 
-  begins_here : IsTrue (groups_begin (map lettered (drop i gs))) → IsTrue (groups_begin (map lettered (get_or gs i d ∷ drop (i + 1) gs)))
-  begins_here h = subst (λ l. IsTrue (groups_begin (map lettered l))) here h
+  begins_here : IsTrue (groups_begin (map letter_group (drop i gs))) → IsTrue (groups_begin (map letter_group (get_or gs i d ∷ drop (i + 1) gs)))
+  begins_here h = subst (λ l. IsTrue (groups_begin (map letter_group l))) here h
 
-  pub first_begins : IsTrue (groups_begin (map lettered (drop i gs))) → IsTrue (all_begin (get_or gs i d).letter (words_of (get_or gs i d)))
-  first_begins h = and_first (all_begin (get_or gs i d).letter (words_of (get_or gs i d))) (groups_begin (map lettered (drop (i + 1) gs))) (begins_here h)
+  pub first_begins : IsTrue (groups_begin (map letter_group (drop i gs))) → IsTrue (all_begin (get_or gs i d).letter (words_of (get_or gs i d)))
+  first_begins h = and_first (all_begin (get_or gs i d).letter (words_of (get_or gs i d))) (groups_begin (map letter_group (drop (i + 1) gs))) (begins_here h)
 
-  pub found_here : (n : Name) → true ≡ contains_name n (words_of (get_or gs i d)) → contains_name n (words_in (map lettered (drop i gs))) ≡ true
+  pub found_here : (n : Name) → true ≡ contains_name n (words_of (get_or gs i d)) → contains_name n (words_in (map letter_group (drop i gs))) ≡ true
   found_here n e =
-      ap (λ l. contains_name n (words_in (map lettered l))) here
-      ∙ contains-append n (words_of (get_or gs i d)) (words_in (map lettered (drop (i + 1) gs)))
-      ∙ ap (λ b. b || contains_name n (words_in (map lettered (drop (i + 1) gs)))) (sym e)
+      ap (λ l. contains_name n (words_in (map letter_group l))) here
+      ∙ contains-append n (words_of (get_or gs i d)) (words_in (map letter_group (drop (i + 1) gs)))
+      ∙ ap (λ b. b || contains_name n (words_in (map letter_group (drop (i + 1) gs)))) (sym e)
 
-  pub found_later : (n : Name) → false ≡ contains_name n (words_of (get_or gs i d)) → contains_name n (words_in (map lettered (drop i gs))) ≡ contains_name n (words_in (map lettered (drop (i + 1) gs)))
+  pub found_later : (n : Name) → false ≡ contains_name n (words_of (get_or gs i d)) → contains_name n (words_in (map letter_group (drop i gs))) ≡ contains_name n (words_in (map letter_group (drop (i + 1) gs)))
   found_later n e =
-      ap (λ l. contains_name n (words_in (map lettered l))) here
-      ∙ contains-append n (words_of (get_or gs i d)) (words_in (map lettered (drop (i + 1) gs)))
-      ∙ ap (λ b. b || contains_name n (words_in (map lettered (drop (i + 1) gs)))) (sym e)
+      ap (λ l. contains_name n (words_in (map letter_group l))) here
+      ∙ contains-append n (words_of (get_or gs i d)) (words_in (map letter_group (drop (i + 1) gs)))
+      ∙ ap (λ b. b || contains_name n (words_in (map letter_group (drop (i + 1) gs)))) (sym e)

@@ -11,12 +11,12 @@ abbrev pub name_byte : ℕ → ℕ
 name_byte b = cond (is_name_byte b) b 95
 
 -- `_` before what does not begin with a letter or `_` (3.7: the first character)
-abbrev pub fronted : Name → Name
-fronted n = cond (starts_name n) n (95 ∷ n)
+abbrev pub with_underscore : Name → Name
+with_underscore n = cond (starts_name n) n (95 ∷ n)
 
 -- a name whose bytes all stand in Verilog names, and whose first one may begin them
 unfoldable pub clean : Name → Name
-clean wanted = fronted (map name_byte wanted)
+clean wanted = with_underscore (map name_byte wanted)
 
 -- the legal name of a wanted one, after the names that are taken: no reserved word (Annex B), and declared once (12.7: scope rules)
 abbrev pub legal_name : List Name → Name → Name

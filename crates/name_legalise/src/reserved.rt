@@ -3,7 +3,7 @@ ghost use Rattle.std.specs.Prelude.{◌≡◌, map, IsTrue};
 ghost use Rattle.verilog_model.specs.Checks.{contains_name};
 ghost use Rattle.verilog_model.specs.Reserved.{reserved_words};
 ghost use Rattle.name_legalise.specs.Words.{all_begin, begins_with, groups_begin, words_in};
-ghost use Rattle.name_legalise.specs.WordViews.{lettered};
+ghost use Rattle.name_legalise.specs.WordViews.{letter_group};
 
 /// The reserved words that begin with one letter.
 pub struct Group {
@@ -171,18 +171,18 @@ fn is_among(name: &[u8], words: &[&str]) -> bool
 
 /// Whether a name that begins with a byte is one of the words of a group.
 fn is_in_group(first: u8, name: &[u8], group: &Group) -> bool
-    requires grouped { IsTrue (all_begin group.now.letter (lettered group.now).words) }
+    requires grouped { IsTrue (all_begin group.now.letter (letter_group group.now).words) }
     requires begins { IsTrue (begins_with first name.now) }
-    ensures { result ≡ contains_name name.now (lettered group.now).words }
+    ensures { result ≡ contains_name name.now (letter_group group.now).words }
 {
     group.letter == first && is_among(name, group.words)
 }
 
 /// Whether a name that begins with a byte is one of the words of some groups.
 fn is_grouped(first: u8, name: &[u8], groups: &[Group]) -> bool
-    requires grouped { IsTrue (groups_begin (map lettered groups.now)) }
+    requires grouped { IsTrue (groups_begin (map letter_group groups.now)) }
     requires begins { IsTrue (begins_with first name.now) }
-    ensures { result ≡ contains_name name.now (words_in (map lettered groups.now)) }
+    ensures { result ≡ contains_name name.now (words_in (map letter_group groups.now)) }
 {
     for group in groups {
         if is_in_group(first, name, group) {

@@ -24,7 +24,7 @@ use Rattle.verilog_model.specs.Grammar.{strength, primary_level}
 use Rattle.verilog_model.specs.Checks.{divides}
 use Rattle.verilog_model.specs.Expression.{context_of, arithmetic, shift_word, own_value}
 use Rattle.verilog_model.specs.Expression.Context.{both_operands, left_operand}
-use Rattle.verilog_expr.specs.Building.{literal_of, placed, unsigned_at, of_one_expr, of_two_exprs, of_three_exprs, unsigned_pair, variadic_expr, unsigned_shift, signed_shift, unsigned_division, signed_division, comparison, selected, first_width, conditional, built, division_expr, shift_expr, variadic_operator, division_operator, shift_operator, is_signed_division, is_signed_shift}
+use Rattle.verilog_expr.specs.Building.{literal_of, parenthesize, unsigned_at, of_one_expr, of_two_exprs, of_three_exprs, unsigned_pair, variadic_expr, unsigned_shift, signed_shift, unsigned_division, signed_division, comparison, select_bits, first_width, conditional, built, division_expr, shift_expr, variadic_operator, division_operator, shift_operator, is_signed_division, is_signed_shift}
 use Rattle.verilog_expr.specs.Values.{HasBits, HaveBits, IsBuildable, IsDividedBy}
 use Rattle.verilog_expr.proofs.Operators.{division_context, shift_context, divides_division, division_computes, shift_computes, length-divided, length-shifted}
 use Rattle.verilog_expr.proofs.Own.{Is, Is-own, HasBits-Is, placed_own, unsigned_at_is, signed_is, literal_is, both_is, shift_is}
@@ -118,7 +118,7 @@ module _ (widths : Name → ℕ) (ρ : Name → Word) where
       → ((x : Word) (n : ℕ) → length (shift_word o false x n) ≡ length x) → HasBits widths ρ w a
       → Gives widths ρ P w (unsigned_shift o a b) (shift_word o false (own_value widths ρ a) (number (own_value widths ρ b)))
   unsigned_shift_gives P o w a b context keeps first =
-      let c : Expr = placed (suc (strength o)) b in
+      let c : Expr = parenthesize (suc (strength o)) b in
       gives widths ρ P w false (unsigned_shift o a b) _ _
       (shift_is widths ρ o w false (unsigned_at (strength o) a) c (own_value widths ρ a) context (unsigned_at_is widths ρ (strength o) w a first)
       (keeps (own_value widths ρ a) (number (own_value widths ρ c)) ∙ first.worth))
@@ -128,7 +128,7 @@ module _ (widths : Name → ℕ) (ρ : Name → Word) where
       → ((x : Word) (n : ℕ) → length (shift_word o true x n) ≡ length x) → HasBits widths ρ w a
       → Gives widths ρ P w (signed_shift o a b) (shift_word o true (own_value widths ρ a) (number (own_value widths ρ b)))
   signed_shift_gives P o w a b context keeps first =
-      let c : Expr = placed (suc (strength o)) b in
+      let c : Expr = parenthesize (suc (strength o)) b in
       gives widths ρ P w true (signed_shift o a b) _ _
       (shift_is widths ρ o w true (as_signed a) c (own_value widths ρ a) context (signed_is widths ρ w a first)
       (keeps (own_value widths ρ a) (number (own_value widths ρ c)) ∙ first.worth))
@@ -237,13 +237,13 @@ module _ (widths : Name → ℕ) (ρ : Name → Word) where
       (λ a b same first second. comparison_gives widths ρ _ p (width u) a b first second))
   built_gives parity ts xs t k divisor es (u, is, one) can =
       widened _ 1 (width t) _ _ (sym (ap width one))
-      (one_gives _ 1 (λ a. odd (placed primary_level a)) (λ x. flag (parity_of x)) (Some u) xs es is can.operands
+      (one_gives _ 1 (λ a. odd (parenthesize primary_level a)) (λ x. flag (parity_of x)) (Some u) xs es is can.operands
       (λ a same first. odd_gives widths ρ _ primary_level a))
   built_gives (extract low) ts xs t k divisor es (u, is, room) can =
       let operand_width : first_width (map width_of xs) ≡ width u = ap (λ ys. first_width (map width_of ys)) is in
       let small : width u < 2 ^ 64 = can.narrow_operands (Some u) (subst (In (Some u)) (sym is) (inl refl)) in
-      one_gives _ (width t) (selected low (first_width (map width_of xs)) (width t)) (bits_from low (width t)) (Some u) xs es is can.operands
-      (λ a same first. subst (λ v. Gives widths ρ (IsDividedBy widths ρ (extract low) (width t) divisor es) (width t) (selected low v (width t) a) (bits_from low (width t) (own_value widths ρ a))) (sym operand_width)
+      one_gives _ (width t) (select_bits low (first_width (map width_of xs)) (width t)) (bits_from low (width t)) (Some u) xs es is can.operands
+      (λ a same first. subst (λ v. Gives widths ρ (IsDividedBy widths ρ (extract low) (width t) divisor es) (width t) (select_bits low v (width t) a) (bits_from low (width t) (own_value widths ρ a))) (sym operand_width)
       (selected_gives widths ρ _ low (width t) (width u) a first room can.bits small (can.cut (Some u) a is same)))
   built_gives concat ts xs t k divisor es (us, is, sum) can =
       widened _ (total (map width us)) (width t) _ _ (sym sum)

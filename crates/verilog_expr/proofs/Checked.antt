@@ -23,7 +23,7 @@ use Rattle.verilog_model.specs.Expression.{is_signed}
 use Rattle.verilog_model.specs.Checks.{Declared, find_declared, has_bit, is_divisor, divides, expr_checks, exprs_check}
 use Rattle.verilog_model.proofs.Numerals.{and_intro, and_first, and_second, decimal_number-decimal, is_decimal-decimal, all_bytes_weaker}
 use Rattle.verilog_model.proofs.Reread.{all_digits_are_word}
-use Rattle.verilog_expr.specs.Building.{literal_of, unsigned, placed, unsigned_at, of_one_expr, of_two_exprs, of_three_exprs, unsigned_pair, chained, variadic_expr, signed_pair, unsigned_shift, signed_shift, unsigned_division, signed_division, comparison, select, selected, exprs_of, concatenation, conditional, built, division_expr, shift_expr, variadic_operator, division_operator, shift_operator, is_signed_division, is_signed_shift}
+use Rattle.verilog_expr.specs.Building.{literal_of, unsigned, parenthesize, unsigned_at, of_one_expr, of_two_exprs, of_three_exprs, unsigned_pair, chain, variadic_expr, signed_pair, unsigned_shift, signed_shift, unsigned_division, signed_division, comparison, select, select_bits, exprs_of, concatenation, conditional, built, division_expr, shift_expr, variadic_operator, division_operator, shift_operator, is_signed_division, is_signed_shift}
 use Rattle.verilog_expr.specs.Values.{is_aggregate_kind, is_division, is_variadic, is_item_kind}
 use Rattle.verilog_expr.specs.Spilling.{is_narrower}
 use Rattle.verilog_expr.specs.Numerals.{hex}
@@ -100,7 +100,7 @@ module _ (known : List Declared) where
     go true = record { words = is.words; checks = is.checks }
     go false = is
 
-  well_placed : (l : ℕ) (e : Expr) → IsWell e → IsWell (placed l e)
+  well_placed : (l : ℕ) (e : Expr) → IsWell e → IsWell (parenthesize l e)
   well_placed l e is = go (nat_le l (level e)) where
     go : (b : Bool) → IsWell (cond b e (paren e))
     go true = is
@@ -135,15 +135,15 @@ module _ (known : List Declared) where
   well_signed_pair o a b plain x y = well_binary o (as_signed a) (as_signed b) plain (well_signed a x) (well_signed b y)
 
   well_shift : (o : Operator) (a b : Expr) → divides o ≡ false → IsWell a → IsWell b → IsWell (unsigned_shift o a b)
-  well_shift o a b plain x y = well_binary o (unsigned_at (strength o) a) (placed (suc (strength o)) b) plain (well_unsigned_at (strength o) a x) (well_placed (suc (strength o)) b y)
+  well_shift o a b plain x y = well_binary o (unsigned_at (strength o) a) (parenthesize (suc (strength o)) b) plain (well_unsigned_at (strength o) a x) (well_placed (suc (strength o)) b y)
 
   well_signed_shift : (o : Operator) (a b : Expr) → divides o ≡ false → IsWell a → IsWell b → IsWell (signed_shift o a b)
-  well_signed_shift o a b plain x y = well_binary o (as_signed a) (placed (suc (strength o)) b) plain (well_signed a x) (well_placed (suc (strength o)) b y)
+  well_signed_shift o a b plain x y = well_binary o (as_signed a) (parenthesize (suc (strength o)) b) plain (well_signed a x) (well_placed (suc (strength o)) b y)
 
   AllWell : List Expr → Type 0
   AllWell es = (e : Expr) → In e es → IsWell e
 
-  well_chained : (o : Operator) (a : Expr) (es : List Expr) → divides o ≡ false → IsWell a → AllWell es → IsWell (chained o a es)
+  well_chained : (o : Operator) (a : Expr) (es : List Expr) → divides o ≡ false → IsWell a → AllWell es → IsWell (chain o a es)
   unfolding AllWell
   well_chained o a [] plain x are = x
   well_chained o a (e ∷ es) plain x are =
@@ -324,11 +324,11 @@ module _ (known : List Declared) where
       let v = well_unsigned a y in
       let w = well_unsigned_at choice_level b z in record {
         words = (u.words, (v.words, w.words));
-        checks = and_intro (expr_checks known (placed (suc choice_level) c)) (expr_checks known (unsigned a) && expr_checks known (unsigned_at choice_level b)) u.checks
+        checks = and_intro (expr_checks known (parenthesize (suc choice_level) c)) (expr_checks known (unsigned a) && expr_checks known (unsigned_at choice_level b)) u.checks
             (and_intro (expr_checks known (unsigned a)) (expr_checks known (unsigned_at choice_level b)) v.checks w.checks);
       }
 
-  well_odd : (a : Expr) → IsWell a → IsWell (odd (placed primary_level a))
+  well_odd : (a : Expr) → IsWell a → IsWell (odd (parenthesize primary_level a))
   well_odd a x = let u = well_placed primary_level a x in record { words = u.words; checks = u.checks }
 
   well_concatenation : (xs : List (Option HwType)) (es : List Expr) → 1 ≤ length xs → ((x : Option HwType) → In x xs → is_some x ≡ true) → HaveWell xs es → IsWell (concatenation es)
@@ -346,7 +346,7 @@ module _ (known : List Declared) where
         x.checks;
   }
 
-  well_selected : (low whole w : ℕ) (a : Expr) → 1 ≤ w → low + w ≤ whole → whole < 2 ^ 64 → IsWell a → (nat_lt w whole ≡ true → IsWide whole a) → IsWell (selected low whole w a)
+  well_selected : (low whole w : ℕ) (a : Expr) → 1 ≤ w → low + w ≤ whole → whole < 2 ^ 64 → IsWell a → (nat_lt w whole ≡ true → IsWide whole a) → IsWell (select_bits low whole w a)
   well_selected low whole w a some within small is wide = go (low == 0) (w == whole) refl refl where
     go : (b c : Bool) → (low == 0) ≡ b → (w == whole) ≡ c → IsWell (cond (b && c) a (select low w a))
     go true true x y = is
@@ -388,9 +388,9 @@ module _ (known : List Declared) where
   built_well (shift s) ts xs t k divisor es fits whole values filled some small narrow are divided cut =
       two_well (shift_expr (is_signed_shift s) (shift_operator s)) t t xs es fits are (λ a b x y. either_shift_well (is_signed_shift s) (shift_operator s) a b (plain_shift s) x y)
   built_well (icmp p) ts xs t k divisor es (u, is, one) whole values filled some small narrow are divided cut = two_well (comparison p) u u xs es is are (λ a b x y. well_comparison p a b x y)
-  built_well parity ts xs t k divisor es (u, is, one) whole values filled some small narrow are divided cut = one_well (λ a. odd (placed primary_level a)) u xs es is are (λ a e x. well_odd a x)
+  built_well parity ts xs t k divisor es (u, is, one) whole values filled some small narrow are divided cut = one_well (λ a. odd (parenthesize primary_level a)) u xs es is are (λ a e x. well_odd a x)
   built_well (extract low) ts xs t k divisor es (u, is, within) whole values filled some small narrow are divided cut =
-      rw is (one_well (selected low (width u) (width t)) u xs es is are
+      rw is (one_well (select_bits low (width u) (width t)) u xs es is are
       (λ a e x. well_selected low (width u) (width t) a some within (narrow (Some u) (rw is (inl refl))) x (λ less. cut (Some u) a is e less)))
   built_well concat ts xs t k divisor es (us, is, sum) whole values filled some small narrow are divided cut =
       well_concatenation xs es (rw is (filled_concat us (width t) some sum)) (λ x h. typed_map us x (subst (λ ys. In x ys) is h)) are

@@ -12,7 +12,7 @@ use Rattle.verilog_model.specs.Tree.Expr.{name, bit_select, part_select, as_sign
 use Rattle.verilog_model.specs.Grammar.{strength, choice_level, primary_level, level, fits, all_fit}
 use Rattle.verilog_model.specs.Expression.{is_signed}
 use Rattle.verilog_model.proofs.Numerals.{and_intro}
-use Rattle.verilog_expr.specs.Building.{literal_of, unsigned, placed, unsigned_at, unsigned_pair, chained, variadic_expr, signed_pair, unsigned_shift, signed_shift, unsigned_division, signed_division, comparison, select, selected, exprs_of, concatenation, conditional, built, division_expr, shift_expr, variadic_operator, division_operator, shift_operator, is_signed_division, is_signed_shift}
+use Rattle.verilog_expr.specs.Building.{literal_of, unsigned, parenthesize, unsigned_at, unsigned_pair, chain, variadic_expr, signed_pair, unsigned_shift, signed_shift, unsigned_division, signed_division, comparison, select, select_bits, exprs_of, concatenation, conditional, built, division_expr, shift_expr, variadic_operator, division_operator, shift_operator, is_signed_division, is_signed_shift}
 use Rattle.verilog_expr.specs.Expressions.{own_expr, expr_to}
 use Rattle.verilog_expr.proofs.Carried.{IsCarried, one_holds, two_hold, three_hold, own_carried, depth_carried}
 
@@ -33,13 +33,13 @@ own_strength : (o : Operator) → nat_le (strength o) (strength o) ≡ true
 own_strength times = refl
 own_strength _ = refl
 
-placed_fits : (l : ℕ) (e : Expr) → fits e ≡ true → fits (placed l e) ≡ true
+placed_fits : (l : ℕ) (e : Expr) → fits e ≡ true → fits (parenthesize l e) ≡ true
 placed_fits l e fit = go (nat_le l (level e)) where
   go : (b : Bool) → fits (cond b e (paren e)) ≡ true
   go true = fit
   go false = fit
 
-placed_level : (l : ℕ) (e : Expr) → nat_le l primary_level ≡ true → nat_le l (level (placed l e)) ≡ true
+placed_level : (l : ℕ) (e : Expr) → nat_le l primary_level ≡ true → nat_le l (level (parenthesize l e)) ≡ true
 placed_level l e low = go (nat_le l (level e)) refl where
   go : (b : Bool) → nat_le l (level e) ≡ b → nat_le l (level (cond b e (paren e))) ≡ true
   go true is = is
@@ -68,7 +68,7 @@ unsigned_pair_fits o a b fit also =
 signed_pair_fits : (o : Operator) (a b : Expr) → fits a ≡ true → fits b ≡ true → fits (signed_pair o a b) ≡ true
 signed_pair_fits o a b fit also = binary_fits o (as_signed a) (as_signed b) (strong_left o) (strong o) fit also
 
-chained_fits : (o : Operator) (a : Expr) (bs : List Expr) → nat_le (strength o) (level a) ≡ true → fits a ≡ true → AllFit bs → fits (chained o a bs) ≡ true
+chained_fits : (o : Operator) (a : Expr) (bs : List Expr) → nat_le (strength o) (level a) ≡ true → fits a ≡ true → AllFit bs → fits (chain o a bs) ≡ true
 chained_fits o a [] binds fit all = fit
 chained_fits o a (b ∷ bs) binds fit all =
     chained_fits o (binary o a (unsigned_at (suc (strength o)) b)) bs (own_strength o)
@@ -84,9 +84,9 @@ variadic_fits o (a ∷ b ∷ bs) all =
     (unsigned_at_fits (strength o) a (all a (inl refl))) (λ e here. all e (inr here))
 
 shift_fits : (o : Operator) (a b : Expr) → nat_le (strength o) (level a) ≡ true → fits a ≡ true → fits b ≡ true
-    → fits (binary o a (placed (suc (strength o)) b)) ≡ true
+    → fits (binary o a (parenthesize (suc (strength o)) b)) ≡ true
 shift_fits o a b binds fit also =
-    binary_fits o a (placed (suc (strength o)) b) binds (placed_level (suc (strength o)) b (strong o)) fit (placed_fits (suc (strength o)) b also)
+    binary_fits o a (parenthesize (suc (strength o)) b) binds (placed_level (suc (strength o)) b (strong o)) fit (placed_fits (suc (strength o)) b also)
 
 unsigned_shift_fits : (o : Operator) (a b : Expr) → fits a ≡ true → fits b ≡ true → fits (unsigned_shift o a b) ≡ true
 unsigned_shift_fits o a b fit also =
@@ -127,7 +127,7 @@ comparison_fits cne a b fit also = unsigned_pair_fits differs a b fit also
 comparison_fits weq a b fit also = unsigned_pair_fits equals a b fit also
 comparison_fits wne a b fit also = unsigned_pair_fits differs a b fit also
 
-odd_fits : (a : Expr) → fits a ≡ true → fits (odd (placed primary_level a)) ≡ true
+odd_fits : (a : Expr) → fits a ≡ true → fits (odd (parenthesize primary_level a)) ≡ true
 odd_fits a fit = and_intro _ _ (placed_level primary_level a refl) (placed_fits primary_level a fit)
 
 select_fits : (low w : ℕ) (a : Expr) → fits (select low w a) ≡ true
@@ -137,7 +137,7 @@ select_fits low w (name n) = go (w == 1) where
   go false = refl
 select_fits low w _ = refl
 
-selected_fits : (low v w : ℕ) (a : Expr) → fits a ≡ true → fits (selected low v w a) ≡ true
+selected_fits : (low v w : ℕ) (a : Expr) → fits a ≡ true → fits (select_bits low v w a) ≡ true
 selected_fits low v w a fit = go (low == 0 && w == v) where
   go : (b : Bool) → fits (cond b a (select low w a)) ≡ true
   go true = fit

@@ -10,7 +10,7 @@ use Rattle.verilog_model.specs.Tree.Exprs.{last}
 use Rattle.verilog_model.specs.Grammar.{level, strength, primary_level}
 use Rattle.verilog_model.specs.Expression.{Context, is_signed, context_of, binary_signed}
 use Rattle.verilog_model.specs.Expression.Context.{both_operands, left_operand, no_operand}
-use Rattle.verilog_expr.specs.Building.{no_expr, literal_of, unsigned, placed, unsigned_at, of_one_expr, of_two_exprs, of_three_exprs, unsigned_pair, chained, variadic_expr, signed_pair, unsigned_shift, signed_shift, unsigned_division, signed_division, comparison, select, selected, concatenation, conditional, first_width, built, division_expr, shift_expr, variadic_operator, division_operator, shift_operator, is_signed_division, is_signed_shift}
+use Rattle.verilog_expr.specs.Building.{no_expr, literal_of, unsigned, parenthesize, unsigned_at, of_one_expr, of_two_exprs, of_three_exprs, unsigned_pair, chain, variadic_expr, signed_pair, unsigned_shift, signed_shift, unsigned_division, signed_division, comparison, select, select_bits, concatenation, conditional, first_width, built, division_expr, shift_expr, variadic_operator, division_operator, shift_operator, is_signed_division, is_signed_shift}
 use Rattle.verilog_expr.specs.Text.{expr_text}
 use Rattle.verilog_expr.specs.Forms.{operator_of, operator_in_code}
 use Rattle.verilog_expr.specs.Templates.{chain_template, template_of_count, division_form, shift_form, comparison_form, extract_template, template_for, template_text, template_signed, template_level}
@@ -46,7 +46,7 @@ unsigned_not e = go (is_signed e) refl
     go true is = refl
     go false is = is
 
-placed_sign : (l : ℕ) (e : Expr) → is_signed (placed l e) ≡ is_signed e
+placed_sign : (l : ℕ) (e : Expr) → is_signed (parenthesize l e) ≡ is_signed e
 placed_sign l e = go (nat_le l (level e))
   where
     go : (b : Bool) → is_signed (cond b e (paren e)) ≡ is_signed e
@@ -66,20 +66,20 @@ binary_not o a b is = ap (λ s. binary_signed (context_of o) s (is_signed b)) is
 
 -- ---- chains
 
-chained_sign : (o : tree.Operator) (a : Expr) (bs : List Expr) → is_signed a ≡ false → is_signed (chained o a bs) ≡ false
+chained_sign : (o : tree.Operator) (a : Expr) (bs : List Expr) → is_signed a ≡ false → is_signed (chain o a bs) ≡ false
 chained_sign o a [] is = is
 chained_sign o a (b ∷ bs) is = chained_sign o (binary o a (unsigned_at (suc (strength o)) b)) bs (binary_not o a (unsigned_at (suc (strength o)) b) is)
 
-chained_level : (o : tree.Operator) (a b : Expr) (bs : List Expr) → level (chained o (binary o a b) bs) ≡ strength o
+chained_level : (o : tree.Operator) (a b : Expr) (bs : List Expr) → level (chain o (binary o a b) bs) ≡ strength o
 chained_level o a b [] = refl
 chained_level o a b (c ∷ bs) = chained_level o (binary o a b) (unsigned_at (suc (strength o)) c) bs
 
-chained_name : (o : tree.Operator) (a b : Expr) (bs : List Expr) → sole_name (chained o (binary o a b) bs) ≡ None
+chained_name : (o : tree.Operator) (a b : Expr) (bs : List Expr) → sole_name (chain o (binary o a b) bs) ≡ None
 chained_name o a b [] = refl
 chained_name o a b (c ∷ bs) = chained_name o (binary o a b) (unsigned_at (suc (strength o)) c) bs
 
 chain_is : (o : Operator) (a b : Expr) (bs : List Expr)
-    → IsTemplate (chained (operator_of o) (unsigned_at (strength (operator_of o)) a) (b ∷ bs)) (Operands (Chain o)) (a ∷ b ∷ bs)
+    → IsTemplate (chain (operator_of o) (unsigned_at (strength (operator_of o)) a) (b ∷ bs)) (Operands (Chain o)) (a ∷ b ∷ bs)
 chain_is o a b bs = record {
   text = chain_text o a (b ∷ bs);
   signed = chained_sign (operator_of o) (unsigned_at (strength (operator_of o)) a) (b ∷ bs) (unsigned_at_not (strength (operator_of o)) a);
@@ -133,7 +133,7 @@ signed_is o a b sign = record { text = signed_pair_text o a b; signed = sign; le
 shift_is : (o : Operator) (a b : Expr) → IsTemplate (unsigned_shift (operator_of o) a b) (Operands (UnsignedShift o)) (a ∷ b ∷ [])
 shift_is o a b = record {
   text = unsigned_shift_text o a b;
-  signed = binary_not (operator_of o) (unsigned_at (strength (operator_of o)) a) (placed (suc (strength (operator_of o))) b) (unsigned_at_not (strength (operator_of o)) a);
+  signed = binary_not (operator_of o) (unsigned_at (strength (operator_of o)) a) (parenthesize (suc (strength (operator_of o))) b) (unsigned_at_not (strength (operator_of o)) a);
   level_is = refl;
   called = refl;
 }
@@ -200,7 +200,7 @@ select_name low w (name n) = go (w == 1)
     go false = refl
 select_name low w _ = refl
 
-extract_is : (low w v : ℕ) (es : List Expr) → IsTemplate (of_one_expr (selected low v w) es) (extract_template (length es) low w v) es
+extract_is : (low w v : ℕ) (es : List Expr) → IsTemplate (of_one_expr (select_bits low v w) es) (extract_template (length es) low w v) es
 extract_is low w v [] = missing_is []
 extract_is low w v (a ∷ []) = go (low == 0 && w == v)
   where
@@ -229,7 +229,7 @@ either_shift_is : (b : Bool) (o : Operator) (x y : Expr) → context_of (operato
 either_shift_is false o x y is = shift_is o x y
 either_shift_is true o x y is = record {
   text = signed_shift_text o x y;
-  signed = ap (λ c. binary_signed c true (is_signed (placed (suc (strength (operator_of o))) y))) is;
+  signed = ap (λ c. binary_signed c true (is_signed (parenthesize (suc (strength (operator_of o))) y))) is;
   level_is = refl;
   called = refl;
 }
@@ -264,7 +264,7 @@ built_is (division v) w ws d es =
 built_is (shift v) w ws d es =
     two_is (shift_form (is_signed_shift v) (operator_in_code (shift_operator v))) (shift_expr (is_signed_shift v) (shift_operator v)) (shift_template v) es
 built_is (icmp p) w ws d es = comparison_is p es
-built_is parity w ws d es = one_is Parity (λ a. odd (placed primary_level a)) (λ a. record { text = parity_text a; signed = refl; level_is = refl; called = refl }) es
+built_is parity w ws d es = one_is Parity (λ a. odd (parenthesize primary_level a)) (λ a. record { text = parity_text a; signed = refl; level_is = refl; called = refl }) es
 built_is (extract low) w ws d es = extract_is low w (first_width ws) es
 built_is concat w ws d es = concat_is es
 built_is replicate w ws d es =

@@ -8,7 +8,7 @@ use Rattle.verilog_expr.specs.Spilling.{AreHeights, height, height_over, operand
 use Rattle.verilog_expr.specs.Spilling.Part.{flat, shared, nested}
 use Rattle.verilog_expr.specs.declared.marks.Mark.{Mark}
 use Rattle.verilog_expr.specs.Marks.{no_mark, after_ops}
-use Rattle.verilog_expr.specs.PartTables.{wired, stands_most, IsHeightAt, height_get, AreKnown}
+use Rattle.verilog_expr.specs.PartTables.{has_own_wire, stands_most, IsHeightAt, height_get, AreKnown}
 
 -- ---- the height of an operation
 
@@ -56,10 +56,10 @@ known_set ports os hs p h known lt is i below = go (nat_eq p i) refl
 -- ---- wires
 
 pub wired_is : (ports : List Port) (os : List Op) (i : ℕ) (o : Op) (m : Mark) (p : told.Part) (h : ℕ) → slice_get os i ≡ Some o → m ≡ after_ops ports os (result i 0) os no_mark
-    → p ≡ told.part ports os (result i 0) → h ≡ height ports os (result i 0) → wired o m p h ≡ spilled ports os (result i 0)
+    → p ≡ told.part ports os (result i 0) → h ≡ height ports os (result i 0) → has_own_wire o m p h ≡ spilled ports os (result i 0)
 unfolding spilled
 wired_is ports os i o m p h at marked parted high =
-    ap (λ x. wired o x p h) marked
-    ∙ ap (λ x. wired o (after_ops ports os (result i 0) os no_mark) x h) (parted ∙ ap (told.part_of ports os (result i 0)) at)
-    ∙ ap (wired o (after_ops ports os (result i 0) os no_mark) (told.part_of_op ports os (result i 0) o)) high
+    ap (λ x. has_own_wire o x p h) marked
+    ∙ ap (λ x. has_own_wire o (after_ops ports os (result i 0) os no_mark) x h) (parted ∙ ap (told.part_of ports os (result i 0)) at)
+    ∙ ap (has_own_wire o (after_ops ports os (result i 0) os no_mark) (told.part_of_op ports os (result i 0) o)) high
     ∙ sym (ap (told.spilled_op ports os (result i 0)) at)

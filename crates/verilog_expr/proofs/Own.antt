@@ -10,7 +10,7 @@ use Rattle.verilog_model.specs.Grammar.{level}
 use Rattle.verilog_model.specs.Expression.{context_of, binary_length, is_signed, length_of, binary_signed, Operand, binary_value, extended, is_true, arithmetic, shift_word, compare_words, value, own_value}
 use Rattle.verilog_model.specs.Expression.Context.{both_operands, left_operand, no_operand}
 use Rattle.verilog_model.proofs.Numerals.{decimal_number-decimal}
-use Rattle.verilog_expr.specs.Building.{literal_of, unsigned, placed, unsigned_at}
+use Rattle.verilog_expr.specs.Building.{literal_of, unsigned, parenthesize, unsigned_at}
 use Rattle.verilog_expr.specs.Values.{HasBits}
 use Rattle.verilog_expr.proofs.Numerals.{hex_number-hex}
 
@@ -36,29 +36,29 @@ module _ (widths : Name → ℕ) (ρ : Name → Word) where
 
   -- ---- parentheses change nothing
 
-  placed_value : (k l : ℕ) (s : Bool) (e : Expr) → value widths ρ k s (placed l e) ≡ value widths ρ k s e
+  placed_value : (k l : ℕ) (s : Bool) (e : Expr) → value widths ρ k s (parenthesize l e) ≡ value widths ρ k s e
   placed_value k l s e = go (nat_le l (level e)) where
     go : (b : Bool) → value widths ρ k s (cond b e (paren e)) ≡ value widths ρ k s e
     go true = refl
     go false = refl
 
-  placed_length : (l : ℕ) (e : Expr) → length_of widths (placed l e) ≡ length_of widths e
+  placed_length : (l : ℕ) (e : Expr) → length_of widths (parenthesize l e) ≡ length_of widths e
   placed_length l e = go (nat_le l (level e)) where
     go : (b : Bool) → length_of widths (cond b e (paren e)) ≡ length_of widths e
     go true = refl
     go false = refl
 
-  placed_sign : (l : ℕ) (e : Expr) → is_signed (placed l e) ≡ is_signed e
+  placed_sign : (l : ℕ) (e : Expr) → is_signed (parenthesize l e) ≡ is_signed e
   placed_sign l e = go (nat_le l (level e)) where
     go : (b : Bool) → is_signed (cond b e (paren e)) ≡ is_signed e
     go true = refl
     go false = refl
 
-  pub placed_own : (l : ℕ) (e : Expr) → own_value widths ρ (placed l e) ≡ own_value widths ρ e
+  pub placed_own : (l : ℕ) (e : Expr) → own_value widths ρ (parenthesize l e) ≡ own_value widths ρ e
   placed_own l e =
-      ap₂ (λ k s. value widths ρ k s (placed l e)) (placed_length l e) (placed_sign l e) ∙ placed_value (length_of widths e) l (is_signed e) e
+      ap₂ (λ k s. value widths ρ k s (parenthesize l e)) (placed_length l e) (placed_sign l e) ∙ placed_value (length_of widths e) l (is_signed e) e
 
-  pub placed_is : (l w : ℕ) (s : Bool) (e : Expr) (x : Word) → Is widths ρ w s e x → Is widths ρ w s (placed l e) x
+  pub placed_is : (l w : ℕ) (s : Bool) (e : Expr) (x : Word) → Is widths ρ w s e x → Is widths ρ w s (parenthesize l e) x
   placed_is l w s e x is = record {
     long = placed_length l e ∙ is.long;
     signed = placed_sign l e ∙ is.signed;

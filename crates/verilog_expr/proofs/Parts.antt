@@ -15,7 +15,7 @@ use Rattle.verilog_model.specs.Tree.Exprs.{last}
 use Rattle.verilog_model.specs.Grammar.{choice_level}
 use Rattle.verilog_model.specs.Expression.{length_of, lengths_of, is_true, values, own_value}
 use Rattle.verilog_model.proofs.Numerals.{decimal_number-decimal}
-use Rattle.verilog_expr.specs.Building.{unsigned, placed, unsigned_at, select, selected, exprs_of, concatenation, conditional}
+use Rattle.verilog_expr.specs.Building.{unsigned, parenthesize, unsigned_at, select, select_bits, exprs_of, concatenation, conditional}
 use Rattle.verilog_expr.specs.Values.{HasBits, HaveBits, IsWholeName}
 use Rattle.verilog_expr.proofs.Own.{extended_full, placed_own, unsigned_is, unsigned_at_is, choice_is}
 use Rattle.verilog_expr.proofs.Templates.{Gives, gives}
@@ -81,7 +81,7 @@ module _ (widths : Name → ℕ) (ρ : Name → Word) where
   }
 
   pub selected_gives : (P : Type 0) (low w v : ℕ) (a : Expr) → HasBits widths ρ v a → low + w ≤ v → 1 ≤ w → v < 2 ^ 64
-      → (nat_lt w v ≡ true → IsWholeName widths ρ a) → Gives widths ρ P w (selected low v w a) (extract low w (own_value widths ρ a))
+      → (nat_lt w v ≡ true → IsWholeName widths ρ a) → Gives widths ρ P w (select_bits low v w a) (extract low w (own_value widths ρ a))
   selected_gives P low w v a has room some small whole = go (low == 0) refl (w == v) refl where
     go : (b : Bool) → (low == 0) ≡ b → (c : Bool) → (w == v) ≡ c → Gives widths ρ P w (cond (b && c) a (select low w a)) (extract low w (own_value widths ρ a))
     go true none true same = all_gives P low w v a has (eqb-true low 0 none) (eqb-true w v same)
@@ -155,9 +155,9 @@ module _ (widths : Name → ℕ) (ρ : Name → Word) where
   pub conditional_gives : (P : Type 0) (w : ℕ) (c a b : Expr) → HasBits widths ρ 1 c → HasBits widths ρ w a → HasBits widths ρ w b
       → Gives widths ρ P w (conditional c a b) (cond (is_high (own_value widths ρ c)) (own_value widths ρ a) (own_value widths ρ b))
   conditional_gives P w c a b has first second =
-      let truth : is_true (own_value widths ρ (placed (suc choice_level) c)) ≡ is_high (own_value widths ρ c) =
+      let truth : is_true (own_value widths ρ (parenthesize (suc choice_level) c)) ≡ is_high (own_value widths ρ c) =
       ap is_true (placed_own widths ρ (suc choice_level) c) ∙ is_true-high (own_value widths ρ c) has.worth in
       gives widths ρ P w false (conditional c a b) _ _
-      (choice_is widths ρ w (placed (suc choice_level) c) (unsigned a) (unsigned_at choice_level b) (own_value widths ρ a) (own_value widths ρ b)
+      (choice_is widths ρ w (parenthesize (suc choice_level) c) (unsigned a) (unsigned_at choice_level b) (own_value widths ρ a) (own_value widths ρ b)
       (unsigned_is widths ρ w a first) (unsigned_at_is widths ρ choice_level w b second))
       (ap (λ b'. cond b' (own_value widths ρ a) (own_value widths ρ b)) truth)

@@ -11,7 +11,7 @@ use Rattle.verilog_model.specs.Grammar.{strength, choice_level, primary_level, l
 use Rattle.verilog_model.specs.Expression.{Context, context_of, binary_signed, is_signed}
 use Rattle.verilog_model.specs.Expression.Context.{both_operands, left_operand, no_operand}
 use Rattle.verilog_model.proofs.Numerals.{and_intro}
-use Rattle.verilog_expr.specs.Building.{literal_of, unsigned, placed, unsigned_at, of_one_expr, of_two_exprs, of_three_exprs, unsigned_pair, chained, variadic_expr, signed_pair, unsigned_division, signed_division, comparison, select, selected, exprs_of, concatenation, conditional, built, division_expr, shift_expr, variadic_operator, division_operator, shift_operator, is_signed_division, is_signed_shift}
+use Rattle.verilog_expr.specs.Building.{literal_of, unsigned, parenthesize, unsigned_at, of_one_expr, of_two_exprs, of_three_exprs, unsigned_pair, chain, variadic_expr, signed_pair, unsigned_division, signed_division, comparison, select, select_bits, exprs_of, concatenation, conditional, built, division_expr, shift_expr, variadic_operator, division_operator, shift_operator, is_signed_division, is_signed_shift}
 use Rattle.verilog_expr.specs.Signs.{alike, signs_kept, keeps_signs, all_keep_signs, is_signed_kind}
 use Rattle.verilog_expr.proofs.Operators.{division_context, shift_context}
 use Rattle.verilog_expr.proofs.Carried.{IsCarried, one_holds, two_hold, three_hold}
@@ -21,7 +21,7 @@ Keep es = (e : Expr) → In e es → keeps_signs e ≡ true
 
 -- ---- places
 
-placed_signed : (l : ℕ) (e : Expr) → is_signed (placed l e) ≡ is_signed e
+placed_signed : (l : ℕ) (e : Expr) → is_signed (parenthesize l e) ≡ is_signed e
 placed_signed l e = go (nat_le l (level e)) where
   go : (b : Bool) → is_signed (cond b e (paren e)) ≡ is_signed e
   go true = refl
@@ -36,7 +36,7 @@ unsigned_signed e = go (is_signed e) refl where
 pub unsigned_at_signed : (l : ℕ) (e : Expr) → is_signed (unsigned_at l e) ≡ false
 unsigned_at_signed l e = placed_signed l (unsigned e) ∙ unsigned_signed e
 
-placed_keeps : (l : ℕ) (e : Expr) → keeps_signs e ≡ true → keeps_signs (placed l e) ≡ true
+placed_keeps : (l : ℕ) (e : Expr) → keeps_signs e ≡ true → keeps_signs (parenthesize l e) ≡ true
 placed_keeps l e h = go (nat_le l (level e)) where
   go : (b : Bool) → keeps_signs (cond b e (paren e)) ≡ true
   go true = h
@@ -98,7 +98,7 @@ signed_pair_keeps o a b first second = signed_keep o (as_signed a) (as_signed b)
 pair_unsigned : (o : Operator) (a b : Expr) → is_signed a ≡ false → is_signed (binary o a b) ≡ false
 pair_unsigned o a b is = ap (λ s. binary_signed (context_of o) s (is_signed b)) is ∙ left_unsigned (context_of o) (is_signed b)
 
-chained_keeps : (o : Operator) (a : Expr) (bs : List Expr) → is_signed a ≡ false → keeps_signs a ≡ true → Keep bs → keeps_signs (chained o a bs) ≡ true
+chained_keeps : (o : Operator) (a : Expr) (bs : List Expr) → is_signed a ≡ false → keeps_signs a ≡ true → Keep bs → keeps_signs (chain o a bs) ≡ true
 chained_keeps o a [] is first all = first
 chained_keeps o a (b ∷ bs) is first all =
     chained_keeps o (binary o a (unsigned_at (suc (strength o)) b)) bs (pair_unsigned o a (unsigned_at (suc (strength o)) b) is)
@@ -124,8 +124,8 @@ division_keeps true o w divisor a h = signed_division_keeps o w divisor a h
 
 either_shift_keeps : (s : Bool) (o : Operator) (a b : Expr) → context_of o ≡ left_operand → keeps_signs a ≡ true → keeps_signs b ≡ true → keeps_signs (shift_expr s o a b) ≡ true
 either_shift_keeps false o a b is first second =
-    shift_keeps o (unsigned_at (strength o) a) (placed (suc (strength o)) b) is (unsigned_at_keeps (strength o) a first) (placed_keeps (suc (strength o)) b second)
-either_shift_keeps true o a b is first second = shift_keeps o (as_signed a) (placed (suc (strength o)) b) is first (placed_keeps (suc (strength o)) b second)
+    shift_keeps o (unsigned_at (strength o) a) (parenthesize (suc (strength o)) b) is (unsigned_at_keeps (strength o) a first) (placed_keeps (suc (strength o)) b second)
+either_shift_keeps true o a b is first second = shift_keeps o (as_signed a) (parenthesize (suc (strength o)) b) is first (placed_keeps (suc (strength o)) b second)
 
 comparison_keeps : (p : Predicate) (a b : Expr) → keeps_signs a ≡ true → keeps_signs b ≡ true → keeps_signs (comparison p a b) ≡ true
 comparison_keeps eq a b first second = unsigned_pair_keeps equals a b first second
@@ -150,7 +150,7 @@ select_keeps low w (name n) = go (w == 1) where
   go false = refl
 select_keeps low w _ = refl
 
-selected_keeps : (low v w : ℕ) (a : Expr) → keeps_signs a ≡ true → keeps_signs (selected low v w a) ≡ true
+selected_keeps : (low v w : ℕ) (a : Expr) → keeps_signs a ≡ true → keeps_signs (select_bits low v w a) ≡ true
 selected_keeps low v w a h = go (low == 0 && w == v) where
   go : (b : Bool) → keeps_signs (cond b a (select low w a)) ≡ true
   go true = h
@@ -167,7 +167,7 @@ concatenation_keeps (a ∷ es) all = parts_keep a es (all a (inl refl)) (λ e he
 conditional_keeps : (c a b : Expr) → keeps_signs c ≡ true → keeps_signs a ≡ true → keeps_signs b ≡ true → keeps_signs (conditional c a b) ≡ true
 conditional_keeps c a b condition first second =
     and_intro (alike (is_signed (unsigned a)) (is_signed (unsigned_at choice_level b)))
-    (keeps_signs (placed (suc choice_level) c) && (keeps_signs (unsigned a) && keeps_signs (unsigned_at choice_level b)))
+    (keeps_signs (parenthesize (suc choice_level) c) && (keeps_signs (unsigned a) && keeps_signs (unsigned_at choice_level b)))
     (ap (λ s. alike s (is_signed (unsigned_at choice_level b))) (unsigned_signed a) ∙ ap not (unsigned_at_signed choice_level b))
     (and_intro _ _ (placed_keeps (suc choice_level) c condition) (and_intro _ _ (unsigned_keeps a first) (unsigned_at_keeps choice_level b second)))
 
@@ -195,7 +195,7 @@ signs_carried = record { none = refl; called = λ n. refl; each = built_keeps }
 
 -- ---- which expressions are signed
 
-chained_unsigned : (o : Operator) (a : Expr) (bs : List Expr) → is_signed a ≡ false → is_signed (chained o a bs) ≡ false
+chained_unsigned : (o : Operator) (a : Expr) (bs : List Expr) → is_signed a ≡ false → is_signed (chain o a bs) ≡ false
 chained_unsigned o a [] is = is
 chained_unsigned o a (b ∷ bs) is = chained_unsigned o (binary o a (unsigned_at (suc (strength o)) b)) bs (pair_unsigned o a (unsigned_at (suc (strength o)) b) is)
 
@@ -252,7 +252,7 @@ select_unsigned low w (name n) = go (w == 1) where
   go false = refl
 select_unsigned low w _ = refl
 
-selected_plain : (low v w : ℕ) (a : Expr) → IsPlain (selected low v w a) (a ∷ [])
+selected_plain : (low v w : ℕ) (a : Expr) → IsPlain (select_bits low v w a) (a ∷ [])
 selected_plain low v w a = go (low == 0 && w == v) where
   go : (b : Bool) → IsPlain (cond b a (select low w a)) (a ∷ [])
   go true = inr (inl refl)
@@ -266,7 +266,7 @@ division_plain false o w divisor a is = first_unsigned o (strength o) a (literal
 division_plain true o w divisor a is = cc
 
 shift_plain : (s : Bool) (o : Operator) (a b : Expr) → s ≡ false → is_signed (shift_expr s o a b) ≡ false
-shift_plain false o a b is = first_unsigned o (strength o) a (placed (suc (strength o)) b)
+shift_plain false o a b is = first_unsigned o (strength o) a (parenthesize (suc (strength o)) b)
 shift_plain true o a b is = cc
 
 built_plain : (kind : Kind) (w : ℕ) (ws : List ℕ) (divisor : ℕ) (es : List Expr) → is_signed_kind kind ≡ false → IsPlain (built kind w ws divisor es) es
@@ -309,7 +309,7 @@ division_signed true o w divisor a is h = ap (λ x. binary_signed x true true) i
 division_signed false o w divisor a is h = cc
 
 shift_signed : (s : Bool) (o : Operator) (a b : Expr) → context_of o ≡ left_operand → s ≡ true → is_signed (shift_expr s o a b) ≡ true
-shift_signed true o a b is h = ap (λ x. binary_signed x true (is_signed (placed (suc (strength o)) b))) is
+shift_signed true o a b is h = ap (λ x. binary_signed x true (is_signed (parenthesize (suc (strength o)) b))) is
 shift_signed false o a b is h = cc
 
 pub signed_kinds : (kind : Kind) (w : ℕ) (ws : List ℕ) (divisor : ℕ) (es : List Expr) → is_signed_kind kind ≡ true → length es ≡ 2 → is_signed (built kind w ws divisor es) ≡ true

@@ -16,7 +16,7 @@ use Rattle.verilog_model.specs.Tree.Expr.{as_signed, odd, binary}
 use Rattle.verilog_model.specs.Grammar.{strength}
 use Rattle.verilog_model.specs.Expression.{context_of, arithmetic, compare_words, own_value}
 use Rattle.verilog_model.specs.Expression.Context.{both_operands, no_operand}
-use Rattle.verilog_expr.specs.Building.{placed, unsigned_at, unsigned_pair, chained, variadic_expr, signed_pair, comparison}
+use Rattle.verilog_expr.specs.Building.{parenthesize, unsigned_at, unsigned_pair, chain, variadic_expr, signed_pair, comparison}
 use Rattle.verilog_expr.specs.Values.{HasBits}
 use Rattle.verilog_expr.proofs.Own.{extended_full, Is, Is-own, HasBits-Is, placed_own, unsigned_at_is, signed_is, both_is, compare_is}
 
@@ -79,7 +79,7 @@ module _ (widths : Name → ℕ) (ρ : Name → Word) where
   chained_is : (o : Operator) (w : ℕ) → context_of o ≡ both_operands
       → ((x y : Word) → length x ≡ w → length y ≡ w → length (arithmetic o false x y) ≡ w)
       → (a : Expr) (x : Word) → Is widths ρ w false a x → (bs : List Expr) → AllBits w bs
-      → Is widths ρ w false (chained o a bs) (folded (arithmetic o false) x (map (own_value widths ρ) bs))
+      → Is widths ρ w false (chain o a bs) (folded (arithmetic o false) x (map (own_value widths ρ) bs))
   chained_is o w context keeps a x is [] all = is
   chained_is o w context keeps a x is (b ∷ bs) all =
       let has : HasBits widths ρ w b = all b (inl refl) in
@@ -99,7 +99,7 @@ module _ (widths : Name → ℕ) (ρ : Name → Word) where
   variadic_gives P o w op context keeps folds (a ∷ b ∷ bs) all some =
       let has : HasBits widths ρ w a = all a (inl refl) in
       let others : AllBits w (b ∷ bs) = λ e here. all e (inr here) in
-      gives P w false (chained o (unsigned_at (strength o) a) (b ∷ bs)) _ _
+      gives P w false (chain o (unsigned_at (strength o) a) (b ∷ bs)) _ _
       (chained_is o w context keeps (unsigned_at (strength o) a) (own_value widths ρ a) (unsigned_at_is widths ρ (strength o) w a has) (b ∷ bs) others)
       (folds (own_value widths ρ a) (map (own_value widths ρ) (b ∷ bs)) has.worth (own_sizes w (b ∷ bs) others))
 
@@ -136,8 +136,8 @@ module _ (widths : Name → ℕ) (ρ : Name → Word) where
   comparison_gives P weq w a b first second = unsigned_compared P equals w a b refl first second
   comparison_gives P wne w a b first second = unsigned_compared P differs w a b refl first second
 
-  pub odd_gives : (P : Type 0) (l : ℕ) (a : Expr) → Gives widths ρ P 1 (odd (placed l a)) (flag (parity (own_value widths ρ a)))
+  pub odd_gives : (P : Type 0) (l : ℕ) (a : Expr) → Gives widths ρ P 1 (odd (parenthesize l a)) (flag (parity (own_value widths ρ a)))
   odd_gives P l a =
-      let worth : own_value widths ρ (odd (placed l a)) ≡ flag (parity (own_value widths ρ a)) =
-      extended_full 1 false (flag (parity (own_value widths ρ (placed l a)))) refl ∙ ap (λ x. flag (parity x)) (placed_own widths ρ l a) in
+      let worth : own_value widths ρ (odd (parenthesize l a)) ≡ flag (parity (own_value widths ρ a)) =
+      extended_full 1 false (flag (parity (own_value widths ρ (parenthesize l a)))) refl ∙ ap (λ x. flag (parity x)) (placed_own widths ρ l a) in
       record { bits = record { long = refl; worth = ap length worth }; worth = λ p. worth }

@@ -13,7 +13,7 @@ use Rattle.verilog_model.specs.Tree.Exprs.{last, more}
 use Rattle.verilog_model.specs.Grammar.{strength, choice_level, primary_level, level, fits, all_fit}
 use Rattle.verilog_model.specs.Expression.{is_signed}
 use Rattle.verilog_model.proofs.Numerals.{and_intro, and_first, and_second}
-use Rattle.verilog_expr.specs.Building.{literal_of, unsigned, placed, unsigned_at, unsigned_pair, chained, variadic_expr, signed_pair, unsigned_shift, signed_shift, unsigned_division, signed_division, comparison, select, selected, exprs_of, concatenation, conditional, built, division_expr, shift_expr, variadic_operator, division_operator, shift_operator, is_signed_division, is_signed_shift}
+use Rattle.verilog_expr.specs.Building.{literal_of, unsigned, parenthesize, unsigned_at, unsigned_pair, chain, variadic_expr, signed_pair, unsigned_shift, signed_shift, unsigned_division, signed_division, comparison, select, select_bits, exprs_of, concatenation, conditional, built, division_expr, shift_expr, variadic_operator, division_operator, shift_operator, is_signed_division, is_signed_shift}
 use Rattle.verilog_expr.specs.Parentheses.{tight_at, all_tight, tight, opened, opened_parts}
 use Rattle.verilog_expr.proofs.Carried.{IsCarried, one_holds, two_hold, three_hold}
 
@@ -43,7 +43,7 @@ tight_up l (odd e) h = h
 tight_up l (binary o a b) h = h
 tight_up l (choice c a b) h = h
 
-placed_tight : (l : ℕ) (e : Expr) → tight e ≡ true → tight_at l (placed l e) ≡ true
+placed_tight : (l : ℕ) (e : Expr) → tight e ≡ true → tight_at l (parenthesize l e) ≡ true
 placed_tight l e h = go (nat_le l (level e)) refl where
   go : (b : Bool) → nat_le l (level e) ≡ b → tight_at l (cond b e (paren e)) ≡ true
   go true is = tight_up l e h
@@ -70,7 +70,7 @@ unsigned_pair_tight o a b first second =
 signed_pair_tight : (o : Operator) (a b : Expr) → tight a ≡ true → tight b ≡ true → tight (signed_pair o a b) ≡ true
 signed_pair_tight o a b first second = pair_tight o (as_signed a) (as_signed b) first second
 
-chained_tight : (o : Operator) (a : Expr) (bs : List Expr) → tight_at (strength o) a ≡ true → tight_at 0 a ≡ true → AreTight bs → tight (chained o a bs) ≡ true
+chained_tight : (o : Operator) (a : Expr) (bs : List Expr) → tight_at (strength o) a ≡ true → tight_at 0 a ≡ true → AreTight bs → tight (chain o a bs) ≡ true
 chained_tight o a [] first own all = own
 chained_tight o a (b ∷ bs) first own all =
     let both : tight (binary o a (unsigned_at (suc (strength o)) b)) ≡ true =
@@ -87,10 +87,10 @@ variadic_tight o (a ∷ b ∷ bs) all =
 
 unsigned_shift_tight : (o : Operator) (a b : Expr) → tight a ≡ true → tight b ≡ true → tight (unsigned_shift o a b) ≡ true
 unsigned_shift_tight o a b first second =
-    pair_tight o (unsigned_at (strength o) a) (placed (suc (strength o)) b) (unsigned_at_tight (strength o) a first) (placed_tight (suc (strength o)) b second)
+    pair_tight o (unsigned_at (strength o) a) (parenthesize (suc (strength o)) b) (unsigned_at_tight (strength o) a first) (placed_tight (suc (strength o)) b second)
 
 signed_shift_tight : (o : Operator) (a b : Expr) → tight a ≡ true → tight b ≡ true → tight (signed_shift o a b) ≡ true
-signed_shift_tight o a b first second = pair_tight o (as_signed a) (placed (suc (strength o)) b) first (placed_tight (suc (strength o)) b second)
+signed_shift_tight o a b first second = pair_tight o (as_signed a) (parenthesize (suc (strength o)) b) first (placed_tight (suc (strength o)) b second)
 
 unsigned_division_tight : (o : Operator) (w divisor : ℕ) (a : Expr) → tight a ≡ true → tight (unsigned_division o w divisor a) ≡ true
 unsigned_division_tight o w divisor a h = pair_tight o (unsigned_at (strength o) a) (literal_of w false divisor) (unsigned_at_tight (strength o) a h) refl
@@ -129,7 +129,7 @@ select_tight low w (name n) = go (w == 1) where
   go false = refl
 select_tight low w _ = refl
 
-selected_tight : (low v w : ℕ) (a : Expr) → tight a ≡ true → tight (selected low v w a) ≡ true
+selected_tight : (low v w : ℕ) (a : Expr) → tight a ≡ true → tight (select_bits low v w a) ≡ true
 selected_tight low v w a h = go (low == 0 && w == v) where
   go : (b : Bool) → tight (cond b a (select low w a)) ≡ true
   go true = h

@@ -12,11 +12,11 @@ use Rattle.verilog_model.specs.Tree.{Expr}
 use Rattle.verilog_model.specs.Tree.Expr.{name, bit_select, part_select, as_unsigned, paren}
 use Rattle.verilog_model.specs.Grammar.{level}
 use Rattle.verilog_model.specs.Expression.{is_signed}
-use Rattle.verilog_expr.specs.Building.{no_expr, placed, of_one_expr, select, first_width}
+use Rattle.verilog_expr.specs.Building.{no_expr, parenthesize, of_one_expr, select, first_width}
 use Rattle.verilog_expr.specs.Expressions.{value_width, divisor_in, name_or, typed_expr, result_expr, own_expr, expr_step, expr_to}
 use Rattle.verilog_expr.specs.Text.{expr_text}
 use Rattle.verilog_expr.specs.Scopes.{scope_ports, scope_ops, scope_ref}
-use Rattle.verilog_expr.specs.Forms.{wanted}
+use Rattle.verilog_expr.specs.Forms.{in_position}
 use Rattle.verilog_expr.specs.Templates.{template_for, template_text, template_signed, template_level}
 use Rattle.verilog_expr.specs.Named.{named_of}
 use Rattle.verilog_expr.specs.declared.value_names.ValueNames.{ValueNames}
@@ -136,7 +136,7 @@ selects low w (_ ∷ []) = refl
 pub three : (out one two end a b c : List ℕ) → one ≡ out ++ a → two ≡ one ++ b → end ≡ two ++ c → end ≡ out ++ (a ++ (b ++ c))
 three out one two end a b c p q r = r ∙ ap (λ x. x ++ c) (q ∙ ap (λ x. x ++ b) p) ∙ append_assoc (out ++ a) b c ∙ append_assoc out a (b ++ c)
 
-bare_or_paren : (l : ℕ) (e : Expr) → open_text (cond (nat_lt (level e) l) Paren Bare) ++ (expr_text e [] ++ close_text (cond (nat_lt (level e) l) Paren Bare)) ≡ expr_text (placed l e) []
+bare_or_paren : (l : ℕ) (e : Expr) → open_text (cond (nat_lt (level e) l) Paren Bare) ++ (expr_text e [] ++ close_text (cond (nat_lt (level e) l) Paren Bare)) ≡ expr_text (parenthesize l e) []
 unfolding expr_text
 bare_or_paren l e = go (nat_lt (level e) l) refl (nat_le l (level e)) refl
   where
@@ -148,12 +148,12 @@ bare_or_paren l e = go (nat_lt (level e) l) refl (nat_le l (level e)) refl
     go false p true q = append-nil (expr_text e [])
 
 pub wrapped : (u : Bool) (l : ℕ) (e : Expr) → l < 12
-    → open_text (wrap_for u l (is_signed e) (level e)) ++ (expr_text e [] ++ close_text (wrap_for u l (is_signed e) (level e))) ≡ expr_text (wanted u l e) []
+    → open_text (wrap_for u l (is_signed e) (level e)) ++ (expr_text e [] ++ close_text (wrap_for u l (is_signed e) (level e))) ≡ expr_text (in_position u l e) []
 unfolding expr_text
 wrapped false l e low = bare_or_paren l e
 wrapped true l e low = go (is_signed e)
   where
-    go : (s : Bool) → open_text (wrap_for true l s (level e)) ++ (expr_text e [] ++ close_text (wrap_for true l s (level e))) ≡ expr_text (placed l (cond s (as_unsigned e) e)) []
+    go : (s : Bool) → open_text (wrap_for true l s (level e)) ++ (expr_text e [] ++ close_text (wrap_for true l s (level e))) ≡ expr_text (parenthesize l (cond s (as_unsigned e) e)) []
     go false = bare_or_paren l e
     go true =
         ap (λ x. codes "$unsigned(" ++ x) (sym (text_behind e (codes ")")))

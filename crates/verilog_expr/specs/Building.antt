@@ -32,11 +32,11 @@ abbrev pub unsigned : Expr → Expr
 unsigned e = cond (is_signed e) (as_unsigned e) e
 
 -- the expression in a place that asks for so much binding strength
-abbrev pub placed : ℕ → Expr → Expr
-placed l e = cond (nat_le l (level e)) e (paren e)
+abbrev pub parenthesize : ℕ → Expr → Expr
+parenthesize l e = cond (nat_le l (level e)) e (paren e)
 
 abbrev pub unsigned_at : ℕ → Expr → Expr
-unsigned_at l e = placed l (unsigned e)
+unsigned_at l e = parenthesize l (unsigned e)
 
 abbrev pub of_one_expr : (Expr → Expr) → List Expr → Expr
 of_one_expr f (a ∷ []) = f a
@@ -57,15 +57,15 @@ abbrev pub unsigned_pair : Operator → Expr → Expr → Expr
 unsigned_pair o a b = binary o (unsigned_at (strength o) a) (unsigned_at (suc (strength o)) b)
 
 -- `a + b + c`: an operator between operands, to the left
-abbrev pub chained : Operator → Expr → List Expr → Expr
-chained o a [] = a
-chained o a (b ∷ bs) = chained o (binary o a (unsigned_at (suc (strength o)) b)) bs
+abbrev pub chain : Operator → Expr → List Expr → Expr
+chain o a [] = a
+chain o a (b ∷ bs) = chain o (binary o a (unsigned_at (suc (strength o)) b)) bs
 
 -- one operand stands as it is
 abbrev pub variadic_expr : Operator → List Expr → Expr
 variadic_expr o [] = no_expr
 variadic_expr o (a ∷ []) = a
-variadic_expr o (a ∷ b ∷ bs) = chained o (unsigned_at (strength o) a) (b ∷ bs)
+variadic_expr o (a ∷ b ∷ bs) = chain o (unsigned_at (strength o) a) (b ∷ bs)
 
 -- an operator between two operands made signed
 abbrev pub signed_pair : Operator → Expr → Expr → Expr
@@ -73,10 +73,10 @@ signed_pair o a b = binary o (as_signed a) (as_signed b)
 
 -- a shift of an unsigned operand, and of one made signed, by an amount that keeps its own width and sign
 abbrev pub unsigned_shift : Operator → Expr → Expr → Expr
-unsigned_shift o a b = binary o (unsigned_at (strength o) a) (placed (suc (strength o)) b)
+unsigned_shift o a b = binary o (unsigned_at (strength o) a) (parenthesize (suc (strength o)) b)
 
 abbrev pub signed_shift : Operator → Expr → Expr → Expr
-signed_shift o a b = binary o (as_signed a) (placed (suc (strength o)) b)
+signed_shift o a b = binary o (as_signed a) (parenthesize (suc (strength o)) b)
 
 -- a division by a literal
 abbrev pub unsigned_division : Operator → ℕ → ℕ → Expr → Expr
@@ -116,8 +116,8 @@ select low w (name n) = cond (w == 1) (bit_select n (decimal low)) (part_select 
 select low w _ = no_expr
 
 -- all bits of an operand are the operand, fewer are a select of its name
-abbrev pub selected : ℕ → ℕ → ℕ → Expr → Expr
-selected low operand_width w a = cond (low == 0 && w == operand_width) a (select low w a)
+abbrev pub select_bits : ℕ → ℕ → ℕ → Expr → Expr
+select_bits low operand_width w a = cond (low == 0 && w == operand_width) a (select low w a)
 
 abbrev pub exprs_of : Expr → List Expr → Exprs
 exprs_of a [] = last a
@@ -130,7 +130,7 @@ concatenation (a ∷ rest) = joined (exprs_of a rest)
 
 -- a choice (IEEE 1364-2005, 5.1.13), where the middle needs no parentheses and the right one binds as a choice does
 abbrev pub conditional : Expr → Expr → Expr → Expr
-conditional c a b = choice (placed (suc choice_level) c) (unsigned a) (unsigned_at choice_level b)
+conditional c a b = choice (parenthesize (suc choice_level) c) (unsigned a) (unsigned_at choice_level b)
 
 abbrev pub first_width : List ℕ → ℕ
 first_width [] = 0
@@ -176,8 +176,8 @@ built sub w ws divisor es = of_two_exprs (unsigned_pair minus) es
 built (division d) w ws divisor es = of_two_exprs (λ a b. division_expr (is_signed_division d) (division_operator d) w divisor a) es
 built (shift s) w ws divisor es = of_two_exprs (shift_expr (is_signed_shift s) (shift_operator s)) es
 built (icmp p) w ws divisor es = of_two_exprs (comparison p) es
-built parity w ws divisor es = of_one_expr (λ a. odd (placed primary_level a)) es
-built (extract low) w ws divisor es = of_one_expr (selected low (first_width ws) w) es
+built parity w ws divisor es = of_one_expr (λ a. odd (parenthesize primary_level a)) es
+built (extract low) w ws divisor es = of_one_expr (select_bits low (first_width ws) w) es
 built concat w ws divisor es = concatenation es
 built replicate w ws divisor es = of_one_expr (λ a. repeated (decimal (w / first_width ws)) (last a)) es
 built mux w ws divisor es = of_three_exprs conditional es

@@ -4,7 +4,7 @@ use Rattle.verilog_model.specs.Tree as tree
 use Rattle.verilog_model.specs.Tree.{Expr}
 use Rattle.verilog_model.specs.Tree.Operator.{times, over, modulo, plus, minus, left_shift, right_shift, signed_right_shift, below, at_most, above, at_least, equals, differs, bit_and, bit_xor, bit_or}
 use Rattle.verilog_model.specs.Grammar.{strength}
-use Rattle.verilog_expr.specs.Building.{literal_of, unsigned, placed}
+use Rattle.verilog_expr.specs.Building.{literal_of, unsigned, parenthesize}
 use Rattle.verilog_expr.specs.Text.{question_text, operator_text, expr_text}
 use Rattle.verilog_expr.specs.declared.form.Operator.{Operator}
 use Rattle.verilog_expr.specs.declared.form.Operator.TheVariants as signs
@@ -72,8 +72,8 @@ asks_level Choice i = cond (i == 0) 2 (cond (i == 1) 0 1)
 asks_level _ i = 0
 
 -- an expression in a place that asks for an unsigned one or not, and for so much binding strength
-abbrev pub wanted : Bool → ℕ → Expr → Expr
-wanted u l e = placed l (cond u (unsigned e) e)
+abbrev pub in_position : Bool → ℕ → Expr → Expr
+in_position u l e = parenthesize l (cond u (unsigned e) e)
 
 -- ---- what stands round operands
 
@@ -92,19 +92,19 @@ before (Copies n) i = codes "{" ++ (decimal n ++ codes "{")
 before Choice i = cond (i == 0) [] (cond (i == 1) question_text (codes " : "))
 
 -- after the last operand
-abbrev pub behind : Form → List ℕ
-behind (SignedPair o) = codes ")"
-behind (UnsignedDivision o w d) = operator_text (operator_of o) ++ expr_text (literal_of w false d) []
-behind (SignedDivision o w d) = codes ")" ++ (operator_text (operator_of o) ++ expr_text (literal_of w true d) [])
-behind Braces = codes "}"
-behind (Copies n) = codes "}}"
-behind _ = []
+abbrev pub text_after : Form → List ℕ
+text_after (SignedPair o) = codes ")"
+text_after (UnsignedDivision o w d) = operator_text (operator_of o) ++ expr_text (literal_of w false d) []
+text_after (SignedDivision o w d) = codes ")" ++ (operator_text (operator_of o) ++ expr_text (literal_of w true d) [])
+text_after Braces = codes "}"
+text_after (Copies n) = codes "}}"
+text_after _ = []
 
 -- the text of an expression in the place of the operand of a number
 abbrev pub operand_text : Form → ℕ → Expr → List ℕ
-operand_text f i e = expr_text (wanted (asks_unsigned f i) (asks_level f i) e) []
+operand_text f i e = expr_text (in_position (asks_unsigned f i) (asks_level f i) e) []
 
 -- the text of operands, of which the first has this number, and of what stands after them
 abbrev pub form_text : Form → ℕ → List Expr → List ℕ
-form_text f i [] = behind f
+form_text f i [] = text_after f
 form_text f i (e ∷ es) = before f i ++ (operand_text f i e ++ form_text f (i + 1) es)

@@ -102,8 +102,8 @@ IsStep ports os hs w (Down next below) = IsDown ports os hs w next below
 -- ---- wires
 
 -- whether an operation has a wire, by its mark, its part and its height
-abbrev pub wired : Op → Mark → told.Part → ℕ → Bool
-wired o m p h = cond (is_constant_kind o.kind) m.cut (has_wire p h)
+abbrev pub has_own_wire : Op → Mark → told.Part → ℕ → Bool
+has_own_wire o m p h = cond (is_constant_kind o.kind) m.cut (has_wire p h)
 
 -- the table says which operations' first results have wires
 abbrev pub AreWires : List Port → List Op → List Bool → Type 0

@@ -76,17 +76,17 @@ abbrev pub first_alone : List Expr → List Expr
 first_alone [] = []
 first_alone (e ∷ es) = e ∷ []
 
-abbrev pub shown : Form → List Expr → List Expr
-shown (UnsignedDivision o w d) es = first_alone es
-shown (SignedDivision o w d) es = first_alone es
-shown _ es = es
+abbrev pub shown_operands : Form → List Expr → List Expr
+shown_operands (UnsignedDivision o w d) es = first_alone es
+shown_operands (SignedDivision o w d) es = first_alone es
+shown_operands _ es = es
 
 -- the text of a row over operands
 abbrev pub template_text : Template → List Expr → List ℕ
 template_text Missing es = expr_text no_expr []
 template_text (Number w n) es = expr_text (literal_of w false n) []
 template_text (Select low w) es = expr_text (of_one_expr (select low w) es) []
-template_text (Operands f) es = form_text f 0 (shown f es)
+template_text (Operands f) es = form_text f 0 (shown_operands f es)
 
 -- ---- sign and binding strength
 

@@ -4,7 +4,7 @@ ghost use Rattle.verilog_expr.specs.Building.{no_expr};
 ghost use Rattle.verilog_expr.specs.Expressions.{own_expr};
 ghost use Rattle.verilog_expr.specs.Text.{expr_text};
 ghost use Rattle.verilog_expr.specs.Scopes.{scope_ports, scope_ops, scope_ref};
-ghost use Rattle.verilog_expr.specs.Forms.{wanted, form_text};
+ghost use Rattle.verilog_expr.specs.Forms.{in_position, form_text};
 ghost use Rattle.verilog_expr.specs.Templates.{template_text};
 ghost use Rattle.verilog_expr.specs.ExprNode.{expr_at, exprs_at, select_text, shown_values};
 
@@ -72,7 +72,7 @@ fn push_value(
     depth: usize,
 ) -> Result<(), AllocError>
     requires { level < 12 }
-    ensures { OnOk result (out.new ≡ out.old ++ expr_text (wanted unsigned level (expr_at scope.now names.now depth value)) []) }
+    ensures { OnOk result (out.new ≡ out.old ++ expr_text (in_position unsigned level (expr_at scope.now names.now depth value)) []) }
 {
     let wrap = wrap_for(unsigned, level, &info_at(scope, names, value, depth));
     push_open(out, wrap)?;

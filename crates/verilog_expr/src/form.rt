@@ -2,7 +2,7 @@
 ghost use Rattle.std.specs.Prelude.{◌≡◌, ◌++◌, OnOk};
 ghost use Rattle.verilog_model.specs.Grammar.{strength};
 ghost use Rattle.verilog_expr.specs.Text.{operator_text};
-ghost use Rattle.verilog_expr.specs.Forms.{operator_of, before, behind, asks_unsigned, asks_level};
+ghost use Rattle.verilog_expr.specs.Forms.{operator_of, before, text_after, asks_unsigned, asks_level};
 
 use crate::literals::{push_decimal, push_literal};
 use io_edge::byte_text::Text;
@@ -207,7 +207,7 @@ pub fn push_before(out: &mut Text, form: Form, number: usize) -> Result<(), Allo
 
 /// Adds what stands after the last operand. The error is out of memory; a part of it may then stand in the text.
 pub fn push_behind(out: &mut Text, form: Form) -> Result<(), AllocError>
-    ensures { OnOk result (out.new ≡ out.old ++ behind form) }
+    ensures { OnOk result (out.new ≡ out.old ++ text_after form) }
 {
     match form {
         Form::SignedPair(_) => out.push_bytes(b")")?,

@@ -17,7 +17,7 @@ ghost use Rattle.verilog_model.specs.Expression.{is_signed, own_value, assigned}
 ghost use Rattle.verilog_model.specs.Hierarchy.{range_width};
 ghost use Rattle.verilog_expr.specs.Numerals.{hex, high_of};
 ghost use Rattle.verilog_expr.specs.Building.{built};
-ghost use Rattle.verilog_expr.specs.Forms.{asks_unsigned, wanted};
+ghost use Rattle.verilog_expr.specs.Forms.{asks_unsigned, in_position};
 ghost use Rattle.verilog_expr.specs.Templates.{template_for};
 ghost use Rattle.verilog_expr.specs.declared.form.Form.{Form};
 ghost use Rattle.verilog_expr.specs.declared.form.Form.TheVariants.{Same};
@@ -127,7 +127,7 @@ pub fn parentheses_are_needed()
 pub fn signs_are_kept()
     ensures asked { (kind : Kind) (w v divisor n i : ℕ) (f : Form) → template_for kind w v divisor n ≡ Operands f → (f ≡ Same → ⊥)
         → asks_unsigned f i ≡ is_unsigned_place kind i }
-    ensures places { (l : ℕ) (e : Expr) → is_signed (wanted true l e) ≡ false }
+    ensures places { (l : ℕ) (e : Expr) → is_signed (in_position true l e) ≡ false }
     ensures kinds { (kind : Kind) (w : ℕ) (ws : List ℕ) (divisor : ℕ) (es : List Expr) → is_signed_kind kind ≡ true → length es ≡ 2
         → is_signed (built kind w ws divisor es) ≡ true }
     ensures signed { (kind : Kind) (w : ℕ) (ws : List ℕ) (divisor : ℕ) (es : List Expr) → is_signed (built kind w ws divisor es) ≡ true

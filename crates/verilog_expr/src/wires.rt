@@ -3,7 +3,7 @@ ghost use Rattle.std.specs.Prelude.{◌≡◌, length, IfOk};
 ghost use Rattle.verilog_expr.specs.Scopes.{scope_ports, scope_ops, op_read};
 ghost use Rattle.verilog_expr.specs.Spilling.{has_wire};
 ghost use Rattle.verilog_expr.specs.Marks.{AreMarks};
-ghost use Rattle.verilog_expr.specs.PartTables.{part_seen, AreParts, AreHeightsAt, wired, AreWires};
+ghost use Rattle.verilog_expr.specs.PartTables.{part_seen, AreParts, AreHeightsAt, has_own_wire, AreWires};
 ghost use Rattle.verilog_expr.specs.declared.scope.Scope.{Scope as ScopeSeen};
 
 use crate::height_table::heights_of;
@@ -69,7 +69,7 @@ fn has_wire(part: Part, height: u32) -> bool
 
 // Whether the first result of an operation has a wire.
 fn is_wired(op: &Op<'_>, mark: Mark, part: Part, height: u32) -> bool
-    ensures { (scope : ScopeSeen) → result ≡ wired (op_read scope op.now) mark (part_seen part) height }
+    ensures { (scope : ScopeSeen) → result ≡ has_own_wire (op_read scope op.now) mark (part_seen part) height }
 {
     if is_constant(op.kind) {
         mark.cut

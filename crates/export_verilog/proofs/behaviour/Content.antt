@@ -15,7 +15,7 @@ use Rattle.verilog_model.specs.Tree.{Item, VModule}
 use Rattle.verilog_model.specs.Tree.Item.{wire, reg, assign, always, instance}
 use Rattle.verilog_model.specs.Hierarchy.{block_target, items_state, vstate_of, vmodule_state, vstate, until, is_instance_named, loads, vstate_before, vbase, width_in}
 use Rattle.verilog_expr.specs.Spilling.{is_wire_kind, spilled}
-use Rattle.export_verilog.specs.Identifiers.{Identifier, Emission, each, emission_of, module_identifiers, identifier_text, named, name_or_nothing}
+use Rattle.export_verilog.specs.Identifiers.{Identifier, Emission, each, emission_of, module_identifiers, identifier_text, value_name, name_or_nothing}
 use Rattle.export_verilog.specs.Identifiers.Identifier.{port_identifier, value_identifier, instance_identifier}
 use Rattle.export_verilog.specs.Identifiers.Emission.{inline, as_wire, as_reg, as_instance}
 use Rattle.export_verilog.specs.Exported.{symbol_name, expression, result_wires, declared_as, declares, block_of, always_of, instance_of, stated_as, states, output_assigns, expr_or_none, others, vitems, vmodule, tree_of}
@@ -232,7 +232,7 @@ module _ (d : Design) (x : Setting d) (s : Name) (m : Module) (is : find_module 
               let g' = register_of d x s m is i o there emission in
               ap (λ z. until (loads (identifier_text m (value_identifier i 0))) (stated_as d m i o z ++ r)) emission
               ∙ ap (λ z. until (loads (identifier_text m (value_identifier i 0))) (always_of m (identifier_text m (value_identifier i 0)) z ++ r)) g'.1
-              ∙ ap (λ b. cond b [] (always (name_or_nothing (named m g'.0.clock)) (block_of (expression m) (identifier_text m (value_identifier i 0)) g'.0.next g'.0.enable g'.0.reset) ∷ until (loads (identifier_text m (value_identifier i 0))) r))
+              ∙ ap (λ b. cond b [] (always (name_or_nothing (value_name m g'.0.clock)) (block_of (expression m) (identifier_text m (value_identifier i 0)) g'.0.next g'.0.enable g'.0.reset) ∷ until (loads (identifier_text m (value_identifier i 0))) r))
               (ap (λ n. same_name n (identifier_text m (value_identifier i 0))) (block_name d x s m is s [] i g'.0) ∙ name_self (identifier_text m (value_identifier i 0)))
 
     pub state_before_instance : (i : ℕ) (o : Op) → slice_get m.body i ≡ Some o → emission_of m.ports m.body i o ≡ as_instance

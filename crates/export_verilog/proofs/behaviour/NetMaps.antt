@@ -21,7 +21,7 @@ use Rattle.verilog_model.specs.Meaning.{names_at, drive_value, TreeSettled}
 use Rattle.verilog_expr.specs.Spilling.{is_pure}
 use Rattle.verilog_expr.specs.Values.{is_division, HoldConstants}
 use Rattle.verilog_expr.proofs.Bodies.{gives_values-pure, map_map}
-use Rattle.export_verilog.specs.Identifiers.{Identifier, emission_of, module_identifiers, identifier_text, named}
+use Rattle.export_verilog.specs.Identifiers.{Identifier, emission_of, module_identifiers, identifier_text, value_name}
 use Rattle.export_verilog.specs.Identifiers.Identifier.{port_identifier, value_identifier, instance_identifier}
 use Rattle.export_verilog.specs.Identifiers.Emission.{as_wire}
 use Rattle.export_verilog.specs.Exported.{symbol_name, expression, vmodule, tree_of}
@@ -120,12 +120,12 @@ module _ (d : Design) (x : Setting d) (top : Name) (inputs content : Word) (m0 :
 
   -- ---- a value without a name
 
-  pub unnamed_agrees : (σ : VNet → Word) → IsGood d x top inputs content σ → (τ : Net → Word) (p : Path) (m : Module) (here : module_at d top p ≡ Some m) (r : Ref) → named m r ≡ None
+  pub unnamed_agrees : (σ : VNet → Word) → IsGood d x top inputs content σ → (τ : Net → Word) (p : Path) (m : Module) (here : module_at d top p ≡ Some m) (r : Ref) → value_name m r ≡ None
       → ((z : Ref) → In (at p z) (needs d top (at p r)) → worth σ p m z ≡ τ (at p z)) → worth σ p m r ≡ got τ p r
   unnamed_agrees σ good τ p m here r unnamed own_is = by_type (type_in m.ports m.body r) refl where
     by_pure : (i k : ℕ) (o : Op) (t : HwType) → r ≡ result i k → slice_get m.body i ≡ Some o → result_type o k ≡ Some t → (b : Bool) → is_pure o ≡ b → worth σ p m r ≡ got τ p r
     by_pure i k o t same there typed false pure =
-        absurd (clash (named m (result i k)) ((can_write d x top inputs content p m here).owned i k o t there typed pure) (ap (named m) (sym same) ∙ unnamed))
+        absurd (clash (value_name m (result i k)) ((can_write d x top inputs content p m here).owned i k o t there typed pure) (ap (value_name m) (sym same) ∙ unnamed))
     by_pure i k o t same there typed true pure =
         let h = pure_sort o pure in
         let s : source d top (at p r) ≡ made o.kind o.types t k (map (at p) o.operands) = ap (λ z. source d top (at p z)) same ∙ made_from d top p m here i k o t there h.0 h.1 h.2 typed in
@@ -138,7 +138,7 @@ module _ (d : Design) (x : Setting d) (top : Name) (inputs content : Word) (m0 :
         ∙ sym (evaluated_as d x top inputs content τ p r (made o.kind o.types t k (map (at p) o.operands)) s)
 
     by_ref : (z : Ref) (t : HwType) → r ≡ z → type_in m.ports m.body z ≡ Some t → worth σ p m r ≡ got τ p r
-    by_ref (port j) t same typed = absurd (clash (named m (port j)) ((can_write d x top inputs content p m here).inputs j t typed) (ap (named m) (sym same) ∙ unnamed))
+    by_ref (port j) t same typed = absurd (clash (value_name m (port j)) ((can_write d x top inputs content p m here).inputs j t typed) (ap (value_name m) (sym same) ∙ unnamed))
     by_ref undefined t same typed = cc
     by_ref (result i k) t same typed = let h = bind_some (slice_get m.body i) (λ (o : Op). result_type o k) typed in by_pure i k h.0 t same h.1 h.2 (is_pure h.0) refl
 
@@ -183,7 +183,7 @@ module _ (d : Design) (x : Setting d) (top : Name) (inputs content : Word) (m0 :
     tree_words : HaveWords d x top inputs content σ
     tree_words p m here k within = ap length (settled_given p m here k within) ∙ given_long d x top inputs content p m here σ k within
 
-    tree_constants : (p : Path) (m : Module) → module_at d top p ≡ Some m → HoldConstants (named m) m.body (names_at (vpath_of d top p) σ)
+    tree_constants : (p : Path) (m : Module) → module_at d top p ≡ Some m → HoldConstants (value_name m) m.body (names_at (vpath_of d top p) σ)
     tree_constants p m here i o z t n there kind typed called =
         go (named_as d x (symbol_there d x top inputs content p m here) m (found_there d x top inputs content p m here) (result i 0) n called) where
           form : (register_form o.kind ≡ None) × (instance_in o.kind ≡ None) × (is_division o.kind ≡ false)
@@ -249,7 +249,7 @@ module _ (d : Design) (x : Setting d) (top : Name) (inputs content : Word) (m0 :
 
     pub back_settled : IsDesignSettled (back σ)
     back_settled n = at_place n.path n.ref where
-      at_module : (p : Path) (r : Ref) (m : Module) (here : module_at d top p ≡ Some m) → (n : Option Name) → named m r ≡ n → worth σ p m r ≡ got (back σ) p r
+      at_module : (p : Path) (r : Ref) (m : Module) (here : module_at d top p ≡ Some m) → (n : Option Name) → value_name m r ≡ n → worth σ p m r ≡ got (back σ) p r
       at_module p r m here None unnamed = unnamed_agrees σ (tree_good σ settled) (back σ) p m here r unnamed (λ z within. back_own p m here z)
       at_module p r m here (Some n) called =
           let h = named_agrees σ (tree_good σ settled) (back σ) back_own output_shown p m here r n
@@ -259,7 +259,7 @@ module _ (d : Design) (x : Setting d) (top : Name) (inputs content : Word) (m0 :
 
       go : (p : Path) (r : Ref) (o : Option Module) → module_at d top p ≡ o → back σ (at p r) ≡ got (back σ) p r
       go p r None none = back_missing σ p r none ∙ sym (missing_value (back σ) p r none)
-      go p r (Some m) here = back_here σ p m r here ∙ at_module p r m here (named m r) refl
+      go p r (Some m) here = back_here σ p m r here ∙ at_module p r m here (value_name m r) refl
 
       at_place : (p : Path) (r : Ref) → back σ (at p r) ≡ got (back σ) p r
       at_place p r = go p r (module_at d top p) refl

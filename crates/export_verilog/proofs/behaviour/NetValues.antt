@@ -29,7 +29,7 @@ use Rattle.verilog_expr.proofs.Own.{extended_full}
 use Rattle.verilog_expr.proofs.Assigned.{assigned_same, assigned_long}
 use Rattle.verilog_expr.proofs.Bodies.{is_name, is_own, body_absent, body_bits, body_own_bits, body_worth, map_map}
 use Rattle.verilog_expr.proofs.Depths.{expressions_hold}
-use Rattle.export_verilog.specs.Identifiers.{Identifier, emission_of, module_identifiers, identifier_text, named}
+use Rattle.export_verilog.specs.Identifiers.{Identifier, emission_of, module_identifiers, identifier_text, value_name}
 use Rattle.export_verilog.specs.Identifiers.Identifier.{port_identifier, value_identifier, instance_identifier}
 use Rattle.export_verilog.specs.Identifiers.Emission.{as_wire, as_reg, as_instance}
 use Rattle.export_verilog.specs.Exported.{symbol_name, expression, assigned_expr, vmodule, tree_of}
@@ -89,7 +89,7 @@ module _ (d : Design) (x : Setting d) (top : Name) (inputs content : Word) where
 
   pub record IsGood (σ : VNet → Word) : Type 0 where
     pub words : HaveWords σ
-    pub constants : (p : Path) (m : Module) → module_at d top p ≡ Some m → HoldConstants (named m) m.body (names_at (vpath_of d top p) σ)
+    pub constants : (p : Path) (m : Module) → module_at d top p ≡ Some m → HoldConstants (value_name m) m.body (names_at (vpath_of d top p) σ)
 
   module _ (p : Path) (m : Module) (here : module_at d top p ≡ Some m) where
     abbrev pub symbol_there : Name
@@ -98,14 +98,14 @@ module _ (d : Design) (x : Setting d) (top : Name) (inputs content : Word) where
     pub found_there : find_module d (symbol_at_path d x top p m here).0 ≡ Some m
     found_there = (symbol_at_path d x top p m here).1
 
-    pub can_write : IsWritable (named m) m.ports m.body
+    pub can_write : IsWritable (value_name m) m.ports m.body
     can_write = writable d x symbol_there m found_there
 
     no_inner_cycle : IsAcyclic (inner_needs m.body)
     no_inner_cycle = inner_acyclic d symbol_there m found_there (one_result_of d x symbol_there m found_there) (x.ok.acyclic symbol_there)
 
-    are_exprs : AreExprs (named m) m.ports m.body (expression m)
-    are_exprs = expressions_hold (named m) m.ports m.body can_write no_inner_cycle
+    are_exprs : AreExprs (value_name m) m.ports m.body (expression m)
+    are_exprs = expressions_hold (value_name m) m.ports m.body can_write no_inner_cycle
 
     pub port_width_is : (j : ℕ) (y : Port) → slice_get m.ports j ≡ Some y → identifier_width m (port_identifier j) ≡ width y.type
     port_width_is j y there = ap (λ z. width_of (omap (λ (q : Port). q.type) z)) there
@@ -117,7 +117,7 @@ module _ (d : Design) (x : Setting d) (top : Name) (inputs content : Word) where
     result_width_is i k o t there typed = ap (λ z. width_of (bind z (λ (o : Op). result_type o k))) there ∙ ap width_of typed
 
     module _ (σ : VNet → Word) (words : HaveWords σ) where
-      names_fit : AreNamed (named m) m.ports m.body (width_in (vmodule d m)) (names_at (vpath_of d top p) σ)
+      names_fit : AreNamed (value_name m) m.ports m.body (width_in (vmodule d m)) (names_at (vpath_of d top p) σ)
       names_fit = record {
         long = λ r n e. by_long r n (named_as d x symbol_there m found_there r n e);
         worth = λ r n e. by_word r n (named_as d x symbol_there m found_there r n e);
@@ -136,17 +136,17 @@ module _ (d : Design) (x : Setting d) (top : Name) (inputs content : Word) where
               ∙ sym (ap (value_width m.ports m.body) same)
 
       pub own_bits : (r : Ref) → HasBits (width_in (vmodule d m)) (names_at (vpath_of d top p) σ) (value_width m.ports m.body r) (expression m r)
-      own_bits r = body_bits (named m) m.ports m.body (expression m) (width_in (vmodule d m)) (names_at (vpath_of d top p) σ) can_write no_inner_cycle are_exprs names_fit r
+      own_bits r = body_bits (value_name m) m.ports m.body (expression m) (width_in (vmodule d m)) (names_at (vpath_of d top p) σ) can_write no_inner_cycle are_exprs names_fit r
 
       -- a named value is its name's word
-      pub own_named : (r : Ref) (n : Name) → named m r ≡ Some n → own σ p m r ≡ σ (vnet (vpath_of d top p) n)
+      pub own_named : (r : Ref) (n : Name) → value_name m r ≡ Some n → own σ p m r ≡ σ (vnet (vpath_of d top p) n)
       own_named r n e =
-          ap (own_value (width_in (vmodule d m)) (names_at (vpath_of d top p) σ)) (is_name (named m) m.ports m.body (expression m) (width_in (vmodule d m)) (names_at (vpath_of d top p) σ) are_exprs r n e)
+          ap (own_value (width_in (vmodule d m)) (names_at (vpath_of d top p) σ)) (is_name (value_name m) m.ports m.body (expression m) (width_in (vmodule d m)) (names_at (vpath_of d top p) σ) are_exprs r n e)
           ∙ extended_full (width_in (vmodule d m) n) false (σ (vnet (vpath_of d top p) n)) (names_fit.worth r n e ∙ sym (names_fit.long r n e))
 
       -- what has neither type nor name has no bits
-      pub own_absent : (r : Ref) → type_in m.ports m.body r ≡ None → named m r ≡ None → own σ p m r ≡ []
-      own_absent r none unnamed = body_absent (named m) m.ports m.body (expression m) (width_in (vmodule d m)) (names_at (vpath_of d top p) σ) are_exprs r none unnamed
+      pub own_absent : (r : Ref) → type_in m.ports m.body r ≡ None → value_name m r ≡ None → own σ p m r ≡ []
+      own_absent r none unnamed = body_absent (value_name m) m.ports m.body (expression m) (width_in (vmodule d m)) (names_at (vpath_of d top p) σ) are_exprs r none unnamed
 
       -- an assignment of an expression of as many bits
       pub assigned_own : (k : ℕ) (r : Ref) → value_width m.ports m.body r ≡ k
@@ -158,18 +158,18 @@ module _ (d : Design) (x : Setting d) (top : Name) (inputs content : Word) where
 
       -- the value of a made operation
       pub made_worth : (i k : ℕ) (o : Op) (t : HwType) → slice_get m.body i ≡ Some o → gives_values o ≡ true → result_type o k ≡ Some t
-          → (is_division o.kind ≡ true → HoldConstants (named m) m.body (names_at (vpath_of d top p) σ))
+          → (is_division o.kind ≡ true → HoldConstants (value_name m) m.body (names_at (vpath_of d top p) σ))
           → own_value (width_in (vmodule d m)) (names_at (vpath_of d top p) σ) (assigned_expr m (result i k)) ≡ op_value o.kind o.types t k (map (own σ p m) o.operands)
       made_worth i k o t there gives typed hold =
-          body_worth (named m) m.ports m.body (expression m) (width_in (vmodule d m)) (names_at (vpath_of d top p) σ) can_write no_inner_cycle are_exprs names_fit i k o t there gives typed hold
+          body_worth (value_name m) m.ports m.body (expression m) (width_in (vmodule d m)) (names_at (vpath_of d top p) σ) can_write no_inner_cycle are_exprs names_fit i k o t there gives typed hold
 
-      pub own_unnamed : (r : Ref) → named m r ≡ None → own σ p m r ≡ own_value (width_in (vmodule d m)) (names_at (vpath_of d top p) σ) (assigned_expr m r)
+      pub own_unnamed : (r : Ref) → value_name m r ≡ None → own σ p m r ≡ own_value (width_in (vmodule d m)) (names_at (vpath_of d top p) σ) (assigned_expr m r)
       own_unnamed r e = ap (own_value (width_in (vmodule d m)) (names_at (vpath_of d top p) σ))
-          (is_own (named m) m.ports m.body (expression m) (width_in (vmodule d m)) (names_at (vpath_of d top p) σ) are_exprs r e)
+          (is_own (value_name m) m.ports m.body (expression m) (width_in (vmodule d m)) (names_at (vpath_of d top p) σ) are_exprs r e)
 
       -- what drives the wire of a made operation
       pub net_given : (i : ℕ) (o : Op) (t : HwType) → slice_get m.body i ≡ Some o → emission_of m.ports m.body i o ≡ as_wire → result_type o 0 ≡ Some t
-          → (is_division o.kind ≡ true → HoldConstants (named m) m.body (names_at (vpath_of d top p) σ))
+          → (is_division o.kind ≡ true → HoldConstants (value_name m) m.body (names_at (vpath_of d top p) σ))
           → given σ p m (value_identifier i 0) ≡ op_value o.kind o.types t 0 (map (own σ p m) o.operands)
       net_given i o t there emission typed hold =
           let h = made_of_emission m.ports m.body i o emission in
@@ -177,7 +177,7 @@ module _ (d : Design) (x : Setting d) (top : Name) (inputs content : Word) where
           ap₂ (λ w z. drive_value (tree_of d) (symbol_name d top) inputs content σ w z) (result_width_is i 0 o t there typed) (drive_net d x top p m here i o there emission)
           ∙ ap (λ v. assigned (width_at v) (names_at (vpath_of d top p) σ) (width t) (assigned_expr m (result i 0))) (vplace d x top p m here)
           ∙ assigned_same (width_in (vmodule d m)) (names_at (vpath_of d top p) σ) (width t) (assigned_expr m (result i 0))
-          (body_own_bits (named m) m.ports m.body (expression m) (width_in (vmodule d m)) (names_at (vpath_of d top p) σ) can_write no_inner_cycle are_exprs names_fit i 0 o t there gives typed)
+          (body_own_bits (value_name m) m.ports m.body (expression m) (width_in (vmodule d m)) (names_at (vpath_of d top p) σ) can_write no_inner_cycle are_exprs names_fit i 0 o t there gives typed)
           ∙ made_worth i 0 o t there gives typed hold
 
     -- what drives a thing's net gives as many bits as it has

@@ -17,7 +17,7 @@ use Rattle.hw_model.proofs.NetWidths.{value_widths}
 use Rattle.verilog_model.specs.Hierarchy.{VNet, vnet, drive, vmodule_at, width_at}
 use Rattle.verilog_model.specs.Meaning.{names_at, drive_value}
 use Rattle.verilog_expr.specs.Values.{HoldConstants}
-use Rattle.export_verilog.specs.Identifiers.{Identifier, emission_of, module_identifiers, identifier_text, named}
+use Rattle.export_verilog.specs.Identifiers.{Identifier, emission_of, module_identifiers, identifier_text, value_name}
 use Rattle.export_verilog.specs.Identifiers.Identifier.{port_identifier, value_identifier, instance_identifier}
 use Rattle.export_verilog.specs.Identifiers.Emission.{as_wire, as_reg, as_instance}
 use Rattle.export_verilog.specs.Exported.{symbol_name, tree_of}
@@ -99,7 +99,7 @@ module _ (d : Design) (x : Setting d) (top : Name) (inputs content : Word) (m0 :
     name_shows p m here r n (by_value i k within same called) =
         ap (λ w. over ρ (vnet (vpath_of d top p) w)) called ∙ over_identifier ρ p m here (value_identifier i k) within ∙ ap (λ z. ρ (at p z)) (sym same)
 
-    over_constants : (p : Path) (m : Module) → module_at d top p ≡ Some m → HoldConstants (named m) m.body (names_at (vpath_of d top p) (over ρ))
+    over_constants : (p : Path) (m : Module) → module_at d top p ≡ Some m → HoldConstants (value_name m) m.body (names_at (vpath_of d top p) (over ρ))
     over_constants p m here i o z t n there kind typed called =
         let form = constant_form o.kind z kind in
         name_shows p m here (result i 0) n (named_as d x (symbol_there d x top inputs content p m here) m (found_there d x top inputs content p m here) (result i 0) n called)
@@ -115,7 +115,7 @@ module _ (d : Design) (x : Setting d) (top : Name) (inputs content : Word) (m0 :
     own_at = by_heights (needs d top) (λ a. (m : Module) → module_at d top a.path ≡ Some m → worth d x top inputs content m0 top_is (over ρ) a.path m a.ref ≡ ρ a) step heights where
       go : (p : Path) (r : Ref) (m : Module) (here : module_at d top p ≡ Some m)
           → ((z : Ref) → In (at p z) (needs d top (at p r)) → worth d x top inputs content m0 top_is (over ρ) p m z ≡ ρ (at p z))
-          → (n : Option Name) → named m r ≡ n → worth d x top inputs content m0 top_is (over ρ) p m r ≡ ρ (at p r)
+          → (n : Option Name) → value_name m r ≡ n → worth d x top inputs content m0 top_is (over ρ) p m r ≡ ρ (at p r)
       go p r m here rest None unnamed = unnamed_agrees d x top inputs content m0 top_is (over ρ) over_good ρ p m here r unnamed rest ∙ sym (settled (at p r))
       go p r m here rest (Some n) called =
           own_named d x top inputs content p m here (over ρ) over_words r n called
@@ -123,7 +123,7 @@ module _ (d : Design) (x : Setting d) (top : Name) (inputs content : Word) (m0 :
 
       step : (a : Net) → ((b : Net) → In b (needs d top a) → (m : Module) → module_at d top b.path ≡ Some m → worth d x top inputs content m0 top_is (over ρ) b.path m b.ref ≡ ρ b)
           → (m : Module) → module_at d top a.path ≡ Some m → worth d x top inputs content m0 top_is (over ρ) a.path m a.ref ≡ ρ a
-      step a rest m here = go a.path a.ref m here (λ z within. rest (at a.path z) within m here) (named m a.ref) refl
+      step a rest m here = go a.path a.ref m here (λ z within. rest (at a.path z) within m here) (value_name m a.ref) refl
 
     pub own_is : (p : Path) (m : Module) → module_at d top p ≡ Some m → (r : Ref) → worth d x top inputs content m0 top_is (over ρ) p m r ≡ ρ (at p r)
     own_is p m here r = own_at (at p r) m here

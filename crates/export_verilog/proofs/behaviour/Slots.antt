@@ -21,7 +21,7 @@ use Rattle.verilog_model.specs.Meaning.{names_at, load_value, holds, block_value
 use Rattle.verilog_expr.specs.Spilling.{is_wire_kind, spilled}
 use Rattle.verilog_expr.specs.Values.{HasBits}
 use Rattle.verilog_expr.proofs.Assigned.{assigned_same}
-use Rattle.export_verilog.specs.Identifiers.{Emission, each, emission_of, identifier_text, named, name_or_nothing}
+use Rattle.export_verilog.specs.Identifiers.{Emission, each, emission_of, identifier_text, value_name, name_or_nothing}
 use Rattle.export_verilog.specs.Identifiers.Identifier.{port_identifier, value_identifier, instance_identifier}
 use Rattle.export_verilog.specs.Identifiers.Emission.{inline, as_wire, as_reg, as_instance}
 use Rattle.export_verilog.specs.Exportable.{IsClocked}
@@ -92,7 +92,7 @@ module _ (d : Design) (x : Setting d) (top : Name) where
   vslot q m i r = record {
     path = q;
     in_module = vmodule d m;
-    clock = name_or_nothing (named m r.clock);
+    clock = name_or_nothing (value_name m r.clock);
     block = block_of (expression m) (identifier_text m (value_identifier i 0)) r.next r.enable r.reset;
   }
 
@@ -252,11 +252,11 @@ module _ (d : Design) (x : Setting d) (top : Name) (inputs content : Word) (m0 :
 
     -- the clock's net shows the clock
     clock_is : (i : ℕ) (o : Op) (g : Register) → slice_get m.body i ≡ Some o → register_in o ≡ Some g → type_in m.ports m.body g.clock ≡ Some clock
-        → low_bits 1 (over (vnet (vpath_of d top p) (name_or_nothing (named m g.clock)))) ≡ ρ (at p g.clock)
+        → low_bits 1 (over (vnet (vpath_of d top p) (name_or_nothing (value_name m g.clock)))) ≡ ρ (at p g.clock)
     clock_is i o g there is typed =
         let c : IsClocked m.ports g = ((module_ok d x (symbol_there d x top inputs content p m here) m (found_there d x top inputs content p m here)).ops i o there).clocked g is in
-        let called : named m g.clock ≡ Some (identifier_text m (port_identifier c.number)) =
-        ap (named m) c.is_port ∙ named_input d x (symbol_there d x top inputs content p m here) m (found_there d x top inputs content p m here) c.number c.clock c.there c.input in
+        let called : value_name m g.clock ≡ Some (identifier_text m (port_identifier c.number)) =
+        ap (value_name m) c.is_port ∙ named_input d x (symbol_there d x top inputs content p m here) m (found_there d x top inputs content p m here) c.number c.clock c.there c.input in
         ap (λ n. low_bits 1 (over (vnet (vpath_of d top p) (name_or_nothing n)))) called
         ∙ ap (low_bits 1) (name_shows d x top inputs content m0 top_is ρ settled p m here g.clock (identifier_text m (port_identifier c.number)) (by_port c.number c.clock c.there c.input c.is_port refl))
         ∙ low_all 1 (ρ (at p g.clock)) (typed_length g.clock clock typed)

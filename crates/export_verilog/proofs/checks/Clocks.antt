@@ -18,7 +18,7 @@ use Rattle.verilog_model.specs.Checks.{inner_clock, uses_clock, any_uses_clock, 
 use Rattle.verilog_model.proofs.Numerals.{and_intro}
 use Rattle.verilog_expr.proofs.Depths.{expressions_hold}
 use Rattle.verilog_expr.specs.Expressions.{name_or, own_expr}
-use Rattle.export_verilog.specs.Identifiers.{emission_of, identifier_text, named, name_or_nothing}
+use Rattle.export_verilog.specs.Identifiers.{emission_of, identifier_text, value_name, name_or_nothing}
 use Rattle.export_verilog.specs.Identifiers.Identifier.{port_identifier, value_identifier}
 use Rattle.export_verilog.specs.Identifiers.Emission.{as_reg}
 use Rattle.export_verilog.specs.Exported.{symbol_name, expression, connections_of, connections_to, vports, vitems, tree_of}
@@ -68,8 +68,8 @@ module _ (d : Design) (x : Setting d) where
       input = out;
       type = (let t : p.type ≡ clock = cc in t);
       written = ap (expression m) e
-          ∙ expressions_hold (named m) m.ports m.body (writable d x s m is) (inner_acyclic d s m is (one_result_of d x s m is) (x.ok.acyclic s)) (port j)
-          ∙ ap (λ z. name_or z (own_expr (named m) m.ports m.body (expression m) (port j))) (named_input d x s m is j p there out);
+          ∙ expressions_hold (value_name m) m.ports m.body (writable d x s m is) (inner_acyclic d s m is (one_result_of d x s m is) (x.ok.acyclic s)) (port j)
+          ∙ ap (λ z. name_or z (own_expr (value_name m) m.ports m.body (expression m) (port j))) (named_input d x s m is j p there out);
     }
 
     at_there : (j : ℕ) → r ≡ port j → (p : Option Port) → slice_get m.ports j ≡ p → input_type p ≡ Some clock → IsClockRef m r
@@ -105,7 +105,7 @@ module _ (d : Design) (x : Setting d) where
         inner : Name → Name → Bool
         inner = is_clock n (tree_of d)
 
-        in_register : (i : ℕ) (o : Op) (r : Register) → slice_get c.body i ≡ Some o → emission_of c.ports c.body i o ≡ as_reg → register_in o ≡ Some r → same_name (name_or_nothing (named c r.clock)) a ≡ true → IsClockInput c a
+        in_register : (i : ℕ) (o : Op) (r : Register) → slice_get c.body i ≡ Some o → emission_of c.ports c.body i o ≡ as_reg → register_in o ≡ Some r → same_name (name_or_nothing (value_name c r.clock)) a ≡ true → IsClockInput c a
         in_register i o r there emission at same =
             let first = result_at_first d x s c is i o there (inr emission) in
             let typed = typed_register d x s c is i o there emission first.0.type (ap (omap (λ (z : OpResult). z.type)) first.1) in
@@ -113,7 +113,7 @@ module _ (d : Design) (x : Setting d) where
             let f : typed.0 ≡ r = cc in
             let k = clock_ref s c is r.clock (ap (λ (z : Register). type_in c.ports c.body z.clock) (sym f) ∙ typed.2.clocked) in
             let g = ((module_ok d x s c is).ops i o there).clocked r at in
-            let clock_name : name_or_nothing (named c r.clock) ≡ identifier_text c (port_identifier g.number) = ap (λ z. name_or_nothing (named c z)) g.is_port ∙ ap name_or_nothing (named_input d x s c is g.number g.clock g.there g.input) in
+            let clock_name : name_or_nothing (value_name c r.clock) ≡ identifier_text c (port_identifier g.number) = ap (λ z. name_or_nothing (value_name c z)) g.is_port ∙ ap name_or_nothing (named_input d x s c is g.number g.clock g.there g.input) in
             record {
               number = g.number;
               port_of = g.clock;
@@ -121,7 +121,7 @@ module _ (d : Design) (x : Setting d) where
               input = g.input;
               type = (let t : Some g.clock.type ≡ Some clock = sym (ap (λ b. cond b None (Some g.clock.type)) g.input) ∙ sym (ap input_type g.there) ∙ ap (type_in c.ports c.body) (sym g.is_port) ∙ ap (λ (z : Register). type_in c.ports c.body z.clock) (sym f) ∙ typed.2.clocked in
                   let u : g.clock.type ≡ clock = cc in u);
-              called = sym (name_from (name_or_nothing (named c r.clock)) a same) ∙ clock_name;
+              called = sym (name_from (name_or_nothing (value_name c r.clock)) a same) ∙ clock_name;
             }
 
         in_connection : (i : ℕ) (o : Op) (y : Called d c o) (j : ℕ) (p : Port) → slice_get y.module_of.ports j ≡ Some p → (e : Connection) → e ≡ connection_of y.module_of c i j 0 (take j y.module_of.ports) p o.operands

@@ -14,7 +14,7 @@ use Rattle.verilog_model.specs.Tree.Expr.{name}
 use Rattle.verilog_model.specs.Tree.Item.{assign, always}
 use Rattle.verilog_model.specs.Hierarchy.{find_vmodule, find_port, vports_of, block_target}
 use Rattle.verilog_model.specs.Checks.{outputs_joined, driver_count}
-use Rattle.export_verilog.specs.Identifiers.{Identifier, Emission, same_identifier, named, name_or_nothing, each, emission_of, result_identifiers, identifier_text, module_identifiers}
+use Rattle.export_verilog.specs.Identifiers.{Identifier, Emission, same_identifier, value_name, name_or_nothing, each, emission_of, result_identifiers, identifier_text, module_identifiers}
 use Rattle.export_verilog.specs.Identifiers.Identifier.{port_identifier, value_identifier}
 use Rattle.export_verilog.specs.Identifiers.Emission.{inline, as_wire, as_reg, as_instance}
 use Rattle.export_verilog.specs.Exported.{symbol_name, expression, assigned_expr, expr_or_none, others, vports, vitems, tree_of, result_wires, declared_as, declares, block_of, always_of, connections_of, connections_to, instance_of, stated_as, states, output_assigns}
@@ -188,7 +188,7 @@ module _ (d : Design) (x : Setting d) (s : Name) (m : Module) (is : find_module 
     go as_wire emission = one_driven (value_identifier i 0) (assign (identifier_text m (value_identifier i 0)) (assigned_expr m (result i 0))) (net_in m i o there emission) refl
     go as_reg emission = let r = register_of d x s m is i o there emission in
         ap (λ z. driver_count t (identifier_text m k) (always_of m (identifier_text m (value_identifier i 0)) z)) r.1
-        ∙ one_driven (value_identifier i 0) (always (name_or_nothing (named m r.0.clock)) (block_of (expression m) (identifier_text m (value_identifier i 0)) r.0.next r.0.enable r.0.reset)) (variable_in m i o there emission)
+        ∙ one_driven (value_identifier i 0) (always (name_or_nothing (value_name m r.0.clock)) (block_of (expression m) (identifier_text m (value_identifier i 0)) r.0.next r.0.enable r.0.reset)) (variable_in m i o there emission)
         (ap (λ z. cond (same_name z (identifier_text m k)) 1 0 + 0) (target_of (expression m) (identifier_text m (value_identifier i 0)) r.0))
     go as_instance emission =
         let c : Called d m o = called_by_emission d x s m is i o there emission in

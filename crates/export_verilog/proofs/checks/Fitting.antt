@@ -13,16 +13,16 @@ use Rattle.verilog_model.specs.Grammar.{fits, item_fits, items_fit, connections_
 use Rattle.verilog_model.proofs.Numerals.{and_intro}
 use Rattle.verilog_expr.specs.Spilling.{height_limit}
 use Rattle.verilog_expr.proofs.Fit.{depth_fits, own_fits}
-use Rattle.export_verilog.specs.Identifiers.{Emission, each, emission_of, identifier_text, name_or_nothing, named}
+use Rattle.export_verilog.specs.Identifiers.{Emission, each, emission_of, identifier_text, name_or_nothing, value_name}
 use Rattle.export_verilog.specs.Identifiers.Identifier.{port_identifier, value_identifier}
 use Rattle.export_verilog.specs.Identifiers.Emission.{inline, as_wire, as_reg, as_instance}
 use Rattle.export_verilog.specs.Exported.{expression, assigned_expr, expr_or_none, others, result_wires, declared_as, declares, always_of, block_of, connections_of, connections_to, instance_of, stated_as, states, output_assigns, vitems, vmodule, tree_of}
 
 expression_fits : (m : Module) (r : Ref) → fits (expression m r) ≡ true
-expression_fits m r = depth_fits (named m) m.ports m.body (suc height_limit) r
+expression_fits m r = depth_fits (value_name m) m.ports m.body (suc height_limit) r
 
 assigned_fits : (m : Module) (r : Ref) → fits (assigned_expr m r) ≡ true
-assigned_fits m r = own_fits (named m) m.ports m.body (expression m) (expression_fits m) r
+assigned_fits m r = own_fits (value_name m) m.ports m.body (expression m) (expression_fits m) r
 
 expr_fits : (m : Module) (rs : List Ref) → fits (expr_or_none (expression m) rs) ≡ true
 expr_fits m [] = refl
@@ -74,7 +74,7 @@ always_fits m q (Some r) = go r.enable r.reset where
   all_of : Name → Option Ref → Option ResetBy → List Item
   all_of n e s = always n (block_of (expression m) q r.next e s) ∷ []
 
-  go : (e : Option Ref) (s : Option ResetBy) → items_fit (all_of (name_or_nothing (named m r.clock)) e s) ≡ true
+  go : (e : Option Ref) (s : Option ResetBy) → items_fit (all_of (name_or_nothing (value_name m r.clock)) e s) ≡ true
   go None None = rw (ex r.next) refl
   go (Some e) None = rw (ex e, ex r.next) refl
   go None (Some s) = rw (ex s.signal, ex s.value, ex r.next) refl

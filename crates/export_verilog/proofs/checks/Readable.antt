@@ -16,7 +16,7 @@ use Rattle.verilog_expr.proofs.Checked.{IsWell, IsWide}
 use Rattle.verilog_expr.proofs.BodiesChecked.{AreKnown, body_well, own_well}
 use Rattle.verilog_expr.proofs.Depths.{expressions_hold}
 use Rattle.verilog_expr.specs.Values.{gives_values}
-use Rattle.export_verilog.specs.Identifiers.{Identifier, Emission, emission_of, identifier_text, module_identifiers, named}
+use Rattle.export_verilog.specs.Identifiers.{Identifier, Emission, emission_of, identifier_text, module_identifiers, value_name}
 use Rattle.export_verilog.specs.Identifiers.Identifier.{port_identifier, value_identifier}
 use Rattle.export_verilog.specs.Identifiers.Emission.{inline, as_wire, as_reg, as_instance}
 use Rattle.export_verilog.specs.Exported.{expression, assigned_expr}
@@ -104,14 +104,14 @@ module _ (d : Design) (x : Setting d) (s : Name) (m : Module) (is : find_module 
   width_of_port : (j : ℕ) (p : Port) → slice_get m.ports j ≡ Some p → p.is_output ≡ false → value_width m.ports m.body (port j) ≡ width p.type
   width_of_port j p there out = ap (λ o. width_of (input_type o)) there ∙ ap (λ b. width_of (cond b None (Some p.type))) out
 
-  names_well : (r : Ref) (n : Name) → named m r ≡ Some n → IsWell known (name n)
+  names_well : (r : Ref) (n : Name) → value_name m r ≡ Some n → IsWell known (name n)
   names_well r n e = go (named_as d x s m is r n e) where
     go : NamedAs d x s m is n r → IsWell known (name n)
     go (by_port j p there out e f) = subst (λ z. IsWell known (name z)) (sym f) (name_well (port_identifier j) (declared_port m j p) (port_in m j p there) (found_port j p there) (ap (λ b. can_read (port_role b)) out))
     go (by_value i k here e f) = let r = result_of_identifier i k here in
         subst (λ z. IsWell known (name z)) (sym f) (name_well (value_identifier i k) (declared_result m i k r.op r.result_of) here (found_result i k r.op r.result_of here r.there r.at) (readable (emission_of m.ports m.body i r.op)))
 
-  names_wide : (r : Ref) (n : Name) → named m r ≡ Some n → 1 < value_width m.ports m.body r → IsWide known (value_width m.ports m.body r) (name n)
+  names_wide : (r : Ref) (n : Name) → value_name m r ≡ Some n → 1 < value_width m.ports m.body r → IsWide known (value_width m.ports m.body r) (name n)
   names_wide r n e many = go (named_as d x s m is r n e) where
     small : value_width m.ports m.body r < 2 ^ 64
     small = (module_ok d x s m is).narrow r
@@ -128,17 +128,17 @@ module _ (d : Design) (x : Setting d) (s : Name) (m : Module) (is : find_module 
         (name_wide (value_width m.ports m.body r) (value_identifier i k) (declared_result m i k q.op q.result_of) here (found_result i k q.op q.result_of here q.there q.at)
         (readable (emission_of m.ports m.body i q.op)) (ap high_of (sym whole)) many small)
 
-  are_known : AreKnown known (named m) m.ports m.body
+  are_known : AreKnown known (value_name m) m.ports m.body
   are_known = record { well = names_well; wide = names_wide }
 
   -- ---- expressions
 
   pub expression_well : (r : Ref) (t : HwType) → type_in m.ports m.body r ≡ Some t → IsWell known (expression m r)
   expression_well r t typed =
-      body_well known (named m) m.ports m.body (expression m) (writable d x s m is) (inner_acyclic d s m is (one_result_of d x s m is) (x.ok.acyclic s))
-      (expressions_hold (named m) m.ports m.body (writable d x s m is) (inner_acyclic d s m is (one_result_of d x s m is) (x.ok.acyclic s))) are_known r t typed
+      body_well known (value_name m) m.ports m.body (expression m) (writable d x s m is) (inner_acyclic d s m is (one_result_of d x s m is) (x.ok.acyclic s))
+      (expressions_hold (value_name m) m.ports m.body (writable d x s m is) (inner_acyclic d s m is (one_result_of d x s m is) (x.ok.acyclic s))) are_known r t typed
 
   pub assigned_well : (i k : ℕ) (o : Op) (t : HwType) → slice_get m.body i ≡ Some o → gives_values o ≡ true → result_type o k ≡ Some t → IsWell known (assigned_expr m (result i k))
   assigned_well i k o t there values typed =
-      own_well known (named m) m.ports m.body (expression m) (writable d x s m is) (inner_acyclic d s m is (one_result_of d x s m is) (x.ok.acyclic s))
-      (expressions_hold (named m) m.ports m.body (writable d x s m is) (inner_acyclic d s m is (one_result_of d x s m is) (x.ok.acyclic s))) are_known i k o t there values typed
+      own_well known (value_name m) m.ports m.body (expression m) (writable d x s m is) (inner_acyclic d s m is (one_result_of d x s m is) (x.ok.acyclic s))
+      (expressions_hold (value_name m) m.ports m.body (writable d x s m is) (inner_acyclic d s m is (one_result_of d x s m is) (x.ok.acyclic s))) are_known i k o t there values typed

@@ -16,7 +16,7 @@ use Rattle.verilog_model.specs.Checks.{Declared, find_declared, can_assign, is_v
 use Rattle.verilog_model.proofs.Numerals.{and_intro, is_decimal-decimal}
 use Rattle.verilog_expr.specs.Numerals.{high_of}
 use Rattle.verilog_expr.specs.Values.{gives_values}
-use Rattle.export_verilog.specs.Identifiers.{Emission, each, emission_of, identifier_text, named, name_or_nothing}
+use Rattle.export_verilog.specs.Identifiers.{Emission, each, emission_of, identifier_text, value_name, name_or_nothing}
 use Rattle.export_verilog.specs.Identifiers.Identifier.{port_identifier, value_identifier}
 use Rattle.export_verilog.specs.Identifiers.Emission.{inline, as_wire, as_reg, as_instance}
 use Rattle.export_verilog.specs.Exported.{expression, assigned_expr, block_of, loads, vports, tree_of, declares, declared_as}
@@ -133,11 +133,11 @@ module _ (d : Design) (x : Setting d) (s : Name) (m : Module) (is : find_module 
         let same : typed.0 ≡ r = (let e : Some typed.0 ≡ Some r = sym typed.1 ∙ is_register_of in let f : typed.0 ≡ r = cc in f) in
         let are : AreOperands (type_in m.ports m.body) first.0.type r = subst (AreOperands (type_in m.ports m.body) first.0.type) same typed.2 in
         let c = ((module_ok d x s m is).ops i o there).clocked r is_register_of in
-        let clock_name : name_or_nothing (named m r.clock) ≡ identifier_text m (port_identifier c.number) = ap (λ z. name_or_nothing (named m z)) c.is_port ∙ ap name_or_nothing (named_input d x s m is c.number c.clock c.there c.input) in
+        let clock_name : name_or_nothing (value_name m r.clock) ≡ identifier_text m (port_identifier c.number) = ap (λ z. name_or_nothing (value_name m z)) c.is_port ∙ ap name_or_nothing (named_input d x s m is c.number c.clock c.there c.input) in
         let q = identifier_text m (value_identifier i 0) in
         let b = block_of (expression m) q r.next r.enable r.reset in
         let target : block_target b ≡ q = target_of q r.next r.enable r.reset in
-        and_intro (has_role is_input (find_declared known (name_or_nothing (named m r.clock)))) (has_role is_variable (find_declared known (block_target b)) && block_checks known (block_target b) b)
+        and_intro (has_role is_input (find_declared known (name_or_nothing (value_name m r.clock)))) (has_role is_variable (find_declared known (block_target b)) && block_checks known (block_target b) b)
         (ap (λ n. has_role is_input (find_declared known n)) clock_name ∙ ap (has_role is_input) (found_port d x s m is known knows c.number c.clock c.there) ∙ ap (λ z. is_input (port_role z)) c.input)
         (and_intro (has_role is_variable (find_declared known (block_target b))) (block_checks known (block_target b) b)
         (ap (λ n. has_role is_variable (find_declared known n)) target ∙ ap (has_role is_variable) (found_result d x s m is known knows i 0 o first.0 (variable_in m i o there emission) there first.1) ∙ ap (λ z. is_variable (result_emission z)) emission)

@@ -12,7 +12,7 @@ use Rattle.verilog_model.specs.Tree.Expr.{name}
 use Rattle.verilog_model.specs.Tree.Item.{wire, reg, assign, always, instance}
 use Rattle.verilog_expr.specs.Numerals.{high_of}
 use Rattle.verilog_expr.specs.Building.{no_expr}
-use Rattle.export_verilog.specs.Identifiers.{Emission, each, emission_of, identifier_text, name_or_nothing, named}
+use Rattle.export_verilog.specs.Identifiers.{Emission, each, emission_of, identifier_text, name_or_nothing, value_name}
 use Rattle.export_verilog.specs.Identifiers.Identifier.{port_identifier, value_identifier, instance_identifier}
 use Rattle.export_verilog.specs.Identifiers.Emission.{inline, as_wire, as_reg, as_instance}
 use Rattle.export_verilog.specs.Exported.{symbol_name, expression, assigned_expr, result_wires, declared_as, declares, block_of, always_of, expr_or_none, others, connections_of, connections_to, instance_of, stated_as, states, output_assigns, vitems}
@@ -208,7 +208,7 @@ into_wires m i k (x ∷ rs) (suc n) r is =
 -- ---- items
 
 abbrev pub block_at : Module → ℕ → Register → Item
-block_at m i r = always (name_or_nothing (named m r.clock)) (block_of (expression m) (identifier_text m (value_identifier i 0)) r.next r.enable r.reset)
+block_at m i r = always (name_or_nothing (value_name m r.clock)) (block_of (expression m) (identifier_text m (value_identifier i 0)) r.next r.enable r.reset)
 
 abbrev pub instance_at : Design → Module → ℕ → Op → Instance → Item
 instance_at d m i o x = instance (symbol_name d x.symbol) (identifier_text m (instance_identifier i)) (connections_to (find_module d x.symbol) m i o)

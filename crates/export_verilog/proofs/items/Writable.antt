@@ -17,7 +17,7 @@ use Rattle.verilog_expr.specs.Expressions.{value_width}
 use Rattle.verilog_expr.specs.Spilling.{is_pure, is_wire_kind, is_constant_kind, is_narrower, places_in, one_if, cuts, some_op, is_shared, part_of_op, has_wire, height, spilled, spilled_op}
 use Rattle.verilog_expr.specs.Spilling.Part.{flat, shared, nested}
 use Rattle.verilog_expr.specs.Values.{gives_values, IsWritable}
-use Rattle.export_verilog.specs.Identifiers.{emission_of, module_identifiers, identifier_text, identifier_name, named, input_name}
+use Rattle.export_verilog.specs.Identifiers.{emission_of, module_identifiers, identifier_text, identifier_name, value_name, input_name}
 use Rattle.export_verilog.specs.Identifiers.Identifier.{port_identifier, value_identifier}
 use Rattle.export_verilog.specs.Identifiers.Emission.{inline, as_wire}
 use Rattle.export_verilog.proofs.names.IdentifierNames.{AreNames, text_named, name_has_identifier, text_of_identifier}
@@ -86,10 +86,10 @@ module _ (d : Design) (x : Setting d) (s : Name) (m : Module) (is : find_module 
   are : AreNames m
   are = x.names s m is
 
-  pub named_result : (i k : ℕ) → In (value_identifier i k) (module_identifiers m) → named m (result i k) ≡ Some (identifier_text m (value_identifier i k))
+  pub named_result : (i k : ℕ) → In (value_identifier i k) (module_identifiers m) → value_name m (result i k) ≡ Some (identifier_text m (value_identifier i k))
   named_result i k here = text_named m are (value_identifier i k) here
 
-  pub named_input : (j : ℕ) (p : Port) → slice_get m.ports j ≡ Some p → p.is_output ≡ false → named m (port j) ≡ Some (identifier_text m (port_identifier j))
+  pub named_input : (j : ℕ) (p : Port) → slice_get m.ports j ≡ Some p → p.is_output ≡ false → value_name m (port j) ≡ Some (identifier_text m (port_identifier j))
   named_input j p there out =
       ap (input_name m j) there ∙ ap (λ b. cond b None (identifier_name m (port_identifier j))) out ∙ text_named m are (port_identifier j) (port_in m j p there)
 
@@ -98,7 +98,7 @@ module _ (d : Design) (x : Setting d) (s : Name) (m : Module) (is : find_module 
     by_port : (j : ℕ) (p : Port) → slice_get m.ports j ≡ Some p → p.is_output ≡ false → r ≡ port j → n ≡ identifier_text m (port_identifier j) → NamedAs n r
     by_value : (i k : ℕ) → In (value_identifier i k) (module_identifiers m) → r ≡ result i k → n ≡ identifier_text m (value_identifier i k) → NamedAs n r
 
-  pub named_as : (r : Ref) (n : Name) → named m r ≡ Some n → NamedAs n r
+  pub named_as : (r : Ref) (n : Name) → value_name m r ≡ Some n → NamedAs n r
   named_as (port j) n e = go (slice_get m.ports j) refl e where
     by_way : (p : Port) → slice_get m.ports j ≡ Some p → (b : Bool) → p.is_output ≡ b → cond b None (identifier_name m (port_identifier j)) ≡ Some n → NamedAs n (port j)
     by_way p there true out h = cc
@@ -110,16 +110,16 @@ module _ (d : Design) (x : Setting d) (s : Name) (m : Module) (is : find_module 
   named_as (result i k) n e = by_value i k (name_has_identifier m are (value_identifier i k) n e) refl (sym (text_of_identifier m are (value_identifier i k) n e))
   named_as undefined n e = cc
 
-  emission_named : (i : ℕ) (o : Op) → slice_get m.body i ≡ Some o → emission_of m.ports m.body i o ≡ as_wire → is_some (named m (result i 0)) ≡ true
-  emission_named i o there emission = some_is (named m (result i 0)) (identifier_text m (value_identifier i 0)) (named_result i 0 (net_in m i o there emission))
+  emission_named : (i : ℕ) (o : Op) → slice_get m.body i ≡ Some o → emission_of m.ports m.body i o ≡ as_wire → is_some (value_name m (result i 0)) ≡ true
+  emission_named i o there emission = some_is (value_name m (result i 0)) (identifier_text m (value_identifier i 0)) (named_result i 0 (net_in m i o there emission))
 
-  inputs_named : (j : ℕ) (t : HwType) → type_in m.ports m.body (port j) ≡ Some t → is_some (named m (port j)) ≡ true
+  inputs_named : (j : ℕ) (t : HwType) → type_in m.ports m.body (port j) ≡ Some t → is_some (value_name m (port j)) ≡ true
   inputs_named j t typed = go (slice_get m.ports j) refl typed where
-    by_way : (p : Port) → slice_get m.ports j ≡ Some p → (b : Bool) → p.is_output ≡ b → cond b None (Some p.type) ≡ Some t → is_some (named m (port j)) ≡ true
+    by_way : (p : Port) → slice_get m.ports j ≡ Some p → (b : Bool) → p.is_output ≡ b → cond b None (Some p.type) ≡ Some t → is_some (value_name m (port j)) ≡ true
     by_way p there true out h = cc
-    by_way p there false out h = some_is (named m (port j)) (identifier_text m (port_identifier j)) (named_input j p there out)
+    by_way p there false out h = some_is (value_name m (port j)) (identifier_text m (port_identifier j)) (named_input j p there out)
 
-    go : (p : Option Port) → slice_get m.ports j ≡ p → input_type p ≡ Some t → is_some (named m (port j)) ≡ true
+    go : (p : Option Port) → slice_get m.ports j ≡ p → input_type p ≡ Some t → is_some (value_name m (port j)) ≡ true
     go None there h = cc
     go (Some p) there h = by_way p there p.is_output refl h
 
@@ -135,12 +135,12 @@ module _ (d : Design) (x : Setting d) (s : Name) (m : Module) (is : find_module 
       let h = (((module_ok d x s m is).ops i o there).no_result u) in
       let e : None ≡ Some t = sym (ap (λ rs. omap (λ (z : OpResult). z.type) (slice_get rs k)) h) ∙ typed in cc
 
-  by_first : (i k : ℕ) → k ≡ 0 → is_some (named m (result i 0)) ≡ true → is_some (named m (result i k)) ≡ true
-  by_first i k e h = ap (λ z. is_some (named m (result i z))) e ∙ h
+  by_first : (i k : ℕ) → k ≡ 0 → is_some (value_name m (result i 0)) ≡ true → is_some (value_name m (result i k)) ≡ true
+  by_first i k e h = ap (λ z. is_some (value_name m (result i z))) e ∙ h
 
   -- whether a made value has a wire
   made_named : (i : ℕ) (o : Op) → slice_get m.body i ≡ Some o → register_form o.kind ≡ None → instance_in o.kind ≡ None → is_output_kind o.kind ≡ false
-      → (is_wire_kind o.kind ≡ true) ⊎ (spilled m.ports m.body (result i 0) ≡ true) → is_some (named m (result i 0)) ≡ true
+      → (is_wire_kind o.kind ≡ true) ⊎ (spilled m.ports m.body (result i 0) ≡ true) → is_some (value_name m (result i 0)) ≡ true
   made_named i o there r n u which = emission_named i o there (emission_of_made m.ports m.body i o r n u ∙ go (is_wire_kind o.kind) (spilled m.ports m.body (result i 0)) which) where
     go : (a b : Bool) → (a ≡ true) ⊎ (b ≡ true) → cond a as_wire (cond b as_wire inline) ≡ as_wire
     go true b w = refl
@@ -148,26 +148,26 @@ module _ (d : Design) (x : Setting d) (s : Name) (m : Module) (is : find_module 
     go false false (inl e) = cc
     go false false (inr e) = cc
 
-  owned : (i k : ℕ) (o : Op) (t : HwType) → slice_get m.body i ≡ Some o → result_type o k ≡ Some t → is_pure o ≡ false → is_some (named m (result i k)) ≡ true
+  owned : (i k : ℕ) (o : Op) (t : HwType) → slice_get m.body i ≡ Some o → result_type o k ≡ Some t → is_pure o ≡ false → is_some (value_name m (result i k)) ≡ true
   owned i k o t there typed impure = go (sort_of o.kind) where
     wire : register_form o.kind ≡ None → instance_in o.kind ≡ None → is_output_kind o.kind ≡ false → (b : Bool) → is_wire_kind o.kind ≡ b → is_wire_kind o.kind ≡ true
     wire r n u true e = e
     wire r n u false e = absurd (let h : true ≡ false = simp (r, n, u, e) at impure in cc)
 
-    go : Sort o.kind → is_some (named m (result i k)) ≡ true
+    go : Sort o.kind → is_some (value_name m (result i k)) ≡ true
     go (a_register f r n u) =
         by_first i k (made_first i k o t there typed n u)
-        (some_is (named m (result i 0)) (identifier_text m (value_identifier i 0)) (named_result i 0 (variable_in m i o there (emission_of_register m.ports m.body i o f r))))
+        (some_is (value_name m (result i 0)) (identifier_text m (value_identifier i 0)) (named_result i 0 (variable_in m i o there (emission_of_register m.ports m.body i o f r))))
     go (an_instance y r n u) =
         let h = omap_some (λ (z : OpResult). z.type) (slice_get o.results k) typed in
-        some_is (named m (result i k)) (identifier_text m (value_identifier i k)) (named_result i k (result_in_identifiers m i k o h.0 there (emission_of_instance m.ports m.body i o y r n) h.1))
+        some_is (value_name m (result i k)) (identifier_text m (value_identifier i k)) (named_result i k (result_in_identifiers m i k o h.0 there (emission_of_instance m.ports m.body i o y r n) h.1))
     go (an_output r n u) = absurd (no_results i k o t there typed u)
     go (a_made r n u) = by_first i k (made_first i k o t there typed n u) (made_named i o there r n u (inl (wire r n u (is_wire_kind o.kind) refl)))
 
-  wires : (i k : ℕ) (o : Op) (t : HwType) → slice_get m.body i ≡ Some o → result_type o k ≡ Some t → named m (result i k) ≡ None → spilled m.ports m.body (result i k) ≡ false
+  wires : (i k : ℕ) (o : Op) (t : HwType) → slice_get m.body i ≡ Some o → result_type o k ≡ Some t → value_name m (result i k) ≡ None → spilled m.ports m.body (result i k) ≡ false
   wires i (suc k) o t there typed none = spilled_first m.ports m.body i k
   wires i zero o t there typed none = go (spilled m.ports m.body (result i 0)) refl where
-    clash : is_some (named m (result i 0)) ≡ true → {A : Type 0} → A
+    clash : is_some (value_name m (result i 0)) ≡ true → {A : Type 0} → A
     clash h = absurd (let e : true ≡ false = sym h ∙ ap is_some none in cc)
 
     by_pure : spilled m.ports m.body (result i 0) ≡ true → (p : Bool) → is_pure o ≡ p → true ≡ false
@@ -179,14 +179,14 @@ module _ (d : Design) (x : Setting d) (s : Name) (m : Module) (is : find_module 
     go true e = by_pure e (is_pure o) refl
 
   cut_named : (i : ℕ) (o : Op) (r : Ref) → slice_get m.body i ≡ Some o → o.operands ≡ r ∷ []
-      → is_narrower o.kind (width_of (result_type o 0)) (value_width m.ports m.body r) ≡ true → is_some (named m r) ≡ true
+      → is_narrower o.kind (width_of (result_type o 0)) (value_width m.ports m.body r) ≡ true → is_some (value_name m r) ≡ true
   cut_named i o r there only narrow = go (type_in m.ports m.body r) refl where
-    by_ref : (t : HwType) (y : Ref) → r ≡ y → type_in m.ports m.body y ≡ Some t → is_some (named m y) ≡ true
+    by_ref : (t : HwType) (y : Ref) → r ≡ y → type_in m.ports m.body y ≡ Some t → is_some (value_name m y) ≡ true
     by_ref t (port j) same typed = inputs_named j t typed
     by_ref t undefined same typed = cc
     by_ref t (result j k) same typed =
         let f = bind_some (slice_get m.body j) (λ (z : Op). result_type z k) typed in by_pure f.0 f.1 f.2 (is_pure f.0) refl where
-          by_pure : (o' : Op) → slice_get m.body j ≡ Some o' → result_type o' k ≡ Some t → (p : Bool) → is_pure o' ≡ p → is_some (named m (result j k)) ≡ true
+          by_pure : (o' : Op) → slice_get m.body j ≡ Some o' → result_type o' k ≡ Some t → (p : Bool) → is_pure o' ≡ p → is_some (value_name m (result j k)) ≡ true
           by_pure o' at type_is false pure = owned j k o' t at type_is pure
           by_pure o' at type_is true pure =
               let h = pure_sort o' pure in
@@ -196,7 +196,7 @@ module _ (d : Design) (x : Setting d) (s : Name) (m : Module) (is : find_module 
               (inr (cut_spilled m.ports m.body j i o' o at pure there (only ∙ ap (λ z. z ∷ []) here)
               (ap (λ z. is_narrower o.kind (width_of (result_type o 0)) (value_width m.ports m.body z)) (sym here) ∙ narrow))))
 
-    go : (t : Option HwType) → type_in m.ports m.body r ≡ t → is_some (named m r) ≡ true
+    go : (t : Option HwType) → type_in m.ports m.body r ≡ t → is_some (value_name m r) ≡ true
     go None none = absurd (let h : false ≡ true = sym (no_bits_cut o.kind (width_of (result_type o 0))) ∙ ap (λ z. is_narrower o.kind (width_of (result_type o 0)) (width_of z)) (sym none) ∙ narrow in cc)
     go (Some t) typed = by_ref t r refl typed
 
@@ -208,7 +208,7 @@ module _ (d : Design) (x : Setting d) (s : Name) (m : Module) (is : find_module 
     go (an_output r n u) = absurd (no_results i k o t there typed u)
     go (a_made r n u) = made_first i k o t there typed n u
 
-  pub writable : IsWritable (named m) m.ports m.body
+  pub writable : IsWritable (value_name m) m.ports m.body
   writable = record {
     fits = λ i o there. (module_sound d x s m is).ops i o there;
     integers = λ i o there. ((module_ok d x s m is).ops i o there).integers;

@@ -11,7 +11,7 @@ use Rattle.name_legalise.proofs.Legals.{legal_count}
 use Rattle.verilog_expr.specs.Named.{name_in, result_name, named_of}
 use Rattle.verilog_expr.specs.declared.value_names.NameList.{NameList}
 use Rattle.verilog_expr.specs.declared.value_names.ValueNames.{ValueNames}
-use Rattle.export_verilog.specs.Identifiers.{Identifier, each, port_identifiers, op_identifiers, module_identifiers, name_among, identifier_name, name_or_nothing, input_name, named}
+use Rattle.export_verilog.specs.Identifiers.{Identifier, each, port_identifiers, op_identifiers, module_identifiers, name_among, identifier_name, name_or_nothing, input_name, value_name}
 use Rattle.export_verilog.specs.Identifiers.Identifier.{port_identifier, value_identifier, instance_identifier}
 use Rattle.export_verilog.specs.Held.{op_results, op_own_name}
 use Rattle.export_verilog.specs.Walks.{body_name_hints, body_given, result_lists}
@@ -88,7 +88,7 @@ module _ (m : Module) (ns : List Name) (e : ns ≡ legal (map (λ (p : Port). p.
       ∙ instances_given m.ports m.body ns 0 m.body i o x at is
 
   module _ (v : ValueNames) (inputs : v.ports.items ≡ port_values m.ports ns) (results : result_lists v ≡ body_given op_results m.ports m.body ns 0 m.body) where
-    value_is : (r : Ref) → named_of v r ≡ named m r
+    value_is : (r : Ref) → named_of v r ≡ value_name m r
     value_is (port j) = ap (λ l. name_in l j) inputs ∙ input_at m j m.ports ns j count (port_at j)
     value_is (result i k) = listed_name v.ops.items i k ∙ ap (λ l. given_name (slice_get l i) k) results ∙ sym (value_named i k)
     value_is undefined = refl

@@ -11,7 +11,7 @@ use Rattle.verilog_expr.proofs.Drops.{drop_none, split}
 use Rattle.export_verilog.specs.Exported.{expr_or_none, others}
 use Rattle.export_verilog.specs.Layout.{Text, connection_text}
 use Rattle.export_verilog.specs.Written.{line_end, some_left, connections_left, written_connection}
-use Rattle.export_verilog.specs.Joined.{joined}
+use Rattle.export_verilog.specs.Joined.{connections_from}
 use Rattle.export_verilog.proofs.text.Listed.{less_suc, connection_first}
 use Rattle.export_verilog.proofs.text.WrittenItems.{connection_same}
 
@@ -30,14 +30,14 @@ others_drop view (x ∷ xs) (suc u) =
 
 module _ {A B : Type 0} (view : A → Port) (vref : B → Ref) (ex : Ref → Expr) (given : ℕ → Name) where
   pub some_joined : (ns : List Name) (xs : List A) (j k : ℕ) (rs : List Ref) → length ns ≡ length xs
-      → some_left (joined ex given k (drop j ns) (map view (drop j xs)) rs) ≡ nat_lt j (length xs)
+      → some_left (connections_from ex given k (drop j ns) (map view (drop j xs)) rs) ≡ nat_lt j (length xs)
   some_joined [] [] zero k rs e = refl
   some_joined [] [] (suc j) k rs e = grind arith
   some_joined [] (x ∷ xs) j k rs e = absurd (omega (arith, e))
   some_joined (n ∷ ns) [] j k rs e = absurd (omega (arith, e))
   some_joined (n ∷ ns) (x ∷ xs) zero k rs e =
       some_either (view x).is_output (record { port = n; value = name (given k) }) (record { port = n; value = expr_or_none ex rs })
-      (joined ex given (k + 1) ns (map view xs) rs) (joined ex given k ns (map view xs) (others rs))
+      (connections_from ex given (k + 1) ns (map view xs) rs) (connections_from ex given k ns (map view xs) (others rs))
       ∙ grind (arith, nat_tests)
   some_joined (n ∷ ns) (x ∷ xs) (suc j) k rs e = some_joined ns xs j k rs (omega (arith, e)) ∙ less_suc j (length xs)
 
@@ -47,7 +47,7 @@ module _ {A B : Type 0} (view : A → Port) (vref : B → Ref) (ex : Ref → Exp
 
   -- the connections that are left, in bytes
   abbrev pub joined_left : List Name → List A → List B → ℕ → ℕ → ℕ → Text
-  joined_left ns xs os j k u = connections_left (joined ex given k (drop j ns) (map view (drop j xs)) (map vref (drop u os))) []
+  joined_left ns xs os j k u = connections_left (connections_from ex given k (drop j ns) (map view (drop j xs)) (map vref (drop u os))) []
 
   -- one connection before the others
   front : (ns : List Name) (xs : List A) (os : List B) (j k u : ℕ) (n : Name) (x : A) (b : Bool) → (view x).is_output ≡ b
@@ -56,25 +56,25 @@ module _ {A B : Type 0} (view : A → Port) (vref : B → Ref) (ex : Ref → Exp
       ≡ connection_text (written_connection n (joined_text b k (map vref (drop u os)))) (line_end (nat_lt (j + 1) (length xs)))
       ++ joined_left ns xs os (j + 1) (cond b (k + 1) k) (cond (not b) (u + 1) u)
   front ns xs os j k u n x true is count lt nat xat =
-      let rest = joined ex given (k + 1) (drop (j + 1) ns) (map view (drop (j + 1) xs)) (map vref (drop u os)) in
-      ap (λ l. connections_left (joined ex given k l (map view (drop j xs)) (map vref (drop u os))) []) (split ns j n (omega (arith, count, lt)) nat)
-      ∙ ap (λ l. connections_left (joined ex given k (n ∷ drop (j + 1) ns) (map view l) (map vref (drop u os))) []) (split xs j x lt xat)
+      let rest = connections_from ex given (k + 1) (drop (j + 1) ns) (map view (drop (j + 1) xs)) (map vref (drop u os)) in
+      ap (λ l. connections_left (connections_from ex given k l (map view (drop j xs)) (map vref (drop u os))) []) (split ns j n (omega (arith, count, lt)) nat)
+      ∙ ap (λ l. connections_left (connections_from ex given k (n ∷ drop (j + 1) ns) (map view l) (map vref (drop u os))) []) (split xs j x lt xat)
       ∙ ap (λ b. connections_left (cond b (record { port = n; value = name (given k) } ∷ rest)
-      (record { port = n; value = expr_or_none ex (map vref (drop u os)) } ∷ joined ex given k (drop (j + 1) ns) (map view (drop (j + 1) xs)) (others (map vref (drop u os))))) []) is
+      (record { port = n; value = expr_or_none ex (map vref (drop u os)) } ∷ connections_from ex given k (drop (j + 1) ns) (map view (drop (j + 1) xs)) (others (map vref (drop u os))))) []) is
       ∙ connection_first (record { port = n; value = name (given k) }) rest []
       ∙ ap (λ b. connection_text (record { port = n; value = name (given k) }) (line_end b) ++ connections_left rest []) (some_joined ns xs (j + 1) (k + 1) (map vref (drop u os)) count)
   front ns xs os j k u n x false is count lt nat xat =
       let rs = map vref (drop u os) in
-      let rest = joined ex given k (drop (j + 1) ns) (map view (drop (j + 1) xs)) (others rs) in
+      let rest = connections_from ex given k (drop (j + 1) ns) (map view (drop (j + 1) xs)) (others rs) in
       let c : Connection = record { port = n; value = expr_or_none ex rs } in
-      ap (λ l. connections_left (joined ex given k l (map view (drop j xs)) rs) []) (split ns j n (omega (arith, count, lt)) nat)
-      ∙ ap (λ l. connections_left (joined ex given k (n ∷ drop (j + 1) ns) (map view l) rs) []) (split xs j x lt xat)
-      ∙ ap (λ b. connections_left (cond b (record { port = n; value = name (given k) } ∷ joined ex given (k + 1) (drop (j + 1) ns) (map view (drop (j + 1) xs)) rs) (c ∷ rest)) []) is
+      ap (λ l. connections_left (connections_from ex given k l (map view (drop j xs)) rs) []) (split ns j n (omega (arith, count, lt)) nat)
+      ∙ ap (λ l. connections_left (connections_from ex given k (n ∷ drop (j + 1) ns) (map view l) rs) []) (split xs j x lt xat)
+      ∙ ap (λ b. connections_left (cond b (record { port = n; value = name (given k) } ∷ connections_from ex given (k + 1) (drop (j + 1) ns) (map view (drop (j + 1) xs)) rs) (c ∷ rest)) []) is
       ∙ connection_first c rest []
       ∙ ap (λ b. connection_text c (line_end b) ++ connections_left rest []) (some_joined ns xs (j + 1) k (others rs) count)
       ∙ ap (λ t. t ++ connections_left rest []) (sym (connection_same n (expr_or_none ex rs) (line_end (nat_lt (j + 1) (length xs)))))
       ∙ ap (λ l. connection_text (written_connection n (expr_text (expr_or_none ex rs) [])) (line_end (nat_lt (j + 1) (length xs)))
-      ++ connections_left (joined ex given k (drop (j + 1) ns) (map view (drop (j + 1) xs)) l) []) (others_drop vref os u)
+      ++ connections_left (connections_from ex given k (drop (j + 1) ns) (map view (drop (j + 1) xs)) l) []) (others_drop vref os u)
 
   pub joined_step : (ns : List Name) (xs : List A) (os : List B) (j k u k2 u2 : ℕ) (n value : Text) (x : A) (left : Bool) (out one whole : Text)
       → length ns ≡ length xs → j < length xs → n ≡ get_or ns j n → x ≡ get_or xs j x → left ≡ nat_lt (j + 1) (length xs)
@@ -106,4 +106,4 @@ module _ {A B : Type 0} (view : A → Port) (vref : B → Ref) (ex : Ref → Exp
   pub joined_end : (ns : List Name) (xs : List A) (os : List B) (j k u : ℕ) (out whole : Text) → length ns ≡ length xs → length xs ≤ j
       → out ++ joined_left ns xs os j k u ≡ whole → out ≡ whole
   joined_end ns xs os j k u out whole count le inv =
-      sym (append-nil out) ∙ sym (ap (λ l. out ++ connections_left (joined ex given k l (map view (drop j xs)) (map vref (drop u os))) []) (drop_none ns j (omega (arith, count, le)))) ∙ inv
+      sym (append-nil out) ∙ sym (ap (λ l. out ++ connections_left (connections_from ex given k l (map view (drop j xs)) (map vref (drop u os))) []) (drop_none ns j (omega (arith, count, le)))) ∙ inv

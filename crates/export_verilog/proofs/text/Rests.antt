@@ -6,7 +6,7 @@ use Rattle.verilog_model.specs.Tree.Exprs.{last, more}
 use Rattle.verilog_model.specs.Grammar.{base_mark, direction}
 use Rattle.verilog_expr.specs.Text.{question_text, operator_text, expr_text, exprs_text}
 use Rattle.export_verilog.specs.Layout.{Text, range_text, port_text, load_text, if_text, connection_text}
-use Rattle.export_verilog.specs.Written.{written, written_load, otherwise_text}
+use Rattle.export_verilog.specs.Written.{verbatim, written_load, otherwise_text}
 
 -- ---- parts that are added one after another
 
@@ -69,22 +69,22 @@ if_rest f e a b =
     ∙ sym (append_assoc f (codes "if (" ++ expr_text e (41 ∷ 10 ∷ a)) b)
 
 -- a condition and a load
-pub guarded_parts : (out one two f c i q v : Text) → one ≡ out ++ if_text f (written c) [] → two ≡ one ++ load_text i (written_load q v) []
-    → two ≡ out ++ if_text f (written c) (load_text i (written_load q v) [])
+pub guarded_parts : (out one two f c i q v : Text) → one ≡ out ++ if_text f (verbatim c) [] → two ≡ one ++ load_text i (written_load q v) []
+    → two ≡ out ++ if_text f (verbatim c) (load_text i (written_load q v) [])
 guarded_parts out one two f c i q v p e =
     e ∙ ap (λ x. x ++ load_text i (written_load q v) []) p
-    ∙ append_assoc out (if_text f (written c) []) (load_text i (written_load q v) [])
-    ∙ ap (λ x. out ++ x) (sym (if_rest f (written c) [] (load_text i (written_load q v) [])))
+    ∙ append_assoc out (if_text f (verbatim c) []) (load_text i (written_load q v) [])
+    ∙ ap (λ x. out ++ x) (sym (if_rest f (verbatim c) [] (load_text i (written_load q v) [])))
 
 -- a reset, and what stands after it
 pub reset_parts : (out one two c q v next : Text) (en : Option Text)
-    → one ≡ out ++ if_text (codes "    ") (written c) (load_text (codes "      ") (written_load q v) []) → two ≡ one ++ otherwise_text q next en
-    → two ≡ out ++ if_text (codes "    ") (written c) (load_text (codes "      ") (written_load q v) (otherwise_text q next en))
+    → one ≡ out ++ if_text (codes "    ") (verbatim c) (load_text (codes "      ") (written_load q v) []) → two ≡ one ++ otherwise_text q next en
+    → two ≡ out ++ if_text (codes "    ") (verbatim c) (load_text (codes "      ") (written_load q v) (otherwise_text q next en))
 reset_parts out one two c q v next en p e =
     e ∙ ap (λ x. x ++ otherwise_text q next en) p
-    ∙ append_assoc out (if_text (codes "    ") (written c) (load_text (codes "      ") (written_load q v) [])) (otherwise_text q next en)
-    ∙ ap (λ x. out ++ x) (sym (if_rest (codes "    ") (written c) (load_text (codes "      ") (written_load q v) []) (otherwise_text q next en)))
-    ∙ ap (λ x. out ++ if_text (codes "    ") (written c) x) (sym (load_rest (codes "      ") (written_load q v) [] (otherwise_text q next en)))
+    ∙ append_assoc out (if_text (codes "    ") (verbatim c) (load_text (codes "      ") (written_load q v) [])) (otherwise_text q next en)
+    ∙ ap (λ x. out ++ x) (sym (if_rest (codes "    ") (verbatim c) (load_text (codes "      ") (written_load q v) []) (otherwise_text q next en)))
+    ∙ ap (λ x. out ++ if_text (codes "    ") (verbatim c) x) (sym (load_rest (codes "      ") (written_load q v) [] (otherwise_text q next en)))
 
 -- ---- ports
 

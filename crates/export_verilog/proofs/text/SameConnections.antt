@@ -11,7 +11,7 @@ use Rattle.export_verilog.specs.Identifiers.{identifier_name, identifier_text, n
 use Rattle.export_verilog.specs.Identifiers.Identifier.{port_identifier, value_identifier, instance_identifier}
 use Rattle.export_verilog.specs.Exported.{expression, expr_or_none, others, symbol_name, connections_of, connections_to, instance_of}
 use Rattle.export_verilog.specs.Held.{ArePortNames}
-use Rattle.export_verilog.specs.Joined.{joined}
+use Rattle.export_verilog.specs.Joined.{connections_from}
 
 module _ (m : Module) (i : ℕ) (ex : Ref → Expr) (given : ℕ → Name) (same : (r : Ref) → ex r ≡ expression m r) (results : (k : ℕ) → given k ≡ identifier_text m (value_identifier i k)) where
   operand_same : (rs : List Ref) → expr_or_none ex rs ≡ expr_or_none (expression m) rs
@@ -20,7 +20,7 @@ module _ (m : Module) (i : ℕ) (ex : Ref → Expr) (given : ℕ → Name) (same
 
   joined_from : (c : Module) (j k : ℕ) (ps : List Port) (ns : List Name) (rs : List Ref) → length ns ≡ length ps
       → ((n : ℕ) (p : Port) → slice_get ps n ≡ Some p → identifier_name c (port_identifier (j + n)) ≡ slice_get ns n)
-      → joined ex given k ns ps rs ≡ connections_of c m i j k ps rs
+      → connections_from ex given k ns ps rs ≡ connections_of c m i j k ps rs
   joined_from c j k [] [] rs count at = refl
   joined_from c j k [] (n ∷ ns) rs count at = absurd (omega (arith, count))
   joined_from c j k (p ∷ ps) [] rs count at = absurd (omega (arith, count))
@@ -35,22 +35,22 @@ module _ (m : Module) (i : ℕ) (ex : Ref → Expr) (given : ℕ → Name) (same
         first : n ≡ identifier_text c (port_identifier j)
         first = sym (ap name_or_nothing (ap (λ z. identifier_name c (port_identifier z)) (sym (add-zero j)) ∙ at 0 p refl))
 
-        go : (b : Bool) → joined ex given (suc k) ns ps rs ≡ connections_of c m i (suc j) (suc k) ps rs
-            → joined ex given k ns ps (others rs) ≡ connections_of c m i (suc j) k ps (others rs)
-            → cond b (record { port = n; value = name (given k) } ∷ joined ex given (k + 1) ns ps rs) (record { port = n; value = expr_or_none ex rs } ∷ joined ex given k ns ps (others rs))
+        go : (b : Bool) → connections_from ex given (suc k) ns ps rs ≡ connections_of c m i (suc j) (suc k) ps rs
+            → connections_from ex given k ns ps (others rs) ≡ connections_of c m i (suc j) k ps (others rs)
+            → cond b (record { port = n; value = name (given k) } ∷ connections_from ex given (k + 1) ns ps rs) (record { port = n; value = expr_or_none ex rs } ∷ connections_from ex given k ns ps (others rs))
             ≡ cond b (record { port = identifier_text c (port_identifier j); value = name (identifier_text m (value_identifier i k)) } ∷ connections_of c m i (suc j) (suc k) ps rs)
             (record { port = identifier_text c (port_identifier j); value = expr_or_none (expression m) rs } ∷ connections_of c m i (suc j) k ps (others rs))
         go true out inward =
-            ap (λ z. record { port = z; value = name (given k) } ∷ joined ex given (k + 1) ns ps rs) first
-            ∙ ap (λ z. record { port = identifier_text c (port_identifier j); value = name z } ∷ joined ex given (k + 1) ns ps rs) (results k)
-            ∙ ap (λ l. record { port = identifier_text c (port_identifier j); value = name (identifier_text m (value_identifier i k)) } ∷ l) (ap (λ z. joined ex given z ns ps rs) (add-one k) ∙ out)
+            ap (λ z. record { port = z; value = name (given k) } ∷ connections_from ex given (k + 1) ns ps rs) first
+            ∙ ap (λ z. record { port = identifier_text c (port_identifier j); value = name z } ∷ connections_from ex given (k + 1) ns ps rs) (results k)
+            ∙ ap (λ l. record { port = identifier_text c (port_identifier j); value = name (identifier_text m (value_identifier i k)) } ∷ l) (ap (λ z. connections_from ex given z ns ps rs) (add-one k) ∙ out)
         go false out inward =
-            ap (λ z. record { port = z; value = expr_or_none ex rs } ∷ joined ex given k ns ps (others rs)) first
-            ∙ ap (λ e. record { port = identifier_text c (port_identifier j); value = e } ∷ joined ex given k ns ps (others rs)) (operand_same rs)
+            ap (λ z. record { port = z; value = expr_or_none ex rs } ∷ connections_from ex given k ns ps (others rs)) first
+            ∙ ap (λ e. record { port = identifier_text c (port_identifier j); value = e } ∷ connections_from ex given k ns ps (others rs)) (operand_same rs)
             ∙ ap (λ l. record { port = identifier_text c (port_identifier j); value = expr_or_none (expression m) rs } ∷ l) inward
 
   joined_found : (found : Option Module) (o : Op) (ns : List Name) → length ns ≡ length (ports_of found) → ArePortNames (ports_of found) ns
-      → joined ex given 0 ns (ports_of found) o.operands ≡ connections_to found m i o
+      → connections_from ex given 0 ns (ports_of found) o.operands ≡ connections_to found m i o
   joined_found None o [] count are = refl
   joined_found None o (n ∷ ns) count are = absurd (omega (arith, count))
   joined_found (Some c) o ns count are =
@@ -58,8 +58,8 @@ module _ (m : Module) (i : ℕ) (ex : Ref → Expr) (given : ℕ → Name) (same
 
   -- the connections of an instance of a module that is found, or of none
   pub joined_same : (found : Option Module) (o : Op) (ns : List Name) (ps : List Port) → ps ≡ ports_of found → length ns ≡ length ps → ArePortNames (ports_of found) ns
-      → joined ex given 0 ns ps o.operands ≡ connections_to found m i o
-  joined_same found o ns ps same count are = ap (λ l. joined ex given 0 ns l o.operands) same ∙ joined_found found o ns (count ∙ ap length same) are
+      → connections_from ex given 0 ns ps o.operands ≡ connections_to found m i o
+  joined_same found o ns ps same count are = ap (λ l. connections_from ex given 0 ns l o.operands) same ∙ joined_found found o ns (count ∙ ap length same) are
 
 -- the instance, by the parts that code has of it
 pub instance_same : (d : Design) (m : Module) (i : ℕ) (o : Op) (x : Instance) (symbol callee own : Name) (cs : List Connection) → symbol ≡ x.symbol → callee ≡ symbol_name d symbol

@@ -12,14 +12,14 @@ use Rattle.verilog_expr.specs.Scopes.{scope_ports, scope_ops}
 use Rattle.verilog_expr.specs.Named.{named_of}
 use Rattle.verilog_expr.specs.declared.scope.Scope.{Scope}
 use Rattle.verilog_expr.specs.declared.value_names.ValueNames.{ValueNames}
-use Rattle.export_verilog.specs.Identifiers.{Emission, name_or_nothing, named, identifier_text}
+use Rattle.export_verilog.specs.Identifiers.{Emission, name_or_nothing, value_name, identifier_text}
 use Rattle.export_verilog.specs.Identifiers.Identifier.{value_identifier}
 use Rattle.export_verilog.specs.Identifiers.Emission.{inline, as_wire, as_reg, as_instance}
 use Rattle.export_verilog.specs.Exported.{result_wires, declared_as}
 use Rattle.export_verilog.specs.ScopeModules.{scope_module}
 use Rattle.export_verilog.specs.Values.{value_wire, value_variable, value_wires, declared_items}
 
-module _ (s : Scope) (v : ValueNames) (i : ℕ) (o : Op) (there : slice_get (scope_ops s) i ≡ Some o) (values : (r : Ref) → named_of v r ≡ named (scope_module s) r) where
+module _ (s : Scope) (v : ValueNames) (i : ℕ) (o : Op) (there : slice_get (scope_ops s) i ≡ Some o) (values : (r : Ref) → named_of v r ≡ value_name (scope_module s) r) where
   width_at : (k : ℕ) → value_width (scope_ports s) (scope_ops s) (result i k) ≡ width_of (result_type o k)
   width_at k = ap (λ x. width_of (bind x (λ (p : Op). result_type p k))) there
 

@@ -12,7 +12,7 @@ use Rattle.verilog_model.specs.Tree.Item.{wire, reg, assign, always, instance}
 use Rattle.name_legalise.specs.Legal.{legal}
 use Rattle.verilog_expr.specs.Numerals.{high_of}
 use Rattle.verilog_expr.specs.Spilling.{height_limit}
-use Rattle.export_verilog.specs.Identifiers.{Identifier, Emission, each, emission_of, name_hint, module_identifiers, names, name_among, identifier_name, identifier_text, name_or_nothing, input_name, named}
+use Rattle.export_verilog.specs.Identifiers.{Identifier, Emission, each, emission_of, name_hint, module_identifiers, names, name_among, identifier_name, identifier_text, name_or_nothing, input_name, value_name}
 use Rattle.export_verilog.specs.Identifiers.Identifier.{port_identifier, value_identifier, instance_identifier}
 use Rattle.export_verilog.specs.Identifiers.Emission.{inline, as_wire, as_reg, as_instance}
 use Rattle.export_verilog.specs.Exported.{expression, assigned_expr, vport, vports, result_wires, declared_as, declares, loads, block_of, always_of, expr_or_none, others, connections_of, connections_to, instance_of, stated_as, states, output_assigns, symbol_name, vitems}
@@ -69,16 +69,16 @@ module _ (m : Module) (symbol : Name) (is_private : Bool) (dictionary : List Ent
   input_same j None = refl
   input_same j (Some p) = ap (cond p.is_output None) (identifier_same (port_identifier j))
 
-  named_same : (r : Ref) → named m r ≡ named other r
+  named_same : (r : Ref) → value_name m r ≡ value_name other r
   named_same (port j) = input_same j (slice_get m.ports j)
   named_same (result i k) = identifier_same (value_identifier i k)
   named_same undefined = refl
 
   expression_same : (r : Ref) → expression m r ≡ expression other r
-  expression_same r = expr_same (named m) (named other) m.ports m.body named_same (suc height_limit) r
+  expression_same r = expr_same (value_name m) (value_name other) m.ports m.body named_same (suc height_limit) r
 
   assigned_same : (r : Ref) → assigned_expr m r ≡ assigned_expr other r
-  assigned_same r = own_same (named m) (named other) m.ports m.body (expression m) (expression other) expression_same r
+  assigned_same r = own_same (value_name m) (value_name other) m.ports m.body (expression m) (expression other) expression_same r
 
   -- ---- declarations
 

@@ -13,7 +13,7 @@ use Rattle.verilog_expr.specs.Scopes.{scope_ports, scope_ops}
 use Rattle.verilog_expr.specs.Named.{named_of}
 use Rattle.verilog_expr.specs.declared.scope.Scope.{Scope}
 use Rattle.verilog_expr.specs.declared.value_names.ValueNames.{ValueNames}
-use Rattle.export_verilog.specs.Identifiers.{name_or_nothing, named, identifier_text}
+use Rattle.export_verilog.specs.Identifiers.{name_or_nothing, value_name, identifier_text}
 use Rattle.export_verilog.specs.Identifiers.Identifier.{value_identifier}
 use Rattle.export_verilog.specs.Identifiers.Emission.{as_wire, as_reg}
 use Rattle.export_verilog.specs.Exported.{expression, assigned_expr, loads, block_of, always_of, stated_as}
@@ -32,14 +32,14 @@ block_same ex ey same q next (Some en) (Some by) =
     ap₂ (λ x y. if_else_if y (loads q (ex by.value)) (ex en) (loads q x)) (same next) (same by.signal)
     ∙ ap₂ (λ x y. if_else_if (ey by.signal) (loads q x) y (loads q (ey next))) (same by.value) (same en)
 
-module _ (s : Scope) (v : ValueNames) (values : (r : Ref) → named_of v r ≡ named (scope_module s) r) where
+module _ (s : Scope) (v : ValueNames) (values : (r : Ref) → named_of v r ≡ value_name (scope_module s) r) where
   -- where a value is used
   pub used_same : (r : Ref) → value_expr s v r ≡ expression (scope_module s) r
-  used_same r = expr_same (named_of v) (named (scope_module s)) (scope_ports s) (scope_ops s) values (suc height_limit) r
+  used_same r = expr_same (named_of v) (value_name (scope_module s)) (scope_ports s) (scope_ops s) values (suc height_limit) r
 
   -- what is assigned to a value's own name
   pub assigned_same : (r : Ref) → own_expr (named_of v) (scope_ports s) (scope_ops s) (value_expr s v) r ≡ assigned_expr (scope_module s) r
-  assigned_same r = own_same (named_of v) (named (scope_module s)) (scope_ports s) (scope_ops s) (value_expr s v) (expression (scope_module s)) used_same r
+  assigned_same r = own_same (named_of v) (value_name (scope_module s)) (scope_ports s) (scope_ops s) (value_expr s v) (expression (scope_module s)) used_same r
 
   -- the statement of a register
   pub register_same : (q : Name) (r : Option Register) → register_items (named_of v) (value_expr s v) q r ≡ always_of (scope_module s) q r

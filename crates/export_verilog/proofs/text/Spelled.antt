@@ -16,7 +16,7 @@ use Rattle.verilog_expr.specs.Numerals.{high_of}
 use Rattle.verilog_expr.specs.Values.{gives_values}
 use Rattle.verilog_expr.proofs.TextRead.{IsWord, IsSpellable}
 use Rattle.verilog_expr.proofs.Checked.{decimal_word}
-use Rattle.export_verilog.specs.Identifiers.{Identifier, emission_of, identifier_text, module_identifiers, named, name_or_nothing}
+use Rattle.export_verilog.specs.Identifiers.{Identifier, emission_of, identifier_text, module_identifiers, value_name, name_or_nothing}
 use Rattle.export_verilog.specs.Identifiers.Identifier.{port_identifier, value_identifier, instance_identifier}
 use Rattle.export_verilog.specs.Identifiers.Emission.{as_wire, as_reg, as_instance}
 use Rattle.export_verilog.specs.Exported.{expression, assigned_expr, symbol_names, symbol_name, block_of, loads, connections_of, connections_to, vport, vports, vitems, vmodule, tree_of}
@@ -86,14 +86,14 @@ module _ (d : Design) (x : Setting d) where
       go (Some e) (Some b) u v = (written b.signal _ (are.signal b v), (load_spelled i here b.value t (are.value b v), (written e _ (are.enable e u), next)))
 
     register_spelled : (i : ℕ) (o : Op) (r : Register) → slice_get m.body i ≡ Some o → emission_of m.ports m.body i o ≡ as_reg → register_in o ≡ Some r
-        → IsWord (name_or_nothing (named m r.clock)) × IsSpellableBlock (block_of (expression m) (identifier_text m (value_identifier i 0)) r.next r.enable r.reset)
+        → IsWord (name_or_nothing (value_name m r.clock)) × IsSpellableBlock (block_of (expression m) (identifier_text m (value_identifier i 0)) r.next r.enable r.reset)
     register_spelled i o r there emission at =
         let first = result_at_first d x s m is i o there (inr emission) in
         let typed = typed_register d x s m is i o there emission first.0.type (ap (omap (λ (z : OpResult). z.type)) first.1) in
         let e : Some typed.0 ≡ Some r = sym typed.1 ∙ at in
         let f : typed.0 ≡ r = cc in
         let c = ((module_ok d x s m is).ops i o there).clocked r at in
-        let clock_name : name_or_nothing (named m r.clock) ≡ identifier_text m (port_identifier c.number) = ap (λ z. name_or_nothing (named m z)) c.is_port ∙ ap name_or_nothing (named_input d x s m is c.number c.clock c.there c.input) in (
+        let clock_name : name_or_nothing (value_name m r.clock) ≡ identifier_text m (port_identifier c.number) = ap (λ z. name_or_nothing (value_name m z)) c.is_port ∙ ap name_or_nothing (named_input d x s m is c.number c.clock c.there c.input) in (
           subst IsWord (sym clock_name) (word_of_identifier s m is (port_identifier c.number) (port_in m c.number c.clock c.there)),
           block_spelled i (variable_in m i o there emission) first.0.type r (subst (AreOperands (type_in m.ports m.body) first.0.type) f typed.2),
         )

@@ -8,12 +8,12 @@ use Rattle.verilog_model.specs.Tree.{Expr}
 use Rattle.verilog_model.specs.Tree.Item.{assign, always}
 use Rattle.verilog_expr.specs.Text.{expr_text}
 use Rattle.export_verilog.specs.Layout.{Text, load_text, if_text, block_text, item_text, connection_text}
-use Rattle.export_verilog.specs.Written.{WrittenReset, written, written_load, written_block, written_connection}
+use Rattle.export_verilog.specs.Written.{WrittenReset, verbatim, written_load, written_block, written_connection}
 use Rattle.export_verilog.specs.Exported.{loads, block_of}
 use Rattle.export_verilog.proofs.text.Rests.{expr_rest}
 
 -- an expression by its bytes
-pub written_same : (e : Expr) (bs : Text) → expr_text (written (expr_text e [])) bs ≡ expr_text e bs
+pub written_same : (e : Expr) (bs : Text) → expr_text (verbatim (expr_text e [])) bs ≡ expr_text e bs
 unfolding expr_text
 written_same e bs = sym (expr_rest e [] bs)
 
@@ -21,7 +21,7 @@ pub load_same : (i : Text) (q : Name) (e : Expr) (bs : Text) → load_text i (wr
 unfolding load_text
 load_same i q e bs = ap (λ x. i ++ (q ++ (codes " <= " ++ x))) (written_same e (59 ∷ 10 ∷ bs))
 
-pub if_same : (f : Text) (e : Expr) (bs : Text) → if_text f (written (expr_text e [])) bs ≡ if_text f e bs
+pub if_same : (f : Text) (e : Expr) (bs : Text) → if_text f (verbatim (expr_text e [])) bs ≡ if_text f e bs
 unfolding if_text
 if_same f e bs = ap (λ x. f ++ (codes "if (" ++ x)) (written_same e (41 ∷ 10 ∷ bs))
 
@@ -42,8 +42,8 @@ module _ (ex : Ref → Expr) (q : Name) where
       ∙ ap (if_text (codes "    ") (ex r.signal)) (load_same (codes "      ") q (ex r.value) (codes "    else" ++ (10 ∷ load_text (codes "      ") (written_load q (expr_text (ex next) [])) bs)))
       ∙ ap (λ x. if_text (codes "    ") (ex r.signal) (load_text (codes "      ") (loads q (ex r.value)) (codes "    else" ++ (10 ∷ x)))) (load_same (codes "      ") q (ex next) bs)
   block_same next (Some en) (Some r) bs =
-      if_same (codes "    ") (ex r.signal) (load_text (codes "      ") (written_load q (expr_text (ex r.value) [])) (if_text (codes "    else ") (written (expr_text (ex en) [])) (load_text (codes "      ") (written_load q (expr_text (ex next) [])) bs)))
-      ∙ ap (if_text (codes "    ") (ex r.signal)) (load_same (codes "      ") q (ex r.value) (if_text (codes "    else ") (written (expr_text (ex en) [])) (load_text (codes "      ") (written_load q (expr_text (ex next) [])) bs)))
+      if_same (codes "    ") (ex r.signal) (load_text (codes "      ") (written_load q (expr_text (ex r.value) [])) (if_text (codes "    else ") (verbatim (expr_text (ex en) [])) (load_text (codes "      ") (written_load q (expr_text (ex next) [])) bs)))
+      ∙ ap (if_text (codes "    ") (ex r.signal)) (load_same (codes "      ") q (ex r.value) (if_text (codes "    else ") (verbatim (expr_text (ex en) [])) (load_text (codes "      ") (written_load q (expr_text (ex next) [])) bs)))
       ∙ ap (λ x. if_text (codes "    ") (ex r.signal) (load_text (codes "      ") (loads q (ex r.value)) x))
       (if_same (codes "    else ") (ex en) (load_text (codes "      ") (written_load q (expr_text (ex next) [])) bs)
       ∙ ap (if_text (codes "    else ") (ex en)) (load_same (codes "      ") q (ex next) bs))
@@ -53,7 +53,7 @@ module _ (ex : Ref → Expr) (q : Name) where
   unfolding item_text
   always_same clock next en r bs = ap (λ x. codes "  always @(posedge " ++ (clock ++ (41 ∷ 10 ∷ x))) (block_same next en r bs)
 
-pub assign_same : (n : Name) (e : Expr) (bs : Text) → item_text (assign n (written (expr_text e []))) bs ≡ item_text (assign n e) bs
+pub assign_same : (n : Name) (e : Expr) (bs : Text) → item_text (assign n (verbatim (expr_text e []))) bs ≡ item_text (assign n e) bs
 unfolding item_text
 assign_same n e bs = ap (λ x. codes "  assign " ++ (n ++ (codes " = " ++ x))) (written_same e (59 ∷ 10 ∷ bs))
 

@@ -11,7 +11,7 @@ use Rattle.mlir_syntax.specs.OperationText.{OperationText}
 use Rattle.mlir_reader.specs.Resolving.{Meanings, Defined, Definition, with_definitions, no_meaning, resolve_operand, port_definition, port_definitions, operation_definitions, body_definitions, operations_from, ports_from, is_marked, ends_with_output, has_outputs, left_out_output, port_meanings, meanings, module_of, design_of}
 use Rattle.mlir_reader.proofs.Defining.{definitions_append}
 use Rattle.mlir_printer.specs.Elements.{ValueText}
-use Rattle.mlir_printer.specs.Naming.{port_name_hint, port_name_hints, input_count, body_name_hints, name_hints, wanted, names_given, name_count, first_name, firsts, value_named}
+use Rattle.mlir_printer.specs.Naming.{port_name_hint, port_name_hints, input_count, body_name_hints, name_hints, hints_or_numbers, names_given, name_count, first_name, firsts, value_named}
 use Rattle.mlir_printer.specs.Texts.{parts_in, operation_shown, operations_shown, port_shown, ports_shown, module_shown, modules_shown}
 use Rattle.mlir_printer.specs.Spellable.{Each, said_operand, said_operation, said_port, inherent_view}
 use Rattle.mlir_printer.specs.Printable.{IsDefined, IsPrintableOp, IsPrintablePort, EndsWithOutput, IsPrintableModule, Printable}
@@ -106,7 +106,7 @@ module _ (m : Module) (p : IsPrintableModule m) where
 
   given_length : length given ≡ length (port_name_hints m.ports ++ body_name_hints (map parts_in m.body))
   given_length =
-      fresh_count [] (wanted 0 (port_name_hints m.ports ++ body_name_hints (map parts_in m.body))) ∙ wanted_length 0
+      fresh_count [] (hints_or_numbers 0 (port_name_hints m.ports ++ body_name_hints (map parts_in m.body))) ∙ wanted_length 0
       (port_name_hints m.ports ++ body_name_hints (map parts_in m.body))
 
   all_names : map name_of (port_defs ++ body_defs) ≡ given
@@ -121,7 +121,7 @@ module _ (m : Module) (p : IsPrintableModule m) where
   are_fresh : AreFresh [] given
   are_fresh =
       let few = p.few in
-      fresh_are_new [] (wanted 0 (port_name_hints m.ports ++ body_name_hints (map parts_in m.body)))
+      fresh_are_new [] (hints_or_numbers 0 (port_name_hints m.ports ++ body_name_hints (map parts_in m.body)))
       (omega (arith, few, wanted_length 0 (port_name_hints m.ports ++ body_name_hints (map parts_in m.body))))
 
   all_are_new : AreNew no_meaning (port_defs ++ body_defs)

@@ -15,7 +15,7 @@ use Rattle.mlir_syntax.specs.Numerals.{count_limit}
 use Rattle.mlir_syntax.specs.OperandText.{ResultNames}
 use Rattle.mlir_syntax.specs.Spelling.{StandsInBody}
 use Rattle.mlir_printer.specs.Elements.{ValueText, no_value}
-use Rattle.mlir_printer.specs.Naming.{name_hints, port_name_hint, port_name_hints, input_count, body_name_hints, names_given, name_count, first_name, firsts, called, is_pack, value_at, value_in, port_value, value_named, listed_names, results_named}
+use Rattle.mlir_printer.specs.Naming.{name_hints, port_name_hint, port_name_hints, input_count, body_name_hints, names_given, name_count, first_name, firsts, name_value_text, is_pack, value_at, value_in, port_value, value_named, listed_names, results_named}
 use Rattle.mlir_printer.specs.Texts.{parts_in, operation_shown, operations_shown, ports_shown, module_shown, modules_shown}
 use Rattle.mlir_printer.specs.Spellable.{Each, IsValueName, IsOperand, AreResults, MayBeValue, IsSpellableOperation, AreSpellable, IsSpellablePort, IsSpellable}
 use Rattle.mlir_printer.specs.Printable.{IsDefined, operands_written, types_written, IsPrintableOp, IsPrintablePort, EndsWithOutput, IsPrintableModule, Printable}
@@ -65,7 +65,7 @@ value_fits o ns k fit suits lt = go (is_pack o.kind (length o.results)) refl
   where
     go : (b : Bool) → is_pack o.kind (length o.results) ≡ b
         → IsOperand (cond b (cond (nat_lt k (length o.results)) (record { name = first_name ns; number = Some k }) no_value)
-        (cond (nat_lt k (name_count o)) (called (first_name (drop k ns))) no_value))
+        (cond (nat_lt k (name_count o)) (name_value_text (first_name (drop k ns))) no_value))
     go true h =
         let few = fit.few h in
         subst (λ b. IsOperand (cond b (record { name = first_name ns; number = Some k }) no_value)) (sym (lt-ltb k (length o.results) lt))
@@ -75,7 +75,7 @@ value_fits o ns k fit suits lt = go (is_pack o.kind (length o.results)) refl
         })
     go false h =
         let within : k < name_count o = let e = fit.listed h in omega (arith, lt, e) in
-        subst (λ b. IsOperand (cond b (called (first_name (drop k ns))) no_value)) (sym (lt-ltb k (name_count o) within))
+        subst (λ b. IsOperand (cond b (name_value_text (first_name (drop k ns))) no_value)) (sym (lt-ltb k (name_count o) within))
         (record { name = name_at (name_hints o) ns k suits within; number = tt })
 
 port_fits : (ns : List Name) (ps : List Port) (j : ℕ) (p : Port) → Suits (port_name_hints ps) ns → slice_get ps j ≡ Some p → p.is_output ≡ false
@@ -85,7 +85,7 @@ port_fits ns (q ∷ ps) zero p suits at input =
     let same : q ≡ p = cc in
     go q.is_output (ap (λ (x : Port). x.is_output) same ∙ input) suits
   where
-    go : (b : Bool) → b ≡ false → Suits (cond b [] (Some q.name ∷ []) ++ port_name_hints ps) ns → IsOperand (cond b no_value (called (first_name ns)))
+    go : (b : Bool) → b ≡ false → Suits (cond b [] (Some q.name ∷ []) ++ port_name_hints ps) ns → IsOperand (cond b no_value (name_value_text (first_name ns)))
     go true e h = cc
     go false e h = record { name = name_at (Some q.name ∷ port_name_hints ps) ns 0 h (omega arith); number = tt }
 port_fits ns (q ∷ ps) (suc j) p suits at input =

@@ -7,7 +7,7 @@ use Rattle.hw_model.specs.Types.HwType.{int, clock, array, struct}
 use Rattle.fresh_names.specs.Fresh.{fresh, free_name}
 use Rattle.fresh_names.proofs.Taken.{one_more}
 use Rattle.mlir_printer.specs.Strings.{standing}
-use Rattle.mlir_printer.specs.Naming.{wanted, constant_name_hint}
+use Rattle.mlir_printer.specs.Naming.{hints_or_numbers, constant_name_hint}
 use Rattle.mlir_printer.specs.Chosen.{Chosen, with_name_hint, with_name_hints}
 
 pub name_hints_append : (c : Chosen) (xs ys : List (Option Name)) → with_name_hints c (xs ++ ys) ≡ with_name_hints (with_name_hints c xs) ys
@@ -15,14 +15,14 @@ name_hints_append c [] ys = refl
 name_hints_append c (x ∷ xs) ys = name_hints_append (with_name_hint c x) xs ys
 
 -- they are the fresh names of what is wanted
-pub name_hints_names : (c : Chosen) (ws : List (Option Name)) → (with_name_hints c ws).names ≡ c.names ++ fresh c.names (wanted c.next ws)
+pub name_hints_names : (c : Chosen) (ws : List (Option Name)) → (with_name_hints c ws).names ≡ c.names ++ fresh c.names (hints_or_numbers c.next ws)
 name_hints_names c [] = sym (append-nil c.names)
 name_hints_names c (None ∷ ws) =
     let f : Name = free_name c.names (decimal c.next) in
-    name_hints_names (with_name_hint c None) ws ∙ append_assoc c.names (f ∷ []) (fresh (c.names ++ f ∷ []) (wanted (c.next + 1) ws))
+    name_hints_names (with_name_hint c None) ws ∙ append_assoc c.names (f ∷ []) (fresh (c.names ++ f ∷ []) (hints_or_numbers (c.next + 1) ws))
 name_hints_names c (Some name ∷ ws) =
     let f : Name = free_name c.names (standing name) in
-    name_hints_names (with_name_hint c (Some name)) ws ∙ append_assoc c.names (f ∷ []) (fresh (c.names ++ f ∷ []) (wanted c.next ws))
+    name_hints_names (with_name_hint c (Some name)) ws ∙ append_assoc c.names (f ∷ []) (fresh (c.names ++ f ∷ []) (hints_or_numbers c.next ws))
 
 name_hint_length : (c : Chosen) (w : Option Name) → length (with_name_hint c w).names ≡ length c.names + 1
 name_hint_length c None = one_more c.names (free_name c.names (decimal c.next))

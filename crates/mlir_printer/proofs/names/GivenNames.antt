@@ -12,7 +12,7 @@ use Rattle.fresh_names.proofs.Free.{name_stays}
 use Rattle.mlir_lexer.specs.Classes.{is_digit, is_suffix_byte, is_name_start}
 use Rattle.mlir_lexer.specs.Runs.{run, begins}
 use Rattle.mlir_printer.specs.Strings.{stands, suffix_byte, standing}
-use Rattle.mlir_printer.specs.Naming.{wanted}
+use Rattle.mlir_printer.specs.Naming.{hints_or_numbers}
 use Rattle.mlir_printer.specs.Choices.{AreFree}
 use Rattle.mlir_printer.specs.Spellable.{IsValueName}
 use Rattle.mlir_printer.proofs.lexed.LexedNumbers.{numeral}
@@ -203,7 +203,7 @@ number_unlike n k lt small =
     unlike (decimal n) (decimal k) (λ e. let s = decimal_injective n k (omega (arith, lt, small)) small e in absurd (omega (arith, s, lt)))
 
 pub names_suit : (n : ℕ) (taken : List Name) (ws : List (Option Name)) → length taken + length ws < 2 ^ 64 → n + length ws < 2 ^ 64 → AreFree taken n
-    → Suits ws (fresh taken (wanted n ws))
+    → Suits ws (fresh taken (hints_or_numbers n ws))
 names_suit n taken [] small few free = tt
 names_suit n taken (None ∷ ws) small few free =
     let x = free_name taken (decimal n) in
@@ -221,10 +221,10 @@ names_suit n taken (Some w ∷ ws) small few free =
           (λ k le lt. push_free taken x (decimal k) (free k le lt) (word_unlike x k lt word.front)),
     )
 
-pub given_suit : (ws : List (Option Name)) → length ws < 2 ^ 64 → Suits ws (fresh [] (wanted 0 ws))
+pub given_suit : (ws : List (Option Name)) → length ws < 2 ^ 64 → Suits ws (fresh [] (hints_or_numbers 0 ws))
 given_suit ws small = names_suit 0 [] ws (omega (arith, small)) (omega (arith, small)) (λ k le lt. refl)
 
-pub wanted_length : (n : ℕ) (ws : List (Option Name)) → length (wanted n ws) ≡ length ws
+pub wanted_length : (n : ℕ) (ws : List (Option Name)) → length (hints_or_numbers n ws) ≡ length ws
 wanted_length n [] = refl
 wanted_length n (None ∷ ws) = ap suc (wanted_length (n + 1) ws)
 wanted_length n (Some w ∷ ws) = ap suc (wanted_length n ws)

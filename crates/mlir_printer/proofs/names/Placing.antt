@@ -9,11 +9,11 @@ use Rattle.ir_store.specs.BodyOps.{BodyOp, ids_in}
 use Rattle.ir_store.specs.Ids.{times}
 use Rattle.ir_store.specs.Live.{AreDistinct}
 use Rattle.ir_store.specs.Numbered.{position_of}
-use Rattle.mlir_printer.specs.Naming.{first_name, called, is_pack, name_count, port_name_hint, port_value, value_at, value_in}
+use Rattle.mlir_printer.specs.Naming.{first_name, name_value_text, is_pack, name_count, port_name_hint, port_value, value_at, value_in}
 use Rattle.mlir_printer.specs.Elements.{no_value}
 use Rattle.mlir_printer.specs.Places.{no_place, place_at, place_in, place_for, port_places}
 use Rattle.mlir_printer.specs.Shown.{parts_in_body}
-use Rattle.mlir_printer.specs.Views.{placed, slot_value, port_placed}
+use Rattle.mlir_printer.specs.Views.{value_in_slot, slot_value, port_placed}
 use Rattle.mlir_printer.specs.declared.value_names.Place.{Place}
 use Rattle.mlir_printer.proofs.steps.Passing.{drop_again}
 
@@ -23,7 +23,7 @@ pub port_called : (ns : List Name) (ps : List Port) (first j : ℕ) → port_pla
 port_called ns [] first j = refl
 port_called ns (p ∷ ps) first zero = go p.is_output
   where
-    go : (b : Bool) → port_placed ns (Some (cond b None (Some first))) ≡ cond b no_value (called (first_name (drop first ns)))
+    go : (b : Bool) → port_placed ns (Some (cond b None (Some first))) ≡ cond b no_value (name_value_text (first_name (drop first ns)))
     go true = refl
     go false = refl
 port_called ns (p ∷ ps) first (suc j) =
@@ -39,9 +39,9 @@ none_below k = go (nat_lt k 0) refl
     go false e = e
 
 nowhere : (ns : List Name) (k : ℕ) → slot_value ns no_place k ≡ no_value
-nowhere ns k = ap (λ b. cond b (called (first_name (drop (0 + k) ns))) no_value) (none_below k)
+nowhere ns k = ap (λ b. cond b (name_value_text (first_name (drop (0 + k) ns))) no_value) (none_below k)
 
-pub table_called : (ns : List Name) (places : List Place) (id k : ℕ) → placed ns (slice_get places id) k ≡ slot_value ns (place_for places id) k
+pub table_called : (ns : List Name) (places : List Place) (id k : ℕ) → value_in_slot ns (slice_get places id) k ≡ slot_value ns (place_for places id) k
 table_called ns [] id k = sym (nowhere ns k)
 table_called ns (p ∷ places) zero k = refl
 table_called ns (p ∷ places) (suc id) k = table_called ns places id k
@@ -50,11 +50,11 @@ at_place : (ns : List Name) (first k : ℕ) (o : OpParts) → slot_value ns (pla
 at_place ns first k o = go (is_pack o.kind (length o.results))
   where
     go : (b : Bool) →
-        cond (nat_lt k (cond b (length o.results) (name_count o))) (cond b (record { name = first_name (drop first ns); number = Some k }) (called (first_name (drop (first + k) ns)))) no_value
+        cond (nat_lt k (cond b (length o.results) (name_count o))) (cond b (record { name = first_name (drop first ns); number = Some k }) (name_value_text (first_name (drop (first + k) ns)))) no_value
         ≡ cond b (cond (nat_lt k (length o.results)) (record { name = first_name (drop first ns); number = Some k }) no_value)
-        (cond (nat_lt k (name_count o)) (called (first_name (drop k (drop first ns)))) no_value)
+        (cond (nat_lt k (name_count o)) (name_value_text (first_name (drop k (drop first ns)))) no_value)
     go true = refl
-    go false = ap (λ l. cond (nat_lt k (name_count o)) (called (first_name l)) no_value) (sym (drop_again k first ns))
+    go false = ap (λ l. cond (nat_lt k (name_count o)) (name_value_text (first_name l)) no_value) (sym (drop_again k first ns))
 
 pub result_called : (ns : List Name) (ops : List BodyOp) (first id k : ℕ)
     → slot_value ns (place_in first ops id) k ≡ value_in (drop first ns) (parts_in_body ops) (position_of (ids_in ops) id) k

@@ -10,7 +10,7 @@ use Rattle.ir_store.specs.declared.operation.Value.{Value}
 use Rattle.ir_store.specs.declared.operation.Value.TheVariants as value
 use Rattle.ir_store.specs.BodyOps.{BodyOp, ids_in}
 use Rattle.ir_store.specs.Numbered.{position_of, ref_by}
-use Rattle.mlir_printer.specs.Naming.{wanted, port_name_hints, body_name_hints, input_count, names_given, value_named}
+use Rattle.mlir_printer.specs.Naming.{hints_or_numbers, port_name_hints, body_name_hints, input_count, names_given, value_named}
 use Rattle.mlir_printer.specs.Chosen.{Chosen, with_name_hints}
 use Rattle.mlir_printer.specs.Choices.{name_chosen}
 use Rattle.mlir_printer.specs.Places.{HavePlaces, port_places}
@@ -31,8 +31,8 @@ all_names start mid end ps ops empty zero p q =
     let ws : List (Option Name) = port_name_hints ps ++ body_name_hints (parts_in_body ops) in
     ap (λ (c : Chosen). c.names) (q ∙ ap (λ c. with_name_hints c (body_name_hints (parts_in_body ops))) p ∙ sym (name_hints_append start (port_name_hints ps) (body_name_hints (parts_in_body ops))))
     ∙ name_hints_names start ws
-    ∙ ap (λ (ns : List Name). ns ++ fresh ns (wanted start.next ws)) empty
-    ∙ ap (λ n. fresh [] (wanted n ws)) zero
+    ∙ ap (λ (ns : List Name). ns ++ fresh ns (hints_or_numbers start.next ws)) empty
+    ∙ ap (λ n. fresh [] (hints_or_numbers n ws)) zero
 
 -- the names of the operations stand after those of the ports
 pub ports_first : (start mid : Chosen) (ps : List Port) → start.names ≡ [] → mid ≡ with_name_hints start (port_name_hints ps) → length mid.names ≡ input_count ps

@@ -9,7 +9,7 @@ use Rattle.ir_store.specs.OperationViews.{OpParts}
 use Rattle.mlir_reader.specs.Resolving.{Meanings, Definition, names_from, names_defined, port_definitions, port_definition, operation_definitions, body_definitions, own_count, ref_in, resolve_operand}
 use Rattle.mlir_reader.specs.Resolving.Defined.{is_port, are_results}
 use Rattle.mlir_printer.specs.Elements.{ValueText, no_value}
-use Rattle.mlir_printer.specs.Naming.{name_count, port_name_hint, first_name, called, firsts, is_pack, value_at, value_in, port_value, results_named}
+use Rattle.mlir_printer.specs.Naming.{name_count, port_name_hint, first_name, name_value_text, firsts, is_pack, value_at, value_in, port_value, results_named}
 use Rattle.mlir_printer.specs.Texts.{parts_in, operations_shown, operation_shown, ports_shown, port_shown}
 use Rattle.mlir_printer.specs.Spellable.{said_operand, said_operation, said_port}
 use Rattle.mlir_printer.proofs.names.NameTables.{Among, Finds, finds_left, finds_right}
@@ -18,7 +18,7 @@ use Rattle.mlir_printer.proofs.names.NamedDefinitions.{pack_defined, each_define
 -- ---- ports
 
 here_port : (m : Meanings) (j : ℕ) (n : Name) (ds : List Definition) → Finds m (port_definition j (Some n) ++ ds)
-    → resolve_operand m (said_operand (called n)) ≡ port j
+    → resolve_operand m (said_operand (name_value_text n)) ≡ port j
 here_port m j n ds f = ap (λ o. ref_in o 0) (f (record { name = n; defined = is_port j }) (inl refl))
 
 pub port_found : (m : Meanings) (ns : List Name) (ps : List Port) (first j : ℕ) (p : Port)
@@ -34,7 +34,7 @@ port_found m ns (q ∷ ps) first zero p f at input =
     go : (b : Bool) → b ≡ false
         → Finds m (port_definition first (cond b None (Some (first_name ns))) ++ port_definitions (first + 1)
         (map said_port (ports_shown (drop (length (cond b [] (Some q.name ∷ []))) ns) ps)))
-        → resolve_operand m (said_operand (cond b no_value (called (first_name ns)))) ≡ port first
+        → resolve_operand m (said_operand (cond b no_value (name_value_text (first_name ns)))) ≡ port first
     go true e g = cc
     go false e g = here_port m first (first_name ns) (port_definitions (first + 1) (map said_port (ports_shown (drop 1 ns) ps))) g
 port_found m ns (q ∷ ps) first (suc j) p f at input =
@@ -81,7 +81,7 @@ result_at m i own k o ns f counts lt = go (is_pack o.kind (length o.results)) re
         let z : 0 + k ≡ k = omega arith in
         let v : value_at o ns k ≡ record { name = first_name ns; number = Some k } =
         ap (λ b. cond b (cond (nat_lt k (length o.results)) (record { name = first_name ns; number = Some k }) no_value)
-        (cond (nat_lt k (name_count o)) (called (first_name (drop k ns))) no_value)) h
+        (cond (nat_lt k (name_count o)) (name_value_text (first_name (drop k ns))) no_value)) h
         ∙ ap (λ b. cond b (record { name = first_name ns; number = Some k }) no_value) (lt-ltb k (length o.results) lt) in
         ap (λ x. resolve_operand m (said_operand x)) v
         ∙ ap (λ d. ref_in d k) (g (record { name = first_name ns; defined = are_results i 0 (min (length o.results) own) }) (inl refl))
@@ -91,10 +91,10 @@ result_at m i own k o ns f counts lt = go (is_pack o.kind (length o.results)) re
         let c : k < name_count o = let e = counts.listed h in omega (arith, lt, e) in
         let g : Finds m (names_from i 0 (firsts (name_count o) ns)) = subst (λ ds. Finds m ds) (each_defined i own o ns h) f in
         let z : 0 + k + 0 ≡ k = omega arith in
-        let v : value_at o ns k ≡ called (first_name (drop k ns)) =
+        let v : value_at o ns k ≡ name_value_text (first_name (drop k ns)) =
         ap (λ b. cond b (cond (nat_lt k (length o.results)) (record { name = first_name ns; number = Some k }) no_value)
-        (cond (nat_lt k (name_count o)) (called (first_name (drop k ns))) no_value)) h
-        ∙ ap (λ b. cond b (called (first_name (drop k ns))) no_value) (lt-ltb k (name_count o) c) in
+        (cond (nat_lt k (name_count o)) (name_value_text (first_name (drop k ns))) no_value)) h
+        ∙ ap (λ b. cond b (name_value_text (first_name (drop k ns))) no_value) (lt-ltb k (name_count o) c) in
         ap (λ x. resolve_operand m (said_operand x)) v
         ∙ ap (λ d. ref_in d 0) (g (record { name = first_name (drop k ns); defined = are_results i (0 + k) 1 }) (names_among i 0 (name_count o) k ns c))
         ∙ ap (λ j. result i j) z

@@ -6,7 +6,7 @@ use Rattle.ir_store.specs.Designs.{port_of}
 use Rattle.verilog_expr.specs.Scopes.{scope_ports, scope_ops, scope_ref}
 use Rattle.verilog_expr.specs.Named.{named_of}
 use Rattle.verilog_expr.specs.Spilling.{height_limit}
-use Rattle.export_verilog.specs.Identifiers.{named, identifier_text}
+use Rattle.export_verilog.specs.Identifiers.{value_name, identifier_text}
 use Rattle.export_verilog.specs.Identifiers.Identifier.{port_identifier}
 use Rattle.export_verilog.specs.Values.{value_expr}
 use Rattle.export_verilog.specs.ScopeModules.{scope_module}
@@ -31,7 +31,7 @@ loop-place-preserved c =
             bytes = rw (w.out-is, w.number-is) (outputs_assigned m (scope_ref s) c.args.operands.now i c.loop-place.number p c.loop-place.out whole at c.loop-place.invariant.bytes
                 w.as_bytes-name.result.now (value_expr s c.args.writer.now.names.values) w.push_output.new.out (ap (λ (q : Port). q.out) c.index-ports-place.is ∙ w.if-ports-place.true)
                 (w.as_bytes-name.ensures ∙ w.index.ensures ∙ get_or_from_slice_get c.args.writer.now.names.ports.items i (identifier_text m (port_identifier i)) w.index.result.now (c.args.writer.now.names_are.ports_are i p at))
-                (expr_same (named_of c.args.writer.now.names.values) (named m) (scope_ports s) (scope_ops s) c.args.writer.now.names_are.values_are (suc height_limit)) w.in_ok-push_output.ensures);
+                (expr_same (named_of c.args.writer.now.names.values) (value_name m) (scope_ports s) (scope_ops s) c.args.writer.now.names_are.values_are (suc height_limit)) w.in_ok-push_output.ensures);
             number = omega (arith, w.number-is, c.loop-place.invariant.number);
           }
       | else-ports-place w ↦

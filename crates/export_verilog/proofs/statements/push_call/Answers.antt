@@ -12,7 +12,7 @@ use Rattle.export_verilog.specs.Held.{ArePortNames}
 use Rattle.export_verilog.specs.Identifiers.{name_or_nothing, identifier_text}
 use Rattle.export_verilog.specs.Identifiers.Identifier.{value_identifier, instance_identifier}
 use Rattle.export_verilog.specs.Exported.{connections_to, instance_of}
-use Rattle.export_verilog.specs.Joined.{joined}
+use Rattle.export_verilog.specs.Joined.{connections_from}
 use Rattle.export_verilog.specs.Layout.{items_text}
 use Rattle.export_verilog.specs.ScopeModules.{scope_module}
 use Rattle.export_verilog.specs.Values.{value_expr}
@@ -41,10 +41,10 @@ returns-in_ok-push_instance c =
     let own_is : own ≡ identifier_text m (instance_identifier i) =
     c.as_bytes-in-Instance.ensures ∙ c.index.ensures ∙ get_or_from_slice_get c.args.writer.now.names.own.items i (identifier_text m (instance_identifier i)) _ (c.args.writer.now.names_are.own_are i o x c.requires.there kind) in
     let results : (k : ℕ) → given k ≡ identifier_text m (value_identifier i k) = λ k. ap (λ n. name_or_nothing (named_of v (result n k))) c.requires.id ∙ ap name_or_nothing (values (result i k)) in
-    let joins : joined (value_expr s v) given 0 port_names (map port_of called.ports.now) o.operands ≡ connections_to (find_module d q) m i o =
+    let joins : connections_from (value_expr s v) given 0 port_names (map port_of called.ports.now) o.operands ≡ connections_to (find_module d q) m i o =
     joined_same m i (value_expr s v) given (used_same s v values) results (find_module d q) o port_names (map port_of called.ports.now) c.callee_of-called.ensures.ports
     c.chosen_names-port_names.ensures.0 (subst (λ ps. ArePortNames ps port_names) c.callee_of-called.ensures.ports c.chosen_names-port_names.ensures.1) in
     c.in_ok-push_instance.ensures
     ∙ ap (λ is. c.args.out.now ++ items_text is [])
-    (instance_same d m i o x q called.symbol.now own (joined (value_expr s v) given 0 port_names (map port_of called.ports.now) o.operands) c.as_bytes.ensures c.callee_of-called.ensures.symbol own_is joins
+    (instance_same d m i o x q called.symbol.now own (connections_from (value_expr s v) given 0 port_names (map port_of called.ports.now) o.operands) c.as_bytes.ensures c.callee_of-called.ensures.symbol own_is joins
     ∙ sym (ap (instance_of d m i o) kind))

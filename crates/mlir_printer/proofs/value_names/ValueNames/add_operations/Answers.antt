@@ -10,7 +10,7 @@ use Rattle.mlir_printer.specs.Naming.{name_hints, body_name_hints, name_count}
 use Rattle.mlir_printer.specs.Chosen.{Chosen, with_name_hints}
 use Rattle.mlir_printer.specs.Places.{place_at, place_in, place_for}
 use Rattle.mlir_printer.specs.Shown.{parts_in_body}
-use Rattle.mlir_printer.specs.Views.{names_held, chosen}
+use Rattle.mlir_printer.specs.Views.{names_held, chosen_names}
 use Rattle.mlir_printer.proofs.names.Choosing.{name_hints_step, name_hints_length}
 use Rattle.mlir_printer.proofs.names.Placing.{place_left, place_step, once_step, none_kept}
 use Rattle.op_verifier.proofs.Walks.{ops_at, through_all}
@@ -25,7 +25,7 @@ loop-id-init c =
     let all = ap (ops_at (ops_of b)) left ∙ through_all (ops_of b) (ids_once b) in
     record {
       live = subst (λ (is : List OpId). All live is) (sym left) (all_mapped (Contains (ids_of b)) live op_id (λ x h. h) (ids_of b) (All-contains_itself (ids_of b)));
-      chosen = ap (λ (os : List BodyOp). with_name_hints (chosen c.args.self.now) (body_name_hints (parts_in_body os))) all;
+      chosen = ap (λ (os : List BodyOp). with_name_hints (chosen_names c.args.self.now) (body_name_hints (parts_in_body os))) all;
       ports = refl;
       once = subst (λ (os : List BodyOp). AreDistinct (ids_in os)) (sym all) (ids_once b);
       places = λ id.
@@ -54,12 +54,12 @@ loop-id-preserved c =
     ∙ ap (λ p. cond (nat_eq o.id id) p (place_for c.add_operation.new.self.places.items id)) c.in_ok-place.ensures.place
     ∙ ap (λ ps. cond (nat_eq o.id id) (place_at (length (names_held c.loop-id.self)) o.parts) (place_for ps.items id)) c.add_operation.ensures.places in
     let more : length (names_held c.add_operation.new.self) ≡ length (names_held c.loop-id.self) + name_count o.parts =
-    ap (λ (n : Chosen). length n.names) c.in_ok-place.ensures.chosen ∙ name_hints_length (chosen c.loop-id.self) (name_hints o.parts) in
+    ap (λ (n : Chosen). length n.names) c.in_ok-place.ensures.chosen ∙ name_hints_length (chosen_names c.loop-id.self) (name_hints o.parts) in
     record {
       live = All-tail live c.in-Some.id (ids_left c.next.new.self) (subst (λ (is : List OpId). All live is) c.in-Some.ensures.steps c.loop-id.invariant.live);
       chosen =
-          name_hints_step (chosen c.loop-id.self) (chosen c.add_operation.new.self) _ (name_hints o.parts) (body_name_hints (parts_in_body after)) c.in_ok-place.ensures.chosen
-          (ap (λ (os : List BodyOp). with_name_hints (chosen c.loop-id.self) (body_name_hints (parts_in_body os))) (sym steps) ∙ c.loop-id.invariant.chosen);
+          name_hints_step (chosen_names c.loop-id.self) (chosen_names c.add_operation.new.self) _ (name_hints o.parts) (body_name_hints (parts_in_body after)) c.in_ok-place.ensures.chosen
+          (ap (λ (os : List BodyOp). with_name_hints (chosen_names c.loop-id.self) (body_name_hints (parts_in_body os))) (sym steps) ∙ c.loop-id.invariant.chosen);
       ports = c.add_operation.ensures.ports ∙ c.loop-id.invariant.ports;
       once = once_step o (ops_at (ops_of b) (ids_left c.loop-id.id-iterator)) after steps c.loop-id.invariant.once;
       places =

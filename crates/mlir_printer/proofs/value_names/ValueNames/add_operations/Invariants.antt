@@ -8,7 +8,7 @@ use Rattle.mlir_printer.specs.Naming.{body_name_hints}
 use Rattle.mlir_printer.specs.Chosen.{with_name_hints}
 use Rattle.mlir_printer.specs.Places.{place_in}
 use Rattle.mlir_printer.specs.Shown.{parts_in_body}
-use Rattle.mlir_printer.specs.Views.{names_held, chosen}
+use Rattle.mlir_printer.specs.Views.{names_held, chosen_names}
 use Rattle.mlir_printer.proofs.names.Placing.{place_left}
 use Rattle.op_verifier.proofs.Walks.{ops_at}
 use Rattle.mlir_printer.proofs.value_names.ValueNames.add_operations.Given as goal
@@ -16,8 +16,8 @@ use Rattle.mlir_printer.proofs.value_names.ValueNames.add_operations.Given as go
 abbrev pub invariant-loop-id : goal.invariant-loop-id
 invariant-loop-id l = record {
   live : All (λ (i : OpId). Contains (ids_of l.body) i.index) (ids_left l.id-iterator);
-  chosen : with_name_hints (chosen l.self) (body_name_hints (parts_in_body (ops_at (ops_of l.body) (ids_left l.id-iterator))))
-      ≡ with_name_hints (chosen l.initial.self) (body_name_hints (parts_in_body (ops_of l.body)));
+  chosen_names : with_name_hints (chosen_names l.self) (body_name_hints (parts_in_body (ops_at (ops_of l.body) (ids_left l.id-iterator))))
+      ≡ with_name_hints (chosen_names l.initial.self) (body_name_hints (parts_in_body (ops_of l.body)));
   ports : l.self.ports ≡ l.initial.self.ports;
   once : AreDistinct (ids_in (ops_at (ops_of l.body) (ids_left l.id-iterator)));
   places : (id : ℕ) → place_left l.self.places.items (length (names_held l.self)) (ops_at (ops_of l.body) (ids_left l.id-iterator)) id

@@ -4,15 +4,15 @@ use Rattle.ir_store.specs.Designs.{ports_in}
 use Rattle.mlir_printer.specs.Naming.{port_name_hints}
 use Rattle.mlir_printer.specs.Chosen.{with_name_hints}
 use Rattle.mlir_printer.specs.Places.{HavePlaces, port_places}
-use Rattle.mlir_printer.specs.Views.{names_held, chosen}
+use Rattle.mlir_printer.specs.Views.{names_held, chosen_names}
 use Rattle.mlir_printer.proofs.names.Values.{all_names, all_values, ports_first}
 use Rattle.mlir_printer.proofs.value_names.ValueNames.again.Goals as goal
 
 pub returns-clause-names : goal.returns-clause-names
 returns-clause-names c =
     let ps = ports_in c.args.one.now.ports in
-    let first : chosen c.add_ports.new.self ≡ with_name_hints (chosen c.cleared-names.result) (port_name_hints ps) = rw (c.deref.ensures.value) at c.in_ok-add_ports.ensures.chosen in
-    all_names (chosen c.cleared-names.result) (chosen c.add_ports.new.self) (chosen c.add_operations.new.self) ps (ops_of c.args.one.now.body)
+    let first : chosen_names c.add_ports.new.self ≡ with_name_hints (chosen_names c.cleared-names.result) (port_name_hints ps) = rw (c.deref.ensures.value) at c.in_ok-add_ports.ensures.chosen in
+    all_names (chosen_names c.cleared-names.result) (chosen_names c.add_ports.new.self) (chosen_names c.add_operations.new.self) ps (ops_of c.args.one.now.body)
     c.cleared-names.ensures.names c.cleared-names.ensures.numbered first c.in_ok-add_operations.ensures.chosen
 
 pub returns-clause-values : goal.returns-clause-values
@@ -21,12 +21,12 @@ returns-clause-values c =
     let ops = ops_of c.args.one.now.body in
     let empty = c.cleared-names.result in
     let v = c.add_operations.new.self in
-    let first : chosen c.add_ports.new.self ≡ with_name_hints (chosen empty) (port_name_hints ps) = rw (c.deref.ensures.value) at c.in_ok-add_ports.ensures.chosen in
+    let first : chosen_names c.add_ports.new.self ≡ with_name_hints (chosen_names empty) (port_name_hints ps) = rw (c.deref.ensures.value) at c.in_ok-add_ports.ensures.chosen in
     let added : c.add_ports.new.self.ports.items ≡ empty.ports.items ++ port_places (length (names_held empty)) ps = rw (c.deref.ensures.value) at c.in_ok-add_ports.ensures.ports in
     let ports : v.ports.items ≡ port_places 0 ps =
     ap (λ l. l.items) c.in_ok-add_operations.ensures.ports
     ∙ added
     ∙ ap (λ l. l ++ port_places (length (names_held empty)) ps) c.cleared-names.ensures.ports
     ∙ ap (λ (ns : List (List ℕ)). port_places (length ns) ps) c.cleared-names.ensures.names in
-    let places = subst (λ n. HavePlaces n ops v.places.items) (ports_first (chosen empty) (chosen c.add_ports.new.self) ps c.cleared-names.ensures.names first) c.in_ok-add_operations.ensures.places in
+    let places = subst (λ n. HavePlaces n ops v.places.items) (ports_first (chosen_names empty) (chosen_names c.add_ports.new.self) ps c.cleared-names.ensures.names first) c.in_ok-add_operations.ensures.places in
     all_values v ps ops ports places

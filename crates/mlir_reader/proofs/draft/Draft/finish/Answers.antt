@@ -1,8 +1,8 @@
 use Rattle.std.proofs.Common.{sym, ◌∙◌}
 use Rattle.ir_store.specs.Bodies.{ops_of}
 use Rattle.ir_store.specs.Numbered.{op_by}
-use Rattle.mlir_reader.specs.Drafts.{drafted}
-use Rattle.mlir_reader.specs.Held.{held}
+use Rattle.mlir_reader.specs.Drafts.{operation_of_draft}
+use Rattle.mlir_reader.specs.Held.{draft_operations}
 use Rattle.mlir_reader.specs.Meanings.{meanings_of}
 use Rattle.mlir_reader.proofs.Drafting.{body_done, none_left}
 use Rattle.mlir_reader.proofs.Moving.{moved_end}
@@ -15,5 +15,5 @@ returns c seen os drafts =
     let l = c.loop-draft in
     let rest = l.draft-iterator.rest in
     let none = none_left rest.items (sym rest.ok.0 ∙ c.in-None.ensures.steps.0) in
-    let all = moved_end (op_by (λ i. i)) (drafted means) (ops_of l.body) rest.items (held means d) none l.invariant.held in
+    let all = moved_end (op_by (λ i. i)) (operation_of_draft means) (ops_of l.body) rest.items (draft_operations means d) none l.invariant.held in
     body_done seen os d l.body drafts all (l.invariant.numbered (drafts.ids, drafts.gaps))
