@@ -16,7 +16,7 @@ use Rattle.mlir_printer.proofs.value_names.ValueNames.add_operations.Given as go
 abbrev pub invariant-loop-id : goal.invariant-loop-id
 invariant-loop-id l = record {
   live : All (λ (i : OpId). Contains (ids_of l.body) i.index) (ids_left l.id-iterator);
-  chosen_names : with_name_hints (chosen_names l.self) (body_name_hints (parts_in_body (ops_at (ops_of l.body) (ids_left l.id-iterator))))
+  chosen : with_name_hints (chosen_names l.self) (body_name_hints (parts_in_body (ops_at (ops_of l.body) (ids_left l.id-iterator))))
       ≡ with_name_hints (chosen_names l.initial.self) (body_name_hints (parts_in_body (ops_of l.body)));
   ports : l.self.ports ≡ l.initial.self.ports;
   once : AreDistinct (ids_in (ops_at (ops_of l.body) (ids_left l.id-iterator)));

@@ -8,7 +8,7 @@ use Rattle.mlir_printer.proofs.value_names.ValueNames.add_ports.Given as goal
 
 abbrev pub invariant-loop-port : goal.invariant-loop-port
 invariant-loop-port l = record {
-  chosen_names : with_name_hints (chosen_names l.self) (port_name_hints (map port_of (drop l.port-index l.ports))) ≡ with_name_hints (chosen_names l.initial.self) (port_name_hints (map port_of l.ports));
+  chosen : with_name_hints (chosen_names l.self) (port_name_hints (map port_of (drop l.port-index l.ports))) ≡ with_name_hints (chosen_names l.initial.self) (port_name_hints (map port_of l.ports));
   ports : l.self.ports.items ++ port_places (length (names_held l.self)) (map port_of (drop l.port-index l.ports))
       ≡ l.initial.self.ports.items ++ port_places (length (names_held l.initial.self)) (map port_of l.ports);
   places : l.self.places ≡ l.initial.self.places;

@@ -6,7 +6,7 @@ use Rattle.mlir_printer.proofs.value_names.ValueNames.take_outputs.Given as goal
 
 abbrev pub invariant-loop-port : goal.invariant-loop-port
 invariant-loop-port l = record {
-  chosen_names : with_name_hints (chosen_names l.self) (instance_name_hints l.instance.name (drop l.port-index l.port-items))
+  chosen : with_name_hints (chosen_names l.self) (instance_name_hints l.instance.name (drop l.port-index l.port-items))
       ≡ with_name_hints (chosen_names l.initial.self) (instance_name_hints l.instance.name l.port-items);
   ports : l.self.ports ≡ l.initial.self.ports;
   places : l.self.places ≡ l.initial.self.places;

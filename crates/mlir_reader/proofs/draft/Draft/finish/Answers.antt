@@ -15,5 +15,5 @@ returns c seen os drafts =
     let l = c.loop-draft in
     let rest = l.draft-iterator.rest in
     let none = none_left rest.items (sym rest.ok.0 ∙ c.in-None.ensures.steps.0) in
-    let all = moved_end (op_by (λ i. i)) (operation_of_draft means) (ops_of l.body) rest.items (draft_operations means d) none l.invariant.held in
+    let all = moved_end (op_by (λ i. i)) (operation_of_draft means) (ops_of l.body) rest.items (draft_operations means d) none l.invariant.operations in
     body_done seen os d l.body drafts all (l.invariant.numbered (drafts.ids, drafts.gaps))

@@ -8,6 +8,6 @@ use Rattle.mlir_reader.proofs.draft.Draft.finish.Given as goal
 
 abbrev pub invariant-loop-draft : goal.invariant-loop-draft
 invariant-loop-draft l = record {
-  draft_operations : map (op_by (λ i. i)) (ops_of l.body) ++ map (operation_of_draft (meanings_of l.names)) l.draft-iterator.rest.items ≡ draft_operations (meanings_of l.names) l.fn.self;
+  operations : map (op_by (λ i. i)) (ops_of l.body) ++ map (operation_of_draft (meanings_of l.names)) l.draft-iterator.rest.items ≡ draft_operations (meanings_of l.names) l.fn.self;
   numbered : IsNumbered l.fn.self.body → IsNumbered l.body;
 }
