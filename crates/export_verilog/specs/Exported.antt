@@ -58,10 +58,10 @@ result_wires m i k [] = []
 result_wires m i k (r ∷ rs) = wire (high_of (width r.type)) (identifier_text m (value_identifier i k)) ∷ result_wires m i (suc k) rs
 
 abbrev pub declared_as : Module → ℕ → Op → Emission → List Item
-declared_as m i o hidden = []
-declared_as m i o net = wire (high_of (width_of (result_type o 0))) (identifier_text m (value_identifier i 0)) ∷ []
-declared_as m i o variable = reg (high_of (width_of (result_type o 0))) (identifier_text m (value_identifier i 0)) ∷ []
-declared_as m i o block = result_wires m i 0 o.results
+declared_as m i o inline = []
+declared_as m i o as_wire = wire (high_of (width_of (result_type o 0))) (identifier_text m (value_identifier i 0)) ∷ []
+declared_as m i o as_reg = reg (high_of (width_of (result_type o 0))) (identifier_text m (value_identifier i 0)) ∷ []
+declared_as m i o as_instance = result_wires m i 0 o.results
 
 abbrev pub declares : Module → ℕ → Op → List Item
 declares m i o = declared_as m i o (emission_of m.ports m.body i o)
@@ -113,10 +113,10 @@ instance_of d m i o (Some x) =
 -- ---- statements
 
 abbrev pub stated_as : Design → Module → ℕ → Op → Emission → List Item
-stated_as d m i o hidden = []
-stated_as d m i o net = assign (identifier_text m (value_identifier i 0)) (assigned_expr m (result i 0)) ∷ []
-stated_as d m i o variable = always_of m (identifier_text m (value_identifier i 0)) (register_in o)
-stated_as d m i o block = instance_of d m i o (instance_in o.kind)
+stated_as d m i o inline = []
+stated_as d m i o as_wire = assign (identifier_text m (value_identifier i 0)) (assigned_expr m (result i 0)) ∷ []
+stated_as d m i o as_reg = always_of m (identifier_text m (value_identifier i 0)) (register_in o)
+stated_as d m i o as_instance = instance_of d m i o (instance_in o.kind)
 
 abbrev pub states : Design → Module → ℕ → Op → List Item
 states d m i o = stated_as d m i o (emission_of m.ports m.body i o)

@@ -51,7 +51,7 @@ value_wires s v i k (suc n) = value_wire s v (result i k) ∷ value_wires s v i 
 
 -- the declarations of operation i, which has so many results
 abbrev pub declared_items : Scope → ValueNames → ℕ → ℕ → Emission → List Item
-declared_items s v i n hidden = []
-declared_items s v i n net = value_wire s v (result i 0) ∷ []
-declared_items s v i n variable = value_variable s v (result i 0) ∷ []
-declared_items s v i n block = value_wires s v i 0 n
+declared_items s v i n inline = []
+declared_items s v i n as_wire = value_wire s v (result i 0) ∷ []
+declared_items s v i n as_reg = value_variable s v (result i 0) ∷ []
+declared_items s v i n as_instance = value_wires s v i 0 n

@@ -40,10 +40,10 @@ module _ (f : Name → ℕ) (v : VModule) where
   no_state_wires m i k (r ∷ rs) = zero-add (items_state f v (result_wires m i (suc k) rs)) ∙ no_state_wires m i (suc k) rs
 
   no_state_declared : (m : Module) (i : ℕ) (o : Op) (r : Emission) → items_state f v (declared_as m i o r) ≡ 0
-  no_state_declared m i o hidden = refl
-  no_state_declared m i o net = refl
-  no_state_declared m i o variable = refl
-  no_state_declared m i o block = no_state_wires m i 0 o.results
+  no_state_declared m i o inline = refl
+  no_state_declared m i o as_wire = refl
+  no_state_declared m i o as_reg = refl
+  no_state_declared m i o as_instance = no_state_wires m i 0 o.results
 
   no_state_declares : (m : Module) (i : ℕ) (os : List Op) → items_state f v (each (declares m) i os) ≡ 0
   no_state_declares m i [] = refl

@@ -206,7 +206,7 @@ module _ (d : Design) (x : Setting d) (top : Name) (inputs content : Word) (m0 :
           by_owner a k place within is (a_net b o' at' emission e) =
               let places : i ≡ b = (let h : a ≡ b = cc in place ∙ h) in
               let ops : o ≡ o' = same_op b o' places at' in
-              let emission' : emission_of m.ports m.body i o ≡ net = ap₂ (emission_of m.ports m.body) places ops ∙ emission in
+              let emission' : emission_of m.ports m.body i o ≡ as_wire = ap₂ (emission_of m.ports m.body) places ops ∙ emission in
               ap (λ w. σ (vnet (vpath_of d top p) w)) (is ∙ ap (identifier_text m) (e ∙ ap (λ w. value_identifier w 0) (sym places)))
               ∙ settled_given p m here (value_identifier i 0) (net_in m i o there emission')
               ∙ net_given d x top inputs content p m here σ tree_words i o t there emission' typed (λ h. absurd (let g : false ≡ true = sym form.2 ∙ h in cc))

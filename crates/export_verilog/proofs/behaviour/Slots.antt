@@ -53,10 +53,10 @@ module _ (f : VPath → Name → List VSlot) (q : VPath) (v : VModule) where
   none_in_wires m i k (r ∷ rs) = none_in_wires m i (suc k) rs
 
   none_declared : (m : Module) (i : ℕ) (o : Op) (r : Emission) → items_registers f q v (declared_as m i o r) ≡ []
-  none_declared m i o hidden = refl
-  none_declared m i o net = refl
-  none_declared m i o variable = refl
-  none_declared m i o block = none_in_wires m i 0 o.results
+  none_declared m i o inline = refl
+  none_declared m i o as_wire = refl
+  none_declared m i o as_reg = refl
+  none_declared m i o as_instance = none_in_wires m i 0 o.results
 
   none_in_declares : (m : Module) (i : ℕ) (os : List Op) → items_registers f q v (each (declares m) i os) ≡ []
   none_in_declares m i [] = refl

@@ -74,10 +74,10 @@ module _ (m : Module) where
   unfolding names_of name_of_declared
   wire_names i o = go (emission_of m.ports m.body i o) where
     go : (r : Emission) → names_of (declared_as m i o r) ≡ map (identifier_text m) (wire_identifiers r i o)
-    go hidden = refl
-    go net = refl
-    go variable = refl
-    go block = result_names i 0 o.results
+    go inline = refl
+    go as_wire = refl
+    go as_reg = refl
+    go as_instance = result_names i 0 o.results
 
   block_names : (d : Design) (i : ℕ) (o : Op) → names_of (states d m i o) ≡ map (identifier_text m) (op_blocks i o)
   unfolding names_of name_of_declared
@@ -169,10 +169,10 @@ module _ (m : Module) where
   pub wires_apart : (i : ℕ) (o : Op) → AreApart (op_wires m i o)
   wires_apart i o = go (emission_of m.ports m.body i o) where
     go : (r : Emission) → AreApart (wire_identifiers r i o)
-    go hidden = tt
-    go net = ((λ h. h), tt)
-    go variable = ((λ h. h), tt)
-    go block = result_identifiers_apart i 0 o.results
+    go inline = tt
+    go as_wire = ((λ h. h), tt)
+    go as_reg = ((λ h. h), tt)
+    go as_instance = result_identifiers_apart i 0 o.results
 
   blocks_placed : (i : ℕ) (o : Op) (k : Identifier) → In k (op_blocks m i o) → (k ≡ instance_identifier i) × (identifier_place k ≡ i)
   unfolding identifier_place
@@ -187,10 +187,10 @@ module _ (m : Module) where
   blocks_apart : (i : ℕ) (o : Op) → AreApart (op_blocks m i o)
   blocks_apart i o = go (emission_of m.ports m.body i o) where
     go : (r : Emission) → AreApart (block_identifiers r i o)
-    go hidden = tt
-    go net = tt
-    go variable = tt
-    go block = ((λ h. h), tt)
+    go inline = tt
+    go as_wire = tt
+    go as_reg = tt
+    go as_instance = ((λ h. h), tt)
 
   -- a wire's key is a value's, and a block's an instance's
   pub wire_kind : (k : Identifier) → In k (each (op_wires m) 0 m.body) → (i n : ℕ) × (k ≡ value_identifier i n)

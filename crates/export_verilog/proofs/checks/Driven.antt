@@ -99,10 +99,10 @@ module _ (d : Design) (x : Setting d) (s : Name) (m : Module) (is : find_module 
   declares_nothing : (i : ℕ) (o : Op) → driver_count t (identifier_text m k) (declares m i o) ≡ 0
   declares_nothing i o = go (emission_of m.ports m.body i o) where
     go : (r : Emission) → driver_count t (identifier_text m k) (declared_as m i o r) ≡ 0
-    go hidden = refl
-    go net = refl
-    go variable = refl
-    go block = wires_drive_nothing i 0 o.results
+    go inline = refl
+    go as_wire = refl
+    go as_reg = refl
+    go as_instance = wires_drive_nothing i 0 o.results
 
   declarations_drive_nothing : (i : ℕ) (os : List Op) → driver_count t (identifier_text m k) (each (declares m) i os) ≡ 0
   declarations_drive_nothing i [] = refl

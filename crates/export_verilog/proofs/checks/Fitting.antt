@@ -47,10 +47,10 @@ wires_fit m i k (r ∷ rs) = wires_fit m i (suc k) rs
 declares_fit : (m : Module) (i : ℕ) (o : Op) → items_fit (declares m i o) ≡ true
 declares_fit m i o = go (emission_of m.ports m.body i o) where
   go : (r : Emission) → items_fit (declared_as m i o r) ≡ true
-  go hidden = refl
-  go net = refl
-  go variable = refl
-  go block = wires_fit m i 0 o.results
+  go inline = refl
+  go as_wire = refl
+  go as_reg = refl
+  go as_instance = wires_fit m i 0 o.results
 
 connections_fit_all : (c m : Module) (i j k : ℕ) (ps : List Port) (rs : List Ref) → connections_fit (connections_of c m i j k ps rs) ≡ true
 connections_fit_all c m i j k [] rs = refl
@@ -90,10 +90,10 @@ instance_fits d m i o (Some x) = and_intro (connections_fit (connections_to (fin
 states_fit : (d : Design) (m : Module) (i : ℕ) (o : Op) → items_fit (states d m i o) ≡ true
 states_fit d m i o = go (emission_of m.ports m.body i o) where
   go : (r : Emission) → items_fit (stated_as d m i o r) ≡ true
-  go hidden = refl
-  go net = and_intro (fits (assigned_expr m (result i 0))) true (assigned_fits m (result i 0)) refl
-  go variable = always_fits m (identifier_text m (value_identifier i 0)) (register_in o)
-  go block = instance_fits d m i o (instance_in o.kind)
+  go inline = refl
+  go as_wire = and_intro (fits (assigned_expr m (result i 0))) true (assigned_fits m (result i 0)) refl
+  go as_reg = always_fits m (identifier_text m (value_identifier i 0)) (register_in o)
+  go as_instance = instance_fits d m i o (instance_in o.kind)
 
 outputs_fit : (m : Module) (j : ℕ) (ps : List Port) (rs : List Ref) → items_fit (output_assigns m j ps rs) ≡ true
 outputs_fit m j [] rs = refl

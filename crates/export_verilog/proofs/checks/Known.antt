@@ -55,10 +55,10 @@ abbrev pub declared_port : Module → ℕ → Port → Declared
 declared_port m j p = record { name = identifier_text m (port_identifier j); role = port_role p.is_output; high = high_of (width p.type) }
 
 abbrev pub result_emission : Emission → DeclaredRole
-result_emission variable = variable_role
-result_emission hidden = net_role
-result_emission net = net_role
-result_emission block = net_role
+result_emission as_reg = variable_role
+result_emission inline = net_role
+result_emission as_wire = net_role
+result_emission as_instance = net_role
 
 abbrev pub declared_result : Module → ℕ → ℕ → Op → OpResult → Declared
 declared_result m i k o r = record { name = identifier_text m (value_identifier i k); role = result_emission (emission_of m.ports m.body i o); high = high_of (width r.type) }

@@ -46,10 +46,10 @@ module _ (d : Design) (x : Setting d) (s : Name) (m : Module) (is : find_module 
       knows (value_identifier i k) (declared_result m i k o r) here (ap (λ z. bind z (λ (q : Op). omap (declared_result m i k q) (slice_get q.results k))) there ∙ ap (omap (declared_result m i k o)) at)
 
   readable : (q : Emission) → can_read (result_emission q) ≡ true
-  readable hidden = refl
-  readable net = refl
-  readable variable = refl
-  readable block = refl
+  readable inline = refl
+  readable as_wire = refl
+  readable as_reg = refl
+  readable as_instance = refl
 
   -- the bits of a range
   bit_within : (w k : ℕ) → 1 < w → k < w → w < 2 ^ 64 → within (high_of w) k ≡ true

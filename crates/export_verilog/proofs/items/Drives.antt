@@ -126,10 +126,10 @@ module _ (d : Design) (x : Setting d) (s : Name) (m : Module) (is : find_module 
   result_drive i k o = bind (callee d o) (λ (c : Module). omap (λ j. driven_from (vnet (identifier_text m (instance_identifier i) ∷ q) (identifier_text c (port_identifier j)))) (output_place k c.ports))
 
   abbrev pub emission_drive : ℕ → ℕ → Op → Emission → Option Drive
-  emission_drive i k o hidden = None
-  emission_drive i k o net = Some (driven_by q (assigned_expr m (result i 0)))
-  emission_drive i k o variable = Some (held_drive i)
-  emission_drive i k o block = result_drive i k o
+  emission_drive i k o inline = None
+  emission_drive i k o as_wire = Some (driven_by q (assigned_expr m (result i 0)))
+  emission_drive i k o as_reg = Some (held_drive i)
+  emission_drive i k o as_instance = result_drive i k o
 
   abbrev pub output_expr : ℕ → Expr
   output_expr j = expr_for (expression m) (slice_get (output_refs m.body) (output_count (take j m.ports)))

@@ -57,25 +57,25 @@ module _ (ports : List Port) (os : List Op) (i : ℕ) (o : Op) where
   register_of_emission e = go (sort_of o.kind) where
     go : Sort o.kind → (f : RegisterForm) × (register_form o.kind ≡ Some f)
     go (a_register f r n u) = (f, r)
-    go (is_an_instance x r n u) = absurd (let h : as_instance ≡ variable = sym (emission_of_instance x r n) ∙ e in cc)
-    go (an_output r n u) = absurd (let h : inline ≡ variable = sym (emission_of_output r n u) ∙ e in cc)
+    go (is_an_instance x r n u) = absurd (let h : as_instance ≡ as_reg = sym (emission_of_instance x r n) ∙ e in cc)
+    go (an_output r n u) = absurd (let h : inline ≡ as_reg = sym (emission_of_output r n u) ∙ e in cc)
     go (a_made r n u) = absurd ((net_or_hidden (is_wire_kind o.kind) (spilled ports os (result i 0))).0 (sym (emission_of_made r n u) ∙ e))
 
   pub instance_of_emission : emission_of ports os i o ≡ as_instance → (x : Instance) × (register_form o.kind ≡ None) × (instance_in o.kind ≡ Some x)
   instance_of_emission e = go (sort_of o.kind) where
     go : Sort o.kind → (x : Instance) × (register_form o.kind ≡ None) × (instance_in o.kind ≡ Some x)
-    go (a_register f r n u) = absurd (let h : as_reg ≡ block = sym (emission_of_register f r) ∙ e in cc)
+    go (a_register f r n u) = absurd (let h : as_reg ≡ as_instance = sym (emission_of_register f r) ∙ e in cc)
     go (is_an_instance x r n u) = (x, r, n)
-    go (an_output r n u) = absurd (let h : inline ≡ block = sym (emission_of_output r n u) ∙ e in cc)
+    go (an_output r n u) = absurd (let h : inline ≡ as_instance = sym (emission_of_output r n u) ∙ e in cc)
     go (a_made r n u) = absurd ((net_or_hidden (is_wire_kind o.kind) (spilled ports os (result i 0))).1 (sym (emission_of_made r n u) ∙ e))
 
   -- what a wire stands for is made of its operands
   pub made_of_emission : emission_of ports os i o ≡ as_wire → (register_form o.kind ≡ None) × (instance_in o.kind ≡ None) × (is_output_kind o.kind ≡ false)
   made_of_emission e = go (sort_of o.kind) where
     go : Sort o.kind → (register_form o.kind ≡ None) × (instance_in o.kind ≡ None) × (is_output_kind o.kind ≡ false)
-    go (a_register f r n u) = absurd (let h : as_reg ≡ net = sym (emission_of_register f r) ∙ e in cc)
-    go (is_an_instance x r n u) = absurd (let h : as_instance ≡ net = sym (emission_of_instance x r n) ∙ e in cc)
-    go (an_output r n u) = absurd (let h : inline ≡ net = sym (emission_of_output r n u) ∙ e in cc)
+    go (a_register f r n u) = absurd (let h : as_reg ≡ as_wire = sym (emission_of_register f r) ∙ e in cc)
+    go (is_an_instance x r n u) = absurd (let h : as_instance ≡ as_wire = sym (emission_of_instance x r n) ∙ e in cc)
+    go (an_output r n u) = absurd (let h : inline ≡ as_wire = sym (emission_of_output r n u) ∙ e in cc)
     go (a_made r n u) = (r, n, u)
 
 -- ---- the results of an instance

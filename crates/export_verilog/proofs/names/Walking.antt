@@ -20,19 +20,19 @@ use Rattle.export_verilog.proofs.names.PortNames.{legal_append}
 -- ---- an operation is the same to its names, whatever the positions of its operands
 
 pub name_hints_seen : (s : Scope) (o : body.Op) (r : Emission) → op_name_hints r (op_seen o) ≡ op_name_hints r (op_read s o)
-name_hints_seen s o hidden = refl
-name_hints_seen s o net = refl
-name_hints_seen s o variable = refl
-name_hints_seen s o block = go (instance_in (kind_of o.kind.now)) where
+name_hints_seen s o inline = refl
+name_hints_seen s o as_wire = refl
+name_hints_seen s o as_reg = refl
+name_hints_seen s o as_instance = go (instance_in (kind_of o.kind.now)) where
   go : (x : Option Instance) → name_hints_of as_instance x (op_seen o) ≡ name_hints_of as_instance x (op_read s o)
   go None = refl
   go (Some i) = refl
 
 pub results_seen : (s : Scope) (o : body.Op) (ts : List Name) (r : Emission) → op_results ts r (op_seen o) ≡ op_results ts r (op_read s o)
-results_seen s o ts hidden = refl
-results_seen s o ts net = refl
-results_seen s o ts variable = refl
-results_seen s o ts block = go (instance_in (kind_of o.kind.now)) where
+results_seen s o ts inline = refl
+results_seen s o ts as_wire = refl
+results_seen s o ts as_reg = refl
+results_seen s o ts as_instance = go (instance_in (kind_of o.kind.now)) where
   go : (x : Option Instance) → results_of ts as_instance x (op_seen o) ≡ results_of ts as_instance x (op_read s o)
   go None = refl
   go (Some i) = refl

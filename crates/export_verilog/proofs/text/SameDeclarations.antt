@@ -42,7 +42,7 @@ module _ (s : Scope) (v : ValueNames) (i : ℕ) (o : Op) (there : slice_get (sco
 
   -- the declarations of an operation of a role
   pub declared_same : (r : Emission) → declared_items s v i (length o.results) r ≡ declared_as (scope_module s) i o r
-  declared_same hidden = refl
-  declared_same net = ap (λ x. x ∷ []) (wire_same 0)
-  declared_same variable = ap (λ x. x ∷ []) (variable_same 0)
-  declared_same block = wires_from 0 o.results (λ j. ap (slice_get o.results) (zero-add j))
+  declared_same inline = refl
+  declared_same as_wire = ap (λ x. x ∷ []) (wire_same 0)
+  declared_same as_reg = ap (λ x. x ∷ []) (variable_same 0)
+  declared_same as_instance = wires_from 0 o.results (λ j. ap (slice_get o.results) (zero-add j))

@@ -87,10 +87,10 @@ module _ (m : Module) (symbol : Name) (is_private : Bool) (dictionary : List Ent
   wires_same i k (r ∷ rs) = ap₂ (λ n is. wire (high_of (width r.type)) n ∷ is) (text_same (value_identifier i k)) (wires_same i (suc k) rs)
 
   declared_same : (i : ℕ) (o : Op) (q : Emission) → declared_as m i o q ≡ declared_as other i o q
-  declared_same i o hidden = refl
-  declared_same i o net = ap (λ n. wire (high_of (width_of (result_type o 0))) n ∷ []) (text_same (value_identifier i 0))
-  declared_same i o variable = ap (λ n. reg (high_of (width_of (result_type o 0))) n ∷ []) (text_same (value_identifier i 0))
-  declared_same i o block = wires_same i 0 o.results
+  declared_same i o inline = refl
+  declared_same i o as_wire = ap (λ n. wire (high_of (width_of (result_type o 0))) n ∷ []) (text_same (value_identifier i 0))
+  declared_same i o as_reg = ap (λ n. reg (high_of (width_of (result_type o 0))) n ∷ []) (text_same (value_identifier i 0))
+  declared_same i o as_instance = wires_same i 0 o.results
 
   -- ---- statements
 
@@ -119,10 +119,10 @@ module _ (m : Module) (symbol : Name) (is_private : Bool) (dictionary : List Ent
       ap₂ (λ n cs. instance (symbol_name d x.symbol) n cs ∷ []) (text_same (instance_identifier i)) (joined_same (find_module d x.symbol) i o)
 
   stated_same : (d : Design) (i : ℕ) (o : Op) (q : Emission) → stated_as d m i o q ≡ stated_as d other i o q
-  stated_same d i o hidden = refl
-  stated_same d i o net = ap₂ (λ n e. assign n e ∷ []) (text_same (value_identifier i 0)) (assigned_same (result i 0))
-  stated_same d i o variable = always_same (identifier_text m (value_identifier i 0)) (identifier_text other (value_identifier i 0)) (text_same (value_identifier i 0)) (register_in o)
-  stated_same d i o block = instance_same d i o (instance_in o.kind)
+  stated_same d i o inline = refl
+  stated_same d i o as_wire = ap₂ (λ n e. assign n e ∷ []) (text_same (value_identifier i 0)) (assigned_same (result i 0))
+  stated_same d i o as_reg = always_same (identifier_text m (value_identifier i 0)) (identifier_text other (value_identifier i 0)) (text_same (value_identifier i 0)) (register_in o)
+  stated_same d i o as_instance = instance_same d i o (instance_in o.kind)
 
   outputs_same : (j : ℕ) (ps : List Port) (rs : List Ref) → output_assigns m j ps rs ≡ output_assigns other j ps rs
   outputs_same j [] rs = refl
