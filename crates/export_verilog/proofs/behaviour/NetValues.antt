@@ -326,7 +326,7 @@ module _ (d : Design) (x : Setting d) (top : Name) (inputs content : Word) where
         → ((j : ℕ) (y : Port) → slice_get m.ports j ≡ Some y → k ≡ port_identifier j → (y.is_output ≡ false) × (r ≡ port j))
         → ((i l : ℕ) → k ≡ value_identifier i l → r ≡ result i l) → ((i : ℕ) → k ≡ instance_identifier i → ⊥)
         → given σ p m k ≡ evaluated τ p r
-    value_agrees own_is shows p m here k r within as_port as_value as_instance = go (owner_of m k within) where
+    value_agrees own_is shows p m here k r within as_port as_value no_instance = go (owner_of m k within) where
       moved : (l : Identifier) (z : Ref) → k ≡ l → r ≡ z → given σ p m l ≡ evaluated τ p z → given σ p m k ≡ evaluated τ p r
       moved l z same refs e = ap (given σ p m) same ∙ e ∙ ap (evaluated τ p) (sym refs)
 
@@ -339,5 +339,5 @@ module _ (d : Design) (x : Setting d) (top : Name) (inputs content : Word) where
       go (a_port j y there same) = let h = as_port j y there same in moved (port_identifier j) (port j) same h.1 (by_path p here j y there h.0)
       go (a_net i o there emission same) = moved (value_identifier i 0) (result i 0) same (as_value i 0 same) (net_agrees p m here i o there emission (own_is p m here))
       go (a_variable i o there emission same) = moved (value_identifier i 0) (result i 0) same (as_value i 0 same) (variable_agrees p m here i o there emission)
-      go (an_instance i o there emission same) = absurd (as_instance i same)
+      go (an_instance i o there emission same) = absurd (no_instance i same)
       go (a_result i l o y there emission found same) = moved (value_identifier i l) (result i l) same (as_value i l same) (result_agrees p m here i l o y there emission found shows)
