@@ -9,7 +9,7 @@ use Rattle.cdcl_proof.specs.Literal.{negation, holds, slot_of}
 use Rattle.cdcl_proof.specs.Fresh.{is_free}
 use Rattle.cdcl_proof.specs.Trail.{literals, entry_at, Implies}
 
--- clauses, numbered from 1, and the literals held with their reasons, in order
+-- clauses, numbered from 1, and the trail's literals with their reasons, in order
 pub record Watching : Type 0 where
   pub variables : ℕ
   pub clauses : List (List Literal)
@@ -52,15 +52,15 @@ pub record AreRows (clauses rows : List (List Literal)) : Type 0 where
 abbrev pub count_of : ℕ → List Watch → ℕ
 count_of i ws = sum_by (λ (w : Watch). cond (w.clause == i) 1 0) ws
 
--- how often a clause is to stand in the list at a slot: once in those of its first two literals
-abbrev pub wanted : List Literal → ℕ → ℕ
-wanted [] s = 0
-wanted (a ∷ []) s = 0
-wanted (a ∷ b ∷ rest) s = cond (slot_of a == s) 1 0 + cond (slot_of b == s) 1 0
+-- how often a clause stands in the list at a slot: once in those of its first two literals
+abbrev pub watch_count : List Literal → ℕ → ℕ
+watch_count [] s = 0
+watch_count (a ∷ []) s = 0
+watch_count (a ∷ b ∷ rest) s = cond (slot_of a == s) 1 0 + cond (slot_of b == s) 1 0
 
 -- each clause of two literals or more stands in the lists of exactly two of its literals
 abbrev pub AreWatched : List (List Literal) → List (List Watch) → Type 0
-AreWatched rows lists = (i s : ℕ) → s < length lists → count_of i (list_at lists s) ≡ wanted (row_at rows i) s
+AreWatched rows lists = (i s : ℕ) → s < length lists → count_of i (list_at lists s) ≡ watch_count (row_at rows i) s
 
 -- each watch names a literal of its clause
 abbrev pub HaveBlockers : List (List Literal) → List (List Watch) → Type 0

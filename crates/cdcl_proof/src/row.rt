@@ -107,7 +107,7 @@ impl WatchList {
     }
 
     /// Gives the watch at the place another literal of its clause.
-    pub(crate) fn refresh(&mut self, place: usize, blocker: PackedLiteral)
+    pub(crate) fn set_blocker(&mut self, place: usize, blocker: PackedLiteral)
         requires { place < length self.old }
         ensures { self.new ≡ slice_set self.old place (record { clause = (slice_index_or self.old place no_watch).clause; blocker = blocker }) }
     {

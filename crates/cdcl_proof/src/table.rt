@@ -82,7 +82,7 @@ impl Table {
     }
 
     /// Gives the watch at the place of a list another literal of its clause.
-    pub(crate) fn refresh(&mut self, slot: usize, place: usize, blocker: PackedLiteral)
+    pub(crate) fn set_blocker(&mut self, slot: usize, place: usize, blocker: PackedLiteral)
         requires table { IsTable self.old }
         requires slot { slot < length self.old.lists.items }
         requires place { place < length (list_at self.old.lists.items slot) }
@@ -95,7 +95,7 @@ impl Table {
         ensures list { HasSameClauses (list_at self.old.lists.items slot) (list_at self.new.lists.items slot) }
     {
         let list = &mut self.lists[slot];
-        list.refresh(place, blocker);
+        list.set_blocker(place, blocker);
     }
 
     /// Adds a clause with its row.

@@ -10,7 +10,7 @@ invariant-loop-place l = record {
   watching : IsWatching l.self;
   clauses : l.self.table.clauses ≡ l.fn.self.table.clauses;
   short : l.self.table.short ≡ l.fn.self.table.short;
-  settled : l.self.settled ≡ l.fn.self.settled;
+  short_head : l.self.short_head ≡ l.fn.self.short_head;
   head : l.self.head ≡ l.fn.self.head;
   variables : l.self.trail.variables ≡ l.fn.self.trail.variables;
   propagates : Propagates l.self.table.clauses.items l.fn.self.trail.entries l.self.trail.entries;

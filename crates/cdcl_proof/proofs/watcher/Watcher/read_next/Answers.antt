@@ -29,4 +29,4 @@ returns-in-Ok-None-clause-watching c =
     let among : is_among c.args.self.now.table.variables (negation (entry_at c.args.self.now.trail.entries c.args.self.now.head).literal) ≡ true = subst (λ (n : ℕ). is_among n (negation (entry_at c.args.self.now.trail.entries c.args.self.now.head).literal) ≡ true) old.variables (c.entry-entry.ensures.apart.among c.args.self.now.head c.requires.more) in
     let low : c.slot-slot.result < length c.args.self.now.table.lists.items = let s = slot_low c.args.self.now.table old.table (negation (entry_at c.args.self.now.trail.entries c.args.self.now.head).literal) among in omega (arith, s, is_old) in
     let h = still_at_head c.args.self.now c.read_list.new.self c.slot-slot.result old w e.variables e.head e.propagates c.requires.more is_old low in
-    record { table = w.table; variables = w.variables; progress = progress_next c.read_list.new.self.table w.table c.read_list.new.self.trail.entries c.read_list.new.self.head c.slot-slot.result c.read_list.new.self.marks.items c.read_list.new.self.settled c.read_list.new.self.base h.more h.slot_is h.low visited w.progress }
+    record { table = w.table; variables = w.variables; progress = progress_next c.read_list.new.self.table w.table c.read_list.new.self.trail.entries c.read_list.new.self.head c.slot-slot.result c.read_list.new.self.marks.items c.read_list.new.self.short_head c.read_list.new.self.base h.more h.slot_is h.low visited w.progress }
