@@ -431,13 +431,13 @@ module _ (clauses rows : List (List Literal)) (clause ordered : List Literal) wh
 
     module _ (long : 2 ≤ length ordered) (a b : ℕ) (is_a : slot_of (literal_at ordered 0) ≡ a) (is_b : slot_of (literal_at ordered 1) ≡ b) (a_in : a < length lists) (b_in : b < length lists) (apart : a ≢ b) where
       abbrev added : List (List Watch)
-      added = added_lists lists a b (length rows) (literal_at ordered 0) (literal_at ordered 1)
+      added = added_lists lists a b (length rows) (literal_at ordered 0) (literal_at ordered 1) (eqb (length ordered) 2)
 
       abbrev watch_a : Watch
-      watch_a = record { clause = length rows; blocker = literal_at ordered 1 }
+      watch_a = record { clause = length rows; blocker = literal_at ordered 1; is_binary = eqb (length ordered) 2 }
 
       abbrev watch_b : Watch
-      watch_b = record { clause = length rows; blocker = literal_at ordered 0 }
+      watch_b = record { clause = length rows; blocker = literal_at ordered 0; is_binary = eqb (length ordered) 2 }
 
       at_b : (m : ℕ) → m ≡ b → list_at added m ≡ list_at lists b ++ watch_b ∷ []
       at_b m e =
@@ -476,7 +476,7 @@ module _ (clauses rows : List (List Literal)) (clause ordered : List Literal) wh
       none_now : (m : ℕ) → m < length lists → (j : ℕ) → j ≡ length rows → count_of j (list_at lists m) ≡ 0
       none_now m lm j e = watched j m lm ∙ none_before j m (omega (arith, e))
 
-      pub watched_long : AreWatched (rows ++ ordered ∷ []) (added_lists lists a b (length rows) (literal_at ordered 0) (literal_at ordered 1))
+      pub watched_long : AreWatched (rows ++ ordered ∷ []) (added_lists lists a b (length rows) (literal_at ordered 0) (literal_at ordered 1) (eqb (length ordered) 2))
       watched_long j m lm =
           let lm0 : m < length lists =
           let n = length-set lists a (list_at lists a ++ watch_a ∷ []) in
@@ -515,7 +515,7 @@ module _ (clauses rows : List (List Literal)) (clause ordered : List Literal) wh
       new_blocks : (k : ℕ) → k < 2 → holds (row_at (rows ++ ordered ∷ []) (length rows)) (literal_at ordered k) ≡ true
       new_blocks k lk = subst (λ (r : List Literal). holds r (literal_at ordered k) ≡ true) (sym (row_last (length rows) refl)) (holds_at ordered k (omega (arith, lk, long)))
 
-      pub blockers_long : HaveBlockers (rows ++ ordered ∷ []) (added_lists lists a b (length rows) (literal_at ordered 0) (literal_at ordered 1))
+      pub blockers_long : HaveBlockers (rows ++ ordered ∷ []) (added_lists lists a b (length rows) (literal_at ordered 0) (literal_at ordered 1) (eqb (length ordered) 2))
       blockers_long m n lm ln =
           let lm0 : m < length lists =
           let c = length-set lists a (list_at lists a ++ watch_a ∷ []) in
@@ -633,8 +633,8 @@ module _ (t : Table) (table : IsTable t) (clause ordered : List Literal) (is_cla
         | inl long ↦
             let x = literal_at ordered 0 in
             let y = literal_at ordered 1 in
-            let xs = list_at t.lists.items (slot_of x) ++ record { clause = length t.rows.items; blocker = y } ∷ [] in
-            ap length (entered.watched long).0 ∙ length-set (set t.lists.items (slot_of x) xs) (slot_of y) (list_at t.lists.items (slot_of y) ++ record { clause = length t.rows.items; blocker = x } ∷ []) ∙ length-set t.lists.items (slot_of x) xs
+            let xs = list_at t.lists.items (slot_of x) ++ record { clause = length t.rows.items; blocker = y; is_binary = eqb (length ordered) 2 } ∷ [] in
+            ap length (entered.watched long).0 ∙ length-set (set t.lists.items (slot_of x) xs) (slot_of y) (list_at t.lists.items (slot_of y) ++ record { clause = length t.rows.items; blocker = x; is_binary = eqb (length ordered) 2 } ∷ []) ∙ length-set t.lists.items (slot_of x) xs
         | inr few ↦ ap length (entered.listed few).0
       ]
 

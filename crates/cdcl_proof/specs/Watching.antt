@@ -21,7 +21,7 @@ no_literal = record { variable = 0; positive = false }
 
 -- a watch for no place
 abbrev pub no_watch : Watch
-no_watch = record { clause = 0; blocker = no_literal }
+no_watch = record { clause = 0; blocker = no_literal; is_binary = false }
 
 -- the literal of the row at a place
 abbrev pub literal_at : List Literal → ℕ → Literal
@@ -66,9 +66,9 @@ AreWatched rows lists = (i s : ℕ) → s < length lists → count_of i (list_at
 abbrev pub HaveBlockers : List (List Literal) → List (List Watch) → Type 0
 HaveBlockers rows lists = (s k : ℕ) → s < length lists → k < length (list_at lists s) → holds (row_at rows (watch_at (list_at lists s) k).clause) (watch_at (list_at lists s) k).blocker ≡ true
 
--- the lists once a clause has come into two of them
-abbrev pub added_lists : List (List Watch) → ℕ → ℕ → ℕ → Literal → Literal → List (List Watch)
-added_lists lists a b i x y = slice_set (slice_set lists a (list_at lists a ++ record { clause = i; blocker = y } ∷ [])) b (list_at lists b ++ record { clause = i; blocker = x } ∷ [])
+-- the lists once a clause has come into two of them, with whether it has these two literals alone
+abbrev pub added_lists : List (List Watch) → ℕ → ℕ → ℕ → Literal → Literal → Bool → List (List Watch)
+added_lists lists a b i x y is_binary = slice_set (slice_set lists a (list_at lists a ++ record { clause = i; blocker = y; is_binary = is_binary } ∷ [])) b (list_at lists b ++ record { clause = i; blocker = x; is_binary = is_binary } ∷ [])
 
 -- a literal of the row is true
 abbrev pub is_satisfied : List Literal → List Literal → Bool

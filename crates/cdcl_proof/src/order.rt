@@ -4,6 +4,7 @@ ghost use Rattle.cdcl_proof.specs.Clause.{is_within};
 ghost use Rattle.cdcl_proof.specs.Order.{IsOrder, Waits, KeepsWaiting};
 
 use crate::literal::Literal;
+use crate::log::Hint;
 use std::alloc::{AllocError, Global};
 
 /// An activity for each variable, and what a conflict adds to it, which grows from conflict to conflict; the variables
@@ -213,16 +214,41 @@ impl Order {
             }
             self.increment >>= 40;
         }
-        self.increment = self.increment.saturating_add(self.increment / 16);
+        self.increment = self.increment.saturating_add(self.increment / 12);
     }
 
-    /// Bumps the activities of the literals' variables, and makes later conflicts weigh more.
-    pub(crate) fn bump_all(&mut self, literals: &[Literal])
+    /// Bumps the activities of the variables on which the hints resolve.
+    fn bump_pivots(&mut self, hints: &[Hint])
+        requires { IsOrder (length self.old.activities.items) self.old }
+        ensures order { IsOrder (length self.old.activities.items) self.new }
+        ensures kept { KeepsWaiting self.old.heap.items self.new.heap.items }
+    {
+        for hint in hints {
+            self.bump_pivot(hint.pivot);
+        }
+    }
+
+    /// Bumps the activity of the variable, if there is one: the first hint of a chain has no pivot.
+    fn bump_pivot(&mut self, pivot: u64)
+        requires { IsOrder (length self.old.activities.items) self.old }
+        ensures order { IsOrder (length self.old.activities.items) self.new }
+        ensures kept { KeepsWaiting self.old.heap.items self.new.heap.items }
+    {
+        if pivot == 0 || pivot > self.activities.len() as u64 {
+            return;
+        }
+        self.bump(pivot);
+    }
+
+    /// Bumps the activities of the variables of a conflict: those on which the hints resolve, and those of the learnt
+    /// clause. Later conflicts weigh more.
+    pub(crate) fn bump_all(&mut self, hints: &[Hint], literals: &[Literal])
         requires order { IsOrder (length self.old.activities.items) self.old }
         requires within { is_within (length self.old.activities.items) literals.now ≡ true }
         ensures order { IsOrder (length self.old.activities.items) self.new }
         ensures kept { KeepsWaiting self.old.heap.items self.new.heap.items }
     {
+        self.bump_pivots(hints);
         for literal in literals {
             self.bump(literal.variable);
         }

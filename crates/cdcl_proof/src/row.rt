@@ -53,12 +53,13 @@ impl Row {
     }
 }
 
-/// That a clause watches a literal: the clause's index, and one of its literals. Where that one is true, the clause
-/// need not be read.
+/// That a clause watches a literal: the clause's index, one of its literals, and whether it has two literals alone.
+/// Where that one is true, the clause need not be read.
 #[derive(Clone, Copy)]
 pub(crate) struct Watch {
     pub(crate) clause: u32,
     pub(crate) blocker: PackedLiteral,
+    pub(crate) is_binary: bool,
 }
 
 /// The clauses that watch one literal.
@@ -109,7 +110,7 @@ impl WatchList {
     /// Gives the watch at the place another literal of its clause.
     pub(crate) fn set_blocker(&mut self, place: usize, blocker: PackedLiteral)
         requires { place < length self.old }
-        ensures { self.new ≡ slice_set self.old place (record { clause = (slice_index_or self.old place no_watch).clause; blocker = blocker }) }
+        ensures { self.new ≡ slice_set self.old place (record { clause = (slice_index_or self.old place no_watch).clause; blocker = blocker; is_binary = (slice_index_or self.old place no_watch).is_binary }) }
     {
         self.watches[place].blocker = blocker;
     }

@@ -147,7 +147,7 @@ impl<'a> Search<'a> {
         )?;
         let LearntClause { step, place } = learnt;
         let Step { clause, hints } = step;
-        self.order.bump_all(clause.as_slice());
+        self.order.bump_all(hints.as_slice(), clause.as_slice());
         self.insert_variables(place)?;
         self.watched.back_to(place as u64);
         self.watched.learn(clause)?;

@@ -1,5 +1,5 @@
 // Propagation by watched literals: a clause is read only when a literal that it watches has become false.
-ghost use Rattle.std.specs.Prelude.{ℕ, List, ◌⊎◌, ◌≡◌, ◌<◌, ◌≤◌, ◌+◌, ◌-◌, ◌++◌, ◌∷◌, true, [], length, take, IfOk, OnOk, OnErr, IfSome, IfNone, Some, None, slice_index_or};
+ghost use Rattle.std.specs.Prelude.{ℕ, List, ◌⊎◌, ◌≡◌, ◌<◌, ◌≤◌, ◌+◌, ◌-◌, ◌++◌, ◌∷◌, true, false, [], length, take, IfOk, OnOk, OnErr, IfSome, IfNone, Some, None, slice_index_or};
 ghost use Rattle.cdcl_proof.specs.declared.literal.Literal.{Literal};
 ghost use Rattle.cdcl_proof.specs.Literal.{negation, holds, slot_of};
 ghost use Rattle.cdcl_proof.specs.Clause.{is_among, is_within, is_clause};
@@ -214,7 +214,7 @@ impl Watcher {
         });
     }
 
-    /// Reads the list of the negation of the next literal of the trail.
+    /// Reads the list of the negation of the next literal of the trail, binary clauses first.
     fn read_next(&mut self) -> Result<Option<u64>, AllocError>
         requires watching { IsWatching self.old }
         requires more { self.old.head < length self.old.trail.entries }
@@ -229,7 +229,11 @@ impl Watcher {
     {
         let entry = self.trail.entry(self.head);
         let slot = PackedLiteral::new(entry.literal.negation()).slot();
-        match self.read_list(slot) {
+        match self.read_list(slot, true) {
+            Ok(None) => {}
+            other => return other,
+        }
+        match self.read_list(slot, false) {
             Ok(None) => {
                 self.head += 1;
                 Ok(None)
@@ -238,8 +242,9 @@ impl Watcher {
         }
     }
 
-    /// Visits the watches of the list of the slot. The result is the number of a false clause, if there is one.
-    fn read_list(&mut self, slot: usize) -> Result<Option<u64>, AllocError>
+    /// Visits the watches of the list of the slot, or, with `only_binary`, those of binary clauses alone. The result is
+    /// the number of a false clause, if there is one.
+    fn read_list(&mut self, slot: usize, only_binary: bool) -> Result<Option<u64>, AllocError>
         requires watching { IsWatching self.old }
         requires more { self.old.head < length self.old.trail.entries }
         requires slot { slot ≡ slot_of (negation (entry_at self.old.trail.entries self.old.head).literal) }
@@ -252,11 +257,15 @@ impl Watcher {
         ensures variables { self.new.trail.variables ≡ self.old.trail.variables }
         ensures propagates { Propagates self.new.table.clauses.items self.old.trail.entries self.new.trail.entries }
         ensures conflict { IfOk result (λ o. IfSome o (IsConflict self.new.table.clauses.items (literals self.new.trail.entries))) }
-        ensures visited { IfOk result (λ o. IfNone o (AreVisited (literals self.new.trail.entries) self.new.table.rows.items (list_at self.new.table.lists.items slot) (length (list_at self.new.table.lists.items slot)))) }
+        ensures visited { only_binary ≡ false → IfOk result (λ o. IfNone o (AreVisited (literals self.new.trail.entries) self.new.table.rows.items (list_at self.new.table.lists.items slot) (length (list_at self.new.table.lists.items slot)))) }
     {
         let mut place = 0;
         while place < self.table.lists[slot].len() {
             let watch = self.table.lists[slot].at(place);
+            if only_binary && !watch.is_binary {
+                place += 1;
+                continue;
+            }
             let clause = watch.clause;
             match self.visit(slot, place, watch) {
                 Ok(Visit::Stays) => place += 1,

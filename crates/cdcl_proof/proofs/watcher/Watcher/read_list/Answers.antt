@@ -26,7 +26,7 @@ loop-place-preserved-in-Ok-Stays c =
       slot = h.slot_is;
       low = h.low;
       within = let v = rw c.in-Ok-Stays.field-0-is at c.in-Ok-Stays.ensures.visit in let n = v.1.len in omega (arith, n, inside);
-      visited = let v = rw c.in-Ok-Stays.field-0-is at c.in-Ok-Stays.ensures.visit in visited_stays c.loop-place.self.trail.entries c.visit.new.self.trail.entries c.loop-place.self.table.rows.items c.visit.new.self.table.rows.items (list_at c.loop-place.self.table.lists.items c.args.slot) (list_at c.visit.new.self.table.lists.items c.args.slot) c.loop-place.place kept v.0 v.1 i.visited v.2;
+      visited = λ all. let v = rw c.in-Ok-Stays.field-0-is at c.in-Ok-Stays.ensures.visit in visited_stays c.loop-place.self.trail.entries c.visit.new.self.trail.entries c.loop-place.self.table.rows.items c.visit.new.self.table.rows.items (list_at c.loop-place.self.table.lists.items c.args.slot) (list_at c.visit.new.self.table.lists.items c.args.slot) c.loop-place.place kept v.0 v.1 (i.visited all) v.2;
     }
 
 pub loop-place-preserved : goal.loop-place-preserved
@@ -50,7 +50,7 @@ loop-place-preserved c =
       slot = h.slot_is;
       low = h.low;
       within = let v = rw c.in-Ok-Moved.field-0-is at c.in-Ok-Moved.ensures.visit in let n = ap length v.1 in let m = length-swap_remove (list_at c.loop-place.self.table.lists.items c.args.slot) c.loop-place.place inside in omega (arith, n, m, inside);
-      visited = let v = rw c.in-Ok-Moved.field-0-is at c.in-Ok-Moved.ensures.visit in visited_moved c.loop-place.self.trail.entries c.visit.new.self.trail.entries c.loop-place.self.table.rows.items c.visit.new.self.table.rows.items (list_at c.loop-place.self.table.lists.items c.args.slot) (list_at c.visit.new.self.table.lists.items c.args.slot) c.loop-place.place kept v.0 v.1 inside i.visited;
+      visited = λ all. let v = rw c.in-Ok-Moved.field-0-is at c.in-Ok-Moved.ensures.visit in visited_moved c.loop-place.self.trail.entries c.visit.new.self.trail.entries c.loop-place.self.table.rows.items c.visit.new.self.table.rows.items (list_at c.loop-place.self.table.lists.items c.args.slot) (list_at c.visit.new.self.table.lists.items c.args.slot) c.loop-place.place kept v.0 v.1 inside (i.visited all);
     }
 
 pub returns-in-Ok-Conflict-clause-propagates : goal.returns-in-Ok-Conflict-clause-propagates

@@ -1,4 +1,4 @@
-use Rattle.std.proofs.Common.{◌≡◌, ◌<◌, ◌≤◌, ◌-◌, length}
+use Rattle.std.proofs.Common.{false, ◌≡◌, ◌<◌, ◌≤◌, ◌-◌, length}
 use Rattle.cdcl_proof.specs.Literal.{negation, slot_of}
 use Rattle.cdcl_proof.specs.Trail.{literals, entry_at}
 use Rattle.cdcl_proof.specs.Watcher.{IsWatching}
@@ -18,7 +18,7 @@ invariant-loop-place l = record {
   slot : l.slot ≡ slot_of (negation (entry_at l.self.trail.entries l.self.head).literal);
   low : l.slot < length l.self.table.lists.items;
   within : l.place ≤ length (list_at l.self.table.lists.items l.slot);
-  visited : AreVisited (literals l.self.trail.entries) l.self.table.rows.items (list_at l.self.table.lists.items l.slot) l.place;
+  visited : l.only_binary ≡ false → AreVisited (literals l.self.trail.entries) l.self.table.rows.items (list_at l.self.table.lists.items l.slot) l.place;
 }
 
 abbrev pub decreases-loop-place : goal.decreases-loop-place
