@@ -1,5 +1,5 @@
 // Clauses and watch lists as propagation works on them.
-ghost use Rattle.std.specs.Prelude.{ℕ, ◌≡◌, ◌<◌, ◌≤◌, ◌++◌, ◌∷◌, ◌-◌, ◌^◌, true, [], length, take, swap, swap_remove, OnOk, OnErr, IfOk, slice_index_or, slice_set};
+ghost use Rattle.std.specs.Prelude.{ℕ, ◌≡◌, ◌<◌, ◌≤◌, ◌++◌, ◌∷◌, ◌-◌, ◌^◌, true, false, [], length, take, swap, swap_remove, OnOk, OnErr, IfOk, slice_index_or, slice_set};
 ghost use Rattle.cdcl_proof.specs.Clause.{is_within};
 ghost use Rattle.cdcl_proof.specs.Watching.{no_watch};
 
@@ -62,10 +62,11 @@ pub(crate) struct Watch {
     pub(crate) is_binary: bool,
 }
 
-/// The clauses that watch one literal.
+/// The clauses that watch one literal. Those of two literals stand among the first `binaries`.
 #[derive(Drop)]
 pub(crate) struct WatchList {
     watches: Vec<Watch>,
+    binaries: usize,
 }
 
 impl Model for WatchList {
@@ -83,13 +84,20 @@ impl WatchList {
     {
         WatchList {
             watches: Vec::new(alloc),
+            binaries: 0,
         }
     }
 
-    pub(crate) fn len(&self) -> usize
-        ensures { result ≡ length self.now }
+    /// How many watches are to be read, or, with `only_binary`, how far those of binary clauses reach.
+    pub(crate) fn reach(&self, only_binary: bool) -> usize
+        ensures within { result ≤ length self.now }
+        ensures all { only_binary ≡ false → result ≡ length self.now }
     {
-        self.watches.len()
+        if only_binary {
+            self.binaries.min(self.watches.len())
+        } else {
+            self.watches.len()
+        }
     }
 
     pub(crate) fn at(&self, place: usize) -> Watch
@@ -103,7 +111,11 @@ impl WatchList {
         ensures ok { OnOk result (self.new ≡ self.old ++ watch ∷ []) }
         ensures err { OnErr result (self.new ≡ self.old) }
     {
+        let is_binary = watch.is_binary;
         self.watches.push(watch)?;
+        if is_binary {
+            self.binaries = self.watches.len();
+        }
         Ok(())
     }
 

@@ -260,7 +260,7 @@ impl Watcher {
         ensures visited { only_binary ≡ false → IfOk result (λ o. IfNone o (AreVisited (literals self.new.trail.entries) self.new.table.rows.items (list_at self.new.table.lists.items slot) (length (list_at self.new.table.lists.items slot)))) }
     {
         let mut place = 0;
-        while place < self.table.lists[slot].len() {
+        while place < self.table.lists[slot].reach(only_binary) {
             let watch = self.table.lists[slot].at(place);
             if only_binary && !watch.is_binary {
                 place += 1;

@@ -12,8 +12,9 @@ loop-place-preserved-in-Ok-Stays c =
     let kept = e.propagates.kept in
     let h = still_at_head c.loop-place.self c.visit.new.self c.args.slot i.watching e.watching e.variables e.head e.propagates i.more i.slot i.low in
     let list : c.index-in-loop-place.result.now ≡ list_at c.loop-place.self.table.lists.items c.args.slot = get_or_read c.loop-place.self.table.lists.items c.args.slot c.index-in-loop-place.result.now i.low c.index-in-loop-place.ensures [] in
-    let len : c.len.result ≡ length (list_at c.loop-place.self.table.lists.items c.args.slot) = c.len.ensures ∙ ap length (get_or_read c.loop-place.self.table.lists.items c.args.slot c.index.result.now i.low c.index.ensures []) in
-    let inside : c.loop-place.place < length (list_at c.loop-place.self.table.lists.items c.args.slot) = omega (arith, len, c.loop-place-test.true) in
+    let end = c.reach.ensures.within in
+    let len = ap length (get_or_read c.loop-place.self.table.lists.items c.args.slot c.index.result.now i.low c.index.ensures []) in
+    let inside : c.loop-place.place < length (list_at c.loop-place.self.table.lists.items c.args.slot) = omega (arith, len, end, c.loop-place-test.true) in
     record {
       watching = e.watching;
       clauses = e.clauses ∙ i.clauses;
@@ -36,8 +37,9 @@ loop-place-preserved c =
     let kept = e.propagates.kept in
     let h = still_at_head c.loop-place.self c.visit.new.self c.args.slot i.watching e.watching e.variables e.head e.propagates i.more i.slot i.low in
     let list : c.index-in-loop-place.result.now ≡ list_at c.loop-place.self.table.lists.items c.args.slot = get_or_read c.loop-place.self.table.lists.items c.args.slot c.index-in-loop-place.result.now i.low c.index-in-loop-place.ensures [] in
-    let len : c.len.result ≡ length (list_at c.loop-place.self.table.lists.items c.args.slot) = c.len.ensures ∙ ap length (get_or_read c.loop-place.self.table.lists.items c.args.slot c.index.result.now i.low c.index.ensures []) in
-    let inside : c.loop-place.place < length (list_at c.loop-place.self.table.lists.items c.args.slot) = omega (arith, len, c.loop-place-test.true) in
+    let end = c.reach.ensures.within in
+    let len = ap length (get_or_read c.loop-place.self.table.lists.items c.args.slot c.index.result.now i.low c.index.ensures []) in
+    let inside : c.loop-place.place < length (list_at c.loop-place.self.table.lists.items c.args.slot) = omega (arith, len, end, c.loop-place-test.true) in
     record {
       watching = e.watching;
       clauses = e.clauses ∙ i.clauses;
