@@ -4,7 +4,9 @@ use Rattle.std.proofs.lemmas.List.{get_or_read, get_or_append_left, get_or-take,
 use Rattle.std.proofs.lemmas.Bool.{and_parts, true≢false, false≢true, cases_eq, both_ways, not-true}
 use Rattle.cdcl_proof.specs.declared.literal.Literal.{Literal}
 use Rattle.cdcl_proof.specs.declared.log.Step.{Step}
+use Rattle.cdcl_proof.specs.declared.table.Table.{Table}
 use Rattle.cdcl_proof.specs.declared.trail.Entry.{Entry}
+use Rattle.cdcl_proof.specs.declared.watcher.Watcher.{Watcher}
 use Rattle.cdcl_proof.specs.Literal.{negation, holds, mentions, is_once}
 use Rattle.cdcl_proof.specs.Fresh.{is_free, is_closed, is_empty}
 use Rattle.cdcl_proof.specs.Replay.{is_number, clause_at}
@@ -13,7 +15,8 @@ use Rattle.cdcl_proof.specs.Clause.{is_among, is_within, is_clause}
 use Rattle.cdcl_proof.specs.Formula.{are_clauses}
 use Rattle.cdcl_proof.specs.Trail.{Path, literals, entry_at, no_entry, AreApart, IsSound, Stands, Implies, is_after}
 use Rattle.cdcl_proof.specs.Watching.{Watching, Propagates, AreShort, IsRow, IsCovered, is_satisfied, row_at, literal_at, no_literal}
-use Rattle.cdcl_proof.specs.Watcher.{IsProgress}
+use Rattle.cdcl_proof.specs.Table.{IsTable, IsUnchanged}
+use Rattle.cdcl_proof.specs.Watcher.{IsProgress, IsWatching}
 use Rattle.cdcl_proof.specs.Resolving.{IsLearntClause}
 use Rattle.cdcl_proof.proofs.Sets.{all_at, any_from, mentions_from, holds_from_mentions}
 use Rattle.cdcl_proof.proofs.Entries.{entry_of_mentions}
@@ -29,6 +32,13 @@ short_still s rows permuted short short2 short_head are short_head_in same old j
     let lj : j < length short = omega (arith, l, short_head_in) in
     let low = (are.only j lj).0 in
     rw (same j lj, get_or_append_left rows (permuted ∷ []) [] (get_or short j 0) low) (old j l)
+
+-- a table that is as before is watched as before
+pub watching_unchanged : (w : Watcher) (t : Table) → IsWatching w → IsTable t → t.variables ≡ w.table.variables → IsUnchanged w.table t → IsWatching (record w { table = t })
+watching_unchanged w t was is variables same =
+    let p = subst (λ (x : List (List Literal)). IsProgress x w.table.short.items w.trail.entries w.head w.marks.items w.short_head w.base) (sym same.rows) was.progress in
+    let q = subst (λ (x : List ℕ). IsProgress t.rows.items x w.trail.entries w.head w.marks.items w.short_head w.base) (sym same.short) p in
+    record { table = is; variables = was.variables ∙ sym variables; progress = q }
 
 -- nothing is read yet
 pub progress_reset : (rows : List (List Literal)) (permuted : List Literal) (short short2 : List ℕ) (es : List Entry) (head : ℕ) (marks : List ℕ) (short_head base : ℕ) → AreShort rows short → IsProgress rows short es head marks short_head base → length short ≤ length short2 → ((j : ℕ) → j < length short → get_or short2 j 0 ≡ get_or short j 0) → IsProgress (rows ++ permuted ∷ []) short2 es 0 [] short_head base

@@ -19,8 +19,8 @@ use std::marker::Model;
 /// more stands in the lists of exactly two of its literals, so that propagation reads it only when one of these has
 /// become false (Moskewicz et al., Chaff, 2001). Clauses are never taken away.
 ///
-/// The memory that a clause takes: 48 bytes, 24 for each literal, and 24 or more for its two watches. A variable
-/// takes 96 bytes or more.
+/// The memory that a clause takes: 48 bytes, 24 for each literal, and 32 or more for its two watches. A variable
+/// takes 128 bytes or more.
 #[derive(Drop)]
 pub struct Watched {
     watcher: Watcher,

@@ -12,7 +12,7 @@ use Rattle.cdcl_proof.specs.Replay.{clause_at}
 use Rattle.cdcl_proof.proofs.Sets.{all_at, all_from}
 use Rattle.cdcl_proof.proofs.Rows.{holds_at}
 use Rattle.cdcl_proof.proofs.Covering.{propagates_push}
-use Rattle.cdcl_proof.proofs.Adding.{front_literal, row_in_front, progress_learnt, clause_last, number_last}
+use Rattle.cdcl_proof.proofs.Adding.{watching_unchanged, front_literal, row_in_front, progress_learnt, clause_last, number_last}
 use Rattle.cdcl_proof.proofs.watcher.Watcher.learn.Goals as goal
 
 pub add-requires-clause-row : goal.add-requires-clause-row
@@ -52,12 +52,7 @@ returns-clause-watching c =
     rw c.add-2.ensures.added (record { table = e.table; variables = w.variables ∙ sym e.variables; progress = r })
 
 pub returns-in_err-add-clause-watching : goal.returns-in_err-add-clause-watching
-returns-in_err-add-clause-watching c =
-    let w = c.requires.watching in
-    let e = c.in_err-add.ensures in
-    let p = subst (λ (x : List (List Literal)). IsProgress x c.args.self.now.table.short.items c.args.self.now.trail.entries c.args.self.now.head c.args.self.now.marks.items c.args.self.now.short_head c.args.self.now.base) (sym e.err.rows) w.progress in
-    let q = subst (λ (x : List ℕ). IsProgress c.add.new.self.rows.items x c.args.self.now.trail.entries c.args.self.now.head c.args.self.now.marks.items c.args.self.now.short_head c.args.self.now.base) (sym e.err.short) p in
-    record { table = e.table; variables = w.variables ∙ sym e.variables; progress = q }
+returns-in_err-add-clause-watching c = watching_unchanged c.args.self.now c.add.new.self c.requires.watching c.in_err-add.ensures.table c.in_err-add.ensures.variables c.in_err-add.ensures.err
 
 pub returns-clause-propagates : goal.returns-clause-propagates
 returns-clause-propagates c =
