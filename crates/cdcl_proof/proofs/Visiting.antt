@@ -180,3 +180,33 @@ still_at_head mid new slot was is variables head propagates more slot_is low = r
   slot_is = slot_is ∙ ap (λ (x : Entry). slot_of (negation x.literal)) (sym (entry_kept mid.trail.entries new.trail.entries mid.head propagates.kept more)) ∙ ap (λ (n : ℕ). slot_of (negation (entry_at new.trail.entries n).literal)) (sym head);
   low = let a = was.table.slots in let b = is.table.slots in let m = was.variables in let n = is.variables in omega (arith, a, b, m, n, variables, low);
 }
+
+-- what stays while the list of the slot is gone over, from the first state on
+pub record IsReading (start now : Watcher) (slot : ℕ) : Type 0 where
+  pub watching : IsWatching now
+  pub clauses : now.table.clauses ≡ start.table.clauses
+  pub short : now.table.short ≡ start.table.short
+  pub short_head : now.short_head ≡ start.short_head
+  pub head : now.head ≡ start.head
+  pub variables : now.trail.variables ≡ start.trail.variables
+  pub propagates : Propagates now.table.clauses.items start.trail.entries now.trail.entries
+  pub at_head : IsAtHead now slot
+
+-- it stays at one visit more
+pub reading_on : (start mid new : Watcher) (slot : ℕ) → IsReading start mid slot → IsWatching new → new.table.clauses ≡ mid.table.clauses → new.table.short ≡ mid.table.short → new.short_head ≡ mid.short_head → new.head ≡ mid.head → new.trail.variables ≡ mid.trail.variables → Propagates new.table.clauses.items mid.trail.entries new.trail.entries → IsReading start new slot
+reading_on start mid new slot r watching clauses short short_head head variables propagates = record {
+  watching = watching;
+  clauses = clauses ∙ r.clauses;
+  short = short ∙ r.short;
+  short_head = short_head ∙ r.short_head;
+  head = head ∙ r.head;
+  variables = variables ∙ r.variables;
+  propagates = propagates_on start.trail.entries mid new clauses r.propagates propagates;
+  at_head = still_at_head mid new slot r.watching watching variables head propagates r.at_head.more r.at_head.slot_is r.at_head.low;
+}
+
+-- a place below the reach of a list is one of the list
+pub inside_reach : (w : Watcher) (slot place : ℕ) (list : List Watch) (reach : ℕ) → slot < length w.table.lists.items → list ≡ get_or w.table.lists.items slot list → reach ≤ length list → place < reach → place < length (list_at w.table.lists.items slot)
+inside_reach w slot place list reach low is within less =
+    let len = ap length (get_or_read w.table.lists.items slot list low is []) in
+    omega (arith, len, within, less)
