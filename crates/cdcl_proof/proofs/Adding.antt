@@ -1,10 +1,12 @@
--- A clause that is added while literals are held.
+-- A clause that is added while the trail has literals.
 use Rattle.std.proofs.Common.{◌≡◌, ℕ, ◌+◌, ◌-◌, ◌<◌, ◌≤◌, true, false, List, [], ◌∷◌, ◌++◌, length, get_or, take, drop, refl, sym, ◌∙◌, ap, subst, inl, inr, ◌⊎◌, arith, Option, MatchOption}
 use Rattle.std.proofs.lemmas.List.{get_or_read, get_or_append_left, get_or-take, get_or-drop, length-drop, length-take-le, length_push, take-append-le, take_at, take-take, get_or_push}
 use Rattle.std.proofs.lemmas.Bool.{and_parts, true≢false, false≢true, cases_eq, both_ways, not-true}
 use Rattle.cdcl_proof.specs.declared.literal.Literal.{Literal}
 use Rattle.cdcl_proof.specs.declared.log.Step.{Step}
+use Rattle.cdcl_proof.specs.declared.table.Table.{Table}
 use Rattle.cdcl_proof.specs.declared.trail.Entry.{Entry}
+use Rattle.cdcl_proof.specs.declared.watcher.Watcher.{Watcher}
 use Rattle.cdcl_proof.specs.Literal.{negation, holds, mentions, is_once}
 use Rattle.cdcl_proof.specs.Fresh.{is_free, is_closed, is_empty}
 use Rattle.cdcl_proof.specs.Replay.{is_number, clause_at}
@@ -13,32 +15,40 @@ use Rattle.cdcl_proof.specs.Clause.{is_among, is_within, is_clause}
 use Rattle.cdcl_proof.specs.Formula.{are_clauses}
 use Rattle.cdcl_proof.specs.Trail.{Path, literals, entry_at, no_entry, AreApart, IsSound, Stands, Implies, is_after}
 use Rattle.cdcl_proof.specs.Watching.{Watching, Propagates, AreShort, IsRow, IsCovered, is_satisfied, row_at, literal_at, no_literal}
-use Rattle.cdcl_proof.specs.Watcher.{IsProgress}
-use Rattle.cdcl_proof.specs.Resolving.{IsLesson}
+use Rattle.cdcl_proof.specs.Table.{IsTable, IsUnchanged}
+use Rattle.cdcl_proof.specs.Watcher.{IsProgress, IsWatching}
+use Rattle.cdcl_proof.specs.Resolving.{IsLearntClause}
 use Rattle.cdcl_proof.proofs.Sets.{all_at, any_from, mentions_from, holds_from_mentions}
 use Rattle.cdcl_proof.proofs.Entries.{entry_of_mentions}
 use Rattle.cdcl_proof.proofs.Resolution.{cases_le}
-use Rattle.cdcl_proof.proofs.Lessons.{free_before, holds_before}
+use Rattle.cdcl_proof.proofs.LearntClauses.{free_before, holds_before}
 use Rattle.cdcl_proof.proofs.Rows.{holds_at, row_of}
 use Rattle.cdcl_proof.proofs.Tables.{same_push}
-use Rattle.cdcl_proof.proofs.Covering.{covered_more, held_kept, held_take, held_last}
+use Rattle.cdcl_proof.proofs.Covering.{covered_more, kept_holds, take_holds, last_holds}
 
 -- the short clauses that were true are so still
-short_still : (s : List Literal) (rows : List (List Literal)) (permuted : List Literal) (short short2 : List ℕ) (settled : ℕ) → AreShort rows short → settled ≤ length short → ((j : ℕ) → j < length short → get_or short2 j 0 ≡ get_or short j 0) → ((j : ℕ) → j < settled → is_satisfied s (row_at rows (get_or short j 0)) ≡ true) → (j : ℕ) → j < settled → is_satisfied s (row_at (rows ++ permuted ∷ []) (get_or short2 j 0)) ≡ true
-short_still s rows permuted short short2 settled are settled_in same old j l =
-    let lj : j < length short = omega (arith, l, settled_in) in
+short_still : (s : List Literal) (rows : List (List Literal)) (permuted : List Literal) (short short2 : List ℕ) (short_head : ℕ) → AreShort rows short → short_head ≤ length short → ((j : ℕ) → j < length short → get_or short2 j 0 ≡ get_or short j 0) → ((j : ℕ) → j < short_head → is_satisfied s (row_at rows (get_or short j 0)) ≡ true) → (j : ℕ) → j < short_head → is_satisfied s (row_at (rows ++ permuted ∷ []) (get_or short2 j 0)) ≡ true
+short_still s rows permuted short short2 short_head are short_head_in same old j l =
+    let lj : j < length short = omega (arith, l, short_head_in) in
     let low = (are.only j lj).0 in
     rw (same j lj, get_or_append_left rows (permuted ∷ []) [] (get_or short j 0) low) (old j l)
 
+-- a table that is as before is watched as before
+pub watching_unchanged : (w : Watcher) (t : Table) → IsWatching w → IsTable t → t.variables ≡ w.table.variables → IsUnchanged w.table t → IsWatching (record w { table = t })
+watching_unchanged w t was is variables same =
+    let p = subst (λ (x : List (List Literal)). IsProgress x w.table.short.items w.trail.entries w.head w.marks.items w.short_head w.base) (sym same.rows) was.progress in
+    let q = subst (λ (x : List ℕ). IsProgress t.rows.items x w.trail.entries w.head w.marks.items w.short_head w.base) (sym same.short) p in
+    record { table = is; variables = was.variables ∙ sym variables; progress = q }
+
 -- nothing is read yet
-pub progress_reset : (rows : List (List Literal)) (permuted : List Literal) (short short2 : List ℕ) (es : List Entry) (head : ℕ) (marks : List ℕ) (settled base : ℕ) → AreShort rows short → IsProgress rows short es head marks settled base → length short ≤ length short2 → ((j : ℕ) → j < length short → get_or short2 j 0 ≡ get_or short j 0) → IsProgress (rows ++ permuted ∷ []) short2 es 0 [] settled base
-progress_reset rows permuted short short2 es head marks settled base are p longer same = record {
+pub progress_reset : (rows : List (List Literal)) (permuted : List Literal) (short short2 : List ℕ) (es : List Entry) (head : ℕ) (marks : List ℕ) (short_head base : ℕ) → AreShort rows short → IsProgress rows short es head marks short_head base → length short ≤ length short2 → ((j : ℕ) → j < length short → get_or short2 j 0 ≡ get_or short j 0) → IsProgress (rows ++ permuted ∷ []) short2 es 0 [] short_head base
+progress_reset rows permuted short short2 es head marks short_head base are p longer same = record {
   head_in = omega arith;
   covered = λ i k k2 long h. absurd (false≢true h);
   marked = record { sorted = λ j k jk lk. absurd (omega (arith, lk)); below = λ j l. absurd (omega (arith, l)); covered = λ j l. absurd (omega (arith, l)) };
-  settled_in = let s = p.settled_in in omega (arith, s, longer);
+  short_head_in = let s = p.short_head_in in omega (arith, s, longer);
   base_in = p.base_in;
-  short_true = short_still (literals (take base es)) rows permuted short short2 settled are p.settled_in same p.short_true;
+  short_true = short_still (literals (take base es)) rows permuted short short2 short_head are p.short_head_in same p.short_true;
 }
 
 -- an entry from a place on is not mentioned before it
@@ -50,13 +60,13 @@ not_before variables es m place v apart low after =
     let at : (entry_at es (place + r.0)).literal.variable ≡ v = ap (λ (x : Entry). x.literal.variable) (sym (get_or-drop place es r.0 no_entry)) ∙ r.2 in
     subst (λ (w : ℕ). mentions (literals (take m es)) w ≡ false) at (free_before variables es m (place + r.0) apart (omega (arith, low)) inside)
 
--- a clause is added, and its first literal, which was open, is held
-module _ (variables : ℕ) (rows : List (List Literal)) (permuted : List Literal) (short short2 : List ℕ) (es : List Entry) (e : Entry) (head : ℕ) (marks : List ℕ) (settled base kept : ℕ) (apart : AreApart variables es) (are : AreShort rows short) (p : IsProgress rows short es head marks settled base) (longer : length short ≤ length short2) (same : (j : ℕ) → j < length short → get_or short2 j 0 ≡ get_or short j 0) (some : 0 < length permuted) (is_first : literal_at permuted 0 ≡ e.literal) (free : is_free (literals es) e.literal ≡ true) (kept_in : kept ≤ length marks) (after : 0 < kept → 1 < length permuted → is_after es (get_or marks (kept - 1) 0) (literal_at permuted 1).variable ≡ true) where
+-- a clause is added, and its first literal, which was open, is put on the trail
+module _ (variables : ℕ) (rows : List (List Literal)) (permuted : List Literal) (short short2 : List ℕ) (es : List Entry) (e : Entry) (head : ℕ) (marks : List ℕ) (short_head base kept : ℕ) (apart : AreApart variables es) (are : AreShort rows short) (p : IsProgress rows short es head marks short_head base) (longer : length short ≤ length short2) (same : (j : ℕ) → j < length short → get_or short2 j 0 ≡ get_or short j 0) (some : 0 < length permuted) (is_first : literal_at permuted 0 ≡ e.literal) (free : is_free (literals es) e.literal ≡ true) (kept_in : kept ≤ length marks) (after : 0 < kept → 1 < length permuted → is_after es (get_or marks (kept - 1) 0) (literal_at permuted 1).variable ≡ true) where
   front : (n : ℕ) → n ≤ length es → take n (es ++ e ∷ []) ≡ take n es
   front n l = take-append-le n es (e ∷ []) l
 
   new_satisfied : is_satisfied (literals (es ++ e ∷ [])) permuted ≡ true
-  new_satisfied = any_from (holds (literals (es ++ e ∷ []))) permuted e.literal (subst (λ (l : Literal). holds permuted l ≡ true) is_first (holds_at permuted 0 some)) (held_last es e)
+  new_satisfied = any_from (holds (literals (es ++ e ∷ []))) permuted e.literal (subst (λ (l : Literal). holds permuted l ≡ true) is_first (holds_at permuted 0 some)) (last_holds es e)
 
   -- the new row has no watched literal that is false before a mark that is kept
   new_covered : (m : ℕ) → ((1 < length permuted) → mentions (literals (take m es)) (literal_at permuted 1).variable ≡ false) → m ≤ length es → IsCovered (literals (take m es)) (literals (take m es)) permuted
@@ -73,12 +83,12 @@ module _ (variables : ℕ) (rows : List (List Literal)) (permuted : List Literal
       ]
     where
       held_in : (m : ℕ) (l : Literal) → holds (literals (take m es)) l ≡ true → holds (literals es) l ≡ true
-      held_in m l t = held_take es m l t
+      held_in m l t = take_holds es m l t
 
-  pub progress_learnt : IsProgress (rows ++ permuted ∷ []) short2 (es ++ e ∷ []) head (take kept marks) settled base
+  pub progress_learnt : IsProgress (rows ++ permuted ∷ []) short2 (es ++ e ∷ []) head (take kept marks) short_head base
   progress_learnt = record {
     head_in = let n = length_push es e in let h = p.head_in in omega (arith, n, h);
-    covered = rw (front head p.head_in) (same_push [] rows [] permuted (λ i r. IsCovered (literals (take head es)) (literals (es ++ e ∷ [])) r) (λ k k2 long h. new_satisfied) (covered_more (literals (take head es)) (literals es) (literals (es ++ e ∷ [])) rows (λ l h. held_kept es (es ++ e ∷ []) l (take_at es (e ∷ []) (length es) refl) h) p.covered));
+    covered = rw (front head p.head_in) (same_push [] rows [] permuted (λ i r. IsCovered (literals (take head es)) (literals (es ++ e ∷ [])) r) (λ k k2 long h. new_satisfied) (covered_more (literals (take head es)) (literals es) (literals (es ++ e ∷ [])) rows (λ l h. kept_holds es (es ++ e ∷ []) l (take_at es (e ∷ []) (length es) refl) h) p.covered));
     marked = record {
       sorted = λ j k jk lk. let lk2 = low k lk in rw (get_or-take kept marks j 0 (omega (arith, jk, lk2)), get_or-take kept marks k 0 lk2) (p.marked.sorted j k jk (omega (arith, lk2, kept_in)));
       below = λ j l. let lj = low j l in rw (get_or-take kept marks j 0 lj) (p.marked.below j (omega (arith, lj, kept_in)));
@@ -93,9 +103,9 @@ module _ (variables : ℕ) (rows : List (List Literal)) (permuted : List Literal
           (new_covered (get_or marks j 0) (λ two. not_before variables es (get_or marks j 0) (get_or marks (kept - 1) 0) (literal_at permuted 1).variable apart (p.marked.sorted j (kept - 1) (omega (arith, lj)) (omega (arith, lj, kept_in))) (after (omega (arith, lj)) two)) m_low)
           (p.marked.covered j lm));
     };
-    settled_in = let s = p.settled_in in omega (arith, s, longer);
+    short_head_in = let s = p.short_head_in in omega (arith, s, longer);
     base_in = let n = length_push es e in let b = p.base_in in omega (arith, n, b);
-    short_true = rw (front base p.base_in) (short_still (literals (take base es)) rows permuted short short2 settled are p.settled_in same p.short_true);
+    short_true = rw (front base p.base_in) (short_still (literals (take base es)) rows permuted short short2 short_head are p.short_head_in same p.short_true);
   }
     where
       low : (j : ℕ) → j < length (take kept marks) → j < kept
@@ -139,7 +149,7 @@ not_empty (x ∷ xs) h = omega arith
 pub mentions_kept : (old new : List Entry) (v : ℕ) → take (length old) new ≡ old → mentions (literals old) v ≡ true → mentions (literals new) v ≡ true
 mentions_kept old new v kept h =
     let l = holds_from_mentions (literals old) v h in
-    subst (λ (w : ℕ). mentions (literals new) w ≡ true) l.2 (mentions_from (literals new) l.0 (held_kept old new l.0 kept l.1))
+    subst (λ (w : ℕ). mentions (literals new) w ≡ true) l.2 (mentions_from (literals new) l.0 (kept_holds old new l.0 kept l.1))
 
 pub before_or_from : (k place : ℕ) → (k < place) ⊎ (place ≤ k)
 before_or_from k place = elim (cases_le place k) as (λ _. (k < place) ⊎ (place ≤ k)) [ inl from ↦ inr from | inr before ↦ inl before ]
@@ -147,38 +157,38 @@ before_or_from k place = elim (cases_le place k) as (λ _. (k < place) ⊎ (plac
 pub mentions_before : (es : List Entry) (place k v : ℕ) → k < place → k < length es → (entry_at es k).literal.variable ≡ v → mentions (literals (take place es)) v ≡ true
 mentions_before es place k v before inside e = subst (λ (w : ℕ). mentions (literals (take place es)) w ≡ true) e (mentions_from (literals (take place es)) (entry_at es k).literal (holds_before es place k before inside))
 
--- a search that has gone back holds the first literals alone
-pub record HasGoneBack (old new : Watching) (place : ℕ) : Type 0 where
+-- after a backjump the trail has its first literals alone
+pub record IsBackjump (old new : Watching) (place : ℕ) : Type 0 where
   pub variables : new.variables ≡ old.variables
   pub clauses : new.clauses ≡ old.clauses
   pub entries : new.entries ≡ take place old.entries
 
-pub gone_back : (old released new : Watching) (place : ℕ) → released ≡ old → new ≡ record released { entries = take place released.entries } → HasGoneBack old new place
-gone_back old released new place same back =
+pub backjump_keeps : (old inserted new : Watching) (place : ℕ) → inserted ≡ old → new ≡ record inserted { entries = take place inserted.entries } → IsBackjump old new place
+backjump_keeps old inserted new place same back =
     let is : new ≡ record old { entries = take place old.entries } = back ∙ ap (λ (w : Watching). record w { entries = take place w.entries }) same in
     record { variables = ap (λ (w : Watching). w.variables) is; clauses = ap (λ (w : Watching). w.clauses) is; entries = ap (λ (w : Watching). w.entries) is }
 
--- what is taught of the parts of a search is taught of it
-pub taught : (w : Watching) (path : Path) (clauses : List (List Literal)) (step : Step) (place : ℕ) → path ≡ record { variables = w.variables; entries = w.entries } → clauses ≡ w.clauses → IsLesson path.variables clauses path.entries step place → IsLesson w.variables w.clauses w.entries step place
-taught w path clauses step place is same l = subst (λ (p : Path). IsLesson p.variables w.clauses p.entries step place) is (subst (λ (cs : List (List Literal)). IsLesson path.variables cs path.entries step place) same l)
+-- what is learnt from the parts of a search is learnt from it
+pub search_learns : (w : Watching) (path : Path) (clauses : List (List Literal)) (step : Step) (place : ℕ) → path ≡ record { variables = w.variables; entries = w.entries } → clauses ≡ w.clauses → IsLearntClause path.variables clauses path.entries step place → IsLearntClause w.variables w.clauses w.entries step place
+search_learns w path clauses step place is same l = subst (λ (p : Path). IsLearntClause p.variables w.clauses p.entries step place) is (subst (λ (cs : List (List Literal)). IsLearntClause path.variables cs path.entries step place) same l)
 
 -- the row of a learnt clause: its last literal has come first
-pub record Brought (variables : ℕ) (clause row : List Literal) (literal : Literal) : Type 0 where
-  pub row_is : IsRow clause row
-  pub some : 0 < length row
+pub record IsFrontLiteral (variables : ℕ) (clause ordered : List Literal) (literal : Literal) : Type 0 where
+  pub row_is : IsRow clause ordered
+  pub some : 0 < length ordered
   pub within : is_within variables clause ≡ true
-  pub first : literal_at row 0 ≡ literal
+  pub first : literal_at ordered 0 ≡ literal
   pub is_last : literal_at clause (length clause - 1) ≡ literal
 
-pub row_brought : (variables : ℕ) (clause written row : List Literal) → is_clause variables clause ≡ true → written ≡ clause → ((c : List Literal) → IsRow c written → IsRow c row) → IsRow clause row
-row_brought variables clause written row is_a same carried = carried clause (subst (λ (r : List Literal). IsRow clause r) (sym same) (row_of clause (and_parts (is_once clause) (is_within variables clause) is_a).0))
+pub row_in_front : (variables : ℕ) (clause written ordered : List Literal) → is_clause variables clause ≡ true → written ≡ clause → ((c : List Literal) → IsRow c written → IsRow c ordered) → IsRow clause ordered
+row_in_front variables clause written ordered is_a same carried = carried clause (subst (λ (r : List Literal). IsRow clause r) (sym same) (row_of clause (and_parts (is_once clause) (is_within variables clause) is_a).0))
 
-pub brought : (variables : ℕ) (clause written row shown : List Literal) (read literal : Literal) → is_clause variables clause ≡ true → 0 < length clause → written ≡ clause → ((c : List Literal) → IsRow c written → IsRow c row) → literal_at row 0 ≡ literal_at written (length written - 1) → shown ≡ row → read ≡ get_or shown 0 read → literal ≡ read → Brought variables clause row literal
-brought variables clause written row shown read literal is_a full same carried last shows reads is =
-    let row_is = row_brought variables clause written row is_a same carried in
-    let some : 0 < length row = let n = row_is.len in omega (arith, n, full) in
+pub front_literal : (variables : ℕ) (clause written ordered shown : List Literal) (read literal : Literal) → is_clause variables clause ≡ true → 0 < length clause → written ≡ clause → ((c : List Literal) → IsRow c written → IsRow c ordered) → literal_at ordered 0 ≡ literal_at written (length written - 1) → shown ≡ ordered → read ≡ get_or shown 0 read → literal ≡ read → IsFrontLiteral variables clause ordered literal
+front_literal variables clause written ordered shown read literal is_a full same carried last shows reads is =
+    let row_is = row_in_front variables clause written ordered is_a same carried in
+    let some : 0 < length ordered = let n = row_is.len in omega (arith, n, full) in
     let len = ap length shows in
-    let first : literal_at row 0 ≡ literal = ap (λ (r : List Literal). literal_at r 0) (sym shows) ∙ sym (get_or_read shown 0 read (omega (arith, len, some)) reads no_literal) ∙ sym is in
+    let first : literal_at ordered 0 ≡ literal = ap (λ (r : List Literal). literal_at r 0) (sym shows) ∙ sym (get_or_read shown 0 read (omega (arith, len, some)) reads no_literal) ∙ sym is in
     record {
       row_is = row_is;
       some = some;

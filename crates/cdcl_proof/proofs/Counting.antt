@@ -7,22 +7,22 @@ use Rattle.cdcl_proof.specs.declared.log.Step.{Step}
 use Rattle.cdcl_proof.specs.Literal.{holds, is_once}
 use Rattle.cdcl_proof.specs.Clause.{is_among, is_within, is_clause, is_subset}
 use Rattle.cdcl_proof.specs.Formula.{are_clauses}
-use Rattle.cdcl_proof.specs.Replay.{learnt}
+use Rattle.cdcl_proof.specs.Replay.{learnt_clauses}
 use Rattle.cdcl_proof.specs.Fresh.{is_empty, is_new, is_new_from, has_no_empty}
 use Rattle.cdcl_proof.proofs.Sets.{literal_ext, all_at, all_from, once_apart}
 use Rattle.cdcl_proof.proofs.Entries.{among_low, among_high}
 use Rattle.cdcl_proof.proofs.Pigeons.{is_member, is_distinct, are_below, pigeonhole}
 
 -- the literal of a variable and a sign
-abbrev signed : ℕ → Bool → Literal
-signed v s = record { variable = v; positive = s }
+abbrev literal_of : ℕ → Bool → Literal
+literal_of v s = record { variable = v; positive = s }
 
 -- the digit of a variable that the clause has positive, negative or not
 abbrev digit_by : Bool → Bool → ℕ
 digit_by a b = cond a 1 (cond b 2 0)
 
 abbrev digit : List Literal → ℕ → ℕ
-digit c v = digit_by (holds c (signed v true)) (holds c (signed v false))
+digit c v = digit_by (holds c (literal_of v true)) (holds c (literal_of v false))
 
 -- the digits of the first variables as one number
 abbrev code : ℕ → List Literal → ℕ
@@ -30,7 +30,7 @@ code zero c = 0
 code (suc n) c = digit c (suc n) + 3 * code n c
 
 digit_small : (c : List Literal) (v : ℕ) → digit c v ≤ 2
-digit_small c v = go (holds c (signed v true)) (holds c (signed v false))
+digit_small c v = go (holds c (literal_of v true)) (holds c (literal_of v false))
   where
     go : (a b : Bool) → digit_by a b ≤ 2
     go true b = omega arith
@@ -59,16 +59,16 @@ digits_same (suc n) a b e v low high =
     go false p here ih = let apart : v ≡ suc n → ⊥ = eqb-false v (suc n) p in ih (omega (arith, high, apart))
 
 -- a digit tells the literal
-digit_one : (c : List Literal) (v : ℕ) → digit c v ≡ 1 → holds c (signed v true) ≡ true
-digit_one c v = go (holds c (signed v true)) (holds c (signed v false))
+digit_one : (c : List Literal) (v : ℕ) → digit c v ≡ 1 → holds c (literal_of v true) ≡ true
+digit_one c v = go (holds c (literal_of v true)) (holds c (literal_of v false))
   where
     go : (a b : Bool) → digit_by a b ≡ 1 → a ≡ true
     go true b h = refl
     go false true h = absurd (omega (arith, h))
     go false false h = absurd (omega (arith, h))
 
-digit_two : (c : List Literal) (v : ℕ) → digit c v ≡ 2 → holds c (signed v false) ≡ true
-digit_two c v = go (holds c (signed v true)) (holds c (signed v false))
+digit_two : (c : List Literal) (v : ℕ) → digit c v ≡ 2 → holds c (literal_of v false) ≡ true
+digit_two c v = go (holds c (literal_of v true)) (holds c (literal_of v false))
   where
     go : (a b : Bool) → digit_by a b ≡ 2 → b ≡ true
     go true b h = absurd (omega (arith, h))
@@ -80,11 +80,11 @@ digit_of c l once h = go l.positive refl
   where
     go : (s : Bool) → l.positive ≡ s → digit c l.variable ≡ cond s 1 2
     go true e =
-        let at : holds c (signed l.variable true) ≡ true = subst (λ (x : Literal). holds c x ≡ true) (literal_ext l (signed l.variable true) refl e) h in
+        let at : holds c (literal_of l.variable true) ≡ true = subst (λ (x : Literal). holds c x ≡ true) (literal_ext l (literal_of l.variable true) refl e) h in
         rw at refl
     go false e =
-        let at : holds c (signed l.variable false) ≡ true = subst (λ (x : Literal). holds c x ≡ true) (literal_ext l (signed l.variable false) refl e) h in
-        let none : holds c (signed l.variable true) ≡ false = false_from_ne_true (holds c (signed l.variable true)) (λ t. once_apart c (signed l.variable true) once t at) in
+        let at : holds c (literal_of l.variable false) ≡ true = subst (λ (x : Literal). holds c x ≡ true) (literal_ext l (literal_of l.variable false) refl e) h in
+        let none : holds c (literal_of l.variable true) ≡ false = false_from_ne_true (holds c (literal_of l.variable true)) (λ t. once_apart c (literal_of l.variable true) once t at) in
         rw (none, at) refl
 
 -- clauses of one code hold the same literals
@@ -106,10 +106,10 @@ code_subset n a b clause e = all_from (λ l. holds b l) a each
         go : (s : Bool) → l.positive ≡ s → digit b l.variable ≡ cond l.positive 1 2 → holds b l ≡ true
         go true p d =
             let one : digit b l.variable ≡ 1 = d ∙ ap (λ (t : Bool). cond t 1 2) p in
-            subst (λ (x : Literal). holds b x ≡ true) (literal_ext (signed l.variable true) l refl (sym p)) (digit_one b l.variable one)
+            subst (λ (x : Literal). holds b x ≡ true) (literal_ext (literal_of l.variable true) l refl (sym p)) (digit_one b l.variable one)
         go false p d =
             let two : digit b l.variable ≡ 2 = d ∙ ap (λ (t : Bool). cond t 1 2) p in
-            subst (λ (x : Literal). holds b x ≡ true) (literal_ext (signed l.variable false) l refl (sym p)) (digit_two b l.variable two)
+            subst (λ (x : Literal). holds b x ≡ true) (literal_ext (literal_of l.variable false) l refl (sym p)) (digit_two b l.variable two)
 
 abbrev codes : ℕ → List Step → List ℕ
 codes n [] = []
@@ -143,10 +143,10 @@ member_differs n k before after (s ∷ ss) clause full new =
     second true b e h = absurd (true≢false e)
     second false b e h = h
 
-codes_distinct : (n : ℕ) (known : List (List Literal)) (log : List Step) → are_clauses n (learnt log) ≡ true → has_no_empty log ≡ true → is_new_from known log ≡ true → is_distinct (codes n log) ≡ true
+codes_distinct : (n : ℕ) (known : List (List Literal)) (log : List Step) → are_clauses n (learnt_clauses log) ≡ true → has_no_empty log ≡ true → is_new_from known log ≡ true → is_distinct (codes n log) ≡ true
 codes_distinct n known [] clauses full new = refl
 codes_distinct n known (s ∷ ss) clauses full new =
-    let cs = and_parts (is_clause n s.clause) (are_clauses n (learnt ss)) clauses in
+    let cs = and_parts (is_clause n s.clause) (are_clauses n (learnt_clauses ss)) clauses in
     let fulls = and_parts (not (is_empty s.clause)) (has_no_empty ss) full in
     let news = and_parts (is_empty s.clause || is_new known s.clause) (is_new_from (known ++ s.clause ∷ []) ss) new in
     and_from (not (is_member (codes n ss) (code n s.clause))) (is_distinct (codes n ss))
@@ -158,10 +158,10 @@ code_empty : (n : ℕ) → code n [] ≡ 0
 code_empty zero = refl
 code_empty (suc n) = let ih = code_empty n in omega (arith, ih)
 
-none_zero : (n : ℕ) (log : List Step) → are_clauses n (learnt log) ≡ true → has_no_empty log ≡ true → is_member (codes n log) 0 ≡ false
+none_zero : (n : ℕ) (log : List Step) → are_clauses n (learnt_clauses log) ≡ true → has_no_empty log ≡ true → is_member (codes n log) 0 ≡ false
 none_zero n [] clauses full = refl
 none_zero n (s ∷ ss) clauses full =
-    let cs = and_parts (is_clause n s.clause) (are_clauses n (learnt ss)) clauses in
+    let cs = and_parts (is_clause n s.clause) (are_clauses n (learnt_clauses ss)) clauses in
     let fulls = and_parts (not (is_empty s.clause)) (has_no_empty ss) full in
     or_from (eqb (code n s.clause) 0) (is_member (codes n ss) 0)
     (ne_eqb (code n s.clause) 0 (λ e. nonempty s.clause (not-true (is_empty s.clause) fulls.0) (code_subset n s.clause [] cs.0 (e ∙ sym (code_empty n)))))
@@ -171,7 +171,7 @@ none_zero n (s ∷ ss) clauses full =
     nonempty [] e h = true≢false e
     nonempty (x ∷ xs) e h = false≢true h
 
-pub fewer_than : (n : ℕ) (known : List (List Literal)) (log : List Step) → are_clauses n (learnt log) ≡ true → has_no_empty log ≡ true → is_new_from known log ≡ true → length log < 3 ^ n
+pub fewer_than : (n : ℕ) (known : List (List Literal)) (log : List Step) → are_clauses n (learnt_clauses log) ≡ true → has_no_empty log ≡ true → is_new_from known log ≡ true → length log < 3 ^ n
 fewer_than n known log clauses full new =
     let zero_below : 0 < 3 ^ n = let h = code_below n [] in omega (arith, h) in
     let distinct : is_distinct (0 ∷ codes n log) ≡ true = and_from (not (is_member (codes n log) 0)) (is_distinct (codes n log)) (not_from_false (is_member (codes n log) 0) (none_zero n log clauses full)) (codes_distinct n known log clauses full new) in

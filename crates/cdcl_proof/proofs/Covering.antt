@@ -17,7 +17,7 @@ use Rattle.cdcl_proof.proofs.Sets.{same-refl, all_at, all_from, any_at, any_from
 use Rattle.cdcl_proof.proofs.Entries.{holds_entry, entry_at-push_new}
 use Rattle.cdcl_proof.proofs.Scanning.{free_from}
 use Rattle.cdcl_proof.proofs.Resolution.{cases_le, holds_take}
-use Rattle.cdcl_proof.proofs.Lessons.{two_free}
+use Rattle.cdcl_proof.proofs.LearntClauses.{two_free}
 use Rattle.cdcl_proof.proofs.Sound.{is_number_at, clause_at-next}
 use Rattle.cdcl_proof.proofs.Rows.{holds_at, place_of, swap_first, swap_other}
 
@@ -60,13 +60,13 @@ pub satisfied_row : (s a b : List Literal) → ((l : Literal) → holds a l ≡ 
 satisfied_row s a b more h = let l = any_at (holds s) a h in any_from (holds s) b l.0 (more l.0 l.1) l.2
 
 -- the literals of the first entries are literals of all
-pub held_take : (es : List Entry) (n : ℕ) (l : Literal) → holds (literals (take n es)) l ≡ true → holds (literals es) l ≡ true
-held_take es n l h = let k = holds_take es n l h in subst (λ (x : Literal). holds (literals es) x ≡ true) k.3 (holds_entry es k.0 k.2)
+pub take_holds : (es : List Entry) (n : ℕ) (l : Literal) → holds (literals (take n es)) l ≡ true → holds (literals es) l ≡ true
+take_holds es n l h = let k = holds_take es n l h in subst (λ (x : Literal). holds (literals es) x ≡ true) k.3 (holds_entry es k.0 k.2)
 
-pub held_kept : (old new : List Entry) (l : Literal) → take (length old) new ≡ old → holds (literals old) l ≡ true → holds (literals new) l ≡ true
-held_kept old new l e h = held_take new (length old) l (subst (λ (x : List Entry). holds (literals x) l ≡ true) (sym e) h)
+pub kept_holds : (old new : List Entry) (l : Literal) → take (length old) new ≡ old → holds (literals old) l ≡ true → holds (literals new) l ≡ true
+kept_holds old new l e h = take_holds new (length old) l (subst (λ (x : List Entry). holds (literals x) l ≡ true) (sym e) h)
 
--- the rows stay covered while more is held
+-- the rows stay covered while the trail grows
 pub covered_more : (before s t : List Literal) (rows : List (List Literal)) → ((l : Literal) → holds s l ≡ true → holds t l ≡ true) → AreCovered before s rows → AreCovered before t rows
 covered_more before s t rows more c i k lk long h = satisfied_more s t (row_at rows i) more (c i k lk long h)
 
@@ -111,8 +111,8 @@ closed_row s clause permuted r long c = go (holds s (negation a)) refl (holds s 
         or_right (list_any (holds s) clause) (leb 2 (count_free s clause)) (le-leb 2 (count_free s clause) two)
 
 -- once all is read, all clauses are closed
-pub closed_all : (clauses rows : List (List Literal)) (short : List ℕ) (es : List Entry) (head : ℕ) (marks : List ℕ) (settled base : ℕ) → AreRows clauses rows → AreShort rows short → IsProgress rows short es head marks settled base → length es ≤ head → length short ≤ settled → is_closed (literals es) clauses ≡ true
-closed_all clauses rows short es head marks settled base are are_short p read all = closed_each (literals es) clauses each
+pub closed_all : (clauses rows : List (List Literal)) (short : List ℕ) (es : List Entry) (head : ℕ) (marks : List ℕ) (short_head base : ℕ) → AreRows clauses rows → AreShort rows short → IsProgress rows short es head marks short_head base → length es ≤ head → length short ≤ short_head → is_closed (literals es) clauses ≡ true
+closed_all clauses rows short es head marks short_head base are are_short p read all = closed_each (literals es) clauses each
   where
     each : (i : ℕ) → i < length clauses → is_closed_at (literals es) (row_at clauses i) ≡ true
     each i l =
@@ -124,16 +124,16 @@ closed_all clauses rows short es head marks settled base are are_short p read al
               let j = are_short.each i inside few in
               let t = p.short_true j.0 (omega (arith, j.1, all)) in
               closed_satisfied (literals es) (row_at clauses i) (row_at rows i) r
-              (satisfied_more (literals (take base es)) (literals es) (row_at rows i) (held_take es base) (subst (λ (x : ℕ). is_satisfied (literals (take base es)) (row_at rows x) ≡ true) j.2 t))
+              (satisfied_more (literals (take base es)) (literals es) (row_at rows i) (take_holds es base) (subst (λ (x : ℕ). is_satisfied (literals (take base es)) (row_at rows x) ≡ true) j.2 t))
         ]
 
 -- one entry more
-pub progress_push : (rows : List (List Literal)) (short : List ℕ) (es : List Entry) (e : Entry) (head : ℕ) (marks : List ℕ) (settled base : ℕ) → IsProgress rows short es head marks settled base → IsProgress rows short (es ++ e ∷ []) head marks settled base
-progress_push rows short es e head marks settled base p = record {
+pub progress_push : (rows : List (List Literal)) (short : List ℕ) (es : List Entry) (e : Entry) (head : ℕ) (marks : List ℕ) (short_head base : ℕ) → IsProgress rows short es head marks short_head base → IsProgress rows short (es ++ e ∷ []) head marks short_head base
+progress_push rows short es e head marks short_head base p = record {
   head_in = let n = length_push es e in let h = p.head_in in omega (arith, n, h);
-  covered = rw (take-append-le head es (e ∷ []) p.head_in) (covered_more (literals (take head es)) (literals es) (literals (es ++ e ∷ [])) rows (λ l h. held_kept es (es ++ e ∷ []) l (take_at es (e ∷ []) (length es) refl) h) p.covered);
+  covered = rw (take-append-le head es (e ∷ []) p.head_in) (covered_more (literals (take head es)) (literals es) (literals (es ++ e ∷ [])) rows (λ l h. kept_holds es (es ++ e ∷ []) l (take_at es (e ∷ []) (length es) refl) h) p.covered);
   marked = marks_push rows es e head marks p.head_in p.marked;
-  settled_in = p.settled_in;
+  short_head_in = p.short_head_in;
   base_in = let n = length_push es e in let b = p.base_in in omega (arith, n, b);
   short_true = rw (take-append-le base es (e ∷ []) p.base_in) p.short_true;
 }
@@ -216,15 +216,15 @@ marks_more rows es head marks read covered m = record {
     ]
 
 -- the first marks alone, and the first entries alone
-pub progress_back : (rows : List (List Literal)) (short : List ℕ) (es : List Entry) (head : ℕ) (marks : List ℕ) (settled base : ℕ) (n kept new_head : ℕ) → IsProgress rows short es head marks settled base → n ≤ length es → base ≤ n → kept ≤ length marks → (0 < kept → get_or marks (kept - 1) 0 ≤ n) → (kept ≡ 0 → new_head ≡ 0) → (0 < kept → new_head ≡ get_or marks (kept - 1) 0) → IsProgress rows short (take n es) new_head (take kept marks) settled base
-progress_back rows short es head marks settled base n kept new_head p n_in base_low kept_in last_low none some = record {
+pub progress_back : (rows : List (List Literal)) (short : List ℕ) (es : List Entry) (head : ℕ) (marks : List ℕ) (short_head base : ℕ) (n kept new_head : ℕ) → IsProgress rows short es head marks short_head base → n ≤ length es → base ≤ n → kept ≤ length marks → (0 < kept → get_or marks (kept - 1) 0 ≤ n) → (kept ≡ 0 → new_head ≡ 0) → (0 < kept → new_head ≡ get_or marks (kept - 1) 0) → IsProgress rows short (take n es) new_head (take kept marks) short_head base
+progress_back rows short es head marks short_head base n kept new_head p n_in base_low kept_in last_low none some = record {
   head_in = let m = length-take-le n es n_in in omega (arith, m, head_low);
   covered = rw (take-take new_head n es head_low) (elim (cases_eq kept 0) as (λ _. AreCovered (literals (take new_head es)) (literals (take n es)) rows) [
     | inl zero_kept ↦ rw (none zero_kept) (λ i k lk long h. absurd (false≢true h))
     | inr more ↦
         let last : kept - 1 < length marks = omega (arith, kept_in, more) in
         let at : new_head ≡ get_or marks (kept - 1) 0 = some (omega (arith, more)) in
-        rw at (covered_more (literals (take (get_or marks (kept - 1) 0) es)) (literals (take (get_or marks (kept - 1) 0) es)) (literals (take n es)) rows (λ l h. held_take (take n es) (get_or marks (kept - 1) 0) l (subst (λ (x : List Entry). holds (literals x) l ≡ true) (sym (take-take (get_or marks (kept - 1) 0) n es (last_low (omega (arith, more))))) h)) (p.marked.covered (kept - 1) last))
+        rw at (covered_more (literals (take (get_or marks (kept - 1) 0) es)) (literals (take (get_or marks (kept - 1) 0) es)) (literals (take n es)) rows (λ l h. take_holds (take n es) (get_or marks (kept - 1) 0) l (subst (λ (x : List Entry). holds (literals x) l ≡ true) (sym (take-take (get_or marks (kept - 1) 0) n es (last_low (omega (arith, more))))) h)) (p.marked.covered (kept - 1) last))
   ]);
   marked = record {
     sorted = λ j k jk lk. let len = length-take-le kept marks kept_in in let lk2 : k < kept = omega (arith, len, lk) in rw (get_or-take kept marks j 0 (omega (arith, jk, lk2)), get_or-take kept marks k 0 lk2) (p.marked.sorted j k jk (omega (arith, lk2, kept_in)));
@@ -234,7 +234,7 @@ progress_back rows short es head marks settled base n kept new_head p n_in base_
         let m_low : get_or marks j 0 ≤ n = let c = head_low in omega (arith, b, c) in
         rw (get_or-take kept marks j 0 lj, take-take (get_or marks j 0) n es m_low) (p.marked.covered j (omega (arith, lj, kept_in)));
   };
-  settled_in = p.settled_in;
+  short_head_in = p.short_head_in;
   base_in = let m = length-take-le n es n_in in omega (arith, m, base_low);
   short_true = rw (take-take base n es base_low) p.short_true;
 }
@@ -248,21 +248,21 @@ progress_back rows short es head marks settled base n kept new_head p n_in base_
     up : (j : ℕ) → j < kept → get_or marks j 0 ≤ new_head
     up j lj = let s = some (omega (arith, lj)) in let o = p.marked.sorted j (kept - 1) (omega (arith, lj)) (omega (arith, lj, kept_in)) in omega (arith, s, o)
 
--- nothing is settled
-pub progress_unsettled : (rows : List (List Literal)) (short : List ℕ) (es : List Entry) (head : ℕ) (marks : List ℕ) (settled base : ℕ) → IsProgress rows short es head marks settled base → IsProgress rows short es head marks 0 0
-progress_unsettled rows short es head marks settled base p = record { head_in = p.head_in; covered = p.covered; marked = p.marked; settled_in = omega arith; base_in = omega arith; short_true = λ j l. absurd (omega (arith, l)) }
+-- no short clause is read yet
+pub progress_reset_short : (rows : List (List Literal)) (short : List ℕ) (es : List Entry) (head : ℕ) (marks : List ℕ) (short_head base : ℕ) → IsProgress rows short es head marks short_head base → IsProgress rows short es head marks 0 0
+progress_reset_short rows short es head marks short_head base p = record { head_in = p.head_in; covered = p.covered; marked = p.marked; short_head_in = omega arith; base_in = omega arith; short_true = λ j l. absurd (omega (arith, l)) }
 
 -- one short clause more is true
-pub progress_settled : (rows : List (List Literal)) (short : List ℕ) (es : List Entry) (head : ℕ) (marks : List ℕ) (settled base : ℕ) → IsProgress rows short es head marks settled base → settled < length short → is_satisfied (literals es) (row_at rows (get_or short settled 0)) ≡ true → IsProgress rows short es head marks (settled + 1) (length es)
-progress_settled rows short es head marks settled base p more here = record {
+pub progress_short : (rows : List (List Literal)) (short : List ℕ) (es : List Entry) (head : ℕ) (marks : List ℕ) (short_head base : ℕ) → IsProgress rows short es head marks short_head base → short_head < length short → is_satisfied (literals es) (row_at rows (get_or short short_head 0)) ≡ true → IsProgress rows short es head marks (short_head + 1) (length es)
+progress_short rows short es head marks short_head base p more here = record {
   head_in = p.head_in;
   covered = p.covered;
   marked = p.marked;
-  settled_in = omega (arith, more);
+  short_head_in = omega (arith, more);
   base_in = omega arith;
-  short_true = λ j l. subst (λ (x : List Entry). is_satisfied (literals x) (row_at rows (get_or short j 0)) ≡ true) (sym (take_all (length es) es (omega arith))) (elim (cases_eq j settled) as (λ _. is_satisfied (literals es) (row_at rows (get_or short j 0)) ≡ true) [
+  short_true = λ j l. subst (λ (x : List Entry). is_satisfied (literals x) (row_at rows (get_or short j 0)) ≡ true) (sym (take_all (length es) es (omega arith))) (elim (cases_eq j short_head) as (λ _. is_satisfied (literals es) (row_at rows (get_or short j 0)) ≡ true) [
     | inl e ↦ subst (λ (x : ℕ). is_satisfied (literals es) (row_at rows (get_or short x 0)) ≡ true) (sym e) here
-    | inr ne ↦ satisfied_more (literals (take base es)) (literals es) (row_at rows (get_or short j 0)) (held_take es base) (p.short_true j (omega (arith, l, ne)))
+    | inr ne ↦ satisfied_more (literals (take base es)) (literals es) (row_at rows (get_or short j 0)) (take_holds es base) (p.short_true j (omega (arith, l, ne)))
   ]);
 }
 
@@ -310,21 +310,21 @@ module _ (clauses rows : List (List Literal)) (are : AreRows clauses rows) where
       (number_in i l, subst (λ (c : List Literal). falsifies s c ≡ true) (sym (clause_at-next clauses i)) (all_from (λ x. holds s (negation x)) (row_at clauses i) (λ x t. all_at (λ y. holds s (negation y)) (row_at rows i) x h (r.same x ∙ t))))
 
 -- what a read of the next short clause gives
-pub record ReadsShort (clauses rows : List (List Literal)) (short : List ℕ) (settled i : ℕ) (clause : List Literal) : Type 0 where
-  pub is_index : i ≡ get_or short settled 0
+pub record ReadsShort (clauses rows : List (List Literal)) (short : List ℕ) (short_head i : ℕ) (clause : List Literal) : Type 0 where
+  pub is_index : i ≡ get_or short short_head 0
   pub is_clause : clause ≡ row_at clauses i
   pub few : length clause < 2
   pub inside : i < length rows
 
-pub reads_short : (clauses rows : List (List Literal)) (short : List ℕ) (settled i : ℕ) (clause again : List Literal) → AreRows clauses rows → AreShort rows short → settled < length short → i ≡ get_or short settled i → clause ≡ again → again ≡ get_or clauses i again → ReadsShort clauses rows short settled i clause
-reads_short clauses rows short settled i clause again are are_short more ei ec ea =
-    let is : i ≡ get_or short settled 0 = get_or_read short settled i more ei 0 in
-    let o = are_short.only settled more in
+pub reads_short : (clauses rows : List (List Literal)) (short : List ℕ) (short_head i : ℕ) (clause again : List Literal) → AreRows clauses rows → AreShort rows short → short_head < length short → i ≡ get_or short short_head i → clause ≡ again → again ≡ get_or clauses i again → ReadsShort clauses rows short short_head i clause
+reads_short clauses rows short short_head i clause again are are_short more ei ec ea =
+    let is : i ≡ get_or short short_head 0 = get_or_read short short_head i more ei 0 in
+    let o = are_short.only short_head more in
     let inside : i < length rows = omega (arith, is, o.0) in
     let low : i < length clauses = let c = are.count in omega (arith, c, inside) in
     let at : clause ≡ row_at clauses i = ec ∙ get_or_read clauses i again low ea [] in
-    let few = short_clause clauses rows are short are_short settled more in
+    let few = short_clause clauses rows are short are_short short_head more in
     record { is_index = is; is_clause = at; few = subst (λ (c : List Literal). length c < 2) (sym (at ∙ ap (row_at clauses) is)) few; inside = inside }
 
-pub held_last : (es : List Entry) (e : Entry) → holds (literals (es ++ e ∷ [])) e.literal ≡ true
-held_last es e = let n = length_push es e in subst (λ (x : Entry). holds (literals (es ++ e ∷ [])) x.literal ≡ true) (entry_at-push_new es e (length es) refl) (holds_entry (es ++ e ∷ []) (length es) (omega (arith, n)))
+pub last_holds : (es : List Entry) (e : Entry) → holds (literals (es ++ e ∷ [])) e.literal ≡ true
+last_holds es e = let n = length_push es e in subst (λ (x : Entry). holds (literals (es ++ e ∷ [])) x.literal ≡ true) (entry_at-push_new es e (length es) refl) (holds_entry (es ++ e ∷ []) (length es) (omega (arith, n)))

@@ -108,7 +108,7 @@ mark_of_holds marks es tied l h =
     let marked = tied.marked r.0 r.1 in
     (r.0, r.1, subst (λ (x : Literal). get_or marks (x.variable - 1) None ≡ Some (record { positive = x.positive; place = r.0 })) r.2 marked)
 
--- the literal that a mark tells is held, at the mark's place
+-- the literal that a mark tells is true, at the mark's place
 pub holds_of_mark : (marks : List (Option Mark)) (es : List Entry) → IsTied marks es → (v : ℕ) (m : Mark) → 1 ≤ v → get_or marks (v - 1) None ≡ Some m → (m.place < length es) × ((entry_at es m.place).literal ≡ record { variable = v; positive = m.positive })
 holds_of_mark marks es tied v m low e =
     let placed = tied.placed (v - 1) m e in

@@ -10,27 +10,27 @@ use Rattle.cdcl_proof.specs.declared.log.Step.{Step}
 use Rattle.cdcl_proof.specs.Literal.{is_once}
 use Rattle.cdcl_proof.specs.Clause.{is_clause}
 use Rattle.cdcl_proof.specs.Formula.{Formula, are_clauses, makes_true}
-use Rattle.cdcl_proof.specs.Replay.{learnt, derives, replay}
+use Rattle.cdcl_proof.specs.Replay.{learnt_clauses, derives, replay}
 use Rattle.cdcl_proof.specs.Regular.{is_regular, is_regular_log}
 use Rattle.cdcl_proof.specs.Fresh.{IsFresh, is_empty, has_no_empty}
 use Rattle.cdcl_proof.specs.Store.{IsKept, IsLogged, steps_of}
 use Rattle.cdcl_proof.specs.Proof.{IsProof, Refutes, Exhausts}
-use Rattle.cdcl_proof.proofs.Laws.{clauses_once, follows, fresh_new_from, replays_from-push, fresh_push, learnt-push}
+use Rattle.cdcl_proof.proofs.Laws.{clauses_once, follows, fresh_new_from, replays_from-push, fresh_push, learnt_clauses-push}
 use Rattle.cdcl_proof.proofs.Regularity.{regular_from-push}
 use Rattle.cdcl_proof.proofs.Counting.{fewer_than}
 
-given_clauses : (f : Formula) (steps : List Step) → IsKept f steps → (are_clauses f.variables f.clauses ≡ true) × (are_clauses f.variables (learnt steps) ≡ true)
-given_clauses f steps k = and_parts (are_clauses f.variables f.clauses) (are_clauses f.variables (learnt steps)) (sym (list_all-append (is_clause f.variables) f.clauses (learnt steps)) ∙ k.clauses)
+given_clauses : (f : Formula) (steps : List Step) → IsKept f steps → (are_clauses f.variables f.clauses ≡ true) × (are_clauses f.variables (learnt_clauses steps) ≡ true)
+given_clauses f steps k = and_parts (are_clauses f.variables f.clauses) (are_clauses f.variables (learnt_clauses steps)) (sym (list_all-append (is_clause f.variables) f.clauses (learnt_clauses steps)) ∙ k.clauses)
 
 -- one more learnt clause
-pub kept_push : (f : Formula) (steps : List Step) (s : Step) → IsKept f steps → is_clause f.variables s.clause ≡ true → derives (f.clauses ++ learnt steps) s.hints s.clause ≡ true → is_regular (f.clauses ++ learnt steps) s.hints ≡ true → IsFresh (f.clauses ++ learnt steps) s.clause → is_empty s.clause ≡ false → IsKept f (steps ++ s ∷ [])
+pub kept_push : (f : Formula) (steps : List Step) (s : Step) → IsKept f steps → is_clause f.variables s.clause ≡ true → derives (f.clauses ++ learnt_clauses steps) s.hints s.clause ≡ true → is_regular (f.clauses ++ learnt_clauses steps) s.hints ≡ true → IsFresh (f.clauses ++ learnt_clauses steps) s.clause → is_empty s.clause ≡ false → IsKept f (steps ++ s ∷ [])
 kept_push f steps s k clause derived regular fresh full = record {
   clauses =
-      let parts : f.clauses ++ learnt (steps ++ s ∷ []) ≡ (f.clauses ++ learnt steps) ++ s.clause ∷ [] = ap (λ (cs : List (List Literal)). f.clauses ++ cs) (learnt-push steps s) ∙ sym (append_assoc f.clauses (learnt steps) (s.clause ∷ [])) in
-      ap (are_clauses f.variables) parts ∙ list_all-append (is_clause f.variables) (f.clauses ++ learnt steps) (s.clause ∷ []) ∙ and_from (are_clauses f.variables (f.clauses ++ learnt steps)) (is_clause f.variables s.clause && true) k.clauses (and_from (is_clause f.variables s.clause) true clause refl);
-  replays = replays_from-push f.clauses steps s ∙ and_from (replay f steps) (derives (f.clauses ++ learnt steps) s.hints s.clause) k.replays derived;
+      let parts : f.clauses ++ learnt_clauses (steps ++ s ∷ []) ≡ (f.clauses ++ learnt_clauses steps) ++ s.clause ∷ [] = ap (λ (cs : List (List Literal)). f.clauses ++ cs) (learnt_clauses-push steps s) ∙ sym (append_assoc f.clauses (learnt_clauses steps) (s.clause ∷ [])) in
+      ap (are_clauses f.variables) parts ∙ list_all-append (is_clause f.variables) (f.clauses ++ learnt_clauses steps) (s.clause ∷ []) ∙ and_from (are_clauses f.variables (f.clauses ++ learnt_clauses steps)) (is_clause f.variables s.clause && true) k.clauses (and_from (is_clause f.variables s.clause) true clause refl);
+  replays = replays_from-push f.clauses steps s ∙ and_from (replay f steps) (derives (f.clauses ++ learnt_clauses steps) s.hints s.clause) k.replays derived;
   fresh = fresh_push f.clauses steps s k.fresh (λ e. fresh);
-  regular = regular_from-push f.clauses steps s ∙ and_from (is_regular_log f steps) (is_regular (f.clauses ++ learnt steps) s.hints) k.regular regular;
+  regular = regular_from-push f.clauses steps s ∙ and_from (is_regular_log f steps) (is_regular (f.clauses ++ learnt_clauses steps) s.hints) k.regular regular;
   none_empty = list_all-append (λ (t : Step). not (is_empty t.clause)) steps (s ∷ []) ∙ and_from (has_no_empty steps) (not (is_empty s.clause) && true) k.none_empty (and_from (not (is_empty s.clause)) true (not_from_false (is_empty s.clause) full) refl);
 }
 
@@ -39,7 +39,7 @@ pub kept_proof : (f : Formula) (steps : List Step) → IsKept f steps → IsProo
 kept_proof f steps k =
     let given = given_clauses f steps k in
     let once = clauses_once f.variables f.clauses given.0 in
-    let more = clauses_once f.variables (learnt steps) given.1 in
+    let more = clauses_once f.variables (learnt_clauses steps) given.1 in
     record {
       replays = k.replays;
       fresh = k.fresh;
@@ -49,22 +49,22 @@ kept_proof f steps k =
     }
 
 -- and with the empty clause a refutation
-pub kept_refutes : (f : Formula) (steps : List Step) (s : Step) → IsKept f steps → derives (f.clauses ++ learnt steps) s.hints s.clause ≡ true → is_regular (f.clauses ++ learnt steps) s.hints ≡ true → s.clause ≡ [] → Refutes f (steps ++ s ∷ [])
+pub kept_refutes : (f : Formula) (steps : List Step) (s : Step) → IsKept f steps → derives (f.clauses ++ learnt_clauses steps) s.hints s.clause ≡ true → is_regular (f.clauses ++ learnt_clauses steps) s.hints ≡ true → s.clause ≡ [] → Refutes f (steps ++ s ∷ [])
 kept_refutes f steps s k derived regular empty =
     let given = given_clauses f steps k in
     let once = clauses_once f.variables f.clauses given.0 in
-    let more : list_all is_once (learnt (steps ++ s ∷ [])) ≡ true =
-    ap (list_all is_once) (learnt-push steps s) ∙ list_all-append is_once (learnt steps) (s.clause ∷ [])
-    ∙ and_from (list_all is_once (learnt steps)) (is_once s.clause && true) (clauses_once f.variables (learnt steps) given.1) (and_from (is_once s.clause) true (ap is_once empty) refl) in
-    let replays : replay f (steps ++ s ∷ []) ≡ true = replays_from-push f.clauses steps s ∙ and_from (replay f steps) (derives (f.clauses ++ learnt steps) s.hints s.clause) k.replays derived in
+    let more : list_all is_once (learnt_clauses (steps ++ s ∷ [])) ≡ true =
+    ap (list_all is_once) (learnt_clauses-push steps s) ∙ list_all-append is_once (learnt_clauses steps) (s.clause ∷ [])
+    ∙ and_from (list_all is_once (learnt_clauses steps)) (is_once s.clause && true) (clauses_once f.variables (learnt_clauses steps) given.1) (and_from (is_once s.clause) true (ap is_once empty) refl) in
+    let replays : replay f (steps ++ s ∷ []) ≡ true = replays_from-push f.clauses steps s ∙ and_from (replay f steps) (derives (f.clauses ++ learnt_clauses steps) s.hints s.clause) k.replays derived in
     let fresh = fresh_push f.clauses steps s k.fresh (λ e. absurd (false≢true (sym e ∙ ap is_empty empty))) in
     let true_all = follows f (steps ++ s ∷ []) once more replays in
     record {
-      proof = record { replays = replays; fresh = fresh; regular = regular_from-push f.clauses steps s ∙ and_from (is_regular_log f steps) (is_regular (f.clauses ++ learnt steps) s.hints) k.regular regular; follows = true_all; new = fresh_new_from f.clauses (steps ++ s ∷ []) once more fresh };
+      proof = record { replays = replays; fresh = fresh; regular = regular_from-push f.clauses steps s ∙ and_from (is_regular_log f steps) (is_regular (f.clauses ++ learnt_clauses steps) s.hints) k.regular regular; follows = true_all; new = fresh_new_from f.clauses (steps ++ s ∷ []) once more fresh };
       ends = record { earlier = steps; last = s; parts = refl; empty = empty };
       unsatisfiable = λ bits h.
           let all = true_all bits h in
-          let last = (and_parts (list_all (makes_true bits) (learnt steps)) (makes_true bits s.clause && true) (sym (list_all-append (makes_true bits) (learnt steps) (s.clause ∷ [])) ∙ sym (ap (list_all (makes_true bits)) (learnt-push steps s)) ∙ all)).1 in
+          let last = (and_parts (list_all (makes_true bits) (learnt_clauses steps)) (makes_true bits s.clause && true) (sym (list_all-append (makes_true bits) (learnt_clauses steps) (s.clause ∷ [])) ∙ sym (ap (list_all (makes_true bits)) (learnt_clauses-push steps s)) ∙ all)).1 in
           let this = (and_parts (makes_true bits s.clause) true last).0 in
           false≢true (sym (ap (makes_true bits) empty) ∙ this);
     }
@@ -77,11 +77,11 @@ kept_exhausts f steps budget k len =
     record { proof = p; steps = len; none_empty = k.none_empty; below = omega (arith, few, len) }
 
 -- as many clauses as chains
-learnt-steps_of : (hs : List (List Hint)) (cs : List (List Literal)) → length hs ≡ length cs → learnt (steps_of hs cs) ≡ cs
-learnt-steps_of [] [] e = refl
-learnt-steps_of [] (c ∷ cs) e = absurd (omega (arith, e))
-learnt-steps_of (h ∷ hs) [] e = absurd (omega (arith, e))
-learnt-steps_of (h ∷ hs) (c ∷ cs) e = ap (λ (xs : List (List Literal)). c ∷ xs) (learnt-steps_of hs cs (omega (arith, e)))
+learnt_clauses-steps_of : (hs : List (List Hint)) (cs : List (List Literal)) → length hs ≡ length cs → learnt_clauses (steps_of hs cs) ≡ cs
+learnt_clauses-steps_of [] [] e = refl
+learnt_clauses-steps_of [] (c ∷ cs) e = absurd (omega (arith, e))
+learnt_clauses-steps_of (h ∷ hs) [] e = absurd (omega (arith, e))
+learnt_clauses-steps_of (h ∷ hs) (c ∷ cs) e = ap (λ (xs : List (List Literal)). c ∷ xs) (learnt_clauses-steps_of hs cs (omega (arith, e)))
 
 length-steps_of : (hs : List (List Hint)) (cs : List (List Literal)) → length hs ≡ length cs → length (steps_of hs cs) ≡ length hs
 length-steps_of [] cs e = refl
@@ -107,11 +107,11 @@ module _ (f : Formula) (clauses : List (List Literal)) (chains : List (List Hint
   pub as_many : length chains ≡ length (drop (length f.clauses) clauses)
   as_many = let n = length-drop (length f.clauses) clauses in let c = logged.count in omega (arith, n, c)
 
-  pub logged_clauses : clauses ≡ f.clauses ++ learnt (steps_of chains (drop (length f.clauses) clauses))
+  pub logged_clauses : clauses ≡ f.clauses ++ learnt_clauses (steps_of chains (drop (length f.clauses) clauses))
   logged_clauses =
       sym (take-append-drop (length f.clauses) clauses)
       ∙ ap (λ (xs : List (List Literal)). xs ++ drop (length f.clauses) clauses) logged.given
-      ∙ ap (λ (xs : List (List Literal)). f.clauses ++ xs) (sym (learnt-steps_of chains (drop (length f.clauses) clauses) as_many))
+      ∙ ap (λ (xs : List (List Literal)). f.clauses ++ xs) (sym (learnt_clauses-steps_of chains (drop (length f.clauses) clauses) as_many))
 
   -- the steps that are made of the clauses from a place on
   pub logged_steps : (n : ℕ) (rest : List (List Literal)) (steps : List Step) → n ≡ length f.clauses → rest ≡ drop n clauses → steps ≡ steps_of chains rest → steps ≡ steps_of chains (drop (length f.clauses) clauses)

@@ -11,7 +11,7 @@ use Rattle.cdcl_proof.specs.declared.log.Step.{Step}
 use Rattle.cdcl_proof.specs.Literal.{negation, same, is_on, holds, mentions, is_once}
 use Rattle.cdcl_proof.specs.Clause.{is_within, is_clause, is_subset, is_same_set, resolvent}
 use Rattle.cdcl_proof.specs.Formula.{Formula, are_clauses, is_true, makes_true}
-use Rattle.cdcl_proof.specs.Replay.{learnt, is_number, clause_at, is_clash, opposes, fits, resolved, is_chain, chained, names_chain, derives, replays_from, replay, Follows}
+use Rattle.cdcl_proof.specs.Replay.{learnt_clauses, is_number, clause_at, is_clash, opposes, fits, resolvent_by, is_chain, chain_end, names_chain, derives, replays_from, replay, Follows}
 use Rattle.cdcl_proof.specs.Fresh.{is_free, count_free, is_closed, is_closed_at, IsFresh, is_empty, FreshFrom, is_new, is_new_from}
 use Rattle.cdcl_proof.proofs.Sets.{beq-true, same-true, same-refl, literal_ext, negation-negation, all_at, any_at, any_from, mentions_from, once_apart, holds-resolvent}
 use Rattle.cdcl_proof.proofs.Chains.{and-true, and-assoc}
@@ -84,36 +84,36 @@ number_all p known n h number =
     at_place (c ∷ cs) (suc i) l e = at_place cs i (omega (arith, l)) ((and_parts (p c) (list_all p cs) e).1)
 
 module _ (bits : List Bool) (known : List (List Literal)) (once : list_all is_once known ≡ true) (holds_all : list_all (makes_true bits) known ≡ true) where
-  chain_true : (a : List Literal) (hs : List Hint) → NoClash a → makes_true bits a ≡ true → is_chain known a hs ≡ true → makes_true bits (chained known a hs) ≡ true
+  chain_true : (a : List Literal) (hs : List Hint) → NoClash a → makes_true bits a ≡ true → is_chain known a hs ≡ true → makes_true bits (chain_end known a hs) ≡ true
   chain_true a [] na ta h = ta
   chain_true a (g ∷ gs) na ta h =
       let c = clause_at known g.clause in
-      let parts = and_parts (fits known a g) (is_chain known (resolved known a g) gs) h in
+      let parts = and_parts (fits known a g) (is_chain known (resolvent_by known a g) gs) h in
       let fit = and_parts (is_number known g.clause) (is_clash g.pivot a c) parts.0 in
       let tc = number_all (makes_true bits) known g.clause holds_all fit.0 in
       let oc = number_all is_once known g.clause once fit.0 in
-      chain_true (resolved known a g) gs (resolvent_apart g.pivot a c na (once_no_clash c oc) fit.1) (resolvent_true bits g.pivot a c na fit.1 ta tc) parts.1
+      chain_true (resolvent_by known a g) gs (resolvent_apart g.pivot a c na (once_no_clash c oc) fit.1) (resolvent_true bits g.pivot a c na fit.1 ta tc) parts.1
 
   derived_true : (hints : List Hint) (c : List Literal) → derives known hints c ≡ true → makes_true bits c ≡ true
   derived_true [] c h = absurd (false≢true h)
   derived_true (g ∷ gs) c h =
       let start = clause_at known g.clause in
-      let parts = and_parts (names_chain known (g ∷ gs)) (is_same_set (chained known start gs) c) h in
+      let parts = and_parts (names_chain known (g ∷ gs)) (is_same_set (chain_end known start gs) c) h in
       let chain = and_parts (is_number known g.clause) (is_chain known start gs) parts.0 in
-      let subset = (and_parts (is_subset (chained known start gs) c) (is_subset c (chained known start gs)) parts.1).0 in
+      let subset = (and_parts (is_subset (chain_end known start gs) c) (is_subset c (chain_end known start gs)) parts.1).0 in
       let tr = chain_true start gs (once_no_clash start (number_all is_once known g.clause once chain.0)) (number_all (makes_true bits) known g.clause holds_all chain.0) chain.1 in
-      let l = any_at (is_true bits) (chained known start gs) tr in
-      any_from (is_true bits) c l.0 (all_at (λ m. holds c m) (chained known start gs) l.0 subset l.1) l.2
+      let l = any_at (is_true bits) (chain_end known start gs) tr in
+      any_from (is_true bits) c l.0 (all_at (λ m. holds c m) (chain_end known start gs) l.0 subset l.1) l.2
 
-follows_from : (bits : List Bool) (known : List (List Literal)) (log : List Step) → list_all is_once known ≡ true → list_all is_once (learnt log) ≡ true → list_all (makes_true bits) known ≡ true → replays_from known log ≡ true → list_all (makes_true bits) (learnt log) ≡ true
+follows_from : (bits : List Bool) (known : List (List Literal)) (log : List Step) → list_all is_once known ≡ true → list_all is_once (learnt_clauses log) ≡ true → list_all (makes_true bits) known ≡ true → replays_from known log ≡ true → list_all (makes_true bits) (learnt_clauses log) ≡ true
 follows_from bits known [] once more holds_all h = refl
 follows_from bits known (s ∷ ss) once more holds_all h =
     let parts = and_parts (derives known s.hints s.clause) (replays_from (known ++ s.clause ∷ []) ss) h in
-    let onces = and_parts (is_once s.clause) (list_all is_once (learnt ss)) more in
+    let onces = and_parts (is_once s.clause) (list_all is_once (learnt_clauses ss)) more in
     let this = derived_true bits known once holds_all s.hints s.clause parts.0 in
     let once' = list_all-append is_once known (s.clause ∷ []) ∙ and_from (list_all is_once known) (is_once s.clause && true) once (and_from (is_once s.clause) true onces.0 refl) in
     let all' = list_all-append (makes_true bits) known (s.clause ∷ []) ∙ and_from (list_all (makes_true bits) known) (makes_true bits s.clause && true) holds_all (and_from (makes_true bits s.clause) true this refl) in
-    and_from (makes_true bits s.clause) (list_all (makes_true bits) (learnt ss)) this (follows_from bits (known ++ s.clause ∷ []) ss once' onces.1 all' parts.1)
+    and_from (makes_true bits s.clause) (list_all (makes_true bits) (learnt_clauses ss)) this (follows_from bits (known ++ s.clause ∷ []) ss once' onces.1 all' parts.1)
 
 -- where clauses are over variables, they have none twice
 pub clauses_once : (variables : ℕ) (cs : List (List Literal)) → are_clauses variables cs ≡ true → list_all is_once cs ≡ true
@@ -123,7 +123,7 @@ clauses_once variables (c ∷ cs) h =
     and_from (is_once c) (list_all is_once cs) (and_parts (is_once c) (is_within variables c) parts.0).0 (clauses_once variables cs parts.1)
 
 -- a log that replays follows from the formula
-pub follows : (f : Formula) (log : List Step) → list_all is_once f.clauses ≡ true → list_all is_once (learnt log) ≡ true → replay f log ≡ true → Follows f log
+pub follows : (f : Formula) (log : List Step) → list_all is_once f.clauses ≡ true → list_all is_once (learnt_clauses log) ≡ true → replay f log ≡ true → Follows f log
 follows f log once more h bits s =
     follows_from bits f.clauses log once more ((and_parts (eqb (length bits) f.variables) (list_all (makes_true bits) f.clauses) s).1) h
 
@@ -181,10 +181,10 @@ fresh_new known c once f = each known once f.closed
         and_from (not (is_subset k c)) (is_new ks c) (not_from_false (is_subset k c) (false_from_ne_true (is_subset k c) (not_within known c f k os.0 cs.0))) (each ks os.1 cs.1)
 
 -- no step's clause of a fresh log contains an earlier clause
-pub fresh_new_from : (known : List (List Literal)) (log : List Step) → list_all is_once known ≡ true → list_all is_once (learnt log) ≡ true → FreshFrom known log → is_new_from known log ≡ true
+pub fresh_new_from : (known : List (List Literal)) (log : List Step) → list_all is_once known ≡ true → list_all is_once (learnt_clauses log) ≡ true → FreshFrom known log → is_new_from known log ≡ true
 fresh_new_from known [] once more f = refl
 fresh_new_from known (s ∷ ss) once more f =
-    let onces = and_parts (is_once s.clause) (list_all is_once (learnt ss)) more in
+    let onces = and_parts (is_once s.clause) (list_all is_once (learnt_clauses ss)) more in
     let once' = list_all-append is_once known (s.clause ∷ []) ∙ and_from (list_all is_once known) (is_once s.clause && true) once (and_from (is_once s.clause) true onces.0 refl) in
     and_from (is_empty s.clause || is_new known s.clause) (is_new_from (known ++ s.clause ∷ []) ss) (go (is_empty s.clause) refl) (fresh_new_from (known ++ s.clause ∷ []) ss once' onces.1 f.1)
   where
@@ -193,16 +193,16 @@ fresh_new_from known (s ∷ ss) once more f =
     go false e = fresh_new known s.clause once (f.0 e)
 
 -- one step more
-pub replays_from-push : (known : List (List Literal)) (log : List Step) (s : Step) → replays_from known (log ++ s ∷ []) ≡ (replays_from known log && derives (known ++ learnt log) s.hints s.clause)
+pub replays_from-push : (known : List (List Literal)) (log : List Step) (s : Step) → replays_from known (log ++ s ∷ []) ≡ (replays_from known log && derives (known ++ learnt_clauses log) s.hints s.clause)
 replays_from-push known [] s = and-true (derives known s.hints s.clause) ∙ ap (λ (k : List (List Literal)). derives k s.hints s.clause) (sym (append-nil known))
 replays_from-push known (t ∷ ts) s =
-    ap (λ (b : Bool). derives known t.hints t.clause && b) (replays_from-push (known ++ t.clause ∷ []) ts s ∙ ap (λ (k : List (List Literal)). replays_from (known ++ t.clause ∷ []) ts && derives k s.hints s.clause) (append_assoc known (t.clause ∷ []) (learnt ts)))
-    ∙ sym (and-assoc (derives known t.hints t.clause) (replays_from (known ++ t.clause ∷ []) ts) (derives (known ++ learnt (t ∷ ts)) s.hints s.clause))
+    ap (λ (b : Bool). derives known t.hints t.clause && b) (replays_from-push (known ++ t.clause ∷ []) ts s ∙ ap (λ (k : List (List Literal)). replays_from (known ++ t.clause ∷ []) ts && derives k s.hints s.clause) (append_assoc known (t.clause ∷ []) (learnt_clauses ts)))
+    ∙ sym (and-assoc (derives known t.hints t.clause) (replays_from (known ++ t.clause ∷ []) ts) (derives (known ++ learnt_clauses (t ∷ ts)) s.hints s.clause))
 
-pub fresh_push : (known : List (List Literal)) (log : List Step) (s : Step) → FreshFrom known log → (is_empty s.clause ≡ false → IsFresh (known ++ learnt log) s.clause) → FreshFrom known (log ++ s ∷ [])
+pub fresh_push : (known : List (List Literal)) (log : List Step) (s : Step) → FreshFrom known log → (is_empty s.clause ≡ false → IsFresh (known ++ learnt_clauses log) s.clause) → FreshFrom known (log ++ s ∷ [])
 fresh_push known [] s f new = (λ e. subst (λ (k : List (List Literal)). IsFresh k s.clause) (append-nil known) (new e), tt)
 fresh_push known (t ∷ ts) s f new =
-    (f.0, fresh_push (known ++ t.clause ∷ []) ts s f.1 (λ e. subst (λ (k : List (List Literal)). IsFresh k s.clause) (sym (append_assoc known (t.clause ∷ []) (learnt ts))) (new e)))
+    (f.0, fresh_push (known ++ t.clause ∷ []) ts s f.1 (λ e. subst (λ (k : List (List Literal)). IsFresh k s.clause) (sym (append_assoc known (t.clause ∷ []) (learnt_clauses ts))) (new e)))
 
-pub learnt-push : (log : List Step) (s : Step) → learnt (log ++ s ∷ []) ≡ learnt log ++ s.clause ∷ []
-learnt-push log s = map-append (λ (t : Step). t.clause) log (s ∷ [])
+pub learnt_clauses-push : (log : List Step) (s : Step) → learnt_clauses (log ++ s ∷ []) ≡ learnt_clauses log ++ s.clause ∷ []
+learnt_clauses-push log s = map-append (λ (t : Step). t.clause) log (s ∷ [])

@@ -8,7 +8,7 @@ pub mod Chains
 pub mod Regularity
 pub mod Marking
 pub mod Resolution
-pub mod Lessons
+pub mod LearntClauses
 pub mod Laws
 pub mod Counting
 pub mod Keeping

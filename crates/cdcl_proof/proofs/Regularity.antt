@@ -6,7 +6,7 @@ use Rattle.cdcl_proof.specs.declared.log.Hint.{Hint}
 use Rattle.cdcl_proof.specs.declared.log.Step.{Step}
 use Rattle.cdcl_proof.specs.declared.trail.Entry.{Entry}
 use Rattle.cdcl_proof.specs.Literal.{is_on}
-use Rattle.cdcl_proof.specs.Replay.{clause_at, learnt, survives}
+use Rattle.cdcl_proof.specs.Replay.{clause_at, learnt_clauses, survives}
 use Rattle.cdcl_proof.specs.Regular.{avoids, is_regular_after, is_regular, is_regular_from}
 use Rattle.cdcl_proof.specs.Resolving.{ArePivotsFrom, HasPivotsFrom}
 use Rattle.cdcl_proof.specs.Trail.{entry_at, AreApart}
@@ -23,15 +23,15 @@ regular_after-push known e (g ∷ gs) h =
     ∙ sym (and-assoc (avoids e (clause_at known g.clause)) (is_regular_after known (e ++ g ∷ []) gs) (avoids (e ++ (g ∷ gs)) (clause_at known h.clause)))
 
 -- one step more
-pub regular_from-push : (known : List (List Literal)) (log : List Step) (s : Step) → is_regular_from known (log ++ s ∷ []) ≡ (is_regular_from known log && is_regular (known ++ learnt log) s.hints)
+pub regular_from-push : (known : List (List Literal)) (log : List Step) (s : Step) → is_regular_from known (log ++ s ∷ []) ≡ (is_regular_from known log && is_regular (known ++ learnt_clauses log) s.hints)
 regular_from-push known [] s = and-true (is_regular known s.hints) ∙ ap (λ (k : List (List Literal)). is_regular k s.hints) (sym (append_none known))
   where
     append_none : (xs : List (List Literal)) → xs ++ [] ≡ xs
     append_none [] = refl
     append_none (x ∷ xs) = ap (λ (ys : List (List Literal)). x ∷ ys) (append_none xs)
 regular_from-push known (t ∷ ts) s =
-    ap (λ (b : Bool). is_regular known t.hints && b) (regular_from-push (known ++ t.clause ∷ []) ts s ∙ ap (λ (k : List (List Literal)). is_regular_from (known ++ t.clause ∷ []) ts && is_regular k s.hints) (append_assoc known (t.clause ∷ []) (learnt ts)))
-    ∙ sym (and-assoc (is_regular known t.hints) (is_regular_from (known ++ t.clause ∷ []) ts) (is_regular (known ++ (t.clause ∷ learnt ts)) s.hints))
+    ap (λ (b : Bool). is_regular known t.hints && b) (regular_from-push (known ++ t.clause ∷ []) ts s ∙ ap (λ (k : List (List Literal)). is_regular_from (known ++ t.clause ∷ []) ts && is_regular k s.hints) (append_assoc known (t.clause ∷ []) (learnt_clauses ts)))
+    ∙ sym (and-assoc (is_regular known t.hints) (is_regular_from (known ++ t.clause ∷ []) ts) (is_regular (known ++ (t.clause ∷ learnt_clauses ts)) s.hints))
 
 pub pivots_down : (es : List Entry) (place : ℕ) (hs : List Hint) → ArePivotsFrom es (place + 1) hs → ArePivotsFrom es place hs
 pivots_down es place [] p = tt

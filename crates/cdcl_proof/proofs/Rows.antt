@@ -22,29 +22,29 @@ place_of (x ∷ xs) l h =
     ]
 
 -- the place from which a literal comes
-moved : ℕ → ℕ → ℕ → ℕ
-moved i j m = elim (cases_eq m j) [ inl here ↦ i | inr other ↦ elim (cases_eq m i) [ inl there ↦ j | inr apart ↦ m ] ]
+swap_source : ℕ → ℕ → ℕ → ℕ
+swap_source i j m = elim (cases_eq m j) [ inl here ↦ i | inr other ↦ elim (cases_eq m i) [ inl there ↦ j | inr apart ↦ m ] ]
 
-moved_second : (i j m : ℕ) → m ≡ j → moved i j m ≡ i
-unfolding moved
-moved_second i j m e = go (cases_eq m j)
+source_second : (i j m : ℕ) → m ≡ j → swap_source i j m ≡ i
+unfolding swap_source
+source_second i j m e = go (cases_eq m j)
   where
     go : (c : (m ≡ j) ⊎ (m ≡ j → ⊥)) → elim c as (λ _. ℕ) [ inl here ↦ i | inr other ↦ elim (cases_eq m i) as (λ _. ℕ) [ inl there ↦ j | inr apart ↦ m ] ] ≡ i
     go (inl h) = refl
     go (inr h) = absurd (h e)
 
-moved_first : (i j m : ℕ) → m ≡ i → moved i j m ≡ j
-unfolding moved
-moved_first i j m e = go (cases_eq m j) (cases_eq m i)
+source_first : (i j m : ℕ) → m ≡ i → swap_source i j m ≡ j
+unfolding swap_source
+source_first i j m e = go (cases_eq m j) (cases_eq m i)
   where
     go : (c : (m ≡ j) ⊎ (m ≡ j → ⊥)) (d : (m ≡ i) ⊎ (m ≡ i → ⊥)) → elim c as (λ _. ℕ) [ inl here ↦ i | inr other ↦ elim d as (λ _. ℕ) [ inl there ↦ j | inr apart ↦ m ] ] ≡ j
     go (inl h) d = sym e ∙ h
     go (inr h) (inl g) = refl
     go (inr h) (inr g) = absurd (g e)
 
-moved_other : (i j m : ℕ) → m ≢ i → m ≢ j → moved i j m ≡ m
-unfolding moved
-moved_other i j m ni nj = go (cases_eq m j) (cases_eq m i)
+source_other : (i j m : ℕ) → m ≢ i → m ≢ j → swap_source i j m ≡ m
+unfolding swap_source
+source_other i j m ni nj = go (cases_eq m j) (cases_eq m i)
   where
     go : (c : (m ≡ j) ⊎ (m ≡ j → ⊥)) (d : (m ≡ i) ⊎ (m ≡ i → ⊥)) → elim c as (λ _. ℕ) [ inl here ↦ i | inr other ↦ elim d as (λ _. ℕ) [ inl there ↦ j | inr apart ↦ m ] ] ≡ m
     go (inl h) d = absurd (nj h)
@@ -52,51 +52,51 @@ moved_other i j m ni nj = go (cases_eq m j) (cases_eq m i)
     go (inr h) (inr g) = refl
 
 -- what became of a place
-record Moves (i j m : ℕ) : Type 0 where
-  back : moved i j (moved i j m) ≡ m
-  inside : (n : ℕ) → i < n → j < n → m < n → moved i j m < n
+record SourceCases (i j m : ℕ) : Type 0 where
+  back : swap_source i j (swap_source i j m) ≡ m
+  inside : (n : ℕ) → i < n → j < n → m < n → swap_source i j m < n
 
-moves : (i j m : ℕ) → Moves i j m
-moves i j m =
-    elim (cases_eq m j) as (λ _. Moves i j m) [
+source_cases : (i j m : ℕ) → SourceCases i j m
+source_cases i j m =
+    elim (cases_eq m j) as (λ _. SourceCases i j m) [
       | inl second ↦
-          let one = moved_second i j m second in
-          record { back = ap (moved i j) one ∙ moved_first i j i refl ∙ sym second; inside = λ n li lj lm. omega (arith, one, li) }
-      | inr not_second ↦ elim (cases_eq m i) as (λ _. Moves i j m) [
+          let one = source_second i j m second in
+          record { back = ap (swap_source i j) one ∙ source_first i j i refl ∙ sym second; inside = λ n li lj lm. omega (arith, one, li) }
+      | inr not_second ↦ elim (cases_eq m i) as (λ _. SourceCases i j m) [
         | inl first ↦
-            let one = moved_first i j m first in
-            record { back = ap (moved i j) one ∙ moved_second i j j refl ∙ sym first; inside = λ n li lj lm. omega (arith, one, lj) }
+            let one = source_first i j m first in
+            record { back = ap (swap_source i j) one ∙ source_second i j j refl ∙ sym first; inside = λ n li lj lm. omega (arith, one, lj) }
         | inr not_first ↦
-            let one = moved_other i j m not_first not_second in
-            record { back = ap (moved i j) one ∙ one; inside = λ n li lj lm. omega (arith, one, lm) }
+            let one = source_other i j m not_first not_second in
+            record { back = ap (swap_source i j) one ∙ one; inside = λ n li lj lm. omega (arith, one, lm) }
       ]
     ]
 
-at_swap : (row : List Literal) (i j m : ℕ) → i < length row → j < length row → literal_at (swap row i j) m ≡ literal_at row (moved i j m)
+at_swap : (row : List Literal) (i j m : ℕ) → i < length row → j < length row → literal_at (swap row i j) m ≡ literal_at row (swap_source i j m)
 at_swap row i j m li lj =
     let is = swap_is row i j no_literal li lj in
     let xs = set row i (get_or row j no_literal) in
     let long : j < length xs = let n = length-set row i (get_or row j no_literal) in omega (arith, n, lj) in
     ap (λ (r : List Literal). literal_at r m) (sym is)
-    ∙ (elim (cases_eq m j) as (λ _. literal_at (set xs j (get_or row i no_literal)) m ≡ literal_at row (moved i j m)) [
+    ∙ (elim (cases_eq m j) as (λ _. literal_at (set xs j (get_or row i no_literal)) m ≡ literal_at row (swap_source i j m)) [
       | inl second ↦
           ap (λ (p : ℕ). get_or (set xs j (get_or row i no_literal)) p no_literal) second ∙ get_or-set_same xs j (get_or row i no_literal) no_literal long
-          ∙ sym (ap (λ (p : ℕ). literal_at row p) (moved_second i j m second))
-      | inr not_second ↦ get_or-set_other xs j m (get_or row i no_literal) no_literal not_second ∙ elim (cases_eq m i) as (λ _. literal_at xs m ≡ literal_at row (moved i j m)) [
+          ∙ sym (ap (λ (p : ℕ). literal_at row p) (source_second i j m second))
+      | inr not_second ↦ get_or-set_other xs j m (get_or row i no_literal) no_literal not_second ∙ elim (cases_eq m i) as (λ _. literal_at xs m ≡ literal_at row (swap_source i j m)) [
         | inl first ↦
             ap (λ (p : ℕ). get_or (set row i (get_or row j no_literal)) p no_literal) first ∙ get_or-set_same row i (get_or row j no_literal) no_literal li
-            ∙ sym (ap (λ (p : ℕ). literal_at row p) (moved_first i j m first))
+            ∙ sym (ap (λ (p : ℕ). literal_at row p) (source_first i j m first))
         | inr not_first ↦
             get_or-set_other row i m (get_or row j no_literal) no_literal not_first
-            ∙ sym (ap (λ (p : ℕ). literal_at row p) (moved_other i j m not_first not_second))
+            ∙ sym (ap (λ (p : ℕ). literal_at row p) (source_other i j m not_first not_second))
       ]
     ])
 
 pub swap_first : (row : List Literal) (i j m : ℕ) → i < length row → j < length row → m ≡ i → literal_at (swap row i j) m ≡ literal_at row j
-swap_first row i j m li lj e = at_swap row i j m li lj ∙ ap (λ (p : ℕ). literal_at row p) (moved_first i j m e)
+swap_first row i j m li lj e = at_swap row i j m li lj ∙ ap (λ (p : ℕ). literal_at row p) (source_first i j m e)
 
 pub swap_other : (row : List Literal) (i j m : ℕ) → i < length row → j < length row → m ≢ i → m ≢ j → literal_at (swap row i j) m ≡ literal_at row m
-swap_other row i j m li lj ni nj = at_swap row i j m li lj ∙ ap (λ (p : ℕ). literal_at row p) (moved_other i j m ni nj)
+swap_other row i j m li lj ni nj = at_swap row i j m li lj ∙ ap (λ (p : ℕ). literal_at row p) (source_other i j m ni nj)
 
 pub bool_same : (a b : Bool) → (a ≡ true → b ≡ true) → (b ≡ true → a ≡ true) → a ≡ b
 bool_same true true f g = refl
@@ -114,14 +114,14 @@ holds-swap row i j li lj l = bool_same (holds (swap row i j) l) (holds row l) th
     there h =
         let p = place_of (swap row i j) l h in
         let low : p.0 < length row = omega (arith, len, p.1) in
-        let m = (moves i j p.0).inside (length row) li lj low in
-        subst (λ (x : Literal). holds row x ≡ true) (sym (at_swap row i j p.0 li lj) ∙ p.2) (holds_at row (moved i j p.0) m)
+        let m = (source_cases i j p.0).inside (length row) li lj low in
+        subst (λ (x : Literal). holds row x ≡ true) (sym (at_swap row i j p.0 li lj) ∙ p.2) (holds_at row (swap_source i j p.0) m)
 
     back : holds row l ≡ true → holds (swap row i j) l ≡ true
     back h =
         let p = place_of row l h in
-        let m : moved i j p.0 < length (swap row i j) = let q = (moves i j p.0).inside (length row) li lj p.1 in omega (arith, len, q) in
-        subst (λ (x : Literal). holds (swap row i j) x ≡ true) (at_swap row i j (moved i j p.0) li lj ∙ ap (λ (k : ℕ). literal_at row k) (moves i j p.0).back ∙ p.2) (holds_at (swap row i j) (moved i j p.0) m)
+        let m : swap_source i j p.0 < length (swap row i j) = let q = (source_cases i j p.0).inside (length row) li lj p.1 in omega (arith, len, q) in
+        subst (λ (x : Literal). holds (swap row i j) x ≡ true) (at_swap row i j (swap_source i j p.0) li lj ∙ ap (λ (k : ℕ). literal_at row k) (source_cases i j p.0).back ∙ p.2) (holds_at (swap row i j) (swap_source i j p.0) m)
 
 pub row_swap : (clause row : List Literal) (i j : ℕ) → i < length row → j < length row → IsRow clause row → IsRow clause (swap row i j)
 row_swap clause row i j li lj r = record {
@@ -130,9 +130,9 @@ row_swap clause row i j li lj r = record {
   apart = λ a b la lb e.
       let low_a : a < length row = omega (arith, len, la) in
       let low_b : b < length row = omega (arith, len, lb) in
-      let one = r.apart (moved i j a) (moved i j b) ((moves i j a).inside (length row) li lj low_a) ((moves i j b).inside (length row) li lj low_b)
+      let one = r.apart (swap_source i j a) (swap_source i j b) ((source_cases i j a).inside (length row) li lj low_a) ((source_cases i j b).inside (length row) li lj low_b)
       (ap (λ (l : Literal). l.variable) (sym (at_swap row i j a li lj)) ∙ e ∙ ap (λ (l : Literal). l.variable) (at_swap row i j b li lj)) in
-      sym (moves i j a).back ∙ ap (moved i j) one ∙ (moves i j b).back;
+      sym (source_cases i j a).back ∙ ap (swap_source i j) one ∙ (source_cases i j b).back;
 }
   where
     len : length (swap row i j) ≡ length row

@@ -138,7 +138,7 @@ pub step_open : (s c : List Literal) (i : ℕ) (d : Literal) (o : Option Literal
 step_open s c i d None l h e v = scan_open s c i d l h (value_none s (get_or c i d) v)
 step_open s c i d (Some u) l h e v = absurd (false≢true e)
 
--- whether a literal is held, by its value
+-- whether a literal is true, by its value
 pub value_holds : (s : List Literal) (l : Literal) (b : Bool) → Some b ≡ value_of s l → b ≡ holds s l
 value_holds s l b e =
     elim (value_cases (holds s l) (holds s (negation l)) (Some b) e) as (λ _. b ≡ holds s l) [

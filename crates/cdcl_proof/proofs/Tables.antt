@@ -13,7 +13,7 @@ use Rattle.cdcl_proof.specs.Clause.{is_among, is_within, is_clause}
 use Rattle.cdcl_proof.specs.Formula.{are_clauses}
 use Rattle.cdcl_proof.specs.declared.table.Table.{Table}
 use Rattle.cdcl_proof.specs.Table.{IsTable, IsEntered}
-use Rattle.cdcl_proof.specs.Watching.{IsRow, AreRows, AreWatched, ArePermuted, HaveBlockers, AreShort, HasSameClauses, count_of, wanted, added_lists, row_at, list_at, watch_at, literal_at, no_literal, no_watch}
+use Rattle.cdcl_proof.specs.Watching.{IsRow, AreRows, AreWatched, ArePermuted, HaveBlockers, AreShort, HasSameClauses, count_of, watch_count, added_lists, row_at, list_at, watch_at, literal_at, no_literal, no_watch}
 use Rattle.cdcl_proof.proofs.Sets.{literal_ext, all_at}
 use Rattle.cdcl_proof.proofs.Resolution.{cases_le}
 use Rattle.cdcl_proof.proofs.Entries.{among_high}
@@ -21,10 +21,10 @@ use Rattle.cdcl_proof.proofs.Sound.{all_clauses}
 use Rattle.cdcl_proof.proofs.Rows.{holds_at, swap_first, swap_other, holds-swap, row_swap}
 
 -- what an index past the end reads
-pub past : {A : Type 0} (xs : List A) (i : ℕ) (d : A) → length xs ≤ i → get_or xs i d ≡ d
-past [] i d h = refl
-past (x ∷ xs) zero d h = absurd (omega (arith, h))
-past (x ∷ xs) (suc i) d h = past xs i d (omega (arith, h))
+pub reads_default : {A : Type 0} (xs : List A) (i : ℕ) (d : A) → length xs ≤ i → get_or xs i d ≡ d
+reads_default [] i d h = refl
+reads_default (x ∷ xs) zero d h = absurd (omega (arith, h))
+reads_default (x ∷ xs) (suc i) d h = reads_default xs i d (omega (arith, h))
 
 -- literals of one slot are equal
 pub slot_same : (a b : Literal) → slot_of a ≡ slot_of b → a ≡ b
@@ -46,33 +46,33 @@ at_same l s e = rw (eq-eqb (slot_of l) s e) refl
 pub at_other : (l : Literal) (s : ℕ) → slot_of l ≢ s → at_slot l s ≡ 0
 at_other l s e = rw (ne_eqb (slot_of l) s e) refl
 
-pub wanted_by : (row : List Literal) (s : ℕ) → 2 ≤ length row → wanted row s ≡ at_slot (literal_at row 0) s + at_slot (literal_at row 1) s
-wanted_by [] s h = absurd (omega (arith, h))
-wanted_by (a ∷ []) s h = absurd (omega (arith, h))
-wanted_by (a ∷ b ∷ rest) s h = refl
+pub watch_count_by : (ordered : List Literal) (s : ℕ) → 2 ≤ length ordered → watch_count ordered s ≡ at_slot (literal_at ordered 0) s + at_slot (literal_at ordered 1) s
+watch_count_by [] s h = absurd (omega (arith, h))
+watch_count_by (a ∷ []) s h = absurd (omega (arith, h))
+watch_count_by (a ∷ b ∷ rest) s h = refl
 
-pub wanted_long : (row : List Literal) (s : ℕ) → 1 ≤ wanted row s → 2 ≤ length row
-wanted_long [] s h = absurd (omega (arith, h))
-wanted_long (a ∷ []) s h = absurd (omega (arith, h))
-wanted_long (a ∷ b ∷ rest) s h = omega arith
+pub watch_count_long : (ordered : List Literal) (s : ℕ) → 1 ≤ watch_count ordered s → 2 ≤ length ordered
+watch_count_long [] s h = absurd (omega (arith, h))
+watch_count_long (a ∷ []) s h = absurd (omega (arith, h))
+watch_count_long (a ∷ b ∷ rest) s h = omega arith
 
-wanted_short : (row : List Literal) (s : ℕ) → length row < 2 → wanted row s ≡ 0
-wanted_short [] s h = refl
-wanted_short (a ∷ []) s h = refl
-wanted_short (a ∷ b ∷ rest) s h = absurd (omega (arith, h))
+watch_count_short : (ordered : List Literal) (s : ℕ) → length ordered < 2 → watch_count ordered s ≡ 0
+watch_count_short [] s h = refl
+watch_count_short (a ∷ []) s h = refl
+watch_count_short (a ∷ b ∷ rest) s h = absurd (omega (arith, h))
 
 -- a row that is watched is one of the list of its first or second literal
-pub wanted_where : (row : List Literal) (s : ℕ) → 1 ≤ wanted row s → (slot_of (literal_at row 0) ≡ s) ⊎ (slot_of (literal_at row 1) ≡ s)
-wanted_where row s h =
-    let long = wanted_long row s h in
-    let by = wanted_by row s long in
-    elim (cases_eq (slot_of (literal_at row 0)) s) as (λ _. (slot_of (literal_at row 0) ≡ s) ⊎ (slot_of (literal_at row 1) ≡ s)) [
+pub watch_count_where : (ordered : List Literal) (s : ℕ) → 1 ≤ watch_count ordered s → (slot_of (literal_at ordered 0) ≡ s) ⊎ (slot_of (literal_at ordered 1) ≡ s)
+watch_count_where ordered s h =
+    let long = watch_count_long ordered s h in
+    let by = watch_count_by ordered s long in
+    elim (cases_eq (slot_of (literal_at ordered 0)) s) as (λ _. (slot_of (literal_at ordered 0) ≡ s) ⊎ (slot_of (literal_at ordered 1) ≡ s)) [
       | inl first ↦ inl first
-      | inr not_first ↦ elim (cases_eq (slot_of (literal_at row 1)) s) as (λ _. (slot_of (literal_at row 0) ≡ s) ⊎ (slot_of (literal_at row 1) ≡ s)) [
+      | inr not_first ↦ elim (cases_eq (slot_of (literal_at ordered 1)) s) as (λ _. (slot_of (literal_at ordered 0) ≡ s) ⊎ (slot_of (literal_at ordered 1) ≡ s)) [
         | inl second ↦ inr second
         | inr not_second ↦
-            let a = at_other (literal_at row 0) s not_first in
-            let b = at_other (literal_at row 1) s not_second in
+            let a = at_other (literal_at ordered 0) s not_first in
+            let b = at_other (literal_at ordered 1) s not_second in
             absurd (omega (arith, h, by, a, b))
       ]
     ]
@@ -80,7 +80,7 @@ wanted_where row s h =
 pub row_inside : (rows : List (List Literal)) (i : ℕ) → 1 ≤ length (row_at rows i) → i < length rows
 row_inside rows i h =
     elim (cases_le (length rows) i) as (λ _. i < length rows) [
-      | inl out ↦ let e : length (row_at rows i) ≡ 0 = ap length (past rows i [] out) in absurd (omega (arith, h, e))
+      | inl out ↦ let e : length (row_at rows i) ≡ 0 = ap length (reads_default rows i [] out) in absurd (omega (arith, h, e))
       | inr within ↦ within
     ]
 
@@ -94,33 +94,33 @@ of_itself w = rw (eq-eqb w.clause w.clause refl) refl
 pub of_other : (i : ℕ) (w : Watch) → w.clause ≢ i → of_clause i w ≡ 0
 of_other i w e = rw (ne_eqb w.clause i e) refl
 
--- a watch that stands in a list is wanted there
-pub watch_wanted : (rows : List (List Literal)) (lists : List (List Watch)) (s k : ℕ) → AreWatched rows lists → s < length lists → k < length (list_at lists s) → 1 ≤ wanted (row_at rows (watch_at (list_at lists s) k).clause) s
-watch_wanted rows lists s k watched ls lk =
+-- a watch that stands in a list is counted there
+pub watch_is_counted : (rows : List (List Literal)) (lists : List (List Watch)) (s k : ℕ) → AreWatched rows lists → s < length lists → k < length (list_at lists s) → 1 ≤ watch_count (row_at rows (watch_at (list_at lists s) k).clause) s
+watch_is_counted rows lists s k watched ls lk =
     let w = watch_at (list_at lists s) k in
     let at = get_or-le-sum_by (λ (v : Watch). cond (eqb v.clause w.clause) 1 0) (list_at lists s) k no_watch lk in
     let one : of_clause w.clause w ≡ 1 = of_itself w in
     let all = watched w.clause s ls in
     omega (arith, at, one, all)
 
--- what a swap does to the lists that are wanted
-wanted_swap : (row : List Literal) (first k s : ℕ) → first < 2 → 2 ≤ k → k < length row → wanted row s + at_slot (literal_at row k) s ≡ wanted (swap row first k) s + at_slot (literal_at row first) s
-wanted_swap row first k s f2 k2 lk =
-    let len = length-swap row first k in
-    let lf : first < length row = omega (arith, f2, k2, lk) in
-    let old = wanted_by row s (omega (arith, k2, lk)) in
-    let new = wanted_by (swap row first k) s (omega (arith, len, k2, lk)) in
-    elim (cases_eq 0 first) as (λ _. wanted row s + at_slot (literal_at row k) s ≡ wanted (swap row first k) s + at_slot (literal_at row first) s) [
+-- what a swap does to the counts
+watch_count_swap : (ordered : List Literal) (first k s : ℕ) → first < 2 → 2 ≤ k → k < length ordered → watch_count ordered s + at_slot (literal_at ordered k) s ≡ watch_count (swap ordered first k) s + at_slot (literal_at ordered first) s
+watch_count_swap ordered first k s f2 k2 lk =
+    let len = length-swap ordered first k in
+    let lf : first < length ordered = omega (arith, f2, k2, lk) in
+    let old = watch_count_by ordered s (omega (arith, k2, lk)) in
+    let new = watch_count_by (swap ordered first k) s (omega (arith, len, k2, lk)) in
+    elim (cases_eq 0 first) as (λ _. watch_count ordered s + at_slot (literal_at ordered k) s ≡ watch_count (swap ordered first k) s + at_slot (literal_at ordered first) s) [
       | inl zero_first ↦
-          let a : at_slot (literal_at (swap row first k) 0) s ≡ at_slot (literal_at row k) s = ap (λ (l : Literal). at_slot l s) (swap_first row first k 0 lf lk zero_first) in
-          let b : at_slot (literal_at (swap row first k) 1) s ≡ at_slot (literal_at row 1) s = ap (λ (l : Literal). at_slot l s) (swap_other row first k 1 lf lk (λ e. omega (arith, e, zero_first)) (λ e. omega (arith, e, k2))) in
-          let c : at_slot (literal_at row first) s ≡ at_slot (literal_at row 0) s = ap (λ (p : ℕ). at_slot (literal_at row p) s) (sym zero_first) in
+          let a : at_slot (literal_at (swap ordered first k) 0) s ≡ at_slot (literal_at ordered k) s = ap (λ (l : Literal). at_slot l s) (swap_first ordered first k 0 lf lk zero_first) in
+          let b : at_slot (literal_at (swap ordered first k) 1) s ≡ at_slot (literal_at ordered 1) s = ap (λ (l : Literal). at_slot l s) (swap_other ordered first k 1 lf lk (λ e. omega (arith, e, zero_first)) (λ e. omega (arith, e, k2))) in
+          let c : at_slot (literal_at ordered first) s ≡ at_slot (literal_at ordered 0) s = ap (λ (p : ℕ). at_slot (literal_at ordered p) s) (sym zero_first) in
           omega (arith, old, new, a, b, c)
       | inr not_zero ↦
           let one_first : 1 ≡ first = omega (arith, f2, not_zero) in
-          let a : at_slot (literal_at (swap row first k) 1) s ≡ at_slot (literal_at row k) s = ap (λ (l : Literal). at_slot l s) (swap_first row first k 1 lf lk one_first) in
-          let b : at_slot (literal_at (swap row first k) 0) s ≡ at_slot (literal_at row 0) s = ap (λ (l : Literal). at_slot l s) (swap_other row first k 0 lf lk not_zero (λ e. omega (arith, e, k2))) in
-          let c : at_slot (literal_at row first) s ≡ at_slot (literal_at row 1) s = ap (λ (p : ℕ). at_slot (literal_at row p) s) (sym one_first) in
+          let a : at_slot (literal_at (swap ordered first k) 1) s ≡ at_slot (literal_at ordered k) s = ap (λ (l : Literal). at_slot l s) (swap_first ordered first k 1 lf lk one_first) in
+          let b : at_slot (literal_at (swap ordered first k) 0) s ≡ at_slot (literal_at ordered 0) s = ap (λ (l : Literal). at_slot l s) (swap_other ordered first k 0 lf lk not_zero (λ e. omega (arith, e, k2))) in
+          let c : at_slot (literal_at ordered first) s ≡ at_slot (literal_at ordered 1) s = ap (λ (p : ℕ). at_slot (literal_at ordered p) s) (sym one_first) in
           omega (arith, old, new, a, b, c)
     ]
 
@@ -153,8 +153,8 @@ length-swap_remove xs i li =
     omega (arith, li, len, n)
 
 -- a list from which the last was taken off again is the old one
-pub undone : (lists : List (List Watch)) (a a2 b : ℕ) (w : Watch) (p q r d e f : List Watch) → a < length lists → a2 ≡ a → p ≡ get_or lists a d ++ w ∷ [] → q ≡ get_or (set lists a p) b e → r ≡ take (length (get_or (set (set lists a p) b q) a2 f) - 1) (get_or (set (set lists a p) b q) a2 f) → set (set (set lists a p) b q) a2 r ≡ lists
-undone lists a a2 b w p q r d e f la same ep eq er =
+pub push_pop : (lists : List (List Watch)) (a a2 b : ℕ) (w : Watch) (p q r d e f : List Watch) → a < length lists → a2 ≡ a → p ≡ get_or lists a d ++ w ∷ [] → q ≡ get_or (set lists a p) b e → r ≡ take (length (get_or (set (set lists a p) b q) a2 f) - 1) (get_or (set (set lists a p) b q) a2 f) → set (set (set lists a p) b q) a2 r ≡ lists
+push_pop lists a a2 b w p q r d e f la same ep eq er =
     let whole : set (set lists a p) b q ≡ set lists a p = ap (set (set lists a p) b) eq ∙ set-get_or (set lists a p) b e in
     let top : get_or (set (set lists a p) b q) a2 f ≡ get_or lists a d ++ w ∷ [] = ap (λ (x : ℕ). get_or (set (set lists a p) b q) x f) same ∙ ap (λ (ls : List (List Watch)). get_or ls a f) whole ∙ get_or-set_same lists a p f la ∙ ep in
     let len = length_push (get_or lists a d) w in
@@ -214,12 +214,12 @@ pub record Keeps (clauses rows : List (List Literal)) (lists : List (List Watch)
   pub are_short : AreShort rows short
 
 -- a watch that moves
-module _ (rows : List (List Literal)) (lists : List (List Watch)) (watched : AreWatched rows lists) (blockers : HaveBlockers rows lists) (s place first k : ℕ) (s_in : s < length lists) (place_in : place < length (list_at lists s)) (first_in : first < 2) (k_low : 2 ≤ k) (row : List Literal) (w v : Watch) (is_w : watch_at (list_at lists s) place ≡ w) (is_row : row_at rows w.clause ≡ row) (k_in : k < length row) (is_slot : slot_of (literal_at row first) ≡ s) (t : ℕ) (is_target : slot_of (literal_at row k) ≡ t) (t_in : t < length lists) (apart : t ≢ s) (same_clause : v.clause ≡ w.clause) (blocks : holds row v.blocker ≡ true) where
-  one_in : first < length row
+module _ (rows : List (List Literal)) (lists : List (List Watch)) (watched : AreWatched rows lists) (blockers : HaveBlockers rows lists) (s place first k : ℕ) (s_in : s < length lists) (place_in : place < length (list_at lists s)) (first_in : first < 2) (k_low : 2 ≤ k) (ordered : List Literal) (w v : Watch) (is_w : watch_at (list_at lists s) place ≡ w) (is_row : row_at rows w.clause ≡ ordered) (k_in : k < length ordered) (is_slot : slot_of (literal_at ordered first) ≡ s) (t : ℕ) (is_target : slot_of (literal_at ordered k) ≡ t) (t_in : t < length lists) (apart : t ≢ s) (same_clause : v.clause ≡ w.clause) (blocks : holds ordered v.blocker ≡ true) where
+  one_in : first < length ordered
   one_in = omega (arith, first_in, k_low, k_in)
 
   clause_in : w.clause < length rows
-  clause_in = row_inside rows w.clause (let e : length (row_at rows w.clause) ≡ length row = ap length is_row in omega (arith, e, k_in))
+  clause_in = row_inside rows w.clause (let e : length (row_at rows w.clause) ≡ length ordered = ap length is_row in omega (arith, e, k_in))
 
   at_from : list_at (moved_lists lists t v s place) s ≡ swap_remove (list_at lists s) place no_watch
   at_from = get_or-set_same (set lists t (list_at lists t ++ v ∷ [])) s (swap_remove (list_at lists s) place no_watch) [] (let n = length-set lists t (list_at lists t ++ v ∷ []) in omega (arith, n, s_in))
@@ -233,9 +233,9 @@ module _ (rows : List (List Literal)) (lists : List (List Watch)) (watched : Are
   at_rest : (m : ℕ) → m ≢ t → list_at (set lists t (list_at lists t ++ v ∷ [])) m ≡ list_at lists m
   at_rest m e = get_or-set_other lists t m (list_at lists t ++ v ∷ []) [] e
 
-  -- what is wanted of the clause now
-  wanted_new : (m : ℕ) → wanted row m + at_slot (literal_at row k) m ≡ wanted (swap row first k) m + at_slot (literal_at row first) m
-  wanted_new m = wanted_swap row first k m first_in k_low k_in
+  -- the count of the clause now
+  wanted_new : (m : ℕ) → watch_count ordered m + at_slot (literal_at ordered k) m ≡ watch_count (swap ordered first k) m + at_slot (literal_at ordered first) m
+  wanted_new m = watch_count_swap ordered first k m first_in k_low k_in
 
   module _ (j m : ℕ) (lm : m < length lists) where
     abbrev the_list : List Watch
@@ -260,7 +260,7 @@ module _ (rows : List (List Literal)) (lists : List (List Watch)) (watched : Are
     count_rest : m ≢ s → m ≢ t → count_of j the_list ≡ count_of j (list_at lists m)
     count_rest not_s not_t = ap (count_of j) (at_else m not_s ∙ at_rest m not_t)
 
-    -- the number that is wanted of a clause whose wanted number changes by these parts
+    -- the count of a clause whose count changes by these parts
     counted : (old new of_w of_v at_k at_first : ℕ) → count_of j (list_at lists m) ≡ old → of_clause j w ≡ of_w → of_clause j v ≡ of_v → (m ≡ s → old ≡ new + of_w) → (m ≢ s → m ≡ t → new ≡ old + of_v) → (m ≢ s → m ≢ t → new ≡ old) → count_of j the_list ≡ new
     counted old new of_w of_v at_k at_first is_old is_w_count is_v_count from to rest =
         elim (cases_eq m s) as (λ _. count_of j the_list ≡ new) [
@@ -271,29 +271,29 @@ module _ (rows : List (List Literal)) (lists : List (List Watch)) (watched : Are
           ]
         ]
 
-    counts : count_of j the_list ≡ wanted (row_at (set rows w.clause (swap row first k)) j) m
+    counts : count_of j the_list ≡ watch_count (row_at (set rows w.clause (swap ordered first k)) j) m
     counts =
-        elim (cases_eq j w.clause) as (λ _. count_of j the_list ≡ wanted (row_at (set rows w.clause (swap row first k)) j) m) [
+        elim (cases_eq j w.clause) as (λ _. count_of j the_list ≡ watch_count (row_at (set rows w.clause (swap ordered first k)) j) m) [
           | inl here ↦
-              let want : wanted (row_at (set rows w.clause (swap row first k)) j) m ≡ wanted (swap row first k) m = ap (λ (r : List Literal). wanted r m) (ap (λ (q : ℕ). row_at (set rows w.clause (swap row first k)) q) here ∙ get_or-set_same rows w.clause (swap row first k) [] clause_in) in
-              let old : count_of j (list_at lists m) ≡ wanted row m = watched j m lm ∙ ap (λ (r : List Literal). wanted r m) (ap (row_at rows) here ∙ is_row) in
+              let want : watch_count (row_at (set rows w.clause (swap ordered first k)) j) m ≡ watch_count (swap ordered first k) m = ap (λ (r : List Literal). watch_count r m) (ap (λ (q : ℕ). row_at (set rows w.clause (swap ordered first k)) q) here ∙ get_or-set_same rows w.clause (swap ordered first k) [] clause_in) in
+              let old : count_of j (list_at lists m) ≡ watch_count ordered m = watched j m lm ∙ ap (λ (r : List Literal). watch_count r m) (ap (row_at rows) here ∙ is_row) in
               let wv : of_clause j v ≡ 1 = ap (λ (q : ℕ). of_clause q v) (here ∙ sym same_clause) ∙ of_itself v in
               let ww : of_clause j w ≡ 1 = ap (λ (q : ℕ). of_clause q w) here ∙ of_itself w in
               let sum = wanted_new m in
-              counted (wanted row m) (wanted (swap row first k) m) 1 1 0 0 old ww wv
-              (λ e. let a = at_other (literal_at row k) m (λ h. apart (sym is_target ∙ h ∙ e)) in let b = at_same (literal_at row first) m (is_slot ∙ sym e) in omega (arith, sum, a, b))
-              (λ ne e. let a = at_same (literal_at row k) m (is_target ∙ sym e) in let b = at_other (literal_at row first) m (λ h. ne (sym h ∙ is_slot)) in omega (arith, sum, a, b))
-              (λ ne nt. let a = at_other (literal_at row k) m (λ h. nt (sym h ∙ is_target)) in let b = at_other (literal_at row first) m (λ h. ne (sym h ∙ is_slot)) in omega (arith, sum, a, b))
+              counted (watch_count ordered m) (watch_count (swap ordered first k) m) 1 1 0 0 old ww wv
+              (λ e. let a = at_other (literal_at ordered k) m (λ h. apart (sym is_target ∙ h ∙ e)) in let b = at_same (literal_at ordered first) m (is_slot ∙ sym e) in omega (arith, sum, a, b))
+              (λ ne e. let a = at_same (literal_at ordered k) m (is_target ∙ sym e) in let b = at_other (literal_at ordered first) m (λ h. ne (sym h ∙ is_slot)) in omega (arith, sum, a, b))
+              (λ ne nt. let a = at_other (literal_at ordered k) m (λ h. nt (sym h ∙ is_target)) in let b = at_other (literal_at ordered first) m (λ h. ne (sym h ∙ is_slot)) in omega (arith, sum, a, b))
               ∙ sym want
           | inr there ↦
-              let want : wanted (row_at (set rows w.clause (swap row first k)) j) m ≡ wanted (row_at rows j) m = ap (λ (r : List Literal). wanted r m) (get_or-set_other rows w.clause j (swap row first k) [] there) in
+              let want : watch_count (row_at (set rows w.clause (swap ordered first k)) j) m ≡ watch_count (row_at rows j) m = ap (λ (r : List Literal). watch_count r m) (get_or-set_other rows w.clause j (swap ordered first k) [] there) in
               let wv : of_clause j v ≡ 0 = of_other j v (λ e. there (sym e ∙ same_clause)) in
               let ww : of_clause j w ≡ 0 = of_other j w (λ e. there (sym e)) in
-              counted (wanted (row_at rows j) m) (wanted (row_at rows j) m) 0 0 0 0 (watched j m lm) ww wv (λ e. omega arith) (λ ne e. omega arith) (λ ne nt. refl) ∙ sym want
+              counted (watch_count (row_at rows j) m) (watch_count (row_at rows j) m) 0 0 0 0 (watched j m lm) ww wv (λ e. omega arith) (λ ne e. omega arith) (λ ne nt. refl) ∙ sym want
         ]
 
-  permuted : ArePermuted rows (set rows w.clause (swap row first k))
-  permuted = permuted_set rows rows w.clause (swap row first k) clause_in (λ l. holds-swap row first k one_in k_in l ∙ ap (λ (r : List Literal). holds r l) (sym is_row))
+  permuted : ArePermuted rows (set rows w.clause (swap ordered first k))
+  permuted = permuted_set rows rows w.clause (swap ordered first k) clause_in (λ l. holds-swap ordered first k one_in k_in l ∙ ap (λ (r : List Literal). holds r l) (sym is_row))
 
   -- a watch of the new lists is one of the old ones or the new one
   blocked : (m n : ℕ) → m < length lists → n < length (list_at (moved_lists lists t v s place) m) → holds (row_at rows (watch_at (list_at (moved_lists lists t v s place) m) n).clause) (watch_at (list_at (moved_lists lists t v s place) m) n).blocker ≡ true
@@ -328,62 +328,62 @@ module _ (rows : List (List Literal)) (lists : List (List Watch)) (watched : Are
                 subst (λ (q : Watch). holds (row_at rows q.clause) q.blocker ≡ true) (sym is) (blockers t n t_in low)
           ]
 
-  pub table_moved : (clauses : List (List Literal)) (short : List ℕ) → AreRows clauses rows → AreShort rows short → Keeps clauses (set rows w.clause (swap row first k)) (moved_lists lists t v s place) short
+  pub table_moved : (clauses : List (List Literal)) (short : List ℕ) → AreRows clauses rows → AreShort rows short → Keeps clauses (set rows w.clause (swap ordered first k)) (moved_lists lists t v s place) short
   table_moved clauses short are_rows are_short =
       let n = length-set lists t (list_at lists t ++ v ∷ []) in
       let n2 = length-set (set lists t (list_at lists t ++ v ∷ [])) s (swap_remove (list_at lists s) place no_watch) in
       let here : w.clause < length clauses = let c = are_rows.count in omega (arith, c, clause_in) in
-      let old : IsRow (row_at clauses w.clause) row = subst (λ (r : List Literal). IsRow (row_at clauses w.clause) r) is_row (are_rows.each w.clause here) in
+      let old : IsRow (row_at clauses w.clause) ordered = subst (λ (r : List Literal). IsRow (row_at clauses w.clause) r) is_row (are_rows.each w.clause here) in
       record {
-        are_rows = rows_set clauses rows w.clause (swap row first k) clause_in are_rows (row_swap (row_at clauses w.clause) row first k one_in k_in old);
+        are_rows = rows_set clauses rows w.clause (swap ordered first k) clause_in are_rows (row_swap (row_at clauses w.clause) ordered first k one_in k_in old);
         are_watched = λ j m lm. counts j m (omega (arith, n, n2, lm));
         have_blockers = λ m q lm lq. permuted (watch_at (list_at (moved_lists lists t v s place) m) q).clause (watch_at (list_at (moved_lists lists t v s place) m) q).blocker ∙ blocked m q (omega (arith, n, n2, lm)) lq;
-        are_short = short_set clauses rows w.clause (swap row first k) clause_in short are_short (length-swap row first k ∙ ap length (sym is_row));
+        are_short = short_set clauses rows w.clause (swap ordered first k) clause_in short are_short (length-swap ordered first k ∙ ap length (sym is_row));
       }
 
 -- one row more
-module _ (clauses rows : List (List Literal)) (clause row : List Literal) where
-  pub same_push : (P : ℕ → List Literal → Type 0) → P (length rows) row → ((j : ℕ) → P j (row_at rows j)) → (j : ℕ) → P j (row_at (rows ++ row ∷ []) j)
+module _ (clauses rows : List (List Literal)) (clause ordered : List Literal) where
+  pub same_push : (P : ℕ → List Literal → Type 0) → P (length rows) ordered → ((j : ℕ) → P j (row_at rows j)) → (j : ℕ) → P j (row_at (rows ++ ordered ∷ []) j)
   same_push P here there j =
-      elim (cases_eq j (length rows)) as (λ _. P j (row_at (rows ++ row ∷ []) j)) [
-        | inl e ↦ subst (λ (r : List Literal). P j r) (sym (get_or_push rows row [] j (sym e))) (subst (λ (m : ℕ). P m row) (sym e) here)
+      elim (cases_eq j (length rows)) as (λ _. P j (row_at (rows ++ ordered ∷ []) j)) [
+        | inl e ↦ subst (λ (r : List Literal). P j r) (sym (get_or_push rows ordered [] j (sym e))) (subst (λ (m : ℕ). P m ordered) (sym e) here)
         | inr other ↦ subst (λ (r : List Literal). P j r) (sym (old other)) (there j)
       ]
     where
-      old : j ≢ length rows → row_at (rows ++ row ∷ []) j ≡ row_at rows j
+      old : j ≢ length rows → row_at (rows ++ ordered ∷ []) j ≡ row_at rows j
       old other =
-          elim (cases_le (length rows) j) as (λ _. row_at (rows ++ row ∷ []) j ≡ row_at rows j) [
-            | inl out ↦ let n = length_push rows row in past (rows ++ row ∷ []) j [] (omega (arith, n, out, other)) ∙ sym (past rows j [] out)
-            | inr within ↦ get_or_append_left rows (row ∷ []) [] j within
+          elim (cases_le (length rows) j) as (λ _. row_at (rows ++ ordered ∷ []) j ≡ row_at rows j) [
+            | inl out ↦ let n = length_push rows ordered in reads_default (rows ++ ordered ∷ []) j [] (omega (arith, n, out, other)) ∙ sym (reads_default rows j [] out)
+            | inr within ↦ get_or_append_left rows (ordered ∷ []) [] j within
           ]
 
-  pub rows_push : AreRows clauses rows → IsRow clause row → AreRows (clauses ++ clause ∷ []) (rows ++ row ∷ [])
+  pub rows_push : AreRows clauses rows → IsRow clause ordered → AreRows (clauses ++ clause ∷ []) (rows ++ ordered ∷ [])
   rows_push are new = record {
-    count = length_push rows row ∙ ap (λ (n : ℕ). n + 1) are.count ∙ sym (length_push clauses clause);
+    count = length_push rows ordered ∙ ap (λ (n : ℕ). n + 1) are.count ∙ sym (length_push clauses clause);
     each = λ i l.
         let n = length_push clauses clause in
         let count = are.count in
-        elim (cases_eq i (length clauses)) as (λ _. IsRow (row_at (clauses ++ clause ∷ []) i) (row_at (rows ++ row ∷ []) i)) [
-          | inl e ↦ rw (get_or_push clauses clause [] i (sym e), get_or_push rows row [] i (sym (e ∙ sym count))) new
+        elim (cases_eq i (length clauses)) as (λ _. IsRow (row_at (clauses ++ clause ∷ []) i) (row_at (rows ++ ordered ∷ []) i)) [
+          | inl e ↦ rw (get_or_push clauses clause [] i (sym e), get_or_push rows ordered [] i (sym (e ∙ sym count))) new
           | inr other ↦
               let low : i < length clauses = omega (arith, n, l, other) in
               let low2 : i < length rows = omega (arith, low, count) in
-              rw (get_or_append_left clauses (clause ∷ []) [] i low, get_or_append_left rows (row ∷ []) [] i low2) (are.each i low)
+              rw (get_or_append_left clauses (clause ∷ []) [] i low, get_or_append_left rows (ordered ∷ []) [] i low2) (are.each i low)
         ];
   }
 
-  row_old : (i : ℕ) → i < length (rows ++ row ∷ []) → i ≢ length rows → (i < length rows) × (row_at (rows ++ row ∷ []) i ≡ row_at rows i)
-  row_old i li other = let n = length_push rows row in let low : i < length rows = omega (arith, n, li, other) in (low, get_or_append_left rows (row ∷ []) [] i low)
+  row_old : (i : ℕ) → i < length (rows ++ ordered ∷ []) → i ≢ length rows → (i < length rows) × (row_at (rows ++ ordered ∷ []) i ≡ row_at rows i)
+  row_old i li other = let n = length_push rows ordered in let low : i < length rows = omega (arith, n, li, other) in (low, get_or_append_left rows (ordered ∷ []) [] i low)
 
-  row_last : (i : ℕ) → i ≡ length rows → row_at (rows ++ row ∷ []) i ≡ row
-  row_last i e = get_or_push rows row [] i (sym e)
+  row_last : (i : ℕ) → i ≡ length rows → row_at (rows ++ ordered ∷ []) i ≡ ordered
+  row_last i e = get_or_push rows ordered [] i (sym e)
 
-  only_old : (short : List ℕ) → AreShort rows short → (j : ℕ) → j < length short → (get_or short j 0 < length (rows ++ row ∷ [])) × (length (row_at (rows ++ row ∷ []) (get_or short j 0)) < 2)
+  only_old : (short : List ℕ) → AreShort rows short → (j : ℕ) → j < length short → (get_or short j 0 < length (rows ++ ordered ∷ [])) × (length (row_at (rows ++ ordered ∷ []) (get_or short j 0)) < 2)
   only_old short are j lj =
       let o = are.only j lj in
-      (let n = length_push rows row in omega (arith, n, o.0), subst (λ (r : List Literal). length r < 2) (sym (get_or_append_left rows (row ∷ []) [] (get_or short j 0) o.0)) o.1)
+      (let n = length_push rows ordered in omega (arith, n, o.0), subst (λ (r : List Literal). length r < 2) (sym (get_or_append_left rows (ordered ∷ []) [] (get_or short j 0) o.0)) o.1)
 
-  pub short_long : (short : List ℕ) → AreShort rows short → 2 ≤ length row → AreShort (rows ++ row ∷ []) short
+  pub short_long : (short : List ℕ) → AreShort rows short → 2 ≤ length ordered → AreShort (rows ++ ordered ∷ []) short
   short_long short are long = record {
     each = λ i li si. elim (cases_eq i (length rows)) as (λ _. (j : ℕ) × (j < length short) × (get_or short j 0 ≡ i)) [
       | inl e ↦ let same_len = ap length (row_last i e) in absurd (omega (arith, same_len, long, si))
@@ -392,7 +392,7 @@ module _ (clauses rows : List (List Literal)) (clause row : List Literal) where
     only = only_old short are;
   }
 
-  pub short_push : (short : List ℕ) → AreShort rows short → length row < 2 → AreShort (rows ++ row ∷ []) (short ++ length rows ∷ [])
+  pub short_push : (short : List ℕ) → AreShort rows short → length ordered < 2 → AreShort (rows ++ ordered ∷ []) (short ++ length rows ∷ [])
   short_push short are few = record {
     each = λ i li si. elim (cases_eq i (length rows)) as (λ _. (j : ℕ) × (j < length (short ++ length rows ∷ [])) × (get_or (short ++ length rows ∷ []) j 0 ≡ i)) [
       | inl e ↦ (length short, let n = length_push short (length rows) in omega (arith, n), get_or_push short (length rows) 0 (length short) refl ∙ sym e)
@@ -402,11 +402,11 @@ module _ (clauses rows : List (List Literal)) (clause row : List Literal) where
           let old = are.each i r.0 (omega (arith, same_len, si)) in
           (old.0, (let n = length_push short (length rows) in omega (arith, n, old.1)), get_or_append_left short (length rows ∷ []) 0 old.0 old.1 ∙ old.2)
     ];
-    only = λ j lj. elim (cases_eq j (length short)) as (λ _. (get_or (short ++ length rows ∷ []) j 0 < length (rows ++ row ∷ [])) × (length (row_at (rows ++ row ∷ []) (get_or (short ++ length rows ∷ []) j 0)) < 2)) [
+    only = λ j lj. elim (cases_eq j (length short)) as (λ _. (get_or (short ++ length rows ∷ []) j 0 < length (rows ++ ordered ∷ [])) × (length (row_at (rows ++ ordered ∷ []) (get_or (short ++ length rows ∷ []) j 0)) < 2)) [
       | inl e ↦
           let at : get_or (short ++ length rows ∷ []) j 0 ≡ length rows = get_or_push short (length rows) 0 j (sym e) in
           let same_len = ap length (row_last (length rows) refl) in
-          rw at (let n = length_push rows row in omega (arith, n), omega (arith, same_len, few))
+          rw at (let n = length_push rows ordered in omega (arith, n), omega (arith, same_len, few))
       | inr other ↦
           let low : j < length short = let n = length_push short (length rows) in omega (arith, n, lj, other) in
           let at : get_or (short ++ length rows ∷ []) j 0 ≡ get_or short j 0 = get_or_append_left short (length rows ∷ []) 0 j low in
@@ -415,29 +415,29 @@ module _ (clauses rows : List (List Literal)) (clause row : List Literal) where
   }
 
   module _ (lists : List (List Watch)) (watched : AreWatched rows lists) (blockers : HaveBlockers rows lists) where
-    -- what was wanted before of the clause after the last
-    none_before : (j m : ℕ) → length rows ≤ j → wanted (row_at rows j) m ≡ 0
-    none_before j m out = ap (λ (r : List Literal). wanted r m) (past rows j [] out)
+    -- the count before of the clause after the last
+    none_before : (j m : ℕ) → length rows ≤ j → watch_count (row_at rows j) m ≡ 0
+    none_before j m out = ap (λ (r : List Literal). watch_count r m) (reads_default rows j [] out)
 
     -- a blocker of before is one of now
-    still_blocks : (c : ℕ) (l : Literal) → holds (row_at rows c) l ≡ true → holds (row_at (rows ++ row ∷ []) c) l ≡ true
-    still_blocks c l h = same_push (λ m r. holds (row_at rows m) l ≡ true → holds r l ≡ true) (λ t. absurd (false≢true (ap (λ (r : List Literal). holds r l) (sym (past rows (length rows) [] (omega arith))) ∙ t))) (λ m t. t) c h
+    still_blocks : (c : ℕ) (l : Literal) → holds (row_at rows c) l ≡ true → holds (row_at (rows ++ ordered ∷ []) c) l ≡ true
+    still_blocks c l h = same_push (λ m r. holds (row_at rows m) l ≡ true → holds r l ≡ true) (λ t. absurd (false≢true (ap (λ (r : List Literal). holds r l) (sym (reads_default rows (length rows) [] (omega arith))) ∙ t))) (λ m t. t) c h
 
-    pub watched_short : length row < 2 → AreWatched (rows ++ row ∷ []) lists
-    watched_short few j m lm = watched j m lm ∙ same_push (λ i r. wanted (row_at rows i) m ≡ wanted r m) (none_before (length rows) m (omega arith) ∙ sym (wanted_short row m few)) (λ i. refl) j
+    pub watched_short : length ordered < 2 → AreWatched (rows ++ ordered ∷ []) lists
+    watched_short few j m lm = watched j m lm ∙ same_push (λ i r. watch_count (row_at rows i) m ≡ watch_count r m) (none_before (length rows) m (omega arith) ∙ sym (watch_count_short ordered m few)) (λ i. refl) j
 
-    pub blockers_short : HaveBlockers (rows ++ row ∷ []) lists
+    pub blockers_short : HaveBlockers (rows ++ ordered ∷ []) lists
     blockers_short m n lm ln = still_blocks (watch_at (list_at lists m) n).clause (watch_at (list_at lists m) n).blocker (blockers m n lm ln)
 
-    module _ (long : 2 ≤ length row) (a b : ℕ) (is_a : slot_of (literal_at row 0) ≡ a) (is_b : slot_of (literal_at row 1) ≡ b) (a_in : a < length lists) (b_in : b < length lists) (apart : a ≢ b) where
+    module _ (long : 2 ≤ length ordered) (a b : ℕ) (is_a : slot_of (literal_at ordered 0) ≡ a) (is_b : slot_of (literal_at ordered 1) ≡ b) (a_in : a < length lists) (b_in : b < length lists) (apart : a ≢ b) where
       abbrev added : List (List Watch)
-      added = added_lists lists a b (length rows) (literal_at row 0) (literal_at row 1)
+      added = added_lists lists a b (length rows) (literal_at ordered 0) (literal_at ordered 1) (eqb (length ordered) 2)
 
       abbrev watch_a : Watch
-      watch_a = record { clause = length rows; blocker = literal_at row 1 }
+      watch_a = record { clause = length rows; blocker = literal_at ordered 1; is_binary = eqb (length ordered) 2 }
 
       abbrev watch_b : Watch
-      watch_b = record { clause = length rows; blocker = literal_at row 0 }
+      watch_b = record { clause = length rows; blocker = literal_at ordered 0; is_binary = eqb (length ordered) 2 }
 
       at_b : (m : ℕ) → m ≡ b → list_at added m ≡ list_at lists b ++ watch_b ∷ []
       at_b m e =
@@ -476,62 +476,62 @@ module _ (clauses rows : List (List Literal)) (clause row : List Literal) where
       none_now : (m : ℕ) → m < length lists → (j : ℕ) → j ≡ length rows → count_of j (list_at lists m) ≡ 0
       none_now m lm j e = watched j m lm ∙ none_before j m (omega (arith, e))
 
-      pub watched_long : AreWatched (rows ++ row ∷ []) (added_lists lists a b (length rows) (literal_at row 0) (literal_at row 1))
+      pub watched_long : AreWatched (rows ++ ordered ∷ []) (added_lists lists a b (length rows) (literal_at ordered 0) (literal_at ordered 1) (eqb (length ordered) 2))
       watched_long j m lm =
           let lm0 : m < length lists =
           let n = length-set lists a (list_at lists a ++ watch_a ∷ []) in
           let n2 = length-set (set lists a (list_at lists a ++ watch_a ∷ [])) b (list_at lists b ++ watch_b ∷ []) in
           omega (arith, lm, n, n2) in
-          elim (cases_eq j (length rows)) as (λ _. count_of j (list_at added m) ≡ wanted (row_at (rows ++ row ∷ []) j) m) [
+          elim (cases_eq j (length rows)) as (λ _. count_of j (list_at added m) ≡ watch_count (row_at (rows ++ ordered ∷ []) j) m) [
             | inl e ↦
-                let want : wanted (row_at (rows ++ row ∷ []) j) m ≡ at_slot (literal_at row 0) m + at_slot (literal_at row 1) m = ap (λ (r : List Literal). wanted r m) (row_last j e) ∙ wanted_by row m long in
+                let want : watch_count (row_at (rows ++ ordered ∷ []) j) m ≡ at_slot (literal_at ordered 0) m + at_slot (literal_at ordered 1) m = ap (λ (r : List Literal). watch_count r m) (row_last j e) ∙ watch_count_by ordered m long in
                 let z : of_clause j watch_a ≡ 1 = ap (λ (q : ℕ). of_clause q watch_a) e ∙ of_itself watch_a in
-                count_added j m 1 (wanted (row_at (rows ++ row ∷ []) j) m) z
-                (λ eb. let p = at_other (literal_at row 0) m (λ h. apart (sym is_a ∙ h ∙ eb)) in let q = at_same (literal_at row 1) m (is_b ∙ sym eb) in let o = none_now b b_in j e in omega (arith, want, p, q, o))
-                (λ nb ea. let p = at_same (literal_at row 0) m (is_a ∙ sym ea) in let q = at_other (literal_at row 1) m (λ h. nb (sym h ∙ is_b)) in let o = none_now a a_in j e in omega (arith, want, p, q, o))
-                (λ nb na. let p = at_other (literal_at row 0) m (λ h. na (sym h ∙ is_a)) in let q = at_other (literal_at row 1) m (λ h. nb (sym h ∙ is_b)) in let o = none_now m lm0 j e in omega (arith, want, p, q, o))
+                count_added j m 1 (watch_count (row_at (rows ++ ordered ∷ []) j) m) z
+                (λ eb. let p = at_other (literal_at ordered 0) m (λ h. apart (sym is_a ∙ h ∙ eb)) in let q = at_same (literal_at ordered 1) m (is_b ∙ sym eb) in let o = none_now b b_in j e in omega (arith, want, p, q, o))
+                (λ nb ea. let p = at_same (literal_at ordered 0) m (is_a ∙ sym ea) in let q = at_other (literal_at ordered 1) m (λ h. nb (sym h ∙ is_b)) in let o = none_now a a_in j e in omega (arith, want, p, q, o))
+                (λ nb na. let p = at_other (literal_at ordered 0) m (λ h. na (sym h ∙ is_a)) in let q = at_other (literal_at ordered 1) m (λ h. nb (sym h ∙ is_b)) in let o = none_now m lm0 j e in omega (arith, want, p, q, o))
             | inr other ↦
-                let want : wanted (row_at rows j) m ≡ wanted (row_at (rows ++ row ∷ []) j) m = same_push (λ i r. i ≢ length rows → wanted (row_at rows i) m ≡ wanted r m) (λ ne. absurd (ne refl)) (λ i ne. refl) j other in
+                let want : watch_count (row_at rows j) m ≡ watch_count (row_at (rows ++ ordered ∷ []) j) m = same_push (λ i r. i ≢ length rows → watch_count (row_at rows i) m ≡ watch_count r m) (λ ne. absurd (ne refl)) (λ i ne. refl) j other in
                 let z : of_clause j watch_a ≡ 0 = of_other j watch_a (λ h. other (sym h)) in
                 let old = watched j m lm0 in
-                count_added j m 0 (wanted (row_at (rows ++ row ∷ []) j) m) z
+                count_added j m 0 (watch_count (row_at (rows ++ ordered ∷ []) j) m) z
                 (λ eb. let o = ap (λ (q : ℕ). count_of j (list_at lists q)) eb in omega (arith, want, old, o))
                 (λ nb ea. let o = ap (λ (q : ℕ). count_of j (list_at lists q)) ea in omega (arith, want, old, o))
                 (λ nb na. omega (arith, want, old))
           ]
 
-      pushed_blocks : (xs : List Watch) (v : Watch) (n : ℕ) → ((q : ℕ) → q < length xs → Blocks (rows ++ row ∷ []) xs q) → holds (row_at (rows ++ row ∷ []) v.clause) v.blocker ≡ true → n < length (xs ++ v ∷ []) → Blocks (rows ++ row ∷ []) (xs ++ v ∷ []) n
+      pushed_blocks : (xs : List Watch) (v : Watch) (n : ℕ) → ((q : ℕ) → q < length xs → Blocks (rows ++ ordered ∷ []) xs q) → holds (row_at (rows ++ ordered ∷ []) v.clause) v.blocker ≡ true → n < length (xs ++ v ∷ []) → Blocks (rows ++ ordered ∷ []) (xs ++ v ∷ []) n
       pushed_blocks xs v n old new ln =
-          elim (cases_eq n (length xs)) as (λ _. Blocks (rows ++ row ∷ []) (xs ++ v ∷ []) n) [
-            | inl last ↦ subst (λ (q : Watch). holds (row_at (rows ++ row ∷ []) q.clause) q.blocker ≡ true) (sym (get_or_push xs v no_watch n (sym last))) new
+          elim (cases_eq n (length xs)) as (λ _. Blocks (rows ++ ordered ∷ []) (xs ++ v ∷ []) n) [
+            | inl last ↦ subst (λ (q : Watch). holds (row_at (rows ++ ordered ∷ []) q.clause) q.blocker ≡ true) (sym (get_or_push xs v no_watch n (sym last))) new
             | inr before ↦
                 let low : n < length xs = let c = length_push xs v in omega (arith, c, ln, before) in
-                subst (λ (q : Watch). holds (row_at (rows ++ row ∷ []) q.clause) q.blocker ≡ true) (sym (get_or_append_left xs (v ∷ []) no_watch n low)) (old n low)
+                subst (λ (q : Watch). holds (row_at (rows ++ ordered ∷ []) q.clause) q.blocker ≡ true) (sym (get_or_append_left xs (v ∷ []) no_watch n low)) (old n low)
           ]
 
-      old_blocks : (m : ℕ) → m < length lists → (q : ℕ) → q < length (list_at lists m) → Blocks (rows ++ row ∷ []) (list_at lists m) q
+      old_blocks : (m : ℕ) → m < length lists → (q : ℕ) → q < length (list_at lists m) → Blocks (rows ++ ordered ∷ []) (list_at lists m) q
       old_blocks m lm q lq = still_blocks (watch_at (list_at lists m) q).clause (watch_at (list_at lists m) q).blocker (blockers m q lm lq)
 
-      new_blocks : (k : ℕ) → k < 2 → holds (row_at (rows ++ row ∷ []) (length rows)) (literal_at row k) ≡ true
-      new_blocks k lk = subst (λ (r : List Literal). holds r (literal_at row k) ≡ true) (sym (row_last (length rows) refl)) (holds_at row k (omega (arith, lk, long)))
+      new_blocks : (k : ℕ) → k < 2 → holds (row_at (rows ++ ordered ∷ []) (length rows)) (literal_at ordered k) ≡ true
+      new_blocks k lk = subst (λ (r : List Literal). holds r (literal_at ordered k) ≡ true) (sym (row_last (length rows) refl)) (holds_at ordered k (omega (arith, lk, long)))
 
-      pub blockers_long : HaveBlockers (rows ++ row ∷ []) (added_lists lists a b (length rows) (literal_at row 0) (literal_at row 1))
+      pub blockers_long : HaveBlockers (rows ++ ordered ∷ []) (added_lists lists a b (length rows) (literal_at ordered 0) (literal_at ordered 1) (eqb (length ordered) 2))
       blockers_long m n lm ln =
           let lm0 : m < length lists =
           let c = length-set lists a (list_at lists a ++ watch_a ∷ []) in
           let c2 = length-set (set lists a (list_at lists a ++ watch_a ∷ [])) b (list_at lists b ++ watch_b ∷ []) in
           omega (arith, lm, c, c2) in
-          elim (cases_eq m b) as (λ _. Blocks (rows ++ row ∷ []) (list_at added m) n) [
+          elim (cases_eq m b) as (λ _. Blocks (rows ++ ordered ∷ []) (list_at added m) n) [
             | inl e ↦
                 let is = at_b m e in
-                subst (λ (xs : List Watch). Blocks (rows ++ row ∷ []) xs n) (sym is) (pushed_blocks (list_at lists b) watch_b n (old_blocks b b_in) (new_blocks 0 (omega arith)) (subst (λ (xs : List Watch). n < length xs) is ln))
-            | inr nb ↦ elim (cases_eq m a) as (λ _. Blocks (rows ++ row ∷ []) (list_at added m) n) [
+                subst (λ (xs : List Watch). Blocks (rows ++ ordered ∷ []) xs n) (sym is) (pushed_blocks (list_at lists b) watch_b n (old_blocks b b_in) (new_blocks 0 (omega arith)) (subst (λ (xs : List Watch). n < length xs) is ln))
+            | inr nb ↦ elim (cases_eq m a) as (λ _. Blocks (rows ++ ordered ∷ []) (list_at added m) n) [
               | inl e ↦
                   let is = at_a m nb e in
-                  subst (λ (xs : List Watch). Blocks (rows ++ row ∷ []) xs n) (sym is) (pushed_blocks (list_at lists a) watch_a n (old_blocks a a_in) (new_blocks 1 (omega arith)) (subst (λ (xs : List Watch). n < length xs) is ln))
+                  subst (λ (xs : List Watch). Blocks (rows ++ ordered ∷ []) xs n) (sym is) (pushed_blocks (list_at lists a) watch_a n (old_blocks a a_in) (new_blocks 1 (omega arith)) (subst (λ (xs : List Watch). n < length xs) is ln))
               | inr na ↦
                   let is = at_neither m nb na in
-                  subst (λ (xs : List Watch). Blocks (rows ++ row ∷ []) xs n) (sym is) (old_blocks m lm0 n (subst (λ (xs : List Watch). n < length xs) is ln))
+                  subst (λ (xs : List Watch). Blocks (rows ++ ordered ∷ []) xs n) (sym is) (old_blocks m lm0 n (subst (λ (xs : List Watch). n < length xs) is ln))
             ]
           ]
 
@@ -544,7 +544,7 @@ module _ (t : Table) (table : IsTable t) where
   pub among_row : (i : ℕ) (l : Literal) → holds (row_at t.rows.items i) l ≡ true → is_among t.variables l ≡ true
   among_row i l h =
       elim (cases_le (length t.rows.items) i) as (λ _. is_among t.variables l ≡ true) [
-        | inl out ↦ absurd (false≢true (ap (λ (r : List Literal). holds r l) (sym (past t.rows.items i [] out)) ∙ h))
+        | inl out ↦ absurd (false≢true (ap (λ (r : List Literal). holds r l) (sym (reads_default t.rows.items i [] out)) ∙ h))
         | inr within ↦
             let low : i < length t.clauses.items = let c = table.rows.count in omega (arith, c, within) in
             let clause = all_clauses (is_clause t.variables) refl t.clauses.items i table.clauses in
@@ -566,81 +566,81 @@ module _ (t : Table) (table : IsTable t) where
       ne ((table.rows.each i low).apart j k lj lk (ap (λ (l : Literal). l.variable) (slot_same (literal_at (row_at t.rows.items i) j) (literal_at (row_at t.rows.items i) k) e)))
 
 -- what a read of a watch and of its row gives
-pub record Reads (t : Table) (slot place k : ℕ) (w : Watch) (row : List Literal) (u : Literal) : Type 0 where
+pub record Reads (t : Table) (slot place k : ℕ) (w : Watch) (ordered : List Literal) (u : Literal) : Type 0 where
   pub is_w : watch_at (list_at t.lists.items slot) place ≡ w
-  pub is_row : row_at t.rows.items w.clause ≡ row
+  pub is_row : row_at t.rows.items w.clause ≡ ordered
   pub clause_in : w.clause < length t.rows.items
-  pub inside : k < length row
-  pub is_u : literal_at row k ≡ u
+  pub inside : k < length ordered
+  pub is_u : literal_at ordered k ≡ u
 
-pub reads : (t : Table) (slot place k : ℕ) (w : Watch) (xs : List Watch) (row again : List Literal) (u : Literal) → slot < length t.lists.items → w ≡ watch_at xs place → xs ≡ get_or t.lists.items slot xs → row ≡ again → again ≡ get_or t.rows.items w.clause again → k < length (row_at t.rows.items (watch_at (list_at t.lists.items slot) place).clause) → u ≡ get_or row k u → Reads t slot place k w row u
-reads t slot place k w xs row again u ls ew exs erow eagain inside eu =
+pub reads : (t : Table) (slot place k : ℕ) (w : Watch) (xs : List Watch) (ordered again : List Literal) (u : Literal) → slot < length t.lists.items → w ≡ watch_at xs place → xs ≡ get_or t.lists.items slot xs → ordered ≡ again → again ≡ get_or t.rows.items w.clause again → k < length (row_at t.rows.items (watch_at (list_at t.lists.items slot) place).clause) → u ≡ get_or ordered k u → Reads t slot place k w ordered u
+reads t slot place k w xs ordered again u ls ew exs erow eagain inside eu =
     let is_list : xs ≡ list_at t.lists.items slot = get_or_read t.lists.items slot xs ls exs [] in
     let is_w : watch_at (list_at t.lists.items slot) place ≡ w = ap (λ (l : List Watch). watch_at l place) (sym is_list) ∙ sym ew in
     let low : k < length (row_at t.rows.items w.clause) = subst (λ (v : Watch). k < length (row_at t.rows.items v.clause)) is_w inside in
     let clause_in = row_inside t.rows.items w.clause (omega (arith, low)) in
-    let is_row : row_at t.rows.items w.clause ≡ row = sym (get_or_read t.rows.items w.clause again clause_in eagain []) ∙ sym erow in
-    let k_in : k < length row = subst (λ (r : List Literal). k < length r) is_row low in
-    record { is_w = is_w; is_row = is_row; clause_in = clause_in; inside = k_in; is_u = sym (get_or_read row k u k_in eu no_literal) }
+    let is_row : row_at t.rows.items w.clause ≡ ordered = sym (get_or_read t.rows.items w.clause again clause_in eagain []) ∙ sym erow in
+    let k_in : k < length ordered = subst (λ (r : List Literal). k < length r) is_row low in
+    record { is_w = is_w; is_row = is_row; clause_in = clause_in; inside = k_in; is_u = sym (get_or_read ordered k u k_in eu no_literal) }
 
-module _ (t : Table) (table : IsTable t) (clause row : List Literal) (is_clause_of : is_clause t.variables clause ≡ true) (is_row : IsRow clause row) where
-  pub slots_of_row : (k : ℕ) → k < length row → slot_of (literal_at row k) < length t.lists.items
+module _ (t : Table) (table : IsTable t) (clause ordered : List Literal) (is_clause_of : is_clause t.variables clause ≡ true) (is_row : IsRow clause ordered) where
+  pub slots_of_row : (k : ℕ) → k < length ordered → slot_of (literal_at ordered k) < length t.lists.items
   slots_of_row k l =
-      let x = literal_at row k in
-      let among = all_at (is_among t.variables) clause x (and_parts (is_once clause) (is_within t.variables clause) is_clause_of).1 (sym (is_row.same x) ∙ holds_at row k l) in
+      let x = literal_at ordered k in
+      let among = all_at (is_among t.variables) clause x (and_parts (is_once clause) (is_within t.variables clause) is_clause_of).1 (sym (is_row.same x) ∙ holds_at ordered k l) in
       let high = among_high t.variables x among in
       let n = table.slots in
       let bit = bit_small x.positive in
       omega (arith, high, n, bit)
 
-  pub row_slots_apart : 2 ≤ length row → slot_of (literal_at row 0) ≢ slot_of (literal_at row 1)
+  pub row_slots_apart : 2 ≤ length ordered → slot_of (literal_at ordered 0) ≢ slot_of (literal_at ordered 1)
   row_slots_apart long e =
-      let one = is_row.apart 0 1 (omega (arith, long)) (omega (arith, long)) (ap (λ (l : Literal). l.variable) (slot_same (literal_at row 0) (literal_at row 1) e)) in
+      let one = is_row.apart 0 1 (omega (arith, long)) (omega (arith, long)) (ap (λ (l : Literal). l.variable) (slot_same (literal_at ordered 0) (literal_at ordered 1) e)) in
       omega (arith, one)
 
   -- the table with the clause is one again
-  pub table_added : (lists : List (List Watch)) (short : List ℕ) → IsEntered t.lists.items lists t.short.items short (length t.rows.items) row → Keeps (t.clauses.items ++ clause ∷ []) (t.rows.items ++ row ∷ []) lists short
+  pub table_added : (lists : List (List Watch)) (short : List ℕ) → IsEntered t.lists.items lists t.short.items short (length t.rows.items) ordered → Keeps (t.clauses.items ++ clause ∷ []) (t.rows.items ++ ordered ∷ []) lists short
   table_added lists short entered =
-      elim (cases_le 2 (length row)) as (λ _. Keeps (t.clauses.items ++ clause ∷ []) (t.rows.items ++ row ∷ []) lists short) [
+      elim (cases_le 2 (length ordered)) as (λ _. Keeps (t.clauses.items ++ clause ∷ []) (t.rows.items ++ ordered ∷ []) lists short) [
         | inl long ↦
             let e = entered.watched long in
-            let a = slot_of (literal_at row 0) in
-            let b = slot_of (literal_at row 1) in
+            let a = slot_of (literal_at ordered 0) in
+            let b = slot_of (literal_at ordered 1) in
             let a_in = slots_of_row 0 (omega (arith, long)) in
             let b_in = slots_of_row 1 (omega (arith, long)) in
             record {
-              are_rows = rows_push t.clauses.items t.rows.items clause row table.rows is_row;
-              are_watched = subst (λ (ls : List (List Watch)). AreWatched (t.rows.items ++ row ∷ []) ls) (sym e.0) (watched_long t.clauses.items t.rows.items clause row t.lists.items table.watched table.blockers long a b refl refl a_in b_in (row_slots_apart long));
-              have_blockers = subst (λ (ls : List (List Watch)). HaveBlockers (t.rows.items ++ row ∷ []) ls) (sym e.0) (blockers_long t.clauses.items t.rows.items clause row t.lists.items table.watched table.blockers long a b refl refl a_in b_in (row_slots_apart long));
-              are_short = subst (λ (s : List ℕ). AreShort (t.rows.items ++ row ∷ []) s) (sym e.1) (short_long t.clauses.items t.rows.items clause row t.short.items table.short long);
+              are_rows = rows_push t.clauses.items t.rows.items clause ordered table.rows is_row;
+              are_watched = subst (λ (ls : List (List Watch)). AreWatched (t.rows.items ++ ordered ∷ []) ls) (sym e.0) (watched_long t.clauses.items t.rows.items clause ordered t.lists.items table.watched table.blockers long a b refl refl a_in b_in (row_slots_apart long));
+              have_blockers = subst (λ (ls : List (List Watch)). HaveBlockers (t.rows.items ++ ordered ∷ []) ls) (sym e.0) (blockers_long t.clauses.items t.rows.items clause ordered t.lists.items table.watched table.blockers long a b refl refl a_in b_in (row_slots_apart long));
+              are_short = subst (λ (s : List ℕ). AreShort (t.rows.items ++ ordered ∷ []) s) (sym e.1) (short_long t.clauses.items t.rows.items clause ordered t.short.items table.short long);
             }
         | inr few ↦
             let e = entered.listed few in
             record {
-              are_rows = rows_push t.clauses.items t.rows.items clause row table.rows is_row;
-              are_watched = subst (λ (ls : List (List Watch)). AreWatched (t.rows.items ++ row ∷ []) ls) (sym e.0) (watched_short t.clauses.items t.rows.items clause row t.lists.items table.watched table.blockers few);
-              have_blockers = subst (λ (ls : List (List Watch)). HaveBlockers (t.rows.items ++ row ∷ []) ls) (sym e.0) (blockers_short t.clauses.items t.rows.items clause row t.lists.items table.watched table.blockers);
-              are_short = subst (λ (s : List ℕ). AreShort (t.rows.items ++ row ∷ []) s) (sym e.1) (short_push t.clauses.items t.rows.items clause row t.short.items table.short few);
+              are_rows = rows_push t.clauses.items t.rows.items clause ordered table.rows is_row;
+              are_watched = subst (λ (ls : List (List Watch)). AreWatched (t.rows.items ++ ordered ∷ []) ls) (sym e.0) (watched_short t.clauses.items t.rows.items clause ordered t.lists.items table.watched table.blockers few);
+              have_blockers = subst (λ (ls : List (List Watch)). HaveBlockers (t.rows.items ++ ordered ∷ []) ls) (sym e.0) (blockers_short t.clauses.items t.rows.items clause ordered t.lists.items table.watched table.blockers);
+              are_short = subst (λ (s : List ℕ). AreShort (t.rows.items ++ ordered ∷ []) s) (sym e.1) (short_push t.clauses.items t.rows.items clause ordered t.short.items table.short few);
             }
       ]
 
   pub clauses_added : are_clauses t.variables (t.clauses.items ++ clause ∷ []) ≡ true
   clauses_added = list_all-append (is_clause t.variables) t.clauses.items (clause ∷ []) ∙ and_from (are_clauses t.variables t.clauses.items) (is_clause t.variables clause && true) table.clauses (and_from (is_clause t.variables clause) true is_clause_of refl)
 
-  pub lists_added : (lists : List (List Watch)) (short : List ℕ) → IsEntered t.lists.items lists t.short.items short (length t.rows.items) row → length lists ≡ length t.lists.items
+  pub lists_added : (lists : List (List Watch)) (short : List ℕ) → IsEntered t.lists.items lists t.short.items short (length t.rows.items) ordered → length lists ≡ length t.lists.items
   lists_added lists short entered =
-      elim (cases_le 2 (length row)) as (λ _. length lists ≡ length t.lists.items) [
+      elim (cases_le 2 (length ordered)) as (λ _. length lists ≡ length t.lists.items) [
         | inl long ↦
-            let x = literal_at row 0 in
-            let y = literal_at row 1 in
-            let xs = list_at t.lists.items (slot_of x) ++ record { clause = length t.rows.items; blocker = y } ∷ [] in
-            ap length (entered.watched long).0 ∙ length-set (set t.lists.items (slot_of x) xs) (slot_of y) (list_at t.lists.items (slot_of y) ++ record { clause = length t.rows.items; blocker = x } ∷ []) ∙ length-set t.lists.items (slot_of x) xs
+            let x = literal_at ordered 0 in
+            let y = literal_at ordered 1 in
+            let xs = list_at t.lists.items (slot_of x) ++ record { clause = length t.rows.items; blocker = y; is_binary = eqb (length ordered) 2 } ∷ [] in
+            ap length (entered.watched long).0 ∙ length-set (set t.lists.items (slot_of x) xs) (slot_of y) (list_at t.lists.items (slot_of y) ++ record { clause = length t.rows.items; blocker = x; is_binary = eqb (length ordered) 2 } ∷ []) ∙ length-set t.lists.items (slot_of x) xs
         | inr few ↦ ap length (entered.listed few).0
       ]
 
-  pub short_added : (lists : List (List Watch)) (short : List ℕ) → IsEntered t.lists.items lists t.short.items short (length t.rows.items) row → (length t.short.items ≤ length short) × ((j : ℕ) → j < length t.short.items → get_or short j 0 ≡ get_or t.short.items j 0)
+  pub short_added : (lists : List (List Watch)) (short : List ℕ) → IsEntered t.lists.items lists t.short.items short (length t.rows.items) ordered → (length t.short.items ≤ length short) × ((j : ℕ) → j < length t.short.items → get_or short j 0 ≡ get_or t.short.items j 0)
   short_added lists short entered =
-      elim (cases_le 2 (length row)) as (λ _. (length t.short.items ≤ length short) × ((j : ℕ) → j < length t.short.items → get_or short j 0 ≡ get_or t.short.items j 0)) [
+      elim (cases_le 2 (length ordered)) as (λ _. (length t.short.items ≤ length short) × ((j : ℕ) → j < length t.short.items → get_or short j 0 ≡ get_or t.short.items j 0)) [
         | inl long ↦
             let e = (entered.watched long).1 in
             let n = ap length e in
@@ -655,7 +655,7 @@ module _ (t : Table) (table : IsTable t) (clause row : List Literal) (is_clause_
 pub list_inside : (lists : List (List Watch)) (s k : ℕ) → k < length (list_at lists s) → s < length lists
 list_inside lists s k h =
     elim (cases_le (length lists) s) as (λ _. s < length lists) [
-      | inl out ↦ let e : length (list_at lists s) ≡ 0 = ap length (past lists s [] out) in absurd (omega (arith, h, e))
+      | inl out ↦ let e : length (list_at lists s) ≡ 0 = ap length (reads_default lists s [] out) in absurd (omega (arith, h, e))
       | inr within ↦ within
     ]
 
@@ -685,12 +685,12 @@ module _ (rows : List (List Literal)) (lists : List (List Watch)) (slot place : 
   pub refreshed_watched : AreWatched rows lists → AreWatched rows (set lists slot (set (list_at lists slot) place w))
   refreshed_watched watched j m lm =
       let lm0 : m < length lists = let n = length-set lists slot (set (list_at lists slot) place w) in omega (arith, n, lm) in
-      elim (cases_eq m slot) as (λ _. count_of j (list_at (set lists slot (set (list_at lists slot) place w)) m) ≡ wanted (row_at rows j) m) [
+      elim (cases_eq m slot) as (λ _. count_of j (list_at (set lists slot (set (list_at lists slot) place w)) m) ≡ watch_count (row_at rows j) m) [
         | inl e ↦
             let whole : count_of j (list_at (set lists slot (set (list_at lists slot) place w)) m) ≡ count_of j (set (list_at lists slot) place w) = ap (count_of j) (at_list m e) in
             let change = sum_by-set (λ (q : Watch). cond (eqb q.clause j) 1 0) (list_at lists slot) place w no_watch inside in
             let part = same_of j w (watch_at (list_at lists slot) place) same in
-            let old : count_of j (list_at lists slot) ≡ wanted (row_at rows j) m = ap (λ (n : ℕ). count_of j (list_at lists n)) (sym e) ∙ watched j m lm0 in
+            let old : count_of j (list_at lists slot) ≡ watch_count (row_at rows j) m = ap (λ (n : ℕ). count_of j (list_at lists n)) (sym e) ∙ watched j m lm0 in
             omega (arith, whole, change, part, old)
         | inr ne ↦ ap (count_of j) (off_list m ne) ∙ watched j m lm0
       ]

@@ -16,41 +16,41 @@ use Rattle.cdcl_proof.specs.Clause.{is_among, is_within}
 use Rattle.cdcl_proof.specs.Trail.{literals, entry_at, no_entry}
 use Rattle.cdcl_proof.specs.Table.{IsTable}
 use Rattle.cdcl_proof.specs.Watcher.{IsProgress, IsWatching}
-use Rattle.cdcl_proof.specs.Watching.{Propagates, wanted, count_of, AreVisited, AreCovered, IsCovered, ArePermuted, HasSameClauses, is_satisfied, row_at, list_at, watch_at, literal_at, no_watch}
+use Rattle.cdcl_proof.specs.Watching.{Propagates, watch_count, count_of, AreVisited, AreCovered, IsCovered, ArePermuted, HasSameClauses, is_satisfied, row_at, list_at, watch_at, literal_at, no_watch}
 use Rattle.cdcl_proof.proofs.Sets.{negation-negation, all_from}
 use Rattle.cdcl_proof.proofs.Entries.{holds_entry, among_high}
 use Rattle.cdcl_proof.proofs.Resolution.{holds_take}
-use Rattle.cdcl_proof.proofs.Lessons.{holds_before}
+use Rattle.cdcl_proof.proofs.LearntClauses.{holds_before}
 use Rattle.cdcl_proof.proofs.Rows.{holds-swap}
-use Rattle.cdcl_proof.proofs.Tables.{bit_small, slot_same, of_other, at_slot, at_same, wanted_by, wanted_long, wanted_where, watch_wanted, row_inside, among_row, same_rows, permuted_set, swap_remove_before}
-use Rattle.cdcl_proof.proofs.Covering.{propagates_then, held_take, held_kept, satisfied_more, satisfied_row, covered_swap}
+use Rattle.cdcl_proof.proofs.Tables.{bit_small, slot_same, of_other, at_slot, at_same, watch_count_by, watch_count_long, watch_count_where, watch_is_counted, row_inside, among_row, same_rows, permuted_set, swap_remove_before}
+use Rattle.cdcl_proof.proofs.Covering.{propagates_then, take_holds, kept_holds, satisfied_more, satisfied_row, covered_swap}
 
 -- what is known of a watch of a list and of its row
-pub record Visits (t : Table) (slot : ℕ) (w : Watch) (row : List Literal) : Type 0 where
+pub record Visits (t : Table) (slot : ℕ) (w : Watch) (ordered : List Literal) : Type 0 where
   pub clause_in : w.clause < length t.rows.items
-  pub is_row : row_at t.rows.items w.clause ≡ row
-  pub long : 2 ≤ length row
-  pub watched : (slot_of (literal_at row 0) ≡ slot) ⊎ (slot_of (literal_at row 1) ≡ slot)
-  pub within : is_within t.variables row ≡ true
-  pub blocks : holds row w.blocker ≡ true
+  pub is_row : row_at t.rows.items w.clause ≡ ordered
+  pub long : 2 ≤ length ordered
+  pub watched : (slot_of (literal_at ordered 0) ≡ slot) ⊎ (slot_of (literal_at ordered 1) ≡ slot)
+  pub within : is_within t.variables ordered ≡ true
+  pub blocks : holds ordered w.blocker ≡ true
 
-pub visits : (t : Table) → IsTable t → (slot place : ℕ) (w : Watch) (row again : List Literal) → slot < length t.lists.items → place < length (list_at t.lists.items slot) → w ≡ watch_at (list_at t.lists.items slot) place → row ≡ again → again ≡ get_or t.rows.items w.clause again → Visits t slot w row
-visits t table slot place w row again ls lp ew er ea =
-    let is_wanted = subst (λ (v : Watch). 1 ≤ wanted (row_at t.rows.items v.clause) slot) (sym ew) (watch_wanted t.rows.items t.lists.items slot place table.watched ls lp) in
-    let long = wanted_long (row_at t.rows.items w.clause) slot is_wanted in
+pub visits : (t : Table) → IsTable t → (slot place : ℕ) (w : Watch) (ordered again : List Literal) → slot < length t.lists.items → place < length (list_at t.lists.items slot) → w ≡ watch_at (list_at t.lists.items slot) place → ordered ≡ again → again ≡ get_or t.rows.items w.clause again → Visits t slot w ordered
+visits t table slot place w ordered again ls lp ew er ea =
+    let is_wanted = subst (λ (v : Watch). 1 ≤ watch_count (row_at t.rows.items v.clause) slot) (sym ew) (watch_is_counted t.rows.items t.lists.items slot place table.watched ls lp) in
+    let long = watch_count_long (row_at t.rows.items w.clause) slot is_wanted in
     let clause_in = row_inside t.rows.items w.clause (omega (arith, long)) in
-    let is_row : row_at t.rows.items w.clause ≡ row = sym (er ∙ get_or_read t.rows.items w.clause again clause_in ea []) in
+    let is_row : row_at t.rows.items w.clause ≡ ordered = sym (er ∙ get_or_read t.rows.items w.clause again clause_in ea []) in
     let blocks = subst (λ (v : Watch). holds (row_at t.rows.items v.clause) v.blocker ≡ true) (sym ew) (table.blockers slot place ls lp) in
     record {
       clause_in = clause_in;
       is_row = is_row;
       long = subst (λ (r : List Literal). 2 ≤ length r) is_row long;
-      watched = subst (λ (r : List Literal). (slot_of (literal_at r 0) ≡ slot) ⊎ (slot_of (literal_at r 1) ≡ slot)) is_row (wanted_where (row_at t.rows.items w.clause) slot is_wanted);
-      within = all_from (is_among t.variables) row (λ l h. among_row t table w.clause l (subst (λ (r : List Literal). holds r l ≡ true) (sym is_row) h));
+      watched = subst (λ (r : List Literal). (slot_of (literal_at r 0) ≡ slot) ⊎ (slot_of (literal_at r 1) ≡ slot)) is_row (watch_count_where (row_at t.rows.items w.clause) slot is_wanted);
+      within = all_from (is_among t.variables) ordered (λ l h. among_row t table w.clause l (subst (λ (r : List Literal). holds r l ≡ true) (sym is_row) h));
       blocks = subst (λ (r : List Literal). holds r w.blocker ≡ true) is_row blocks;
     }
 
--- the literal that a list watches is false once the negation is held
+-- the literal that a list watches is false once the negation is true
 pub watched_false : (es : List Entry) (head : ℕ) (l : Literal) → head < length es → slot_of l ≡ slot_of (negation (entry_at es head).literal) → holds (literals es) (negation l) ≡ true
 watched_false es head l lh e =
     let same_one = slot_same l (negation (entry_at es head).literal) e in
@@ -67,31 +67,31 @@ module _ (rows : List (List Literal)) (i first k : ℕ) (i_in : i < length rows)
   covered_moved : (before s : List Literal) → holds before (negation (literal_at (row_at rows i) k)) ≡ false → AreCovered before s rows → AreCovered before s (set rows i (swap (row_at rows i) first k))
   covered_moved before s not_false c = same_rows rows rows i (swap (row_at rows i) first k) i_in (λ m r. IsCovered before s r) (covered_swap before s (row_at rows i) first k f2 k2 lk not_false (λ l h. permuted_swap l ∙ h) (c i)) c
 
-  pub progress_moved : (short : List ℕ) (es : List Entry) (head : ℕ) (marks : List ℕ) (settled base : ℕ) → holds (literals es) (negation (literal_at (row_at rows i) k)) ≡ false → IsProgress rows short es head marks settled base → IsProgress (set rows i (swap (row_at rows i) first k)) short es head marks settled base
-  progress_moved short es head marks settled base not_false p = record {
+  pub progress_moved : (short : List ℕ) (es : List Entry) (head : ℕ) (marks : List ℕ) (short_head base : ℕ) → holds (literals es) (negation (literal_at (row_at rows i) k)) ≡ false → IsProgress rows short es head marks short_head base → IsProgress (set rows i (swap (row_at rows i) first k)) short es head marks short_head base
+  progress_moved short es head marks short_head base not_false p = record {
     head_in = p.head_in;
     covered = covered_moved (literals (take head es)) (literals es) (not_before head) p.covered;
     marked = record { sorted = p.marked.sorted; below = p.marked.below; covered = λ j l. covered_moved (literals (take (get_or marks j 0) es)) (literals (take (get_or marks j 0) es)) (not_before (get_or marks j 0)) (p.marked.covered j l) };
-    settled_in = p.settled_in;
+    short_head_in = p.short_head_in;
     base_in = p.base_in;
     short_true = λ j l. satisfied_row (literals (take base es)) (row_at rows (get_or short j 0)) (row_at (set rows i (swap (row_at rows i) first k)) (get_or short j 0)) (λ x h. moved_permuted (get_or short j 0) x ∙ h) (p.short_true j l);
   }
     where
       not_before : (n : ℕ) → holds (literals (take n es)) (negation (literal_at (row_at rows i) k)) ≡ false
-      not_before n = false_from_ne_true (holds (literals (take n es)) (negation (literal_at (row_at rows i) k))) (λ h. both_ways (holds (literals es) (negation (literal_at (row_at rows i) k))) not_false (held_take es n (negation (literal_at (row_at rows i) k)) h))
+      not_before n = false_from_ne_true (holds (literals (take n es)) (negation (literal_at (row_at rows i) k))) (λ h. both_ways (holds (literals es) (negation (literal_at (row_at rows i) k))) not_false (take_holds es n (negation (literal_at (row_at rows i) k)) h))
 
 -- what was read stays satisfied
 pub visited_stays : (old new : List Entry) (rows rows2 : List (List Literal)) (list list2 : List Watch) (place : ℕ) → take (length old) new ≡ old → rows2 ≡ rows → HasSameClauses list list2 → AreVisited (literals old) rows list place → is_satisfied (literals new) (row_at rows (watch_at list place).clause) ≡ true → AreVisited (literals new) rows2 list2 (place + 1)
 visited_stays old new rows rows2 list list2 place kept er el v here k lk =
     rw (er, el.same k) (elim (cases_eq k place) as (λ _. is_satisfied (literals new) (row_at rows (watch_at list k).clause) ≡ true) [
       | inl e ↦ subst (λ (x : ℕ). is_satisfied (literals new) (row_at rows (watch_at list x).clause) ≡ true) (sym e) here
-      | inr ne ↦ satisfied_more (literals old) (literals new) (row_at rows (watch_at list k).clause) (λ l h. held_kept old new l kept h) (v k (omega (arith, lk, ne)))
+      | inr ne ↦ satisfied_more (literals old) (literals new) (row_at rows (watch_at list k).clause) (λ l h. kept_holds old new l kept h) (v k (omega (arith, lk, ne)))
     ])
 
 pub visited_moved : (old new : List Entry) (rows rows2 : List (List Literal)) (list list2 : List Watch) (place : ℕ) → take (length old) new ≡ old → ArePermuted rows rows2 → list2 ≡ swap_remove list place no_watch → place < length list → AreVisited (literals old) rows list place → AreVisited (literals new) rows2 list2 place
 visited_moved old new rows rows2 list list2 place kept permuted el inside v k lk =
     let at : watch_at list2 k ≡ watch_at list k = ap (λ (x : List Watch). watch_at x k) el ∙ swap_remove_before list place k inside lk in
-    let more = satisfied_more (literals old) (literals new) (row_at rows (watch_at list k).clause) (λ l h. held_kept old new l kept h) (v k lk) in
+    let more = satisfied_more (literals old) (literals new) (row_at rows (watch_at list k).clause) (λ l h. kept_holds old new l kept h) (v k lk) in
     let other = satisfied_row (literals new) (row_at rows (watch_at list k).clause) (row_at rows2 (watch_at list k).clause) (λ l h. permuted (watch_at list k).clause l ∙ h) more in
     subst (λ (x : Watch). is_satisfied (literals new) (row_at rows2 x.clause) ≡ true) (sym at) other
 
@@ -113,7 +113,7 @@ found_in i (w ∷ ws) h =
 
 pub in_list : (t : Table) → IsTable t → (i k slot : ℕ) → k < 2 → 2 ≤ length (row_at t.rows.items i) → slot_of (literal_at (row_at t.rows.items i) k) ≡ slot → slot < length t.lists.items → (n : ℕ) × (n < length (list_at t.lists.items slot)) × ((watch_at (list_at t.lists.items slot) n).clause ≡ i)
 in_list t table i k slot k2 long is_slot low =
-    let by = wanted_by (row_at t.rows.items i) slot long in
+    let by = watch_count_by (row_at t.rows.items i) slot long in
     let all = table.watched i slot low in
     let one = at_same (literal_at (row_at t.rows.items i) k) slot is_slot in
     let part : at_slot (literal_at (row_at t.rows.items i) k) slot ≤ at_slot (literal_at (row_at t.rows.items i) 0) slot + at_slot (literal_at (row_at t.rows.items i) 1) slot = elim (cases_eq k 0) as (λ _. at_slot (literal_at (row_at t.rows.items i) k) slot ≤ at_slot (literal_at (row_at t.rows.items i) 0) slot + at_slot (literal_at (row_at t.rows.items i) 1) slot) [
@@ -123,19 +123,19 @@ in_list t table i k slot k2 long is_slot low =
     found_in i (list_at t.lists.items slot) (omega (arith, by, all, one, part))
 
 -- the list of the next literal is read: it is covered
-pub progress_next : (t : Table) → IsTable t → (es : List Entry) (head slot : ℕ) (marks : List ℕ) (settled base : ℕ) → head < length es → slot ≡ slot_of (negation (entry_at es head).literal) → slot < length t.lists.items → AreVisited (literals es) t.rows.items (list_at t.lists.items slot) (length (list_at t.lists.items slot)) → IsProgress t.rows.items t.short.items es head marks settled base → IsProgress t.rows.items t.short.items es (head + 1) marks settled base
-progress_next t table es head slot marks settled base more is_slot low visited p = record {
+pub progress_next : (t : Table) → IsTable t → (es : List Entry) (head slot : ℕ) (marks : List ℕ) (short_head base : ℕ) → head < length es → slot ≡ slot_of (negation (entry_at es head).literal) → slot < length t.lists.items → AreVisited (literals es) t.rows.items (list_at t.lists.items slot) (length (list_at t.lists.items slot)) → IsProgress t.rows.items t.short.items es head marks short_head base → IsProgress t.rows.items t.short.items es (head + 1) marks short_head base
+progress_next t table es head slot marks short_head base more is_slot low visited p = record {
   head_in = omega (arith, more);
   covered = covers;
   marked = record { sorted = p.marked.sorted; below = λ j l. let b = p.marked.below j l in omega (arith, b); covered = p.marked.covered };
-  settled_in = p.settled_in;
+  short_head_in = p.short_head_in;
   base_in = p.base_in;
   short_true = p.short_true;
 }
   where
     covers : AreCovered (literals (take (head + 1) es)) (literals es) t.rows.items
     covers i k k2 long h =
-        let row = row_at t.rows.items i in
+        let ordered = row_at t.rows.items i in
         let x = literal_at (row_at t.rows.items i) k in
         let j = holds_take es (head + 1) (negation x) h in
         elim (cases_eq j.0 head) as (λ _. is_satisfied (literals es) (row_at t.rows.items i) ≡ true) [
@@ -180,3 +180,33 @@ still_at_head mid new slot was is variables head propagates more slot_is low = r
   slot_is = slot_is ∙ ap (λ (x : Entry). slot_of (negation x.literal)) (sym (entry_kept mid.trail.entries new.trail.entries mid.head propagates.kept more)) ∙ ap (λ (n : ℕ). slot_of (negation (entry_at new.trail.entries n).literal)) (sym head);
   low = let a = was.table.slots in let b = is.table.slots in let m = was.variables in let n = is.variables in omega (arith, a, b, m, n, variables, low);
 }
+
+-- what stays while the list of the slot is gone over, from the first state on
+pub record IsReading (start now : Watcher) (slot : ℕ) : Type 0 where
+  pub watching : IsWatching now
+  pub clauses : now.table.clauses ≡ start.table.clauses
+  pub short : now.table.short ≡ start.table.short
+  pub short_head : now.short_head ≡ start.short_head
+  pub head : now.head ≡ start.head
+  pub variables : now.trail.variables ≡ start.trail.variables
+  pub propagates : Propagates now.table.clauses.items start.trail.entries now.trail.entries
+  pub at_head : IsAtHead now slot
+
+-- it stays at one visit more
+pub reading_on : (start mid new : Watcher) (slot : ℕ) → IsReading start mid slot → IsWatching new → new.table.clauses ≡ mid.table.clauses → new.table.short ≡ mid.table.short → new.short_head ≡ mid.short_head → new.head ≡ mid.head → new.trail.variables ≡ mid.trail.variables → Propagates new.table.clauses.items mid.trail.entries new.trail.entries → IsReading start new slot
+reading_on start mid new slot r watching clauses short short_head head variables propagates = record {
+  watching = watching;
+  clauses = clauses ∙ r.clauses;
+  short = short ∙ r.short;
+  short_head = short_head ∙ r.short_head;
+  head = head ∙ r.head;
+  variables = variables ∙ r.variables;
+  propagates = propagates_on start.trail.entries mid new clauses r.propagates propagates;
+  at_head = still_at_head mid new slot r.watching watching variables head propagates r.at_head.more r.at_head.slot_is r.at_head.low;
+}
+
+-- a place below the reach of a list is one of the list
+pub inside_reach : (w : Watcher) (slot place : ℕ) (list : List Watch) (reach : ℕ) → slot < length w.table.lists.items → list ≡ get_or w.table.lists.items slot list → reach ≤ length list → place < reach → place < length (list_at w.table.lists.items slot)
+inside_reach w slot place list reach low is within less =
+    let len = ap length (get_or_read w.table.lists.items slot list low is []) in
+    omega (arith, len, within, less)

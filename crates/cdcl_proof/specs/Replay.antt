@@ -10,8 +10,8 @@ use Rattle.cdcl_proof.specs.Clause.{is_same_set, resolvent}
 use Rattle.cdcl_proof.specs.Formula.{Formula, makes_true, satisfies}
 
 -- the steps' clauses
-abbrev pub learnt : List Step → List (List Literal)
-learnt log = map (λ s. s.clause) log
+abbrev pub learnt_clauses : List Step → List (List Literal)
+learnt_clauses log = map (λ s. s.clause) log
 
 -- the number names a clause: they are numbered from 1
 abbrev pub is_number : List (List Literal) → ℕ → Bool
@@ -34,18 +34,18 @@ abbrev pub fits : List (List Literal) → List Literal → Hint → Bool
 fits known a h = is_number known h.clause && is_clash h.pivot a (clause_at known h.clause)
 
 -- what the hint makes of a clause
-abbrev pub resolved : List (List Literal) → List Literal → Hint → List Literal
-resolved known a h = resolvent h.pivot a (clause_at known h.clause)
+abbrev pub resolvent_by : List (List Literal) → List Literal → Hint → List Literal
+resolvent_by known a h = resolvent h.pivot a (clause_at known h.clause)
 
 -- from the clause on, each hint names a resolution
 abbrev pub is_chain : List (List Literal) → List Literal → List Hint → Bool
 is_chain known a [] = true
-is_chain known a (h ∷ hs) = fits known a h && is_chain known (resolved known a h) hs
+is_chain known a (h ∷ hs) = fits known a h && is_chain known (resolvent_by known a h) hs
 
 -- the last clause of the chain
-abbrev pub chained : List (List Literal) → List Literal → List Hint → List Literal
-chained known a [] = a
-chained known a (h ∷ hs) = chained known (resolved known a h) hs
+abbrev pub chain_end : List (List Literal) → List Literal → List Hint → List Literal
+chain_end known a [] = a
+chain_end known a (h ∷ hs) = chain_end known (resolvent_by known a h) hs
 
 -- none of the hints resolves on the literal's variable
 abbrev pub survives : List Hint → Literal → Bool
@@ -58,7 +58,7 @@ covers hs c part = list_all (λ l. not (survives hs l) || holds c l) part
 -- the last clause of the chain that the hints name
 abbrev pub chain_of : List (List Literal) → List Hint → List Literal
 chain_of known [] = []
-chain_of known (h ∷ hs) = chained known (clause_at known h.clause) hs
+chain_of known (h ∷ hs) = chain_end known (clause_at known h.clause) hs
 
 -- the hints name a chain of resolutions
 abbrev pub names_chain : List (List Literal) → List Hint → Bool
@@ -80,4 +80,4 @@ replay f log = replays_from f.clauses log
 
 -- every assignment that satisfies the formula makes each step's clause true
 abbrev pub Follows : Formula → List Step → Type 0
-Follows f log = (bits : List Bool) → IsTrue (satisfies bits f) → IsTrue (list_all (makes_true bits) (learnt log))
+Follows f log = (bits : List Bool) → IsTrue (satisfies bits f) → IsTrue (list_all (makes_true bits) (learnt_clauses log))

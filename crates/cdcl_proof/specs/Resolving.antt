@@ -49,7 +49,7 @@ pub record IsResolving (known : List (List Literal)) (es : List Entry) (hints : 
   pub marks : Represents seen (literals es) (chain_of known hints)
 
 -- a learnt clause with its chain, and the place up to which the trail stays
-pub record IsLesson (variables : ℕ) (known : List (List Literal)) (es : List Entry) (step : Step) (place : ℕ) : Type 0 where
+pub record IsLearntClause (variables : ℕ) (known : List (List Literal)) (es : List Entry) (step : Step) (place : ℕ) : Type 0 where
   pub clause : is_clause variables step.clause ≡ true
   pub derived : derives known step.hints step.clause ≡ true
   pub regular : is_regular known step.hints ≡ true

@@ -15,14 +15,14 @@ pub record IsSearching (s : Search) : Type 0 where
   pub order : IsOrder s.watched.variables s.order
   pub phases : length s.phases.items ≡ s.watched.variables
 
--- each variable that is not held waits for a decision
+-- each unassigned variable waits for a decision
 abbrev pub AllWait : Search → Type 0
 AllWait s = (v : ℕ) → 1 ≤ v → v ≤ s.watched.variables → Waits s.order.heap.items v ⊎ (mentions (literals s.watched.entries) v ≡ true)
 
--- each variable that is not held before the place waits
+-- each variable that is unassigned before the place waits
 abbrev pub WaitFrom : Search → ℕ → Type 0
 WaitFrom s place = (v : ℕ) → 1 ≤ v → v ≤ s.watched.variables → Waits s.order.heap.items v ⊎ (mentions (literals (take place s.watched.entries)) v ≡ true)
 
--- each variable but one that is not held waits
+-- each unassigned variable but one waits
 abbrev pub OthersWait : Search → ℕ → Type 0
 OthersWait s w = (v : ℕ) → 1 ≤ v → v ≤ s.watched.variables → v ≢ w → Waits s.order.heap.items v ⊎ (mentions (literals s.watched.entries) v ≡ true)

@@ -4,13 +4,13 @@ use Rattle.cdcl_proof.specs.declared.literal.Literal.{Literal}
 use Rattle.cdcl_proof.specs.declared.log.Hint.{Hint}
 use Rattle.cdcl_proof.specs.declared.log.Step.{Step}
 use Rattle.cdcl_proof.specs.Formula.{Formula, are_clauses}
-use Rattle.cdcl_proof.specs.Replay.{learnt, replay}
+use Rattle.cdcl_proof.specs.Replay.{learnt_clauses, replay}
 use Rattle.cdcl_proof.specs.Regular.{is_regular_log}
 use Rattle.cdcl_proof.specs.Fresh.{Fresh, has_no_empty}
 
 -- what the steps are known to be
 pub record IsKept (f : Formula) (steps : List Step) : Type 0 where
-  pub clauses : are_clauses f.variables (f.clauses ++ learnt steps) ≡ true
+  pub clauses : are_clauses f.variables (f.clauses ++ learnt_clauses steps) ≡ true
   pub replays : replay f steps ≡ true
   pub fresh : Fresh f steps
   pub regular : is_regular_log f steps ≡ true

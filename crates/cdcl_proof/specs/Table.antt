@@ -1,5 +1,5 @@
 -- What a table of clauses keeps.
-use Rattle.std.specs.Prelude.{ℕ, true, ◌≡◌, ◌<◌, ◌≤◌, ◌+◌, ◌*◌, ◌^◌, ◌++◌, List, [], ◌∷◌, length, slice_index_or}
+use Rattle.std.specs.Prelude.{ℕ, true, ◌≡◌, ◌==◌, ◌<◌, ◌≤◌, ◌+◌, ◌*◌, ◌^◌, ◌++◌, List, [], ◌∷◌, length, slice_index_or}
 use Rattle.cdcl_proof.specs.declared.literal.Literal.{Literal}
 use Rattle.cdcl_proof.specs.declared.row.Watch.{Watch}
 use Rattle.cdcl_proof.specs.declared.table.Table.{Table}
@@ -19,14 +19,14 @@ pub record IsTable (t : Table) : Type 0 where
   pub short : AreShort t.rows.items t.short.items
 
 -- a clause has come into the lists of its first two literals, or into the list of short ones
-pub record IsEntered (old new : List (List Watch)) (old_short new_short : List ℕ) (i : ℕ) (row : List Literal) : Type 0 where
-  pub watched : 2 ≤ length row → (new ≡ added_lists old (slot_of (literal_at row 0)) (slot_of (literal_at row 1)) i (literal_at row 0) (literal_at row 1)) × (new_short ≡ old_short)
-  pub listed : length row < 2 → (new ≡ old) × (new_short ≡ old_short ++ i ∷ [])
+pub record IsEntered (old new : List (List Watch)) (old_short new_short : List ℕ) (i : ℕ) (ordered : List Literal) : Type 0 where
+  pub watched : 2 ≤ length ordered → (new ≡ added_lists old (slot_of (literal_at ordered 0)) (slot_of (literal_at ordered 1)) i (literal_at ordered 0) (literal_at ordered 1) (length ordered == 2)) × (new_short ≡ old_short)
+  pub listed : length ordered < 2 → (new ≡ old) × (new_short ≡ old_short ++ i ∷ [])
 
 -- one clause more
-pub record HasAdded (old new : Table) (clause row : List Literal) : Type 0 where
+pub record HasAdded (old new : Table) (clause ordered : List Literal) : Type 0 where
   pub clauses : new.clauses.items ≡ old.clauses.items ++ clause ∷ []
-  pub rows : new.rows.items ≡ old.rows.items ++ row ∷ []
+  pub rows : new.rows.items ≡ old.rows.items ++ ordered ∷ []
   pub short : (j : ℕ) → j < length old.short.items → slice_index_or new.short.items j 0 ≡ slice_index_or old.short.items j 0
   pub longer : length old.short.items ≤ length new.short.items
 

@@ -9,7 +9,7 @@ use Rattle.cdcl_proof.specs.Literal.{negation, holds, slot_of}
 use Rattle.cdcl_proof.specs.Fresh.{is_free}
 use Rattle.cdcl_proof.specs.Trail.{literals, entry_at, Implies}
 
--- clauses, numbered from 1, and the literals held with their reasons, in order
+-- clauses, numbered from 1, and the trail's literals with their reasons, in order
 pub record Watching : Type 0 where
   pub variables : ℕ
   pub clauses : List (List Literal)
@@ -21,7 +21,7 @@ no_literal = record { variable = 0; positive = false }
 
 -- a watch for no place
 abbrev pub no_watch : Watch
-no_watch = record { clause = 0; blocker = no_literal }
+no_watch = record { clause = 0; blocker = no_literal; is_binary = false }
 
 -- the literal of the row at a place
 abbrev pub literal_at : List Literal → ℕ → Literal
@@ -52,23 +52,23 @@ pub record AreRows (clauses rows : List (List Literal)) : Type 0 where
 abbrev pub count_of : ℕ → List Watch → ℕ
 count_of i ws = sum_by (λ (w : Watch). cond (w.clause == i) 1 0) ws
 
--- how often a clause is to stand in the list at a slot: once in those of its first two literals
-abbrev pub wanted : List Literal → ℕ → ℕ
-wanted [] s = 0
-wanted (a ∷ []) s = 0
-wanted (a ∷ b ∷ rest) s = cond (slot_of a == s) 1 0 + cond (slot_of b == s) 1 0
+-- how often a clause stands in the list at a slot: once in those of its first two literals
+abbrev pub watch_count : List Literal → ℕ → ℕ
+watch_count [] s = 0
+watch_count (a ∷ []) s = 0
+watch_count (a ∷ b ∷ rest) s = cond (slot_of a == s) 1 0 + cond (slot_of b == s) 1 0
 
 -- each clause of two literals or more stands in the lists of exactly two of its literals
 abbrev pub AreWatched : List (List Literal) → List (List Watch) → Type 0
-AreWatched rows lists = (i s : ℕ) → s < length lists → count_of i (list_at lists s) ≡ wanted (row_at rows i) s
+AreWatched rows lists = (i s : ℕ) → s < length lists → count_of i (list_at lists s) ≡ watch_count (row_at rows i) s
 
 -- each watch names a literal of its clause
 abbrev pub HaveBlockers : List (List Literal) → List (List Watch) → Type 0
 HaveBlockers rows lists = (s k : ℕ) → s < length lists → k < length (list_at lists s) → holds (row_at rows (watch_at (list_at lists s) k).clause) (watch_at (list_at lists s) k).blocker ≡ true
 
--- the lists once a clause has come into two of them
-abbrev pub added_lists : List (List Watch) → ℕ → ℕ → ℕ → Literal → Literal → List (List Watch)
-added_lists lists a b i x y = slice_set (slice_set lists a (list_at lists a ++ record { clause = i; blocker = y } ∷ [])) b (list_at lists b ++ record { clause = i; blocker = x } ∷ [])
+-- the lists once a clause has come into two of them, with whether it has these two literals alone
+abbrev pub added_lists : List (List Watch) → ℕ → ℕ → ℕ → Literal → Literal → Bool → List (List Watch)
+added_lists lists a b i x y is_binary = slice_set (slice_set lists a (list_at lists a ++ record { clause = i; blocker = y; is_binary = is_binary } ∷ [])) b (list_at lists b ++ record { clause = i; blocker = x; is_binary = is_binary } ∷ [])
 
 -- a literal of the row is true
 abbrev pub is_satisfied : List Literal → List Literal → Bool

@@ -84,15 +84,15 @@ impl Clause {
     }
 }
 
-/// Whether the set holds a literal of the variable.
-pub fn mentions_variable(literals: &[Literal], variable: u64) -> bool
+/// Whether the set has a literal of the variable.
+pub fn has_variable(literals: &[Literal], variable: u64) -> bool
     ensures { result ≡ mentions literals.now variable }
 {
     literals.iter().any(|k| k.variable == variable)
 }
 
-/// Whether the set holds the literal.
-pub fn holds_literal(literals: &[Literal], literal: Literal) -> bool
+/// Whether the set has the literal.
+pub fn has_literal(literals: &[Literal], literal: Literal) -> bool
     ensures { result ≡ holds literals.now literal }
 {
     literals.iter().any(|k| *k == literal)
@@ -104,7 +104,7 @@ pub fn has_no_variable_twice(literals: &[Literal]) -> bool
 {
     let mut rest = literals;
     while let Some((first, others)) = rest.split_first() {
-        if mentions_variable(others, first.variable) {
+        if has_variable(others, first.variable) {
             return false;
         }
         rest = others;

@@ -1,4 +1,4 @@
-// Conflict analysis: the clause that a conflict teaches, by resolution back to the first unique implication point.
+// Conflict analysis: the learnt clause of a conflict, by resolution back to the first unique implication point.
 ghost use Rattle.std.specs.Prelude.{ℕ, ◌≡◌, ◌<◌, ◌≤◌, ◌+◌, ◌-◌, true, false, [], length, take, drop, IfOk, Some, IsNone, slice_set};
 ghost use Rattle.std.specs.List.{list_all};
 ghost use Rattle.cdcl_proof.specs.Clause.{is_within};
@@ -9,7 +9,7 @@ ghost use Rattle.cdcl_proof.specs.Literal.{mentions};
 ghost use Rattle.cdcl_proof.specs.Trail.{IsSound, literals, entry_at, NoDecision};
 ghost use Rattle.cdcl_proof.specs.Learning.{is_seen, is_seen_entry, is_seen_literal, count_seen};
 ghost use Rattle.cdcl_proof.specs.Propagation.{IsConflict};
-ghost use Rattle.cdcl_proof.specs.Resolving.{AddsMarks, HasPivotsFrom, IsResolving, IsAnalysis, IsLesson, IsLevel, Resolves};
+ghost use Rattle.cdcl_proof.specs.Resolving.{AddsMarks, HasPivotsFrom, IsResolving, IsAnalysis, IsLearntClause, IsLevel, Resolves};
 
 use crate::clause::Clause;
 use crate::literal::Literal;
@@ -19,12 +19,12 @@ use std::alloc::{AllocError, Global};
 
 /// A learnt clause, and the place of the trail to which the search goes back.
 #[derive(Drop)]
-pub(crate) struct Lesson {
+pub(crate) struct LearntClause {
     pub(crate) step: Step,
     pub(crate) place: usize,
 }
 
-/// The clause that a conflict teaches: it has one literal of the newest level, which begins at `floor`.
+/// The learnt clause of a conflict: it has one literal of the newest level, which begins at `floor`.
 pub(crate) fn learn(
     alloc: Global,
     clauses: &[Clause],
@@ -32,7 +32,7 @@ pub(crate) fn learn(
     seen: &mut [bool],
     conflict: u64,
     floor: usize,
-) -> Result<Lesson, AllocError>
+) -> Result<LearntClause, AllocError>
     requires clauses { are_clauses trail.now.variables clauses.now ≡ true }
     requires seen { length seen.old ≡ trail.now.variables }
     requires sound { IsSound trail.now.variables clauses.now trail.now.entries }
@@ -40,14 +40,14 @@ pub(crate) fn learn(
     requires floor { floor < length trail.now.entries }
     requires decision { IsNone (entry_at trail.now.entries floor).reason }
     requires newest { NoDecision trail.now.entries (floor + 1) (length trail.now.entries) }
-    ensures lesson { IfOk result (λ l. IsLesson trail.now.variables clauses.now trail.now.entries l.step l.place) }
+    ensures learnt { IfOk result (λ l. IsLearntClause trail.now.variables clauses.now trail.now.entries l.step l.place) }
 {
     let mut hints = resolve_down(alloc, clauses, trail, seen, conflict, floor, 1)?;
     minimise(clauses, trail, seen, &mut hints, floor)?;
     let literals = trail.marked_negations(alloc, seen)?;
-    let start = trail.after_marked(seen, floor);
+    let start = trail.place_after_marked(seen, floor);
     let place = trail.decision_from(start, floor);
-    Ok(Lesson {
+    Ok(LearntClause {
         step: Step {
             clause: Clause::from_distinct(literals),
             hints: HintList::from_vec(hints),

@@ -4,23 +4,24 @@ ghost use Rattle.cdcl_proof.specs.Clause.{is_within};
 ghost use Rattle.cdcl_proof.specs.Order.{IsOrder, Waits, KeepsWaiting};
 
 use crate::literal::Literal;
+use crate::log::Hint;
 use std::alloc::{AllocError, Global};
 
-/// A score for each variable, and what a conflict adds to it, which grows from conflict to conflict; the variables
-/// that wait for a decision, as a binary heap by score; and where each of them stands in the heap.
+/// An activity for each variable, and what a conflict adds to it, which grows from conflict to conflict; the variables
+/// that wait for a decision, as a binary heap by activity; and where each of them stands in the heap.
 #[derive(Drop)]
 pub(crate) struct Order {
-    scores: Vec<u64>,
+    activities: Vec<u64>,
     increment: u64,
     heap: Vec<u64>,
     places: Vec<usize>,
 }
 
-/// Scores are scaled down once the increment is at this bound.
+/// Activities are scaled down once the increment is at this bound.
 const BOUND: u64 = 0x1000_0000_0000_0000;
 
 impl Order {
-    /// All variables wait, with no score.
+    /// All variables wait, with no activity.
     pub(crate) fn new(alloc: Global, variables: u64) -> Result<Order, AllocError>
         requires { variables < 2 ^ 31 }
         ensures order { IfOk result (IsOrder variables) }
@@ -33,7 +34,7 @@ impl Order {
             places.push(index as usize)?;
         }
         Ok(Order {
-            scores: vec![in alloc; 0u64; variables as usize]?,
+            activities: vec![in alloc; 0u64; variables as usize]?,
             increment: 1024,
             heap,
             places,
@@ -42,9 +43,9 @@ impl Order {
 
     /// Whether the variable stands in the heap.
     fn is_waiting(&self, variable: u64) -> bool
-        requires order { IsOrder (length self.now.scores.items) self.now }
+        requires order { IsOrder (length self.now.activities.items) self.now }
         requires positive { 1 ≤ variable }
-        requires among { variable ≤ length self.now.scores.items }
+        requires among { variable ≤ length self.now.activities.items }
         ensures { IsTrue result → Waits self.now.heap.items variable }
     {
         let place = self.places[variable as usize - 1];
@@ -53,10 +54,10 @@ impl Order {
 
     /// Lets the variable wait.
     pub(crate) fn insert(&mut self, variable: u64) -> Result<(), AllocError>
-        requires order { IsOrder (length self.old.scores.items) self.old }
+        requires order { IsOrder (length self.old.activities.items) self.old }
         requires positive { 1 ≤ variable }
-        requires among { variable ≤ length self.old.scores.items }
-        ensures order { IsOrder (length self.old.scores.items) self.new }
+        requires among { variable ≤ length self.old.activities.items }
+        ensures order { IsOrder (length self.old.activities.items) self.new }
         ensures waits { OnOk result (Waits self.new.heap.items variable) }
         ensures kept { KeepsWaiting self.old.heap.items self.new.heap.items }
     {
@@ -66,31 +67,31 @@ impl Order {
         let place = self.heap.len();
         self.heap.push(variable)?;
         self.places[variable as usize - 1] = place;
-        self.climb(place);
+        self.sift_up(place);
         Ok(())
     }
 
-    /// Takes the variable of the highest score out.
+    /// Takes the variable of the highest activity out.
     pub(crate) fn pop(&mut self) -> Option<u64>
-        requires { IsOrder (length self.old.scores.items) self.old }
-        ensures order { IsOrder (length self.old.scores.items) self.new }
+        requires { IsOrder (length self.old.activities.items) self.old }
+        ensures order { IsOrder (length self.old.activities.items) self.new }
         ensures none { IfNone result (length self.old.heap.items ≡ 0) }
         ensures shorter { IfSome result (λ _. length self.new.heap.items + 1 ≡ length self.old.heap.items) }
-        ensures among { IfSome result (λ v. (1 ≤ v) × (v ≤ length self.old.scores.items)) }
+        ensures among { IfSome result (λ v. (1 ≤ v) × (v ≤ length self.old.activities.items)) }
         ensures kept { IfSome result (λ v. (w : ℕ) → w ≢ v → Waits self.old.heap.items w → Waits self.new.heap.items w) }
     {
         if self.heap.is_empty() {
             return None;
         }
         let top = self.heap.swap_remove(0);
-        self.settle_top();
+        self.sift_top();
         Some(top)
     }
 
     /// Lets the first variable of the heap go down to its place.
-    fn settle_top(&mut self)
-        requires { IsOrder (length self.old.scores.items) self.old }
-        ensures order { IsOrder (length self.old.scores.items) self.new }
+    fn sift_top(&mut self)
+        requires { IsOrder (length self.old.activities.items) self.old }
+        ensures order { IsOrder (length self.old.activities.items) self.new }
         ensures len { length self.new.heap.items ≡ length self.old.heap.items }
         ensures kept { KeepsWaiting self.old.heap.items self.new.heap.items }
     {
@@ -99,15 +100,15 @@ impl Order {
         }
         let first = self.heap[0];
         self.places[first as usize - 1] = 0;
-        self.sink();
+        self.sift_down();
     }
 
     /// Exchanges two places of the heap.
     fn exchange(&mut self, i: usize, j: usize)
-        requires order { IsOrder (length self.old.scores.items) self.old }
+        requires order { IsOrder (length self.old.activities.items) self.old }
         requires first { i < length self.old.heap.items }
         requires second { j < length self.old.heap.items }
-        ensures order { IsOrder (length self.old.scores.items) self.new }
+        ensures order { IsOrder (length self.old.activities.items) self.new }
         ensures len { length self.new.heap.items ≡ length self.old.heap.items }
         ensures kept { KeepsWaiting self.old.heap.items self.new.heap.items }
     {
@@ -118,20 +119,20 @@ impl Order {
         self.heap.swap(i, j);
     }
 
-    /// Whether the variable at the first place has a higher score than that at the second.
+    /// Whether the variable at the first place has a higher activity than that at the second.
     fn is_higher(&self, i: usize, j: usize) -> bool
-        requires order { IsOrder (length self.now.scores.items) self.now }
+        requires order { IsOrder (length self.now.activities.items) self.now }
         requires first { i < length self.now.heap.items }
         requires second { j < length self.now.heap.items }
     {
-        self.scores[self.heap[j] as usize - 1] < self.scores[self.heap[i] as usize - 1]
+        self.activities[self.heap[j] as usize - 1] < self.activities[self.heap[i] as usize - 1]
     }
 
     /// Lets the variable at the place go up to its place.
-    fn climb(&mut self, start: usize)
-        requires order { IsOrder (length self.old.scores.items) self.old }
+    fn sift_up(&mut self, start: usize)
+        requires order { IsOrder (length self.old.activities.items) self.old }
         requires start { start < length self.old.heap.items }
-        ensures order { IsOrder (length self.old.scores.items) self.new }
+        ensures order { IsOrder (length self.old.activities.items) self.new }
         ensures len { length self.new.heap.items ≡ length self.old.heap.items }
         ensures kept { KeepsWaiting self.old.heap.items self.new.heap.items }
     {
@@ -148,7 +149,7 @@ impl Order {
 
     /// The place of the higher child of the place, or the place itself where no child is higher.
     fn higher_child(&self, at: usize) -> usize
-        requires order { IsOrder (length self.now.scores.items) self.now }
+        requires order { IsOrder (length self.now.activities.items) self.now }
         requires within { at < length self.now.heap.items }
         ensures within { result < length self.now.heap.items }
         ensures below { at ≤ result }
@@ -167,10 +168,10 @@ impl Order {
     }
 
     /// Lets the first variable go down to its place.
-    fn sink(&mut self)
-        requires order { IsOrder (length self.old.scores.items) self.old }
+    fn sift_down(&mut self)
+        requires order { IsOrder (length self.old.activities.items) self.old }
         requires some { 0 < length self.old.heap.items }
-        ensures order { IsOrder (length self.old.scores.items) self.new }
+        ensures order { IsOrder (length self.old.activities.items) self.new }
         ensures len { length self.new.heap.items ≡ length self.old.heap.items }
         ensures kept { KeepsWaiting self.old.heap.items self.new.heap.items }
     {
@@ -185,46 +186,71 @@ impl Order {
         }
     }
 
-    /// Lifts the variable.
-    fn lift(&mut self, variable: u64)
-        requires order { IsOrder (length self.old.scores.items) self.old }
+    /// Bumps the variable's activity.
+    fn bump(&mut self, variable: u64)
+        requires order { IsOrder (length self.old.activities.items) self.old }
         requires positive { 1 ≤ variable }
-        requires among { variable ≤ length self.old.scores.items }
-        ensures order { IsOrder (length self.old.scores.items) self.new }
+        requires among { variable ≤ length self.old.activities.items }
+        ensures order { IsOrder (length self.old.activities.items) self.new }
         ensures kept { KeepsWaiting self.old.heap.items self.new.heap.items }
     {
         let index = variable as usize - 1;
-        self.scores[index] = self.scores[index].saturating_add(self.increment);
+        self.activities[index] = self.activities[index].saturating_add(self.increment);
         let place = self.places[index];
         if place < self.heap.len() {
-            self.climb(place);
+            self.sift_up(place);
         }
     }
 
     /// Makes later conflicts weigh more than earlier ones.
     fn decay(&mut self)
-        requires { IsOrder (length self.old.scores.items) self.old }
-        ensures order { IsOrder (length self.old.scores.items) self.new }
+        requires { IsOrder (length self.old.activities.items) self.old }
+        ensures order { IsOrder (length self.old.activities.items) self.new }
         ensures heap { self.new.heap ≡ self.old.heap }
     {
         if self.increment >= BOUND {
-            for score in self.scores.iter_mut() {
-                *score >>= 40;
+            for activity in self.activities.iter_mut() {
+                *activity >>= 40;
             }
             self.increment >>= 40;
         }
-        self.increment = self.increment.saturating_add(self.increment / 16);
+        self.increment = self.increment.saturating_add(self.increment / 12);
     }
 
-    /// Lifts the variables of the literals, and makes later conflicts weigh more.
-    pub(crate) fn lift_all(&mut self, literals: &[Literal])
-        requires order { IsOrder (length self.old.scores.items) self.old }
-        requires within { is_within (length self.old.scores.items) literals.now ≡ true }
-        ensures order { IsOrder (length self.old.scores.items) self.new }
+    /// Bumps the activities of the variables on which the hints resolve.
+    fn bump_pivots(&mut self, hints: &[Hint])
+        requires { IsOrder (length self.old.activities.items) self.old }
+        ensures order { IsOrder (length self.old.activities.items) self.new }
         ensures kept { KeepsWaiting self.old.heap.items self.new.heap.items }
     {
+        for hint in hints {
+            self.bump_pivot(hint.pivot);
+        }
+    }
+
+    /// Bumps the activity of the variable, if there is one: the first hint of a chain has no pivot.
+    fn bump_pivot(&mut self, pivot: u64)
+        requires { IsOrder (length self.old.activities.items) self.old }
+        ensures order { IsOrder (length self.old.activities.items) self.new }
+        ensures kept { KeepsWaiting self.old.heap.items self.new.heap.items }
+    {
+        if pivot == 0 || pivot > self.activities.len() as u64 {
+            return;
+        }
+        self.bump(pivot);
+    }
+
+    /// Bumps the activities of the variables of a conflict: those on which the hints resolve, and those of the learnt
+    /// clause. Later conflicts weigh more.
+    pub(crate) fn bump_all(&mut self, hints: &[Hint], literals: &[Literal])
+        requires order { IsOrder (length self.old.activities.items) self.old }
+        requires within { is_within (length self.old.activities.items) literals.now ≡ true }
+        ensures order { IsOrder (length self.old.activities.items) self.new }
+        ensures kept { KeepsWaiting self.old.heap.items self.new.heap.items }
+    {
+        self.bump_pivots(hints);
         for literal in literals {
-            self.lift(literal.variable);
+            self.bump(literal.variable);
         }
         self.decay();
     }

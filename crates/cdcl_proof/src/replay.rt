@@ -2,9 +2,9 @@
 ghost use Rattle.std.specs.Prelude.{◌≡◌, ◌++◌, true, IsTrue};
 ghost use Rattle.cdcl_proof.specs.Literal.{holds, is_once};
 ghost use Rattle.cdcl_proof.specs.Clause.{is_subset};
-ghost use Rattle.cdcl_proof.specs.Replay.{learnt, is_number, clause_at, opposes, fits, is_chain, chained, derives, replay, Follows, survives, covers};
+ghost use Rattle.cdcl_proof.specs.Replay.{learnt_clauses, is_number, clause_at, opposes, fits, is_chain, chain_end, derives, replay, Follows, survives, covers};
 
-use crate::clause::{Clause, holds_literal, mentions_variable};
+use crate::clause::{Clause, has_literal, has_variable};
 use crate::cnf::Cnf;
 use crate::literal::Literal;
 use crate::log::{Hint, Log, Step};
@@ -33,7 +33,7 @@ pub fn replays(cnf: &Cnf, log: &Log) -> bool
 }
 
 fn is_derived(given: &[Clause], steps: &[Step], hints: &[Hint], clause: &[Literal]) -> bool
-    ensures { result ≡ derives (given.now ++ learnt steps.now) hints.now clause.now }
+    ensures { result ≡ derives (given.now ++ learnt_clauses steps.now) hints.now clause.now }
 {
     let Some((first, rest)) = hints.split_first() else {
         return false;
@@ -49,7 +49,7 @@ fn is_derived(given: &[Clause], steps: &[Step], hints: &[Hint], clause: &[Litera
 
 /// Whether the number is that of a clause of the formula or of one of the steps.
 pub(crate) fn is_clause_number(given: &[Clause], steps: &[Step], number: u64) -> bool
-    ensures { result ≡ is_number (given.now ++ learnt steps.now) number }
+    ensures { result ≡ is_number (given.now ++ learnt_clauses steps.now) number }
 {
     let given_count = given.len() as u64;
     1 <= number && (number <= given_count || number - given_count <= steps.len() as u64)
@@ -57,7 +57,7 @@ pub(crate) fn is_clause_number(given: &[Clause], steps: &[Step], number: u64) ->
 
 /// The literals of the clause of that number.
 pub(crate) fn clause_of<'a>(given: &'a [Clause], steps: &'a [Step], number: u64) -> &'a [Literal]
-    ensures literals { result.now ≡ clause_at (given.now ++ learnt steps.now) number }
+    ensures literals { result.now ≡ clause_at (given.now ++ learnt_clauses steps.now) number }
     ensures once { is_once result.now ≡ true }
 {
     let index = number.saturating_sub(1) as usize;
@@ -71,7 +71,7 @@ pub(crate) fn clause_of<'a>(given: &'a [Clause], steps: &'a [Step], number: u64)
 }
 
 fn is_resolution_chain(given: &[Clause], steps: &[Step], start: &[Literal], hints: &[Hint]) -> bool
-    ensures { result ≡ is_chain (given.now ++ learnt steps.now) start.now hints.now }
+    ensures { result ≡ is_chain (given.now ++ learnt_clauses steps.now) start.now hints.now }
 {
     for (i, hint) in hints.iter().enumerate() {
         if !is_fitting(given, steps, start, &hints[..i], *hint) {
@@ -89,11 +89,11 @@ fn is_fitting(
     hint: Hint,
 ) -> bool
     ensures { result
-        ≡ fits (given.now ++ learnt steps.now) (chained (given.now ++ learnt steps.now) start.now hints.now) hint }
+        ≡ fits (given.now ++ learnt_clauses steps.now) (chain_end (given.now ++ learnt_clauses steps.now) start.now hints.now) hint }
 {
     let clause = clause_of(given, steps, hint.clause);
     is_clause_number(given, steps, hint.clause)
-        && (mentions_variable(clause, hint.pivot)
+        && (has_variable(clause, hint.pivot)
             && is_opposed(given, steps, start, hints, clause, hint.pivot))
 }
 
@@ -106,10 +106,10 @@ fn is_opposed(
     clause: &[Literal],
     pivot: u64,
 ) -> bool
-    ensures { result ≡ opposes pivot (chained (given.now ++ learnt steps.now) start.now hints.now) clause.now }
+    ensures { result ≡ opposes pivot (chain_end (given.now ++ learnt_clauses steps.now) start.now hints.now) clause.now }
 {
     clause.iter().all(|l| (l.variable == pivot)
-        == chain_holds(given, steps, start, hints, l.negation()))
+        == is_in_chain(given, steps, start, hints, l.negation()))
 }
 
 /// Whether the chain gives each literal of the clause.
@@ -120,35 +120,35 @@ fn is_given(
     hints: &[Hint],
     clause: &[Literal],
 ) -> bool
-    ensures { result ≡ is_subset clause.now (chained (given.now ++ learnt steps.now) start.now hints.now) }
+    ensures { result ≡ is_subset clause.now (chain_end (given.now ++ learnt_clauses steps.now) start.now hints.now) }
 {
     clause
         .iter()
-        .all(|l| chain_holds(given, steps, start, hints, *l))
+        .all(|l| is_in_chain(given, steps, start, hints, *l))
 }
 
 /// Whether the chain from `start` gives a clause with the literal. Only the last clause with the literal counts,
 /// and no resolution on its variable may come after it.
-fn chain_holds(
+fn is_in_chain(
     given: &[Clause],
     steps: &[Step],
     start: &[Literal],
     hints: &[Hint],
     literal: Literal,
 ) -> bool
-    ensures { result ≡ holds (chained (given.now ++ learnt steps.now) start.now hints.now) literal }
+    ensures { result ≡ holds (chain_end (given.now ++ learnt_clauses steps.now) start.now hints.now) literal }
 {
     let mut rest = hints;
     while let Some((last, earlier)) = rest.split_last() {
         if literal.variable == last.pivot {
             return false;
         }
-        if holds_literal(clause_of(given, steps, last.clause), literal) {
+        if has_literal(clause_of(given, steps, last.clause), literal) {
             return true;
         }
         rest = earlier;
     }
-    holds_literal(start, literal)
+    has_literal(start, literal)
 }
 
 /// Whether no resolution of the hints takes the literal away.
@@ -166,7 +166,7 @@ fn is_covered(
     hints: &[Hint],
     clause: &[Literal],
 ) -> bool
-    ensures { result ≡ is_subset (chained (given.now ++ learnt steps.now) start.now hints.now) clause.now }
+    ensures { result ≡ is_subset (chain_end (given.now ++ learnt_clauses steps.now) start.now hints.now) clause.now }
 {
     if !is_part_covered(start, hints, clause) {
         return false;
@@ -186,5 +186,5 @@ fn is_part_covered(part: &[Literal], hints: &[Hint], clause: &[Literal]) -> bool
     ensures { result ≡ covers hints.now clause.now part.now }
 {
     part.iter()
-        .all(|l| !is_kept(hints, *l) || holds_literal(clause, *l))
+        .all(|l| !is_kept(hints, *l) || has_literal(clause, *l))
 }

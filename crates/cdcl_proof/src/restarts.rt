@@ -1,5 +1,5 @@
 // When a search starts again.
-/// Luby's sequence in thousands of conflicts (Luby, Sinclair and Zuckerman, Optimal speedup of Las Vegas algorithms,
+/// Luby's sequence in units of 2,000 conflicts (Luby, Sinclair and Zuckerman, Optimal speedup of Las Vegas algorithms,
 /// 1993), by Knuth's reluctant doubling.
 #[derive(Drop)]
 pub(crate) struct Restarts {
@@ -9,7 +9,7 @@ pub(crate) struct Restarts {
 }
 
 /// The conflicts that 1 in Luby's sequence stands for.
-const UNIT: u64 = 1000;
+const UNIT: u64 = 2000;
 
 impl Restarts {
     pub(crate) fn new() -> Restarts {

@@ -1,5 +1,5 @@
 // Clauses and watch lists as propagation works on them.
-ghost use Rattle.std.specs.Prelude.{ℕ, ◌≡◌, ◌<◌, ◌≤◌, ◌++◌, ◌∷◌, ◌-◌, ◌^◌, true, [], length, take, swap, swap_remove, OnOk, OnErr, IfOk, slice_index_or, slice_set};
+ghost use Rattle.std.specs.Prelude.{ℕ, ◌≡◌, ◌<◌, ◌≤◌, ◌++◌, ◌∷◌, ◌-◌, ◌^◌, true, false, [], length, take, swap, swap_remove, OnOk, OnErr, IfOk, slice_index_or, slice_set};
 ghost use Rattle.cdcl_proof.specs.Clause.{is_within};
 ghost use Rattle.cdcl_proof.specs.Watching.{no_watch};
 
@@ -53,18 +53,20 @@ impl Row {
     }
 }
 
-/// That a clause watches a literal: the clause's index, and one of its literals. Where that one is true, the clause
-/// need not be read.
+/// That a clause watches a literal: the clause's index, one of its literals, and whether it has two literals alone.
+/// Where that one is true, the clause need not be read.
 #[derive(Clone, Copy)]
 pub(crate) struct Watch {
     pub(crate) clause: u32,
     pub(crate) blocker: PackedLiteral,
+    pub(crate) is_binary: bool,
 }
 
-/// The clauses that watch one literal.
+/// The clauses that watch one literal. Those of two literals stand among the first `binaries`.
 #[derive(Drop)]
 pub(crate) struct WatchList {
     watches: Vec<Watch>,
+    binaries: usize,
 }
 
 impl Model for WatchList {
@@ -82,13 +84,20 @@ impl WatchList {
     {
         WatchList {
             watches: Vec::new(alloc),
+            binaries: 0,
         }
     }
 
-    pub(crate) fn len(&self) -> usize
-        ensures { result ≡ length self.now }
+    /// How many watches are to be read, or, with `only_binary`, how far those of binary clauses reach.
+    pub(crate) fn reach(&self, only_binary: bool) -> usize
+        ensures within { result ≤ length self.now }
+        ensures all { only_binary ≡ false → result ≡ length self.now }
     {
-        self.watches.len()
+        if only_binary {
+            self.binaries.min(self.watches.len())
+        } else {
+            self.watches.len()
+        }
     }
 
     pub(crate) fn at(&self, place: usize) -> Watch
@@ -102,14 +111,18 @@ impl WatchList {
         ensures ok { OnOk result (self.new ≡ self.old ++ watch ∷ []) }
         ensures err { OnErr result (self.new ≡ self.old) }
     {
+        let is_binary = watch.is_binary;
         self.watches.push(watch)?;
+        if is_binary {
+            self.binaries = self.watches.len();
+        }
         Ok(())
     }
 
     /// Gives the watch at the place another literal of its clause.
-    pub(crate) fn refresh(&mut self, place: usize, blocker: PackedLiteral)
+    pub(crate) fn set_blocker(&mut self, place: usize, blocker: PackedLiteral)
         requires { place < length self.old }
-        ensures { self.new ≡ slice_set self.old place (record { clause = (slice_index_or self.old place no_watch).clause; blocker = blocker }) }
+        ensures { self.new ≡ slice_set self.old place (record { clause = (slice_index_or self.old place no_watch).clause; blocker = blocker; is_binary = (slice_index_or self.old place no_watch).is_binary }) }
     {
         self.watches[place].blocker = blocker;
     }

@@ -3,7 +3,7 @@ ghost use Rattle.std.specs.Prelude.{ℕ, ◌≡◌, ◌≤◌, ◌<◌, ◌+◌,
 ghost use Rattle.cdcl_proof.specs.Literal.{mentions};
 ghost use Rattle.cdcl_proof.specs.Clause.{is_among};
 ghost use Rattle.cdcl_proof.specs.Order.{Waits, KeepsWaiting};
-ghost use Rattle.cdcl_proof.specs.Replay.{derives, learnt};
+ghost use Rattle.cdcl_proof.specs.Replay.{derives, learnt_clauses};
 ghost use Rattle.cdcl_proof.specs.Regular.{is_regular};
 ghost use Rattle.cdcl_proof.specs.Fresh.{is_closed};
 ghost use Rattle.cdcl_proof.specs.Trail.{literals, entry_at, NoDecision, IsTotal};
@@ -16,7 +16,7 @@ ghost use Rattle.cdcl_proof.specs.Search.{IsSearching, AllWait, WaitFrom, Others
 use crate::assignment::Assignment;
 use crate::clause::Clause;
 use crate::cnf::Cnf;
-use crate::learning::{Lesson, learn, refute};
+use crate::learning::{LearntClause, learn, refute};
 use crate::literal::Literal;
 use crate::log::{HintList, Log, Step};
 use crate::order::Order;
@@ -50,27 +50,27 @@ pub fn solve(alloc: Global, cnf: &Cnf, budget: u64) -> Result<Answer, AllocError
         match search.propagate()? {
             Some(conflict) => match search.watched.trail().last_decision() {
                 Some(floor) => {
-                    search.meet_conflict(alloc, conflict, floor)?;
+                    search.resolve_conflict(alloc, conflict, floor)?;
                     if search.chains.len() as u64 == budget {
                         return Ok(Answer::Spent(Log::from_vec(search.into_steps(alloc)?)));
                     }
-                    search.rest()?;
+                    search.restart_if_due()?;
                 }
                 None => {
                     let step = search.refute(alloc, conflict)?;
-                    return Ok(Answer::Refuted(search.ended_by(alloc, step)?));
+                    return Ok(Answer::Refuted(search.into_refutation(alloc, step)?));
                 }
             },
             None => {
                 if !search.decide() {
-                    return search.satisfied(alloc);
+                    return search.into_assignment(alloc);
                 }
             }
         }
     }
 }
 
-/// A search: the clauses known, the literals held, the order of decisions, the signs that variables had last, and
+/// A search: the clauses and the trail, the chains of the learnt clauses, the order of decisions, saved phases, and
 /// marks for the analysis of a conflict.
 #[derive(Drop)]
 pub(crate) struct Search<'a> {
@@ -119,8 +119,8 @@ impl<'a> Search<'a> {
         Ok(conflict)
     }
 
-    /// Learns a clause from the conflict, and goes back to the highest level of its literals but for the newest.
-    fn meet_conflict(
+    /// Learns a clause from the conflict, and backjumps to the highest level of its literals but for the newest.
+    fn resolve_conflict(
         &mut self,
         alloc: Global,
         conflict: u64,
@@ -135,9 +135,9 @@ impl<'a> Search<'a> {
         ensures searching { IfOk result (λ _. IsSearching self.new) }
         ensures waiting { IfOk result (λ _. AllWait self.new) }
         ensures formula { IfOk result (λ _. self.new.cnf.now ≡ self.old.cnf.now) }
-        ensures learnt { IfOk result (λ _. length self.new.chains.items ≡ length self.old.chains.items + 1) }
+        ensures count { IfOk result (λ _. length self.new.chains.items ≡ length self.old.chains.items + 1) }
     {
-        let lesson = learn(
+        let learnt = learn(
             alloc,
             self.watched.clauses(),
             self.watched.trail(),
@@ -145,18 +145,18 @@ impl<'a> Search<'a> {
             conflict,
             floor,
         )?;
-        let Lesson { step, place } = lesson;
+        let LearntClause { step, place } = learnt;
         let Step { clause, hints } = step;
-        self.order.lift_all(clause.as_slice());
-        self.release(place)?;
+        self.order.bump_all(hints.as_slice(), clause.as_slice());
+        self.insert_variables(place)?;
         self.watched.back_to(place as u64);
         self.watched.learn(clause)?;
         self.chains.push(hints)?;
         Ok(())
     }
 
-    /// Takes all decisions back, if it is time to start again.
-    fn rest(&mut self) -> Result<(), AllocError>
+    /// Takes all decisions back, if a restart is due.
+    fn restart_if_due(&mut self) -> Result<(), AllocError>
         requires searching { IsSearching self.old }
         requires waiting { AllWait self.old }
         ensures searching { IfOk result (λ _. IsSearching self.new) }
@@ -170,7 +170,7 @@ impl<'a> Search<'a> {
         match self.watched.trail().last_decision() {
             Some(last) => {
                 let first = self.watched.trail().decision_from(0, last);
-                self.release(first)?;
+                self.insert_variables(first)?;
                 self.watched.back_to(first as u64);
                 Ok(())
             }
@@ -200,8 +200,8 @@ impl<'a> Search<'a> {
         )
     }
 
-    /// Lets the variables of the literals from the place on wait again, and keeps their signs in mind.
-    fn release(&mut self, place: usize) -> Result<(), AllocError>
+    /// Puts the variables of the trail from the place on back among those that wait, and saves their phases.
+    fn insert_variables(&mut self, place: usize) -> Result<(), AllocError>
         requires searching { IsSearching self.old }
         requires waiting { AllWait self.old }
         requires place { place ≤ length self.old.watched.entries }
@@ -213,13 +213,13 @@ impl<'a> Search<'a> {
     {
         for index in place..self.watched.trail().len() {
             let entry = self.watched.trail().entry(index);
-            self.release_variable(entry.literal)?;
+            self.insert_variable(entry.literal)?;
         }
         Ok(())
     }
 
-    /// Lets the variable of the literal wait again, and keeps its sign in mind.
-    fn release_variable(&mut self, literal: Literal) -> Result<(), AllocError>
+    /// Puts the variable of the literal back among those that wait, and saves its phase.
+    fn insert_variable(&mut self, literal: Literal) -> Result<(), AllocError>
         requires searching { IsSearching self.old }
         requires among { is_among self.old.watched.variables literal ≡ true }
         ensures searching { IsSearching self.new }
@@ -234,8 +234,8 @@ impl<'a> Search<'a> {
         Ok(())
     }
 
-    /// Assumes a literal of the variable of the highest score among those that are not held, with the sign that it had
-    /// last. The result is whether there was one.
+    /// Assumes a literal of the unassigned variable of the highest activity, with its saved phase. The result is whether
+    /// there was one.
     fn decide(&mut self) -> bool
         requires searching { IsSearching self.old }
         requires waiting { AllWait self.old }
@@ -249,7 +249,7 @@ impl<'a> Search<'a> {
         ensures same { result ≡ false → self.new.watched ≡ self.old.watched }
         ensures total { result ≡ false → IsTotal self.new.watched.variables (literals self.new.watched.entries) }
     {
-        match self.open_variable() {
+        match self.pop_unassigned() {
             Some(variable) => {
                 let positive = self.phases[variable as usize - 1];
                 self.watched.assume(Literal { variable, positive });
@@ -259,8 +259,8 @@ impl<'a> Search<'a> {
         }
     }
 
-    /// Takes the variable of the highest score that is not held out of those that wait.
-    fn open_variable(&mut self) -> Option<u64>
+    /// Takes the unassigned variable of the highest activity out of those that wait.
+    fn pop_unassigned(&mut self) -> Option<u64>
         requires searching { IsSearching self.old }
         requires waiting { AllWait self.old }
         ensures searching { IsSearching self.new }
@@ -280,7 +280,7 @@ impl<'a> Search<'a> {
     }
 
     /// The assignment of a trail that has a value for each variable.
-    fn satisfied(self, alloc: Global) -> Result<Answer, AllocError>
+    fn into_assignment(self, alloc: Global) -> Result<Answer, AllocError>
         requires searching { IsSearching self }
         requires closed { is_closed (literals self.watched.entries) self.watched.clauses ≡ true }
         requires total { IsTotal self.watched.variables (literals self.watched.entries) }
@@ -288,12 +288,13 @@ impl<'a> Search<'a> {
     {
         Ok(Answer::Satisfied(Assignment::from_vec(self.watched.trail().values(alloc)?)))
     }
+
     /// The learnt clauses with their resolutions.
     fn into_steps(self, alloc: Global) -> Result<Vec<Step>, AllocError>
         requires { IsSearching self }
         ensures kept { IfOk result (λ s. IsKept self.entry.cnf.now s.items) }
         ensures len { IfOk result (λ s. length s.items ≡ length self.entry.chains.items) }
-        ensures clauses { IfOk result (λ s. self.entry.watched.clauses ≡ self.entry.cnf.now.clauses ++ learnt s.items) }
+        ensures clauses { IfOk result (λ s. self.entry.watched.clauses ≡ self.entry.cnf.now.clauses ++ learnt_clauses s.items) }
     {
         let Search {
             cnf,
@@ -305,13 +306,13 @@ impl<'a> Search<'a> {
             seen: _,
         } = self;
         let mut clauses = watched.into_clauses();
-        let learnt = clauses.split_off(cnf.clauses().len())?;
-        let steps = steps_of(alloc, learnt, chains)?;
+        let learnt_clauses = clauses.split_off(cnf.clauses().len())?;
+        let steps = steps_of(alloc, learnt_clauses, chains)?;
         Ok(steps)
     }
 
     /// The log that ends in a step of the empty clause.
-    fn ended_by(self, alloc: Global, step: Step) -> Result<Log, AllocError>
+    fn into_refutation(self, alloc: Global, step: Step) -> Result<Log, AllocError>
         requires searching { IsSearching self }
         requires derived { derives self.watched.clauses step.hints step.clause ≡ true }
         requires regular { is_regular self.watched.clauses step.hints ≡ true }

@@ -69,20 +69,19 @@ impl Table {
         let row = self.rows[clause as usize].as_slice();
         let blocker = row[1 - first];
         let target = row[k].slot();
-        shift(
-            &mut self.lists,
-            slot,
-            place,
-            target,
-            Watch { clause, blocker },
-        )?;
+        let watch = Watch {
+            clause,
+            blocker,
+            is_binary: false,
+        };
+        shift(&mut self.lists, slot, place, target, watch)?;
         let row = &mut self.rows[clause as usize];
         row.swap(first, k);
         Ok(())
     }
 
     /// Gives the watch at the place of a list another literal of its clause.
-    pub(crate) fn refresh(&mut self, slot: usize, place: usize, blocker: PackedLiteral)
+    pub(crate) fn set_blocker(&mut self, slot: usize, place: usize, blocker: PackedLiteral)
         requires table { IsTable self.old }
         requires slot { slot < length self.old.lists.items }
         requires place { place < length (list_at self.old.lists.items slot) }
@@ -95,7 +94,7 @@ impl Table {
         ensures list { HasSameClauses (list_at self.old.lists.items slot) (list_at self.new.lists.items slot) }
     {
         let list = &mut self.lists[slot];
-        list.refresh(place, blocker);
+        list.set_blocker(place, blocker);
     }
 
     /// Adds a clause with its row.
@@ -171,25 +170,36 @@ fn enter(
         short.push(index)?;
         Ok(())
     } else {
-        attach(lists, index as u32, row[0], row[1])
+        attach(lists, index as u32, row[0], row[1], row.len() == 2)
     }
 }
 
-/// Puts a clause that watches `a` and `b` into their lists.
+/// Puts a clause that watches `a` and `b` into their lists. `is_binary` is whether these are all its literals.
 fn attach(
     lists: &mut Vec<WatchList>,
     clause: u32,
     a: PackedLiteral,
     b: PackedLiteral,
+    is_binary: bool,
 ) -> Result<(), AllocError>
     requires first { slot_of a < length lists.old.items }
     requires second { slot_of b < length lists.old.items }
     requires other { slot_of a ≢ slot_of b }
-    ensures ok { OnOk result (lists.new.items ≡ added_lists lists.old.items (slot_of a) (slot_of b) clause a b) }
+    ensures ok { OnOk result (lists.new.items ≡ added_lists lists.old.items (slot_of a) (slot_of b) clause a b is_binary) }
     ensures err { OnErr result (lists.new.items ≡ lists.old.items) }
 {
-    lists[a.slot()].push(Watch { clause, blocker: b })?;
-    match lists[b.slot()].push(Watch { clause, blocker: a }) {
+    let first = Watch {
+        clause,
+        blocker: b,
+        is_binary,
+    };
+    let second = Watch {
+        clause,
+        blocker: a,
+        is_binary,
+    };
+    lists[a.slot()].push(first)?;
+    match lists[b.slot()].push(second) {
         Ok(()) => Ok(()),
         Err(fail) => {
             lists[a.slot()].pop();

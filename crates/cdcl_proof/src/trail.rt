@@ -92,7 +92,7 @@ impl Trail {
         }
     }
 
-    /// Whether the literal is held.
+    /// Whether the literal is true.
     pub(crate) fn is_true(&self, literal: Literal) -> bool
         requires { is_among self.now.variables literal ≡ true }
         ensures { result ≡ holds (literals self.now.entries) literal }
@@ -195,7 +195,7 @@ impl Trail {
     }
 
     /// The place after the newest marked entry below `last`, or 0 where none is marked.
-    pub(crate) fn after_marked(&self, seen: &[bool], last: usize) -> usize
+    pub(crate) fn place_after_marked(&self, seen: &[bool], last: usize) -> usize
         requires last { last ≤ length self.now.entries }
         requires seen { length seen.now ≡ self.now.variables }
         ensures last { result ≤ last }

@@ -1,4 +1,4 @@
-// Clauses with literals held, for unit propagation by watched literals.
+// Clauses with a trail, for unit propagation by watched literals.
 ghost use Rattle.std.specs.Prelude.{◌≡◌, ◌≤◌, ◌<◌, ◌+◌, ◌-◌, ◌++◌, ◌∷◌, [], true, length, take, IfOk, OnOk, OnErr, None, IsTrue, ◌↔◌, ◌&&◌};
 ghost use Rattle.cdcl_proof.specs.Clause.{is_among, is_clause};
 ghost use Rattle.cdcl_proof.specs.Formula.{are_clauses};
@@ -15,12 +15,12 @@ use crate::watcher::Watcher;
 use std::alloc::{AllocError, Global};
 use std::marker::Model;
 
-/// Clauses, numbered from 1, and literals that are held, in order, no variable twice. Each clause of two literals or
+/// Clauses, numbered from 1, and a trail of literals in order, no variable twice. Each clause of two literals or
 /// more stands in the lists of exactly two of its literals, so that propagation reads it only when one of these has
 /// become false (Moskewicz et al., Chaff, 2001). Clauses are never taken away.
 ///
-/// The memory that a clause takes: 48 bytes, 24 for each literal, and 24 or more for its two watches. A variable
-/// takes 96 bytes or more.
+/// The memory that a clause takes: 48 bytes, 24 for each literal, and 32 or more for its two watches. A variable
+/// takes 128 bytes or more.
 #[derive(Drop)]
 pub struct Watched {
     watcher: Watcher,
@@ -38,7 +38,7 @@ impl Model for Watched {
 }
 
 impl Watched {
-    /// The formula's clauses, with nothing held. Besides memory that is wanting, a formula of 2^31 variables or more,
+    /// The formula's clauses, with an empty trail. Besides running out of memory, a formula of 2^31 variables or more,
     /// or of 2^32 clauses or more, is an error: no memory would do for it.
     pub fn new(alloc: Global, cnf: &Cnf) -> Result<Watched, AllocError>
         ensures { IfOk result (λ w. w ≡ record { variables = cnf.now.variables; clauses = cnf.now.clauses; entries = [] }) }
@@ -59,17 +59,17 @@ impl Watched {
         self.watcher.add_clause(clause)
     }
 
-    /// Holds the literal last, whose variable is not held. It takes no memory.
+    /// Puts the literal, whose variable is unassigned, last on the trail. It takes no memory.
     pub fn assume(&mut self, literal: Literal)
         requires among { is_among self.old.variables literal ≡ true }
         requires free { is_free (literals self.old.entries) literal ≡ true }
-        ensures held { self.new ≡ record self.old { entries = self.old.entries ++ record { literal = literal; reason = None } ∷ [] } }
+        ensures entries { self.new ≡ record self.old { entries = self.old.entries ++ record { literal = literal; reason = None } ∷ [] } }
         ensures room { length self.new.entries ≤ self.new.variables }
     {
         self.watcher.assume(literal);
     }
 
-    /// Holds the first `n` literals alone. It takes no memory.
+    /// Keeps the first `n` literals of the trail alone. It takes no memory.
     pub fn back_to(&mut self, n: u64)
         requires { n ≤ length self.old.entries }
         ensures { self.new ≡ record self.old { entries = take n self.old.entries } }
@@ -77,9 +77,9 @@ impl Watched {
         self.watcher.back_to(n as usize);
     }
 
-    /// Propagates: while some clause has one literal that is not false, and which is not held, that literal is held.
-    /// The result is the number of a false clause, or `None` where nothing more follows. If it fails, some literals
-    /// may have been added.
+    /// Propagates: while some clause has one literal that is not false, and which is unassigned, that literal is put
+    /// on the trail. The result is the number of a false clause, or `None` where nothing more follows. If it fails,
+    /// some literals may have been added.
     pub fn propagate(&mut self) -> Result<Option<u64>, AllocError>
         ensures variables { self.new.variables ≡ self.old.variables }
         ensures clauses { self.new.clauses ≡ self.old.clauses }
@@ -88,13 +88,13 @@ impl Watched {
         // Each literal added is the one literal of some clause that is not false.
         ensures propagates { Propagates self.new.clauses self.old.entries self.new.entries }
 
-        // A false clause, or the literals held are closed for all clauses.
+        // A false clause, or the trail is closed for all clauses.
         ensures outcome { IfOk result (IsOutcome self.new.clauses (literals self.new.entries)) }
     {
         self.watcher.propagate()
     }
 
-    /// Puts a clause last whose last literal is open and whose other literals are false, and holds that literal.
+    /// Puts a clause last whose last literal is open and whose other literals are false, and that literal on the trail.
     pub(crate) fn learn(&mut self, clause: Clause) -> Result<(), AllocError>
         requires clause { is_clause self.old.variables clause ≡ true }
         requires full { 0 < length clause }
@@ -109,28 +109,28 @@ impl Watched {
         self.watcher.learn(clause)
     }
 
-    /// The literals held with their reasons.
+    /// The trail with its reasons.
     pub(crate) fn trail(&self) -> &Trail
         ensures { result.now ≡ record { variables = self.now.variables; entries = self.now.entries } }
     {
         &self.watcher.trail
     }
 
-    /// How many literals are held.
+    /// How many literals the trail has.
     pub fn len(&self) -> u64
         ensures { result ≡ length self.now.entries }
     {
         self.trail().len() as u64
     }
 
-    /// Whether no literal is held.
+    /// Whether the trail is empty.
     pub fn is_empty(&self) -> bool
         ensures { IsTrue result ↔ (length self.now.entries ≡ 0) }
     {
         self.trail().len() == 0
     }
 
-    /// Whether the literal's variable is one of the formula's, and not held.
+    /// Whether the literal's variable is one of the formula's, and unassigned.
     pub fn is_open(&self, literal: Literal) -> bool
         ensures { result ≡ (is_among self.now.variables literal && is_free (literals self.now.entries) literal) }
     {

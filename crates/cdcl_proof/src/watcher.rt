@@ -1,5 +1,5 @@
 // Propagation by watched literals: a clause is read only when a literal that it watches has become false.
-ghost use Rattle.std.specs.Prelude.{ℕ, List, ◌⊎◌, ◌≡◌, ◌<◌, ◌≤◌, ◌+◌, ◌-◌, ◌++◌, ◌∷◌, true, [], length, take, IfOk, OnOk, OnErr, IfSome, IfNone, Some, None, slice_index_or};
+ghost use Rattle.std.specs.Prelude.{ℕ, List, ◌⊎◌, ◌≡◌, ◌<◌, ◌≤◌, ◌+◌, ◌-◌, ◌++◌, ◌∷◌, true, false, [], length, take, IfOk, OnOk, OnErr, IfSome, IfNone, Some, None, slice_index_or};
 ghost use Rattle.cdcl_proof.specs.declared.literal.Literal.{Literal};
 ghost use Rattle.cdcl_proof.specs.Literal.{negation, holds, slot_of};
 ghost use Rattle.cdcl_proof.specs.Clause.{is_among, is_within, is_clause};
@@ -7,7 +7,7 @@ ghost use Rattle.cdcl_proof.specs.Fresh.{is_free, is_unit};
 ghost use Rattle.cdcl_proof.specs.Trail.{literals, entry_at, is_after, Implies};
 ghost use Rattle.cdcl_proof.specs.Propagation.{IsConflict, IsOutcome};
 ghost use Rattle.cdcl_proof.specs.Watching.{literal_at, watch_at, list_at, AreVisited, Propagates, IsRow};
-ghost use Rattle.cdcl_proof.specs.Watcher.{IsWatching, IsLook, IsVisit};
+ghost use Rattle.cdcl_proof.specs.Watcher.{IsWatching, IsRowState, IsVisit};
 
 use crate::clause::Clause;
 use crate::literal::Literal;
@@ -18,9 +18,9 @@ use crate::table::Table;
 use crate::trail::{Entry, Trail};
 use std::alloc::{AllocError, Global};
 
-/// Clauses and the literals held, with the lists of watches. `head` is the place of the first literal held whose
-/// list is to be read yet; `marks` are places up to which propagation was complete. The first `settled` of the
-/// clauses of fewer than two literals are true by the first `base` literals held.
+/// Clauses and the trail, with the lists of watches. `head` is the place of the first literal of the trail whose list
+/// is to be read yet; `marks` are places up to which propagation was complete. The first `short_head` of the clauses
+/// of fewer than two literals are true by the first `base` literals of the trail.
 #[derive(Drop)]
 pub(crate) struct Watcher {
     pub(crate) alloc: Global,
@@ -28,13 +28,13 @@ pub(crate) struct Watcher {
     pub(crate) trail: Trail,
     pub(crate) head: usize,
     pub(crate) marks: Vec<usize>,
-    pub(crate) settled: usize,
+    pub(crate) short_head: usize,
     pub(crate) base: usize,
 }
 
-/// What a clause is under the literals held, when one of its two watched literals is false.
+/// What a row is under the trail, when one of its two watched literals is false.
 #[derive(Clone, Copy)]
-pub(crate) enum Look {
+pub(crate) enum RowState {
     /// The other watched literal is true.
     Satisfied,
     /// The literal at this place is not false.
@@ -57,7 +57,7 @@ pub(crate) enum Visit {
 }
 
 impl Watcher {
-    /// Nothing held, no clauses.
+    /// An empty trail, and no clauses.
     pub(crate) fn new(alloc: Global, variables: u64) -> Result<Watcher, AllocError>
         ensures watching { IfOk result IsWatching }
         ensures clauses { IfOk result (λ w. w.table.clauses.items ≡ []) }
@@ -72,12 +72,12 @@ impl Watcher {
             trail: Trail::new(alloc, variables)?,
             head: 0,
             marks: Vec::with_capacity(alloc, variables as usize)?,
-            settled: 0,
+            short_head: 0,
             base: 0,
         })
     }
 
-    /// Holds one literal more.
+    /// Puts a literal last on the trail, as a decision.
     pub(crate) fn assume(&mut self, literal: Literal)
         requires watching { IsWatching self.old }
         requires among { is_among self.old.trail.variables literal ≡ true }
@@ -109,15 +109,15 @@ impl Watcher {
         }
     }
 
-    /// Holds the first `n` literals alone.
+    /// Keeps the first `n` literals of the trail alone.
     pub(crate) fn back_to(&mut self, n: usize)
         requires watching { IsWatching self.old }
-        requires held { n ≤ length self.old.trail.entries }
+        requires within { n ≤ length self.old.trail.entries }
         ensures watching { IsWatching self.new }
         ensures clauses { self.new.table.clauses ≡ self.old.table.clauses }
         ensures trail { self.new.trail ≡ record self.old.trail { entries = take n self.old.trail.entries } }
     {
-        self.unsettle(n);
+        self.reset_short(n);
         let kept = marks_up_to(&self.marks, n);
         let head = mark_before(&self.marks, kept);
         self.marks.truncate(kept);
@@ -126,7 +126,7 @@ impl Watcher {
     }
 
     /// Lets the short clauses be read again, if they are true by a literal from the place on.
-    fn unsettle(&mut self, place: usize)
+    fn reset_short(&mut self, place: usize)
         requires { IsWatching self.old }
         ensures watching { IsWatching self.new }
         ensures table { self.new.table ≡ self.old.table }
@@ -138,7 +138,7 @@ impl Watcher {
         if self.base <= place {
             return;
         }
-        self.settled = 0;
+        self.short_head = 0;
         self.base = 0;
     }
 
@@ -151,8 +151,8 @@ impl Watcher {
         ensures propagates { Propagates self.new.table.clauses.items self.old.trail.entries self.new.trail.entries }
         ensures outcome { IfOk result (IsOutcome self.new.table.clauses.items (literals self.new.trail.entries)) }
     {
-        while self.settled < self.table.short.len() {
-            if let Some(conflict) = self.settle() {
+        while self.short_head < self.table.short.len() {
+            if let Some(conflict) = self.propagate_short() {
                 return Ok(Some(conflict));
             }
         }
@@ -166,29 +166,29 @@ impl Watcher {
     }
 
     /// Makes the next clause of fewer than two literals true. The result is its number, if it is false.
-    fn settle(&mut self) -> Option<u64>
+    fn propagate_short(&mut self) -> Option<u64>
         requires watching { IsWatching self.old }
-        requires more { self.old.settled < length self.old.table.short.items }
+        requires more { self.old.short_head < length self.old.table.short.items }
         ensures watching { IsWatching self.new }
         ensures clauses { self.new.table.clauses ≡ self.old.table.clauses }
         ensures short { self.new.table.short ≡ self.old.table.short }
         ensures variables { self.new.trail.variables ≡ self.old.trail.variables }
         ensures propagates { Propagates self.new.table.clauses.items self.old.trail.entries self.new.trail.entries }
         ensures conflict { IfSome result (IsConflict self.new.table.clauses.items (literals self.new.trail.entries)) }
-        ensures next { IfNone result (self.new.settled ≡ self.old.settled + 1) }
+        ensures next { IfNone result (self.new.short_head ≡ self.old.short_head + 1) }
     {
-        let index = self.table.short[self.settled];
+        let index = self.table.short[self.short_head];
         let number = index as u64 + 1;
         let clause = self.table.clauses[index].as_slice();
         match state_of(&self.trail, clause) {
             State::Closed => {
-                self.settled += 1;
+                self.short_head += 1;
                 self.base = self.trail.len();
                 None
             }
             State::Open(literal) => {
                 self.imply(literal, number);
-                self.settled += 1;
+                self.short_head += 1;
                 self.base = self.trail.len();
                 None
             }
@@ -196,7 +196,7 @@ impl Watcher {
         }
     }
 
-    /// Holds the literal that the clause of the number implies.
+    /// Puts the literal that the clause of the number implies last on the trail.
     fn imply(&mut self, literal: Literal, number: u64)
         requires watching { IsWatching self.old }
         requires free { is_free (literals self.old.trail.entries) literal ≡ true }
@@ -204,7 +204,7 @@ impl Watcher {
         ensures watching { IsWatching self.new }
         ensures table { self.new.table ≡ self.old.table }
         ensures head { self.new.head ≡ self.old.head }
-        ensures settled { self.new.settled ≡ self.old.settled }
+        ensures short_head { self.new.short_head ≡ self.old.short_head }
         ensures trail { self.new.trail ≡ record self.old.trail { entries = self.old.trail.entries ++ record { literal = literal; reason = Some number } ∷ [] } }
         ensures propagates { Propagates self.new.table.clauses.items self.old.trail.entries self.new.trail.entries }
     {
@@ -214,14 +214,14 @@ impl Watcher {
         });
     }
 
-    /// Reads the list of the negation of the next literal held.
+    /// Reads the list of the negation of the next literal of the trail, binary clauses first.
     fn read_next(&mut self) -> Result<Option<u64>, AllocError>
         requires watching { IsWatching self.old }
         requires more { self.old.head < length self.old.trail.entries }
         ensures watching { IsWatching self.new }
         ensures clauses { self.new.table.clauses ≡ self.old.table.clauses }
         ensures short { self.new.table.short ≡ self.old.table.short }
-        ensures settled { self.new.settled ≡ self.old.settled }
+        ensures short_head { self.new.short_head ≡ self.old.short_head }
         ensures variables { self.new.trail.variables ≡ self.old.trail.variables }
         ensures propagates { Propagates self.new.table.clauses.items self.old.trail.entries self.new.trail.entries }
         ensures conflict { IfOk result (λ o. IfSome o (IsConflict self.new.table.clauses.items (literals self.new.trail.entries))) }
@@ -229,7 +229,11 @@ impl Watcher {
     {
         let entry = self.trail.entry(self.head);
         let slot = PackedLiteral::new(entry.literal.negation()).slot();
-        match self.read_list(slot) {
+        match self.read_list(slot, true) {
+            Ok(None) => {}
+            other => return other,
+        }
+        match self.read_list(slot, false) {
             Ok(None) => {
                 self.head += 1;
                 Ok(None)
@@ -238,8 +242,9 @@ impl Watcher {
         }
     }
 
-    /// Visits the watches of the list of the slot. The result is the number of a false clause, if there is one.
-    fn read_list(&mut self, slot: usize) -> Result<Option<u64>, AllocError>
+    /// Visits the watches of the list of the slot, or, with `only_binary`, those of binary clauses alone. The result is
+    /// the number of a false clause, if there is one.
+    fn read_list(&mut self, slot: usize, only_binary: bool) -> Result<Option<u64>, AllocError>
         requires watching { IsWatching self.old }
         requires more { self.old.head < length self.old.trail.entries }
         requires slot { slot ≡ slot_of (negation (entry_at self.old.trail.entries self.old.head).literal) }
@@ -247,16 +252,20 @@ impl Watcher {
         ensures watching { IsWatching self.new }
         ensures clauses { self.new.table.clauses ≡ self.old.table.clauses }
         ensures short { self.new.table.short ≡ self.old.table.short }
-        ensures settled { self.new.settled ≡ self.old.settled }
+        ensures short_head { self.new.short_head ≡ self.old.short_head }
         ensures head { self.new.head ≡ self.old.head }
         ensures variables { self.new.trail.variables ≡ self.old.trail.variables }
         ensures propagates { Propagates self.new.table.clauses.items self.old.trail.entries self.new.trail.entries }
         ensures conflict { IfOk result (λ o. IfSome o (IsConflict self.new.table.clauses.items (literals self.new.trail.entries))) }
-        ensures visited { IfOk result (λ o. IfNone o (AreVisited (literals self.new.trail.entries) self.new.table.rows.items (list_at self.new.table.lists.items slot) (length (list_at self.new.table.lists.items slot)))) }
+        ensures visited { only_binary ≡ false → IfOk result (λ o. IfNone o (AreVisited (literals self.new.trail.entries) self.new.table.rows.items (list_at self.new.table.lists.items slot) (length (list_at self.new.table.lists.items slot)))) }
     {
         let mut place = 0;
-        while place < self.table.lists[slot].len() {
+        while place < self.table.lists[slot].reach(only_binary) {
             let watch = self.table.lists[slot].at(place);
+            if only_binary && !watch.is_binary {
+                place += 1;
+                continue;
+            }
             let clause = watch.clause;
             match self.visit(slot, place, watch) {
                 Ok(Visit::Stays) => place += 1,
@@ -278,7 +287,7 @@ impl Watcher {
         ensures watching { IsWatching self.new }
         ensures clauses { self.new.table.clauses ≡ self.old.table.clauses }
         ensures short { self.new.table.short ≡ self.old.table.short }
-        ensures settled { self.new.settled ≡ self.old.settled }
+        ensures short_head { self.new.short_head ≡ self.old.short_head }
         ensures head { self.new.head ≡ self.old.head }
         ensures variables { self.new.trail.variables ≡ self.old.trail.variables }
         ensures propagates { Propagates self.new.table.clauses.items self.old.trail.entries self.new.trail.entries }
@@ -292,19 +301,19 @@ impl Watcher {
         let first = watched_place(row, slot);
         let other = row[1 - first];
         match read_row(&self.trail, row, first) {
-            Look::Satisfied => {
-                self.table.refresh(slot, place, other);
+            RowState::Satisfied => {
+                self.table.set_blocker(slot, place, other);
                 Ok(Visit::Stays)
             }
-            Look::Open(k) => {
+            RowState::Open(k) => {
                 self.table.move_watch(slot, place, first, k)?;
                 Ok(Visit::Moved)
             }
-            Look::Implied(literal) => {
+            RowState::Implied(literal) => {
                 self.imply(literal, u64::from(clause) + 1);
                 Ok(Visit::Stays)
             }
-            Look::False => Ok(Visit::Conflict),
+            RowState::False => Ok(Visit::Conflict),
         }
     }
 
@@ -331,7 +340,7 @@ impl Watcher {
         Ok(())
     }
 
-    /// Adds a clause whose last literal is open and whose other literals are false, and holds that literal.
+    /// Adds a clause whose last literal is open and whose other literals are false, and puts that literal on the trail.
     pub(crate) fn learn(&mut self, clause: Clause) -> Result<(), AllocError>
         requires watching { IsWatching self.old }
         requires clause { is_clause self.old.trail.variables clause ≡ true }
@@ -341,7 +350,7 @@ impl Watcher {
         ensures watching { IsWatching self.new }
         ensures variables { self.new.trail.variables ≡ self.old.trail.variables }
         ensures ok { OnOk result (self.new.table.clauses.items ≡ self.old.table.clauses.items ++ clause ∷ []) }
-        ensures held { OnOk result (Propagates self.new.table.clauses.items self.old.trail.entries self.new.trail.entries) }
+        ensures propagates { OnOk result (Propagates self.new.table.clauses.items self.old.trail.entries self.new.trail.entries) }
         ensures longer { OnOk result (length self.new.trail.entries ≡ length self.old.trail.entries + 1) }
     {
         let mut row = Row::new(self.alloc, clause.as_slice(), self.trail.variables())?;
@@ -370,27 +379,27 @@ fn watched_place(row: &[PackedLiteral], slot: usize) -> usize
 }
 
 /// What the row is, of which the watched literal at the place is false.
-fn read_row(trail: &Trail, row: &[PackedLiteral], place: usize) -> Look
+fn read_row(trail: &Trail, row: &[PackedLiteral], place: usize) -> RowState
     requires within { is_within trail.now.variables row.now ≡ true }
     requires long { 2 ≤ length row.now }
     requires place { place < 2 }
     requires watched { holds (literals trail.now.entries) (negation (literal_at row.now place)) ≡ true }
-    ensures { IsLook (literals trail.now.entries) row.now result }
+    ensures { IsRowState (literals trail.now.entries) row.now result }
 {
     let other = row[1 - place].literal();
     if trail.is_true(other) {
-        return Look::Satisfied;
+        return RowState::Satisfied;
     }
     for k in 2..row.len() {
         let literal = row[k].literal();
         if !trail.is_true(literal.negation()) {
-            return Look::Open(k);
+            return RowState::Open(k);
         }
     }
     if trail.is_true(other.negation()) {
-        Look::False
+        RowState::False
     } else {
-        Look::Implied(other)
+        RowState::Implied(other)
     }
 }
 

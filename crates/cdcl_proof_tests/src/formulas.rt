@@ -128,7 +128,7 @@ pub(crate) fn random_formula(
         for _ in 0..3 {
             let (literal, next) = random_literal(state);
             state = next;
-            if !cdcl_proof::clause::mentions_variable(&literals, literal.variable) {
+            if !cdcl_proof::clause::has_variable(&literals, literal.variable) {
                 literals.push(literal)?;
             }
         }

@@ -14,7 +14,7 @@ fn literal(number: i64) -> Literal {
     }
 }
 
-/// Holds the literal, which is to be open.
+/// Assumes the literal, which is to be unassigned.
 fn assume(rt: &impl Abort, watched: &mut Watched, number: i64) {
     let literal = literal(number);
     assert!(rt; watched.is_open(literal));
@@ -66,7 +66,7 @@ struct Run {
     calls: &'static [Call],
 }
 
-const RUNS: [Run; 2] = [
+const RUNS: [Run; 3] = [
     // a chain of implications is followed to the false clause at its end, and back
     Run {
         variables: 5,
@@ -99,6 +99,12 @@ const RUNS: [Run; 2] = [
             Add(&[]),
             FailAt(4),
         ],
+    },
+    // of two false clauses the binary one is found first
+    Run {
+        variables: 3,
+        clauses: &[&[-1, 2, 3], &[-1, 2]],
+        calls: &[Assume(-2), Assume(-3), Assume(1), FailAt(2)],
     },
 ];
 

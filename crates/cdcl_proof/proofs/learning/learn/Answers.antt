@@ -1,6 +1,6 @@
 use Rattle.std.proofs.Common.{◌∙◌}
 use Rattle.cdcl_proof.proofs.Marking.{apart_once}
-use Rattle.cdcl_proof.proofs.Lessons.{lesson, once-seen_negations, none_is}
+use Rattle.cdcl_proof.proofs.LearntClauses.{learnt, once-seen_negations, none_is}
 use Rattle.cdcl_proof.proofs.learning.learn.Goals as goal
 
 pub from_distinct-requires : goal.from_distinct-requires
@@ -9,7 +9,7 @@ from_distinct-requires c =
 
 pub returns : goal.returns
 returns c =
-    let taught = lesson c.args.trail.now.variables c.args.clauses.now c.args.trail.now.entries c.requires.sound c.in_ok-literals.ensures.apart c.minimise.new.hints.items c.minimise.new.seen c.in_ok-minimise.ensures.resolving
-    c.args.floor c.after_marked-start.result c.decision_from-place.result (c.in_ok-minimise.ensures.count ∙ c.in_ok-hints.ensures.count) c.requires.floor c.decision_from-place.ensures.start c.decision_from-place.ensures.last
-    c.after_marked-start.ensures.above c.after_marked-start.ensures.marked (none_is _ c.decision_from-place.ensures.decision) c.decision_from-place.ensures.before in
-    record { lesson = rw (c.from_distinct.ensures, c.in_ok-literals.ensures.negations, c.from_vec.ensures) taught }
+    let search_learns = learnt c.args.trail.now.variables c.args.clauses.now c.args.trail.now.entries c.requires.sound c.in_ok-literals.ensures.apart c.minimise.new.hints.items c.minimise.new.seen c.in_ok-minimise.ensures.resolving
+    c.args.floor c.place_after_marked-start.result c.decision_from-place.result (c.in_ok-minimise.ensures.count ∙ c.in_ok-hints.ensures.count) c.requires.floor c.decision_from-place.ensures.start c.decision_from-place.ensures.last
+    c.place_after_marked-start.ensures.above c.place_after_marked-start.ensures.marked (none_is _ c.decision_from-place.ensures.decision) c.decision_from-place.ensures.before in
+    record { learnt = rw (c.from_distinct.ensures, c.in_ok-literals.ensures.negations, c.from_vec.ensures) search_learns }

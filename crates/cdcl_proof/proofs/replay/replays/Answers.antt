@@ -3,14 +3,14 @@ use Rattle.std.proofs.lemmas.List.{take_all, drop_all}
 use Rattle.std.specs.List.{list_all}
 use Rattle.cdcl_proof.specs.declared.log.Step.{Step}
 use Rattle.cdcl_proof.specs.Literal.{is_once}
-use Rattle.cdcl_proof.specs.Replay.{learnt, replays_from}
+use Rattle.cdcl_proof.specs.Replay.{learnt_clauses, replays_from}
 use Rattle.cdcl_proof.proofs.Laws.{clauses_once, follows}
 use Rattle.cdcl_proof.proofs.replay.replays.Goals as goal
 
 pub returns-clause-follows : goal.returns-clause-follows
 returns-clause-follows c =
     let log = c.args.log.now in
-    let past : length c.args.log.now ≤ c.loop-i.i = rw c.as_slice-steps.ensures at c.loop-i-test.false in
-    let more = subst (λ (ss : List Step). list_all is_once (learnt ss) ≡ true) (take_all c.loop-i.i log past) c.loop-i.invariant.1 in
-    let yes = c.loop-i.invariant.0 ∙ ap (replays_from (c.args.cnf.now.clauses ++ learnt (take c.loop-i.i log))) (drop_all c.loop-i.i log past) in
+    let reads_default : length c.args.log.now ≤ c.loop-i.i = rw c.as_slice-steps.ensures at c.loop-i-test.false in
+    let more = subst (λ (ss : List Step). list_all is_once (learnt_clauses ss) ≡ true) (take_all c.loop-i.i log reads_default) c.loop-i.invariant.1 in
+    let yes = c.loop-i.invariant.0 ∙ ap (replays_from (c.args.cnf.now.clauses ++ learnt_clauses (take c.loop-i.i log))) (drop_all c.loop-i.i log reads_default) in
     λ _. follows c.args.cnf.now log (clauses_once c.args.cnf.now.variables c.args.cnf.now.clauses c.clauses-given.ensures.within) more yes

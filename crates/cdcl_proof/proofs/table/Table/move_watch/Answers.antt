@@ -1,4 +1,4 @@
-use Rattle.std.proofs.Common.{refl, [], ◌∷◌, ◌++◌, ◌≡◌, ◌≢◌, ◌<◌, ◌-◌, true, List, length, set, swap, ap, subst, sym, ◌∙◌, arith}
+use Rattle.std.proofs.Common.{refl, [], ◌∷◌, ◌++◌, ◌≡◌, ◌≢◌, ◌<◌, ◌-◌, true, false, List, length, set, swap, ap, subst, sym, ◌∙◌, arith}
 use Rattle.std.specs.List.{swap_remove}
 use Rattle.std.proofs.lemmas.List.{length-set, get_or_read}
 use Rattle.cdcl_proof.specs.declared.literal.Literal.{Literal}
@@ -47,7 +47,7 @@ pub returns-clause-table : goal.returns-clause-table
 returns-clause-table c =
     let r = reads c.args.self.now c.args.slot c.args.place c.args.k c.at-clause.result c.index.result.now c.as_slice-row.result.now c.index-2.result.now c.index-row-k.result c.requires.slot c.at-clause.ensures c.index.ensures c.as_slice-row.ensures c.index-2.ensures c.requires.inside c.index-row-k.is in
     let t = c.requires.table in
-    let same_lists : c.shift.new.lists.items ≡ moved_lists c.args.self.now.lists.items c.slot-target.result (record { clause = c.at-clause.result.clause; blocker = c.index-row-first.result }) c.args.slot c.args.place = c.in_ok-shift.ensures.ok in
+    let same_lists : c.shift.new.lists.items ≡ moved_lists c.args.self.now.lists.items c.slot-target.result (record { clause = c.at-clause.result.clause; blocker = c.index-row-first.result; is_binary = false }) c.args.slot c.args.place = c.in_ok-shift.ensures.ok in
     let row_is : c.index_mut-row.result.now ≡ c.as_slice-row.result.now = get_or_read c.args.self.now.rows.items c.at-clause.result.clause c.index_mut-row.result.now r.clause_in c.index_mut-row.ensures.value [] ∙ r.is_row in
     let swapped : c.swap.new.self ≡ swap c.as_slice-row.result.now c.args.first c.args.k = c.swap.ensures ∙ ap (λ (x : List Literal). swap x c.args.first c.args.k) row_is in
     let same_rows : set c.args.self.now.rows.items c.at-clause.result.clause c.swap.new.self ≡ set c.args.self.now.rows.items c.at-clause.result.clause (swap c.as_slice-row.result.now c.args.first c.args.k) = ap (set c.args.self.now.rows.items c.at-clause.result.clause) swapped in
@@ -63,10 +63,10 @@ returns-clause-table c =
     (ap (λ (x : List Literal). slot_of (literal_at x c.args.first)) r.is_row ∙ from ∙ sym e ∙ sym same_slot) in
     let other_in : 1 - c.args.first < length c.as_slice-row.result.now = omega (arith, r.inside, c.requires.later) in
     let blocks : holds c.as_slice-row.result.now c.index-row-first.result ≡ true = subst (λ (l : Literal). holds c.as_slice-row.result.now l ≡ true) (sym (get_or_read c.as_slice-row.result.now (1 - c.args.first) c.index-row-first.result other_in c.index-row-first.is no_literal)) (holds_at c.as_slice-row.result.now (1 - c.args.first) other_in) in
-    let k = table_moved c.args.self.now.rows.items c.args.self.now.lists.items t.watched t.blockers c.args.slot c.args.place c.args.first c.args.k c.requires.slot c.requires.place c.requires.first c.requires.later c.as_slice-row.result.now c.at-clause.result (record { clause = c.at-clause.result.clause; blocker = c.index-row-first.result }) r.is_w r.is_row r.inside from c.slot-target.result target (let n = at in omega (arith, n, same_slot)) apart refl blocks c.args.self.now.clauses.items c.args.self.now.short.items t.rows t.short in
+    let k = table_moved c.args.self.now.rows.items c.args.self.now.lists.items t.watched t.blockers c.args.slot c.args.place c.args.first c.args.k c.requires.slot c.requires.place c.requires.first c.requires.later c.as_slice-row.result.now c.at-clause.result (record { clause = c.at-clause.result.clause; blocker = c.index-row-first.result; is_binary = false }) r.is_w r.is_row r.inside from c.slot-target.result target (let n = at in omega (arith, n, same_slot)) apart refl blocks c.args.self.now.clauses.items c.args.self.now.short.items t.rows t.short in
     let to = c.slot-target.result in
     let source = c.args.slot in
-    let added : Watch = record { clause = c.at-clause.result.clause; blocker = c.index-row-first.result } in
+    let added : Watch = record { clause = c.at-clause.result.clause; blocker = c.index-row-first.result; is_binary = false } in
     let n1 = length-set c.args.self.now.lists.items to (list_at c.args.self.now.lists.items to ++ added ∷ []) in
     let n2 = length-set (set c.args.self.now.lists.items to (list_at c.args.self.now.lists.items to ++ added ∷ [])) source (swap_remove (list_at c.args.self.now.lists.items source) c.args.place no_watch) in
     let all : length c.shift.new.lists.items ≡ length c.args.self.now.lists.items = ap length same_lists ∙ n2 ∙ n1 in

@@ -6,7 +6,7 @@ use Rattle.cdcl_proof.specs.Clause.{is_within}
 use Rattle.cdcl_proof.specs.Watching.{IsRow}
 use Rattle.cdcl_proof.specs.Watcher.{IsProgress}
 use Rattle.cdcl_proof.proofs.Rows.{row_of}
-use Rattle.cdcl_proof.proofs.Adding.{progress_reset}
+use Rattle.cdcl_proof.proofs.Adding.{watching_unchanged, progress_reset}
 use Rattle.cdcl_proof.proofs.watcher.Watcher.add_clause.Goals as goal
 
 pub add-requires-clause-row : goal.add-requires-clause-row
@@ -18,15 +18,10 @@ pub returns-clause-watching : goal.returns-clause-watching
 returns-clause-watching c =
     let w = c.requires.watching in
     let e = c.in_ok-add.ensures in
-    let p = progress_reset c.args.self.now.table.rows.items c.in_ok-row.row c.args.self.now.table.short.items c.add.new.self.short.items c.args.self.now.trail.entries c.args.self.now.head c.args.self.now.marks.items c.args.self.now.settled c.args.self.now.base w.table.short w.progress e.ok.longer e.ok.short in
-    let q = subst (λ (x : List (List Literal)). IsProgress x c.add.new.self.short.items c.args.self.now.trail.entries 0 [] c.args.self.now.settled c.args.self.now.base) (sym e.ok.rows) p in
-    let r = subst (λ (x : List ℕ). IsProgress c.add.new.self.rows.items c.add.new.self.short.items c.args.self.now.trail.entries 0 x c.args.self.now.settled c.args.self.now.base) (sym c.clear.ensures.items) q in
+    let p = progress_reset c.args.self.now.table.rows.items c.in_ok-row.row c.args.self.now.table.short.items c.add.new.self.short.items c.args.self.now.trail.entries c.args.self.now.head c.args.self.now.marks.items c.args.self.now.short_head c.args.self.now.base w.table.short w.progress e.ok.longer e.ok.short in
+    let q = subst (λ (x : List (List Literal)). IsProgress x c.add.new.self.short.items c.args.self.now.trail.entries 0 [] c.args.self.now.short_head c.args.self.now.base) (sym e.ok.rows) p in
+    let r = subst (λ (x : List ℕ). IsProgress c.add.new.self.rows.items c.add.new.self.short.items c.args.self.now.trail.entries 0 x c.args.self.now.short_head c.args.self.now.base) (sym c.clear.ensures.items) q in
     record { table = e.table; variables = w.variables ∙ sym e.variables; progress = r }
 
 pub returns-in_err-add-clause-watching : goal.returns-in_err-add-clause-watching
-returns-in_err-add-clause-watching c =
-    let w = c.requires.watching in
-    let e = c.in_err-add.ensures in
-    let p = subst (λ (x : List (List Literal)). IsProgress x c.args.self.now.table.short.items c.args.self.now.trail.entries c.args.self.now.head c.args.self.now.marks.items c.args.self.now.settled c.args.self.now.base) (sym e.err.rows) w.progress in
-    let q = subst (λ (x : List ℕ). IsProgress c.add.new.self.rows.items x c.args.self.now.trail.entries c.args.self.now.head c.args.self.now.marks.items c.args.self.now.settled c.args.self.now.base) (sym e.err.short) p in
-    record { table = e.table; variables = w.variables ∙ sym e.variables; progress = q }
+returns-in_err-add-clause-watching c = watching_unchanged c.args.self.now c.add.new.self c.requires.watching c.in_err-add.ensures.table c.in_err-add.ensures.variables c.in_err-add.ensures.err

@@ -15,7 +15,7 @@ add-requires-clause-among c =
 pub returns-clause-watching : goal.returns-clause-watching
 returns-clause-watching c =
     let w = c.requires.watching in
-    let p = progress_push c.args.self.now.table.rows.items c.args.self.now.table.short.items c.args.self.now.trail.entries (record { literal = c.args.literal; reason = Some c.args.number }) c.args.self.now.head c.args.self.now.marks.items c.args.self.now.settled c.args.self.now.base w.progress in
+    let p = progress_push c.args.self.now.table.rows.items c.args.self.now.table.short.items c.args.self.now.trail.entries (record { literal = c.args.literal; reason = Some c.args.number }) c.args.self.now.head c.args.self.now.marks.items c.args.self.now.short_head c.args.self.now.base w.progress in
     rw c.add.ensures.added (record { table = w.table; variables = w.variables; progress = p })
 
 pub returns-clause-propagates : goal.returns-clause-propagates

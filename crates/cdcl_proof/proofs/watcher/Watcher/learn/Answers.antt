@@ -12,56 +12,52 @@ use Rattle.cdcl_proof.specs.Replay.{clause_at}
 use Rattle.cdcl_proof.proofs.Sets.{all_at, all_from}
 use Rattle.cdcl_proof.proofs.Rows.{holds_at}
 use Rattle.cdcl_proof.proofs.Covering.{propagates_push}
-use Rattle.cdcl_proof.proofs.Adding.{brought, row_brought, progress_learnt, clause_last, number_last}
+use Rattle.cdcl_proof.proofs.Adding.{watching_unchanged, front_literal, row_in_front, progress_learnt, clause_last, number_last}
 use Rattle.cdcl_proof.proofs.watcher.Watcher.learn.Goals as goal
 
 pub add-requires-clause-row : goal.add-requires-clause-row
 add-requires-clause-row c =
-    row_brought c.args.self.now.trail.variables c.args.clause c.in_ok-row.row c.bring_last.new.row c.requires.clause (c.in_ok-row.ensures ∙ c.as_slice.ensures.literals) c.bring_last.ensures.same
+    row_in_front c.args.self.now.trail.variables c.args.clause c.in_ok-row.row c.bring_last.new.row c.requires.clause (c.in_ok-row.ensures ∙ c.as_slice.ensures.literals) c.bring_last.ensures.same
 
 pub marks_kept-kept-requires : goal.marks_kept-kept-requires
 marks_kept-kept-requires c =
-    let row = row_brought c.args.self.now.trail.variables c.args.clause c.in_ok-row.row c.bring_last.new.row c.requires.clause (c.in_ok-row.ensures ∙ c.as_slice.ensures.literals) c.bring_last.ensures.same in
+    let row = row_in_front c.args.self.now.trail.variables c.args.clause c.in_ok-row.row c.bring_last.new.row c.requires.clause (c.in_ok-row.ensures ∙ c.as_slice.ensures.literals) c.bring_last.ensures.same in
     let within = (and_parts (is_once c.args.clause) (is_within c.args.self.now.trail.variables c.args.clause) c.requires.clause).1 in
     rw c.as_slice-literals.ensures (all_from (is_among c.args.self.now.trail.variables) c.bring_last.new.row (λ l h. all_at (is_among c.args.self.now.trail.variables) c.args.clause l within (sym (row.same l) ∙ h)))
 
 pub add-requires-2-clause-among : goal.add-requires-2-clause-among
 add-requires-2-clause-among c =
     let w = c.requires.watching in
-    let b = brought c.args.self.now.trail.variables c.args.clause c.in_ok-row.row c.bring_last.new.row c.as_slice-literals.result.now c.index-literals-0.result c.literal-literal.result c.requires.clause c.requires.full (c.in_ok-row.ensures ∙ c.as_slice.ensures.literals) c.bring_last.ensures.same c.bring_last.ensures.first c.as_slice-literals.ensures c.index-literals-0.is c.literal-literal.ensures in
+    let b = front_literal c.args.self.now.trail.variables c.args.clause c.in_ok-row.row c.bring_last.new.row c.as_slice-literals.result.now c.index-literals-0.result c.literal-literal.result c.requires.clause c.requires.full (c.in_ok-row.ensures ∙ c.as_slice.ensures.literals) c.bring_last.ensures.same c.bring_last.ensures.first c.as_slice-literals.ensures c.index-literals-0.is c.literal-literal.ensures in
     subst (λ (l : Literal). is_among c.args.self.now.trail.variables l ≡ true) b.is_last (all_at (is_among c.args.self.now.trail.variables) c.args.clause (literal_at c.args.clause (length c.args.clause - 1)) b.within (holds_at c.args.clause (length c.args.clause - 1) (let f = c.requires.full in omega (arith, f))))
 
 pub add-requires-2-clause-free : goal.add-requires-2-clause-free
 add-requires-2-clause-free c =
     let w = c.requires.watching in
-    let b = brought c.args.self.now.trail.variables c.args.clause c.in_ok-row.row c.bring_last.new.row c.as_slice-literals.result.now c.index-literals-0.result c.literal-literal.result c.requires.clause c.requires.full (c.in_ok-row.ensures ∙ c.as_slice.ensures.literals) c.bring_last.ensures.same c.bring_last.ensures.first c.as_slice-literals.ensures c.index-literals-0.is c.literal-literal.ensures in
+    let b = front_literal c.args.self.now.trail.variables c.args.clause c.in_ok-row.row c.bring_last.new.row c.as_slice-literals.result.now c.index-literals-0.result c.literal-literal.result c.requires.clause c.requires.full (c.in_ok-row.ensures ∙ c.as_slice.ensures.literals) c.bring_last.ensures.same c.bring_last.ensures.first c.as_slice-literals.ensures c.index-literals-0.is c.literal-literal.ensures in
     subst (λ (l : Literal). is_free (literals c.args.self.now.trail.entries) l ≡ true) b.is_last c.requires.free
 
 pub returns-clause-watching : goal.returns-clause-watching
 returns-clause-watching c =
     let w = c.requires.watching in
-    let b = brought c.args.self.now.trail.variables c.args.clause c.in_ok-row.row c.bring_last.new.row c.as_slice-literals.result.now c.index-literals-0.result c.literal-literal.result c.requires.clause c.requires.full (c.in_ok-row.ensures ∙ c.as_slice.ensures.literals) c.bring_last.ensures.same c.bring_last.ensures.first c.as_slice-literals.ensures c.index-literals-0.is c.literal-literal.ensures in
+    let b = front_literal c.args.self.now.trail.variables c.args.clause c.in_ok-row.row c.bring_last.new.row c.as_slice-literals.result.now c.index-literals-0.result c.literal-literal.result c.requires.clause c.requires.full (c.in_ok-row.ensures ∙ c.as_slice.ensures.literals) c.bring_last.ensures.same c.bring_last.ensures.first c.as_slice-literals.ensures c.index-literals-0.is c.literal-literal.ensures in
     let e = c.in_ok-add.ensures in
     let free = subst (λ (l : Literal). is_free (literals c.args.self.now.trail.entries) l ≡ true) b.is_last c.requires.free in
     let kept_in : c.marks_kept-kept.result ≤ length c.args.self.now.marks.items = let n = ap length c.deref.ensures.value in omega (arith, n, c.marks_kept-kept.ensures.within) in
-    let after : 0 < c.marks_kept-kept.result → 1 < length c.bring_last.new.row → is_after c.args.self.now.trail.entries (get_or c.args.self.now.marks.items (c.marks_kept-kept.result - 1) 0) (literal_at c.bring_last.new.row 1).variable ≡ true = λ h two. subst (λ (xs : List ℕ). is_after c.args.self.now.trail.entries (get_or xs (c.marks_kept-kept.result - 1) 0) (literal_at c.bring_last.new.row 1).variable ≡ true) c.deref.ensures.value (subst (λ (r : List Literal). is_after c.args.self.now.trail.entries (get_or c.deref.result.now (c.marks_kept-kept.result - 1) 0) (literal_at r 1).variable ≡ true) c.as_slice-literals.ensures (c.marks_kept-kept.ensures.last h (let lits = ap length c.as_slice-literals.ensures in omega (arith, two, lits)))) in
-    let p = progress_learnt c.args.self.now.trail.variables c.args.self.now.table.rows.items c.bring_last.new.row c.args.self.now.table.short.items c.add.new.self.short.items c.args.self.now.trail.entries (record { literal = c.literal-literal.result; reason = Some c.len-number.result }) c.args.self.now.head c.args.self.now.marks.items c.args.self.now.settled c.args.self.now.base c.marks_kept-kept.result c.variables.ensures.apart w.table.short w.progress e.ok.longer e.ok.short b.some b.first free kept_in after in
-    let q = subst (λ (x : List (List Literal)). IsProgress x c.add.new.self.short.items (c.args.self.now.trail.entries ++ (record { literal = c.literal-literal.result; reason = Some c.len-number.result }) ∷ []) c.args.self.now.head (take c.marks_kept-kept.result c.args.self.now.marks.items) c.args.self.now.settled c.args.self.now.base) (sym e.ok.rows) p in
-    let r = subst (λ (x : List ℕ). IsProgress c.add.new.self.rows.items c.add.new.self.short.items (c.args.self.now.trail.entries ++ (record { literal = c.literal-literal.result; reason = Some c.len-number.result }) ∷ []) c.args.self.now.head x c.args.self.now.settled c.args.self.now.base) (sym c.truncate.ensures.items) q in
+    let ordered = c.bring_last.new.row in
+    let after : 0 < c.marks_kept-kept.result → 1 < length ordered → is_after c.args.self.now.trail.entries (get_or c.args.self.now.marks.items (c.marks_kept-kept.result - 1) 0) (literal_at ordered 1).variable ≡ true = λ h two. subst (λ (xs : List ℕ). is_after c.args.self.now.trail.entries (get_or xs (c.marks_kept-kept.result - 1) 0) (literal_at ordered 1).variable ≡ true) c.deref.ensures.value (subst (λ (r : List Literal). is_after c.args.self.now.trail.entries (get_or c.deref.result.now (c.marks_kept-kept.result - 1) 0) (literal_at r 1).variable ≡ true) c.as_slice-literals.ensures (c.marks_kept-kept.ensures.last h (let lits = ap length c.as_slice-literals.ensures in omega (arith, two, lits)))) in
+    let p = progress_learnt c.args.self.now.trail.variables c.args.self.now.table.rows.items c.bring_last.new.row c.args.self.now.table.short.items c.add.new.self.short.items c.args.self.now.trail.entries (record { literal = c.literal-literal.result; reason = Some c.len-number.result }) c.args.self.now.head c.args.self.now.marks.items c.args.self.now.short_head c.args.self.now.base c.marks_kept-kept.result c.variables.ensures.apart w.table.short w.progress e.ok.longer e.ok.short b.some b.first free kept_in after in
+    let q = subst (λ (x : List (List Literal)). IsProgress x c.add.new.self.short.items (c.args.self.now.trail.entries ++ (record { literal = c.literal-literal.result; reason = Some c.len-number.result }) ∷ []) c.args.self.now.head (take c.marks_kept-kept.result c.args.self.now.marks.items) c.args.self.now.short_head c.args.self.now.base) (sym e.ok.rows) p in
+    let r = subst (λ (x : List ℕ). IsProgress c.add.new.self.rows.items c.add.new.self.short.items (c.args.self.now.trail.entries ++ (record { literal = c.literal-literal.result; reason = Some c.len-number.result }) ∷ []) c.args.self.now.head x c.args.self.now.short_head c.args.self.now.base) (sym c.truncate.ensures.items) q in
     rw c.add-2.ensures.added (record { table = e.table; variables = w.variables ∙ sym e.variables; progress = r })
 
 pub returns-in_err-add-clause-watching : goal.returns-in_err-add-clause-watching
-returns-in_err-add-clause-watching c =
-    let w = c.requires.watching in
-    let e = c.in_err-add.ensures in
-    let p = subst (λ (x : List (List Literal)). IsProgress x c.args.self.now.table.short.items c.args.self.now.trail.entries c.args.self.now.head c.args.self.now.marks.items c.args.self.now.settled c.args.self.now.base) (sym e.err.rows) w.progress in
-    let q = subst (λ (x : List ℕ). IsProgress c.add.new.self.rows.items x c.args.self.now.trail.entries c.args.self.now.head c.args.self.now.marks.items c.args.self.now.settled c.args.self.now.base) (sym e.err.short) p in
-    record { table = e.table; variables = w.variables ∙ sym e.variables; progress = q }
+returns-in_err-add-clause-watching c = watching_unchanged c.args.self.now c.add.new.self c.requires.watching c.in_err-add.ensures.table c.in_err-add.ensures.variables c.in_err-add.ensures.err
 
-pub returns-clause-held : goal.returns-clause-held
-returns-clause-held c =
+pub returns-clause-propagates : goal.returns-clause-propagates
+returns-clause-propagates c =
     let w = c.requires.watching in
-    let b = brought c.args.self.now.trail.variables c.args.clause c.in_ok-row.row c.bring_last.new.row c.as_slice-literals.result.now c.index-literals-0.result c.literal-literal.result c.requires.clause c.requires.full (c.in_ok-row.ensures ∙ c.as_slice.ensures.literals) c.bring_last.ensures.same c.bring_last.ensures.first c.as_slice-literals.ensures c.index-literals-0.is c.literal-literal.ensures in
+    let b = front_literal c.args.self.now.trail.variables c.args.clause c.in_ok-row.row c.bring_last.new.row c.as_slice-literals.result.now c.index-literals-0.result c.literal-literal.result c.requires.clause c.requires.full (c.in_ok-row.ensures ∙ c.as_slice.ensures.literals) c.bring_last.ensures.same c.bring_last.ensures.first c.as_slice-literals.ensures c.index-literals-0.is c.literal-literal.ensures in
     let e = c.in_ok-add.ensures in
     let number : c.len-number.result ≡ length c.add.new.self.rows.items = search rules in
     let count = e.table.rows.count in

@@ -16,7 +16,7 @@ returns-then-len-capacity-clause-watching c =
         head_in = p.head_in;
         covered = p.covered;
         marked = subst (λ (xs : List ℕ). AreMarks c.args.self.now.table.rows.items c.args.self.now.trail.entries c.args.self.now.head xs) (sym c.push_reserved.ensures.items) m;
-        settled_in = p.settled_in;
+        short_head_in = p.short_head_in;
         base_in = p.base_in;
         short_true = p.short_true;
       };

@@ -7,13 +7,13 @@ use Rattle.cdcl_proof.proofs.watcher.Watcher.propagate.Goals as goal
 
 pub returns-in-Some-clause-propagates : goal.returns-in-Some-clause-propagates
 returns-in-Some-clause-propagates c =
-    propagates_on c.args.self.now.trail.entries c.loop-self.self c.settle.new.self c.settle.ensures.clauses c.loop-self.invariant.propagates c.settle.ensures.propagates
+    propagates_on c.args.self.now.trail.entries c.loop-self.self c.propagate_short.new.self c.propagate_short.ensures.clauses c.loop-self.invariant.propagates c.propagate_short.ensures.propagates
 
 pub loop-self-preserved : goal.loop-self-preserved
 loop-self-preserved c =
-    let e = c.settle.ensures in
+    let e = c.propagate_short.ensures in
     let i = c.loop-self.invariant in
-    record { watching = e.watching; clauses = e.clauses ∙ i.clauses; variables = e.variables ∙ i.variables; propagates = propagates_on c.args.self.now.trail.entries c.loop-self.self c.settle.new.self c.settle.ensures.clauses c.loop-self.invariant.propagates c.settle.ensures.propagates }
+    record { watching = e.watching; clauses = e.clauses ∙ i.clauses; variables = e.variables ∙ i.variables; propagates = propagates_on c.args.self.now.trail.entries c.loop-self.self c.propagate_short.new.self c.propagate_short.ensures.clauses c.loop-self.invariant.propagates c.propagate_short.ensures.propagates }
 
 pub returns-in_default-read_next-clause-propagates : goal.returns-in_default-read_next-clause-propagates
 returns-in_default-read_next-clause-propagates c =
@@ -39,12 +39,12 @@ loop-self-2-preserved c =
     let i = c.loop-self-2.invariant in
     let short = ap (λ (x : Vec ℕ Global). length x.items) e.short in
     let all = i.all in
-    let settled = e.settled in
-    record { watching = e.watching; clauses = e.clauses ∙ i.clauses; variables = e.variables ∙ i.variables; propagates = propagates_on c.args.self.now.trail.entries c.loop-self-2.self c.read_next.new.self c.read_next.ensures.clauses c.loop-self-2.invariant.propagates c.read_next.ensures.propagates; all = omega (arith, short, all, settled) }
+    let short_head = e.short_head in
+    record { watching = e.watching; clauses = e.clauses ∙ i.clauses; variables = e.variables ∙ i.variables; propagates = propagates_on c.args.self.now.trail.entries c.loop-self-2.self c.read_next.new.self c.read_next.ensures.clauses c.loop-self-2.invariant.propagates c.read_next.ensures.propagates; all = omega (arith, short, all, short_head) }
 
 pub returns-clause-outcome : goal.returns-clause-outcome
 returns-clause-outcome c =
     let i = c.loop-self-2.invariant in
     let w = i.watching in
     let s = c.loop-self-2.self in
-    closed_all c.loop-self-2.self.table.clauses.items c.loop-self-2.self.table.rows.items c.loop-self-2.self.table.short.items c.loop-self-2.self.trail.entries c.loop-self-2.self.head c.loop-self-2.self.marks.items c.loop-self-2.self.settled c.loop-self-2.self.base w.table.rows w.table.short w.progress (omega (arith, c.len-in-loop-self-2.ensures.len, c.loop-self-2-test.false)) i.all
+    closed_all c.loop-self-2.self.table.clauses.items c.loop-self-2.self.table.rows.items c.loop-self-2.self.table.short.items c.loop-self-2.self.trail.entries c.loop-self-2.self.head c.loop-self-2.self.marks.items c.loop-self-2.self.short_head c.loop-self-2.self.base w.table.rows w.table.short w.progress (omega (arith, c.len-in-loop-self-2.ensures.len, c.loop-self-2-test.false)) i.all

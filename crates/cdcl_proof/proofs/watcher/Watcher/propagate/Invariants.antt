@@ -12,7 +12,7 @@ invariant-loop-self l = record {
 }
 
 abbrev pub decreases-loop-self : goal.decreases-loop-self
-decreases-loop-self l = length l.self.table.short.items - l.self.settled
+decreases-loop-self l = length l.self.table.short.items - l.self.short_head
 
 abbrev pub invariant-loop-self-2 : goal.invariant-loop-self-2
 invariant-loop-self-2 l = record {
@@ -20,7 +20,7 @@ invariant-loop-self-2 l = record {
   clauses : l.self.table.clauses ≡ l.fn.self.table.clauses;
   variables : l.self.trail.variables ≡ l.fn.self.trail.variables;
   propagates : Propagates l.self.table.clauses.items l.fn.self.trail.entries l.self.trail.entries;
-  all : length l.self.table.short.items ≤ l.self.settled;
+  all : length l.self.table.short.items ≤ l.self.short_head;
 }
 
 abbrev pub decreases-loop-self-2 : goal.decreases-loop-self-2

@@ -1,8 +1,7 @@
-use Rattle.std.proofs.Common.{◌≡◌, ◌<◌, [], length, ap, ◌∙◌, arith}
-use Rattle.std.proofs.lemmas.List.{get_or_read}
+use Rattle.std.proofs.Common.{length, ap, arith}
 use Rattle.cdcl_proof.specs.Watching.{list_at}
 use Rattle.cdcl_proof.proofs.Tables.{length-swap_remove}
-use Rattle.cdcl_proof.proofs.Visiting.{propagates_on, still_at_head, visited_stays, visited_moved}
+use Rattle.cdcl_proof.proofs.Visiting.{propagates_on, inside_reach, reading_on, visited_stays, visited_moved}
 use Rattle.cdcl_proof.proofs.watcher.Watcher.read_list.Goals as goal
 
 pub loop-place-preserved-in-Ok-Stays : goal.loop-place-preserved-in-Ok-Stays
@@ -10,23 +9,11 @@ loop-place-preserved-in-Ok-Stays c =
     let e = c.visit.ensures in
     let i = c.loop-place.invariant in
     let kept = e.propagates.kept in
-    let h = still_at_head c.loop-place.self c.visit.new.self c.args.slot i.watching e.watching e.variables e.head e.propagates i.more i.slot i.low in
-    let list : c.index-in-loop-place.result.now ≡ list_at c.loop-place.self.table.lists.items c.args.slot = get_or_read c.loop-place.self.table.lists.items c.args.slot c.index-in-loop-place.result.now i.low c.index-in-loop-place.ensures [] in
-    let len : c.len.result ≡ length (list_at c.loop-place.self.table.lists.items c.args.slot) = c.len.ensures ∙ ap length (get_or_read c.loop-place.self.table.lists.items c.args.slot c.index.result.now i.low c.index.ensures []) in
-    let inside : c.loop-place.place < length (list_at c.loop-place.self.table.lists.items c.args.slot) = omega (arith, len, c.loop-place-test.true) in
+    let inside = inside_reach c.loop-place.self c.args.slot c.loop-place.place c.index.result.now c.reach.result i.reading.at_head.low c.index.ensures c.reach.ensures.within c.loop-place-test.true in
     record {
-      watching = e.watching;
-      clauses = e.clauses ∙ i.clauses;
-      short = e.short ∙ i.short;
-      settled = e.settled ∙ i.settled;
-      head = e.head ∙ i.head;
-      variables = e.variables ∙ i.variables;
-      propagates = propagates_on c.args.self.now.trail.entries c.loop-place.self c.visit.new.self c.visit.ensures.clauses c.loop-place.invariant.propagates c.visit.ensures.propagates;
-      more = h.more;
-      slot = h.slot_is;
-      low = h.low;
+      reading = reading_on c.args.self.now c.loop-place.self c.visit.new.self c.args.slot i.reading e.watching e.clauses e.short e.short_head e.head e.variables e.propagates;
       within = let v = rw c.in-Ok-Stays.field-0-is at c.in-Ok-Stays.ensures.visit in let n = v.1.len in omega (arith, n, inside);
-      visited = let v = rw c.in-Ok-Stays.field-0-is at c.in-Ok-Stays.ensures.visit in visited_stays c.loop-place.self.trail.entries c.visit.new.self.trail.entries c.loop-place.self.table.rows.items c.visit.new.self.table.rows.items (list_at c.loop-place.self.table.lists.items c.args.slot) (list_at c.visit.new.self.table.lists.items c.args.slot) c.loop-place.place kept v.0 v.1 i.visited v.2;
+      visited = λ all. let v = rw c.in-Ok-Stays.field-0-is at c.in-Ok-Stays.ensures.visit in visited_stays c.loop-place.self.trail.entries c.visit.new.self.trail.entries c.loop-place.self.table.rows.items c.visit.new.self.table.rows.items (list_at c.loop-place.self.table.lists.items c.args.slot) (list_at c.visit.new.self.table.lists.items c.args.slot) c.loop-place.place kept v.0 v.1 (i.visited all) v.2;
     }
 
 pub loop-place-preserved : goal.loop-place-preserved
@@ -34,27 +21,15 @@ loop-place-preserved c =
     let e = c.visit.ensures in
     let i = c.loop-place.invariant in
     let kept = e.propagates.kept in
-    let h = still_at_head c.loop-place.self c.visit.new.self c.args.slot i.watching e.watching e.variables e.head e.propagates i.more i.slot i.low in
-    let list : c.index-in-loop-place.result.now ≡ list_at c.loop-place.self.table.lists.items c.args.slot = get_or_read c.loop-place.self.table.lists.items c.args.slot c.index-in-loop-place.result.now i.low c.index-in-loop-place.ensures [] in
-    let len : c.len.result ≡ length (list_at c.loop-place.self.table.lists.items c.args.slot) = c.len.ensures ∙ ap length (get_or_read c.loop-place.self.table.lists.items c.args.slot c.index.result.now i.low c.index.ensures []) in
-    let inside : c.loop-place.place < length (list_at c.loop-place.self.table.lists.items c.args.slot) = omega (arith, len, c.loop-place-test.true) in
+    let inside = inside_reach c.loop-place.self c.args.slot c.loop-place.place c.index.result.now c.reach.result i.reading.at_head.low c.index.ensures c.reach.ensures.within c.loop-place-test.true in
     record {
-      watching = e.watching;
-      clauses = e.clauses ∙ i.clauses;
-      short = e.short ∙ i.short;
-      settled = e.settled ∙ i.settled;
-      head = e.head ∙ i.head;
-      variables = e.variables ∙ i.variables;
-      propagates = propagates_on c.args.self.now.trail.entries c.loop-place.self c.visit.new.self c.visit.ensures.clauses c.loop-place.invariant.propagates c.visit.ensures.propagates;
-      more = h.more;
-      slot = h.slot_is;
-      low = h.low;
+      reading = reading_on c.args.self.now c.loop-place.self c.visit.new.self c.args.slot i.reading e.watching e.clauses e.short e.short_head e.head e.variables e.propagates;
       within = let v = rw c.in-Ok-Moved.field-0-is at c.in-Ok-Moved.ensures.visit in let n = ap length v.1 in let m = length-swap_remove (list_at c.loop-place.self.table.lists.items c.args.slot) c.loop-place.place inside in omega (arith, n, m, inside);
-      visited = let v = rw c.in-Ok-Moved.field-0-is at c.in-Ok-Moved.ensures.visit in visited_moved c.loop-place.self.trail.entries c.visit.new.self.trail.entries c.loop-place.self.table.rows.items c.visit.new.self.table.rows.items (list_at c.loop-place.self.table.lists.items c.args.slot) (list_at c.visit.new.self.table.lists.items c.args.slot) c.loop-place.place kept v.0 v.1 inside i.visited;
+      visited = λ all. let v = rw c.in-Ok-Moved.field-0-is at c.in-Ok-Moved.ensures.visit in visited_moved c.loop-place.self.trail.entries c.visit.new.self.trail.entries c.loop-place.self.table.rows.items c.visit.new.self.table.rows.items (list_at c.loop-place.self.table.lists.items c.args.slot) (list_at c.visit.new.self.table.lists.items c.args.slot) c.loop-place.place kept v.0 v.1 inside (i.visited all);
     }
 
 pub returns-in-Ok-Conflict-clause-propagates : goal.returns-in-Ok-Conflict-clause-propagates
-returns-in-Ok-Conflict-clause-propagates c = propagates_on c.args.self.now.trail.entries c.loop-place.self c.visit.new.self c.visit.ensures.clauses c.loop-place.invariant.propagates c.visit.ensures.propagates
+returns-in-Ok-Conflict-clause-propagates c = propagates_on c.args.self.now.trail.entries c.loop-place.self c.visit.new.self c.visit.ensures.clauses c.loop-place.invariant.reading.propagates c.visit.ensures.propagates
 
 pub returns-in-Err-clause-propagates : goal.returns-in-Err-clause-propagates
-returns-in-Err-clause-propagates c = propagates_on c.args.self.now.trail.entries c.loop-place.self c.visit.new.self c.visit.ensures.clauses c.loop-place.invariant.propagates c.visit.ensures.propagates
+returns-in-Err-clause-propagates c = propagates_on c.args.self.now.trail.entries c.loop-place.self c.visit.new.self c.visit.ensures.clauses c.loop-place.invariant.reading.propagates c.visit.ensures.propagates

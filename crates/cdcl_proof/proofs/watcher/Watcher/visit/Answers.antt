@@ -16,7 +16,7 @@ use Rattle.std.proofs.lemmas.List.{get_or_read}
 use Rattle.cdcl_proof.proofs.Sets.{any_from}
 use Rattle.cdcl_proof.proofs.Rows.{holds_at}
 use Rattle.cdcl_proof.proofs.Tables.{among_row, list_inside}
-use Rattle.cdcl_proof.proofs.Covering.{implied_by_row, conflict_by_row, held_last}
+use Rattle.cdcl_proof.proofs.Covering.{implied_by_row, conflict_by_row, last_holds}
 use Rattle.cdcl_proof.proofs.Visiting.{same_clauses, same_from, visits, watched_false, moved_permuted, progress_moved}
 use Rattle.cdcl_proof.proofs.watcher.Watcher.visit.Goals as goal
 
@@ -80,8 +80,8 @@ pub returns-in_err-move_watch-in-Open-clause-watching : goal.returns-in_err-move
 returns-in_err-move_watch-in-Open-clause-watching c =
     let w = c.requires.watching in
     let e = c.in_err-move_watch-in-Open.ensures in
-    let p = subst (λ (x : Vec Row Global). IsProgress x.items c.args.self.now.table.short.items c.args.self.now.trail.entries c.args.self.now.head c.args.self.now.marks.items c.args.self.now.settled c.args.self.now.base) (sym e.err) w.progress in
-    let q = subst (λ (x : Vec ℕ Global). IsProgress c.move_watch.new.self.rows.items x.items c.args.self.now.trail.entries c.args.self.now.head c.args.self.now.marks.items c.args.self.now.settled c.args.self.now.base) (sym e.short) p in
+    let p = subst (λ (x : Vec Row Global). IsProgress x.items c.args.self.now.table.short.items c.args.self.now.trail.entries c.args.self.now.head c.args.self.now.marks.items c.args.self.now.short_head c.args.self.now.base) (sym e.err) w.progress in
+    let q = subst (λ (x : Vec ℕ Global). IsProgress c.move_watch.new.self.rows.items x.items c.args.self.now.trail.entries c.args.self.now.head c.args.self.now.marks.items c.args.self.now.short_head c.args.self.now.base) (sym e.short) p in
     record { table = e.table; variables = w.variables ∙ sym e.variables; progress = q }
 
 pub returns-in_ok-move_watch-in-Open-clause-watching : goal.returns-in_ok-move_watch-in-Open-clause-watching
@@ -93,9 +93,9 @@ returns-in_ok-move_watch-in-Open-clause-watching c =
     let i_in : (watch_at (list_at c.args.self.now.table.lists.items c.args.slot) c.args.place).clause < length c.args.self.now.table.rows.items = subst (λ (x : Watch). x.clause < length c.args.self.now.table.rows.items) c.requires.watch v.clause_in in
     let inside : c.in-Open.k < length (row_at c.args.self.now.table.rows.items (watch_at (list_at c.args.self.now.table.lists.items c.args.slot) c.args.place).clause) = subst (λ (x : List Literal). c.in-Open.k < length x) (sym (ap (λ (x : Watch). row_at c.args.self.now.table.rows.items x.clause) (sym c.requires.watch) ∙ v.is_row)) c.in-Open.ensures.1 in
     let not_false : holds (literals c.args.self.now.trail.entries) (negation (literal_at (row_at c.args.self.now.table.rows.items (watch_at (list_at c.args.self.now.table.lists.items c.args.slot) c.args.place).clause) c.in-Open.k)) ≡ false = subst (λ (x : List Literal). holds (literals c.args.self.now.trail.entries) (negation (literal_at x c.in-Open.k)) ≡ false) (sym (ap (λ (x : Watch). row_at c.args.self.now.table.rows.items x.clause) (sym c.requires.watch) ∙ v.is_row)) c.in-Open.ensures.2 in
-    let p = progress_moved c.args.self.now.table.rows.items (watch_at (list_at c.args.self.now.table.lists.items c.args.slot) c.args.place).clause c.watched_place-first.result c.in-Open.k i_in c.watched_place-first.ensures.low c.in-Open.ensures.0 inside c.args.self.now.table.short.items c.args.self.now.trail.entries c.args.self.now.head c.args.self.now.marks.items c.args.self.now.settled c.args.self.now.base not_false w.progress in
-    let r = subst (λ (x : List (List Literal)). IsProgress x c.args.self.now.table.short.items c.args.self.now.trail.entries c.args.self.now.head c.args.self.now.marks.items c.args.self.now.settled c.args.self.now.base) (sym e.rows) p in
-    let q = subst (λ (x : Vec ℕ Global). IsProgress c.move_watch.new.self.rows.items x.items c.args.self.now.trail.entries c.args.self.now.head c.args.self.now.marks.items c.args.self.now.settled c.args.self.now.base) (sym e.short) r in
+    let p = progress_moved c.args.self.now.table.rows.items (watch_at (list_at c.args.self.now.table.lists.items c.args.slot) c.args.place).clause c.watched_place-first.result c.in-Open.k i_in c.watched_place-first.ensures.low c.in-Open.ensures.0 inside c.args.self.now.table.short.items c.args.self.now.trail.entries c.args.self.now.head c.args.self.now.marks.items c.args.self.now.short_head c.args.self.now.base not_false w.progress in
+    let r = subst (λ (x : List (List Literal)). IsProgress x c.args.self.now.table.short.items c.args.self.now.trail.entries c.args.self.now.head c.args.self.now.marks.items c.args.self.now.short_head c.args.self.now.base) (sym e.rows) p in
+    let q = subst (λ (x : Vec ℕ Global). IsProgress c.move_watch.new.self.rows.items x.items c.args.self.now.trail.entries c.args.self.now.head c.args.self.now.marks.items c.args.self.now.short_head c.args.self.now.base) (sym e.short) r in
     record { table = e.table; variables = w.variables ∙ sym e.variables; progress = q }
 
 pub returns-in_ok-move_watch-in-Open-clause-visit : goal.returns-in_ok-move_watch-in-Open-clause-visit
@@ -108,8 +108,8 @@ returns-in_ok-move_watch-in-Open-clause-visit c =
     let permuted = moved_permuted c.args.self.now.table.rows.items (watch_at (list_at c.args.self.now.table.lists.items c.args.slot) c.args.place).clause c.watched_place-first.result c.in-Open.k i_in c.watched_place-first.ensures.low c.in-Open.ensures.0 inside in
     (subst (λ (x : List (List Literal)). ArePermuted c.args.self.now.table.rows.items x) (sym e.rows) permuted, e.list)
 
-pub refresh-requires-clause-blocks : goal.refresh-requires-clause-blocks
-refresh-requires-clause-blocks c =
+pub set_blocker-requires-clause-blocks : goal.set_blocker-requires-clause-blocks
+set_blocker-requires-clause-blocks c =
     let w = c.requires.watching in
     let v = visits c.args.self.now.table w.table c.args.slot c.args.place c.args.watch c.as_slice-row.result.now c.index.result.now (list_inside c.args.self.now.table.lists.items c.args.slot c.args.place c.requires.place) c.requires.place c.requires.watch c.as_slice-row.ensures c.index.ensures in
     let other_in : 1 - c.watched_place-first.result < length c.as_slice-row.result.now = omega (arith, v.long) in
@@ -121,16 +121,16 @@ refresh-requires-clause-blocks c =
 pub returns-in-Satisfied-clause-watching : goal.returns-in-Satisfied-clause-watching
 returns-in-Satisfied-clause-watching c =
     let w = c.requires.watching in
-    let e = c.refresh.ensures in
-    let p = subst (λ (x : Vec Row Global). IsProgress x.items c.args.self.now.table.short.items c.args.self.now.trail.entries c.args.self.now.head c.args.self.now.marks.items c.args.self.now.settled c.args.self.now.base) (sym e.rows) w.progress in
-    let q = subst (λ (x : Vec ℕ Global). IsProgress c.refresh.new.self.rows.items x.items c.args.self.now.trail.entries c.args.self.now.head c.args.self.now.marks.items c.args.self.now.settled c.args.self.now.base) (sym e.short) p in
+    let e = c.set_blocker.ensures in
+    let p = subst (λ (x : Vec Row Global). IsProgress x.items c.args.self.now.table.short.items c.args.self.now.trail.entries c.args.self.now.head c.args.self.now.marks.items c.args.self.now.short_head c.args.self.now.base) (sym e.rows) w.progress in
+    let q = subst (λ (x : Vec ℕ Global). IsProgress c.set_blocker.new.self.rows.items x.items c.args.self.now.trail.entries c.args.self.now.head c.args.self.now.marks.items c.args.self.now.short_head c.args.self.now.base) (sym e.short) p in
     record { table = e.table; variables = w.variables ∙ sym e.variables; progress = q }
 
 pub returns-in-Satisfied-clause-visit : goal.returns-in-Satisfied-clause-visit
 returns-in-Satisfied-clause-visit c =
     let w = c.requires.watching in
     let v = visits c.args.self.now.table w.table c.args.slot c.args.place c.args.watch c.as_slice-row.result.now c.index.result.now (list_inside c.args.self.now.table.lists.items c.args.slot c.args.place c.requires.place) c.requires.place c.requires.watch c.as_slice-row.ensures c.index.ensures in
-    let e = c.refresh.ensures in
+    let e = c.set_blocker.ensures in
     (ap (λ (x : Vec Row Global). x.items) e.rows, e.list, subst (λ (x : List Literal). is_satisfied (literals c.args.self.now.trail.entries) x ≡ true) (sym (ap (λ (x : Watch). row_at c.args.self.now.table.rows.items x.clause) (sym c.requires.watch) ∙ v.is_row)) c.in-Satisfied.ensures)
 
 pub imply-requires-clause-implied : goal.imply-requires-clause-implied
@@ -149,7 +149,7 @@ returns-in-Implied-clause-visit c =
     let rows = ap (λ (x : Table). x.rows.items) c.imply.ensures.table in
     let lists = ap (λ (x : Table). list_at x.lists.items c.args.slot) c.imply.ensures.table in
     let entries = ap (λ (x : Path). x.entries) c.imply.ensures.trail in
-    let held : holds (literals c.imply.new.self.trail.entries) c.in-Implied.literal ≡ true = subst (λ (x : List Entry). holds (literals x) c.in-Implied.literal ≡ true) (sym entries) (held_last c.args.self.now.trail.entries (record { literal = c.in-Implied.literal; reason = Some (c.from.result + 1) })) in
+    let held : holds (literals c.imply.new.self.trail.entries) c.in-Implied.literal ≡ true = subst (λ (x : List Entry). holds (literals x) c.in-Implied.literal ≡ true) (sym entries) (last_holds c.args.self.now.trail.entries (record { literal = c.in-Implied.literal; reason = Some (c.from.result + 1) })) in
     let within : holds (row_at c.args.self.now.table.rows.items (watch_at (list_at c.args.self.now.table.lists.items c.args.slot) c.args.place).clause) c.in-Implied.literal ≡ true = subst (λ (x : List Literal). holds x c.in-Implied.literal ≡ true) (sym (ap (λ (x : Watch). row_at c.args.self.now.table.rows.items x.clause) (sym c.requires.watch) ∙ v.is_row)) c.in-Implied.ensures.0 in
     (rows, same_from (list_at c.args.self.now.table.lists.items c.args.slot) (list_at c.imply.new.self.table.lists.items c.args.slot) lists, any_from (holds (literals c.imply.new.self.trail.entries)) (row_at c.args.self.now.table.rows.items (watch_at (list_at c.args.self.now.table.lists.items c.args.slot) c.args.place).clause) c.in-Implied.literal within held)
 
