@@ -3,7 +3,7 @@ use Rattle.std.proofs.Common.{◌≡◌, ℕ, List, [], Option, Some, None, Ok, 
 use Rattle.hw_model.specs.Types.{Name}
 use Rattle.diag.specs.declared.refusal.Refusal.{Refusal}
 use Rattle.command_line.specs.Normal.{normal}
-use Rattle.command_line.specs.Line.{Command, Paths, parsed, if_normal, line}
+use Rattle.command_line.specs.Line.{Command, Paths, parse, if_normal, line}
 use Rattle.command_line.specs.declared.usage.UsageKind.TheVariants.{Words}
 use Rattle.command_line.specs.declared.usage.UsageKind.{UsageKind}
 use Rattle.circt_top.specs.Words.{input_of, paths_in, fault_of, fault_in}
@@ -26,10 +26,10 @@ pub for_command : (words : List Name) (p : Command) (P : Command → Type 0) →
 for_command words p P h x = λ q k. subst P (same_command words h k) x
 
 -- what regular words say, the words say
-pub said_is : (words regular : List Name) (p : Command) → normal words ≡ Some regular → parsed regular ≡ Ok p → line words ≡ Ok p
+pub said_is : (words regular : List Name) (p : Command) → normal words ≡ Some regular → parse regular ≡ Ok p → line words ≡ Ok p
 said_is words regular p e h = ap (λ o. if_normal o) e ∙ h
 
-pub usage_is : (words regular : List Name) (kind : UsageKind) → normal words ≡ Some regular → parsed regular ≡ Err kind → fault_of words ≡ Some kind
+pub usage_is : (words regular : List Name) (kind : UsageKind) → normal words ≡ Some regular → parse regular ≡ Err kind → fault_of words ≡ Some kind
 usage_is words regular kind e h = ap fault_in (ap (λ o. if_normal o) e ∙ h)
 
 pub reserved_is : (words : List Name) → normal words ≡ None → fault_of words ≡ Some Words

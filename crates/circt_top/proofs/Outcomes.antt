@@ -27,7 +27,7 @@ use Rattle.mlir_printer.specs.Printable.{Printable}
 use Rattle.mlir_printer.specs.Spellable.{AreBytes}
 use Rattle.mlir_printer.specs.Texts.{ir_text}
 use Rattle.circt_top.specs.Accepting.{Accepted, IsRefused, unaccepted}
-use Rattle.circt_top.specs.Accepting.{read_failure as unread_text}
+use Rattle.circt_top.specs.Accepting.{unread as unread_text}
 use Rattle.circt_top.specs.Outcomes.{IsTaken, read_failure, verify_failure}
 use Rattle.circt_top.specs.Exports.{Exports}
 use Rattle.circt_top.specs.Outcome.{IsOutcome, Gives}

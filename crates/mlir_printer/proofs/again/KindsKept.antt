@@ -15,7 +15,7 @@ use Rattle.hw_model.specs.Kinds.Kind.{variadic, division, shift, constant, aggre
 use Rattle.hw_model.specs.Opcodes.{opcode_of, variadic_opcode, division_opcode, shift_opcode, array_opcode, kind_named_by}
 use Rattle.mlir_syntax.specs.ElementText.{InherentAttributes}
 use Rattle.mlir_syntax.specs.ElementText.InherentAttributes.{nothing}
-use Rattle.mlir_reader.specs.Resolving.{has_negative, kept_number, kept_integer, kept_by_first, kept_literal, kept_literals, said_kind, kind_or, kind_named}
+use Rattle.mlir_reader.specs.Resolving.{has_negative, kept_number, kept_integer, kept_by_first, kept_literal, kept_literals, inherent_kind, kind_or, kind_named}
 use Rattle.mlir_printer.specs.Numbers.{is_negative, shown_number, shown_integer, shown_by_first, shown_literal, shown_literals}
 use Rattle.mlir_printer.specs.Texts.{inherent_shown}
 use Rattle.mlir_printer.specs.Printable.{KeepsConstants}
@@ -77,7 +77,7 @@ mutual
 
 -- a kind that its opcode alone tells
 told : (k : Kind) (e : InherentAttributes) (ts : List HwType) → kind_named_by (opcode_of k) ≡ Some k → kind_named (opcode_of k) e ts ≡ k
-told k e ts found = ap (λ o. kind_or o (said_kind (opcode_of k) e ts)) found
+told k e ts found = ap (λ o. kind_or o (inherent_kind (opcode_of k) e ts)) found
 
 variadic_told : (v : Variadic) → kind_named_by (variadic_opcode v) ≡ Some (variadic v)
 variadic_told v = grind arith
@@ -92,7 +92,7 @@ array_told : (a : ArrayOp) → kind_named_by (array_opcode a) ≡ Some (on_array
 array_told a = grind arith
 
 pub kind_again : (k : Kind) (ts : List HwType) → KeepsConstants k ts → kind_named (opcode_of k) (inherent_shown k ts) ts ≡ k
-unfolding inherent_shown said_kind
+unfolding inherent_shown inherent_kind
 kind_again (variadic v) ts h = told (variadic v) nothing ts (variadic_told v)
 kind_again (division d) ts h = told (division d) nothing ts (division_told d)
 kind_again (shift s) ts h = told (shift s) nothing ts (shift_told s)

@@ -10,7 +10,7 @@ use Rattle.diag.specs.declared.refusal.Refusal.{Refusal}
 use Rattle.mlir_lexer.specs.Classes.{is_space, is_suffix_byte}
 use Rattle.mlir_lexer.specs.Runs.{run}
 use Rattle.mlir_lexer.specs.Fronts.{front_of, sign_front, mark_of}
-use Rattle.mlir_lexer.specs.Tokens.{Lexeme, told, tokens_behind}
+use Rattle.mlir_lexer.specs.Tokens.{Lexeme, lex_front, tokens_behind}
 use Rattle.mlir_lexer.specs.declared.token.TokenKind.{TokenKind}
 use Rattle.mlir_lexer.specs.declared.token.TokenKind.TheVariants as kind
 use Rattle.mlir_lexer.specs.declared.fronts.Front.TheVariants.{LineEnd, Gap, Token}
@@ -146,7 +146,7 @@ one_token {k = k} {n} b bs rest place at front count is =
       passed = t ∷ [];
       end = end;
       behind = behind;
-      same = ap (λ f. told f place at (b ∷ (bs ++ rest)) later) front ∙ ap (λ m. Ok t ∷ later m) left ∙ ap (λ x. Ok t ∷ x) e;
+      same = ap (λ f. lex_front f place at (b ∷ (bs ++ rest)) later) front ∙ ap (λ m. Ok t ∷ later m) left ∙ ap (λ x. Ok t ∷ x) e;
       says = (t, refl, is t refl text);
     }
 
@@ -163,7 +163,7 @@ blanks_passed (b ∷ bs) place at = go (is_space b) refl (b == 10) refl
 
     go : (s : Bool) → is_space b ≡ s → (e : Bool) → (b == 10) ≡ e
         → tokens_behind (cond s (run is_space bs + 1) 0) place at (b ∷ bs)
-        ≡ told (front_of b bs) place at (b ∷ bs) (λ more. tokens_behind more (next_place place b) (at + 1) bs)
+        ≡ lex_front (front_of b bs) place at (b ∷ bs) (λ more. tokens_behind more (next_place place b) (at + 1) bs)
     go false h e g = refl
     go true h true g = let same : b ≡ 10 = eqb-true b 10 g in absurd (cc (ap is_space same))
     go true h false g =
@@ -171,7 +171,7 @@ blanks_passed (b ∷ bs) place at = go (is_space b) refl (b == 10) refl
         cond-false (b == 10) LineEnd _ g ∙ cond-true (is_space b) (Gap (run is_space bs + 1)) _ h in
         let count : run is_space bs + 1 ≡ suc (run is_space bs) = add-one (run is_space bs) in
         let less : run is_space bs + 1 - 1 ≡ run is_space bs = omega arith in
-        ap (λ n. tokens_behind n place at (b ∷ bs)) count ∙ ap later (sym less) ∙ ap (λ f. told f place at (b ∷ bs) later) (sym front)
+        ap (λ n. tokens_behind n place at (b ∷ bs)) count ∙ ap later (sym less) ∙ ap (λ f. lex_front f place at (b ∷ bs) later) (sym front)
 
 blank_passed : (rest : List ℕ) (place : Place) (at : ℕ) → tokens_behind 0 place at (32 ∷ rest) ≡ tokens_behind 0 (next_place place 32) (at + 1) rest
 unfolding tokens_behind front_of

@@ -15,7 +15,7 @@ use Rattle.hw_model.specs.Design.Attribute.{unit_value, text_value, symbol_value
 use Rattle.mlir_lexer.specs.Classes.{is_digit, is_hex_digit}
 use Rattle.mlir_lexer.specs.Contents.{hex_value, unescape_byte, decode, content_of}
 use Rattle.mlir_lexer.specs.Fronts.{front_of}
-use Rattle.mlir_lexer.specs.Tokens.{Lexeme, told, tokens_behind, tokens}
+use Rattle.mlir_lexer.specs.Tokens.{Lexeme, lex_front, tokens_behind, tokens}
 use Rattle.mlir_lexer.specs.declared.contents.Pending.{Pending}
 use Rattle.mlir_lexer.specs.declared.contents.Pending.TheVariants.{Nothing, Backslash, HighDigit}
 use Rattle.mlir_lexer.specs.declared.fronts.Front.{Front}
@@ -50,7 +50,7 @@ HasBytes (Ok t) = AreBytes t.text
 HasBytes (Err r) = ⊤
 
 told_bytes : (f : Front) (place : Place) (at : ℕ) (bytes : List ℕ) (later : ℕ → List (Result Lexeme Refusal)) → AreBytes bytes
-    → ((n : ℕ) → Each HasBytes (later n)) → Each HasBytes (told f place at bytes later)
+    → ((n : ℕ) → Each HasBytes (later n)) → Each HasBytes (lex_front f place at bytes later)
 told_bytes LineEnd place at bytes later h l = l 0
 told_bytes (Gap n) place at bytes later h l = l (n - 1)
 told_bytes (Token k n) place at bytes later h l = (take_bytes n bytes h, l (n - 1))
@@ -65,7 +65,7 @@ tokens_bytes zero place at (b ∷ bs) h =
 tokens_bytes (suc skipped) place at (b ∷ bs) h = tokens_bytes skipped (next_place place b) (at + 1) bs h.1
 
 told_few : (f : Front) (place : Place) (at : ℕ) (bytes : List ℕ) (later : ℕ → List (Result Lexeme Refusal)) (n : ℕ)
-    → ((k : ℕ) → length (later k) ≤ n) → length (told f place at bytes later) ≤ suc n
+    → ((k : ℕ) → length (later k) ≤ n) → length (lex_front f place at bytes later) ≤ suc n
 told_few LineEnd place at bytes later n l = let e = l 0 in omega (arith, e)
 told_few (Gap k) place at bytes later n l = let e = l (k - 1) in omega (arith, e)
 told_few (Token t k) place at bytes later n l = let e = l (k - 1) in omega (arith, e)

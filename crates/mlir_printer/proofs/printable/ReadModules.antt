@@ -23,7 +23,7 @@ use Rattle.mlir_syntax.specs.ElementText.InherentAttributes.{child}
 use Rattle.assembly_format.specs.Formats.{front_elements, type_elements}
 use Rattle.mlir_syntax.specs.OperationText.{OperationText}
 use Rattle.mlir_syntax.specs.ModuleText.{PortText, ModuleText, module_keys}
-use Rattle.mlir_reader.specs.Resolving.{Meanings, said_instance, said_kind, kind_named, with_definitions, operation_definitions, operation_at, operations_from, port_definition, ports_from, no_meaning, port_meanings, meanings, ends_with_output, has_outputs, left_out_output, with_output, module_of, design_of}
+use Rattle.mlir_reader.specs.Resolving.{Meanings, inherent_instance, inherent_kind, kind_named, with_definitions, operation_definitions, operation_at, operations_from, port_definition, ports_from, no_meaning, port_meanings, meanings, ends_with_output, has_outputs, left_out_output, with_output, module_of, design_of}
 use Rattle.mlir_syntax.specs.Spelling.{Phrase, Either, Holding, Where, Nothing, Stands, IsPlaceOf, Commas, ValueName, OutputPhrase, FormatElementPhrase, ElementsPhrase, ResultsPhrase, OperationPhrase, OperationsPhrase, PortPhrase, AttributesPhrase, ModulePhrase, ModulesPhrase, FilePhrase}
 use Rattle.mlir_reader.specs.Spelling.{Spells}
 use Rattle.assembly_format.specs.declared.elements.FormatElement.{FormatElement}
@@ -87,12 +87,12 @@ abbrev outputs_of : Kind → ℕ
 outputs_of (instance i) = length i.outputs
 outputs_of _ = 0
 
-instance_outputs : (e : InherentAttributes) → length (said_instance e).outputs ≤ outputs_said e
+instance_outputs : (e : InherentAttributes) → length (inherent_instance e).outputs ≤ outputs_said e
 instance_outputs (child i) = omega arith
 instance_outputs _ = omega arith
 
 kind_outputs : (o : Listed) (e : InherentAttributes) (ts : List HwType) → outputs_of (kind_named o e ts) ≤ outputs_said e
-unfolding said_kind
+unfolding inherent_kind
 kind_outputs listed.HwInstance e ts = instance_outputs e
 kind_outputs _ e ts = omega arith
 

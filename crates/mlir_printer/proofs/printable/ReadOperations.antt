@@ -29,7 +29,7 @@ use Rattle.assembly_format.specs.Formats.{front_elements, type_elements}
 use Rattle.assembly_format.specs.declared.elements.Format.{Format}
 use Rattle.mlir_syntax.specs.OperationText.{OperationText, takes_bin, string_keys, given_entries}
 use Rattle.mlir_reader.specs.Resolving as read
-use Rattle.mlir_reader.specs.Resolving.{Meanings, resolve_operand, has_negative, kept_number, kept_integer, kept_by_first, kept_literal, kept_literals, said_position, said_number, said_literals, said_field, said_instance, said_kind, kind_named, sort_entries, without, is_dropped, has_name, is_name_entry, kept_entries, text_in, given_name, unless_digits, name_or, own_name_of, marks, marked_results, operation_definitions, operation_at}
+use Rattle.mlir_reader.specs.Resolving.{Meanings, resolve_operand, has_negative, kept_number, kept_integer, kept_by_first, kept_literal, kept_literals, inherent_position, inherent_number, inherent_literals, inherent_field, inherent_instance, inherent_kind, kind_named, sort_entries, without, is_dropped, has_name, is_name_entry, kept_entries, text_in, given_name, unless_digits, name_or, own_name_of, marks, marked_results, operation_definitions, operation_at}
 use Rattle.mlir_syntax.specs.Spelling.{Stands, AreOnce, DictionaryPhrase, EntryPhrase, MaybeDictionary, IsOneOf, FormPhrase, BinPhrase, ResultsPhrase, StandsInBody, OperationPhrase}
 use Rattle.mlir_printer.specs.Spellable.{Each, AreBytes, IsInteger, IsAnyType, IsLiteral, AreLiterals, IsValue, IsEntry}
 use Rattle.mlir_printer.specs.Printable.{AreInOrder, IsKeptDictionary, KeepsConstants, IsWritten, IsWrittenInstance}
@@ -198,41 +198,41 @@ mutual
 -- ---- kinds
 
 listed_again : (o : Listed) (e : InherentAttributes) (ts : List HwType) → StandsInBody o → opcode_of (kind_named o e ts) ≡ o
-unfolding said_kind
+unfolding inherent_kind
 listed_again listed.HwModule e ts h = absurd h
 listed_again _ e ts h = refl
 
 constants_kept : (o : Listed) (e : InherentAttributes) (ts : List HwType) → KeepsConstants (kind_named o e ts) ts
-unfolding said_kind
-constants_kept listed.HwConstant e ts = by_first_kept ts (said_number e)
-constants_kept listed.HwAggregateConstant e ts = literals_kept (said_literals e)
+unfolding inherent_kind
+constants_kept listed.HwConstant e ts = by_first_kept ts (inherent_number e)
+constants_kept listed.HwAggregateConstant e ts = literals_kept (inherent_literals e)
 constants_kept _ e ts = tt
 
-position_written : (e : InherentAttributes) → IsReadInherentAttributes e → said_position e < count_limit
+position_written : (e : InherentAttributes) → IsReadInherentAttributes e → inherent_position e < count_limit
 position_written (position n) h = h
 position_written _ h = omega arith
 
-number_written : (e : InherentAttributes) → IsReadInherentAttributes e → IsInteger (said_number e)
+number_written : (e : InherentAttributes) → IsReadInherentAttributes e → IsInteger (inherent_number e)
 number_written (number z) h = h
 number_written _ h = omega arith
 
-literals_written : (e : InherentAttributes) → IsReadInherentAttributes e → AreLiterals (said_literals e) 31
+literals_written : (e : InherentAttributes) → IsReadInherentAttributes e → AreLiterals (inherent_literals e) 31
 literals_written (literals ls) h = h
 literals_written _ h = tt
 
-field_written : (e : InherentAttributes) → IsReadInherentAttributes e → AreBytes (said_field e)
+field_written : (e : InherentAttributes) → IsReadInherentAttributes e → AreBytes (inherent_field e)
 field_written (field_name name) h = h
 field_written _ h = tt
 
-instance_written : (e : InherentAttributes) → IsReadInherentAttributes e → IsWrittenInstance (said_instance e)
+instance_written : (e : InherentAttributes) → IsReadInherentAttributes e → IsWrittenInstance (inherent_instance e)
 instance_written (child i) h = h
 instance_written _ h = record { name = tt; inner = tt; symbol = tt; inputs = tt; outputs = tt }
 
 kind_written : (o : Listed) (e : InherentAttributes) (ts : List HwType) → IsReadInherentAttributes e → IsWritten (kind_named o e ts)
-unfolding said_kind
+unfolding inherent_kind
 kind_written listed.CombExtract e ts h = position_written e h
-kind_written listed.HwConstant e ts h = by_first_small ts (said_number e) (number_written e h)
-kind_written listed.HwAggregateConstant e ts h = literals_small (said_literals e) 31 (literals_written e h)
+kind_written listed.HwConstant e ts h = by_first_small ts (inherent_number e) (number_written e h)
+kind_written listed.HwAggregateConstant e ts h = literals_small (inherent_literals e) 31 (literals_written e h)
 kind_written listed.HwStructExtract e ts h = field_written e h
 kind_written listed.HwStructInject e ts h = field_written e h
 kind_written listed.HwInstance e ts h = instance_written e h
