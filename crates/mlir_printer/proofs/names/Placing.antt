@@ -14,7 +14,7 @@ use Rattle.mlir_printer.specs.Elements.{no_value}
 use Rattle.mlir_printer.specs.Places.{no_place, place_at, place_in, place_for, port_places}
 use Rattle.mlir_printer.specs.Shown.{parts_in_body}
 use Rattle.mlir_printer.specs.Views.{value_in_slot, slot_value, port_placed}
-use Rattle.mlir_printer.specs.declared.value_names.Place.{Place}
+use Rattle.mlir_printer.specs.declared.value_names.Slot.{Slot}
 use Rattle.mlir_printer.proofs.steps.Passing.{drop_again}
 
 -- ---- ports
@@ -41,7 +41,7 @@ none_below k = go (nat_lt k 0) refl
 nowhere : (ns : List Name) (k : ℕ) → slot_value ns no_place k ≡ no_value
 nowhere ns k = ap (λ b. cond b (name_value_text (first_name (drop (0 + k) ns))) no_value) (none_below k)
 
-pub table_called : (ns : List Name) (places : List Place) (id k : ℕ) → value_in_slot ns (slice_get places id) k ≡ slot_value ns (place_for places id) k
+pub table_called : (ns : List Name) (places : List Slot) (id k : ℕ) → value_in_slot ns (slice_get places id) k ≡ slot_value ns (place_for places id) k
 table_called ns [] id k = sym (nowhere ns k)
 table_called ns (p ∷ places) zero k = refl
 table_called ns (p ∷ places) (suc id) k = table_called ns places id k
@@ -70,7 +70,7 @@ result_called ns (o ∷ ops) first id k = go (nat_eq o.id id) (result_called ns 
 -- ---- a table of places as it grows
 
 -- the place of an id: of an operation that is left, after so many names, or else what the table has
-abbrev pub place_left : List Place → ℕ → List BodyOp → ℕ → Place
+abbrev pub place_left : List Slot → ℕ → List BodyOp → ℕ → Slot
 place_left places first [] id = place_for places id
 place_left places first (o ∷ os) id = cond (nat_eq o.id id) (place_at first o.parts) (place_left places (first + name_count o.parts) os id)
 
@@ -78,12 +78,12 @@ pub none_kept : (first : ℕ) (ops : List BodyOp) (id : ℕ) → place_left [] f
 none_kept first [] id = refl
 none_kept first (o ∷ ops) id = ap (cond (nat_eq o.id id) (place_at first o.parts)) (none_kept (first + name_count o.parts) ops id)
 
-same_table : (places others : List Place) (first : ℕ) (ops : List BodyOp) (id : ℕ) → place_for others id ≡ place_for places id
+same_table : (places others : List Slot) (first : ℕ) (ops : List BodyOp) (id : ℕ) → place_for others id ≡ place_for places id
     → place_left others first ops id ≡ place_left places first ops id
 same_table places others first [] id e = e
 same_table places others first (o ∷ ops) id e = ap (cond (nat_eq o.id id) (place_at first o.parts)) (same_table places others (first + name_count o.parts) ops id e)
 
-not_left : (places : List Place) (first : ℕ) (ops : List BodyOp) (id : ℕ) → times id (ids_in ops) ≡ 0 → place_left places first ops id ≡ place_for places id
+not_left : (places : List Slot) (first : ℕ) (ops : List BodyOp) (id : ℕ) → times id (ids_in ops) ≡ 0 → place_left places first ops id ≡ place_for places id
 not_left places first [] id none = refl
 not_left places first (o ∷ ops) id none = go (nat_eq o.id id) none (not_left places (first + name_count o.parts) ops id)
   where
@@ -93,7 +93,7 @@ not_left places first (o ∷ ops) id none = go (nat_eq o.id id) none (not_left p
     go true n rest = absurd (omega (arith, n))
     go false n rest = rest n
 
-place_next : (places others : List Place) (first : ℕ) (o : BodyOp) (ops : List BodyOp) (id : ℕ) → AreDistinct (ids_in (o ∷ ops))
+place_next : (places others : List Slot) (first : ℕ) (o : BodyOp) (ops : List BodyOp) (id : ℕ) → AreDistinct (ids_in (o ∷ ops))
     → place_for others id ≡ cond (nat_eq o.id id) (place_at first o.parts) (place_for places id)
     → place_left others (first + name_count o.parts) ops id ≡ place_left places first (o ∷ ops) id
 place_next places others first o ops id once put = go (nat_eq o.id id) put (once id)
@@ -104,7 +104,7 @@ place_next places others first o ops id once put = go (nat_eq o.id id) put (once
     go false put once = same_table places others (first + name_count o.parts) ops id put
 
 -- one operation more has its place
-pub place_step : (places others : List Place) (first more : ℕ) (o : BodyOp) (before after : List BodyOp) (whole : ℕ → Place) → before ≡ o ∷ after → AreDistinct (ids_in before)
+pub place_step : (places others : List Slot) (first more : ℕ) (o : BodyOp) (before after : List BodyOp) (whole : ℕ → Slot) → before ≡ o ∷ after → AreDistinct (ids_in before)
     → ((id : ℕ) → place_for others id ≡ cond (nat_eq o.id id) (place_at first o.parts) (place_for places id)) → more ≡ first + name_count o.parts
     → ((id : ℕ) → place_left places first before id ≡ whole id) → (id : ℕ) → place_left others more after id ≡ whole id
 place_step places others first more o before after whole steps once put count kept id =
@@ -135,34 +135,34 @@ suc_suc m n = go (nat_eq m n) refl
     go true e = eq-eqb (suc m) (suc n) (ap suc (eqb-true m n e)) ∙ sym e
     go false e = ne_eqb (suc m) (suc n) (λ s. omega (arith, s, eqb-false m n e)) ∙ sym e
 
-get_same : (places : List Place) (j : ℕ) (p : Place) → j < length places → (id : ℕ) → place_for (set places j p) id ≡ cond (nat_eq j id) p (place_for places id)
+get_same : (places : List Slot) (j : ℕ) (p : Slot) → j < length places → (id : ℕ) → place_for (set places j p) id ≡ cond (nat_eq j id) p (place_for places id)
 get_same [] j p lt id = absurd (omega (arith, lt))
 get_same (q ∷ places) zero p lt zero = refl
 get_same (q ∷ places) zero p lt (suc id) = sym (ap (λ b. cond b p (place_for places id)) (zero_suc id))
 get_same (q ∷ places) (suc j) p lt zero = sym (ap (λ b. cond b p q) (suc_zero j))
 get_same (q ∷ places) (suc j) p lt (suc id) = get_same places j p (omega (arith, lt)) id ∙ sym (ap (λ b. cond b p (place_for places id)) (suc_suc j id))
 
-pub place_set : (old places : List Place) (j : ℕ) (p : Place) → j < length places → ((id : ℕ) → place_for places id ≡ place_for old id)
+pub place_set : (old places : List Slot) (j : ℕ) (p : Slot) → j < length places → ((id : ℕ) → place_for places id ≡ place_for old id)
     → (id : ℕ) → place_for (set places j p) id ≡ cond (nat_eq j id) p (place_for old id)
 place_set old places j p lt same id = get_same places j p lt id ∙ ap (cond (nat_eq j id) p) (same id)
 
-get_last : (places : List Place) (p : Place) (id : ℕ) → place_for (places ++ p ∷ []) id ≡ cond (nat_eq (length places) id) p (place_for places id)
+get_last : (places : List Slot) (p : Slot) (id : ℕ) → place_for (places ++ p ∷ []) id ≡ cond (nat_eq (length places) id) p (place_for places id)
 get_last [] p zero = refl
 get_last [] p (suc id) = sym (ap (λ b. cond b p no_place) (zero_suc id))
 get_last (q ∷ places) p zero = sym (ap (λ b. cond b p q) (suc_zero (length places)))
 get_last (q ∷ places) p (suc id) = get_last places p id ∙ sym (ap (λ b. cond b p (place_for places id)) (suc_suc (length places) id))
 
-pub place_last : (old places new : List Place) (j : ℕ) (p : Place) → length places ≡ j → new ≡ places ++ p ∷ [] → ((id : ℕ) → place_for places id ≡ place_for old id)
+pub place_last : (old places new : List Slot) (j : ℕ) (p : Slot) → length places ≡ j → new ≡ places ++ p ∷ [] → ((id : ℕ) → place_for places id ≡ place_for old id)
     → (id : ℕ) → place_for new id ≡ cond (nat_eq j id) p (place_for old id)
 place_last old places new j p count pushed same id =
     ap (λ l. place_for l id) pushed ∙ get_last places p id ∙ ap (λ n. cond (nat_eq n id) p (place_for places id)) count ∙ ap (cond (nat_eq j id) p) (same id)
 
 -- an empty place more changes nothing
-pub place_empty : (old places new : List Place) → new ≡ places ++ no_place ∷ [] → ((id : ℕ) → place_for places id ≡ place_for old id)
+pub place_empty : (old places new : List Slot) → new ≡ places ++ no_place ∷ [] → ((id : ℕ) → place_for places id ≡ place_for old id)
     → (id : ℕ) → place_for new id ≡ place_for old id
 place_empty old places new pushed same id = ap (λ l. place_for l id) pushed ∙ more places id ∙ same id
   where
-    more : (places : List Place) (id : ℕ) → place_for (places ++ no_place ∷ []) id ≡ place_for places id
+    more : (places : List Slot) (id : ℕ) → place_for (places ++ no_place ∷ []) id ≡ place_for places id
     more [] zero = refl
     more [] (suc id) = refl
     more (q ∷ places) zero = refl
