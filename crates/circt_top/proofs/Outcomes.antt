@@ -9,7 +9,7 @@ use Rattle.hw_model.specs.Types.{Name}
 use Rattle.command_line.specs.Line.{Command, Paths}
 use Rattle.command_line.specs.Line.Command.{opt, translate}
 use Rattle.export_verilog.specs.Aggregates.{HasNoAggregates}
-use Rattle.export_verilog.specs.Behaving.{BehavesAs}
+use Rattle.export_verilog.specs.Behaviour.{BehavesAs}
 use Rattle.export_verilog.specs.Exportable.{IsExportable}
 use Rattle.export_verilog.specs.Layout.{verilog_text}
 use Rattle.export_verilog.specs.Room.{HasRoomToExport}

@@ -3,7 +3,7 @@ use Rattle.std.specs.Prelude.{◌≡◌, ℕ, List, Some}
 use Rattle.diag.specs.declared.refusal.Refusal.{Refusal}
 use Rattle.hw_model.specs.Design.{Design}
 use Rattle.export_verilog.specs.Aggregates.{HasNoAggregates, first_aggregate}
-use Rattle.export_verilog.specs.Behaving.{BehavesAs}
+use Rattle.export_verilog.specs.Behaviour.{BehavesAs}
 use Rattle.export_verilog.specs.Layout.{verilog_text}
 use Rattle.circt_top.specs.Accepting.{Accepted}
 
