@@ -2,23 +2,23 @@
 use Rattle.std.proofs.Common.{◌≡◌, ℕ, ◌+◌, ◌-◌, ◌<◌, ◌≤◌, true, false, List, [], ◌∷◌, ◌++◌, length, get_or, take, drop, refl, sym, ◌∙◌, ap, subst, inl, inr, ◌⊎◌, arith, Option, MatchOption}
 use Rattle.std.proofs.lemmas.List.{get_or_read, get_or_append_left, get_or-take, get_or-drop, length-drop, length-take-le, length_push, take-append-le, take_at, take-take, get_or_push}
 use Rattle.std.proofs.lemmas.Bool.{and_parts, true≢false, false≢true, cases_eq, both_ways, not-true}
-use Rattle.cdcl_proof.specs.declared.literal.Literal.{Literal}
-use Rattle.cdcl_proof.specs.declared.log.Step.{Step}
+use Rattle.resolution_proof.specs.declared.literal.Literal.{Literal}
+use Rattle.resolution_proof.specs.declared.log.Step.{Step}
 use Rattle.cdcl_proof.specs.declared.table.Table.{Table}
 use Rattle.cdcl_proof.specs.declared.trail.Entry.{Entry}
 use Rattle.cdcl_proof.specs.declared.watcher.Watcher.{Watcher}
-use Rattle.cdcl_proof.specs.Literal.{negation, holds, mentions, is_once}
-use Rattle.cdcl_proof.specs.Fresh.{is_free, is_closed, is_empty}
-use Rattle.cdcl_proof.specs.Replay.{is_number, clause_at}
+use Rattle.resolution_proof.specs.Literal.{negation, holds, mentions, is_once}
+use Rattle.resolution_proof.specs.Fresh.{is_free, is_closed, is_empty}
+use Rattle.resolution_proof.specs.Replay.{is_number, clause_at}
 use Rattle.cdcl_proof.proofs.Sound.{is_number_at, clause_within}
-use Rattle.cdcl_proof.specs.Clause.{is_among, is_within, is_clause}
-use Rattle.cdcl_proof.specs.Formula.{are_clauses}
+use Rattle.resolution_proof.specs.Clause.{is_among, is_within, is_clause}
+use Rattle.resolution_proof.specs.Formula.{are_clauses}
 use Rattle.cdcl_proof.specs.Trail.{Path, literals, entry_at, no_entry, AreApart, IsSound, Stands, Implies, is_after}
 use Rattle.cdcl_proof.specs.Watching.{Watching, Propagates, AreShort, IsRow, IsCovered, is_satisfied, row_at, literal_at, no_literal}
 use Rattle.cdcl_proof.specs.Table.{IsTable, IsUnchanged}
 use Rattle.cdcl_proof.specs.Watcher.{IsProgress, IsWatching}
 use Rattle.cdcl_proof.specs.Resolving.{IsLearntClause}
-use Rattle.cdcl_proof.proofs.Sets.{all_at, any_from, mentions_from, holds_from_mentions}
+use Rattle.resolution_proof.proofs.Sets.{all_at, any_from, mentions_from, holds_from_mentions}
 use Rattle.cdcl_proof.proofs.Entries.{entry_of_mentions}
 use Rattle.cdcl_proof.proofs.Resolution.{cases_le}
 use Rattle.cdcl_proof.proofs.LearntClauses.{free_before, holds_before}

@@ -3,17 +3,17 @@ use Rattle.std.proofs.Common.{◌≡◌, ◌≢◌, ℕ, zero, suc, ◌+◌, ◌
 use Rattle.std.specs.List.{list_any}
 use Rattle.std.proofs.lemmas.List.{get_or-take, get_or_append_left, take-append-le, take_at, take-take, length-take-le, length_push, take_all, get_or_push, get_or_read}
 use Rattle.std.proofs.lemmas.Bool.{and_from, or_cases, or_left, or_right, false≢true, cases_eq, both_ways, not_from_false, leb-true, le-leb}
-use Rattle.cdcl_proof.specs.declared.literal.Literal.{Literal}
+use Rattle.resolution_proof.specs.declared.literal.Literal.{Literal}
 use Rattle.cdcl_proof.specs.declared.trail.Entry.{Entry}
-use Rattle.cdcl_proof.specs.Literal.{negation, same, holds, mentions}
-use Rattle.cdcl_proof.specs.Fresh.{is_free, count_free, is_closed, is_closed_at, is_unit}
+use Rattle.resolution_proof.specs.Literal.{negation, same, holds, mentions}
+use Rattle.resolution_proof.specs.Fresh.{is_free, count_free, is_closed, is_closed_at, is_unit}
 use Rattle.cdcl_proof.specs.Learning.{falsifies}
-use Rattle.cdcl_proof.specs.Replay.{is_number}
+use Rattle.resolution_proof.specs.Replay.{is_number}
 use Rattle.cdcl_proof.specs.Trail.{literals, entry_at, no_entry, Implies}
 use Rattle.cdcl_proof.specs.Propagation.{IsConflict}
 use Rattle.cdcl_proof.specs.Watching.{IsRow, AreRows, AreShort, AreMarks, IsCovered, AreCovered, Propagates, is_satisfied, row_at, literal_at}
 use Rattle.cdcl_proof.specs.Watcher.{IsProgress}
-use Rattle.cdcl_proof.proofs.Sets.{same-refl, all_at, all_from, any_at, any_from}
+use Rattle.resolution_proof.proofs.Sets.{same-refl, all_at, all_from, any_at, any_from}
 use Rattle.cdcl_proof.proofs.Entries.{holds_entry, entry_at-push_new}
 use Rattle.cdcl_proof.proofs.Scanning.{free_from}
 use Rattle.cdcl_proof.proofs.Resolution.{cases_le, holds_take}

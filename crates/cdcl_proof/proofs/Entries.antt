@@ -2,26 +2,20 @@
 use Rattle.std.proofs.Common.{◌≡◌, ◌≢◌, ℕ, zero, suc, ◌+◌, ◌-◌, ◌<◌, ◌≤◌, Bool, true, false, not, List, [], ◌∷◌, ◌++◌, length, get_or, drop, set, map, leb, refl, sym, ◌∙◌, ap, subst, inl, inr, ◌⊎◌, arith, Option, Some, None, is_some}
 use Rattle.std.proofs.Math.Bool.{beq}
 use Rattle.std.proofs.lemmas.List.{get_or_append_left, get_or_push, get_or-set_same, get_or-set_other, length_push, length-map, length-set, get_or-map, get_or-drop, length-drop, get_or_read}
-use Rattle.std.proofs.lemmas.Bool.{and_parts, and_from, or_cases, or_left, or_right, false≢true, true≢false, cases_eq, both_ways, false_from_ne_true, leb-true, le-leb}
-use Rattle.cdcl_proof.specs.declared.literal.Literal.{Literal}
+use Rattle.std.proofs.lemmas.Bool.{and_from, or_cases, or_left, or_right, false≢true, true≢false, cases_eq, both_ways, false_from_ne_true, leb-true, le-leb}
+use Rattle.resolution_proof.specs.declared.literal.Literal.{Literal}
 use Rattle.cdcl_proof.specs.declared.trail.Entry.{Entry}
 use Rattle.cdcl_proof.specs.declared.trail.Mark.{Mark}
-use Rattle.cdcl_proof.specs.Literal.{negation, same, holds, mentions}
-use Rattle.cdcl_proof.specs.Clause.{is_among}
-use Rattle.cdcl_proof.specs.Formula.{is_true}
+use Rattle.resolution_proof.specs.Literal.{negation, same, holds, mentions}
+use Rattle.resolution_proof.specs.Clause.{is_among}
+use Rattle.resolution_proof.specs.Formula.{is_true}
 use Rattle.cdcl_proof.specs.Trail.{literals, entry_at, no_entry, value_of, IsTied, AreApart, is_after, sign_of}
-use Rattle.cdcl_proof.proofs.Sets.{beq-true, beq-refl, same-true, same-refl, literal_ext, mentions_from, holds_from_mentions}
-use Rattle.cdcl_proof.proofs.Pigeons.{pigeonhole, distinct_from, below_from}
+use Rattle.resolution_proof.proofs.Sets.{beq-true, beq-refl, same-true, same-refl, literal_ext, mentions_from, holds_from_mentions, among_low, among_high}
+use Rattle.resolution_proof.proofs.Pigeons.{pigeonhole, distinct_from, below_from}
 
 -- the variable of the entry at a place
 abbrev pub variable_at : List Entry → ℕ → ℕ
 variable_at es k = (entry_at es k).literal.variable
-
-pub among_low : (variables : ℕ) (l : Literal) → is_among variables l ≡ true → 1 ≤ l.variable
-among_low variables l h = leb-true 1 l.variable ((and_parts (leb 1 l.variable) (leb l.variable variables) h).0)
-
-pub among_high : (variables : ℕ) (l : Literal) → is_among variables l ≡ true → l.variable ≤ variables
-among_high variables l h = leb-true l.variable variables ((and_parts (leb 1 l.variable) (leb l.variable variables) h).1)
 
 pub among_from : (variables : ℕ) (l : Literal) → 1 ≤ l.variable → l.variable ≤ variables → is_among variables l ≡ true
 among_from variables l low high = and_from (leb 1 l.variable) (leb l.variable variables) (le-leb 1 l.variable low) (le-leb l.variable variables high)

@@ -4,20 +4,20 @@ use Rattle.std.specs.List.{list_all}
 use Rattle.std.proofs.lemmas.List.{take-append-drop, take-append-le, drop-append-le, length-drop, length_push, reverse-append}
 use Rattle.std.proofs.lemmas.List.Folds.{list_all-append}
 use Rattle.std.proofs.lemmas.Bool.{and_parts, and_from, not_from_false, false≢true}
-use Rattle.cdcl_proof.specs.declared.literal.Literal.{Literal}
-use Rattle.cdcl_proof.specs.declared.log.Hint.{Hint}
-use Rattle.cdcl_proof.specs.declared.log.Step.{Step}
-use Rattle.cdcl_proof.specs.Literal.{is_once}
-use Rattle.cdcl_proof.specs.Clause.{is_clause}
-use Rattle.cdcl_proof.specs.Formula.{Formula, are_clauses, makes_true}
-use Rattle.cdcl_proof.specs.Replay.{learnt_clauses, derives, replay}
-use Rattle.cdcl_proof.specs.Regular.{is_regular, is_regular_log}
-use Rattle.cdcl_proof.specs.Fresh.{IsFresh, is_empty, has_no_empty}
+use Rattle.resolution_proof.specs.declared.literal.Literal.{Literal}
+use Rattle.resolution_proof.specs.declared.log.Hint.{Hint}
+use Rattle.resolution_proof.specs.declared.log.Step.{Step}
+use Rattle.resolution_proof.specs.Literal.{is_once}
+use Rattle.resolution_proof.specs.Clause.{is_clause}
+use Rattle.resolution_proof.specs.Formula.{Formula, are_clauses, makes_true}
+use Rattle.resolution_proof.specs.Replay.{learnt_clauses, derives, replay}
+use Rattle.resolution_proof.specs.Regular.{is_regular, is_regular_log}
+use Rattle.resolution_proof.specs.Fresh.{IsFresh, is_empty, has_no_empty}
 use Rattle.cdcl_proof.specs.Store.{IsKept, IsLogged, steps_of}
-use Rattle.cdcl_proof.specs.Proof.{IsProof, Refutes, Exhausts}
-use Rattle.cdcl_proof.proofs.Laws.{clauses_once, follows, fresh_new_from, replays_from-push, fresh_push, learnt_clauses-push}
+use Rattle.resolution_proof.specs.Proof.{IsProof, Refutes, Exhausts}
+use Rattle.resolution_proof.proofs.Laws.{clauses_once, follows, fresh_new_from, replays_from-push, fresh_push, learnt_clauses-push}
 use Rattle.cdcl_proof.proofs.Regularity.{regular_from-push}
-use Rattle.cdcl_proof.proofs.Counting.{fewer_than}
+use Rattle.resolution_proof.proofs.Counting.{fewer_than}
 
 given_clauses : (f : Formula) (steps : List Step) → IsKept f steps → (are_clauses f.variables f.clauses ≡ true) × (are_clauses f.variables (learnt_clauses steps) ≡ true)
 given_clauses f steps k = and_parts (are_clauses f.variables f.clauses) (are_clauses f.variables (learnt_clauses steps)) (sym (list_all-append (is_clause f.variables) f.clauses (learnt_clauses steps)) ∙ k.clauses)

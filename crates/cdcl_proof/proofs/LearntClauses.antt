@@ -5,18 +5,18 @@ use Rattle.std.specs.List.{list_any, filter}
 use Rattle.std.proofs.lemmas.List.{get_or-take, length-take, length-take-le, length-drop, get_or-drop, take-take, get_or_append_left, length_push}
 use Rattle.std.proofs.lemmas.List.Folds.{list_all-append}
 use Rattle.std.proofs.lemmas.Bool.{and_parts, and_from, or_cases, or_left, or_right, true≢false, false≢true, both_ways, not_from_false, not-true, false_from_ne_true, leb-true, le-leb}
-use Rattle.cdcl_proof.specs.declared.literal.Literal.{Literal}
-use Rattle.cdcl_proof.specs.declared.log.Hint.{Hint}
+use Rattle.resolution_proof.specs.declared.literal.Literal.{Literal}
+use Rattle.resolution_proof.specs.declared.log.Hint.{Hint}
 use Rattle.cdcl_proof.specs.declared.trail.Entry.{Entry}
-use Rattle.cdcl_proof.specs.Literal.{negation, same, holds, mentions, is_once}
-use Rattle.cdcl_proof.specs.Clause.{is_among, is_within, is_subset, is_same_set}
-use Rattle.cdcl_proof.specs.Replay.{clause_at, names_chain, chain_of, derives}
-use Rattle.cdcl_proof.specs.Fresh.{is_free, count_free, is_closed, is_closed_at, IsFresh, is_empty}
+use Rattle.resolution_proof.specs.Literal.{negation, same, holds, mentions, is_once}
+use Rattle.resolution_proof.specs.Clause.{is_among, is_within, is_subset, is_same_set}
+use Rattle.resolution_proof.specs.Replay.{clause_at, names_chain, chain_of, derives}
+use Rattle.resolution_proof.specs.Fresh.{is_free, count_free, is_closed, is_closed_at, IsFresh, is_empty}
 use Rattle.cdcl_proof.specs.Trail.{literals, entry_at, no_entry, AreApart, IsSound, Implies, NoDecision}
 use Rattle.cdcl_proof.specs.Learning.{is_seen, is_seen_entry, count_seen, seen_negations}
 use Rattle.cdcl_proof.specs.Resolving.{IsResolving, IsLearntClause}
 use Rattle.cdcl_proof.specs.Watching.{literal_at}
-use Rattle.cdcl_proof.proofs.Sets.{same-true, same-refl, negation-negation, all_at, all_from, mentions_from, holds_from_mentions}
+use Rattle.resolution_proof.proofs.Sets.{same-true, same-refl, negation-negation, all_at, all_from, mentions_from, holds_from_mentions}
 use Rattle.cdcl_proof.proofs.Entries.{variable_at, holds_entry, entry_of_holds, mentions_entry}
 use Rattle.cdcl_proof.proofs.Sound.{sound_take}
 use Rattle.cdcl_proof.proofs.Marking.{apart_once, count_seen-pos}

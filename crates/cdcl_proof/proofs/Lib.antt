@@ -1,16 +1,11 @@
-pub mod Sets
-pub mod Pigeons
 pub mod Entries
 pub mod Satisfying
 pub mod Scanning
 pub mod Sound
-pub mod Chains
 pub mod Regularity
 pub mod Marking
 pub mod Resolution
 pub mod LearntClauses
-pub mod Laws
-pub mod Counting
 pub mod Keeping
 pub mod Rows
 pub mod Tables

@@ -4,15 +4,15 @@ use Rattle.std.specs.List.{list_all}
 use Rattle.std.proofs.lemmas.List.{take_more, get_or-set_same, get_or-set_other, get_or-drop, length-drop}
 use Rattle.std.proofs.lemmas.List.Folds.{list_any-append}
 use Rattle.std.proofs.lemmas.Bool.{and_parts, and_from, or_parts, false≢true, eqb-true, eqb-false, ne_eqb, not_from_false, not-true, false_from_ne_true}
-use Rattle.cdcl_proof.specs.declared.literal.Literal.{Literal}
+use Rattle.resolution_proof.specs.declared.literal.Literal.{Literal}
 use Rattle.cdcl_proof.specs.declared.trail.Entry.{Entry}
-use Rattle.cdcl_proof.specs.Literal.{is_on, mentions, is_once}
-use Rattle.cdcl_proof.specs.Clause.{is_among, is_within}
+use Rattle.resolution_proof.specs.Literal.{is_on, mentions, is_once}
+use Rattle.resolution_proof.specs.Clause.{is_among, is_within}
 use Rattle.cdcl_proof.specs.Trail.{literals, entry_at, no_entry, AreApart, is_after}
 use Rattle.cdcl_proof.specs.Learning.{is_seen, is_seen_entry, is_seen_literal, count_seen}
 use Rattle.cdcl_proof.specs.Resolving.{AddsMarks, Resolves, NoneSeen}
-use Rattle.cdcl_proof.proofs.Sets.{all_at, holds_from_mentions}
-use Rattle.cdcl_proof.proofs.Entries.{variable_at, among_low, among_high, entry_of_mentions, mentions_entry}
+use Rattle.resolution_proof.proofs.Sets.{all_at, holds_from_mentions, among_low, among_high}
+use Rattle.cdcl_proof.proofs.Entries.{variable_at, entry_of_mentions, mentions_entry}
 
 pub seen-set_same : (seen : List Bool) (v : ℕ) (b : Bool) → 1 ≤ v → v ≤ length seen → is_seen (set seen (v - 1) b) v ≡ b
 seen-set_same seen v b low high = let inside : v - 1 < length seen = omega arith in get_or-set_same seen (v - 1) b false inside

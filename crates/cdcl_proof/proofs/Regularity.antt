@@ -1,16 +1,16 @@
 -- Why a conflict's resolutions are regular: each pivot stands after all variables of the reasons that come later.
 use Rattle.std.proofs.Common.{◌≡◌, ℕ, ◌+◌, ◌<◌, ◌≤◌, Bool, true, not, ◌&&◌, List, [], ◌∷◌, ◌++◌, length, refl, sym, ◌∙◌, ap, arith, append_assoc}
 use Rattle.std.proofs.lemmas.Bool.{and_from, ne_eqb, not_from_false}
-use Rattle.cdcl_proof.specs.declared.literal.Literal.{Literal}
-use Rattle.cdcl_proof.specs.declared.log.Hint.{Hint}
-use Rattle.cdcl_proof.specs.declared.log.Step.{Step}
+use Rattle.resolution_proof.specs.declared.literal.Literal.{Literal}
+use Rattle.resolution_proof.specs.declared.log.Hint.{Hint}
+use Rattle.resolution_proof.specs.declared.log.Step.{Step}
 use Rattle.cdcl_proof.specs.declared.trail.Entry.{Entry}
-use Rattle.cdcl_proof.specs.Literal.{is_on}
-use Rattle.cdcl_proof.specs.Replay.{clause_at, learnt_clauses, survives}
-use Rattle.cdcl_proof.specs.Regular.{avoids, is_regular_after, is_regular, is_regular_from}
+use Rattle.resolution_proof.specs.Literal.{is_on}
+use Rattle.resolution_proof.specs.Replay.{clause_at, learnt_clauses, survives}
+use Rattle.resolution_proof.specs.Regular.{avoids, is_regular_after, is_regular, is_regular_from}
 use Rattle.cdcl_proof.specs.Resolving.{ArePivotsFrom, HasPivotsFrom}
 use Rattle.cdcl_proof.specs.Trail.{entry_at, AreApart}
-use Rattle.cdcl_proof.proofs.Chains.{and-true, and-assoc}
+use Rattle.resolution_proof.proofs.Chains.{and-true, and-assoc}
 
 pub regular_after-push : (known : List (List Literal)) (e gs : List Hint) (h : Hint) → is_regular_after known e (gs ++ h ∷ []) ≡ (is_regular_after known e gs && avoids (e ++ gs) (clause_at known h.clause))
 regular_after-push known e [] h = and-true (avoids e (clause_at known h.clause)) ∙ ap (λ (x : List Hint). avoids x (clause_at known h.clause)) (sym (append_none e))

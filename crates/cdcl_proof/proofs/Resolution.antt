@@ -4,21 +4,22 @@ use Rattle.std.proofs.Math.Bool.{beq}
 use Rattle.std.specs.List.{list_all, list_any}
 use Rattle.std.proofs.lemmas.List.{get_or-take, length-take, length-drop, get_or-drop}
 use Rattle.std.proofs.lemmas.List.Folds.{list_any-append}
-use Rattle.std.proofs.lemmas.Bool.{and_parts, and_from, or_cases, or_left, or_right, eqb-true, eqb-false, eq-eqb, ne_eqb, both_ways, not-true, false_from_ne_true, leb-true, leb-false}
-use Rattle.cdcl_proof.specs.declared.literal.Literal.{Literal}
-use Rattle.cdcl_proof.specs.declared.log.Hint.{Hint}
+use Rattle.std.proofs.lemmas.Bool.{and_parts, and_from, or_cases, eqb-true, eqb-false, eq-eqb, ne_eqb, both_ways, not-true, false_from_ne_true, leb-true, leb-false}
+use Rattle.resolution_proof.specs.declared.literal.Literal.{Literal}
+use Rattle.resolution_proof.specs.declared.log.Hint.{Hint}
 use Rattle.cdcl_proof.specs.declared.trail.Entry.{Entry}
-use Rattle.cdcl_proof.specs.Literal.{negation, same, is_on, holds, mentions, is_once}
-use Rattle.cdcl_proof.specs.Clause.{is_among, without, resolvent}
-use Rattle.cdcl_proof.specs.Replay.{survives, is_number, clause_at, opposes, is_clash, fits, chain_of}
-use Rattle.cdcl_proof.specs.Fresh.{is_free, count_free, is_closed, is_closed_at}
+use Rattle.resolution_proof.specs.Literal.{negation, same, is_on, holds, mentions, is_once}
+use Rattle.resolution_proof.specs.Clause.{is_among, without, resolvent}
+use Rattle.resolution_proof.specs.Replay.{survives, is_number, clause_at, opposes, is_clash, fits, chain_of}
+use Rattle.resolution_proof.specs.Fresh.{count_free, is_closed, is_closed_at}
 use Rattle.cdcl_proof.specs.Trail.{literals, entry_at, no_entry, AreApart, IsSound, Implies}
 use Rattle.cdcl_proof.specs.Learning.{is_seen, is_seen_entry, is_seen_literal, count_seen, Represents}
 use Rattle.cdcl_proof.specs.Propagation.{IsConflict}
 use Rattle.cdcl_proof.specs.Resolving.{Resolves, NoneSeen, ArePivotsFrom, HasPivotsFrom, IsResolving, IsAnalysis, IsLevel}
-use Rattle.cdcl_proof.proofs.Sets.{same-true, same-refl, negation-negation, all_at, all_from, any_at, mentions_from, holds_from_mentions, once_same, once_apart, holds-resolvent}
-use Rattle.cdcl_proof.proofs.Entries.{variable_at, among_low, among_high, holds_entry, entry_of_holds, mentions_entry}
-use Rattle.cdcl_proof.proofs.Chains.{names_chain-push, chain_of-push}
+use Rattle.resolution_proof.proofs.Sets.{same-true, negation-negation, all_at, all_from, any_at, mentions_from, holds_from_mentions, once_same, once_apart, holds-resolvent, among_low, among_high}
+use Rattle.cdcl_proof.proofs.Entries.{variable_at, holds_entry, entry_of_holds, mentions_entry}
+use Rattle.resolution_proof.proofs.Chains.{names_chain-push, chain_of-push}
+use Rattle.resolution_proof.proofs.Laws.{some_free_in}
 use Rattle.cdcl_proof.proofs.Regularity.{regular_more, pivots_more, pivots_later, survives_from}
 use Rattle.cdcl_proof.proofs.Marking.{apart_once, count_between, count_seen-pos, resolves_off}
 
@@ -121,18 +122,6 @@ cases_le a b = go (leb a b) refl
     go : (t : Bool) → leb a b ≡ t → (a ≤ b) ⊎ (b < a)
     go true e = inl (leb-true a b e)
     go false e = inr (leb-false a b e)
-
--- where a clause has a free literal
-pub some_free_in : (t xs : List Literal) → 1 ≤ count_free t xs → (l : Literal) × (holds xs l ≡ true) × (is_free t l ≡ true)
-some_free_in t [] h = absurd (omega (arith, h))
-some_free_in t (x ∷ xs) h = go (is_free t x) refl (λ more. some_free_in t xs more)
-  where
-    go : (b : Bool) → is_free t x ≡ b → (1 ≤ count_free t xs → (l : Literal) × (holds xs l ≡ true) × (is_free t l ≡ true)) → (l : Literal) × (holds (x ∷ xs) l ≡ true) × (is_free t l ≡ true)
-    go true e ih = (x, or_left (same x x) (holds xs x) (same-refl x), e)
-    go false e ih =
-        let more : 1 ≤ count_free t xs = omega (arith, subst (λ (b : Bool). 1 ≤ cond b 1 0 + count_free t xs) e h) in
-        let r = ih more in
-        (r.0, or_right (same x r.0) (holds xs r.0) r.1, r.2)
 
 -- the clause of a number is closed where all are
 all_clauses_closed : (known : List (List Literal)) (t : List Literal) (n : ℕ) → is_number known n ≡ true → is_closed t known ≡ true → is_closed_at t (clause_at known n) ≡ true

@@ -3,10 +3,10 @@ use Rattle.std.proofs.Common.{◌≡◌, ◌≢◌, ℕ, zero, suc, ◌<◌, Boo
 use Rattle.std.proofs.lemmas.List.{get_or-set_same, get_or-set_other, length-set}
 use Rattle.std.proofs.lemmas.List.Edits.{length-swap, swap_is}
 use Rattle.std.proofs.lemmas.Bool.{and_parts, or_cases, or_left, or_right, false≢true, cases_eq, both_ways, not-true}
-use Rattle.cdcl_proof.specs.declared.literal.Literal.{Literal}
-use Rattle.cdcl_proof.specs.Literal.{same, holds, mentions, is_once}
+use Rattle.resolution_proof.specs.declared.literal.Literal.{Literal}
+use Rattle.resolution_proof.specs.Literal.{same, holds, mentions, is_once}
 use Rattle.cdcl_proof.specs.Watching.{IsRow, literal_at, no_literal}
-use Rattle.cdcl_proof.proofs.Sets.{same-true, same-refl, mentions_from}
+use Rattle.resolution_proof.proofs.Sets.{same-true, same-refl, mentions_from}
 
 pub holds_at : (row : List Literal) (k : ℕ) → k < length row → holds row (literal_at row k) ≡ true
 holds_at [] k l = absurd (omega (arith, l))

@@ -3,14 +3,13 @@ use Rattle.std.proofs.Common.{◌≡◌, ℕ, ◌+◌, Bool, true, false, List, 
 use Rattle.std.specs.List.{list_all, list_any}
 use Rattle.std.proofs.lemmas.List.Folds.{list_all-append}
 use Rattle.std.proofs.lemmas.Bool.{eq-eqb, and_parts, and_from, or_cases, leb-true, not_from_true}
-use Rattle.cdcl_proof.specs.declared.literal.Literal.{Literal}
-use Rattle.cdcl_proof.specs.Literal.{holds, mentions, is_once}
-use Rattle.cdcl_proof.specs.Clause.{is_among, is_within, is_clause}
-use Rattle.cdcl_proof.specs.Fresh.{is_free, count_free, is_closed, is_closed_at}
-use Rattle.cdcl_proof.specs.Formula.{Formula, are_clauses, is_true, makes_true, satisfies}
+use Rattle.resolution_proof.specs.declared.literal.Literal.{Literal}
+use Rattle.resolution_proof.specs.Literal.{holds, mentions, is_once}
+use Rattle.resolution_proof.specs.Clause.{is_among, is_within, is_clause}
+use Rattle.resolution_proof.specs.Fresh.{is_free, count_free, is_closed, is_closed_at}
+use Rattle.resolution_proof.specs.Formula.{Formula, are_clauses, is_true, makes_true, satisfies}
 use Rattle.cdcl_proof.specs.Trail.{IsTotal}
-use Rattle.cdcl_proof.proofs.Sets.{any_at, any_from}
-use Rattle.cdcl_proof.proofs.Entries.{among_low, among_high}
+use Rattle.resolution_proof.proofs.Sets.{any_at, any_from, among_low, among_high}
 
 -- no literal of a clause is free under a total set
 count_free-total : (variables : ℕ) (s c : List Literal) → IsTotal variables s → is_within variables c ≡ true → count_free s c ≡ 0

@@ -4,13 +4,13 @@ use Rattle.std.specs.List.{list_all, list_any}
 use Rattle.std.proofs.lemmas.List.{take_more, take_all, take-append-drop}
 use Rattle.std.proofs.lemmas.List.Folds.{list_all-append, list_any_at}
 use Rattle.std.proofs.lemmas.Bool.{and_parts, and_from, or_left, or_right, false≢true, true≢false, le-leb, both_ways, not_from_false, false_from_ne_true}
-use Rattle.cdcl_proof.specs.declared.literal.Literal.{Literal}
-use Rattle.cdcl_proof.specs.Literal.{negation, same, holds, mentions}
-use Rattle.cdcl_proof.specs.Fresh.{is_free, count_free, is_closed_at, is_unit}
+use Rattle.resolution_proof.specs.declared.literal.Literal.{Literal}
+use Rattle.resolution_proof.specs.Literal.{negation, same, holds, mentions}
+use Rattle.resolution_proof.specs.Fresh.{is_free, count_free, is_closed_at, is_unit}
 use Rattle.cdcl_proof.specs.Trail.{value_of}
 use Rattle.cdcl_proof.specs.Learning.{falsifies}
 use Rattle.cdcl_proof.specs.Propagation.{IsScan}
-use Rattle.cdcl_proof.proofs.Sets.{same-refl, literal_ext, holds_from_mentions, holds-append}
+use Rattle.resolution_proof.proofs.Sets.{same-refl, literal_ext, holds_from_mentions, holds-append}
 
 value_cases : (h n : Bool) (r : Option Bool) → r ≡ cond h (Some true) (cond n (Some false) None) → ((r ≡ Some true) × (h ≡ true)) ⊎ (((r ≡ Some false) × (h ≡ false) × (n ≡ true)) ⊎ ((r ≡ None) × (h ≡ false) × (n ≡ false)))
 value_cases true n r e = inl (e, refl)

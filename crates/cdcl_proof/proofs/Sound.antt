@@ -3,12 +3,12 @@ use Rattle.std.proofs.Common.{◌≡◌, ℕ, zero, suc, ◌+◌, ◌-◌, ◌<�
 use Rattle.std.specs.List.{list_all}
 use Rattle.std.proofs.lemmas.List.{take-append-le, take_at, take-take, get_or-take, length-take-le}
 use Rattle.std.proofs.lemmas.Bool.{and_parts, and_from, le-leb}
-use Rattle.cdcl_proof.specs.declared.literal.Literal.{Literal}
+use Rattle.resolution_proof.specs.declared.literal.Literal.{Literal}
 use Rattle.cdcl_proof.specs.declared.trail.Entry.{Entry}
-use Rattle.cdcl_proof.specs.Literal.{is_once}
-use Rattle.cdcl_proof.specs.Clause.{is_within, is_clause}
-use Rattle.cdcl_proof.specs.Formula.{are_clauses}
-use Rattle.cdcl_proof.specs.Replay.{is_number, clause_at}
+use Rattle.resolution_proof.specs.Literal.{is_once}
+use Rattle.resolution_proof.specs.Clause.{is_within, is_clause}
+use Rattle.resolution_proof.specs.Formula.{are_clauses}
+use Rattle.resolution_proof.specs.Replay.{is_number, clause_at}
 use Rattle.cdcl_proof.specs.Trail.{IsSound, Stands, entry_at, no_entry}
 use Rattle.cdcl_proof.proofs.Entries.{cases_push, entry_at-push_old, entry_at-push_new}
 

@@ -6,17 +6,16 @@ use Rattle.std.proofs.lemmas.List.{get_or-set_same, get_or-set_other, length-set
 use Rattle.std.proofs.lemmas.List.Edits.{length-swap}
 use Rattle.std.proofs.lemmas.List.Sums.{sum_by-swap_remove, sum_by-set, sum_by_push, get_or-le-sum_by}
 use Rattle.std.proofs.lemmas.Bool.{cases_eq, eq-eqb, ne_eqb, false≢true, and_parts, and_from}
-use Rattle.cdcl_proof.specs.declared.literal.Literal.{Literal}
+use Rattle.resolution_proof.specs.declared.literal.Literal.{Literal}
 use Rattle.cdcl_proof.specs.declared.row.Watch.{Watch}
-use Rattle.cdcl_proof.specs.Literal.{holds, is_once, slot_of}
-use Rattle.cdcl_proof.specs.Clause.{is_among, is_within, is_clause}
-use Rattle.cdcl_proof.specs.Formula.{are_clauses}
+use Rattle.resolution_proof.specs.Literal.{holds, is_once}
+use Rattle.resolution_proof.specs.Clause.{is_among, is_within, is_clause}
+use Rattle.resolution_proof.specs.Formula.{are_clauses}
 use Rattle.cdcl_proof.specs.declared.table.Table.{Table}
 use Rattle.cdcl_proof.specs.Table.{IsTable, IsEntered}
-use Rattle.cdcl_proof.specs.Watching.{IsRow, AreRows, AreWatched, ArePermuted, HaveBlockers, AreShort, HasSameClauses, count_of, watch_count, added_lists, row_at, list_at, watch_at, literal_at, no_literal, no_watch}
-use Rattle.cdcl_proof.proofs.Sets.{literal_ext, all_at}
+use Rattle.cdcl_proof.specs.Watching.{IsRow, AreRows, AreWatched, ArePermuted, HaveBlockers, AreShort, HasSameClauses, count_of, watch_count, added_lists, row_at, list_at, watch_at, literal_at, no_literal, no_watch, slot_of}
+use Rattle.resolution_proof.proofs.Sets.{literal_ext, all_at, among_high}
 use Rattle.cdcl_proof.proofs.Resolution.{cases_le}
-use Rattle.cdcl_proof.proofs.Entries.{among_high}
 use Rattle.cdcl_proof.proofs.Sound.{all_clauses}
 use Rattle.cdcl_proof.proofs.Rows.{holds_at, swap_first, swap_other, holds-swap, row_swap}
 

@@ -5,20 +5,20 @@ use Rattle.std.proofs.lemmas.List.{get_or_read, get_or-take}
 use Rattle.std.proofs.lemmas.List.Sums.{sum_by-cons}
 use Rattle.std.proofs.lemmas.Bool.{cases_eq, false_from_ne_true, both_ways}
 use Rattle.std.specs.declared.vec.Vec.{Vec}
-use Rattle.cdcl_proof.specs.declared.clause.Clause.{Clause}
-use Rattle.cdcl_proof.specs.declared.literal.Literal.{Literal}
+use Rattle.resolution_proof.specs.declared.clause.Clause.{Clause}
+use Rattle.resolution_proof.specs.declared.literal.Literal.{Literal}
 use Rattle.cdcl_proof.specs.declared.row.Watch.{Watch}
 use Rattle.cdcl_proof.specs.declared.table.Table.{Table}
 use Rattle.cdcl_proof.specs.declared.trail.Entry.{Entry}
 use Rattle.cdcl_proof.specs.declared.watcher.Watcher.{Watcher}
-use Rattle.cdcl_proof.specs.Literal.{negation, holds, slot_of}
-use Rattle.cdcl_proof.specs.Clause.{is_among, is_within}
+use Rattle.resolution_proof.specs.Literal.{negation, holds}
+use Rattle.resolution_proof.specs.Clause.{is_among, is_within}
 use Rattle.cdcl_proof.specs.Trail.{literals, entry_at, no_entry}
 use Rattle.cdcl_proof.specs.Table.{IsTable}
 use Rattle.cdcl_proof.specs.Watcher.{IsProgress, IsWatching}
-use Rattle.cdcl_proof.specs.Watching.{Propagates, watch_count, count_of, AreVisited, AreCovered, IsCovered, ArePermuted, HasSameClauses, is_satisfied, row_at, list_at, watch_at, literal_at, no_watch}
-use Rattle.cdcl_proof.proofs.Sets.{negation-negation, all_from}
-use Rattle.cdcl_proof.proofs.Entries.{holds_entry, among_high}
+use Rattle.cdcl_proof.specs.Watching.{Propagates, watch_count, count_of, AreVisited, AreCovered, IsCovered, ArePermuted, HasSameClauses, is_satisfied, row_at, list_at, watch_at, literal_at, no_watch, slot_of}
+use Rattle.resolution_proof.proofs.Sets.{negation-negation, all_from, among_high}
+use Rattle.cdcl_proof.proofs.Entries.{holds_entry}
 use Rattle.cdcl_proof.proofs.Resolution.{holds_take}
 use Rattle.cdcl_proof.proofs.LearntClauses.{holds_before}
 use Rattle.cdcl_proof.proofs.Rows.{holds-swap}

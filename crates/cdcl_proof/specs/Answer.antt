@@ -2,8 +2,8 @@
 use Rattle.std.specs.Prelude.{ℕ, IsTrue}
 use Rattle.cdcl_proof.specs.declared.solve.Answer.{Answer}
 use Rattle.cdcl_proof.specs.declared.solve.Answer.TheVariants.{Refuted, Satisfied, Spent}
-use Rattle.cdcl_proof.specs.Formula.{Formula, satisfies}
-use Rattle.cdcl_proof.specs.Proof.{Refutes, Exhausts}
+use Rattle.resolution_proof.specs.Formula.{Formula, satisfies}
+use Rattle.resolution_proof.specs.Proof.{Refutes, Exhausts}
 
 -- what an answer says of the formula
 abbrev pub Answers : Formula → ℕ → Answer → Type 0

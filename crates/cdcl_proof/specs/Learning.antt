@@ -1,9 +1,9 @@
 -- Conflict analysis: a resolvent of false literals, told by the variables that it has.
 use Rattle.std.specs.Prelude.{ℕ, Bool, false, ◌≡◌, ◌&&◌, cond, ◌+◌, ◌-◌, List, [], ◌∷◌, slice_index_or, map}
 use Rattle.std.specs.List.{list_all, filter}
-use Rattle.cdcl_proof.specs.declared.literal.Literal.{Literal}
+use Rattle.resolution_proof.specs.declared.literal.Literal.{Literal}
 use Rattle.cdcl_proof.specs.declared.trail.Entry.{Entry}
-use Rattle.cdcl_proof.specs.Literal.{negation, holds}
+use Rattle.resolution_proof.specs.Literal.{negation, holds}
 
 -- the variable is marked
 abbrev pub is_seen : List Bool → ℕ → Bool

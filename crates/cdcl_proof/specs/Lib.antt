@@ -1,15 +1,8 @@
-pub mod Literal
-pub mod Clause
-pub mod Formula
-pub mod Replay
-pub mod Fresh
-pub mod Regular
 pub mod Trail
 pub mod Learning
 pub mod Store
 pub mod Propagation
 pub mod Resolving
-pub mod Proof
 pub mod Order
 pub mod Search
 pub mod Answer

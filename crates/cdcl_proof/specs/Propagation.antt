@@ -1,11 +1,11 @@
 -- What propagation finds.
 use Rattle.std.specs.Prelude.{ℕ, true, ◌≡◌, ◌≤◌, List, Option, Some, None}
-use Rattle.cdcl_proof.specs.declared.literal.Literal.{Literal}
+use Rattle.resolution_proof.specs.declared.literal.Literal.{Literal}
 use Rattle.cdcl_proof.specs.declared.propagation.State.{State}
 use Rattle.cdcl_proof.specs.declared.propagation.State.TheVariants.{Closed, Open, False}
-use Rattle.cdcl_proof.specs.Literal.{holds}
-use Rattle.cdcl_proof.specs.Replay.{is_number, clause_at}
-use Rattle.cdcl_proof.specs.Fresh.{is_closed, is_closed_at, is_unit, is_free, count_free}
+use Rattle.resolution_proof.specs.Literal.{holds}
+use Rattle.resolution_proof.specs.Replay.{is_number, clause_at}
+use Rattle.resolution_proof.specs.Fresh.{is_closed, is_closed_at, is_unit, is_free, count_free}
 use Rattle.cdcl_proof.specs.Learning.{falsifies}
 
 -- the clause under the set: closed, or with one literal left open, or false

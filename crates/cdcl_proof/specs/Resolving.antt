@@ -1,14 +1,14 @@
 -- What conflict analysis keeps while it resolves.
 use Rattle.std.specs.Prelude.{ℕ, zero, suc, Bool, true, false, ◌≡◌, ◌<◌, ◌≤◌, ◌||◌, ◌&&◌, ◌==◌, ◌++◌, ◌∷◌, ◌-◌, not, List, [], length, take, drop}
-use Rattle.cdcl_proof.specs.declared.literal.Literal.{Literal}
-use Rattle.cdcl_proof.specs.declared.log.Hint.{Hint}
-use Rattle.cdcl_proof.specs.declared.log.Step.{Step}
+use Rattle.resolution_proof.specs.declared.literal.Literal.{Literal}
+use Rattle.resolution_proof.specs.declared.log.Hint.{Hint}
+use Rattle.resolution_proof.specs.declared.log.Step.{Step}
 use Rattle.cdcl_proof.specs.declared.trail.Entry.{Entry}
-use Rattle.cdcl_proof.specs.Literal.{mentions}
-use Rattle.cdcl_proof.specs.Clause.{is_clause}
-use Rattle.cdcl_proof.specs.Replay.{names_chain, chain_of, derives}
-use Rattle.cdcl_proof.specs.Regular.{is_regular}
-use Rattle.cdcl_proof.specs.Fresh.{IsFresh, is_closed, is_empty, is_free, is_unit}
+use Rattle.resolution_proof.specs.Literal.{mentions}
+use Rattle.resolution_proof.specs.Clause.{is_clause}
+use Rattle.resolution_proof.specs.Replay.{names_chain, chain_of, derives}
+use Rattle.resolution_proof.specs.Regular.{is_regular}
+use Rattle.resolution_proof.specs.Fresh.{IsFresh, is_closed, is_empty, is_free, is_unit}
 use Rattle.cdcl_proof.specs.Watching.{literal_at}
 use Rattle.cdcl_proof.specs.Trail.{literals, entry_at, IsSound}
 use Rattle.cdcl_proof.specs.Learning.{is_seen, is_seen_entry, count_seen, Represents}

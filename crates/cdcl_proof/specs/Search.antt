@@ -2,7 +2,7 @@
 use Rattle.std.specs.Prelude.{ℕ, true, ◌≡◌, ◌≤◌, ◌≢◌, ◌⊎◌, length, take}
 use Rattle.cdcl_proof.specs.declared.solve.Search.{Search}
 use Rattle.cdcl_proof.specs.Trail.{IsSound, literals}
-use Rattle.cdcl_proof.specs.Literal.{mentions}
+use Rattle.resolution_proof.specs.Literal.{mentions}
 use Rattle.cdcl_proof.specs.Order.{IsOrder, Waits}
 use Rattle.cdcl_proof.specs.Store.{IsLogged}
 

@@ -1,12 +1,12 @@
 -- The clauses that a search knows.
 use Rattle.std.specs.Prelude.{true, ◌≡◌, ◌+◌, ◌++◌, List, [], ◌∷◌, length, take, drop}
-use Rattle.cdcl_proof.specs.declared.literal.Literal.{Literal}
-use Rattle.cdcl_proof.specs.declared.log.Hint.{Hint}
-use Rattle.cdcl_proof.specs.declared.log.Step.{Step}
-use Rattle.cdcl_proof.specs.Formula.{Formula, are_clauses}
-use Rattle.cdcl_proof.specs.Replay.{learnt_clauses, replay}
-use Rattle.cdcl_proof.specs.Regular.{is_regular_log}
-use Rattle.cdcl_proof.specs.Fresh.{Fresh, has_no_empty}
+use Rattle.resolution_proof.specs.declared.literal.Literal.{Literal}
+use Rattle.resolution_proof.specs.declared.log.Hint.{Hint}
+use Rattle.resolution_proof.specs.declared.log.Step.{Step}
+use Rattle.resolution_proof.specs.Formula.{Formula, are_clauses}
+use Rattle.resolution_proof.specs.Replay.{learnt_clauses, replay}
+use Rattle.resolution_proof.specs.Regular.{is_regular_log}
+use Rattle.resolution_proof.specs.Fresh.{Fresh, has_no_empty}
 
 -- what the steps are known to be
 pub record IsKept (f : Formula) (steps : List Step) : Type 0 where

@@ -1,11 +1,10 @@
 -- What a table of clauses keeps.
 use Rattle.std.specs.Prelude.{ℕ, true, ◌≡◌, ◌==◌, ◌<◌, ◌≤◌, ◌+◌, ◌*◌, ◌^◌, ◌++◌, List, [], ◌∷◌, length, slice_index_or}
-use Rattle.cdcl_proof.specs.declared.literal.Literal.{Literal}
+use Rattle.resolution_proof.specs.declared.literal.Literal.{Literal}
 use Rattle.cdcl_proof.specs.declared.row.Watch.{Watch}
 use Rattle.cdcl_proof.specs.declared.table.Table.{Table}
-use Rattle.cdcl_proof.specs.Literal.{slot_of}
-use Rattle.cdcl_proof.specs.Formula.{are_clauses}
-use Rattle.cdcl_proof.specs.Watching.{AreRows, AreWatched, HaveBlockers, AreShort, added_lists, literal_at}
+use Rattle.resolution_proof.specs.Formula.{are_clauses}
+use Rattle.cdcl_proof.specs.Watching.{AreRows, AreWatched, HaveBlockers, AreShort, added_lists, literal_at, slot_of}
 
 -- the rows are those of the clauses, and each clause is watched or short
 pub record IsTable (t : Table) : Type 0 where

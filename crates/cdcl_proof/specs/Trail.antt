@@ -1,12 +1,12 @@
 -- The trail of a search: the literals assumed or implied so far, oldest first.
 use Rattle.std.specs.Prelude.{ℕ, suc, Bool, true, false, ◌≡◌, ◌<◌, ◌≤◌, cond, ◌-◌, List, Option, Some, None, length, slice_index_or, take, drop, map, MatchOption, is_some}
-use Rattle.cdcl_proof.specs.declared.literal.Literal.{Literal}
+use Rattle.resolution_proof.specs.declared.literal.Literal.{Literal}
 use Rattle.cdcl_proof.specs.declared.trail.Entry.{Entry}
 use Rattle.cdcl_proof.specs.declared.trail.Mark.{Mark}
-use Rattle.cdcl_proof.specs.Literal.{negation, holds, mentions}
-use Rattle.cdcl_proof.specs.Clause.{is_among}
-use Rattle.cdcl_proof.specs.Fresh.{is_free, is_closed, is_unit}
-use Rattle.cdcl_proof.specs.Replay.{is_number, clause_at}
+use Rattle.resolution_proof.specs.Literal.{negation, holds, mentions}
+use Rattle.resolution_proof.specs.Clause.{is_among}
+use Rattle.resolution_proof.specs.Fresh.{is_free, is_closed, is_unit}
+use Rattle.resolution_proof.specs.Replay.{is_number, clause_at}
 
 -- the number of variables, and the entries, oldest first
 pub record Path : Type 0 where

@@ -1,14 +1,14 @@
 -- What the state of propagation keeps.
 use Rattle.std.specs.Prelude.{ℕ, true, false, ◌≡◌, ◌<◌, ◌≤◌, ◌+◌, List, length, slice_index_or, take, swap_remove}
-use Rattle.cdcl_proof.specs.declared.literal.Literal.{Literal}
+use Rattle.resolution_proof.specs.declared.literal.Literal.{Literal}
 use Rattle.cdcl_proof.specs.declared.trail.Entry.{Entry}
 use Rattle.cdcl_proof.specs.declared.watcher.Watcher.{Watcher}
-use Rattle.cdcl_proof.specs.declared.watcher.RowState.{RowState}
-use Rattle.cdcl_proof.specs.declared.watcher.RowState.TheVariants.{Satisfied, Open, Implied, False}
+use Rattle.cdcl_proof.specs.declared.row_state.RowState.{RowState}
+use Rattle.cdcl_proof.specs.declared.row_state.RowState.TheVariants.{Satisfied, Open, Implied, False}
 use Rattle.cdcl_proof.specs.declared.watcher.Visit.{Visit}
 use Rattle.cdcl_proof.specs.declared.watcher.Visit.TheVariants.{Stays, Moved, Conflict}
-use Rattle.cdcl_proof.specs.Literal.{negation, holds}
-use Rattle.cdcl_proof.specs.Fresh.{is_free, is_unit}
+use Rattle.resolution_proof.specs.Literal.{negation, holds}
+use Rattle.resolution_proof.specs.Fresh.{is_free, is_unit}
 use Rattle.cdcl_proof.specs.Learning.{falsifies}
 use Rattle.cdcl_proof.specs.Propagation.{IsConflict}
 use Rattle.cdcl_proof.specs.Trail.{literals}

@@ -1,12 +1,12 @@
 -- Watched literals (Moskewicz et al., Chaff, 2001): propagation reads a clause only when a literal that it watches
 -- has become false.
-use Rattle.std.specs.Prelude.{ℕ, Bool, true, false, ◌≡◌, ◌<◌, ◌≤◌, cond, ◌==◌, ◌+◌, ◌++◌, List, [], ◌∷◌, Some, length, slice_index_or, slice_set, take, sum_by}
+use Rattle.std.specs.Prelude.{ℕ, Bool, true, false, ◌≡◌, ◌<◌, ◌≤◌, cond, ◌==◌, ◌+◌, ◌*◌, ◌++◌, List, [], ◌∷◌, Some, length, slice_index_or, slice_set, take, sum_by}
 use Rattle.std.specs.List.{list_any}
-use Rattle.cdcl_proof.specs.declared.literal.Literal.{Literal}
+use Rattle.resolution_proof.specs.declared.literal.Literal.{Literal}
 use Rattle.cdcl_proof.specs.declared.row.Watch.{Watch}
 use Rattle.cdcl_proof.specs.declared.trail.Entry.{Entry}
-use Rattle.cdcl_proof.specs.Literal.{negation, holds, slot_of}
-use Rattle.cdcl_proof.specs.Fresh.{is_free}
+use Rattle.resolution_proof.specs.Literal.{negation, holds}
+use Rattle.resolution_proof.specs.Fresh.{is_free}
 use Rattle.cdcl_proof.specs.Trail.{literals, entry_at, Implies}
 
 -- clauses, numbered from 1, and the trail's literals with their reasons, in order
@@ -22,6 +22,10 @@ no_literal = record { variable = 0; positive = false }
 -- a watch for no place
 abbrev pub no_watch : Watch
 no_watch = record { clause = 0; blocker = no_literal; is_binary = false }
+
+-- the place of the literal's list among the watch lists
+abbrev pub slot_of : Literal → ℕ
+slot_of l = 2 * l.variable + cond l.positive 1 0
 
 -- the literal of the row at a place
 abbrev pub literal_at : List Literal → ℕ → Literal

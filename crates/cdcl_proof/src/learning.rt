@@ -1,20 +1,20 @@
 // Conflict analysis: the learnt clause of a conflict, by resolution back to the first unique implication point.
 ghost use Rattle.std.specs.Prelude.{ℕ, ◌≡◌, ◌<◌, ◌≤◌, ◌+◌, ◌-◌, true, false, [], length, take, drop, IfOk, Some, IsNone, slice_set};
 ghost use Rattle.std.specs.List.{list_all};
-ghost use Rattle.cdcl_proof.specs.Clause.{is_within};
-ghost use Rattle.cdcl_proof.specs.Formula.{are_clauses};
-ghost use Rattle.cdcl_proof.specs.Replay.{derives, clause_at};
-ghost use Rattle.cdcl_proof.specs.Regular.{is_regular};
-ghost use Rattle.cdcl_proof.specs.Literal.{mentions};
+ghost use Rattle.resolution_proof.specs.Clause.{is_within};
+ghost use Rattle.resolution_proof.specs.Formula.{are_clauses};
+ghost use Rattle.resolution_proof.specs.Replay.{derives, clause_at};
+ghost use Rattle.resolution_proof.specs.Regular.{is_regular};
+ghost use Rattle.resolution_proof.specs.Literal.{mentions};
 ghost use Rattle.cdcl_proof.specs.Trail.{IsSound, literals, entry_at, NoDecision};
 ghost use Rattle.cdcl_proof.specs.Learning.{is_seen, is_seen_entry, is_seen_literal, count_seen};
 ghost use Rattle.cdcl_proof.specs.Propagation.{IsConflict};
 ghost use Rattle.cdcl_proof.specs.Resolving.{AddsMarks, HasPivotsFrom, IsResolving, IsAnalysis, IsLearntClause, IsLevel, Resolves};
 
-use crate::clause::Clause;
-use crate::literal::Literal;
-use crate::log::{Hint, HintList, Step};
 use crate::trail::{Entry, Trail};
+use resolution_proof::clause::Clause;
+use resolution_proof::literal::Literal;
+use resolution_proof::log::{Hint, HintList, Step};
 use std::alloc::{AllocError, Global};
 
 /// A learnt clause, and the place of the trail to which the search goes back.
@@ -22,6 +22,13 @@ use std::alloc::{AllocError, Global};
 pub(crate) struct LearntClause {
     pub(crate) step: Step,
     pub(crate) place: usize,
+}
+
+/// The part of the trail in which literals are resolved: the entries from `floor` on, of whose literals `keep` stay.
+#[derive(Clone, Copy)]
+struct Level {
+    floor: usize,
+    keep: usize,
 }
 
 /// The learnt clause of a conflict: it has one literal of the newest level, which begins at `floor`.
@@ -42,7 +49,14 @@ pub(crate) fn learn(
     requires newest { NoDecision trail.now.entries (floor + 1) (length trail.now.entries) }
     ensures learnt { IfOk result (λ l. IsLearntClause trail.now.variables clauses.now trail.now.entries l.step l.place) }
 {
-    let mut hints = resolve_down(alloc, clauses, trail, seen, conflict, floor, 1)?;
+    let mut hints = resolve_down(
+        alloc,
+        clauses,
+        trail,
+        seen,
+        conflict,
+        Level { floor, keep: 1 },
+    )?;
     minimise(clauses, trail, seen, &mut hints, floor)?;
     let literals = trail.marked_negations(alloc, seen)?;
     let start = trail.place_after_marked(seen, floor);
@@ -73,33 +87,39 @@ pub(crate) fn refute(
     ensures derived { IfOk result (λ s. derives clauses.now s.hints [] ≡ true) }
     ensures regular { IfOk result (λ s. is_regular clauses.now s.hints ≡ true) }
 {
-    let hints = resolve_down(alloc, clauses, trail, seen, conflict, 0, 0)?;
+    let hints = resolve_down(
+        alloc,
+        clauses,
+        trail,
+        seen,
+        conflict,
+        Level { floor: 0, keep: 0 },
+    )?;
     Ok(Step {
         clause: Clause::empty(alloc),
         hints: HintList::from_vec(hints),
     })
 }
 
-/// Resolves the false clause with the reasons of its literals, newest first, until `keep` literals of entries from
-/// `floor` on are left. The marks then tell the variables of the resolvent.
+/// Resolves the false clause with the reasons of its literals, newest first, until `keep` literals of the
+/// level are left. The marks then tell the variables of the resolvent.
 fn resolve_down(
     alloc: Global,
     clauses: &[Clause],
     trail: &Trail,
     seen: &mut [bool],
     conflict: u64,
-    floor: usize,
-    keep: usize,
+    level: Level,
 ) -> Result<Vec<Hint>, AllocError>
     requires clauses { are_clauses trail.now.variables clauses.now ≡ true }
     requires seen { length seen.old ≡ trail.now.variables }
     requires sound { IsSound trail.now.variables clauses.now trail.now.entries }
     requires conflict { IsConflict clauses.now (literals trail.now.entries) conflict }
-    requires implied { NoDecision trail.now.entries (floor + keep) (length trail.now.entries) }
-    requires level { IsLevel clauses.now (literals (take floor trail.now.entries)) keep }
+    requires implied { NoDecision trail.now.entries (level.floor + level.keep) (length trail.now.entries) }
+    requires level { IsLevel clauses.now (literals (take level.floor trail.now.entries)) level.keep }
     ensures resolving { IfOk result (λ h. IsResolving clauses.now trail.now.entries h.items seen.new) }
-    ensures pivots { 0 < keep → IfOk result (λ h. HasPivotsFrom trail.now.entries floor h.items) }
-    ensures count { IfOk result (λ _. count_seen seen.new (drop floor trail.now.entries) ≡ keep) }
+    ensures pivots { 0 < level.keep → IfOk result (λ h. HasPivotsFrom trail.now.entries level.floor h.items) }
+    ensures count { IfOk result (λ _. count_seen seen.new (drop level.floor trail.now.entries) ≡ level.keep) }
     ensures len { IfOk result (λ _. length seen.new ≡ length seen.old) }
 {
     let mut hints = Vec::new(alloc);
@@ -107,11 +127,11 @@ fn resolve_down(
         clause: conflict,
         pivot: 0,
     })?;
-    let mut count = mark_conflict(clauses, trail, seen, conflict, floor);
+    let mut count = mark_conflict(clauses, trail, seen, conflict, level.floor);
     let mut place = trail.len();
-    while count > keep {
+    while count > level.keep {
         place -= 1;
-        count = resolve_entry(clauses, trail, seen, &mut hints, place, floor, keep, count)?;
+        count = resolve_entry(clauses, trail, seen, &mut hints, place, level, count)?;
     }
     Ok(hints)
 }
@@ -228,26 +248,25 @@ fn mark_conflict(
     mark_clause(trail, seen, clause_of(clauses, conflict), 0, floor, 0)
 }
 
-/// Resolves with the reason of the entry at the place, if it is marked. The result is how many marked entries from
-/// `floor` on are left.
+/// Resolves with the reason of the entry at the place, if it is marked. The result is how many marked entries of
+/// the level are left.
 fn resolve_entry(
     clauses: &[Clause],
     trail: &Trail,
     seen: &mut [bool],
     hints: &mut Vec<Hint>,
     place: usize,
-    floor: usize,
-    keep: usize,
+    level: Level,
     count: usize,
 ) -> Result<usize, AllocError>
     requires clauses { are_clauses trail.now.variables clauses.now ≡ true }
     requires sound { IsSound trail.now.variables clauses.now trail.now.entries }
-    requires implied { NoDecision trail.now.entries (floor + keep) (length trail.now.entries) }
+    requires implied { NoDecision trail.now.entries (level.floor + level.keep) (length trail.now.entries) }
     requires place { place < length trail.now.entries }
-    requires floor { floor + keep ≤ place }
-    requires analysis { IsAnalysis trail.now.variables clauses.now trail.now.entries floor keep (place + 1) count hints.old.items seen.old }
-    requires more { keep < count }
-    ensures analysis { IfOk result (λ n. IsAnalysis trail.now.variables clauses.now trail.now.entries floor keep place n hints.new.items seen.new) }
+    requires floor { level.floor + level.keep ≤ place }
+    requires analysis { IsAnalysis trail.now.variables clauses.now trail.now.entries level.floor level.keep (place + 1) count hints.old.items seen.old }
+    requires more { level.keep < count }
+    ensures analysis { IfOk result (λ n. IsAnalysis trail.now.variables clauses.now trail.now.entries level.floor level.keep place n hints.new.items seen.new) }
 {
     let entry = trail.entry(place);
     if !seen[entry.literal.variable as usize - 1] {
@@ -259,7 +278,7 @@ fn resolve_entry(
                 clause: reason,
                 pivot: entry.literal.variable,
             })?;
-            Ok(resolve_at(clauses, trail, seen, place, reason, floor, count))
+            Ok(resolve_at(clauses, trail, seen, place, reason, level.floor, count))
         }
         None => Ok(count),
     }

@@ -1,18 +1,14 @@
 // A solver for clause lists whose every learnt clause is proved.
 #![tactic(auto)]
 
-pub mod assignment;
-pub mod clause;
-pub mod cnf;
 mod learning;
-pub mod literal;
-pub mod log;
+mod marks;
 mod order;
 mod packed;
 mod propagation;
-pub mod replay;
 mod restarts;
 mod row;
+mod row_state;
 pub mod solve;
 mod table;
 mod trail;

@@ -1,10 +1,10 @@
 // The order of decisions: variables by their activity, in a heap.
 ghost use Rattle.std.specs.Prelude.{ℕ, ◌≡◌, ◌≢◌, ◌<◌, ◌≤◌, ◌+◌, ◌^◌, length, IfOk, IfSome, IfNone, OnOk, IsTrue, true};
-ghost use Rattle.cdcl_proof.specs.Clause.{is_within};
+ghost use Rattle.resolution_proof.specs.Clause.{is_within};
 ghost use Rattle.cdcl_proof.specs.Order.{IsOrder, Waits, KeepsWaiting};
 
-use crate::literal::Literal;
-use crate::log::Hint;
+use resolution_proof::literal::Literal;
+use resolution_proof::log::Hint;
 use std::alloc::{AllocError, Global};
 
 /// An activity for each variable, and what a conflict adds to it, which grows from conflict to conflict; the variables

@@ -1,8 +1,8 @@
 // Literals as rows and watch lists keep them, in half the memory.
 ghost use Rattle.std.specs.Prelude.{◌≡◌, ◌<◌, ◌^◌};
-ghost use Rattle.cdcl_proof.specs.Literal.{slot_of};
+ghost use Rattle.cdcl_proof.specs.Watching.{slot_of};
 
-use crate::literal::Literal;
+use resolution_proof::literal::Literal;
 use std::marker::Model;
 
 /// A literal whose variable is below 2^32, in eight bytes.
@@ -14,7 +14,7 @@ pub(crate) struct PackedLiteral {
 
 impl Model for PackedLiteral {
     ghost use Rattle.std.specs.Prelude.{◌<◌, ◌^◌};
-    ghost use Rattle.cdcl_proof.specs.declared.literal.Literal.{Literal};
+    ghost use Rattle.resolution_proof.specs.declared.literal.Literal.{Literal};
 
     ghost Value = { Literal };
 

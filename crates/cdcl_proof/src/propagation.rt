@@ -1,11 +1,11 @@
 // What a clause is under the literals of a trail.
 ghost use Rattle.std.specs.Prelude.{◌≡◌, true};
-ghost use Rattle.cdcl_proof.specs.Clause.{is_within};
+ghost use Rattle.resolution_proof.specs.Clause.{is_within};
 ghost use Rattle.cdcl_proof.specs.Trail.{literals};
 ghost use Rattle.cdcl_proof.specs.Propagation.{IsState};
 
-use crate::literal::Literal;
 use crate::trail::Trail;
+use resolution_proof::literal::Literal;
 
 /// What a clause is under a trail.
 #[derive(Clone, Copy)]

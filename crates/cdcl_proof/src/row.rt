@@ -1,10 +1,10 @@
 // Clauses and watch lists as propagation works on them.
 ghost use Rattle.std.specs.Prelude.{ℕ, ◌≡◌, ◌<◌, ◌≤◌, ◌++◌, ◌∷◌, ◌-◌, ◌^◌, true, false, [], length, take, swap, swap_remove, OnOk, OnErr, IfOk, slice_index_or, slice_set};
-ghost use Rattle.cdcl_proof.specs.Clause.{is_within};
+ghost use Rattle.resolution_proof.specs.Clause.{is_within};
 ghost use Rattle.cdcl_proof.specs.Watching.{no_watch};
 
-use crate::literal::Literal;
 use crate::packed::PackedLiteral;
+use resolution_proof::literal::Literal;
 use std::alloc::{AllocError, Global};
 use std::marker::Model;
 
@@ -16,7 +16,7 @@ pub(crate) struct Row {
 
 impl Model for Row {
     ghost use Rattle.std.specs.Prelude.{List};
-    ghost use Rattle.cdcl_proof.specs.declared.literal.Literal.{Literal};
+    ghost use Rattle.resolution_proof.specs.declared.literal.Literal.{Literal};
 
     ghost Value = { List Literal };
 

@@ -1,27 +1,27 @@
 // The solver: conflict-driven clause learning with a log of its resolutions.
 ghost use Rattle.std.specs.Prelude.{ℕ, ◌≡◌, ◌≤◌, ◌<◌, ◌+◌, ◌-◌, ◌++◌, ◌^◌, [], IfOk, OnOk, IfSome, IfNone, IsTrue, IsNone, true, false, length};
-ghost use Rattle.cdcl_proof.specs.Literal.{mentions};
-ghost use Rattle.cdcl_proof.specs.Clause.{is_among};
+ghost use Rattle.resolution_proof.specs.Literal.{mentions};
+ghost use Rattle.resolution_proof.specs.Clause.{is_among};
 ghost use Rattle.cdcl_proof.specs.Order.{Waits, KeepsWaiting};
-ghost use Rattle.cdcl_proof.specs.Replay.{derives, learnt_clauses};
-ghost use Rattle.cdcl_proof.specs.Regular.{is_regular};
-ghost use Rattle.cdcl_proof.specs.Fresh.{is_closed};
+ghost use Rattle.resolution_proof.specs.Replay.{derives, learnt_clauses};
+ghost use Rattle.resolution_proof.specs.Regular.{is_regular};
+ghost use Rattle.resolution_proof.specs.Fresh.{is_closed};
 ghost use Rattle.cdcl_proof.specs.Trail.{literals, entry_at, NoDecision, IsTotal};
 ghost use Rattle.cdcl_proof.specs.Store.{IsKept, steps_of};
 ghost use Rattle.cdcl_proof.specs.Propagation.{IsConflict, IsOutcome};
-ghost use Rattle.cdcl_proof.specs.Proof.{Refutes};
+ghost use Rattle.resolution_proof.specs.Proof.{Refutes};
 ghost use Rattle.cdcl_proof.specs.Answer.{Answers, IsDecided, IsSatisfied};
 ghost use Rattle.cdcl_proof.specs.Search.{IsSearching, AllWait, WaitFrom, OthersWait};
 
-use crate::assignment::Assignment;
-use crate::clause::Clause;
-use crate::cnf::Cnf;
 use crate::learning::{LearntClause, learn, refute};
-use crate::literal::Literal;
-use crate::log::{HintList, Log, Step};
 use crate::order::Order;
 use crate::restarts::Restarts;
 use crate::watched::Watched;
+use resolution_proof::assignment::Assignment;
+use resolution_proof::clause::Clause;
+use resolution_proof::cnf::Cnf;
+use resolution_proof::literal::Literal;
+use resolution_proof::log::{HintList, Log, Step};
 use std::alloc::{AllocError, Global};
 
 /// What the solver found of a formula.

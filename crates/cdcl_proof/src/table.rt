@@ -1,13 +1,13 @@
 // Clauses with their rows and watch lists.
 ghost use Rattle.std.specs.Prelude.{ℕ, ◌≡◌, ◌≢◌, ◌<◌, ◌≤◌, ◌++◌, ◌∷◌, ◌^◌, true, [], length, swap, swap_remove, slice_set, OnOk, OnErr, IfOk};
-ghost use Rattle.cdcl_proof.specs.Literal.{holds, slot_of};
-ghost use Rattle.cdcl_proof.specs.Clause.{is_clause};
-ghost use Rattle.cdcl_proof.specs.Watching.{literal_at, watch_at, list_at, row_at, no_watch, added_lists, HasSameClauses, IsRow};
+ghost use Rattle.resolution_proof.specs.Literal.{holds};
+ghost use Rattle.resolution_proof.specs.Clause.{is_clause};
+ghost use Rattle.cdcl_proof.specs.Watching.{literal_at, watch_at, list_at, row_at, no_watch, added_lists, HasSameClauses, IsRow, slot_of};
 ghost use Rattle.cdcl_proof.specs.Table.{IsTable, HasAdded, IsUnchanged, IsEntered};
 
-use crate::clause::Clause;
 use crate::packed::PackedLiteral;
 use crate::row::{Row, Watch, WatchList};
+use resolution_proof::clause::Clause;
 use std::alloc::{AllocError, Global};
 
 /// The most clauses that a table can have.

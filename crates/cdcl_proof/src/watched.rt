@@ -1,17 +1,17 @@
 // Clauses with a trail, for unit propagation by watched literals.
 ghost use Rattle.std.specs.Prelude.{◌≡◌, ◌≤◌, ◌<◌, ◌+◌, ◌-◌, ◌++◌, ◌∷◌, [], true, length, take, IfOk, OnOk, OnErr, None, IsTrue, ◌↔◌, ◌&&◌};
-ghost use Rattle.cdcl_proof.specs.Clause.{is_among, is_clause};
-ghost use Rattle.cdcl_proof.specs.Formula.{are_clauses};
-ghost use Rattle.cdcl_proof.specs.Fresh.{is_free, is_unit};
+ghost use Rattle.resolution_proof.specs.Clause.{is_among, is_clause};
+ghost use Rattle.resolution_proof.specs.Formula.{are_clauses};
+ghost use Rattle.resolution_proof.specs.Fresh.{is_free, is_unit};
 ghost use Rattle.cdcl_proof.specs.Trail.{literals};
 ghost use Rattle.cdcl_proof.specs.Propagation.{IsOutcome};
 ghost use Rattle.cdcl_proof.specs.Watching.{literal_at, Propagates};
 
-use crate::clause::Clause;
-use crate::cnf::Cnf;
-use crate::literal::Literal;
 use crate::trail::Trail;
 use crate::watcher::Watcher;
+use resolution_proof::clause::Clause;
+use resolution_proof::cnf::Cnf;
+use resolution_proof::literal::Literal;
 use std::alloc::{AllocError, Global};
 use std::marker::Model;
 

@@ -1,21 +1,23 @@
 // Propagation by watched literals: a clause is read only when a literal that it watches has become false.
 ghost use Rattle.std.specs.Prelude.{ℕ, List, ◌⊎◌, ◌≡◌, ◌<◌, ◌≤◌, ◌+◌, ◌-◌, ◌++◌, ◌∷◌, true, false, [], length, take, IfOk, OnOk, OnErr, IfSome, IfNone, Some, None, slice_index_or};
-ghost use Rattle.cdcl_proof.specs.declared.literal.Literal.{Literal};
-ghost use Rattle.cdcl_proof.specs.Literal.{negation, holds, slot_of};
-ghost use Rattle.cdcl_proof.specs.Clause.{is_among, is_within, is_clause};
-ghost use Rattle.cdcl_proof.specs.Fresh.{is_free, is_unit};
+ghost use Rattle.resolution_proof.specs.declared.literal.Literal.{Literal};
+ghost use Rattle.resolution_proof.specs.Literal.{negation, holds};
+ghost use Rattle.resolution_proof.specs.Clause.{is_among, is_within, is_clause};
+ghost use Rattle.resolution_proof.specs.Fresh.{is_free, is_unit};
 ghost use Rattle.cdcl_proof.specs.Trail.{literals, entry_at, is_after, Implies};
 ghost use Rattle.cdcl_proof.specs.Propagation.{IsConflict, IsOutcome};
-ghost use Rattle.cdcl_proof.specs.Watching.{literal_at, watch_at, list_at, AreVisited, Propagates, IsRow};
+ghost use Rattle.cdcl_proof.specs.Watching.{literal_at, watch_at, list_at, AreVisited, Propagates, IsRow, slot_of};
 ghost use Rattle.cdcl_proof.specs.Watcher.{IsWatching, IsRowState, IsVisit};
 
-use crate::clause::Clause;
-use crate::literal::Literal;
+use crate::marks::{mark_before, marks_kept, marks_up_to};
 use crate::packed::PackedLiteral;
 use crate::propagation::{State, state_of};
 use crate::row::{Row, Watch};
+use crate::row_state::{RowState, bring_last, read_row, watched_place};
 use crate::table::Table;
 use crate::trail::{Entry, Trail};
+use resolution_proof::clause::Clause;
+use resolution_proof::literal::Literal;
 use std::alloc::{AllocError, Global};
 
 /// Clauses and the trail, with the lists of watches. `head` is the place of the first literal of the trail whose list
@@ -30,19 +32,6 @@ pub(crate) struct Watcher {
     pub(crate) marks: Vec<usize>,
     pub(crate) short_head: usize,
     pub(crate) base: usize,
-}
-
-/// What a row is under the trail, when one of its two watched literals is false.
-#[derive(Clone, Copy)]
-pub(crate) enum RowState {
-    /// The other watched literal is true.
-    Satisfied,
-    /// The literal at this place is not false.
-    Open(usize),
-    /// All literals but this one, which is open, are false.
-    Implied(Literal),
-    /// All literals are false.
-    False,
 }
 
 /// What became of a watch.
@@ -367,101 +356,4 @@ impl Watcher {
         });
         Ok(())
     }
-}
-
-/// The place of the literal that the list of the slot watches, of the first two.
-fn watched_place(row: &[PackedLiteral], slot: usize) -> usize
-    requires { 1 ≤ length row.now }
-    ensures low { result < 2 }
-    ensures watched { (slot_of (literal_at row.now 0) ≡ slot) ⊎ (slot_of (literal_at row.now 1) ≡ slot) → slot_of (literal_at row.now result) ≡ slot }
-{
-    if row[0].slot() == slot { 0 } else { 1 }
-}
-
-/// What the row is, of which the watched literal at the place is false.
-fn read_row(trail: &Trail, row: &[PackedLiteral], place: usize) -> RowState
-    requires within { is_within trail.now.variables row.now ≡ true }
-    requires long { 2 ≤ length row.now }
-    requires place { place < 2 }
-    requires watched { holds (literals trail.now.entries) (negation (literal_at row.now place)) ≡ true }
-    ensures { IsRowState (literals trail.now.entries) row.now result }
-{
-    let other = row[1 - place].literal();
-    if trail.is_true(other) {
-        return RowState::Satisfied;
-    }
-    for k in 2..row.len() {
-        let literal = row[k].literal();
-        if !trail.is_true(literal.negation()) {
-            return RowState::Open(k);
-        }
-    }
-    if trail.is_true(other.negation()) {
-        RowState::False
-    } else {
-        RowState::Implied(other)
-    }
-}
-
-/// Puts the last two literals first, the last one foremost.
-fn bring_last(row: &mut Row)
-    requires { 0 < length row.old }
-    ensures same { (clause : List Literal) → IsRow clause row.old → IsRow clause row.new }
-    ensures first { literal_at row.new 0 ≡ literal_at row.old (length row.old - 1) }
-{
-    let len = row.as_slice().len();
-    if len > 2 {
-        row.swap(0, len - 1);
-        row.swap(1, len - 2);
-    } else if len > 1 {
-        row.swap(0, 1);
-    }
-}
-
-/// How many of the marks are at most the place.
-fn marks_up_to(marks: &[usize], place: usize) -> usize
-    ensures within { result ≤ length marks.now }
-    ensures last { 0 < result → slice_index_or marks.now (result - 1) 0 ≤ place }
-{
-    let mut count = marks.len();
-    while count > 0 && marks[count - 1] > place {
-        count -= 1;
-    }
-    count
-}
-
-/// The last of the first marks, or 0 where there is none.
-fn mark_before(marks: &[usize], count: usize) -> usize
-    requires { count ≤ length marks.now }
-    ensures none { count ≡ 0 → result ≡ 0 }
-    ensures last { 0 < count → result ≡ slice_index_or marks.now (count - 1) 0 }
-{
-    if count > 0 { marks[count - 1] } else { 0 }
-}
-
-/// How many of the marks stand before the entry of the row's second literal or at it.
-fn marks_kept(trail: &Trail, marks: &[usize], row: &[PackedLiteral]) -> usize
-    requires { is_within trail.now.variables row.now ≡ true }
-    ensures within { result ≤ length marks.now }
-    ensures last { 0 < result → 1 < length row.now → is_after trail.now.entries (slice_index_or marks.now (result - 1) 0) (literal_at row.now 1).variable ≡ true }
-{
-    if row.len() > 1 {
-        marks_before(trail, marks, row[1].literal().variable)
-    } else {
-        marks.len()
-    }
-}
-
-/// How many of the marks stand before the entry of the variable or at it.
-fn marks_before(trail: &Trail, marks: &[usize], variable: u64) -> usize
-    requires positive { 1 ≤ variable }
-    requires among { variable ≤ trail.now.variables }
-    ensures within { result ≤ length marks.now }
-    ensures last { 0 < result → is_after trail.now.entries (slice_index_or marks.now (result - 1) 0) variable ≡ true }
-{
-    let mut count = marks.len();
-    while count > 0 && !trail.is_at_least(variable, marks[count - 1]) {
-        count -= 1;
-    }
-    count
 }

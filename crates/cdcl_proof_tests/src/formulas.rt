@@ -1,7 +1,7 @@
 //! Formulas for the tests.
-use cdcl_proof::clause::Clause;
-use cdcl_proof::cnf::Cnf;
-use cdcl_proof::literal::Literal;
+use resolution_proof::clause::Clause;
+use resolution_proof::cnf::Cnf;
+use resolution_proof::literal::Literal;
 use std::alloc::Global;
 use std::process::Abort;
 use std::test::Fail;
@@ -128,7 +128,7 @@ pub(crate) fn random_formula(
         for _ in 0..3 {
             let (literal, next) = random_literal(state);
             state = next;
-            if !cdcl_proof::clause::has_variable(&literals, literal.variable) {
+            if !resolution_proof::clause::has_variable(&literals, literal.variable) {
                 literals.push(literal)?;
             }
         }

@@ -1,7 +1,7 @@
 //! Logs that are changed.
 use crate::formulas::{clause, formula};
-use cdcl_proof::log::{Hint, HintList, Log, Step};
-use cdcl_proof::replay::replays;
+use resolution_proof::log::{Hint, HintList, Log, Step};
+use resolution_proof::replay::replays;
 use std::alloc::Global;
 use std::process::Abort;
 use std::test::Fail;

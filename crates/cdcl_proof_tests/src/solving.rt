@@ -1,10 +1,10 @@
 //! The solver's answers.
 use crate::formulas::{formula, pigeonhole, progressions, random_formula};
-use cdcl_proof::assignment::Assignment;
-use cdcl_proof::cnf::Cnf;
-use cdcl_proof::log::Log;
-use cdcl_proof::replay::replays;
 use cdcl_proof::solve::{Answer, solve};
+use resolution_proof::assignment::Assignment;
+use resolution_proof::cnf::Cnf;
+use resolution_proof::log::Log;
+use resolution_proof::replay::replays;
 use std::alloc::{AllocError, Global};
 use std::process::Abort;
 use std::test::Fail;

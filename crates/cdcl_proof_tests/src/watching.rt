@@ -1,8 +1,8 @@
 //! Propagation by watched literals.
 use crate::formulas::{clause, formula};
-use cdcl_proof::clause::is_within_variables;
-use cdcl_proof::literal::Literal;
 use cdcl_proof::watched::Watched;
+use resolution_proof::clause::is_within_variables;
+use resolution_proof::literal::Literal;
 use std::alloc::Global;
 use std::process::Abort;
 use std::test::Fail;

@@ -8,7 +8,7 @@ use Rattle.cdcl_proof.proofs.learning.resolve_down.Goals as goal
 pub loop-count-init : goal.loop-count-init
 loop-count-init c =
     let start = analysis_start c.args.trail.now.variables c.args.clauses.now c.args.trail.now.entries c.requires.sound c.len-place.ensures.apart c.args.conflict c.requires.conflict c.mark_conflict-count.new.seen c.mark_conflict-count.ensures.marks
-    c.args.floor c.args.keep c.mark_conflict-count.result c.requires.level c.mark_conflict-count.ensures.count (c.mark_conflict-count.ensures.len ∙ c.requires.seen) in
+    c.args.level.floor c.args.level.keep c.mark_conflict-count.result c.requires.level c.mark_conflict-count.ensures.count (c.mark_conflict-count.ensures.len ∙ c.requires.seen) in
     rw (c.len-place.ensures.len, c.in_ok-push.ensures.items, c.new-hints.ensures.items) start
 
 pub overflow_sub-place : goal.overflow_sub-place
@@ -30,12 +30,12 @@ pub resolve_entry-requires-clause-analysis : goal.resolve_entry-requires-clause-
 resolve_entry-requires-clause-analysis c =
     let above = place_above _ _ _ _ _ _ _ _ _ c.loop-count.invariant c.loop-count-test.true in
     let back : c.loop-count.place ≡ c.loop-count.place - 1 + 1 = omega (arith, above) in
-    subst (λ (n : ℕ). IsAnalysis c.args.trail.now.variables c.args.clauses.now c.args.trail.now.entries c.args.floor c.args.keep n c.loop-count.count c.loop-count.hints.items c.loop-count.seen) back c.loop-count.invariant
+    subst (λ (n : ℕ). IsAnalysis c.args.trail.now.variables c.args.clauses.now c.args.trail.now.entries c.args.level.floor c.args.level.keep n c.loop-count.count c.loop-count.hints.items c.loop-count.seen) back c.loop-count.invariant
 
 pub returns-clause-pivots : goal.returns-clause-pivots
 returns-clause-pivots c some =
     let a = c.loop-count.invariant in
-    let bound = count_between c.loop-count.seen c.args.trail.now.entries c.args.floor c.loop-count.place a.none in
+    let bound = count_between c.loop-count.seen c.args.trail.now.entries c.args.level.floor c.loop-count.place a.none in
     let counted = a.counted in
     let kept = a.kept in
-    pivots_above c.args.trail.now.entries c.args.floor c.loop-count.place c.loop-count.hints.items (omega (arith, bound, counted, kept, some)) a.pivots
+    pivots_above c.args.trail.now.entries c.args.level.floor c.loop-count.place c.loop-count.hints.items (omega (arith, bound, counted, kept, some)) a.pivots

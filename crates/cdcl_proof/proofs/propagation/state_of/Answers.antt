@@ -1,5 +1,5 @@
 use Rattle.std.proofs.Common.{◌+◌, take, get_or, ap, ◌∙◌, sym, subst, false, Some, Option}
-use Rattle.cdcl_proof.specs.declared.literal.Literal.{Literal}
+use Rattle.resolution_proof.specs.declared.literal.Literal.{Literal}
 use Rattle.cdcl_proof.specs.Trail.{literals}
 use Rattle.cdcl_proof.specs.Propagation.{IsScan}
 use Rattle.cdcl_proof.proofs.Scanning.{step_two, step_open, scan_false, value_false}

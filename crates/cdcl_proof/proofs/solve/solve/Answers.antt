@@ -1,6 +1,6 @@
 use Rattle.std.proofs.Common.{◌≡◌, rules, length, ◌∙◌, subst, arith}
-use Rattle.cdcl_proof.specs.Formula.{Formula}
-use Rattle.cdcl_proof.specs.Proof.{Exhausts}
+use Rattle.resolution_proof.specs.Formula.{Formula}
+use Rattle.resolution_proof.specs.Proof.{Exhausts}
 use Rattle.cdcl_proof.proofs.Keeping.{kept_exhausts}
 use Rattle.cdcl_proof.proofs.solve.solve.Goals as goal
 

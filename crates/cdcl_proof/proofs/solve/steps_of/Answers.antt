@@ -1,5 +1,5 @@
 use Rattle.std.proofs.Common.{◌++◌, List, length, reverse, ap, ◌∙◌, sym}
-use Rattle.cdcl_proof.specs.declared.log.Step.{Step}
+use Rattle.resolution_proof.specs.declared.log.Step.{Step}
 use Rattle.cdcl_proof.specs.Store.{steps_of}
 use Rattle.cdcl_proof.proofs.Keeping.{steps_moved}
 use Rattle.cdcl_proof.proofs.solve.steps_of.Goals as goal

@@ -1,8 +1,8 @@
 use Rattle.std.proofs.Common.{ℕ, List, ap, sym, ◌∙◌}
 use Rattle.std.proofs.lemmas.Bool.{and_from}
-use Rattle.cdcl_proof.specs.declared.literal.Literal.{Literal}
-use Rattle.cdcl_proof.specs.Literal.{is_once}
-use Rattle.cdcl_proof.specs.Clause.{is_within}
+use Rattle.resolution_proof.specs.declared.literal.Literal.{Literal}
+use Rattle.resolution_proof.specs.Literal.{is_once}
+use Rattle.resolution_proof.specs.Clause.{is_within}
 use Rattle.cdcl_proof_tests.proofs.watching.add.Goals as goal
 
 pub add_clause-requires : goal.add_clause-requires

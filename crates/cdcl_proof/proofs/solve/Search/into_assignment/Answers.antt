@@ -1,9 +1,9 @@
 use Rattle.std.proofs.Common.{◌≡◌, ℕ, List, true, length, drop, ◌∙◌, ap, subst}
-use Rattle.cdcl_proof.specs.declared.literal.Literal.{Literal}
-use Rattle.cdcl_proof.specs.Literal.{holds}
-use Rattle.cdcl_proof.specs.Formula.{is_true}
-use Rattle.cdcl_proof.specs.Replay.{learnt_clauses}
-use Rattle.cdcl_proof.specs.Fresh.{is_closed}
+use Rattle.resolution_proof.specs.declared.literal.Literal.{Literal}
+use Rattle.resolution_proof.specs.Literal.{holds}
+use Rattle.resolution_proof.specs.Formula.{is_true}
+use Rattle.resolution_proof.specs.Replay.{learnt_clauses}
+use Rattle.resolution_proof.specs.Fresh.{is_closed}
 use Rattle.cdcl_proof.specs.Trail.{Path, literals, IsTotal}
 use Rattle.cdcl_proof.specs.Store.{steps_of}
 use Rattle.cdcl_proof.proofs.Keeping.{logged_clauses}

@@ -1,7 +1,7 @@
 use Rattle.std.proofs.Common.{List, true, ◌≡◌, subst}
-use Rattle.cdcl_proof.specs.declared.literal.Literal.{Literal}
-use Rattle.cdcl_proof.specs.Replay.{derives}
-use Rattle.cdcl_proof.specs.Regular.{is_regular}
+use Rattle.resolution_proof.specs.declared.literal.Literal.{Literal}
+use Rattle.resolution_proof.specs.Replay.{derives}
+use Rattle.resolution_proof.specs.Regular.{is_regular}
 use Rattle.cdcl_proof.proofs.Keeping.{kept_refutes}
 use Rattle.cdcl_proof.proofs.solve.Search.into_refutation.Goals as goal
 

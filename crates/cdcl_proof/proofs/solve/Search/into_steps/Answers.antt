@@ -1,6 +1,6 @@
 use Rattle.std.proofs.Common.{◌++◌, List, length, drop, ap, ◌∙◌, sym, subst}
-use Rattle.cdcl_proof.specs.declared.log.Step.{Step}
-use Rattle.cdcl_proof.specs.Replay.{learnt_clauses}
+use Rattle.resolution_proof.specs.declared.log.Step.{Step}
+use Rattle.resolution_proof.specs.Replay.{learnt_clauses}
 use Rattle.cdcl_proof.specs.Store.{IsKept}
 use Rattle.cdcl_proof.proofs.Keeping.{logged_steps, logged_length, logged_clauses}
 use Rattle.cdcl_proof.proofs.solve.Search.into_steps.Goals as goal

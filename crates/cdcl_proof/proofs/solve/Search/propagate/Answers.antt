@@ -1,6 +1,6 @@
 use Rattle.std.proofs.Common.{ℕ, true, ◌≡◌, ◌⊎◌, inl, inr, List, subst, sym, ◌∙◌, arith}
-use Rattle.cdcl_proof.specs.declared.literal.Literal.{Literal}
-use Rattle.cdcl_proof.specs.Literal.{mentions}
+use Rattle.resolution_proof.specs.declared.literal.Literal.{Literal}
+use Rattle.resolution_proof.specs.Literal.{mentions}
 use Rattle.cdcl_proof.specs.Trail.{IsSound, literals}
 use Rattle.cdcl_proof.specs.Order.{IsOrder, Waits}
 use Rattle.cdcl_proof.proofs.Adding.{sound_propagates, mentions_kept}

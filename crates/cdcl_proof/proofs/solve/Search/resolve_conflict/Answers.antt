@@ -1,10 +1,10 @@
 use Rattle.std.proofs.Common.{ℕ, true, ◌≡◌, ◌⊎◌, inl, inr, List, ◌++◌, [], ◌∷◌, take, ap, subst, sym, ◌∙◌, arith}
-use Rattle.cdcl_proof.specs.declared.literal.Literal.{Literal}
+use Rattle.resolution_proof.specs.declared.literal.Literal.{Literal}
 use Rattle.cdcl_proof.specs.declared.trail.Entry.{Entry}
-use Rattle.cdcl_proof.specs.Clause.{is_clause}
-use Rattle.cdcl_proof.specs.Formula.{Formula}
+use Rattle.resolution_proof.specs.Clause.{is_clause}
+use Rattle.resolution_proof.specs.Formula.{Formula}
 use Rattle.cdcl_proof.specs.Trail.{IsSound, literals}
-use Rattle.cdcl_proof.specs.Literal.{mentions}
+use Rattle.resolution_proof.specs.Literal.{mentions}
 use Rattle.cdcl_proof.specs.Order.{IsOrder, Waits}
 use Rattle.cdcl_proof.specs.Watching.{Watching}
 use Rattle.cdcl_proof.proofs.Keeping.{logged_push}

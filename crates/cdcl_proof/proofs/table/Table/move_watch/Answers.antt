@@ -1,10 +1,10 @@
 use Rattle.std.proofs.Common.{refl, [], ◌∷◌, ◌++◌, ◌≡◌, ◌≢◌, ◌<◌, ◌-◌, true, false, List, length, set, swap, ap, subst, sym, ◌∙◌, arith}
 use Rattle.std.specs.List.{swap_remove}
 use Rattle.std.proofs.lemmas.List.{length-set, get_or_read}
-use Rattle.cdcl_proof.specs.declared.literal.Literal.{Literal}
+use Rattle.resolution_proof.specs.declared.literal.Literal.{Literal}
 use Rattle.cdcl_proof.specs.declared.row.Watch.{Watch}
-use Rattle.cdcl_proof.specs.Literal.{holds, slot_of}
-use Rattle.cdcl_proof.specs.Watching.{row_at, list_at, literal_at, no_literal, no_watch, AreRows, AreWatched, HaveBlockers, AreShort}
+use Rattle.resolution_proof.specs.Literal.{holds}
+use Rattle.cdcl_proof.specs.Watching.{row_at, list_at, literal_at, no_literal, no_watch, AreRows, AreWatched, HaveBlockers, AreShort, slot_of}
 use Rattle.cdcl_proof.proofs.Rows.{holds_at}
 use Rattle.cdcl_proof.proofs.Tables.{slot_in, slots_apart, table_moved, moved_lists, reads}
 use Rattle.cdcl_proof.proofs.table.Table.move_watch.Goals as goal

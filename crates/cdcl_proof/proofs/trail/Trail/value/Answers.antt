@@ -1,5 +1,6 @@
 use Rattle.std.proofs.Common.{◌∙◌}
-use Rattle.cdcl_proof.proofs.Entries.{value_by_mark, none_by_mark, among_low, among_high, mark_read}
+use Rattle.resolution_proof.proofs.Sets.{among_low, among_high}
+use Rattle.cdcl_proof.proofs.Entries.{value_by_mark, none_by_mark, mark_read}
 use Rattle.cdcl_proof.proofs.trail.Trail.value.Goals as goal
 
 pub returns-in-Some : goal.returns-in-Some

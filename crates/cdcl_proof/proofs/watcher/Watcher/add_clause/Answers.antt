@@ -1,8 +1,8 @@
 use Rattle.std.proofs.Common.{ℕ, [], List, subst, sym, ◌∙◌}
 use Rattle.std.proofs.lemmas.Bool.{and_parts}
-use Rattle.cdcl_proof.specs.declared.literal.Literal.{Literal}
-use Rattle.cdcl_proof.specs.Literal.{is_once}
-use Rattle.cdcl_proof.specs.Clause.{is_within}
+use Rattle.resolution_proof.specs.declared.literal.Literal.{Literal}
+use Rattle.resolution_proof.specs.Literal.{is_once}
+use Rattle.resolution_proof.specs.Clause.{is_within}
 use Rattle.cdcl_proof.specs.Watching.{IsRow}
 use Rattle.cdcl_proof.specs.Watcher.{IsProgress}
 use Rattle.cdcl_proof.proofs.Rows.{row_of}

@@ -1,7 +1,7 @@
 use Rattle.std.proofs.Common.{Some, refl}
-use Rattle.cdcl_proof.specs.Clause.{is_among}
-use Rattle.cdcl_proof.specs.Replay.{clause_at}
-use Rattle.cdcl_proof.proofs.Sets.{all_at}
+use Rattle.resolution_proof.specs.Clause.{is_among}
+use Rattle.resolution_proof.specs.Replay.{clause_at}
+use Rattle.resolution_proof.proofs.Sets.{all_at}
 use Rattle.cdcl_proof.proofs.Sound.{clause_within}
 use Rattle.cdcl_proof.proofs.Covering.{progress_push, propagates_push}
 use Rattle.cdcl_proof.proofs.watcher.Watcher.imply.Goals as goal

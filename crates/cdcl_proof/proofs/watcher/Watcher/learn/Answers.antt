@@ -1,15 +1,15 @@
 use Rattle.std.proofs.Common.{rules, refl, ℕ, true, ◌≡◌, ◌<◌, ◌≤◌, ◌-◌, ◌++◌, ◌∷◌, [], Some, List, length, get_or, take, ap, subst, sym, ◌∙◌, arith}
 use Rattle.std.proofs.lemmas.Bool.{and_parts}
 use Rattle.std.proofs.lemmas.List.{length_push}
-use Rattle.cdcl_proof.specs.declared.literal.Literal.{Literal}
-use Rattle.cdcl_proof.specs.Literal.{holds, is_once}
-use Rattle.cdcl_proof.specs.Clause.{is_among, is_within}
-use Rattle.cdcl_proof.specs.Fresh.{is_free, is_unit}
+use Rattle.resolution_proof.specs.declared.literal.Literal.{Literal}
+use Rattle.resolution_proof.specs.Literal.{holds, is_once}
+use Rattle.resolution_proof.specs.Clause.{is_among, is_within}
+use Rattle.resolution_proof.specs.Fresh.{is_free, is_unit}
 use Rattle.cdcl_proof.specs.Trail.{literals, is_after, Implies}
 use Rattle.cdcl_proof.specs.Watching.{literal_at}
 use Rattle.cdcl_proof.specs.Watcher.{IsProgress}
-use Rattle.cdcl_proof.specs.Replay.{clause_at}
-use Rattle.cdcl_proof.proofs.Sets.{all_at, all_from}
+use Rattle.resolution_proof.specs.Replay.{clause_at}
+use Rattle.resolution_proof.proofs.Sets.{all_at, all_from}
 use Rattle.cdcl_proof.proofs.Rows.{holds_at}
 use Rattle.cdcl_proof.proofs.Covering.{propagates_push}
 use Rattle.cdcl_proof.proofs.Adding.{watching_unchanged, front_literal, row_in_front, progress_learnt, clause_last, number_last}

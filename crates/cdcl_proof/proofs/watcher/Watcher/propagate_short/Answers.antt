@@ -1,13 +1,13 @@
 use Rattle.std.proofs.Common.{ℕ, true, ◌≡◌, ◌<◌, ◌+◌, ◌++◌, ◌∷◌, [], Some, List, length, get_or, ap, subst, sym, refl, arith}
 use Rattle.std.proofs.lemmas.Bool.{and_parts}
-use Rattle.cdcl_proof.specs.declared.literal.Literal.{Literal}
+use Rattle.resolution_proof.specs.declared.literal.Literal.{Literal}
 use Rattle.cdcl_proof.specs.declared.trail.Entry.{Entry}
 use Rattle.cdcl_proof.specs.declared.table.Table.{Table}
-use Rattle.cdcl_proof.specs.Literal.{holds, is_once}
-use Rattle.cdcl_proof.specs.Clause.{is_within, is_clause}
+use Rattle.resolution_proof.specs.Literal.{holds, is_once}
+use Rattle.resolution_proof.specs.Clause.{is_within, is_clause}
 use Rattle.cdcl_proof.specs.Trail.{Path, literals}
 use Rattle.cdcl_proof.specs.Watching.{row_at, is_satisfied}
-use Rattle.cdcl_proof.proofs.Sets.{any_from}
+use Rattle.resolution_proof.proofs.Sets.{any_from}
 use Rattle.cdcl_proof.proofs.Sound.{all_clauses}
 use Rattle.cdcl_proof.proofs.Covering.{reads_short, closed_short, row_satisfied, progress_short, last_holds}
 use Rattle.cdcl_proof.proofs.watcher.Watcher.propagate_short.Goals as goal

@@ -1,7 +1,8 @@
 use Rattle.std.proofs.Common.{rules, refl, ℕ, true, ◌≡◌, ◌<◌, ◌+◌, ◌^◌, length, subst, ap, ◌∙◌, arith}
 use Rattle.cdcl_proof.specs.declared.trail.Entry.{Entry}
-use Rattle.cdcl_proof.specs.Literal.{negation, slot_of}
-use Rattle.cdcl_proof.specs.Clause.{is_among}
+use Rattle.resolution_proof.specs.Literal.{negation}
+use Rattle.cdcl_proof.specs.Watching.{slot_of}
+use Rattle.resolution_proof.specs.Clause.{is_among}
 use Rattle.cdcl_proof.specs.Trail.{entry_at}
 use Rattle.cdcl_proof.proofs.Entries.{length_below}
 use Rattle.cdcl_proof.proofs.Visiting.{propagates_on, slot_low, still_at_head, progress_next}

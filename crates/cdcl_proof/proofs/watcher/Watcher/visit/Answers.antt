@@ -1,19 +1,19 @@
 use Rattle.std.proofs.Common.{Global, ℕ, true, false, ◌≡◌, ◌<◌, ◌+◌, ◌-◌, Some, List, length, ap, subst, sym, ◌∙◌, refl, arith}
 use Rattle.std.specs.declared.vec.Vec.{Vec}
 use Rattle.cdcl_proof.specs.declared.row.Row.{Row}
-use Rattle.cdcl_proof.specs.declared.literal.Literal.{Literal}
+use Rattle.resolution_proof.specs.declared.literal.Literal.{Literal}
 use Rattle.cdcl_proof.specs.declared.row.Watch.{Watch}
 use Rattle.cdcl_proof.specs.declared.trail.Entry.{Entry}
 use Rattle.cdcl_proof.specs.declared.table.Table.{Table}
-use Rattle.cdcl_proof.specs.Literal.{negation, holds, slot_of}
+use Rattle.resolution_proof.specs.Literal.{negation, holds}
 use Rattle.cdcl_proof.specs.Trail.{Path, literals}
-use Rattle.cdcl_proof.specs.Fresh.{is_unit}
+use Rattle.resolution_proof.specs.Fresh.{is_unit}
 use Rattle.cdcl_proof.specs.Learning.{falsifies}
 use Rattle.cdcl_proof.specs.Propagation.{IsConflict}
-use Rattle.cdcl_proof.specs.Watching.{row_at, list_at, watch_at, literal_at, no_literal, is_satisfied, ArePermuted}
+use Rattle.cdcl_proof.specs.Watching.{row_at, list_at, watch_at, literal_at, no_literal, is_satisfied, ArePermuted, slot_of}
 use Rattle.cdcl_proof.specs.Watcher.{IsProgress}
 use Rattle.std.proofs.lemmas.List.{get_or_read}
-use Rattle.cdcl_proof.proofs.Sets.{any_from}
+use Rattle.resolution_proof.proofs.Sets.{any_from}
 use Rattle.cdcl_proof.proofs.Rows.{holds_at}
 use Rattle.cdcl_proof.proofs.Tables.{among_row, list_inside}
 use Rattle.cdcl_proof.proofs.Covering.{implied_by_row, conflict_by_row, last_holds}

@@ -1,0 +1,56 @@
+// Places of the trail up to which propagation was complete.
+ghost use Rattle.std.specs.Prelude.{◌≡◌, ◌<◌, ◌≤◌, ◌-◌, true, length, slice_index_or};
+ghost use Rattle.resolution_proof.specs.Clause.{is_within};
+ghost use Rattle.cdcl_proof.specs.Trail.{is_after};
+ghost use Rattle.cdcl_proof.specs.Watching.{literal_at};
+
+use crate::packed::PackedLiteral;
+use crate::trail::Trail;
+
+/// How many of the marks are at most the place.
+pub(crate) fn marks_up_to(marks: &[usize], place: usize) -> usize
+    ensures within { result ≤ length marks.now }
+    ensures last { 0 < result → slice_index_or marks.now (result - 1) 0 ≤ place }
+{
+    let mut count = marks.len();
+    while count > 0 && marks[count - 1] > place {
+        count -= 1;
+    }
+    count
+}
+
+/// The last of the first marks, or 0 where there is none.
+pub(crate) fn mark_before(marks: &[usize], count: usize) -> usize
+    requires { count ≤ length marks.now }
+    ensures none { count ≡ 0 → result ≡ 0 }
+    ensures last { 0 < count → result ≡ slice_index_or marks.now (count - 1) 0 }
+{
+    if count > 0 { marks[count - 1] } else { 0 }
+}
+
+/// How many of the marks stand before the entry of the row's second literal or at it.
+pub(crate) fn marks_kept(trail: &Trail, marks: &[usize], row: &[PackedLiteral]) -> usize
+    requires { is_within trail.now.variables row.now ≡ true }
+    ensures within { result ≤ length marks.now }
+    ensures last { 0 < result → 1 < length row.now → is_after trail.now.entries (slice_index_or marks.now (result - 1) 0) (literal_at row.now 1).variable ≡ true }
+{
+    if row.len() > 1 {
+        marks_before(trail, marks, row[1].literal().variable)
+    } else {
+        marks.len()
+    }
+}
+
+/// How many of the marks stand before the entry of the variable or at it.
+fn marks_before(trail: &Trail, marks: &[usize], variable: u64) -> usize
+    requires positive { 1 ≤ variable }
+    requires among { variable ≤ trail.now.variables }
+    ensures within { result ≤ length marks.now }
+    ensures last { 0 < result → is_after trail.now.entries (slice_index_or marks.now (result - 1) 0) variable ≡ true }
+{
+    let mut count = marks.len();
+    while count > 0 && !trail.is_at_least(variable, marks[count - 1]) {
+        count -= 1;
+    }
+    count
+}

@@ -1,0 +1,7 @@
+pub mod Literal
+pub mod Clause
+pub mod Formula
+pub mod Replay
+pub mod Fresh
+pub mod Regular
+pub mod Proof
