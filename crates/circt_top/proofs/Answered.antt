@@ -10,7 +10,7 @@ use Rattle.diag.specs.declared.refusal.Refusal.{Refusal}
 use Rattle.command_line.specs.Line.{Command}
 use Rattle.command_line.specs.Line.Command.{opt, translate}
 use Rattle.mlir_syntax.specs.Stream.{stream_of, refusal}
-use Rattle.mlir_syntax.specs.ModuleText.{file_text}
+use Rattle.mlir_operations.specs.ModuleText.{file_text}
 use Rattle.mlir_reader.specs.Reading.{text_limit, read, design_read}
 use Rattle.circt_top.specs.Accepting.{Accepted, IsRefused, unread, unaccepted}
 use Rattle.circt_top.specs.Reprint.{IsReprint}

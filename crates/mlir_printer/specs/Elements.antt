@@ -6,8 +6,8 @@ use Rattle.hw_model.specs.Kinds.{Predicate, Instance}
 use Rattle.hw_model.specs.Kinds.Predicate.{eq, ne, slt, sle, sgt, sge, ult, ule, ugt, uge, ceq, cne, weq, wne}
 use Rattle.mlir_lexer.specs.declared.token.TokenKind.{TokenKind}
 use Rattle.mlir_lexer.specs.declared.token.TokenKind.TheVariants as kind
-use Rattle.mlir_syntax.specs.ElementText.{InherentAttributes}
-use Rattle.mlir_syntax.specs.ElementText.InherentAttributes.{with_reset, predicate, position, number, literals, field_name, child}
+use Rattle.mlir_operations.specs.ElementText.{InherentAttributes}
+use Rattle.mlir_operations.specs.ElementText.InherentAttributes.{with_reset, predicate, position, number, literals, field_name, child}
 use Rattle.assembly_format.specs.declared.elements.Keyword.{Keyword}
 use Rattle.assembly_format.specs.declared.elements.Keyword.TheVariants.{From, Clock}
 use Rattle.assembly_format.specs.declared.elements.FormatElement.{FormatElement}

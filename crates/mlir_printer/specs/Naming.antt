@@ -9,8 +9,8 @@ use Rattle.hw_model.specs.Design.{Ref, Port}
 use Rattle.hw_model.specs.Design.Ref.{port, result, undefined}
 use Rattle.fresh_names.specs.Fresh.{fresh}
 use Rattle.ir_store.specs.OperationViews.{OpParts}
-use Rattle.mlir_syntax.specs.OperandText.{ResultNames}
-use Rattle.mlir_syntax.specs.OperandText.ResultNames.{no_names, names, pack}
+use Rattle.mlir_operations.specs.OperandText.{ResultNames}
+use Rattle.mlir_operations.specs.OperandText.ResultNames.{no_names, names, pack}
 use Rattle.mlir_printer.specs.Strings.{standing}
 use Rattle.mlir_printer.specs.Numbers.{integer_bytes, truth_bytes, shown_number, is_shown_as_truth, is_one}
 use Rattle.mlir_printer.specs.Elements.{ValueText, no_value}

@@ -4,10 +4,10 @@ use Rattle.opcode.specs.declared.listed.Listed.{Listed}
 use Rattle.opcode.specs.declared.listed.Listed.TheVariants as listed
 use Rattle.opcode.specs.Listed.{name_of_listed}
 use Rattle.hw_model.specs.Types.{HwType}
-use Rattle.mlir_syntax.specs.OperandText.{ResultNames}
-use Rattle.mlir_syntax.specs.OperandText.ResultNames.{no_names, names, pack}
-use Rattle.mlir_syntax.specs.ElementText.{InherentAttributes}
-use Rattle.mlir_syntax.specs.ElementText.InherentAttributes.{number}
+use Rattle.mlir_operations.specs.OperandText.{ResultNames}
+use Rattle.mlir_operations.specs.OperandText.ResultNames.{no_names, names, pack}
+use Rattle.mlir_operations.specs.ElementText.{InherentAttributes}
+use Rattle.mlir_operations.specs.ElementText.InherentAttributes.{number}
 use Rattle.hw_model.specs.Design.{Entry}
 use Rattle.assembly_format.specs.Formats.{format_of, front_elements, type_elements}
 use Rattle.assembly_format.specs.declared.elements.FormatElement.{FormatElement}

@@ -16,8 +16,8 @@ use Rattle.hw_model.specs.Design.{Entry, Ref, Port, OpResult, Op, Module, Design
 use Rattle.hw_model.specs.Design.Ref.{port, result, undefined}
 use Rattle.ir_store.specs.ResultTypes.{result_types}
 use Rattle.mlir_syntax.specs.Numerals.{count_limit}
-use Rattle.mlir_syntax.specs.OperationText.{takes_bin, string_keys}
-use Rattle.mlir_syntax.specs.ModuleText.{module_keys}
+use Rattle.mlir_operations.specs.OperationText.{takes_bin, string_keys}
+use Rattle.mlir_operations.specs.ModuleText.{module_keys}
 use Rattle.mlir_reader.specs.Resolving.{kept_by_first, kept_literals, is_dropped, has_name, type_or_none}
 use Rattle.mlir_printer.specs.Naming.{is_pack, port_name_hints, body_name_hints}
 use Rattle.mlir_printer.specs.Texts.{parts_in}

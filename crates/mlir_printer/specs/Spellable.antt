@@ -17,14 +17,15 @@ use Rattle.mlir_lexer.specs.declared.token.TokenKind.TheVariants as kind
 use Rattle.mlir_syntax.specs.Numerals.{count_limit, number_limit}
 use Rattle.mlir_syntax.specs.TypeText.{most_open}
 use Rattle.mlir_syntax.specs.AttributeText.{is_among, is_stored}
-use Rattle.mlir_syntax.specs.OperandText.{OperandName, ResultNames}
-use Rattle.mlir_syntax.specs.OperandText.ResultNames.{no_names, names, pack}
+use Rattle.mlir_operations.specs.OperandText.{OperandName, ResultNames}
+use Rattle.mlir_operations.specs.OperandText.ResultNames.{no_names, names, pack}
 use Rattle.assembly_format.specs.Formats.{front_elements, type_elements}
-use Rattle.mlir_syntax.specs.ElementText.{InherentAttributes, Gathered, gathered_nothing, with_operands, with_types, with_inherent}
-use Rattle.mlir_syntax.specs.ElementText.InherentAttributes.{with_reset, predicate, position, number, literals, field_name, child}
-use Rattle.mlir_syntax.specs.OperationText.{OperationText as OperationSaid, takes_bin, string_keys, is_last}
-use Rattle.mlir_syntax.specs.ModuleText.{PortText as PortSaid, ModuleText as ModuleSaid, module_keys}
-use Rattle.mlir_syntax.specs.Spelling.{AreOnce, StandsInBody, FilePhrase, token_of}
+use Rattle.mlir_operations.specs.ElementText.{InherentAttributes, Gathered, gathered_nothing, with_operands, with_types, with_inherent}
+use Rattle.mlir_operations.specs.ElementText.InherentAttributes.{with_reset, predicate, position, number, literals, field_name, child}
+use Rattle.mlir_operations.specs.OperationText.{OperationText as OperationSaid, takes_bin, string_keys, is_last}
+use Rattle.mlir_operations.specs.ModuleText.{PortText as PortSaid, ModuleText as ModuleSaid, module_keys}
+use Rattle.mlir_syntax.specs.Spelling.{AreOnce}
+use Rattle.mlir_operations.specs.Spelling.{StandsInBody, FilePhrase, token_of}
 use Rattle.assembly_format.specs.declared.elements.FormatElement.{FormatElement}
 use Rattle.assembly_format.specs.declared.elements.FormatElement.TheVariants as element
 use Rattle.assembly_format.specs.declared.elements.Format.{Format}

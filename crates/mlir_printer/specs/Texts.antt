@@ -9,8 +9,8 @@ use Rattle.hw_model.specs.Opcodes.{opcode_of}
 use Rattle.hw_model.specs.Design.{Entry, Ref, Port, Op, Module, Design, same_name}
 use Rattle.hw_model.specs.Design.Attribute.{text_value}
 use Rattle.ir_store.specs.OperationViews.{OpParts}
-use Rattle.mlir_syntax.specs.ElementText.{InherentAttributes}
-use Rattle.mlir_syntax.specs.ElementText.InherentAttributes.{nothing, with_reset, predicate, position, number, literals, field_name, child}
+use Rattle.mlir_operations.specs.ElementText.{InherentAttributes}
+use Rattle.mlir_operations.specs.ElementText.InherentAttributes.{nothing, with_reset, predicate, position, number, literals, field_name, child}
 use Rattle.mlir_reader.specs.Resolving.{put_entry}
 use Rattle.mlir_printer.specs.Numbers.{shown_by_first, shown_literals}
 use Rattle.mlir_printer.specs.Naming.{name_count, input_count, port_name_hint, names_given, first_name, value_named, results_named}

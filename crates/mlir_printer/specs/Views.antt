@@ -5,8 +5,8 @@ use Rattle.hw_model.specs.TypeViews.{type_of}
 use Rattle.hw_model.specs.KindViews.{predicate_of, integer_of, literals_in, instance_of}
 use Rattle.ir_store.specs.declared.operation.Value.{Value}
 use Rattle.ir_store.specs.declared.operation.Value.TheVariants.{Port, Result, Undefined}
-use Rattle.mlir_syntax.specs.ElementText.{InherentAttributes}
-use Rattle.mlir_syntax.specs.ElementText as text
+use Rattle.mlir_operations.specs.ElementText.{InherentAttributes}
+use Rattle.mlir_operations.specs.ElementText as text
 use Rattle.mlir_printer.specs.Numbers.{shown_literals}
 use Rattle.mlir_printer.specs.Elements.{ValueText as Shown, Pending as Left, no_value}
 use Rattle.mlir_printer.specs.Naming.{first_name, name_value_text}

@@ -12,20 +12,21 @@ use Rattle.hw_model.specs.Design.{Entry}
 use Rattle.mlir_lexer.specs.Tokens.{Lexeme, tokens}
 use Rattle.mlir_lexer.specs.declared.token.TokenKind.{TokenKind}
 use Rattle.mlir_lexer.specs.declared.token.TokenKind.TheVariants as kind
-use Rattle.mlir_syntax.specs.Stream.{Symbol, token, end, stream, stream_of, is_first, is_next, is_word, after}
+use Rattle.mlir_syntax.specs.Stream.{Symbol, token, end, stream, stream_of, is_first, is_next, is_word, after, is_end}
 use Rattle.mlir_lexer.specs.TokenKinds.{is_kind}
 use Rattle.mlir_syntax.specs.TypeText.{most_open}
 use Rattle.mlir_syntax.specs.AttributeText.{dictionary_text, is_symbol}
-use Rattle.mlir_syntax.specs.OperationText.{module_name, class_of}
-use Rattle.mlir_syntax.specs.ModuleText.{header, PortText, port_name, port_type, input_port, output_port, port_text, ports_text, ModuleText, module_keys, attributes_text, private_text, body_text, module_behind, classed_module, module_text, is_end, modules_text, file_symbol, want_end, wrapped_text, is_file_name, file_text}
-use Rattle.mlir_syntax.specs.Spelling.{Phrase, One, Mark, Word, Holding, Then, Either, Where, Nothing, Commas, Between, NamePhrase, SymbolPhrase, TypePhrase, ValueName, DictionaryPhrase, OperationsPhrase, PortPhrase, AttributesPhrase, PrivatePhrase, ModulePhrase, ModulesPhrase, FileWord, WrappedPhrase, FilePhrase, IsPlaceOf, token_of}
+use Rattle.mlir_operations.specs.OperationText.{module_name, class_of}
+use Rattle.mlir_operations.specs.ModuleText.{header, PortText, port_name, port_type, input_port, output_port, port_text, ports_text, ModuleText, module_keys, attributes_text, private_text, body_text, module_behind, classed_module, module_text, modules_text, file_symbol, want_end, wrapped_text, is_file_name, file_text}
+use Rattle.mlir_syntax.specs.Spelling.{Phrase, One, Mark, Word, Holding, Then, Either, Where, Nothing, Commas, Between, NamePhrase, SymbolPhrase, TypePhrase, DictionaryPhrase}
+use Rattle.mlir_operations.specs.Spelling.{ValueName, OperationsPhrase, PortPhrase, AttributesPhrase, PrivatePhrase, ModulePhrase, ModulesPhrase, FileWord, WrappedPhrase, FilePhrase, IsPlaceOf, token_of}
 use Rattle.mlir_syntax.proofs.Again.{At, at_then, at_one, at_where, at_nothing, at_as, at_either, on_ok, if_true, if_false, Leads, leads_one, leads_then, leads_where, leads_either, starts, starts_test, shorter, Again, Any}
 use Rattle.mlir_syntax.proofs.AgainTokens.{is_kind_of, unlike, is_word_of, no_word, other_word, want_at, mark_at, holding_at, next_at, no_next, again_name, again_symbol, leads_holding, leads_symbol, leads_commas, until_at, no_mark}
 use Rattle.mlir_syntax.proofs.AgainTypes.{again_any_type}
 use Rattle.mlir_syntax.proofs.AgainAttributes.{again_dictionary}
-use Rattle.mlir_syntax.proofs.AgainOperands.{again_value_name}
-use Rattle.mlir_syntax.proofs.AgainElements.{word_first, other_first, symbol_first, module_symbol_at}
-use Rattle.mlir_syntax.proofs.AgainOperations.{body_at}
+use Rattle.mlir_operations.proofs.AgainOperands.{again_value_name}
+use Rattle.mlir_operations.proofs.AgainElements.{word_first, other_first, symbol_first, module_symbol_at}
+use Rattle.mlir_operations.proofs.AgainOperations.{body_at}
 
 -- ---- ports
 

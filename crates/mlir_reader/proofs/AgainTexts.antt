@@ -5,7 +5,7 @@ use Rattle.hw_model.specs.Design.{Design}
 use Rattle.mlir_lexer.specs.Tokens.{Lexeme, tokens}
 use Rattle.mlir_syntax.specs.Stream.{Symbol, token, bad, end, stream_of}
 use Rattle.mlir_syntax.specs.Reads.{Read}
-use Rattle.mlir_syntax.specs.ModuleText.{ModuleText, file_text}
+use Rattle.mlir_operations.specs.ModuleText.{ModuleText, file_text}
 use Rattle.mlir_reader.specs.Reading.{text_limit, design_read, read}
 use Rattle.mlir_reader.specs.Locality.{symbol_place, IsUnspelledFront}
 use Rattle.mlir_reader.specs.Spelling.{Spells}

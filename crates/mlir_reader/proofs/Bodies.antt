@@ -7,8 +7,8 @@ use Rattle.mlir_lexer.specs.Tokens.{Lexeme}
 use Rattle.mlir_lexer.specs.declared.token.TokenKind.TheVariants as kind
 use Rattle.mlir_syntax.specs.Stream.{Symbol, token, bad, end, first, is_next, after, unexpected_refusal}
 use Rattle.mlir_syntax.specs.Reads.{Read, Reads, on}
-use Rattle.mlir_syntax.specs.OperationText.{OperationText, operation_text, operation_behind, no_operation, operations_text, is_last}
-use Rattle.mlir_syntax.specs.OperandText.{maybe_results}
+use Rattle.mlir_operations.specs.OperationText.{OperationText, operation_text, operation_behind, no_operation, operations_text, is_last}
+use Rattle.mlir_operations.specs.OperandText.{maybe_results}
 use Rattle.mlir_syntax.specs.Views.{ReadsAs}
 use Rattle.mlir_syntax.specs.declared.fail.ReadFail.{ReadFail}
 use Rattle.mlir_syntax.specs.declared.fail.ReadFail.TheVariants.{Refused, NoMemory}

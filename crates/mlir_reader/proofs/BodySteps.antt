@@ -3,15 +3,15 @@ use Rattle.std.proofs.Common.{◌≡◌, ℕ, zero, suc, ◌+◌, Bool, true, fa
 use Rattle.std.specs.Prelude.{Option, Some, None, option_map, is_some, not}
 use Rattle.std.specs.Borrow.{Bor}
 use Rattle.hw_model.specs.TypeViews.{type_of}
-use Rattle.mlir_syntax.specs.ModuleText as text
+use Rattle.mlir_operations.specs.ModuleText as text
 use Rattle.std.proofs.lemmas.List.{map-append}
 use Rattle.hw_model.specs.Design as hw
 use Rattle.ir_store.specs.declared.design.Port.{Port}
 use Rattle.ir_store.specs.Designs.{port_of}
 use Rattle.mlir_reader.specs.Resolving.{Meanings, with_definitions, port_definition, port_definitions, ports_from, is_marked}
-use Rattle.mlir_syntax.specs.Views.{port_text_of}
+use Rattle.mlir_operations.specs.Views.{port_text_of}
 use Rattle.mlir_reader.specs.Meanings.{numbers_from, numbers_below}
-use Rattle.mlir_syntax.specs.declared.syntax.PortText.{PortText}
+use Rattle.mlir_operations.specs.declared.syntax.PortText.{PortText}
 use Rattle.mlir_reader.proofs.Defining.{definitions_append}
 use Rattle.mlir_reader.proofs.Positions.{numbers_push}
 

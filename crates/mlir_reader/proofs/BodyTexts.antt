@@ -7,7 +7,7 @@ use Rattle.ir_store.specs.declared.body.Body.{Body}
 use Rattle.mlir_lexer.specs.declared.token.TokenKind.TheVariants as kind
 use Rattle.mlir_reader.specs.Drafts.{IsBody}
 use Rattle.mlir_reader.specs.ModuleViews.{AreOperations}
-use Rattle.mlir_syntax.specs.OperationText.{OperationText, operations_text, is_last}
+use Rattle.mlir_operations.specs.OperationText.{OperationText, operations_text, is_last}
 use Rattle.mlir_syntax.specs.Reads.{Read, Reads, on}
 use Rattle.mlir_reader.specs.Resolving.{Meanings, ends_with_output}
 use Rattle.mlir_syntax.specs.Stream.{Symbol, is_next}

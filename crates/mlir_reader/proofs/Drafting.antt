@@ -11,7 +11,7 @@ use Rattle.mlir_reader.specs.Drafts.{Keeps, Drafts, IsBody, operation_of_draft}
 use Rattle.mlir_reader.specs.Held.{draft_operations, IsNumbered, HoldsSame, HoldsMore}
 use Rattle.mlir_reader.specs.Marked.{operation_marked}
 use Rattle.mlir_reader.specs.Meanings.{meanings_of, numbers_below}
-use Rattle.mlir_syntax.specs.OperationText.{OperationText}
+use Rattle.mlir_operations.specs.OperationText.{OperationText}
 use Rattle.mlir_reader.specs.Resolving.{Meanings, Defined, Definition, marks, known_or, with_definition, with_definitions, operation_definitions, body_definitions, operation_at, operations_from}
 use Rattle.mlir_reader.specs.declared.draft.Draft.{Draft}
 use Rattle.mlir_reader.specs.declared.draft.DraftOperation.{DraftOperation}

@@ -6,8 +6,8 @@ use Rattle.diag.specs.declared.cause.Cause.TheVariants.{Unexpected}
 use Rattle.mlir_lexer.specs.Fronts.{front_of, sign_front, mark_of}
 use Rattle.mlir_lexer.specs.Tokens.{tokens_behind}
 use Rattle.mlir_syntax.specs.Stream.{end, refusal}
-use Rattle.mlir_syntax.specs.OperationText.{no_operation}
-use Rattle.mlir_syntax.specs.ModuleText.{modules_text, module_text, file_text}
+use Rattle.mlir_operations.specs.OperationText.{no_operation}
+use Rattle.mlir_operations.specs.ModuleText.{modules_text, module_text, file_text}
 use Rattle.mlir_reader.specs.Reading.{read}
 use Rattle.mlir_reader.specs.Locality.{symbol_place, IsOfItsSymbol}
 use Rattle.mlir_reader.specs.Spelling.{Spells}

@@ -5,10 +5,10 @@ use Rattle.hw_model.specs.Design.{Design}
 use Rattle.mlir_lexer.specs.declared.token.TokenKind.TheVariants as kind
 use Rattle.diag.specs.declared.refusal.OpName.TheVariants as op
 use Rattle.mlir_lexer.specs.Tokens.{Lexeme}
-use Rattle.mlir_syntax.specs.Stream.{Symbol, unexpected_refusal}
+use Rattle.mlir_syntax.specs.Stream.{Symbol, unexpected_refusal, is_end}
 use Rattle.mlir_syntax.specs.Reads.{Read, Reads, on, want}
-use Rattle.mlir_syntax.specs.OperationText.{no_operation}
-use Rattle.mlir_syntax.specs.ModuleText.{ModuleText, module_text, modules_text, is_end, want_end}
+use Rattle.mlir_operations.specs.OperationText.{no_operation}
+use Rattle.mlir_operations.specs.ModuleText.{ModuleText, module_text, modules_text, want_end}
 use Rattle.mlir_reader.specs.ModuleViews.{designs_behind}
 use Rattle.mlir_reader.specs.EndViews.{ends_of}
 use Rattle.mlir_reader.specs.Resolving.{module_of}

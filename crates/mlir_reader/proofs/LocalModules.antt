@@ -17,27 +17,29 @@ use Rattle.hw_model.specs.Design.{Entry}
 use Rattle.mlir_lexer.specs.Contents.{content_of}
 use Rattle.mlir_lexer.specs.Tokens.{Lexeme, tokens}
 use Rattle.mlir_lexer.specs.declared.token.TokenKind.TheVariants as kind
-use Rattle.mlir_syntax.specs.Stream.{Symbol, token, bad, end, stream, stream_of, first, is_first, is_next, is_word, refusal, cause_of_first}
+use Rattle.mlir_syntax.specs.Stream.{Symbol, token, bad, end, stream, stream_of, first, is_first, is_next, is_word, refusal, cause_of_first, is_end}
 use Rattle.mlir_lexer.specs.TokenKinds.{is_kind}
 use Rattle.mlir_syntax.specs.Reads.{Read, Reads}
 use Rattle.mlir_syntax.specs.Numerals.{count_limit}
 use Rattle.mlir_syntax.specs.TypeText.{any_type, most_open}
 use Rattle.mlir_syntax.specs.AttributeText.{is_symbol}
-use Rattle.mlir_syntax.specs.OperandText.{ResultNames}
+use Rattle.mlir_operations.specs.OperandText.{ResultNames}
 use Rattle.assembly_format.specs.Formats.{text_of_keyword, format_of, front_elements, type_elements}
-use Rattle.mlir_syntax.specs.ElementText.{Gathered, gathered_nothing, with_operands, with_types, with_inherent, predicate_named, bare_text, as_known, predicate_text, truth_named, truth_text, truth_number, string_text, group_text, further_types, types_text, reset_operands, reset_text, want_sync, sync_reset_text, input_text, output_text, inner_symbol, module_symbol, inputs_text, outputs_text, instance_with, with_instance, instance_text, element_text, elements_text}
-use Rattle.mlir_syntax.specs.ElementText.InherentAttributes.{with_reset, predicate, position, number, literals, field_name}
-use Rattle.mlir_syntax.specs.OperationText.{NameClass, operation, module_name, file_name, locations, outside, unknown, class_of, misplaced_refusal, is_outside, no_operation, takes_bin, bin_text, string_keys, OperationText, given_entries, late_dictionary, form_text, named_operation, classed_operation, operation_behind, operation_text, is_last, operations_text}
-use Rattle.mlir_syntax.specs.ModuleText.{header, port_name, port_type, input_port, output_port, port_text, ports_text, ModuleText, module_keys, attributes_text, private_text, body_text, module_behind, classed_module, module_text, is_end, modules_text, file_symbol, want_end, wrapped_text, is_file_name, file_text}
+use Rattle.mlir_operations.specs.ElementText.{Gathered, gathered_nothing, with_operands, with_types, with_inherent, truth_number, group_text, further_types, types_text, reset_operands, reset_text, want_sync, sync_reset_text, input_text, output_text, inputs_text, outputs_text, instance_with, with_instance, instance_text, element_text, elements_text}
+use Rattle.mlir_syntax.specs.WordText.{predicate_named, bare_text, as_known, predicate_text, truth_named, truth_text, string_text, inner_symbol, module_symbol}
+use Rattle.mlir_operations.specs.ElementText.InherentAttributes.{with_reset, predicate, position, number, literals, field_name}
+use Rattle.mlir_operations.specs.OperationText.{NameClass, operation, module_name, file_name, locations, outside, unknown, class_of, misplaced_refusal, is_outside, no_operation, takes_bin, bin_text, string_keys, OperationText, given_entries, late_dictionary, form_text, named_operation, classed_operation, operation_behind, operation_text, is_last, operations_text}
+use Rattle.mlir_operations.specs.ModuleText.{header, port_name, port_type, input_port, output_port, port_text, ports_text, ModuleText, module_keys, attributes_text, private_text, body_text, module_behind, classed_module, module_text, modules_text, file_symbol, want_end, wrapped_text, is_file_name, file_text}
 use Rattle.mlir_reader.specs.Reading.{text_limit, design_read, read}
 use Rattle.mlir_reader.specs.Locality.{symbol_place, IsOfItsSymbol}
 use Rattle.assembly_format.specs.declared.elements.FormatElement.{FormatElement}
 use Rattle.assembly_format.specs.declared.elements.FormatElement.TheVariants as element
 use Rattle.assembly_format.specs.declared.elements.Format.{Format}
-use Rattle.mlir_syntax.proofs.SoundOperations.{sound_operation}
+use Rattle.mlir_operations.proofs.SoundOperations.{sound_operation}
 use Rattle.mlir_reader.proofs.SoundModules.{sound_module}
 use Rattle.mlir_syntax.proofs.Local.{Whole, Same, place_first, whole_behind, same_of, same_is_first, Given, Near, Loc, Local, loc_same, loc_on, loc_on_less, loc_if, loc_next, loc_cond, loc_first, loc_after, loc_give, loc_err, loc_refused, loc_unexpected, loc_zero, loc_step, local_all}
-use Rattle.mlir_syntax.proofs.LocalParts.{local_want, local_word, local_name, local_symbol, local_number, local_integer, local_some, local_until, local_type, local_field, local_dictionary, local_maybe, local_aggregate, local_value_name, local_operand, local_maybe_results}
+use Rattle.mlir_syntax.proofs.LocalParts.{local_want, local_word, local_name, local_symbol, local_number, local_integer, local_some, local_until, local_type, local_field, local_dictionary, local_maybe, local_aggregate}
+use Rattle.mlir_operations.proofs.LocalOperands.{local_value_name, local_operand, local_maybe_results}
 
 -- ---- pieces
 

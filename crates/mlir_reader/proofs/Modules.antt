@@ -7,7 +7,7 @@ use Rattle.ir_store.specs.BodyOps.{BodyOp, ids_in}
 use Rattle.ir_store.specs.Numbered.{op_by, numbered}
 use Rattle.ir_store.specs.Designs.{numbered_module}
 use Rattle.ir_store.specs.OperationViews.{place_of}
-use Rattle.mlir_syntax.specs.ModuleText.{ModuleText}
+use Rattle.mlir_operations.specs.ModuleText.{ModuleText}
 use Rattle.mlir_reader.specs.Resolving.{Meanings, no_meaning, with_definitions, port_definitions, ports_from, operations_from, meanings, port_meanings, kept_entries, ends_with_output, has_outputs, left_out_output, with_output, module_of}
 use Rattle.mlir_reader.specs.Meanings.{numbers_below}
 use Rattle.mlir_reader.proofs.BodySteps.{numbers_more}

@@ -10,10 +10,10 @@ use Rattle.ir_store.specs.declared.operation.Value.{Value}
 use Rattle.ir_store.specs.declared.operation.Value.TheVariants.{Port, Result, Undefined}
 use Rattle.ir_store.specs.BodyOps.{BodyOp, ids_in}
 use Rattle.ir_store.specs.Numbered.{position_of, ref_by, op_by, numbered}
-use Rattle.mlir_syntax.specs.OperandText.{OperandName, ResultNames}
-use Rattle.mlir_syntax.specs.OperandText.ResultNames.{no_names, names, pack}
-use Rattle.mlir_syntax.specs.OperationText.{OperationText}
-use Rattle.mlir_syntax.specs.ModuleText.{PortText, ModuleText}
+use Rattle.mlir_operations.specs.OperandText.{OperandName, ResultNames}
+use Rattle.mlir_operations.specs.OperandText.ResultNames.{no_names, names, pack}
+use Rattle.mlir_operations.specs.OperationText.{OperationText}
+use Rattle.mlir_operations.specs.ModuleText.{PortText, ModuleText}
 use Rattle.diag.specs.declared.refusal.Place as code
 use Rattle.mlir_reader.specs.Resolving.{Meanings, Defined, Definition, with_definition, with_definitions, no_meaning, known_or, ref_in, resolve_operand, operation_at, operations_from, operation_definitions, body_definitions, names_defined, names_from, port_definition, port_definitions, own_count, meanings, port_meanings, with_output, ends_with_output, has_outputs, left_out_output}
 use Rattle.mlir_reader.specs.Resolving.Defined.{is_port, are_results}

@@ -14,23 +14,24 @@ use Rattle.hw_model.specs.Design.{Design}
 use Rattle.mlir_lexer.specs.Contents.{content_of}
 use Rattle.mlir_lexer.specs.Tokens.{Lexeme, tokens}
 use Rattle.mlir_lexer.specs.declared.token.TokenKind.TheVariants as kind
-use Rattle.mlir_syntax.specs.Stream.{Symbol, token, bad, end, stream, stream_of, is_first, is_next, is_word, after, unexpected_refusal}
+use Rattle.mlir_syntax.specs.Stream.{Symbol, token, bad, end, stream, stream_of, is_first, is_next, is_word, after, unexpected_refusal, is_end}
 use Rattle.mlir_lexer.specs.TokenKinds.{is_kind}
 use Rattle.mlir_syntax.specs.Reads.{Read, Reads, on, give, want}
 use Rattle.mlir_syntax.specs.TypeText.{any_type, most_open}
 use Rattle.mlir_syntax.specs.AttributeText.{dictionary_text, is_symbol}
-use Rattle.mlir_syntax.specs.OperationText.{NameClass, operation, module_name, file_name, locations, outside, unknown, class_of}
-use Rattle.mlir_syntax.specs.ModuleText.{header, PortText, port_name, port_type, input_port, output_port, port_text, ports_text, ModuleText, module_keys, attributes_text, private_text, BodyText, body_text, module_behind, classed_module, module_text, is_end, modules_text, file_symbol, want_end, wrapped_text, is_file_name, file_text}
+use Rattle.mlir_operations.specs.OperationText.{NameClass, operation, module_name, file_name, locations, outside, unknown, class_of}
+use Rattle.mlir_operations.specs.ModuleText.{header, PortText, port_name, port_type, input_port, output_port, port_text, ports_text, ModuleText, module_keys, attributes_text, private_text, BodyText, body_text, module_behind, classed_module, module_text, modules_text, file_symbol, want_end, wrapped_text, is_file_name, file_text}
 use Rattle.mlir_reader.specs.Reading.{text_limit, design_read, read}
-use Rattle.mlir_syntax.specs.Spelling.{Phrase, One, Mark, Holding, Then, Either, Where, Nothing, Commas, Between, NamePhrase, SymbolPhrase, TypePhrase, ValueName, PortPhrase, AttributesPhrase, PrivatePhrase, OperationsPhrase, ModulePhrase, ModulesPhrase, FileWord, FilePhrase, token_of, IsPlaceOf}
+use Rattle.mlir_syntax.specs.Spelling.{Phrase, One, Mark, Holding, Then, Either, Where, Nothing, Commas, Between, NamePhrase, SymbolPhrase, TypePhrase}
+use Rattle.mlir_operations.specs.Spelling.{ValueName, PortPhrase, AttributesPhrase, PrivatePhrase, OperationsPhrase, ModulePhrase, ModulesPhrase, FileWord, FilePhrase, token_of, IsPlaceOf}
 use Rattle.mlir_reader.specs.Spelling.{Spells}
 use Rattle.mlir_syntax.proofs.Sound.{Said, Sound, Past, ok_of, same_ok, one_more, sound_on, sound_last, sound_as, sound_give, sound_refused, sound_if, sound_past}
 use Rattle.mlir_syntax.proofs.SoundTokens.{pair, mark, kind_is, kept_ok, said_word, sound_want, sound_name, sound_symbol, sound_until}
 use Rattle.mlir_syntax.proofs.SoundTypes.{sound_type}
 use Rattle.mlir_syntax.proofs.SoundAttributes.{sound_dictionary}
-use Rattle.mlir_syntax.proofs.SoundOperands.{sound_value_name}
-use Rattle.mlir_syntax.proofs.SoundElements.{sound_module_symbol}
-use Rattle.mlir_syntax.proofs.SoundOperations.{ClassSays, class_says, all_operations}
+use Rattle.mlir_operations.proofs.SoundOperands.{sound_value_name}
+use Rattle.mlir_operations.proofs.SoundElements.{sound_module_symbol}
+use Rattle.mlir_operations.proofs.SoundOperations.{ClassSays, class_says, all_operations}
 
 -- ---- ports
 

@@ -5,10 +5,10 @@ use Rattle.std.proofs.lemmas.List.{length-map, get_or_default}
 use Rattle.std.specs.Prelude.{Option, Some, None, is_some, option_map}
 use Rattle.mlir_reader.specs.Drafts.{found_count}
 use Rattle.mlir_reader.specs.Resolving.{Meanings, Defined}
-use Rattle.mlir_syntax.specs.Views.{operand_of}
+use Rattle.mlir_operations.specs.Views.{operand_of}
 use Rattle.mlir_reader.specs.Meanings.{defined_of}
 use Rattle.mlir_reader.specs.declared.names.Defined as code
-use Rattle.mlir_syntax.specs.declared.syntax.OperandName.{OperandName}
+use Rattle.mlir_operations.specs.declared.syntax.OperandName.{OperandName}
 use Rattle.mlir_reader.proofs.Defining.{rest_at}
 
 -- what is found of a name, by the test that nothing is

@@ -6,10 +6,10 @@ use Rattle.ir_store.specs.Bodies.{ops_of, ids_of, gaps}
 use Rattle.ir_store.specs.Numbered.{op_by}
 use Rattle.ir_store.specs.declared.body.Body.{Body}
 use Rattle.mlir_reader.specs.Meanings.{meanings_of, op_of, numbers_below}
-use Rattle.mlir_syntax.specs.OperandText.{OperandName}
-use Rattle.mlir_syntax.specs.OperationText.{OperationText}
+use Rattle.mlir_operations.specs.OperandText.{OperandName}
+use Rattle.mlir_operations.specs.OperationText.{OperationText}
 use Rattle.mlir_reader.specs.Resolving.{Meanings, resolve_operand, with_definitions, body_definitions, operations_from}
-use Rattle.mlir_syntax.specs.Views.{operand_of}
+use Rattle.mlir_operations.specs.Views.{operand_of}
 use Rattle.mlir_reader.specs.declared.draft.Draft.{Draft}
 use Rattle.mlir_reader.specs.declared.draft.DraftOperation.{DraftOperation}
 

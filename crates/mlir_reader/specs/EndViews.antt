@@ -1,8 +1,7 @@
 -- Where the modules of a file end.
 use Rattle.std.specs.Prelude.{Bool, List}
 use Rattle.mlir_lexer.specs.declared.token.TokenKind.TheVariants as kind
-use Rattle.mlir_syntax.specs.Stream.{Symbol, is_next}
-use Rattle.mlir_syntax.specs.ModuleText.{is_end}
+use Rattle.mlir_syntax.specs.Stream.{Symbol, is_next, is_end}
 use Rattle.mlir_reader.specs.declared.file_text.Ends.{Ends}
 use Rattle.mlir_reader.specs.declared.file_text.Ends.TheVariants.{Brace, Text}
 

@@ -6,9 +6,9 @@ use Rattle.ir_store.specs.Numbered.{op_by}
 use Rattle.ir_store.specs.declared.body.Body.{Body}
 use Rattle.mlir_reader.specs.Drafts.{Keeps, operation_of_draft}
 use Rattle.mlir_reader.specs.Meanings.{meanings_of, numbers_below}
-use Rattle.mlir_syntax.specs.OperandText.{OperandName}
+use Rattle.mlir_operations.specs.OperandText.{OperandName}
 use Rattle.mlir_reader.specs.Resolving.{Meanings, resolve_operand}
-use Rattle.mlir_syntax.specs.Views.{operand_of}
+use Rattle.mlir_operations.specs.Views.{operand_of}
 use Rattle.mlir_reader.specs.declared.draft.Draft.{Draft}
 use Rattle.mlir_reader.specs.declared.draft.DraftOperation.{DraftOperation}
 

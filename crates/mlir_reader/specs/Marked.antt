@@ -2,8 +2,8 @@
 use Rattle.std.specs.Prelude.{Bool, List, map}
 use Rattle.hw_model.specs.Design.{Op}
 use Rattle.ir_store.specs.OperationViews.{place_of}
-use Rattle.mlir_syntax.specs.OperandText.{named_count}
-use Rattle.mlir_syntax.specs.OperationText.{OperationText}
+use Rattle.mlir_operations.specs.OperandText.{named_count}
+use Rattle.mlir_operations.specs.OperationText.{OperationText}
 use Rattle.mlir_reader.specs.Resolving.{Meanings, kind_named, resolve_operand, marked_results, own_types, own_name, kept_entries}
 
 -- an operation whose names have these marks

@@ -10,9 +10,9 @@ use Rattle.ir_store.specs.declared.operation.NewOp.{NewOp}
 use Rattle.ir_store.specs.DictionaryViews.{entries_in}
 use Rattle.ir_store.specs.OperationViews.{types_in, results_in, place_of}
 use Rattle.ir_store.specs.Numbered.{ref_by}
-use Rattle.mlir_syntax.specs.OperandText.{named_count}
-use Rattle.mlir_syntax.specs.Views.{names_of}
-use Rattle.mlir_syntax.specs.declared.syntax.OperationText.{OperationText}
+use Rattle.mlir_operations.specs.OperandText.{named_count}
+use Rattle.mlir_operations.specs.Views.{names_of}
+use Rattle.mlir_operations.specs.declared.syntax.OperationText.{OperationText}
 use Rattle.mlir_reader.specs.PlainNumbers.{number_of}
 use Rattle.mlir_reader.specs.Resolving.{Defined, Definition, Meanings, known_or}
 use Rattle.mlir_reader.specs.Resolving.Defined.{is_port, are_results}

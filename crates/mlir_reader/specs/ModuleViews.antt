@@ -9,10 +9,10 @@ use Rattle.ir_store.specs.DictionaryViews.{entries_in}
 use Rattle.ir_store.specs.declared.design.Design.{Design}
 use Rattle.mlir_syntax.specs.Stream.{is_next}
 use Rattle.mlir_syntax.specs.Reads.{Read, Reads, on, want}
-use Rattle.mlir_syntax.specs.ModuleText as text
+use Rattle.mlir_operations.specs.ModuleText as text
 use Rattle.mlir_reader.specs.Resolving as resolving
 use Rattle.mlir_reader.specs.Resolving.{Meanings, no_meaning, ports_from, has_outputs, ends_with_output}
-use Rattle.mlir_syntax.specs.OperationText.{OperationText}
+use Rattle.mlir_operations.specs.OperationText.{OperationText}
 use Rattle.mlir_reader.specs.Drafts.{IsBody}
 use Rattle.ir_store.specs.declared.design.Module.{Module}
 use Rattle.mlir_reader.specs.declared.body_text.Operations.{Operations}

@@ -7,7 +7,7 @@ use Rattle.diag.specs.declared.cause.Cause.TheVariants.{TooLong}
 use Rattle.hw_model.specs.Design.{Design}
 use Rattle.mlir_syntax.specs.Stream.{stream_of, refusal}
 use Rattle.mlir_syntax.specs.Reads.{Read}
-use Rattle.mlir_syntax.specs.ModuleText.{ModuleText, file_text}
+use Rattle.mlir_operations.specs.ModuleText.{ModuleText, file_text}
 use Rattle.mlir_reader.specs.Resolving.{design_of}
 
 -- how many bytes a text may have

@@ -23,12 +23,12 @@ use Rattle.mlir_lexer.specs.Classes.{is_digit}
 use Rattle.mlir_lexer.specs.Runs.{run}
 use Rattle.ir_store.specs.OperationViews.{place_of}
 use Rattle.ir_store.specs.ResultTypes.{result_types, result_count}
-use Rattle.mlir_syntax.specs.OperandText.{OperandName, ResultNames, named_count}
-use Rattle.mlir_syntax.specs.OperandText.ResultNames.{no_names, names, pack}
-use Rattle.mlir_syntax.specs.ElementText.{InherentAttributes}
-use Rattle.mlir_syntax.specs.ElementText.InherentAttributes.{with_reset, predicate, position, number, literals, field_name, child}
-use Rattle.mlir_syntax.specs.OperationText.{OperationText, is_last}
-use Rattle.mlir_syntax.specs.ModuleText.{PortText, ModuleText}
+use Rattle.mlir_operations.specs.OperandText.{OperandName, ResultNames, named_count}
+use Rattle.mlir_operations.specs.OperandText.ResultNames.{no_names, names, pack}
+use Rattle.mlir_operations.specs.ElementText.{InherentAttributes}
+use Rattle.mlir_operations.specs.ElementText.InherentAttributes.{with_reset, predicate, position, number, literals, field_name, child}
+use Rattle.mlir_operations.specs.OperationText.{OperationText, is_last}
+use Rattle.mlir_operations.specs.ModuleText.{PortText, ModuleText}
 
 -- ---- constants
 

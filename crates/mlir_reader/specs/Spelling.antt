@@ -2,8 +2,8 @@
 use Rattle.std.specs.Prelude.{◌≡◌, ℕ, List, map}
 use Rattle.hw_model.specs.Design.{Design, IsSameDesign}
 use Rattle.mlir_lexer.specs.Tokens.{Lexeme, tokens}
-use Rattle.mlir_syntax.specs.ModuleText.{ModuleText}
-use Rattle.mlir_syntax.specs.Spelling.{FilePhrase, token_of, IsPlaceOf}
+use Rattle.mlir_operations.specs.ModuleText.{ModuleText}
+use Rattle.mlir_operations.specs.Spelling.{FilePhrase, token_of, IsPlaceOf}
 use Rattle.mlir_reader.specs.Resolving.{design_of}
 
 -- the bytes spell the design: their tokens say modules that are those of the design, each operation at the place of its name

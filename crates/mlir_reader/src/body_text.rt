@@ -1,7 +1,7 @@
 //! The body of a module in a text, whose names are resolved as they are read (CIRCT, HW dialect: `hw.module`).
 ghost use Rattle.std.specs.Prelude.{◌≡◌, ◌≤◌, length, Ok, OnOk};
-ghost use Rattle.mlir_syntax.specs.ModuleText.{body_text};
-ghost use Rattle.mlir_syntax.specs.OperationText.{operations_text};
+ghost use Rattle.mlir_operations.specs.ModuleText.{body_text};
+ghost use Rattle.mlir_operations.specs.OperationText.{operations_text};
 ghost use Rattle.mlir_syntax.specs.Views.{ReadsFor};
 ghost use Rattle.mlir_reader.specs.Meanings.{meanings_of};
 ghost use Rattle.mlir_reader.specs.ModuleViews.{AreOperations, IsBodyText};
@@ -12,9 +12,10 @@ use diag::refusal::Place;
 use ir_store::body::Body;
 use ir_store::dictionary::Dictionary;
 use mlir_lexer::token::TokenKind;
+use mlir_operations::operation_names::is_last;
+use mlir_operations::operation_text::{HEADER, operation_text};
+use mlir_operations::port_text::header_attributes;
 use mlir_syntax::fail::ReadFail;
-use mlir_syntax::operation_names::is_last;
-use mlir_syntax::operation_text::HEADER;
 use mlir_syntax::reader::Reader;
 
 /// The operations of a module, as they are read.
@@ -49,7 +50,7 @@ pub fn body_text<'s>(
     ensures gives { ReadsFor (IsBodyText (meanings_of names.entry)) result reader.new (body_text reader.old) }
     ensures shorter { OnOk result (length reader.new ≤ length reader.old) }
 {
-    let dictionary = reader.header_attributes(HEADER)?;
+    let dictionary = header_attributes(reader, HEADER)?;
     reader.want(HEADER, TokenKind::LeftBrace)?;
     let operations = operations_text(reader, names, likely)?;
     let close = reader.want(HEADER, TokenKind::RightBrace)?;
@@ -72,7 +73,7 @@ fn operations_text<'s>(
     let mut draft = Draft::new(reader.alloc(), names, likely);
     let mut ends = false;
     while !reader.is_next(TokenKind::RightBrace) {
-        let operation = match reader.operation_text() {
+        let operation = match operation_text(reader) {
             Ok(operation) => operation,
             Err(fail) => return Err(fail),
         };

@@ -8,7 +8,7 @@ ghost use Rattle.mlir_reader.specs.Held.{IsNumbered, IsSettled, AreSettled, with
 ghost use Rattle.mlir_reader.specs.Marked.{operation_marked};
 ghost use Rattle.mlir_reader.specs.Meanings.{meanings_of, op_of, HasFewNames};
 ghost use Rattle.mlir_reader.specs.Resolving.{Meanings};
-ghost use Rattle.mlir_syntax.specs.Views.{operand_of, operation_of};
+ghost use Rattle.mlir_operations.specs.Views.{operand_of, operation_of};
 
 use crate::definitions::{Marks, define_operation};
 use crate::dictionaries::kept_entries;
@@ -20,7 +20,7 @@ use crate::results::results_of;
 use crate::sizes::has_few_names;
 use ir_store::body::Body;
 use ir_store::operation::{NewOp, Value};
-use mlir_syntax::syntax::{Gathered, OperandName, OperationText};
+use mlir_operations::syntax::{Gathered, OperandName, OperationText};
 use smallvec::SmallVec;
 use std::alloc::{AllocError, Global};
 use std::collections::VecDeque;
@@ -64,9 +64,9 @@ impl<'s> Draft<'s> {
     ghost use Rattle.mlir_reader.specs.Drafts.{Drafts, IsBody};
     ghost use Rattle.mlir_reader.specs.Held.{FirstSettled, HoldsSame, HoldsMore};
     ghost use Rattle.mlir_reader.specs.Meanings.{meanings_of};
-    ghost use Rattle.mlir_syntax.specs.OperationText.{OperationText as Operation};
+    ghost use Rattle.mlir_operations.specs.OperationText.{OperationText as Operation};
     ghost use Rattle.mlir_reader.specs.Resolving.{Meanings};
-    ghost use Rattle.mlir_syntax.specs.Views.{operation_of};
+    ghost use Rattle.mlir_operations.specs.Views.{operation_of};
 
     /// A body of which nothing is read, after ports whose names stand for something. It will likely have so many
     /// operations. It takes no memory.

@@ -4,7 +4,7 @@ ghost use Rattle.ir_store.specs.Designs.{design_of};
 ghost use Rattle.mlir_reader.specs.EndViews.{ends_of};
 ghost use Rattle.mlir_reader.specs.ModuleViews.{designs_behind, braced_text, closing_text};
 ghost use Rattle.mlir_syntax.specs.AttributeText.{is_symbol};
-ghost use Rattle.mlir_syntax.specs.ModuleText.{is_file_name, modules_text, file_symbol, want_end, wrapped_text, file_text};
+ghost use Rattle.mlir_operations.specs.ModuleText.{is_file_name, modules_text, file_symbol, want_end, wrapped_text, file_text};
 ghost use Rattle.mlir_syntax.specs.Stream.{is_first};
 ghost use Rattle.mlir_syntax.specs.Views.{ReadsAs};
 
@@ -13,6 +13,7 @@ use crate::sizes::put_module;
 use diag::refusal::OpName;
 use ir_store::design::Design;
 use mlir_lexer::token::TokenKind;
+use mlir_operations::port_text::header_attributes;
 use mlir_syntax::attribute_text::is_symbol;
 use mlir_syntax::fail::ReadFail;
 use mlir_syntax::reader::{Reader, is_word};
@@ -32,7 +33,7 @@ pub enum Ends {
 /// A file: modules, bare or in one module of the builtin dialect, each resolved as its text is read.
 ///
 /// Refuses the first token that no file has there.
-#[tactic(auto, unfolding(mlir_syntax::specs::ModuleText::file_text))]
+#[tactic(auto, unfolding(mlir_operations::specs::ModuleText::file_text))]
 pub fn file_text(reader: &mut Reader<'_>) -> Result<Design, ReadFail>
     ensures { ReadsAs design_of result reader.new (designs_behind [] (file_text reader.old)) }
 {
@@ -57,12 +58,12 @@ fn is_file_name(reader: &Reader<'_>) -> bool
 }
 
 // `[@N] [attributes {..}] { MODULES }` and the end, after the name of a file's module.
-#[tactic(auto, unfolding(mlir_syntax::specs::ModuleText::wrapped_text, crate::specs::ModuleViews::braced_text))]
+#[tactic(auto, unfolding(mlir_operations::specs::ModuleText::wrapped_text, crate::specs::ModuleViews::braced_text))]
 fn wrapped_text(reader: &mut Reader<'_>, design: &mut Design) -> Result<(), ReadFail>
     ensures { ReadsAs (λ (_ : Unit {0}). design_of design.new) result reader.new (designs_behind (design_of design.old) (wrapped_text reader.old)) }
 {
     file_symbol(reader)?;
-    reader.header_attributes(OpName::File)?;
+    header_attributes(reader, OpName::File)?;
     reader.want(OpName::File, TokenKind::LeftBrace)?;
     braced_text(reader, design)
 }
@@ -88,7 +89,7 @@ fn closing_text(reader: &mut Reader<'_>) -> Result<(), ReadFail>
 }
 
 // A symbol that is not kept, or nothing.
-#[tactic(auto, unfolding(mlir_syntax::specs::ModuleText::file_symbol))]
+#[tactic(auto, unfolding(mlir_operations::specs::ModuleText::file_symbol))]
 fn file_symbol(reader: &mut Reader<'_>) -> Result<(), ReadFail>
     ensures gives { ReadsAs (λ u. u) result reader.new (file_symbol reader.old) }
     ensures shorter { OnOk result (length reader.new ≤ length reader.old) }
@@ -110,7 +111,7 @@ fn begins_symbol(reader: &Reader<'_>) -> bool
 }
 
 // The end of the text, which is not passed.
-#[tactic(auto, unfolding(mlir_syntax::specs::ModuleText::want_end))]
+#[tactic(auto, unfolding(mlir_operations::specs::ModuleText::want_end))]
 fn see_end(reader: &Reader<'_>) -> Result<(), ReadFail>
     ensures { ReadsAs (λ u. u) result reader.now (want_end tt reader.now) }
 {

@@ -4,13 +4,13 @@ ghost use Rattle.std.specs.Box.{box_value};
 ghost use Rattle.hw_model.specs.TypeViews.{type_of};
 ghost use Rattle.hw_model.specs.KindViews.{kind_of, integer_of, predicate_of, reset_of, literal_of, literals_in, instance_of};
 ghost use Rattle.mlir_reader.specs.Resolving.{has_negative, kept_number, kept_integer, kept_by_first, kept_literal, kept_literals, kind_named, inherent_kind, inherent_predicate, inherent_position, inherent_number, inherent_literals, inherent_field, inherent_instance, inherent_reset};
-ghost use Rattle.mlir_syntax.specs.ElementText.InherentAttributes.{nothing};
-ghost use Rattle.mlir_syntax.specs.Views.{inherent_of};
+ghost use Rattle.mlir_operations.specs.ElementText.InherentAttributes.{nothing};
+ghost use Rattle.mlir_operations.specs.Views.{inherent_of};
 
 use hw_model::kinds::{Instance, Integer, Literal, LiteralList, OpKind, Predicate, Reset};
 use hw_model::types::Ty;
 use io_edge::byte_text::Text;
-use mlir_syntax::syntax::InherentAttributes;
+use mlir_operations::syntax::InherentAttributes;
 use opcode::listed::Listed;
 use std::alloc::{AllocError, Global};
 

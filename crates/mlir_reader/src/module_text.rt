@@ -1,8 +1,8 @@
 //! Modules in a text, whose names are resolved as they are read (CIRCT, HW dialect: `hw.module`).
 ghost use Rattle.std.specs.Prelude.{◌≡◌, ◌<◌, ◌≤◌, length, Some, Ok, OnOk};
 ghost use Rattle.mlir_lexer.specs.Tokens.{lexeme_of};
-ghost use Rattle.mlir_syntax.specs.ModuleText.{module_behind, classed_module, module_text};
-ghost use Rattle.mlir_syntax.specs.OperationText.{class_of};
+ghost use Rattle.mlir_operations.specs.ModuleText.{module_behind, classed_module, module_text};
+ghost use Rattle.mlir_operations.specs.OperationText.{class_of};
 ghost use Rattle.mlir_syntax.specs.Stream.{first};
 ghost use Rattle.mlir_syntax.specs.Views.{ReadsFor};
 ghost use Rattle.mlir_reader.specs.ModuleViews.{IsModule};
@@ -12,15 +12,16 @@ use crate::resolving::{ModuleHead, named_ports, whole_module};
 use diag::refusal::{OpName, Place};
 use ir_store::design::Module;
 use mlir_lexer::token::{Token, TokenKind, is_kind};
+use mlir_operations::operation_names::{NameClass, class_of};
+use mlir_operations::operation_text::{HEADER, misplaced_refusal, no_operation};
+use mlir_operations::port_text::{ports_text, private_text};
 use mlir_syntax::fail::ReadFail;
-use mlir_syntax::operation_names::{NameClass, class_of};
-use mlir_syntax::operation_text::HEADER;
 use mlir_syntax::reader::Reader;
 
 /// A module, whose names are resolved. It will likely have so many operations, for which room is made.
 ///
 /// Refuses the first token that no module has there.
-#[tactic(auto, unfolding(mlir_syntax::specs::ModuleText::module_text))]
+#[tactic(auto, unfolding(mlir_operations::specs::ModuleText::module_text))]
 pub fn module_text(reader: &mut Reader<'_>, likely: u32) -> Result<Module, ReadFail>
     ensures gives { ReadsFor IsModule result reader.new (module_text reader.old) }
     ensures shorter { OnOk result (length reader.new < length reader.old) }
@@ -29,13 +30,13 @@ pub fn module_text(reader: &mut Reader<'_>, likely: u32) -> Result<Module, ReadF
         Some(token) if is_kind(token.kind, TokenKind::BareName) => {
             classed_module(reader, token, likely)
         }
-        Some(_) => Err(ReadFail::Refused(reader.no_operation(OpName::File))),
-        None => Err(ReadFail::Refused(reader.no_operation(OpName::File))),
+        Some(_) => Err(ReadFail::Refused(no_operation(reader, OpName::File))),
+        None => Err(ReadFail::Refused(no_operation(reader, OpName::File))),
     }
 }
 
 // A module whose name is the first token.
-#[tactic(auto, unfolding(mlir_syntax::specs::ModuleText::classed_module))]
+#[tactic(auto, unfolding(mlir_operations::specs::ModuleText::classed_module))]
 fn classed_module<'s>(
     reader: &mut Reader<'s>,
     token: Token<'s>,
@@ -45,6 +46,7 @@ fn classed_module<'s>(
     ensures gives { ReadsFor IsModule result reader.new (classed_module reader.old (lexeme_of token.entry) (class_of token.entry.text.now)) }
     ensures shorter { OnOk result (length reader.new < length reader.old) }
 {
+    let op = OpName::File;
     match class_of(token.text) {
         NameClass::Module => {
             reader.advance();
@@ -52,19 +54,19 @@ fn classed_module<'s>(
         }
         NameClass::Operation(name) => {
             let class = NameClass::Operation(name);
-            Err(ReadFail::Refused(reader.misplaced(OpName::File, token, class)))
+            Err(ReadFail::Refused(misplaced_refusal(reader, op, token, class)))
         }
         NameClass::File => {
-            Err(ReadFail::Refused(reader.misplaced(OpName::File, token, NameClass::File)))
+            Err(ReadFail::Refused(misplaced_refusal(reader, op, token, NameClass::File)))
         }
         NameClass::Locations => {
-            Err(ReadFail::Refused(reader.misplaced(OpName::File, token, NameClass::Locations)))
+            Err(ReadFail::Refused(misplaced_refusal(reader, op, token, NameClass::Locations)))
         }
         NameClass::Outside => {
-            Err(ReadFail::Refused(reader.misplaced(OpName::File, token, NameClass::Outside)))
+            Err(ReadFail::Refused(misplaced_refusal(reader, op, token, NameClass::Outside)))
         }
         NameClass::Unknown => {
-            Err(ReadFail::Refused(reader.misplaced(OpName::File, token, NameClass::Unknown)))
+            Err(ReadFail::Refused(misplaced_refusal(reader, op, token, NameClass::Unknown)))
         }
     }
 }
@@ -74,9 +76,9 @@ fn module_behind(reader: &mut Reader<'_>, place: Place, likely: u32) -> Result<M
     ensures gives { ReadsFor IsModule result reader.new (module_behind place reader.old) }
     ensures shorter { OnOk result (length reader.new ≤ length reader.old) }
 {
-    let private = reader.private_text();
+    let private = private_text(reader);
     let symbol = reader.module_symbol(HEADER)?;
-    let ports = reader.ports_text()?;
+    let ports = ports_text(reader)?;
     let ports = named_ports(reader.alloc(), ports)?;
     let body = body_text(reader, ports.names, likely)?;
     let head = ModuleHead {

@@ -3,13 +3,13 @@ ghost use Rattle.std.specs.Prelude.{◌≡◌, map, IfOk};
 ghost use Rattle.std.specs.Option.{option_map};
 ghost use Rattle.ir_store.specs.DictionaryViews.{attribute_of, entry_of, entries_in};
 ghost use Rattle.mlir_reader.specs.Resolving.{text_in, given_name, unless_digits, first_name, own_name_of};
-ghost use Rattle.mlir_syntax.specs.Views.{names_of};
+ghost use Rattle.mlir_operations.specs.Views.{names_of};
 
 use crate::dictionaries::{has_name, is_name_entry};
 use io_edge::byte_text::Text;
 use ir_store::dictionary::{Attribute, Dictionary};
 use mlir_lexer::classes::{Digit, run_of};
-use mlir_syntax::syntax::ResultNames;
+use mlir_operations::syntax::ResultNames;
 use opcode::listed::Listed;
 use std::alloc::{AllocError, Global};
 

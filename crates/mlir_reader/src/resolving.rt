@@ -3,11 +3,11 @@ ghost use Rattle.std.specs.Prelude.{◌≡◌, ◌||◌, ◌<◌, ◌+◌, ◌^�
 ghost use Rattle.ir_store.specs.Bodies.{ops_of, ids_of, gaps};
 ghost use Rattle.ir_store.specs.Numbered.{ref_by, op_by};
 ghost use Rattle.ir_store.specs.Designs.{ports_in};
-ghost use Rattle.mlir_syntax.specs.ModuleText.{ModuleText as Written};
+ghost use Rattle.mlir_operations.specs.ModuleText.{ModuleText as Written};
 ghost use Rattle.mlir_reader.specs.ModuleViews.{IsHead, IsBodyText, IsModule, body_in};
 ghost use Rattle.mlir_reader.specs.Resolving.{resolve_operand, ref_in, no_meaning, ports_from, port_definitions, port_meanings, with_definitions, has_outputs, left_out_output};
-ghost use Rattle.mlir_syntax.specs.OperandText.{named_count};
-ghost use Rattle.mlir_syntax.specs.Views.{operand_of, names_of, port_text_of};
+ghost use Rattle.mlir_operations.specs.OperandText.{named_count};
+ghost use Rattle.mlir_operations.specs.Views.{operand_of, names_of, port_text_of};
 ghost use Rattle.mlir_reader.specs.Meanings.{meanings_of, defined_of, op_of};
 
 use crate::body_text::BodyText;
@@ -21,7 +21,7 @@ use ir_store::body::Body;
 use ir_store::design::{Module, Port, PortList};
 use ir_store::dictionary::Dictionary;
 use ir_store::operation::{NewOp, NewResultList, OpId, TyList, Value};
-use mlir_syntax::syntax::{OperandName, PortText, ResultNames};
+use mlir_operations::syntax::{OperandName, PortText, ResultNames};
 use opcode::listed::Listed;
 use smallvec::SmallVec;
 use std::alloc::{AllocError, Global};

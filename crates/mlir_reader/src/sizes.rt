@@ -4,7 +4,7 @@ ghost use Rattle.ir_store.specs.Designs.{design_of, module_of, numbered_module};
 ghost use Rattle.mlir_reader.specs.Meanings.{HasFewNames};
 
 use ir_store::design::{Design, Module};
-use mlir_syntax::syntax::{OperationText, ResultNames};
+use mlir_operations::syntax::{OperationText, ResultNames};
 use std::alloc::AllocError;
 
 /// Puts a module after those of a design. On an error the design may be thrown away. A design of 2^32 modules or more,

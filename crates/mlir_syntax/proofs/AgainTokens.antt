@@ -14,7 +14,7 @@ use Rattle.mlir_lexer.specs.TokenKinds.{tag, is_kind}
 use Rattle.mlir_syntax.specs.Reads.{Reads, want, want_word, items, some_items, items_until}
 use Rattle.mlir_syntax.specs.Numerals.{number_of, number_limit, below_limit, number_below, negative, integer}
 use Rattle.mlir_syntax.specs.TypeText.{name_text}
-use Rattle.mlir_syntax.specs.ElementText.{symbol_text}
+use Rattle.mlir_syntax.specs.WordText.{symbol_text}
 use Rattle.mlir_syntax.specs.Spelling.{Phrase, One, Mark, Word, Holding, Then, Commas, NamePhrase, SymbolPhrase, NumberPhrase, IntegerPhrase}
 use Rattle.mlir_syntax.proofs.Again.{At, at_then, at_one, at_where, at_nothing, at_either, by_either, on_ok, if_true, if_false, Leads, leads_one, leads_then, leads_where, leads_either, starts, shorter, starts_test, Again, Any}
 

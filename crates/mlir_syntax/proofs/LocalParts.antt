@@ -1,4 +1,4 @@
--- The readers of tokens, numbers, lists, types, attributes, constants and operands look no further than one symbol.
+-- The readers of tokens, numbers, lists, types, attributes and constants look no further than one symbol.
 use Rattle.std.proofs.Common.{◌≡◌, ℕ, zero, suc, Bool, true, false, cond, nat_lt, List, [], ◌∷◌, ◌++◌, Option, Some, None, Ok, Err, refl, ℤ, pos}
 use Rattle.diag.specs.declared.refusal.Refusal.{Refusal}
 use Rattle.diag.specs.declared.refusal.OpName.{OpName}
@@ -22,8 +22,7 @@ use Rattle.mlir_syntax.specs.TypeText.{TypeHead, width_digits, type_head, width_
 use Rattle.mlir_syntax.specs.TypeText.TypeHead.{integer_type as integer_head, clock_type, array_type, struct_type, foreign_type, no_type}
 use Rattle.mlir_syntax.specs.AttributeText.{AttributeHead, text_head, symbol_head, truth_head, number_head, list_head, alias_head, no_head, is_symbol, attribute_head, is_stored, stored_integer, integer_type, typed_integer, in_order, list_text, attribute_with, attribute_text, is_among, new_key, string_value, value_of_key, entry_value, entry_text, entries, dictionary_text, maybe_dictionary}
 use Rattle.mlir_syntax.specs.LiteralText.{LiteralHead, truth_literal, number_literal, list_literal, no_literal, literal_head, number_leaf, literals_in_order, truth_leaf, parts_text, list_part, literal_with, literal_text, aggregate_text}
-use Rattle.mlir_syntax.specs.OperandText.{value_name, pack_number, operand_text, no_names, names, pack, names_behind, results_text, maybe_results}
-use Rattle.mlir_syntax.specs.ElementText.{symbol_text}
+use Rattle.mlir_syntax.specs.WordText.{symbol_text}
 use Rattle.mlir_syntax.proofs.Local.{Loc, Local, loc_same, loc_on, loc_next, loc_cond, loc_first, loc_after, loc_less, loc_give, loc_refused, loc_unexpected, loc_zero, loc_step, local_all}
 
 -- ---- a token
@@ -89,7 +88,7 @@ local_symbol op =
 
 -- ---- numbers
 
-local_limited : (limit : ℕ) (op : OpName) (x : ℕ) → Local (λ s. below_limit limit op s x (after s))
+pub local_limited : (limit : ℕ) (op : OpName) (x : ℕ) → Local (λ s. below_limit limit op s x (after s))
 unfolding below_limit
 local_limited limit op x c n = loc_cond (nat_lt x limit) (loc_after (loc_give {y = x})) (loc_refused NumberTooLarge op)
 
@@ -102,7 +101,7 @@ kind_taken op k K j (token t ∷ ts) = on_cond (is_kind t.kind k) t ts (unexpect
 kind_taken op k K j (bad p ∷ ts) = refl
 kind_taken op k K j (end p ∷ ts) = refl
 
-local_kind : {A : Type 0} (op : OpName) (k : TokenKind) (K : Lexeme → List Symbol → List Symbol → Read A) → ((t : Lexeme) → Local (λ s. K t s (after s)))
+pub local_kind : {A : Type 0} (op : OpName) (k : TokenKind) (K : Lexeme → List Symbol → List Symbol → Read A) → ((t : Lexeme) → Local (λ s. K t s (after s)))
     → Local (λ s. on (want op k s) (λ t left. K t s left))
 local_kind op k K each = local_taken op (λ t. is_kind t.kind k) K (kind_taken op k K) each
 
@@ -374,38 +373,3 @@ local_literal (suc room) op c n =
 pub local_aggregate : (op : OpName) → Local (aggregate_text op)
 unfolding aggregate_text
 local_aggregate op = local_parts op (local_literal 31 op)
-
--- ---- operands and the names of results
-
-pub local_value_name : (op : OpName) → Local (value_name op)
-unfolding value_name
-local_value_name op c n = loc_on (local_want op kind.ValueName c n) (λ t. loc_give {y = content_of kind.ValueName t.text})
-
-local_pack : (op : OpName) → Local (pack_number op)
-unfolding pack_number
-local_pack op c n =
-    loc_next (λ t. is_kind t.kind kind.ResultNumber)
-    (local_kind op kind.ResultNumber (λ t s left. below_limit count_limit op s (number_in 10 0 (content_of kind.ResultNumber t.text)) left)
-    (λ t. local_limited count_limit op (number_in 10 0 (content_of kind.ResultNumber t.text))) c n)
-    (loc_give {y = 0})
-
-pub local_operand : (op : OpName) → Local (operand_text op)
-unfolding operand_text
-local_operand op c n =
-    loc_on (local_value_name op c n) (λ name. loc_on (local_pack op c n) (λ x. loc_give {y = record { name = name; number = x }}))
-
-local_names_behind : (op : OpName) (name : Name) → Local (names_behind op name)
-unfolding names_behind
-local_names_behind op name c n =
-    loc_next (λ t. is_kind t.kind kind.Colon) (loc_after (loc_on (local_number count_limit op c n) (λ k. loc_give {y = pack name k})))
-    (loc_next (λ t. is_kind t.kind kind.Comma) (loc_after (loc_on (local_some op (local_value_name op) c n) (λ ns. loc_give {y = names name ns})))
-    (loc_give {y = names name []}))
-
-local_results : (op : OpName) → Local (results_text op)
-unfolding results_text
-local_results op c n =
-    loc_on (local_value_name op c n) (λ name. loc_on (local_names_behind op name c n) (λ r. loc_on (local_want op kind.Equals c n) (λ _. loc_give {y = r})))
-
-pub local_maybe_results : (op : OpName) → Local (maybe_results op)
-unfolding maybe_results
-local_maybe_results op c n = loc_next (λ t. is_kind t.kind kind.ValueName) (local_results op c n) (loc_give {y = no_names})

@@ -16,7 +16,7 @@ use Rattle.mlir_syntax.specs.Reads.{Read, Reads, give, want, want_word, items, s
 use Rattle.mlir_syntax.specs.Numerals.{number_of, number_limit, below_limit, number_below, negative, integer}
 use Rattle.mlir_syntax.specs.TypeText.{is_name, name_text}
 use Rattle.mlir_syntax.specs.AttributeText.{is_symbol}
-use Rattle.mlir_syntax.specs.ElementText.{symbol_text}
+use Rattle.mlir_syntax.specs.WordText.{symbol_text}
 use Rattle.mlir_syntax.specs.Spelling.{Phrase, One, Mark, Word, Holding, Then, Commas, NamePhrase, SymbolPhrase, NumberPhrase, IntegerPhrase}
 use Rattle.mlir_syntax.proofs.Sound.{Said, Sound, ok_of, same_ok, sound_on, sound_last, sound_give, sound_past}
 

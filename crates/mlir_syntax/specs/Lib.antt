@@ -4,16 +4,11 @@ pub mod Reads
 pub mod Numerals
 pub mod TypeText
 pub mod AttributeText
+pub mod WordText
 pub mod LiteralText
-pub mod OperandText
-pub mod ElementText
-pub mod OperationText
-pub mod ModuleText
 pub mod Views
 pub mod Heads
 pub mod TypeHeads
 pub mod AttributeHeads
 pub mod LiteralHeads
-pub mod NameClasses
-pub mod ElementHeads
 pub mod Spelling

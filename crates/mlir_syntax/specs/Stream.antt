@@ -1,5 +1,5 @@
 -- A text as a reader meets it: tokens, and after the last one the end of the text, or a byte that begins no token.
-use Rattle.std.specs.Prelude.{ℕ, Bool, false, cond, ◌&&◌, List, [], ◌∷◌, length, Option, Some, None, Result, Ok, Err, codes}
+use Rattle.std.specs.Prelude.{ℕ, Bool, true, false, cond, ◌&&◌, List, [], ◌∷◌, length, Option, Some, None, Result, Ok, Err, codes}
 use Rattle.diag.specs.Place.{place_of}
 use Rattle.diag.specs.declared.refusal.Place.{Place}
 use Rattle.diag.specs.declared.refusal.Refusal.{Refusal}
@@ -53,6 +53,13 @@ is_first test (end p ∷ ts) = false
 -- whether the first token is of a kind
 abbrev pub is_next : TokenKind → List Symbol → Bool
 is_next k ts = is_first (λ t. is_kind t.kind k) ts
+
+-- whether the text ends here
+abbrev pub is_end : List Symbol → Bool
+is_end [] = false
+is_end (token t ∷ ts) = false
+is_end (bad p ∷ ts) = false
+is_end (end p ∷ ts) = true
 
 -- what stands after the first token; nothing stands after the end
 abbrev pub after : List Symbol → List Symbol

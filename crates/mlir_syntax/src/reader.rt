@@ -2,14 +2,11 @@
 ghost use Rattle.std.specs.Prelude.{◌≡◌, ◌<◌, ◌≤◌, length, cond, OnOk, IsTrue};
 ghost use Rattle.std.specs.Option.{option_map};
 ghost use Rattle.mlir_lexer.specs.Tokens.{lexeme_of};
-ghost use Rattle.mlir_syntax.specs.Stream.{stream_of, is_word, first, is_next, is_first, after, refusal_at, unexpected_refusal, refusal, cause_of_first};
+ghost use Rattle.mlir_syntax.specs.Stream.{stream_of, is_word, first, is_next, is_first, after, refusal_at, unexpected_refusal, refusal, cause_of_first, is_end};
 ghost use Rattle.mlir_lexer.specs.TokenKinds.{tag, is_kind};
 ghost use Rattle.mlir_syntax.specs.Heads.{stream_left, symbols};
-ghost use Rattle.mlir_syntax.specs.ModuleText.{is_end};
-ghost use Rattle.mlir_syntax.specs.ElementText.{Gathered as Gathering, element_text};
 ghost use Rattle.mlir_syntax.specs.Reads.{want, want_word};
 ghost use Rattle.mlir_syntax.specs.Views.{ReadsAs};
-ghost use Rattle.assembly_format.specs.declared.elements.FormatElement.TheVariants as element;
 
 use crate::fail::ReadFail;
 use crate::head::Head;
@@ -136,25 +133,6 @@ impl<'s> Reader<'s> {
             Head::Token(token) if is_kind(token.kind, kind) => {
                 self.advance();
                 Ok(token)
-            }
-            Head::Token(_) | Head::Bad(_) | Head::End(_) => {
-                Err(ReadFail::Refused(self.unexpected_token(op)))
-            }
-        }
-    }
-
-    /// Passes a token that is always the same.
-    ///
-    /// Refuses everything else that stands there.
-    #[tactic(auto, unfolding(crate::specs::Reads::want, crate::specs::ElementText::element_text))]
-    pub fn mark_element(&mut self, op: OpName, kind: TokenKind) -> Result<(), ReadFail>
-        ensures gives { (g : Gathering) → ReadsAs (λ (_ : Unit {0}). g) result self.new (element_text op (element.Mark kind) g self.old) }
-        ensures shorter { OnOk result (length self.new ≤ length self.old) }
-    {
-        match self.head {
-            Head::Token(mark) if is_kind(mark.kind, kind) => {
-                self.advance();
-                Ok(())
             }
             Head::Token(_) | Head::Bad(_) | Head::End(_) => {
                 Err(ReadFail::Refused(self.unexpected_token(op)))

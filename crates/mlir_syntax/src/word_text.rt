@@ -6,7 +6,7 @@ ghost use Rattle.wiring.specs.Options.{bind};
 ghost use Rattle.hw_model.specs.KindViews.{predicate_of};
 ghost use Rattle.mlir_lexer.specs.Tokens.{lexeme_of};
 ghost use Rattle.mlir_syntax.specs.Stream.{first, is_first, is_word, after};
-ghost use Rattle.mlir_syntax.specs.ElementText.{predicate_named, predicate_text, truth_named, truth_text, string_text, symbol_text, bare_text, module_symbol, inner_symbol};
+ghost use Rattle.mlir_syntax.specs.WordText.{predicate_named, predicate_text, truth_named, truth_text, string_text, symbol_text, bare_text, module_symbol, inner_symbol};
 ghost use Rattle.mlir_syntax.specs.Views.{ReadsAs};
 
 use crate::attribute_text::is_symbol;
@@ -35,7 +35,7 @@ impl<'s> Reader<'s> {
     /// The predicate of a comparison.
     ///
     /// Refuses everything else.
-    #[tactic(auto, unfolding(crate::specs::ElementText::predicate_text))]
+    #[tactic(auto, unfolding(crate::specs::WordText::predicate_text))]
     pub fn predicate_text(&mut self, op: OpName) -> Result<Predicate, ReadFail>
         ensures gives { ReadsAs predicate_of result self.new (predicate_text op self.old) }
         ensures shorter { OnOk result (length self.new ≤ length self.old) }
@@ -62,7 +62,7 @@ impl<'s> Reader<'s> {
     /// `true` or `false`.
     ///
     /// Refuses everything else.
-    #[tactic(auto, unfolding(crate::specs::ElementText::truth_text))]
+    #[tactic(auto, unfolding(crate::specs::WordText::truth_text))]
     pub fn truth_text(&mut self, op: OpName) -> Result<bool, ReadFail>
         ensures gives { ReadsAs (λ b. b) result self.new (truth_text op self.old) }
         ensures shorter { OnOk result (length self.new ≤ length self.old) }
@@ -89,7 +89,7 @@ impl<'s> Reader<'s> {
     /// What a string holds.
     ///
     /// Refuses what is no string.
-    #[tactic(auto, unfolding(crate::specs::ElementText::string_text))]
+    #[tactic(auto, unfolding(crate::specs::WordText::string_text))]
     pub fn string_text(&mut self, op: OpName) -> Result<Text, ReadFail>
         ensures gives { ReadsAs (λ text. text) result self.new (string_text op self.old) }
         ensures shorter { OnOk result (length self.new ≤ length self.old) }
@@ -102,7 +102,7 @@ impl<'s> Reader<'s> {
     /// A symbol's name.
     ///
     /// Refuses what is no symbol.
-    #[tactic(auto, unfolding(crate::specs::ElementText::symbol_text))]
+    #[tactic(auto, unfolding(crate::specs::WordText::symbol_text))]
     pub fn symbol_text(&mut self, op: OpName) -> Result<Text, ReadFail>
         ensures gives { ReadsAs (λ name. name) result self.new (symbol_text op self.old) }
         ensures shorter { OnOk result (length self.new ≤ length self.old) }
@@ -120,7 +120,7 @@ impl<'s> Reader<'s> {
     /// `@N`: the symbol of a module.
     ///
     /// Refuses what is no symbol, and parameters after it.
-    #[tactic(auto, unfolding(crate::specs::ElementText::module_symbol))]
+    #[tactic(auto, unfolding(crate::specs::WordText::module_symbol))]
     pub fn module_symbol(&mut self, op: OpName) -> Result<Text, ReadFail>
         ensures gives { ReadsAs (λ name. name) result self.new (module_symbol op self.old) }
         ensures shorter { OnOk result (length self.new ≤ length self.old) }
@@ -136,7 +136,7 @@ impl<'s> Reader<'s> {
     /// `sym @s`, or nothing.
     ///
     /// Refuses `sym` without a symbol.
-    #[tactic(auto, unfolding(crate::specs::ElementText::inner_symbol))]
+    #[tactic(auto, unfolding(crate::specs::WordText::inner_symbol))]
     pub fn inner_symbol(&mut self, op: OpName) -> Result<Option<Text>, ReadFail>
         ensures gives { ReadsAs (λ name. name) result self.new (inner_symbol op self.old) }
         ensures shorter { OnOk result (length self.new ≤ length self.old) }
@@ -161,7 +161,7 @@ fn predicate_at(token: Token) -> Option<Predicate>
 }
 
 // The predicate of a name.
-#[tactic(auto, unfolding(crate::specs::ElementText::predicate_named))]
+#[tactic(auto, unfolding(crate::specs::WordText::predicate_named))]
 fn predicate_named(name: &[u8]) -> Option<Predicate>
     ensures { option_map predicate_of result ≡ predicate_named name.now }
 {
@@ -210,7 +210,7 @@ fn truth_at(token: Token) -> Option<bool>
 }
 
 // The truth value of a name.
-#[tactic(auto, unfolding(crate::specs::ElementText::truth_named))]
+#[tactic(auto, unfolding(crate::specs::WordText::truth_named))]
 fn truth_named(name: &[u8]) -> Option<bool>
     ensures { result ≡ truth_named name.now }
 {

@@ -3,6 +3,7 @@ use Operand::{Port, Result as Of, Undefined};
 use io_edge::byte_text::Text;
 use ir_store::body::Body;
 use ir_store::operation::{OpId, Value};
+use mlir_operations::operation_text::operation_text;
 use mlir_reader::definitions::define_port;
 use mlir_reader::draft::Draft;
 use mlir_reader::names::Names;
@@ -127,7 +128,7 @@ fn body_of(alloc: Global, text: &[u8], most: usize) -> Result<Body, AllocError> 
     let mut draft = Draft::new(alloc, names, 8);
     let mut reader = Reader::new(alloc, text);
     for _ in 0..most {
-        match reader.operation_text() {
+        match operation_text(&mut reader) {
             Ok(operation) => draft.add(alloc, operation)?,
             Err(_) => return draft.finish(alloc),
         }

@@ -2,10 +2,11 @@
 use diag::cause::Cause;
 use diag::refusal::OpName;
 use io_edge::byte_text::Text;
+use mlir_operations::operand_text::{maybe_results, operand_text};
+use mlir_operations::syntax::ResultNames;
 use mlir_syntax::dictionary_text::StringKeys;
 use mlir_syntax::fail::ReadFail;
 use mlir_syntax::reader::Reader;
-use mlir_syntax::syntax::ResultNames;
 use mlir_syntax::type_text::MOST_OPEN;
 use std::alloc::{AllocError, Global};
 use std::test::Fail;
@@ -47,7 +48,7 @@ fn constants_of(alloc: Global, source: &[u8]) -> Outcome {
 
 // how many results are named
 fn results_of(alloc: Global, source: &[u8]) -> Outcome {
-    match Reader::new(alloc, source).maybe_results(OpName::File) {
+    match maybe_results(&mut Reader::new(alloc, source), OpName::File) {
         Ok(ResultNames::Unnamed) => Ok(0),
         Ok(ResultNames::Names(_, others)) => Ok((others.len() as u64).saturating_add(1)),
         Ok(ResultNames::Pack(_, count)) => Ok(u64::from(count)),
@@ -215,12 +216,12 @@ fn the_33rd_open_type_is_refused(rt: HostRuntime) -> Result<(), Fail> {
 #[test]
 fn an_operand_has_a_name_and_a_number(rt: HostRuntime) -> Result<(), Fail> {
     let mut reader = Reader::new(rt.alloc(), b"%a-1#7, %b");
-    let Ok(first) = reader.operand_text(OpName::File) else {
+    let Ok(first) = operand_text(&mut reader, OpName::File) else {
         panic!(rt; "no operand");
     };
     assert_eq!(rt; first.name, b"a-1".as_slice());
     assert_eq!(rt; first.number, 7);
-    assert!(rt; reader.operand_text(OpName::File).is_err());
+    assert!(rt; operand_text(&mut reader, OpName::File).is_err());
     assert!(rt; reader.want_word(OpName::File, b"x").is_err());
     Ok(())
 }

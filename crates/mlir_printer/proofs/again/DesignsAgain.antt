@@ -7,7 +7,7 @@ use Rattle.hw_model.specs.Design.{Ref, Port, Op, Module, Design, op_without_plac
 use Rattle.hw_model.specs.Design.Ref.{port, result, undefined}
 use Rattle.fresh_names.proofs.Distinct.{AreFresh, fresh_are_new}
 use Rattle.fresh_names.proofs.Giving.{fresh_count}
-use Rattle.mlir_syntax.specs.OperationText.{OperationText}
+use Rattle.mlir_operations.specs.OperationText.{OperationText}
 use Rattle.mlir_reader.specs.Resolving.{Meanings, Defined, Definition, with_definitions, no_meaning, resolve_operand, port_definition, port_definitions, operation_definitions, body_definitions, operations_from, ports_from, is_marked, ends_with_output, has_outputs, left_out_output, port_meanings, meanings, module_of, design_of}
 use Rattle.mlir_reader.proofs.Defining.{definitions_append}
 use Rattle.mlir_printer.specs.Elements.{ValueText}

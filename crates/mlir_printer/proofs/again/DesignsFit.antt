@@ -12,8 +12,8 @@ use Rattle.hw_model.specs.Design.{Ref, Port, Op, Module, Design}
 use Rattle.hw_model.specs.Design.Ref.{port, result, undefined}
 use Rattle.ir_store.specs.OperationViews.{OpParts}
 use Rattle.mlir_syntax.specs.Numerals.{count_limit}
-use Rattle.mlir_syntax.specs.OperandText.{ResultNames}
-use Rattle.mlir_syntax.specs.Spelling.{StandsInBody}
+use Rattle.mlir_operations.specs.OperandText.{ResultNames}
+use Rattle.mlir_operations.specs.Spelling.{StandsInBody}
 use Rattle.mlir_printer.specs.Elements.{ValueText, no_value}
 use Rattle.mlir_printer.specs.Naming.{name_hints, port_name_hint, port_name_hints, input_count, body_name_hints, names_given, name_count, first_name, firsts, name_value_text, is_pack, value_at, value_in, port_value, value_named, listed_names, results_named}
 use Rattle.mlir_printer.specs.Texts.{parts_in, operation_shown, operations_shown, ports_shown, module_shown, modules_shown}

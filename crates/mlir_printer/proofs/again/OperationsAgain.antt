@@ -12,9 +12,9 @@ use Rattle.hw_model.specs.Kinds.Kind.{on_struct, wire, instance, output, registe
 use Rattle.hw_model.specs.Sound.{field_list}
 use Rattle.hw_model.specs.Design.{Ref, Port, Op, is_output_kind, op_without_place}
 use Rattle.ir_store.specs.ResultTypes.{first_type, fields_of, field_count, result_types, result_count}
-use Rattle.mlir_syntax.specs.OperandText.{ResultNames, named_count}
-use Rattle.mlir_syntax.specs.OperandText.ResultNames.{no_names, names, pack}
-use Rattle.mlir_syntax.specs.OperationText.{OperationText, is_last}
+use Rattle.mlir_operations.specs.OperandText.{ResultNames, named_count}
+use Rattle.mlir_operations.specs.OperandText.ResultNames.{no_names, names, pack}
+use Rattle.mlir_operations.specs.OperationText.{OperationText, is_last}
 use Rattle.mlir_reader.specs.Resolving as read
 use Rattle.mlir_reader.specs.Resolving.Defined.{are_results}
 use Rattle.mlir_reader.specs.Resolving.{Meanings, Definition, resolve_operand, marks, marked_results, names_from, names_defined, own_types, own_count, operation_at, operation_definitions, has_name, name_or, given_name, unless_digits, own_name_of}

@@ -4,10 +4,10 @@ use Rattle.diag.specs.Place.{start_place}
 use Rattle.diag.specs.declared.refusal.Place.{Place}
 use Rattle.hw_model.specs.Design.{Op, Design, op_without_place, module_without_places, without_places, IsSameDesign}
 use Rattle.mlir_lexer.specs.Tokens.{Lexeme}
-use Rattle.mlir_syntax.specs.OperationText.{OperationText, is_last}
-use Rattle.mlir_syntax.specs.ModuleText.{ModuleText}
+use Rattle.mlir_operations.specs.OperationText.{OperationText, is_last}
+use Rattle.mlir_operations.specs.ModuleText.{ModuleText}
 use Rattle.mlir_reader.specs.Resolving.{Meanings, with_definitions, operation_definitions, body_definitions, operation_at, operations_from, ends_with_output, has_outputs, left_out_output, with_output, port_meanings, meanings, module_of, design_of}
-use Rattle.mlir_syntax.specs.Spelling.{Stands, IsPlaceOf, OperationPhrase, OperationsPhrase, ModulePhrase, ModulesPhrase, FilePhrase}
+use Rattle.mlir_operations.specs.Spelling.{Stands, IsPlaceOf, OperationPhrase, OperationsPhrase, ModulePhrase, ModulesPhrase, FilePhrase}
 use Rattle.mlir_reader.specs.Spelling.{Spells, SpellsPlacelessly}
 
 -- ---- places make no difference

@@ -4,9 +4,9 @@ use Rattle.std.specs.Prelude.{codes}
 use Rattle.opcode.specs.declared.listed.Listed.TheVariants as listed
 use Rattle.hw_model.specs.Types.{Name, HwType}
 use Rattle.hw_model.specs.Types.HwType.{int}
-use Rattle.mlir_syntax.specs.OperandText.ResultNames.{no_names, names}
+use Rattle.mlir_operations.specs.OperandText.ResultNames.{no_names, names}
 use Rattle.assembly_format.specs.Formats.{format_of}
-use Rattle.mlir_syntax.specs.ElementText.InherentAttributes.{nothing}
+use Rattle.mlir_operations.specs.ElementText.InherentAttributes.{nothing}
 use Rattle.mlir_printer.specs.Elements.{ValueText}
 use Rattle.mlir_printer.specs.Operations.{OperationText, format_shown}
 use Rattle.mlir_printer.specs.Modules.{ModuleText, file_bytes}

@@ -7,8 +7,8 @@ use Rattle.hw_model.specs.Types.HwType.{int}
 use Rattle.hw_model.specs.Kinds.{Predicate, Literals, Instance}
 use Rattle.mlir_syntax.specs.Numerals.{count_limit}
 use Rattle.assembly_format.specs.Formats.{front_elements, type_elements}
-use Rattle.mlir_syntax.specs.ElementText.{InherentAttributes}
-use Rattle.mlir_syntax.specs.ElementText.InherentAttributes.{nothing, with_reset, predicate, position, number, literals, field_name, child}
+use Rattle.mlir_operations.specs.ElementText.{InherentAttributes}
+use Rattle.mlir_operations.specs.ElementText.InherentAttributes.{nothing, with_reset, predicate, position, number, literals, field_name, child}
 use Rattle.assembly_format.specs.declared.elements.Format.TheVariants as format
 use Rattle.mlir_printer.specs.Numbers.{is_truth}
 use Rattle.mlir_printer.specs.Elements.{ValueText, Pending}

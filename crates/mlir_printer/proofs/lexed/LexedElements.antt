@@ -5,9 +5,10 @@ use Rattle.std.specs.Prelude.{codes}
 use Rattle.hw_model.specs.Types.{HwType}
 use Rattle.hw_model.specs.Types.HwType.{int}
 use Rattle.mlir_syntax.specs.TypeText.{most_open}
-use Rattle.mlir_syntax.specs.ElementText.{InherentAttributes, Gathered, with_operands, with_types, with_inherent}
-use Rattle.mlir_syntax.specs.ElementText.InherentAttributes.{with_reset, predicate, position, number, literals, field_name, child}
-use Rattle.mlir_syntax.specs.Spelling.{Phrase, Word, Then, Either, Where, Nothing, TypePhrase, ResetPhrase, FormatElementPhrase, ElementsPhrase}
+use Rattle.mlir_operations.specs.ElementText.{InherentAttributes, Gathered, with_operands, with_types, with_inherent}
+use Rattle.mlir_operations.specs.ElementText.InherentAttributes.{with_reset, predicate, position, number, literals, field_name, child}
+use Rattle.mlir_syntax.specs.Spelling.{Phrase, Word, Then, Either, Where, Nothing, TypePhrase}
+use Rattle.mlir_operations.specs.Spelling.{ResetPhrase, FormatElementPhrase, ElementsPhrase}
 use Rattle.assembly_format.specs.declared.elements.FormatElement.{FormatElement}
 use Rattle.assembly_format.specs.declared.elements.FormatElement.TheVariants as element
 use Rattle.mlir_printer.specs.Numbers.{is_one}

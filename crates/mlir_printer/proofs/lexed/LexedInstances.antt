@@ -7,10 +7,11 @@ use Rattle.hw_model.specs.TypeViews.{NamedType}
 use Rattle.hw_model.specs.Kinds.{Instance}
 use Rattle.mlir_lexer.specs.declared.token.TokenKind.TheVariants as kind
 use Rattle.mlir_syntax.specs.TypeText.{most_open}
-use Rattle.mlir_syntax.specs.OperandText.{OperandName}
-use Rattle.mlir_syntax.specs.ElementText.{Gathered, Joined, instance_with, with_instance, with_inherent, with_types, with_operands}
-use Rattle.mlir_syntax.specs.ElementText.InherentAttributes.{child}
-use Rattle.mlir_syntax.specs.Spelling.{Phrase, Mark, Then, Commas, Between, TypePhrase, InputPhrase, OutputPhrase, InnerSymbol, InstancePhrase}
+use Rattle.mlir_operations.specs.OperandText.{OperandName}
+use Rattle.mlir_operations.specs.ElementText.{Gathered, Joined, instance_with, with_instance, with_inherent, with_types, with_operands}
+use Rattle.mlir_operations.specs.ElementText.InherentAttributes.{child}
+use Rattle.mlir_syntax.specs.Spelling.{Phrase, Mark, Then, Commas, Between, TypePhrase}
+use Rattle.mlir_operations.specs.Spelling.{InputPhrase, OutputPhrase, InnerSymbol, InstancePhrase}
 use Rattle.mlir_printer.specs.Strings.{symbol_bytes, string_bytes}
 use Rattle.mlir_printer.specs.Commas.{commas}
 use Rattle.mlir_printer.specs.Elements.{ValueText, InputText, input_bytes, output_bytes, inputs_joined, outputs_joined, inner_bytes, instance_head, connections_bytes, instance_bytes}

@@ -11,8 +11,9 @@ use Rattle.hw_model.specs.Design.{Entry, same_name}
 use Rattle.mlir_lexer.specs.Tokens.{Lexeme, tokens_behind}
 use Rattle.mlir_lexer.specs.declared.token.TokenKind.TheVariants as kind
 use Rattle.mlir_syntax.specs.TypeText.{most_open}
-use Rattle.mlir_syntax.specs.ModuleText.{module_keys}
-use Rattle.mlir_syntax.specs.Spelling.{One, Mark, Holding, Either, Where, Nothing, Commas, Between, PortPhrase, AttributesPhrase, PrivatePhrase, ModulePhrase, ModulesPhrase, FileWord, FilePhrase, token_of}
+use Rattle.mlir_operations.specs.ModuleText.{module_keys}
+use Rattle.mlir_syntax.specs.Spelling.{One, Mark, Holding, Either, Where, Nothing, Commas, Between}
+use Rattle.mlir_operations.specs.Spelling.{PortPhrase, AttributesPhrase, PrivatePhrase, ModulePhrase, ModulesPhrase, FileWord, FilePhrase, token_of}
 use Rattle.mlir_printer.specs.Strings.{symbol_bytes, string_bytes}
 use Rattle.mlir_printer.specs.Commas.{commas}
 use Rattle.mlir_printer.specs.Attributes.{dictionary_bytes}

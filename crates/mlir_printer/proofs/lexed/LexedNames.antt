@@ -10,7 +10,8 @@ use Rattle.mlir_lexer.specs.Tokens.{Lexeme}
 use Rattle.mlir_lexer.specs.declared.token.TokenKind.{TokenKind}
 use Rattle.mlir_lexer.specs.declared.token.TokenKind.TheVariants as kind
 use Rattle.mlir_lexer.specs.declared.fronts.Front.TheVariants.{LineEnd, Token, Bad}
-use Rattle.mlir_syntax.specs.Spelling.{One, Word, Holding, NamePhrase, SymbolPhrase, ValueName, TypeWord}
+use Rattle.mlir_syntax.specs.Spelling.{One, Word, Holding, NamePhrase, SymbolPhrase, TypeWord}
+use Rattle.mlir_operations.specs.Spelling.{ValueName}
 use Rattle.mlir_printer.specs.Strings.{is_bare, name_bytes, symbol_bytes, string_bytes}
 use Rattle.mlir_printer.specs.Elements.{value_name_bytes}
 use Rattle.mlir_printer.specs.Spellable.{AreBytes, IsValueName}

@@ -8,8 +8,9 @@ use Rattle.mlir_lexer.specs.Tokens.{Lexeme}
 use Rattle.mlir_lexer.specs.declared.token.TokenKind.{TokenKind}
 use Rattle.mlir_lexer.specs.declared.token.TokenKind.TheVariants as kind
 use Rattle.assembly_format.specs.Formats.{text_of_keyword}
-use Rattle.mlir_syntax.specs.ElementText.{predicate_named}
-use Rattle.mlir_syntax.specs.Spelling.{Phrase, Mark, Word, Commas, OperandPhrase}
+use Rattle.mlir_syntax.specs.WordText.{predicate_named}
+use Rattle.mlir_syntax.specs.Spelling.{Phrase, Mark, Word, Commas}
+use Rattle.mlir_operations.specs.Spelling.{OperandPhrase}
 use Rattle.assembly_format.specs.declared.elements.Keyword.{Keyword}
 use Rattle.assembly_format.specs.declared.elements.Keyword.TheVariants.{From, Clock}
 use Rattle.mlir_printer.specs.Strings.{is_bare}

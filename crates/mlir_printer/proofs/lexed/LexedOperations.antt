@@ -11,12 +11,13 @@ use Rattle.hw_model.specs.Design.{Entry}
 use Rattle.mlir_lexer.specs.Tokens.{Lexeme}
 use Rattle.mlir_lexer.specs.declared.token.TokenKind.{TokenKind}
 use Rattle.mlir_lexer.specs.declared.token.TokenKind.TheVariants as kind
-use Rattle.mlir_syntax.specs.OperandText.{ResultNames}
-use Rattle.mlir_syntax.specs.OperandText.ResultNames.{no_names, names, pack}
+use Rattle.mlir_operations.specs.OperandText.{ResultNames}
+use Rattle.mlir_operations.specs.OperandText.ResultNames.{no_names, names, pack}
 use Rattle.assembly_format.specs.Formats.{format_of, front_elements, type_elements}
-use Rattle.mlir_syntax.specs.ElementText.{Gathered, gathered_nothing}
-use Rattle.mlir_syntax.specs.OperationText.{string_keys, takes_bin}
-use Rattle.mlir_syntax.specs.Spelling.{One, Stands, ResultsPhrase, ElementsPhrase, MaybeDictionary, IsOneOf, FormPhrase, BinPhrase, MayHaveFormat, OperationPhrase, OperationsPhrase, ValueName}
+use Rattle.mlir_operations.specs.ElementText.{Gathered, gathered_nothing}
+use Rattle.mlir_operations.specs.OperationText.{string_keys, takes_bin}
+use Rattle.mlir_syntax.specs.Spelling.{One, MaybeDictionary}
+use Rattle.mlir_operations.specs.Spelling.{Stands, ResultsPhrase, ElementsPhrase, IsOneOf, FormPhrase, BinPhrase, MayHaveFormat, OperationPhrase, OperationsPhrase, ValueName}
 use Rattle.assembly_format.specs.declared.elements.FormatElement.{FormatElement}
 use Rattle.assembly_format.specs.declared.elements.Format.{Format}
 use Rattle.assembly_format.specs.declared.elements.Format.TheVariants as format

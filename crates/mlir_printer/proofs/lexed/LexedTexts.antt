@@ -14,7 +14,8 @@ use Rattle.mlir_lexer.specs.Tokens.{Lexeme, lex_front, tokens_behind}
 use Rattle.mlir_lexer.specs.declared.token.TokenKind.{TokenKind}
 use Rattle.mlir_lexer.specs.declared.token.TokenKind.TheVariants as kind
 use Rattle.mlir_lexer.specs.declared.fronts.Front.TheVariants.{LineEnd, Gap, Token}
-use Rattle.mlir_syntax.specs.Spelling.{Phrase, One, Mark, Nothing, Then, token_of}
+use Rattle.mlir_syntax.specs.Spelling.{Phrase, One, Mark, Nothing, Then}
+use Rattle.mlir_operations.specs.Spelling.{token_of}
 
 -- ---- where a token ends
 

@@ -9,7 +9,7 @@ use Rattle.hw_model.specs.Kinds.StructOp.{struct_explode}
 use Rattle.hw_model.specs.Kinds.Kind.{on_struct}
 use Rattle.hw_model.specs.Design.{Ref, Port, Op}
 use Rattle.ir_store.specs.OperationViews.{OpParts}
-use Rattle.mlir_syntax.specs.OperandText.{ResultNames}
+use Rattle.mlir_operations.specs.OperandText.{ResultNames}
 use Rattle.mlir_reader.specs.Resolving.{Definition, names_from, names_defined, port_definitions, port_definition, operation_definitions, body_definitions, own_count}
 use Rattle.mlir_reader.specs.Resolving.Defined.{are_results}
 use Rattle.mlir_printer.specs.Elements.{ValueText}

@@ -26,7 +26,8 @@ use Rattle.mlir_syntax.specs.Numerals.{number_limit, negative}
 use Rattle.mlir_syntax.specs.TypeText.{most_open}
 use Rattle.mlir_syntax.specs.AttributeText.{is_among, in_order}
 use Rattle.mlir_syntax.specs.LiteralText.{literals_in_order, truth_leaf}
-use Rattle.mlir_syntax.specs.Spelling.{Phrase, Commas, Holding, NamePhrase, SymbolPhrase, IntegerPhrase, ElementPhrase, FieldPhrase, TypeWith, TypePhrase, IntegerType, AttributePhrase, ValuePhrase, EntryPhrase, LiteralWith, PartsPhrase, LiteralPhrase, AggregatePhrase, token_of}
+use Rattle.mlir_syntax.specs.Spelling.{Phrase, Commas, Holding, NamePhrase, SymbolPhrase, IntegerPhrase, ElementPhrase, FieldPhrase, TypeWith, TypePhrase, IntegerType, AttributePhrase, ValuePhrase, EntryPhrase, LiteralWith, PartsPhrase, LiteralPhrase, AggregatePhrase}
+use Rattle.mlir_operations.specs.Spelling.{token_of}
 use Rattle.mlir_printer.specs.Spellable.{Each, AreBytes, IsInteger, IsType, AreFields, IsLiteral, AreLiterals, IsAttribute, AreAttributes, IsValue, IsEntry}
 
 -- ---- the tokens of bytes

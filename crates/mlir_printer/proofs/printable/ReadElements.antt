@@ -8,9 +8,10 @@ use Rattle.mlir_lexer.specs.Tokens.{Lexeme}
 use Rattle.mlir_lexer.specs.declared.token.TokenKind.TheVariants as kind
 use Rattle.mlir_syntax.specs.Numerals.{count_limit}
 use Rattle.mlir_syntax.specs.TypeText.{most_open}
-use Rattle.mlir_syntax.specs.ElementText.{InherentAttributes, Gathered, Joined, truth_number}
-use Rattle.mlir_syntax.specs.ElementText.InherentAttributes.{position, number, literals, field_name, child}
-use Rattle.mlir_syntax.specs.Spelling.{Phrase, InputPhrase, OutputPhrase, InnerSymbol, InstancePhrase, ResetPhrase, TypePhrase, FormatElementPhrase, ElementsPhrase}
+use Rattle.mlir_operations.specs.ElementText.{InherentAttributes, Gathered, Joined, truth_number}
+use Rattle.mlir_operations.specs.ElementText.InherentAttributes.{position, number, literals, field_name, child}
+use Rattle.mlir_syntax.specs.Spelling.{Phrase, TypePhrase}
+use Rattle.mlir_operations.specs.Spelling.{InputPhrase, OutputPhrase, InnerSymbol, InstancePhrase, ResetPhrase, FormatElementPhrase, ElementsPhrase}
 use Rattle.assembly_format.specs.declared.elements.FormatElement.{FormatElement}
 use Rattle.assembly_format.specs.declared.elements.FormatElement.TheVariants as element
 use Rattle.mlir_printer.specs.Spellable.{Each, AreBytes, MayBeBytes, IsInteger, IsAnyType, AreLiterals}

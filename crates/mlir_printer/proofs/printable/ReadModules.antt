@@ -16,15 +16,16 @@ use Rattle.mlir_lexer.specs.Tokens.{Lexeme}
 use Rattle.mlir_lexer.specs.declared.token.TokenKind.TheVariants as kind
 use Rattle.mlir_syntax.specs.Numerals.{count_limit}
 use Rattle.mlir_syntax.specs.TypeText.{most_open}
-use Rattle.mlir_syntax.specs.OperandText.{ResultNames, named_count}
-use Rattle.mlir_syntax.specs.OperandText.ResultNames.{no_names, names, pack}
-use Rattle.mlir_syntax.specs.ElementText.{InherentAttributes, Gathered, gathered_nothing}
-use Rattle.mlir_syntax.specs.ElementText.InherentAttributes.{child}
+use Rattle.mlir_operations.specs.OperandText.{ResultNames, named_count}
+use Rattle.mlir_operations.specs.OperandText.ResultNames.{no_names, names, pack}
+use Rattle.mlir_operations.specs.ElementText.{InherentAttributes, Gathered, gathered_nothing}
+use Rattle.mlir_operations.specs.ElementText.InherentAttributes.{child}
 use Rattle.assembly_format.specs.Formats.{front_elements, type_elements}
-use Rattle.mlir_syntax.specs.OperationText.{OperationText}
-use Rattle.mlir_syntax.specs.ModuleText.{PortText, ModuleText, module_keys}
+use Rattle.mlir_operations.specs.OperationText.{OperationText}
+use Rattle.mlir_operations.specs.ModuleText.{PortText, ModuleText, module_keys}
 use Rattle.mlir_reader.specs.Resolving.{Meanings, inherent_instance, inherent_kind, kind_named, with_definitions, operation_definitions, operation_at, operations_from, port_definition, ports_from, no_meaning, port_meanings, meanings, ends_with_output, has_outputs, left_out_output, with_output, module_of, design_of}
-use Rattle.mlir_syntax.specs.Spelling.{Phrase, Either, Holding, Where, Nothing, Stands, IsPlaceOf, Commas, ValueName, OutputPhrase, FormatElementPhrase, ElementsPhrase, ResultsPhrase, OperationPhrase, OperationsPhrase, PortPhrase, AttributesPhrase, ModulePhrase, ModulesPhrase, FilePhrase}
+use Rattle.mlir_syntax.specs.Spelling.{Phrase, Either, Holding, Where, Nothing, Commas}
+use Rattle.mlir_operations.specs.Spelling.{Stands, IsPlaceOf, ValueName, OutputPhrase, FormatElementPhrase, ElementsPhrase, ResultsPhrase, OperationPhrase, OperationsPhrase, PortPhrase, AttributesPhrase, ModulePhrase, ModulesPhrase, FilePhrase}
 use Rattle.mlir_reader.specs.Spelling.{Spells}
 use Rattle.assembly_format.specs.declared.elements.FormatElement.{FormatElement}
 use Rattle.assembly_format.specs.declared.elements.FormatElement.TheVariants as element

@@ -21,16 +21,17 @@ use Rattle.mlir_lexer.specs.Tokens.{Lexeme}
 use Rattle.mlir_lexer.specs.declared.token.TokenKind.TheVariants as kind
 use Rattle.mlir_syntax.specs.Numerals.{count_limit}
 use Rattle.mlir_syntax.specs.AttributeText.{is_among}
-use Rattle.mlir_syntax.specs.OperandText.{ResultNames}
-use Rattle.mlir_syntax.specs.OperandText.ResultNames.{no_names, names, pack}
-use Rattle.mlir_syntax.specs.ElementText.{InherentAttributes, Gathered, gathered_nothing}
-use Rattle.mlir_syntax.specs.ElementText.InherentAttributes.{position, number, literals, field_name, child}
+use Rattle.mlir_operations.specs.OperandText.{ResultNames}
+use Rattle.mlir_operations.specs.OperandText.ResultNames.{no_names, names, pack}
+use Rattle.mlir_operations.specs.ElementText.{InherentAttributes, Gathered, gathered_nothing}
+use Rattle.mlir_operations.specs.ElementText.InherentAttributes.{position, number, literals, field_name, child}
 use Rattle.assembly_format.specs.Formats.{front_elements, type_elements}
 use Rattle.assembly_format.specs.declared.elements.Format.{Format}
-use Rattle.mlir_syntax.specs.OperationText.{OperationText, takes_bin, string_keys, given_entries}
+use Rattle.mlir_operations.specs.OperationText.{OperationText, takes_bin, string_keys, given_entries}
 use Rattle.mlir_reader.specs.Resolving as read
 use Rattle.mlir_reader.specs.Resolving.{Meanings, resolve_operand, has_negative, kept_number, kept_integer, kept_by_first, kept_literal, kept_literals, inherent_position, inherent_number, inherent_literals, inherent_field, inherent_instance, inherent_kind, kind_named, sort_entries, without, is_dropped, has_name, is_name_entry, kept_entries, text_in, given_name, unless_digits, name_or, own_name_of, marks, marked_results, operation_definitions, operation_at}
-use Rattle.mlir_syntax.specs.Spelling.{Stands, AreOnce, DictionaryPhrase, EntryPhrase, MaybeDictionary, IsOneOf, FormPhrase, BinPhrase, ResultsPhrase, StandsInBody, OperationPhrase}
+use Rattle.mlir_operations.specs.Spelling.{Stands, IsOneOf, FormPhrase, BinPhrase, ResultsPhrase, StandsInBody, OperationPhrase}
+use Rattle.mlir_syntax.specs.Spelling.{AreOnce, DictionaryPhrase, EntryPhrase, MaybeDictionary}
 use Rattle.mlir_printer.specs.Spellable.{Each, AreBytes, IsInteger, IsAnyType, IsLiteral, AreLiterals, IsValue, IsEntry}
 use Rattle.mlir_printer.specs.Printable.{AreInOrder, IsKeptDictionary, KeepsConstants, IsWritten, IsWrittenInstance}
 use Rattle.mlir_printer.proofs.again.DictionariesFit.{put_in_order, each_put}

@@ -19,7 +19,7 @@ use Rattle.diag.specs.Place.{start_place}
 use Rattle.diag.specs.declared.refusal.OpName.TheVariants as op
 use Rattle.diag.specs.declared.cause.Cause.TheVariants.{TooLong}
 use Rattle.mlir_syntax.specs.Stream.{stream_of, refusal}
-use Rattle.mlir_syntax.specs.ModuleText.{file_text}
+use Rattle.mlir_operations.specs.ModuleText.{file_text}
 use Rattle.mlir_reader.specs.Reading.{text_limit, design_read, read}
 use Rattle.mlir_syntax.specs.Numerals.{count_limit}
 use Rattle.mlir_reader.specs.Resolving.{marked_results, type_or_none}

@@ -3,7 +3,7 @@ use Rattle.std.proofs.Common.{refl}
 use Rattle.ir_store.specs.DictionaryViews.{entries_in}
 use Rattle.mlir_lexer.specs.Tokens.{lexeme_of}
 use Rattle.mlir_reader.specs.Meanings.{meanings_of}
-use Rattle.mlir_syntax.specs.ModuleText.{body_text}
+use Rattle.mlir_operations.specs.ModuleText.{body_text}
 use Rattle.mlir_reader.specs.ModuleViews.{AreOperations, IsBodyText}
 use Rattle.mlir_reader.proofs.BodyTexts.{passed_for, passed_held}
 use Rattle.mlir_reader.proofs.body_text.body_text.Goals as goal
@@ -11,7 +11,7 @@ use Rattle.mlir_reader.proofs.body_text.body_text.Goals as goal
 pub returns-in_err-dictionary-clause-gives : goal.returns-in_err-dictionary-clause-gives
 unfolding body_text
 returns-in_err-dictionary-clause-gives c =
-    passed_for entries_in (IsBodyText (meanings_of c.args.names)) c.from_residual.result c.in_err-dictionary.field-0.0 c.header_attributes.new.self _ _ _
+    passed_for entries_in (IsBodyText (meanings_of c.args.names)) c.from_residual.result c.in_err-dictionary.field-0.0 c.header_attributes.new.reader _ _ _
     c.from_residual.ensures.1 c.in_err-dictionary.ensures.gives
 
 pub returns-in_err-want-clause-gives : goal.returns-in_err-want-clause-gives

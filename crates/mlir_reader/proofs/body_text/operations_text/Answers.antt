@@ -2,8 +2,8 @@
 use Rattle.std.proofs.Common.{sym, ◌∙◌, [], ◌∷◌, ◌++◌, refl, ap, Err, List}
 use Rattle.mlir_reader.specs.ModuleViews.{AreOperations}
 use Rattle.mlir_reader.specs.Meanings.{meanings_of}
-use Rattle.mlir_syntax.specs.OperationText.{OperationText}
-use Rattle.mlir_syntax.specs.Views.{operation_of}
+use Rattle.mlir_operations.specs.OperationText.{OperationText}
+use Rattle.mlir_operations.specs.Views.{operation_of}
 use Rattle.mlir_reader.proofs.Bodies.{stands, refused_at, output_at, goes_on_at, fine_close, fine_last}
 use Rattle.mlir_reader.proofs.BodyTexts.{refused_for, ends_already, ends_here, all_read}
 use Rattle.mlir_reader.proofs.body_text.operations_text.Goals.{else-is_last-via-then-is_last+else-not-is_next, else-is_last-via-else-is_last, then-ends, else-ends}
@@ -23,13 +23,13 @@ loop-reader-init c = record {
 
 pub returns-in-Err-clause-gives : goal.returns-in-Err-clause-gives
 returns-in-Err-clause-gives c =
-    refused_for same (AreOperations (meanings_of c.args.names)) c.in-Err.fail c.operation_text.new.self _
-    (refused_at same c.in-Err.fail c.operation_text.new.self c.operation_text.new.self
+    refused_for same (AreOperations (meanings_of c.args.names)) c.in-Err.fail c.operation_text.new.reader _
+    (refused_at same c.in-Err.fail c.operation_text.new.reader c.operation_text.new.reader
     c.loop-reader.invariant.standing (sym c.is_next.ensures ∙ c.loop-reader-test.true) c.in-Err.ensures.gives)
 
 pub returns-then-not-is_next-clause-gives : goal.returns-then-not-is_next-clause-gives
 returns-then-not-is_next-clause-gives c =
-    output_at (operation_of c.in-Ok.operation) c.operation_text.new.self c.loop-reader.invariant.standing (sym c.is_next.ensures ∙ c.loop-reader-test.true)
+    output_at (operation_of c.in-Ok.operation) c.operation_text.new.reader c.loop-reader.invariant.standing (sym c.is_next.ensures ∙ c.loop-reader-test.true)
     c.in-Ok.ensures.gives (sym c.is_last.ensures ∙ c.if-is_last.true) (sym c.is_next-then-is_last.ensures ∙ c.if-not-is_next.true)
     ∙ ap Err (sym c.unexpected_token.ensures)
 
@@ -40,7 +40,7 @@ loop-reader-preserved c =
     record {
       got = l.invariant.got ++ o ∷ [];
       standing =
-          goes_on_at o (l.invariant.got ++ o ∷ []) c.operation_text.new.self l.invariant.standing (sym c.is_next.ensures ∙ c.loop-reader-test.true)
+          goes_on_at o (l.invariant.got ++ o ∷ []) c.operation_text.new.reader l.invariant.standing (sym c.is_next.ensures ∙ c.loop-reader-test.true)
           c.in-Ok.ensures.gives refl
           (elim c.else-is_last.branch [
             | else-is_last-via-then-is_last+else-not-is_next w ↦ fine_close _ _ (sym w.is_next-then-is_last.ensures ∙ w.if-not-is_next.false)

@@ -1,7 +1,7 @@
 use Rattle.std.proofs.Common.{length, List, ◌≡◌}
 use Rattle.mlir_reader.specs.Drafts.{Drafts}
 use Rattle.mlir_reader.specs.Meanings.{meanings_of}
-use Rattle.mlir_syntax.specs.OperationText.{OperationText}
+use Rattle.mlir_operations.specs.OperationText.{OperationText}
 use Rattle.mlir_reader.specs.Resolving.{ends_with_output}
 use Rattle.mlir_reader.proofs.Bodies.{Standing}
 use Rattle.mlir_reader.proofs.body_text.operations_text.Given as goal

@@ -1,8 +1,8 @@
 use Rattle.std.proofs.Common.{◌+◌, [], map, drop}
 use Rattle.mlir_reader.specs.Drafts.{found_count}
 use Rattle.mlir_reader.specs.Meanings.{meanings_of}
-use Rattle.mlir_syntax.specs.Views.{operand_of}
-use Rattle.mlir_syntax.specs.declared.syntax.OperandName.{OperandName}
+use Rattle.mlir_operations.specs.Views.{operand_of}
+use Rattle.mlir_operations.specs.declared.syntax.OperandName.{OperandName}
 use Rattle.mlir_reader.proofs.Unfound.{unfound_here, found_here}
 use Rattle.mlir_reader.proofs.draft.first_unfound.Goals as goal
 

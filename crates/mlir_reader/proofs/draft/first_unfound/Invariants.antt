@@ -1,7 +1,7 @@
 use Rattle.std.proofs.Common.{◌≡◌, ◌+◌, map, drop}
 use Rattle.mlir_reader.specs.Drafts.{found_count}
 use Rattle.mlir_reader.specs.Meanings.{meanings_of}
-use Rattle.mlir_syntax.specs.Views.{operand_of}
+use Rattle.mlir_operations.specs.Views.{operand_of}
 use Rattle.mlir_reader.proofs.draft.first_unfound.Given as goal
 
 abbrev pub invariant-loop-place : goal.invariant-loop-place

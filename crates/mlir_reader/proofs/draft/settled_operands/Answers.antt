@@ -1,7 +1,7 @@
 use Rattle.std.proofs.Common.{map, ap, ◌∙◌}
 use Rattle.std.proofs.lemmas.List.{take_all}
 use Rattle.mlir_reader.specs.Resolving.{resolve_operand}
-use Rattle.mlir_syntax.specs.Views.{operand_of}
+use Rattle.mlir_operations.specs.Views.{operand_of}
 use Rattle.mlir_reader.proofs.draft.settled_operands.Goals as goal
 
 pub returns : goal.returns

@@ -2,7 +2,7 @@
 use Rattle.std.proofs.Common.{length}
 use Rattle.ir_store.specs.Designs.{design_of}
 use Rattle.mlir_lexer.specs.declared.token.TokenKind.TheVariants as kind
-use Rattle.mlir_syntax.specs.ModuleText.{modules_text}
+use Rattle.mlir_operations.specs.ModuleText.{modules_text}
 use Rattle.mlir_reader.specs.ModuleViews.{braced_text, closing_text}
 use Rattle.mlir_syntax.specs.Stream.{is_next}
 use Rattle.mlir_reader.proofs.Files.{closed_at}

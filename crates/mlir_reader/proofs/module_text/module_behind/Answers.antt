@@ -1,10 +1,10 @@
 -- A module is read piece by piece, and its parts make the module of its text.
 use Rattle.std.proofs.Common.{map, refl, subst, Vec, Global}
 use Rattle.mlir_reader.specs.Meanings.{meanings_of}
-use Rattle.mlir_syntax.specs.ModuleText.{ModuleText, module_behind}
+use Rattle.mlir_operations.specs.ModuleText.{ModuleText, module_behind}
 use Rattle.mlir_reader.specs.ModuleViews.{IsBodyText, IsHead, IsModule}
-use Rattle.mlir_syntax.specs.Views.{port_text_of}
-use Rattle.mlir_syntax.specs.declared.syntax.PortText.{PortText}
+use Rattle.mlir_operations.specs.Views.{port_text_of}
+use Rattle.mlir_operations.specs.declared.syntax.PortText.{PortText}
 use Rattle.mlir_reader.proofs.BodyTexts.{passed_for, passed_held, room_left}
 use Rattle.mlir_reader.proofs.module_text.module_behind.Goals as goal
 
@@ -18,7 +18,7 @@ pub returns-in_err-ports-clause-gives : goal.returns-in_err-ports-clause-gives
 unfolding module_behind
 returns-in_err-ports-clause-gives c =
     rw (c.private_text-private.ensures.gives, c.in_ok-symbol.ensures.gives)
-    (passed_for {A = Vec PortText Global} (λ ports. map port_text_of ports.items) IsModule c.from_residual-in_err-ports.result c.in_err-ports.field-0.0 c.ports_text.new.self _ _ _
+    (passed_for {A = Vec PortText Global} (λ ports. map port_text_of ports.items) IsModule c.from_residual-in_err-ports.result c.in_err-ports.field-0.0 c.ports_text.new.reader _ _ _
     c.from_residual-in_err-ports.ensures.1 c.in_err-ports.ensures.gives)
 
 pub returns-in_err-body-clause-gives : goal.returns-in_err-body-clause-gives

@@ -1,7 +1,7 @@
 use Rattle.std.proofs.Common.{◌≡◌, map, take}
 use Rattle.ir_store.specs.Numbered.{ref_by}
 use Rattle.mlir_reader.specs.Resolving.{resolve_operand}
-use Rattle.mlir_syntax.specs.Views.{operand_of}
+use Rattle.mlir_operations.specs.Views.{operand_of}
 use Rattle.mlir_reader.specs.Meanings.{meanings_of}
 use Rattle.mlir_reader.proofs.resolving.resolved_operands.Given as goal
 

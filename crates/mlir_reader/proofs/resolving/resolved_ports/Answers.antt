@@ -1,6 +1,6 @@
 use Rattle.std.proofs.Common.{length, ap, arith, map}
 use Rattle.mlir_reader.specs.Resolving.{ports_from, port_definitions, with_definitions}
-use Rattle.mlir_syntax.specs.Views.{port_text_of}
+use Rattle.mlir_operations.specs.Views.{port_text_of}
 use Rattle.mlir_reader.specs.Meanings.{meanings_of}
 use Rattle.mlir_reader.proofs.BodySteps.{port_step, port_is, port_means, turned}
 use Rattle.std.specs.Prelude.{is_some}

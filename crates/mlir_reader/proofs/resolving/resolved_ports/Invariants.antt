@@ -1,7 +1,7 @@
 use Rattle.std.proofs.Common.{◌≡◌, ◌+◌, ◌++◌, length, map}
 use Rattle.ir_store.specs.Designs.{port_of}
 use Rattle.mlir_reader.specs.Resolving.{ports_from, port_definitions, with_definitions}
-use Rattle.mlir_syntax.specs.Views.{port_text_of}
+use Rattle.mlir_operations.specs.Views.{port_text_of}
 use Rattle.mlir_reader.specs.Meanings.{meanings_of}
 use Rattle.mlir_reader.proofs.resolving.resolved_ports.Given as goal
 

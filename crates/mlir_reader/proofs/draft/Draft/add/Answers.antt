@@ -1,7 +1,7 @@
 use Rattle.std.proofs.Common.{◌+◌, ◌++◌, refl, ap, ◌∙◌, arith}
 use Rattle.mlir_reader.specs.Meanings.{meanings_of}
 use Rattle.mlir_reader.specs.Resolving.{marks, operation_definitions}
-use Rattle.mlir_syntax.specs.Views.{operation_of}
+use Rattle.mlir_operations.specs.Views.{operation_of}
 use Rattle.mlir_reader.specs.declared.draft.Draft.{Draft}
 use Rattle.mlir_reader.proofs.Drafting.{IsRead, drafts_more}
 use Rattle.mlir_reader.proofs.draft.Draft.add.Goals as goal

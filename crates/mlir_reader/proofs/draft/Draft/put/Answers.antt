@@ -7,7 +7,7 @@ use Rattle.ir_store.specs.Numbered.{ref_by}
 use Rattle.mlir_reader.specs.Held.{AreSettled, with_operands}
 use Rattle.mlir_reader.specs.Marked.{operation_marked}
 use Rattle.mlir_reader.specs.Meanings.{meanings_of, op_of}
-use Rattle.mlir_syntax.specs.Views.{operand_of, operation_of}
+use Rattle.mlir_operations.specs.Views.{operand_of, operation_of}
 use Rattle.mlir_reader.specs.declared.draft.Draft.{Draft}
 use Rattle.mlir_reader.proofs.Drafting.{none_left, puts_more}
 use Rattle.mlir_reader.proofs.draft.Draft.put.Goals as goal

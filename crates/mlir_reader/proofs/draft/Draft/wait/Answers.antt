@@ -3,7 +3,7 @@ use Rattle.std.proofs.Common.{map, refl, ap, ◌∙◌}
 use Rattle.mlir_reader.specs.Held.{with_operands}
 use Rattle.mlir_reader.specs.Marked.{operation_marked}
 use Rattle.mlir_reader.specs.Resolving.{resolve_operand}
-use Rattle.mlir_syntax.specs.Views.{operand_of, operation_of}
+use Rattle.mlir_operations.specs.Views.{operand_of, operation_of}
 use Rattle.mlir_reader.specs.declared.draft.Draft.{Draft}
 use Rattle.mlir_reader.specs.declared.draft.DraftOperation.{DraftOperation}
 use Rattle.mlir_reader.proofs.Drafting.{waits_more}

@@ -1,0 +1,435 @@
+-- What the tokens of the forms of operations say is read of them.
+use Rattle.std.proofs.Common.{◌≡◌, Bool, true, false, cond, List, [], ◌∷◌, Option, Some, None, Ok, refl, sym, ◌∙◌, ap, ap₂, subst, ℕ, ◌⊎◌, inl, inr}
+use Rattle.std.specs.Prelude.{codes}
+use Rattle.diag.specs.declared.refusal.OpName.{OpName}
+use Rattle.opcode.specs.declared.listed.Listed.{Listed}
+use Rattle.opcode.specs.declared.listed.Listed.TheVariants as listed
+use Rattle.hw_model.specs.Types.{Name}
+use Rattle.hw_model.specs.Kinds.{Predicate}
+use Rattle.hw_model.specs.Design.{Entry, same_name}
+use Rattle.std.specs.Cmp.Lexicographic.{bytes_decides}
+use Rattle.mlir_lexer.specs.Tokens.{Lexeme}
+use Rattle.mlir_lexer.specs.declared.token.TokenKind.{TokenKind}
+use Rattle.mlir_lexer.specs.declared.token.TokenKind.TheVariants as kind
+use Rattle.mlir_syntax.specs.Stream.{Symbol, token, bad, end, first, is_first, is_next, is_word}
+use Rattle.mlir_lexer.specs.TokenKinds.{is_kind}
+use Rattle.mlir_syntax.specs.Reads.{Read, on}
+use Rattle.mlir_syntax.specs.AttributeText.{maybe_dictionary}
+use Rattle.assembly_format.specs.Formats.{is_of, format_of, comma, front_elements, type_elements}
+use Rattle.mlir_operations.specs.ElementText.{Gathered, gathered_nothing, elements_text}
+use Rattle.mlir_syntax.specs.WordText.{predicate_named}
+use Rattle.mlir_operations.specs.OperationText.{Tail, given_entries, late_dictionary, form_text, is_last}
+use Rattle.mlir_syntax.specs.Spelling.{Phrase, Mark, Word, Holding, TruthWord, Then, Where, Nothing, MaybeDictionary}
+use Rattle.mlir_operations.specs.Spelling.{ResetPhrase, OperandPhrase, FormatElementPhrase, ElementsPhrase, IsOneOf, FormPhrase}
+use Rattle.assembly_format.specs.declared.elements.Keyword.{Keyword}
+use Rattle.assembly_format.specs.declared.elements.Keyword.TheVariants.{From, Clock}
+use Rattle.assembly_format.specs.declared.elements.FormatElement.{FormatElement}
+use Rattle.assembly_format.specs.declared.elements.FormatElement.TheVariants as element
+use Rattle.assembly_format.specs.declared.elements.Format.{Format}
+use Rattle.assembly_format.specs.declared.elements.Format.TheVariants as format
+use Rattle.mlir_syntax.proofs.Again.{At, at_then, at_where, at_nothing, at_either, on_ok, Leads, leads_one, leads_then, leads_where, starts, starts_test}
+use Rattle.mlir_syntax.proofs.AgainTokens.{Unlike, is_kind_of, unlike, no_word, other_word, no_next, leads_holding, leads_commas, leads_integer}
+use Rattle.mlir_syntax.proofs.AgainAttributes.{NoBrace, some_dictionary_at, again_maybe}
+use Rattle.mlir_syntax.proofs.AgainLiterals.{leads_aggregate}
+use Rattle.mlir_operations.proofs.AgainOperands.{NoNumber, NoValue, leads_operand}
+use Rattle.mlir_operations.proofs.AgainElements.{NoReset, Ends, elements_at}
+
+-- ---- what stands after a form
+
+-- what may stand after an operation
+pub record OperationEnd (s : List Symbol) : Type 0 where
+  pub no_number : NoNumber s
+  pub no_comma : is_next kind.Comma s ≡ false
+  pub no_reset : NoReset s
+  pub no_bin : is_first (is_word (codes "bin")) s ≡ false
+  pub no_brace : NoBrace s
+
+-- what may stand after the pieces before the types
+record FrontEnd (s : List Symbol) : Type 0 where
+  pub no_number : NoNumber s
+  pub no_comma : is_next kind.Comma s ≡ false
+  pub no_reset : NoReset s
+
+-- types begin with a colon, where there are some
+abbrev TypesForm : List FormatElement → Type 0
+TypesForm [] = Unit {0}
+TypesForm (element.Mark k ∷ ps) = k ≡ kind.Colon
+TypesForm (_ ∷ ps) = ⊥
+
+types_form : (format : Format) → TypesForm (type_elements format)
+unfolding type_elements
+types_form format.Variadic = refl
+types_form format.Truth = tt
+types_form format.Instance = tt
+types_form format.Nothing = tt
+types_form _ = refl
+
+-- pieces begin as the first of them
+pub leads_elements : {T : Lexeme → Type 0} (p : FormatElement) (ps : List FormatElement) (g h : Gathered) → ((m : Gathered) → Leads T (FormatElementPhrase p g m)) → Leads T (ElementsPhrase (p ∷ ps) g h)
+leads_elements p ps g h one = record { lead = λ ts q. (leads_then {P = FormatElementPhrase p g q.0} {Q = ElementsPhrase ps q.0 h} (one q.0)).lead ts q.1 }
+
+leads_mark : {T : Lexeme → Type 0} (k : TokenKind) (ps : List FormatElement) (g h : Gathered) → ((t : Lexeme) → t.kind ≡ k → T t) → Leads T (ElementsPhrase (element.Mark k ∷ ps) g h)
+leads_mark k ps g h to = leads_elements (element.Mark k) ps g h (λ m. leads_where (leads_one to))
+
+no_elements : {g h : Gathered} {s left : List Symbol} → At (ElementsPhrase [] g h) s left → (h ≡ g) × (s ≡ left)
+no_elements a = let (same, p) = at_where a in (same, at_nothing p)
+
+leads_dictionary : {T : Lexeme → Type 0} (keys : List Name) (es : List Entry) → ((t : Lexeme) → t.kind ≡ kind.LeftBrace → T t) → Leads T (MaybeDictionary keys (Some es))
+leads_dictionary keys es to = leads_where (leads_then (leads_one to))
+
+-- what is so of no brace and no colon, and not of what stands after an operation, is not so of what stands before its types
+behind_types : (test : Lexeme → Bool) (keys : List Name) (late : Option (List Entry)) {s left : List Symbol} → ((t : Lexeme) → t.kind ≡ kind.LeftBrace → test t ≡ false)
+    → is_first test left ≡ false → At (MaybeDictionary keys late) s left → is_first test s ≡ false
+behind_types test keys None brace last a = ap (is_first test) (at_nothing a) ∙ last
+behind_types test keys (Some es) brace last a = starts_test test false (λ t p. p) (starts (leads_dictionary keys es brace) a)
+
+from_types : (test : Lexeme → Bool) (keys : List Name) (tp : List FormatElement) (g h : Gathered) (late : Option (List Entry)) {s m left : List Symbol} → TypesForm tp
+    → ((t : Lexeme) → t.kind ≡ kind.LeftBrace → test t ≡ false) → ((t : Lexeme) → t.kind ≡ kind.Colon → test t ≡ false)
+    → is_first test left ≡ false → At (ElementsPhrase tp g h) s m → At (MaybeDictionary keys late) m left → is_first test s ≡ false
+from_types test keys [] g h late form brace colon last a b = ap (is_first test) (no_elements a).1 ∙ behind_types test keys late brace last b
+from_types test keys (element.Mark k ∷ ps) g h late form brace colon last a b =
+    starts_test test false (λ t p. p) (starts (leads_mark k ps g h (λ t e. colon t (e ∙ form))) a)
+from_types test keys (_ ∷ ps) g h late form brace colon last a b = absurd form
+
+behind_front : (test : Lexeme → Bool) (keys : List Name) (tp : List FormatElement) (g h : Gathered) (early late : Option (List Entry)) {s left : List Symbol} → TypesForm tp
+    → ((t : Lexeme) → t.kind ≡ kind.LeftBrace → test t ≡ false) → ((t : Lexeme) → t.kind ≡ kind.Colon → test t ≡ false) → is_first test left ≡ false
+    → At (Then (MaybeDictionary keys early) (Then (ElementsPhrase tp g h) (MaybeDictionary keys late))) s left → is_first test s ≡ false
+behind_front test keys tp g h early late form brace colon last a =
+    let (m, b, c) = at_then a in
+    let (k, d, e) = at_then c in
+    behind_types test keys early brace (from_types test keys tp g h late form brace colon last d e) b
+
+front_end : (keys : List Name) (tp : List FormatElement) (g h : Gathered) (early late : Option (List Entry)) {s left : List Symbol} → TypesForm tp → OperationEnd left
+    → At (Then (MaybeDictionary keys early) (Then (ElementsPhrase tp g h) (MaybeDictionary keys late))) s left → FrontEnd s
+front_end keys tp g h early late form last a = record {
+  no_number = behind_front (λ t. is_kind t.kind kind.ResultNumber) keys tp g h early late form (unlike kind.ResultNumber kind.LeftBrace refl)
+      (unlike kind.ResultNumber kind.Colon refl) last.no_number a;
+  no_comma = behind_front (λ t. is_kind t.kind kind.Comma) keys tp g h early late form (unlike kind.Comma kind.LeftBrace refl) (unlike kind.Comma kind.Colon refl) last.no_comma a;
+  no_reset = behind_front (is_word (codes "reset")) keys tp g h early late form (no_word (codes "reset") kind.LeftBrace refl) (no_word (codes "reset") kind.Colon refl) last.no_reset a;
+}
+
+-- ---- the pieces of forms may stand one after another
+
+behind_mark : (k : TokenKind) (ps : List FormatElement) (left : List Symbol) → is_kind k kind.ResultNumber ≡ false
+    → (m : List Symbol) (x y : Gathered) → At (ElementsPhrase (element.Mark k ∷ ps) x y) m left → NoNumber m
+behind_mark k ps left other m x y a = no_next kind.ResultNumber (leads_mark k ps x y (unlike kind.ResultNumber k other)) a
+
+operand_last : {left : List Symbol} → FrontEnd left → (m : List Symbol) (x y : Gathered) → At (ElementsPhrase [] x y) m left → NoNumber m
+operand_last last m x y a = ap (is_next kind.ResultNumber) (no_elements a).1 ∙ last.no_number
+
+operand_ends : {left : List Symbol} → FrontEnd left → Ends (element.Operand ∷ []) left
+operand_ends last = (operand_last last, tt)
+
+operands_end : {left : List Symbol} → FrontEnd left → Ends (element.Operands ∷ []) left
+operands_end last = (λ m x y a. (operand_last last m x y a, ap (is_next kind.Comma) (no_elements a).1 ∙ last.no_comma), tt)
+
+mark_ends : {left : List Symbol} (k : TokenKind) (ps : List FormatElement) → Ends ps left → Ends (element.Mark k ∷ ps) left
+mark_ends k ps rest = (λ m x y a. tt, rest)
+
+operand_mark_ends : {left : List Symbol} (k : TokenKind) (ps : List FormatElement) → is_kind k kind.ResultNumber ≡ false → Ends ps left → Ends (element.Operand ∷ element.Mark k ∷ ps) left
+operand_mark_ends {left} k ps other rest = (behind_mark k ps left other, mark_ends k ps rest)
+
+-- `%a,` and more
+comma_ends : {left : List Symbol} (ps : List FormatElement) → Ends ps left → Ends (element.Operand ∷ comma ∷ ps) left
+comma_ends ps rest = operand_mark_ends kind.Comma ps refl rest
+
+-- `%a[%i]` and more
+indexed_ends : {left : List Symbol} (ps : List FormatElement) → Ends ps left
+    → Ends (element.Operand ∷ element.Mark kind.LeftBracket ∷ element.Operand ∷ element.Mark kind.RightBracket ∷ ps) left
+indexed_ends ps rest = operand_mark_ends kind.LeftBracket (element.Operand ∷ element.Mark kind.RightBracket ∷ ps) refl (operand_mark_ends kind.RightBracket ps refl rest)
+
+-- `%s["f"]` and more
+field_ends : {left : List Symbol} (ps : List FormatElement) → Ends ps left
+    → Ends (element.Operand ∷ element.Mark kind.LeftBracket ∷ element.Field ∷ element.Mark kind.RightBracket ∷ ps) left
+field_ends ps rest = operand_mark_ends kind.LeftBracket (element.Field ∷ element.Mark kind.RightBracket ∷ ps) refl (λ m x y a. tt, mark_ends kind.RightBracket ps rest)
+
+-- a reset that may be left out begins with no number within a pack
+optional_reset : (Reset : Phrase) (x g y : Gathered) {m k left : List Symbol} → FrontEnd left → Leads (Unlike kind.ResultNumber) Reset
+    → At (ResetPhrase Reset x g) m k ⊎ At (Where (g ≡ x) Nothing) m k → At (ElementsPhrase [] g y) k left → NoNumber m
+optional_reset Reset x g y last leads (inl a) b = no_next kind.ResultNumber (record { lead = λ ts p. (leads_then {P = Reset} leads).lead ts p.3 }) a
+optional_reset Reset x g y {k = k} last leads (inr a) b = ap (is_next kind.ResultNumber) (at_nothing (at_where a).1) ∙ operand_last last k g y b
+
+word_unlike : {word : List ℕ} → Leads (Unlike kind.ResultNumber) (Word word)
+word_unlike = leads_one (λ t w. unlike kind.ResultNumber kind.BareName refl t w.0)
+
+behind_reset : {left : List Symbol} → FrontEnd left → (m : List Symbol) (x y : Gathered) → At (ElementsPhrase (element.Reset ∷ []) x y) m left → NoNumber m
+behind_reset {left} last m x y a =
+    let (g, q) = a.says in
+    let inside : At (Then (FormatElementPhrase element.Reset x g) (ElementsPhrase [] g y)) m left = record { passed = a.passed; same = a.same; says = q } in
+    let (k, b, c) = at_then inside in
+    optional_reset (Word (codes "reset")) x g y last word_unlike (at_either b) c
+
+behind_sync : {left : List Symbol} → FrontEnd left → (m : List Symbol) (x y : Gathered) → At (ElementsPhrase (element.SyncReset ∷ []) x y) m left → NoNumber m
+behind_sync {left} last m x y a =
+    let (g, q) = a.says in
+    let inside : At (Then (FormatElementPhrase element.SyncReset x g) (ElementsPhrase [] g y)) m left = record { passed = a.passed; same = a.same; says = q } in
+    let (k, b, c) = at_then inside in
+    optional_reset (Then (Word (codes "reset")) (Word (codes "sync"))) x g y last (leads_then word_unlike) (at_either b) c
+
+reset_ends : {left : List Symbol} → FrontEnd left → Ends (element.Operand ∷ element.Reset ∷ []) left
+reset_ends last =
+    (behind_reset last, (λ m x y a. (operand_last last m x y a, ap (is_first (is_word (codes "reset"))) (no_elements a).1 ∙ last.no_reset), tt))
+
+sync_ends : {left : List Symbol} → FrontEnd left → Ends (element.Operand ∷ element.SyncReset ∷ []) left
+sync_ends last =
+    (behind_sync last, (λ m x y a. (operand_last last m x y a, ap (is_first (is_word (codes "reset"))) (no_elements a).1 ∙ last.no_reset), tt))
+
+word_ends : {left : List Symbol} (w : Keyword) (ps : List FormatElement) → Ends ps left → Ends (element.Operand ∷ element.Word w ∷ ps) left
+word_ends w ps rest = (
+  λ m x y a. no_next kind.ResultNumber (leads_elements (element.Word w) ps x y (λ g. leads_where word_unlike)) a,
+  (λ m x y a. tt, rest),
+)
+
+front_ends : (format : Format) {left : List Symbol} → FrontEnd left → Ends (front_elements format) left
+unfolding front_elements
+front_ends format.Variadic last = operands_end last
+front_ends format.Binary last = comma_ends (element.Operand ∷ []) (operand_ends last)
+front_ends format.Comparison last = (λ m x y a. tt, comma_ends (element.Operand ∷ []) (operand_ends last))
+front_ends format.Unary last = operand_ends last
+front_ends format.Extraction last = word_ends From (element.Number ∷ []) (λ m x y a. tt, tt)
+front_ends format.Joined last = operands_end last
+front_ends format.Conversion last = operand_ends last
+front_ends format.Choice last = comma_ends (element.Operand ∷ comma ∷ element.Operand ∷ []) (comma_ends (element.Operand ∷ []) (operand_ends last))
+front_ends format.Truth last = (λ m x y a. tt, tt)
+front_ends format.Integer last = (λ m x y a. tt, tt)
+front_ends format.Aggregate last = (λ m x y a. tt, tt)
+front_ends format.Element last = indexed_ends [] tt
+front_ends format.Slice last = indexed_ends [] tt
+front_ends format.ElementChange last = indexed_ends (comma ∷ element.Operand ∷ []) (mark_ends kind.Comma (element.Operand ∷ []) (operand_ends last))
+front_ends format.Struct last = (λ m x y a. tt, tt)
+front_ends format.Field last = field_ends [] tt
+front_ends format.FieldChange last = field_ends (comma ∷ element.Operand ∷ []) (mark_ends kind.Comma (element.Operand ∷ []) (operand_ends last))
+front_ends format.Instance last = (λ m x y a. tt, tt)
+front_ends format.Nothing last = tt
+front_ends format.Register last = comma_ends (element.Operand ∷ element.Reset ∷ []) (reset_ends last)
+front_ends format.EnabledRegister last = comma_ends (element.Operand ∷ comma ∷ element.Operand ∷ element.Reset ∷ []) (comma_ends (element.Operand ∷ element.Reset ∷ []) (reset_ends last))
+front_ends format.ClockedRegister last = word_ends Clock (element.Operand ∷ element.SyncReset ∷ []) (sync_ends last)
+
+one_type_ends : {left : List Symbol} → Ends (element.Mark kind.Colon ∷ element.Type ∷ []) left
+one_type_ends = (λ m x y a. tt, (λ m x y a. tt, tt))
+
+two_types_end : {left : List Symbol} → Ends (element.Mark kind.Colon ∷ element.Type ∷ element.Mark kind.Comma ∷ element.Type ∷ []) left
+two_types_end = (λ m x y a. tt, (λ m x y a. tt, (λ m x y a. tt, (λ m x y a. tt, tt))))
+
+function_type_ends : {left : List Symbol}
+    → Ends (element.Mark kind.Colon ∷ element.Mark kind.LeftParenthesis ∷ element.Type ∷ element.Mark kind.RightParenthesis ∷ element.Mark kind.Arrow ∷ element.Type ∷ []) left
+function_type_ends = (λ m x y a. tt, (λ m x y a. tt, (λ m x y a. tt, (λ m x y a. tt, (λ m x y a. tt, (λ m x y a. tt, tt))))))
+
+type_ends : (format : Format) (left : List Symbol) → Ends (type_elements format) left
+unfolding type_elements
+type_ends format.Extraction left = function_type_ends
+type_ends format.Conversion left = function_type_ends
+type_ends format.Slice left = function_type_ends
+type_ends format.Joined left = (λ m x y a. tt, (λ m x y a. tt, tt))
+type_ends format.Truth left = tt
+type_ends format.Instance left = tt
+type_ends format.Nothing left = tt
+type_ends format.Element left = two_types_end
+type_ends format.ElementChange left = two_types_end
+type_ends _ left = one_type_ends
+
+-- ---- forms
+
+-- what is read after the pieces before the types
+abbrev RestRead : OpName → List Name → List FormatElement → Gathered → List Symbol → Read Tail
+RestRead op keys tp g s =
+    on (maybe_dictionary op keys s) (λ es s2. on (elements_text op tp g s2) (λ h s3. on (late_dictionary op keys es s3) (λ all s4.
+    Ok (record { gathered = h; dictionary = all }, s4))))
+
+-- a dictionary before the types
+early_at : (op : OpName) (keys : List Name) (tp : List FormatElement) (g h : Gathered) (ds es : List Entry) (late : Option (List Entry)) {s m k left : List Symbol} → OperationEnd left
+    → Ends tp k → IsOneOf (Some ds) late es → At (MaybeDictionary keys (Some ds)) s m → maybe_dictionary op keys s ≡ Ok (Some ds, m) → At (ElementsPhrase tp g h) m k
+    → At (MaybeDictionary keys late) k left → RestRead op keys tp g s ≡ Ok (record { gathered = h; dictionary = es }, left)
+unfolding late_dictionary
+early_at op keys tp g h ds es late {s} {m} {k} {left} last ends one a e b c =
+    let none : At (MaybeDictionary keys None) k left = subst (λ l. At (MaybeDictionary keys l) k left) one.0 c in
+    on_ok _ e (on_ok _ (elements_at op tp g h ends b)
+    (ap (λ y. Ok (record { gathered = h; dictionary = ds }, y)) (at_nothing none) ∙ ap (λ x. Ok (record { gathered = h; dictionary = x }, left)) (sym one.1)))
+
+-- no dictionary before the types
+plain_at : (op : OpName) (keys : List Name) (tp : List FormatElement) (g h : Gathered) (es : List Entry) (late : Option (List Entry)) {s m k left : List Symbol} → OperationEnd left
+    → Ends tp k → es ≡ given_entries late → At (MaybeDictionary keys None) s m → NoBrace m → At (ElementsPhrase tp g h) m k
+    → At (MaybeDictionary keys late) k left → RestRead op keys tp g s ≡ Ok (record { gathered = h; dictionary = es }, left)
+unfolding late_dictionary
+plain_at op keys tp g h es late {s} {m} {k} {left} last ends one a clear b c =
+    on_ok _ ((again_maybe op keys).gives None s m a clear) (on_ok _ (elements_at op tp g h ends b)
+    (on_ok _ (on_ok _ ((again_maybe op keys).gives late k left c last.no_brace) refl) (ap (λ x. Ok (record { gathered = h; dictionary = x }, left)) (sym one))))
+
+-- a dictionary after no types
+bare_at : (op : OpName) (keys : List Name) (g h : Gathered) (es ds : List Entry) {s m k left : List Symbol} → OperationEnd left → es ≡ ds
+    → At (MaybeDictionary keys None) s m → At (ElementsPhrase [] g h) m k → At (MaybeDictionary keys (Some ds)) k left
+    → RestRead op keys [] g s ≡ Ok (record { gathered = h; dictionary = es }, left)
+unfolding late_dictionary
+bare_at op keys g h es ds {s} {m} {k} {left} last one a b c =
+    let (same, place) = no_elements b in
+    on_ok _ (ap (maybe_dictionary op keys) (at_nothing a ∙ place) ∙ (again_maybe op keys).gives (Some ds) k left c last.no_brace)
+    (ap₂ (λ x y. Ok (record { gathered = x; dictionary = y }, left)) (sym same) (sym one))
+
+none_at : (op : OpName) (keys : List Name) (tp : List FormatElement) (g h : Gathered) (es : List Entry) (late : Option (List Entry)) {s m k left : List Symbol} → OperationEnd left
+    → TypesForm tp → Ends tp k → es ≡ given_entries late → At (MaybeDictionary keys None) s m → At (ElementsPhrase tp g h) m k
+    → At (MaybeDictionary keys late) k left → RestRead op keys tp g s ≡ Ok (record { gathered = h; dictionary = es }, left)
+none_at op keys [] g h es None {s} {m} {k} {left} last form ends one a b c =
+    plain_at op keys [] g h es None last ends one a (ap (is_next kind.LeftBrace) ((no_elements b).1 ∙ at_nothing c) ∙ last.no_brace) b c
+none_at op keys [] g h es (Some ds) last form ends one a b c = bare_at op keys g h es ds last one a b c
+none_at op keys (element.Mark j ∷ ps) g h es late last form ends one a b c =
+    plain_at op keys (element.Mark j ∷ ps) g h es late last ends one a
+    (no_next kind.LeftBrace (leads_mark j ps g h (λ t e. unlike kind.LeftBrace kind.Colon refl t (e ∙ form))) b) b c
+none_at op keys (_ ∷ ps) g h es late last form ends one a b c = absurd form
+
+rest_at : (op : OpName) (keys : List Name) (tp : List FormatElement) (g h : Gathered) (es : List Entry) (early late : Option (List Entry)) {s m k left : List Symbol} → OperationEnd left
+    → TypesForm tp → Ends tp k → IsOneOf early late es → At (MaybeDictionary keys early) s m → At (ElementsPhrase tp g h) m k
+    → At (MaybeDictionary keys late) k left → RestRead op keys tp g s ≡ Ok (record { gathered = h; dictionary = es }, left)
+rest_at op keys tp g h es None late last form ends one a b c = none_at op keys tp g h es late last form ends one a b c
+rest_at op keys tp g h es (Some ds) late {s} {m} last form ends one a b c =
+    early_at op keys tp g h ds es late last ends one a (some_dictionary_at op keys ds a) b c
+
+-- the pieces before the types, and what stands after them
+front_of : (keys : List Name) (format : Format) (h : Gathered) (es : List Entry) {s left : List Symbol} → At (FormPhrase keys format h es) s left
+    → (g : Gathered) × (early : Option (List Entry)) × (late : Option (List Entry)) × IsOneOf early late es × (m : List Symbol) × At (ElementsPhrase (front_elements format) gathered_nothing g) s m
+    × At (Then (MaybeDictionary keys early) (Then (ElementsPhrase (type_elements format) g h) (MaybeDictionary keys late))) m left
+front_of keys format h es {s} {left} a =
+    let (g, early, late, one, p) = a.says in
+    let inside : At (Then (ElementsPhrase (front_elements format) gathered_nothing g) (Then (MaybeDictionary keys early)
+    (Then (ElementsPhrase (type_elements format) g h) (MaybeDictionary keys late)))) s left = record { passed = a.passed; same = a.same; says = p } in
+    let (m, b, c) = at_then inside in
+    (g, early, late, one, m, b, c)
+
+pub form_at : (op : OpName) (keys : List Name) (format : Format) (h : Gathered) (es : List Entry) {s left : List Symbol} → OperationEnd left
+    → At (FormPhrase keys format h es) s left → form_text op keys format s ≡ Ok (record { gathered = h; dictionary = es }, left)
+unfolding form_text
+form_at op keys format h es last a =
+    let (g, early, late, one, m, b, c) = front_of keys format h es a in
+    let (k, d, e) = at_then c in
+    let (i, x, y) = at_then e in
+    on_ok _ (elements_at op (front_elements format) gathered_nothing g (front_ends format (front_end keys (type_elements format) g h early late (types_form format) last c)) b)
+    (rest_at op keys (type_elements format) g h es early late last (types_form format) (type_ends format i) one d x y)
+
+-- ---- what a form begins with
+
+-- the first token, by its kind
+pub of_first : (k : TokenKind) (s : List Symbol) → is_of k (first s) ≡ is_next k s
+of_first k [] = refl
+of_first k (token t ∷ s) = refl
+of_first k (bad p ∷ s) = refl
+of_first k (end p ∷ s) = refl
+
+-- a token is not the mark `bin`
+abbrev NoBin : Lexeme → Type 0
+NoBin t = is_word (codes "bin") t ≡ false
+
+-- pieces that do not begin with `bin`
+abbrev IsFront : FormatElement → Type 0
+IsFront (element.Mark k) = ⊥
+IsFront (element.Word w) = ⊥
+IsFront element.Number = ⊥
+IsFront element.Field = ⊥
+IsFront element.Reset = ⊥
+IsFront element.SyncReset = ⊥
+IsFront element.Type = ⊥
+IsFront element.Types = ⊥
+IsFront _ = Unit {0}
+
+-- a predicate is no `bin`
+no_predicate : (name : Name) (p : Predicate) → predicate_named name ≡ Some p → same_name name (codes "bin") ≡ false
+unfolding predicate_named
+no_predicate name p e = go (same_name name (codes "bin")) refl
+  where
+    go : (b : Bool) → same_name name (codes "bin") ≡ b → b ≡ false
+    go true h = let known : Some p ≡ None = sym e ∙ ap predicate_named ((bytes_decides name (codes "bin")).0 h) in absurd cc
+    go false h = refl
+
+leads_truth : (b : Bool) → Leads NoBin (TruthWord b)
+leads_truth true = leads_one (λ t w. other_word (codes "bin") (codes "true") refl t w.1)
+leads_truth false = leads_one (λ t w. other_word (codes "bin") (codes "false") refl t w.1)
+
+leads_front : (p : FormatElement) (g h : Gathered) → IsFront p → Leads NoBin (FormatElementPhrase p g h)
+leads_front (element.Mark k) g h f = absurd f
+leads_front (element.Word w) g h f = absurd f
+leads_front element.Number g h f = absurd f
+leads_front element.Field g h f = absurd f
+leads_front element.Reset g h f = absurd f
+leads_front element.SyncReset g h f = absurd f
+leads_front element.Type g h f = absurd f
+leads_front element.Types g h f = absurd f
+leads_front element.Operand g h f = record { lead = λ ts p. (leads_operand p.0 (no_word (codes "bin") kind.ValueName refl)).lead ts p.2 }
+leads_front element.Operands g h f = record {
+  lead = λ ts p. (leads_commas OperandPhrase p.0 p.1 (leads_operand p.0 (no_word (codes "bin") kind.ValueName refl))).lead ts p.3;
+}
+leads_front element.Group g h f = record {
+  lead = λ ts p. (leads_then {P = Mark kind.LeftParenthesis} (leads_one (no_word (codes "bin") kind.LeftParenthesis refl))).lead ts p.2;
+}
+leads_front element.Predicate g h f = record {
+  lead = λ ts p. (leads_one {U = NoBin} (λ t w. other_word (codes "bin") p.1 (no_predicate p.1 p.0 p.3) t w.1)).lead ts p.4;
+}
+leads_front element.Truth g h f = record { lead = λ ts p. (leads_truth p.0).lead ts p.2 }
+leads_front element.Integer g h f = record {
+  lead = λ ts p. (leads_integer (no_word (codes "bin") kind.Integer refl) (no_word (codes "bin") kind.Minus refl)).lead ts p.2;
+}
+leads_front element.Literals g h f = record { lead = λ ts p. (leads_aggregate p.0 (no_word (codes "bin") kind.LeftBracket refl)).lead ts p.2 }
+leads_front element.Instance g h f = record {
+  lead = λ ts p. (leads_then {P = Holding kind.StringLiteral p.0} (leads_holding (no_word (codes "bin") kind.StringLiteral refl))).lead ts p.6;
+}
+
+-- the first piece of a form does not begin with `bin`
+abbrev FrontFirst : List FormatElement → Type 0
+FrontFirst [] = Unit {0}
+FrontFirst (p ∷ ps) = IsFront p
+
+front_first : (format : Format) → FrontFirst (front_elements format)
+unfolding front_elements
+front_first format.Variadic = tt
+front_first _ = tt
+
+no_bin_front : (ps : List FormatElement) (g h : Gathered) {s m : List Symbol} → FrontFirst ps → is_first (is_word (codes "bin")) m ≡ false → At (ElementsPhrase ps g h) s m
+    → is_first (is_word (codes "bin")) s ≡ false
+no_bin_front [] g h first last a = ap (is_first (is_word (codes "bin"))) (no_elements a).1 ∙ last
+no_bin_front (p ∷ ps) g h first last a = starts_test (is_word (codes "bin")) false (λ t e. e) (starts (leads_elements p ps g h (λ m. leads_front p g m first)) a)
+
+-- a form does not begin with `bin`
+pub no_bin : (keys : List Name) (format : Format) (h : Gathered) (es : List Entry) {s left : List Symbol} → OperationEnd left → At (FormPhrase keys format h es) s left
+    → is_first (is_word (codes "bin")) s ≡ false
+no_bin keys format h es last a =
+    let (g, early, late, one, m, b, c) = front_of keys format h es a in
+    no_bin_front (front_elements format) gathered_nothing g (front_first format)
+    (behind_front (is_word (codes "bin")) keys (type_elements format) g h early late (types_form format) (no_word (codes "bin") kind.LeftBrace refl)
+    (no_word (codes "bin") kind.Colon refl) last.no_bin c) b
+
+-- ---- the form of an operation is told by the token that it begins with
+
+first_kind : (k : TokenKind) (b : Bool) {P : Phrase} {s left : List Symbol} → Leads (λ t. is_kind t.kind k ≡ b) P → At P s left → is_of k (first s) ≡ b
+first_kind k b {s = s} leads a = of_first k s ∙ starts_test (λ t. is_kind t.kind k) b (λ t e. e) (starts leads a)
+
+constant_at : (keys : List Name) (b : Bool) (h : Gathered) (es : List Entry) {s left : List Symbol} → At (FormPhrase keys (cond b format.Truth format.Integer) h es) s left
+    → is_of kind.BareName (first s) ≡ b
+unfolding front_elements
+constant_at keys true h es a =
+    let (g, early, late, one, m, b, c) = front_of keys format.Truth h es a in
+    first_kind kind.BareName true (leads_elements element.Truth [] gathered_nothing g (λ i. record {
+      lead = λ ts p. (leads_one {U = λ t. is_kind t.kind kind.BareName ≡ true} (λ t w. is_kind_of w.0)).lead ts p.2;
+    })) b
+constant_at keys false h es a =
+    let (g, early, late, one, m, b, c) = front_of keys format.Integer h es a in
+    first_kind kind.BareName false (leads_elements element.Integer [] gathered_nothing g (λ i. record {
+      lead = λ ts p. (leads_integer (unlike kind.BareName kind.Integer refl) (unlike kind.BareName kind.Minus refl)).lead ts p.2;
+    })) b
+
+output_at : (keys : List Name) (b : Bool) (h : Gathered) (es : List Entry) {s left : List Symbol} → NoValue left
+    → At (FormPhrase keys (cond b format.Joined format.Nothing) h es) s left → is_of kind.ValueName (first s) ≡ b
+unfolding front_elements
+output_at keys true h es last a =
+    let (g, early, late, one, m, b, c) = front_of keys format.Joined h es a in
+    first_kind kind.ValueName true (leads_elements element.Operands [] gathered_nothing g (λ i. record {
+      lead = λ ts p. (leads_commas OperandPhrase p.0 p.1 (leads_operand {T = λ t. is_kind t.kind kind.ValueName ≡ true} p.0 (λ t e. is_kind_of e))).lead ts p.3;
+    })) b
+output_at keys false h es {s} last a =
+    let (g, early, late, one, m, b, c) = front_of keys format.Nothing h es a in
+    of_first kind.ValueName s ∙ ap (is_next kind.ValueName) (no_elements b).1
+    ∙ behind_front (λ t. is_kind t.kind kind.ValueName) keys (type_elements format.Nothing) g h early late (types_form format.Nothing) (unlike kind.ValueName kind.LeftBrace refl)
+    (unlike kind.ValueName kind.Colon refl) last c
+
+pub format_at : (o : Listed) (next : Option Lexeme) (keys : List Name) (h : Gathered) (es : List Entry) {s left : List Symbol} → (is_last o ≡ true → NoValue left)
+    → At (FormPhrase keys (format_of o next) h es) s left → format_of o (first s) ≡ format_of o next
+unfolding format_of
+format_at listed.HwConstant next keys h es last a = ap (λ b. cond b format.Truth format.Integer) (constant_at keys (is_of kind.BareName next) h es a)
+format_at listed.HwOutput next keys h es last a = ap (λ b. cond b format.Joined format.Nothing) (output_at keys (is_of kind.ValueName next) h es (last refl) a)
+format_at _ next keys h es last a = refl
