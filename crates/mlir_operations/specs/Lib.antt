@@ -7,3 +7,4 @@ pub mod Views
 pub mod NameClasses
 pub mod ElementHeads
 pub mod Spelling
+pub mod PortForms

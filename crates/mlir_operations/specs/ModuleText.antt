@@ -1,16 +1,15 @@
 -- The text of modules and of a file (CIRCT, HW dialect: `hw.module`; MLIR, builtin dialect: `builtin.module`).
-use Rattle.std.specs.Prelude.{ℕ, zero, suc, Bool, true, false, cond, List, [], ◌∷◌, length, Option, Some, None, Ok, Err, codes}
+use Rattle.std.specs.Prelude.{ℕ, zero, suc, Bool, true, false, cond, List, [], ◌∷◌, ◌++◌, length, Option, Some, None, Ok, Err, codes}
 use Rattle.diag.specs.declared.refusal.Place.{Place}
 use Rattle.diag.specs.declared.refusal.OpName.{OpName}
 use Rattle.diag.specs.declared.refusal.OpName.TheVariants as op
-use Rattle.diag.specs.declared.cause.Cause.TheVariants.{OutsideProfile}
 use Rattle.opcode.specs.declared.listed.Listed.TheVariants as listed
 use Rattle.hw_model.specs.Types.{Name, HwType}
 use Rattle.hw_model.specs.Design.{Entry}
 use Rattle.mlir_lexer.specs.Contents.{content_of}
 use Rattle.mlir_lexer.specs.Tokens.{Lexeme}
 use Rattle.mlir_lexer.specs.declared.token.TokenKind.TheVariants as kind
-use Rattle.mlir_syntax.specs.Stream.{is_end, Symbol, token, bad, end, is_first, is_next, is_word, after, refusal_at, unexpected_refusal}
+use Rattle.mlir_syntax.specs.Stream.{is_end, Symbol, token, bad, end, is_first, is_next, is_word, after, unexpected_refusal}
 use Rattle.mlir_lexer.specs.TokenKinds.{is_kind}
 use Rattle.mlir_syntax.specs.Reads.{Reads, Read, on, want, items_until}
 use Rattle.mlir_syntax.specs.TypeText.{any_type, name_text}
@@ -55,11 +54,28 @@ port_text s =
     cond (is_first (is_word (codes "in")) s) (input_port (after s))
     (cond (is_first (is_word (codes "out")) s) (output_port (after s)) (Err (unexpected_refusal header s)))
 
--- `(PORTS)`; a list that begins with a value is that of an older form
+-- `%v : T`, an input of the older header
+unfoldable pub older_input : Reads PortText
+older_input s =
+    on (value_name header s) (λ v s1. on (port_type s1) (λ t s2. Ok (record { value = Some v; name = v; type = t }, s2)))
+
+-- `-> (OUTPUTS)`, or nothing
+unfoldable pub older_outputs : Reads (List PortText)
+older_outputs s =
+    cond (is_next kind.Arrow s)
+    (on (want header kind.LeftParenthesis (after s)) (λ _ s1. items_until header kind.RightParenthesis output_port s1)) (Ok ([], s))
+
+-- `INPUTS) [-> (OUTPUTS)]`, the ports of the older header after their parenthesis
+unfoldable pub older_ports : Reads (List PortText)
+older_ports s =
+    on (items_until header kind.RightParenthesis older_input s) (λ inputs s1. on (older_outputs s1) (λ outputs s2. Ok (inputs ++ outputs, s2)))
+
+-- `(PORTS)`, or `(INPUTS) [-> (OUTPUTS)]` of the older header, whose inputs begin with their values
 unfoldable pub ports_text : Reads (List PortText)
 ports_text s =
     on (want header kind.LeftParenthesis s) (λ _ s1.
-    cond (is_next kind.ValueName s1) (Err (refusal_at OutsideProfile header s1)) (items_until header kind.RightParenthesis port_text s1))
+    cond (is_next kind.ValueName s1) (older_ports s1)
+    (cond (is_next kind.RightParenthesis s1) (older_ports s1) (items_until header kind.RightParenthesis port_text s1)))
 
 -- ---- modules
 

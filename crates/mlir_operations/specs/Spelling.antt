@@ -1,6 +1,6 @@
 -- The grammar of operations, modules and files: which tokens say what (MLIR language reference; CIRCT: assembly formats of HW, Comb and Seq).
 -- Tokens have their places.
-use Rattle.std.specs.Prelude.{◌≡◌, ℕ, ◌<◌, Bool, true, false, List, [], ◌∷◌, length, Option, Some, None, Result, Ok, codes, ℤ}
+use Rattle.std.specs.Prelude.{◌≡◌, ℕ, ◌<◌, Bool, true, false, List, [], ◌∷◌, ◌++◌, length, Option, Some, None, Result, Ok, codes, ℤ}
 use Rattle.diag.specs.declared.refusal.Place.{Place}
 use Rattle.diag.specs.declared.refusal.Refusal.{Refusal}
 use Rattle.opcode.specs.declared.listed.Listed.{Listed}
@@ -164,6 +164,30 @@ PortPhrase p =
     (Then (Either (Holding kind.StringLiteral p.name) (Where (p.name ≡ v) Nothing)) (Then (Mark kind.Colon) (TypePhrase most_open p.type)))) ts)
     (Where (p.value ≡ None) (Then (Word (codes "out")) (Then (NamePhrase p.name) (Then (Mark kind.Colon) (TypePhrase most_open p.type)))))
 
+-- `%v : T`, an input of the older header
+abbrev pub OlderInputPhrase : PortText → Phrase
+OlderInputPhrase p ts =
+    (v : Name) × (p.value ≡ Some v) × (p.name ≡ v) × Then (ValueName v) (Then (Mark kind.Colon) (TypePhrase most_open p.type)) ts
+
+-- `name : T`, an output of the older header
+abbrev pub OlderOutputPhrase : PortText → Phrase
+OlderOutputPhrase p = Where (p.value ≡ None) (Then (NamePhrase p.name) (Then (Mark kind.Colon) (TypePhrase most_open p.type)))
+
+-- `-> (OUTPUTS)`, or nothing
+abbrev pub OlderOutputsPhrase : List PortText → Phrase
+OlderOutputsPhrase ps =
+    Either (Then (Mark kind.Arrow) (Between kind.LeftParenthesis kind.RightParenthesis (Commas OlderOutputPhrase ps))) (Where (ps ≡ []) Nothing)
+
+-- `(INPUTS) [-> (OUTPUTS)]`
+abbrev pub OlderPortsPhrase : List PortText → Phrase
+OlderPortsPhrase ps ts =
+    (inputs outputs : List PortText) × (ps ≡ inputs ++ outputs)
+    × Then (Between kind.LeftParenthesis kind.RightParenthesis (Commas OlderInputPhrase inputs)) (OlderOutputsPhrase outputs) ts
+
+-- `(PORTS)`, or the older header's, which says what `in %v : T` for each input and then `out name : T` for each output say
+abbrev pub PortsPhrase : List PortText → Phrase
+PortsPhrase ps = Either (Between kind.LeftParenthesis kind.RightParenthesis (Commas PortPhrase ps)) (OlderPortsPhrase ps)
+
 -- `attributes {..}`, or nothing
 abbrev pub AttributesPhrase : List Entry → Phrase
 AttributesPhrase es = Either (Then (Word (codes "attributes")) (DictionaryPhrase module_keys es)) (Where (es ≡ []) Nothing)
@@ -173,12 +197,13 @@ abbrev pub PrivatePhrase : Bool → Phrase
 PrivatePhrase true = Word (codes "private")
 PrivatePhrase false = Nothing
 
--- `hw.module [private] @N(PORTS) [attributes {..}] { OPERATIONS }`, with the places of its name and its closing brace
+-- `hw.module [private] @N(PORTS) [attributes {..}] { OPERATIONS }`, or with `(INPUTS) [-> (OUTPUTS)]` for `(PORTS)`, with the places
+-- of its name and its closing brace
 abbrev pub ModulePhrase : Stands → ModuleText → Phrase
 ModulePhrase At m =
     Then (One (λ (t : Lexeme). (t.kind ≡ kind.BareName) × (t.text ≡ name_of_listed listed.HwModule) × At t m.place))
     (Then (PrivatePhrase m.is_private) (Then (SymbolPhrase m.symbol)
-    (Then (Between kind.LeftParenthesis kind.RightParenthesis (Commas PortPhrase m.ports))
+    (Then (PortsPhrase m.ports)
     (Then (AttributesPhrase m.dictionary) (Then (Mark kind.LeftBrace) (Then (OperationsPhrase At m.operations)
     (One (λ (t : Lexeme). (t.kind ≡ kind.RightBrace) × At t m.close))))))))
 

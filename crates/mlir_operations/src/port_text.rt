@@ -2,15 +2,16 @@
 ghost use Rattle.std.specs.Prelude.{◌≡◌, ◌≤◌, length, map, Ok, OnOk};
 ghost use Rattle.ir_store.specs.DictionaryViews.{entries_in};
 ghost use Rattle.hw_model.specs.TypeViews.{type_of};
-ghost use Rattle.mlir_operations.specs.ModuleText.{header, port_name, port_type, input_port, output_port, port_text, ports_text, attributes_text, private_text};
-ghost use Rattle.mlir_syntax.specs.Reads.{some_items};
+ghost use Rattle.mlir_operations.specs.ModuleText.{header, port_name, port_type, input_port, output_port, port_text, older_input, older_outputs, older_ports, ports_text, attributes_text, private_text};
+ghost use Rattle.mlir_operations.specs.PortForms.{port_in};
+ghost use Rattle.mlir_lexer.specs.declared.token.TokenKind.TheVariants as kind;
+ghost use Rattle.mlir_syntax.specs.Reads.{some_items, items_until};
 ghost use Rattle.mlir_syntax.specs.Views.{ReadsAs};
 ghost use Rattle.mlir_operations.specs.Views.{port_text_of};
 
 use crate::operand_text::value_name;
 use crate::operation_text::HEADER;
 use crate::syntax::PortText;
-use diag::cause::Cause;
 use diag::refusal::OpName;
 use hw_model::types::Ty;
 use io_edge::byte_text::Text;
@@ -44,9 +45,20 @@ pub fn header_attributes(reader: &mut Reader<'_>, op: OpName) -> Result<Dictiona
     }
 }
 
-/// `(PORTS)`.
+/// How a port is written.
+#[derive(Clone, Copy)]
+enum PortForm {
+    /// `in %v ["name"] : T` or `out name : T`.
+    Directed,
+    /// `%v : T`, an input of the older header.
+    OlderInput,
+    /// `name : T`, an output of the older header.
+    OlderOutput,
+}
+
+/// `(PORTS)`, or `(INPUTS) [-> (OUTPUTS)]` of the older header, whose inputs begin with their values.
 ///
-/// Refuses the first token that no list of ports has there; a list that begins with a value is that of an older form.
+/// Refuses the first token that no list of ports has there; the two kinds of ports are not mixed.
 #[tactic(auto, unfolding(crate::specs::ModuleText::ports_text, mlir_syntax::specs::Reads::items_until))]
 pub fn ports_text<'s>(reader: &mut Reader<'s>) -> Result<Vec<PortText<'s>>, ReadFail>
     ensures gives { ReadsAs (λ ports. map port_text_of ports.items) result reader.new (ports_text reader.old) }
@@ -54,24 +66,61 @@ pub fn ports_text<'s>(reader: &mut Reader<'s>) -> Result<Vec<PortText<'s>>, Read
 {
     reader.want(HEADER, TokenKind::LeftParenthesis)?;
     if reader.is_next(TokenKind::ValueName) {
-        return Err(ReadFail::Refused(reader.refusal_for(Cause::OutsideProfile, HEADER)));
+        return older_ports(reader);
     }
+    if reader.is_next(TokenKind::RightParenthesis) {
+        return older_ports(reader);
+    }
+    ports_until(reader, PortForm::Directed)
+}
+
+// `INPUTS) [-> (OUTPUTS)]`, the ports of the older header after their parenthesis.
+#[tactic(auto, unfolding(crate::specs::ModuleText::older_ports))]
+fn older_ports<'s>(reader: &mut Reader<'s>) -> Result<Vec<PortText<'s>>, ReadFail>
+    ensures gives { ReadsAs (λ ports. map port_text_of ports.items) result reader.new (older_ports reader.old) }
+    ensures shorter { OnOk result (length reader.new ≤ length reader.old) }
+{
+    let mut ports = ports_until(reader, PortForm::OlderInput)?;
+    let mut outputs = older_outputs(reader)?;
+    ports.append(&mut outputs)?;
+    Ok(ports)
+}
+
+// `-> (OUTPUTS)`, or nothing.
+#[tactic(auto, unfolding(crate::specs::ModuleText::older_outputs))]
+fn older_outputs<'s>(reader: &mut Reader<'s>) -> Result<Vec<PortText<'s>>, ReadFail>
+    ensures gives { ReadsAs (λ ports. map port_text_of ports.items) result reader.new (older_outputs reader.old) }
+    ensures shorter { OnOk result (length reader.new ≤ length reader.old) }
+{
+    if !reader.pass(TokenKind::Arrow) {
+        return Ok(Vec::new(reader.alloc()));
+    }
+    reader.want(HEADER, TokenKind::LeftParenthesis)?;
+    ports_until(reader, PortForm::OlderOutput)
+}
+
+// Ports of a form up to the closing parenthesis.
+#[tactic(auto, unfolding(mlir_syntax::specs::Reads::items_until))]
+fn ports_until<'s>(reader: &mut Reader<'s>, form: PortForm) -> Result<Vec<PortText<'s>>, ReadFail>
+    ensures gives { ReadsAs (λ ports. map port_text_of ports.items) result reader.new (items_until header kind.RightParenthesis (port_in form) reader.old) }
+    ensures shorter { OnOk result (length reader.new ≤ length reader.old) }
+{
     if reader.pass(TokenKind::RightParenthesis) {
         return Ok(Vec::new(reader.alloc()));
     }
-    let ports = some_ports(reader)?;
+    let ports = some_ports(reader, form)?;
     reader.want(HEADER, TokenKind::RightParenthesis)?;
     Ok(ports)
 }
 
 // One port or more.
-fn some_ports<'s>(reader: &mut Reader<'s>) -> Result<Vec<PortText<'s>>, ReadFail>
-    ensures gives { ReadsAs (λ ports. map port_text_of ports.items) result reader.new (some_items header port_text reader.old) }
+fn some_ports<'s>(reader: &mut Reader<'s>, form: PortForm) -> Result<Vec<PortText<'s>>, ReadFail>
+    ensures gives { ReadsAs (λ ports. map port_text_of ports.items) result reader.new (some_items header (port_in form) reader.old) }
     ensures shorter { OnOk result (length reader.new ≤ length reader.old) }
 {
     let mut ports = Vec::new(reader.alloc());
     loop {
-        match port_text(reader) {
+        match port_in(reader, form) {
             Ok(port) => ports.push(port)?,
             Err(fail) => return Err(fail),
         }
@@ -81,7 +130,34 @@ fn some_ports<'s>(reader: &mut Reader<'s>) -> Result<Vec<PortText<'s>>, ReadFail
     }
 }
 
-// A port.
+// A port of a form.
+fn port_in<'s>(reader: &mut Reader<'s>, form: PortForm) -> Result<PortText<'s>, ReadFail>
+    ensures gives { ReadsAs port_text_of result reader.new (port_in form reader.old) }
+    ensures shorter { OnOk result (length reader.new ≤ length reader.old) }
+{
+    match form {
+        PortForm::Directed => port_text(reader),
+        PortForm::OlderInput => older_input(reader),
+        PortForm::OlderOutput => output_port(reader),
+    }
+}
+
+// `%v : T`, an input of the older header.
+#[tactic(auto, unfolding(crate::specs::ModuleText::older_input))]
+fn older_input<'s>(reader: &mut Reader<'s>) -> Result<PortText<'s>, ReadFail>
+    ensures gives { ReadsAs port_text_of result reader.new (older_input reader.old) }
+    ensures shorter { OnOk result (length reader.new ≤ length reader.old) }
+{
+    let value = value_name(reader, HEADER)?;
+    let ty = port_type(reader)?;
+    Ok(PortText {
+        value: Some(value),
+        name: Text::of(reader.alloc(), value)?,
+        ty,
+    })
+}
+
+// A port with its direction.
 #[tactic(auto, unfolding(crate::specs::ModuleText::port_text))]
 fn port_text<'s>(reader: &mut Reader<'s>) -> Result<PortText<'s>, ReadFail>
     ensures gives { ReadsAs port_text_of result reader.new (port_text reader.old) }

@@ -1,6 +1,7 @@
 -- What the tokens of modules and of a file say is read of them.
-use Rattle.std.proofs.Common.{◌≡◌, ◌⊎◌, ℕ, zero, suc, ◌<◌, ◌≤◌, Bool, true, false, cond, List, [], ◌∷◌, ◌++◌, length, map, Some, None, Ok, refl, sym, ◌∙◌, ap, inl, inr, arith}
+use Rattle.std.proofs.Common.{◌≡◌, ◌⊎◌, ℕ, zero, suc, ◌<◌, ◌≤◌, Bool, true, false, cond, List, [], ◌∷◌, ◌++◌, length, map, Some, None, Ok, refl, sym, ◌∙◌, ap, ap₂, inl, inr, arith}
 use Rattle.std.specs.Prelude.{codes}
+use Rattle.std.proofs.lemmas.List.{append-nil}
 use Rattle.diag.specs.Place.{place_of}
 use Rattle.diag.specs.declared.refusal.Place.{Place}
 use Rattle.diag.specs.declared.refusal.OpName.{OpName}
@@ -14,14 +15,15 @@ use Rattle.mlir_lexer.specs.declared.token.TokenKind.{TokenKind}
 use Rattle.mlir_lexer.specs.declared.token.TokenKind.TheVariants as kind
 use Rattle.mlir_syntax.specs.Stream.{Symbol, token, end, stream, stream_of, is_first, is_next, is_word, after, is_end}
 use Rattle.mlir_lexer.specs.TokenKinds.{is_kind}
+use Rattle.mlir_syntax.specs.Reads.{want}
 use Rattle.mlir_syntax.specs.TypeText.{most_open}
 use Rattle.mlir_syntax.specs.AttributeText.{dictionary_text, is_symbol}
 use Rattle.mlir_operations.specs.OperationText.{module_name, class_of}
-use Rattle.mlir_operations.specs.ModuleText.{header, PortText, port_name, port_type, input_port, output_port, port_text, ports_text, ModuleText, module_keys, attributes_text, private_text, body_text, module_behind, classed_module, module_text, modules_text, file_symbol, want_end, wrapped_text, is_file_name, file_text}
+use Rattle.mlir_operations.specs.ModuleText.{header, PortText, port_name, port_type, input_port, output_port, port_text, older_input, older_outputs, older_ports, ports_text, ModuleText, module_keys, attributes_text, private_text, body_text, module_behind, classed_module, module_text, modules_text, file_symbol, want_end, wrapped_text, is_file_name, file_text}
 use Rattle.mlir_syntax.specs.Spelling.{Phrase, One, Mark, Word, Holding, Then, Either, Where, Nothing, Commas, Between, NamePhrase, SymbolPhrase, TypePhrase, DictionaryPhrase}
-use Rattle.mlir_operations.specs.Spelling.{ValueName, OperationsPhrase, PortPhrase, AttributesPhrase, PrivatePhrase, ModulePhrase, ModulesPhrase, FileWord, WrappedPhrase, FilePhrase, IsPlaceOf, token_of}
-use Rattle.mlir_syntax.proofs.Again.{At, at_then, at_one, at_where, at_nothing, at_as, at_either, on_ok, if_true, if_false, Leads, leads_one, leads_then, leads_where, leads_either, starts, starts_test, shorter, Again, Any}
-use Rattle.mlir_syntax.proofs.AgainTokens.{is_kind_of, unlike, is_word_of, no_word, other_word, want_at, mark_at, holding_at, next_at, no_next, again_name, again_symbol, leads_holding, leads_symbol, leads_commas, until_at, no_mark}
+use Rattle.mlir_operations.specs.Spelling.{ValueName, OperationsPhrase, PortPhrase, OlderInputPhrase, OlderOutputPhrase, OlderOutputsPhrase, OlderPortsPhrase, PortsPhrase, AttributesPhrase, PrivatePhrase, ModulePhrase, ModulesPhrase, FileWord, WrappedPhrase, FilePhrase, IsPlaceOf, token_of}
+use Rattle.mlir_syntax.proofs.Again.{At, at_then, at_one, at_where, at_nothing, at_as, by_either, at_either, on_ok, if_true, if_false, Leads, leads_one, leads_then, leads_where, leads_either, starts, starts_test, shorter, Again, Any}
+use Rattle.mlir_syntax.proofs.AgainTokens.{is_kind_of, unlike, is_word_of, no_word, other_word, want_at, mark_at, holding_at, next_at, no_next, again_name, again_symbol, leads_holding, leads_symbol, leads_commas, until_at, no_mark, name_unlike}
 use Rattle.mlir_syntax.proofs.AgainTypes.{again_any_type}
 use Rattle.mlir_syntax.proofs.AgainAttributes.{again_dictionary}
 use Rattle.mlir_operations.proofs.AgainOperands.{again_value_name}
@@ -105,14 +107,91 @@ no_value (p ∷ ps) a =
     let (m, b, c) = at_then a in
     no_next kind.ValueName (leads_commas PortPhrase p ps (leads_port p (unlike kind.ValueName kind.BareName refl))) b
 
-ports_at : (ports : List PortText) {s left : List Symbol} → At (Between kind.LeftParenthesis kind.RightParenthesis (Commas PortPhrase ports)) s left
+older_input_at : (p : PortText) {s left : List Symbol} → At (OlderInputPhrase p) s left → older_input s ≡ Ok (p, left)
+unfolding older_input
+older_input_at p {s} {left} a =
+    let (v, same, called, q) = a.says in
+    let inside : At (Then (ValueName v) (Then (Mark kind.Colon) (TypePhrase most_open p.type))) s left = record { passed = a.passed; same = a.same; says = q } in
+    let (m, b, c) = at_then inside in
+    on_ok _ ((again_value_name header).gives v s m b tt)
+    (on_ok _ (port_type_at p.type c) (ap₂ (λ o n. Ok (record { value = o; name = n; type = p.type }, left)) (sym same) (sym called)))
+
+again_older_input : Again Any older_input OlderInputPhrase
+again_older_input = record { gives = λ p s left a _. older_input_at p a }
+
+again_output : Again Any output_port OlderOutputPhrase
+again_output = record { gives = λ p s left a _. let (same, q) = at_where a in output_at p same q }
+
+leads_older : {T : Lexeme → Type 0} (p : PortText) → ((t : Lexeme) → t.kind ≡ kind.ValueName → T t) → Leads T (OlderInputPhrase p)
+leads_older p to = record { lead = λ ts q. (leads_then {P = ValueName q.0} (leads_holding to)).lead ts q.3 }
+
+older_outputs_at : (outputs : List PortText) {s left : List Symbol} → is_next kind.Arrow left ≡ false
+    → At (Then (Mark kind.Arrow) (Between kind.LeftParenthesis kind.RightParenthesis (Commas OlderOutputPhrase outputs))) s left ⊎ At (Where (outputs ≡ []) Nothing) s left
+    → older_outputs s ≡ Ok (outputs, left)
+unfolding older_outputs
+older_outputs_at outputs {s} {left} clear (inl a) =
+    let (m, b, c) = at_then a in
+    let (next, behind) = next_at b in
+    let (k, d, e) = at_then c in
+    let (t, opens) = mark_at header d in
+    if_true _ next (on_ok _ (ap (want header kind.LeftParenthesis) behind ∙ opens)
+    (until_at header kind.RightParenthesis again_output (λ p. leads_where (leads_then (name_unlike kind.RightParenthesis refl refl))) (λ _ _ _. tt) (λ _ _ _. tt) refl outputs e))
+older_outputs_at outputs {s} {left} clear (inr a) =
+    let (same, p) = at_where a in
+    let nothing = at_nothing p in
+    if_false _ (ap (is_next kind.Arrow) nothing ∙ clear) (ap (λ y. Ok ([], y)) nothing ∙ ap (λ x. Ok (x, left)) (sym same))
+
+-- what stands after the parenthesis of an older header
+abbrev OlderInputs : List PortText → Phrase
+OlderInputs inputs = Then (Commas OlderInputPhrase inputs) (Mark kind.RightParenthesis)
+
+older_ports_at : (inputs outputs : List PortText) {s m left : List Symbol} → is_next kind.Arrow left ≡ false → At (OlderInputs inputs) s m
+    → At (OlderOutputsPhrase outputs) m left → older_ports s ≡ Ok (inputs ++ outputs, left)
+unfolding older_ports
+older_ports_at inputs outputs clear a b =
+    on_ok _ (until_at header kind.RightParenthesis again_older_input (λ p. leads_older p (unlike kind.RightParenthesis kind.ValueName refl)) (λ _ _ _. tt) (λ _ _ _. tt) refl inputs a)
+    (on_ok _ (older_outputs_at outputs clear (at_either b)) refl)
+
+-- an older header is told by its first token
+older_told : {A : Type 0} (inputs : List PortText) {s left : List Symbol} (x y : A) → At (OlderInputs inputs) s left
+    → cond (is_next kind.ValueName s) x (cond (is_next kind.RightParenthesis s) x y) ≡ x
+older_told [] x y a =
+    let (m, b, c) = at_then a in
+    let same = at_nothing b in
+    let (next, behind) = next_at c in
+    if_false _ (ap (is_next kind.ValueName) same ∙ no_mark kind.ValueName refl c) (if_true _ (ap (is_next kind.RightParenthesis) same ∙ next) refl)
+older_told (p ∷ ps) x y a =
+    let (m, b, c) = at_then a in
+    if_true _ (starts_test (λ t. is_kind t.kind kind.ValueName) true (λ t k. is_kind_of k) (starts (leads_commas OlderInputPhrase p ps (leads_older p (λ t k. k))) b)) refl
+
+older_at : (ports : List PortText) {s left : List Symbol} → is_next kind.Arrow left ≡ false → At (OlderPortsPhrase ports) s left → ports_text s ≡ Ok (ports, left)
+unfolding ports_text
+older_at ports {s} {left} clear a =
+    let (inputs, outputs, all, q) = a.says in
+    let inside : At (Then (Between kind.LeftParenthesis kind.RightParenthesis (Commas OlderInputPhrase inputs)) (OlderOutputsPhrase outputs)) s left =
+    record { passed = a.passed; same = a.same; says = q } in
+    let (m, b, c) = at_then inside in
+    let (k, d, e) = at_then b in
+    let (t, opens) = mark_at header d in
+    on_ok _ opens (older_told inputs (older_ports k) _ e ∙ older_ports_at inputs outputs clear e c ∙ ap (λ x. Ok (x, left)) (sym all))
+
+-- no ports are an older header's too
+none_older : (ts : List Lexeme) → Between kind.LeftParenthesis kind.RightParenthesis (Commas PortPhrase []) ts → OlderPortsPhrase [] ts
+none_older ts h = ([], [], refl, (ts, [], sym (append-nil ts), h, inr (refl, refl)))
+
+ports_at : (ports : List PortText) {s left : List Symbol} → is_next kind.Arrow left ≡ false
+    → At (Between kind.LeftParenthesis kind.RightParenthesis (Commas PortPhrase ports)) s left ⊎ At (OlderPortsPhrase ports) s left
     → ports_text s ≡ Ok (ports, left)
 unfolding ports_text
-ports_at ports a =
+ports_at ports clear (inr a) = older_at ports clear a
+ports_at [] clear (inl a) = older_at [] clear (at_as none_older a)
+ports_at (p ∷ ps) clear (inl a) =
     let (m, b, c) = at_then a in
     let (t, e) = mark_at header b in
-    on_ok _ e (if_false _ (no_value ports c)
-    (until_at header kind.RightParenthesis again_port (λ p. leads_port p (unlike kind.RightParenthesis kind.BareName refl)) (λ _ _ _. tt) (λ _ _ _. tt) refl ports c))
+    let (n, d, _) = at_then c in
+    on_ok _ e (if_false _ (no_value (p ∷ ps) c)
+    (if_false _ (no_next kind.RightParenthesis (leads_commas PortPhrase p ps (leads_port p (unlike kind.RightParenthesis kind.BareName refl))) d)
+    (until_at header kind.RightParenthesis again_port (λ q. leads_port q (unlike kind.RightParenthesis kind.BareName refl)) (λ _ _ _. tt) (λ _ _ _. tt) refl (p ∷ ps) c)))
 
 -- ---- modules
 
@@ -159,18 +238,31 @@ body_text_at m {s} {left} a =
     (on_ok _ et (on_ok _ (body_at m.operations close x)
     (on_ok _ eu (ap (λ z. Ok (record { dictionary = m.dictionary; operations = m.operations; close = z }, left)) p.1))))
 
+-- a list of ports begins with a parenthesis
+leads_ports : {T : Lexeme → Type 0} (ports : List PortText) → ((t : Lexeme) → t.kind ≡ kind.LeftParenthesis → T t) → Leads T (PortsPhrase ports)
+leads_ports ports to =
+    leads_either (leads_then (leads_one to)) (record { lead = λ ts q. (leads_then {P = Between kind.LeftParenthesis kind.RightParenthesis (Commas OlderInputPhrase q.0)} (leads_then (leads_one to))).lead ts q.3 })
+
+-- what is after a module's ports does not begin with an arrow
+body_no_arrow : (m : ModuleText) {s left : List Symbol} → At (BodyPhrase m) s left → is_next kind.Arrow s ≡ false
+body_no_arrow m {s} {left} a =
+    let (i, b, c) = at_then a in
+    let (j, d, e) = at_then c in
+    by_either (λ (x : At (Then (Word (codes "attributes")) (DictionaryPhrase module_keys m.dictionary)) s i). no_next kind.Arrow (leads_then (leads_one (λ t w. unlike kind.Arrow kind.BareName refl t w.0))) x)
+    (λ (x : At (Where (m.dictionary ≡ []) Nothing) s i). let (same, p) = at_where x in ap (is_next kind.Arrow) (at_nothing p) ∙ no_mark kind.Arrow refl d)
+    (at_either b)
+
 module_behind_at : (m : ModuleText) {s left : List Symbol}
-    → At (Then (PrivatePhrase m.is_private) (Then (SymbolPhrase m.symbol) (Then (Between kind.LeftParenthesis kind.RightParenthesis (Commas PortPhrase m.ports)) (BodyPhrase m)))) s left
+    → At (Then (PrivatePhrase m.is_private) (Then (SymbolPhrase m.symbol) (Then (PortsPhrase m.ports) (BodyPhrase m)))) s left
     → module_behind m.place s ≡ Ok (m, left)
 unfolding module_behind
 module_behind_at m {s} {left} a =
     let (i, b, c) = at_then a in
     let (j, d, e) = at_then c in
     let (k, x, y) = at_then e in
-    let (l, f, g) = at_then x in
     on_ok _ (private_at m.is_private (symbol_first (codes "private") m.symbol d) b)
-    (on_ok _ (module_symbol_at header m.symbol (no_mark kind.Less refl f) d)
-    (on_ok _ (ports_at m.ports x) (on_ok _ (body_text_at m y) refl)))
+    (on_ok _ (module_symbol_at header m.symbol (no_next kind.Less (leads_ports m.ports (unlike kind.Less kind.LeftParenthesis refl)) x) d)
+    (on_ok _ (ports_at m.ports (body_no_arrow m y) (at_either x)) (on_ok _ (body_text_at m y) refl)))
 
 module_class : class_of (name_of_listed listed.HwModule) ≡ module_name
 unfolding name_of_listed

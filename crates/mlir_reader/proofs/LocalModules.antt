@@ -29,7 +29,7 @@ use Rattle.mlir_operations.specs.ElementText.{Gathered, gathered_nothing, with_o
 use Rattle.mlir_syntax.specs.WordText.{predicate_named, bare_text, as_known, predicate_text, truth_named, truth_text, string_text, inner_symbol, module_symbol}
 use Rattle.mlir_operations.specs.ElementText.InherentAttributes.{with_reset, predicate, position, number, literals, field_name}
 use Rattle.mlir_operations.specs.OperationText.{NameClass, operation, module_name, file_name, locations, outside, unknown, class_of, misplaced_refusal, is_outside, no_operation, takes_bin, bin_text, string_keys, OperationText, given_entries, late_dictionary, form_text, named_operation, classed_operation, operation_behind, operation_text, is_last, operations_text}
-use Rattle.mlir_operations.specs.ModuleText.{header, port_name, port_type, input_port, output_port, port_text, ports_text, ModuleText, module_keys, attributes_text, private_text, body_text, module_behind, classed_module, module_text, modules_text, file_symbol, want_end, wrapped_text, is_file_name, file_text}
+use Rattle.mlir_operations.specs.ModuleText.{header, port_name, port_type, input_port, output_port, port_text, older_input, older_outputs, older_ports, ports_text, ModuleText, module_keys, attributes_text, private_text, body_text, module_behind, classed_module, module_text, modules_text, file_symbol, want_end, wrapped_text, is_file_name, file_text}
 use Rattle.mlir_reader.specs.Reading.{text_limit, design_read, read}
 use Rattle.mlir_reader.specs.Locality.{symbol_place, IsOfItsSymbol}
 use Rattle.assembly_format.specs.declared.elements.FormatElement.{FormatElement}
@@ -285,21 +285,42 @@ local_port_type : Local port_type
 unfolding port_type any_type
 local_port_type c n = loc_on (local_want header kind.Colon c n) (λ _. local_type most_open header c n)
 
+local_output_port : Local output_port
+unfolding output_port
+local_output_port c n =
+    loc_on (local_name header c n) (λ x. loc_on (local_port_type c n) (λ t. loc_give {y = record { value = None; name = x; type = t }}))
+
 local_port : Local port_text
-unfolding port_text input_port output_port
+unfolding port_text input_port
 local_port c n =
     loc_next (is_word (codes "in"))
     (loc_after (loc_on (local_value_name header c n) (λ v. loc_on (local_port_name v c n) (λ x. loc_on (local_port_type c n) (λ t.
     loc_give {y = record { value = Some v; name = x; type = t }})))))
     (loc_next (is_word (codes "out"))
-    (loc_after (loc_on (local_name header c n) (λ x. loc_on (local_port_type c n) (λ t. loc_give {y = record { value = None; name = x; type = t }}))))
-    (loc_unexpected header))
+    (loc_after (local_output_port c n)) (loc_unexpected header))
+
+local_older_input : Local older_input
+unfolding older_input
+local_older_input c n =
+    loc_on (local_value_name header c n) (λ v. loc_on (local_port_type c n) (λ t. loc_give {y = record { value = Some v; name = v; type = t }}))
+
+local_older_outputs : Local older_outputs
+unfolding older_outputs
+local_older_outputs c n =
+    loc_next (λ t. is_kind t.kind kind.Arrow)
+    (loc_after (loc_on (local_want header kind.LeftParenthesis c n) (λ _. local_until header kind.RightParenthesis local_output_port c n))) (loc_give {y = []})
+
+local_older_ports : Local older_ports
+unfolding older_ports
+local_older_ports c n =
+    loc_on (local_until header kind.RightParenthesis local_older_input c n) (λ inputs. loc_on (local_older_outputs c n) (λ outputs.
+    loc_give {y = inputs ++ outputs}))
 
 local_ports : Local ports_text
 unfolding ports_text
 local_ports c n =
-    loc_on (local_want header kind.LeftParenthesis c n) (λ _. loc_next (λ t. is_kind t.kind kind.ValueName) (loc_refused OutsideProfile header)
-    (local_until header kind.RightParenthesis local_port c n))
+    loc_on (local_want header kind.LeftParenthesis c n) (λ _. loc_next (λ t. is_kind t.kind kind.ValueName) (local_older_ports c n)
+    (loc_next (λ t. is_kind t.kind kind.RightParenthesis) (local_older_ports c n) (local_until header kind.RightParenthesis local_port c n)))
 
 -- ---- modules
 

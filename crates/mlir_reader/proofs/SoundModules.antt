@@ -2,7 +2,7 @@
 use Rattle.std.proofs.Common.{◌≡◌, ◌⊎◌, ℕ, zero, suc, Bool, true, false, cond, List, [], ◌∷◌, ◌++◌, length, map, Option, Some, None, Result, Ok, Err, refl, sym, ◌∙◌, ap, ap₂, subst, inl, inr}
 use Rattle.std.specs.Prelude.{codes}
 use Rattle.std.proofs.lemmas.Bool.{cond_both}
-use Rattle.std.proofs.lemmas.List.{append-nil}
+use Rattle.std.proofs.lemmas.List.{append_assoc, append-nil}
 use Rattle.diag.specs.declared.refusal.Place.{Place}
 use Rattle.diag.specs.declared.refusal.Refusal.{Refusal}
 use Rattle.diag.specs.declared.refusal.OpName.{OpName}
@@ -16,17 +16,17 @@ use Rattle.mlir_lexer.specs.Tokens.{Lexeme, tokens}
 use Rattle.mlir_lexer.specs.declared.token.TokenKind.TheVariants as kind
 use Rattle.mlir_syntax.specs.Stream.{Symbol, token, bad, end, stream, stream_of, is_first, is_next, is_word, after, unexpected_refusal, is_end}
 use Rattle.mlir_lexer.specs.TokenKinds.{is_kind}
-use Rattle.mlir_syntax.specs.Reads.{Read, Reads, on, give, want}
+use Rattle.mlir_syntax.specs.Reads.{Read, Reads, on, give, want, items_until}
 use Rattle.mlir_syntax.specs.TypeText.{any_type, most_open}
 use Rattle.mlir_syntax.specs.AttributeText.{dictionary_text, is_symbol}
 use Rattle.mlir_operations.specs.OperationText.{NameClass, operation, module_name, file_name, locations, outside, unknown, class_of}
-use Rattle.mlir_operations.specs.ModuleText.{header, PortText, port_name, port_type, input_port, output_port, port_text, ports_text, ModuleText, module_keys, attributes_text, private_text, BodyText, body_text, module_behind, classed_module, module_text, modules_text, file_symbol, want_end, wrapped_text, is_file_name, file_text}
+use Rattle.mlir_operations.specs.ModuleText.{header, PortText, port_name, port_type, input_port, output_port, port_text, older_input, older_outputs, older_ports, ports_text, ModuleText, module_keys, attributes_text, private_text, BodyText, body_text, module_behind, classed_module, module_text, modules_text, file_symbol, want_end, wrapped_text, is_file_name, file_text}
 use Rattle.mlir_reader.specs.Reading.{text_limit, design_read, read}
 use Rattle.mlir_syntax.specs.Spelling.{Phrase, One, Mark, Holding, Then, Either, Where, Nothing, Commas, Between, NamePhrase, SymbolPhrase, TypePhrase}
-use Rattle.mlir_operations.specs.Spelling.{ValueName, PortPhrase, AttributesPhrase, PrivatePhrase, OperationsPhrase, ModulePhrase, ModulesPhrase, FileWord, FilePhrase, token_of, IsPlaceOf}
+use Rattle.mlir_operations.specs.Spelling.{ValueName, PortPhrase, OlderInputPhrase, OlderOutputPhrase, OlderOutputsPhrase, PortsPhrase, AttributesPhrase, PrivatePhrase, OperationsPhrase, ModulePhrase, ModulesPhrase, FileWord, FilePhrase, token_of, IsPlaceOf}
 use Rattle.mlir_reader.specs.Spelling.{Spells}
 use Rattle.mlir_syntax.proofs.Sound.{Said, Sound, Past, ok_of, same_ok, one_more, sound_on, sound_last, sound_as, sound_give, sound_refused, sound_if, sound_past}
-use Rattle.mlir_syntax.proofs.SoundTokens.{pair, mark, kind_is, kept_ok, said_word, sound_want, sound_name, sound_symbol, sound_until}
+use Rattle.mlir_syntax.proofs.SoundTokens.{pair, mark, kind_is, kept_ok, said_word, said_mark, sound_want, sound_name, sound_symbol, sound_until}
 use Rattle.mlir_syntax.proofs.SoundTypes.{sound_type}
 use Rattle.mlir_syntax.proofs.SoundAttributes.{sound_dictionary}
 use Rattle.mlir_operations.proofs.SoundOperands.{sound_value_name}
@@ -50,13 +50,10 @@ sound_port_type : Sound port_type (λ t. Then (Mark kind.Colon) (TypePhrase most
 unfolding port_type any_type
 sound_port_type = sound_on (sound_want header kind.Colon) (λ _. sound_as (sound_type most_open header) (λ t b pb a pa. pair a b (mark pa) pb))
 
--- what stands after `in` and after `out`
+-- what stands after `in`
 abbrev InputPort : PortText → Phrase
 InputPort p ts =
     (v : Name) × (p.value ≡ Some v) × Then (ValueName v) (Then (PortName v p.name) (Then (Mark kind.Colon) (TypePhrase most_open p.type))) ts
-
-abbrev OutputPort : PortText → Phrase
-OutputPort p = Where (p.value ≡ None) (Then (NamePhrase p.name) (Then (Mark kind.Colon) (TypePhrase most_open p.type)))
 
 sound_input_port : Sound input_port InputPort
 unfolding input_port
@@ -64,7 +61,7 @@ sound_input_port =
     sound_on (sound_value_name header) (λ v. sound_on (sound_port_name v) (λ n. sound_last (λ t. record { value = Some v; name = n; type = t }) sound_port_type
     (λ t c pc b pb a pa. (v, refl, pair a (b ++ c) pa (pair b c pb pc)))))
 
-sound_output_port : Sound output_port OutputPort
+sound_output_port : Sound output_port OlderOutputPhrase
 unfolding output_port
 sound_output_port =
     sound_on (sound_name header) (λ n. sound_last (λ t. record { value = None; name = n; type = t }) sound_port_type (λ t b pb a pa. (refl, pair a b pa pb)))
@@ -75,11 +72,45 @@ sound_port =
     sound_past {r = input_port} (λ t h. sound_as sound_input_port (λ p a q. inl (q.0, q.1, pair (t ∷ []) a (said_word h) q.2)))
     (sound_past {r = output_port} (λ t h. sound_as sound_output_port (λ p a q. inr (q.0, pair (t ∷ []) a (said_word h) q.1))) sound_refused)
 
-sound_ports : Sound ports_text (λ ps. Between kind.LeftParenthesis kind.RightParenthesis (Commas PortPhrase ps))
+sound_older_input : Sound older_input OlderInputPhrase
+unfolding older_input
+sound_older_input =
+    sound_on (sound_value_name header) (λ v. sound_last (λ t. record { value = Some v; name = v; type = t }) sound_port_type
+    (λ t b pb a pa. (v, refl, refl, pair a b pa pb)))
+
+sound_older_outputs : Sound older_outputs OlderOutputsPhrase
+unfolding older_outputs
+sound_older_outputs =
+    sound_past {r = λ s. on (want header kind.LeftParenthesis s) (λ _ s1. items_until header kind.RightParenthesis output_port s1)} (λ t h.
+    sound_on (sound_want header kind.LeftParenthesis) (λ _. sound_as (sound_until header kind.RightParenthesis sound_output_port) (λ ps b pb a pa.
+    inl (pair (t ∷ []) (a ++ b) (said_mark h) (pair a b (mark pa) pb)))))
+    (sound_give {y = []} (inr (refl, refl)))
+
+-- what stands after the parenthesis of an older header
+abbrev OlderRest : List PortText → Phrase
+OlderRest ps ts =
+    (inputs outputs : List PortText) × (ps ≡ inputs ++ outputs)
+    × Then (Then (Commas OlderInputPhrase inputs) (Mark kind.RightParenthesis)) (OlderOutputsPhrase outputs) ts
+
+sound_older_ports : Sound older_ports OlderRest
+unfolding older_ports
+sound_older_ports =
+    sound_on (sound_until header kind.RightParenthesis sound_older_input) (λ inputs. sound_last (λ outputs. inputs ++ outputs) sound_older_outputs
+    (λ outputs b pb a pa. (inputs, outputs, refl, pair a b pa pb)))
+
+-- with the parenthesis before it
+opened : (ps : List PortText) (a b : List Lexeme) → Mark kind.LeftParenthesis a → OlderRest ps b → PortsPhrase ps (a ++ b)
+opened ps a b left rest =
+    let parts = rest.3 in
+    inr (rest.0, rest.1, rest.2, (a ++ parts.0, parts.1, ap (λ x. a ++ x) parts.2 ∙ sym (append_assoc a parts.0 parts.1), pair a parts.0 left parts.3, parts.4))
+
+sound_ports : Sound ports_text PortsPhrase
 unfolding ports_text
 sound_ports =
-    sound_on (sound_want header kind.LeftParenthesis) (λ _. sound_if (is_next kind.ValueName) sound_refused
-    (sound_as (sound_until header kind.RightParenthesis sound_port) (λ ps b pb a pa. pair a b (mark pa) pb)))
+    sound_on (sound_want header kind.LeftParenthesis) (λ _.
+    sound_if (is_next kind.ValueName) (sound_as sound_older_ports (λ ps b pb a pa. opened ps a b (mark pa) pb))
+    (sound_if (is_next kind.RightParenthesis) (sound_as sound_older_ports (λ ps b pb a pa. opened ps a b (mark pa) pb))
+    (sound_as (sound_until header kind.RightParenthesis sound_port) (λ ps b pb a pa. inl (pair a b (mark pa) pb)))))
 
 -- ---- modules
 

@@ -52,7 +52,7 @@ hw.module @T() {
   hw.output {a,}
 }
 // -----
-hw.module @T() -> () {}
+hw.module @T(in %a : i8) -> () {}
 // -----
 hw.module @T(in %a : i8, out o : i8) {
   %x:4294967296 = comb.add %a, %a : i8

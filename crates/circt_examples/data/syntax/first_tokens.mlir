@@ -230,13 +230,25 @@ module {
 // -----
 hw.module @M<x>() {}
 // -----
-hw.module @M(%a: i8) {}
+hw.module @M(%a "x": i8) {}
 // -----
 hw.module @M(inout %a : i8) {}
 // -----
 hw.module @M(in %a : i8,) {}
 // -----
-hw.module @M() -> () {}
+hw.module @M(in %a : i8) -> () {}
+// -----
+hw.module @M(in %a : i8, %b: i8) {}
+// -----
+hw.module @M(%a: i8, out b : i8) {}
+// -----
+hw.module @M(%a: i8) -> (%b: i8) {}
+// -----
+hw.module @M(%a: i8) -> b: i8 {}
+// -----
+hw.module @M(%a: i8,) {}
+// -----
+hw.module @M(%a: i8) -> (b: i8) -> () {}
 // -----
 hw.module @M::@N() {}
 // -----

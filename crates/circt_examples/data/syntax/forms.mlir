@@ -51,7 +51,7 @@ hw.module @T() {
   hw.instance "u" @N<p: i8 = 1>() -> ()
 }
 // -----
-hw.module @T(%a: i8) {}
+hw.module @O(%a: i8, in %b : i8) {}
 // -----
 hw.module @T(in %a : f32) {}
 // -----

@@ -13,7 +13,7 @@ use Rattle.mlir_lexer.specs.declared.token.TokenKind.TheVariants as kind
 use Rattle.mlir_syntax.specs.TypeText.{most_open}
 use Rattle.mlir_operations.specs.ModuleText.{module_keys}
 use Rattle.mlir_syntax.specs.Spelling.{One, Mark, Holding, Either, Where, Nothing, Commas, Between}
-use Rattle.mlir_operations.specs.Spelling.{PortPhrase, AttributesPhrase, PrivatePhrase, ModulePhrase, ModulesPhrase, FileWord, FilePhrase, token_of}
+use Rattle.mlir_operations.specs.Spelling.{PortPhrase, PortsPhrase, AttributesPhrase, PrivatePhrase, ModulePhrase, ModulesPhrase, FileWord, FilePhrase, token_of}
 use Rattle.mlir_printer.specs.Strings.{symbol_bytes, string_bytes}
 use Rattle.mlir_printer.specs.Commas.{commas}
 use Rattle.mlir_printer.specs.Attributes.{dictionary_bytes}
@@ -104,7 +104,8 @@ module_whole : (m : ModuleText) → IsSpellable m → Whole (ModulePhrase Anywhe
 unfolding module_bytes header_bytes
 module_whole m h =
     let body = then_whole open_line (then_whole (operations_whole m.operations h.operations) close_line) in
-    let ports = between 41 [] left_parenthesis (ports_lexed m.ports h.ports) right_parenthesis refl in
+    let ports : Whole (PortsPhrase (map said_port m.ports)) (codes "(" ++ (commas port_bytes m.ports ++ codes ")")) =
+    whole_as (λ ts w. inl w) (between 41 [] left_parenthesis (ports_lexed m.ports h.ports) right_parenthesis refl) in
     let attributes = closed 32 _ (attributes_lexed m.dictionary h.dictionary) body refl in
     let symbol = closed 40 _ (symbol_lexed m.symbol h.symbol) (then_whole ports attributes) refl in
     let all = then_whole module_word (then_whole (private_whole m.is_private) symbol) in

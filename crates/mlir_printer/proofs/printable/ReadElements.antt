@@ -32,7 +32,7 @@ pub record IsReadPart (g : Gathered) : Type 0 where
   pub types : Each IsAnyType g.types
   pub inherent : IsReadInherentAttributes g.inherent
 
-each_append : {A : Type 0} (P : A → Type 0) (xs ys : List A) → Each P xs → Each P ys → Each P (xs ++ ys)
+pub each_append : {A : Type 0} (P : A → Type 0) (xs ys : List A) → Each P xs → Each P ys → Each P (xs ++ ys)
 each_append P [] ys h g = g
 each_append P (x ∷ xs) ys h g = (h.0, each_append P xs ys h.1 g)
 

@@ -13,6 +13,7 @@ use Rattle.hw_model.specs.Kinds.Kind.{on_struct, instance, output}
 use Rattle.hw_model.specs.Design.{Entry, Port, Op, Module, Design}
 use Rattle.ir_store.specs.ResultTypes.{result_types}
 use Rattle.mlir_lexer.specs.Tokens.{Lexeme}
+use Rattle.mlir_lexer.specs.declared.token.TokenKind.{TokenKind}
 use Rattle.mlir_lexer.specs.declared.token.TokenKind.TheVariants as kind
 use Rattle.mlir_syntax.specs.Numerals.{count_limit}
 use Rattle.mlir_syntax.specs.TypeText.{most_open}
@@ -24,8 +25,8 @@ use Rattle.assembly_format.specs.Formats.{front_elements, type_elements}
 use Rattle.mlir_operations.specs.OperationText.{OperationText}
 use Rattle.mlir_operations.specs.ModuleText.{PortText, ModuleText, module_keys}
 use Rattle.mlir_reader.specs.Resolving.{Meanings, inherent_instance, inherent_kind, kind_named, with_definitions, operation_definitions, operation_at, operations_from, port_definition, ports_from, no_meaning, port_meanings, meanings, ends_with_output, has_outputs, left_out_output, with_output, module_of, design_of}
-use Rattle.mlir_syntax.specs.Spelling.{Phrase, Either, Holding, Where, Nothing, Commas}
-use Rattle.mlir_operations.specs.Spelling.{Stands, IsPlaceOf, ValueName, OutputPhrase, FormatElementPhrase, ElementsPhrase, ResultsPhrase, OperationPhrase, OperationsPhrase, PortPhrase, AttributesPhrase, ModulePhrase, ModulesPhrase, FilePhrase}
+use Rattle.mlir_syntax.specs.Spelling.{Phrase, Either, Holding, Where, Nothing, Commas, Between}
+use Rattle.mlir_operations.specs.Spelling.{Stands, IsPlaceOf, ValueName, OutputPhrase, FormatElementPhrase, ElementsPhrase, ResultsPhrase, OperationPhrase, OperationsPhrase, PortPhrase, OlderInputPhrase, OlderOutputPhrase, OlderOutputsPhrase, PortsPhrase, AttributesPhrase, ModulePhrase, ModulesPhrase, FilePhrase}
 use Rattle.mlir_reader.specs.Spelling.{Spells}
 use Rattle.assembly_format.specs.declared.elements.FormatElement.{FormatElement}
 use Rattle.assembly_format.specs.declared.elements.FormatElement.TheVariants as element
@@ -35,6 +36,7 @@ use Rattle.mlir_printer.specs.Spellable.{Each, AreBytes, IsAnyType}
 use Rattle.mlir_printer.specs.Printable.{IsKeptDictionary}
 use Rattle.mlir_printer.proofs.steps.Listing.{instance_length}
 use Rattle.mlir_printer.proofs.printable.ReadBytes.{AreTexts, texts_of, count_of, parts_of, held_bytes, name_bytes_read, symbol_bytes_read, each_read, type_read}
+use Rattle.mlir_printer.proofs.printable.ReadElements.{each_append}
 use Rattle.mlir_printer.proofs.printable.ReadOperations.{IsReadDictionary, kept_read, dictionary_read, IsReadOp, op_read}
 
 -- ---- counts of tokens
@@ -76,6 +78,22 @@ port_some p ts (inr h) =
     let c = parts_count ts b.0 b.1 b.2 in
     let e = ap length b.3.1 in
     omega (arith, c, e)
+
+older_input_some : (p : PortText) (ts : List Lexeme) → OlderInputPhrase p ts → 1 ≤ length ts
+older_input_some p ts h =
+    let b = h.3 in
+    let c = parts_count ts b.0 b.1 b.2 in
+    let e = value_some h.0 b.0 b.3 in
+    omega (arith, c, e)
+
+older_output_some : (p : PortText) (ts : List Lexeme) → OlderOutputPhrase p ts → 1 ≤ length ts
+older_output_some p ts h =
+    let b = h.1 in
+    let c = parts_count ts b.0 b.1 b.2 in
+    let r = b.4 in
+    let d = parts_count b.1 r.0 r.1 r.2 in
+    let e = ap length r.3.1 in
+    omega (arith, c, d, e)
 
 -- ---- names are few
 
@@ -293,6 +311,60 @@ port_read p ts texts (inr h) =
     let s3 = parts_of c.1 d.0 d.1 d.2 s2.1 in
     (name_bytes_read p.name c.0 s2.0 c.3, type_read most_open p.type d.1 s3.1 d.4)
 
+older_input_read : (p : PortText) (ts : List Lexeme) → AreTexts ts → OlderInputPhrase p ts → IsReadPortText p
+older_input_read p ts texts h =
+    let b = h.3 in
+    let s1 = parts_of ts b.0 b.1 b.2 texts in
+    let c = b.4 in
+    let s2 = parts_of b.1 c.0 c.1 c.2 s1.1 in
+    (subst AreBytes (sym h.2) (held_bytes kind.ValueName h.0 b.0 s1.0 b.3), type_read most_open p.type c.1 s2.1 c.4)
+
+older_output_read : (p : PortText) (ts : List Lexeme) → AreTexts ts → OlderOutputPhrase p ts → IsReadPortText p
+older_output_read p ts texts h =
+    let b = h.1 in
+    let s1 = parts_of ts b.0 b.1 b.2 texts in
+    let c = b.4 in
+    let s2 = parts_of b.1 c.0 c.1 c.2 s1.1 in
+    (name_bytes_read p.name b.0 s1.0 b.3, type_read most_open p.type c.1 s2.1 c.4)
+
+-- ports that are read, no more than their tokens
+abbrev AreReadPorts : List PortText → List Lexeme → Type 0
+AreReadPorts ps ts = Each IsReadPortText ps × (length ps ≤ length ts)
+
+between_read : {left right : TokenKind} (P : PortText → Phrase) → ((p : PortText) (ts : List Lexeme) → AreTexts ts → P p ts → IsReadPortText p)
+    → ((p : PortText) (ts : List Lexeme) → P p ts → 1 ≤ length ts) → (ps : List PortText) (ts : List Lexeme) → AreTexts ts
+    → Between left right (Commas P ps) ts → AreReadPorts ps ts
+between_read P each some ps ts texts h =
+    let s = parts_of ts h.0 h.1 h.2 texts in
+    let c = parts_count ts h.0 h.1 h.2 in
+    let q = h.4 in
+    let t = parts_of h.1 q.0 q.1 q.2 s.1 in
+    let d = parts_count h.1 q.0 q.1 q.2 in
+    let few = commas_few P some ps q.0 q.3 in
+    (each_read P IsReadPortText each ps q.0 t.0 q.3, omega (arith, c, d, few))
+
+older_outputs_read : (ps : List PortText) (ts : List Lexeme) → AreTexts ts → OlderOutputsPhrase ps ts → AreReadPorts ps ts
+older_outputs_read ps ts texts (inl h) =
+    let s = parts_of ts h.0 h.1 h.2 texts in
+    let c = parts_count ts h.0 h.1 h.2 in
+    let r = between_read OlderOutputPhrase older_output_read older_output_some ps h.1 s.1 h.4 in
+    let few = r.1 in
+    (r.0, omega (arith, c, few))
+older_outputs_read ps ts texts (inr h) = subst (λ (qs : List PortText). AreReadPorts qs ts) (sym h.0) (tt, omega arith)
+
+all_ports_read : (ps : List PortText) (ts : List Lexeme) → AreTexts ts → PortsPhrase ps ts → AreReadPorts ps ts
+all_ports_read ps ts texts (inl h) = between_read PortPhrase port_read port_some ps ts texts h
+all_ports_read ps ts texts (inr h) =
+    let b = h.3 in
+    let s = parts_of ts b.0 b.1 b.2 texts in
+    let c = parts_count ts b.0 b.1 b.2 in
+    let inputs = between_read OlderInputPhrase older_input_read older_input_some h.0 b.0 s.0 b.3 in
+    let outputs = older_outputs_read h.1 b.1 s.1 b.4 in
+    let few = inputs.1 in
+    let more = outputs.1 in
+    let same = ap length h.2 ∙ length-append h.0 h.1 in
+    (subst (Each IsReadPortText) (sym h.2) (each_append IsReadPortText h.0 h.1 inputs.0 outputs.0), omega (arith, c, few, more, same))
+
 -- a port that is read
 pub record IsReadPort (q : Port) : Type 0 where
   pub name : AreBytes q.name
@@ -342,12 +414,7 @@ module_read At m ts texts small h =
     let d = c.4 in
     let s4 = parts_of c.1 d.0 d.1 d.2 s3.1 in
     let c4 = parts_count c.1 d.0 d.1 d.2 in
-    let lp = d.3 in
-    let t1 = parts_of d.0 lp.0 lp.1 lp.2 s4.0 in
-    let k1 = parts_count d.0 lp.0 lp.1 lp.2 in
-    let p = lp.4 in
-    let t2 = parts_of lp.1 p.0 p.1 p.2 t1.1 in
-    let k2 = parts_count lp.1 p.0 p.1 p.2 in
+    let read = all_ports_read m.ports d.0 s4.0 d.3 in
     let e = d.4 in
     let s5 = parts_of d.1 e.0 e.1 e.2 s4.1 in
     let c5 = parts_count d.1 e.0 e.1 e.2 in
@@ -358,13 +425,13 @@ module_read At m ts texts small h =
     let s7 = parts_of f.1 g.0 g.1 g.2 s6.1 in
     let c7 = parts_count f.1 g.0 g.1 g.2 in
     let ports = ports_few no_meaning 0 m.ports in
-    let port_tokens = commas_few PortPhrase port_some m.ports p.0 p.3 in
+    let port_tokens = read.1 in
     let body = body_read At m.operations g.0 (meanings m) (port_meanings m.ports) 0 s7.0 (omega (arith, c1, c2, c3, c4, c5, c6, c7, small)) g.3 in
     let whole = completed_read (length g.0) m (operations_from (meanings m) (port_meanings m.ports) 0 m.operations) body in
     let wanted = whole.wanted in
     record {
       symbol = symbol_bytes_read m.symbol c.0 s3.0 c.3;
-      ports = ports_read no_meaning 0 m.ports (each_read PortPhrase IsReadPortText port_read m.ports p.0 t2.0 p.3);
+      ports = ports_read no_meaning 0 m.ports read.0;
       dictionary = kept_read listed.HwModule module_keys m.dictionary (attributes_read m.dictionary e.0 s5.0 e.3);
       operations = whole.each;
       named = whole.named;
@@ -381,8 +448,6 @@ module_read At m ts texts small h =
         c5,
         c6,
         c7,
-        k1,
-        k2,
         small,
       );
     }
