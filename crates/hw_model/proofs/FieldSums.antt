@@ -1,7 +1,7 @@
 -- Sums over the fields of a struct type, one field at a time, up to a most.
 use Rattle.std.proofs.Common.{◌≡◌, ℕ, zero, suc, ◌+◌, ◌*◌, ◌<◌, ◌≤◌, min, List, [], ◌∷◌, ◌++◌, length, map, take, get_or, arith, rules, sym, length-append}
 use Rattle.std.proofs.lemmas.List.{map_more, take_all}
-use Rattle.hw_model.specs.Types.{HwType, FieldTypes, width, width_of_fields, leaves, leaves_of_fields, repeated}
+use Rattle.hw_model.specs.Types.{HwType, FieldTypes, width, width_of_fields, leaves, leaves_of_fields, list_copies}
 use Rattle.hw_model.specs.TypeViews.{NamedType, fields_of, field_of, type_of, fields_in}
 use Rattle.hw_model.specs.declared.types.Field.{Field}
 use Rattle.hw_model.specs.declared.types.FieldList.{FieldList}
@@ -20,9 +20,9 @@ leaves_more (g ∷ fs) f =
     rw (length-append (leaves g.type) (leaves_of_fields (fields_of (fs ++ f ∷ []))), leaves_more fs f, length-append (leaves g.type) (leaves_of_fields (fields_of fs)))
     (omega arith)
 
-pub repeated_length : {A : Type 0} (n : ℕ) (xs : List A) → length (repeated n xs) ≡ n * length xs
-repeated_length zero xs = omega arith
-repeated_length (suc n) xs = rw (length-append xs (repeated n xs), repeated_length n xs) (omega arith)
+pub list_copies_length : {A : Type 0} (n : ℕ) (xs : List A) → length (list_copies n xs) ≡ n * length xs
+list_copies_length zero xs = omega arith
+list_copies_length (suc n) xs = rw (length-append xs (list_copies n xs), list_copies_length n xs) (omega arith)
 
 -- the parts of a field are those of its view
 pub type_field : (x : Field) → (field_of x).type ≡ type_of x.ty
@@ -55,6 +55,6 @@ pub capped_product : (n a c d m : ℕ) → c ≡ min a m → d ≡ min (n * c) m
 capped_product zero a c d m p q = omega arith
 capped_product (suc n) a c d m p q = grind arith
 
-pub capped_repeated : (n : ℕ) (ts : List HwType) (l c d m : ℕ) → l ≡ n → c ≡ min (length ts) m → d ≡ min (l * c) m
-    → d ≡ min (length (repeated n ts)) m
-capped_repeated n ts l c d m e p q = rw (repeated_length n ts) (capped_product n (length ts) c d m p (rw e at q))
+pub capped_copies : (n : ℕ) (ts : List HwType) (l c d m : ℕ) → l ≡ n → c ≡ min (length ts) m → d ≡ min (l * c) m
+    → d ≡ min (length (list_copies n ts)) m
+capped_copies n ts l c d m e p q = rw (list_copies_length n ts) (capped_product n (length ts) c d m p (rw e at q))

@@ -31,16 +31,16 @@ abbrev mutual
   width_of_fields (field name t fs) = width t + width_of_fields fs
 
 -- a list n times over
-abbrev pub repeated : {A : Type 0} → ℕ → List A → List A
-repeated zero xs = []
-repeated (suc n) xs = xs ++ repeated n xs
+abbrev pub list_copies : {A : Type 0} → ℕ → List A → List A
+list_copies zero xs = []
+list_copies (suc n) xs = xs ++ list_copies n xs
 
 abbrev mutual
   -- the parts of a type that have no parts: an array's from the highest index to 0, a struct's from its first field
   pub leaves : HwType → List HwType
   leaves (int w) = int w ∷ []
   leaves clock = clock ∷ []
-  leaves (array n t) = repeated n (leaves t)
+  leaves (array n t) = list_copies n (leaves t)
   leaves (struct fs) = leaves_of_fields fs
 
   pub leaves_of_fields : FieldTypes → List HwType

@@ -1,8 +1,8 @@
 use Rattle.std.proofs.Common.{length, ◌≡◌, rules}
-use Rattle.hw_model.specs.Types.{leaves, leaves_of_fields, repeated}
+use Rattle.hw_model.specs.Types.{leaves, leaves_of_fields, list_copies}
 use Rattle.hw_model.specs.TypeViews.{fields_of, type_of}
 use Rattle.hw_model.specs.declared.types.Ty.{the_lemmas}
-use Rattle.hw_model.proofs.FieldSums.{leaves_more, field_more, field_all, capped_repeated}
+use Rattle.hw_model.proofs.FieldSums.{leaves_more, field_more, field_all, capped_copies}
 use Rattle.hw_model.proofs.types.+leaf_count.Goals as goal
 
 pub FieldList::leaf_count-loop-field-preserved : goal.FieldList::leaf_count-loop-field-preserved
@@ -18,6 +18,6 @@ FieldList::leaf_count-returns t c =
 
 pub Ty::leaf_count-returns-in-Array : goal.Ty::leaf_count-returns-in-Array
 Ty::leaf_count-returns-in-Array t c =
-    let e : leaves (type_of c.args.self.now) ≡ repeated c.in-Array.length (leaves (type_of c.deref.result.now)) = search (rules, the_lemmas) in
-    rw e (capped_repeated c.in-Array.length (leaves (type_of c.deref.result.now)) c.from.result c.leaf_count.result c.saturating_mul.result 18446744073709551615
+    let e : leaves (type_of c.args.self.now) ≡ list_copies c.in-Array.length (leaves (type_of c.deref.result.now)) = search (rules, the_lemmas) in
+    rw e (capped_copies c.in-Array.length (leaves (type_of c.deref.result.now)) c.from.result c.leaf_count.result c.saturating_mul.result 18446744073709551615
     c.from.ensures c.leaf_count.ensures c.saturating_mul.ensures)
