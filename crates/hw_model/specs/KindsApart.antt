@@ -4,9 +4,8 @@ use Rattle.std.proofs.Common.{sym, ap, ◌∙◌, arith, inl, inr}
 use Rattle.std.specs.Cmp.Lexicographic.{pointwise}
 use Rattle.std.specs.Cmp.{IsPartialEquivalence, IsEquivalence, partial_equiv_from_equiv}
 use Rattle.hw_model.specs.Types.{Name}
-use Rattle.opcode.specs.Listed.{name_of_listed, first_named}
+use Rattle.opcode.specs.Listed.{name_of_listed, first_named, listed_operations}
 use Rattle.opcode.specs.declared.listed.Listed.{Listed}
-use Rattle.opcode.proofs.Names.{listed_operations}
 use Rattle.opcode.specs.declared.listed.Listed.TheVariants as listed
 use Rattle.hw_model.specs.Kinds.{Kind, Predicate, Reset, Literal, Literals, Instance, RegisterOp}
 use Rattle.hw_model.specs.Kinds.Predicate.{eq, ne, slt, sle, sgt, sge, ult, ule, ugt, uge, ceq, cne, weq, wne}

@@ -8,7 +8,7 @@ use Rattle.diag.specs.declared.cause.Cause.TheVariants.{Unexpected, UnknownOpera
 use Rattle.opcode.specs.declared.listed.Listed.{Listed}
 use Rattle.opcode.specs.declared.listed.Listed.TheVariants as listed
 use Rattle.opcode.specs.Listed.{name_of_listed, first_named}
-use Rattle.opcode.proofs.Names.{listed_operations}
+use Rattle.opcode.specs.Listed.{listed_operations}
 use Rattle.hw_model.specs.Types.{Name}
 use Rattle.hw_model.specs.Design.{Entry, same_name}
 use Rattle.mlir_lexer.specs.Runs.{run}

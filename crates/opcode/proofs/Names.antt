@@ -2,6 +2,7 @@
 use Rattle.std.proofs.Common.{◌≡◌, ◌≢◌, ℕ, zero, suc, Bool, true, false, cond, List, [], ◌∷◌, Option, None, Some, IfSome, IfNone, refl, sym, ap, ◌∙◌, nat_eq}
 use Rattle.std.specs.Cmp.Lexicographic.{pointwise, bytes_decides}
 use Rattle.opcode.specs.Listed.{name_of_listed, first_named}
+pub use Rattle.opcode.specs.Listed.{listed_operations}
 use Rattle.opcode.specs.declared.listed.Listed.{Listed}
 use Rattle.opcode.specs.declared.listed.Listed.TheVariants.{HwModule, CombAdd, CombMul, CombAnd, CombOr, CombXor, CombSub, CombDivu, CombModu, CombDivs, CombMods, CombShl, CombShru, CombShrs, CombIcmp, CombParity, CombExtract, CombConcat, CombReplicate, CombMux, HwConstant, HwAggregateConstant, HwArrayCreate, HwArrayConcat, HwArrayGet, HwArraySlice, HwArrayInject, HwStructCreate, HwStructExtract, HwStructInject, HwStructExplode, HwBitcast, HwWire, HwInstance, HwOutput, SeqCompreg, SeqCompregCe, SeqFirreg}
 
@@ -41,11 +42,6 @@ first_named-none name (listed ∷ others) (suc k) other none here =
         → cond b (Some listed) (first_named name others) ≡ None → name_of_listed other ≢ name
     go true later found = cc
     go false later found = later found
-
--- every listed operation
-abbrev pub listed_operations : List Listed
-listed_operations =
-    HwModule ∷ CombAdd ∷ CombMul ∷ CombAnd ∷ CombOr ∷ CombXor ∷ CombSub ∷ CombDivu ∷ CombModu ∷ CombDivs ∷ CombMods ∷ CombShl ∷ CombShru ∷ CombShrs ∷ CombIcmp ∷ CombParity ∷ CombExtract ∷ CombConcat ∷ CombReplicate ∷ CombMux ∷ HwConstant ∷ HwAggregateConstant ∷ HwArrayCreate ∷ HwArrayConcat ∷ HwArrayGet ∷ HwArraySlice ∷ HwArrayInject ∷ HwStructCreate ∷ HwStructExtract ∷ HwStructInject ∷ HwStructExplode ∷ HwBitcast ∷ HwWire ∷ HwInstance ∷ HwOutput ∷ SeqCompreg ∷ SeqCompregCe ∷ SeqFirreg ∷ []
 
 -- each operation is among them
 pub listed_place : (listed : Listed) → (k : ℕ) × (operation_at k listed_operations ≡ Some listed)

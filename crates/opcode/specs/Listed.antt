@@ -49,3 +49,8 @@ name_of_listed SeqFirreg = codes "seq.firreg"
 abbrev pub first_named : List ℕ → List Listed → Option Listed
 first_named name [] = None
 first_named name (listed ∷ others) = if pointwise nat_eq (name_of_listed listed) name then Some listed else first_named name others
+
+-- every listed operation (CIRCT's operation references of hw, comb and seq)
+abbrev pub listed_operations : List Listed
+listed_operations =
+    HwModule ∷ CombAdd ∷ CombMul ∷ CombAnd ∷ CombOr ∷ CombXor ∷ CombSub ∷ CombDivu ∷ CombModu ∷ CombDivs ∷ CombMods ∷ CombShl ∷ CombShru ∷ CombShrs ∷ CombIcmp ∷ CombParity ∷ CombExtract ∷ CombConcat ∷ CombReplicate ∷ CombMux ∷ HwConstant ∷ HwAggregateConstant ∷ HwArrayCreate ∷ HwArrayConcat ∷ HwArrayGet ∷ HwArraySlice ∷ HwArrayInject ∷ HwStructCreate ∷ HwStructExtract ∷ HwStructInject ∷ HwStructExplode ∷ HwBitcast ∷ HwWire ∷ HwInstance ∷ HwOutput ∷ SeqCompreg ∷ SeqCompregCe ∷ SeqFirreg ∷ []
