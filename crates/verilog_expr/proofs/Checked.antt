@@ -220,7 +220,7 @@ module _ (known : List Declared) where
           (wide.bits (low + w - 1) (omega (arith, some, within)))));
     }
 
-  -- ---- rows
+  -- ---- templates
 
   -- each operand that has a type is well
   unfoldable pub HaveWell : List (Option HwType) → List Expr → Type 0

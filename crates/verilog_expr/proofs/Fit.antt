@@ -58,7 +58,7 @@ binary_fits : (o : Operator) (a b : Expr) → nat_le (strength o) (level a) ≡ 
     → fits (binary o a b) ≡ true
 binary_fits o a b first second fit also = and_intro _ _ (and_intro _ _ first second) (and_intro _ _ fit also)
 
--- ---- rows
+-- ---- templates
 
 unsigned_pair_fits : (o : Operator) (a b : Expr) → fits a ≡ true → fits b ≡ true → fits (unsigned_pair o a b) ≡ true
 unsigned_pair_fits o a b fit also =

@@ -1,4 +1,4 @@
--- The expression of an operation, by the row of its kind.
+-- The expression of an operation, by the template of its kind.
 use Rattle.std.proofs.Common.{◌≡◌, ℕ, suc, ◌+◌, ◌-◌, ◌/◌, ◌≤◌, ◌≢◌, Bool, true, false, cond, ◌&&◌, ◌==◌, nat_le, List, [], ◌∷◌, length, None, decimal, refl, sym, ap, subst, ◌∙◌, arith, ne_eqb}
 use Rattle.hw_model.specs.Kinds.{Kind, Predicate, Variadic, Division, Shift}
 use Rattle.hw_model.specs.Kinds.Predicate.{eq, ne, slt, sle, sgt, sge, ult, ule, ugt, uge, ceq, cne, weq, wne}
@@ -24,7 +24,7 @@ use Rattle.verilog_expr.specs.declared.template.Template.TheVariants.{Missing, S
 use Rattle.verilog_expr.proofs.Operators.{division_context, shift_context, operator_back}
 use Rattle.verilog_expr.proofs.FormTexts.{same_text, chain_text, signed_pair_text, unsigned_shift_text, signed_shift_text, unsigned_division_text, signed_division_text, parity_text, braces_text, copies_text, choice_text}
 
--- an expression is that of a row over others
+-- an expression is that of a template over others
 pub record IsTemplate (e : Expr) (template : Template) (es : List Expr) : Type 0 where
   pub text : expr_text e [] ≡ template_text template es
   pub signed : is_signed e ≡ template_signed template es

@@ -51,7 +51,7 @@ unsigned_keeps e h = go (is_signed e) where
 unsigned_at_keeps : (l : ℕ) (e : Expr) → keeps_signs e ≡ true → keeps_signs (unsigned_at l e) ≡ true
 unsigned_at_keeps l e h = placed_keeps l (unsigned e) (unsigned_keeps e h)
 
--- ---- rows
+-- ---- templates
 
 both_unsigned : (x : Context) → signs_kept x false false ≡ true
 both_unsigned both_operands = refl

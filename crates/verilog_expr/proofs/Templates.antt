@@ -1,4 +1,4 @@
--- The rows of `built`: what the expression of each group of operations gives, whatever its operands are.
+-- The templates of `built`: what the expression of each group of operations gives, whatever its operands are.
 use Rattle.std.proofs.Common.{◌≡◌, ℕ, suc, ◌+◌, ◌*◌, ◌≤◌, Bool, true, false, List, [], ◌∷◌, map, length, refl, sym, ap, ◌∙◌, inl, inr, arith}
 use Rattle.wiring.specs.Lists.{total}
 use Rattle.wiring.specs.Wiring.{In}

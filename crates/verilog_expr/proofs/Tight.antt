@@ -58,7 +58,7 @@ unsigned_tight e h = go (is_signed e) where
 unsigned_at_tight : (l : ℕ) (e : Expr) → tight e ≡ true → tight_at l (unsigned_at l e) ≡ true
 unsigned_at_tight l e h = placed_tight l (unsigned e) (unsigned_tight e h)
 
--- ---- rows
+-- ---- templates
 
 pair_tight : (o : Operator) (a b : Expr) → tight_at (strength o) a ≡ true → tight_at (suc (strength o)) b ≡ true → tight (binary o a b) ≡ true
 pair_tight o a b first second = and_intro (tight_at (strength o) a) (tight_at (suc (strength o)) b) first second

@@ -21,7 +21,7 @@ use Rattle.verilog_expr.specs.Templates.{template_for, template_text, template_s
 use Rattle.verilog_expr.specs.Named.{named_of}
 use Rattle.verilog_expr.specs.declared.value_names.ValueNames.{ValueNames}
 use Rattle.verilog_expr.specs.declared.form.Form.TheVariants.{Same}
-use Rattle.verilog_expr.specs.ExprNode.{expr_at, exprs_at, IsOnly, sole_name, head_width, select_text, template_name, name_of_one, IsMade, IsResultOf, wrap_for, open_text, close_text}
+use Rattle.verilog_expr.specs.ExprNode.{expr_at, exprs_at, IsOnly, sole_name, head_width, select_text, template_name, name_of_one, IsNodeOf, IsResultOf, wrap_for, open_text, close_text}
 use Rattle.verilog_expr.specs.declared.info.Wrap.TheVariants.{Bare, Paren}
 use Rattle.verilog_expr.specs.declared.template.Template.{Template}
 use Rattle.verilog_expr.specs.declared.template.Template.TheVariants.{Missing, Operands}
@@ -46,12 +46,12 @@ module _ (s : Scope) (o : Op) (k : ℕ) (r : Ref) (found : IsResultOf s o k r) w
       ∙ ap (result_expr named (scope_ports s) (scope_ops s) ex k) found.there
       ∙ ap (typed_expr named (scope_ports s) (scope_ops s) ex o) typed
 
-  pub node_none : (template : Template) (operands : List Value) → is_some (result_type o k) ≡ false → template ≡ Missing → IsMade s r template operands
+  pub node_none : (template : Template) (operands : List Value) → is_some (result_type o k) ≡ false → template ≡ Missing → IsNodeOf s r template operands
   node_none template operands none is = go (result_type o k) refl none
     where
-      go : (m : Option HwType) → result_type o k ≡ m → is_some m ≡ false → IsMade s r template operands
+      go : (m : Option HwType) → result_type o k ≡ m → is_some m ≡ false → IsNodeOf s r template operands
       go (Some t) typed h = cc
-      go None typed h = subst (λ q. IsMade s r q operands) (sym is) (record {
+      go None typed h = subst (λ q. IsNodeOf s r q operands) (sym is) (record {
         text = λ named ex. ap (λ x. expr_text x []) (own_is None typed named ex);
         signed = λ named ex. ap is_signed (own_is None typed named ex);
         level_is = λ named ex. ap level (own_is None typed named ex);
@@ -60,10 +60,10 @@ module _ (s : Scope) (o : Op) (k : ℕ) (r : Ref) (found : IsResultOf s o k r) w
 
   pub node_is : (template : Template) (operands : List Value) (w d v n : ℕ) → is_some (result_type o k) ≡ true → o.operands ≡ map (scope_ref s) operands
       → w ≡ width_of (result_type o k) → v ≡ head_width (scope_ports s) (scope_ops s) o.operands → d ≡ divisor_in (scope_ops s) w o.operands → n ≡ length operands
-      → template ≡ template_for o.kind w v d n → IsMade s r template operands
+      → template ≡ template_for o.kind w v d n → IsNodeOf s r template operands
   node_is template operands w d v n some os wide head by count is = go (result_type o k) refl some
     where
-      go : (m : Option HwType) → result_type o k ≡ m → is_some m ≡ true → IsMade s r template operands
+      go : (m : Option HwType) → result_type o k ≡ m → is_some m ≡ true → IsNodeOf s r template operands
       go None typed h = cc
       go (Some t) typed h =
           let ws : List ℕ = map (value_width (scope_ports s) (scope_ops s)) o.operands in
@@ -73,22 +73,22 @@ module _ (s : Scope) (o : Op) (k : ℕ) (r : Ref) (found : IsResultOf s o k r) w
           let same : (ex : Ref → Expr) → map ex o.operands ≡ map ex (map (scope_ref s) operands) = λ ex. ap (map ex) os in
           let counted : (ex : Ref → Expr) → n ≡ length (map ex o.operands) = λ ex.
           count ∙ sym (length-map operands (scope_ref s)) ∙ sym (ap length os) ∙ sym (length-map o.operands ex) in
-          let rows : (ex : Ref → Expr) → template_for o.kind (width t) (first_width ws) (divisor_in (scope_ops s) (width t) o.operands) (length (map ex o.operands)) ≡ template = λ ex.
+          let same_template : (ex : Ref → Expr) → template_for o.kind (width t) (first_width ws) (divisor_in (scope_ops s) (width t) o.operands) (length (map ex o.operands)) ≡ template = λ ex.
           sym (is ∙ ap (λ x. template_for o.kind x v d n) at_width ∙ ap (λ x. template_for o.kind (width t) x d n) first ∙ ap (λ x. template_for o.kind (width t) (first_width ws) x n) by_width
           ∙ ap (template_for o.kind (width t) (first_width ws) (divisor_in (scope_ops s) (width t) o.operands)) (counted ex)) in
           record {
             text = λ named ex. ap (λ x. expr_text x []) (own_is (Some t) typed named ex)
                 ∙ (built_is o.kind (width t) ws (divisor_in (scope_ops s) (width t) o.operands) (map ex o.operands)).text
-                ∙ ap (λ q. template_text q (map ex o.operands)) (rows ex) ∙ ap (template_text template) (same ex);
+                ∙ ap (λ q. template_text q (map ex o.operands)) (same_template ex) ∙ ap (template_text template) (same ex);
             signed = λ named ex. ap is_signed (own_is (Some t) typed named ex)
                 ∙ (built_is o.kind (width t) ws (divisor_in (scope_ops s) (width t) o.operands) (map ex o.operands)).signed
-                ∙ ap (λ q. template_signed q (map ex o.operands)) (rows ex) ∙ ap (template_signed template) (same ex);
+                ∙ ap (λ q. template_signed q (map ex o.operands)) (same_template ex) ∙ ap (template_signed template) (same ex);
             level_is = λ named ex. ap level (own_is (Some t) typed named ex)
                 ∙ (built_is o.kind (width t) ws (divisor_in (scope_ops s) (width t) o.operands) (map ex o.operands)).level_is
-                ∙ ap (λ q. template_level q (map ex o.operands)) (rows ex) ∙ ap (template_level template) (same ex);
+                ∙ ap (λ q. template_level q (map ex o.operands)) (same_template ex) ∙ ap (template_level template) (same ex);
             called = λ named ex. ap sole_name (own_is (Some t) typed named ex)
                 ∙ (built_is o.kind (width t) ws (divisor_in (scope_ops s) (width t) o.operands) (map ex o.operands)).called
-                ∙ ap (λ q. template_name q (map ex o.operands)) (rows ex) ∙ ap (template_name template) (same ex);
+                ∙ ap (λ q. template_name q (map ex o.operands)) (same_template ex) ∙ ap (template_name template) (same ex);
           }
 
 -- ---- depths
@@ -166,7 +166,7 @@ wrapped true l e low = go (is_signed e)
 -- ---- what is seen of a value without a name
 
 module _ (s : Scope) (v : ValueNames) (n : ℕ) (x : Value) (template : Template) (xs : List Value) (some : n ≢ 0) (unnamed : None ≡ named_of v (scope_ref s x))
-    (node : IsMade s (scope_ref s x) template xs) where
+    (node : IsNodeOf s (scope_ref s x) template xs) where
   own : expr_at s v n x ≡ own_expr (named_of v) (scope_ports s) (scope_ops s) (λ r. expr_to (named_of v) (scope_ports s) (scope_ops s) (n - 1) r) (scope_ref s x)
   own = at_own (named_of v) (scope_ports s) (scope_ops s) (scope_ref s x) n some (sym unnamed)
 

@@ -50,7 +50,7 @@ abbrev pub of_three_exprs : (Expr → Expr → Expr → Expr) → List Expr → 
 of_three_exprs f (a ∷ b ∷ c ∷ []) = f a b c
 of_three_exprs f _ = no_expr
 
--- ---- rows
+-- ---- templates
 
 -- an operator between unsigned operands; the right one stands in parentheses where it binds equally
 abbrev pub unsigned_pair : Operator → Expr → Expr → Expr

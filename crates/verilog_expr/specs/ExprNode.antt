@@ -60,7 +60,7 @@ abbrev pub name_of_one : List Expr → Option Name
 name_of_one (e ∷ []) = sole_name e
 name_of_one _ = None
 
--- the operand that a row's expression is, or what is seen of the expression without its operands
+-- the operand that a template's expression is, or what is seen of the expression without its operands
 abbrev pub IsOnly : Template → List Value → Option Value → Type 0
 IsOnly template xs (Some x) = (template ≡ Operands Same) × (slice_get xs 0 ≡ Some x)
 IsOnly template xs None = (es : List Expr) → length es ≡ length xs → (template_signed template es ≡ template_signed template []) × (template_level template es ≡ template_level template []) × (template_name template es ≡ None)
@@ -102,8 +102,8 @@ close_text Bare = []
 close_text Unsigned = codes ")"
 close_text Paren = codes ")"
 
--- the expression of a value's own operation is that of a row over values
-pub record IsMade (s : Scope) (r : Ref) (template : Template) (operands : List Value) : Type 0 where
+-- the expression of a value's own operation is that of a template over values
+pub record IsNodeOf (s : Scope) (r : Ref) (template : Template) (operands : List Value) : Type 0 where
   pub text : (named : Ref → Option Name) (ex : Ref → Expr)
       → expr_text (own_expr named (scope_ports s) (scope_ops s) ex r) [] ≡ template_text template (map ex (map (scope_ref s) operands))
   pub signed : (named : Ref → Option Name) (ex : Ref → Expr)

@@ -53,7 +53,7 @@ shift_form true o = SignedShift o
 abbrev pub extract_template : ℕ → ℕ → ℕ → ℕ → Template
 extract_template n low w operand_width = cond (n == 1) (cond (low == 0 && w == operand_width) (Operands Same) (Select low w)) Missing
 
--- the row of an operation of a kind with a result of w bits and n operands, of which the first has v bits, and `divisor`
+-- the template of an operation of a kind with a result of w bits and n operands, of which the first has v bits, and `divisor`
 -- the number of the constant that it divides by
 abbrev pub template_for : Kind → ℕ → ℕ → ℕ → ℕ → Template
 template_for (variadic o) w v divisor n = chain_template n (operator_in_code (variadic_operator o))
@@ -81,7 +81,7 @@ shown_operands (UnsignedDivision o w d) es = first_alone es
 shown_operands (SignedDivision o w d) es = first_alone es
 shown_operands _ es = es
 
--- the text of a row over operands
+-- the text of a template over operands
 abbrev pub template_text : Template → List Expr → List ℕ
 template_text Missing es = expr_text no_expr []
 template_text (Number w n) es = expr_text (literal_of w false n) []

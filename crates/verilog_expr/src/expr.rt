@@ -105,7 +105,7 @@ fn push_bare(
     Ok(())
 }
 
-// Adds the expression of a row over operands, each down to a depth.
+// Adds the expression of a template over operands, each down to a depth.
 #[cycle(expr)]
 fn push_template(
     out: &mut Text,

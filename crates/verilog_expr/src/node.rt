@@ -1,11 +1,11 @@
-//! The row of a value's own operation, and the operands that it is over.
+//! The template of the expression of a value's own operation, and the operands that it is over.
 ghost use Rattle.std.specs.Prelude.{◌≡◌, ◌<◌, [], map, is_some};
 ghost use Rattle.hw_model.specs.Design.{Ref, result_type};
 ghost use Rattle.ir_store.specs.Bodies.{op_id, read_op};
 ghost use Rattle.ir_store.specs.Numbered.{op_by};
 ghost use Rattle.verilog_expr.specs.Expressions.{constant_of, divisor_in, op_at};
 ghost use Rattle.verilog_expr.specs.Scopes.{scope_ports, scope_ops, scope_ref, op_read};
-ghost use Rattle.verilog_expr.specs.ExprNode.{IsMade, IsOpOf, IsResultOf, head_width};
+ghost use Rattle.verilog_expr.specs.ExprNode.{IsNodeOf, IsOpOf, IsResultOf, head_width};
 ghost use Rattle.verilog_expr.specs.declared.template.Template.TheVariants.{Missing};
 
 use crate::scope::{Scope, result_width};
@@ -14,10 +14,10 @@ use hw_model::kinds::OpKind;
 use ir_store::body::Op;
 use ir_store::operation::Value;
 
-/// The row of an operation's result, and the operands that it is over.
+/// The template of an expression, and the operands that it is over.
 #[derive(Drop)]
 pub(crate) struct ExprNode<'m> {
-    /// The row.
+    /// The template.
     pub(crate) template: Template,
     /// The operands.
     pub(crate) operands: &'m [Value],
@@ -58,15 +58,15 @@ fn head_width(scope: &Scope<'_>, operands: &[Value]) -> u64
     }
 }
 
-/// The row of a value's own operation, and its operands.
+/// The template of the expression of a value's own operation, and its operands.
 pub(crate) fn node_at<'m>(scope: &Scope<'m>, value: Value) -> ExprNode<'m>
-    ensures { IsMade scope.now (scope_ref scope.now value) result.template result.operands.now }
+    ensures { IsNodeOf scope.now (scope_ref scope.now value) result.template result.operands.now }
 {
     let Value::Result(id, number) = value else {
         return nothing_node();
     };
     match scope.op(id) {
-        Some(op) => made_of(scope, &op, number),
+        Some(op) => result_node(scope, &op, number),
         None => nothing_node(),
     }
 }
@@ -89,10 +89,10 @@ fn has_result(op: &Op<'_>, number: u32) -> bool
     (number as usize) < op.results.len()
 }
 
-// The row of a result of an operation, and the operands.
-fn made_of<'m>(scope: &Scope<'m>, op: &Op<'m>, number: u32) -> ExprNode<'m>
+// The template of the expression of an operation's result, and the operands.
+fn result_node<'m>(scope: &Scope<'m>, op: &Op<'m>, number: u32) -> ExprNode<'m>
     requires { IsOpOf scope.now (op_read scope.now op.now) }
-    ensures { (r : Ref) → IsResultOf scope.now (op_read scope.now op.now) number r → IsMade scope.now r result.template result.operands.now }
+    ensures { (r : Ref) → IsResultOf scope.now (op_read scope.now op.now) number r → IsNodeOf scope.now r result.template result.operands.now }
 {
     if !has_result(op, number) {
         return nothing_node();

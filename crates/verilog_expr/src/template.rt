@@ -114,7 +114,7 @@ fn comparison_form(predicate: Predicate) -> Form
     }
 }
 
-// The row of an extract.
+// The template of an extract.
 fn extract_template(count: usize, low: u32, width: u64, operand_width: u64) -> Template
     ensures { result ≡ extract_template count low width operand_width }
 {
@@ -138,7 +138,7 @@ fn copies(width: u64, operand_width: u64) -> u64
     }
 }
 
-/// The row of an operation of a kind with a result of `width` bits and `count` operands, of which the first has
+/// The template of an operation of a kind with a result of `width` bits and `count` operands, of which the first has
 /// `operand_width` bits, and `divisor` the number of the constant that it divides by.
 pub fn template_for(
     kind: &OpKind,

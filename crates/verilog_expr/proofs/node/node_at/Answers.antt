@@ -3,5 +3,5 @@ use Rattle.ir_store.specs.Bodies.{ids_of}
 use Rattle.ir_store.specs.Numbered.{position_of}
 use Rattle.verilog_expr.proofs.node.node_at.Goals as goal
 
-pub made_of-requires : goal.made_of-requires
-made_of-requires c = record { place = position_of (ids_of c.args.scope.now.body.now) c.in-Result.id.index; there = sym c.in-Some.ensures }
+pub result_node-requires : goal.result_node-requires
+result_node-requires c = record { place = position_of (ids_of c.args.scope.now.body.now) c.in-Result.id.index; there = sym c.in-Some.ensures }

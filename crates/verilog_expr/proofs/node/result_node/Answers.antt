@@ -3,7 +3,7 @@ use Rattle.hw_model.specs.Design.{result_type}
 use Rattle.hw_model.specs.Flat.{width_of}
 use Rattle.verilog_expr.specs.Scopes.{scope_ports, scope_ops, op_read}
 use Rattle.verilog_expr.proofs.Writing.{width_result, node_is}
-use Rattle.verilog_expr.proofs.node.made_of.Goals as goal
+use Rattle.verilog_expr.proofs.node.result_node.Goals as goal
 
 pub divisor_in-divisor-requires : goal.divisor_in-divisor-requires
 divisor_in-divisor-requires c =
