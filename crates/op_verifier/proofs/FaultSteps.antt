@@ -1,5 +1,5 @@
 -- Steps of the walks over modules and operations: what is refused here, and what is not.
-use Rattle.std.proofs.Common.{◌≡◌, ℕ, ◌+◌, ◌<◌, ◌≤◌, Bool, true, false, nat_eq, List, ◌∷◌, map, length, drop, get_or, slice_get, Option, Some, None, option_map, refl, sym, ap, ◌∙◌, arith, add-one, eqb-true}
+use Rattle.std.proofs.Common.{◌≡◌, ℕ, ◌+◌, ◌<◌, ◌≤◌, Bool, true, false, nat_eq, List, ◌∷◌, map, length, drop, get_or, slice_get, Option, Some, None, option_map, refl, sym, ap, subst, ◌∙◌, arith, add-one, eqb-true}
 use Rattle.std.proofs.lemmas.Bool.{eqb-false}
 use Rattle.std.proofs.lemmas.List.{length-map, drop_all}
 use Rattle.std.proofs.lemmas.Option.{slice_get-get_or}
@@ -23,7 +23,7 @@ pub entry_there : (es : List Entry) (i : ℕ) (e : Entry) → i < length es → 
 entry_there es i e less is = slice_get-get_or es i e less ∙ ap (λ (x : Entry). Some x) (sym is)
 
 -- the operations from a position on
-pub from_here : (p : ℕ → ℕ) (es : List Entry) (i : ℕ) (e : Entry) → i < length es → e ≡ get_or es i e
+from_here : (p : ℕ → ℕ) (es : List Entry) (i : ℕ) (e : Entry) → i < length es → e ≡ get_or es i e
     → drop i (map (op_by p) (map op_in es)) ≡ op_by p (op_in e) ∷ drop (i + 1) (map (op_by p) (map op_in es))
 from_here p es i e less is =
     drop_some (map (op_by p) (map op_in es)) i (op_by p (op_in e)) (op_there p es i (Some e) (entry_there es i e less is))
@@ -41,11 +41,20 @@ empty_drop os n within = go (nat_eq n (length os)) refl
         let there = slice_get_some os n (below_unless n (length os) within (eqb-false n (length os) e)) in
         ap is_empty (drop_some os n there.0 there.1) ∙ sym e
 
-pub is_last : (p : ℕ → ℕ) (es : List Entry) (i count : ℕ) → i < length es → count ≡ length es
+is_last : (p : ℕ → ℕ) (es : List Entry) (i count : ℕ) → i < length es → count ≡ length es
     → is_empty (drop (i + 1) (map (op_by p) (map op_in es))) ≡ nat_eq (i + 1) count
 is_last p es i count less all =
     let size : length (map (op_by p) (map op_in es)) ≡ length es = length-map (map op_in es) (op_by p) ∙ length-map es op_in in
     empty_drop (map (op_by p) (map op_in es)) (i + 1) (rw size (omega (arith, less))) ∙ ap (nat_eq (i + 1)) (size ∙ sym all)
+
+-- what a walk over entries that it sees knows at a place: the operations from it on, and whether it is the last
+pub seen_at : (p : ℕ → ℕ) (seen es : List Entry) (i count : ℕ) (e : Entry) → seen ≡ es → i < length seen → e ≡ get_or seen i e → count ≡ length seen
+    → (drop i (map (op_by p) (map op_in es)) ≡ op_by p (op_in e) ∷ drop (i + 1) (map (op_by p) (map op_in es)))
+    × (is_empty (drop (i + 1) (map (op_by p) (map op_in es))) ≡ nat_eq (i + 1) count)
+seen_at p seen es i count e same less is all =
+    subst (λ (xs : List Entry). (drop i (map (op_by p) (map op_in xs)) ≡ op_by p (op_in e) ∷ drop (i + 1) (map (op_by p) (map op_in xs)))
+    × (is_empty (drop (i + 1) (map (op_by p) (map op_in xs))) ≡ nat_eq (i + 1) count)) same
+    (from_here p seen i e less is, is_last p seen i count less all)
 
 pub op_refused : (d : Design) (ports : List Port) (whole os rest : List Op) (o : Op) (last : Bool) (cause : Cause) (r : Refusal) (fault : Option Refusal)
     → os ≡ o ∷ rest → is_empty rest ≡ last → op_cause d ports whole last o ≡ Some cause → r ≡ op_refusal o cause

@@ -1,11 +1,11 @@
-use Rattle.std.proofs.Common.{◌≡◌, ◌<◌, ◌+◌, length, drop, get_or, nat_eq, sym, ap, ◌∙◌}
+use Rattle.std.proofs.Common.{◌+◌, drop, nat_eq, sym, ap, ◌∙◌}
 use Rattle.opcode.specs.declared.listed.Listed.{Listed}
 use Rattle.ir_store.specs.Designs.{design_of}
 use Rattle.ir_store.specs.OperationViews.{place_of}
 use Rattle.op_verifier.specs.Entries.{op_in}
 use Rattle.op_verifier.specs.BodyViews.{ports_viewed, body_viewed, position_viewed, op_viewed}
 use Rattle.op_verifier.specs.Faults.{refused_at}
-use Rattle.op_verifier.proofs.FaultSteps.{from_here, is_last, op_refused, op_accepted}
+use Rattle.op_verifier.proofs.FaultSteps.{seen_at, op_refused, op_accepted}
 use Rattle.op_verifier.proofs.faults.body_fault.Goals as goal
 
 pub returns-in-Some : goal.returns-in-Some
@@ -14,14 +14,9 @@ returns-in-Some c =
     let d = design_of c.args.design.now in
     let e = c.entry-item.result in
     let i = c.loop-place.place in
-    let o = op_viewed v (op_in e) in
-    let items = c.deref-entry-items.ensures.value in
-    let less : i < length v.entries.items = rw (sym items) c.loop-place-test.true in
-    let is : e ≡ get_or v.entries.items i e = c.entry-item.is ∙ ap (λ es. get_or es i e) items in
-    let all : c.len-count.result ≡ length v.entries.items = c.len-count.ensures ∙ sym c.deref-entry-items.ensures.len ∙ ap length items in
-    op_refused d (ports_viewed v) (body_viewed v) _ (drop (i + 1) (body_viewed v)) o (nat_eq (i + 1) c.len-count.result) c.in-Some.cause c.refused_at.result _
-    (from_here (position_viewed v) v.entries.items i e less is)
-    (is_last (position_viewed v) v.entries.items i c.len-count.result less all)
+    let at = seen_at (position_viewed v) _ v.entries.items i c.len-count.result e c.deref-entry-items.ensures.value c.loop-place-test.true c.entry-item.is (c.len-count.ensures ∙ sym c.deref-entry-items.ensures.len) in
+    op_refused d (ports_viewed v) (body_viewed v) _ (drop (i + 1) (body_viewed v)) (op_viewed v (op_in e)) (nat_eq (i + 1) c.len-count.result) c.in-Some.cause c.refused_at.result _
+    at.0 at.1
     (sym c.in_ok-cause.ensures ∙ c.in-Some.is)
     (c.refused_at.ensures ∙ ap (λ (l : Listed). refused_at (place_of e.op.place) l c.in-Some.cause) c.listed-name.ensures)
     c.loop-place.invariant
@@ -32,13 +27,8 @@ loop-place-preserved c =
     let d = design_of c.args.design.now in
     let e = c.entry-item.result in
     let i = c.loop-place.place in
-    let o = op_viewed v (op_in e) in
-    let items = c.deref-entry-items.ensures.value in
-    let less : i < length v.entries.items = rw (sym items) c.loop-place-test.true in
-    let is : e ≡ get_or v.entries.items i e = c.entry-item.is ∙ ap (λ es. get_or es i e) items in
-    let all : c.len-count.result ≡ length v.entries.items = c.len-count.ensures ∙ sym c.deref-entry-items.ensures.len ∙ ap length items in
-    op_accepted d (ports_viewed v) (body_viewed v) _ (drop (i + 1) (body_viewed v)) o (nat_eq (i + 1) c.len-count.result) _
-    (from_here (position_viewed v) v.entries.items i e less is)
-    (is_last (position_viewed v) v.entries.items i c.len-count.result less all)
+    let at = seen_at (position_viewed v) _ v.entries.items i c.len-count.result e c.deref-entry-items.ensures.value c.loop-place-test.true c.entry-item.is (c.len-count.ensures ∙ sym c.deref-entry-items.ensures.len) in
+    op_accepted d (ports_viewed v) (body_viewed v) _ (drop (i + 1) (body_viewed v)) (op_viewed v (op_in e)) (nat_eq (i + 1) c.len-count.result) _
+    at.0 at.1
     (sym c.in_ok-cause.ensures ∙ c.in-None.is)
     c.loop-place.invariant
