@@ -55,9 +55,10 @@ impl Place {
     pub fn along(self, count: usize) -> Place
         ensures { result ≡ further self count }
     {
+        let col = (self.col as usize).saturating_add(count);
         Place {
             line: self.line,
-            col: self.col.saturating_add(count.min(u32::MAX as usize) as u32),
+            col: col.min(u32::MAX as usize) as u32,
         }
     }
 }

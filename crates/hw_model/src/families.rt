@@ -145,6 +145,7 @@ pub enum Family<'k> {
 
 impl OpKind {
     /// The family of an operation of this kind. It says all that the kind says.
+    #[inline(always)]
     pub fn family(&self) -> Family<'_>
         ensures { family_of result ≡ kind_of self.now }
     {

@@ -83,6 +83,7 @@ impl Order {
     }
 
     /// How many ids are free.
+    #[inline]
     pub fn free(&self) -> usize
         ensures { result ≡ free_ids self.now }
     {
@@ -104,6 +105,7 @@ impl Order {
     }
 
     /// Makes room for so many more live ids.
+    #[inline(always)]
     pub fn reserve(&mut self, more: usize) -> Result<(), AllocError>
         ensures count { length self.new.links.items ≡ length self.old.links.items }
         ensures ids { live_ids self.new ≡ live_ids self.old }

@@ -65,6 +65,7 @@ fn is_hex_mark(bytes: &[u8]) -> bool
 }
 
 // A token that begins with a sign.
+#[inline(always)]
 #[tactic(auto, unfolding(crate::specs::Fronts::sign_front))]
 fn sign_front(first: u8, behind: &[u8]) -> Front
     ensures { result ≡ sign_front first behind.now }
@@ -89,6 +90,7 @@ fn sign_front(first: u8, behind: &[u8]) -> Front
 }
 
 // A token of one byte.
+#[inline(always)]
 #[tactic(auto, unfolding(crate::specs::Fronts::mark_of))]
 fn mark_front(byte: u8) -> Front
     ensures { result ≡ mark_front (mark_of byte) }
