@@ -12,6 +12,7 @@ mod event;
 mod laws;
 mod making;
 mod parts;
+mod permissions;
 mod sched;
 
 pub use event::Event;

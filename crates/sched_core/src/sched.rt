@@ -1,14 +1,10 @@
-//! The scheduler.
+//! The scheduler: its tables, and how each event changes them.
 
-ghost use Rattle.std.specs.Prelude.{◌≡◌, ◌≢◌, ◌↔◌, ℕ, ◌+◌, ◌-◌, ◌<◌, ◌≤◌, [], true, false, IsTrue, Some, None, length, map, slice_get, slice_index_or, IfOk};
-ghost use Rattle.std.specs.List.{list_all};
-ghost use Rattle.sched_core.specs.declared.parts.Stage.TheVariants.{Owed, Taken, Done};
-ghost use Rattle.sched_core.specs.declared.parts.Fill.TheVariants.{Emptied};
+ghost use Rattle.std.specs.Prelude.{◌≡◌, ◌≢◌, ◌↔◌, [], IsTrue, Some, None, map, slice_get, slice_index_or, IfOk};
 ghost use Rattle.sched_core.specs.declared.event.Event.TheVariants.{Claim, Take, TakeEdge, PutDone, PutEdge, Report, Split, Join};
-ghost use Rattle.sched_core.specs.State.{State, IsEdge, callee, leaves, IsThere, IsFree, HasReported, is_emptied, first};
+ghost use Rattle.sched_core.specs.State.{IsEdge, callee, leaves, first};
 ghost use Rattle.sched_core.specs.Runs.{AreCallees};
 ghost use Rattle.sched_core.specs.Events.{May, step};
-ghost use Rattle.sched_core.specs.Sound.{Sound};
 ghost use Rattle.sched_core.specs.Table.{state_of, heir_after};
 
 use crate::event::Event;
@@ -25,14 +21,14 @@ pub struct Sched {
     leaves: Vec<u32>,
     uses: Vec<u64>,
     stages: Vec<Stage>,
-    edges: Vec<Vec<Edge>>,
+    pub(crate) edges: Vec<Vec<Edge>>,
     pending_edges: Vec<usize>,
-    leaf: u64,
-    splits: u32,
+    pub(crate) leaf: u64,
+    pub(crate) splits: u32,
     workers: Vec<Worker>,
     heirs: Vec<u32>,
-    busy: Vec<u32>,
-    untold: Vec<u64>,
+    pub(crate) busy: Vec<u32>,
+    pub(crate) untold: Vec<u64>,
 }
 
 impl Model for Sched {
@@ -63,16 +59,6 @@ fn pass_on(heirs: &mut [u32], kept: u32, gone: u32)
     }
 }
 
-// whether each copy was taken
-fn all_emptied(row: &[Edge]) -> bool
-    ensures { result ≡ list_all (λ e. is_emptied e.fill) row.now }
-{
-    row.iter().all(|edge| match edge.fill {
-        Fill::Emptied => true,
-        Fill::Empty | Fill::Full => false,
-    })
-}
-
 impl Sched {
     /// A scheduler of modules with these callees: all modules wait, all edges are empty, and the first worker is there.
     /// The room for 64 workers is made here.
@@ -97,7 +83,7 @@ impl Sched {
     }
 
     // where the module stands; a module that there is not waits
-    fn stage(&self, m: u32) -> Stage
+    pub(crate) fn stage(&self, m: u32) -> Stage
         ensures { result ≡ (state_of self.now).stage m }
     {
         match self
@@ -114,7 +100,7 @@ impl Sched {
     }
 
     // the edge; one that there is not is as a new one
-    fn edge(&self, c: u32, i: u32) -> Edge
+    pub(crate) fn edge(&self, c: u32, i: u32) -> Edge
         ensures { result ≡ (state_of self.now).edge c i }
     {
         let none = Edge {
@@ -128,7 +114,7 @@ impl Sched {
     }
 
     // the edges of a caller
-    fn row(&self, c: u32) -> &[Edge]
+    pub(crate) fn row(&self, c: u32) -> &[Edge]
         ensures { result.now ≡ slice_index_or self.now.edges c [] }
     {
         match self.edges.get(c as usize) {
@@ -137,7 +123,7 @@ impl Sched {
         }
     }
 
-    fn has_edge(&self, c: u32, i: u32) -> bool
+    pub(crate) fn has_edge(&self, c: u32, i: u32) -> bool
         ensures { IsTrue result ↔ IsEdge self.now.callees c i }
     {
         match self.callees.get(c as usize) {
@@ -146,14 +132,14 @@ impl Sched {
         }
     }
 
-    fn callee(&self, c: u32, i: u32) -> u32
+    pub(crate) fn callee(&self, c: u32, i: u32) -> u32
         requires { IsEdge self.now.callees c i }
         ensures { result ≡ callee self.now.callees c i }
     {
         self.callees[c as usize][i as usize]
     }
 
-    fn worker(&self, w: u32) -> Worker
+    pub(crate) fn worker(&self, w: u32) -> Worker
         ensures { result ≡ (state_of self.now).worker w }
     {
         let none = Worker {
@@ -161,130 +147,6 @@ impl Sched {
             gone: true,
         };
         self.workers.get(w as usize).copied().unwrap_or(none)
-    }
-
-    fn is_there(&self, w: u32) -> bool
-        ensures { IsTrue result ↔ IsThere (state_of self.now) w }
-    {
-        w <= self.splits && !self.worker(w).gone
-    }
-
-    fn is_free(&self, w: u32) -> bool
-        requires { IsThere (state_of self.now) w }
-        ensures { IsTrue result ↔ IsFree (state_of self.now) w }
-    {
-        self.busy[w as usize] == 0
-    }
-
-    fn has_reported(&self, w: u32) -> bool
-        requires { IsThere (state_of self.now) w }
-        ensures { IsTrue result ↔ HasReported (state_of self.now) w }
-    {
-        self.untold[w as usize] == 0
-    }
-
-    fn may_claim(&self, w: u32) -> bool
-        ensures { IsTrue result ↔ May (state_of self.now) (Claim w) }
-    {
-        self.is_there(w) && !self.worker(w).passed
-    }
-
-    fn is_owed(&self, w: u32, m: u32) -> bool
-        ensures { IsTrue result ↔ ((state_of self.now).stage m ≡ Owed w) }
-    {
-        match self.stage(m) {
-            Stage::Owed(v) => v == w,
-            Stage::Waiting | Stage::Taken(_) | Stage::Done(_) => false,
-        }
-    }
-
-    fn is_taken(&self, w: u32, m: u32) -> bool
-        ensures { IsTrue result ↔ ((state_of self.now).stage m ≡ Taken w) }
-    {
-        match self.stage(m) {
-            Stage::Taken(v) => v == w,
-            Stage::Waiting | Stage::Owed(_) | Stage::Done(_) => false,
-        }
-    }
-
-    fn is_done(&self, w: u32, m: u32) -> bool
-        ensures { IsTrue result ↔ ((state_of self.now).stage m ≡ Done w) }
-    {
-        match self.stage(m) {
-            Stage::Done(v) => v == w,
-            Stage::Waiting | Stage::Owed(_) | Stage::Taken(_) => false,
-        }
-    }
-
-    fn holds(&self, fill: Fill, c: u32, i: u32) -> bool
-        ensures { IsTrue result ↔ (((state_of self.now).edge c i).fill ≡ fill) }
-    {
-        self.edge(c, i).fill == fill
-    }
-
-    fn is_emptied(&self, m: u32) -> bool
-        ensures { IsTrue result ↔ ((i : ℕ) → IsEdge self.now.callees m i → ((state_of self.now).edge m i).fill ≡ Emptied) }
-    {
-        let _ = &self.edges;
-        all_emptied(self.row(m))
-    }
-
-    fn may_take_edge(&self, w: u32, c: u32, i: u32) -> bool
-        ensures { IsTrue result ↔ May (state_of self.now) (TakeEdge w c i) }
-    {
-        self.has_edge(c, i) && (self.is_taken(w, c) && self.holds(Fill::Full, c, i))
-    }
-
-    fn may_put_done(&self, w: u32, m: u32) -> bool
-        ensures { IsTrue result ↔ May (state_of self.now) (PutDone w m) }
-    {
-        self.is_taken(w, m) && self.is_emptied(m)
-    }
-
-    fn may_put_edge(&self, w: u32, c: u32, i: u32) -> bool
-        ensures { IsTrue result ↔ May (state_of self.now) (PutEdge w c i) }
-    {
-        self.has_edge(c, i) && (self.is_done(w, self.callee(c, i)) && self.holds(Fill::Empty, c, i))
-    }
-
-    fn may_report(&self, w: u32, c: u32, i: u32) -> bool
-        ensures { IsTrue result ↔ May (state_of self.now) (Report w c i) }
-    {
-        self.has_edge(c, i)
-            && (self.is_done(w, self.callee(c, i))
-                && (self.holds(Fill::Full, c, i) && !self.edge(c, i).reported))
-    }
-
-    fn may_split(&self) -> bool
-        ensures { IsTrue result ↔ May (state_of self.now) Split }
-    {
-        self.is_there(0) && self.splits < 63
-    }
-
-    fn may_join(&self, kept: u32, gone: u32) -> bool
-        ensures { IsTrue result ↔ May (state_of self.now) (Join kept gone) }
-    {
-        kept != gone
-            && (self.is_there(kept)
-                && (self.is_there(gone) && (self.is_free(gone) && self.has_reported(gone))))
-    }
-
-    /// Whether the event may come. The state is sound.
-    pub fn may(&self, event: Event) -> bool
-        ensures may { IsTrue result ↔ May (state_of self.now) event }
-        ensures sound { Sound (state_of self.now) }
-    {
-        let _ = &self.leaf;
-        match event {
-            Event::Claim { w } => self.may_claim(w),
-            Event::Take { w, m } => self.is_owed(w, m),
-            Event::TakeEdge { w, c, i } => self.may_take_edge(w, c, i),
-            Event::PutDone { w, m } => self.may_put_done(w, m),
-            Event::PutEdge { w, c, i } => self.may_put_edge(w, c, i),
-            Event::Report { w, c, i } => self.may_report(w, c, i),
-            Event::Split => self.may_split(),
-            Event::Join { kept, gone } => self.may_join(kept, gone),
-        }
     }
 
     // the leaf m, whose turn it is, is owed to the worker
@@ -335,6 +197,7 @@ impl Sched {
         self.stages[m as usize] = Stage::Taken(w);
     }
 
+    // the worker takes the copy on an edge; `w` is named by the clauses alone, since the edge keeps no worker
     fn take_edge(&mut self, w: u32, c: u32, i: u32)
         requires { May (state_of self.old) (TakeEdge w c i) }
         ensures { state_of self.new ≡ step (state_of self.old) (TakeEdge w c i) }
@@ -355,6 +218,7 @@ impl Sched {
         self.untold[w as usize] += self.uses[m as usize];
     }
 
+    // the worker puts a copy on an edge; `w` is named by the clauses alone, since the edge keeps no worker
     fn put_edge(&mut self, w: u32, c: u32, i: u32)
         requires { May (state_of self.old) (PutEdge w c i) }
         ensures { state_of self.new ≡ step (state_of self.old) (PutEdge w c i) }
