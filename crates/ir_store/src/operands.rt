@@ -41,38 +41,16 @@ fn start(ends: &[usize], i: usize) -> usize
     if i == 0 { 0 } else { ends[i - 1] }
 }
 
-/// Where list `i` begins and ends among `whole` operands.
-fn range_of(ends: &[usize], whole: usize, i: usize) -> (usize, usize)
-    requires ends { AreEnds 0 ends.now whole }
-    requires list { i < length ends.now }
-    ensures begin { result.0 ≡ start_of 0 ends.now i }
-    ensures end { result.1 ≡ slice_index ends.now i }
-    ensures order { result.0 ≤ result.1 }
-    ensures within { result.1 ≤ whole }
-{
-    (start(ends, i), ends[i])
-}
-
 /// List `i`.
+#[tactic(auto, using(crate::proofs::Cutting::start_le_end, crate::proofs::Cutting::end_le))]
 fn list_in<'v>(ends: &[usize], values: &'v [Value], i: usize) -> &'v [Value]
     requires ends { AreEnds 0 ends.now (length values.now) }
     requires list { i < length ends.now }
     ensures { result.now ≡ slice_index_or (split_at_ends 0 ends.now values.now) i [] }
 {
-    let (begin, end) = range_of(ends, values.len(), i);
+    let begin = start(ends, i);
+    let end = ends[i];
     &values[begin..end]
-}
-
-/// Where the place `at` of list `i` stands among `whole` operands.
-fn place_in(ends: &[usize], whole: usize, i: usize, at: usize) -> usize
-    requires ends { AreEnds 0 ends.now whole }
-    requires list { i < length ends.now }
-    requires place { at < slice_index ends.now i - start_of 0 ends.now i }
-    ensures value { result ≡ start_of 0 ends.now i + at }
-    ensures within { result < whole }
-{
-    let (begin, _) = range_of(ends, whole, i);
-    begin + at
 }
 
 /// Whether two operands are the same.
@@ -269,7 +247,7 @@ impl OperandTable {
         ensures list_room { self.new.list_room ≡ self.old.list_room }
         ensures room { self.old.room ≤ self.new.room + length list.now }
     {
-        let (begin, _) = range_of(self.ends.as_slice(), self.values.len(), i);
+        let begin = start(self.ends.as_slice(), i);
         insert_all(&mut self.values, begin + at, list);
         raise(&mut self.ends, i, list.len());
     }
@@ -282,7 +260,7 @@ impl OperandTable {
         ensures list_room { self.new.list_room ≡ self.old.list_room }
         ensures room { self.new.room ≡ self.old.room + count }
     {
-        let (begin, _) = range_of(self.ends.as_slice(), self.values.len(), i);
+        let begin = start(self.ends.as_slice(), i);
         remove_all(&mut self.values, begin + at, count);
         lower(&mut self.ends, i, count);
     }
@@ -324,7 +302,7 @@ impl OperandTable {
         ensures lists { self.new.lists ≡ slice_set self.old.lists i (slice_set (slice_index_or self.old.lists i []) at value) }
         ensures room { (self.new.list_room ≡ self.old.list_room) × (self.new.room ≡ self.old.room) }
     {
-        let place = place_in(self.ends.as_slice(), self.values.len(), i, at);
-        self.values[place] = value;
+        let begin = start(self.ends.as_slice(), i);
+        self.values[begin + at] = value;
     }
 }

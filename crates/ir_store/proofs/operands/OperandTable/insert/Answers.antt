@@ -5,25 +5,25 @@ use Rattle.ir_store.proofs.Cutting.{in_table}
 use Rattle.ir_store.proofs.Joining.{within_whole, list_put_in, are_ends_put_in, ends_within, length-changed_from, length-put_in}
 use Rattle.ir_store.proofs.operands.OperandTable.insert.Goals as goal
 
-pub range_of-begin-requires-clause-list : goal.range_of-begin-requires-clause-list
-range_of-begin-requires-clause-list c =
-    rw c.as_slice.ensures.value
-    (in_table c.self.inside.ends.items c.self.inside.values.items c.args.self.now.lists c.args.i (ap (λ (t : OperandLists). t.lists) c.self.view_is) c.requires.list)
+pub start-begin-requires : goal.start-begin-requires
+start-begin-requires c =
+    let i_in = in_table c.self.inside.ends.items c.self.inside.values.items c.args.self.now.lists c.args.i (ap (λ (t : OperandLists). t.lists) c.self.view_is) c.requires.list in
+    rw c.as_slice.ensures.value (omega (arith, i_in))
 
 pub overflow_add-begin : goal.overflow_add-begin
 overflow_add-begin c =
     let i_in = in_table c.self.inside.ends.items c.self.inside.values.items c.args.self.now.lists c.args.i (ap (λ (t : OperandLists). t.lists) c.self.view_is) c.requires.list in
     let fits : start_of 0 c.self.inside.ends.items c.args.i + c.args.at ≤ length c.self.inside.values.items =
     within_whole c.self.inside.ends.items c.self.inside.values.items c.args.i c.args.at c.self.invariant.0 i_in (rw (← c.self.view_is) at c.requires.place) in
-    let begin = rw c.as_slice.ensures.value at c.range_of-begin.ensures.begin in
-    let whole : c.range_of-begin.result.0 + c.args.at ≤ length c.self.inside.values.items = omega (arith, fits, begin) in
+    let begin = rw c.as_slice.ensures.value at c.start-begin.ensures in
+    let whole : c.start-begin.result + c.args.at ≤ length c.self.inside.values.items = omega (arith, fits, begin) in
     search rules
 
 pub insert_all-requires-clause-place : goal.insert_all-requires-clause-place
 insert_all-requires-clause-place c =
     let i_in = in_table c.self.inside.ends.items c.self.inside.values.items c.args.self.now.lists c.args.i (ap (λ (t : OperandLists). t.lists) c.self.view_is) c.requires.list in
     let fits = within_whole c.self.inside.ends.items c.self.inside.values.items c.args.i c.args.at c.self.invariant.0 i_in (rw (← c.self.view_is) at c.requires.place) in
-    let begin = rw c.as_slice.ensures.value at c.range_of-begin.ensures.begin in
+    let begin = rw c.as_slice.ensures.value at c.start-begin.ensures in
     omega (arith, fits, begin)
 
 pub raise-requires : goal.raise-requires
@@ -38,7 +38,7 @@ invariant_of-self c =
     let place = rw (← c.self.view_is) at c.requires.place in
     let room = rw (← c.self.view_is) at c.requires.room in
     let fits = within_whole c.self.inside.ends.items c.self.inside.values.items c.args.i c.args.at c.self.invariant.0 i_in place in
-    let begin = rw c.as_slice.ensures.value at c.range_of-begin.ensures.begin in
+    let begin = rw c.as_slice.ensures.value at c.start-begin.ensures in
     let ends = rw c.deref_mut.ensures.value at c.raise.ensures in
     let values = rw begin at c.insert_all.ensures.items in
     let n : length c.raise.new.ends ≡ c.self.inside.ends.len =
@@ -52,7 +52,7 @@ pub returns-clause-lists : goal.returns-clause-lists
 returns-clause-lists c =
     let i_in = in_table c.self.inside.ends.items c.self.inside.values.items c.args.self.now.lists c.args.i (ap (λ (t : OperandLists). t.lists) c.self.view_is) c.requires.list in
     let place = rw (← c.self.view_is) at c.requires.place in
-    let begin = rw c.as_slice.ensures.value at c.range_of-begin.ensures.begin in
+    let begin = rw c.as_slice.ensures.value at c.start-begin.ensures in
     let ends = rw c.deref_mut.ensures.value at c.raise.ensures in
     let values = rw begin at c.insert_all.ensures.items in
     let n : length c.raise.new.ends ≡ c.self.inside.ends.len =

@@ -5,24 +5,24 @@ use Rattle.ir_store.proofs.Cutting.{in_table}
 use Rattle.ir_store.proofs.Joining.{list_cut_out, are_ends_cut_out, ends_enough, length-changed_from, length-cut_out, part_within}
 use Rattle.ir_store.proofs.operands.OperandTable.remove.Goals as goal
 
-pub range_of-begin-requires-clause-list : goal.range_of-begin-requires-clause-list
-range_of-begin-requires-clause-list c =
-    rw c.as_slice.ensures.value
-    (in_table c.self.inside.ends.items c.self.inside.values.items c.args.self.now.lists c.args.i (ap (λ (t : OperandLists). t.lists) c.self.view_is) c.requires.list)
+pub start-begin-requires : goal.start-begin-requires
+start-begin-requires c =
+    let i_in = in_table c.self.inside.ends.items c.self.inside.values.items c.args.self.now.lists c.args.i (ap (λ (t : OperandLists). t.lists) c.self.view_is) c.requires.list in
+    rw c.as_slice.ensures.value (omega (arith, i_in))
 
 pub overflow_add-begin : goal.overflow_add-begin
 overflow_add-begin c =
     let i_in = in_table c.self.inside.ends.items c.self.inside.values.items c.args.self.now.lists c.args.i (ap (λ (t : OperandLists). t.lists) c.self.view_is) c.requires.list in
     let fits = part_within c.self.inside.ends.items c.self.inside.values.items c.args.i c.args.at c.args.count c.self.invariant.0 i_in (rw (← c.self.view_is) at c.requires.place) in
-    let begin = rw c.as_slice.ensures.value at c.range_of-begin.ensures.begin in
-    let whole : c.range_of-begin.result.0 + c.args.at ≤ length c.self.inside.values.items = omega (arith, fits, begin) in
+    let begin = rw c.as_slice.ensures.value at c.start-begin.ensures in
+    let whole : c.start-begin.result + c.args.at ≤ length c.self.inside.values.items = omega (arith, fits, begin) in
     search rules
 
 pub remove_all-requires : goal.remove_all-requires
 remove_all-requires c =
     let i_in = in_table c.self.inside.ends.items c.self.inside.values.items c.args.self.now.lists c.args.i (ap (λ (t : OperandLists). t.lists) c.self.view_is) c.requires.list in
     let fits = part_within c.self.inside.ends.items c.self.inside.values.items c.args.i c.args.at c.args.count c.self.invariant.0 i_in (rw (← c.self.view_is) at c.requires.place) in
-    let begin = rw c.as_slice.ensures.value at c.range_of-begin.ensures.begin in
+    let begin = rw c.as_slice.ensures.value at c.start-begin.ensures in
     omega (arith, fits, begin)
 
 pub lower-requires : goal.lower-requires
@@ -38,7 +38,7 @@ invariant_of-self c =
     let i_in = in_table c.self.inside.ends.items c.self.inside.values.items c.args.self.now.lists c.args.i (ap (λ (t : OperandLists). t.lists) c.self.view_is) c.requires.list in
     let place = rw (← c.self.view_is) at c.requires.place in
     let fits = part_within c.self.inside.ends.items c.self.inside.values.items c.args.i c.args.at c.args.count c.self.invariant.0 i_in place in
-    let begin = rw c.as_slice.ensures.value at c.range_of-begin.ensures.begin in
+    let begin = rw c.as_slice.ensures.value at c.start-begin.ensures in
     let ends = rw c.deref_mut.ensures.value at c.lower.ensures in
     let values = rw begin at c.remove_all.ensures.items in
     let n : length c.lower.new.ends ≡ c.self.inside.ends.len =
@@ -52,7 +52,7 @@ pub returns-clause-lists : goal.returns-clause-lists
 returns-clause-lists c =
     let i_in = in_table c.self.inside.ends.items c.self.inside.values.items c.args.self.now.lists c.args.i (ap (λ (t : OperandLists). t.lists) c.self.view_is) c.requires.list in
     let place = rw (← c.self.view_is) at c.requires.place in
-    let begin = rw c.as_slice.ensures.value at c.range_of-begin.ensures.begin in
+    let begin = rw c.as_slice.ensures.value at c.start-begin.ensures in
     let ends = rw c.deref_mut.ensures.value at c.lower.ensures in
     let values = rw begin at c.remove_all.ensures.items in
     let n : length c.lower.new.ends ≡ c.self.inside.ends.len =
