@@ -6,6 +6,7 @@ mod arrays;
 pub mod bit_string;
 pub mod design;
 mod integers;
+mod joins;
 pub mod machine;
 pub mod modules;
 pub mod nets;

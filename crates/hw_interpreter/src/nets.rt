@@ -1,10 +1,9 @@
 //! The values of nets, their needs followed to a depth.
 ghost use Rattle.std.specs.Prelude.{ℕ, ◌≡◌, ◌+◌, ◌-◌, ◌∷◌, [], ◌≤◌, ◌<◌, length, take, drop, map, cond, IfOk, OnErr, IsErrOf, ◌^◌, MatchOption, Option, Some, None, option_map, slice_get};
 ghost use Rattle.bits_core.specs.Word.{Word, first};
-ghost use Rattle.wiring.specs.Options.{bind};
 ghost use Rattle.hw_model.specs.TypeViews.{type_of};
 ghost use Rattle.hw_model.specs.Design.{find_module, result_type, is_output_op};
-ghost use Rattle.hw_model.specs.Flat.{Net, instances, net, input_count, input_width, port_ref, input_of, input_source, port_source, result_source, op_source, copy_of, joined_ref, joined_at, given_ref, held_of, made_of, module_at, offset};
+ghost use Rattle.hw_model.specs.Flat.{Net, instances, net, input_width, input_of, input_source, port_source, result_source, op_source, copy_of, held_of, made_of, module_at, offset};
 ghost use Rattle.hw_model.specs.Flat.Source.{nowhere};
 ghost use Rattle.hw_interpreter.specs.DesignViews.{ref_of, op_of, port_of, module_of};
 ghost use Rattle.hw_interpreter.specs.Depth.{value_from, value_within};
@@ -16,9 +15,10 @@ ghost use Rattle.hw_interpreter.specs.Ranges.{input_range_source};
 
 use crate::bit_string::BitString;
 use crate::design::{Module, Operand, Operation, Port, Setting};
+use crate::joins::{first_ports, given_operand, joined_operand};
 use crate::modules::{
-    callee, find_module, first_operations, instance_at, instance_count, is_instance, is_register,
-    module_at, offset, output_operands, sum_of,
+    find_module, first_operations, instance_count, is_instance, is_register, module_at, offset,
+    sum_of,
 };
 use crate::operands::exact_width;
 use crate::refusal::Refusal;
@@ -35,6 +35,15 @@ pub struct Range {
     pub start: u64,
     /// How many bits it has.
     pub width: u64,
+}
+
+// an operation, by its position in the module at the end of a path of instances
+#[derive(Clone, Copy)]
+struct OperationPlace<'a> {
+    path: &'a [u32],
+    inside: &'a Module,
+    position: u32,
+    operation: &'a Operation,
 }
 
 /// The value of a net of a module: the operand of the body at the end of a path of instances, the innermost first, its
@@ -135,38 +144,49 @@ fn result_value(
         None => Ok(BitString::new(alloc)),
         Some(module) => match module.body.get(position as usize) {
             None => Ok(BitString::new(alloc)),
-            Some(operation) => operation_value(
-                alloc, at, depth, path, module, position, number, operation,
-            ),
+            Some(operation) => {
+                let one = OperationPlace {
+                    path,
+                    inside: module,
+                    position,
+                    operation,
+                };
+                operation_value(alloc, at, depth, &one, number)
+            }
         },
     }
 }
 
-// the value of a result of this operation, at that position of the module at the end of a path
+// the value of a result of an operation that stands there
 #[cycle(net)]
 fn operation_value(
     alloc: Global,
     at: &Setting,
     depth: u32,
-    path: &[u32],
-    inside: &Module,
-    position: u32,
+    one: &OperationPlace<'_>,
     number: u32,
-    operation: &Operation,
 ) -> Result<BitString, Refusal>
     ensures value { IfOk result (λ word. word ≡ value_from at.now.inputs.now at.now.content.now (value_within (map module_of at.now.modules.now) at.now.top.now at.now.inputs.now at.now.content.now depth)
-        (op_source (map module_of at.now.modules.now) at.now.top.now path.now (module_of inside.now) position number (op_of operation.now))) }
+        (op_source (map module_of at.now.modules.now) at.now.top.now one.now.path.now (module_of one.now.inside.now) one.now.position number (op_of one.now.operation.now))) }
     ensures refuses { IsErrOf result NotFitting → ¬ SuitsFrom (value_within (map module_of at.now.modules.now) at.now.top.now at.now.inputs.now at.now.content.now depth) (SuitsWithin (map module_of at.now.modules.now) at.now.top.now at.now.inputs.now at.now.content.now depth)
-        (op_source (map module_of at.now.modules.now) at.now.top.now path.now (module_of inside.now) position number (op_of operation.now)) }
+        (op_source (map module_of at.now.modules.now) at.now.top.now one.now.path.now (module_of one.now.inside.now) one.now.position number (op_of one.now.operation.now)) }
 {
-    if is_register(operation) {
-        return held_value(alloc, at, depth, path, inside, position, number, operation);
+    if is_register(one.operation) {
+        return held_value(alloc, at, depth, one, number);
     }
-    if is_instance(operation) {
-        let operand = given_operand(at.modules, operation, number);
-        return given_value(alloc, at, depth, path, inside, position, operand);
+    if is_instance(one.operation) {
+        let operand = given_operand(at.modules, one.operation, number);
+        return given_value(
+            alloc,
+            at,
+            depth,
+            one.path,
+            one.inside,
+            one.position,
+            operand,
+        );
     }
-    made_value(alloc, at, depth, path, operation, number)
+    made_value(alloc, at, depth, one.path, one.operation, number)
 }
 
 // the value of the net that the module of an instance gives, if there is one
@@ -325,79 +345,27 @@ fn type_at(types: &[Ty], number: u32) -> Option<&Ty>
     }
 }
 
-// the value of a register's result
+// the value of a register's result; `depth` is named by the clauses alone, since what is held needs no other net
 fn held_value(
     alloc: Global,
     at: &Setting,
     depth: u32,
-    path: &[u32],
-    inside: &Module,
-    position: u32,
+    one: &OperationPlace<'_>,
     number: u32,
-    operation: &Operation,
 ) -> Result<BitString, Refusal>
     ensures value { IfOk result (λ word. word ≡ value_from at.now.inputs.now at.now.content.now (value_within (map module_of at.now.modules.now) at.now.top.now at.now.inputs.now at.now.content.now depth)
-        (held_of (offset (map module_of at.now.modules.now) at.now.top.now path.now (module_of inside.now) position) (result_type (op_of operation.now) number))) }
+        (held_of (offset (map module_of at.now.modules.now) at.now.top.now one.now.path.now (module_of one.now.inside.now) one.now.position) (result_type (op_of one.now.operation.now) number))) }
     ensures refuses { IsErrOf result NotFitting → ¬ SuitsFrom (value_within (map module_of at.now.modules.now) at.now.top.now at.now.inputs.now at.now.content.now depth) (SuitsWithin (map module_of at.now.modules.now) at.now.top.now at.now.inputs.now at.now.content.now depth)
-        (held_of (offset (map module_of at.now.modules.now) at.now.top.now path.now (module_of inside.now) position) (result_type (op_of operation.now) number)) }
+        (held_of (offset (map module_of at.now.modules.now) at.now.top.now one.now.path.now (module_of one.now.inside.now) one.now.position) (result_type (op_of one.now.operation.now) number)) }
 {
-    match result_ty(operation, number) {
+    match result_ty(one.operation, number) {
         None => Ok(BitString::new(alloc)),
         Some(ty) => {
             let width = exact_width(ty)?;
-            let start = offset(at.modules, at.top, path, inside, position)?;
+            let start = offset(at.modules, at.top, one.path, one.inside, one.position)?;
             let word = pad(alloc, bits_after(at.content, start), width)?;
             Ok(word)
         }
-    }
-}
-
-// what an instance of the module at the end of a path joins to a port of its module
-fn joined_operand(at: &Setting, path: &[u32], number: u32, port: u32) -> Option<Operand>
-    ensures { option_map ref_of result ≡ bind (module_at (map module_of at.now.modules.now) at.now.top.now path.now) (joined_at (map module_of at.now.modules.now) number port) }
-{
-    match module_at(at.modules, at.top, path) {
-        None => None,
-        Some(inside) => match instance_at(inside.body.as_slice(), number) {
-            None => None,
-            Some(operation) => joined_to(at.modules, operation, port),
-        },
-    }
-}
-
-fn joined_to(modules: &[Module], operation: &Operation, port: u32) -> Option<Operand>
-    ensures { option_map ref_of result ≡ joined_ref (map module_of modules.now) port (op_of operation.now) }
-{
-    match callee(modules, operation) {
-        None => None,
-        Some(own) => port_operand(own.ports.as_slice(), operation.operands.as_slice(), port),
-    }
-}
-
-// the operand that stands for an input port
-fn port_operand(ports: &[Port], operands: &[Operand], port: u32) -> Option<Operand>
-    ensures { option_map ref_of result ≡ port_ref (map port_of ports.now) (map ref_of operands.now) port }
-{
-    match ports.get(port as usize) {
-        None => None,
-        Some(own) => {
-            if own.is_output {
-                return None;
-            }
-            operands.get(input_count(first_ports(ports, port))).copied()
-        }
-    }
-}
-
-// what the module that an operation instances gives to its output of that number
-fn given_operand(modules: &[Module], operation: &Operation, number: u32) -> Option<Operand>
-    ensures { option_map ref_of result ≡ given_ref (map module_of modules.now) number (op_of operation.now) }
-{
-    match callee(modules, operation) {
-        None => None,
-        Some(own) => output_operands(own.body.as_slice())
-            .get(number as usize)
-            .copied(),
     }
 }
 
@@ -416,30 +384,4 @@ fn input_width(ports: &[Port]) -> Result<u64, Refusal>
             sum_of(exact_width(&first.ty)?, others)
         }
     }
-}
-
-// how many of the ports are inputs
-fn input_count(ports: &[Port]) -> usize
-    ensures value { result ≡ input_count (map port_of ports.now) }
-    ensures within { result ≤ length ports.now }
-{
-    match ports {
-        [] => 0,
-        [first, rest @ ..] => {
-            if first.is_output {
-                return input_count(rest);
-            }
-            1 + input_count(rest)
-        }
-    }
-}
-
-// the first ports, as many as there are
-fn first_ports(ports: &[Port], count: u32) -> &[Port]
-    ensures { map port_of result.now ≡ take count (map port_of ports.now) }
-{
-    if count as usize >= ports.len() {
-        return ports;
-    }
-    ports.split_at(count as usize).0
 }
