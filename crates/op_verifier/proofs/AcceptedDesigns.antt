@@ -8,7 +8,7 @@ use Rattle.hw_model.specs.Types.{Name}
 use Rattle.hw_model.specs.Types.HwType.{int}
 use Rattle.hw_model.specs.Kinds.{Instance}
 use Rattle.hw_model.specs.Kinds.Kind.{constant}
-use Rattle.hw_model.specs.Design.{OpResult, Op, Module, Design, op_without_place, module_without_places, without_places, IsSameDesign, find_module, instance_in}
+use Rattle.hw_model.specs.Design.{Op, Module, Design, op_without_place, module_without_places, without_places, IsSameDesign, find_module, instance_in}
 use Rattle.hw_model.specs.Design.Ref.{result}
 use Rattle.hw_model.specs.Flat.{Net, net}
 use Rattle.hw_model.specs.Hierarchy.{HasNoRecursion}
@@ -19,16 +19,14 @@ use Rattle.design_cycles.proofs.Callees.{found_at}
 use Rattle.design_cycles.proofs.Cyclic.{cyclic_op, none_cyclic}
 use Rattle.design_cycles.proofs.Returning.{none_recursive}
 use Rattle.op_verifier.specs.Faults.{first_fault}
-use Rattle.op_verifier.specs.Answers.{or_else}
 use Rattle.op_verifier.specs.LimitChecks.{has_constant_outside}
 use Rattle.op_verifier.specs.LiteralChecks.{is_out_of_range}
-use Rattle.op_verifier.specs.OpChecks.{settled_type, divides_by_constant, value_cause, alone_cause, outer_cause}
 use Rattle.op_verifier.specs.Verdict.{IsInRange, OpAt, NoOp, NoModule, IsRecursive, IsTooLarge, IsOnCycle, IsAccepted}
 use Rattle.op_verifier.proofs.Distinct.{distinct_symbols}
-use Rattle.op_verifier.proofs.NoCause.{no_constant_outside}
+use Rattle.op_verifier.proofs.NoOwnCause.{no_cause_alone}
 use Rattle.op_verifier.proofs.Placeless.{calls_placeless, weight_placeless, needs_placeless}
 use Rattle.op_verifier.proofs.PlacelessFaults.{fault_placeless}
-use Rattle.op_verifier.proofs.Unrefused.{or_none, ops_unrefused, module_unrefused}
+use Rattle.op_verifier.proofs.Unrefused.{no_op_cause, ops_unrefused, module_unrefused}
 use Rattle.op_verifier.proofs.WholeDesigns.{unmapped, Forms, recursive_forms, cyclic_forms}
 
 module _ (d : Design) (accepted : IsAccepted d) where
@@ -129,8 +127,7 @@ constant_in_range d n j m o z w accepted at kind types =
     let found : find_module d m.symbol ≡ Some m = (found_at d (accepted_distinct d accepted) n m at.module_there).1 in
     let body = (module_unrefused d (no_fault d accepted) m.symbol m found).body in
     let unrefused = ops_unrefused d m.ports m.body m.body body j o at.op_there in
-    let later = or_none (value_cause m.ports m.body o) (or_else (alone_cause m.ports m.body o) (outer_cause d m.ports unrefused.last o)) unrefused.none in
-    let alone = or_none (alone_cause m.ports m.body o) (outer_cause d m.ports unrefused.last o) later.1 in
-    let inside = no_constant_outside o.kind o.types (map (λ (r : OpResult). r.type) o.results) o.named (map (settled_type m.ports m.body) o.operands) (divides_by_constant m.body o.operands) alone.0 in
+    let none = no_op_cause d m.ports m.body unrefused.last o unrefused.none in
+    let inside = (no_cause_alone m.ports m.body o none.alone).constant in
     let same : has_constant_outside (constant z) (int w ∷ []) ≡ has_constant_outside o.kind o.types = sym (ap₂ (λ k ts. has_constant_outside k ts) kind types) in
     within_range z w (same ∙ inside)

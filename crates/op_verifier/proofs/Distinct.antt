@@ -1,13 +1,11 @@
 -- Symbols of modules of which nothing is refused.
 use Rattle.std.proofs.Common.{◌≡◌, ℕ, zero, suc, ◌+◌, ◌<◌, Bool, true, false, cond, is_some, List, [], ◌∷◌, take, slice_get, Some, None, option_map, refl, sym, ap, ◌∙◌, arith, ◌⊎◌, inl, inr}
-use Rattle.diag.specs.declared.cause.Cause.TheVariants.{DuplicateSymbol}
 use Rattle.hw_model.specs.Types.{Name}
 use Rattle.hw_model.specs.Design.{Module, Design, same_name, find_module}
 use Rattle.hw_model.specs.Equality.{name_self}
-use Rattle.op_verifier.specs.Answers.{when}
-use Rattle.op_verifier.specs.Headers.{ports_cause, names_cause, header_cause}
+use Rattle.op_verifier.specs.Headers.{header_cause}
 use Rattle.op_verifier.specs.Faults.{header_refusal, body_fault, module_fault, faults_from, first_fault}
-use Rattle.op_verifier.proofs.Unrefused.{or_none, map_none, when_none}
+use Rattle.op_verifier.proofs.Unrefused.{or_none, map_none, no_header_cause}
 
 -- no module before one has its symbol
 not_before : (d : Design) (n : ℕ) (ms : List Module) → faults_from d n ms ≡ None → (i : ℕ) (m : Module) → slice_get ms i ≡ Some m
@@ -16,13 +14,12 @@ not_before d n [] h i m there = cc
 not_before d n (x ∷ ms) h zero m there =
     let both = or_none (module_fault d n x) (faults_from d (suc n) ms) h in
     let parts = or_none (option_map (header_refusal x) (header_cause d n x)) (body_fault d x.ports x.body x.body) both.0 in
-    let causes = or_none (ports_cause x.ports) (names_cause d n x.symbol x.ports x.body) (map_none (header_refusal x) (header_cause d n x) parts.0) in
-    let names = or_none (when (is_some (find_module (take n d) x.symbol)) DuplicateSymbol) _ causes.1 in
+    let none = no_header_cause d n x (map_none (header_refusal x) (header_cause d n x) parts.0) in
     let same : x ≡ m = cc in
     let e : n + 0 ≡ n = omega arith in
     ap (λ (k : ℕ). is_some (find_module (take k d) m.symbol)) e
     ∙ ap (λ (y : Module). is_some (find_module (take n d) y.symbol)) (sym same)
-    ∙ when_none (is_some (find_module (take n d) x.symbol)) DuplicateSymbol names.0
+    ∙ none.symbol
 not_before d n (x ∷ ms) h (suc i) m there =
     let both = or_none (module_fault d n x) (faults_from d (suc n) ms) h in
     let e : n + suc i ≡ suc n + i = omega arith in

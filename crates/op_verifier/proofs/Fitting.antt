@@ -11,15 +11,12 @@ use Rattle.hw_model.specs.Sound.{Fits}
 use Rattle.ir_store.specs.ResultTypes.{first_type, second_type, result_type, result_types, result_count}
 use Rattle.op_verifier.specs.TypeLists.{settled}
 use Rattle.op_verifier.specs.OperandChecks.{has_other_form, has_other_operand}
-use Rattle.op_verifier.specs.LimitChecks.{has_outside_leaf, has_outside_array, has_type_outside, has_extract_outside, has_broken_copy, has_wide_concat, are_unequal, has_unequal_widths, has_unknown_field, has_wrong_field}
+use Rattle.op_verifier.specs.LimitChecks.{has_extract_outside, has_broken_copy, has_wide_concat, are_unequal, has_unequal_widths}
 use Rattle.op_verifier.specs.CountChecks.{operand_count, type_count, has_miscounted_parts}
 use Rattle.op_verifier.specs.OwnChecks.{own_cause}
-use Rattle.op_verifier.specs.TypeChecks.{is_outside, has_bad_field}
-use Rattle.std.specs.List.{list_any}
-use Rattle.op_verifier.proofs.Widths.{neither}
 use Rattle.op_verifier.proofs.Agreeing.{same_number, pairwise_agreed, prefix_agreed}
 use Rattle.op_verifier.proofs.FitArrays.{creation, joining, element, slicing, injection}
-use Rattle.op_verifier.proofs.NoCause.{NoCause, no_cause}
+use Rattle.op_verifier.proofs.NoOwnCause.{NoOwnCause, no_settled_cause}
 use Rattle.op_verifier.proofs.FitStructs.{aggregate, construction, selection, exchange, explosion, plain_register, enabled_register, without_results}
 use Rattle.op_verifier.proofs.FitIntegers.{variadic_fits, binary, unary, comparison, parities, extraction, replication, concatenation, choice, recast, none_left}
 
@@ -38,17 +35,7 @@ joined_count m n h e = omega arith
 some_joined : (m n : ℕ) → n ≡ max 1 m → m ≡ n → 1 ≤ m
 some_joined m n h e = omega arith
 
--- the array that is made is within the limits
-array_within : (kind : Kind) (ts rs : List HwType) → has_type_outside kind ts rs ≡ false → has_outside_array kind rs ≡ false
-unfolding has_type_outside
-array_within kind ts rs h = (neither (has_outside_leaf kind) _ (neither (list_any is_outside ts) _ h).1).1
-
--- the field of an operation is in its struct
-field_known : (kind : Kind) (ts : List HwType) → has_wrong_field kind ts ≡ false → has_unknown_field kind ts ≡ false
-unfolding has_wrong_field
-field_known kind ts h = (neither (list_any has_bad_field ts) _ h).1
-
-fits_by : (kind : Kind) (ts rs us : List HwType) → NoCause kind ts rs us → (k : ℕ) (t : HwType) → slice_get rs k ≡ Some t → Fits kind ts (settled us) t k
+fits_by : {named : ℕ} {is_known : Bool} (kind : Kind) (ts rs us : List HwType) → NoOwnCause kind ts rs named (length us) (settled us) is_known → (k : ℕ) (t : HwType) → slice_get rs k ≡ Some t → Fits kind ts (settled us) t k
 unfolding has_other_form has_other_operand operand_count type_count result_type result_types result_count has_extract_outside has_broken_copy has_wide_concat has_unequal_widths has_miscounted_parts
 fits_by (variadic v) ts rs us h k t e = variadic_fits ts rs us k t h.types h.results h.operand h.result e
 fits_by sub ts rs us h k t e = binary ts rs us k t h.types h.results h.operands h.operand h.result e
@@ -62,14 +49,14 @@ fits_by replicate ts rs us h k t e = replication ts rs us k t h.types h.results 
 fits_by mux ts rs us h k t e = choice ts rs us k t h.types h.results h.operands h.operand h.result e
 fits_by (constant z) ts rs us h k t e = none_left us h.operands
 fits_by (aggregate_constant ls) ts rs us h k t e = aggregate ls ts rs us k t h.types h.operands h.results h.operand h.parts h.result e
-fits_by (on_array array_create) ts rs us h k t e = creation ts rs us k t h.types h.results h.operand (array_within (on_array array_create) ts rs h.limit) h.result e
-fits_by (on_array array_concat) ts rs us h k t e = joining ts rs us k t (some_joined (length ts) (length us) h.operands h.types) (joined_count (length ts) (length us) h.operands h.types) h.results h.form h.operand (array_within (on_array array_concat) ts rs h.limit) h.result e
+fits_by (on_array array_create) ts rs us h k t e = creation ts rs us k t h.types h.results h.operand h.array h.result e
+fits_by (on_array array_concat) ts rs us h k t e = joining ts rs us k t (some_joined (length ts) (length us) h.operands h.types) (joined_count (length ts) (length us) h.operands h.types) h.results h.form h.operand h.array h.result e
 fits_by (on_array array_get) ts rs us h k t e = element ts rs us k t h.types h.operands h.results h.form h.operand h.result e
 fits_by (on_array array_slice) ts rs us h k t e = slicing ts rs us k t h.types h.operands h.results h.form h.operand h.result e
 fits_by (on_array array_inject) ts rs us h k t e = injection ts rs us k t h.types h.operands h.results h.form h.operand h.result e
 fits_by (on_struct struct_create) ts rs us h k t e = construction ts rs us k t h.types h.operands h.results h.form h.operand h.result e
-fits_by (on_struct (struct_extract name)) ts rs us h k t e = selection name ts rs us k t h.types h.operands h.results h.form h.operand (field_known (on_struct (struct_extract name)) ts h.field) h.result e
-fits_by (on_struct (struct_inject name)) ts rs us h k t e = exchange name ts rs us k t h.types h.operands h.results h.form h.operand (field_known (on_struct (struct_inject name)) ts h.field) h.result e
+fits_by (on_struct (struct_extract name)) ts rs us h k t e = selection name ts rs us k t h.types h.operands h.results h.form h.operand h.field h.result e
+fits_by (on_struct (struct_inject name)) ts rs us h k t e = exchange name ts rs us k t h.types h.operands h.results h.form h.operand h.field h.result e
 fits_by (on_struct struct_explode) ts rs us h k t e = explosion ts rs us k t h.types h.operands h.results h.form h.operand h.result e
 fits_by bitcast ts rs us h k t e = recast ts rs us k t h.types h.results h.operands h.operand (λ u v. equal_widths (first_type ts) (second_type ts) u v h.widths) h.result e
 fits_by wire ts rs us h k t e = unary ts rs us k t h.types h.results h.operands h.operand h.result e
@@ -81,10 +68,10 @@ fits_by (register firreg r) ts rs us h k t e = plain_register r ts rs us k t h.t
 
 pub fits : (kind : Kind) (ts rs : List HwType) (named : ℕ) (us : List HwType) (is_known : Bool) → own_cause kind ts rs named (settled us) is_known ≡ None
     → (k : ℕ) (t : HwType) → slice_get rs k ≡ Some t → Fits kind ts (settled us) t k
-fits kind ts rs named us is_known h = fits_by kind ts rs us (no_cause kind ts rs us named is_known h)
+fits kind ts rs named us is_known h = fits_by kind ts rs us (no_settled_cause kind ts rs named us is_known h)
 
 -- an instance's operands and results have its written types
-instance_by : (i : Instance) (ts rs us : List HwType) → NoCause (instance i) ts rs us → (us ≡ take (length i.inputs) ts) × (rs ≡ drop (length i.inputs) ts)
+instance_by : {named : ℕ} {is_known : Bool} (i : Instance) (ts rs us : List HwType) → NoOwnCause (instance i) ts rs named (length us) (settled us) is_known → (us ≡ take (length i.inputs) ts) × (rs ≡ drop (length i.inputs) ts)
 unfolding has_other_operand operand_count type_count result_types result_count
 instance_by i ts rs us h =
     let n : length us ≡ length i.inputs = h.operands in
@@ -97,12 +84,12 @@ instance_by i ts rs us h =
 
 pub instance_types : (i : Instance) (ts rs : List HwType) (named : ℕ) (us : List HwType) (is_known : Bool)
     → own_cause (instance i) ts rs named (settled us) is_known ≡ None → (us ≡ take (length i.inputs) ts) × (rs ≡ drop (length i.inputs) ts)
-instance_types i ts rs named us is_known h = instance_by i ts rs us (no_cause (instance i) ts rs us named is_known h)
+instance_types i ts rs named us is_known h = instance_by i ts rs us (no_settled_cause (instance i) ts rs named us is_known h)
 
 -- an output's operands have its written types
-output_by : (ts rs us : List HwType) → NoCause output ts rs us → us ≡ ts
+output_by : {named : ℕ} {is_known : Bool} (ts rs us : List HwType) → NoOwnCause output ts rs named (length us) (settled us) is_known → us ≡ ts
 unfolding has_other_operand operand_count
 output_by ts rs us h = pairwise_agreed us ts h.operands h.operand
 
 pub output_types : (ts rs : List HwType) (named : ℕ) (us : List HwType) (is_known : Bool) → own_cause output ts rs named (settled us) is_known ≡ None → us ≡ ts
-output_types ts rs named us is_known h = output_by ts rs us (no_cause output ts rs us named is_known h)
+output_types ts rs named us is_known h = output_by ts rs us (no_settled_cause output ts rs named us is_known h)

@@ -11,7 +11,7 @@ pub mod Found
 pub mod Lists
 pub mod Mismatch
 pub mod Names
-pub mod NoCause
+pub mod NoOwnCause
 pub mod Owned
 pub mod Placeless
 pub mod PlacelessFaults

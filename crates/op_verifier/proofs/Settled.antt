@@ -1,69 +1,24 @@
 -- The types that an operation settles for its results, where nothing is refused of it by itself: they are those of its results.
-use Rattle.std.proofs.Common.{◌≡◌, ℕ, ◌+◌, ◌≤◌, max, Bool, true, false, cond, not, List, [], ◌∷◌, take, drop, length, nat_eq, is_none, Option, Some, None, refl, sym, ap, ◌∙◌, arith}
+use Rattle.std.proofs.Common.{◌≡◌, ℕ, ◌+◌, max, Bool, false, cond, not, List, [], ◌∷◌, drop, length, is_none, Option, Some, None, refl, sym, ap, ◌∙◌, arith}
 use Rattle.std.specs.List.{list_any}
-use Rattle.std.proofs.lemmas.List.{length-map, length-drop}
+use Rattle.std.proofs.lemmas.List.{length-drop}
 use Rattle.hw_model.specs.Types.{HwType}
 use Rattle.hw_model.specs.Types.HwType.{int, clock, array, struct}
-use Rattle.hw_model.specs.Kinds.{Kind, Instance}
+use Rattle.hw_model.specs.Kinds.{Kind}
 use Rattle.hw_model.specs.Kinds.ArrayOp.{array_create, array_concat, array_get, array_slice, array_inject}
 use Rattle.hw_model.specs.Kinds.StructOp.{struct_create, struct_extract, struct_inject, struct_explode}
 use Rattle.hw_model.specs.Kinds.Kind.{variadic, sub, division, shift, icmp, parity, extract, concat, replicate, mux, constant, aggregate_constant, on_array, on_struct, bitcast, wire, instance, output, register}
 use Rattle.hw_model.specs.Sound.{field_list}
-use Rattle.hw_model.specs.SameType.{same_type, type_from}
+use Rattle.hw_model.specs.SameType.{same_type}
 use Rattle.ir_store.specs.ResultTypes.{first_type, second_type, with_width, joined_width, elements_in, sum_of, length_joined, joined_length, kept_size, as_int, as_array, array_of, element_of, field_of, fields_of, field_count, result_type, result_types, result_count}
 use Rattle.op_verifier.specs.TypeChecks.{is_int}
-use Rattle.op_verifier.specs.TypeLists.{settled, is_no_int, is_no_array, differs, differ}
-use Rattle.op_verifier.specs.OperandChecks.{is_no_array_of, has_other_array, has_other_form, has_other_operand, has_other_result, has_mismatch}
-use Rattle.op_verifier.specs.LimitChecks.{has_type_outside, has_constant_outside, has_extract_outside, has_broken_copy, has_wide_concat, has_unknown_divisor, has_wrong_index, has_unknown_field, has_wrong_field, has_unequal_widths, has_clock_value}
-use Rattle.op_verifier.specs.CountChecks.{operand_count, type_count, has_wrong_operands, has_wrong_results, has_wrong_count}
-use Rattle.op_verifier.specs.OwnChecks.{own_cause}
+use Rattle.op_verifier.specs.TypeLists.{settled, is_no_int, is_no_array, differ}
+use Rattle.op_verifier.specs.OperandChecks.{is_no_array_of, has_other_array, has_other_form}
+use Rattle.op_verifier.specs.LimitChecks.{has_unknown_field}
+use Rattle.op_verifier.specs.CountChecks.{operand_count, type_count}
 use Rattle.op_verifier.proofs.Widths.{neither}
-use Rattle.op_verifier.proofs.Agreeing.{not_false, same_number, pairwise_agreed}
-use Rattle.op_verifier.proofs.NoCause.{uncaused}
-
--- ---- what no cause says
-
--- the tests that do not hold
-pub record Accepted (kind : Kind) (ts rs : List HwType) (xs : List (Option HwType)) : Type 0 where
-  pub form : has_other_form kind ts ≡ false
-  pub operand : has_other_operand kind ts xs ≡ false
-  pub result : differ (settled rs) (result_types kind ts (length xs)) ≡ false
-  pub field : has_unknown_field kind ts ≡ false
-  pub operands : length xs ≡ operand_count kind ts (length xs)
-  pub types : length ts ≡ type_count kind (length xs)
-  pub results : length rs ≡ result_count kind ts
-
-pub accepted : (kind : Kind) (ts rs : List HwType) (named : ℕ) (xs : List (Option HwType)) (b : Bool) → own_cause kind ts rs named xs b ≡ None → Accepted kind ts rs xs
-unfolding own_cause has_mismatch has_wrong_field has_wrong_count has_wrong_operands has_wrong_results has_other_result
-accepted kind ts rs named xs b h =
-    let p3 = uncaused (has_mismatch kind ts rs xs) _ _ h in
-    let p4 = uncaused (has_type_outside kind ts rs) _ _ p3.1 in
-    let p5 = uncaused (has_constant_outside kind ts) _ _ p4.1 in
-    let p6 = uncaused (has_extract_outside kind ts) _ _ p5.1 in
-    let p7 = uncaused (has_broken_copy kind ts) _ _ p6.1 in
-    let p8 = uncaused (has_wide_concat kind ts) _ _ p7.1 in
-    let p9 = uncaused (has_unknown_divisor kind b) _ _ p8.1 in
-    let p10 = uncaused (has_wrong_index kind ts xs) _ _ p9.1 in
-    let p11 = uncaused (has_wrong_field kind ts) _ _ p10.1 in
-    let p12 = uncaused (has_unequal_widths kind ts) _ _ p11.1 in
-    let p13 = uncaused (has_clock_value kind ts xs) _ _ p12.1 in
-    let p14 = uncaused (has_wrong_count kind ts rs named xs) _ _ p13.1 in
-    let m = neither (has_other_form kind ts) _ p3.0 in
-    let o = neither (has_other_operand kind ts xs) _ m.1 in
-    let f = neither (list_any _ ts) (has_unknown_field kind ts) p11.0 in
-    let c = neither (has_wrong_operands kind ts (length xs)) _ p14.0 in
-    let d = neither (has_wrong_results kind ts (length rs) named) _ c.1 in
-    let e = neither (not (nat_eq (length xs) (operand_count kind ts (length xs)))) _ c.0 in
-    let g = neither (not (nat_eq named (result_count kind ts))) _ d.0 in
-    record {
-      form = m.0;
-      operand = o.0;
-      result = o.1;
-      field = f.1;
-      operands = same_number (length xs) (operand_count kind ts (length xs)) e.0;
-      types = same_number (length ts) (type_count kind (length xs)) e.1;
-      results = same_number (length rs) (result_count kind ts) g.1;
-    }
+use Rattle.op_verifier.proofs.Agreeing.{not_false, pairwise_agreed}
+use Rattle.op_verifier.proofs.NoOwnCause.{NoOwnCause}
 
 -- ---- the types that are settled
 
@@ -183,38 +138,9 @@ settles_all (instance i) ts n form field operands types =
     record { us = drop (length i.inputs) ts; same = refl; number = length-drop (length i.inputs) ts }
 settles_all output ts n form field operands types = record { us = []; same = refl; number = refl }
 
--- an operation that is not refused by itself has results of the types that it settles
-pub settles : (kind : Kind) (ts rs : List HwType) (named : ℕ) (xs : List (Option HwType)) (b : Bool) → own_cause kind ts rs named xs b ≡ None
-    → result_types kind ts (length xs) ≡ settled rs
-settles kind ts rs named xs b h =
-    let a = accepted kind ts rs named xs b h in
-    let s = settles_all kind ts (length xs) a.form a.field a.operands a.types in
-    s.same ∙ ap settled (sym (pairwise_agreed rs s.us (a.results ∙ sym s.number) (ap (differ (settled rs)) (sym s.same) ∙ a.result)))
-
--- the first of some types, which differ nowhere from others
-first_types : (us ts : List HwType) → length us ≤ length ts → differ (settled us) (settled ts) ≡ false → us ≡ take (length us) ts
-first_types [] ts n h = refl
-first_types (u ∷ us) [] n h = absurd (omega (arith, n))
-first_types (u ∷ us) (t ∷ ts) n h =
-    let p = neither (differs (Some u) (Some t)) (differ (settled us) (settled ts)) h in
-    let e : u ≡ t = type_from u t (not_false (same_type u t) p.0) in
-    let f : us ≡ take (length us) ts = first_types us ts (omega (arith, n)) p.1 in cc
-
--- the operands of an instance that is not refused by itself have the types that it writes first
-pub instance_operands : (i : Instance) (ts rs : List HwType) (named : ℕ) (us : List HwType) (b : Bool) → own_cause (instance i) ts rs named (settled us) b ≡ None
-    → us ≡ take (length i.inputs) ts
-unfolding has_other_operand operand_count type_count
-instance_operands i ts rs named us b h =
-    let a = accepted (instance i) ts rs named (settled us) b h in
-    let n : length (settled us) ≡ length us = length-map us (λ (t : HwType). Some t) in
-    let inputs : length us ≡ length i.inputs = sym n ∙ a.operands in
-    let all : length ts ≡ length i.inputs + length i.outputs = a.types in
-    first_types us ts (omega (arith, inputs, all)) a.operand ∙ ap (λ (k : ℕ). take k ts) inputs
-
--- those of an output have the types that it writes
-pub output_operands : (ts rs : List HwType) (named : ℕ) (us : List HwType) (b : Bool) → own_cause output ts rs named (settled us) b ≡ None → us ≡ ts
-unfolding has_other_operand operand_count type_count
-output_operands ts rs named us b h =
-    let a = accepted output ts rs named (settled us) b h in
-    let n : length (settled us) ≡ length us = length-map us (λ (t : HwType). Some t) in
-    pairwise_agreed us ts (sym n ∙ a.operands) a.operand
+-- an operation without a cause of its own has results of the types that it settles
+pub settles : {named n : ℕ} {xs : List (Option HwType)} {is_known : Bool} (kind : Kind) (ts rs : List HwType) → NoOwnCause kind ts rs named n xs is_known
+    → result_types kind ts n ≡ settled rs
+settles {n = n} kind ts rs h =
+    let s = settles_all kind ts n h.form h.field h.operands h.types in
+    s.same ∙ ap settled (sym (pairwise_agreed rs s.us (h.results ∙ sym s.number) (ap (differ (settled rs)) (sym s.same) ∙ h.result)))

@@ -1,10 +1,9 @@
--- A design of which nothing is refused is sound, where what is said of one operation by itself holds.
+-- A design of which nothing is refused is sound.
 use Rattle.std.proofs.Common.{◌≡◌, ℕ, zero, suc, Bool, true, false, cond, not, ◌&&◌, is_some, List, [], ◌∷◌, map, take, drop, length, slice_get, slice_index_or, Option, Some, None, refl, sym, ap, ◌∙◌, subst}
 use Rattle.std.specs.Cmp.Lexicographic.{pointwise}
-use Rattle.std.proofs.lemmas.List.{length-map}
 use Rattle.std.proofs.lemmas.Option.{slice_get-map}
 use Rattle.wiring.specs.Options.{bind}
-use Rattle.diag.specs.declared.cause.Cause.TheVariants.{Redefined, Undefined, OutputMismatch, InstancePorts, MissingOutput, DuplicateSymbol, DuplicatePort}
+use Rattle.diag.specs.declared.cause.Cause.TheVariants.{InstancePorts}
 use Rattle.hw_model.specs.Types.{HwType}
 use Rattle.hw_model.specs.Kinds.{Kind, Instance}
 use Rattle.hw_model.specs.Kinds.Kind.{instance, output}
@@ -12,32 +11,15 @@ use Rattle.hw_model.specs.Design.{Ref, Port, OpResult, Op, Module, Design, find_
 use Rattle.hw_model.specs.Design.Ref.{port, result, undefined}
 use Rattle.hw_model.specs.Sound.{input_types, output_types, type_in, Fits, OpFits, InstanceFits, Sound}
 use Rattle.hw_model.specs.SameType.{same_type, type_from}
-use Rattle.ir_store.specs.ResultTypes.{result_types}
-use Rattle.op_verifier.specs.Answers.{when, or_else}
+use Rattle.op_verifier.specs.TypeLists.{settled}
 use Rattle.op_verifier.specs.OwnChecks.{own_cause}
-use Rattle.op_verifier.specs.OpChecks.{has_again, has_undefined, settled_by, settled_type, divides_by_constant, has_other_outputs, names_ports, call_cause, instance_cause, value_cause, alone_cause, outer_cause}
-use Rattle.op_verifier.specs.Headers.{has_output, has_twice, ports_cause, names_cause}
+use Rattle.op_verifier.specs.OpChecks.{has_undefined, settled_by, settled_type, divides_by_constant, names_ports, call_cause, instance_cause}
+use Rattle.op_verifier.specs.Headers.{has_output}
 use Rattle.op_verifier.specs.Faults.{first_fault}
-use Rattle.op_verifier.proofs.Unrefused.{or_none, when_none, not_false, IsUnrefused, ops_unrefused, IsUnrefusedModule, module_unrefused}
-
--- each of the types
-abbrev pub known : List HwType → List (Option HwType)
-known ts = map (λ (t : HwType). Some t) ts
-
--- the types of an operation's results
-abbrev pub types_of : List OpResult → List HwType
-types_of rs = map (λ (r : OpResult). r.type) rs
-
--- what is used of an operation that is not refused by itself: its results have the types that it settles, they fit its
--- operands, and the operands of an instance and of an output have the types that it writes
-pub record OwnLaws : Type 0 where
-  pub settles : (kind : Kind) (ts rs : List HwType) (named : ℕ) (xs : List (Option HwType)) (b : Bool) → own_cause kind ts rs named xs b ≡ None
-      → result_types kind ts (length xs) ≡ known rs
-  pub fits : (kind : Kind) (ts rs : List HwType) (named : ℕ) (us : List HwType) (b : Bool) → own_cause kind ts rs named (known us) b ≡ None
-      → (k : ℕ) (t : HwType) → slice_get rs k ≡ Some t → Fits kind ts (known us) t k
-  pub inputs : (i : Instance) (ts rs : List HwType) (named : ℕ) (us : List HwType) (b : Bool) → own_cause (instance i) ts rs named (known us) b ≡ None
-      → us ≡ take (length i.inputs) ts
-  pub outputs : (ts rs : List HwType) (named : ℕ) (us : List HwType) (b : Bool) → own_cause output ts rs named (known us) b ≡ None → us ≡ ts
+use Rattle.op_verifier.proofs.Fitting.{fits, instance_types, output_types as outputs_typed}
+use Rattle.op_verifier.proofs.NoOwnCause.{types_of, no_cause_alone}
+use Rattle.op_verifier.proofs.Settled.{settles}
+use Rattle.op_verifier.proofs.Unrefused.{when_none, not_false, no_op_cause, no_header_cause, IsUnrefused, ops_unrefused, module_unrefused}
 
 -- ---- small facts
 
@@ -48,17 +30,7 @@ some_from {a = a} h = ap (λ (o : Option _). value a o) h
     value d None = d
     value d (Some x) = x
 
-known_from : (ts us : List HwType) → known ts ≡ known us → ts ≡ us
-known_from [] [] h = refl
-known_from [] (u ∷ us) h = cc
-known_from (t ∷ ts) [] h = cc
-known_from (t ∷ ts) (u ∷ us) h =
-    let e : Some t ≡ Some u = cc in
-    let f : known ts ≡ known us = cc in
-    let g : t ≡ u = some_from e in
-    let k : ts ≡ us = known_from ts us f in cc
-
-known_at : (ts : List HwType) (k : ℕ) → slice_index_or (known ts) k None ≡ slice_get ts k
+known_at : (ts : List HwType) (k : ℕ) → slice_index_or (settled ts) k None ≡ slice_get ts k
 known_at [] zero = refl
 known_at [] (suc k) = refl
 known_at (t ∷ ts) zero = refl
@@ -89,111 +61,89 @@ output_is _ h = cc
 
 -- ---- operands
 
--- what is said of an operation by itself
-own_none : (d : Design) (ports : List Port) (os : List Op) (o : Op) → IsUnrefused d ports os o
-    → (has_undefined ports os o.operands ≡ false) × (alone_cause ports os o ≡ None) × ((last : Bool) × (outer_cause d ports last o ≡ None))
-own_none d ports os o h =
-    let a = or_none (value_cause ports os o) (or_else (alone_cause ports os o) (outer_cause d ports h.last o)) h.none in
-    let b = or_none (alone_cause ports os o) (outer_cause d ports h.last o) a.1 in
-    let v = or_none (when (has_again o.results) Redefined) (when (has_undefined ports os o.operands) Undefined) a.0 in
-    (when_none (has_undefined ports os o.operands) Undefined v.1, b.0, (h.last, b.1))
-
 -- nothing is refused of the operations of a body
 abbrev AreUnrefused : Design → List Port → List Op → Type 0
 AreUnrefused d ports os = (j : ℕ) (o : Op) → slice_get os j ≡ Some o → IsUnrefused d ports os o
 
-settled_results : OwnLaws → (d : Design) (ports : List Port) (os : List Op) (o : Op) → IsUnrefused d ports os o → settled_by o ≡ known (types_of o.results)
-settled_results laws d ports os o h =
-    let own = own_none d ports os o h in
-    ap (result_types o.kind o.types) (sym (length-map o.operands (settled_type ports os)))
-    ∙ laws.settles o.kind o.types (types_of o.results) o.named (map (settled_type ports os) o.operands) (divides_by_constant os o.operands) own.1
+settled_results : (d : Design) (ports : List Port) (os : List Op) (o : Op) → IsUnrefused d ports os o → settled_by o ≡ settled (types_of o.results)
+settled_results d ports os o h = settles o.kind o.types (types_of o.results) (no_cause_alone ports os o (no_op_cause d ports os h.last o h.none).alone)
 
 -- a value of such a body has the type that its operation settles
-same_type_in : OwnLaws → (d : Design) (ports : List Port) (os : List Op) → AreUnrefused d ports os → (r : Ref) → settled_type ports os r ≡ type_in ports os r
-same_type_in laws d ports os all (port j) = refl
-same_type_in laws d ports os all undefined = refl
-same_type_in laws d ports os all (result j k) = go (slice_get os j) refl
+same_type_in : (d : Design) (ports : List Port) (os : List Op) → AreUnrefused d ports os → (r : Ref) → settled_type ports os r ≡ type_in ports os r
+same_type_in d ports os all (port j) = refl
+same_type_in d ports os all undefined = refl
+same_type_in d ports os all (result j k) = go (slice_get os j) refl
   where
     go : (x : Option Op) → slice_get os j ≡ x
         → bind x (λ (o : Op). slice_index_or (settled_by o) k None) ≡ bind x (λ (o : Op). result_type o k)
     go None e = refl
     go (Some o) e =
-        ap (λ (ts : List (Option HwType)). slice_index_or ts k None) (settled_results laws d ports os o (all j o e))
+        ap (λ (ts : List (Option HwType)). slice_index_or ts k None) (settled_results d ports os o (all j o e))
         ∙ known_at (types_of o.results) k ∙ slice_get-map (λ (r : OpResult). r.type) o.results k
 
-same_types_in : OwnLaws → (d : Design) (ports : List Port) (os : List Op) → AreUnrefused d ports os → (rs : List Ref) → map (settled_type ports os) rs ≡ map (type_in ports os) rs
-same_types_in laws d ports os all [] = refl
-same_types_in laws d ports os all (r ∷ rs) =
-    let e : settled_type ports os r ≡ type_in ports os r = same_type_in laws d ports os all r in
-    let f : map (settled_type ports os) rs ≡ map (type_in ports os) rs = same_types_in laws d ports os all rs in cc
+same_types_in : (d : Design) (ports : List Port) (os : List Op) → AreUnrefused d ports os → (rs : List Ref) → map (settled_type ports os) rs ≡ map (type_in ports os) rs
+same_types_in d ports os all [] = refl
+same_types_in d ports os all (r ∷ rs) =
+    let e : settled_type ports os r ≡ type_in ports os r = same_type_in d ports os all r in
+    let f : map (settled_type ports os) rs ≡ map (type_in ports os) rs = same_types_in d ports os all rs in cc
 
 -- the types of operands that are there
-all_known : (ports : List Port) (os : List Op) (rs : List Ref) → has_undefined ports os rs ≡ false → (us : List HwType) × (map (type_in ports os) rs ≡ known us)
+all_known : (ports : List Port) (os : List Op) (rs : List Ref) → has_undefined ports os rs ≡ false → (us : List HwType) × (map (type_in ports os) rs ≡ settled us)
 all_known ports os [] h = ([], refl)
 all_known ports os (r ∷ rs) h = go (type_in ports os r) refl h (λ f. all_known ports os rs f)
   where
     go : (x : Option HwType) → type_in ports os r ≡ x → cond (is_some x) (has_undefined ports os rs) true ≡ false
-        → (has_undefined ports os rs ≡ false → (us : List HwType) × (map (type_in ports os) rs ≡ known us))
-        → (us : List HwType) × (type_in ports os r ∷ map (type_in ports os) rs ≡ known us)
+        → (has_undefined ports os rs ≡ false → (us : List HwType) × (map (type_in ports os) rs ≡ settled us))
+        → (us : List HwType) × (type_in ports os r ∷ map (type_in ports os) rs ≡ settled us)
     go None e f rest = cc
     go (Some t) e f rest =
         let got = rest f in
-        let tail : map (type_in ports os) rs ≡ known got.0 = got.1 in
+        let tail : map (type_in ports os) rs ≡ settled got.0 = got.1 in
         (t ∷ got.0, ap (λ (x : Option HwType). x ∷ map (type_in ports os) rs) e ∙ ap (λ (xs : List (Option HwType)). Some t ∷ xs) tail)
 
 -- an operation by itself, over the types of its operands
 pub record Known (ports : List Port) (os : List Op) (o : Op) : Type 0 where
   pub us : List HwType
-  pub operands : map (type_in ports os) o.operands ≡ known us
-  pub none : own_cause o.kind o.types (types_of o.results) o.named (known us) (divides_by_constant os o.operands) ≡ None
+  pub operands : map (type_in ports os) o.operands ≡ settled us
+  pub none : own_cause o.kind o.types (types_of o.results) o.named (settled us) (divides_by_constant os o.operands) ≡ None
 
-known_op : OwnLaws → (d : Design) (ports : List Port) (os : List Op) → AreUnrefused d ports os → (o : Op) → IsUnrefused d ports os o → Known ports os o
-known_op laws d ports os all o h =
-    let own = own_none d ports os o h in
-    let got = all_known ports os o.operands own.0 in
+known_op : (d : Design) (ports : List Port) (os : List Op) → AreUnrefused d ports os → (o : Op) → IsUnrefused d ports os o → Known ports os o
+known_op d ports os all o h =
+    let own = no_op_cause d ports os h.last o h.none in
+    let got = all_known ports os o.operands own.defined in
     record {
       us = got.0;
       operands = got.1;
       none = ap (λ (xs : List (Option HwType)). own_cause o.kind o.types (types_of o.results) o.named xs (divides_by_constant os o.operands))
-          (sym (same_types_in laws d ports os all o.operands ∙ got.1)) ∙ own.1;
+          (sym (same_types_in d ports os all o.operands ∙ got.1)) ∙ own.alone;
     }
 
 -- ---- operations
 
-op_fits : OwnLaws → (d : Design) (ports : List Port) (os : List Op) → AreUnrefused d ports os → (o : Op) → IsUnrefused d ports os o → OpFits (type_in ports os) o
-op_fits laws d ports os all o h k t is =
-    let x = known_op laws d ports os all o h in
+op_fits : (d : Design) (ports : List Port) (os : List Op) → AreUnrefused d ports os → (o : Op) → IsUnrefused d ports os o → OpFits (type_in ports os) o
+op_fits d ports os all o h k t is =
+    let x = known_op d ports os all o h in
     subst (λ (xs : List (Option HwType)). Fits o.kind o.types xs t k) (sym x.operands)
-    (laws.fits o.kind o.types (types_of o.results) o.named x.us (divides_by_constant os o.operands) x.none k t (slice_get-map (λ (r : OpResult). r.type) o.results k ∙ is))
+    (fits o.kind o.types (types_of o.results) o.named x.us (divides_by_constant os o.operands) x.none k t (slice_get-map (λ (r : OpResult). r.type) o.results k ∙ is))
 
-instance_fits : OwnLaws → (d : Design) (ports : List Port) (os : List Op) → AreUnrefused d ports os → (o : Op) → IsUnrefused d ports os o → InstanceFits d (type_in ports os) o
-unfolding result_types
-instance_fits laws d ports os all o h i is = go (find_module d i.symbol) refl called
+instance_fits : (d : Design) (ports : List Port) (os : List Op) → AreUnrefused d ports os → (o : Op) → IsUnrefused d ports os o → InstanceFits d (type_in ports os) o
+instance_fits d ports os all o h i is = go (find_module d i.symbol) refl called
   where
     kind : o.kind ≡ instance i
     kind = instance_is o.kind i is
 
     called : call_cause i o.types (find_module d i.symbol) ≡ None
-    called =
-        let outer = (own_none d ports os o h).2 in
-        let a = or_none (when (has_other_outputs ports o) OutputMismatch) _ outer.1 in
-        let b = or_none (instance_cause d o.types (instance_in o.kind)) _ a.1 in
-        ap (instance_cause d o.types) (sym is) ∙ b.0
+    called = ap (instance_cause d o.types) (sym is) ∙ (no_op_cause d ports os h.last o h.none).called
 
     x : Known ports os o
-    x = known_op laws d ports os all o h
+    x = known_op d ports os all o h
 
-    results : drop (length i.inputs) o.types ≡ types_of o.results
-    results = known_from (drop (length i.inputs) o.types) (types_of o.results)
-        (ap (λ (k : Kind). result_types k o.types (length (known x.us))) (sym kind)
-        ∙ laws.settles o.kind o.types (types_of o.results) o.named (known x.us) (divides_by_constant os o.operands) x.none)
-
-    operands : x.us ≡ take (length i.inputs) o.types
-    operands = laws.inputs i o.types (types_of o.results) o.named x.us (divides_by_constant os o.operands)
-        (ap (λ (k : Kind). own_cause k o.types (types_of o.results) o.named (known x.us) (divides_by_constant os o.operands)) (sym kind) ∙ x.none)
+    typed : (x.us ≡ take (length i.inputs) o.types) × (types_of o.results ≡ drop (length i.inputs) o.types)
+    typed = instance_types i o.types (types_of o.results) o.named x.us (divides_by_constant os o.operands)
+        (ap (λ (k : Kind). own_cause k o.types (types_of o.results) o.named (settled x.us) (divides_by_constant os o.operands)) (sym kind) ∙ x.none)
 
     go : (m : Option Module) → find_module d i.symbol ≡ m → call_cause i o.types m ≡ None
-        → (c : Module) × (find_module d i.symbol ≡ Some c) × (map (type_in ports os) o.operands ≡ known (input_types c.ports)) × (types_of o.results ≡ output_types c.ports)
+        → (c : Module) × (find_module d i.symbol ≡ Some c) × (map (type_in ports os) o.operands ≡ settled (input_types c.ports)) × (types_of o.results ≡ output_types c.ports)
     go None e f = cc
     go (Some c) e f =
         let named = not_false (names_ports i o.types c.ports) (when_none (not (names_ports i o.types c.ports)) InstancePorts f) in
@@ -201,7 +151,7 @@ instance_fits laws d ports os all o h i is = go (find_module d i.symbol) refl ca
         let types = both_true _ _ halves.1 in
         let ins = same_types (take (length i.inputs) o.types) (input_types c.ports) types.0 in
         let outs = same_types (drop (length i.inputs) o.types) (output_types c.ports) types.1 in
-        (c, e, x.operands ∙ ap known (operands ∙ ins), sym results ∙ outs)
+        (c, e, x.operands ∙ ap settled (typed.0 ∙ ins), typed.1 ∙ outs)
 
 -- ---- outputs
 
@@ -218,38 +168,29 @@ first_output (o ∷ os) h = go (is_output_op o) refl h (λ f. first_output os f)
         let got = rest f in
         (suc got.0, got.1, got.2, got.3, ap (λ (b : Bool). cond b o.operands (output_refs os)) e ∙ got.4)
 
-outputs_fit : OwnLaws → (d : Design) (ports : List Port) (os : List Op) → AreUnrefused d ports os → has_output os ≡ true
-    → map (type_in ports os) (output_refs os) ≡ known (output_types ports)
-outputs_fit laws d ports os all there =
+outputs_fit : (d : Design) (ports : List Port) (os : List Op) → AreUnrefused d ports os → has_output os ≡ true
+    → map (type_in ports os) (output_refs os) ≡ settled (output_types ports)
+outputs_fit d ports os all there =
     let got = first_output os there in
     let o = got.1 in
     let h = all got.0 o got.2 in
     let kind : o.kind ≡ output = output_is o.kind got.3 in
-    let x = known_op laws d ports os all o h in
-    let outer = (own_none d ports os o h).2 in
-    let a = or_none (when (has_other_outputs ports o) OutputMismatch) _ outer.1 in
-    let others : has_other_outputs ports o ≡ false = when_none (has_other_outputs ports o) OutputMismatch a.0 in
+    let x = known_op d ports os all o h in
+    let others = (no_op_cause d ports os h.last o h.none).outputs in
     let types : o.types ≡ output_types ports = same_types o.types (output_types ports)
     (not_false (pointwise same_type o.types (output_types ports)) (ap (λ (b : Bool). b && not (pointwise same_type o.types (output_types ports))) (sym got.3) ∙ others)) in
-    let operands : x.us ≡ o.types = laws.outputs o.types (types_of o.results) o.named x.us (divides_by_constant os o.operands)
-    (ap (λ (k : Kind). own_cause k o.types (types_of o.results) o.named (known x.us) (divides_by_constant os o.operands)) (sym kind) ∙ x.none) in
-    ap (map (type_in ports os)) got.4 ∙ x.operands ∙ ap known (operands ∙ types)
+    let operands : x.us ≡ o.types = outputs_typed o.types (types_of o.results) o.named x.us (divides_by_constant os o.operands)
+    (ap (λ (k : Kind). own_cause k o.types (types_of o.results) o.named (settled x.us) (divides_by_constant os o.operands)) (sym kind) ∙ x.none) in
+    ap (map (type_in ports os)) got.4 ∙ x.operands ∙ ap settled (operands ∙ types)
 
 -- ---- designs
 
-has_its_output : (d : Design) (m : Module) → IsUnrefusedModule d m → has_output m.body ≡ true
-has_its_output d m h =
-    let a = or_none (ports_cause m.ports) (names_cause d h.number m.symbol m.ports m.body) h.header in
-    let b = or_none (when (is_some (find_module (take h.number d) m.symbol)) DuplicateSymbol) _ a.1 in
-    let c = or_none (when (has_twice (map (λ (q : Port). q.name) m.ports)) DuplicatePort) (when (not (has_output m.body)) MissingOutput) b.1 in
-    not_false (has_output m.body) (when_none (not (has_output m.body)) MissingOutput c.1)
-
-pub sound_design : OwnLaws → (d : Design) → first_fault d ≡ None → Sound d
-sound_design laws d h s m found =
+pub sound_design : (d : Design) → first_fault d ≡ None → Sound d
+sound_design d h s m found =
     let u = module_unrefused d h s m found in
     let all = ops_unrefused d m.ports m.body m.body u.body in
     record {
-      ops = λ j o there. op_fits laws d m.ports m.body all o (all j o there);
-      instances = λ j o there. instance_fits laws d m.ports m.body all o (all j o there);
-      outputs = outputs_fit laws d m.ports m.body all (has_its_output d m u);
+      ops = λ j o there. op_fits d m.ports m.body all o (all j o there);
+      instances = λ j o there. instance_fits d m.ports m.body all o (all j o there);
+      outputs = outputs_fit d m.ports m.body all (no_header_cause d u.number m u.header).ends;
     }

@@ -1,11 +1,13 @@
 -- What an answer without a refusal says of each part that was asked.
-use Rattle.std.proofs.Common.{◌≡◌, ℕ, zero, suc, Bool, true, false, cond, not, List, [], ◌∷◌, slice_get, Option, Some, None, option_map, refl, sym, ap, ◌∙◌}
+use Rattle.std.proofs.Common.{◌≡◌, ℕ, zero, suc, Bool, true, false, cond, not, ◌&&◌, List, [], ◌∷◌, map, take, slice_get, is_some, Option, Some, None, option_map, refl, sym, ap, ◌∙◌}
 use Rattle.diag.specs.declared.cause.Cause.{Cause}
+use Rattle.diag.specs.declared.cause.Cause.TheVariants.{Redefined, Undefined, WidthLimit, Field, ClockOperand, OutputMismatch, DuplicateSymbol, DuplicatePort, MissingOutput}
 use Rattle.hw_model.specs.Types.{Name}
-use Rattle.hw_model.specs.Design.{Port, Op, Module, Design, same_name, find_module}
+use Rattle.hw_model.specs.Design.{Port, Op, Module, Design, same_name, find_module, instance_in, is_output_op}
 use Rattle.op_verifier.specs.Answers.{when, or_else}
-use Rattle.op_verifier.specs.OpChecks.{op_cause}
-use Rattle.op_verifier.specs.Headers.{header_cause}
+use Rattle.op_verifier.specs.OpChecks.{has_again, has_undefined, has_other_outputs, instance_cause, value_cause, alone_cause, outer_cause, op_cause}
+use Rattle.op_verifier.specs.TypeChecks.{is_outside, has_bad_field}
+use Rattle.op_verifier.specs.Headers.{has_port, has_wrong_clock, has_twice, has_output, ports_cause, names_cause, header_cause}
 use Rattle.op_verifier.specs.Faults.{op_refusal, header_refusal, is_empty, body_fault, module_fault, faults_from, first_fault}
 
 pub or_none : {A : Type 0} (a b : Option A) → or_else a b ≡ None → (a ≡ None) × (b ≡ None)
@@ -23,6 +25,60 @@ when_none true c h = cc
 pub not_false : (b : Bool) → not b ≡ false → b ≡ true
 not_false true h = refl
 not_false false h = cc
+
+-- what holds of an operation of a body that is refused for no cause, `last` saying whether it is the last
+pub record NoOpCause (d : Design) (ports : List Port) (os : List Op) (last : Bool) (o : Op) : Type 0 where
+  pub again : has_again o.results ≡ false
+  pub defined : has_undefined ports os o.operands ≡ false
+  pub alone : alone_cause ports os o ≡ None
+  pub outputs : has_other_outputs ports o ≡ false
+  pub called : instance_cause d o.types (instance_in o.kind) ≡ None
+  pub ends : (is_output_op o && not last) ≡ false
+
+pub no_op_cause : (d : Design) (ports : List Port) (os : List Op) (last : Bool) (o : Op) → op_cause d ports os last o ≡ None
+    → NoOpCause d ports os last o
+no_op_cause d ports os last o h =
+    let a = or_none (value_cause ports os o) (or_else (alone_cause ports os o) (outer_cause d ports last o)) h in
+    let v = or_none (when (has_again o.results) Redefined) (when (has_undefined ports os o.operands) Undefined) a.0 in
+    let b = or_none (alone_cause ports os o) (outer_cause d ports last o) a.1 in
+    let c = or_none (when (has_other_outputs ports o) OutputMismatch) _ b.1 in
+    let e = or_none (instance_cause d o.types (instance_in o.kind)) (when (is_output_op o && not last) MissingOutput) c.1 in
+    record {
+      again = when_none (has_again o.results) Redefined v.0;
+      defined = when_none (has_undefined ports os o.operands) Undefined v.1;
+      alone = b.0;
+      outputs = when_none (has_other_outputs ports o) OutputMismatch c.0;
+      called = e.0;
+      ends = when_none (is_output_op o && not last) MissingOutput e.1;
+    }
+
+-- what holds of a module, which stands as number n in a design, whose header is refused for no cause
+pub record NoHeaderCause (d : Design) (n : ℕ) (m : Module) : Type 0 where
+  pub again : has_port (λ (q : Port). q.again) m.ports ≡ false
+  pub types : has_port (λ (q : Port). is_outside q.type) m.ports ≡ false
+  pub fields : has_port (λ (q : Port). has_bad_field q.type) m.ports ≡ false
+  pub clocks : has_port has_wrong_clock m.ports ≡ false
+  pub symbol : is_some (find_module (take n d) m.symbol) ≡ false
+  pub names : has_twice (map (λ (q : Port). q.name) m.ports) ≡ false
+  pub ends : has_output m.body ≡ true
+
+pub no_header_cause : (d : Design) (n : ℕ) (m : Module) → header_cause d n m ≡ None → NoHeaderCause d n m
+no_header_cause d n m h =
+    let a = or_none (ports_cause m.ports) (names_cause d n m.symbol m.ports m.body) h in
+    let b = or_none (when (has_port (λ (q : Port). q.again) m.ports) Redefined) _ a.0 in
+    let c = or_none (when (has_port (λ (q : Port). is_outside q.type) m.ports) WidthLimit) _ b.1 in
+    let e = or_none (when (has_port (λ (q : Port). has_bad_field q.type) m.ports) Field) (when (has_port has_wrong_clock m.ports) ClockOperand) c.1 in
+    let f = or_none (when (is_some (find_module (take n d) m.symbol)) DuplicateSymbol) _ a.1 in
+    let g = or_none (when (has_twice (map (λ (q : Port). q.name) m.ports)) DuplicatePort) (when (not (has_output m.body)) MissingOutput) f.1 in
+    record {
+      again = when_none (has_port (λ (q : Port). q.again) m.ports) Redefined b.0;
+      types = when_none (has_port (λ (q : Port). is_outside q.type) m.ports) WidthLimit c.0;
+      fields = when_none (has_port (λ (q : Port). has_bad_field q.type) m.ports) Field e.0;
+      clocks = when_none (has_port has_wrong_clock m.ports) ClockOperand e.1;
+      symbol = when_none (is_some (find_module (take n d) m.symbol)) DuplicateSymbol f.0;
+      names = when_none (has_twice (map (λ (q : Port). q.name) m.ports)) DuplicatePort g.0;
+      ends = not_false (has_output m.body) (when_none (not (has_output m.body)) MissingOutput g.1);
+    }
 
 -- what is refused of no operation, each by itself
 pub record IsUnrefused (d : Design) (ports : List Port) (whole : List Op) (o : Op) : Type 0 where

@@ -23,13 +23,13 @@ use Rattle.op_verifier.specs.OperandChecks.{has_other_form}
 use Rattle.op_verifier.specs.LimitChecks.{has_constant_outside, has_unknown_divisor}
 use Rattle.op_verifier.specs.CountChecks.{operand_count}
 use Rattle.op_verifier.specs.OpChecks.{is_nonzero, is_nonzero_kind, is_nonzero_op, divides_by_constant}
-use Rattle.op_verifier.proofs.SoundDesigns.{types_of}
+use Rattle.op_verifier.proofs.NoOwnCause.{types_of, NoCauseAlone}
+use Rattle.op_verifier.proofs.Settled.{settles}
 use Rattle.op_verifier.proofs.Unrefused.{not_false}
 use Rattle.op_verifier.proofs.Widths.{neither}
 use Rattle.verilog_expr.specs.Expressions.{constant_number}
 use Rattle.verilog_expr.specs.Spilling.{is_constant_kind}
 use Rattle.verilog_expr.specs.Values.{is_division, IsDivision}
-use Rattle.export_verilog.proofs.accepted.AcceptedOps.{IsTested}
 use Rattle.export_verilog.proofs.accepted.AcceptedTypes.{some_bits}
 
 -- ---- numbers
@@ -143,8 +143,8 @@ second_is : (x y : Option HwType) (t : HwType) → x ∷ y ∷ [] ≡ Some t ∷
 second_is x y t h = cc
 
 -- the divisor of a division that is not refused, in a body of which nothing is
-pub constant_division : (ports : List Port) (os : List Op) → ((j : ℕ) (o : Op) → slice_get os j ≡ Some o → IsTested ports os o)
-    → (o : Op) → IsTested ports os o → OpFits (type_in ports os) o → is_division o.kind ≡ true → IsDivision os o
+pub constant_division : (ports : List Port) (os : List Op) → ((j : ℕ) (o : Op) → slice_get os j ≡ Some o → NoCauseAlone ports os o)
+    → (o : Op) → NoCauseAlone ports os o → OpFits (type_in ports os) o → is_division o.kind ≡ true → IsDivision os o
 constant_division ports os all o tests fits is =
     let two = two_operands o.kind o.types (length o.operands) is tests.operands in
     let by : IsDivided os o.operands = divided os o.operands two (known_divisor o.kind (divides_by_constant os o.operands) is tests.divisor) in
@@ -156,7 +156,7 @@ constant_division ports os all o tests fits is =
       by = by.by;
       there = by.there;
       constant = constant_from by.by.kind by.nonzero;
-      not_zero = λ t typed. constant_worth by.by.kind by.by.types by.by.results (length by.by.operands) t by.nonzero own.form own.outside own.constant own.settled_results
+      not_zero = λ t typed. constant_worth by.by.kind by.by.types by.by.results (length by.by.operands) t by.nonzero own.form own.written own.constant (settles by.by.kind by.by.types (types_of by.by.results) own)
           (ap (λ (x : Option Op). bind x (λ (p : Op). result_type p 0)) (sym by.there)
           ∙ second_is (type_in ports os by.dividend) (type_in ports os (result by.divisor 0)) t
           (ap (map (type_in ports os)) (sym by.operands) ∙ division_fits o.kind o.types (map (type_in ports os) o.operands) t 0 is (fits 0 t typed)));

@@ -9,15 +9,14 @@ use Rattle.hw_model.specs.Flat.{Register, register_in, register_parts}
 use Rattle.hw_model.specs.Sound.{type_in, OpFits, Sound}
 use Rattle.op_verifier.specs.Verdict.{IsAccepted}
 use Rattle.op_verifier.proofs.AcceptedDesigns.{no_fault, accepted_distinct, accepted_finite, accepted_acyclic}
-use Rattle.op_verifier.proofs.Fitting.{fits}
-use Rattle.op_verifier.proofs.Settled.{settles, instance_operands, output_operands}
+use Rattle.op_verifier.proofs.NoOwnCause.{NoCauseAlone, result_number}
 use Rattle.op_verifier.proofs.SoundDesigns.{sound_design}
 use Rattle.verilog_expr.specs.Marks.{AreSmall}
 use Rattle.export_verilog.specs.Aggregates.{HasNoAggregates, is_aggregate}
 use Rattle.export_verilog.specs.Exportable.{IsClocked, IsExportableOp, IsExportableModule, IsExportable}
 use Rattle.export_verilog.specs.Room.{HasRoomToExport}
 use Rattle.export_verilog.proofs.accepted.AcceptedDivisions.{constant_division}
-use Rattle.export_verilog.proofs.accepted.AcceptedOps.{found, op_tested, port_within, IsTested}
+use Rattle.export_verilog.proofs.accepted.AcceptedOps.{found, op_tested, port_within}
 use Rattle.export_verilog.proofs.accepted.AcceptedTypes.{none_of, HasSomeBits, within_limits}
 use Rattle.export_verilog.proofs.accepted.AcceptedValues.{one_result, no_result, single, nothing, some_operand, in_list, result_bits, small_value, clock_port, clocked}
 use Rattle.export_verilog.proofs.accepted.AcceptedWeights.{few_names}
@@ -27,7 +26,7 @@ below : {w : ℕ} → w < 129 → w < 2 ^ 64
 below h = omega (arith, h)
 
 pub accepted_sound : (d : Design) → IsAccepted d → Sound d
-accepted_sound d fine = sound_design (record { settles = settles; fits = fits; inputs = instance_operands; outputs = output_operands }) d (no_fault d fine)
+accepted_sound d fine = sound_design d (no_fault d fine)
 
 -- a register is no instance and no output
 register_alone : (kind : Kind) (f : RegisterForm) → register_form kind ≡ Some f → (is_some (instance_in kind) || is_output_kind kind) ≡ false
@@ -42,7 +41,7 @@ register_kind o r h = go (register_form o.kind) h
     go (Some f) e = (f, refl)
 
 module _ (d : Design) (fine : IsAccepted d) (plain : HasNoAggregates d) (n : ℕ) (m : Module) (there : slice_get d n ≡ Some m) where
-  tests : (j : ℕ) (o : Op) → slice_get m.body j ≡ Some o → IsTested m.ports m.body o
+  tests : (j : ℕ) (o : Op) → slice_get m.body j ≡ Some o → NoCauseAlone m.ports m.body o
   tests = op_tested d fine n m there
 
   plain_ops : (j : ℕ) (o : Op) → slice_get m.body j ≡ Some o → IsPlain o
@@ -55,7 +54,7 @@ module _ (d : Design) (fine : IsAccepted d) (plain : HasNoAggregates d) (n : ℕ
   body_fits = (accepted_sound d fine m.symbol m (found d fine n m there)).ops
 
   one : (j : ℕ) (o : Op) → slice_get m.body j ≡ Some o → (is_instance o || is_output_op o) ≡ false → (r : OpResult) × (o.results ≡ r ∷ [])
-  one j o at is = single o.results ((tests j o at).results ∙ one_result o.kind o.types (plain_ops j o at).kind is)
+  one j o at is = single o.results (result_number m.ports m.body o (tests j o at) ∙ one_result o.kind o.types (plain_ops j o at).kind is)
 
   clocked_by : (j : ℕ) (o : Op) → slice_get m.body j ≡ Some o → (r : Register) → register_in o ≡ Some r → IsClocked m.ports r
   clocked_by j o at r is =
@@ -68,7 +67,7 @@ module _ (d : Design) (fine : IsAccepted d) (plain : HasNoAggregates d) (n : ℕ
   exportable_op j o at = record {
     integers = (plain_ops j o at).kind;
     one_result = one j o at;
-    no_result = λ is. nothing o.results ((tests j o at).results ∙ no_result o.kind o.types is);
+    no_result = λ is. nothing o.results (result_number m.ports m.body o (tests j o at) ∙ no_result o.kind o.types is);
     bits = λ k r is. (result_bits m.ports m.body o (tests j o at) (plain_ops j o at) k r is).some;
     filled = λ is. some_operand o.kind o.types (length o.operands) is (tests j o at).operands;
     division = constant_division m.ports m.body tests o (tests j o at) (body_fits j o at);

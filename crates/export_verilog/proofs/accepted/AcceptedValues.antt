@@ -15,12 +15,12 @@ use Rattle.ir_store.specs.ResultTypes.{result_count}
 use Rattle.op_verifier.specs.CountChecks.{operand_count}
 use Rattle.op_verifier.specs.TypeChecks.{is_clock}
 use Rattle.op_verifier.specs.LimitChecks.{value_types}
-use Rattle.op_verifier.proofs.SoundDesigns.{types_of}
+use Rattle.op_verifier.proofs.NoOwnCause.{types_of, NoCauseAlone}
+use Rattle.op_verifier.proofs.Settled.{settles}
 use Rattle.verilog_expr.specs.Marks.{AreSmall}
 use Rattle.verilog_expr.specs.Values.{is_aggregate_kind, is_variadic}
 use Rattle.export_verilog.specs.Aggregates.{is_aggregate}
 use Rattle.export_verilog.specs.Exportable.{IsClocked}
-use Rattle.export_verilog.proofs.accepted.AcceptedOps.{IsTested}
 use Rattle.export_verilog.proofs.accepted.AcceptedTypes.{none_of, IsGiven, given, given_some, given_value, HasSomeBits}
 use Rattle.export_verilog.proofs.accepted.NoAggregates.{IsPlain}
 use Rattle.export_verilog.proofs.items.Registers.{parts_typed, form_fits}
@@ -76,15 +76,15 @@ from_bind f (Some a) b h = (a, refl, h)
 
 -- ---- results
 
-module _ (ports : List Port) (os : List Op) (o : Op) (tests : IsTested ports os o) (plain : IsPlain o) (k : ℕ) (r : OpResult) (there : slice_get o.results k ≡ Some r) where
+module _ (ports : List Port) (os : List Op) (o : Op) (tests : NoCauseAlone ports os o) (plain : IsPlain o) (k : ℕ) (r : OpResult) (there : slice_get o.results k ≡ Some r) where
   from_kind : IsGiven (value_types o.kind o.types) r.type
-  from_kind = given o.kind o.types (types_of o.results) (length o.operands) plain.kind tests.settled_results tests.operands tests.types tests.outside tests.wide r.type (in_types o.results k r there)
+  from_kind = given o.kind o.types (types_of o.results) (length o.operands) plain.kind (settles o.kind o.types (types_of o.results) tests) tests.operands tests.types tests.written tests.wide r.type (in_types o.results k r there)
 
   pub result_bits : HasSomeBits r.type
-  result_bits = given_some o.kind o.types r.type (none_of (λ (x : OpResult). is_aggregate x.type) o.results plain.results r (in_list o.results k r there)) tests.outside from_kind
+  result_bits = given_some o.kind o.types r.type (none_of (λ (x : OpResult). is_aggregate x.type) o.results plain.results r (in_list o.results k r there)) tests.written from_kind
 
   result_no_clock : is_clock r.type ≡ false
-  result_no_clock = given_value (value_types o.kind o.types) r.type tests.clocks from_kind
+  result_no_clock = given_value (value_types o.kind o.types) r.type tests.clock_type from_kind
 
 -- ---- values
 
@@ -107,7 +107,7 @@ input_from ports j t h = go (slice_get ports j) refl h
     go (Some p) e h = pick p e p.is_output refl h
 
 module _ (ports : List Port) (os : List Op)
-    (tests : (j : ℕ) (o : Op) → slice_get os j ≡ Some o → IsTested ports os o)
+    (tests : (j : ℕ) (o : Op) → slice_get os j ≡ Some o → NoCauseAlone ports os o)
     (plain : (j : ℕ) (o : Op) → slice_get os j ≡ Some o → IsPlain o)
     (bits : (j : ℕ) (p : Port) → slice_get ports j ≡ Some p → HasSomeBits p.type) where
   value_bits : (r : Ref) (t : HwType) → type_in ports os r ≡ Some t → HasSomeBits t

@@ -15,13 +15,14 @@ use Rattle.hw_model.specs.Weight.{leaf_count, reset_weight, register_weight, kin
 use Rattle.ir_store.specs.ResultTypes.{result_count}
 use Rattle.op_verifier.specs.CountChecks.{type_count}
 use Rattle.op_verifier.specs.Verdict.{IsAccepted}
+use Rattle.op_verifier.proofs.NoOwnCause.{NoCauseAlone, result_number}
 use Rattle.op_verifier.proofs.Widths.{neither}
 use Rattle.verilog_expr.specs.Spilling.{is_wire_kind, spilled}
 use Rattle.verilog_expr.specs.Values.{is_aggregate_kind}
 use Rattle.export_verilog.specs.Identifiers.{Identifier, each, result_identifiers, identifiers_of, op_identifiers, port_identifiers, module_identifiers}
 use Rattle.export_verilog.specs.Identifiers.Emission.{inline, as_wire, as_reg, as_instance}
 use Rattle.export_verilog.specs.Aggregates.{is_aggregate, HasNoAggregates}
-use Rattle.export_verilog.proofs.accepted.AcceptedOps.{IsTested, found, op_tested}
+use Rattle.export_verilog.proofs.accepted.AcceptedOps.{found, op_tested}
 use Rattle.export_verilog.proofs.accepted.NoAggregates.{IsPlain, ports_plain, op_plain}
 
 -- ---- leaves
@@ -110,7 +111,7 @@ some_identifiers : (a c e f : Bool) (i : ℕ) (o : Op) → length (identifiers_o
 some_identifiers true c e f i o = omega arith
 some_identifiers false c e f i o = let p = long_results i 0 o.results in omega (arith, p)
 
-identifiers_weigh : (inner : Name → ℕ) (ports : List Port) (os : List Op) (i : ℕ) (o : Op) → IsTested ports os o → IsPlain o
+identifiers_weigh : (inner : Name → ℕ) (ports : List Port) (os : List Op) (i : ℕ) (o : Op) → NoCauseAlone ports os o → IsPlain o
     → length (op_identifiers ports os i o) ≤ kind_weight inner o.kind o.types (length o.operands)
 identifiers_weigh inner ports os i o tests plain = go (is_instance o) refl
   where
@@ -122,7 +123,7 @@ identifiers_weigh inner ports os i o tests plain = go (is_instance o) refl
         let p = some_identifiers (is_register o) (is_output_op o) (is_wire_kind o.kind) (spilled ports os (result i 0)) i o in
         let q : length (op_identifiers ports os i o) ≤ 1 + length o.results =
         subst (λ (b : Bool). length (identifiers_of (cond (is_register o) as_reg (cond b as_instance (cond (is_output_op o) inline (cond (is_wire_kind o.kind) as_wire (cond (spilled ports os (result i 0)) as_wire inline))))) i o) ≤ 1 + length o.results) (sym e) p in
-        let r = instance_weighs inner o.kind o.types (length o.operands) (length o.results) e plain.types tests.results in
+        let r = instance_weighs inner o.kind o.types (length o.operands) (length o.results) e plain.types (result_number ports os o tests) in
         omega (arith, q, r)
     go false e =
         let q = one_identifier (is_register o) (is_instance o) (is_output_op o) (is_wire_kind o.kind) (spilled ports os (result i 0)) i o e in

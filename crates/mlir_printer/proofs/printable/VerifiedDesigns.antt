@@ -31,7 +31,7 @@ use Rattle.op_verifier.specs.OwnChecks.{own_cause}
 use Rattle.op_verifier.specs.OpChecks.{has_again, has_undefined, settled_type, divides_by_constant, value_cause, alone_cause, op_cause}
 use Rattle.op_verifier.specs.Headers.{has_port, has_output, ports_cause, names_cause, header_cause}
 use Rattle.op_verifier.specs.Faults.{op_refusal, header_refusal, is_empty, body_fault, module_fault, faults_from, first_fault}
-use Rattle.op_verifier.proofs.NoCause.{uncaused}
+use Rattle.op_verifier.proofs.NoOwnCause.{uncaused}
 use Rattle.op_verifier.proofs.Unrefused.{or_none, map_none, when_none, not_false}
 use Rattle.mlir_printer.specs.Spellable.{Each, AreBytes}
 use Rattle.mlir_printer.specs.Printable.{IsDefined, settled_result, operands_written, types_written, IsPrintableOp, IsPrintablePort, EndsWithOutput, IsPrintableModule, Printable}
