@@ -13,8 +13,8 @@ use Rattle.verilog_expr.specs.Values.{is_aggregate_kind, is_variadic, is_divisio
 use Rattle.export_verilog.specs.Identifiers.{module_identifiers}
 
 -- the bits of each result are one or more
-abbrev pub HaveBits : List OpResult → Type 0
-HaveBits rs = (k : ℕ) (r : OpResult) → slice_get rs k ≡ Some r → 1 ≤ width r.type
+abbrev pub HaveSomeBits : List OpResult → Type 0
+HaveSomeBits rs = (k : ℕ) (r : OpResult) → slice_get rs k ≡ Some r → 1 ≤ width r.type
 
 -- a register's clock is an input port
 pub record IsClocked (ports : List Port) (r : Register) : Type 0 where
@@ -30,7 +30,7 @@ pub record IsExportableOp (ports : List Port) (os : List Op) (o : Op) : Type 0 w
   -- an instance has as many results as its module has outputs, a module's output none, every other operation one
   pub one_result : (is_instance o || is_output_op o) ≡ false → (r : OpResult) × (o.results ≡ r ∷ [])
   pub no_result : is_output_op o ≡ true → o.results ≡ []
-  pub bits : HaveBits o.results
+  pub bits : HaveSomeBits o.results
   pub filled : is_variadic o.kind ≡ true → 1 ≤ length o.operands
   pub division : is_division o.kind ≡ true → IsDivision os o
   pub clocked : (r : Register) → register_in o ≡ Some r → IsClocked ports r
