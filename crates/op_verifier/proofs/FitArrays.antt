@@ -13,7 +13,7 @@ use Rattle.hw_model.specs.Sound.{AllAre}
 use Rattle.hw_model.specs.Value.{nth_type}
 use Rattle.ir_store.specs.ResultTypes.{first_type, second_type, elements_in, sum_of, length_joined, joined_length, as_array, array_of, element_of, kept_size}
 use Rattle.op_verifier.specs.TypeChecks.{has_bad_part, has_bad_part_among, is_without_fields, is_outside}
-use Rattle.op_verifier.specs.TypeLists.{settled, is_no_array, is_no_int, differs, any_differs, differ, differ_in_three, settled_at}
+use Rattle.op_verifier.specs.TypeLists.{known_types, is_no_array, is_no_int, differs, any_differs, differ, differ_in_three, settled_at}
 use Rattle.op_verifier.specs.OperandChecks.{is_no_array_of, has_other_array}
 use Rattle.op_verifier.specs.LimitChecks.{of_type}
 use Rattle.op_verifier.proofs.Widths.{neither, bits_within}
@@ -64,15 +64,15 @@ kept_within n t h =
     let c : kept_size n ≤ 4096 = factor_small (kept_size n) (width t) 4096 a b in omega arith
 
 -- an array of operands of one type
-pub creation : (ts rs us : List HwType) (k : ℕ) (t : HwType) → length ts ≡ 1 → length rs ≡ 1 → any_differs (settled us) (first_type ts) ≡ false
-    → of_type is_outside (first_type rs) ≡ false → differ (settled rs) (as_array (length us) (first_type ts) ∷ []) ≡ false → slice_get rs k ≡ Some t
-    → (e : HwType) × (t ≡ array (length (settled us)) e) × AllAre e (settled us)
+pub creation : (ts rs us : List HwType) (k : ℕ) (t : HwType) → length ts ≡ 1 → length rs ≡ 1 → any_differs (known_types us) (first_type ts) ≡ false
+    → of_type is_outside (first_type rs) ≡ false → differ (known_types rs) (as_array (length us) (first_type ts) ∷ []) ≡ false → slice_get rs k ≡ Some t
+    → (e : HwType) × (t ≡ array (length (known_types us)) e) × AllAre e (known_types us)
 creation [] rs us k t n m h w d e = absurd (omega arith)
 creation (u ∷ []) rs us k t n m h w d e =
     let f : t ≡ array (kept_size (length us)) u = single rs (array (kept_size (length us)) u) t k m d e in
     let g : is_outside t ≡ false = within rs k t m w e in
     let kept : kept_size (length us) ≡ length us = kept_within (length us) u (let P : HwType → Type 0 = λ v. is_outside v ≡ false in subst P f g) in
-    let long : length (settled us) ≡ length us = length-map us (λ (v : HwType). Some v) in
+    let long : length (known_types us) ≡ length us = length-map us (λ (v : HwType). Some v) in
     (u, f ∙ ap (λ (l : ℕ). array l u) (kept ∙ sym long), all_agreed us u h)
 creation (u ∷ v ∷ ts) rs us k t n m h w d e = absurd (omega arith)
 
@@ -92,15 +92,15 @@ arrays_of e (int w ∷ ts) h = absurd (apart h)
 arrays_of e (clock ∷ ts) h = absurd (apart h)
 arrays_of e (struct fs ∷ ts) h = absurd (apart h)
 
-settled_arrays : (e : HwType) (ns : List ℕ) → settled (map (λ (n : ℕ). array n e) ns) ≡ map (λ (n : ℕ). Some (array n e)) ns
+settled_arrays : (e : HwType) (ns : List ℕ) → known_types (map (λ (n : ℕ). array n e) ns) ≡ map (λ (n : ℕ). Some (array n e)) ns
 settled_arrays e [] = refl
 settled_arrays e (n ∷ ns) = ap (λ (xs : List (Option HwType)). Some (array n e) ∷ xs) (settled_arrays e ns)
 
 -- arrays joined
 pub joining : (ts rs us : List HwType) (k : ℕ) (t : HwType) → 1 ≤ length ts → length us ≡ length ts → length rs ≡ 1 → has_other_array ts ≡ false
-    → differ (settled us) (settled ts) ≡ false → of_type is_outside (first_type rs) ≡ false
-    → differ (settled rs) (array_of (joined_length ts) (element_of (first_type ts)) ∷ []) ≡ false → slice_get rs k ≡ Some t
-    → (e : HwType) × (ns : List ℕ) × (settled us ≡ map (λ (n : ℕ). Some (array n e)) ns) × (t ≡ array (total ns) e)
+    → differ (known_types us) (known_types ts) ≡ false → of_type is_outside (first_type rs) ≡ false
+    → differ (known_types rs) (array_of (joined_length ts) (element_of (first_type ts)) ∷ []) ≡ false → slice_get rs k ≡ Some t
+    → (e : HwType) × (ns : List ℕ) × (known_types us ≡ map (λ (n : ℕ). Some (array n e)) ns) × (t ≡ array (total ns) e)
 unfolding joined_length
 joining [] rs us k t l n m f h w d e = absurd (omega arith)
 joining (array n0 u ∷ ts) rs us k t l n m f h w d e =
@@ -110,28 +110,28 @@ joining (array n0 u ∷ ts) rs us k t l n m f h w d e =
     let g : t ≡ array (kept_size (total a.0)) u = single rs (array (kept_size (total a.0)) u) t k m y e in
     let o : is_outside t ≡ false = within rs k t m w e in
     let kept : kept_size (total a.0) ≡ total a.0 = kept_within (total a.0) u (let P : HwType → Type 0 = λ v. is_outside v ≡ false in subst P g o) in
-    (u, a.0, ap settled (same ∙ a.1) ∙ settled_arrays u a.0, g ∙ ap (λ (s : ℕ). array s u) kept)
+    (u, a.0, ap known_types (same ∙ a.1) ∙ settled_arrays u a.0, g ∙ ap (λ (s : ℕ). array s u) kept)
 joining (int v ∷ ts) rs us k t l n m f h w d e = absurd (apart f)
 joining (clock ∷ ts) rs us k t l n m f h w d e = absurd (apart f)
 joining (struct fs ∷ ts) rs us k t l n m f h w d e = absurd (apart f)
 
 -- an element of an array
 pub element : (ts rs us : List HwType) (k : ℕ) (t : HwType) → length ts ≡ 2 → length us ≡ 2 → length rs ≡ 1
-    → is_no_array (first_type ts) || is_no_int (second_type ts) ≡ false → differ (settled us) (settled ts) ≡ false
-    → differ (settled rs) (element_of (first_type ts) ∷ []) ≡ false → slice_get rs k ≡ Some t
-    → (n : ℕ) × (u : HwType) × (settled us ≡ Some (array n t) ∷ Some u ∷ []) × (nth_type ts 0 ≡ array n t)
+    → is_no_array (first_type ts) || is_no_int (second_type ts) ≡ false → differ (known_types us) (known_types ts) ≡ false
+    → differ (known_types rs) (element_of (first_type ts) ∷ []) ≡ false → slice_get rs k ≡ Some t
+    → (n : ℕ) × (u : HwType) × (known_types us ≡ Some (array n t) ∷ Some u ∷ []) × (nth_type ts 0 ≡ array n t)
 element [] rs us k t n m o f h d e = absurd (omega arith)
 element (u ∷ []) rs us k t n m o f h d e = absurd (omega arith)
 element (array c v ∷ i ∷ []) rs us k t n m o f h d e =
     let g : t ≡ v = single rs v t k o d e in
     let same : us ≡ array c v ∷ i ∷ [] = pairwise_agreed us (array c v ∷ i ∷ []) m h in
-    (c, i, ap settled same ∙ ap (λ (s : HwType). Some (array c s) ∷ Some i ∷ []) (sym g), ap (λ (s : HwType). array c s) (sym g))
+    (c, i, ap known_types same ∙ ap (λ (s : HwType). Some (array c s) ∷ Some i ∷ []) (sym g), ap (λ (s : HwType). array c s) (sym g))
 element (int w ∷ i ∷ []) rs us k t n m o f h d e = absurd (apart f)
 element (clock ∷ i ∷ []) rs us k t n m o f h d e = absurd (apart f)
 element (struct fs ∷ i ∷ []) rs us k t n m o f h d e = absurd (apart f)
 element (u ∷ v ∷ s ∷ ts) rs us k t n m o f h d e = absurd (omega arith)
 
-first_agreed : (us : List HwType) (t : HwType) → length us ≡ 2 → differs (settled_at (settled us) 0) (Some t) ≡ false → (i : HwType) × (settled us ≡ Some t ∷ Some i ∷ [])
+first_agreed : (us : List HwType) (t : HwType) → length us ≡ 2 → differs (settled_at (known_types us) 0) (Some t) ≡ false → (i : HwType) × (known_types us ≡ Some t ∷ Some i ∷ [])
 first_agreed [] t n h = absurd (omega arith)
 first_agreed (a ∷ []) t n h = absurd (omega arith)
 first_agreed (a ∷ b ∷ []) t n h = let e : a ≡ t = agreed a t h in (b, cc)
@@ -139,9 +139,9 @@ first_agreed (a ∷ b ∷ c ∷ us) t n h = absurd (omega arith)
 
 -- a slice of an array
 pub slicing : (ts rs us : List HwType) (k : ℕ) (t : HwType) → length ts ≡ 2 → length us ≡ 2 → length rs ≡ 1 → has_other_array ts ≡ false
-    → differs (settled_at (settled us) 0) (first_type ts) || is_no_int (settled_at (settled us) 1) ≡ false
-    → differ (settled rs) (second_type ts ∷ []) ≡ false → slice_get rs k ≡ Some t
-    → (n : ℕ) × (m : ℕ) × (e : HwType) × (u : HwType) × (settled us ≡ Some (array n e) ∷ Some u ∷ []) × (nth_type ts 0 ≡ array n e) × (t ≡ array m e)
+    → differs (settled_at (known_types us) 0) (first_type ts) || is_no_int (settled_at (known_types us) 1) ≡ false
+    → differ (known_types rs) (second_type ts ∷ []) ≡ false → slice_get rs k ≡ Some t
+    → (n : ℕ) × (m : ℕ) × (e : HwType) × (u : HwType) × (known_types us ≡ Some (array n e) ∷ Some u ∷ []) × (nth_type ts 0 ≡ array n e) × (t ≡ array m e)
 slicing [] rs us k t n m o f h d e = absurd (omega arith)
 slicing (u ∷ []) rs us k t n m o f h d e = absurd (omega arith)
 slicing (array c v ∷ array s x ∷ []) rs us k t n m o f h d e =
@@ -149,7 +149,7 @@ slicing (array c v ∷ array s x ∷ []) rs us k t n m o f h d e =
     let q = neither (differs (Some x) (Some v)) _ p.1 in
     let same : x ≡ v = agreed x v q.0 in
     let g : t ≡ array s x = single rs (array s x) t k o d e in
-    let a = first_agreed us (array c v) m (neither (differs (settled_at (settled us) 0) (Some (array c v))) _ h).0 in
+    let a = first_agreed us (array c v) m (neither (differs (settled_at (known_types us) 0) (Some (array c v))) _ h).0 in
     (c, s, v, a.0, a.1, refl, g ∙ ap (λ (y : HwType). array s y) same)
 slicing (array c v ∷ int w ∷ []) rs us k t n m o f h d e = absurd (apart ((neither (differs (Some v) (Some v)) _ f).1))
 slicing (array c v ∷ clock ∷ []) rs us k t n m o f h d e = absurd (apart ((neither (differs (Some v) (Some v)) _ f).1))
@@ -162,9 +162,9 @@ slicing (u ∷ v ∷ s ∷ ts) rs us k t n m o f h d e = absurd (omega arith)
 -- an array with an element put in
 pub injection : (ts rs us : List HwType) (k : ℕ) (t : HwType) → length ts ≡ 2 → length us ≡ 3 → length rs ≡ 1
     → is_no_array (first_type ts) || is_no_int (second_type ts) ≡ false
-    → differ_in_three (settled us) (first_type ts) (second_type ts) (element_of (first_type ts)) ≡ false
-    → differ (settled rs) (first_type ts ∷ []) ≡ false → slice_get rs k ≡ Some t
-    → (n : ℕ) × (e : HwType) × (u : HwType) × (settled us ≡ Some t ∷ Some u ∷ Some e ∷ []) × (nth_type ts 0 ≡ t) × (t ≡ array n e)
+    → differ_in_three (known_types us) (first_type ts) (second_type ts) (element_of (first_type ts)) ≡ false
+    → differ (known_types rs) (first_type ts ∷ []) ≡ false → slice_get rs k ≡ Some t
+    → (n : ℕ) × (e : HwType) × (u : HwType) × (known_types us ≡ Some t ∷ Some u ∷ Some e ∷ []) × (nth_type ts 0 ≡ t) × (t ≡ array n e)
 injection [] rs us k t n m o f h d e = absurd (omega arith)
 injection (u ∷ []) rs us k t n m o f h d e = absurd (omega arith)
 injection (array c v ∷ i ∷ []) rs us k t n m o f h d e =

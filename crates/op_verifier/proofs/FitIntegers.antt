@@ -10,7 +10,7 @@ use Rattle.hw_model.specs.Types.HwType.{int}
 use Rattle.hw_model.specs.Sound.{AllAre}
 use Rattle.ir_store.specs.ResultTypes.{first_type, second_type, joined_width, as_int, kept_size}
 use Rattle.op_verifier.specs.TypeChecks.{is_int}
-use Rattle.op_verifier.specs.TypeLists.{settled, int_width, differs, any_differs, differ, differ_in_two, differ_in_three}
+use Rattle.op_verifier.specs.TypeLists.{known_types, int_width, differs, any_differs, differ, differ_in_two, differ_in_three}
 use Rattle.op_verifier.specs.LimitChecks.{of_both, reaches_past, is_no_multiple, is_too_wide}
 use Rattle.op_verifier.proofs.Widths.{neither}
 use Rattle.op_verifier.proofs.Agreeing.{not_false, agreed, all_agreed, one_agreed, two_agreed, pairwise_agreed, single}
@@ -18,45 +18,45 @@ use Rattle.op_verifier.proofs.Agreeing.{not_false, agreed, all_agreed, one_agree
 pub apart : true ≡ false → ⊥
 apart h = cc
 
-pub none_left : (us : List HwType) → length us ≡ 0 → settled us ≡ []
+pub none_left : (us : List HwType) → length us ≡ 0 → known_types us ≡ []
 none_left [] n = refl
 none_left (u ∷ us) n = absurd (omega arith)
 
 -- operands that all are of the written type, which is the result's too
-pub variadic_fits : (ts rs us : List HwType) (k : ℕ) (t : HwType) → length ts ≡ 1 → length rs ≡ 1 → any_differs (settled us) (first_type ts) ≡ false
-    → differ (settled rs) (first_type ts ∷ []) ≡ false → slice_get rs k ≡ Some t → AllAre t (settled us)
+pub variadic_fits : (ts rs us : List HwType) (k : ℕ) (t : HwType) → length ts ≡ 1 → length rs ≡ 1 → any_differs (known_types us) (first_type ts) ≡ false
+    → differ (known_types rs) (first_type ts ∷ []) ≡ false → slice_get rs k ≡ Some t → AllAre t (known_types us)
 variadic_fits [] rs us k t n m h d e = absurd (omega arith)
 variadic_fits (u ∷ []) rs us k t n m h d e =
     let f : t ≡ u = single rs u t k m d e in
-    let P : HwType → Type 0 = λ v. AllAre v (settled us) in subst P (sym f) (all_agreed us u h)
+    let P : HwType → Type 0 = λ v. AllAre v (known_types us) in subst P (sym f) (all_agreed us u h)
 variadic_fits (u ∷ v ∷ ts) rs us k t n m h d e = absurd (omega arith)
 
-pub binary : (ts rs us : List HwType) (k : ℕ) (t : HwType) → length ts ≡ 1 → length rs ≡ 1 → length us ≡ 2 → any_differs (settled us) (first_type ts) ≡ false
-    → differ (settled rs) (first_type ts ∷ []) ≡ false → slice_get rs k ≡ Some t → settled us ≡ Some t ∷ Some t ∷ []
+pub binary : (ts rs us : List HwType) (k : ℕ) (t : HwType) → length ts ≡ 1 → length rs ≡ 1 → length us ≡ 2 → any_differs (known_types us) (first_type ts) ≡ false
+    → differ (known_types rs) (first_type ts ∷ []) ≡ false → slice_get rs k ≡ Some t → known_types us ≡ Some t ∷ Some t ∷ []
 binary ts rs us k t n m o h d e = two_agreed us t o (variadic_fits ts rs us k t n m h d e)
 
-pub unary : (ts rs us : List HwType) (k : ℕ) (t : HwType) → length ts ≡ 1 → length rs ≡ 1 → length us ≡ 1 → any_differs (settled us) (first_type ts) ≡ false
-    → differ (settled rs) (first_type ts ∷ []) ≡ false → slice_get rs k ≡ Some t → settled us ≡ Some t ∷ []
+pub unary : (ts rs us : List HwType) (k : ℕ) (t : HwType) → length ts ≡ 1 → length rs ≡ 1 → length us ≡ 1 → any_differs (known_types us) (first_type ts) ≡ false
+    → differ (known_types rs) (first_type ts ∷ []) ≡ false → slice_get rs k ≡ Some t → known_types us ≡ Some t ∷ []
 unary ts rs us k t n m o h d e = one_agreed us t o (variadic_fits ts rs us k t n m h d e)
 
 -- a comparison and a parity give one bit
-pub comparison : (ts rs us : List HwType) (k : ℕ) (t : HwType) → length ts ≡ 1 → length rs ≡ 1 → length us ≡ 2 → any_differs (settled us) (first_type ts) ≡ false
-    → differ (settled rs) (Some (int 1) ∷ []) ≡ false → slice_get rs k ≡ Some t → (u : HwType) × (settled us ≡ Some u ∷ Some u ∷ []) × (t ≡ int 1)
+pub comparison : (ts rs us : List HwType) (k : ℕ) (t : HwType) → length ts ≡ 1 → length rs ≡ 1 → length us ≡ 2 → any_differs (known_types us) (first_type ts) ≡ false
+    → differ (known_types rs) (Some (int 1) ∷ []) ≡ false → slice_get rs k ≡ Some t → (u : HwType) × (known_types us ≡ Some u ∷ Some u ∷ []) × (t ≡ int 1)
 comparison [] rs us k t n m o h d e = absurd (omega arith)
 comparison (u ∷ []) rs us k t n m o h d e = (u, two_agreed us u o (all_agreed us u h), single rs (int 1) t k m d e)
 comparison (u ∷ v ∷ ts) rs us k t n m o h d e = absurd (omega arith)
 
-pub parities : (ts rs us : List HwType) (k : ℕ) (t : HwType) → length ts ≡ 1 → length rs ≡ 1 → length us ≡ 1 → any_differs (settled us) (first_type ts) ≡ false
-    → differ (settled rs) (Some (int 1) ∷ []) ≡ false → slice_get rs k ≡ Some t → (u : HwType) × (settled us ≡ Some u ∷ []) × (t ≡ int 1)
+pub parities : (ts rs us : List HwType) (k : ℕ) (t : HwType) → length ts ≡ 1 → length rs ≡ 1 → length us ≡ 1 → any_differs (known_types us) (first_type ts) ≡ false
+    → differ (known_types rs) (Some (int 1) ∷ []) ≡ false → slice_get rs k ≡ Some t → (u : HwType) × (known_types us ≡ Some u ∷ []) × (t ≡ int 1)
 parities [] rs us k t n m o h d e = absurd (omega arith)
 parities (u ∷ []) rs us k t n m o h d e = (u, one_agreed us u o (all_agreed us u h), single rs (int 1) t k m d e)
 parities (u ∷ v ∷ ts) rs us k t n m o h d e = absurd (omega arith)
 
 -- an extract stays within its operand
 pub extraction : (low : ℕ) (ts rs us : List HwType) (k : ℕ) (t : HwType) → length ts ≡ 2 → length rs ≡ 1 → length us ≡ 1
-    → list_any (λ (t : HwType). not (is_int t)) ts ≡ false → any_differs (settled us) (first_type ts) ≡ false
+    → list_any (λ (t : HwType). not (is_int t)) ts ≡ false → any_differs (known_types us) (first_type ts) ≡ false
     → of_both (reaches_past low) (int_width (first_type ts)) (int_width (second_type ts)) ≡ false
-    → differ (settled rs) (second_type ts ∷ []) ≡ false → slice_get rs k ≡ Some t → (u : HwType) × (settled us ≡ Some u ∷ []) × (low + width t ≤ width u)
+    → differ (known_types rs) (second_type ts ∷ []) ≡ false → slice_get rs k ≡ Some t → (u : HwType) × (known_types us ≡ Some u ∷ []) × (low + width t ≤ width u)
 extraction low [] rs us k t n m o f h x d e = absurd (omega arith)
 extraction low (u ∷ []) rs us k t n m o f h x d e = absurd (omega arith)
 extraction low (int w ∷ int v ∷ []) rs us k t n m o f h x d e =
@@ -78,10 +78,10 @@ whole_copies w v h =
 
 -- a replicate is a whole number of copies
 pub replication : (ts rs us : List HwType) (k : ℕ) (t : HwType) → length ts ≡ 2 → length rs ≡ 1 → length us ≡ 1
-    → list_any (λ (t : HwType). not (is_int t)) ts ≡ false → any_differs (settled us) (first_type ts) ≡ false
+    → list_any (λ (t : HwType). not (is_int t)) ts ≡ false → any_differs (known_types us) (first_type ts) ≡ false
     → of_both is_no_multiple (int_width (first_type ts)) (int_width (second_type ts)) ≡ false
-    → differ (settled rs) (second_type ts ∷ []) ≡ false → slice_get rs k ≡ Some t
-    → (u : HwType) × (c : ℕ) × (settled us ≡ Some u ∷ []) × (0 < width u) × (width t ≡ c * width u)
+    → differ (known_types rs) (second_type ts ∷ []) ≡ false → slice_get rs k ≡ Some t
+    → (u : HwType) × (c : ℕ) × (known_types us ≡ Some u ∷ []) × (0 < width u) × (width t ≡ c * width u)
 replication [] rs us k t n m o f h x d e = absurd (omega arith)
 replication (u ∷ []) rs us k t n m o f h x d e = absurd (omega arith)
 replication (int w ∷ int v ∷ []) rs us k t n m o f h x d e =
@@ -103,9 +103,9 @@ kept_small n h = omega arith
 
 -- a concat has the sum of its operands' bits
 pub concatenation : (ts rs us : List HwType) (k : ℕ) (t : HwType) → length us ≡ length ts → length rs ≡ 1
-    → list_any (λ (t : HwType). not (is_int t)) ts ≡ false → differ (settled us) (settled ts) ≡ false → is_too_wide (joined_width ts) ≡ false
-    → differ (settled rs) (as_int (joined_width ts) ∷ []) ≡ false → slice_get rs k ≡ Some t
-    → (vs : List HwType) × (settled us ≡ map (λ (u : HwType). Some u) vs) × (width t ≡ total (map width vs))
+    → list_any (λ (t : HwType). not (is_int t)) ts ≡ false → differ (known_types us) (known_types ts) ≡ false → is_too_wide (joined_width ts) ≡ false
+    → differ (known_types rs) (as_int (joined_width ts) ∷ []) ≡ false → slice_get rs k ≡ Some t
+    → (vs : List HwType) × (known_types us ≡ map (λ (u : HwType). Some u) vs) × (width t ≡ total (map width vs))
 concatenation ts rs us k t n m f h x d e =
     let same : us ≡ ts = pairwise_agreed us ts n h in
     let sum = joined_sum ts f in
@@ -116,8 +116,8 @@ concatenation ts rs us k t n m f h x d e =
     (us, refl, c ∙ ap (λ (vs : List HwType). total (map width vs)) (sym same))
 
 -- three operands of three types, two of two
-pub three_agreed : (us : List HwType) (x y z : HwType) → length us ≡ 3 → differ_in_three (settled us) (Some x) (Some y) (Some z) ≡ false
-    → settled us ≡ Some x ∷ Some y ∷ Some z ∷ []
+pub three_agreed : (us : List HwType) (x y z : HwType) → length us ≡ 3 → differ_in_three (known_types us) (Some x) (Some y) (Some z) ≡ false
+    → known_types us ≡ Some x ∷ Some y ∷ Some z ∷ []
 three_agreed [] x y z n h = absurd (omega arith)
 three_agreed (a ∷ []) x y z n h = absurd (omega arith)
 three_agreed (a ∷ b ∷ []) x y z n h = absurd (omega arith)
@@ -129,8 +129,8 @@ three_agreed (a ∷ b ∷ c ∷ []) x y z n h =
     let f : c ≡ z = agreed c z q.1 in cc
 three_agreed (a ∷ b ∷ c ∷ d ∷ us) x y z n h = absurd (omega arith)
 
-pub pair_agreed : (us : List HwType) (x y : HwType) → length us ≡ 2 → differ_in_two (settled us) (Some x) (Some y) ≡ false
-    → settled us ≡ Some x ∷ Some y ∷ []
+pub pair_agreed : (us : List HwType) (x y : HwType) → length us ≡ 2 → differ_in_two (known_types us) (Some x) (Some y) ≡ false
+    → known_types us ≡ Some x ∷ Some y ∷ []
 pair_agreed [] x y n h = absurd (omega arith)
 pair_agreed (a ∷ []) x y n h = absurd (omega arith)
 pair_agreed (a ∷ b ∷ []) x y n h =
@@ -141,19 +141,19 @@ pair_agreed (a ∷ b ∷ c ∷ us) x y n h = absurd (omega arith)
 
 -- a choice of two
 pub choice : (ts rs us : List HwType) (k : ℕ) (t : HwType) → length ts ≡ 1 → length rs ≡ 1 → length us ≡ 3
-    → differ_in_three (settled us) (Some (int 1)) (first_type ts) (first_type ts) ≡ false
-    → differ (settled rs) (first_type ts ∷ []) ≡ false → slice_get rs k ≡ Some t → settled us ≡ Some (int 1) ∷ Some t ∷ Some t ∷ []
+    → differ_in_three (known_types us) (Some (int 1)) (first_type ts) (first_type ts) ≡ false
+    → differ (known_types rs) (first_type ts ∷ []) ≡ false → slice_get rs k ≡ Some t → known_types us ≡ Some (int 1) ∷ Some t ∷ Some t ∷ []
 choice [] rs us k t n m o h d e = absurd (omega arith)
 choice (u ∷ []) rs us k t n m o h d e =
     let f : t ≡ u = single rs u t k m d e in
     let g = three_agreed us (int 1) u u o h in
-    let P : HwType → Type 0 = λ v. settled us ≡ Some (int 1) ∷ Some v ∷ Some v ∷ [] in subst P (sym f) g
+    let P : HwType → Type 0 = λ v. known_types us ≡ Some (int 1) ∷ Some v ∷ Some v ∷ [] in subst P (sym f) g
 choice (u ∷ v ∷ ts) rs us k t n m o h d e = absurd (omega arith)
 
 -- a bitcast keeps the width
-pub recast : (ts rs us : List HwType) (k : ℕ) (t : HwType) → length ts ≡ 2 → length rs ≡ 1 → length us ≡ 1 → any_differs (settled us) (first_type ts) ≡ false
+pub recast : (ts rs us : List HwType) (k : ℕ) (t : HwType) → length ts ≡ 2 → length rs ≡ 1 → length us ≡ 1 → any_differs (known_types us) (first_type ts) ≡ false
     → ((u v : HwType) → first_type ts ≡ Some u → second_type ts ≡ Some v → width u ≡ width v)
-    → differ (settled rs) (second_type ts ∷ []) ≡ false → slice_get rs k ≡ Some t → (u : HwType) × (settled us ≡ Some u ∷ []) × (width u ≡ width t)
+    → differ (known_types rs) (second_type ts ∷ []) ≡ false → slice_get rs k ≡ Some t → (u : HwType) × (known_types us ≡ Some u ∷ []) × (width u ≡ width t)
 recast [] rs us k t n m o h w d e = absurd (omega arith)
 recast (u ∷ []) rs us k t n m o h w d e = absurd (omega arith)
 recast (u ∷ v ∷ []) rs us k t n m o h w d e =

@@ -12,7 +12,7 @@ use Rattle.hw_model.specs.SameType.{same_type, type_from}
 use Rattle.hw_model.specs.Sound.{field_list, field_type, literal_width, literals_width, register_types}
 use Rattle.hw_model.specs.Value.{nth_type}
 use Rattle.ir_store.specs.ResultTypes.{first_type, field_of, fields_of, field_count}
-use Rattle.op_verifier.specs.TypeLists.{settled, is_no_struct, differs, any_differs, differ, differ_in_two}
+use Rattle.op_verifier.specs.TypeLists.{known_types, is_no_struct, differs, any_differs, differ, differ_in_two}
 use Rattle.op_verifier.specs.LiteralChecks.{literal_count, literal_differs, any_literal_differs, literals_differ, is_miscounted, any_miscounted, are_miscounted}
 use Rattle.op_verifier.specs.OperandChecks.{parts_differ, register_differs}
 use Rattle.op_verifier.specs.CountChecks.{reset_operands, parts_miscounted}
@@ -63,7 +63,7 @@ mutual
 
 pub aggregate : (ls : Literals) (ts rs us : List HwType) (k : ℕ) (t : HwType) → length ts ≡ 1 → length us ≡ 0 → length rs ≡ 1
     → parts_differ ls (first_type ts) ≡ false → parts_miscounted ls (first_type ts) ≡ false
-    → differ (settled rs) (first_type ts ∷ []) ≡ false → slice_get rs k ≡ Some t → (settled us ≡ []) × (literals_width ls ≡ width t)
+    → differ (known_types rs) (first_type ts ∷ []) ≡ false → slice_get rs k ≡ Some t → (known_types us ≡ []) × (literals_width ls ≡ width t)
 aggregate ls [] rs us k t n m o h c d e = absurd (omega arith)
 aggregate ls (u ∷ []) rs us k t n m o h c d e =
     let f : t ≡ u = single rs u t k o d e in
@@ -74,12 +74,12 @@ aggregate ls (u ∷ v ∷ ts) rs us k t n m o h c d e = absurd (omega arith)
 
 -- a struct of its fields
 pub construction : (ts rs us : List HwType) (k : ℕ) (t : HwType) → length ts ≡ 1 → length us ≡ field_count (first_type ts) → length rs ≡ 1
-    → is_no_struct (first_type ts) ≡ false → differ (settled us) (fields_of (first_type ts)) ≡ false
-    → differ (settled rs) (first_type ts ∷ []) ≡ false → slice_get rs k ≡ Some t
-    → (fs : FieldTypes) × (t ≡ struct fs) × (settled us ≡ map (λ (u : HwType). Some u) (field_list fs))
+    → is_no_struct (first_type ts) ≡ false → differ (known_types us) (fields_of (first_type ts)) ≡ false
+    → differ (known_types rs) (first_type ts ∷ []) ≡ false → slice_get rs k ≡ Some t
+    → (fs : FieldTypes) × (t ≡ struct fs) × (known_types us ≡ map (λ (u : HwType). Some u) (field_list fs))
 construction [] rs us k t n m o f h d e = absurd (omega arith)
 construction (struct fs ∷ []) rs us k t n m o f h d e =
-    (fs, single rs (struct fs) t k o d e, ap settled (pairwise_agreed us (field_list fs) m h))
+    (fs, single rs (struct fs) t k o d e, ap known_types (pairwise_agreed us (field_list fs) m h))
 construction (int w ∷ []) rs us k t n m o f h d e = absurd (apart f)
 construction (clock ∷ []) rs us k t n m o f h d e = absurd (apart f)
 construction (array c v ∷ []) rs us k t n m o f h d e = absurd (apart f)
@@ -91,9 +91,9 @@ is_some_type (Some t) h = (t, refl)
 
 -- a field of a struct
 pub selection : (name : Name) (ts rs us : List HwType) (k : ℕ) (t : HwType) → length ts ≡ 1 → length us ≡ 1 → length rs ≡ 1
-    → is_no_struct (first_type ts) ≡ false → any_differs (settled us) (first_type ts) ≡ false → is_none (field_of (first_type ts) name) ≡ false
-    → differ (settled rs) (field_of (first_type ts) name ∷ []) ≡ false → slice_get rs k ≡ Some t
-    → (fs : FieldTypes) × (settled us ≡ Some (struct fs) ∷ []) × (nth_type ts 0 ≡ struct fs) × (field_type fs name ≡ Some t)
+    → is_no_struct (first_type ts) ≡ false → any_differs (known_types us) (first_type ts) ≡ false → is_none (field_of (first_type ts) name) ≡ false
+    → differ (known_types rs) (field_of (first_type ts) name ∷ []) ≡ false → slice_get rs k ≡ Some t
+    → (fs : FieldTypes) × (known_types us ≡ Some (struct fs) ∷ []) × (nth_type ts 0 ≡ struct fs) × (field_type fs name ≡ Some t)
 selection name [] rs us k t n m o f h x d e = absurd (omega arith)
 selection name (struct fs ∷ []) rs us k t n m o f h x d e =
     let a = is_some_type (field_type fs name) x in
@@ -107,9 +107,9 @@ selection name (u ∷ v ∷ ts) rs us k t n m o f h x d e = absurd (omega arith)
 
 -- a struct with a field put in
 pub exchange : (name : Name) (ts rs us : List HwType) (k : ℕ) (t : HwType) → length ts ≡ 1 → length us ≡ 2 → length rs ≡ 1
-    → is_no_struct (first_type ts) ≡ false → differ_in_two (settled us) (first_type ts) (field_of (first_type ts) name) ≡ false
-    → is_none (field_of (first_type ts) name) ≡ false → differ (settled rs) (first_type ts ∷ []) ≡ false → slice_get rs k ≡ Some t
-    → (fs : FieldTypes) × (e : HwType) × (settled us ≡ Some t ∷ Some e ∷ []) × (nth_type ts 0 ≡ t) × (t ≡ struct fs) × (field_type fs name ≡ Some e)
+    → is_no_struct (first_type ts) ≡ false → differ_in_two (known_types us) (first_type ts) (field_of (first_type ts) name) ≡ false
+    → is_none (field_of (first_type ts) name) ≡ false → differ (known_types rs) (first_type ts ∷ []) ≡ false → slice_get rs k ≡ Some t
+    → (fs : FieldTypes) × (e : HwType) × (known_types us ≡ Some t ∷ Some e ∷ []) × (nth_type ts 0 ≡ t) × (t ≡ struct fs) × (field_type fs name ≡ Some e)
 exchange name [] rs us k t n m o f h x d e = absurd (omega arith)
 exchange name (struct fs ∷ []) rs us k t n m o f h x d e =
     let a = is_some_type (field_type fs name) x in
@@ -123,9 +123,9 @@ exchange name (u ∷ v ∷ ts) rs us k t n m o f h x d e = absurd (omega arith)
 
 -- the fields of a struct, one result for each
 pub explosion : (ts rs us : List HwType) (k : ℕ) (t : HwType) → length ts ≡ 1 → length us ≡ 1 → length rs ≡ field_count (first_type ts)
-    → is_no_struct (first_type ts) ≡ false → any_differs (settled us) (first_type ts) ≡ false
-    → differ (settled rs) (fields_of (first_type ts)) ≡ false → slice_get rs k ≡ Some t
-    → (fs : FieldTypes) × (settled us ≡ Some (struct fs) ∷ []) × (nth_type ts 0 ≡ struct fs) × (slice_get (field_list fs) k ≡ Some t)
+    → is_no_struct (first_type ts) ≡ false → any_differs (known_types us) (first_type ts) ≡ false
+    → differ (known_types rs) (fields_of (first_type ts)) ≡ false → slice_get rs k ≡ Some t
+    → (fs : FieldTypes) × (known_types us ≡ Some (struct fs) ∷ []) × (nth_type ts 0 ≡ struct fs) × (slice_get (field_list fs) k ≡ Some t)
 explosion [] rs us k t n m o f h d e = absurd (omega arith)
 explosion (struct fs ∷ []) rs us k t n m o f h d e =
     let same : rs ≡ field_list fs = pairwise_agreed rs (field_list fs) o d in
@@ -138,12 +138,12 @@ explosion (u ∷ v ∷ ts) rs us k t n m o f h d e = absurd (omega arith)
 -- ---- registers
 
 -- the operands of a register of a type that do not differ from what is due
-plain_operands : (r : Reset) (us : List HwType) (u : HwType) → length us ≡ 2 + reset_operands r → register_differs false r (Some u) (settled us) ≡ false
-    → settled us ≡ register_types false r u
+plain_operands : (r : Reset) (us : List HwType) (u : HwType) → length us ≡ 2 + reset_operands r → register_differs false r (Some u) (known_types us) ≡ false
+    → known_types us ≡ register_types false r u
 plain_operands no_reset [] u n h = absurd (omega arith)
 plain_operands no_reset (a ∷ []) u n h = absurd (omega arith)
 plain_operands no_reset (a ∷ b ∷ []) u n h =
-    let p = neither (differ_in_two (settled (a ∷ b ∷ [])) (Some u) (Some clock)) _ h in
+    let p = neither (differ_in_two (known_types (a ∷ b ∷ [])) (Some u) (Some clock)) _ h in
     pair_agreed (a ∷ b ∷ []) u clock refl p.0
 plain_operands no_reset (a ∷ b ∷ c ∷ us) u n h = absurd (omega arith)
 plain_operands sync_reset [] u n h = absurd (omega arith)
@@ -151,7 +151,7 @@ plain_operands sync_reset (a ∷ []) u n h = absurd (omega arith)
 plain_operands sync_reset (a ∷ b ∷ []) u n h = absurd (omega arith)
 plain_operands sync_reset (a ∷ b ∷ c ∷ []) u n h = absurd (omega arith)
 plain_operands sync_reset (a ∷ b ∷ c ∷ d ∷ []) u n h =
-    let p = neither (differ_in_two (settled (a ∷ b ∷ c ∷ d ∷ [])) (Some u) (Some clock)) _ h in
+    let p = neither (differ_in_two (known_types (a ∷ b ∷ c ∷ d ∷ [])) (Some u) (Some clock)) _ h in
     let q = neither (differs (Some a) (Some u)) (differs (Some b) (Some clock)) p.0 in
     let r = neither (differs (Some c) (Some (int 1))) (differs (Some d) (Some u)) p.1 in
     let e : a ≡ u = agreed a u q.0 in
@@ -160,13 +160,13 @@ plain_operands sync_reset (a ∷ b ∷ c ∷ d ∷ []) u n h =
     let i : d ≡ u = agreed d u r.1 in cc
 plain_operands sync_reset (a ∷ b ∷ c ∷ d ∷ v ∷ us) u n h = absurd (omega arith)
 
-enabled_operands : (r : Reset) (us : List HwType) (u : HwType) → length us ≡ 3 + reset_operands r → register_differs true r (Some u) (settled us) ≡ false
-    → settled us ≡ register_types true r u
+enabled_operands : (r : Reset) (us : List HwType) (u : HwType) → length us ≡ 3 + reset_operands r → register_differs true r (Some u) (known_types us) ≡ false
+    → known_types us ≡ register_types true r u
 enabled_operands no_reset [] u n h = absurd (omega arith)
 enabled_operands no_reset (a ∷ []) u n h = absurd (omega arith)
 enabled_operands no_reset (a ∷ b ∷ []) u n h = absurd (omega arith)
 enabled_operands no_reset (a ∷ b ∷ c ∷ []) u n h =
-    let p = neither (differ_in_two (settled (a ∷ b ∷ c ∷ [])) (Some u) (Some clock)) _ h in
+    let p = neither (differ_in_two (known_types (a ∷ b ∷ c ∷ [])) (Some u) (Some clock)) _ h in
     let q = neither (differs (Some a) (Some u)) (differs (Some b) (Some clock)) p.0 in
     let r = neither (differs (Some c) (Some (int 1))) _ p.1 in
     let e : a ≡ u = agreed a u q.0 in
@@ -179,7 +179,7 @@ enabled_operands sync_reset (a ∷ b ∷ []) u n h = absurd (omega arith)
 enabled_operands sync_reset (a ∷ b ∷ c ∷ []) u n h = absurd (omega arith)
 enabled_operands sync_reset (a ∷ b ∷ c ∷ d ∷ []) u n h = absurd (omega arith)
 enabled_operands sync_reset (a ∷ b ∷ c ∷ d ∷ v ∷ []) u n h =
-    let p = neither (differ_in_two (settled (a ∷ b ∷ c ∷ d ∷ v ∷ [])) (Some u) (Some clock)) _ h in
+    let p = neither (differ_in_two (known_types (a ∷ b ∷ c ∷ d ∷ v ∷ [])) (Some u) (Some clock)) _ h in
     let q = neither (differs (Some a) (Some u)) (differs (Some b) (Some clock)) p.0 in
     let s = neither (differs (Some c) (Some (int 1))) _ p.1 in
     let r = neither (differs (Some d) (Some (int 1))) (differs (Some v) (Some u)) s.1 in
@@ -191,16 +191,16 @@ enabled_operands sync_reset (a ∷ b ∷ c ∷ d ∷ v ∷ []) u n h =
 enabled_operands sync_reset (a ∷ b ∷ c ∷ d ∷ v ∷ w ∷ us) u n h = absurd (omega arith)
 
 pub plain_register : (r : Reset) (ts rs us : List HwType) (k : ℕ) (t : HwType) → length ts ≡ 1 → length us ≡ 2 + reset_operands r → length rs ≡ 1
-    → register_differs false r (first_type ts) (settled us) ≡ false → differ (settled rs) (first_type ts ∷ []) ≡ false → slice_get rs k ≡ Some t
-    → settled us ≡ register_types false r t
+    → register_differs false r (first_type ts) (known_types us) ≡ false → differ (known_types rs) (first_type ts ∷ []) ≡ false → slice_get rs k ≡ Some t
+    → known_types us ≡ register_types false r t
 plain_register r [] rs us k t n m o h d e = absurd (omega arith)
 plain_register r (u ∷ []) rs us k t n m o h d e =
     let f : t ≡ u = single rs u t k o d e in plain_operands r us u m h ∙ ap (register_types false r) (sym f)
 plain_register r (u ∷ v ∷ ts) rs us k t n m o h d e = absurd (omega arith)
 
 pub enabled_register : (r : Reset) (ts rs us : List HwType) (k : ℕ) (t : HwType) → length ts ≡ 1 → length us ≡ 3 + reset_operands r → length rs ≡ 1
-    → register_differs true r (first_type ts) (settled us) ≡ false → differ (settled rs) (first_type ts ∷ []) ≡ false → slice_get rs k ≡ Some t
-    → settled us ≡ register_types true r t
+    → register_differs true r (first_type ts) (known_types us) ≡ false → differ (known_types rs) (first_type ts ∷ []) ≡ false → slice_get rs k ≡ Some t
+    → known_types us ≡ register_types true r t
 enabled_register r [] rs us k t n m o h d e = absurd (omega arith)
 enabled_register r (u ∷ []) rs us k t n m o h d e =
     let f : t ≡ u = single rs u t k o d e in enabled_operands r us u m h ∙ ap (register_types true r) (sym f)

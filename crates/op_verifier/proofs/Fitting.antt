@@ -9,7 +9,7 @@ use Rattle.hw_model.specs.Kinds.RegisterOp.{compreg, compreg_ce, firreg}
 use Rattle.hw_model.specs.Kinds.Kind.{variadic, sub, division, shift, icmp, parity, extract, concat, replicate, mux, constant, aggregate_constant, on_array, on_struct, bitcast, wire, instance, output, register}
 use Rattle.hw_model.specs.Sound.{Fits}
 use Rattle.ir_store.specs.ResultTypes.{first_type, second_type, result_type, result_types, result_count}
-use Rattle.op_verifier.specs.TypeLists.{settled}
+use Rattle.op_verifier.specs.TypeLists.{known_types}
 use Rattle.op_verifier.specs.OperandChecks.{has_other_form, has_other_operand}
 use Rattle.op_verifier.specs.LimitChecks.{has_extract_outside, has_broken_copy, has_wide_concat, are_unequal, has_unequal_widths}
 use Rattle.op_verifier.specs.CountChecks.{operand_count, type_count, has_miscounted_parts}
@@ -35,7 +35,7 @@ joined_count m n h e = omega arith
 some_joined : (m n : ℕ) → n ≡ max 1 m → m ≡ n → 1 ≤ m
 some_joined m n h e = omega arith
 
-fits_by : {named : ℕ} {is_known : Bool} (kind : Kind) (ts rs us : List HwType) → NoOwnCause kind ts rs named (length us) (settled us) is_known → (k : ℕ) (t : HwType) → slice_get rs k ≡ Some t → Fits kind ts (settled us) t k
+fits_by : {named : ℕ} {is_known : Bool} (kind : Kind) (ts rs us : List HwType) → NoOwnCause kind ts rs named (length us) (known_types us) is_known → (k : ℕ) (t : HwType) → slice_get rs k ≡ Some t → Fits kind ts (known_types us) t k
 unfolding has_other_form has_other_operand operand_count type_count result_type result_types result_count has_extract_outside has_broken_copy has_wide_concat has_unequal_widths has_miscounted_parts
 fits_by (variadic v) ts rs us h k t e = variadic_fits ts rs us k t h.types h.results h.operand h.result e
 fits_by sub ts rs us h k t e = binary ts rs us k t h.types h.results h.operands h.operand h.result e
@@ -66,12 +66,12 @@ fits_by (register compreg r) ts rs us h k t e = plain_register r ts rs us k t h.
 fits_by (register compreg_ce r) ts rs us h k t e = enabled_register r ts rs us k t h.types h.operands h.results h.operand h.result e
 fits_by (register firreg r) ts rs us h k t e = plain_register r ts rs us k t h.types h.operands h.results h.operand h.result e
 
-pub fits : (kind : Kind) (ts rs : List HwType) (named : ℕ) (us : List HwType) (is_known : Bool) → own_cause kind ts rs named (settled us) is_known ≡ None
-    → (k : ℕ) (t : HwType) → slice_get rs k ≡ Some t → Fits kind ts (settled us) t k
+pub fits : (kind : Kind) (ts rs : List HwType) (named : ℕ) (us : List HwType) (is_known : Bool) → own_cause kind ts rs named (known_types us) is_known ≡ None
+    → (k : ℕ) (t : HwType) → slice_get rs k ≡ Some t → Fits kind ts (known_types us) t k
 fits kind ts rs named us is_known h = fits_by kind ts rs us (no_settled_cause kind ts rs named us is_known h)
 
 -- an instance's operands and results have its written types
-instance_by : {named : ℕ} {is_known : Bool} (i : Instance) (ts rs us : List HwType) → NoOwnCause (instance i) ts rs named (length us) (settled us) is_known → (us ≡ take (length i.inputs) ts) × (rs ≡ drop (length i.inputs) ts)
+instance_by : {named : ℕ} {is_known : Bool} (i : Instance) (ts rs us : List HwType) → NoOwnCause (instance i) ts rs named (length us) (known_types us) is_known → (us ≡ take (length i.inputs) ts) × (rs ≡ drop (length i.inputs) ts)
 unfolding has_other_operand operand_count type_count result_types result_count
 instance_by i ts rs us h =
     let n : length us ≡ length i.inputs = h.operands in
@@ -83,13 +83,13 @@ instance_by i ts rs us h =
     at_most a b c d e f = omega arith
 
 pub instance_types : (i : Instance) (ts rs : List HwType) (named : ℕ) (us : List HwType) (is_known : Bool)
-    → own_cause (instance i) ts rs named (settled us) is_known ≡ None → (us ≡ take (length i.inputs) ts) × (rs ≡ drop (length i.inputs) ts)
+    → own_cause (instance i) ts rs named (known_types us) is_known ≡ None → (us ≡ take (length i.inputs) ts) × (rs ≡ drop (length i.inputs) ts)
 instance_types i ts rs named us is_known h = instance_by i ts rs us (no_settled_cause (instance i) ts rs named us is_known h)
 
 -- an output's operands have its written types
-output_by : {named : ℕ} {is_known : Bool} (ts rs us : List HwType) → NoOwnCause output ts rs named (length us) (settled us) is_known → us ≡ ts
+output_by : {named : ℕ} {is_known : Bool} (ts rs us : List HwType) → NoOwnCause output ts rs named (length us) (known_types us) is_known → us ≡ ts
 unfolding has_other_operand operand_count
 output_by ts rs us h = pairwise_agreed us ts h.operands h.operand
 
-pub output_types : (ts rs : List HwType) (named : ℕ) (us : List HwType) (is_known : Bool) → own_cause output ts rs named (settled us) is_known ≡ None → us ≡ ts
+pub output_types : (ts rs : List HwType) (named : ℕ) (us : List HwType) (is_known : Bool) → own_cause output ts rs named (known_types us) is_known ≡ None → us ≡ ts
 output_types ts rs named us is_known h = output_by ts rs us (no_settled_cause output ts rs named us is_known h)

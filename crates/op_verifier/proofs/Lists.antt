@@ -17,7 +17,7 @@ use Rattle.ir_store.specs.declared.operation.NewResult.{NewResult}
 use Rattle.hw_model.specs.declared.types.Ty.{Ty}
 use Rattle.ir_store.specs.declared.short_list.ShortList.{ShortList}
 use Rattle.op_verifier.specs.TypeChecks.{is_without_fields}
-use Rattle.op_verifier.specs.TypeLists.{settled, settled_at, differs, differ}
+use Rattle.op_verifier.specs.TypeLists.{known_types, settled_at, differs, differ}
 use Rattle.op_verifier.specs.LiteralChecks.{literal_count, literals_differ, are_miscounted}
 use Rattle.op_verifier.specs.OwnViews.{result_types_in}
 
@@ -31,9 +31,9 @@ or_false true = refl
 or_false false = refl
 
 -- against one type only the first is compared
-pub one_differs : (rs : List HwType) (x : Option HwType) → differ (settled rs) (x ∷ []) ≡ differs (first_type rs) x
+pub one_differs : (rs : List HwType) (x : Option HwType) → differ (known_types rs) (x ∷ []) ≡ differs (first_type rs) x
 one_differs [] x = refl
-one_differs (r ∷ rs) x = rw (none_differ (settled rs)) (or_false (differs (Some r) x))
+one_differs (r ∷ rs) x = rw (none_differ (known_types rs)) (or_false (differs (Some r) x))
 
 pub first_seen : {A : Type 0} (view : A → HwType) (xs : List A) (x : A) → Some x ≡ slice_get xs 0 → first_type (map view xs) ≡ Some (view x)
 first_seen view [] x h = cc

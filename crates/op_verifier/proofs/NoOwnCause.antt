@@ -9,7 +9,7 @@ use Rattle.hw_model.specs.Kinds.{Kind}
 use Rattle.hw_model.specs.Design.{Port, OpResult, Op}
 use Rattle.ir_store.specs.ResultTypes.{result_types, result_count}
 use Rattle.op_verifier.specs.TypeChecks.{is_outside, has_bad_field, has_clock_part, is_clock}
-use Rattle.op_verifier.specs.TypeLists.{settled, differ}
+use Rattle.op_verifier.specs.TypeLists.{known_types, differ}
 use Rattle.op_verifier.specs.OperandChecks.{has_other_form, has_other_operand, has_other_result, has_mismatch}
 use Rattle.op_verifier.specs.LimitChecks.{has_outside_leaf, has_outside_array, has_type_outside, has_constant_outside, has_extract_outside, has_broken_copy, has_wide_concat, has_unknown_divisor, has_wrong_index, has_unknown_field, has_wrong_field, has_unequal_widths, value_types, has_clock_operand, has_clock_value}
 use Rattle.op_verifier.specs.CountChecks.{operand_count, type_count, has_wrong_operands, has_wrong_results, has_miscounted_parts, has_wrong_count}
@@ -23,7 +23,7 @@ use Rattle.op_verifier.proofs.Agreeing.{same_number}
 pub record NoOwnCause (kind : Kind) (ts rs : List HwType) (named n : ℕ) (xs : List (Option HwType)) (is_known : Bool) : Type 0 where
   pub form : has_other_form kind ts ≡ false
   pub operand : has_other_operand kind ts xs ≡ false
-  pub result : differ (settled rs) (result_types kind ts n) ≡ false
+  pub result : differ (known_types rs) (result_types kind ts n) ≡ false
   pub written : list_any is_outside ts ≡ false
   pub leaf : has_outside_leaf kind ≡ false
   pub array : has_outside_array kind rs ≡ false
@@ -52,7 +52,7 @@ uncaused true c rest h = cc
 
 -- the parts of tests that do not hold
 mismatches : (kind : Kind) (ts rs : List HwType) (xs : List (Option HwType)) → has_mismatch kind ts rs xs ≡ false
-    → (has_other_form kind ts ≡ false) × (has_other_operand kind ts xs ≡ false) × (differ (settled rs) (result_types kind ts (length xs)) ≡ false)
+    → (has_other_form kind ts ≡ false) × (has_other_operand kind ts xs ≡ false) × (differ (known_types rs) (result_types kind ts (length xs)) ≡ false)
 unfolding has_mismatch has_other_result
 mismatches kind ts rs xs h =
     let a = neither (has_other_form kind ts) _ h in
@@ -155,9 +155,9 @@ pub no_own_cause : (kind : Kind) (ts rs : List HwType) (named n : ℕ) (xs : Lis
 no_own_cause kind ts rs named n xs is_known same h = subst (λ (m : ℕ). NoOwnCause kind ts rs named m xs is_known) same (by_types kind ts rs named xs is_known h)
 
 -- where the types of its operands are all settled
-pub no_settled_cause : (kind : Kind) (ts rs : List HwType) (named : ℕ) (us : List HwType) (is_known : Bool) → own_cause kind ts rs named (settled us) is_known ≡ None
-    → NoOwnCause kind ts rs named (length us) (settled us) is_known
-no_settled_cause kind ts rs named us is_known h = no_own_cause kind ts rs named (length us) (settled us) is_known (length-map us (λ (t : HwType). Some t)) h
+pub no_settled_cause : (kind : Kind) (ts rs : List HwType) (named : ℕ) (us : List HwType) (is_known : Bool) → own_cause kind ts rs named (known_types us) is_known ≡ None
+    → NoOwnCause kind ts rs named (length us) (known_types us) is_known
+no_settled_cause kind ts rs named us is_known h = no_own_cause kind ts rs named (length us) (known_types us) is_known (length-map us (λ (t : HwType). Some t)) h
 
 -- ---- an operation of a body
 

@@ -6,13 +6,13 @@ use Rattle.hw_model.specs.Types.HwType.{int, clock}
 use Rattle.hw_model.specs.TypeViews.{type_of}
 use Rattle.ir_store.specs.declared.operation.NewResult.{NewResult}
 use Rattle.op_verifier.specs.TypeChecks.{has_bad_part, is_outside}
-use Rattle.op_verifier.specs.TypeLists.{settled, differs, differ}
+use Rattle.op_verifier.specs.TypeLists.{known_types, differs, differ}
 use Rattle.op_verifier.proofs.Agreeing.{agreed}
 use Rattle.std.proofs.lemmas.Bool.Decides.{nat_tests}
 use Rattle.op_verifier.proofs.Widths.{neither}
 
 -- the only result, where its type does not differ from the one that is settled
-pub one_owned : (rs : List HwType) (x : Option HwType) → length rs ≡ 1 → is_some x ≡ true → differ (settled rs) (x ∷ []) ≡ false → x ∷ [] ≡ settled rs
+pub one_owned : (rs : List HwType) (x : Option HwType) → length rs ≡ 1 → is_some x ≡ true → differ (known_types rs) (x ∷ []) ≡ false → x ∷ [] ≡ known_types rs
 one_owned [] x one some same = absurd (omega arith)
 one_owned (r ∷ []) None one some same = cc
 one_owned (r ∷ []) (Some t) one some same =
@@ -46,7 +46,7 @@ unfolding is_outside
 clock_outside = refl
 
 -- the type of a result in its place
-pub own_index : (rs : List NewResult) (n : ℕ) (r : NewResult) → n < length rs → r ≡ get_or rs n r → Some (type_of r.ty) ≡ slice_index_or (settled (map (λ (x : NewResult). type_of x.ty) rs)) n None
+pub own_index : (rs : List NewResult) (n : ℕ) (r : NewResult) → n < length rs → r ≡ get_or rs n r → Some (type_of r.ty) ≡ slice_index_or (known_types (map (λ (x : NewResult). type_of x.ty) rs)) n None
 own_index [] n r low is = absurd (omega arith)
 own_index (x ∷ rs) zero r low is = ap (λ (y : NewResult). Some (type_of y.ty)) is
 own_index (x ∷ rs) (suc n) r low is = own_index rs n r (omega arith) is

@@ -12,7 +12,7 @@ use Rattle.hw_model.specs.Sound.{field_list}
 use Rattle.hw_model.specs.SameType.{same_type}
 use Rattle.ir_store.specs.ResultTypes.{first_type, second_type, with_width, joined_width, elements_in, sum_of, length_joined, joined_length, kept_size, as_int, as_array, array_of, element_of, field_of, fields_of, field_count, result_type, result_types, result_count}
 use Rattle.op_verifier.specs.TypeChecks.{is_int}
-use Rattle.op_verifier.specs.TypeLists.{settled, is_no_int, is_no_array, differ}
+use Rattle.op_verifier.specs.TypeLists.{known_types, is_no_int, is_no_array, differ}
 use Rattle.op_verifier.specs.OperandChecks.{is_no_array_of, has_other_array, has_other_form}
 use Rattle.op_verifier.specs.LimitChecks.{has_unknown_field}
 use Rattle.op_verifier.specs.CountChecks.{operand_count, type_count}
@@ -25,7 +25,7 @@ use Rattle.op_verifier.proofs.NoOwnCause.{NoOwnCause}
 -- types, so many
 pub record Settles (xs : List (Option HwType)) (count : ℕ) : Type 0 where
   pub us : List HwType
-  pub same : xs ≡ settled us
+  pub same : xs ≡ known_types us
   pub number : length us ≡ count
 
 one : (x : Option HwType) (t : HwType) → x ≡ Some t → Settles (x ∷ []) 1
@@ -140,7 +140,7 @@ settles_all output ts n form field operands types = record { us = []; same = ref
 
 -- an operation without a cause of its own has results of the types that it settles
 pub settles : {named n : ℕ} {xs : List (Option HwType)} {is_known : Bool} (kind : Kind) (ts rs : List HwType) → NoOwnCause kind ts rs named n xs is_known
-    → result_types kind ts n ≡ settled rs
+    → result_types kind ts n ≡ known_types rs
 settles {n = n} kind ts rs h =
     let s = settles_all kind ts n h.form h.field h.operands h.types in
-    s.same ∙ ap settled (sym (pairwise_agreed rs s.us (h.results ∙ sym s.number) (ap (differ (settled rs)) (sym s.same) ∙ h.result)))
+    s.same ∙ ap known_types (sym (pairwise_agreed rs s.us (h.results ∙ sym s.number) (ap (differ (known_types rs)) (sym s.same) ∙ h.result)))

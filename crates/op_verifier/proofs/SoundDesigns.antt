@@ -11,7 +11,7 @@ use Rattle.hw_model.specs.Design.{Ref, Port, OpResult, Op, Module, Design, find_
 use Rattle.hw_model.specs.Design.Ref.{port, result, undefined}
 use Rattle.hw_model.specs.Sound.{input_types, output_types, type_in, Fits, OpFits, InstanceFits, Sound}
 use Rattle.hw_model.specs.SameType.{same_type, type_from}
-use Rattle.op_verifier.specs.TypeLists.{settled}
+use Rattle.op_verifier.specs.TypeLists.{known_types}
 use Rattle.op_verifier.specs.OwnChecks.{own_cause}
 use Rattle.op_verifier.specs.OpChecks.{has_undefined, settled_by, settled_type, divides_by_constant, names_ports, call_cause, instance_cause}
 use Rattle.op_verifier.specs.Headers.{has_output}
@@ -30,7 +30,7 @@ some_from {a = a} h = ap (λ (o : Option _). value a o) h
     value d None = d
     value d (Some x) = x
 
-known_at : (ts : List HwType) (k : ℕ) → slice_index_or (settled ts) k None ≡ slice_get ts k
+known_at : (ts : List HwType) (k : ℕ) → slice_index_or (known_types ts) k None ≡ slice_get ts k
 known_at [] zero = refl
 known_at [] (suc k) = refl
 known_at (t ∷ ts) zero = refl
@@ -65,7 +65,7 @@ output_is _ h = cc
 abbrev AreUnrefused : Design → List Port → List Op → Type 0
 AreUnrefused d ports os = (j : ℕ) (o : Op) → slice_get os j ≡ Some o → IsUnrefused d ports os o
 
-settled_results : (d : Design) (ports : List Port) (os : List Op) (o : Op) → IsUnrefused d ports os o → settled_by o ≡ settled (types_of o.results)
+settled_results : (d : Design) (ports : List Port) (os : List Op) (o : Op) → IsUnrefused d ports os o → settled_by o ≡ known_types (types_of o.results)
 settled_results d ports os o h = settles o.kind o.types (types_of o.results) (no_cause_alone ports os o (no_op_cause d ports os h.last o h.none).alone)
 
 -- a value of such a body has the type that its operation settles
@@ -88,24 +88,24 @@ same_types_in d ports os all (r ∷ rs) =
     let f : map (settled_type ports os) rs ≡ map (type_in ports os) rs = same_types_in d ports os all rs in cc
 
 -- the types of operands that are there
-all_known : (ports : List Port) (os : List Op) (rs : List Ref) → has_undefined ports os rs ≡ false → (us : List HwType) × (map (type_in ports os) rs ≡ settled us)
+all_known : (ports : List Port) (os : List Op) (rs : List Ref) → has_undefined ports os rs ≡ false → (us : List HwType) × (map (type_in ports os) rs ≡ known_types us)
 all_known ports os [] h = ([], refl)
 all_known ports os (r ∷ rs) h = go (type_in ports os r) refl h (λ f. all_known ports os rs f)
   where
     go : (x : Option HwType) → type_in ports os r ≡ x → cond (is_some x) (has_undefined ports os rs) true ≡ false
-        → (has_undefined ports os rs ≡ false → (us : List HwType) × (map (type_in ports os) rs ≡ settled us))
-        → (us : List HwType) × (type_in ports os r ∷ map (type_in ports os) rs ≡ settled us)
+        → (has_undefined ports os rs ≡ false → (us : List HwType) × (map (type_in ports os) rs ≡ known_types us))
+        → (us : List HwType) × (type_in ports os r ∷ map (type_in ports os) rs ≡ known_types us)
     go None e f rest = cc
     go (Some t) e f rest =
         let got = rest f in
-        let tail : map (type_in ports os) rs ≡ settled got.0 = got.1 in
+        let tail : map (type_in ports os) rs ≡ known_types got.0 = got.1 in
         (t ∷ got.0, ap (λ (x : Option HwType). x ∷ map (type_in ports os) rs) e ∙ ap (λ (xs : List (Option HwType)). Some t ∷ xs) tail)
 
 -- an operation by itself, over the types of its operands
 pub record Known (ports : List Port) (os : List Op) (o : Op) : Type 0 where
   pub us : List HwType
-  pub operands : map (type_in ports os) o.operands ≡ settled us
-  pub none : own_cause o.kind o.types (types_of o.results) o.named (settled us) (divides_by_constant os o.operands) ≡ None
+  pub operands : map (type_in ports os) o.operands ≡ known_types us
+  pub none : own_cause o.kind o.types (types_of o.results) o.named (known_types us) (divides_by_constant os o.operands) ≡ None
 
 known_op : (d : Design) (ports : List Port) (os : List Op) → AreUnrefused d ports os → (o : Op) → IsUnrefused d ports os o → Known ports os o
 known_op d ports os all o h =
@@ -140,10 +140,10 @@ instance_fits d ports os all o h i is = go (find_module d i.symbol) refl called
 
     typed : (x.us ≡ take (length i.inputs) o.types) × (types_of o.results ≡ drop (length i.inputs) o.types)
     typed = instance_types i o.types (types_of o.results) o.named x.us (divides_by_constant os o.operands)
-        (ap (λ (k : Kind). own_cause k o.types (types_of o.results) o.named (settled x.us) (divides_by_constant os o.operands)) (sym kind) ∙ x.none)
+        (ap (λ (k : Kind). own_cause k o.types (types_of o.results) o.named (known_types x.us) (divides_by_constant os o.operands)) (sym kind) ∙ x.none)
 
     go : (m : Option Module) → find_module d i.symbol ≡ m → call_cause i o.types m ≡ None
-        → (c : Module) × (find_module d i.symbol ≡ Some c) × (map (type_in ports os) o.operands ≡ settled (input_types c.ports)) × (types_of o.results ≡ output_types c.ports)
+        → (c : Module) × (find_module d i.symbol ≡ Some c) × (map (type_in ports os) o.operands ≡ known_types (input_types c.ports)) × (types_of o.results ≡ output_types c.ports)
     go None e f = cc
     go (Some c) e f =
         let named = not_false (names_ports i o.types c.ports) (when_none (not (names_ports i o.types c.ports)) InstancePorts f) in
@@ -151,7 +151,7 @@ instance_fits d ports os all o h i is = go (find_module d i.symbol) refl called
         let types = both_true _ _ halves.1 in
         let ins = same_types (take (length i.inputs) o.types) (input_types c.ports) types.0 in
         let outs = same_types (drop (length i.inputs) o.types) (output_types c.ports) types.1 in
-        (c, e, x.operands ∙ ap settled (typed.0 ∙ ins), typed.1 ∙ outs)
+        (c, e, x.operands ∙ ap known_types (typed.0 ∙ ins), typed.1 ∙ outs)
 
 -- ---- outputs
 
@@ -169,7 +169,7 @@ first_output (o ∷ os) h = go (is_output_op o) refl h (λ f. first_output os f)
         (suc got.0, got.1, got.2, got.3, ap (λ (b : Bool). cond b o.operands (output_refs os)) e ∙ got.4)
 
 outputs_fit : (d : Design) (ports : List Port) (os : List Op) → AreUnrefused d ports os → has_output os ≡ true
-    → map (type_in ports os) (output_refs os) ≡ settled (output_types ports)
+    → map (type_in ports os) (output_refs os) ≡ known_types (output_types ports)
 outputs_fit d ports os all there =
     let got = first_output os there in
     let o = got.1 in
@@ -180,8 +180,8 @@ outputs_fit d ports os all there =
     let types : o.types ≡ output_types ports = same_types o.types (output_types ports)
     (not_false (pointwise same_type o.types (output_types ports)) (ap (λ (b : Bool). b && not (pointwise same_type o.types (output_types ports))) (sym got.3) ∙ others)) in
     let operands : x.us ≡ o.types = outputs_typed o.types (types_of o.results) o.named x.us (divides_by_constant os o.operands)
-    (ap (λ (k : Kind). own_cause k o.types (types_of o.results) o.named (settled x.us) (divides_by_constant os o.operands)) (sym kind) ∙ x.none) in
-    ap (map (type_in ports os)) got.4 ∙ x.operands ∙ ap settled (operands ∙ types)
+    (ap (λ (k : Kind). own_cause k o.types (types_of o.results) o.named (known_types x.us) (divides_by_constant os o.operands)) (sym kind) ∙ x.none) in
+    ap (map (type_in ports os)) got.4 ∙ x.operands ∙ ap known_types (operands ∙ types)
 
 -- ---- designs
 

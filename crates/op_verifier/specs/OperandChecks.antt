@@ -13,7 +13,7 @@ use Rattle.hw_model.specs.Kinds.Kind.{concat, mux, aggregate_constant, on_array,
 use Rattle.hw_model.specs.Design.{takes_enable}
 use Rattle.ir_store.specs.ResultTypes.{first_type, second_type, element_of, field_of, fields_of, result_types}
 use Rattle.op_verifier.specs.TypeChecks.{is_int}
-use Rattle.op_verifier.specs.TypeLists.{settled, is_no_int, is_no_array, is_no_struct, differs, any_differs, differ, differ_in_two, differ_in_three, settled_at}
+use Rattle.op_verifier.specs.TypeLists.{known_types, is_no_int, is_no_array, is_no_struct, differs, any_differs, differ, differ_in_two, differ_in_three, settled_at}
 use Rattle.op_verifier.specs.LiteralChecks.{literal_differs, any_failing_leaf}
 use Rattle.op_verifier.specs.declared.literal_checks.LeafTest.TheVariants as leaf_test
 
@@ -70,8 +70,8 @@ parts_differ ls (Some t) = literal_differs (parts ls) t
 -- whether an operand's type is not the one that an operation on arrays asks for, where it is settled
 abbrev pub has_other_array_operand : ArrayOp → List HwType → List (Option HwType) → Bool
 has_other_array_operand array_create ts xs = any_differs xs (first_type ts)
-has_other_array_operand array_concat ts xs = differ xs (settled ts)
-has_other_array_operand array_get ts xs = differ xs (settled ts)
+has_other_array_operand array_concat ts xs = differ xs (known_types ts)
+has_other_array_operand array_get ts xs = differ xs (known_types ts)
 has_other_array_operand array_slice ts xs = differs (settled_at xs 0) (first_type ts) || is_no_int (settled_at xs 1)
 has_other_array_operand array_inject ts xs = differ_in_three xs (first_type ts) (second_type ts) (element_of (first_type ts))
 
@@ -84,19 +84,19 @@ has_other_struct_operand struct_explode ts xs = any_differs xs (first_type ts)
 
 -- whether an operand's type is not the written or required one, where it is settled
 unfoldable pub has_other_operand : Kind → List HwType → List (Option HwType) → Bool
-has_other_operand concat ts xs = differ xs (settled ts)
+has_other_operand concat ts xs = differ xs (known_types ts)
 has_other_operand mux ts xs = differ_in_three xs (Some (int 1)) (first_type ts) (first_type ts)
 has_other_operand (aggregate_constant ls) ts xs = parts_differ ls (first_type ts)
 has_other_operand (on_array a) ts xs = has_other_array_operand a ts xs
 has_other_operand (on_struct s) ts xs = has_other_struct_operand s ts xs
-has_other_operand (instance i) ts xs = differ xs (settled ts)
-has_other_operand output ts xs = differ xs (settled ts)
+has_other_operand (instance i) ts xs = differ xs (known_types ts)
+has_other_operand output ts xs = differ xs (known_types ts)
 has_other_operand (register f r) ts xs = register_differs (takes_enable f) r (first_type ts) xs
 has_other_operand kind ts xs = any_differs xs (first_type ts)
 
 -- whether a result has another type than the operation gives it, where it gives one: never in a text that is read
 unfoldable pub has_other_result : Kind → List HwType → List HwType → ℕ → Bool
-has_other_result kind ts rs n = differ (settled rs) (result_types kind ts n)
+has_other_result kind ts rs n = differ (known_types rs) (result_types kind ts n)
 
 -- whether types do not match
 unfoldable pub has_mismatch : Kind → List HwType → List HwType → List (Option HwType) → Bool

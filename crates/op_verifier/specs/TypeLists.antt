@@ -5,9 +5,9 @@ use Rattle.hw_model.specs.Types.HwType.{int, array, struct}
 use Rattle.hw_model.specs.SameType.{same_type}
 use Rattle.op_verifier.specs.TypeChecks.{is_int}
 
--- each of the types, settled
-abbrev pub settled : List HwType → List (Option HwType)
-settled ts = map (λ (t : HwType). Some t) ts
+-- each of the types, as one that is known
+abbrev pub known_types : List HwType → List (Option HwType)
+known_types ts = map (λ (t : HwType). Some t) ts
 
 -- whether a type is there and is no integer
 abbrev pub is_no_int : Option HwType → Bool

@@ -9,7 +9,7 @@ ghost use Rattle.hw_model.specs.Hierarchy.{HasNoRecursion};
 ghost use Rattle.hw_model.specs.Meaning.{HasNoCycle};
 ghost use Rattle.hw_model.specs.Sound.{Sound};
 ghost use Rattle.ir_store.specs.ResultTypes.{result_types};
-ghost use Rattle.op_verifier.specs.TypeLists.{settled};
+ghost use Rattle.op_verifier.specs.TypeLists.{known_types};
 ghost use Rattle.op_verifier.specs.OwnChecks.{own_cause};
 ghost use Rattle.design_cycles.specs.Asked.{HasDistinctSymbols};
 ghost use Rattle.op_verifier.specs.Faults.{first_fault};
@@ -18,7 +18,7 @@ ghost use Rattle.op_verifier.specs.Verdict.{OpAt, IsAccepted, IsInRange};
 /// Does nothing. Its clause says that an operation that is not refused by itself has results of the types that it settles.
 pub fn results_are_settled()
     ensures { (kind : Kind) (ts rs : List HwType) (named : ℕ) (xs : List (Option HwType)) (is_known : Bool)
-        → own_cause kind ts rs named xs is_known ≡ None → result_types kind ts (length xs) ≡ settled rs }
+        → own_cause kind ts rs named xs is_known ≡ None → result_types kind ts (length xs) ≡ known_types rs }
 {}
 
 /// Does nothing. Its clauses say that a design of which no header and no operation is refused is sound, and that no two of

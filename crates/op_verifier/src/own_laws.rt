@@ -4,7 +4,7 @@ ghost use Rattle.hw_model.specs.Types.{HwType};
 ghost use Rattle.hw_model.specs.Kinds.{Kind, Instance};
 ghost use Rattle.hw_model.specs.Kinds.Kind.{instance, output};
 ghost use Rattle.hw_model.specs.Sound.{Fits};
-ghost use Rattle.op_verifier.specs.TypeLists.{settled};
+ghost use Rattle.op_verifier.specs.TypeLists.{known_types};
 ghost use Rattle.op_verifier.specs.OwnChecks.{own_cause};
 
 /// Does nothing. Its clauses say what holds of an operation that has no cause and whose operands' types are all settled:
@@ -12,11 +12,11 @@ ghost use Rattle.op_verifier.specs.OwnChecks.{own_cause};
 /// output's operands.
 pub fn operations_fit()
     ensures types { (kind : Kind) (ts rs : List HwType) (named : ℕ) (us : List HwType) (is_known : Bool)
-        → own_cause kind ts rs named (settled us) is_known ≡ None
-        → (k : ℕ) (t : HwType) → slice_get rs k ≡ Some t → Fits kind ts (settled us) t k }
+        → own_cause kind ts rs named (known_types us) is_known ≡ None
+        → (k : ℕ) (t : HwType) → slice_get rs k ≡ Some t → Fits kind ts (known_types us) t k }
     ensures instances { (i : Instance) (ts rs : List HwType) (named : ℕ) (us : List HwType) (is_known : Bool)
-        → own_cause (instance i) ts rs named (settled us) is_known ≡ None
+        → own_cause (instance i) ts rs named (known_types us) is_known ≡ None
         → (us ≡ take (length i.inputs) ts) × (rs ≡ drop (length i.inputs) ts) }
     ensures outputs { (ts rs : List HwType) (named : ℕ) (us : List HwType) (is_known : Bool)
-        → own_cause output ts rs named (settled us) is_known ≡ None → us ≡ ts }
+        → own_cause output ts rs named (known_types us) is_known ≡ None → us ≡ ts }
 {}

@@ -4,7 +4,7 @@ ghost use Rattle.std.specs.Option.{option_map};
 ghost use Rattle.hw_model.specs.TypeViews.{type_of};
 ghost use Rattle.hw_model.specs.FamilyViews.{family_of};
 ghost use Rattle.ir_store.specs.ResultTypes.{result_type, result_types, as_int, array_of, kept_size};
-ghost use Rattle.op_verifier.specs.TypeLists.{settled, differs, differ};
+ghost use Rattle.op_verifier.specs.TypeLists.{known_types, differs, differ};
 ghost use Rattle.op_verifier.specs.OperandChecks.{has_other_result};
 
 use crate::type_lists::{differs, results_differ_from_fields, results_differ_from_types};
@@ -43,7 +43,7 @@ pub(crate) fn single_differs(
     results: &[NewResult],
     operands: usize,
 ) -> bool
-    ensures { result ≡ differ (settled (map (λ r. type_of r.ty) results.now)) (result_type (family_of family.entry) (map type_of types.now) operands ∷ []) }
+    ensures { result ≡ differ (known_types (map (λ r. type_of r.ty) results.now)) (result_type (family_of family.entry) (map type_of types.now) operands ∷ []) }
 {
     match results.first() {
         Some(first) => has_other_type(family, types, &first.ty, operands),
@@ -108,7 +108,7 @@ fn is_no_array_of(own: &Ty, length: Option<u32>, element: Option<&Ty>) -> bool
 
 /// Whether results and the types after so many differ.
 fn differ_after(results: &[NewResult], types: &[Ty], count: usize) -> bool
-    ensures { result ≡ differ (settled (map (λ r. type_of r.ty) results.now)) (settled (drop count (map type_of types.now))) }
+    ensures { result ≡ differ (known_types (map (λ r. type_of r.ty) results.now)) (known_types (drop count (map type_of types.now))) }
 {
     let (_, behind) = types.split_at(count.min(types.len()));
     results_differ_from_types(results, behind)

@@ -5,7 +5,7 @@ ghost use Rattle.hw_model.specs.TypeViews.{type_of};
 ghost use Rattle.hw_model.specs.FamilyViews.{family_of};
 ghost use Rattle.hw_model.specs.KindViews.{kind_of};
 ghost use Rattle.ir_store.specs.ResultTypes.{result_type, result_types};
-ghost use Rattle.op_verifier.specs.TypeLists.{settled};
+ghost use Rattle.op_verifier.specs.TypeLists.{known_types};
 
 use crate::result_checks::single_differs;
 use hw_model::families::{ArrayOp, Family, StructOp};
@@ -54,7 +54,7 @@ impl<'b> Settled<'b> {
 
 /// The type of a result, where there is one.
 fn own_type(results: &[NewResult], k: usize) -> Option<&Ty>
-    ensures { option_map (λ t. type_of t.now) result ≡ slice_index_or (settled (map (λ r. type_of r.ty) results.now)) k None }
+    ensures { option_map (λ t. type_of t.now) result ≡ slice_index_or (known_types (map (λ r. type_of r.ty) results.now)) k None }
 {
     match results.get(k) {
         Some(one) => Some(&one.ty),
@@ -75,7 +75,7 @@ fn inferred_type_at(types: &[Option<Ty>], k: usize) -> Option<&Ty>
 /// Whether the types that an operation settles are found to be those of its results. Of a few kinds this is not asked.
 #[tactic(auto, unfolding(ir_store::specs::ResultTypes::result_types))]
 fn are_own(family: Family<'_>, types: &[Ty], results: &[NewResult], operands: usize) -> bool
-    ensures { result ≡ true → result_types (family_of family.entry) (map type_of types.now) operands ≡ settled (map (λ r. type_of r.ty) results.now) }
+    ensures { result ≡ true → result_types (family_of family.entry) (map type_of types.now) operands ≡ known_types (map (λ r. type_of r.ty) results.now) }
 {
     match family {
         Family::Output => results.is_empty(),
@@ -86,7 +86,7 @@ fn are_own(family: Family<'_>, types: &[Ty], results: &[NewResult], operands: us
 
 /// Whether the type of the result of an operation that has one is that of its only result.
 fn is_own(family: Family<'_>, types: &[Ty], results: &[NewResult], operands: usize) -> bool
-    ensures { result ≡ true → result_type (family_of family.entry) (map type_of types.now) operands ∷ [] ≡ settled (map (λ r. type_of r.ty) results.now) }
+    ensures { result ≡ true → result_type (family_of family.entry) (map type_of types.now) operands ∷ [] ≡ known_types (map (λ r. type_of r.ty) results.now) }
 {
     results.len() == 1
         && (is_settled(family, types, operands)

@@ -6,7 +6,7 @@ ghost use Rattle.hw_model.specs.TypeViews.{type_of, field_of, fields_of};
 ghost use Rattle.hw_model.specs.Sound.{field_list};
 ghost use Rattle.op_verifier.specs.LimitChecks.{of_type};
 ghost use Rattle.op_verifier.specs.TypeChecks.{is_outside, has_bad_field, has_clock_part, is_clock, is_int};
-ghost use Rattle.op_verifier.specs.TypeLists.{settled, is_no_int, is_no_array, is_no_struct, int_width, array_length, differs, any_differs, differ, settled_at, differ_in_two, differ_in_three};
+ghost use Rattle.op_verifier.specs.TypeLists.{known_types, is_no_int, is_no_array, is_no_struct, int_width, array_length, differs, any_differs, differ, settled_at, differ_in_two, differ_in_three};
 
 use crate::type_checks::{has_bad_field, has_clock_part, is_clock, is_int, is_outside};
 use hw_model::types::{Field, Ty};
@@ -202,7 +202,7 @@ pub(crate) fn differ_in_three(
 
 /// Whether the operands' types and the types differ at a place that both have.
 pub(crate) fn differ_from_types(operands: &[Option<&Ty>], types: &[Ty]) -> bool
-    ensures { result ≡ differ (map (option_map (λ t. type_of t.now)) operands.now) (settled (map type_of types.now)) }
+    ensures { result ≡ differ (map (option_map (λ t. type_of t.now)) operands.now) (known_types (map type_of types.now)) }
 {
     for (operand, ty) in operands.iter().zip(types) {
         if differs(*operand, Some(ty)) {
@@ -214,7 +214,7 @@ pub(crate) fn differ_from_types(operands: &[Option<&Ty>], types: &[Ty]) -> bool
 
 /// Whether the operands' types and those of the fields differ at a place that both have.
 pub(crate) fn differ_from_fields(operands: &[Option<&Ty>], fields: &[Field]) -> bool
-    ensures { result ≡ differ (map (option_map (λ t. type_of t.now)) operands.now) (settled (field_list (fields_of (map field_of fields.now)))) }
+    ensures { result ≡ differ (map (option_map (λ t. type_of t.now)) operands.now) (known_types (field_list (fields_of (map field_of fields.now)))) }
 {
     for (operand, field) in operands.iter().zip(fields) {
         if differs(*operand, Some(&field.ty)) {
@@ -226,7 +226,7 @@ pub(crate) fn differ_from_fields(operands: &[Option<&Ty>], fields: &[Field]) -> 
 
 /// Whether the results' types and the types differ at a place that both have.
 pub(crate) fn results_differ_from_types(results: &[NewResult], types: &[Ty]) -> bool
-    ensures { result ≡ differ (settled (map (λ r. type_of r.ty) results.now)) (settled (map type_of types.now)) }
+    ensures { result ≡ differ (known_types (map (λ r. type_of r.ty) results.now)) (known_types (map type_of types.now)) }
 {
     for (one, ty) in results.iter().zip(types) {
         if one.ty != *ty {
@@ -238,7 +238,7 @@ pub(crate) fn results_differ_from_types(results: &[NewResult], types: &[Ty]) -> 
 
 /// Whether the results' types and those of the fields differ at a place that both have.
 pub(crate) fn results_differ_from_fields(results: &[NewResult], fields: &[Field]) -> bool
-    ensures { result ≡ differ (settled (map (λ r. type_of r.ty) results.now)) (settled (field_list (fields_of (map field_of fields.now)))) }
+    ensures { result ≡ differ (known_types (map (λ r. type_of r.ty) results.now)) (known_types (field_list (fields_of (map field_of fields.now)))) }
 {
     for (one, field) in results.iter().zip(fields) {
         if one.ty != field.ty {

@@ -17,7 +17,7 @@ use Rattle.hw_model.specs.Design.Ref.{port, result, undefined}
 use Rattle.hw_model.specs.Sound.{type_in, Fits, OpFits}
 use Rattle.ir_store.specs.ResultTypes.{result_type as kind_result_type, result_types}
 use Rattle.op_verifier.specs.TypeChecks.{is_outside}
-use Rattle.op_verifier.specs.TypeLists.{settled}
+use Rattle.op_verifier.specs.TypeLists.{known_types}
 use Rattle.op_verifier.specs.LiteralChecks.{is_out_of_range}
 use Rattle.op_verifier.specs.OperandChecks.{has_other_form}
 use Rattle.op_verifier.specs.LimitChecks.{has_constant_outside, has_unknown_divisor}
@@ -67,13 +67,13 @@ constant_from : (kind : Kind) → is_nonzero_kind kind ≡ true → is_constant_
 constant_from (constant z) h = refl
 constant_from _ h = cc
 
-first_settled : (x : Option HwType) (rs : List OpResult) (t : HwType) → x ∷ [] ≡ settled (types_of rs) → option_map (λ (r : OpResult). r.type) (slice_get rs 0) ≡ Some t → x ≡ Some t
+first_settled : (x : Option HwType) (rs : List OpResult) (t : HwType) → x ∷ [] ≡ known_types (types_of rs) → option_map (λ (r : OpResult). r.type) (slice_get rs 0) ≡ Some t → x ≡ Some t
 first_settled x [] t h is = cc
 first_settled x (r ∷ rs) t h is = let e : x ≡ Some r.type = cc in e ∙ is
 
 -- a constant that is not refused is not 0 in the type of its result
 constant_worth : (kind : Kind) (ts : List HwType) (rs : List OpResult) (n : ℕ) (t : HwType) → is_nonzero_kind kind ≡ true → has_other_form kind ts ≡ false
-    → list_any is_outside ts ≡ false → has_constant_outside kind ts ≡ false → result_types kind ts n ≡ settled (types_of rs)
+    → list_any is_outside ts ≡ false → has_constant_outside kind ts ≡ false → result_types kind ts n ≡ known_types (types_of rs)
     → option_map (λ (r : OpResult). r.type) (slice_get rs 0) ≡ Some t → 0 < constant_number kind (width t)
 unfolding result_types kind_result_type has_constant_outside has_other_form
 constant_worth (constant z) [] rs n t nonzero form outside range same is = let e : None ≡ Some t = first_settled None rs t same is in cc

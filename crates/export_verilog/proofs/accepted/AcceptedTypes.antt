@@ -10,7 +10,7 @@ use Rattle.hw_model.specs.Kinds.{Kind}
 use Rattle.hw_model.specs.Kinds.Kind.{variadic, sub, division, shift, icmp, parity, extract, concat, replicate, mux, constant, aggregate_constant, on_array, on_struct, bitcast, wire, instance, output, register}
 use Rattle.ir_store.specs.ResultTypes.{first_type, second_type, with_width, joined_width, kept_size, as_int, result_type, result_types}
 use Rattle.op_verifier.specs.TypeChecks.{has_bad_part, is_outside, is_clock}
-use Rattle.op_verifier.specs.TypeLists.{settled}
+use Rattle.op_verifier.specs.TypeLists.{known_types}
 use Rattle.op_verifier.specs.LimitChecks.{value_types, is_too_wide, has_wide_concat}
 use Rattle.op_verifier.specs.CountChecks.{operand_count, type_count}
 use Rattle.op_verifier.proofs.Widths.{neither}
@@ -31,13 +31,13 @@ none_behind p zero xs h = h
 none_behind p (suc n) [] h = h
 none_behind p (suc n) (x ∷ xs) h = none_behind p n xs (neither (p x) (list_any p xs) h).1
 
-same_settled : (ts us : List HwType) → settled ts ≡ settled us → ts ≡ us
+same_settled : (ts us : List HwType) → known_types ts ≡ known_types us → ts ≡ us
 same_settled [] [] h = refl
 same_settled [] (u ∷ us) h = cc
 same_settled (t ∷ ts) [] h = cc
 same_settled (t ∷ ts) (u ∷ us) h =
     let e : t ≡ u = cc in
-    let f : settled ts ≡ settled us = cc in
+    let f : known_types ts ≡ known_types us = cc in
     let g : ts ≡ us = same_settled ts us f in cc
 
 -- ---- where a type comes from
@@ -48,7 +48,7 @@ pub data IsGiven (ts : List HwType) (t : HwType) : Type 0 where
   made : (w : ℕ) → t ≡ int w → 1 ≤ w → w < 129 → IsGiven ts t
 
 module _ (ts : List HwType) (t : HwType) where
-  in_single : (x : Option HwType) (rs : List HwType) → ((u : HwType) → x ≡ Some u → IsGiven ts u) → x ∷ [] ≡ settled rs → In t rs → IsGiven ts t
+  in_single : (x : Option HwType) (rs : List HwType) → ((u : HwType) → x ≡ Some u → IsGiven ts u) → x ∷ [] ≡ known_types rs → In t rs → IsGiven ts t
   in_single x [] gives same here = absurd here
   in_single x (r ∷ []) gives same (inl e) = let f : x ≡ Some r = cc in subst (IsGiven ts) (sym e) (gives r f)
   in_single x (r ∷ []) gives same (inr here) = absurd here
@@ -67,10 +67,10 @@ module _ (ts : List HwType) (t : HwType) where
     go (v ∷ []) h = cc
     go (v ∷ w ∷ us) h = let e : w ≡ u = cc in inr (inl (sym e))
 
-  by_first : (rs : List HwType) → first_type ts ∷ [] ≡ settled rs → In t rs → IsGiven ts t
+  by_first : (rs : List HwType) → first_type ts ∷ [] ≡ known_types rs → In t rs → IsGiven ts t
   by_first rs same here = in_single (first_type ts) rs first_given same here
 
-  by_second : (rs : List HwType) → second_type ts ∷ [] ≡ settled rs → In t rs → IsGiven ts t
+  by_second : (rs : List HwType) → second_type ts ∷ [] ≡ known_types rs → In t rs → IsGiven ts t
   by_second rs same here = in_single (second_type ts) rs second_given same here
 
   one_bit : (u : HwType) → Some (int 1) ≡ Some u → IsGiven ts u
@@ -120,7 +120,7 @@ some_joined k n p q = omega (arith, p, q)
 
 -- ---- results
 
-pub given : (kind : Kind) (ts rs : List HwType) (n : ℕ) → is_aggregate_kind kind ≡ false → result_types kind ts n ≡ settled rs → n ≡ operand_count kind ts n → length ts ≡ type_count kind n
+pub given : (kind : Kind) (ts rs : List HwType) (n : ℕ) → is_aggregate_kind kind ≡ false → result_types kind ts n ≡ known_types rs → n ≡ operand_count kind ts n → length ts ≡ type_count kind n
     → list_any is_outside ts ≡ false → has_wide_concat kind ts ≡ false → (t : HwType) → In t rs → IsGiven (value_types kind ts) t
 unfolding result_types result_type operand_count type_count has_wide_concat
 given (variadic v) ts rs n plain same operands types h wide t here = by_first ts t rs same here
