@@ -24,7 +24,7 @@ mod wires;
 
 pub use cycles::first_cycle;
 pub use hierarchy::Hierarchy;
-pub use ops::{ids_in, op_at};
+pub use ops::op_at;
 pub use place::OpPlace;
 pub use recursion::first_recursive;
 pub use size::first_too_large;

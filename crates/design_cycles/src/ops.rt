@@ -1,5 +1,5 @@
 //! Operations of a body by their positions, and what each is to its module.
-ghost use Rattle.std.specs.Prelude.{◌≡◌, ◌<◌, length, map, IfOk, OnOk, is_some, slice_get, Some};
+ghost use Rattle.std.specs.Prelude.{◌≡◌, ◌<◌, length, map, OnOk, is_some, slice_get, Some};
 ghost use Rattle.hw_model.specs.Design.{instance_in, register_form, is_output_kind};
 ghost use Rattle.hw_model.specs.KindViews.{kind_of};
 ghost use Rattle.ir_store.specs.Bodies.{ids_of, ops_of, op_id};
@@ -10,7 +10,7 @@ ghost use Rattle.design_cycles.specs.Reading.{op_view};
 use hw_model::kinds::{Instance, OpKind};
 use ir_store::body::{Body, Op};
 use ir_store::operation::OpId;
-use std::alloc::{AllocError, Global};
+use std::alloc::AllocError;
 
 /// What an operation is to its module.
 #[derive(Drop)]
@@ -37,13 +37,6 @@ pub(crate) fn sort_of(kind: &OpKind) -> Sort<'_>
         OpKind::Output => Sort::Gives,
         _ => Sort::Made,
     }
-}
-
-/// The ids of a body's operations in text order.
-pub fn ids_in(alloc: Global, body: &Body) -> Result<Vec<OpId>, AllocError>
-    ensures { IfOk result (λ ids. ids.items ≡ map op_id (ids_of body.now)) }
-{
-    body.ops().collect(alloc)
 }
 
 /// Puts the ids of a body's operations, in text order, in the place of `ids`. Its memory is used again.

@@ -12,10 +12,10 @@ ghost use Rattle.design_cycles.specs.Places.{Finds, FindsOp, ids_at};
 use crate::calls::callee_of;
 use crate::graph::{NodeList, is_open, reached_from};
 use crate::hierarchy::Hierarchy;
-use crate::ops::ids_in;
 use crate::place::OpPlace;
 use ir_store::design::Design;
 use ir_store::operation::OpId;
+use ir_store::position_table::ids_in;
 use std::alloc::{AllocError, Global};
 
 /// The first instance in text order that lies on a cycle of modules: its module is the one that it instances, or is

@@ -8,10 +8,10 @@ ghost use Rattle.design_cycles.specs.Nodes.{rows_by, sizes_in, body_lists, IsLay
 
 use crate::graph::NodeList;
 use crate::layout::{Layout, Summary};
-use crate::ops::ids_in;
 use crate::wires::{graph_of, layout_of};
 use ir_store::design::{Design, Module};
 use ir_store::operation::OpId;
+use ir_store::position_table::ids_in;
 use std::alloc::{AllocError, Global};
 
 /// A module's operations, where their values stand, and what each value needs.

@@ -13,7 +13,7 @@ ghost use Rattle.design_cycles.specs.Reading.{op_view};
 ghost use Rattle.verilog_expr.specs.Values.{is_aggregate_kind};
 ghost use Rattle.export_verilog.specs.Aggregates.{is_aggregate, has_aggregate_port, has_aggregate, body_aggregate, module_aggregate, first_aggregate};
 
-use design_cycles::{ids_in, op_at};
+use design_cycles::op_at;
 use diag::cause::Cause;
 use diag::refusal::Refusal;
 use hw_model::families::Family;
@@ -22,6 +22,7 @@ use hw_model::types::Ty;
 use ir_store::body::{Body, Op};
 use ir_store::design::{Design, Module, Port};
 use ir_store::operation::NewResult;
+use ir_store::position_table::ids_in;
 use op_verifier::refused_at;
 use opcode::listed::Listed;
 use std::alloc::{AllocError, Global};

@@ -11,10 +11,11 @@ ghost use Rattle.design_cycles.specs.Calls.{call_lists, callee_number, numbers_o
 ghost use Rattle.design_cycles.specs.Graphs.{has_mark, AreCalled};
 ghost use Rattle.export_verilog.specs.Called.{with_marks};
 
-use design_cycles::{ids_in, op_at};
+use design_cycles::op_at;
 use hw_model::kinds::OpKind;
 use ir_store::body::Body;
 use ir_store::design::Design;
+use ir_store::position_table::ids_in;
 use std::alloc::{AllocError, Global};
 
 // Marks a module by its number, where there is one.

@@ -1,10 +1,19 @@
-//! The positions of a body's operations by the numbers of their ids.
+//! The ids of a body's operations in text order, and the positions of these by the numbers of their ids.
 ghost use Rattle.std.specs.Prelude.{◌≡◌, ◌<◌, ℕ, map, slice_get, IfOk, Some};
+ghost use Rattle.ir_store.specs.Bodies.{ids_of, op_id};
 ghost use Rattle.ir_store.specs.Live.{AreDistinct};
 ghost use Rattle.ir_store.specs.PositionTables.{ArePositions};
 
+use crate::body::Body;
 use crate::operation::OpId;
 use std::alloc::{AllocError, Global};
+
+/// The ids of a body's operations in text order.
+pub fn ids_in(alloc: Global, body: &Body) -> Result<Vec<OpId>, AllocError>
+    ensures { IfOk result (λ ids. ids.items ≡ map op_id (ids_of body.now)) }
+{
+    body.ops().collect(alloc)
+}
 
 /// The position of each id by its number. 2^32 ids or more want more memory than there is.
 pub fn positions_of(alloc: Global, ids: &[OpId]) -> Result<Vec<u32>, AllocError>

@@ -12,7 +12,7 @@ ghost use Rattle.verilog_expr.specs.Marks.{AreSmall};
 use ir_store::body::{Body, Op};
 use ir_store::design::{Port, PortList};
 use ir_store::operation::{OpId, Value};
-use ir_store::position_table::positions_of;
+use ir_store::position_table::{ids_in, positions_of};
 use std::alloc::{AllocError, Global};
 
 /// A body with its ports. Contracts see it by `scope_ports` and `scope_ops`.
@@ -177,13 +177,6 @@ pub fn result_width(op: &Op<'_>, number: u32) -> u64
         Some(one) => one.ty.width(),
         None => 0,
     }
-}
-
-// The ids of a body's operations in text order.
-fn ids_in(alloc: Global, body: &Body) -> Result<Vec<OpId>, AllocError>
-    ensures { IfOk result (λ ids. ids.items ≡ map op_id (ids_of body.now)) }
-{
-    body.ops().collect(alloc)
 }
 
 // The operation at a position, `ids` being those of all.
