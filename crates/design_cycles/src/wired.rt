@@ -8,7 +8,7 @@ ghost use Rattle.design_cycles.specs.Nodes.{rows_by, sizes_in, body_lists, IsLay
 
 use crate::graph::NodeList;
 use crate::layout::{Layout, Summary};
-use crate::wires::{graph_of, layout_of};
+use crate::wires::{Scope, graph_of, layout_of};
 use ir_store::design::{Design, Module};
 use ir_store::operation::OpId;
 use ir_store::position_table::ids_in;
@@ -37,18 +37,15 @@ pub(crate) fn wires_of(
     ensures graph { IfOk result (λ w. lists_of w.graph.items ≡ body_lists (length one.now.ports.ports.items) (rows_by (map (λ m. m.symbol) (modules_of design.now)) summaries.now) (numbered (ops_of one.now.body))) }
     ensures small { OnOk result (length one.now.ports.ports.items < 2 ^ 32) }
 {
-    let body = &one.body;
-    let ids = ids_in(alloc, body)?;
-    let ports = one.ports.ports.len();
-    let layout = layout_of(alloc, design, body, ids.as_slice(), ports, summaries)?;
-    let graph = graph_of(
-        alloc,
+    let ids = ids_in(alloc, &one.body)?;
+    let scope = Scope {
         design,
-        body,
-        ids.as_slice(),
-        ports,
-        &layout,
         summaries,
-    )?;
+        body: &one.body,
+        ids: ids.as_slice(),
+    };
+    let ports = one.ports.ports.len();
+    let layout = layout_of(alloc, &scope, ports)?;
+    let graph = graph_of(alloc, &scope, ports, &layout)?;
     Ok(Wired { ids, layout, graph })
 }

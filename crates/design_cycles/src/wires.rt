@@ -20,6 +20,20 @@ use ir_store::operation::{OpId, Value};
 use ir_store::position_table::positions_of;
 use std::alloc::{AllocError, Global};
 
+/// A body's operations by their positions, in a design of whose modules summaries are known.
+#[derive(Clone, Copy)]
+pub(crate) struct Scope<'d> {
+    /// The design.
+    pub(crate) design: &'d Design,
+    /// What is kept of its modules.
+    pub(crate) summaries: &'d [Summary],
+    /// The body.
+    pub(crate) body: &'d Body,
+    /// The ids of its operations in text order.
+    pub(crate) ids: &'d [OpId],
+    ghost all: { ids.now ≡ map op_id (ids_of body.now) },
+}
+
 /// The node of a value, where it has one.
 pub(crate) fn node_of(layout: &Layout, value: Value) -> Option<u32>
     ensures { result ≡ value_node layout.now value }
@@ -45,23 +59,20 @@ fn node_in(span: Option<&Span>, number: u32) -> Option<u32>
 }
 
 /// How many results of the operation at a position need others.
-fn size_at(
-    design: &Design,
-    body: &Body,
-    ids: &[OpId],
-    position: usize,
-    summaries: &[Summary],
-) -> usize
-    requires all { ids.now ≡ map op_id (ids_of body.now) }
-    requires within { position < length ids.now }
-    ensures { HasSize (rows_by (map (λ m. m.symbol) (modules_of design.now)) summaries.now) (numbered (ops_of body.now)) position result }
+fn size_at(scope: &Scope<'_>, position: usize) -> usize
+    requires { position < length scope.now.ids.now }
+    ensures { HasSize (rows_by (map (λ m. m.symbol) (modules_of scope.now.design.now)) scope.now.summaries.now) (numbered (ops_of scope.now.body.now)) position result }
 {
-    let op = op_at(body, ids, position);
+    let op = op_at(scope.body, scope.ids, position);
     match sort_of(op.kind) {
         Sort::Register | Sort::Gives => 0,
         Sort::Made => op.results.len(),
         Sort::Calls(instance) => {
-            rows_at(summaries, design.find(instance.symbol.as_bytes())).len()
+            rows_at(
+                scope.summaries,
+                scope.design.find(instance.symbol.as_bytes()),
+            )
+            .len()
         }
     }
 }
@@ -80,21 +91,13 @@ fn rows_at(summaries: &[Summary], number: Option<u32>) -> &[NodeList]
 }
 
 /// The nodes of each operation's results, in order, after those of the ports.
-fn spans_of(
-    alloc: Global,
-    design: &Design,
-    body: &Body,
-    ids: &[OpId],
-    ports: u32,
-    summaries: &[Summary],
-) -> Result<Vec<Span>, AllocError>
-    requires { ids.now ≡ map op_id (ids_of body.now) }
-    ensures { IfOk result (λ spans. AreSpans ports (sizes_in (rows_by (map (λ m. m.symbol) (modules_of design.now)) summaries.now) (numbered (ops_of body.now))) spans.items) }
+fn spans_of(alloc: Global, scope: &Scope<'_>, ports: u32) -> Result<Vec<Span>, AllocError>
+    ensures { IfOk result (λ spans. AreSpans ports (sizes_in (rows_by (map (λ m. m.symbol) (modules_of scope.now.design.now)) scope.now.summaries.now) (numbered (ops_of scope.now.body.now))) spans.items) }
 {
-    let mut spans = Vec::with_capacity(alloc, ids.len())?;
+    let mut spans = Vec::with_capacity(alloc, scope.ids.len())?;
     let mut start = ports;
-    for position in 0..ids.len() {
-        let count = size_at(design, body, ids, position, summaries);
+    for position in 0..scope.ids.len() {
+        let count = size_at(scope, position);
         let Ok(size) = u32::try_from(count) else {
             return Err(AllocError);
         };
@@ -110,21 +113,17 @@ fn spans_of(
 /// Which values of a body have nodes. A body with 2^32 values or more wants more memory than there is.
 pub(crate) fn layout_of(
     alloc: Global,
-    design: &Design,
-    body: &Body,
-    ids: &[OpId],
+    scope: &Scope<'_>,
     ports: usize,
-    summaries: &[Summary],
 ) -> Result<Layout, AllocError>
-    requires { ids.now ≡ map op_id (ids_of body.now) }
-    ensures layout { IfOk result (IsLayout ports (sizes_in (rows_by (map (λ m. m.symbol) (modules_of design.now)) summaries.now) (numbered (ops_of body.now))) (ids_of body.now)) }
+    ensures layout { IfOk result (IsLayout ports (sizes_in (rows_by (map (λ m. m.symbol) (modules_of scope.now.design.now)) scope.now.summaries.now) (numbered (ops_of scope.now.body.now))) (ids_of scope.now.body.now)) }
     ensures small { OnOk result (ports < 2 ^ 32) }
 {
     let Ok(ports) = u32::try_from(ports) else {
         return Err(AllocError);
     };
-    let spans = spans_of(alloc, design, body, ids, ports, summaries)?;
-    let positions = positions_of(alloc, ids)?;
+    let spans = spans_of(alloc, scope, ports)?;
+    let positions = positions_of(alloc, scope.ids)?;
     Ok(Layout {
         ports,
         spans,
@@ -135,22 +134,16 @@ pub(crate) fn layout_of(
 /// What each node needs.
 pub(crate) fn graph_of(
     alloc: Global,
-    design: &Design,
-    body: &Body,
-    ids: &[OpId],
+    scope: &Scope<'_>,
     ports: usize,
     layout: &Layout,
-    summaries: &[Summary],
 ) -> Result<Vec<NodeList>, AllocError>
-    requires all { ids.now ≡ map op_id (ids_of body.now) }
-    requires layout { IsLayout ports (sizes_in (rows_by (map (λ m. m.symbol) (modules_of design.now)) summaries.now) (numbered (ops_of body.now))) (ids_of body.now) layout.now }
-    ensures { IfOk result (λ graph. lists_of graph.items ≡ body_lists ports (rows_by (map (λ m. m.symbol) (modules_of design.now)) summaries.now) (numbered (ops_of body.now))) }
+    requires { IsLayout ports (sizes_in (rows_by (map (λ m. m.symbol) (modules_of scope.now.design.now)) scope.now.summaries.now) (numbered (ops_of scope.now.body.now))) (ids_of scope.now.body.now) layout.now }
+    ensures { IfOk result (λ graph. lists_of graph.items ≡ body_lists ports (rows_by (map (λ m. m.symbol) (modules_of scope.now.design.now)) scope.now.summaries.now) (numbered (ops_of scope.now.body.now))) }
 {
     let mut graph = empty_lists(alloc, ports)?;
-    for position in 0..ids.len() {
-        push_op(
-            alloc, design, body, ids, ports, position, layout, summaries, &mut graph,
-        )?;
+    for position in 0..scope.ids.len() {
+        push_op(alloc, scope, position, layout, &mut graph)?;
     }
     Ok(graph)
 }
@@ -158,26 +151,24 @@ pub(crate) fn graph_of(
 /// Appends what each result of the operation at a position needs.
 fn push_op(
     alloc: Global,
-    design: &Design,
-    body: &Body,
-    ids: &[OpId],
-    ports: usize,
+    scope: &Scope<'_>,
     position: usize,
     layout: &Layout,
-    summaries: &[Summary],
     graph: &mut Vec<NodeList>,
 ) -> Result<(), AllocError>
-    requires all { ids.now ≡ map op_id (ids_of body.now) }
-    requires within { position < length ids.now }
-    requires layout { IsLayout ports (sizes_in (rows_by (map (λ m. m.symbol) (modules_of design.now)) summaries.now) (numbered (ops_of body.now))) (ids_of body.now) layout.now }
-    ensures { IfOk result (λ _. lists_of graph.new.items ≡ lists_of graph.old.items ++ lists_at ports (rows_by (map (λ m. m.symbol) (modules_of design.now)) summaries.now) (numbered (ops_of body.now)) position) }
+    requires within { position < length scope.now.ids.now }
+    requires layout { IsLayout layout.now.ports (sizes_in (rows_by (map (λ m. m.symbol) (modules_of scope.now.design.now)) scope.now.summaries.now) (numbered (ops_of scope.now.body.now))) (ids_of scope.now.body.now) layout.now }
+    ensures { IfOk result (λ _. lists_of graph.new.items ≡ lists_of graph.old.items ++ lists_at layout.now.ports (rows_by (map (λ m. m.symbol) (modules_of scope.now.design.now)) scope.now.summaries.now) (numbered (ops_of scope.now.body.now)) position) }
 {
-    let op = op_at(body, ids, position);
+    let op = op_at(scope.body, scope.ids, position);
     match sort_of(op.kind) {
         Sort::Register | Sort::Gives => Ok(()),
         Sort::Made => push_made(alloc, layout, op.operands, op.results.len(), graph),
         Sort::Calls(instance) => {
-            let rows = rows_at(summaries, design.find(instance.symbol.as_bytes()));
+            let rows = rows_at(
+                scope.summaries,
+                scope.design.find(instance.symbol.as_bytes()),
+            );
             push_instance(alloc, layout, op.operands, rows, graph)
         }
     }

@@ -9,4 +9,4 @@ use Rattle.design_cycles.proofs.wires.graph_of.Given as goal
 
 abbrev pub invariant-loop-position : goal.invariant-loop-position
 invariant-loop-position l =
-    lists_of l.graph.items ≡ lists_upto l.ports (rows_by (map (λ (m : StoredModule). m.symbol) (modules_of l.design)) l.summaries) (numbered (ops_of l.body)) l.position
+    lists_of l.graph.items ≡ lists_upto l.ports (rows_by (map (λ (m : StoredModule). m.symbol) (modules_of l.scope.design.now)) l.scope.summaries.now) (numbered (ops_of l.scope.body.now)) l.position

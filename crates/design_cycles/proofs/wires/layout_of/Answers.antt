@@ -7,10 +7,10 @@ use Rattle.design_cycles.proofs.Pushing.{ids_distinct, layout_is}
 use Rattle.design_cycles.proofs.wires.layout_of.Goals as goal
 
 pub positions_of-requires : goal.positions_of-requires
-positions_of-requires c = ids_distinct c.args.body.now c.args.ids.now c.requires
+positions_of-requires c = ids_distinct c.args.scope.now.body.now c.args.scope.now.ids.now c.args.scope.now.all
 
 pub returns-clause-layout : goal.returns-clause-layout
 returns-clause-layout c =
-    layout_is c.args.body.now c.args.ids.now c.requires c.args.ports
-    (sizes_in (rows_by (map (λ (m : StoredModule). m.symbol) (modules_of c.args.design.now)) c.args.summaries.now) (numbered (ops_of c.args.body.now)))
+    layout_is c.args.scope.now.body.now c.args.scope.now.ids.now c.args.scope.now.all c.args.ports
+    (sizes_in (rows_by (map (λ (m : StoredModule). m.symbol) (modules_of c.args.scope.now.design.now)) c.args.scope.now.summaries.now) (numbered (ops_of c.args.scope.now.body.now)))
     (record { ports = c.in-Ok.ports; spans = c.in_ok-spans.spans; positions = c.in_ok-positions.positions }) c.in-Ok.ensures.1 c.in_ok-spans.ensures c.in_ok-positions.ensures

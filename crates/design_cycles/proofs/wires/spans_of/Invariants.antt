@@ -8,5 +8,5 @@ use Rattle.design_cycles.proofs.wires.spans_of.Given as goal
 
 abbrev pub invariant-loop-position : goal.invariant-loop-position
 invariant-loop-position l =
-    AreSpans l.ports (sizes_in (rows_by (map (λ (m : StoredModule). m.symbol) (modules_of l.design)) l.summaries) (take l.position (numbered (ops_of l.body)))) l.spans.items
-    × (l.start ≡ l.ports + total (sizes_in (rows_by (map (λ (m : StoredModule). m.symbol) (modules_of l.design)) l.summaries) (take l.position (numbered (ops_of l.body)))))
+    AreSpans l.ports (sizes_in (rows_by (map (λ (m : StoredModule). m.symbol) (modules_of l.scope.design.now)) l.scope.summaries.now) (take l.position (numbered (ops_of l.scope.body.now)))) l.spans.items
+    × (l.start ≡ l.ports + total (sizes_in (rows_by (map (λ (m : StoredModule). m.symbol) (modules_of l.scope.design.now)) l.scope.summaries.now) (take l.position (numbered (ops_of l.scope.body.now)))))
