@@ -2,13 +2,12 @@
 //! nonblocking assignments; 12.3: ports): nets are settled by passes over what drives them until all have values. That
 //! it does what `specs/` says is not proved, only that it is safe and ends.
 use crate::fault::{Fault, require, require_some};
+use crate::shapes::Shape;
 use crate::tree::{
     Always, Branch, Connection, Declared, Expression, Instance, Item, Module, Node, Role,
     find_module, place_of,
 };
-use crate::values::{
-    Scope, Shape, assigned_value, extended, is_known, is_true, low_bits, value_under,
-};
+use crate::values::{Scope, assigned_value, extended, is_known, is_true, low_bits, value_under};
 use bits_core::Bits;
 use std::alloc::Global;
 
