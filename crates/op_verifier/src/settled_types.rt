@@ -93,7 +93,8 @@ fn is_own(family: Family<'_>, types: &[Ty], results: &[NewResult], operands: usi
             && !single_differs(family, types, results, operands))
 }
 
-/// Whether the type of the result of an operation that has one is settled.
+/// Whether the type of the result of an operation that has one is settled. How many operands there are does not decide it:
+/// `operands` is named by the clause alone, whose definition gives an array of so many elements its type.
 #[tactic(auto, unfolding(ir_store::specs::ResultTypes::result_type))]
 fn is_settled(family: Family<'_>, types: &[Ty], operands: usize) -> bool
     ensures { result ≡ is_some (result_type (family_of family.entry) (map type_of types.now) operands) }
