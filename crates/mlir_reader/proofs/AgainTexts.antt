@@ -3,14 +3,13 @@ use Rattle.std.proofs.Common.{◌≡◌, ℕ, ◌≤◌, List, [], ◌∷◌, �
 use Rattle.diag.specs.declared.refusal.Refusal.{Refusal}
 use Rattle.hw_model.specs.Design.{Design}
 use Rattle.mlir_lexer.specs.Tokens.{Lexeme, tokens}
-use Rattle.mlir_syntax.specs.Stream.{Symbol, token, bad, end, stream_of}
-use Rattle.mlir_syntax.specs.Reads.{Read}
-use Rattle.mlir_operations.specs.ModuleText.{ModuleText, file_text}
+use Rattle.mlir_syntax.specs.Stream.{Symbol, token, stream_of}
+use Rattle.mlir_operations.specs.ModuleText.{file_text}
 use Rattle.mlir_reader.specs.Reading.{text_limit, design_read, read}
-use Rattle.mlir_reader.specs.Locality.{symbol_place, IsUnspelledFront}
+use Rattle.mlir_reader.specs.Locality.{IsUnspelledFront}
 use Rattle.mlir_reader.specs.Spelling.{Spells}
-use Rattle.mlir_syntax.proofs.Local.{Whole, Same, Given, Near, place_first, whole_behind}
-use Rattle.mlir_reader.proofs.LocalModules.{whole_stream, read_is, local_file}
+use Rattle.mlir_syntax.proofs.Local.{Whole, Same, Given, place_first, whole_behind}
+use Rattle.mlir_reader.proofs.LocalModules.{whole_stream, read_is, first_place, where_refused}
 use Rattle.mlir_reader.proofs.AgainModules.{file_read}
 
 -- what a text spells is read of it
@@ -25,11 +24,6 @@ not_spelled source r d refused spelled =
     let (ms, ts, same, said, is) = spelled in
     let given = file_read source ms ts same said in
     absurd (cc (refused, given))
-
-first_place : (x : Symbol) (rest : List Symbol) → symbol_place x ≡ place_first (x ∷ rest)
-first_place (token t) rest = refl
-first_place (bad p) rest = refl
-first_place (end p) rest = refl
 
 front_of : (source : List ℕ) (r : Refusal) (front : List Lexeme) (u : List Symbol) → stream_of source ≡ map token front ++ u → place_first u ≡ r.place
     → ((v : List Symbol) → Whole v → Same u v → Given 0 (λ _. file_text) (map token front ++ v) (Err r)) → IsUnspelledFront source r
@@ -46,15 +40,6 @@ front_of source r front (symbol ∷ rest) e place f = (
       (ap file_text same ∙ f (symbol ∷ behind) whole refl (length (map token front ++ (symbol ∷ behind))) (omega arith)),
 )
 
-front_ok : (source : List ℕ) (r : Refusal) (m : Read (List ModuleText)) → Near (Given 0 (λ _. file_text)) (stream_of source) m → design_read m ≡ Err r
-    → IsUnspelledFront source r
-front_ok source r (Ok p) near h = absurd cc
-front_ok source r (Err e) near h =
-    let same : e ≡ r = cc in
-    subst (IsUnspelledFront source) same (front_of source e near.0 near.1 near.2 near.3 near.4)
-
 -- no text that begins with the tokens before what is refused and with what is refused is spelled
 pub refused_front : (source : List ℕ) (r : Refusal) → length source ≤ text_limit → read source ≡ Err r → IsUnspelledFront source r
-refused_front source r le h =
-    front_ok source r (file_text (stream_of source))
-    ((local_file 0 (length (stream_of source))).near (stream_of source) (whole_stream _ (tokens source)) (omega arith)) (sym (read_is source le) ∙ h)
+refused_front source r le h = where_refused (IsUnspelledFront source) source r le h (λ e near. front_of source e near.0 near.1 near.2 near.3 near.4)

@@ -420,6 +420,11 @@ fits source le = go (nat_lt text_limit (length source)) refl
 pub read_is : (source : List ℕ) → length source ≤ text_limit → read source ≡ design_read (file_text (stream_of source))
 read_is source le = cond-false (nat_lt text_limit (length source)) _ (design_read (file_text (stream_of source))) (fits source le)
 
+pub first_place : (x : Symbol) (rest : List Symbol) → symbol_place x ≡ place_first (x ∷ rest)
+first_place (token t) rest = refl
+first_place (bad p) rest = refl
+first_place (end p) rest = refl
+
 refused_at : (source : List ℕ) (r : Refusal) (front : List Lexeme) (u : List Symbol) → stream_of source ≡ map token front ++ u → place_first u ≡ r.place
     → ((v : List Symbol) → Whole v → Same u v → Given 0 (λ _. file_text) (map token front ++ v) (Err r)) → IsOfItsSymbol source r
 refused_at source r front [] e place f = absurd (whole_behind front [] (subst Whole e (whole_stream _ (tokens source))))
@@ -434,21 +439,21 @@ refused_at source r front (symbol ∷ rest) e place f = (
       ∙ ap design_read (f (symbol ∷ behind) (whole_behind front (symbol ∷ behind) (subst Whole same (whole_stream _ (tokens other)))) refl
       (length (map token front ++ (symbol ∷ behind))) (omega arith)),
 )
-  where
-    first_place : (x : Symbol) (rest : List Symbol) → symbol_place x ≡ place_first (x ∷ rest)
-    first_place (token t) rest = refl
-    first_place (bad p) rest = refl
-    first_place (end p) rest = refl
 
-refusal_ok : (source : List ℕ) (r : Refusal) (m : Read (List ModuleText)) → Near (Given 0 (λ _. file_text)) (stream_of source) m → design_read m ≡ Err r
-    → IsOfItsSymbol source r
-refusal_ok source r (Ok p) near h = absurd cc
-refusal_ok source r (Err e) near h =
+refused_when : (P : Refusal → Type 0) (source : List ℕ) (r : Refusal) (m : Read (List ModuleText)) → Near (Given 0 (λ _. file_text)) (stream_of source) m
+    → design_read m ≡ Err r → ((e : Refusal) → Near (Given 0 (λ _. file_text)) (stream_of source) (Err e) → P e) → P r
+refused_when P source r (Ok p) near h at = absurd cc
+refused_when P source r (Err e) near h at =
     let same : e ≡ r = cc in
-    subst (IsOfItsSymbol source) same (refused_at source e near.0 near.1 near.2 near.3 near.4)
+    subst P same (at e near)
+
+-- what holds of a refusal that the symbols of a text are near to, holds of the refusal of the text
+pub where_refused : (P : Refusal → Type 0) (source : List ℕ) (r : Refusal) → length source ≤ text_limit → read source ≡ Err r
+    → ((e : Refusal) → Near (Given 0 (λ _. file_text)) (stream_of source) (Err e) → P e) → P r
+where_refused P source r le h =
+    refused_when P source r (file_text (stream_of source))
+    ((local_file 0 (length (stream_of source))).near (stream_of source) (whole_stream _ (tokens source)) (omega arith)) (sym (read_is source le) ∙ h)
 
 -- a refusal is of its symbol, whatever follows it
 pub refusal_is_local : (source : List ℕ) (r : Refusal) → length source ≤ text_limit → read source ≡ Err r → IsOfItsSymbol source r
-refusal_is_local source r le h =
-    refusal_ok source r (file_text (stream_of source))
-    ((local_file 0 (length (stream_of source))).near (stream_of source) (whole_stream _ (tokens source)) (omega arith)) (sym (read_is source le) ∙ h)
+refusal_is_local source r le h = where_refused (IsOfItsSymbol source) source r le h (λ e near. refused_at source e near.0 near.1 near.2 near.3 near.4)
