@@ -46,7 +46,7 @@ pub record NoOwnCause (kind : Kind) (ts rs : List HwType) (named n : ℕ) (xs : 
   pub parts : has_miscounted_parts kind ts ≡ false
 
 -- a test that stands before no cause does not hold
-pub uncaused : (b : Bool) (c : Cause) (rest : Option Cause) → cause_if b c rest ≡ None → (b ≡ false) × (rest ≡ None)
+uncaused : (b : Bool) (c : Cause) (rest : Option Cause) → cause_if b c rest ≡ None → (b ≡ false) × (rest ≡ None)
 uncaused false c rest h = (refl, h)
 uncaused true c rest h = cc
 

@@ -1,8 +1,7 @@
 -- A design that is read and not refused can be printed and read again.
-use Rattle.std.proofs.Common.{◌≡◌, ℕ, zero, suc, ◌<◌, max, Bool, true, false, cond, ◌&&◌, List, [], ◌∷◌, map, length, refl, ap, ◌∙◌, sym, subst, arith}
-use Rattle.std.specs.Prelude.{not, nat_eq, nat_lt, Option, Some, None, is_some, slice_get, ⊤, Ok, Err}
-use Rattle.std.proofs.lemmas.List.{length-map}
-use Rattle.std.proofs.lemmas.Bool.{or_parts, eqb-true, ltb-false}
+use Rattle.std.proofs.Common.{◌≡◌, ℕ, zero, suc, ◌<◌, max, Bool, true, false, cond, ◌&&◌, List, [], ◌∷◌, map, length, refl, ap, ◌∙◌, sym, arith}
+use Rattle.std.specs.Prelude.{not, nat_lt, Option, Some, None, is_some, slice_get, ⊤, Ok, Err}
+use Rattle.std.proofs.lemmas.Bool.{ltb-false}
 use Rattle.wiring.specs.Options.{bind, omap}
 use Rattle.hw_model.specs.Types.{HwType}
 use Rattle.hw_model.specs.Kinds.{Kind}
@@ -14,7 +13,7 @@ use Rattle.hw_model.specs.Kinds.Kind.{concat, on_array, on_struct, output, regis
 use Rattle.hw_model.specs.Sound.{type_in, input_type}
 use Rattle.hw_model.specs.Design.{Ref, Port, OpResult, Op, Module, Design, is_output_op, result_type}
 use Rattle.hw_model.specs.Design.Ref.{port, result, undefined}
-use Rattle.ir_store.specs.ResultTypes.{result_types, result_count}
+use Rattle.ir_store.specs.ResultTypes.{result_types}
 use Rattle.diag.specs.Place.{start_place}
 use Rattle.diag.specs.declared.refusal.OpName.TheVariants as op
 use Rattle.diag.specs.declared.cause.Cause.TheVariants.{TooLong}
@@ -24,66 +23,21 @@ use Rattle.mlir_reader.specs.Reading.{text_limit, design_read, read}
 use Rattle.mlir_syntax.specs.Numerals.{count_limit}
 use Rattle.mlir_reader.specs.Resolving.{marked_results, type_or_none}
 use Rattle.mlir_reader.specs.Spelling.{Spells}
-use Rattle.op_verifier.specs.CountChecks.{operand_count, type_count, has_wrong_operands, has_wrong_results, has_wrong_count}
-use Rattle.op_verifier.specs.OperandChecks.{has_mismatch}
-use Rattle.op_verifier.specs.LimitChecks.{has_type_outside, has_constant_outside, has_extract_outside, has_broken_copy, has_wide_concat, has_unknown_divisor, has_wrong_index, has_wrong_field, has_unequal_widths, has_clock_value}
-use Rattle.op_verifier.specs.OwnChecks.{own_cause}
-use Rattle.op_verifier.specs.OpChecks.{has_again, has_undefined, settled_type, divides_by_constant, value_cause, alone_cause, op_cause}
-use Rattle.op_verifier.specs.Headers.{has_port, has_output, ports_cause, names_cause, header_cause}
+use Rattle.op_verifier.specs.CountChecks.{operand_count, type_count}
+use Rattle.op_verifier.specs.OpChecks.{has_again, has_undefined, op_cause}
+use Rattle.op_verifier.specs.Headers.{has_port, has_output, header_cause}
 use Rattle.op_verifier.specs.Faults.{op_refusal, header_refusal, is_empty, body_fault, module_fault, faults_from, first_fault}
-use Rattle.op_verifier.proofs.NoOwnCause.{uncaused}
-use Rattle.op_verifier.proofs.Unrefused.{or_none, map_none, when_none, not_false}
+use Rattle.op_verifier.proofs.NoOwnCause.{no_cause_alone, result_number}
+use Rattle.op_verifier.proofs.Unrefused.{or_none, map_none, no_op_cause, no_header_cause}
 use Rattle.mlir_printer.specs.Spellable.{Each, AreBytes}
 use Rattle.mlir_printer.specs.Printable.{IsDefined, settled_result, operands_written, types_written, IsPrintableOp, IsPrintablePort, EndsWithOutput, IsPrintableModule, Printable}
 use Rattle.mlir_printer.proofs.again.OperationsAgain.{types_counted}
 use Rattle.mlir_printer.proofs.printable.ReadOperations.{IsReadOp}
 use Rattle.mlir_printer.proofs.printable.ReadModules.{IsReadPort, IsReadModule, spelled_is_read}
 
--- ---- what an operation is not refused for
+-- ---- the counts of an operation that is not refused
 
-right_count : (kind : Kind) (ts rs : List HwType) (named : ℕ) (xs : List (Option HwType)) (b : Bool) → own_cause kind ts rs named xs b ≡ None
-    → has_wrong_count kind ts rs named xs ≡ false
-unfolding own_cause
-right_count kind ts rs named xs b h =
-    let p1 = uncaused (has_mismatch kind ts rs xs) _ _ h in
-    let p2 = uncaused (has_type_outside kind ts rs) _ _ p1.1 in
-    let p3 = uncaused (has_constant_outside kind ts) _ _ p2.1 in
-    let p4 = uncaused (has_extract_outside kind ts) _ _ p3.1 in
-    let p5 = uncaused (has_broken_copy kind ts) _ _ p4.1 in
-    let p6 = uncaused (has_wide_concat kind ts) _ _ p5.1 in
-    let p7 = uncaused (has_unknown_divisor kind b) _ _ p6.1 in
-    let p8 = uncaused (has_wrong_index kind ts xs) _ _ p7.1 in
-    let p9 = uncaused (has_wrong_field kind ts) _ _ p8.1 in
-    let p10 = uncaused (has_unequal_widths kind ts) _ _ p9.1 in
-    let p11 = uncaused (has_clock_value kind ts xs) _ _ p10.1 in
-    (uncaused (has_wrong_count kind ts rs named xs) _ _ p11.1).0
-
--- the counts of an operation that is not refused
-record AreRight (kind : Kind) (ts : List HwType) (n count named : ℕ) : Type 0 where
-  operands : n ≡ operand_count kind ts n
-  types : length ts ≡ type_count kind n
-  names : named ≡ result_count kind ts
-  results : count ≡ result_count kind ts
-
-same_numbers : (m n : ℕ) → not (nat_eq m n) ≡ false → m ≡ n
-same_numbers m n h = eqb-true m n (not_false (nat_eq m n) h)
-
-counts_right : (kind : Kind) (ts rs : List HwType) (named : ℕ) (xs : List (Option HwType)) → has_wrong_count kind ts rs named xs ≡ false
-    → AreRight kind ts (length xs) (length rs) named
-unfolding has_wrong_count has_wrong_operands has_wrong_results
-counts_right kind ts rs named xs h =
-    let a = or_parts _ _ h in
-    let b = or_parts _ _ a.0 in
-    let c = or_parts _ _ a.1 in
-    let d = or_parts _ _ c.0 in
-    record {
-      operands = same_numbers (length xs) (operand_count kind ts (length xs)) b.0;
-      types = same_numbers (length ts) (type_count kind (length xs)) b.1;
-      names = same_numbers named (result_count kind ts) d.0;
-      results = same_numbers (length rs) (result_count kind ts) d.1;
-    }
-
--- they are those that are written
+-- its operands and types are as many as are written
 counts_written : (k : Kind) (ts : List HwType) (n : ℕ) → n ≡ operand_count k ts n → length ts ≡ type_count k n
     → (n ≡ operands_written k n) × (length ts ≡ types_written k n)
 unfolding operand_count type_count operands_written types_written
@@ -154,27 +108,20 @@ op_printable : (d : Design) (ports : List Port) (whole : List Op) (last : Bool) 
     → o.named < count_limit
     → IsPrintableOp ports whole o
 op_printable d ports whole last o h read named =
-    let a = or_none (value_cause ports whole o) _ h in
-    let v = or_none _ _ a.0 in
-    let again = when_none (has_again o.results) _ v.0 in
-    let known = when_none (has_undefined ports whole o.operands) _ v.1 in
-    let b = or_none (alone_cause ports whole o) _ a.1 in
-    let xs = map (settled_type ports whole) o.operands in
-    let rs = map (λ (r : OpResult). r.type) o.results in
-    let right = counts_right o.kind o.types rs o.named xs (right_count o.kind o.types rs o.named xs (divides_by_constant whole o.operands) b.0) in
-    let n : length xs ≡ length o.operands = length-map o.operands (settled_type ports whole) in
-    let count : length o.results ≡ result_count o.kind o.types = sym (length-map o.results (λ (r : OpResult). r.type)) ∙ right.results in
-    let written = counts_written o.kind o.types (length xs) right.operands right.types in
+    let none = no_op_cause d ports whole last o h in
+    let right = no_cause_alone ports whole o none.alone in
+    let count = result_number ports whole o right in
+    let written = counts_written o.kind o.types (length o.operands) right.operands right.types in
     let ts = result_types o.kind o.types (length o.operands) in
     let size : length (marked_results ts read.again) ≡ length ts = sym (ap length read.results) ∙ count ∙ sym
     (types_counted o.kind o.types (length o.operands)) in
     let some : o.named ≡ length o.results = right.names ∙ sym count in
     record {
-      defined = all_defined ports whole o.operands known;
-      operands = subst (λ m. m ≡ operands_written o.kind m) n written.0;
-      types = written.1 ∙ ap (types_written o.kind) n;
+      defined = all_defined ports whole o.operands none.defined;
+      operands = written.0;
+      types = written.1;
       readable = read.readable;
-      results = read.results ∙ unmarked ts read.again size (sym (ap has_again read.results) ∙ again);
+      results = read.results ∙ unmarked ts read.again size (sym (ap has_again read.results) ∙ none.again);
       named = some;
       few = λ p. omega (arith, some, named);
       kept = read.kept;
@@ -190,15 +137,6 @@ abbrev OutputsLast : List Op → Type 0
 OutputsLast [] = ⊤
 OutputsLast (o ∷ os) = ((is_output_op o && not (is_empty os)) ≡ false) × OutputsLast os
 
-last_output_op : (d : Design) (ports : List Port) (whole : List Op) (last : Bool) (o : Op) → op_cause d ports whole last o ≡ None
-    → (is_output_op o && not last) ≡ false
-last_output_op d ports whole last o h =
-    let a = or_none (value_cause ports whole o) _ h in
-    let b = or_none (alone_cause ports whole o) _ a.1 in
-    let c = or_none _ _ b.1 in
-    let e = or_none _ _ c.1 in
-    when_none (is_output_op o && not last) _ e.1
-
 body_printable : (d : Design) (ports : List Port) (whole os : List Op) → body_fault d ports whole os ≡ None → Each IsReadOp os
     → Each (λ (o : Op). o.named < count_limit) os
     → Each (IsPrintableOp ports whole) os × OutputsLast os
@@ -207,7 +145,7 @@ body_printable d ports whole (o ∷ os) h read named =
     let a = or_none _ _ h in
     let none = map_none (op_refusal o) (op_cause d ports whole (is_empty os) o) a.0 in
     let rest = body_printable d ports whole os a.1 read.1 named.1 in
-    ((op_printable d ports whole (is_empty os) o none read.0 named.0, rest.0), (last_output_op d ports whole (is_empty os) o none, rest.1))
+    ((op_printable d ports whole (is_empty os) o none read.0 named.0, rest.0), ((no_op_cause d ports whole (is_empty os) o none).ends, rest.1))
 
 ends_so : (os : List Op) → has_output os ≡ true → OutputsLast os → EndsWithOutput os
 ends_so [] h l = cc
@@ -238,18 +176,14 @@ none_again (p ∷ ps) h read = go p.again refl h (λ e. none_again ps e read.1)
 module_printable : (d : Design) (n : ℕ) (m : Module) → module_fault d n m ≡ None → IsReadModule m → IsPrintableModule m
 module_printable d n m h read =
     let a = or_none _ _ h in
-    let header = map_none (header_refusal m) (header_cause d n m) a.0 in
-    let parts = or_none (ports_cause m.ports) (names_cause d n m.symbol m.ports m.body) header in
-    let ports = or_none _ _ parts.0 in
-    let names = or_none _ _ parts.1 in
-    let twice = or_none _ _ names.1 in
+    let header = no_header_cause d n m (map_none (header_refusal m) (header_cause d n m) a.0) in
     let body = body_printable d m.ports m.body m.body a.1 read.operations read.named in
     record {
       symbol = read.symbol;
-      ports = none_again m.ports (when_none (has_port (λ (q : Port). q.again) m.ports) _ ports.0) read.ports;
+      ports = none_again m.ports header.again read.ports;
       dictionary = read.dictionary;
       operations = body.0;
-      ends = ends_so m.body (not_false (has_output m.body) (when_none (not (has_output m.body)) _ twice.1)) body.1;
+      ends = ends_so m.body header.ends body.1;
       few = read.few;
     }
 
