@@ -1,5 +1,5 @@
 -- What is read of bytes: names are bytes, numbers are below their limits, and nothing is too deep.
-use Rattle.std.proofs.Common.{◌≡◌, ℕ, zero, suc, ◌+◌, ◌-◌, ◌<◌, ◌≤◌, Bool, true, false, cond, ◌&&◌, ◌==◌, List, [], ◌∷◌, ◌++◌, map, take, drop, length, refl, ap, ◌∙◌, sym, subst, inl, inr, arith}
+use Rattle.std.proofs.Common.{◌≡◌, ℕ, zero, suc, ◌+◌, ◌-◌, ◌<◌, ◌≤◌, Bool, true, false, cond, ◌&&◌, ◌==◌, List, [], ◌∷◌, ◌++◌, map, take, drop, length, refl, ap, ◌∙◌, sym, subst, inl, inr, arith, length-append}
 use Rattle.std.specs.Prelude.{ℤ, pos, negsuc, nat_le, Result, Ok, Err, ⊤}
 use Rattle.std.proofs.lemmas.Bool.{and_parts, leb-true}
 use Rattle.diag.specs.Place.{start_place, next_place}
@@ -26,7 +26,7 @@ use Rattle.mlir_syntax.specs.Numerals.{number_limit, negative}
 use Rattle.mlir_syntax.specs.TypeText.{most_open}
 use Rattle.mlir_syntax.specs.AttributeText.{is_among, in_order}
 use Rattle.mlir_syntax.specs.LiteralText.{literals_in_order, truth_leaf}
-use Rattle.mlir_syntax.specs.Spelling.{Phrase, Commas, Holding, NamePhrase, SymbolPhrase, IntegerPhrase, ElementPhrase, FieldPhrase, TypeWith, TypePhrase, IntegerType, AttributePhrase, ValuePhrase, EntryPhrase, LiteralWith, PartsPhrase, LiteralPhrase, AggregatePhrase}
+use Rattle.mlir_syntax.specs.Spelling.{Phrase, Then, Commas, Holding, NamePhrase, SymbolPhrase, IntegerPhrase, ElementPhrase, FieldPhrase, FieldsPhrase, TypeWith, TypePhrase, IntegerType, AttributePhrase, ValuePhrase, EntryPhrase, LiteralWith, PartsPhrase, LiteralPhrase, AggregatePhrase}
 use Rattle.mlir_operations.specs.Spelling.{token_of}
 use Rattle.mlir_printer.specs.Spellable.{Each, AreBytes, IsInteger, IsType, AreFields, IsLiteral, AreLiterals, IsAttribute, AreAttributes, IsValue, IsEntry}
 
@@ -94,12 +94,42 @@ texts_of source ts h e = of_tokens ts (subst (λ l. Each HasBytes l) e (tokens_b
 pub count_of : (source : List ℕ) (ts : List Lexeme) → tokens source ≡ map token_of ts → length ts ≤ length source
 count_of source ts e = let f = tokens_few 0 start_place 0 source in let l = ap length e ∙ length_tokens ts in omega (arith, f, l)
 
-pub parts_of : (ts a b : List Lexeme) → ts ≡ a ++ b → AreTexts ts → AreTexts a × AreTexts b
+parts_of : (ts a b : List Lexeme) → ts ≡ a ++ b → AreTexts ts → AreTexts a × AreTexts b
 parts_of ts a b e h = split a b (subst AreTexts e h)
   where
     split : (a b : List Lexeme) → AreTexts (a ++ b) → AreTexts a × AreTexts b
     split [] b h = (tt, h)
     split (t ∷ a) b h = let r = split a b h.1 in ((h.0, r.0), r.1)
+
+-- symbols that say a phrase and are texts, at most so many
+pub record Said (P : Phrase) (most : ℕ) : Type 0 where
+  pub symbols : List Lexeme
+  pub texts : AreTexts symbols
+  pub few : length symbols ≤ most
+  pub is : P symbols
+
+unfoldable pub said : {P : Phrase} (ts : List Lexeme) → AreTexts ts → P ts → Said P (length ts)
+said ts texts h = record { symbols = ts; texts = texts; few = omega arith; is = h }
+
+-- the first of two phrases, and the other
+pub said_first : {P Q : Phrase} {most : ℕ} → Said (Then P Q) most → Said P most
+said_first x =
+    let h = x.is in
+    let c = ap length h.2 ∙ length-append h.0 h.1 in
+    let few = x.few in
+    record { symbols = h.0; texts = (parts_of x.symbols h.0 h.1 h.2 x.texts).0; few = omega (arith, c, few); is = h.3 }
+
+pub said_then : {P Q : Phrase} {most : ℕ} → Said (Then P Q) most → Said Q most
+said_then x =
+    let h = x.is in
+    let c = ap length h.2 ∙ length-append h.0 h.1 in
+    let few = x.few in
+    record { symbols = h.1; texts = (parts_of x.symbols h.0 h.1 h.2 x.texts).1; few = omega (arith, c, few); is = h.4 }
+
+-- together they have as many symbols as both
+pub said_count : {P Q : Phrase} {most : ℕ} (x : Said (Then P Q) most) → length x.symbols ≡ length (said_first x).symbols + length (said_then x).symbols
+unfolding said_first said_then
+said_count x = let h = x.is in ap length h.2 ∙ length-append h.0 h.1
 
 -- ---- what tokens hold
 
@@ -175,10 +205,10 @@ pub each_read : {A : Type 0} (P : A → Phrase) (Q : A → Type 0) → ((x : A) 
 each_read P Q f [] ts texts h = tt
 each_read P Q f (x ∷ []) ts texts h = (f x ts texts h, tt)
 each_read P Q f (x ∷ y ∷ xs) ts texts h =
-    let s = parts_of ts h.0 h.1 h.2 texts in
-    let r = h.4 in
-    let u = parts_of h.1 r.0 r.1 r.2 s.1 in
-    (f x h.0 s.0 h.3, each_read P Q f (y ∷ xs) r.1 u.1 r.4)
+    let both = said ts texts h in
+    let one = said_first both in
+    let others = said_then (said_then both) in
+    (f x one.symbols one.texts one.is, each_read P Q f (y ∷ xs) others.symbols others.texts others.is)
 
 -- ---- numbers
 
@@ -197,7 +227,7 @@ integer_read z ts (inr h) = subst IsInteger (sym h.1) (below h.0 h.2.4.0)
 
 element_read : (Inner : HwType → Phrase) (room : ℕ) → ((t : HwType) (ts : List Lexeme) → AreTexts ts → Inner t ts → IsType t room)
     → (t : HwType) (ts : List Lexeme) → AreTexts ts → ElementPhrase Inner t ts → IsType t room
-element_read Inner room inner t ts texts (inl h) = inner t h.1 (parts_of ts h.0 h.1 h.2 texts).1 h.4
+element_read Inner room inner t ts texts (inl h) = let type = said_then (said ts texts h) in inner t type.symbols type.texts type.is
 element_read Inner room inner (int w) ts texts (inr h) = h.2.1.2.3
 element_read Inner room inner clock ts texts (inr h) = absurd h
 element_read Inner room inner (array n t) ts texts (inr h) = absurd h
@@ -209,37 +239,34 @@ IsField room f = AreBytes f.name × IsType f.type room
 pub field_read : (Inner : HwType → Phrase) (room : ℕ) → ((t : HwType) (ts : List Lexeme) → AreTexts ts → Inner t ts → IsType t room)
     → (f : NamedType) (ts : List Lexeme) → AreTexts ts → FieldPhrase Inner f ts → AreBytes f.name × IsType f.type room
 field_read Inner room inner f ts texts h =
-    let s = parts_of ts h.0 h.1 h.2 texts in
-    let r = h.4 in
-    (name_bytes_read f.name h.0 s.0 h.3, inner f.type r.1 (parts_of h.1 r.0 r.1 r.2 s.1).1 r.4)
+    let both = said ts texts h in
+    let name = said_first both in
+    let type = said_then (said_then both) in
+    (name_bytes_read f.name name.symbols name.texts name.is, inner f.type type.symbols type.texts type.is)
 
 fields_are : (room : ℕ) (fs : List NamedType) → Each (IsField room) fs → AreFields (fields_of fs) room
 fields_are room [] h = tt
 fields_are room (f ∷ fs) h = (h.0.0, h.0.1, fields_are room fs h.1)
+
+fields_read : (Inner : HwType → Phrase) (room : ℕ) → ((t : HwType) (ts : List Lexeme) → AreTexts ts → Inner t ts → IsType t room)
+    → (fs : FieldTypes) (ts : List Lexeme) → AreTexts ts → FieldsPhrase Inner (struct fs) ts → AreFields fs room
+fields_read Inner room inner fs ts texts h =
+    let same : fs ≡ fields_of h.0 = let e = h.1 in cc in
+    let fields = said_first (said_then (said ts texts h.2)) in
+    subst (λ (x : FieldTypes). AreFields x room) (sym same)
+    (fields_are room h.0 (each_read (FieldPhrase Inner) (IsField room) (field_read Inner room inner) h.0 fields.symbols fields.texts fields.is))
 
 type_with : (Inner : HwType → Phrase) (room : ℕ) → ((t : HwType) (ts : List Lexeme) → AreTexts ts → Inner t ts → IsType t room)
     → (t : HwType) (ts : List Lexeme) → AreTexts ts → TypeWith Inner t ts → IsType t (suc room)
 type_with Inner room inner (int w) ts texts h = h.2.1.2.3
 type_with Inner room inner clock ts texts h = tt
 type_with Inner room inner (array n t) ts texts h =
-    let s = parts_of ts h.0 h.1 h.2 texts in
-    let b = h.4 in
-    let u = parts_of h.1 b.0 b.1 b.2 s.1 in
-    let c = b.4 in
-    let v = parts_of b.1 c.0 c.1 c.2 u.1 in
-    let d = c.3 in
-    let w = parts_of c.0 d.0 d.1 d.2 v.0 in
-    (d.3.0, element_read Inner room inner t d.1 w.1 d.4)
+    let both = said_first (said_then (said_then (said ts texts h))) in
+    let number = said_first both in
+    let element = said_then both in
+    (number.is.0, element_read Inner room inner t element.symbols element.texts element.is)
 type_with Inner room inner (struct fs) ts texts h =
-    let s = parts_of ts h.0 h.1 h.2 texts in
-    let l = h.4 in
-    let same : fs ≡ fields_of l.0 = let e = l.1 in cc in
-    let b = l.2 in
-    let u = parts_of h.1 b.0 b.1 b.2 s.1 in
-    let c = b.4 in
-    let v = parts_of b.1 c.0 c.1 c.2 u.1 in
-    subst (λ (x : FieldTypes). AreFields x room) (sym same)
-    (fields_are room l.0 (each_read (FieldPhrase Inner) (IsField room) (field_read Inner room inner) l.0 c.0 v.0 c.3))
+    let fields = said_then (said ts texts h) in fields_read Inner room inner fs fields.symbols fields.texts fields.is
 
 pub type_read : (room : ℕ) (t : HwType) (ts : List Lexeme) → AreTexts ts → TypePhrase room t ts → IsType t room
 type_read zero (int w) ts texts h = h.2.1.2.3
@@ -257,19 +284,15 @@ literals_are room (l ∷ ls) h = (h.0, literals_are room ls h.1)
 pub parts_read : (Part : Literal → Phrase) (room : ℕ) → ((l : Literal) (ts : List Lexeme) → AreTexts ts → Part l ts → IsLiteral l room)
     → (ls : Literals) (ts : List Lexeme) → AreTexts ts → PartsPhrase Part ls ts → AreLiterals ls room
 parts_read Part room part ls ts texts h =
-    let b = h.2 in
-    let u = parts_of ts b.0 b.1 b.2 texts in
-    let c = b.4 in
-    let v = parts_of b.1 c.0 c.1 c.2 u.1 in
+    let inner = said_first (said_then (said ts texts h.2)) in
     subst (λ (x : Literals). AreLiterals x room) (sym h.1)
-    (literals_are room h.0 (each_read Part (λ (l : Literal). IsLiteral l room) part h.0 c.0 v.0 c.3))
+    (literals_are room h.0 (each_read Part (λ (l : Literal). IsLiteral l room) part h.0 inner.symbols inner.texts inner.is))
 
 leaf_read : (room : ℕ) (Lists : Literals → Phrase) (z : ℤ) (t : HwType) (ts : List Lexeme) → AreTexts ts → LiteralWith Lists room (leaf z t) ts
     → IsLiteral (leaf z t) room
 leaf_read room Lists z t ts texts (inl h) =
-    let s = parts_of ts h.0 h.1 h.2 texts in
-    let r = h.4 in
-    (integer_read z h.0 h.3, type_read room t r.1 (parts_of h.1 r.0 r.1 r.2 s.1).1 r.4)
+    let type = said_then (said_then (said ts texts h)) in
+    (integer_read z h.0 h.3, type_read room t type.symbols type.texts type.is)
 leaf_read room Lists z t ts texts (inr h) = subst (λ l. IsLiteral l room) (sym h.1) (small h.0)
   where
     small : (b : Bool) → IsLiteral (truth_leaf b) room
@@ -292,7 +315,7 @@ attributes_are room [] h = tt
 attributes_are room (a ∷ l) h = (h.0, attributes_are room l h.1)
 
 stored_type : (room : ℕ) (t : HwType) (ts : List Lexeme) → AreTexts ts → IntegerType room t ts → IsType t room
-stored_type room t ts texts (inl h) = type_read room t h.1 (parts_of ts h.0 h.1 h.2 texts).1 h.4
+stored_type room t ts texts (inl h) = let type = said_then (said ts texts h) in type_read room t type.symbols type.texts type.is
 stored_type room t ts texts (inr h) = subst (λ u. IsType u room) (sym h.0) (omega arith)
 
 pub attribute_read : (room : ℕ) (a : Attribute) (ts : List Lexeme) → AreTexts ts → AttributePhrase room a ts → IsAttribute a room
@@ -300,20 +323,18 @@ attribute_read zero unit_value ts texts h = h
 attribute_read zero (text_value text) ts texts h = held_bytes kind.StringLiteral text ts texts h
 attribute_read zero (symbol_value name) ts texts h = symbol_bytes_read name ts texts h
 attribute_read zero (truth_value b) ts texts h = tt
-attribute_read zero (integer_value z t) ts texts h = (h.0, stored_type zero t h.1.1 (parts_of ts h.1.0 h.1.1 h.1.2 texts).1 h.1.4)
+attribute_read zero (integer_value z t) ts texts h = let type = said_then (said ts texts h.1) in (h.0, stored_type zero t type.symbols type.texts type.is)
 attribute_read zero (list_value inner) ts texts h = absurd h.2
 attribute_read (suc room) unit_value ts texts h = h
 attribute_read (suc room) (text_value text) ts texts h = held_bytes kind.StringLiteral text ts texts h
 attribute_read (suc room) (symbol_value name) ts texts h = symbol_bytes_read name ts texts h
 attribute_read (suc room) (truth_value b) ts texts h = tt
-attribute_read (suc room) (integer_value z t) ts texts h = (h.0, stored_type (suc room) t h.1.1 (parts_of ts h.1.0 h.1.1 h.1.2 texts).1 h.1.4)
+attribute_read (suc room) (integer_value z t) ts texts h =
+    let type = said_then (said ts texts h.1) in (h.0, stored_type (suc room) t type.symbols type.texts type.is)
 attribute_read (suc room) (list_value inner) ts texts h =
-    let b = h.2 in
-    let u = parts_of ts b.0 b.1 b.2 texts in
-    let c = b.4 in
-    let v = parts_of b.1 c.0 c.1 c.2 u.1 in
+    let list = said_first (said_then (said ts texts h.2)) in
     subst (λ (x : Attributes). AreAttributes x room) (sym h.1)
-    (attributes_are room h.0 (each_read (AttributePhrase room) (λ (a : Attribute). IsAttribute a room) (attribute_read room) h.0 c.0 v.0 c.3))
+    (attributes_are room h.0 (each_read (AttributePhrase room) (λ (a : Attribute). IsAttribute a room) (attribute_read room) h.0 list.symbols list.texts list.is))
 
 value_of : (b : Bool) (a : Attribute) → b ≡ false → IsAttribute a most_open → IsValue b a
 value_of b unit_value e h = absurd h
@@ -330,9 +351,10 @@ value_read strings e ts texts (inr h) =
 
 pub entry_read : (strings : List Name) (e : Entry) (ts : List Lexeme) → AreTexts ts → EntryPhrase strings e ts → IsEntry strings e
 entry_read strings e ts texts (inl h) =
-    let s = parts_of ts h.0 h.1 h.2 texts in
-    let r = h.4 in
-    record { key = name_bytes_read e.key h.0 s.0 h.3; value = value_read strings e r.1 (parts_of h.1 r.0 r.1 r.2 s.1).1 r.4 }
+    let both = said ts texts h in
+    let key = said_first both in
+    let value = said_then (said_then both) in
+    record { key = name_bytes_read e.key key.symbols key.texts key.is; value = value_read strings e value.symbols value.texts value.is }
 entry_read strings e ts texts (inr h) = record {
   key = name_bytes_read e.key ts texts h.1;
   value = subst (λ (a : Attribute). IsValue (is_among e.key strings) a) (sym h.0.1) h.0.0;

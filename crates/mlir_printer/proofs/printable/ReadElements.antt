@@ -16,7 +16,7 @@ use Rattle.assembly_format.specs.declared.elements.FormatElement.{FormatElement}
 use Rattle.assembly_format.specs.declared.elements.FormatElement.TheVariants as element
 use Rattle.mlir_printer.specs.Spellable.{Each, AreBytes, MayBeBytes, IsInteger, IsAnyType, AreLiterals}
 use Rattle.mlir_printer.specs.Printable.{IsWrittenInstance}
-use Rattle.mlir_printer.proofs.printable.ReadBytes.{AreTexts, parts_of, held_bytes, name_bytes_read, symbol_bytes_read, each_read, integer_read, type_read, field_read, aggregate_read}
+use Rattle.mlir_printer.proofs.printable.ReadBytes.{AreTexts, said, said_first, said_then, held_bytes, name_bytes_read, symbol_bytes_read, each_read, integer_read, type_read, field_read, aggregate_read}
 
 -- what is said besides operands and types is within its limits
 abbrev pub IsReadInherentAttributes : InherentAttributes → Type 0
@@ -54,41 +54,29 @@ IsOutput q = AreBytes q.name × IsAnyType q.type
 
 input_read : (j : Joined) (ts : List Lexeme) → AreTexts ts → InputPhrase j ts → IsInput j
 input_read j ts texts h =
-    let s = parts_of ts h.0 h.1 h.2 texts in
-    let b = h.4 in
-    let u = parts_of h.1 b.0 b.1 b.2 s.1 in
-    let c = b.4 in
-    let v = parts_of b.1 c.0 c.1 c.2 u.1 in
-    let d = c.4 in
-    let w = parts_of c.1 d.0 d.1 d.2 v.1 in
-    (name_bytes_read j.port h.0 s.0 h.3, type_read most_open j.type d.1 w.1 d.4)
+    let all = said ts texts h in
+    let port = said_first all in
+    let type = said_then (said_then (said_then (said_then all))) in
+    (name_bytes_read j.port port.symbols port.texts port.is, type_read most_open j.type type.symbols type.texts type.is)
 
 inner_read : (inner : Option Name) (ts : List Lexeme) → AreTexts ts → InnerSymbol inner ts → MayBeBytes inner
 inner_read None ts texts h = tt
-inner_read (Some name) ts texts h = symbol_bytes_read name h.1 (parts_of ts h.0 h.1 h.2 texts).1 h.4
+inner_read (Some name) ts texts h = let symbol = said_then (said ts texts h) in symbol_bytes_read name symbol.symbols symbol.texts symbol.is
 
 instance_read : (g h : Gathered) (ts : List Lexeme) → AreTexts ts → IsReadPart g → InstancePhrase g h ts → IsReadPart h
 instance_read g h ts texts r i =
-    let a = i.6 in
-    let s1 = parts_of ts a.0 a.1 a.2 texts in
-    let b = a.4 in
-    let s2 = parts_of a.1 b.0 b.1 b.2 s1.1 in
-    let c = b.4 in
-    let s3 = parts_of b.1 c.0 c.1 c.2 s2.1 in
-    let d = c.4 in
-    let s4 = parts_of c.1 d.0 d.1 d.2 s3.1 in
-    let ls = d.3 in
-    let s5 = parts_of d.0 ls.0 ls.1 ls.2 s4.0 in
-    let l = ls.4 in
-    let s6 = parts_of ls.1 l.0 l.1 l.2 s5.1 in
-    let ins : Each IsInput i.3 = each_read InputPhrase IsInput input_read i.3 l.0 s6.0 l.3 in
-    let e = d.4 in
-    let s7 = parts_of d.1 e.0 e.1 e.2 s4.1 in
-    let rs = e.4 in
-    let s8 = parts_of e.1 rs.0 rs.1 rs.2 s7.1 in
-    let q = rs.4 in
-    let s9 = parts_of rs.1 q.0 q.1 q.2 s8.1 in
-    let outs : Each IsOutput i.4 = each_read OutputPhrase IsOutput (field_read (TypePhrase most_open) most_open (type_read most_open)) i.4 q.0 s9.0 q.3 in
+    let all = said ts texts i.6 in
+    let name = said_first all in
+    let after_name = said_then all in
+    let inner = said_first after_name in
+    let after_inner = said_then after_name in
+    let symbol = said_first after_inner in
+    let lists = said_then after_inner in
+    let inputs = said_first (said_then (said_first lists)) in
+    let ins : Each IsInput i.3 = each_read InputPhrase IsInput input_read i.3 inputs.symbols inputs.texts inputs.is in
+    let outputs = said_first (said_then (said_then (said_then lists))) in
+    let outs : Each IsOutput i.4 =
+    each_read OutputPhrase IsOutput (field_read (TypePhrase most_open) most_open (type_read most_open)) i.4 outputs.symbols outputs.texts outputs.is in
     subst IsReadPart (sym i.5)
     (record {
       types =
@@ -97,9 +85,9 @@ instance_read g h ts texts r i =
           (each_map (λ (j : Joined). j.type) IsAnyType i.3 (each_weaker IsInput (λ (j : Joined). IsAnyType j.type) (λ j x. x.1) i.3 ins)))
           (each_map (λ (t : NamedType). t.type) IsAnyType i.4 (each_weaker IsOutput (λ (t : NamedType). IsAnyType t.type) (λ t x. x.1) i.4 outs));
       inherent = record {
-        name = held_bytes kind.StringLiteral i.0 a.0 s1.0 a.3;
-        inner = inner_read i.2 b.0 s2.0 b.3;
-        symbol = symbol_bytes_read i.1 c.0 s3.0 c.3;
+        name = held_bytes kind.StringLiteral i.0 name.symbols name.texts name.is;
+        inner = inner_read i.2 inner.symbols inner.texts inner.is;
+        symbol = symbol_bytes_read i.1 symbol.symbols symbol.texts symbol.is;
         inputs = each_map (λ (j : Joined). j.port) AreBytes i.3 (each_weaker IsInput (λ (j : Joined). AreBytes j.port) (λ j x. x.0) i.3 ins);
         outputs = each_map (λ (t : NamedType). t.name) AreBytes i.4 (each_weaker IsOutput (λ (t : NamedType). AreBytes t.name) (λ t x. x.0) i.4 outs);
       };
@@ -149,6 +137,7 @@ element_read element.Types g h ts texts r i =
 pub elements_read : (ps : List FormatElement) (g h : Gathered) (ts : List Lexeme) → AreTexts ts → IsReadPart g → ElementsPhrase ps g h ts → IsReadPart h
 elements_read [] g h ts texts r i = subst IsReadPart (sym i.0) r
 elements_read (p ∷ ps) g h ts texts r i =
-    let t = i.1 in
-    let s = parts_of ts t.0 t.1 t.2 texts in
-    elements_read ps i.0 h t.1 s.1 (element_read p g i.0 t.0 s.0 r t.3) t.4
+    let both = said ts texts i.1 in
+    let one = said_first both in
+    let others = said_then both in
+    elements_read ps i.0 h others.symbols others.texts (element_read p g i.0 one.symbols one.texts r one.is) others.is

@@ -22,12 +22,13 @@ use Rattle.mlir_operations.specs.OperandText.ResultNames.{no_names, names, pack}
 use Rattle.mlir_operations.specs.ElementText.{InherentAttributes, Gathered, gathered_nothing}
 use Rattle.mlir_operations.specs.ElementText.InherentAttributes.{child}
 use Rattle.assembly_format.specs.Formats.{front_elements, type_elements}
-use Rattle.mlir_operations.specs.OperationText.{OperationText}
+use Rattle.mlir_operations.specs.OperationText.{OperationText, string_keys}
 use Rattle.mlir_operations.specs.ModuleText.{PortText, ModuleText, module_keys}
 use Rattle.mlir_reader.specs.Resolving.{Meanings, inherent_instance, inherent_kind, kind_named, with_definitions, operation_definitions, operation_at, operations_from, port_definition, ports_from, no_meaning, port_meanings, meanings, ends_with_output, has_outputs, left_out_output, with_output, module_of, design_of}
 use Rattle.mlir_syntax.specs.Spelling.{Phrase, Either, Holding, Where, Nothing, Commas, Between}
-use Rattle.mlir_operations.specs.Spelling.{Stands, IsPlaceOf, ValueName, OutputPhrase, FormatElementPhrase, ElementsPhrase, ResultsPhrase, OperationPhrase, OperationsPhrase, PortPhrase, OlderInputPhrase, OlderOutputPhrase, OlderOutputsPhrase, PortsPhrase, AttributesPhrase, ModulePhrase, ModulesPhrase, FilePhrase}
+use Rattle.mlir_operations.specs.Spelling.{Stands, IsPlaceOf, ValueName, OutputPhrase, FormatElementPhrase, ElementsPhrase, FormPhrase, ResultsPhrase, OperationPhrase, OperationsPhrase, PortPhrase, OlderInputPhrase, OlderOutputPhrase, OlderOutputsPhrase, PortsPhrase, AttributesPhrase, ModulePhrase, ModulesPhrase, FilePhrase}
 use Rattle.mlir_reader.specs.Spelling.{Spells}
+use Rattle.assembly_format.specs.declared.elements.Format.{Format}
 use Rattle.assembly_format.specs.declared.elements.FormatElement.{FormatElement}
 use Rattle.assembly_format.specs.declared.elements.FormatElement.TheVariants as element
 use Rattle.mlir_printer.specs.Naming.{name_hints, name_hints_of, pack_name_hints, body_name_hints, port_name_hints}
@@ -35,7 +36,7 @@ use Rattle.mlir_printer.specs.Texts.{parts_in}
 use Rattle.mlir_printer.specs.Spellable.{Each, AreBytes, IsAnyType}
 use Rattle.mlir_printer.specs.Printable.{IsKeptDictionary}
 use Rattle.mlir_printer.proofs.steps.Listing.{instance_length}
-use Rattle.mlir_printer.proofs.printable.ReadBytes.{AreTexts, texts_of, count_of, parts_of, held_bytes, name_bytes_read, symbol_bytes_read, each_read, type_read}
+use Rattle.mlir_printer.proofs.printable.ReadBytes.{AreTexts, texts_of, count_of, said, said_first, said_then, said_count, held_bytes, name_bytes_read, symbol_bytes_read, each_read, type_read}
 use Rattle.mlir_printer.proofs.printable.ReadElements.{each_append}
 use Rattle.mlir_printer.proofs.printable.ReadOperations.{IsReadDictionary, kept_read, dictionary_read, IsReadOp, op_read}
 
@@ -132,52 +133,59 @@ said_none g h n e = omega (arith, e)
 said_same : (g h : Gathered) (n : ℕ) → h.inherent ≡ g.inherent → outputs_said h.inherent ≤ outputs_said g.inherent + n
 said_same g h n e = let f = ap outputs_said e in omega (arith, f)
 
-element_few : (p : FormatElement) (g h : Gathered) (ts : List Lexeme) → FormatElementPhrase p g h ts → outputs_said h.inherent ≤ outputs_said g.inherent + length ts
-element_few (element.Mark k) g h ts i = said_same g h (length ts) (ap (λ (x : Gathered). x.inherent) i.0)
-element_few (element.Word w) g h ts i = said_same g h (length ts) (ap (λ (x : Gathered). x.inherent) i.0)
-element_few element.Operand g h ts i = said_same g h (length ts) (ap (λ (x : Gathered). x.inherent) i.1)
-element_few element.Operands g h ts i = said_same g h (length ts) (ap (λ (x : Gathered). x.inherent) i.2)
-element_few element.Group g h ts i = said_same g h (length ts) (ap (λ (x : Gathered). x.inherent) i.1)
-element_few element.Predicate g h ts i = said_none g h (length ts) (ap (λ (x : Gathered). outputs_said x.inherent) i.2)
-element_few element.Number g h ts i = said_none g h (length ts) (ap (λ (x : Gathered). outputs_said x.inherent) i.1)
-element_few element.Truth g h ts i = said_none g h (length ts) (ap (λ (x : Gathered). outputs_said x.inherent) i.1)
-element_few element.Integer g h ts i = said_none g h (length ts) (ap (λ (x : Gathered). outputs_said x.inherent) i.1)
-element_few element.Literals g h ts i = said_none g h (length ts) (ap (λ (x : Gathered). outputs_said x.inherent) i.1)
-element_few element.Field g h ts i = said_none g h (length ts) (ap (λ (x : Gathered). outputs_said x.inherent) i.1)
-element_few element.Instance g h ts i =
-    let a = i.6 in
-    let c1 = parts_count ts a.0 a.1 a.2 in
-    let b = a.4 in
-    let c2 = parts_count a.1 b.0 b.1 b.2 in
-    let c = b.4 in
-    let c3 = parts_count b.1 c.0 c.1 c.2 in
-    let d = c.4 in
-    let c4 = parts_count c.1 d.0 d.1 d.2 in
-    let e = d.4 in
-    let c5 = parts_count d.1 e.0 e.1 e.2 in
-    let r = e.4 in
-    let c6 = parts_count e.1 r.0 r.1 r.2 in
-    let q = r.4 in
-    let c7 = parts_count r.1 q.0 q.1 q.2 in
-    let few = commas_few OutputPhrase output_some i.4 q.0 q.3 in
+element_few : (p : FormatElement) (g h : Gathered) (ts : List Lexeme) → AreTexts ts → FormatElementPhrase p g h ts
+    → outputs_said h.inherent ≤ outputs_said g.inherent + length ts
+element_few (element.Mark k) g h ts texts i = said_same g h (length ts) (ap (λ (x : Gathered). x.inherent) i.0)
+element_few (element.Word w) g h ts texts i = said_same g h (length ts) (ap (λ (x : Gathered). x.inherent) i.0)
+element_few element.Operand g h ts texts i = said_same g h (length ts) (ap (λ (x : Gathered). x.inherent) i.1)
+element_few element.Operands g h ts texts i = said_same g h (length ts) (ap (λ (x : Gathered). x.inherent) i.2)
+element_few element.Group g h ts texts i = said_same g h (length ts) (ap (λ (x : Gathered). x.inherent) i.1)
+element_few element.Predicate g h ts texts i = said_none g h (length ts) (ap (λ (x : Gathered). outputs_said x.inherent) i.2)
+element_few element.Number g h ts texts i = said_none g h (length ts) (ap (λ (x : Gathered). outputs_said x.inherent) i.1)
+element_few element.Truth g h ts texts i = said_none g h (length ts) (ap (λ (x : Gathered). outputs_said x.inherent) i.1)
+element_few element.Integer g h ts texts i = said_none g h (length ts) (ap (λ (x : Gathered). outputs_said x.inherent) i.1)
+element_few element.Literals g h ts texts i = said_none g h (length ts) (ap (λ (x : Gathered). outputs_said x.inherent) i.1)
+element_few element.Field g h ts texts i = said_none g h (length ts) (ap (λ (x : Gathered). outputs_said x.inherent) i.1)
+element_few element.Instance g h ts texts i =
+    let outputs = said_first (said_then (said_then (said_then (said_then (said_then (said_then (said ts texts i.6))))))) in
+    let within = outputs.few in
+    let few = commas_few OutputPhrase output_some i.4 outputs.symbols outputs.is in
     let n = ap (λ (x : Gathered). outputs_said x.inherent) i.5 in
     let m = length-map i.4 (λ (t : NamedType). t.name) in
-    omega (arith, c1, c2, c3, c4, c5, c6, c7, few, n, m)
-element_few element.Reset g h ts (inl i) = said_none g h (length ts) (ap (λ (x : Gathered). outputs_said x.inherent) i.2)
-element_few element.Reset g h ts (inr i) = said_same g h (length ts) (ap (λ (x : Gathered). x.inherent) i.0)
-element_few element.SyncReset g h ts (inl i) = said_none g h (length ts) (ap (λ (x : Gathered). outputs_said x.inherent) i.2)
-element_few element.SyncReset g h ts (inr i) = said_same g h (length ts) (ap (λ (x : Gathered). x.inherent) i.0)
-element_few element.Type g h ts i = said_same g h (length ts) (ap (λ (x : Gathered). x.inherent) i.1)
-element_few element.Types g h ts i = said_same g h (length ts) (ap (λ (x : Gathered). x.inherent) i.1)
+    omega (arith, within, few, n, m)
+element_few element.Reset g h ts texts (inl i) = said_none g h (length ts) (ap (λ (x : Gathered). outputs_said x.inherent) i.2)
+element_few element.Reset g h ts texts (inr i) = said_same g h (length ts) (ap (λ (x : Gathered). x.inherent) i.0)
+element_few element.SyncReset g h ts texts (inl i) = said_none g h (length ts) (ap (λ (x : Gathered). outputs_said x.inherent) i.2)
+element_few element.SyncReset g h ts texts (inr i) = said_same g h (length ts) (ap (λ (x : Gathered). x.inherent) i.0)
+element_few element.Type g h ts texts i = said_same g h (length ts) (ap (λ (x : Gathered). x.inherent) i.1)
+element_few element.Types g h ts texts i = said_same g h (length ts) (ap (λ (x : Gathered). x.inherent) i.1)
 
-elements_few : (ps : List FormatElement) (g h : Gathered) (ts : List Lexeme) → ElementsPhrase ps g h ts → outputs_said h.inherent ≤ outputs_said g.inherent + length ts
-elements_few [] g h ts i = said_same g h (length ts) (ap (λ (x : Gathered). x.inherent) i.0)
-elements_few (p ∷ ps) g h ts i =
-    let t = i.1 in
-    let c = parts_count ts t.0 t.1 t.2 in
-    let first = element_few p g i.0 t.0 t.3 in
-    let more = elements_few ps i.0 h t.1 t.4 in
-    omega (arith, c, first, more)
+elements_few : (ps : List FormatElement) (g h : Gathered) (ts : List Lexeme) → AreTexts ts → ElementsPhrase ps g h ts
+    → outputs_said h.inherent ≤ outputs_said g.inherent + length ts
+elements_few [] g h ts texts i = said_same g h (length ts) (ap (λ (x : Gathered). x.inherent) i.0)
+elements_few (p ∷ ps) g h ts texts i =
+    let both = said ts texts i.1 in
+    let one = said_first both in
+    let others = said_then both in
+    let count = said_count both in
+    let within = both.few in
+    let front = element_few p g i.0 one.symbols one.texts one.is in
+    let more = elements_few ps i.0 h others.symbols others.texts others.is in
+    omega (arith, count, within, front, more)
+
+-- no more outputs are said than a form has tokens
+form_few : (strings : List Name) (format : Format) (h : Gathered) (es : List Entry) (ts : List Lexeme) → AreTexts ts → FormPhrase strings format h es ts
+    → outputs_said h.inherent ≤ length ts
+form_few strings format h es ts texts f =
+    let all = said ts texts f.4 in
+    let behind = said_then all in
+    let last = said_then behind in
+    let elements = said_first all in
+    let types = said_first last in
+    let front = elements_few (front_elements format) gathered_nothing f.0 elements.symbols elements.texts elements.is in
+    let more = elements_few (type_elements format) f.0 h types.symbols types.texts types.is in
+    let within = all.few in
+    omega (arith, within, said_count all, said_count behind, said_count last, front, more)
 
 -- an operation takes no more names than it has tokens, and names fewer results than the limit
 record HasFew (n : ℕ) (o : Op) : Type 0 where
@@ -192,31 +200,25 @@ names_few (names n ns) ts small h =
     omega (arith, small, c, few)
 names_few (pack n k) ts small h = let a = h.4 in let b = a.4 in b.3.0
 
-op_few : (At : Stands) (o : OperationText) (ts : List Lexeme) (m earlier : Meanings) (i : ℕ) → length ts < count_limit → OperationPhrase At o ts
+op_few : (At : Stands) (o : OperationText) (ts : List Lexeme) (m earlier : Meanings) (i : ℕ) → AreTexts ts → length ts < count_limit → OperationPhrase At o ts
     → HasFew (length ts) (operation_at m earlier i o)
-op_few At o ts m earlier i small h =
-    let a = h.1 in
-    let c1 = parts_count ts a.0 a.1 a.2 in
-    let b = a.4 in
-    let c2 = parts_count a.1 b.0 b.1 b.2 in
-    let one = ap length b.3.1 in
-    let c = b.4 in
-    let c3 = parts_count b.1 c.0 c.1 c.2 in
-    let f = c.4.2 in
-    let p = f.4 in
-    let c4 = parts_count c.1 p.0 p.1 p.2 in
-    let q = p.4 in
-    let c5 = parts_count p.1 q.0 q.1 q.2 in
-    let r = q.4 in
-    let c6 = parts_count q.1 r.0 r.1 r.2 in
-    let front = elements_few (front_elements c.4.0) gathered_nothing f.0 p.0 p.3 in
-    let types = elements_few (type_elements c.4.0) f.0 o.gathered r.0 r.3 in
+op_few At o ts m earlier i texts small h =
+    let all = said ts texts h.1 in
+    let given = said_first all in
+    let name = said_first (said_then all) in
+    let one = ap length name.is.1 in
+    let form = said_then (said_then (said_then all)) in
+    let f = form.is in
+    let outputs = form_few (string_keys o.name) f.0 o.gathered o.dictionary form.symbols form.texts f.2 in
     let inherent_view = kind_outputs o.name o.gathered.inherent o.gathered.types in
     let x = operation_at m earlier i o in
+    let given_few = given.few in
+    let name_few = name.few in
+    let form_within = form.few in
     record {
-      wanted = name_hints_few x.kind x.types x.name (length x.results) (length ts) (omega (arith, c1, c2, one))
-          (omega (arith, c1, c2, c3, c4, c5, c6, front, types, inherent_view));
-      named = names_few o.results a.0 (omega (arith, c1, small)) a.3;
+      wanted = name_hints_few x.kind x.types x.name (length x.results) (length ts) (omega (arith, one, name_few))
+          (omega (arith, form_within, outputs, inherent_view));
+      named = names_few o.results given.symbols (omega (arith, given_few, small)) given.is;
     }
 
 -- ---- bodies
@@ -231,19 +233,22 @@ body_read : (At : Stands) (os : List OperationText) (ts : List Lexeme) (m earlie
     → OperationsPhrase At os ts → IsReadBody (length ts) (operations_from m earlier i os)
 body_read At [] ts m earlier i texts small h = record { each = tt; named = tt; wanted = omega arith }
 body_read At (o ∷ os) ts m earlier i texts small h =
-    let a = h.1 in
-    let s = parts_of ts a.0 a.1 a.2 texts in
-    let c = parts_count ts a.0 a.1 a.2 in
-    let few = op_few At o a.0 m earlier i (omega (arith, c, small)) a.3 in
+    let both = said ts texts h.1 in
+    let one = said_first both in
+    let others = said_then both in
+    let one_few = one.few in
+    let others_few = others.few in
+    let within = both.few in
+    let few = op_few At o one.symbols m earlier i one.texts (omega (arith, one_few, small)) one.is in
     let wanted = few.wanted in
-    let rest = body_read At os a.1 m (with_definitions earlier (operation_definitions i o)) (i + 1) s.1 (omega (arith, c, small)) a.4 in
+    let rest = body_read At os others.symbols m (with_definitions earlier (operation_definitions i o)) (i + 1) others.texts (omega (arith, others_few, small)) others.is in
     let more = rest.wanted in
     let x = operation_at m earlier i o in
     let xs = operations_from m (with_definitions earlier (operation_definitions i o)) (i + 1) os in
     record {
-      each = (op_read At o a.0 m earlier i s.0 a.3, rest.each);
+      each = (op_read At o one.symbols m earlier i one.texts one.is, rest.each);
       named = (few.named, rest.named);
-      wanted = omega (arith, length-append (name_hints (parts_in x)) (body_name_hints (map parts_in xs)), wanted, more, c);
+      wanted = omega (arith, length-append (name_hints (parts_in x)) (body_name_hints (map parts_in xs)), wanted, more, within, said_count both);
     }
 
 left_out_read : (place : code.Place) → IsReadOp (left_out_output place)
@@ -293,39 +298,35 @@ port_name_read name v ts texts h (inr e) = subst AreBytes (sym e.0) h
 
 port_read : (p : PortText) (ts : List Lexeme) → AreTexts ts → PortPhrase p ts → IsReadPortText p
 port_read p ts texts (inl h) =
-    let b = h.2 in
-    let s1 = parts_of ts b.0 b.1 b.2 texts in
-    let c = b.4 in
-    let s2 = parts_of b.1 c.0 c.1 c.2 s1.1 in
-    let d = c.4 in
-    let s3 = parts_of c.1 d.0 d.1 d.2 s2.1 in
-    let f = d.4 in
-    let s4 = parts_of d.1 f.0 f.1 f.2 s3.1 in
-    (port_name_read p.name h.0 d.0 s3.0 (held_bytes kind.ValueName h.0 c.0 s2.0 c.3) d.3, type_read most_open p.type f.1 s4.1 f.4)
+    let behind = said_then (said ts texts h.2) in
+    let value = said_first behind in
+    let called = said_then behind in
+    let name = said_first called in
+    let type = said_then (said_then called) in (
+      port_name_read p.name h.0 name.symbols name.texts (held_bytes kind.ValueName h.0 value.symbols value.texts value.is) name.is,
+      type_read most_open p.type type.symbols type.texts type.is,
+    )
 port_read p ts texts (inr h) =
-    let b = h.1 in
-    let s1 = parts_of ts b.0 b.1 b.2 texts in
-    let c = b.4 in
-    let s2 = parts_of b.1 c.0 c.1 c.2 s1.1 in
-    let d = c.4 in
-    let s3 = parts_of c.1 d.0 d.1 d.2 s2.1 in
-    (name_bytes_read p.name c.0 s2.0 c.3, type_read most_open p.type d.1 s3.1 d.4)
+    let behind = said_then (said ts texts h.1) in
+    let name = said_first behind in
+    let type = said_then (said_then behind) in
+    (name_bytes_read p.name name.symbols name.texts name.is, type_read most_open p.type type.symbols type.texts type.is)
 
 older_input_read : (p : PortText) (ts : List Lexeme) → AreTexts ts → OlderInputPhrase p ts → IsReadPortText p
 older_input_read p ts texts h =
-    let b = h.3 in
-    let s1 = parts_of ts b.0 b.1 b.2 texts in
-    let c = b.4 in
-    let s2 = parts_of b.1 c.0 c.1 c.2 s1.1 in
-    (subst AreBytes (sym h.2) (held_bytes kind.ValueName h.0 b.0 s1.0 b.3), type_read most_open p.type c.1 s2.1 c.4)
+    let all = said ts texts h.3 in
+    let value = said_first all in
+    let type = said_then (said_then all) in (
+      subst AreBytes (sym h.2) (held_bytes kind.ValueName h.0 value.symbols value.texts value.is),
+      type_read most_open p.type type.symbols type.texts type.is,
+    )
 
 older_output_read : (p : PortText) (ts : List Lexeme) → AreTexts ts → OlderOutputPhrase p ts → IsReadPortText p
 older_output_read p ts texts h =
-    let b = h.1 in
-    let s1 = parts_of ts b.0 b.1 b.2 texts in
-    let c = b.4 in
-    let s2 = parts_of b.1 c.0 c.1 c.2 s1.1 in
-    (name_bytes_read p.name b.0 s1.0 b.3, type_read most_open p.type c.1 s2.1 c.4)
+    let all = said ts texts h.1 in
+    let name = said_first all in
+    let type = said_then (said_then all) in
+    (name_bytes_read p.name name.symbols name.texts name.is, type_read most_open p.type type.symbols type.texts type.is)
 
 -- ports that are read, no more than their tokens
 abbrev AreReadPorts : List PortText → List Lexeme → Type 0
@@ -335,35 +336,34 @@ between_read : {left right : TokenKind} (P : PortText → Phrase) → ((p : Port
     → ((p : PortText) (ts : List Lexeme) → P p ts → 1 ≤ length ts) → (ps : List PortText) (ts : List Lexeme) → AreTexts ts
     → Between left right (Commas P ps) ts → AreReadPorts ps ts
 between_read P each some ps ts texts h =
-    let s = parts_of ts h.0 h.1 h.2 texts in
-    let c = parts_count ts h.0 h.1 h.2 in
-    let q = h.4 in
-    let t = parts_of h.1 q.0 q.1 q.2 s.1 in
-    let d = parts_count h.1 q.0 q.1 q.2 in
-    let few = commas_few P some ps q.0 q.3 in
-    (each_read P IsReadPortText each ps q.0 t.0 q.3, omega (arith, c, d, few))
+    let list = said_first (said_then (said ts texts h)) in
+    let within = list.few in
+    let few = commas_few P some ps list.symbols list.is in
+    (each_read P IsReadPortText each ps list.symbols list.texts list.is, omega (arith, within, few))
 
 older_outputs_read : (ps : List PortText) (ts : List Lexeme) → AreTexts ts → OlderOutputsPhrase ps ts → AreReadPorts ps ts
 older_outputs_read ps ts texts (inl h) =
-    let s = parts_of ts h.0 h.1 h.2 texts in
-    let c = parts_count ts h.0 h.1 h.2 in
-    let r = between_read OlderOutputPhrase older_output_read older_output_some ps h.1 s.1 h.4 in
-    let few = r.1 in
-    (r.0, omega (arith, c, few))
+    let rest = said_then (said ts texts h) in
+    let within = rest.few in
+    let read = between_read OlderOutputPhrase older_output_read older_output_some ps rest.symbols rest.texts rest.is in
+    let few = read.1 in
+    (read.0, omega (arith, within, few))
 older_outputs_read ps ts texts (inr h) = subst (λ (qs : List PortText). AreReadPorts qs ts) (sym h.0) (tt, omega arith)
 
 all_ports_read : (ps : List PortText) (ts : List Lexeme) → AreTexts ts → PortsPhrase ps ts → AreReadPorts ps ts
+unfolding said
 all_ports_read ps ts texts (inl h) = between_read PortPhrase port_read port_some ps ts texts h
 all_ports_read ps ts texts (inr h) =
-    let b = h.3 in
-    let s = parts_of ts b.0 b.1 b.2 texts in
-    let c = parts_count ts b.0 b.1 b.2 in
-    let inputs = between_read OlderInputPhrase older_input_read older_input_some h.0 b.0 s.0 b.3 in
-    let outputs = older_outputs_read h.1 b.1 s.1 b.4 in
+    let both = said ts texts h.3 in
+    let front = said_first both in
+    let rest = said_then both in
+    let count : length ts ≡ length front.symbols + length rest.symbols = said_count both in
+    let inputs = between_read OlderInputPhrase older_input_read older_input_some h.0 front.symbols front.texts front.is in
+    let outputs = older_outputs_read h.1 rest.symbols rest.texts rest.is in
     let few = inputs.1 in
     let more = outputs.1 in
     let same = ap length h.2 ∙ length-append h.0 h.1 in
-    (subst (Each IsReadPortText) (sym h.2) (each_append IsReadPortText h.0 h.1 inputs.0 outputs.0), omega (arith, c, few, more, same))
+    (subst (Each IsReadPortText) (sym h.2) (each_append IsReadPortText h.0 h.1 inputs.0 outputs.0), omega (arith, count, few, more, same))
 
 -- a port that is read
 pub record IsReadPort (q : Port) : Type 0 where
@@ -397,57 +397,44 @@ pub record IsReadModule (m : Module) : Type 0 where
   pub few : length (port_name_hints m.ports ++ body_name_hints (map parts_in m.body)) < 2 ^ 64
 
 attributes_read : (es : List Entry) (ts : List Lexeme) → AreTexts ts → AttributesPhrase es ts → IsReadDictionary module_keys es
-attributes_read es ts texts (inl h) = dictionary_read module_keys es h.1 (parts_of ts h.0 h.1 h.2 texts).1 h.4
+attributes_read es ts texts (inl h) =
+    let entries = said_then (said ts texts h) in dictionary_read module_keys es entries.symbols entries.texts entries.is
 attributes_read es ts texts (inr h) = subst (IsReadDictionary module_keys) (sym h.0) (record { once = tt; each = tt })
 
 module_read : (At : Stands) (m : ModuleText) (ts : List Lexeme) → AreTexts ts → length ts < count_limit → ModulePhrase At m ts
     → IsReadModule (module_of m)
 module_read At m ts texts small h =
-    let s1 = parts_of ts h.0 h.1 h.2 texts in
-    let c1 = parts_count ts h.0 h.1 h.2 in
-    let b = h.4 in
-    let s2 = parts_of h.1 b.0 b.1 b.2 s1.1 in
-    let c2 = parts_count h.1 b.0 b.1 b.2 in
-    let c = b.4 in
-    let s3 = parts_of b.1 c.0 c.1 c.2 s2.1 in
-    let c3 = parts_count b.1 c.0 c.1 c.2 in
-    let d = c.4 in
-    let s4 = parts_of c.1 d.0 d.1 d.2 s3.1 in
-    let c4 = parts_count c.1 d.0 d.1 d.2 in
-    let read = all_ports_read m.ports d.0 s4.0 d.3 in
-    let e = d.4 in
-    let s5 = parts_of d.1 e.0 e.1 e.2 s4.1 in
-    let c5 = parts_count d.1 e.0 e.1 e.2 in
-    let f = e.4 in
-    let s6 = parts_of e.1 f.0 f.1 f.2 s5.1 in
-    let c6 = parts_count e.1 f.0 f.1 f.2 in
-    let g = f.4 in
-    let s7 = parts_of f.1 g.0 g.1 g.2 s6.1 in
-    let c7 = parts_count f.1 g.0 g.1 g.2 in
-    let ports = ports_few no_meaning 0 m.ports in
+    let named = said_then (said_then (said ts texts h)) in
+    let symbol = said_first named in
+    let behind = said_then named in
+    let ports = said_first behind in
+    let rest = said_then behind in
+    let attributes = said_first rest in
+    let body = said_first (said_then (said_then rest)) in
+    let ports_within = ports.few in
+    let body_within = body.few in
+    let few = ports_few no_meaning 0 m.ports in
+    let read = all_ports_read m.ports ports.symbols ports.texts ports.is in
     let port_tokens = read.1 in
-    let body = body_read At m.operations g.0 (meanings m) (port_meanings m.ports) 0 s7.0 (omega (arith, c1, c2, c3, c4, c5, c6, c7, small)) g.3 in
-    let whole = completed_read (length g.0) m (operations_from (meanings m) (port_meanings m.ports) 0 m.operations) body in
+    let operations =
+    body_read At m.operations body.symbols (meanings m) (port_meanings m.ports) 0 body.texts (omega (arith, body_within, small)) body.is in
+    let whole = completed_read (length body.symbols) m (operations_from (meanings m) (port_meanings m.ports) 0 m.operations) operations in
     let wanted = whole.wanted in
     record {
-      symbol = symbol_bytes_read m.symbol c.0 s3.0 c.3;
+      symbol = symbol_bytes_read m.symbol symbol.symbols symbol.texts symbol.is;
       ports = ports_read no_meaning 0 m.ports read.0;
-      dictionary = kept_read listed.HwModule module_keys m.dictionary (attributes_read m.dictionary e.0 s5.0 e.3);
+      dictionary =
+          kept_read listed.HwModule module_keys m.dictionary (attributes_read m.dictionary attributes.symbols attributes.texts attributes.is);
       operations = whole.each;
       named = whole.named;
       few = omega (
         arith,
         length-append (port_name_hints (module_of m).ports) (body_name_hints (map parts_in (module_of m).body)),
-        ports,
+        few,
         port_tokens,
         wanted,
-        c1,
-        c2,
-        c3,
-        c4,
-        c5,
-        c6,
-        c7,
+        ports_within,
+        body_within,
         small,
       );
     }
@@ -456,30 +443,22 @@ modules_read : (At : Stands) (ms : List ModuleText) (ts : List Lexeme) → AreTe
     → Each IsReadModule (design_of ms)
 modules_read At [] ts texts small h = tt
 modules_read At (m ∷ ms) ts texts small h =
-    let s = parts_of ts h.0 h.1 h.2 texts in
-    let c = parts_count ts h.0 h.1 h.2 in
-    (module_read At m h.0 s.0 (omega (arith, c, small)) h.3, modules_read At ms h.1 s.1 (omega (arith, c, small)) h.4)
+    let both = said ts texts h in
+    let one = said_first both in
+    let others = said_then both in
+    let one_few = one.few in
+    let others_few = others.few in (
+      module_read At m one.symbols one.texts (omega (arith, one_few, small)) one.is,
+      modules_read At ms others.symbols others.texts (omega (arith, others_few, small)) others.is,
+    )
 
 file_read : (At : Stands) (ms : List ModuleText) (ts : List Lexeme) → AreTexts ts → length ts < count_limit → FilePhrase At ms ts
     → Each IsReadModule (design_of ms)
 file_read At ms ts texts small (inl h) = modules_read At ms ts texts small h
 file_read At ms ts texts small (inr h) =
-    let a = h.1 in
-    let s1 = parts_of ts a.0 a.1 a.2 texts in
-    let c1 = parts_count ts a.0 a.1 a.2 in
-    let b = a.4 in
-    let s2 = parts_of a.1 b.0 b.1 b.2 s1.1 in
-    let c2 = parts_count a.1 b.0 b.1 b.2 in
-    let c = b.4 in
-    let s3 = parts_of b.1 c.0 c.1 c.2 s2.1 in
-    let c3 = parts_count b.1 c.0 c.1 c.2 in
-    let d = c.4 in
-    let s4 = parts_of c.1 d.0 d.1 d.2 s3.1 in
-    let c4 = parts_count c.1 d.0 d.1 d.2 in
-    let e = d.4 in
-    let s5 = parts_of d.1 e.0 e.1 e.2 s4.1 in
-    let c5 = parts_count d.1 e.0 e.1 e.2 in
-    modules_read At ms e.0 s5.0 (omega (arith, c1, c2, c3, c4, c5, small)) e.3
+    let modules = said_first (said_then (said_then (said_then (said_then (said ts texts h.1))))) in
+    let few = modules.few in
+    modules_read At ms modules.symbols modules.texts (omega (arith, few, small)) modules.is
 
 -- what bytes spell is read
 pub spelled_is_read : (source : List ℕ) (d : Design) → AreBytes source → length source < count_limit → Spells source d → Each IsReadModule d

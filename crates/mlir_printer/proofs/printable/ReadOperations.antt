@@ -35,7 +35,7 @@ use Rattle.mlir_syntax.specs.Spelling.{AreOnce, DictionaryPhrase, EntryPhrase, M
 use Rattle.mlir_printer.specs.Spellable.{Each, AreBytes, IsInteger, IsAnyType, IsLiteral, AreLiterals, IsValue, IsEntry}
 use Rattle.mlir_printer.specs.Printable.{AreInOrder, IsKeptDictionary, KeepsConstants, IsWritten, IsWrittenInstance}
 use Rattle.mlir_printer.proofs.again.DictionariesFit.{put_in_order, each_put}
-use Rattle.mlir_printer.proofs.printable.ReadBytes.{AreTexts, parts_of, held_bytes, each_read, entry_read}
+use Rattle.mlir_printer.proofs.printable.ReadBytes.{AreTexts, said, said_first, said_then, held_bytes, each_read, entry_read}
 use Rattle.mlir_printer.proofs.printable.ReadElements.{each_weaker, IsReadInherentAttributes, IsReadPart, elements_read}
 
 -- ---- dictionaries
@@ -117,11 +117,8 @@ kept_read o strings es h = record {
 pub dictionary_read : (strings : List Name) (es : List Entry) (ts : List Lexeme) → AreTexts ts → DictionaryPhrase strings es ts
     → IsReadDictionary strings es
 dictionary_read strings es ts texts h =
-    let b = h.1 in
-    let s = parts_of ts b.0 b.1 b.2 texts in
-    let c = b.4 in
-    let u = parts_of b.1 c.0 c.1 c.2 s.1 in
-    record { once = h.0; each = each_read (EntryPhrase strings) (IsEntry strings) (entry_read strings) es c.0 u.0 c.3 }
+    let entries = said_first (said_then (said ts texts h.1)) in
+    record { once = h.0; each = each_read (EntryPhrase strings) (IsEntry strings) (entry_read strings) es entries.symbols entries.texts entries.is }
 
 maybe_read : (strings : List Name) (es : Option (List Entry)) (ts : List Lexeme) → AreTexts ts → MaybeDictionary strings es ts
     → IsReadDictionary strings (given_entries es)
@@ -263,12 +260,12 @@ unless_bytes n h = go (nat_eq (run is_digit n) (length n))
 
 first_bytes : (r : ResultNames) (ts : List Lexeme) → AreTexts ts → ResultsPhrase r ts → AreBytes (read.first_name r)
 first_bytes no_names ts texts h = tt
-first_bytes (names n []) ts texts h = unless_bytes n (held_bytes kind.ValueName n h.0 (parts_of ts h.0 h.1 h.2 texts).0 h.3)
+first_bytes (names n []) ts texts h = let name = said_first (said ts texts h) in unless_bytes n (held_bytes kind.ValueName n name.symbols name.texts name.is)
 first_bytes (names n (m ∷ ns)) ts texts h =
-    let s = parts_of ts h.0 h.1 h.2 texts in
-    let c = h.3 in
-    unless_bytes n (held_bytes kind.ValueName n c.0 (parts_of h.0 c.0 c.1 c.2 s.0).0 c.3)
-first_bytes (pack n k) ts texts h = unless_bytes n (held_bytes kind.ValueName n h.0 (parts_of ts h.0 h.1 h.2 texts).0 h.3)
+    let list = said_first (said ts texts h) in
+    let name = said_first list in
+    unless_bytes n (held_bytes kind.ValueName n name.symbols name.texts name.is)
+first_bytes (pack n k) ts texts h = let name = said_first (said ts texts h) in unless_bytes n (held_bytes kind.ValueName n name.symbols name.texts name.is)
 
 own_bytes : (o : Listed) (r : ResultNames) (strings : List Name) (es : List Entry) → AreBytes (read.first_name r) → Each (IsEntry strings) es
     → AreBytes (own_name_of o r es)
@@ -304,29 +301,28 @@ record IsReadTail (strings : List Name) (g : Gathered) (es : List Entry) : Type 
 form_read : (strings : List Name) (format : Format) (h : Gathered) (es : List Entry) (ts : List Lexeme) → AreTexts ts → FormPhrase strings format h es ts
     → IsReadTail strings h es
 form_read strings format h es ts texts f =
-    let a = f.4 in
-    let s1 = parts_of ts a.0 a.1 a.2 texts in
-    let b = a.4 in
-    let s2 = parts_of a.1 b.0 b.1 b.2 s1.1 in
-    let c = b.4 in
-    let s3 = parts_of b.1 c.0 c.1 c.2 s2.1 in
-    let front = elements_read (front_elements format) gathered_nothing f.0 a.0 s1.0 (record { types = tt; inherent = tt }) a.3 in
+    let all = said ts texts f.4 in
+    let elements = said_first all in
+    let before = said_first (said_then all) in
+    let types = said_first (said_then (said_then all)) in
+    let behind = said_then (said_then (said_then all)) in
+    let front = elements_read (front_elements format) gathered_nothing f.0 elements.symbols elements.texts (record { types = tt; inherent = tt }) elements.is in
     record {
-      part = elements_read (type_elements format) f.0 h c.0 s3.0 front c.3;
-      dictionary = one_read strings f.1 f.2 es f.3 (maybe_read strings f.1 b.0 s2.0 b.3) (maybe_read strings f.2 c.1 s3.1 c.4);
+      part = elements_read (type_elements format) f.0 h types.symbols types.texts front types.is;
+      dictionary = one_read strings f.1 f.2 es f.3 (maybe_read strings f.1 before.symbols before.texts before.is)
+          (maybe_read strings f.2 behind.symbols behind.texts behind.is);
     }
 
 pub op_read : (At : Stands) (o : OperationText) (ts : List Lexeme) (means earlier : Meanings) (i : ℕ) → AreTexts ts → OperationPhrase At o ts
     → IsReadOp (operation_at means earlier i o)
 op_read At o ts means earlier i texts h =
-    let a = h.1 in
-    let s1 = parts_of ts a.0 a.1 a.2 texts in
-    let b = a.4 in
-    let s2 = parts_of a.1 b.0 b.1 b.2 s1.1 in
-    let c = b.4 in
-    let s3 = parts_of b.1 c.0 c.1 c.2 s2.1 in
-    let f = c.4 in
-    let tail = form_read (string_keys o.name) f.0 o.gathered o.dictionary c.1 s3.1 f.2 in
+    let all = said ts texts h.1 in
+    let given = said_first all in
+    let behind = said_then (said_then all) in
+    let binary = said_first behind in
+    let form = said_then behind in
+    let f = form.is in
+    let tail = form_read (string_keys o.name) f.0 o.gathered o.dictionary form.symbols form.texts f.2 in
     let k = kind_named o.name o.gathered.inherent o.gathered.types in
     let same : opcode_of k ≡ o.name = listed_again o.name o.gathered.inherent o.gathered.types h.0 in
     record {
@@ -338,9 +334,9 @@ op_read At o ts means earlier i texts h =
       kept = constants_kept o.name o.gathered.inherent o.gathered.types;
       written = kind_written o.name o.gathered.inherent o.gathered.types tail.part.inherent;
       nameless = λ e. cond-false (has_name o.name) (name_or (given_name o.dictionary) (read.first_name o.results)) [] (ap has_name (sym same) ∙ e);
-      name = own_bytes o.name o.results (string_keys o.name) o.dictionary (first_bytes o.results a.0 s1.0 a.3) tail.dictionary.each;
+      name = own_bytes o.name o.results (string_keys o.name) o.dictionary (first_bytes o.results given.symbols given.texts given.is) tail.dictionary.each;
       dictionary =
           subst (λ (l : Listed). IsKeptDictionary l (string_keys l) (kept_entries o.name o.dictionary)) (sym same)
           (kept_read o.name (string_keys o.name) o.dictionary tail.dictionary);
-      bin = λ e. ap takes_bin same ∙ bin_read o.name o.bin c.0 c.3 e;
+      bin = λ e. ap takes_bin same ∙ bin_read o.name o.bin binary.symbols binary.is e;
     }
