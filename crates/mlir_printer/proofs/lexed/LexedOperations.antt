@@ -61,80 +61,31 @@ operation_name o place = lexed_as (λ ts w. (w.0, w.1, (w.2.0, w.2.1, tt))) (bar
 
 -- ---- forms
 
-front_parted : (s : Format) → is_parted (front_elements s) ≡ true
-unfolding front_elements
-front_parted format.Variadic = refl
-front_parted format.Binary = refl
-front_parted format.Comparison = refl
-front_parted format.Unary = refl
-front_parted format.Extraction = refl
-front_parted format.Joined = refl
-front_parted format.Conversion = refl
-front_parted format.Choice = refl
-front_parted format.Truth = refl
-front_parted format.Integer = refl
-front_parted format.Aggregate = refl
-front_parted format.Element = refl
-front_parted format.Slice = refl
-front_parted format.ElementChange = refl
-front_parted format.Struct = refl
-front_parted format.Field = refl
-front_parted format.FieldChange = refl
-front_parted format.Instance = refl
-front_parted format.Nothing = refl
-front_parted format.Register = refl
-front_parted format.EnabledRegister = refl
-front_parted format.ClockedRegister = refl
-
-types_parted : (s : Format) → is_parted (type_elements s) ≡ true
-unfolding type_elements
-types_parted format.Variadic = refl
-types_parted format.Binary = refl
-types_parted format.Comparison = refl
-types_parted format.Unary = refl
-types_parted format.Extraction = refl
-types_parted format.Joined = refl
-types_parted format.Conversion = refl
-types_parted format.Choice = refl
-types_parted format.Truth = refl
-types_parted format.Integer = refl
-types_parted format.Aggregate = refl
-types_parted format.Element = refl
-types_parted format.Slice = refl
-types_parted format.ElementChange = refl
-types_parted format.Struct = refl
-types_parted format.Field = refl
-types_parted format.FieldChange = refl
-types_parted format.Instance = refl
-types_parted format.Nothing = refl
-types_parted format.Register = refl
-types_parted format.EnabledRegister = refl
-types_parted format.ClockedRegister = refl
-
-types_stop : (s : Format) → stops_at (type_elements s) ≡ true
-unfolding type_elements
-types_stop format.Variadic = refl
-types_stop format.Binary = refl
-types_stop format.Comparison = refl
-types_stop format.Unary = refl
-types_stop format.Extraction = refl
-types_stop format.Joined = refl
-types_stop format.Conversion = refl
-types_stop format.Choice = refl
-types_stop format.Truth = refl
-types_stop format.Integer = refl
-types_stop format.Aggregate = refl
-types_stop format.Element = refl
-types_stop format.Slice = refl
-types_stop format.ElementChange = refl
-types_stop format.Struct = refl
-types_stop format.Field = refl
-types_stop format.FieldChange = refl
-types_stop format.Instance = refl
-types_stop format.Nothing = refl
-types_stop format.Register = refl
-types_stop format.EnabledRegister = refl
-types_stop format.ClockedRegister = refl
+-- the pieces of each form can be told apart, and no token goes on into those before its types
+format_parts : (s : Format) → (is_parted (front_elements s) ≡ true) × (is_parted (type_elements s) ≡ true) × (stops_at (type_elements s) ≡ true)
+unfolding front_elements type_elements
+format_parts format.Variadic = (refl, refl, refl)
+format_parts format.Binary = (refl, refl, refl)
+format_parts format.Comparison = (refl, refl, refl)
+format_parts format.Unary = (refl, refl, refl)
+format_parts format.Extraction = (refl, refl, refl)
+format_parts format.Joined = (refl, refl, refl)
+format_parts format.Conversion = (refl, refl, refl)
+format_parts format.Choice = (refl, refl, refl)
+format_parts format.Truth = (refl, refl, refl)
+format_parts format.Integer = (refl, refl, refl)
+format_parts format.Aggregate = (refl, refl, refl)
+format_parts format.Element = (refl, refl, refl)
+format_parts format.Slice = (refl, refl, refl)
+format_parts format.ElementChange = (refl, refl, refl)
+format_parts format.Struct = (refl, refl, refl)
+format_parts format.Field = (refl, refl, refl)
+format_parts format.FieldChange = (refl, refl, refl)
+format_parts format.Instance = (refl, refl, refl)
+format_parts format.Nothing = (refl, refl, refl)
+format_parts format.Register = (refl, refl, refl)
+format_parts format.EnabledRegister = (refl, refl, refl)
+format_parts format.ClockedRegister = (refl, refl, refl)
 
 -- a token that is a name of a kind
 sample : TokenKind → Lexeme
@@ -193,7 +144,7 @@ behind_stops : (s : Format) (p : Pending) (es : List Entry) → IsViewAs s p
     → Stops (dictionary_bytes (codes " ") es ++ elements_bytes (type_elements s) (left_behind_all (front_elements s) p))
 behind_stops s p es h =
     dictionary_stops (codes " ") (λ rest. refl) es (elements_bytes (type_elements s) (left_behind_all (front_elements s) p))
-    (elements_stop (type_elements s) (left_behind_all (front_elements s) p) (gathered_front s p) h.types (types_stop s))
+    (elements_stop (type_elements s) (left_behind_all (front_elements s) p) (gathered_front s p) h.types (format_parts s).2)
 
 form_stops : (s : Format) (p : Pending) (es : List Entry) → IsViewAs s p → Stops (form_bytes (front_elements s) (type_elements s) p es)
 unfolding form_bytes
@@ -204,13 +155,13 @@ form_lexed : (strings : List Name) (s : Format) (p : Pending) (es : List Entry) 
     → Lexed (FormPhrase strings s (said_pending p) es) (form_bytes (front_elements s) (type_elements s) p es)
 unfolding form_bytes
 form_lexed strings s p es h d =
-    let types = elements_lexed (type_elements s) (left_behind_all (front_elements s) p) (gathered_front s p) h.types (types_parted s) in
+    let types = elements_lexed (type_elements s) (left_behind_all (front_elements s) p) (gathered_front s p) h.types (format_parts s).1 in
     let inherent_view = subst (λ x. Lexed (ElementsPhrase (type_elements s) (gathered_front s p) x)
     (elements_bytes (type_elements s) (left_behind_all (front_elements s) p))) h.all types in
     let behind = then (given_lexed strings es d) (lexed_as with_nothing inherent_view)
-    (elements_stop (type_elements s) (left_behind_all (front_elements s) p) (gathered_front s p) h.types (types_stop s)) in
+    (elements_stop (type_elements s) (left_behind_all (front_elements s) p) (gathered_front s p) h.types (format_parts s).2) in
     let front = front_lexed (front_elements s) p gathered_nothing (gathered_front s p)
-    (elements_lexed (front_elements s) p gathered_nothing h.front (front_parted s)) in
+    (elements_lexed (front_elements s) p gathered_nothing h.front (format_parts s).0) in
     lexed_as (λ ts w. (gathered_front s p, given es, None, given_once es, w)) (then front behind (behind_stops s p es h))
 
 -- ---- operations
