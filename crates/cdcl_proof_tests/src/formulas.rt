@@ -64,6 +64,16 @@ fn sits(holes: u64, pigeon: u64, hole: u64, positive: bool) -> Literal {
     }
 }
 
+/// Numbers in arithmetic progression, which are not all in one class.
+#[derive(Clone, Copy)]
+struct Progression {
+    first: u64,
+    step: u64,
+    length: u64,
+    // the class
+    positive: bool,
+}
+
 /// The numbers up to n in two classes, the first without three numbers in arithmetic progression and the second
 /// without seven. The van der Waerden number W(3, 7) is 46, so this can be satisfied for n = 45 and not for 46.
 pub(crate) fn progressions(alloc: Global, rt: &impl Abort, n: u64) -> Result<Cnf, Fail> {
@@ -71,31 +81,36 @@ pub(crate) fn progressions(alloc: Global, rt: &impl Abort, n: u64) -> Result<Cnf
     for (length, positive) in [(3, false), (7, true)] {
         for step in 1..n {
             for first in 1..n {
-                add_progression(alloc, rt, &mut list, n, first, step, length, positive)?;
+                let progression = Progression {
+                    first,
+                    step,
+                    length,
+                    positive,
+                };
+                add_progression(alloc, rt, &mut list, n, progression)?;
             }
         }
     }
     Ok(Cnf::new(n, list).expect(rt, "a variable out of range"))
 }
 
+// the clause of a progression, where it ends by n
 fn add_progression(
     alloc: Global,
     rt: &impl Abort,
     list: &mut Vec<Clause>,
     n: u64,
-    first: u64,
-    step: u64,
-    length: u64,
-    positive: bool,
+    progression: Progression,
 ) -> Result<(), Fail> {
+    let positive = progression.positive;
     let mut literals = Vec::new(alloc);
-    let mut variable = first;
-    for _ in 0..length {
+    let mut variable = progression.first;
+    for _ in 0..progression.length {
         if variable > n {
             return Ok(());
         }
         literals.push(Literal { variable, positive })?;
-        variable = variable.wrapping_add(step);
+        variable = variable.wrapping_add(progression.step);
     }
     list.push(Clause::new(literals).expect(rt, "a variable twice"))?;
     Ok(())

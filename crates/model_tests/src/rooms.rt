@@ -1,6 +1,4 @@
 //! Room that is reserved, ids by position, and modules by symbol.
-ghost use Rattle.std.specs.Prelude.{◌≡◌, map, IfOk};
-ghost use Rattle.ir_store.specs.Bodies.{ids_of, op_id};
 
 use crate::bodies::{erase, put};
 use diag::refusal::Place;
@@ -9,7 +7,7 @@ use ir_store::body::Body;
 use ir_store::design::{Design, Module, PortList};
 use ir_store::dictionary::Dictionary;
 use ir_store::operation::{OpId, Value};
-use ir_store::position_table::positions_of;
+use ir_store::position_table::{ids_in, positions_of};
 use std::alloc::{AllocError, Global};
 use std::test::Fail;
 
@@ -48,13 +46,6 @@ fn room_that_was_reserved_lasts(rt: HostRuntime) -> Result<(), Fail> {
         assert_eq!(rt; body.op_count(), 0);
     }
     Ok(())
-}
-
-// the ids of a body's operations in text order
-fn ids_in(alloc: Global, body: &Body) -> Result<Vec<OpId>, AllocError>
-    ensures { IfOk result (λ ids. ids.items ≡ map op_id (ids_of body.now)) }
-{
-    body.ops().collect(alloc)
 }
 
 // the position of each id of a body by its number
