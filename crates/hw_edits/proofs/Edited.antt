@@ -12,9 +12,9 @@ use Rattle.hw_model.specs.Kinds.Reset.{no_reset, sync_reset}
 use Rattle.hw_model.specs.Design.{Ref, Port, Op, Module, Design, RegisterForm, find_module, instance_in, register_form, result_type, output_refs, callee}
 use Rattle.hw_model.specs.Design.Ref.{port, result, undefined}
 use Rattle.hw_model.specs.Value.{concat_words}
-use Rattle.hw_model.specs.Flat.{Path, Net, net, Source, Slot, instances, before_instance, module_at, body_state, module_state, state, base, port_ref, operand_for, input_count, input_width, input_of, port_source, copy_of, joined_ref, joined_at, given_ref, held_of, made_of, source, register_in, register_parts, held_width, body_registers, module_registers, registers}
+use Rattle.hw_model.specs.Flat.{Path, Net, net, Source, Slot, instances, before_instance, module_at, body_state, module_state, state, base, port_ref, operand_for, input_count, input_width, input_of, port_source, copy_of, joined_ref, joined_at, given_ref, held_of, made_of, source, register_in, register_parts, has_async_reset, async_parts, async_reset_in, held_width, body_registers, module_registers, registers}
 use Rattle.hw_model.specs.Flat.Source.{nowhere, input, held, copy, made}
-use Rattle.hw_model.specs.Meaning.{needs_of, value_of, next_value, next_content, outputs}
+use Rattle.hw_model.specs.Meaning.{needs_of, value_of, next_value, passed, loaded, next_content, risen, risen_in, risen_content, outputs}
 use Rattle.hw_model.specs.Sound.{body_of, ports_of}
 use Rattle.hw_model.proofs.Sorts.{Sort, sort_of, instance_found}
 use Rattle.hw_model.proofs.Sorts.Sort.{a_register, an_instance, an_output, a_made}
@@ -115,6 +115,19 @@ loaded-retarget f o τ old = go (register_form o.kind)
         ≡ next_value (bind x (λ (g : RegisterForm). register_parts g.has_enable g.reset o.operands)) (λ r. τ (f r)) old
     go None = refl
     go (Some g) = parts_same g.has_enable g.reset o.operands
+
+-- and to what it is reset
+risen-retarget : (f : Ref → Ref) (o : Op) (τ υ : Ref → Word) (old : Word)
+    → risen (async_reset_in (retarget f o)) τ υ old ≡ risen (async_reset_in o) (λ r. τ (f r)) (λ r. υ (f r)) old
+risen-retarget f o τ υ old = go (has_async_reset o.kind)
+  where
+    parts_same : (rs : List Ref) → risen (async_parts (map f rs)) τ υ old ≡ risen (async_parts rs) (λ r. τ (f r)) (λ r. υ (f r)) old
+    parts_same (d ∷ c ∷ r ∷ v ∷ []) = refl
+    parts_same _ = refl
+
+    go : (b : Bool) → risen (cond b (async_parts (map f o.operands)) None) τ υ old ≡ risen (cond b (async_parts o.operands) None) (λ r. τ (f r)) (λ r. υ (f r)) old
+    go true = parts_same o.operands
+    go false = refl
 
 -- ---- the modules of two designs at a path
 
@@ -312,17 +325,28 @@ module _ (d d' : Design) (F : Option Module → Option Module → Type 0) (shape
     pub registers_same : length d' ≡ length d → registers d' top ≡ map edit_slot (registers d top)
     registers_same same = ap (λ n. module_registers (suc n) d' [] top) same ∙ module_registers_same (suc (length d)) [] top refl refl
 
-    next_along : (ss : List Slot) (ρ : Net → Word) (content : Word)
-        → next_content (map edit_slot ss) ρ content ≡ next_content ss (λ a. ρ (standing a)) content
-    next_along [] ρ content = refl
-    next_along (s ∷ ss) ρ content =
+    -- where an edited slot gives what the old one gave, so does the whole content
+    passed_along : (gives gives' : Slot → Word → Word) → ((s : Slot) (old : Word) → gives' (edit_slot s) old ≡ gives s old)
+        → (ss : List Slot) (content : Word) → passed gives' (map edit_slot ss) content ≡ passed gives ss content
+    passed_along gives gives' alike [] content = refl
+    passed_along gives gives' alike (s ∷ ss) content =
         ap₂ (λ x y. first (held_width s.op) x ++ y)
-        (loaded-retarget (stand_at s.path) s.op (λ r. ρ (net s.path r)) (first (held_width s.op) content))
-        (next_along ss ρ (drop (held_width s.op) content))
+        (alike s (first (held_width s.op) content))
+        (passed_along gives gives' alike ss (drop (held_width s.op) content))
 
     pub next_same : length d' ≡ length d → (ρ : Net → Word) (content : Word)
         → next_content (registers d' top) ρ content ≡ next_content (registers d top) (λ a. ρ (standing a)) content
-    next_same same ρ content = ap (λ ss. next_content ss ρ content) (registers_same same) ∙ next_along (registers d top) ρ content
+    next_same same ρ content =
+        ap (λ ss. next_content ss ρ content) (registers_same same)
+        ∙ passed_along (loaded (λ a. ρ (standing a))) (loaded ρ)
+        (λ s old. loaded-retarget (stand_at s.path) s.op (λ r. ρ (net s.path r)) old) (registers d top) content
+
+    pub rising_same : length d' ≡ length d → (ρ σ : Net → Word) (content : Word)
+        → risen_content (registers d' top) ρ σ content ≡ risen_content (registers d top) (λ a. ρ (standing a)) (λ a. σ (standing a)) content
+    rising_same same ρ σ content =
+        ap (λ ss. risen_content ss ρ σ content) (registers_same same)
+        ∙ passed_along (risen_in (λ a. ρ (standing a)) (λ a. σ (standing a))) (risen_in ρ σ)
+        (λ s old. risen-retarget (stand_at s.path) s.op (λ r. ρ (net s.path r)) (λ r. σ (net s.path r)) old) (registers d top) content
 
     pub outputs_same : (ρ : Net → Word) → outputs d' top ρ ≡ outputs d top (λ a. ρ (standing a))
     outputs_same ρ =

@@ -15,7 +15,7 @@ use Rattle.hw_model.proofs.NetWidths.{net_widths}
 use Rattle.hw_edits.specs.Edit.{EditedModule}
 use Rattle.hw_edits.specs.Follows.{ValidEdit, SameEdit, Valid, Follows}
 use Rattle.hw_edits.proofs.Anchors.{called_follow}
-use Rattle.hw_edits.proofs.Edited.{no_edit, holds_at, at, standing, state_same, next_same, outputs_same, back_settled}
+use Rattle.hw_edits.proofs.Edited.{no_edit, holds_at, at, standing, state_same, next_same, rising_same, outputs_same, back_settled}
 use Rattle.hw_edits.proofs.Heights.{heights_after}
 use Rattle.hw_edits.proofs.Types.{sound_after}
 
@@ -72,6 +72,7 @@ follows_each d d' same each valid = record {
             (λ r. net_widths d' top valid'.sound inputs content ρ (valid'.heights top) settled (net p r)) j k gone);
         outputs = λ inputs content ρ settled. sym (outputs_same d d' SameEdit edited (no_same_edit None) each top ρ);
         next = λ inputs content ρ settled. sym (next_same d d' SameEdit edited (no_same_edit None) each top same ρ content);
+        rising = λ before inputs content ρ σ settled settled'. sym (rising_same d d' SameEdit edited (no_same_edit None) each top same ρ σ content);
       });
 }
   where

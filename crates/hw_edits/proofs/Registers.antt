@@ -143,7 +143,7 @@ module _ (d d' : Design) (none : Reregistered None None) (each : (s : Name) → 
             ap (op_in d' top p (new_body p) j k) is
             ∙ ap₂ (λ a b. cond (is_register o) (held_of a (result_type o k)) (cond (is_instance o) b (cond (is_output_op o) nowhere (made_of p o k (result_type o k)))))
             offset_same (ap₂ (λ n y. copy_of (n ∷ p) y) count_same (given_same o))
-        by_op o o' (two old new types loads) =
+        by_op o o' (two old new types resets loads) =
             ap (λ b. cond b (held_of (base d' top p + body_state (state d') (take j (new_body p))) (result_type o' k))
             (cond (is_instance o') (copy_of (length (instances (take j (new_body p))) ∷ p) (given_ref d' k o')) (cond (is_output_op o') nowhere (made_of p o' k (result_type o' k))))) new
             ∙ ap₂ held_of offset_same (types k)

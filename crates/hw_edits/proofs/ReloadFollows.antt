@@ -1,5 +1,5 @@
 -- A register of a module takes its next value in another way: what follows is valid, and does the same.
-use Rattle.std.proofs.Common.{◌≡◌, ℕ, suc, ◌+◌, ◌≤◌, true, false, [], length, map, set, slice_get, is_some, Option, Some, None, refl, sym, ap, subst, ◌∙◌, zero-add, length-set}
+use Rattle.std.proofs.Common.{◌≡◌, ℕ, suc, ◌+◌, ◌≤◌, true, false, [], length, map, take, drop, set, slice_get, is_some, Option, Some, None, refl, sym, ap, subst, ◌∙◌, zero-add, length-set}
 use Rattle.std.proofs.lemmas.List.{length-map}
 use Rattle.std.proofs.lemmas.Option.{slice_get_within}
 use mathlib.Core.Path.{fun_ext}
@@ -7,12 +7,12 @@ use Rattle.wiring.specs.Wiring.{IsAcyclic, HasHeights as HaveHeights}
 use Rattle.wiring.proofs.Lists.{slice_get-set_same}
 use Rattle.wiring.proofs.Members.{map_same}
 use Rattle.wiring.proofs.Heights.{height-le}
-use Rattle.bits_core.specs.Word.{Word}
+use Rattle.bits_core.specs.Word.{Word, first}
 use Rattle.hw_model.specs.Types.{Name, HwType}
 use Rattle.hw_model.specs.Kinds.{Instance}
 use Rattle.hw_model.specs.Design.{Ref, OpResult, Op, Module, Design, find_module, instance_in, output_refs}
-use Rattle.hw_model.specs.Flat.{Net, net, source, module_registers, registers}
-use Rattle.hw_model.specs.Meaning.{needs_of, HasHeights, next_content, machine}
+use Rattle.hw_model.specs.Flat.{Path, Net, net, module_at, body_state, state, base, held_width, source, register_in, module_registers, registers}
+use Rattle.hw_model.specs.Meaning.{needs_of, HasHeights, next_value, loaded, next_content, risen, risen_in, risen_content, machine}
 use Rattle.hw_model.specs.Hierarchy.{calls}
 use Rattle.hw_model.specs.Sound.{body_of, ports_of, input_types, output_types, type_in, Fits, OpFits, SoundBody, Sound}
 use Rattle.hw_model.proofs.Machines.{same_forth}
@@ -26,9 +26,9 @@ use Rattle.hw_edits.proofs.Edited.{reads, holds_at}
 use Rattle.hw_edits.proofs.Follows.{valid_settles, set_each}
 use Rattle.hw_edits.proofs.Positions.{other_none, get_other}
 use Rattle.hw_edits.proofs.Twins.Twin.{one, two}
-use Rattle.hw_edits.proofs.Twins.{Twin, TwinOption, register_only, twins_at, twins_type, twins_outputs, twins_self, twins_set}
+use Rattle.hw_edits.proofs.Twins.{Twin, TwinOption, register_only, twin_reset, twins_at, twins_type, twins_outputs, twins_self, twins_set}
 use Rattle.hw_edits.proofs.Registers.{Reregistered, calls_same, source_same, outputs_same, size_same}
-use Rattle.hw_edits.proofs.Loads.{held_value, loads_same}
+use Rattle.hw_edits.proofs.Loads.{held_value, passed_same}
 
 -- the same module, whose operations fit where those of the old one do
 pub record Reloading (old new : Option Module) : Type 0 where
@@ -48,7 +48,7 @@ reloading md i o o' change = record {
     is_there = refl;
     ports_are = refl;
     twins = twins_set md.ports md.body i 0 md.body o o' change.there
-        (subst (λ k. Twin md.ports md.body k o o') (sym (zero-add i)) (two change.old_register change.new_register change.same_types change.loads));
+        (subst (λ k. Twin md.ports md.body k o o') (sym (zero-add i)) (two change.old_register change.new_register change.same_types change.async_is change.loads));
   };
   fits = λ all j y is. at_position all j y is (other_than i j) refl;
 }
@@ -109,7 +109,7 @@ module _ (d d' : Design) (each : (s : Name) → Reloading (find_module d s) (fin
               let fits = sound.instances j y (was ∙ ap Some (sym equal)) i inst in
               let there = still_there i.symbol fits.0 fits.1 in
               (there.0, there.1, operands y ∙ fits.2 ∙ ap (λ ps. map (λ (t : HwType). Some t) (input_types ps)) (sym there.2), fits.3 ∙ ap output_types (sym there.2))
-          go (Some w) was (two old new kinds loads) = let clash : None ≡ Some i = sym (register_only y new).0 ∙ inst in cc
+          go (Some w) was (two old new kinds resets loads) = let clash : None ≡ Some i = sym (register_only y new).0 ∙ inst in cc
 
   sound_after : Sound d'
   sound_after s m is =
@@ -130,20 +130,40 @@ module _ (d d' : Design) (each : (s : Name) → Reloading (find_module d s) (fin
 
   -- ---- the same
 
-  next_same : (top : Name) (inputs content : Word) (ρ : Net → Word) → ((a : Net) → ρ a ≡ reads inputs content ρ (source d top a))
-      → next_content (registers d' top) ρ content ≡ next_content (registers d top) ρ content
-  next_same top inputs content ρ settled =
-      ap (λ n. next_content (module_registers (suc n) d' [] top) ρ content) same
-      ∙ loads_same d d' none twins_each same top high.0 high.1 content ρ (holds_at d top inputs content ρ settled)
-      (λ p r. net_widths d top valid.sound inputs content ρ (valid.heights top) settled (net p r))
-      (held_value d top inputs content ρ settled) (suc (length d)) [] top refl refl low
-    where
-      high : HaveHeights (calls d)
-      high = call_heights d valid.finite
+  module _ (top : Name) (content : Word) where
+    high : HaveHeights (calls d)
+    high = call_heights d valid.finite
 
-      low : high.0 top ≤ suc (length d)
-      low = subst (λ k. high.0 top ≤ suc k) (length-map d (λ (m : Module). m.symbol))
-          (height-le (calls d) (map (λ (m : Module). m.symbol) d) (calls_within d) high.0 high.1 top)
+    low : high.0 top ≤ suc (length d)
+    low = subst (λ k. high.0 top ≤ suc k) (length-map d (λ (m : Module). m.symbol))
+        (height-le (calls d) (map (λ (m : Module). m.symbol) d) (calls_within d) high.0 high.1 top)
+
+    next_same : (inputs : Word) (ρ : Net → Word) → ((a : Net) → ρ a ≡ reads inputs content ρ (source d top a))
+        → next_content (registers d' top) ρ content ≡ next_content (registers d top) ρ content
+    next_same inputs ρ settled =
+        ap (λ n. next_content (module_registers (suc n) d' [] top) ρ content) same
+        ∙ passed_same d d' none twins_each same top high.0 high.1 content (loaded ρ) alike (suc (length d)) [] top refl refl low
+      where
+        alike : (p : Path) (j : ℕ) (o o' : Op) → slice_get (body_of (module_at d top p)) j ≡ Some o
+            → Twin (ports_of (module_at d top p)) (body_of (module_at d top p)) j o o'
+            → next_value (register_in o') (λ r. ρ (net p r)) (first (held_width o) (drop (base d top p + body_state (state d) (take j (body_of (module_at d top p)))) content))
+            ≡ next_value (register_in o) (λ r. ρ (net p r)) (first (held_width o) (drop (base d top p + body_state (state d) (take j (body_of (module_at d top p)))) content))
+        alike p j o o' is (one equal) =
+            ap (λ x. next_value (register_in x) (λ r. ρ (net p r)) (first (held_width o) (drop (base d top p + body_state (state d) (take j (body_of (module_at d top p)))) content))) equal
+        alike p j o o' is (two old new types resets loads) =
+            loads (λ r. ρ (net p r)) (holds_at d top inputs content ρ settled p)
+            (λ r. net_widths d top valid.sound inputs content ρ (valid.heights top) settled (net p r))
+            (first (held_width o) (drop (base d top p + body_state (state d) (take j (body_of (module_at d top p)))) content))
+            (held_value d top inputs content ρ settled p j o is old)
+
+    rising_same : (ρ σ : Net → Word) → risen_content (registers d' top) ρ σ content ≡ risen_content (registers d top) ρ σ content
+    rising_same ρ σ =
+        ap (λ n. risen_content (module_registers (suc n) d' [] top) ρ σ content) same
+        ∙ passed_same d d' none twins_each same top high.0 high.1 content (risen_in ρ σ)
+        (λ p j o o' is twin.
+        ap (λ x. risen x (λ r. ρ (net p r)) (λ r. σ (net p r)) (first (held_width o) (drop (base d top p + body_state (state d) (take j (body_of (module_at d top p)))) content)))
+        (twin_reset (ports_of (module_at d top p)) (body_of (module_at d top p)) j o o' twin))
+        (suc (length d)) [] top refl refl low
 
   pub reload_follows : Follows d d'
   reload_follows = record {
@@ -153,7 +173,8 @@ module _ (d d' : Design) (each : (s : Name) → Reloading (find_module d s) (fin
         (record {
           settled = λ inputs content ρ settled a. settled a ∙ ap (reads inputs content ρ) (sym (source_same d d' none twins_each same top a));
           outputs = λ inputs content ρ settled. outputs_same d d' none twins_each same top ρ;
-          next = λ inputs content ρ settled. next_same top inputs content ρ settled;
+          next = λ inputs content ρ settled. next_same top content inputs ρ settled;
+          rising = λ before inputs content ρ σ settled settled'. rising_same top content ρ σ;
         });
   }
 

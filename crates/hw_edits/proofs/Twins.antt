@@ -5,7 +5,7 @@ use Rattle.bits_core.specs.Word.{Word}
 use Rattle.hw_model.specs.Types.{Name}
 use Rattle.hw_model.specs.Design.{Ref, Port, Op, instance_in, is_instance, is_register, is_output_op, result_type, output_refs}
 use Rattle.hw_model.specs.Design.Ref.{port, result, undefined}
-use Rattle.hw_model.specs.Flat.{instances, before_instance, if_zero, body_state, op_state, instance_state, held_width, width_of, register_in}
+use Rattle.hw_model.specs.Flat.{instances, before_instance, if_zero, body_state, op_state, instance_state, held_width, width_of, register_in, async_reset_in}
 use Rattle.hw_model.specs.Meaning.{next_value}
 use Rattle.hw_model.specs.Sound.{type_in}
 use Rattle.hw_model.specs.Hierarchy.{callee_symbols, called_by}
@@ -14,10 +14,11 @@ use Rattle.hw_model.proofs.Sorts.Sort.{a_register, an_instance, an_output, a_mad
 use Rattle.hw_edits.specs.Edit.{Holds}
 use Rattle.hw_edits.specs.Follows.{Wide}
 
--- the operations at one position of two bodies: the same, or registers that load the same; `os` is the first body
+-- the operations at one position of two bodies: the same, or registers that are reset and load the same; `os` is the
+-- first body
 pub data Twin (ports : List Port) (os : List Op) (j : ℕ) (o o' : Op) : Type 0 where
   one : o' ≡ o → Twin ports os j o o'
-  two : is_register o ≡ true → is_register o' ≡ true → ((k : ℕ) → result_type o' k ≡ result_type o k)
+  two : is_register o ≡ true → is_register o' ≡ true → ((k : ℕ) → result_type o' k ≡ result_type o k) → async_reset_in o' ≡ async_reset_in o
       → ((τ : Ref → Word) → Holds os τ → Wide ports os τ → (old : Word) → τ (result j 0) ≡ old → next_value (register_in o') τ old ≡ next_value (register_in o) τ old)
       → Twin ports os j o o'
 
@@ -40,15 +41,19 @@ module _ (ports : List Port) (whole : List Op) where
 
   pub twin_instance : (j : ℕ) (o o' : Op) → Twin ports whole j o o' → instance_in o'.kind ≡ instance_in o.kind
   twin_instance j o o' (one is) = ap (λ x. instance_in x.kind) is
-  twin_instance j o o' (two old new types loads) = (register_only o' new).0 ∙ sym (register_only o old).0
+  twin_instance j o o' (two old new types resets loads) = (register_only o' new).0 ∙ sym (register_only o old).0
 
   pub twin_register : (j : ℕ) (o o' : Op) → Twin ports whole j o o' → is_register o' ≡ is_register o
   twin_register j o o' (one is) = ap is_register is
-  twin_register j o o' (two old new types loads) = new ∙ sym old
+  twin_register j o o' (two old new types resets loads) = new ∙ sym old
 
   pub twin_types : (j : ℕ) (o o' : Op) → Twin ports whole j o o' → (k : ℕ) → result_type o' k ≡ result_type o k
   twin_types j o o' (one is) k = ap (λ x. result_type x k) is
-  twin_types j o o' (two old new types loads) k = types k
+  twin_types j o o' (two old new types resets loads) k = types k
+
+  pub twin_reset : (j : ℕ) (o o' : Op) → Twin ports whole j o o' → async_reset_in o' ≡ async_reset_in o
+  twin_reset j o o' (one is) = ap async_reset_in is
+  twin_reset j o o' (two old new types resets loads) = resets
 
   pub twin_state : (inner : Name → ℕ) (j : ℕ) (o o' : Op) → Twin ports whole j o o' → op_state inner o' ≡ op_state inner o
   twin_state inner j o o' twin =
@@ -63,7 +68,7 @@ module _ (ports : List Port) (whole : List Op) where
     where
       go : Twin ports whole j o o' → instances os' ≡ instances os → instances (o' ∷ os') ≡ instances (o ∷ os)
       go (one is) rest = ap₂ (λ x xs. cond (is_instance x) (x ∷ xs) xs) is rest
-      go (two old new types loads) rest =
+      go (two old new types resets loads) rest =
           let mine : instance_in o.kind ≡ None = (register_only o old).0 in
           let theirs : instance_in o'.kind ≡ None = (register_only o' new).0 in
           simp (mine, theirs) rest
@@ -76,7 +81,7 @@ module _ (ports : List Port) (whole : List Op) where
     where
       go : Twin ports whole j o o' → output_refs os' ≡ output_refs os → output_refs (o' ∷ os') ≡ output_refs (o ∷ os)
       go (one is) rest = ap₂ (λ x xs. cond (is_output_op x) x.operands xs) is rest
-      go (two old new types loads) rest =
+      go (two old new types resets loads) rest =
           ap (λ b. cond b o'.operands (output_refs os')) (register_only o' new).1 ∙ rest
           ∙ sym (ap (λ b. cond b o.operands (output_refs os)) (register_only o old).1)
 

@@ -13,7 +13,7 @@ use Rattle.hw_model.specs.Kinds.Kind.{mux, constant, wire, register}
 use Rattle.hw_model.specs.Types.HwType.{int, clock}
 use Rattle.hw_model.specs.Design.{Ref, Op, Module, Design, find_module, nowhere_place, result_type}
 use Rattle.hw_model.specs.Design.Ref.{result}
-use Rattle.hw_model.specs.Flat.{net, register_in}
+use Rattle.hw_model.specs.Flat.{net, register_in, has_async_reset, async_parts}
 use Rattle.hw_model.specs.Meaning.{next_value}
 use Rattle.hw_model.specs.Value.{op_value, is_high}
 use Rattle.hw_model.specs.Sound.{body_of, type_in, Fits, OpFits}
@@ -186,6 +186,7 @@ enable_out d m md i j o choice t x c e valid at_m found there kind operands type
       new_register = refl;
       same_types = λ k. refl;
       fits = fits;
+      async_is = sym (ap (λ k. cond (has_async_reset k) (async_parts o.operands) None) kind);
       loads = loads;
     })
   where

@@ -1,11 +1,15 @@
 -- The content of modules, by depth and by registers.
-use Rattle.std.proofs.Common.{◌≡◌, ℕ, zero, suc, ◌-◌, ◌<◌, ◌≤◌, List, [], ◌∷◌, Some, ap, inl, inr, arith}
+use Rattle.std.proofs.Common.{◌≡◌, ℕ, zero, suc, ◌-◌, ◌<◌, ◌≤◌, List, [], ◌∷◌, ◌++◌, drop, Some, sym, ap, ap₂, ◌∙◌, inl, inr, arith}
 use Rattle.wiring.specs.Wiring.{In}
+use Rattle.bits_core.specs.Word.{Word, first}
+use Rattle.bits_core.proofs.First.{first-first}
 use Rattle.hw_model.specs.Types.{Name}
 use Rattle.hw_model.specs.Design.{Module, Design, find_module}
 use Rattle.hw_model.specs.Flat.{Slot, registers, held_width, depth, state, body_state, state_of, module_state}
 use Rattle.hw_model.proofs.Content.{slots_width, registers_width}
 use Rattle.hw_interpreter.specs.Suits.{IsCounted}
+use Rattle.hw_interpreter.specs.Depth.{held_content}
+use Rattle.hw_interpreter.proofs.Pieces.{piece_more}
 
 -- the content of a module that is found, from that of the depth below
 pub module_state_found : (n : ℕ) (d : Design) (s : Name) (m : Module) → 0 < n → find_module d s ≡ Some m
@@ -26,3 +30,11 @@ register_counted d top counted s here =
     let within = slot_within s (registers d top) here in
     let all : slots_width (registers d top) ≡ state d top = registers_width d (depth d) [] top in
     omega (arith, within, all, counted)
+
+-- one register more of the content that the registers hold
+pub held_more : (s : Slot) (ss : List Slot) (word left whole new after : Word) (w : ℕ) → w ≡ held_width s.op → new ≡ word ++ first w left
+    → after ≡ drop w left → word ++ held_content (s ∷ ss) left ≡ whole → new ++ held_content ss after ≡ whole
+held_more s ss word left whole new after w wide is cut so_far =
+    piece_more word (first w (first w left)) (held_content ss after) new whole
+    (ap₂ (λ k c. word ++ (first k (first k left) ++ held_content ss c)) wide (cut ∙ ap (λ k. drop k left) wide) ∙ so_far)
+    (is ∙ ap (λ z. word ++ z) (sym (first-first w left)))

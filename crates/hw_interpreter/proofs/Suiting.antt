@@ -9,12 +9,12 @@ use Rattle.hw_model.specs.Types.{Name}
 use Rattle.hw_model.specs.Design.{Ref, Design}
 use Rattle.hw_model.specs.Flat.{Net, Path, Source, net, source, registers}
 use Rattle.hw_model.specs.Flat.Source.{nowhere, input, held, copy, made}
-use Rattle.hw_model.specs.Meaning.{needs_of, needs, value, Settled, next_content}
+use Rattle.hw_model.specs.Meaning.{needs_of, needs, value, Settled}
 use Rattle.hw_interpreter.specs.declared.design.Operand.{Operand}
 use Rattle.hw_interpreter.specs.DesignViews.{ref_of}
 use Rattle.hw_interpreter.specs.Suits.{IsInteger, Suits}
 use Rattle.hw_interpreter.specs.SuitsWithin.{SuitsSource, SuitsFrom, SuitsWithin, SuitsUnder, AlwaysSuits, IsCountedDesign, TakesRefs, TakesStep, TakesRun}
-use Rattle.hw_interpreter.specs.Depth.{value_within, Suffices}
+use Rattle.hw_interpreter.specs.Depth.{value_within, held_content, content_within, Suffices}
 use Rattle.hw_interpreter.proofs.Counts.{member_of, take_more}
 use Rattle.hw_interpreter.proofs.Within.{within_settled}
 
@@ -80,11 +80,17 @@ pub run_taken : (d : Design) (top : Name) (depth : ℕ) → Suffices d top depth
     → (content : Word) (steps : List Word) → TakesRun d top depth content steps
 run_taken d top depth reaches counted always content [] = tt
 run_taken d top depth reaches counted always content (s ∷ steps) =
-    let ρ = value_within d top s content depth in
-    let settled = within_settled d top depth reaches s content in (
-      step_taken d top depth reaches counted s content ρ settled (always s content ρ settled),
-      run_taken d top depth reaches counted always (next_content (registers d top) ρ content) steps,
+    let kept = held_content (registers d top) content in
+    let settled = within_settled d top depth reaches s kept in (
+      step_taken d top depth reaches counted s kept (value_within d top s kept depth) settled (always s kept (value_within d top s kept depth) settled),
+      run_taken d top depth reaches counted always (content_within d top s content depth) steps,
     )
+
+-- and the rest of a run after its first step
+pub takes_more : (d : Design) (top : Name) (depth : ℕ) (content : Word) (steps : List Word) (s : Word) (rest : List Word) (after : Word) → steps ≡ s ∷ rest
+    → after ≡ content_within d top s content depth → TakesRun d top depth content steps → TakesRun d top depth after rest
+takes_more d top depth content steps s rest after is taken takes =
+    subst (λ c. TakesRun d top depth c rest) (sym taken) (subst (TakesRun d top depth content) is takes).1
 
 -- an operand's net is among those of the operands
 pub operand_in : (p : Path) (os : List Operand) (i : ℕ) (d : Operand) → i < length os → In (net p (ref_of (get_or os i d))) (map (net p) (map ref_of os))

@@ -1,5 +1,5 @@
 -- Where a depth reaches all that nets need, the values within it are the settled map.
-use Rattle.std.proofs.Common.{◌≡◌, ℕ, zero, suc, ◌<◌, ◌≤◌, List, [], ◌∷◌, map, refl, sym, ap, subst, arith}
+use Rattle.std.proofs.Common.{◌≡◌, ℕ, zero, suc, ◌<◌, ◌≤◌, List, [], ◌∷◌, ◌++◌, map, refl, sym, ap, ap₂, subst, ◌∙◌, append_assoc, arith}
 use Rattle.wiring.specs.Wiring.{IsHeight, greatest}
 use Rattle.wiring.proofs.Members.{map_same}
 use Rattle.wiring.proofs.Heights.{FallsAlong-height}
@@ -7,9 +7,9 @@ use Rattle.bits_core.specs.Word.{Word}
 use Rattle.hw_model.specs.Types.{Name}
 use Rattle.hw_model.specs.Design.{Ref, Design}
 use Rattle.hw_model.specs.Flat.{Net, net, registers}
-use Rattle.hw_model.specs.Machine.{Step, Run}
-use Rattle.hw_model.specs.Meaning.{needs, value, Settled, next_content, outputs, machine}
-use Rattle.hw_interpreter.specs.Depth.{value_within, run_within, Suffices}
+use Rattle.hw_model.specs.Machine.{Step, RunAfter, Run}
+use Rattle.hw_model.specs.Meaning.{needs, value, Settled, outputs, machine}
+use Rattle.hw_interpreter.specs.Depth.{value_within, held_content, values_within, content_within, run_within, Suffices}
 
 module _ (d : Design) (top : Name) where
   -- at and above a net's height its value stays
@@ -36,24 +36,42 @@ module _ (d : Design) (top : Name) where
       let most : height a ≤ suc n = low a in
       steady inputs content height is n (suc n) b (omega arith) (low b)))
 
-  -- a step under these values is one of the module
-  pub step_within : (depth : ℕ) → Suffices d top depth → (inputs content outs after : Word)
-      → outs ≡ outputs d top (value_within d top inputs content depth)
-      → after ≡ next_content (registers d top) (value_within d top inputs content depth) content
-      → Step (machine d top) inputs content outs after
-  step_within depth reaches inputs content outs after read taken =
-      record { map_of = value_within d top inputs content depth; settled = within_settled depth reaches inputs content; read = read; taken = taken }
+  -- one step more of a run
+  pub run_more : (depth : ℕ) (held : Word) (steps : List Word) (s : Word) (rest outs all : List Word) (o after : Word) → steps ≡ s ∷ rest
+      → o ≡ outputs d top (values_within d top s held depth) → after ≡ content_within d top s held depth
+      → outs ++ run_within d top depth held steps ≡ all → (outs ++ (o ∷ [])) ++ run_within d top depth after rest ≡ all
+  run_more depth held steps s rest outs all o after is read taken so_far =
+      append_assoc outs (o ∷ []) (run_within d top depth after rest)
+      ∙ ap (λ z. outs ++ z) (ap₂ (λ x c. x ∷ run_within d top depth c rest) read taken ∙ sym (ap (run_within d top depth held) is))
+      ∙ so_far
+
+  -- a step under these values is one of the module, whatever the inputs of the step before
+  pub step_within : (depth : ℕ) → Suffices d top depth → (before inputs content outs after : Word)
+      → outs ≡ outputs d top (values_within d top inputs content depth)
+      → after ≡ content_within d top inputs content depth
+      → Step (machine d top) before inputs content outs after
+  step_within depth reaches before inputs content outs after read taken = record {
+    earlier = value_within d top before content depth;
+    first_map = value_within d top inputs content depth;
+    map_of = values_within d top inputs content depth;
+    settled_earlier = within_settled depth reaches before content;
+    settled_first = within_settled depth reaches inputs content;
+    settled = within_settled depth reaches inputs (held_content (registers d top) content);
+    read = read;
+    taken = taken;
+  }
 
   -- and so are the steps of a run
-  pub run_holds : (depth : ℕ) → Suffices d top depth → (content : Word) (steps : List Word) → Run (machine d top) content steps (run_within d top depth content steps)
-  run_holds depth reaches content [] = tt
-  run_holds depth reaches content (s ∷ steps) =
-      let after = next_content (registers d top) (value_within d top s content depth) content in
-      (after, step_within depth reaches s content (outputs d top (value_within d top s content depth)) after refl refl, run_holds depth reaches after steps)
+  pub run_holds : (depth : ℕ) → Suffices d top depth → (before content : Word) (steps : List Word)
+      → RunAfter (machine d top) before content steps (run_within d top depth content steps)
+  run_holds depth reaches before content [] = tt
+  run_holds depth reaches before content (s ∷ steps) =
+      let after = content_within d top s content depth in
+      (after, step_within depth reaches before s content (outputs d top (values_within d top s content depth)) after refl refl, run_holds depth reaches s after steps)
 
   pub run_holds_of : (depth : ℕ) (content : Word) (steps outs : List Word) → outs ≡ run_within d top depth content steps → Suffices d top depth
       → Run (machine d top) content steps outs
-  run_holds_of depth content steps outs is reaches = subst (Run (machine d top) content steps) (sym is) (run_holds depth reaches content steps)
+  run_holds_of depth content steps outs is reaches = subst (Run (machine d top) content steps) (sym is) (run_holds depth reaches [] content steps)
 
 -- the values of nets of the module itself, by their operands
 pub own_nets : (ρ : Net → Word) (rs : List Ref) → map ρ (map (net []) rs) ≡ map (λ r. ρ (net [] r)) rs

@@ -6,9 +6,9 @@ use Rattle.hw_model.specs.Types.{Name}
 use Rattle.hw_model.specs.Design.{Ref, Module, Design, find_module}
 use Rattle.hw_model.specs.Flat.{Net, Path, Source, Slot, Register, ResetBy, net, source, instances, register_in, registers, state}
 use Rattle.hw_model.specs.Flat.Source.{nowhere, input, held, copy, made}
-use Rattle.hw_model.specs.Meaning.{needs_of, Settled, outputs_of, next_content}
+use Rattle.hw_model.specs.Meaning.{needs_of, Settled, outputs_of}
 use Rattle.hw_interpreter.specs.Suits.{IsCounted, Suits}
-use Rattle.hw_interpreter.specs.Depth.{value_within}
+use Rattle.hw_interpreter.specs.Depth.{value_within, held_content, content_within}
 
 -- the operation takes the words of the nets that it needs, bits of inputs and content end at a number that is counted,
 -- and the instances on a path are numbered by 32 bits
@@ -60,7 +60,8 @@ register_refs (Some r) = r.clock ∷ r.next ∷ (option_to_list r.enable ++ rese
 abbrev pub TakesRefs : Design → Name → Word → Word → ℕ → Path → List Ref → Type 0
 TakesRefs d top inputs content depth p rs = (r : Ref) → In r rs → SuitsWithin d top inputs content depth (net p r)
 
--- a step from a content under inputs is computed within a depth: what the outputs and the registers read is
+-- a step under inputs, from the content after its first phase, is computed within a depth: what the outputs and the
+-- registers read is
 pub record TakesStep (d : Design) (top : Name) (inputs content : Word) (depth : ℕ) : Type 0 where
   pub numbers : IsCountedDesign d top
   pub output_nets : TakesRefs d top inputs content depth [] (outputs_of (find_module d top))
@@ -70,4 +71,4 @@ pub record TakesStep (d : Design) (top : Name) (inputs content : Word) (depth : 
 abbrev pub TakesRun : Design → Name → ℕ → Word → List Word → Type 0
 TakesRun d top depth content [] = ⊤
 TakesRun d top depth content (s ∷ steps) =
-    TakesStep d top s content depth × TakesRun d top depth (next_content (registers d top) (value_within d top s content depth) content) steps
+    TakesStep d top s (held_content (registers d top) content) depth × TakesRun d top depth (content_within d top s content depth) steps

@@ -9,7 +9,7 @@ ghost use Rattle.hw_model.specs.Flat.{Net, held_width, net, module_registers, bo
 ghost use Rattle.hw_model.specs.Meaning.{value_if_enabled as enabled_word, reset as reset_word, next_value as loaded_word, next_content, outputs_of, outputs, Settled, machine};
 ghost use Rattle.hw_model.specs.Machine.{Step, Run};
 ghost use Rattle.hw_interpreter.specs.DesignViews.{ref_of, op_of, module_of};
-ghost use Rattle.hw_interpreter.specs.Depth.{value_within, run_within, Suffices};
+ghost use Rattle.hw_interpreter.specs.Depth.{held_content as held_word, value_within, values_within, content_within, run_within, Suffices};
 ghost use Rattle.hw_interpreter.specs.Suits.{IsCounted};
 ghost use Rattle.hw_interpreter.specs.SuitsWithin.{SuitsUnder, AlwaysSuits, TakesRefs, register_refs, reset_refs, IsCountedDesign, TakesStep, TakesRun};
 ghost use Rattle.hw_interpreter.specs.declared.refusal.Refusal.TheVariants.{NotFitting};
@@ -36,22 +36,46 @@ pub struct Stepped {
 
 /// One step of a module: its outputs, and its content after it, under the values of its nets within a depth.
 ///
-/// A refusal other than out of memory comes only where an operation that the outputs or the registers need does
-/// not take the words of its operands, or a number of bits or of instances is too large to count. Where the depth
-/// suffices, the words are those of the settled map.
+/// No register has an asynchronous reset, so in the first phase of the step each keeps its bits, whatever the inputs of
+/// the step before. A refusal other than out of memory comes only where an operation that the outputs or the registers
+/// need does not take the words of its operands, or a number of bits or of instances is too large to count. Where the
+/// depth suffices, the words are those of the settled map.
 pub fn step(alloc: Global, at: &Setting, depth: u32) -> Result<Stepped, Refusal>
-    ensures outputs { IfOk result (λ s. s.outputs ≡ outputs (map module_of at.now.modules.now) at.now.top.now (value_within (map module_of at.now.modules.now) at.now.top.now at.now.inputs.now at.now.content.now depth)) }
-    ensures content { IfOk result (λ s. s.content ≡ next_content (registers (map module_of at.now.modules.now) at.now.top.now) (value_within (map module_of at.now.modules.now) at.now.top.now at.now.inputs.now at.now.content.now depth) at.now.content.now) }
-    ensures holds { IfOk result (λ s. Suffices (map module_of at.now.modules.now) at.now.top.now depth → Step (machine (map module_of at.now.modules.now) at.now.top.now) at.now.inputs.now at.now.content.now s.outputs s.content) }
-    ensures refuses { IsErrOf result NotFitting → ¬ TakesStep (map module_of at.now.modules.now) at.now.top.now at.now.inputs.now at.now.content.now depth }
+    ensures outputs { IfOk result (λ s. s.outputs ≡ outputs (map module_of at.now.modules.now) at.now.top.now (values_within (map module_of at.now.modules.now) at.now.top.now at.now.inputs.now at.now.content.now depth)) }
+    ensures content { IfOk result (λ s. s.content ≡ content_within (map module_of at.now.modules.now) at.now.top.now at.now.inputs.now at.now.content.now depth) }
+    ensures holds { IfOk result (λ s. Suffices (map module_of at.now.modules.now) at.now.top.now depth → (before : Word) → Step (machine (map module_of at.now.modules.now) at.now.top.now) before at.now.inputs.now at.now.content.now s.outputs s.content) }
+    ensures refuses { IsErrOf result NotFitting → ¬ TakesStep (map module_of at.now.modules.now) at.now.top.now at.now.inputs.now (held_word (registers (map module_of at.now.modules.now) at.now.top.now) at.now.content.now) depth }
     ensures settles { IsErrOf result NotFitting → Suffices (map module_of at.now.modules.now) at.now.top.now depth
-        → (ρ : Net → Word) → Settled (map module_of at.now.modules.now) at.now.top.now at.now.inputs.now at.now.content.now ρ → SuitsUnder (map module_of at.now.modules.now) at.now.top.now ρ
+        → (ρ : Net → Word) → Settled (map module_of at.now.modules.now) at.now.top.now at.now.inputs.now (held_word (registers (map module_of at.now.modules.now) at.now.top.now) at.now.content.now) ρ → SuitsUnder (map module_of at.now.modules.now) at.now.top.now ρ
         → ¬ IsCountedDesign (map module_of at.now.modules.now) at.now.top.now }
 {
-    let outputs = output_word(alloc, at, depth)?;
     let slots = registers(alloc, at.modules, at.top)?;
-    let content = content_after(alloc, at, depth, slots.as_slice())?;
+    let held = held_content(alloc, slots.as_slice(), at.content)?;
+    let within = Setting {
+        modules: at.modules,
+        top: at.top,
+        inputs: at.inputs,
+        content: held.as_slice(),
+    };
+    let outputs = output_word(alloc, &within, depth)?;
+    let content = content_after(alloc, &within, depth, slots.as_slice())?;
     Ok(Stepped { outputs, content })
+}
+
+// what the registers hold after the first phase of the step
+fn held_content(alloc: Global, slots: &[Slot], content: &[bool]) -> Result<BitString, Refusal>
+    ensures value { IfOk result (λ word. word ≡ held_word (map slot_of slots.now) content.now) }
+    ensures refuses { IsErrOf result NotFitting → ¬ ((s : FlatSlot) → In s (map slot_of slots.now) → IsCounted (held_width s.op)) }
+{
+    let mut word = BitString::new(alloc);
+    let mut left = content;
+    for slot in slots {
+        let width = held_width(slot.operation)?;
+        let old = pad(alloc, left, width)?;
+        word.push_bits(old.as_slice())?;
+        left = bits_after(left, width);
+    }
+    Ok(word)
 }
 
 // the outputs, in port order
@@ -223,9 +247,9 @@ fn step_of(
     content: &BitString,
     depth: u32,
 ) -> Result<Stepped, Refusal>
-    ensures outputs { IfOk result (λ s. s.outputs ≡ outputs (map module_of modules.now) top.now (value_within (map module_of modules.now) top.now inputs.now content.now depth)) }
-    ensures content { IfOk result (λ s. s.content ≡ next_content (registers (map module_of modules.now) top.now) (value_within (map module_of modules.now) top.now inputs.now content.now depth) content.now) }
-    ensures refuses { IsErrOf result NotFitting → ¬ TakesStep (map module_of modules.now) top.now inputs.now content.now depth }
+    ensures outputs { IfOk result (λ s. s.outputs ≡ outputs (map module_of modules.now) top.now (values_within (map module_of modules.now) top.now inputs.now content.now depth)) }
+    ensures content { IfOk result (λ s. s.content ≡ content_within (map module_of modules.now) top.now inputs.now content.now depth) }
+    ensures refuses { IsErrOf result NotFitting → ¬ TakesStep (map module_of modules.now) top.now inputs.now (held_word (registers (map module_of modules.now) top.now) content.now) depth }
 {
     let at = Setting {
         modules,

@@ -8,8 +8,8 @@ use Rattle.bits_core.specs.Word.{Word, first}
 use Rattle.hw_model.specs.Types.{Name}
 use Rattle.hw_model.specs.Kinds.{Instance}
 use Rattle.hw_model.specs.Design.{Op, Module, Design, find_module, instance_in, is_instance}
-use Rattle.hw_model.specs.Flat.{Path, Net, net, Slot, instances, before_instance, body_state, op_state, module_state, state, held_width, register_in, op_registers, body_registers, module_registers}
-use Rattle.hw_model.specs.Meaning.{next_value, next_content}
+use Rattle.hw_model.specs.Flat.{Path, Slot, instances, before_instance, body_state, op_state, module_state, state, held_width, op_registers, body_registers, module_registers}
+use Rattle.hw_model.specs.Meaning.{passed}
 use Rattle.hw_model.specs.Sound.{body_of}
 use Rattle.hw_model.specs.Hierarchy.{callee_symbols, called_by, calls, HasNoRecursion}
 use Rattle.hw_model.proofs.Sorts.{Sort, sort_of}
@@ -86,7 +86,7 @@ registers_width d (suc n) p s =
     ∙ body_width (module_registers n d) (module_state n d) (λ q t. registers_width d n q t) p 0 (body_of (find_module d s))
     ∙ sym (state_body (module_state n d) (find_module d s))
 
--- ---- the next content of joined lists
+-- ---- the content of joined lists
 
 drop_none : (n : ℕ) → drop {A = Bool} n [] ≡ []
 drop_none zero = refl
@@ -97,16 +97,17 @@ drop_drop zero b c = ap (λ n. drop n c) (sym (zero-add b))
 drop_drop (suc a) b [] = drop_none b ∙ sym (drop_none (suc a + b))
 drop_drop (suc a) b (x ∷ c) = drop_drop a b c ∙ ap (λ n. drop n (x ∷ c)) (sym (suc-add a b))
 
-pub next-append : (xs ys : List Slot) (ρ : Net → Word) (c : Word) → next_content (xs ++ ys) ρ c ≡ next_content xs ρ c ++ next_content ys ρ (drop (slots_width xs) c)
-next-append [] ys ρ c = refl
-next-append (s ∷ xs) ys ρ c =
-    ap (λ rest. first (held_width s.op) (next_value (register_in s.op) (λ r. ρ (net s.path r)) (first (held_width s.op) c)) ++ rest)
-    (next-append xs ys ρ (drop (held_width s.op) c)
-    ∙ ap (λ rest. next_content xs ρ (drop (held_width s.op) c) ++ next_content ys ρ rest) (drop_drop (held_width s.op) (slots_width xs) c))
+pub passed-append : (each : Slot → Word → Word) (xs ys : List Slot) (c : Word)
+    → passed each (xs ++ ys) c ≡ passed each xs c ++ passed each ys (drop (slots_width xs) c)
+passed-append each [] ys c = refl
+passed-append each (s ∷ xs) ys c =
+    ap (λ rest. first (held_width s.op) (each s (first (held_width s.op) c)) ++ rest)
+    (passed-append each xs ys (drop (held_width s.op) c)
+    ∙ ap (λ rest. passed each xs (drop (held_width s.op) c) ++ passed each ys rest) (drop_drop (held_width s.op) (slots_width xs) c))
     ∙ sym append_assoc'
   where
-    append_assoc' : (first (held_width s.op) (next_value (register_in s.op) (λ r. ρ (net s.path r)) (first (held_width s.op) c)) ++ next_content xs ρ (drop (held_width s.op) c)) ++ next_content ys ρ (drop (held_width s.op + slots_width xs) c)
-        ≡ first (held_width s.op) (next_value (register_in s.op) (λ r. ρ (net s.path r)) (first (held_width s.op) c)) ++ (next_content xs ρ (drop (held_width s.op) c) ++ next_content ys ρ (drop (held_width s.op + slots_width xs) c))
+    append_assoc' : (first (held_width s.op) (each s (first (held_width s.op) c)) ++ passed each xs (drop (held_width s.op) c)) ++ passed each ys (drop (held_width s.op + slots_width xs) c)
+        ≡ first (held_width s.op) (each s (first (held_width s.op) c)) ++ (passed each xs (drop (held_width s.op) c) ++ passed each ys (drop (held_width s.op + slots_width xs) c))
     append_assoc' = rw append_assoc refl
 
 -- ---- positions

@@ -8,10 +8,10 @@ use Rattle.hw_model.specs.Kinds.{Reset}
 use Rattle.hw_model.specs.Kinds.Reset.{no_reset, sync_reset}
 use Rattle.hw_model.specs.Design.{Ref, Op, Design, RegisterForm, find_module, register_form}
 use Rattle.hw_model.specs.Value.{concat_words}
-use Rattle.hw_model.specs.Flat.{Path, Net, net, Slot, register_in, register_parts, held_width, registers}
-use Rattle.hw_model.specs.Machine.{Run}
+use Rattle.hw_model.specs.Flat.{Path, Net, net, Slot, register_in, register_parts, has_async_reset, async_parts, async_reset_in, held_width, registers}
+use Rattle.hw_model.specs.Machine.{RunAfter, Run}
 use Rattle.hw_model.proofs.Depths.{every, every_here, ends_within}
-use Rattle.hw_model.specs.Meaning.{needs, value, Settled, next_value, next_content, outputs_of, outputs, machine}
+use Rattle.hw_model.specs.Meaning.{needs, value, Settled, next_value, passed, loaded, next_content, risen, risen_in, risen_content, outputs_of, outputs, machine}
 
 module _ (d : Design) (top : Name) where
   abbrev pub closed : ℕ → Net → Bool
@@ -34,21 +34,19 @@ module _ (d : Design) (top : Name) where
           let both = every_here (closed n) b ns all in
           ap₂ (λ x xs. x ∷ xs) (is b both.0) (each ns both.1 is)
 
+  operands_same : (n : ℕ) (p : Path) (σ τ : Net → Word) → ((a : Net) → closed n a ≡ true → σ a ≡ τ a)
+      → (rs : List Ref) → every (λ r. closed n (net p r)) rs ≡ true → map (λ r. σ (net p r)) rs ≡ map (λ r. τ (net p r)) rs
+  operands_same n p σ τ same [] all = refl
+  operands_same n p σ τ same (r ∷ rs) all =
+      let both = every_here (λ x. closed n (net p x)) r rs all in
+      ap₂ (λ x xs. x ∷ xs) (same (net p r) both.0) (operands_same n p σ τ same rs both.1)
+
   -- the values that a register's operands have decide what it loads
   loaded_same : (n : ℕ) (p : Path) (o : Op) (σ τ : Net → Word) (old : Word) → every (λ r. closed n (net p r)) o.operands ≡ true
       → ((a : Net) → closed n a ≡ true → σ a ≡ τ a)
       → next_value (register_in o) (λ r. σ (net p r)) old ≡ next_value (register_in o) (λ r. τ (net p r)) old
   loaded_same n p o σ τ old all same = go (register_form o.kind)
     where
-      maps : map (λ r. σ (net p r)) o.operands ≡ map (λ r. τ (net p r)) o.operands
-      maps = each o.operands all
-        where
-          each : (rs : List Ref) → every (λ r. closed n (net p r)) rs ≡ true → map (λ r. σ (net p r)) rs ≡ map (λ r. τ (net p r)) rs
-          each [] every_one = refl
-          each (r ∷ rs) every_one =
-              let both = every_here (λ x. closed n (net p x)) r rs every_one in
-              ap₂ (λ x xs. x ∷ xs) (same (net p r) both.0) (each rs both.1)
-
       parts : (e : Bool) (r : Reset) (rs : List Ref) → map (λ x. σ (net p x)) rs ≡ map (λ x. τ (net p x)) rs
           → next_value (register_parts e r rs) (λ x. σ (net p x)) old ≡ next_value (register_parts e r rs) (λ x. τ (net p x)) old
       parts false no_reset (x ∷ c ∷ []) is = cc
@@ -60,25 +58,52 @@ module _ (d : Design) (top : Name) where
       go : (x : Option RegisterForm) → next_value (bind x (λ (g : RegisterForm). register_parts g.has_enable g.reset o.operands)) (λ r. σ (net p r)) old
           ≡ next_value (bind x (λ (g : RegisterForm). register_parts g.has_enable g.reset o.operands)) (λ r. τ (net p r)) old
       go None = refl
-      go (Some g) = parts g.has_enable g.reset o.operands maps
+      go (Some g) = parts g.has_enable g.reset o.operands (operands_same n p σ τ same o.operands all)
+
+  -- and to what it is reset
+  risen_same : (n : ℕ) (p : Path) (o : Op) (σ τ σ' τ' : Net → Word) (old : Word) → every (λ r. closed n (net p r)) o.operands ≡ true
+      → ((a : Net) → closed n a ≡ true → σ a ≡ τ a) → ((a : Net) → closed n a ≡ true → σ' a ≡ τ' a)
+      → risen (async_reset_in o) (λ r. σ (net p r)) (λ r. σ' (net p r)) old ≡ risen (async_reset_in o) (λ r. τ (net p r)) (λ r. τ' (net p r)) old
+  risen_same n p o σ τ σ' τ' old all same same' = go (has_async_reset o.kind)
+    where
+      parts : (rs : List Ref) → map (λ x. σ (net p x)) rs ≡ map (λ x. τ (net p x)) rs → map (λ x. σ' (net p x)) rs ≡ map (λ x. τ' (net p x)) rs
+          → risen (async_parts rs) (λ r. σ (net p r)) (λ r. σ' (net p r)) old ≡ risen (async_parts rs) (λ r. τ (net p r)) (λ r. τ' (net p r)) old
+      parts (x ∷ c ∷ r ∷ v ∷ []) is is' = cc
+      parts _ is is' = refl
+
+      go : (b : Bool) → risen (cond b (async_parts o.operands) None) (λ r. σ (net p r)) (λ r. σ' (net p r)) old
+          ≡ risen (cond b (async_parts o.operands) None) (λ r. τ (net p r)) (λ r. τ' (net p r)) old
+      go true = parts o.operands (operands_same n p σ τ same o.operands all) (operands_same n p σ' τ' same' o.operands all)
+      go false = refl
 
   abbrev slots_closed : ℕ → List Slot → Bool
   slots_closed n [] = true
   slots_closed n (s ∷ ss) = cond (every (λ r. closed n (net s.path r)) s.op.operands) (slots_closed n ss) false
 
-  next_same : (n : ℕ) (ss : List Slot) (σ τ : Net → Word) (content : Word) → slots_closed n ss ≡ true → ((a : Net) → closed n a ≡ true → σ a ≡ τ a)
-      → next_content ss σ content ≡ next_content ss τ content
-  next_same n [] σ τ content all same = refl
-  next_same n (s ∷ ss) σ τ content all same = go (every (λ r. closed n (net s.path r)) s.op.operands) refl all (next_same n ss σ τ (drop (held_width s.op) content))
+  passed_same : (n : ℕ) (each each' : Slot → Word → Word)
+      → ((s : Slot) (old : Word) → every (λ r. closed n (net s.path r)) s.op.operands ≡ true → each s old ≡ each' s old)
+      → (ss : List Slot) (content : Word) → slots_closed n ss ≡ true → passed each ss content ≡ passed each' ss content
+  passed_same n each each' alike [] content all = refl
+  passed_same n each each' alike (s ∷ ss) content all =
+      go (every (λ r. closed n (net s.path r)) s.op.operands) refl all (passed_same n each each' alike ss (drop (held_width s.op) content))
     where
       go : (b : Bool) → every (λ r. closed n (net s.path r)) s.op.operands ≡ b → cond b (slots_closed n ss) false ≡ true
-          → (slots_closed n ss ≡ true → ((a : Net) → closed n a ≡ true → σ a ≡ τ a)
-          → next_content ss σ (drop (held_width s.op) content) ≡ next_content ss τ (drop (held_width s.op) content))
-          → next_content (s ∷ ss) σ content ≡ next_content (s ∷ ss) τ content
+          → (slots_closed n ss ≡ true → passed each ss (drop (held_width s.op) content) ≡ passed each' ss (drop (held_width s.op) content))
+          → passed each (s ∷ ss) content ≡ passed each' (s ∷ ss) content
       go true here rest further =
-          ap₂ (λ x y. first (held_width s.op) x ++ y)
-          (loaded_same n s.path s.op σ τ (first (held_width s.op) content) here same) (further rest same)
+          ap₂ (λ x y. first (held_width s.op) x ++ y) (alike s (first (held_width s.op) content) here) (further rest)
       go false here rest further = cc
+
+  next_same : (n : ℕ) (ss : List Slot) (σ τ : Net → Word) (content : Word) → slots_closed n ss ≡ true → ((a : Net) → closed n a ≡ true → σ a ≡ τ a)
+      → next_content ss σ content ≡ next_content ss τ content
+  next_same n ss σ τ content all same =
+      passed_same n (loaded σ) (loaded τ) (λ s old here. loaded_same n s.path s.op σ τ old here same) ss content all
+
+  rising_same : (n : ℕ) (ss : List Slot) (σ τ σ' τ' : Net → Word) (content : Word) → slots_closed n ss ≡ true
+      → ((a : Net) → closed n a ≡ true → σ a ≡ τ a) → ((a : Net) → closed n a ≡ true → σ' a ≡ τ' a)
+      → risen_content ss σ σ' content ≡ risen_content ss τ τ' content
+  rising_same n ss σ τ σ' τ' content all same same' =
+      passed_same n (risen_in σ σ') (risen_in τ τ') (λ s old here. risen_same n s.path s.op σ τ σ' τ' old here same same') ss content all
 
   abbrev output_nets : List Net
   output_nets = map (net []) (outputs_of (find_module d top))
@@ -94,27 +119,45 @@ module _ (d : Design) (top : Name) where
       let both = every_here (λ x. closed n (net [] x)) r rs all in
       ap₂ (λ x xs. x ∷ xs) (same (net [] r) both.0) (outputs_same n rs σ τ both.1 same)
 
-  -- the outputs of a list of steps
-  abbrev pub run_of : ℕ → Word → List Word → List Word
-  run_of n content [] = []
-  run_of n content (s ∷ steps) =
-      outputs d top (evaluated s content n) ∷ run_of n (next_content (registers d top) (evaluated s content n) content) steps
+  -- the content after the first phase of a step
+  abbrev pub risen_of : ℕ → Word → Word → Word → Word
+  risen_of n before inputs content =
+      risen_content (registers d top) (evaluated before content n) (evaluated inputs content n) content
 
-  -- every run gives these outputs
-  pub run_value : (n : ℕ) → shallow n ≡ true → (content : Word) (steps outs : List Word) → Run (machine d top) content steps outs → outs ≡ run_of n content steps
-  run_value n reached content [] [] run = refl
-  run_value n reached content [] (o ∷ outs) run = absurd run
-  run_value n reached content (s ∷ steps) [] run = absurd run
-  run_value n reached content (s ∷ steps) (o ∷ outs) (after, step, rest) =
+  abbrev pub next_of : ℕ → Word → Word → Word
+  next_of n inputs content = next_content (registers d top) (evaluated inputs content n) content
+
+  -- the outputs of a list of steps after one with the inputs `before`
+  abbrev pub run_of : ℕ → Word → Word → List Word → List Word
+  run_of n before content [] = []
+  run_of n before content (s ∷ steps) =
+      outputs d top (evaluated s (risen_of n before s content) n) ∷ run_of n s (next_of n s (risen_of n before s content)) steps
+
+  run_after_value : (n : ℕ) → shallow n ≡ true → (before content : Word) (steps outs : List Word)
+      → RunAfter (machine d top) before content steps outs → outs ≡ run_of n before content steps
+  run_after_value n reached before content [] [] run = refl
+  run_after_value n reached before content [] (o ∷ outs) run = absurd run
+  run_after_value n reached before content (s ∷ steps) [] run = absurd run
+  run_after_value n reached before content (s ∷ steps) (o ∷ outs) (after, step, rest) =
       let parts = both (every (λ r. closed n (net [] r)) (outputs_of (find_module d top))) (slots_closed n (registers d top)) reached in
-      let same : (a : Net) → closed n a ≡ true → step.map_of a ≡ evaluated s content n a = settled_value s content step.map_of step.settled n in
-      let head : o ≡ outputs d top (evaluated s content n) =
-      step.read ∙ ap concat_words (outputs_same n (outputs_of (find_module d top)) step.map_of (evaluated s content n) parts.0 same) in
-      let taken : after ≡ next_content (registers d top) (evaluated s content n) content =
-      step.taken ∙ next_same n (registers d top) step.map_of (evaluated s content n) content parts.1 same in
+      let rises : risen_content (registers d top) step.earlier step.first_map content ≡ risen_of n before s content =
+      rising_same n (registers d top) step.earlier (evaluated before content n) step.first_map (evaluated s content n) content parts.1
+      (settled_value before content step.earlier step.settled_earlier n) (settled_value s content step.first_map step.settled_first n) in
+      let settled : Settled d top s (risen_of n before s content) step.map_of = subst (λ c. Settled d top s c step.map_of) rises step.settled in
+      let same : (a : Net) → closed n a ≡ true → step.map_of a ≡ evaluated s (risen_of n before s content) n a =
+      settled_value s (risen_of n before s content) step.map_of settled n in
+      let head : o ≡ outputs d top (evaluated s (risen_of n before s content) n) =
+      step.read ∙ ap concat_words (outputs_same n (outputs_of (find_module d top)) step.map_of (evaluated s (risen_of n before s content) n) parts.0 same) in
+      let taken : after ≡ next_of n s (risen_of n before s content) =
+      step.taken ∙ ap (next_content (registers d top) step.map_of) rises
+      ∙ next_same n (registers d top) step.map_of (evaluated s (risen_of n before s content) n) (risen_of n before s content) parts.1 same in
       ap₂ (λ x xs. x ∷ xs) head
-      (run_value n reached (next_content (registers d top) (evaluated s content n) content) steps outs (subst (λ c. Run (machine d top) c steps outs) taken rest))
+      (run_after_value n reached s (next_of n s (risen_of n before s content)) steps outs (subst (λ c. RunAfter (machine d top) s c steps outs) taken rest))
     where
       both : (a b : Bool) → cond a b false ≡ true → (a ≡ true) × (b ≡ true)
       both true b is = (refl, is)
       both false b is = cc
+
+  -- every run gives these outputs
+  pub run_value : (n : ℕ) → shallow n ≡ true → (content : Word) (steps outs : List Word) → Run (machine d top) content steps outs → outs ≡ run_of n [] content steps
+  run_value n reached content steps outs = run_after_value n reached [] content steps outs

@@ -16,7 +16,7 @@ use Rattle.hw_model.specs.Value.{concat_words}
 use Rattle.hw_model.specs.Flat.{Path, Net, net, Slot, instances, before_instance, if_zero, module_at, op_state, body_state, module_state, state, base, port_ref, input_source, copy_of, joined_ref, joined_at, held_of, made_of, port_source, result_source, source, op_registers, body_registers, module_registers, registers}
 use Rattle.hw_model.specs.Flat.Source.{nowhere}
 use Rattle.hw_model.specs.Machine.{Same}
-use Rattle.hw_model.specs.Meaning.{needs_of, needs, HasHeights, next_content, outputs, outputs_of, machine}
+use Rattle.hw_model.specs.Meaning.{needs_of, needs, HasHeights, next_content, risen_content, outputs, outputs_of, machine}
 use Rattle.hw_model.specs.Sound.{body_of}
 use Rattle.hw_model.specs.Hierarchy.{callee_symbols, called_by, calls, HasNoRecursion, IsWithout}
 use Rattle.hw_model.proofs.Sorts.{Sort, sort_of}
@@ -295,10 +295,10 @@ module _ (d e : Design) (gone : Name) (without : IsWithout d e gone) (finite : H
 
     machine_same : machine e top ≡ machine d top
     machine_same =
-        ap (λ size. built size (source e top) (outputs e top) (next_content (registers e top))) (state_same top other)
-        ∙ ap (λ from. built (state d top) from (outputs e top) (next_content (registers e top))) (fun_ext source_same)
-        ∙ ap (λ m. built (state d top) (source d top) (λ ρ. concat_words (map (λ r. ρ (net [] r)) (outputs_of m))) (next_content (registers e top))) (without.others top other)
-        ∙ ap (λ ss. built (state d top) (source d top) (outputs d top) (next_content ss)) (registers_same top other)
+        ap (λ size. built size (source e top) (outputs e top) (next_content (registers e top)) (risen_content (registers e top))) (state_same top other)
+        ∙ ap (λ from. built (state d top) from (outputs e top) (next_content (registers e top)) (risen_content (registers e top))) (fun_ext source_same)
+        ∙ ap (λ m. built (state d top) (source d top) (λ ρ. concat_words (map (λ r. ρ (net [] r)) (outputs_of m))) (next_content (registers e top)) (risen_content (registers e top))) (without.others top other)
+        ∙ ap (λ ss. built (state d top) (source d top) (outputs d top) (next_content ss) (risen_content ss)) (registers_same top other)
 
     -- each other module does what it did
     pub gone_same : HasHeights d top → Same (machine d top) (machine e top)

@@ -2,7 +2,7 @@
 use Rattle.std.proofs.Common.{◌≡◌, List, [], ◌∷◌, refl, sym, ap, ap₂, subst, ◌∙◌}
 use mathlib.Core.Path.{fun_ext}
 use Rattle.bits_core.specs.Word.{Word}
-use Rattle.hw_model.specs.Machine.{Machine, Run, SettlesOnce, Same, Carries}
+use Rattle.hw_model.specs.Machine.{Machine, Step, RunAfter, Run, SettlesOnce, Same, Carries}
 
 module _ {A : Type 0} where
   -- a machine settles once for all inputs and content
@@ -15,45 +15,94 @@ module _ {A : Type 0} where
   settled_same m inputs content once σ τ first second = fun_ext (λ a. once.2 σ first a ∙ sym (once.2 τ second a))
 
   -- a run has one list of outputs for each content and list of steps
+  run_after_unique : (m : Machine A) → AlwaysSettles m → (before content : Word) (steps outputs others : List Word)
+      → RunAfter m before content steps outputs → RunAfter m before content steps others → outputs ≡ others
+  run_after_unique m once before content [] [] [] first second = refl
+  run_after_unique m once before content [] [] (o ∷ others) first second = absurd second
+  run_after_unique m once before content [] (o ∷ outputs) others first second = absurd first
+  run_after_unique m once before content (s ∷ steps) [] others first second = absurd first
+  run_after_unique m once before content (s ∷ steps) (o ∷ outputs) [] first second = absurd second
+  run_after_unique m once before content (s ∷ steps) (o ∷ outputs) (o' ∷ others) (after, step, rest) (after', step', rest') =
+      let earlier : step.earlier ≡ step'.earlier =
+      settled_same m before content (once before content) step.earlier step'.earlier step.settled_earlier step'.settled_earlier in
+      let firsts : step.first_map ≡ step'.first_map =
+      settled_same m s content (once s content) step.first_map step'.first_map step.settled_first step'.settled_first in
+      let risen : m.rising step.earlier step.first_map content ≡ m.rising step'.earlier step'.first_map content =
+      ap₂ (λ ρ σ. m.rising ρ σ content) earlier firsts in
+      let maps : step.map_of ≡ step'.map_of =
+      settled_same m s (m.rising step'.earlier step'.first_map content) (once s (m.rising step'.earlier step'.first_map content)) step.map_of step'.map_of
+      (subst (λ c. m.settled s c step.map_of) risen step.settled) step'.settled in
+      let heads : o ≡ o' = step.read ∙ ap m.outputs maps ∙ sym step'.read in
+      let nexts : after ≡ after' = step.taken ∙ ap₂ m.next maps risen ∙ sym step'.taken in
+      let also : RunAfter m s after' steps outputs = subst (λ c. RunAfter m s c steps outputs) nexts rest in
+      ap₂ (λ x xs. x ∷ xs) heads (run_after_unique m once s after' steps outputs others also rest')
+
   pub run_outputs_unique : (m : Machine A) → AlwaysSettles m → (content : Word) (steps outputs others : List Word)
       → Run m content steps outputs → Run m content steps others → outputs ≡ others
-  run_outputs_unique m once content [] [] [] first second = refl
-  run_outputs_unique m once content [] [] (o ∷ others) first second = absurd second
-  run_outputs_unique m once content [] (o ∷ outputs) others first second = absurd first
-  run_outputs_unique m once content (s ∷ steps) [] others first second = absurd first
-  run_outputs_unique m once content (s ∷ steps) (o ∷ outputs) [] first second = absurd second
-  run_outputs_unique m once content (s ∷ steps) (o ∷ outputs) (o' ∷ others) (after, step, rest) (after', step', rest') =
-      let maps : step.map_of ≡ step'.map_of = settled_same m s content (once s content) step.map_of step'.map_of step.settled step'.settled in
-      let heads : o ≡ o' = step.read ∙ ap m.outputs maps ∙ sym step'.read in
-      let nexts : after ≡ after' = step.taken ∙ ap (λ ρ. m.next ρ content) maps ∙ sym step'.taken in
-      let also : Run m after' steps outputs = subst (λ c. Run m c steps outputs) nexts rest in
-      ap₂ (λ x xs. x ∷ xs) heads (run_outputs_unique m once after' steps outputs others also rest')
+  run_outputs_unique m once content steps outputs others = run_after_unique m once [] content steps outputs others
 
   -- and it has one
+  run_after_exists : (m : Machine A) → AlwaysSettles m → (before content : Word) (steps : List Word)
+      → (outputs : List Word) × RunAfter m before content steps outputs
+  run_after_exists m once before content [] = ([], tt)
+  run_after_exists m once before content (s ∷ steps) =
+      let earlier : A → Word = (once before content).0 in
+      let first_map : A → Word = (once s content).0 in
+      let risen : Word = m.rising earlier first_map content in
+      let map_of : A → Word = (once s risen).0 in
+      let rest : (outputs : List Word) × RunAfter m s (m.next map_of risen) steps outputs = run_after_exists m once s (m.next map_of risen) steps in (
+        m.outputs map_of ∷ rest.0,
+        (
+          m.next map_of risen,
+          record {
+            earlier = earlier;
+            first_map = first_map;
+            map_of = map_of;
+            settled_earlier = (once before content).1;
+            settled_first = (once s content).1;
+            settled = (once s risen).1;
+            read = refl;
+            taken = refl;
+          },
+          rest.1,
+        ),
+      )
+
   pub run_exists : (m : Machine A) → AlwaysSettles m → (content : Word) (steps : List Word) → (outputs : List Word) × Run m content steps outputs
-  run_exists m once content [] = ([], tt)
-  run_exists m once content (s ∷ steps) =
-      let map_of : A → Word = (once s content).0 in
-      let rest : (outputs : List Word) × Run m (m.next map_of content) steps outputs = run_exists m once (m.next map_of content) steps in
-      (m.outputs map_of ∷ rest.0, (m.next map_of content, record { map_of = map_of; settled = (once s content).1; read = refl; taken = refl }, rest.1))
+  run_exists m once content steps = run_after_exists m once [] content steps
 
 module _ {A B : Type 0} where
-  -- runs go over
+  -- steps go over
+  pub step_carried : (m : Machine A) (n : Machine B) (to : (A → Word) → B → Word) → Carries m n to
+      → (before inputs content outputs after : Word) → Step m before inputs content outputs after → Step n before inputs content outputs after
+  step_carried m n to carries before inputs content outputs after step =
+      let risen : m.rising step.earlier step.first_map content ≡ n.rising (to step.earlier) (to step.first_map) content =
+      sym (carries.rising before inputs content step.earlier step.first_map step.settled_earlier step.settled_first) in
+      record {
+        earlier = to step.earlier;
+        first_map = to step.first_map;
+        map_of = to step.map_of;
+        settled_earlier = carries.settled before content step.earlier step.settled_earlier;
+        settled_first = carries.settled inputs content step.first_map step.settled_first;
+        settled = subst (λ c. n.settled inputs c (to step.map_of)) risen
+            (carries.settled inputs (m.rising step.earlier step.first_map content) step.map_of step.settled);
+        read = step.read ∙ sym (carries.outputs inputs (m.rising step.earlier step.first_map content) step.map_of step.settled);
+        taken = step.taken ∙ sym (carries.next inputs (m.rising step.earlier step.first_map content) step.map_of step.settled)
+            ∙ ap (n.next (to step.map_of)) risen;
+      }
+
+  -- so do runs
+  run_after_carried : (m : Machine A) (n : Machine B) (to : (A → Word) → B → Word) → Carries m n to
+      → (before content : Word) (steps outputs : List Word) → RunAfter m before content steps outputs → RunAfter n before content steps outputs
+  run_after_carried m n to carries before content [] [] run = run
+  run_after_carried m n to carries before content [] (o ∷ outputs) run = run
+  run_after_carried m n to carries before content (s ∷ steps) [] run = run
+  run_after_carried m n to carries before content (s ∷ steps) (o ∷ outputs) (after, step, rest) =
+      (after, step_carried m n to carries before s content o after step, run_after_carried m n to carries s after steps outputs rest)
+
   pub run_carried : (m : Machine A) (n : Machine B) (to : (A → Word) → B → Word) → Carries m n to
       → (content : Word) (steps outputs : List Word) → Run m content steps outputs → Run n content steps outputs
-  run_carried m n to carries content [] [] run = run
-  run_carried m n to carries content [] (o ∷ outputs) run = run
-  run_carried m n to carries content (s ∷ steps) [] run = run
-  run_carried m n to carries content (s ∷ steps) (o ∷ outputs) (after, step, rest) = (
-    after,
-    record {
-      map_of = to step.map_of;
-      settled = carries.settled s content step.map_of step.settled;
-      read = step.read ∙ sym (carries.outputs s content step.map_of step.settled);
-      taken = step.taken ∙ sym (carries.next s content step.map_of step.settled);
-    },
-    run_carried m n to carries after steps outputs rest,
-  )
+  run_carried m n to carries content steps outputs = run_after_carried m n to carries [] content steps outputs
 
 module _ {A B : Type 0} where
   -- where a machine settles once, its runs are those of a machine whose settled maps it carries over, and back

@@ -214,6 +214,19 @@ register_parts _ _ _ = None
 abbrev pub register_in : Op → Option Register
 register_in o = bind (register_form o.kind) (λ (f : RegisterForm). register_parts f.has_enable f.reset o.operands)
 
+-- whether a kind is a register with an asynchronous reset (CIRCT, Seq dialect: `seq.firreg` with `reset async`): none is
+abbrev pub has_async_reset : Kind → Bool
+has_async_reset _ = false
+
+-- its reset and the value of that, from its operands: data, clock, reset, value
+abbrev pub async_parts : List Ref → Option ResetBy
+async_parts (d ∷ c ∷ r ∷ v ∷ []) = Some (record { signal = r; value = v })
+async_parts _ = None
+
+-- what resets the register that an operation is without its clock, and to what
+abbrev pub async_reset_in : Op → Option ResetBy
+async_reset_in o = cond (has_async_reset o.kind) (async_parts o.operands) None
+
 -- a register of the flattened module
 pub record Slot : Type 0 where
   pub path : Path

@@ -5,7 +5,7 @@ use Rattle.bits_core.specs.Word.{Word, first}
 use Rattle.hw_model.specs.Types.{Name}
 use Rattle.hw_model.specs.Design.{Ref, Module, Design, find_module, output_refs}
 use Rattle.hw_model.specs.Value.{op_value, concat_words, is_high}
-use Rattle.hw_model.specs.Flat.{Net, net, Source, source, Slot, Register, ResetBy, register_in, registers, held_width, state}
+use Rattle.hw_model.specs.Flat.{Net, net, Source, source, Slot, Register, ResetBy, register_in, async_reset_in, registers, held_width, state}
 use Rattle.hw_model.specs.Flat.Source.{nowhere, input, held, copy, made}
 use Rattle.hw_model.specs.Machine.{Machine}
 
@@ -69,12 +69,31 @@ abbrev pub next_value : Option Register → (Ref → Word) → Word → Word
 next_value None τ old = old
 next_value (Some r) τ old = cond (is_high (τ r.clock)) (reset r.reset τ (value_if_enabled r.enable τ old (τ r.next))) old
 
+-- the content slot by slot, `each` giving what a slot holds from what it held
+abbrev pub passed : (Slot → Word → Word) → List Slot → Word → Word
+passed each [] content = []
+passed each (s ∷ ss) content =
+    first (held_width s.op) (each s (first (held_width s.op) content)) ++ passed each ss (drop (held_width s.op) content)
+
+abbrev pub loaded : (Net → Word) → Slot → Word → Word
+loaded ρ s old = next_value (register_in s.op) (λ r. ρ (net s.path r)) old
+
 -- the content after a step: the registers in order, each taking its next value from the settled map
 abbrev pub next_content : List Slot → (Net → Word) → Word → Word
-next_content [] ρ content = []
-next_content (s ∷ ss) ρ content =
-    first (held_width s.op) (next_value (register_in s.op) (λ r. ρ (net s.path r)) (first (held_width s.op) content))
-    ++ next_content ss ρ (drop (held_width s.op) content)
+next_content ss ρ content = passed (loaded ρ) ss content
+
+-- what a register holds once its asynchronous reset has risen: the reset value where the reset was 0 before and is 1 now
+-- (IEEE 1364-2005, 9.7.2: a posedge is a change to 1)
+abbrev pub risen : Option ResetBy → (Ref → Word) → (Ref → Word) → Word → Word
+risen None τ υ old = old
+risen (Some r) τ υ old = cond (is_high (τ r.signal)) old (cond (is_high (υ r.signal)) (υ r.value) old)
+
+abbrev pub risen_in : (Net → Word) → (Net → Word) → Slot → Word → Word
+risen_in ρ σ s old = risen (async_reset_in s.op) (λ r. ρ (net s.path r)) (λ r. σ (net s.path r)) old
+
+-- the content after the first phase of a step, from the map of the step before and that of this step
+abbrev pub risen_content : List Slot → (Net → Word) → (Net → Word) → Word → Word
+risen_content ss ρ σ content = passed (risen_in ρ σ) ss content
 
 -- ---- the machine of a module
 
@@ -93,4 +112,5 @@ machine d top = record {
   settled = Settled d top;
   outputs = outputs d top;
   next = next_content (registers d top);
+  rising = risen_content (registers d top);
 }

@@ -6,7 +6,7 @@ use Rattle.std.specs.Cmp.Lexicographic.{bytes_decides}
 use Rattle.wiring.specs.Options.{bind}
 use Rattle.hw_model.specs.Types.{Name}
 use Rattle.hw_model.specs.Design.{same_name}
-use Rattle.hw_model.specs.Machine.{Run}
+use Rattle.hw_model.specs.Machine.{RunAfter, Run}
 use Rattle.verilog_model.specs.Checks.{contains_name}
 use Rattle.verilog_model.specs.Tree.{VPort, Connection, Item, VModule, Tree}
 use Rattle.verilog_model.specs.Tree.Expr.{name, literal}
@@ -15,7 +15,7 @@ use Rattle.verilog_model.specs.Tree.Item.{wire, reg, assign, always, instance}
 use Rattle.verilog_model.specs.Reserved.{reserved_words}
 use Rattle.verilog_model.specs.Hierarchy.{VNet, VPath, VInstance, vnet, Drive, drive, drive_at, find_instance, find_vmodule, vmodule_at, width_at, vregisters, vstate}
 use Rattle.verilog_model.specs.Hierarchy.Drive.{nothing}
-use Rattle.verilog_model.specs.Meaning.{TreeSettled, tree_machine, drive_value, tree_outputs, next_vcontent}
+use Rattle.verilog_model.specs.Meaning.{TreeSettled, tree_machine, drive_value, tree_outputs, next_vcontent, risen_vcontent}
 use Rattle.verilog_model.specs.Behaviour.{IsVerilog}
 
 abbrev high : Option Name
@@ -87,19 +87,37 @@ abbrev rounds : ℕ → Tree → Word → Word → VNet → Word
 rounds zero t inputs content v = []
 rounds (suc k) t inputs content v = drive_value t (codes "Two") inputs content (rounds k t inputs content) (width_at (vmodule_at t (codes "Two") v.path) v.name) (drive t (codes "Two") v)
 
--- the outputs of each step, where a map is given for inputs and content
-abbrev outputs_over : Tree → (Word → Word → VNet → Word) → Word → List Word → List Word
-outputs_over t ρ content [] = []
-outputs_over t ρ content (s ∷ steps) = tree_outputs t (codes "Two") (ρ s content) ∷ outputs_over t ρ (next_vcontent (vregisters t (codes "Two")) (ρ s content) content) steps
+-- the content after the first phase of a step, where a map is given for inputs and content
+abbrev risen_over : Tree → (Word → Word → VNet → Word) → Word → Word → Word → Word
+risen_over t ρ before s content = risen_vcontent (vregisters t (codes "Two")) (ρ before content) (ρ s content) content
+
+-- the content after the rest of the step
+abbrev next_over : Tree → (Word → Word → VNet → Word) → Word → Word → Word
+next_over t ρ s content = next_vcontent (vregisters t (codes "Two")) (ρ s content) content
+
+-- the outputs of each step after one with the inputs `before`
+abbrev outputs_over : Tree → (Word → Word → VNet → Word) → Word → Word → List Word → List Word
+outputs_over t ρ before content [] = []
+outputs_over t ρ before content (s ∷ steps) =
+    tree_outputs t (codes "Two") (ρ s (risen_over t ρ before s content)) ∷ outputs_over t ρ s (next_over t ρ s (risen_over t ρ before s content)) steps
 
 -- where those maps are settled they are a run
-runs_along : (t : Tree) (ρ : Word → Word → VNet → Word) → ((s content : Word) → TreeSettled t (codes "Two") s content (ρ s content)) → (content : Word) (steps : List Word) →
-    Run (tree_machine t (codes "Two")) content steps (outputs_over t ρ content steps)
-runs_along t ρ settled content [] = tt
-runs_along t ρ settled content (s ∷ steps) = (
-  next_vcontent (vregisters t (codes "Two")) (ρ s content) content,
-  record { map_of = ρ s content; settled = settled s content; read = refl; taken = refl },
-  runs_along t ρ settled (next_vcontent (vregisters t (codes "Two")) (ρ s content) content) steps,
+runs_along : (t : Tree) (ρ : Word → Word → VNet → Word) → ((s content : Word) → TreeSettled t (codes "Two") s content (ρ s content)) → (before content : Word) (steps : List Word) →
+    RunAfter (tree_machine t (codes "Two")) before content steps (outputs_over t ρ before content steps)
+runs_along t ρ settled before content [] = tt
+runs_along t ρ settled before content (s ∷ steps) = (
+  next_over t ρ s (risen_over t ρ before s content),
+  record {
+    earlier = ρ before content;
+    first_map = ρ s content;
+    map_of = ρ s (risen_over t ρ before s content);
+    settled_earlier = settled before content;
+    settled_first = settled s content;
+    settled = settled s (risen_over t ρ before s content);
+    read = refl;
+    taken = refl;
+  },
+  runs_along t ρ settled s (next_over t ρ s (risen_over t ρ before s content)) steps,
 )
 
 -- the clock's rise, the reset, the enable, and `d`
@@ -118,10 +136,10 @@ outputs = pair 5 6 ∷ pair 17 5 ∷ pair 17 5 ∷ pair 9 9 ∷ []
 sizes : (vstate flat (codes "Two") ≡ 16) × (vstate layered (codes "Two") ≡ 16)
 sizes = (refl, refl)
 
-flat_steps : outputs_over flat (rounds 2 flat) (pair 5 6) steps ≡ outputs
+flat_steps : outputs_over flat (rounds 2 flat) [] (pair 5 6) steps ≡ outputs
 flat_steps = refl
 
-layered_steps : outputs_over layered (rounds 4 layered) (pair 5 6) steps ≡ outputs
+layered_steps : outputs_over layered (rounds 4 layered) [] (pair 5 6) steps ≡ outputs
 layered_steps = refl
 
 -- ---- the maps are settled
@@ -179,7 +197,7 @@ flat_settled s content v = go v.path where
 
 -- the four steps are a run of the one module
 flat_runs : Run (tree_machine flat (codes "Two")) (pair 5 6) steps outputs
-flat_runs = runs_along flat (rounds 2 flat) flat_settled (pair 5 6) steps
+flat_runs = runs_along flat (rounds 2 flat) flat_settled [] (pair 5 6) steps
 
 -- ---- the same of the module of two instances
 
@@ -265,4 +283,4 @@ layered_settled s content v = go v.path where
 
 -- and of the two instances
 layered_runs : Run (tree_machine layered (codes "Two")) (pair 5 6) steps outputs
-layered_runs = runs_along layered (rounds 4 layered) layered_settled (pair 5 6) steps
+layered_runs = runs_along layered (rounds 4 layered) layered_settled [] (pair 5 6) steps

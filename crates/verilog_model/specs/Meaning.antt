@@ -1,6 +1,6 @@
 -- What a module of a tree does: its settled maps, its outputs, its steps (IEEE 1364-2005, 6.1: continuous assignments;
 -- 9.2.2: nonblocking assignments), read by cycles.
-use Rattle.std.specs.Prelude.{◌≡◌, ℕ, Bool, false, cond, List, [], ◌∷◌, ◌++◌, map, drop, filter}
+use Rattle.std.specs.Prelude.{◌≡◌, ℕ, Bool, false, cond, List, [], ◌∷◌, ◌++◌, map, drop, filter, Option, Some, None}
 use Rattle.bits_core.specs.Word.{Word, first}
 use Rattle.hw_model.specs.Types.{Name}
 use Rattle.hw_model.specs.Value.{concat_words, is_high}
@@ -50,11 +50,44 @@ slot_value ρ k old s = cond (is_high (low_bits 1 (ρ (vnet s.path s.clock)))) (
 abbrev pub slot_width : VSlot → ℕ
 slot_width s = width_in s.in_module (block_target s.block)
 
+-- the content slot by slot, `each` giving what a slot holds from what it held
+abbrev pub passed_vslots : (VSlot → Word → Word) → List VSlot → Word → Word
+passed_vslots each [] content = []
+passed_vslots each (s ∷ ss) content =
+    first (slot_width s) (each s (first (slot_width s) content)) ++ passed_vslots each ss (drop (slot_width s) content)
+
+abbrev pub slot_loaded : (VNet → Word) → VSlot → Word → Word
+slot_loaded ρ s old = slot_value ρ (slot_width s) old s
+
 -- the content after a step: all registers at once
 abbrev pub next_vcontent : List VSlot → (VNet → Word) → Word → Word
-next_vcontent [] ρ content = []
-next_vcontent (s ∷ ss) ρ content =
-    first (slot_width s) (slot_value ρ (slot_width s) (first (slot_width s) content) s) ++ next_vcontent ss ρ (drop (slot_width s) content)
+next_vcontent ss ρ content = passed_vslots (slot_loaded ρ) ss content
+
+-- ---- registers that a second event resets
+
+-- the net whose event runs a block beside its clock, and what the block then loads
+pub record SecondEvent : Type 0 where
+  pub signal : Name
+  pub reset_load : Load
+
+-- the second event of a block (9.7.2, 9.7.3: event `or`): the blocks of these trees have one event
+abbrev pub second_event : Block → Option SecondEvent
+second_event _ = None
+
+-- what a register of k bits holds once the second event of its block has come, if it has: the net's lowest bit was 0 in
+-- the step before and is 1 now
+abbrev pub event_value : Option SecondEvent → (VNet → Word) → (VNet → Word) → ℕ → Word → VSlot → Word
+event_value None ρ σ k old s = old
+event_value (Some e) ρ σ k old s =
+    cond (is_high (low_bits 1 (ρ (vnet s.path e.signal)))) old
+    (cond (is_high (low_bits 1 (σ (vnet s.path e.signal)))) (load_value s.in_module (names_at s.path σ) k e.reset_load) old)
+
+abbrev pub slot_risen : (VNet → Word) → (VNet → Word) → VSlot → Word → Word
+slot_risen ρ σ s old = event_value (second_event s.block) ρ σ (slot_width s) old s
+
+-- the content after the first phase of a step, from the map of the step before and that of this step
+abbrev pub risen_vcontent : List VSlot → (VNet → Word) → (VNet → Word) → Word → Word
+risen_vcontent ss ρ σ content = passed_vslots (slot_risen ρ σ) ss content
 
 -- ---- the machine of a module
 
@@ -72,4 +105,5 @@ tree_machine t top = record {
   settled = TreeSettled t top;
   outputs = tree_outputs t top;
   next = next_vcontent (vregisters t top);
+  rising = risen_vcontent (vregisters t top);
 }

@@ -1,0 +1,4 @@
+use Rattle.hw_interpreter.proofs.machine.step_of.Goals as goal
+
+pub returns-clause-outputs : goal.returns-clause-outputs
+returns-clause-outputs c = rw (← c.as_slice.ensures, ← c.as_slice-2.ensures) c.step.ensures.outputs
