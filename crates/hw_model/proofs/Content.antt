@@ -88,7 +88,7 @@ registers_width d (suc n) p s =
 
 -- ---- the content of joined lists
 
-drop_none : (n : ℕ) → drop {A = Bool} n [] ≡ []
+pub drop_none : (n : ℕ) → drop {A = Bool} n [] ≡ []
 drop_none zero = refl
 drop_none (suc n) = refl
 

@@ -35,7 +35,7 @@ called_In (y ∷ ys) o i (inl same) inst =
     In-append_left i.symbol (called_by (instance_in y.kind)) (callee_symbols ys) (simp kind (inl refl))
 called_In (y ∷ ys) o i (inr here) inst = In-append_right i.symbol (called_by (instance_in y.kind)) (callee_symbols ys) (called_In ys o i here inst)
 
-from_In-instances : (os : List Op) (o : Op) → In o (instances os) → In o os
+pub from_In-instances : (os : List Op) (o : Op) → In o (instances os) → In o os
 from_In-instances [] o here = absurd here
 from_In-instances (y ∷ ys) o here = go (is_instance y) here (from_In-instances ys o)
   where

@@ -18,4 +18,5 @@ pub mod Places
 pub mod Weights
 pub mod Content
 pub mod Gone
+pub mod Resets
 pub mod WrittenTypes

@@ -5,6 +5,7 @@ pub mod Value
 pub mod Flat
 pub mod Machine
 pub mod Meaning
+pub mod Resets
 pub mod Weight
 pub mod Sound
 pub mod Hierarchy

@@ -1,6 +1,7 @@
 //! The laws on what a design means, each a clause of a function that does nothing.
 
-ghost use Rattle.std.specs.Prelude.{◌≡◌, ◌⊎◌, ℕ, List, Option, Some, None, length, ◌≤◌};
+ghost use Rattle.std.specs.Prelude.{◌≡◌, ◌⊎◌, ℕ, Bool, List, [], Option, Some, None, length, ◌≤◌};
+ghost use Rattle.wiring.specs.Wiring.{In};
 ghost use Rattle.bits_core.specs.Word.{Word};
 ghost use Rattle.hw_model.specs.Types.{Name, HwType, width};
 ghost use Rattle.opcode.specs.declared.listed.Listed.{Listed};
@@ -8,9 +9,10 @@ ghost use Rattle.hw_model.specs.Kinds.{Kind};
 ghost use Rattle.hw_model.specs.Opcodes.{opcode_of, kind_named_by};
 ghost use Rattle.hw_model.specs.Design.{Ref, Module, Design, IsSameDesign, find_module, instance_in, register_form};
 ghost use Rattle.hw_model.specs.Value.{op_value};
-ghost use Rattle.hw_model.specs.Flat.{Path, Net, net, module_at, state};
+ghost use Rattle.hw_model.specs.Flat.{Path, Net, net, module_at, state, Slot, ResetBy, async_reset_in, registers};
 ghost use Rattle.hw_model.specs.Machine.{SettlesOnce, Run, Same, Carries};
 ghost use Rattle.hw_model.specs.Meaning.{Settled, HasNoCycle, HasHeights, machine};
+ghost use Rattle.hw_model.specs.Resets.{ResetsFromPorts, ComesFromInput, IsFixed, StepsAreReset};
 ghost use Rattle.hw_model.specs.Weight.{weight_of, weight};
 ghost use Rattle.hw_model.specs.Hierarchy.{HasNoRecursion};
 ghost use Rattle.hw_model.specs.Sound.{HaveWidths, type_in, Fits, Sound};
@@ -81,4 +83,18 @@ pub fn weights_follow_bodies()
 pub fn opcodes_tell_kinds()
     ensures found { (kind : Kind) → (kind_named_by (opcode_of kind) ≡ Some kind) ⊎ (kind_named_by (opcode_of kind) ≡ None) }
     ensures opcode { (listed : Listed) (kind : Kind) → kind_named_by listed ≡ Some kind → opcode_of kind ≡ listed }
+{}
+
+/// Does nothing. Its clauses speak of designs in which asynchronous resets come from input ports and reset to constants:
+/// the signal of each has the same bits of the top module's inputs under every settled map, its value is one word, and in
+/// each step of a run the first phase gives what the levels of the resets give, so that a register whose reset is 1 then
+/// holds its value.
+pub fn resets_follow_inputs()
+    ensures signals { (d : Design) (top : Name) (marked : Module → ℕ → Bool) → ResetsFromPorts d marked → (s : Slot) (r : ResetBy)
+        → In s (registers d top) → async_reset_in s.op ≡ Some r → ComesFromInput d top (net s.path r.signal) }
+    ensures values { (d : Design) (top : Name) (marked : Module → ℕ → Bool) → ResetsFromPorts d marked → (s : Slot) (r : ResetBy)
+        → In s (registers d top) → async_reset_in s.op ≡ Some r → IsFixed d top (net s.path r.value) }
+    ensures runs { (d : Design) (top : Name) (marked : Module → ℕ → Bool) → ResetsFromPorts d marked
+        → (content : Word) (steps outputs : List Word) (run : Run (machine d top) content steps outputs)
+        → StepsAreReset d top [] content steps outputs run }
 {}
