@@ -1,4 +1,4 @@
-//! Tests of words, files and sinks, command lines, names and schedules, by the public calls of their crates.
+//! Tests of words, files and sinks, command lines, pipelines, names and schedules, by the public calls of their crates.
 #![tactic(auto)]
 
 #[cfg(test)]
@@ -7,6 +7,8 @@ mod invocations;
 mod memory;
 #[cfg(test)]
 mod names;
+#[cfg(test)]
+mod pipelines;
 #[cfg(test)]
 mod real_files;
 #[cfg(test)]

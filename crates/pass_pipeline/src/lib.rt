@@ -1,0 +1,7 @@
+//! Pipelines of passes as text.
+#![tactic(auto)]
+
+pub mod pass;
+pub mod pipeline;
+mod step;
+mod symbol;
