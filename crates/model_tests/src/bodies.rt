@@ -102,7 +102,7 @@ fn drop_operand(body: &mut Body, op: OpId, at: u32) -> bool {
     may
 }
 
-fn changed(alloc: Global, body: &mut Body, change: Change) -> Result<bool, AllocError> {
+fn apply_change(alloc: Global, body: &mut Body, change: Change) -> Result<bool, AllocError> {
     match change {
         Put { before, operands } => {
             let values = values_of(alloc, operands)?;
@@ -159,7 +159,7 @@ fn is_used_at(body: &Body, value: Value, places: &[(u32, u32)]) -> bool {
 fn body_of(alloc: Global, run: &Run) -> Result<Option<Body>, AllocError> {
     let mut body = Body::new(alloc);
     for (change, may) in run.changes {
-        if changed(alloc, &mut body, *change)? != *may {
+        if apply_change(alloc, &mut body, *change)? != *may {
             return Ok(None);
         }
     }

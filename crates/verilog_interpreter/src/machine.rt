@@ -7,7 +7,7 @@ use crate::tree::{
     Always, Branch, Connection, Declared, Expression, Instance, Item, Module, Node, Role,
     find_module, place_of,
 };
-use crate::values::{Scope, assigned_value, extended, is_known, is_true, low_bits, value_under};
+use crate::values::{Scope, assigned_value, extend, is_known, is_true, low_bits, value_under};
 use bits_core::Bits;
 use std::alloc::Global;
 
@@ -331,7 +331,7 @@ fn net_value(scope: &Scope, width: u32) -> Result<Option<Bits>, Fault> {
         width: width.max(word.width()),
         is_signed: false,
     };
-    let wide = require_some(extended(word, shape))?;
+    let wide = require_some(extend(word, shape))?;
     Ok(low_bits(wide, width))
 }
 

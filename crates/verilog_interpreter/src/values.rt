@@ -28,7 +28,7 @@ impl<'n> Scope<'n> {
 }
 
 /// A word as one of this many bits, extended by its sign where it is read as signed; None where it has more.
-pub fn extended(word: Bits, shape: Shape) -> Option<Bits> {
+pub fn extend(word: Bits, shape: Shape) -> Option<Bits> {
     let width = word.width();
     if shape.width > 128 || shape.width < width {
         return None;
@@ -53,7 +53,7 @@ pub fn low_bits(word: Bits, width: u32) -> Option<Bits> {
 }
 
 // Bits of a word.
-fn selected(word: Bits, low: u32, width: u32) -> Option<Bits> {
+fn select(word: Bits, low: u32, width: u32) -> Option<Bits> {
     let end = low.checked_add(width)?;
     if width == 0 || end > word.width() {
         return None;
@@ -160,7 +160,7 @@ impl<'p> Parts<'p> {
             Context::NoOperand => {
                 let is_signed = self.is_signed(left)? && self.is_signed(right)?;
                 let holds = compare(operator, is_signed, a, b)?;
-                extended(Bits::from(holds), pushed)
+                extend(Bits::from(holds), pushed)
             }
         }
     }
@@ -169,7 +169,7 @@ impl<'p> Parts<'p> {
     fn own_value(&self, node: &Node, scope: &Scope) -> Option<Bits> {
         match *node {
             Node::Net { net, .. } => scope.value(net),
-            Node::Select { net, low, width } => selected(scope.value(net)?, low, width),
+            Node::Select { net, low, width } => select(scope.value(net)?, low, width),
             Node::Literal { word, .. } => Some(word),
             Node::Joined { before: None, part } => self.value(part),
             Node::Joined {
@@ -198,7 +198,7 @@ impl<'p> Parts<'p> {
                     self.value(no)
                 }
             }
-            _ => extended(self.own_value(node, scope)?, pushed),
+            _ => extend(self.own_value(node, scope)?, pushed),
         }
     }
 }

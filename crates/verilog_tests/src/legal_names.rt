@@ -166,7 +166,12 @@ fn suffixed_count(alloc: Global, words: &str) -> Result<u64, AllocError> {
 }
 
 // whether the last of so many equal wishes gets this name
-fn repeated(alloc: Global, count: u32, wanted: &[u8], name: &[u8]) -> Result<bool, AllocError> {
+fn last_of_many_gets(
+    alloc: Global,
+    count: u32,
+    wanted: &[u8],
+    name: &[u8],
+) -> Result<bool, AllocError> {
     let mut names = Names::new(alloc);
     let mut is_last = false;
     for _ in 0..count {
@@ -212,7 +217,7 @@ fn a_reserved_word_comes_after_its_suffixed_name(rt: HostRuntime) -> Result<(), 
 #[test]
 fn equal_wishes_take_linear_time(rt: HostRuntime) -> Result<(), Fail> {
     let alloc = rt.alloc();
-    assert!(rt; repeated(alloc, 200_000, b"a".as_slice(), b"a_199998".as_slice())?);
-    assert!(rt; repeated(alloc, 10_000, b"reg".as_slice(), b"reg_9999".as_slice())?);
+    assert!(rt; last_of_many_gets(alloc, 200_000, b"a".as_slice(), b"a_199998".as_slice())?);
+    assert!(rt; last_of_many_gets(alloc, 10_000, b"reg".as_slice(), b"reg_9999".as_slice())?);
     Ok(())
 }
