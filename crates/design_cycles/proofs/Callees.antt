@@ -13,7 +13,7 @@ use Rattle.hw_model.specs.Design.{Op, Module, Design, same_name, find_module, in
 use Rattle.hw_model.specs.Sound.{body_of}
 use Rattle.hw_model.specs.Hierarchy.{callee_symbols, called_by, calls, HasNoRecursion}
 use Rattle.ir_store.specs.Symbols.{symbol_place}
-use Rattle.ir_store.specs.Numbered.{numbered}
+use Rattle.ir_store.specs.Numbered.{ops_by_position}
 use Rattle.ir_store.specs.Designs.{StoredModule, numbered_module}
 use Rattle.design_cycles.specs.Asked.{HasDistinctSymbols}
 use Rattle.design_cycles.specs.Calls.{symbols_in, numbers_of, call_lists, callee_number, IsCalleeAt}
@@ -59,24 +59,24 @@ calls_without symbols os j nodes old number at is before now =
 
 -- the lists of modules that are kept
 abbrev pub stored_calls : List StoredModule → List StoredModule → List (List ℕ)
-stored_calls modules ms = map (λ (m : StoredModule). numbers_of (map (λ (x : StoredModule). x.symbol) modules) (callee_symbols (numbered m.ops))) ms
+stored_calls modules ms = map (λ (m : StoredModule). numbers_of (map (λ (x : StoredModule). x.symbol) modules) (callee_symbols (ops_by_position m.ops))) ms
 
 pub stored_more : (modules : List StoredModule) (k : ℕ) (m : StoredModule) (lists old : List (List ℕ)) (nodes : List ℕ) → Some m ≡ slice_get modules k
-    → old ≡ stored_calls modules (take k modules) → nodes ≡ numbers_of (map (λ (x : StoredModule). x.symbol) modules) (callee_symbols (numbered m.ops)) → lists ≡ old ++ nodes ∷ []
+    → old ≡ stored_calls modules (take k modules) → nodes ≡ numbers_of (map (λ (x : StoredModule). x.symbol) modules) (callee_symbols (ops_by_position m.ops)) → lists ≡ old ++ nodes ∷ []
     → lists ≡ stored_calls modules (take (k + 1) modules)
 stored_more modules k m lists old nodes at before are now =
     let next : k + 1 ≡ suc k = omega arith in
     now ∙ ap₂ (λ xs x. xs ++ x ∷ []) before are
     ∙ sym (ap (λ n. stored_calls modules (take n modules)) next ∙ ap (stored_calls modules) (take-suc_some modules k m (sym at)) ∙ map-push (take k modules) m)
   where
-    map-push : (xs : List StoredModule) (x : StoredModule) → stored_calls modules (xs ++ x ∷ []) ≡ stored_calls modules xs ++ numbers_of (map (λ (y : StoredModule). y.symbol) modules) (callee_symbols (numbered x.ops)) ∷ []
+    map-push : (xs : List StoredModule) (x : StoredModule) → stored_calls modules (xs ++ x ∷ []) ≡ stored_calls modules xs ++ numbers_of (map (λ (y : StoredModule). y.symbol) modules) (callee_symbols (ops_by_position x.ops)) ∷ []
     map-push [] x = refl
-    map-push (y ∷ xs) x = ap (λ zs. numbers_of (map (λ (z : StoredModule). z.symbol) modules) (callee_symbols (numbered y.ops)) ∷ zs) (map-push xs x)
+    map-push (y ∷ xs) x = ap (λ zs. numbers_of (map (λ (z : StoredModule). z.symbol) modules) (callee_symbols (ops_by_position y.ops)) ∷ zs) (map-push xs x)
 
 pub stored_all : (modules : List StoredModule) (k : ℕ) (lists : List (List ℕ)) → length modules ≤ k → lists ≡ stored_calls modules (take k modules) → lists ≡ call_lists (map numbered_module modules)
 stored_all modules k lists all are =
     are ∙ ap (stored_calls modules) (take_all k modules all)
-    ∙ ap (λ symbols. map (λ (m : StoredModule). numbers_of symbols (callee_symbols (numbered m.ops))) modules) (sym (map-map (λ (m : Module). m.symbol) numbered_module modules))
+    ∙ ap (λ symbols. map (λ (m : StoredModule). numbers_of symbols (callee_symbols (ops_by_position m.ops))) modules) (sym (map-map (λ (m : Module). m.symbol) numbered_module modules))
     ∙ sym (map-map (λ (m : Module). numbers_of (symbols_in (map numbered_module modules)) (callee_symbols m.body)) numbered_module modules)
 
 -- ---- numbers and symbols

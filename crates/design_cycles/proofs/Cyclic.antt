@@ -13,7 +13,7 @@ use Rattle.hw_model.specs.Hierarchy.{HasNoRecursion}
 use Rattle.hw_model.proofs.Paths.{result_in, result_here}
 use Rattle.ir_store.specs.declared.design.Module.{Module as CodeModule}
 use Rattle.ir_store.specs.Bodies.{ids_of, ops_of}
-use Rattle.ir_store.specs.Numbered.{numbered}
+use Rattle.ir_store.specs.Numbered.{ops_by_position}
 use Rattle.ir_store.specs.Designs.{StoredModule, module_of, numbered_module}
 use Rattle.design_cycles.specs.declared.graph.NodeList.{NodeList}
 use Rattle.design_cycles.specs.declared.layout.Layout.{Layout}
@@ -103,7 +103,7 @@ module _ (modules : List StoredModule) (distinct : HasDistinctSymbols (map numbe
   rows = rows_by (map (λ (x : StoredModule). x.symbol) modules) summaries
 
   abbrev os : List Op
-  os = numbered (ops_of m.body)
+  os = ops_by_position (ops_of m.body)
 
   module _ (layout : Layout) (is : IsLayout (length m.ports.ports.items) (sizes_in rows os) (ids_of m.body) layout) (graph slice : List NodeList)
       (are : lists_of graph ≡ body_lists (length m.ports.ports.items) rows os) (same : slice ≡ graph) where
@@ -147,15 +147,15 @@ cyclic_op d s j k (n, (c, need, chain)) = go (slice_get (body_of (find_module d 
 
 pub cyclic_within : (modules : List StoredModule) (i : ℕ) (m : StoredModule) → HasDistinctSymbols (map numbered_module modules) → Some m ≡ slice_get modules i
     → (j : ℕ)
-    → IsCyclicAt (map numbered_module modules) i j → j < length (numbered m.ops)
+    → IsCyclicAt (map numbered_module modules) i j → j < length (ops_by_position m.ops)
 cyclic_within modules i m distinct at j cyclic =
     let one : Some cyclic.module_there ≡ Some (numbered_module m) = sym cyclic.has_module ∙ stored_at modules i m at in
     let one_is : cyclic.module_there ≡ numbered_module m = cc in
     let has = cyclic_op (map numbered_module modules) cyclic.module_there.symbol j cyclic.number cyclic.depends in
     let found : find_module (map numbered_module modules) cyclic.module_there.symbol ≡ Some cyclic.module_there =
     (found_at (map numbered_module modules) distinct i cyclic.module_there cyclic.has_module).1 in
-    let there : slice_get (numbered m.ops) j ≡ Some has.0 = ap (λ (x : Module). slice_get x.body j) (sym one_is) ∙ ap (λ o. slice_get (body_of o) j) (sym found) ∙ has.1 in
-    slice_get_within (numbered m.ops) j has.0 there
+    let there : slice_get (ops_by_position m.ops) j ≡ Some has.0 = ap (λ (x : Module). slice_get x.body j) (sym one_is) ∙ ap (λ o. slice_get (body_of o) j) (sym found) ∙ has.1 in
+    slice_get_within (ops_by_position m.ops) j has.0 there
 
 -- a module with such an operation is one of the design
 pub cyclic_module : (modules : List StoredModule) (i j : ℕ) → IsCyclicAt (map numbered_module modules) i j → i < length modules

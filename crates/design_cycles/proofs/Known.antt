@@ -13,7 +13,7 @@ use Rattle.ir_store.specs.declared.design.Module.{Module as CodeModule}
 use Rattle.ir_store.specs.declared.operation.Value.{Value}
 use Rattle.ir_store.specs.Symbols.{symbol_place}
 use Rattle.ir_store.specs.Bodies.{ids_of, ops_of}
-use Rattle.ir_store.specs.Numbered.{position_of, ref_by, numbered}
+use Rattle.ir_store.specs.Numbered.{position_of, ref_by, ops_by_position}
 use Rattle.ir_store.specs.Designs.{StoredModule, module_of, numbered_module, port_of}
 use Rattle.design_cycles.specs.declared.layout.Layout.{Layout}
 use Rattle.design_cycles.specs.declared.layout.Summary.{Summary}
@@ -216,7 +216,7 @@ module _ (modules : List StoredModule) (distinct : HasDistinctSymbols (map numbe
     rows = rows_by symbols summaries
 
     abbrev os : List Op
-    os = numbered (ops_of m.body)
+    os = ops_by_position (ops_of m.body)
 
     pub found : find_module design m.symbol ≡ Some one
     found = (found_at design distinct i one (stored_at modules i (module_of m) at)).1

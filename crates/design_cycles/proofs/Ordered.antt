@@ -22,7 +22,7 @@ use Rattle.ir_store.specs.declared.operation.Value.TheVariants.{Port, Result, Un
 use Rattle.ir_store.specs.declared.body.Body.{Body}
 use Rattle.ir_store.specs.declared.body.Op.{Op as CodeOp}
 use Rattle.ir_store.specs.Bodies.{ids_of, ops_of, op_id}
-use Rattle.ir_store.specs.Numbered.{position_of, ref_by, numbered}
+use Rattle.ir_store.specs.Numbered.{position_of, ref_by, ops_by_position}
 use Rattle.ir_store.specs.Designs.{StoredModule, module_of, numbered_module}
 use Rattle.design_cycles.specs.declared.layout.Summary.{Summary}
 use Rattle.design_cycles.specs.Asked.{HasDistinctSymbols, IsCyclicAt}
@@ -84,8 +84,8 @@ operands_before ids all j vs are each r here =
         go false first b others never here rest = cc
 
 -- the operation that is read at a position
-pub behind_operands : (b : Body) (o : CodeOp) (all : List OpId) (j : ℕ) → all ≡ map op_id (ids_of b) → slice_get (numbered (ops_of b)) j ≡ Some (op_view b o)
-    → list_all (is_before all j) o.operands.now ≡ true → StandsAfter (numbered (ops_of b)) j
+pub behind_operands : (b : Body) (o : CodeOp) (all : List OpId) (j : ℕ) → all ≡ map op_id (ids_of b) → slice_get (ops_by_position (ops_of b)) j ≡ Some (op_view b o)
+    → list_all (is_before all j) o.operands.now ≡ true → StandsAfter (ops_by_position (ops_of b)) j
 behind_operands b o all j are at each x there plain r here =
     let same : Some x ≡ Some (op_view b o) = sym there ∙ at in
     let is : x ≡ op_view b o = cc in
@@ -100,12 +100,12 @@ not_register b o s other is = sym is ∙ go s other
     go Gives other = refl
     go Made other = refl
 
-pub behind_or_late : (b : Body) (o : CodeOp) (all : List OpId) (j : ℕ) (r : Bool) → all ≡ map op_id (ids_of b) → slice_get (numbered (ops_of b)) j ≡ Some (op_view b o)
-    → is_register (op_view b o) ≡ false → r ≡ list_all (is_before all j) o.operands.now → MatchBool r (StandsAfter (numbered (ops_of b)) j) (IsLate b all j)
+pub behind_or_late : (b : Body) (o : CodeOp) (all : List OpId) (j : ℕ) (r : Bool) → all ≡ map op_id (ids_of b) → slice_get (ops_by_position (ops_of b)) j ≡ Some (op_view b o)
+    → is_register (op_view b o) ≡ false → r ≡ list_all (is_before all j) o.operands.now → MatchBool r (StandsAfter (ops_by_position (ops_of b)) j) (IsLate b all j)
 behind_or_late b o all j true are at plain is = behind_operands b o all j are at (sym is)
 behind_or_late b o all j false are at plain is = record { op_there = o; has_op = at; plain = plain; late = sym is }
 
-pub register_behind : (b : Body) (o : CodeOp) (j : ℕ) → slice_get (numbered (ops_of b)) j ≡ Some (op_view b o) → is_register (op_view b o) ≡ true → StandsAfter (numbered (ops_of b)) j
+pub register_behind : (b : Body) (o : CodeOp) (j : ℕ) → slice_get (ops_by_position (ops_of b)) j ≡ Some (op_view b o) → is_register (op_view b o) ≡ true → StandsAfter (ops_by_position (ops_of b)) j
 register_behind b o j at is x there plain r here =
     let same : Some x ≡ Some (op_view b o) = sym there ∙ at in
     let one : x ≡ op_view b o = cc in
@@ -176,7 +176,7 @@ module _ (modules : List StoredModule) (distinct : HasDistinctSymbols (map numbe
   abbrev rows : Name → List (List ℕ)
   rows = rows_by (map (λ (x : StoredModule). x.symbol) modules) summaries
 
-  ordered_there : IsInOrder (numbered (ops_of m.body)) → IsInOrder (body_of (find_module design m.symbol))
+  ordered_there : IsInOrder (ops_by_position (ops_of m.body)) → IsInOrder (body_of (find_module design m.symbol))
   ordered_there ordered = subst (λ o. IsInOrder (body_of o)) (sym (found modules distinct i m at summaries inner)) ordered
 
   around : (j : ℕ) (cyclic : IsCyclicAt design i j) → DependsOn design m.symbol (net [] (result j cyclic.number)) (net [] (result j cyclic.number))
@@ -185,7 +185,7 @@ module _ (modules : List StoredModule) (distinct : HasDistinctSymbols (map numbe
       let one_is : cyclic.module_there ≡ numbered_module (module_of m) = cc in
       subst (λ (x : Module). DependsOn design x.symbol (net [] (result j cyclic.number)) (net [] (result j cyclic.number))) one_is cyclic.depends
 
-  pub ordered_acyclic : IsInOrder (numbered (ops_of m.body)) → (j : ℕ) → IsCyclicAt design i j → ⊥
+  pub ordered_acyclic : IsInOrder (ops_by_position (ops_of m.body)) → (j : ℕ) → IsCyclicAt design i j → ⊥
   ordered_acyclic ordered j cyclic =
       let os = body_of (find_module design m.symbol) in
       IsAcyclic-falling (wires (table_by rows) os) (height (table_by rows) os (ordered_there ordered)) (falls (table_by rows) os (ordered_there ordered)) (result j cyclic.number)

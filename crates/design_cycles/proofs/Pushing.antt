@@ -10,7 +10,7 @@ use Rattle.ir_store.specs.declared.operation.OpId.{OpId}
 use Rattle.ir_store.specs.BodyOps.{BodyOp}
 use Rattle.ir_store.specs.Bodies.{ids_of, ops_of, op_id}
 use Rattle.ir_store.specs.Live.{AreDistinct}
-use Rattle.ir_store.specs.Numbered.{position_of, op_by, numbered}
+use Rattle.ir_store.specs.Numbered.{position_of, op_by, ops_by_position}
 use Rattle.ir_store.specs.PositionTables.{ArePositions}
 use Rattle.ir_store.proofs.BodyLemmas.{ids_once}
 use Rattle.ir_store.proofs.PositionTables.{indices, ids_same}
@@ -33,7 +33,7 @@ module _ (b : Body) (ids : List OpId) (all : ids ≡ map op_id (ids_of b)) where
   pub ids_distinct : AreDistinct (indices ids)
   ids_distinct = subst AreDistinct (sym indices_are) (ids_once b)
 
-  pub ids_count : length ids ≡ length (numbered (ops_of b))
+  pub ids_count : length ids ≡ length (ops_by_position (ops_of b))
   ids_count =
       ap length all ∙ length-map (ids_of b) op_id ∙ length-map (ops_of b) (λ (o : BodyOp). o.id) ∙ sym (length-map (ops_of b) (op_by (position_of (ids_of b))))
 
@@ -46,16 +46,16 @@ module _ (b : Body) (ids : List OpId) (all : ids ≡ map op_id (ids_of b)) where
     positions = subst (λ xs. ArePositions xs layout.positions.items) indices_are positions;
   }
 
-pub sizes_count : (b : Body) (rows : Name → List (List ℕ)) → length (sizes_in rows (numbered (ops_of b))) ≡ length (ids_of b)
+pub sizes_count : (b : Body) (rows : Name → List (List ℕ)) → length (sizes_in rows (ops_by_position (ops_of b))) ≡ length (ids_of b)
 sizes_count b rows =
-    length-map (numbered (ops_of b)) (size_in rows) ∙ length-map (ops_of b) (op_by (position_of (ids_of b))) ∙ sym (length-map (ops_of b) (λ (o : BodyOp). o.id))
+    length-map (ops_by_position (ops_of b)) (size_in rows) ∙ length-map (ops_of b) (op_by (position_of (ids_of b))) ∙ sym (length-map (ops_of b) (λ (o : BodyOp). o.id))
 
 -- ---- what one operation's results need
 
-module _ (b : Body) (o : CodeOp) (ports : ℕ) (rows : Name → List (List ℕ)) (j : ℕ) (l : Layout) (is : IsLayout ports (sizes_in rows (numbered (ops_of b))) (ids_of b) l)
-    (there : slice_get (numbered (ops_of b)) j ≡ Some (op_view b o)) where
+module _ (b : Body) (o : CodeOp) (ports : ℕ) (rows : Name → List (List ℕ)) (j : ℕ) (l : Layout) (is : IsLayout ports (sizes_in rows (ops_by_position (ops_of b))) (ids_of b) l)
+    (there : slice_get (ops_by_position (ops_of b)) j ≡ Some (op_view b o)) where
   abbrev os : List Op
-  os = numbered (ops_of b)
+  os = ops_by_position (ops_of b)
 
   pub made_need : (n : ℕ) → n ≡ length (op_view b o).results → false ≡ is_register (op_view b o) → None ≡ instance_in (op_view b o).kind
       → false ≡ is_output_op (op_view b o)
@@ -107,10 +107,10 @@ module _ (os : List Op) (p : ℕ) (before : output_refs (drop p os) ≡ output_r
 -- ---- spans
 
 pub spans_below : (b : Body) (rows : Name → List (List ℕ)) (ports : ℕ) (layout : Layout)
-    → IsLayout ports (sizes_in rows (numbered (ops_of b))) (ids_of b) layout → (ids : List OpId)
+    → IsLayout ports (sizes_in rows (ops_by_position (ops_of b))) (ids_of b) layout → (ids : List OpId)
     → ids ≡ map op_id (ids_of b) → (j : ℕ) → j < length ids → j < length layout.spans.items
 spans_below b rows ports layout is ids all j below =
-    let spans : length layout.spans.items ≡ length (sizes_in rows (numbered (ops_of b))) = span_count ports (sizes_in rows (numbered (ops_of b))) layout.spans.items is.spans in
-    let sizes : length (sizes_in rows (numbered (ops_of b))) ≡ length (ids_of b) = sizes_count b rows in
+    let spans : length layout.spans.items ≡ length (sizes_in rows (ops_by_position (ops_of b))) = span_count ports (sizes_in rows (ops_by_position (ops_of b))) layout.spans.items is.spans in
+    let sizes : length (sizes_in rows (ops_by_position (ops_of b))) ≡ length (ids_of b) = sizes_count b rows in
     let count : length ids ≡ length (ids_of b) = ap length all ∙ length-map (ids_of b) op_id in
     omega arith

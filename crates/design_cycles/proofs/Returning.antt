@@ -16,7 +16,7 @@ use Rattle.ir_store.specs.Symbols.{symbol_place}
 use Rattle.ir_store.specs.declared.operation.OpId.{OpId}
 use Rattle.ir_store.specs.BodyOps.{ids_in}
 use Rattle.ir_store.specs.Bodies.{op_id}
-use Rattle.ir_store.specs.Numbered.{numbered}
+use Rattle.ir_store.specs.Numbered.{ops_by_position}
 use Rattle.ir_store.specs.Designs.{StoredModule, numbered_module}
 use Rattle.design_cycles.specs.Places.{IsFirstOp, IsFirst, ids_at, ids_of_module}
 use Rattle.design_cycles.specs.Asked.{HasDistinctSymbols, Returns, IsRecursiveAt}
@@ -174,12 +174,12 @@ pub symbols_stored : (modules : List StoredModule) → map (λ (x : StoredModule
 symbols_stored modules = sym (map-map (λ (x : Module). x.symbol) numbered_module modules)
 
 module _ (modules : List StoredModule) (distinct : HasDistinctSymbols (map numbered_module modules)) (i : ℕ) (m : StoredModule) (at : Some m ≡ slice_get modules i) (j : ℕ) (n : Option ℕ)
-    (callee : IsCalleeAt (map (λ (x : StoredModule). x.symbol) modules) (numbered m.ops) j n) where
+    (callee : IsCalleeAt (map (λ (x : StoredModule). x.symbol) modules) (ops_by_position m.ops) j n) where
   abbrev design : Design
   design = map numbered_module modules
 
-  callee_here : IsCalleeAt (symbols_in design) (numbered m.ops) j n
-  callee_here = subst (λ symbols. IsCalleeAt symbols (numbered m.ops) j n) (symbols_stored modules) callee
+  callee_here : IsCalleeAt (symbols_in design) (ops_by_position m.ops) j n
+  callee_here = subst (λ symbols. IsCalleeAt symbols (ops_by_position m.ops) j n) (symbols_stored modules) callee
 
   pub position_returns : LeadsTo (call_lists design) n i → IsRecursiveAt design i j
   position_returns leads = leads_recursive design distinct i j (numbered_module m) n (stored_at modules i m at) callee_here leads
@@ -211,8 +211,8 @@ pub recursive_within : (modules : List StoredModule) (i : ℕ) (m : StoredModule
 recursive_within modules i m at j r =
     let same : Some r.module_there ≡ Some (numbered_module m) = sym r.has_module ∙ stored_at modules i m at in
     let is : r.module_there ≡ numbered_module m = cc in
-    let bound : j < length (numbered m.ops) = slice_get_within (numbered m.ops) j r.op_there (ap (λ (x : Module). slice_get x.body j) (sym is) ∙ r.has_op) in
-    let first : length (numbered m.ops) ≡ length m.ops = length-map m.ops _ in
+    let bound : j < length (ops_by_position m.ops) = slice_get_within (ops_by_position m.ops) j r.op_there (ap (λ (x : Module). slice_get x.body j) (sym is) ∙ r.has_op) in
+    let first : length (ops_by_position m.ops) ≡ length m.ops = length-map m.ops _ in
     let second : length (ids_in m.ops) ≡ length m.ops = length-map m.ops _ in
     omega arith
 

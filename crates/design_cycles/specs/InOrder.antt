@@ -10,7 +10,7 @@ use Rattle.ir_store.specs.declared.operation.OpId.{OpId}
 use Rattle.ir_store.specs.declared.operation.Value.{Value}
 use Rattle.ir_store.specs.declared.operation.Value.TheVariants.{Port, Result, Undefined}
 use Rattle.ir_store.specs.Bodies.{ops_of}
-use Rattle.ir_store.specs.Numbered.{numbered}
+use Rattle.ir_store.specs.Numbered.{ops_by_position}
 use Rattle.design_cycles.specs.Reading.{op_view}
 
 -- a value that is no result of an operation from a position on
@@ -47,6 +47,6 @@ is_before ids j Undefined = true
 -- the operation at a position is no register, and one of its operands is not told to stand before it
 pub record IsLate (b : Body) (ids : List OpId) (j : ℕ) : Type 0 where
   pub op_there : CodeOp
-  pub has_op : slice_get (numbered (ops_of b)) j ≡ Some (op_view b op_there)
+  pub has_op : slice_get (ops_by_position (ops_of b)) j ≡ Some (op_view b op_there)
   pub plain : is_register (op_view b op_there) ≡ false
   pub late : list_all (is_before ids j) op_there.operands.now ≡ false

@@ -2,7 +2,7 @@
 ghost use Rattle.std.specs.Prelude.{◌≡◌, ◌<◌, length, map, IfOk};
 ghost use Rattle.hw_model.specs.Hierarchy.{callee_symbols};
 ghost use Rattle.ir_store.specs.Bodies.{ids_of, ops_of, op_id};
-ghost use Rattle.ir_store.specs.Numbered.{numbered};
+ghost use Rattle.ir_store.specs.Numbered.{ops_by_position};
 ghost use Rattle.ir_store.specs.Designs.{design_of, modules_of};
 ghost use Rattle.design_cycles.specs.Graphs.{lists_of, AreCalled};
 ghost use Rattle.design_cycles.specs.Calls.{numbers_of, call_lists, IsCalleeAt};
@@ -45,7 +45,7 @@ fn calls_of(
     body: &Body,
     room: &mut Vec<OpId>,
 ) -> Result<NodeList, AllocError>
-    ensures { IfOk result (λ list. list.nodes.items ≡ numbers_of (map (λ m. m.symbol) (modules_of design.now)) (callee_symbols (numbered (ops_of body.now)))) }
+    ensures { IfOk result (λ list. list.nodes.items ≡ numbers_of (map (λ m. m.symbol) (modules_of design.now)) (callee_symbols (ops_by_position (ops_of body.now)))) }
 {
     read_ids(room, body)?;
     let ids = room.as_slice();
@@ -62,7 +62,7 @@ fn calls_of(
 pub(crate) fn callee_of(design: &Design, body: &Body, ids: &[OpId], position: usize) -> Option<u32>
     requires all { ids.now ≡ map op_id (ids_of body.now) }
     requires within { position < length ids.now }
-    ensures { IsCalleeAt (map (λ m. m.symbol) (modules_of design.now)) (numbered (ops_of body.now)) position result }
+    ensures { IsCalleeAt (map (λ m. m.symbol) (modules_of design.now)) (ops_by_position (ops_of body.now)) position result }
 {
     match sort_of(op_at(body, ids, position).kind) {
         Sort::Calls(instance) => design.find(instance.symbol.as_bytes()),

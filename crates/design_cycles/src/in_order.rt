@@ -2,7 +2,7 @@
 ghost use Rattle.std.specs.Prelude.{◌≡◌, ◌<◌, ℕ, length, map, MatchBool};
 ghost use Rattle.std.specs.List.{list_all};
 ghost use Rattle.ir_store.specs.Bodies.{ids_of, ops_of, op_id};
-ghost use Rattle.ir_store.specs.Numbered.{numbered};
+ghost use Rattle.ir_store.specs.Numbered.{ops_by_position};
 ghost use Rattle.design_cycles.specs.InOrder.{is_at_its_number, is_before, StandsAfter, IsInOrder, IsLate};
 
 use crate::ops::{Sort, op_at, sort_of};
@@ -14,7 +14,7 @@ use ir_store::operation::{OpId, Value};
 /// in text order it may.
 pub(crate) fn are_in_order(body: &Body, ids: &[OpId]) -> bool
     requires { ids.now ≡ map op_id (ids_of body.now) }
-    ensures { MatchBool result (IsInOrder (numbered (ops_of body.now))) ((j : ℕ) × IsLate body.now ids.now j) }
+    ensures { MatchBool result (IsInOrder (ops_by_position (ops_of body.now))) ((j : ℕ) × IsLate body.now ids.now j) }
 {
     for position in 0..ids.len() {
         if !stands_after(body, ids, position) {
@@ -28,7 +28,7 @@ pub(crate) fn are_in_order(body: &Body, ids: &[OpId]) -> bool
 fn stands_after(body: &Body, ids: &[OpId], position: usize) -> bool
     requires all { ids.now ≡ map op_id (ids_of body.now) }
     requires within { position < length ids.now }
-    ensures { MatchBool result (StandsAfter (numbered (ops_of body.now)) position) (IsLate body.now ids.now position) }
+    ensures { MatchBool result (StandsAfter (ops_by_position (ops_of body.now)) position) (IsLate body.now ids.now position) }
 {
     let op = op_at(body, ids, position);
     if let Sort::Register = sort_of(op.kind) {

@@ -3,7 +3,7 @@ ghost use Rattle.std.specs.Prelude.{◌≡◌, ◌<◌, length, map, OnOk, is_so
 ghost use Rattle.hw_model.specs.Design.{instance_in, register_form, is_output_kind};
 ghost use Rattle.hw_model.specs.KindViews.{kind_of};
 ghost use Rattle.ir_store.specs.Bodies.{ids_of, ops_of, op_id};
-ghost use Rattle.ir_store.specs.Numbered.{numbered};
+ghost use Rattle.ir_store.specs.Numbered.{ops_by_position};
 ghost use Rattle.design_cycles.specs.Sorts.{holds, called_in, gives};
 ghost use Rattle.design_cycles.specs.Reading.{op_view};
 
@@ -54,7 +54,7 @@ pub(crate) fn read_ids(ids: &mut Vec<OpId>, body: &Body) -> Result<(), AllocErro
 pub fn op_at<'b>(body: &'b Body, ids: &[OpId], position: usize) -> Op<'b>
     requires all { ids.now ≡ map op_id (ids_of body.now) }
     requires within { position < length ids.now }
-    ensures { slice_get (numbered (ops_of body.now)) position ≡ Some (op_view body.now result) }
+    ensures { slice_get (ops_by_position (ops_of body.now)) position ≡ Some (op_view body.now result) }
 {
     body.op(ids[position])
 }

@@ -4,7 +4,7 @@ ghost use Rattle.hw_model.specs.Design.{Port};
 ghost use Rattle.hw_model.specs.Hierarchy.{HasNoRecursion};
 ghost use Rattle.hw_model.specs.Weight.{leaf_count, body_weight as weight_of_body, weight_of};
 ghost use Rattle.ir_store.specs.Bodies.{ids_of, ops_of, op_id};
-ghost use Rattle.ir_store.specs.Numbered.{numbered};
+ghost use Rattle.ir_store.specs.Numbered.{ops_by_position};
 ghost use Rattle.ir_store.specs.Designs.{ports_in, design_of, modules_of};
 ghost use Rattle.design_cycles.specs.Asked.{HasDistinctSymbols, IsTooLargeAt};
 ghost use Rattle.design_cycles.specs.Calls.{call_lists};
@@ -101,7 +101,7 @@ fn body_weight(
     weights: &[u64],
     room: &mut Vec<OpId>,
 ) -> Result<u64, AllocError>
-    ensures { IfOk result (λ w. w ≡ min (weight_of_body (weight_by (map (λ m. m.symbol) (modules_of design.now)) weights.now) (numbered (ops_of body.now))) u64.MAX) }
+    ensures { IfOk result (λ w. w ≡ min (weight_of_body (weight_by (map (λ m. m.symbol) (modules_of design.now)) weights.now) (ops_by_position (ops_of body.now))) u64.MAX) }
 {
     read_ids(room, body)?;
     let ids = room.as_slice();
@@ -116,7 +116,7 @@ fn body_weight(
 fn weight_at(design: &Design, body: &Body, ids: &[OpId], position: usize, weights: &[u64]) -> u64
     requires all { ids.now ≡ map op_id (ids_of body.now) }
     requires within { position < length ids.now }
-    ensures { WeighsAt (weight_by (map (λ m. m.symbol) (modules_of design.now)) weights.now) (numbered (ops_of body.now)) position u64.MAX result }
+    ensures { WeighsAt (weight_by (map (λ m. m.symbol) (modules_of design.now)) weights.now) (ops_by_position (ops_of body.now)) position u64.MAX result }
 {
     let op = op_at(body, ids, position);
     let inner = inner_weight(weights, callee_of(design, body, ids, position));

@@ -3,7 +3,7 @@ ghost use Rattle.std.specs.Prelude.{◌≡◌, ◌<◌, ◌^◌, ℕ, length, ma
 ghost use Rattle.hw_model.specs.Types.{Name};
 ghost use Rattle.hw_model.specs.Design.{output_refs};
 ghost use Rattle.ir_store.specs.Bodies.{ids_of, ops_of, op_id};
-ghost use Rattle.ir_store.specs.Numbered.{numbered, position_of, ref_by};
+ghost use Rattle.ir_store.specs.Numbered.{ops_by_position, position_of, ref_by};
 ghost use Rattle.ir_store.specs.Designs.{port_of, design_of, modules_of};
 ghost use Rattle.design_cycles.specs.Asked.{HasDistinctSymbols};
 ghost use Rattle.design_cycles.specs.Calls.{call_lists};
@@ -126,7 +126,7 @@ fn are_few(values: usize, inputs: usize) -> bool {
 /// The values that a module gives to its outputs: the operands of its first `hw.output`.
 fn outputs_of<'b>(body: &'b Body, ids: &[OpId]) -> &'b [Value]
     requires { ids.now ≡ map op_id (ids_of body.now) }
-    ensures { map (ref_by (position_of (ids_of body.now))) result.now ≡ output_refs (numbered (ops_of body.now)) }
+    ensures { map (ref_by (position_of (ids_of body.now))) result.now ≡ output_refs (ops_by_position (ops_of body.now)) }
 {
     for position in 0..ids.len() {
         let op = op_at(body, ids, position);

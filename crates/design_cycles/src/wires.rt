@@ -5,7 +5,7 @@ ghost use Rattle.std.specs.Option.{option_map};
 ghost use Rattle.wiring.specs.Options.{bind};
 ghost use Rattle.ir_store.specs.Bodies.{ids_of, ops_of, op_id};
 ghost use Rattle.ir_store.specs.Designs.{modules_of};
-ghost use Rattle.ir_store.specs.Numbered.{numbered};
+ghost use Rattle.ir_store.specs.Numbered.{ops_by_position};
 ghost use Rattle.std.specs.Prelude.{slice_get};
 ghost use Rattle.design_cycles.specs.Graphs.{lists_of};
 ghost use Rattle.design_cycles.specs.Nodes.{rows_at as rows_kept, rows_by, HasSize, sizes_in, AreSpans, IsLayout, span_node, value_node, value_nodes, picked_values, times_over, body_lists, lists_at};
@@ -61,7 +61,7 @@ fn node_in(span: Option<&Span>, number: u32) -> Option<u32>
 /// How many results of the operation at a position need others.
 fn size_at(scope: &Scope<'_>, position: usize) -> usize
     requires { position < length scope.now.ids.now }
-    ensures { HasSize (rows_by (map (λ m. m.symbol) (modules_of scope.now.design.now)) scope.now.summaries.now) (numbered (ops_of scope.now.body.now)) position result }
+    ensures { HasSize (rows_by (map (λ m. m.symbol) (modules_of scope.now.design.now)) scope.now.summaries.now) (ops_by_position (ops_of scope.now.body.now)) position result }
 {
     let op = op_at(scope.body, scope.ids, position);
     match sort_of(op.kind) {
@@ -92,7 +92,7 @@ fn rows_at(summaries: &[Summary], number: Option<u32>) -> &[NodeList]
 
 /// The nodes of each operation's results, in order, after those of the ports.
 fn spans_of(alloc: Global, scope: &Scope<'_>, ports: u32) -> Result<Vec<Span>, AllocError>
-    ensures { IfOk result (λ spans. AreSpans ports (sizes_in (rows_by (map (λ m. m.symbol) (modules_of scope.now.design.now)) scope.now.summaries.now) (numbered (ops_of scope.now.body.now))) spans.items) }
+    ensures { IfOk result (λ spans. AreSpans ports (sizes_in (rows_by (map (λ m. m.symbol) (modules_of scope.now.design.now)) scope.now.summaries.now) (ops_by_position (ops_of scope.now.body.now))) spans.items) }
 {
     let mut spans = Vec::with_capacity(alloc, scope.ids.len())?;
     let mut start = ports;
@@ -116,7 +116,7 @@ pub(crate) fn layout_of(
     scope: &Scope<'_>,
     ports: usize,
 ) -> Result<Layout, AllocError>
-    ensures layout { IfOk result (IsLayout ports (sizes_in (rows_by (map (λ m. m.symbol) (modules_of scope.now.design.now)) scope.now.summaries.now) (numbered (ops_of scope.now.body.now))) (ids_of scope.now.body.now)) }
+    ensures layout { IfOk result (IsLayout ports (sizes_in (rows_by (map (λ m. m.symbol) (modules_of scope.now.design.now)) scope.now.summaries.now) (ops_by_position (ops_of scope.now.body.now))) (ids_of scope.now.body.now)) }
     ensures small { OnOk result (ports < 2 ^ 32) }
 {
     let Ok(ports) = u32::try_from(ports) else {
@@ -138,8 +138,8 @@ pub(crate) fn graph_of(
     ports: usize,
     layout: &Layout,
 ) -> Result<Vec<NodeList>, AllocError>
-    requires { IsLayout ports (sizes_in (rows_by (map (λ m. m.symbol) (modules_of scope.now.design.now)) scope.now.summaries.now) (numbered (ops_of scope.now.body.now))) (ids_of scope.now.body.now) layout.now }
-    ensures { IfOk result (λ graph. lists_of graph.items ≡ body_lists ports (rows_by (map (λ m. m.symbol) (modules_of scope.now.design.now)) scope.now.summaries.now) (numbered (ops_of scope.now.body.now))) }
+    requires { IsLayout ports (sizes_in (rows_by (map (λ m. m.symbol) (modules_of scope.now.design.now)) scope.now.summaries.now) (ops_by_position (ops_of scope.now.body.now))) (ids_of scope.now.body.now) layout.now }
+    ensures { IfOk result (λ graph. lists_of graph.items ≡ body_lists ports (rows_by (map (λ m. m.symbol) (modules_of scope.now.design.now)) scope.now.summaries.now) (ops_by_position (ops_of scope.now.body.now))) }
 {
     let mut graph = empty_lists(alloc, ports)?;
     for position in 0..scope.ids.len() {
@@ -157,8 +157,8 @@ fn push_op(
     graph: &mut Vec<NodeList>,
 ) -> Result<(), AllocError>
     requires within { position < length scope.now.ids.now }
-    requires layout { IsLayout layout.now.ports (sizes_in (rows_by (map (λ m. m.symbol) (modules_of scope.now.design.now)) scope.now.summaries.now) (numbered (ops_of scope.now.body.now))) (ids_of scope.now.body.now) layout.now }
-    ensures { IfOk result (λ _. lists_of graph.new.items ≡ lists_of graph.old.items ++ lists_at layout.now.ports (rows_by (map (λ m. m.symbol) (modules_of scope.now.design.now)) scope.now.summaries.now) (numbered (ops_of scope.now.body.now)) position) }
+    requires layout { IsLayout layout.now.ports (sizes_in (rows_by (map (λ m. m.symbol) (modules_of scope.now.design.now)) scope.now.summaries.now) (ops_by_position (ops_of scope.now.body.now))) (ids_of scope.now.body.now) layout.now }
+    ensures { IfOk result (λ _. lists_of graph.new.items ≡ lists_of graph.old.items ++ lists_at layout.now.ports (rows_by (map (λ m. m.symbol) (modules_of scope.now.design.now)) scope.now.summaries.now) (ops_by_position (ops_of scope.now.body.now)) position) }
 {
     let op = op_at(scope.body, scope.ids, position);
     match sort_of(op.kind) {

@@ -7,7 +7,7 @@ ghost use Rattle.hw_model.specs.FamilyViews.{family_of};
 ghost use Rattle.hw_model.specs.Design.{Port as HwPort, OpResult};
 ghost use Rattle.ir_store.specs.Bodies.{ops_of};
 ghost use Rattle.ir_store.specs.Designs.{design_of, module_of, numbered_module, port_of};
-ghost use Rattle.ir_store.specs.Numbered.{numbered};
+ghost use Rattle.ir_store.specs.Numbered.{ops_by_position};
 ghost use Rattle.ir_store.specs.OperationViews.{types_in, result_of};
 ghost use Rattle.design_cycles.specs.Reading.{op_view};
 ghost use Rattle.verilog_expr.specs.Values.{is_aggregate_kind};
@@ -54,7 +54,7 @@ fn module_aggregate(alloc: Global, one: &Module) -> Result<Option<Refusal>, Allo
 
 /// That of an operation of a body.
 fn body_aggregate(alloc: Global, body: &Body) -> Result<Option<Refusal>, AllocError>
-    ensures { IfOk result (λ found. found ≡ body_aggregate (numbered (ops_of body.now))) }
+    ensures { IfOk result (λ found. found ≡ body_aggregate (ops_by_position (ops_of body.now))) }
 {
     let ids = ids_in(alloc, body)?;
     for place in 0..ids.len() {

@@ -5,7 +5,7 @@ ghost use Rattle.hw_model.specs.Design.{instance_in};
 ghost use Rattle.hw_model.specs.KindViews.{kind_of};
 ghost use Rattle.hw_model.specs.Hierarchy.{callee_symbols};
 ghost use Rattle.ir_store.specs.Bodies.{ops_of};
-ghost use Rattle.ir_store.specs.Numbered.{numbered};
+ghost use Rattle.ir_store.specs.Numbered.{ops_by_position};
 ghost use Rattle.ir_store.specs.Designs.{design_of, modules_of};
 ghost use Rattle.design_cycles.specs.Calls.{call_lists, callee_number, numbers_of};
 ghost use Rattle.design_cycles.specs.Graphs.{has_mark, AreCalled};
@@ -45,7 +45,7 @@ fn mark_body(
     body: &Body,
     marks: &mut Vec<bool>,
 ) -> Result<(), AllocError>
-    ensures { OnOk result (marks.new.items ≡ with_marks (numbers_of (map (λ m. m.symbol) (modules_of design.now)) (callee_symbols (numbered (ops_of body.now)))) marks.old.items) }
+    ensures { OnOk result (marks.new.items ≡ with_marks (numbers_of (map (λ m. m.symbol) (modules_of design.now)) (callee_symbols (ops_by_position (ops_of body.now)))) marks.old.items) }
 {
     let ids = ids_in(alloc, body)?;
     for place in 0..ids.len() {

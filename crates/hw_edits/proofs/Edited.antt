@@ -13,8 +13,8 @@ use Rattle.hw_model.specs.Design.{Ref, Port, Op, Module, Design, RegisterForm, f
 use Rattle.hw_model.specs.Design.Ref.{port, result, undefined}
 use Rattle.hw_model.specs.Value.{concat_words}
 use Rattle.hw_model.specs.Flat.{Path, Net, net, Source, Slot, instances, before_instance, module_at, body_state, module_state, state, base, port_ref, operand_for, input_count, input_width, input_of, port_source, copy_of, joined_ref, joined_at, given_ref, held_of, made_of, source, register_in, register_parts, has_async_reset, async_parts, async_reset_in, held_width, body_registers, module_registers, registers}
-use Rattle.hw_model.specs.Flat.Source.{nowhere, input, held, copy, made}
-use Rattle.hw_model.specs.Meaning.{needs_of, value_of, next_value, passed, loaded, next_content, risen, risen_in, risen_content, outputs}
+use Rattle.hw_model.specs.Flat.Source.{nowhere, input, held, copy, op_result}
+use Rattle.hw_model.specs.Meaning.{needs_of, value_of, next_value, map_slots, next_in, next_content, rise_value, rise_in, risen_content, outputs}
 use Rattle.hw_model.specs.Sound.{body_of, ports_of}
 use Rattle.hw_model.proofs.Sorts.{Sort, sort_of, instance_found}
 use Rattle.hw_model.proofs.Sorts.Sort.{a_register, an_instance, an_output, a_made}
@@ -62,7 +62,7 @@ map_source f nowhere = nowhere
 map_source f (input start w) = input start w
 map_source f (held start w) = held start w
 map_source f (copy n) = copy (f n)
-map_source f (made kind types t k ns) = made kind types t k (map f ns)
+map_source f (op_result kind types t k ns) = op_result kind types t k (map f ns)
 
 -- what a source gives under a map of nets
 abbrev pub reads : Word → Word → (Net → Word) → Source → Word
@@ -74,7 +74,7 @@ reads-map_source inputs content ρ f nowhere = refl
 reads-map_source inputs content ρ f (input start w) = refl
 reads-map_source inputs content ρ f (held start w) = refl
 reads-map_source inputs content ρ f (copy n) = refl
-reads-map_source inputs content ρ f (made kind types t k ns) = ap (value_of inputs content (made kind types t k ns)) (map-map ρ f ns)
+reads-map_source inputs content ρ f (op_result kind types t k ns) = ap (value_of inputs content (op_result kind types t k ns)) (map-map ρ f ns)
 
 map_source-input : (f : Net → Net) (x : Option Port) (start : ℕ) → map_source f (input_of x start) ≡ input_of x start
 map_source-input f None start = refl
@@ -100,9 +100,9 @@ port_ref-map f ps rs j = go (slice_get ps j)
     go (Some q) = given q.is_output
 
 -- what a register loads with other operands
-loaded-retarget : (f : Ref → Ref) (o : Op) (τ : Ref → Word) (old : Word)
+next-retarget : (f : Ref → Ref) (o : Op) (τ : Ref → Word) (old : Word)
     → next_value (register_in (retarget f o)) τ old ≡ next_value (register_in o) (λ r. τ (f r)) old
-loaded-retarget f o τ old = go (register_form o.kind)
+next-retarget f o τ old = go (register_form o.kind)
   where
     parts_same : (e : Bool) (r : Reset) (rs : List Ref) → next_value (register_parts e r (map f rs)) τ old ≡ next_value (register_parts e r rs) (λ r. τ (f r)) old
     parts_same false no_reset (d ∷ c ∷ []) = refl
@@ -117,15 +117,15 @@ loaded-retarget f o τ old = go (register_form o.kind)
     go (Some g) = parts_same g.has_enable g.reset o.operands
 
 -- and to what it is reset
-risen-retarget : (f : Ref → Ref) (o : Op) (τ υ : Ref → Word) (old : Word)
-    → risen (async_reset_in (retarget f o)) τ υ old ≡ risen (async_reset_in o) (λ r. τ (f r)) (λ r. υ (f r)) old
-risen-retarget f o τ υ old = go (has_async_reset o.kind)
+rise-retarget : (f : Ref → Ref) (o : Op) (τ υ : Ref → Word) (old : Word)
+    → rise_value (async_reset_in (retarget f o)) τ υ old ≡ rise_value (async_reset_in o) (λ r. τ (f r)) (λ r. υ (f r)) old
+rise-retarget f o τ υ old = go (has_async_reset o.kind)
   where
-    parts_same : (rs : List Ref) → risen (async_parts (map f rs)) τ υ old ≡ risen (async_parts rs) (λ r. τ (f r)) (λ r. υ (f r)) old
+    parts_same : (rs : List Ref) → rise_value (async_parts (map f rs)) τ υ old ≡ rise_value (async_parts rs) (λ r. τ (f r)) (λ r. υ (f r)) old
     parts_same (d ∷ c ∷ r ∷ v ∷ []) = refl
     parts_same _ = refl
 
-    go : (b : Bool) → risen (cond b (async_parts (map f o.operands)) None) τ υ old ≡ risen (cond b (async_parts o.operands) None) (λ r. τ (f r)) (λ r. υ (f r)) old
+    go : (b : Bool) → rise_value (cond b (async_parts (map f o.operands)) None) τ υ old ≡ rise_value (cond b (async_parts o.operands) None) (λ r. τ (f r)) (λ r. υ (f r)) old
     go true = parts_same o.operands
     go false = refl
 
@@ -159,7 +159,7 @@ word_read d top inputs content ρ p j k w says =
   where
     made_read : (o : Op) (t : Option HwType) → reads inputs content ρ (made_of p o k t) ≡ result_word (λ r. ρ (net p r)) o k t
     made_read o None = refl
-    made_read o (Some t) = ap (value_of inputs content (made o.kind o.types t k (map (net p) o.operands))) (map-map ρ (net p) o.operands)
+    made_read o (Some t) = ap (value_of inputs content (op_result o.kind o.types t k (map (net p) o.operands))) (map-map ρ (net p) o.operands)
 
     by_sort : (o : Op) → Sort o.kind → word_of_op (λ r. ρ (net p r)) k o ≡ Some w
         → reads inputs content ρ (op_in d top p (body_of (module_at d top p)) j k o) ≡ w
@@ -326,27 +326,27 @@ module _ (d d' : Design) (F : Option Module → Option Module → Type 0) (shape
     registers_same same = ap (λ n. module_registers (suc n) d' [] top) same ∙ module_registers_same (suc (length d)) [] top refl refl
 
     -- where an edited slot gives what the old one gave, so does the whole content
-    passed_along : (gives gives' : Slot → Word → Word) → ((s : Slot) (old : Word) → gives' (edit_slot s) old ≡ gives s old)
-        → (ss : List Slot) (content : Word) → passed gives' (map edit_slot ss) content ≡ passed gives ss content
-    passed_along gives gives' alike [] content = refl
-    passed_along gives gives' alike (s ∷ ss) content =
+    map_slots_along : (gives gives' : Slot → Word → Word) → ((s : Slot) (old : Word) → gives' (edit_slot s) old ≡ gives s old)
+        → (ss : List Slot) (content : Word) → map_slots gives' (map edit_slot ss) content ≡ map_slots gives ss content
+    map_slots_along gives gives' alike [] content = refl
+    map_slots_along gives gives' alike (s ∷ ss) content =
         ap₂ (λ x y. first (held_width s.op) x ++ y)
         (alike s (first (held_width s.op) content))
-        (passed_along gives gives' alike ss (drop (held_width s.op) content))
+        (map_slots_along gives gives' alike ss (drop (held_width s.op) content))
 
     pub next_same : length d' ≡ length d → (ρ : Net → Word) (content : Word)
         → next_content (registers d' top) ρ content ≡ next_content (registers d top) (λ a. ρ (standing a)) content
     next_same same ρ content =
         ap (λ ss. next_content ss ρ content) (registers_same same)
-        ∙ passed_along (loaded (λ a. ρ (standing a))) (loaded ρ)
-        (λ s old. loaded-retarget (stand_at s.path) s.op (λ r. ρ (net s.path r)) old) (registers d top) content
+        ∙ map_slots_along (next_in (λ a. ρ (standing a))) (next_in ρ)
+        (λ s old. next-retarget (stand_at s.path) s.op (λ r. ρ (net s.path r)) old) (registers d top) content
 
     pub rising_same : length d' ≡ length d → (ρ σ : Net → Word) (content : Word)
         → risen_content (registers d' top) ρ σ content ≡ risen_content (registers d top) (λ a. ρ (standing a)) (λ a. σ (standing a)) content
     rising_same same ρ σ content =
         ap (λ ss. risen_content ss ρ σ content) (registers_same same)
-        ∙ passed_along (risen_in (λ a. ρ (standing a)) (λ a. σ (standing a))) (risen_in ρ σ)
-        (λ s old. risen-retarget (stand_at s.path) s.op (λ r. ρ (net s.path r)) (λ r. σ (net s.path r)) old) (registers d top) content
+        ∙ map_slots_along (rise_in (λ a. ρ (standing a)) (λ a. σ (standing a))) (rise_in ρ σ)
+        (λ s old. rise-retarget (stand_at s.path) s.op (λ r. ρ (net s.path r)) (λ r. σ (net s.path r)) old) (registers d top) content
 
     pub outputs_same : (ρ : Net → Word) → outputs d' top ρ ≡ outputs d top (λ a. ρ (standing a))
     outputs_same ρ =
@@ -364,7 +364,7 @@ module _ (d d' : Design) (F : Option Module → Option Module → Type 0) (shape
     made_same : (p : Path) (o : Op) (k : ℕ) (t : Option HwType) → made_of p (retarget (stand_at p) o) k t ≡ map_source standing (made_of p o k t)
     made_same p o k None = refl
     made_same p o k (Some t) =
-        ap (made o.kind o.types t k) (map-map (net p) (stand_at p) o.operands ∙ sym (map-map standing (net p) o.operands))
+        ap (op_result o.kind o.types t k) (map-map (net p) (stand_at p) o.operands ∙ sym (map-map standing (net p) o.operands))
 
     joined_same : (p : Path) (u j : ℕ) → bind (module_at d' top p) (joined_at d' u j) ≡ omap (stand_at p) (bind (module_at d top p) (joined_at d u j))
     joined_same p u j =

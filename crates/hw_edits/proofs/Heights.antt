@@ -8,7 +8,7 @@ use Rattle.hw_model.specs.Types.{Name, HwType}
 use Rattle.hw_model.specs.Design.{Ref, Op, Module, Design, find_module, result_type}
 use Rattle.hw_model.specs.Design.Ref.{port, result, undefined}
 use Rattle.hw_model.specs.Flat.{Path, Net, net, Source, module_at, made_of, source}
-use Rattle.hw_model.specs.Flat.Source.{nowhere, input, held, copy, made}
+use Rattle.hw_model.specs.Flat.Source.{nowhere, input, held, copy, op_result}
 use Rattle.hw_model.specs.Meaning.{needs_of, needs, HasHeights}
 use Rattle.hw_model.specs.Sound.{body_of}
 use Rattle.hw_model.proofs.Sorts.{Sort, sort_of}
@@ -49,7 +49,7 @@ needs_of-map_source f nowhere = refl
 needs_of-map_source f (input start w) = refl
 needs_of-map_source f (held start w) = refl
 needs_of-map_source f (copy n) = refl
-needs_of-map_source f (made kind types t k ns) = refl
+needs_of-map_source f (op_result kind types t k ns) = refl
 
 -- ---- the new heights
 

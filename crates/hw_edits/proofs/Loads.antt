@@ -12,13 +12,13 @@ use Rattle.hw_model.specs.Kinds.{Instance}
 use Rattle.hw_model.specs.Design.{Op, Design, find_module, instance_in, is_instance, is_register, result_type, callee}
 use Rattle.hw_model.specs.Design.Ref.{result}
 use Rattle.hw_model.specs.Flat.{Path, Net, net, Slot, instances, module_at, body_state, op_state, state, base, width_of, held_of, held_width, source, instance_registers, op_registers, body_registers, module_registers}
-use Rattle.hw_model.specs.Meaning.{passed}
+use Rattle.hw_model.specs.Meaning.{map_slots}
 use Rattle.hw_model.specs.Hierarchy.{callee_symbols, called_by, calls}
 use Rattle.hw_model.specs.Sound.{body_of, ports_of}
 use Rattle.hw_model.proofs.Sorts.{Sort, sort_of, instance_found}
 use Rattle.hw_model.proofs.Sorts.Sort.{a_register, an_instance, an_output, a_made}
 use Rattle.hw_model.proofs.Paths.{module_inside, before_body, registers_body, op_in, result_in, result_here}
-use Rattle.hw_model.proofs.Content.{state_at_depth, slots_width, registers_width, drop_drop, passed-append, body_state-append, before_position}
+use Rattle.hw_model.proofs.Content.{state_at_depth, slots_width, registers_width, drop_drop, map_slots-append, body_state-append, before_position}
 use Rattle.hw_edits.proofs.Edited.{reads}
 use Rattle.hw_edits.proofs.Twins.Twin.{one, two}
 use Rattle.hw_edits.proofs.Twins.{Twin, Twins, twin_instance, twin_state}
@@ -72,7 +72,7 @@ module _ (d d' : Design) (none : Reregistered None None) (each : (s : Name) → 
     ≡ gives (record { path = p; op = o }) (first (held_width o) (drop (base d top p + body_state (state d) (take j (body_of (module_at d top p)))) content))) where
   -- what the registers of the module of a symbol at the end of a path give is the same
   abbrev Same_at : ℕ → Path → Name → Type 0
-  Same_at n p s = passed gives (module_registers n d' p s) (drop (base d top p) content) ≡ passed gives (module_registers n d p s) (drop (base d top p) content)
+  Same_at n p s = map_slots gives (module_registers n d' p s) (drop (base d top p) content) ≡ map_slots gives (module_registers n d p s) (drop (base d top p) content)
 
   module _ (n : ℕ) (p : Path)
       (inner : (u : ℕ) (i : Instance) → In i.symbol (callee_symbols (body_of (module_at d top p))) → module_at d top (u ∷ p) ≡ find_module d i.symbol → module_at d' top (u ∷ p) ≡ find_module d' i.symbol → Same_at n (u ∷ p) i.symbol)
@@ -110,12 +110,12 @@ module _ (d d' : Design) (none : Reregistered None None) (each : (s : Name) → 
 
     -- the registers of one operation
     op_same : (j : ℕ) (o o' : Op) → slice_get body j ≡ Some o → Twin (ports_of (module_at d top p)) body j o o'
-        → passed gives (op_registers (module_registers n d') p (count j) o') (drop (start j) content) ≡ passed gives (op_registers (module_registers n d) p (count j) o) (drop (start j) content)
+        → map_slots gives (op_registers (module_registers n d') p (count j) o') (drop (start j) content) ≡ map_slots gives (op_registers (module_registers n d) p (count j) o) (drop (start j) content)
     op_same j o o' is (one equal) =
-        ap (λ x. passed gives (op_registers (module_registers n d') p (count j) x) (drop (start j) content)) equal ∙ go (sort_of o.kind)
+        ap (λ x. map_slots gives (op_registers (module_registers n d') p (count j) x) (drop (start j) content)) equal ∙ go (sort_of o.kind)
       where
         by_instance : (x : Instance) → instance_in o.kind ≡ Some x
-            → passed gives (module_registers n d' (count j ∷ p) x.symbol) (drop (start j) content) ≡ passed gives (module_registers n d (count j ∷ p) x.symbol) (drop (start j) content)
+            → map_slots gives (module_registers n d' (count j ∷ p) x.symbol) (drop (start j) content) ≡ map_slots gives (module_registers n d (count j ∷ p) x.symbol) (drop (start j) content)
         by_instance x i =
             let at_j : slice_get (instances body) (count j) ≡ Some o = instance_found body j o x is i in
             let at_j' : slice_get (instances (body_of (module_at d' top p))) (count j) ≡ Some o = ap (λ xs. slice_get xs (count j)) (instances_same d d' none each same top p) ∙ at_j in
@@ -125,33 +125,33 @@ module _ (d d' : Design) (none : Reregistered None None) (each : (s : Name) → 
             module_inside d' (count j) (module_at d' top p) ∙ ap (λ y. bind y (callee d')) at_j' ∙ ap (λ y. bind y (λ (z : Instance). find_module d' z.symbol)) i in
             let from : base d top (count j ∷ p) ≡ start j =
             ap (λ k. base d top p + k) (before_body d (count j) (module_at d top p) ∙ ap (body_state (state d)) (before_position body j o x is i)) in
-            subst (λ k. passed gives (module_registers n d' (count j ∷ p) x.symbol) (drop k content) ≡ passed gives (module_registers n d (count j ∷ p) x.symbol) (drop k content)) from
+            subst (λ k. map_slots gives (module_registers n d' (count j ∷ p) x.symbol) (drop k content) ≡ map_slots gives (module_registers n d (count j ∷ p) x.symbol) (drop k content)) from
             (inner (count j) x (called_position body j o x is i) there there')
 
-        go : Sort o.kind → passed gives (op_registers (module_registers n d') p (count j) o) (drop (start j) content) ≡ passed gives (op_registers (module_registers n d) p (count j) o) (drop (start j) content)
+        go : Sort o.kind → map_slots gives (op_registers (module_registers n d') p (count j) o) (drop (start j) content) ≡ map_slots gives (op_registers (module_registers n d) p (count j) o) (drop (start j) content)
         go (a_register f r i w) = simp (r, i)
         go (an_instance x r i w) = simp (r, i) (by_instance x i)
         go (an_output r i w) = simp (r, i)
         go (a_made r i w) = simp (r, i)
     op_same j o o' is (two old new types resets loads) =
-        ap (λ b. passed gives (cond b (record { path = p; op = o' } ∷ []) (instance_registers (module_registers n d') p (count j) (instance_in o'.kind))) (drop (start j) content)) new
+        ap (λ b. map_slots gives (cond b (record { path = p; op = o' } ∷ []) (instance_registers (module_registers n d') p (count j) (instance_in o'.kind))) (drop (start j) content)) new
         ∙ ap (λ w. first w (gives (record { path = p; op = o' }) (first w (drop (start j) content))) ++ []) (ap width_of (types 0))
         ∙ ap (λ x. first (held_width o) x ++ []) (alike p j o o' is (two old new types resets loads))
-        ∙ sym (ap (λ b. passed gives (cond b (record { path = p; op = o } ∷ []) (instance_registers (module_registers n d) p (count j) (instance_in o.kind))) (drop (start j) content)) old)
+        ∙ sym (ap (λ b. map_slots gives (cond b (record { path = p; op = o } ∷ []) (instance_registers (module_registers n d) p (count j) (instance_in o.kind))) (drop (start j) content)) old)
 
     -- the registers of the body from a position on
     along : (os os' : List Op) (j : ℕ) → drop j body ≡ os → Twins (ports_of (module_at d top p)) body j os os'
-        → passed gives (body_registers (module_registers n d') p (count j) os') (drop (start j) content) ≡ passed gives (body_registers (module_registers n d) p (count j) os) (drop (start j) content)
+        → map_slots gives (body_registers (module_registers n d') p (count j) os') (drop (start j) content) ≡ map_slots gives (body_registers (module_registers n d) p (count j) os) (drop (start j) content)
     along [] [] j is twins = refl
     along [] (o' ∷ os') j is twins = absurd twins
     along (o ∷ os) [] j is twins = absurd twins
     along (o ∷ os) (o' ∷ os') j is (twin, twins) =
-        passed-append gives (op_registers (module_registers n d') p (count j) o') (body_registers (module_registers n d') p (cond (is_instance o') (suc (count j)) (count j)) os') (drop (start j) content)
+        map_slots-append gives (op_registers (module_registers n d') p (count j) o') (body_registers (module_registers n d') p (cond (is_instance o') (suc (count j)) (count j)) os') (drop (start j) content)
         ∙ ap₂ (λ x y. x ++ y) (op_same j o o' here twin)
-        (ap₂ (λ u c. passed gives (body_registers (module_registers n d') p u os') c) count' (pointer (slots_width (op_registers (module_registers n d') p (count j) o')) (width_new j o o' here twin))
+        (ap₂ (λ u c. map_slots gives (body_registers (module_registers n d') p u os') c) count' (pointer (slots_width (op_registers (module_registers n d') p (count j) o')) (width_new j o o' here twin))
         ∙ along os os' (suc j) rest twins
-        ∙ sym (ap₂ (λ u c. passed gives (body_registers (module_registers n d) p u os) c) (count_next body j o here) (pointer (slots_width (op_registers (module_registers n d) p (count j) o)) (width_old j o here))))
-        ∙ sym (passed-append gives (op_registers (module_registers n d) p (count j) o) (body_registers (module_registers n d) p (cond (is_instance o) (suc (count j)) (count j)) os) (drop (start j) content))
+        ∙ sym (ap₂ (λ u c. map_slots gives (body_registers (module_registers n d) p u os) c) (count_next body j o here) (pointer (slots_width (op_registers (module_registers n d) p (count j) o)) (width_old j o here))))
+        ∙ sym (map_slots-append gives (op_registers (module_registers n d) p (count j) o) (body_registers (module_registers n d) p (cond (is_instance o) (suc (count j)) (count j)) os) (drop (start j) content))
       where
         here : slice_get body j ≡ Some o
         here = ap (slice_get body) (sym (add-zero j)) ∙ sym (slice_get-drop j body 0) ∙ ap (λ xs. slice_get xs 0) is
@@ -171,14 +171,14 @@ module _ (d d' : Design) (none : Reregistered None None) (each : (s : Name) → 
         pointer : (w : ℕ) → w ≡ op_state (state d) o → drop w (drop (start j) content) ≡ drop (start (suc j)) content
         pointer w is_w = drop_drop (start j) w content ∙ ap (λ k. drop k content) (ap (λ x. start j + x) is_w ∙ further)
 
-  pub passed_same : (n : ℕ) (p : Path) (s : Name) → module_at d top p ≡ find_module d s → module_at d' top p ≡ find_module d' s → h s ≤ n → Same_at n p s
-  passed_same zero p s is is' low = refl
-  passed_same (suc n) p s is is' low =
-      ap (λ ss. passed gives ss (drop (base d top p) content)) (registers_body (module_registers n d') p (find_module d' s) ∙ ap (λ o. body_registers (module_registers n d') p 0 (body_of o)) (sym is'))
-      ∙ ap (λ k. passed gives (body_registers (module_registers n d') p 0 (body_of (module_at d' top p))) (drop k content)) (sym (add-zero (base d top p)))
-      ∙ along n p (inner_same (λ q t. passed_same n q t)) deep (body_of (module_at d top p)) (body_of (module_at d' top p)) 0 refl (twins_of d d' none each same top p)
-      ∙ ap (λ k. passed gives (body_registers (module_registers n d) p 0 (body_of (module_at d top p))) (drop k content)) (add-zero (base d top p))
-      ∙ sym (ap (λ ss. passed gives ss (drop (base d top p) content)) (registers_body (module_registers n d) p (find_module d s) ∙ ap (λ o. body_registers (module_registers n d) p 0 (body_of o)) (sym is)))
+  pub map_slots_same : (n : ℕ) (p : Path) (s : Name) → module_at d top p ≡ find_module d s → module_at d' top p ≡ find_module d' s → h s ≤ n → Same_at n p s
+  map_slots_same zero p s is is' low = refl
+  map_slots_same (suc n) p s is is' low =
+      ap (λ ss. map_slots gives ss (drop (base d top p) content)) (registers_body (module_registers n d') p (find_module d' s) ∙ ap (λ o. body_registers (module_registers n d') p 0 (body_of o)) (sym is'))
+      ∙ ap (λ k. map_slots gives (body_registers (module_registers n d') p 0 (body_of (module_at d' top p))) (drop k content)) (sym (add-zero (base d top p)))
+      ∙ along n p (inner_same (λ q t. map_slots_same n q t)) deep (body_of (module_at d top p)) (body_of (module_at d' top p)) 0 refl (twins_of d d' none each same top p)
+      ∙ ap (λ k. map_slots gives (body_registers (module_registers n d) p 0 (body_of (module_at d top p))) (drop k content)) (add-zero (base d top p))
+      ∙ sym (ap (λ ss. map_slots gives ss (drop (base d top p) content)) (registers_body (module_registers n d) p (find_module d s) ∙ ap (λ o. body_registers (module_registers n d) p 0 (body_of o)) (sym is)))
     where
       deep : (t : Name) → In t (callee_symbols (body_of (module_at d top p))) → h t ≤ n
       deep t named =

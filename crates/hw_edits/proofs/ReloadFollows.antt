@@ -12,7 +12,7 @@ use Rattle.hw_model.specs.Types.{Name, HwType}
 use Rattle.hw_model.specs.Kinds.{Instance}
 use Rattle.hw_model.specs.Design.{Ref, OpResult, Op, Module, Design, find_module, instance_in, output_refs}
 use Rattle.hw_model.specs.Flat.{Path, Net, net, module_at, body_state, state, base, held_width, source, register_in, module_registers, registers}
-use Rattle.hw_model.specs.Meaning.{needs_of, HasHeights, next_value, loaded, next_content, risen, risen_in, risen_content, machine}
+use Rattle.hw_model.specs.Meaning.{needs_of, HasHeights, next_value, next_in, next_content, rise_value, rise_in, risen_content, machine}
 use Rattle.hw_model.specs.Hierarchy.{calls}
 use Rattle.hw_model.specs.Sound.{body_of, ports_of, input_types, output_types, type_in, Fits, OpFits, SoundBody, Sound}
 use Rattle.hw_model.proofs.Machines.{same_forth}
@@ -28,7 +28,7 @@ use Rattle.hw_edits.proofs.Positions.{other_none, get_other}
 use Rattle.hw_edits.proofs.Twins.Twin.{one, two}
 use Rattle.hw_edits.proofs.Twins.{Twin, TwinOption, register_only, twin_reset, twins_at, twins_type, twins_outputs, twins_self, twins_set}
 use Rattle.hw_edits.proofs.Registers.{Reregistered, calls_same, source_same, outputs_same, size_same}
-use Rattle.hw_edits.proofs.Loads.{held_value, passed_same}
+use Rattle.hw_edits.proofs.Loads.{held_value, map_slots_same}
 
 -- the same module, whose operations fit where those of the old one do
 pub record Reloading (old new : Option Module) : Type 0 where
@@ -142,7 +142,7 @@ module _ (d d' : Design) (each : (s : Name) → Reloading (find_module d s) (fin
         → next_content (registers d' top) ρ content ≡ next_content (registers d top) ρ content
     next_same inputs ρ settled =
         ap (λ n. next_content (module_registers (suc n) d' [] top) ρ content) same
-        ∙ passed_same d d' none twins_each same top high.0 high.1 content (loaded ρ) alike (suc (length d)) [] top refl refl low
+        ∙ map_slots_same d d' none twins_each same top high.0 high.1 content (next_in ρ) alike (suc (length d)) [] top refl refl low
       where
         alike : (p : Path) (j : ℕ) (o o' : Op) → slice_get (body_of (module_at d top p)) j ≡ Some o
             → Twin (ports_of (module_at d top p)) (body_of (module_at d top p)) j o o'
@@ -159,9 +159,9 @@ module _ (d d' : Design) (each : (s : Name) → Reloading (find_module d s) (fin
     rising_same : (ρ σ : Net → Word) → risen_content (registers d' top) ρ σ content ≡ risen_content (registers d top) ρ σ content
     rising_same ρ σ =
         ap (λ n. risen_content (module_registers (suc n) d' [] top) ρ σ content) same
-        ∙ passed_same d d' none twins_each same top high.0 high.1 content (risen_in ρ σ)
+        ∙ map_slots_same d d' none twins_each same top high.0 high.1 content (rise_in ρ σ)
         (λ p j o o' is twin.
-        ap (λ x. risen x (λ r. ρ (net p r)) (λ r. σ (net p r)) (first (held_width o) (drop (base d top p + body_state (state d) (take j (body_of (module_at d top p)))) content)))
+        ap (λ x. rise_value x (λ r. ρ (net p r)) (λ r. σ (net p r)) (first (held_width o) (drop (base d top p + body_state (state d) (take j (body_of (module_at d top p)))) content)))
         (twin_reset (ports_of (module_at d top p)) (body_of (module_at d top p)) j o o' twin))
         (suc (length d)) [] top refl refl low
 

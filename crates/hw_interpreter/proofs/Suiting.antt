@@ -8,7 +8,7 @@ use Rattle.bits_core.specs.Word.{Word}
 use Rattle.hw_model.specs.Types.{Name}
 use Rattle.hw_model.specs.Design.{Ref, Design}
 use Rattle.hw_model.specs.Flat.{Net, Path, Source, net, source, registers}
-use Rattle.hw_model.specs.Flat.Source.{nowhere, input, held, copy, made}
+use Rattle.hw_model.specs.Flat.Source.{nowhere, input, held, copy, op_result}
 use Rattle.hw_model.specs.Meaning.{needs_of, needs, value, Settled}
 use Rattle.hw_interpreter.specs.declared.design.Operand.{Operand}
 use Rattle.hw_interpreter.specs.DesignViews.{ref_of}
@@ -24,7 +24,7 @@ suits_same f g nowhere same suit = tt
 suits_same f g (input start w) same suit = suit
 suits_same f g (held start w) same suit = suit
 suits_same f g (copy n) same suit = suit
-suits_same f g (made kind types t k ns) same suit = subst (Suits kind types t) (map_same f g ns same) suit
+suits_same f g (op_result kind types t k ns) same suit = subst (Suits kind types t) (map_same f g ns same) suit
 
 module _ (d : Design) (top : Name) (inputs content : Word) (height : Net → ℕ) (is : IsHeight (needs d top) height) (ρ : Net → Word) (settled : Settled d top inputs content ρ) where
   -- at and above a net's height its value is the settled one

@@ -5,7 +5,7 @@ use Rattle.bits_core.specs.Word.{Word}
 use Rattle.hw_model.specs.Types.{Name}
 use Rattle.hw_model.specs.Design.{Design}
 use Rattle.hw_model.specs.Flat.{Net, Source, Slot, source, registers}
-use Rattle.hw_model.specs.Meaning.{needs_of, needs, value_of, passed, next_content, outputs}
+use Rattle.hw_model.specs.Meaning.{needs_of, needs, value_of, map_slots, next_content, outputs}
 
 -- the value of a net that comes from a source, `inner` being the map of the nets that it needs
 abbrev pub value_from : Word → Word → (Net → Word) → Source → Word
@@ -19,7 +19,7 @@ value_within d top inputs content (suc depth) n =
 
 -- the content after the first phase of a step: no register has an asynchronous reset, so each keeps its bits
 abbrev pub held_content : List Slot → Word → Word
-held_content ss content = passed (λ s old. old) ss content
+held_content ss content = map_slots (λ s old. old) ss content
 
 -- the values of the nets in a step from a content, within a depth
 abbrev pub values_within : Design → Name → Word → Word → ℕ → Net → Word

@@ -5,7 +5,7 @@ use Rattle.bits_core.specs.Word.{Word}
 use Rattle.hw_model.specs.Types.{Name}
 use Rattle.hw_model.specs.Design.{Ref, Module, Design, find_module}
 use Rattle.hw_model.specs.Flat.{Net, Path, Source, Slot, Register, ResetBy, net, source, instances, register_in, registers, state}
-use Rattle.hw_model.specs.Flat.Source.{nowhere, input, held, copy, made}
+use Rattle.hw_model.specs.Flat.Source.{nowhere, input, held, copy, op_result}
 use Rattle.hw_model.specs.Meaning.{needs_of, Settled, outputs_of}
 use Rattle.hw_interpreter.specs.Suits.{IsCounted, Suits}
 use Rattle.hw_interpreter.specs.Depth.{value_within, held_content, content_within}
@@ -17,7 +17,7 @@ SuitsSource inner nowhere = ⊤
 SuitsSource inner (input start w) = IsCounted (start + w)
 SuitsSource inner (held start w) = IsCounted (start + w)
 SuitsSource inner (copy n) = All (λ u. u < 2 ^ 32) n.path
-SuitsSource inner (made kind types t k ns) = Suits kind types t (map inner ns)
+SuitsSource inner (op_result kind types t k ns) = Suits kind types t (map inner ns)
 
 -- so is the source, and each net that it needs is as `Suit` says
 abbrev pub SuitsFrom : (Net → Word) → (Net → Type 0) → Source → Type 0

@@ -9,7 +9,7 @@ use Rattle.hw_model.specs.Types.{Name}
 use Rattle.hw_model.specs.Kinds.{Instance}
 use Rattle.hw_model.specs.Design.{Op, Module, Design, find_module, instance_in, is_instance}
 use Rattle.hw_model.specs.Flat.{Path, Slot, instances, before_instance, body_state, op_state, module_state, state, held_width, op_registers, body_registers, module_registers}
-use Rattle.hw_model.specs.Meaning.{passed}
+use Rattle.hw_model.specs.Meaning.{map_slots}
 use Rattle.hw_model.specs.Sound.{body_of}
 use Rattle.hw_model.specs.Hierarchy.{callee_symbols, called_by, calls, HasNoRecursion}
 use Rattle.hw_model.proofs.Sorts.{Sort, sort_of}
@@ -97,17 +97,17 @@ drop_drop zero b c = ap (λ n. drop n c) (sym (zero-add b))
 drop_drop (suc a) b [] = drop_none b ∙ sym (drop_none (suc a + b))
 drop_drop (suc a) b (x ∷ c) = drop_drop a b c ∙ ap (λ n. drop n (x ∷ c)) (sym (suc-add a b))
 
-pub passed-append : (each : Slot → Word → Word) (xs ys : List Slot) (c : Word)
-    → passed each (xs ++ ys) c ≡ passed each xs c ++ passed each ys (drop (slots_width xs) c)
-passed-append each [] ys c = refl
-passed-append each (s ∷ xs) ys c =
+pub map_slots-append : (each : Slot → Word → Word) (xs ys : List Slot) (c : Word)
+    → map_slots each (xs ++ ys) c ≡ map_slots each xs c ++ map_slots each ys (drop (slots_width xs) c)
+map_slots-append each [] ys c = refl
+map_slots-append each (s ∷ xs) ys c =
     ap (λ rest. first (held_width s.op) (each s (first (held_width s.op) c)) ++ rest)
-    (passed-append each xs ys (drop (held_width s.op) c)
-    ∙ ap (λ rest. passed each xs (drop (held_width s.op) c) ++ passed each ys rest) (drop_drop (held_width s.op) (slots_width xs) c))
+    (map_slots-append each xs ys (drop (held_width s.op) c)
+    ∙ ap (λ rest. map_slots each xs (drop (held_width s.op) c) ++ map_slots each ys rest) (drop_drop (held_width s.op) (slots_width xs) c))
     ∙ sym append_assoc'
   where
-    append_assoc' : (first (held_width s.op) (each s (first (held_width s.op) c)) ++ passed each xs (drop (held_width s.op) c)) ++ passed each ys (drop (held_width s.op + slots_width xs) c)
-        ≡ first (held_width s.op) (each s (first (held_width s.op) c)) ++ (passed each xs (drop (held_width s.op) c) ++ passed each ys (drop (held_width s.op + slots_width xs) c))
+    append_assoc' : (first (held_width s.op) (each s (first (held_width s.op) c)) ++ map_slots each xs (drop (held_width s.op) c)) ++ map_slots each ys (drop (held_width s.op + slots_width xs) c)
+        ≡ first (held_width s.op) (each s (first (held_width s.op) c)) ++ (map_slots each xs (drop (held_width s.op) c) ++ map_slots each ys (drop (held_width s.op + slots_width xs) c))
     append_assoc' = rw append_assoc refl
 
 -- ---- positions

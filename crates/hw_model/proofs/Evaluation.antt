@@ -11,7 +11,7 @@ use Rattle.hw_model.specs.Value.{concat_words}
 use Rattle.hw_model.specs.Flat.{Path, Net, net, Slot, register_in, register_parts, has_async_reset, async_parts, async_reset_in, held_width, registers}
 use Rattle.hw_model.specs.Machine.{RunAfter, Run}
 use Rattle.hw_model.proofs.Depths.{every, every_here, ends_within}
-use Rattle.hw_model.specs.Meaning.{needs, value, Settled, next_value, passed, loaded, next_content, risen, risen_in, risen_content, outputs_of, outputs, machine}
+use Rattle.hw_model.specs.Meaning.{needs, value, Settled, next_value, map_slots, next_in, next_content, rise_value, rise_in, risen_content, outputs_of, outputs, machine}
 
 module _ (d : Design) (top : Name) where
   abbrev pub closed : ℕ → Net → Bool
@@ -42,10 +42,10 @@ module _ (d : Design) (top : Name) where
       ap₂ (λ x xs. x ∷ xs) (same (net p r) both.0) (operands_same n p σ τ same rs both.1)
 
   -- the values that a register's operands have decide what it loads
-  loaded_same : (n : ℕ) (p : Path) (o : Op) (σ τ : Net → Word) (old : Word) → every (λ r. closed n (net p r)) o.operands ≡ true
+  next_in_same : (n : ℕ) (p : Path) (o : Op) (σ τ : Net → Word) (old : Word) → every (λ r. closed n (net p r)) o.operands ≡ true
       → ((a : Net) → closed n a ≡ true → σ a ≡ τ a)
       → next_value (register_in o) (λ r. σ (net p r)) old ≡ next_value (register_in o) (λ r. τ (net p r)) old
-  loaded_same n p o σ τ old all same = go (register_form o.kind)
+  next_in_same n p o σ τ old all same = go (register_form o.kind)
     where
       parts : (e : Bool) (r : Reset) (rs : List Ref) → map (λ x. σ (net p x)) rs ≡ map (λ x. τ (net p x)) rs
           → next_value (register_parts e r rs) (λ x. σ (net p x)) old ≡ next_value (register_parts e r rs) (λ x. τ (net p x)) old
@@ -61,18 +61,18 @@ module _ (d : Design) (top : Name) where
       go (Some g) = parts g.has_enable g.reset o.operands (operands_same n p σ τ same o.operands all)
 
   -- and to what it is reset
-  risen_same : (n : ℕ) (p : Path) (o : Op) (σ τ σ' τ' : Net → Word) (old : Word) → every (λ r. closed n (net p r)) o.operands ≡ true
+  rise_same : (n : ℕ) (p : Path) (o : Op) (σ τ σ' τ' : Net → Word) (old : Word) → every (λ r. closed n (net p r)) o.operands ≡ true
       → ((a : Net) → closed n a ≡ true → σ a ≡ τ a) → ((a : Net) → closed n a ≡ true → σ' a ≡ τ' a)
-      → risen (async_reset_in o) (λ r. σ (net p r)) (λ r. σ' (net p r)) old ≡ risen (async_reset_in o) (λ r. τ (net p r)) (λ r. τ' (net p r)) old
-  risen_same n p o σ τ σ' τ' old all same same' = go (has_async_reset o.kind)
+      → rise_value (async_reset_in o) (λ r. σ (net p r)) (λ r. σ' (net p r)) old ≡ rise_value (async_reset_in o) (λ r. τ (net p r)) (λ r. τ' (net p r)) old
+  rise_same n p o σ τ σ' τ' old all same same' = go (has_async_reset o.kind)
     where
       parts : (rs : List Ref) → map (λ x. σ (net p x)) rs ≡ map (λ x. τ (net p x)) rs → map (λ x. σ' (net p x)) rs ≡ map (λ x. τ' (net p x)) rs
-          → risen (async_parts rs) (λ r. σ (net p r)) (λ r. σ' (net p r)) old ≡ risen (async_parts rs) (λ r. τ (net p r)) (λ r. τ' (net p r)) old
+          → rise_value (async_parts rs) (λ r. σ (net p r)) (λ r. σ' (net p r)) old ≡ rise_value (async_parts rs) (λ r. τ (net p r)) (λ r. τ' (net p r)) old
       parts (x ∷ c ∷ r ∷ v ∷ []) is is' = cc
       parts _ is is' = refl
 
-      go : (b : Bool) → risen (cond b (async_parts o.operands) None) (λ r. σ (net p r)) (λ r. σ' (net p r)) old
-          ≡ risen (cond b (async_parts o.operands) None) (λ r. τ (net p r)) (λ r. τ' (net p r)) old
+      go : (b : Bool) → rise_value (cond b (async_parts o.operands) None) (λ r. σ (net p r)) (λ r. σ' (net p r)) old
+          ≡ rise_value (cond b (async_parts o.operands) None) (λ r. τ (net p r)) (λ r. τ' (net p r)) old
       go true = parts o.operands (operands_same n p σ τ same o.operands all) (operands_same n p σ' τ' same' o.operands all)
       go false = refl
 
@@ -80,16 +80,16 @@ module _ (d : Design) (top : Name) where
   slots_closed n [] = true
   slots_closed n (s ∷ ss) = cond (every (λ r. closed n (net s.path r)) s.op.operands) (slots_closed n ss) false
 
-  passed_same : (n : ℕ) (each each' : Slot → Word → Word)
+  map_slots_same : (n : ℕ) (each each' : Slot → Word → Word)
       → ((s : Slot) (old : Word) → every (λ r. closed n (net s.path r)) s.op.operands ≡ true → each s old ≡ each' s old)
-      → (ss : List Slot) (content : Word) → slots_closed n ss ≡ true → passed each ss content ≡ passed each' ss content
-  passed_same n each each' alike [] content all = refl
-  passed_same n each each' alike (s ∷ ss) content all =
-      go (every (λ r. closed n (net s.path r)) s.op.operands) refl all (passed_same n each each' alike ss (drop (held_width s.op) content))
+      → (ss : List Slot) (content : Word) → slots_closed n ss ≡ true → map_slots each ss content ≡ map_slots each' ss content
+  map_slots_same n each each' alike [] content all = refl
+  map_slots_same n each each' alike (s ∷ ss) content all =
+      go (every (λ r. closed n (net s.path r)) s.op.operands) refl all (map_slots_same n each each' alike ss (drop (held_width s.op) content))
     where
       go : (b : Bool) → every (λ r. closed n (net s.path r)) s.op.operands ≡ b → cond b (slots_closed n ss) false ≡ true
-          → (slots_closed n ss ≡ true → passed each ss (drop (held_width s.op) content) ≡ passed each' ss (drop (held_width s.op) content))
-          → passed each (s ∷ ss) content ≡ passed each' (s ∷ ss) content
+          → (slots_closed n ss ≡ true → map_slots each ss (drop (held_width s.op) content) ≡ map_slots each' ss (drop (held_width s.op) content))
+          → map_slots each (s ∷ ss) content ≡ map_slots each' (s ∷ ss) content
       go true here rest further =
           ap₂ (λ x y. first (held_width s.op) x ++ y) (alike s (first (held_width s.op) content) here) (further rest)
       go false here rest further = cc
@@ -97,13 +97,13 @@ module _ (d : Design) (top : Name) where
   next_same : (n : ℕ) (ss : List Slot) (σ τ : Net → Word) (content : Word) → slots_closed n ss ≡ true → ((a : Net) → closed n a ≡ true → σ a ≡ τ a)
       → next_content ss σ content ≡ next_content ss τ content
   next_same n ss σ τ content all same =
-      passed_same n (loaded σ) (loaded τ) (λ s old here. loaded_same n s.path s.op σ τ old here same) ss content all
+      map_slots_same n (next_in σ) (next_in τ) (λ s old here. next_in_same n s.path s.op σ τ old here same) ss content all
 
   rising_same : (n : ℕ) (ss : List Slot) (σ τ σ' τ' : Net → Word) (content : Word) → slots_closed n ss ≡ true
       → ((a : Net) → closed n a ≡ true → σ a ≡ τ a) → ((a : Net) → closed n a ≡ true → σ' a ≡ τ' a)
       → risen_content ss σ σ' content ≡ risen_content ss τ τ' content
   rising_same n ss σ τ σ' τ' content all same same' =
-      passed_same n (risen_in σ σ') (risen_in τ τ') (λ s old here. risen_same n s.path s.op σ τ σ' τ' old here same same') ss content all
+      map_slots_same n (rise_in σ σ') (rise_in τ τ') (λ s old here. rise_same n s.path s.op σ τ σ' τ' old here same same') ss content all
 
   abbrev output_nets : List Net
   output_nets = map (net []) (outputs_of (find_module d top))

@@ -24,7 +24,7 @@ use Rattle.hw_model.proofs.Sorts.Sort.{a_register, an_instance, an_output, a_mad
 use Rattle.hw_model.proofs.Paths.{module_inside, state_body, before_body, registers_body, joined_body, result_in, result_here}
 use Rattle.hw_model.proofs.Machines.{same_self}
 use Rattle.hw_model.proofs.Finite.{calls_within, settles_with_heights}
-use Rattle.hw_model.proofs.Places.{built}
+use Rattle.hw_model.proofs.Places.{machine_of}
 use Rattle.hw_model.proofs.Content.{state_at_depth, call_heights}
 
 -- an instance among operations is called
@@ -295,10 +295,10 @@ module _ (d e : Design) (gone : Name) (without : IsWithout d e gone) (finite : H
 
     machine_same : machine e top ≡ machine d top
     machine_same =
-        ap (λ size. built size (source e top) (outputs e top) (next_content (registers e top)) (risen_content (registers e top))) (state_same top other)
-        ∙ ap (λ from. built (state d top) from (outputs e top) (next_content (registers e top)) (risen_content (registers e top))) (fun_ext source_same)
-        ∙ ap (λ m. built (state d top) (source d top) (λ ρ. concat_words (map (λ r. ρ (net [] r)) (outputs_of m))) (next_content (registers e top)) (risen_content (registers e top))) (without.others top other)
-        ∙ ap (λ ss. built (state d top) (source d top) (outputs d top) (next_content ss) (risen_content ss)) (registers_same top other)
+        ap (λ size. machine_of size (source e top) (outputs e top) (next_content (registers e top)) (risen_content (registers e top))) (state_same top other)
+        ∙ ap (λ from. machine_of (state d top) from (outputs e top) (next_content (registers e top)) (risen_content (registers e top))) (fun_ext source_same)
+        ∙ ap (λ m. machine_of (state d top) (source d top) (λ ρ. concat_words (map (λ r. ρ (net [] r)) (outputs_of m))) (next_content (registers e top)) (risen_content (registers e top))) (without.others top other)
+        ∙ ap (λ ss. machine_of (state d top) (source d top) (outputs d top) (next_content ss) (risen_content ss)) (registers_same top other)
 
     -- each other module does what it did
     pub gone_same : HasHeights d top → Same (machine d top) (machine e top)

@@ -27,13 +27,13 @@ module _ {A : Type 0} where
       settled_same m before content (once before content) step.earlier step'.earlier step.settled_earlier step'.settled_earlier in
       let firsts : step.first_map ≡ step'.first_map =
       settled_same m s content (once s content) step.first_map step'.first_map step.settled_first step'.settled_first in
-      let risen : m.rising step.earlier step.first_map content ≡ m.rising step'.earlier step'.first_map content =
+      let first_phase : m.rising step.earlier step.first_map content ≡ m.rising step'.earlier step'.first_map content =
       ap₂ (λ ρ σ. m.rising ρ σ content) earlier firsts in
       let maps : step.map_of ≡ step'.map_of =
       settled_same m s (m.rising step'.earlier step'.first_map content) (once s (m.rising step'.earlier step'.first_map content)) step.map_of step'.map_of
-      (subst (λ c. m.settled s c step.map_of) risen step.settled) step'.settled in
+      (subst (λ c. m.settled s c step.map_of) first_phase step.settled) step'.settled in
       let heads : o ≡ o' = step.read ∙ ap m.outputs maps ∙ sym step'.read in
-      let nexts : after ≡ after' = step.taken ∙ ap₂ m.next maps risen ∙ sym step'.taken in
+      let nexts : after ≡ after' = step.taken ∙ ap₂ m.next maps first_phase ∙ sym step'.taken in
       let also : RunAfter m s after' steps outputs = subst (λ c. RunAfter m s c steps outputs) nexts rest in
       ap₂ (λ x xs. x ∷ xs) heads (run_after_unique m once s after' steps outputs others also rest')
 
@@ -48,19 +48,19 @@ module _ {A : Type 0} where
   run_after_exists m once before content (s ∷ steps) =
       let earlier : A → Word = (once before content).0 in
       let first_map : A → Word = (once s content).0 in
-      let risen : Word = m.rising earlier first_map content in
-      let map_of : A → Word = (once s risen).0 in
-      let rest : (outputs : List Word) × RunAfter m s (m.next map_of risen) steps outputs = run_after_exists m once s (m.next map_of risen) steps in (
+      let first_phase : Word = m.rising earlier first_map content in
+      let map_of : A → Word = (once s first_phase).0 in
+      let rest : (outputs : List Word) × RunAfter m s (m.next map_of first_phase) steps outputs = run_after_exists m once s (m.next map_of first_phase) steps in (
         m.outputs map_of ∷ rest.0,
         (
-          m.next map_of risen,
+          m.next map_of first_phase,
           record {
             earlier = earlier;
             first_map = first_map;
             map_of = map_of;
             settled_earlier = (once before content).1;
             settled_first = (once s content).1;
-            settled = (once s risen).1;
+            settled = (once s first_phase).1;
             read = refl;
             taken = refl;
           },
@@ -76,7 +76,7 @@ module _ {A B : Type 0} where
   pub step_carried : (m : Machine A) (n : Machine B) (to : (A → Word) → B → Word) → Carries m n to
       → (before inputs content outputs after : Word) → Step m before inputs content outputs after → Step n before inputs content outputs after
   step_carried m n to carries before inputs content outputs after step =
-      let risen : m.rising step.earlier step.first_map content ≡ n.rising (to step.earlier) (to step.first_map) content =
+      let first_phase : m.rising step.earlier step.first_map content ≡ n.rising (to step.earlier) (to step.first_map) content =
       sym (carries.rising before inputs content step.earlier step.first_map step.settled_earlier step.settled_first) in
       record {
         earlier = to step.earlier;
@@ -84,11 +84,11 @@ module _ {A B : Type 0} where
         map_of = to step.map_of;
         settled_earlier = carries.settled before content step.earlier step.settled_earlier;
         settled_first = carries.settled inputs content step.first_map step.settled_first;
-        settled = subst (λ c. n.settled inputs c (to step.map_of)) risen
+        settled = subst (λ c. n.settled inputs c (to step.map_of)) first_phase
             (carries.settled inputs (m.rising step.earlier step.first_map content) step.map_of step.settled);
         read = step.read ∙ sym (carries.outputs inputs (m.rising step.earlier step.first_map content) step.map_of step.settled);
         taken = step.taken ∙ sym (carries.next inputs (m.rising step.earlier step.first_map content) step.map_of step.settled)
-            ∙ ap (n.next (to step.map_of)) risen;
+            ∙ ap (n.next (to step.map_of)) first_phase;
       }
 
   -- so do runs

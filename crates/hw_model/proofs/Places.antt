@@ -14,7 +14,7 @@ use Rattle.hw_model.specs.Value.{concat_words}
 use Rattle.hw_model.specs.Flat.{Path, Net, net, Source, Slot, instances, before_instance, if_zero, module_at, op_state, body_state, module_state, state, base, port_ref, input_width, input_of, port_source, copy_of, joined_ref, joined_at, given_ref, held_of, made_of, source, held_width, op_registers, body_registers, module_registers, registers}
 use Rattle.hw_model.specs.Flat.Source.{nowhere}
 use Rattle.hw_model.specs.Machine.{Machine, Same}
-use Rattle.hw_model.specs.Meaning.{needs_of, value_of, HasHeights, passed, loaded, next_content, risen_in, risen_content, outputs, machine}
+use Rattle.hw_model.specs.Meaning.{needs_of, value_of, HasHeights, map_slots, next_in, next_content, rise_in, risen_content, outputs, machine}
 use Rattle.hw_model.specs.Sound.{body_of, ports_of}
 use Rattle.hw_model.proofs.Sorts.{Sort, sort_of}
 use Rattle.hw_model.proofs.Sorts.Sort.{a_register, an_instance, an_output, a_made}
@@ -80,8 +80,8 @@ abbrev slot_without_place : Slot → Slot
 slot_without_place s = record { path = s.path; op = op_without_place s.op }
 
 -- a machine by where its nets' values come from
-abbrev pub built : ℕ → (Net → Source) → ((Net → Word) → Word) → ((Net → Word) → Word → Word) → ((Net → Word) → (Net → Word) → Word → Word) → Machine Net
-built size from out next rising = record {
+abbrev pub machine_of : ℕ → (Net → Source) → ((Net → Word) → Word) → ((Net → Word) → Word → Word) → ((Net → Word) → (Net → Word) → Word → Word) → Machine Net
+machine_of size from out next rising = record {
   size = size;
   settled = λ inputs content ρ. IsSettled (λ a. needs_of (from a)) (λ a xs. value_of inputs content (from a) xs) ρ;
   outputs = out;
@@ -253,34 +253,34 @@ module _ (d : Design) where
         ∙ ap (map slot_without_place) (sym (registers_body (module_registers n d) p (find_module d s)))
 
     -- where a slot gives the same without its place, so does the whole content
-    passed_along : (each : Slot → Word → Word) → ((s : Slot) (old : Word) → each (slot_without_place s) old ≡ each s old)
-        → (ss : List Slot) (content : Word) → passed each (map slot_without_place ss) content ≡ passed each ss content
-    passed_along each alike [] content = refl
-    passed_along each alike (s ∷ ss) content =
+    map_slots_along : (each : Slot → Word → Word) → ((s : Slot) (old : Word) → each (slot_without_place s) old ≡ each s old)
+        → (ss : List Slot) (content : Word) → map_slots each (map slot_without_place ss) content ≡ map_slots each ss content
+    map_slots_along each alike [] content = refl
+    map_slots_along each alike (s ∷ ss) content =
         ap₂ (λ x rest. first (held_width s.op) x ++ rest)
-        (alike s (first (held_width s.op) content)) (passed_along each alike ss (drop (held_width s.op) content))
+        (alike s (first (held_width s.op) content)) (map_slots_along each alike ss (drop (held_width s.op) content))
 
-    passed_placeless : (each : Slot → Word → Word) → ((s : Slot) (old : Word) → each (slot_without_place s) old ≡ each s old)
-        → (content : Word) → passed each (registers (without_places d) top) content ≡ passed each (registers d top) content
-    passed_placeless each alike content =
-        ap (λ ss. passed each ss content)
+    map_slots_placeless : (each : Slot → Word → Word) → ((s : Slot) (old : Word) → each (slot_without_place s) old ≡ each s old)
+        → (content : Word) → map_slots each (registers (without_places d) top) content ≡ map_slots each (registers d top) content
+    map_slots_placeless each alike content =
+        ap (λ ss. map_slots each ss content)
         (ap (λ n. module_registers (suc n) (without_places d) [] top) (length-map d module_without_places) ∙ module_registers_placeless (suc (length d)) [] top)
-        ∙ passed_along each alike (registers d top) content
+        ∙ map_slots_along each alike (registers d top) content
 
     next_placeless : (ρ : Net → Word) (content : Word) → next_content (registers (without_places d) top) ρ content ≡ next_content (registers d top) ρ content
-    next_placeless ρ content = passed_placeless (loaded ρ) (λ s old. refl) content
+    next_placeless ρ content = map_slots_placeless (next_in ρ) (λ s old. refl) content
 
     rising_placeless : (ρ σ : Net → Word) (content : Word) → risen_content (registers (without_places d) top) ρ σ content ≡ risen_content (registers d top) ρ σ content
-    rising_placeless ρ σ content = passed_placeless (risen_in ρ σ) (λ s old. refl) content
+    rising_placeless ρ σ content = map_slots_placeless (rise_in ρ σ) (λ s old. refl) content
 
     -- ---- the machine
 
     pub machine_placeless : machine (without_places d) top ≡ machine d top
     machine_placeless =
-        ap (λ size. built size (source (without_places d) top) (outputs (without_places d) top) (next_content (registers (without_places d) top)) (risen_content (registers (without_places d) top))) (ap (λ f. f top) state_placeless)
-        ∙ ap (λ from. built (state d top) from (outputs (without_places d) top) (next_content (registers (without_places d) top)) (risen_content (registers (without_places d) top))) (fun_ext source_placeless)
-        ∙ ap (λ out. built (state d top) (source d top) out (next_content (registers (without_places d) top)) (risen_content (registers (without_places d) top))) (fun_ext outputs_placeless)
-        ∙ ap₂ (λ next rising. built (state d top) (source d top) (outputs d top) next rising)
+        ap (λ size. machine_of size (source (without_places d) top) (outputs (without_places d) top) (next_content (registers (without_places d) top)) (risen_content (registers (without_places d) top))) (ap (λ f. f top) state_placeless)
+        ∙ ap (λ from. machine_of (state d top) from (outputs (without_places d) top) (next_content (registers (without_places d) top)) (risen_content (registers (without_places d) top))) (fun_ext source_placeless)
+        ∙ ap (λ out. machine_of (state d top) (source d top) out (next_content (registers (without_places d) top)) (risen_content (registers (without_places d) top))) (fun_ext outputs_placeless)
+        ∙ ap₂ (λ next rising. machine_of (state d top) (source d top) (outputs d top) next rising)
         (fun_ext (λ ρ. fun_ext (next_placeless ρ))) (fun_ext (λ ρ. fun_ext (λ σ. fun_ext (rising_placeless ρ σ))))
 
 -- two designs that differ in nothing but places have the same machines

@@ -16,7 +16,7 @@ use Rattle.hw_model.specs.Value.{op_value, is_high}
 use Rattle.hw_model.specs.Flat.{Path, Net, net, Source, source, module_at, instances, input_width, input_of, input_source, port_ref, copy_of, joined_ref, joined_at, made_of, Slot, Register, ResetBy, register_in, async_reset_in, held_width, op_registers, body_registers, module_registers, registers, depth}
 use Rattle.hw_model.specs.Flat.Source.{nowhere, input, copy}
 use Rattle.hw_model.specs.Machine.{RunAfter, Run}
-use Rattle.hw_model.specs.Meaning.{needs_of, value_of, Settled, value_if_enabled, reset, next_value, passed, loaded, risen, risen_in, risen_content, machine}
+use Rattle.hw_model.specs.Meaning.{needs_of, value_of, Settled, value_if_enabled, reset, next_value, map_slots, next_in, rise_value, rise_in, risen_content, machine}
 use Rattle.hw_model.specs.Sound.{body_of}
 use Rattle.hw_model.specs.Resets.{is_constant, IsMarkedInput, IsConstantOf, ResetsFromPorts, ComesFromInput, IsFixed, IsReset, AreReset, level_value, level_in, StepsAreReset}
 use Rattle.hw_model.proofs.Sorts.{Sort, sort_of}
@@ -213,27 +213,27 @@ module _ (d : Design) (top : Name) (marked : Module → ℕ → Bool) (resets : 
 -- ---- content, register by register
 
 -- where each register keeps being reset, so does the whole content
-passed_reset : (gives : Slot → Word → Word) (ρ σ : Net → Word) (ss : List Slot)
+map_slots_reset : (gives : Slot → Word → Word) (ρ σ : Net → Word) (ss : List Slot)
     → ((s : Slot) → In s ss → (old : Word) → IsReset ρ s old → IsReset σ s (first (held_width s.op) (gives s old)))
-    → (content : Word) → AreReset ρ ss content → AreReset σ ss (passed gives ss content)
-passed_reset gives ρ σ [] keeps content are = tt
-passed_reset gives ρ σ (s ∷ ss) keeps content are =
+    → (content : Word) → AreReset ρ ss content → AreReset σ ss (map_slots gives ss content)
+map_slots_reset gives ρ σ [] keeps content are = tt
+map_slots_reset gives ρ σ (s ∷ ss) keeps content are =
     let head : Word = first (held_width s.op) (gives s (first (held_width s.op) content)) in
-    let tail : Word = passed gives ss (drop (held_width s.op) content) in
+    let tail : Word = map_slots gives ss (drop (held_width s.op) content) in
     let size : length head ≡ held_width s.op = length-first (held_width s.op) (gives s (first (held_width s.op) content)) in (
       subst (IsReset σ s) (sym (first-append_seam (held_width s.op) head tail size)) (keeps s (inl refl) (first (held_width s.op) content) are.0),
       subst (AreReset σ ss) (sym (ap (λ k. drop k (head ++ tail)) (sym size) ∙ drop-append_seam head tail))
-          (passed_reset gives ρ σ ss (λ z here. keeps z (inr here)) (drop (held_width s.op) content) are.1),
+          (map_slots_reset gives ρ σ ss (λ z here. keeps z (inr here)) (drop (held_width s.op) content) are.1),
     )
 
 -- what gives the same to registers that are reset gives the same content
-passed_same : (gives gives' : Slot → Word → Word) (ρ : Net → Word) (ss : List Slot)
+map_slots_same : (gives gives' : Slot → Word → Word) (ρ : Net → Word) (ss : List Slot)
     → ((s : Slot) → In s ss → (old : Word) → IsReset ρ s old → first (held_width s.op) (gives s old) ≡ first (held_width s.op) (gives' s old))
-    → (content : Word) → AreReset ρ ss content → passed gives ss content ≡ passed gives' ss content
-passed_same gives gives' ρ [] alike content are = refl
-passed_same gives gives' ρ (s ∷ ss) alike content are =
+    → (content : Word) → AreReset ρ ss content → map_slots gives ss content ≡ map_slots gives' ss content
+map_slots_same gives gives' ρ [] alike content are = refl
+map_slots_same gives gives' ρ (s ∷ ss) alike content are =
     ap₂ (λ x y. x ++ y) (alike s (inl refl) (first (held_width s.op) content) are.0)
-    (passed_same gives gives' ρ ss (λ z here. alike z (inr here)) (drop (held_width s.op) content) are.1)
+    (map_slots_same gives gives' ρ ss (λ z here. alike z (inr here)) (drop (held_width s.op) content) are.1)
 
 all_reset : (ρ : Net → Word) (ss : List Slot) → ((s : Slot) → In s ss → (old : Word) → IsReset ρ s old) → (content : Word) → AreReset ρ ss content
 all_reset ρ [] each content = tt
@@ -252,11 +252,11 @@ before_low w start = ap (λ x. is_high (first w x)) (drop_none start) ∙ go w
 
 module _ (d : Design) (top : Name) (marked : Module → ℕ → Bool) (resets : ResetsFromPorts d marked) where
   -- once the resets have risen each register whose reset is 1 holds its value, where those whose reset was 1 did
-  risen_reset : (before inputs content : Word) (ρ υ σ : Net → Word) → Settled d top before content ρ → Settled d top inputs content υ
+  rise_reset : (before inputs content : Word) (ρ υ σ : Net → Word) → Settled d top before content ρ → Settled d top inputs content υ
       → Settled d top inputs (risen_content (registers d top) ρ υ content) σ
-      → (s : Slot) → In s (registers d top) → (old : Word) → IsReset ρ s old → IsReset σ s (first (held_width s.op) (risen_in ρ υ s old))
-  risen_reset before inputs content ρ υ σ settled_ρ settled_υ settled_σ s here old was r is high =
-      ap (λ x. first (held_width s.op) (risen x (λ z. ρ (net s.path z)) (λ z. υ (net s.path z)) old)) is
+      → (s : Slot) → In s (registers d top) → (old : Word) → IsReset ρ s old → IsReset σ s (first (held_width s.op) (rise_in ρ υ s old))
+  rise_reset before inputs content ρ υ σ settled_ρ settled_υ settled_σ s here old was r is high =
+      ap (λ x. first (held_width s.op) (rise_value x (λ z. ρ (net s.path z)) (λ z. υ (net s.path z)) old)) is
       ∙ by_level (is_high (ρ (net s.path r.signal))) refl
     where
       signal : ComesFromInput d top (net s.path r.signal)
@@ -283,11 +283,11 @@ module _ (d : Design) (top : Name) (marked : Module → ℕ → Bool) (resets : 
   -- where registers whose reset was 1 hold their value, the levels of the resets give what their rise gives
   level_same : (before inputs content : Word) (ρ υ : Net → Word) → Settled d top before content ρ → Settled d top inputs content υ
       → (s : Slot) → In s (registers d top) → (old : Word) → IsReset ρ s old
-      → first (held_width s.op) (risen_in ρ υ s old) ≡ first (held_width s.op) (level_in υ s old)
+      → first (held_width s.op) (rise_in ρ υ s old) ≡ first (held_width s.op) (level_in υ s old)
   level_same before inputs content ρ υ settled_ρ settled_υ s here old was = by_reset (async_reset_in s.op) refl
     where
       by_reset : (x : Option ResetBy) → async_reset_in s.op ≡ x
-          → first (held_width s.op) (risen x (λ z. ρ (net s.path z)) (λ z. υ (net s.path z)) old) ≡ first (held_width s.op) (level_value x (λ z. υ (net s.path z)) old)
+          → first (held_width s.op) (rise_value x (λ z. ρ (net s.path z)) (λ z. υ (net s.path z)) old) ≡ first (held_width s.op) (level_value x (λ z. υ (net s.path z)) old)
       by_reset None is = refl
       by_reset (Some r) is = by_levels (is_high (ρ (net s.path r.signal))) refl (is_high (υ (net s.path r.signal)))
         where
@@ -303,9 +303,9 @@ module _ (d : Design) (top : Name) (marked : Module → ℕ → Bool) (resets : 
           by_levels false low b = refl
 
   -- so does each after it has loaded
-  loaded_reset : (inputs content after : Word) (σ τ : Net → Word) → Settled d top inputs content σ → Settled d top inputs after τ
-      → (s : Slot) → In s (registers d top) → (old : Word) → IsReset σ s old → IsReset τ s (first (held_width s.op) (loaded σ s old))
-  loaded_reset inputs content after σ τ settled_σ settled_τ s here old was r is high =
+  next_in_reset : (inputs content after : Word) (σ τ : Net → Word) → Settled d top inputs content σ → Settled d top inputs after τ
+      → (s : Slot) → In s (registers d top) → (old : Word) → IsReset σ s old → IsReset τ s (first (held_width s.op) (next_in σ s old))
+  next_in_reset inputs content after σ τ settled_σ settled_τ s here old was r is high =
       ap (λ x. first (held_width s.op) (next_value x (λ z. σ (net s.path z)) old)) g.1
       ∙ ap (λ x. first (held_width s.op) (cond (is_high (σ (net s.path g.0.clock))) (reset x (λ z. σ (net s.path z)) (value_if_enabled g.0.enable (λ z. σ (net s.path z)) old (σ (net s.path g.0.next)))) old)) g.2
       ∙ ap (λ b. first (held_width s.op) (cond (is_high (σ (net s.path g.0.clock))) (cond b (σ (net s.path r.value)) (value_if_enabled g.0.enable (λ z. σ (net s.path z)) old (σ (net s.path g.0.next)))) old)) holds
@@ -338,17 +338,17 @@ module _ (d : Design) (top : Name) (marked : Module → ℕ → Bool) (resets : 
   run_after_reset before content [] (o ∷ outputs) start run = tt
   run_after_reset before content (s ∷ steps) [] start run = tt
   run_after_reset before content (s ∷ steps) (o ∷ outputs) start (after, step, rest) =
-      let risen : Word = risen_content (registers d top) step.earlier step.first_map content in
-      let held : AreReset step.map_of (registers d top) risen =
-      passed_reset (risen_in step.earlier step.first_map) step.earlier step.map_of (registers d top)
-      (risen_reset before s content step.earlier step.first_map step.map_of step.settled_earlier step.settled_first step.settled)
+      let first_phase : Word = risen_content (registers d top) step.earlier step.first_map content in
+      let held : AreReset step.map_of (registers d top) first_phase =
+      map_slots_reset (rise_in step.earlier step.first_map) step.earlier step.map_of (registers d top)
+      (rise_reset before s content step.earlier step.first_map step.map_of step.settled_earlier step.settled_first step.settled)
       content (start step.earlier step.settled_earlier) in (
-        passed_same (risen_in step.earlier step.first_map) (level_in step.first_map) step.earlier (registers d top)
+        map_slots_same (rise_in step.earlier step.first_map) (level_in step.first_map) step.earlier (registers d top)
             (level_same before s content step.earlier step.first_map step.settled_earlier step.settled_first) content (start step.earlier step.settled_earlier),
         held,
         run_after_reset s after steps outputs
             (λ ρ settled. subst (AreReset ρ (registers d top)) (sym step.taken)
-            (passed_reset (loaded step.map_of) step.map_of ρ (registers d top) (loaded_reset s risen after step.map_of ρ step.settled settled) risen held))
+            (map_slots_reset (next_in step.map_of) step.map_of ρ (registers d top) (next_in_reset s first_phase after step.map_of ρ step.settled settled) first_phase held))
             rest,
       )
 

@@ -125,7 +125,7 @@ pub data Source : Type 0 where
   -- another net
   copy : Net → Source
   -- an operation: its kind, the types that it writes, the result's type and number, its operands
-  made : Kind → List HwType → HwType → ℕ → List Net → Source
+  op_result : Kind → List HwType → HwType → ℕ → List Net → Source
 
 abbrev pub input_of : Option Port → ℕ → Source
 input_of None start = nowhere
@@ -163,7 +163,7 @@ held_of start (Some t) = held start (width t)
 
 abbrev pub made_of : Path → Op → ℕ → Option HwType → Source
 made_of p o k None = nowhere
-made_of p o k (Some t) = made o.kind o.types t k (map (net p) o.operands)
+made_of p o k (Some t) = op_result o.kind o.types t k (map (net p) o.operands)
 
 -- result k of the operation o at position i of the module m at the end of a path
 abbrev pub op_source : Design → Name → Path → Module → ℕ → ℕ → Op → Source

@@ -138,21 +138,21 @@ instance_self i =
     (both (same_name i.symbol i.symbol) (pointwise same_name i.inputs i.inputs && pointwise same_name i.outputs i.outputs) (name_self i.symbol)
     (both (pointwise same_name i.inputs i.inputs) (pointwise same_name i.outputs i.outputs) (names_self i.inputs) (names_self i.outputs))))
 
-made : Name → Option Name → Name → List Name → List Name → Instance
-made n s m is os = record { name = n; inner_symbol = s; symbol = m; inputs = is; outputs = os }
+instance_of_parts : Name → Option Name → Name → List Name → List Name → Instance
+instance_of_parts n s m is os = record { name = n; inner_symbol = s; symbol = m; inputs = is; outputs = os }
 
 instance_from : (i j : Instance) → same_instance i j ≡ true → i ≡ j
-unfolding made
+unfolding instance_of_parts
 instance_from i j h =
     let p = both_of (same_name i.name j.name) (same_optional_name i.inner_symbol j.inner_symbol && (same_name i.symbol j.symbol && (pointwise same_name i.inputs j.inputs && pointwise same_name i.outputs j.outputs))) h in
     let q = both_of (same_optional_name i.inner_symbol j.inner_symbol) (same_name i.symbol j.symbol && (pointwise same_name i.inputs j.inputs && pointwise same_name i.outputs j.outputs)) p.1 in
     let r = both_of (same_name i.symbol j.symbol) (pointwise same_name i.inputs j.inputs && pointwise same_name i.outputs j.outputs) q.1 in
     let s = both_of (pointwise same_name i.inputs j.inputs) (pointwise same_name i.outputs j.outputs) r.1 in
-    ap (λ (x : Name). made x i.inner_symbol i.symbol i.inputs i.outputs) (name_from i.name j.name p.0)
-    ∙ ap (λ (x : Option Name). made j.name x i.symbol i.inputs i.outputs) (optional_from i.inner_symbol j.inner_symbol q.0)
-    ∙ ap (λ (x : Name). made j.name j.inner_symbol x i.inputs i.outputs) (name_from i.symbol j.symbol r.0)
-    ∙ ap (λ (x : List Name). made j.name j.inner_symbol j.symbol x i.outputs) (names_from i.inputs j.inputs s.0)
-    ∙ ap (λ (x : List Name). made j.name j.inner_symbol j.symbol j.inputs x) (names_from i.outputs j.outputs s.1)
+    ap (λ (x : Name). instance_of_parts x i.inner_symbol i.symbol i.inputs i.outputs) (name_from i.name j.name p.0)
+    ∙ ap (λ (x : Option Name). instance_of_parts j.name x i.symbol i.inputs i.outputs) (optional_from i.inner_symbol j.inner_symbol q.0)
+    ∙ ap (λ (x : Name). instance_of_parts j.name j.inner_symbol x i.inputs i.outputs) (name_from i.symbol j.symbol r.0)
+    ∙ ap (λ (x : List Name). instance_of_parts j.name j.inner_symbol j.symbol x i.outputs) (names_from i.inputs j.inputs s.0)
+    ∙ ap (λ (x : List Name). instance_of_parts j.name j.inner_symbol j.symbol j.inputs x) (names_from i.outputs j.outputs s.1)
 
 is_icmp_from : (own : Predicate) (k : Kind) → is_icmp own k ≡ true → icmp own ≡ k
 is_icmp_from own (icmp other) h = ap icmp (predicate_from own other h)

@@ -6,7 +6,7 @@ use Rattle.hw_model.specs.Types.{Name}
 use Rattle.hw_model.specs.Design.{Ref, Module, Design, find_module, output_refs}
 use Rattle.hw_model.specs.Value.{op_value, concat_words, is_high}
 use Rattle.hw_model.specs.Flat.{Net, net, Source, source, Slot, Register, ResetBy, register_in, async_reset_in, registers, held_width, state}
-use Rattle.hw_model.specs.Flat.Source.{nowhere, input, held, copy, made}
+use Rattle.hw_model.specs.Flat.Source.{nowhere, input, held, copy, op_result}
 use Rattle.hw_model.specs.Machine.{Machine}
 
 -- ---- nets
@@ -17,7 +17,7 @@ needs_of nowhere = []
 needs_of (input start w) = []
 needs_of (held start w) = []
 needs_of (copy n) = n ∷ []
-needs_of (made kind types t k ns) = ns
+needs_of (op_result kind types t k ns) = ns
 
 abbrev pub needs : Design → Name → Net → List Net
 needs d top n = needs_of (source d top n)
@@ -32,7 +32,7 @@ value_of inputs content nowhere xs = []
 value_of inputs content (input start w) xs = first w (drop start inputs)
 value_of inputs content (held start w) xs = first w (drop start content)
 value_of inputs content (copy n) xs = only xs
-value_of inputs content (made kind types t k ns) xs = op_value kind types t k xs
+value_of inputs content (op_result kind types t k ns) xs = op_value kind types t k xs
 
 abbrev pub value : Design → Name → Word → Word → Net → List Word → Word
 value d top inputs content n xs = value_of inputs content (source d top n) xs
@@ -70,30 +70,30 @@ next_value None τ old = old
 next_value (Some r) τ old = cond (is_high (τ r.clock)) (reset r.reset τ (value_if_enabled r.enable τ old (τ r.next))) old
 
 -- the content slot by slot, `each` giving what a slot holds from what it held
-abbrev pub passed : (Slot → Word → Word) → List Slot → Word → Word
-passed each [] content = []
-passed each (s ∷ ss) content =
-    first (held_width s.op) (each s (first (held_width s.op) content)) ++ passed each ss (drop (held_width s.op) content)
+abbrev pub map_slots : (Slot → Word → Word) → List Slot → Word → Word
+map_slots each [] content = []
+map_slots each (s ∷ ss) content =
+    first (held_width s.op) (each s (first (held_width s.op) content)) ++ map_slots each ss (drop (held_width s.op) content)
 
-abbrev pub loaded : (Net → Word) → Slot → Word → Word
-loaded ρ s old = next_value (register_in s.op) (λ r. ρ (net s.path r)) old
+abbrev pub next_in : (Net → Word) → Slot → Word → Word
+next_in ρ s old = next_value (register_in s.op) (λ r. ρ (net s.path r)) old
 
 -- the content after a step: the registers in order, each taking its next value from the settled map
 abbrev pub next_content : List Slot → (Net → Word) → Word → Word
-next_content ss ρ content = passed (loaded ρ) ss content
+next_content ss ρ content = map_slots (next_in ρ) ss content
 
 -- what a register holds once its asynchronous reset has risen: the reset value where the reset was 0 before and is 1 now
 -- (IEEE 1364-2005, 9.7.2: a posedge is a change to 1)
-abbrev pub risen : Option ResetBy → (Ref → Word) → (Ref → Word) → Word → Word
-risen None τ υ old = old
-risen (Some r) τ υ old = cond (is_high (τ r.signal)) old (cond (is_high (υ r.signal)) (υ r.value) old)
+abbrev pub rise_value : Option ResetBy → (Ref → Word) → (Ref → Word) → Word → Word
+rise_value None τ υ old = old
+rise_value (Some r) τ υ old = cond (is_high (τ r.signal)) old (cond (is_high (υ r.signal)) (υ r.value) old)
 
-abbrev pub risen_in : (Net → Word) → (Net → Word) → Slot → Word → Word
-risen_in ρ σ s old = risen (async_reset_in s.op) (λ r. ρ (net s.path r)) (λ r. σ (net s.path r)) old
+abbrev pub rise_in : (Net → Word) → (Net → Word) → Slot → Word → Word
+rise_in ρ σ s old = rise_value (async_reset_in s.op) (λ r. ρ (net s.path r)) (λ r. σ (net s.path r)) old
 
 -- the content after the first phase of a step, from the map of the step before and that of this step
 abbrev pub risen_content : List Slot → (Net → Word) → (Net → Word) → Word → Word
-risen_content ss ρ σ content = passed (risen_in ρ σ) ss content
+risen_content ss ρ σ content = map_slots (rise_in ρ σ) ss content
 
 -- ---- the machine of a module
 

@@ -11,7 +11,7 @@ use Rattle.hw_model.specs.Design.Ref.{port, result}
 use Rattle.hw_model.specs.Value.{is_high}
 use Rattle.hw_model.specs.Flat.{Net, net, port_ref, Slot, ResetBy, async_reset_in, held_width, registers}
 use Rattle.hw_model.specs.Machine.{RunAfter}
-use Rattle.hw_model.specs.Meaning.{Settled, passed, risen_content, machine}
+use Rattle.hw_model.specs.Meaning.{Settled, map_slots, risen_content, machine}
 
 -- ---- where resets come from
 
@@ -87,6 +87,6 @@ StepsAreReset d top before content [] [] run = Unit {0}
 StepsAreReset d top before content [] (o ∷ outputs) run = Unit {0}
 StepsAreReset d top before content (s ∷ steps) [] run = Unit {0}
 StepsAreReset d top before content (s ∷ steps) (o ∷ outputs) (after, step, rest) =
-    (risen_content (registers d top) step.earlier step.first_map content ≡ passed (level_in step.first_map) (registers d top) content)
+    (risen_content (registers d top) step.earlier step.first_map content ≡ map_slots (level_in step.first_map) (registers d top) content)
     × AreReset step.map_of (registers d top) (risen_content (registers d top) step.earlier step.first_map content)
     × StepsAreReset d top s after steps outputs rest

@@ -11,7 +11,7 @@ use Rattle.ir_store.specs.declared.operation.Value.TheVariants.{Port, Result, Un
 use Rattle.ir_store.specs.Ids.{times}
 use Rattle.ir_store.specs.BodyOps.{BodyOp, operands_at, ids_in, put_before, taken_out, all_replaced, replace_value, same_value, is_of, IsUnused}
 use Rattle.ir_store.specs.Live.{IsLive, HasLive, AreLive, AreDistinct}
-use Rattle.ir_store.specs.Numbered.{position_of, ref_by, op_by, numbered}
+use Rattle.ir_store.specs.Numbered.{position_of, ref_by, op_by, ops_by_position}
 use Rattle.ir_store.specs.Positions.{retarget, position_after_insert, position_after_erase, pushed_ref, result_at, pulled_ref, with_op, without_op, with_operands, same_ref, replaced_ref}
 use Rattle.ir_store.proofs.Living.{ids_stay, same_map, unused_left, ids-all_replaced}
 
@@ -70,7 +70,7 @@ all_ops_by P Q g Good e ops h =
     same_map (λ (o : BodyOp). All Good o.operands) (op_by Q) (λ o. retarget g (op_by P o)) (ops_by P Q g Good e) ops h ∙ map_map (op_by P) (retarget g) ops
 
 pub numbered-put_before : (b : OpId) (o : BodyOp) (ops : List BodyOp) → AreLive ops → HasLive (ids_in ops) o → Contains (ids_in ops) b.index → (Contains (ids_in ops) o.id → ⊥) →
-    numbered (put_before (Some b) o ops) ≡ with_op (position_of (ids_in ops) b.index) (op_by (position_of (ids_in ops)) o) (numbered ops)
+    ops_by_position (put_before (Some b) o ops) ≡ with_op (position_of (ids_in ops) b.index) (op_by (position_of (ids_in ops)) o) (ops_by_position ops)
 numbered-put_before b o ops h l c n =
     map_put (op_by (position_of (ids_in (put_before (Some b) o ops)))) b o ops
     ∙ (rw (
@@ -87,7 +87,7 @@ numbered-put_before b o ops h l c n =
     seen Undefined k = refl
 
 -- an operation at the end
-pub numbered-push : (o : BodyOp) (ops : List BodyOp) → AreLive ops → HasLive (ids_in ops) o → numbered (put_before None o ops) ≡ numbered ops ++ op_by (position_of (ids_in ops)) o ∷ []
+pub numbered-push : (o : BodyOp) (ops : List BodyOp) → AreLive ops → HasLive (ids_in ops) o → ops_by_position (put_before None o ops) ≡ ops_by_position ops ++ op_by (position_of (ids_in ops)) o ∷ []
 numbered-push o ops h l =
     rw (ids_push, map-append)
     (rw (same_map (HasLive (ids_in ops)) (op_by (position_of (ids_in ops ++ o.id ∷ []))) (op_by (position_of (ids_in ops))) same ops h, same o l) refl)
@@ -131,7 +131,7 @@ map_taken f id (o ∷ ops) = go (nat_eq o.id id) (map_taken f id ops)
     go true r = refl
     go false r = ap (λ xs. f o ∷ xs) r
 
-pub numbered-taken_out : (id : ℕ) (ops : List BodyOp) → Contains (ids_in ops) id → IsUnused id ops → numbered (taken_out id ops) ≡ without_op (position_of (ids_in ops) id) (numbered ops)
+pub numbered-taken_out : (id : ℕ) (ops : List BodyOp) → Contains (ids_in ops) id → IsUnused id ops → ops_by_position (taken_out id ops) ≡ without_op (position_of (ids_in ops) id) (ops_by_position ops)
 numbered-taken_out id ops c u =
     all_ops_by (position_of (ids_in ops)) (position_of (ids_in (taken_out id ops))) (pulled_ref (position_of (ids_in ops) id)) (λ x. is_of id x ≡ false) seen (taken_out id ops) (unused_left id ops u)
     ∙ ap (map (retarget (pulled_ref (position_of (ids_in ops) id)))) (map_taken (op_by (position_of (ids_in ops))) id ops)
@@ -170,7 +170,7 @@ one_position P id f g e (o ∷ ops) once h = go (nat_eq o.id id) refl once h (on
 -- a change of operands that the operands by positions follow
 pub numbered-operands_at : (id : ℕ) (f : List Value → List Value) (g : List Ref → List Ref) (ops : List BodyOp) → AreDistinct (ids_in ops) → Contains (ids_in ops) id →
     ((xs : List Value) → map (ref_by (position_of (ids_in ops))) (f xs) ≡ g (map (ref_by (position_of (ids_in ops))) xs)) →
-    numbered (operands_at id f ops) ≡ with_operands (position_of (ids_in ops) id) g (numbered ops)
+    ops_by_position (operands_at id f ops) ≡ with_operands (position_of (ids_in ops) id) g (ops_by_position ops)
 numbered-operands_at id f g ops once h e = rw (ids_stay id f ops) (one_position (position_of (ids_in ops)) id f g e ops (once id) h)
 
 map-insert : {A B : Type 0} (f : A → B) (xs : List A) (i : ℕ) (x : A) → map f (insert xs i x) ≡ insert (map f xs) i (f x)
@@ -185,17 +185,17 @@ map-remove f (y ∷ ys) zero = refl
 map-remove f (y ∷ ys) (suc i) = ap (λ zs. f y ∷ zs) (map-remove f ys i)
 
 pub numbered-set : (id at : ℕ) (x : Value) (ops : List BodyOp) → AreDistinct (ids_in ops) → Contains (ids_in ops) id →
-    numbered (operands_at id (λ xs. slice_set xs at x) ops) ≡ with_operands (position_of (ids_in ops) id) (λ refs. slice_set refs at (ref_by (position_of (ids_in ops)) x)) (numbered ops)
+    ops_by_position (operands_at id (λ xs. slice_set xs at x) ops) ≡ with_operands (position_of (ids_in ops) id) (λ refs. slice_set refs at (ref_by (position_of (ids_in ops)) x)) (ops_by_position ops)
 numbered-set id at x ops once h =
     numbered-operands_at id (λ xs. slice_set xs at x) (λ refs. slice_set refs at (ref_by (position_of (ids_in ops)) x)) ops once h (λ xs. map-set (ref_by (position_of (ids_in ops))) xs at x)
 
 pub numbered-insert : (id at : ℕ) (x : Value) (ops : List BodyOp) → AreDistinct (ids_in ops) → Contains (ids_in ops) id →
-    numbered (operands_at id (λ xs. insert xs at x) ops) ≡ with_operands (position_of (ids_in ops) id) (λ refs. insert refs at (ref_by (position_of (ids_in ops)) x)) (numbered ops)
+    ops_by_position (operands_at id (λ xs. insert xs at x) ops) ≡ with_operands (position_of (ids_in ops) id) (λ refs. insert refs at (ref_by (position_of (ids_in ops)) x)) (ops_by_position ops)
 numbered-insert id at x ops once h =
     numbered-operands_at id (λ xs. insert xs at x) (λ refs. insert refs at (ref_by (position_of (ids_in ops)) x)) ops once h (λ xs. map-insert (ref_by (position_of (ids_in ops))) xs at x)
 
 pub numbered-drop : (id at : ℕ) (ops : List BodyOp) → AreDistinct (ids_in ops) → Contains (ids_in ops) id →
-    numbered (operands_at id (λ xs. remove xs at) ops) ≡ with_operands (position_of (ids_in ops) id) (λ refs. remove refs at) (numbered ops)
+    ops_by_position (operands_at id (λ xs. remove xs at) ops) ≡ with_operands (position_of (ids_in ops) id) (λ refs. remove refs at) (ops_by_position ops)
 numbered-drop id at ops once h =
     numbered-operands_at id (λ xs. remove xs at) (λ refs. remove refs at) ops once h (λ xs. map-remove (ref_by (position_of (ids_in ops))) xs at)
 
@@ -249,7 +249,7 @@ same-ref_by ids Undefined (Result j n) h g = refl
 same-ref_by ids Undefined Undefined h g = refl
 
 pub numbered-all_replaced : (from to : Value) (ops : List BodyOp) → AreLive ops → IsLive (ids_in ops) from →
-    numbered (all_replaced from to ops) ≡ map (retarget (replaced_ref (ref_by (position_of (ids_in ops)) from) (ref_by (position_of (ids_in ops)) to))) (numbered ops)
+    ops_by_position (all_replaced from to ops) ≡ map (retarget (replaced_ref (ref_by (position_of (ids_in ops)) from) (ref_by (position_of (ids_in ops)) to))) (ops_by_position ops)
 numbered-all_replaced from to ops h l =
     rw (ids-all_replaced from to ops)
     (sym (map_map (λ (o : BodyOp). record o { operands = map (replace_value from to) o.operands }) (op_by (position_of (ids_in ops))) ops)

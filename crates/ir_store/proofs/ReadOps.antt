@@ -11,7 +11,7 @@ use Rattle.ir_store.specs.declared.operation.OpId.{OpId}
 use Rattle.ir_store.specs.Ids.{times}
 use Rattle.ir_store.specs.BodyOps.{BodyOp, ids_in, op_at}
 use Rattle.ir_store.specs.Bodies.{ids_of, ops_of, op_id, read_op}
-use Rattle.ir_store.specs.Numbered.{position_of, op_by, numbered}
+use Rattle.ir_store.specs.Numbered.{position_of, op_by, ops_by_position}
 use Rattle.ir_store.proofs.BodyLemmas.{ids_once}
 use Rattle.ir_store.proofs.IdLemmas.{contained_times}
 use Rattle.ir_store.proofs.PositionTables.{index_at, ids_same, position_found}
@@ -86,7 +86,7 @@ module _ (b : Body) (ids : List OpId) (all : ids ≡ map op_id (ids_of b)) (j : 
       any_default (x ∷ xs) zero d e below = refl
       any_default (x ∷ xs) (suc k) d e below = any_default xs k d e (omega arith)
 
-  pub op_is : (o : Op) → op_at (ops_of b) (get_or ids j (op_id 0)).index ≡ Some (read_op (get_or ids j (op_id 0)) o) → slice_get (numbered (ops_of b)) j ≡ Some (op_by (position_of (ids_of b)) (read_op (op_id 0) o))
+  pub op_is : (o : Op) → op_at (ops_of b) (get_or ids j (op_id 0)).index ≡ Some (read_op (get_or ids j (op_id 0)) o) → slice_get (ops_by_position (ops_of b)) j ≡ Some (op_by (position_of (ids_of b)) (read_op (op_id 0) o))
   op_is o found =
       let below : j < length (ops_of b) = subst (λ n. j < n) (count ∙ length-map (ops_of b) (λ (x : BodyOp). x.id)) within in
       let there = slice_get_some (ops_of b) j below in
@@ -103,6 +103,6 @@ module _ (b : Body) (ids : List OpId) (all : ids ≡ map op_id (ids_of b)) (j : 
       position_found (ids_of b) (get_or ids j d).index j (ids_once b (get_or ids j d).index) there
 
 -- as many ids as operations
-pub ids_numbered : (b : Body) (ids : List OpId) → ids ≡ map op_id (ids_of b) → length ids ≡ length (numbered (ops_of b))
+pub ids_numbered : (b : Body) (ids : List OpId) → ids ≡ map op_id (ids_of b) → length ids ≡ length (ops_by_position (ops_of b))
 ids_numbered b ids all =
     ap length all ∙ length-map (ids_of b) op_id ∙ length-map (ops_of b) (λ (o : BodyOp). o.id) ∙ sym (length-map (ops_of b) (op_by (position_of (ids_of b))))

@@ -12,7 +12,7 @@ use Rattle.ir_store.specs.DictionaryViews.{entries_in}
 use Rattle.ir_store.specs.OperationViews.{place_of}
 use Rattle.ir_store.specs.BodyOps.{BodyOp}
 use Rattle.ir_store.specs.Bodies.{ops_of}
-use Rattle.ir_store.specs.Numbered.{numbered}
+use Rattle.ir_store.specs.Numbered.{ops_by_position}
 
 -- a port
 abbrev pub port_of : Port → hw.Port
@@ -53,7 +53,7 @@ numbered_module m = record {
   is_private = m.is_private;
   ports = m.ports;
   dictionary = m.dictionary;
-  body = numbered m.ops;
+  body = ops_by_position m.ops;
   place = m.place;
 }
 

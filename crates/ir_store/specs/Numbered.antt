@@ -32,5 +32,5 @@ op_by position o = record {
 }
 
 -- the operations by positions
-abbrev pub numbered : List BodyOp → List Op
-numbered ops = map (op_by (position_of (ids_in ops))) ops
+abbrev pub ops_by_position : List BodyOp → List Op
+ops_by_position ops = map (op_by (position_of (ids_in ops))) ops

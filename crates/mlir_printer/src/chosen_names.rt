@@ -62,7 +62,7 @@ impl ChosenNames {
     }
 
     /// The same memory without names. The digits of numbers are kept.
-    pub fn cleared(self) -> ChosenNames
+    pub fn into_empty(self) -> ChosenNames
         ensures names { names_in result ≡ [] }
         ensures next { result.numbered ≡ 0 }
     {

@@ -71,7 +71,7 @@ impl ValueNames {
         ensures names { IfOk result (λ v. names_held v ≡ names_given (ports_in one.now.ports) (parts_in_body (ops_of one.now.body))) }
         ensures values { IfOk result (λ v. (x : Value) → value_held v x ≡ value_named (names_held v) (ports_in one.now.ports) (parts_in_body (ops_of one.now.body)) (ref_by (position_of (ids_of one.now.body)) x)) }
     {
-        let mut names = room.cleared();
+        let mut names = room.into_empty();
         names.add_ports(alloc, &one.ports.ports)?;
         names.add_operations(alloc, &one.body)?;
         Ok(names)
@@ -92,7 +92,7 @@ impl ValueNames {
     }
 
     // The same memory without names.
-    fn cleared(self) -> ValueNames
+    fn into_empty(self) -> ValueNames
         ensures names { names_held result ≡ [] }
         ensures numbered { result.names.numbered ≡ 0 }
         ensures ports { result.ports.items ≡ [] }
@@ -106,7 +106,7 @@ impl ValueNames {
         ports.clear();
         places.clear();
         ValueNames {
-            names: names.cleared(),
+            names: names.into_empty(),
             ports,
             places,
         }

@@ -4,7 +4,7 @@ use Rattle.std.specs.Prelude.{◌||◌}
 use Rattle.opcode.specs.declared.listed.Listed.TheVariants as listed
 use Rattle.hw_model.specs.Design as hw
 use Rattle.ir_store.specs.BodyOps.{BodyOp, ids_in}
-use Rattle.ir_store.specs.Numbered.{op_by, numbered}
+use Rattle.ir_store.specs.Numbered.{op_by, ops_by_position}
 use Rattle.ir_store.specs.Designs.{numbered_module}
 use Rattle.ir_store.specs.OperationViews.{place_of}
 use Rattle.mlir_operations.specs.ModuleText.{ModuleText}
@@ -52,7 +52,7 @@ module _ (m : ModuleText) (ops₀ ops : List BodyOp) (names seen₀ seen : Meani
       ends ≡ (ends_with_output m.operations || has_outputs m.ports) →
       numbered_module (record { symbol = m.symbol; is_private = m.is_private; ports = ports; dictionary = entries; ops = ops; place = place_of m.place }) ≡ module_of m
   module_is ports entries n s p t d o i w j e =
-      ap (λ (ps : List hw.Port). record { symbol = m.symbol; is_private = m.is_private; ports = ps; dictionary = entries; body = numbered ops; place = place_of m.place }) (p ∙ ap (λ f. ports_from f 0 m.ports) s)
-      ∙ ap (λ (es : List hw.Entry). record { symbol = m.symbol; is_private = m.is_private; ports = ports_from no_meaning 0 m.ports; dictionary = es; body = numbered ops; place = place_of m.place }) d
+      ap (λ (ps : List hw.Port). record { symbol = m.symbol; is_private = m.is_private; ports = ps; dictionary = entries; body = ops_by_position ops; place = place_of m.place }) (p ∙ ap (λ f. ports_from f 0 m.ports) s)
+      ∙ ap (λ (es : List hw.Entry). record { symbol = m.symbol; is_private = m.is_private; ports = ports_from no_meaning 0 m.ports; dictionary = es; body = ops_by_position ops; place = place_of m.place }) d
       ∙ ap (λ (os : List hw.Op). record { symbol = m.symbol; is_private = m.is_private; ports = ports_from no_meaning 0 m.ports; dictionary = kept_entries listed.HwModule m.dictionary; body = os; place = place_of m.place })
       (body_is m ops (cond ends (length m.operations) (length m.operations + 1)) enough (ids_whole i j) (body_seen n s t o w e))

@@ -9,7 +9,7 @@ use Rattle.hw_model.specs.Design.Ref.{port, result, undefined}
 use Rattle.ir_store.specs.declared.operation.Value.{Value}
 use Rattle.ir_store.specs.declared.operation.Value.TheVariants.{Port, Result, Undefined}
 use Rattle.ir_store.specs.BodyOps.{BodyOp, ids_in}
-use Rattle.ir_store.specs.Numbered.{position_of, ref_by, op_by, numbered}
+use Rattle.ir_store.specs.Numbered.{position_of, ref_by, op_by, ops_by_position}
 use Rattle.mlir_operations.specs.OperandText.{OperandName, ResultNames}
 use Rattle.mlir_operations.specs.OperandText.ResultNames.{no_names, names, pack}
 use Rattle.mlir_operations.specs.OperationText.{OperationText}
@@ -152,7 +152,7 @@ numbers_push (suc n) f =
     let e : f + suc n ≡ f + 1 + n = omega arith in rw e (ap (λ ns. f ∷ ns) (numbers_push n (f + 1)))
 
 numbered_is : (ops : List BodyOp) (n : ℕ) (os : List Op) → ids_in ops ≡ numbers_below n → map (op_by (λ i. i)) ops ≡ os →
-    map (renumbered (position_of (numbers_below n))) os ≡ os → numbered ops ≡ os
+    map (renumbered (position_of (numbers_below n))) os ≡ os → ops_by_position ops ≡ os
 numbered_is ops n os ids seen stay =
     ap (λ js. map (op_by (position_of js)) ops) ids ∙ ops_moved (position_of (numbers_below n)) ops ∙ ap (map (renumbered (position_of (numbers_below n)))) seen ∙ stay
 
@@ -165,7 +165,7 @@ completed_stays false false pos os place h = map-append (renumbered pos) os (lef
 -- a body whose ids are positions is the body of its text
 pub body_is : (m : ModuleText) (ops : List BodyOp) (n : ℕ) → length m.operations ≤ n → ids_in ops ≡ numbers_below n →
     map (op_by (λ i. i)) ops ≡ with_output m (operations_from (meanings m) (port_meanings m.ports) 0 m.operations) →
-    numbered ops ≡ with_output m (operations_from (meanings m) (port_meanings m.ports) 0 m.operations)
+    ops_by_position ops ≡ with_output m (operations_from (meanings m) (port_meanings m.ports) 0 m.operations)
 body_is m ops n few ids seen =
     let pos = position_of (numbers_below n) in
     let body = operations_from (meanings m) (port_meanings m.ports) 0 m.operations in

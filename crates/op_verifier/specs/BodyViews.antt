@@ -4,7 +4,7 @@ use Rattle.hw_model.specs.Design.{Ref, Port, Op}
 use Rattle.ir_store.specs.declared.operation.Value.{Value}
 use Rattle.ir_store.specs.Designs.{port_of}
 use Rattle.ir_store.specs.BodyOps.{BodyOp, ids_in}
-use Rattle.ir_store.specs.Numbered.{position_of, ref_by, op_by, numbered}
+use Rattle.ir_store.specs.Numbered.{position_of, ref_by, op_by, ops_by_position}
 use Rattle.op_verifier.specs.declared.body_view.BodyView.{BodyView}
 use Rattle.op_verifier.specs.Entries.{op_in}
 
@@ -22,7 +22,7 @@ position_viewed v id = position_of (ids_in (ops_viewed v)) id
 
 -- the operations by positions
 abbrev pub body_viewed : BodyView → List Op
-body_viewed v = numbered (ops_viewed v)
+body_viewed v = ops_by_position (ops_viewed v)
 
 -- an operand by positions
 abbrev pub ref_viewed : BodyView → Value → Ref

@@ -9,10 +9,10 @@ use Rattle.verilog_model.specs.Numerals.{decimal_number, hex_number}
 use Rattle.verilog_model.specs.Tree.{Operator, Expr}
 use Rattle.verilog_model.specs.Tree.Operator.{times, over, modulo, plus, minus, left_shift, right_shift, signed_right_shift, below, at_most, above, at_least, equals, differs, bit_and, bit_xor, bit_or}
 use Rattle.verilog_model.specs.Tree.Expr.{name, bit_select, part_select, literal, joined, repeated, as_signed, as_unsigned, paren, odd, binary, choice}
-use Rattle.verilog_model.specs.Expression.{is_signed, length_of, extended, is_true, compare_words, low_bits, value, values, own_value, assigned}
+use Rattle.verilog_model.specs.Expression.{is_signed, length_of, extend, is_true, compare_words, low_bits, value, values, own_value, assigned}
 use Rattle.verilog_expr.specs.Values.{HasBits}
 
-extended_long : (k : ℕ) (s : Bool) (x : Word) → k ≤ length (extended k s x)
+extended_long : (k : ℕ) (s : Bool) (x : Word) → k ≤ length (extend k s x)
 extended_long k s x = omega (arith, length-append (replicate (k - length x) (s && sign x)) x, length-replicate (k - length x) (s && sign x))
 
 as_long : (k : ℕ) (x y : Word) → length y ≡ length x → k ≤ length x → k ≤ length y
@@ -30,7 +30,7 @@ chosen_long k false x y first second = second
 
 module _ (widths : Name → ℕ) (ρ : Name → Word) where
   compared_long : (o : Operator) (k : ℕ) (s : Bool) (a b : Expr)
-      → k ≤ length (extended k s (flag (compare_words o (is_signed a && is_signed b) (value widths ρ (max (length_of widths a) (length_of widths b)) (is_signed a && is_signed b) a)
+      → k ≤ length (extend k s (flag (compare_words o (is_signed a && is_signed b) (value widths ρ (max (length_of widths a) (length_of widths b)) (is_signed a && is_signed b) a)
       (value widths ρ (max (length_of widths a) (length_of widths b)) (is_signed a && is_signed b) b))))
   compared_long o k s a b =
       extended_long k s (flag (compare_words o (is_signed a && is_signed b) (value widths ρ (max (length_of widths a) (length_of widths b)) (is_signed a && is_signed b) a)

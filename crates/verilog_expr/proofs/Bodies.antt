@@ -18,7 +18,7 @@ use Rattle.hw_model.specs.Sound.{type_in, Fits}
 use Rattle.verilog_model.specs.Tree.{Expr}
 use Rattle.verilog_model.specs.Tree.Expr.{name}
 use Rattle.verilog_model.specs.Expression.{own_value}
-use Rattle.verilog_expr.specs.Building.{no_expr, literal_of, built}
+use Rattle.verilog_expr.specs.Building.{no_expr, literal_of, kind_expr}
 use Rattle.verilog_expr.specs.Expressions.{value_width, constant_number, constant_of, divisor_in, name_or, op_expr, typed_expr, result_expr, own_expr, AreExprs}
 use Rattle.verilog_expr.specs.Spilling.{is_pure, is_wire_kind, is_constant_kind, is_narrower, inner_of, inner_needs}
 use Rattle.verilog_expr.specs.Values.{HasBits, HaveBits, IsWholeName, IsBuildable, IsDividedBy, IsDivision, is_division, is_item_kind, gives_values, IsWritable, AreNamed, HoldConstants}
@@ -164,7 +164,7 @@ module _ (named : Ref → Option Name) (ports : List Port) (os : List Op) (ex : 
     op_bits : (i k : ℕ) (o : Op) (t : HwType) → slice_get os i ≡ Some o → gives_values o ≡ true → result_type o k ≡ Some t
         → ((x : Ref) → In x o.operands → Good x) → HasBits widths ρ (width t) (op_expr named ports os ex o (width t))
     op_bits i k o t there values is good =
-        subst (λ ws. HasBits widths ρ (width t) (built o.kind (width t) ws (divisor_in os (width t) o.operands) (map ex o.operands))) (same_widths o)
+        subst (λ ws. HasBits widths ρ (width t) (kind_expr o.kind (width t) ws (divisor_in os (width t) o.operands) (map ex o.operands))) (same_widths o)
         (built_bits widths ρ o.kind o.types (map (type_in ports os) o.operands) t k (divisor_in os (width t) o.operands) (map ex o.operands)
         (writable.fits i o there k t is) (can_build i k o t there values is good))
 
@@ -225,7 +225,7 @@ module _ (named : Ref → Option Name) (ports : List Port) (os : List Op) (ex : 
       by_name z kind_is None unnamed =
           let literal_is_it : ex (result i 0) ≡ literal_of (width t) false (number (bits_of_ℤ (width t) z)) =
           is_own are (result i 0) unnamed ∙ is_op i 0 o t there is
-          ∙ ap (λ kind. built kind (width t) (map (value_width ports os) o.operands) (divisor_in os (width t) o.operands) (map ex o.operands)) kind_is in
+          ∙ ap (λ kind. kind_expr kind (width t) (map (value_width ports os) o.operands) (divisor_in os (width t) o.operands) (map ex o.operands)) kind_is in
           ap (own_value widths ρ) literal_is_it
           ∙ Is-own widths ρ (width t) false (literal_of (width t) false (number (bits_of_ℤ (width t) z))) _ (literal_is widths ρ (width t) false (number (bits_of_ℤ (width t) z)) small)
       by_name z kind_is (Some n) named_so =
@@ -253,7 +253,7 @@ module _ (named : Ref → Option Name) (ports : List Port) (os : List Op) (ex : 
         → own_value widths ρ (own_expr named ports os ex (result i k)) ≡ op_value o.kind o.types t k (map (λ (x : Ref). own_value widths ρ (ex x)) o.operands)
     body_worth i k o t there values is hold =
         ap (own_value widths ρ) (is_op i k o t there is
-        ∙ ap (λ ws. built o.kind (width t) ws (divisor_in os (width t) o.operands) (map ex o.operands)) (sym (same_widths o)))
+        ∙ ap (λ ws. kind_expr o.kind (width t) ws (divisor_in os (width t) o.operands) (map ex o.operands)) (sym (same_widths o)))
         ∙ built_worth widths ρ o.kind o.types (map (type_in ports os) o.operands) t k (divisor_in os (width t) o.operands) (map ex o.operands)
         (writable.fits i o there k t is) (can_build i k o t there values is (λ x here. body_bits x)) (divided i k o t there is hold)
         ∙ ap (op_value o.kind o.types t k) (map_map ex (own_value widths ρ) o.operands)

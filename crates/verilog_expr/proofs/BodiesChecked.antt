@@ -20,7 +20,7 @@ use Rattle.hw_model.specs.Sound.{type_in}
 use Rattle.verilog_model.specs.Tree.{Expr}
 use Rattle.verilog_model.specs.Tree.Expr.{name}
 use Rattle.verilog_model.specs.Checks.{Declared}
-use Rattle.verilog_expr.specs.Building.{built}
+use Rattle.verilog_expr.specs.Building.{kind_expr}
 use Rattle.verilog_expr.specs.Expressions.{value_width, constant_number, constant_of, divisor_in, op_expr, own_expr, AreExprs}
 use Rattle.verilog_expr.specs.Spilling.{is_pure, is_narrower, inner_needs}
 use Rattle.verilog_expr.specs.Values.{IsDivision, gives_values, IsWritable}
@@ -101,7 +101,7 @@ module _ (known : List Declared) (named : Ref → Option Name) (ports : List Por
   op_well : (i k : ℕ) (o : Op) (t : HwType) → slice_get os i ≡ Some o → gives_values o ≡ true → result_type o k ≡ Some t
       → ((x : Ref) → In x o.operands → Typed x) → IsWell known (op_expr named ports os ex o (width t))
   op_well i k o t there values is good =
-      subst (λ ws. IsWell known (built o.kind (width t) ws (divisor_in os (width t) o.operands) (map ex o.operands))) (map_map (type_in ports os) width_of o.operands)
+      subst (λ ws. IsWell known (kind_expr o.kind (width t) ws (divisor_in os (width t) o.operands) (map ex o.operands))) (map_map (type_in ports os) width_of o.operands)
       (built_well known o.kind o.types (map (type_in ports os) o.operands) t k (divisor_in os (width t) o.operands) (map ex o.operands)
       (writable.fits i o there k t is) (writable.integers i o there) (item_kind o values)
       (λ variadic. subst (λ n. 1 ≤ n) (sym (as_many (type_in ports os) o.operands)) (writable.filled i o there variadic))

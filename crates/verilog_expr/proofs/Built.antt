@@ -24,7 +24,7 @@ use Rattle.verilog_model.specs.Grammar.{strength, primary_level}
 use Rattle.verilog_model.specs.Checks.{divides}
 use Rattle.verilog_model.specs.Expression.{context_of, arithmetic, shift_word, own_value}
 use Rattle.verilog_model.specs.Expression.Context.{both_operands, left_operand}
-use Rattle.verilog_expr.specs.Building.{literal_of, parenthesize, unsigned_at, of_one_expr, of_two_exprs, of_three_exprs, unsigned_pair, variadic_expr, unsigned_shift, signed_shift, unsigned_division, signed_division, comparison, select_bits, first_width, conditional, built, division_expr, shift_expr, variadic_operator, division_operator, shift_operator, is_signed_division, is_signed_shift}
+use Rattle.verilog_expr.specs.Building.{literal_of, parenthesize, unsigned_at, of_one_expr, of_two_exprs, of_three_exprs, unsigned_pair, variadic_expr, unsigned_shift, signed_shift, unsigned_division, signed_division, comparison, select_bits, first_width, conditional, kind_expr, division_expr, shift_expr, variadic_operator, division_operator, shift_operator, is_signed_division, is_signed_shift}
 use Rattle.verilog_expr.specs.Values.{HasBits, HaveBits, IsBuildable, IsDividedBy}
 use Rattle.verilog_expr.proofs.Operators.{division_context, shift_context, divides_division, division_computes, shift_computes, length-divided, length-shifted}
 use Rattle.verilog_expr.proofs.Own.{Is, Is-own, HasBits-Is, placed_own, unsigned_at_is, signed_is, literal_is, both_is, shift_is}
@@ -219,7 +219,7 @@ module _ (widths : Name → ℕ) (ρ : Name → Word) where
 
   pub built_gives : (kind : Kind) (ts : List HwType) (xs : List (Option HwType)) (t : HwType) (k divisor : ℕ) (es : List Expr)
       → Fits kind ts xs t k → IsBuildable widths ρ kind xs t es
-      → Gives widths ρ (IsDividedBy widths ρ kind (width t) divisor es) (width t) (built kind (width t) (map width_of xs) divisor es)
+      → Gives widths ρ (IsDividedBy widths ρ kind (width t) divisor es) (width t) (kind_expr kind (width t) (map width_of xs) divisor es)
       (op_value kind ts t k (map (own_value widths ρ) es))
   built_gives (variadic v) ts xs t k divisor es fits can = variadic_built v t xs es fits (can.filled refl) can.operands
   built_gives sub ts xs t k divisor es fits can =
@@ -271,10 +271,10 @@ module _ (widths : Name → ℕ) (ρ : Name → Word) where
   built_gives (register f r) ts xs t k divisor es fits can = absurd (true≢false can.values)
 
   pub built_bits : (kind : Kind) (ts : List HwType) (xs : List (Option HwType)) (t : HwType) (k divisor : ℕ) (es : List Expr)
-      → Fits kind ts xs t k → IsBuildable widths ρ kind xs t es → HasBits widths ρ (width t) (built kind (width t) (map width_of xs) divisor es)
+      → Fits kind ts xs t k → IsBuildable widths ρ kind xs t es → HasBits widths ρ (width t) (kind_expr kind (width t) (map width_of xs) divisor es)
   built_bits kind ts xs t k divisor es fits can = (built_gives kind ts xs t k divisor es fits can).bits
 
   pub built_worth : (kind : Kind) (ts : List HwType) (xs : List (Option HwType)) (t : HwType) (k divisor : ℕ) (es : List Expr)
       → Fits kind ts xs t k → IsBuildable widths ρ kind xs t es → IsDividedBy widths ρ kind (width t) divisor es
-      → own_value widths ρ (built kind (width t) (map width_of xs) divisor es) ≡ op_value kind ts t k (map (own_value widths ρ) es)
+      → own_value widths ρ (kind_expr kind (width t) (map width_of xs) divisor es) ≡ op_value kind ts t k (map (own_value widths ρ) es)
   built_worth kind ts xs t k divisor es fits can by = (built_gives kind ts xs t k divisor es fits can).worth by

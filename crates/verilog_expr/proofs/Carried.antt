@@ -9,7 +9,7 @@ use Rattle.hw_model.specs.Design.{Ref, Port, Op, result_type}
 use Rattle.hw_model.specs.Design.Ref.{port, result, undefined}
 use Rattle.verilog_model.specs.Tree.{Expr}
 use Rattle.verilog_model.specs.Tree.Expr.{name}
-use Rattle.verilog_expr.specs.Building.{no_expr, of_one_expr, of_two_exprs, of_three_exprs, built}
+use Rattle.verilog_expr.specs.Building.{no_expr, of_one_expr, of_two_exprs, of_three_exprs, kind_expr}
 use Rattle.verilog_expr.specs.Expressions.{name_or, op_expr, typed_expr, result_expr, own_expr, AreExprs, expr_to}
 use Rattle.verilog_expr.specs.Spilling.{is_pure, inner_needs}
 use Rattle.verilog_expr.specs.Values.{IsWritable}
@@ -45,7 +45,7 @@ module _ (p : Expr → Bool) (none : p no_expr ≡ true) where
 pub record IsCarried (p : Expr → Bool) : Type 0 where
   pub none : p no_expr ≡ true
   pub called : (n : Name) → p (name n) ≡ true
-  pub each : (kind : Kind) (w : ℕ) (ws : List ℕ) (divisor : ℕ) (es : List Expr) → ((e : Expr) → In e es → p e ≡ true) → p (built kind w ws divisor es) ≡ true
+  pub each : (kind : Kind) (w : ℕ) (ws : List ℕ) (divisor : ℕ) (es : List Expr) → ((e : Expr) → In e es → p e ≡ true) → p (kind_expr kind w ws divisor es) ≡ true
 
 module _ (p : Expr → Bool) (carried : IsCarried p) (named : Ref → Option Name) (ports : List Port) (os : List Op) where
   op_carried : (ex : Ref → Expr) (o : Op) (w : ℕ) → ((x : Ref) → In x o.operands → p (ex x) ≡ true) → p (op_expr named ports os ex o w) ≡ true

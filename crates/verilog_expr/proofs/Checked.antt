@@ -23,7 +23,7 @@ use Rattle.verilog_model.specs.Expression.{is_signed}
 use Rattle.verilog_model.specs.Checks.{Declared, find_declared, has_bit, is_divisor, divides, expr_checks, exprs_check}
 use Rattle.verilog_model.proofs.Numerals.{and_intro, and_first, and_second, decimal_number-decimal, is_decimal-decimal, all_bytes_weaker}
 use Rattle.verilog_model.proofs.Reread.{all_digits_are_word}
-use Rattle.verilog_expr.specs.Building.{literal_of, unsigned, parenthesize, unsigned_at, of_one_expr, of_two_exprs, of_three_exprs, unsigned_pair, chain, variadic_expr, signed_pair, unsigned_shift, signed_shift, unsigned_division, signed_division, comparison, select, select_bits, exprs_of, concatenation, conditional, built, division_expr, shift_expr, variadic_operator, division_operator, shift_operator, is_signed_division, is_signed_shift}
+use Rattle.verilog_expr.specs.Building.{literal_of, unsigned, parenthesize, unsigned_at, of_one_expr, of_two_exprs, of_three_exprs, unsigned_pair, chain, variadic_expr, signed_pair, unsigned_shift, signed_shift, unsigned_division, signed_division, comparison, select, select_bits, exprs_of, concatenation, conditional, kind_expr, division_expr, shift_expr, variadic_operator, division_operator, shift_operator, is_signed_division, is_signed_shift}
 use Rattle.verilog_expr.specs.Values.{is_aggregate_kind, is_division, is_variadic, is_item_kind}
 use Rattle.verilog_expr.specs.Spilling.{is_narrower}
 use Rattle.verilog_expr.specs.Numerals.{hex}
@@ -378,7 +378,7 @@ module _ (known : List Declared) where
   pub built_well : (kind : Kind) (ts : List HwType) (xs : List (Option HwType)) (t : HwType) (k divisor : ℕ) (es : List Expr) → Fits kind ts xs t k
       → is_aggregate_kind kind ≡ false → is_item_kind kind ≡ false → (is_variadic kind ≡ true → 1 ≤ length xs) → 1 ≤ width t → width t < 2 ^ 64
       → ((x : Option HwType) → In x xs → width_of x < 2 ^ 64) → HaveWell xs es → IsDivided kind (width t) divisor → IsCut kind (width t) xs es
-      → IsWell (built kind (width t) (map width_of xs) divisor es)
+      → IsWell (kind_expr kind (width t) (map width_of xs) divisor es)
   unfolding IsDivided IsCut
   built_well (variadic v) ts xs t k divisor es fits whole values filled some small narrow are divided cut = all_variadic (variadic_operator v) t xs es (plain_operator v) (filled refl) fits are
   built_well sub ts xs t k divisor es fits whole values filled some small narrow are divided cut = two_well (unsigned_pair minus) t t xs es fits are (λ a b x y. well_pair minus a b refl x y)

@@ -12,7 +12,7 @@ use Rattle.hw_model.specs.Design.{Ref, Port, Op, result_type}
 use Rattle.hw_model.specs.Design.Ref.{port, result, undefined}
 use Rattle.hw_model.specs.Sound.{type_in}
 use Rattle.verilog_model.specs.Tree.{Expr}
-use Rattle.verilog_expr.specs.Building.{built}
+use Rattle.verilog_expr.specs.Building.{kind_expr}
 use Rattle.verilog_expr.specs.Expressions.{op_at, value_width, divisor_in, name_or, op_expr, typed_expr, result_expr, own_expr, expr_step, AreExprs, expr_to}
 use Rattle.verilog_expr.specs.Spilling.{is_pure, is_constant_kind, is_shared, some_op, cuts, part_of_op, part_of, part, height_limit, height_under, operands_of, height_over, height_step, height, has_wire, spilled_op, spilled, inner_needs}
 use Rattle.verilog_expr.specs.Spilling.Part.{flat, shared, nested}
@@ -128,14 +128,14 @@ module _ (named : Ref → Option Name) (ports : List Port) (os : List Op) (writa
   same_constant : (f g : Ref → Expr) (o : Op) (w : ℕ) → is_constant_kind o.kind ≡ true → op_expr named ports os f o w ≡ op_expr named ports os g o w
   same_constant f g o w constant_so = go (constant_kind o.kind constant_so) where
     with_kind : (Ref → Expr) → Kind → Expr
-    with_kind ex kind = built kind w (map (value_width ports os) o.operands) (divisor_in os w o.operands) (map ex o.operands)
+    with_kind ex kind = kind_expr kind w (map (value_width ports os) o.operands) (divisor_in os w o.operands) (map ex o.operands)
 
     go : (z : ℤ) × (o.kind ≡ constant z) → with_kind f o.kind ≡ with_kind g o.kind
     go (z, is) = ap (with_kind f) is ∙ sym (ap (with_kind g) is)
 
   same_nested : (f g : Ref → Expr) (o : Op) (w : ℕ) → ((x : Ref) → In x o.operands → f x ≡ g x) → op_expr named ports os f o w ≡ op_expr named ports os g o w
   same_nested f g o w same =
-      ap (built o.kind w (map (value_width ports os) o.operands) (divisor_in os w o.operands)) (map_same f g o.operands same)
+      ap (kind_expr o.kind w (map (value_width ports os) o.operands) (divisor_in os w o.operands)) (map_same f g o.operands same)
 
   same_step : (f g : Ref → Expr) (m n : ℕ) (r : Ref) → ((x : Ref) → Low m x → Low n x → f x ≡ g x) → Low (suc m) r → Low (suc n) r
       → expr_step named ports os f r ≡ expr_step named ports os g r

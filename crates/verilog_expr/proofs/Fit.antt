@@ -12,7 +12,7 @@ use Rattle.verilog_model.specs.Tree.Expr.{name, bit_select, part_select, as_sign
 use Rattle.verilog_model.specs.Grammar.{strength, choice_level, primary_level, level, fits, all_fit}
 use Rattle.verilog_model.specs.Expression.{is_signed}
 use Rattle.verilog_model.proofs.Numerals.{and_intro}
-use Rattle.verilog_expr.specs.Building.{literal_of, unsigned, parenthesize, unsigned_at, unsigned_pair, chain, variadic_expr, signed_pair, unsigned_shift, signed_shift, unsigned_division, signed_division, comparison, select, select_bits, exprs_of, concatenation, conditional, built, division_expr, shift_expr, variadic_operator, division_operator, shift_operator, is_signed_division, is_signed_shift}
+use Rattle.verilog_expr.specs.Building.{literal_of, unsigned, parenthesize, unsigned_at, unsigned_pair, chain, variadic_expr, signed_pair, unsigned_shift, signed_shift, unsigned_division, signed_division, comparison, select, select_bits, exprs_of, concatenation, conditional, kind_expr, division_expr, shift_expr, variadic_operator, division_operator, shift_operator, is_signed_division, is_signed_shift}
 use Rattle.verilog_expr.specs.Expressions.{own_expr, expr_to}
 use Rattle.verilog_expr.proofs.Carried.{IsCarried, one_holds, two_hold, three_hold, own_carried, depth_carried}
 
@@ -158,7 +158,7 @@ conditional_fits c a b condition fit also =
 
 -- ---- each kind
 
-pub built_fits : (kind : Kind) (w : ℕ) (ws : List ℕ) (divisor : ℕ) (es : List Expr) → ((e : Expr) → In e es → fits e ≡ true) → fits (built kind w ws divisor es) ≡ true
+pub built_fits : (kind : Kind) (w : ℕ) (ws : List ℕ) (divisor : ℕ) (es : List Expr) → ((e : Expr) → In e es → fits e ≡ true) → fits (kind_expr kind w ws divisor es) ≡ true
 built_fits (variadic v) w ws divisor es all = variadic_fits (variadic_operator v) es all
 built_fits sub w ws divisor es all = two_hold fits refl _ (unsigned_pair_fits minus) es all
 built_fits (division d) w ws divisor es all = two_hold fits refl _ (λ a b fit also. division_fits (is_signed_division d) (division_operator d) w divisor a fit) es all

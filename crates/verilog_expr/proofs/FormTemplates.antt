@@ -10,7 +10,7 @@ use Rattle.verilog_model.specs.Tree.Exprs.{last}
 use Rattle.verilog_model.specs.Grammar.{level, strength, primary_level}
 use Rattle.verilog_model.specs.Expression.{Context, is_signed, context_of, binary_signed}
 use Rattle.verilog_model.specs.Expression.Context.{both_operands, left_operand, no_operand}
-use Rattle.verilog_expr.specs.Building.{no_expr, literal_of, unsigned, parenthesize, unsigned_at, of_one_expr, of_two_exprs, of_three_exprs, unsigned_pair, chain, variadic_expr, signed_pair, unsigned_shift, signed_shift, unsigned_division, signed_division, comparison, select, select_bits, concatenation, conditional, first_width, built, division_expr, shift_expr, variadic_operator, division_operator, shift_operator, is_signed_division, is_signed_shift}
+use Rattle.verilog_expr.specs.Building.{no_expr, literal_of, unsigned, parenthesize, unsigned_at, of_one_expr, of_two_exprs, of_three_exprs, unsigned_pair, chain, variadic_expr, signed_pair, unsigned_shift, signed_shift, unsigned_division, signed_division, comparison, select, select_bits, concatenation, conditional, first_width, kind_expr, division_expr, shift_expr, variadic_operator, division_operator, shift_operator, is_signed_division, is_signed_shift}
 use Rattle.verilog_expr.specs.Text.{expr_text}
 use Rattle.verilog_expr.specs.Forms.{operator_of, operator_in_code}
 use Rattle.verilog_expr.specs.Templates.{chain_template, template_of_count, division_form, shift_form, comparison_form, extract_template, template_for, template_text, template_signed, template_level}
@@ -255,7 +255,7 @@ shift_template v x y =
 
 -- ---- kinds
 
-pub built_is : (kind : Kind) (w : ℕ) (ws : List ℕ) (d : ℕ) (es : List Expr) → IsTemplate (built kind w ws d es) (template_for kind w (first_width ws) d (length es)) es
+pub built_is : (kind : Kind) (w : ℕ) (ws : List ℕ) (d : ℕ) (es : List Expr) → IsTemplate (kind_expr kind w ws d es) (template_for kind w (first_width ws) d (length es)) es
 built_is (variadic v) w ws d es = variadic_template v es
 built_is sub w ws d es = two_is (Chain signs.Minus) (unsigned_pair tree.Operator.minus) (pair_is signs.Minus) es
 built_is (division v) w ws d es =

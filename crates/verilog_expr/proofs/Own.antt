@@ -7,7 +7,7 @@ use Rattle.verilog_model.specs.Numerals.{decimal_number}
 use Rattle.verilog_model.specs.Tree.{Operator, Expr}
 use Rattle.verilog_model.specs.Tree.Expr.{as_signed, as_unsigned, paren, binary, choice}
 use Rattle.verilog_model.specs.Grammar.{level}
-use Rattle.verilog_model.specs.Expression.{context_of, binary_length, is_signed, length_of, binary_signed, Operand, binary_value, extended, is_true, arithmetic, shift_word, compare_words, value, own_value}
+use Rattle.verilog_model.specs.Expression.{context_of, binary_length, is_signed, length_of, binary_signed, Operand, binary_value, extend, is_true, arithmetic, shift_word, compare_words, value, own_value}
 use Rattle.verilog_model.specs.Expression.Context.{both_operands, left_operand, no_operand}
 use Rattle.verilog_model.proofs.Numerals.{decimal_number-decimal}
 use Rattle.verilog_expr.specs.Building.{literal_of, unsigned, parenthesize, unsigned_at}
@@ -15,7 +15,7 @@ use Rattle.verilog_expr.specs.Values.{HasBits}
 use Rattle.verilog_expr.proofs.Numerals.{hex_number-hex}
 
 -- a word that is wide enough is not extended
-pub extended_full : (k : ℕ) (s : Bool) (x : Word) → length x ≡ k → extended k s x ≡ x
+pub extended_full : (k : ℕ) (s : Bool) (x : Word) → length x ≡ k → extend k s x ≡ x
 extended_full k s x full =
     let none : k - length x ≡ 0 = omega arith in
     ap (λ n. replicate n (s && sign x) ++ x) none
@@ -86,7 +86,7 @@ module _ (widths : Name → ℕ) (ρ : Name → Word) where
       record {
         long = wide;
         signed = refl;
-        worth = ap₂ (λ k m. extended w s (bits k m)) wide (hex_number-hex n) ∙ extended_full w s (bits w n) (length-bits w n);
+        worth = ap₂ (λ k m. extend w s (bits k m)) wide (hex_number-hex n) ∙ extended_full w s (bits w n) (length-bits w n);
         size = length-bits w n;
       }
 
@@ -133,8 +133,8 @@ module _ (widths : Name → ℕ) (ρ : Name → Word) where
         long = ap (λ c. binary_length c (length_of widths a) (length_of widths b)) context;
         signed = ap (λ c. binary_signed c (is_signed a) (is_signed b)) context;
         worth = ap (λ c. binary_value c o 1 false (operand a) (operand b)) context
-            ∙ ap₂ (λ k t. extended 1 false (flag (compare_words o t (value widths ρ k t a) (value widths ρ k t b)))) greater (signs s (is_signed a) (is_signed b) first.signed second.signed)
-            ∙ ap₂ (λ u v. extended 1 false (flag (compare_words o s u v))) first.worth second.worth
+            ∙ ap₂ (λ k t. extend 1 false (flag (compare_words o t (value widths ρ k t a) (value widths ρ k t b)))) greater (signs s (is_signed a) (is_signed b) first.signed second.signed)
+            ∙ ap₂ (λ u v. extend 1 false (flag (compare_words o s u v))) first.worth second.worth
             ∙ extended_full 1 false (flag (compare_words o s x y)) refl;
         size = refl;
       }

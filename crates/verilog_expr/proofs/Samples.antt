@@ -13,7 +13,7 @@ use Rattle.verilog_model.specs.Tree.Exprs.{last}
 use Rattle.verilog_model.specs.Grammar.{expr_spelled, fits}
 use Rattle.verilog_model.specs.Tokens.{tokens}
 use Rattle.verilog_expr.specs.Numerals.{hex, high_of}
-use Rattle.verilog_expr.specs.Building.{built}
+use Rattle.verilog_expr.specs.Building.{kind_expr}
 use Rattle.verilog_expr.specs.Text.{question_text, expr_text}
 use Rattle.verilog_expr.specs.Parentheses.{tight, opened}
 use Rattle.verilog_expr.specs.Signs.{keeps_signs}
@@ -32,7 +32,7 @@ s = name (codes "s")
 
 -- an operation of a kind on operands of 8 bits with a result of 8 bits
 abbrev of_bytes : Kind → List Expr → Expr
-of_bytes kind es = built kind 8 (map (λ e. 8) es) 0 es
+of_bytes kind es = kind_expr kind 8 (map (λ e. 8) es) 0 es
 
 -- ---- numerals
 
@@ -84,7 +84,7 @@ shifted_xor_text : expr_text (of_bytes (variadic xor) (shifted_down ∷ c ∷ []
 unfolding expr_text
 shifted_xor_text = refl
 
-chosen_text : expr_text (built mux 8 (1 ∷ 8 ∷ 8 ∷ []) 0 (s ∷ shifted_down ∷ c ∷ [])) [] ≡ codes "s" ++ (question_text ++ codes "$unsigned($signed(a) >>> b) : c")
+chosen_text : expr_text (kind_expr mux 8 (1 ∷ 8 ∷ 8 ∷ []) 0 (s ∷ shifted_down ∷ c ∷ [])) [] ≡ codes "s" ++ (question_text ++ codes "$unsigned($signed(a) >>> b) : c")
 unfolding expr_text
 chosen_text = refl
 
@@ -97,31 +97,31 @@ unfolding expr_text
 signed_compared_text = refl
 
 -- a quotient by 253 of 8 bits, which is -3; decimal numerals do not compute
-divided_text : expr_text (of_bytes (shift shru) (built (division divs) 8 (8 ∷ 8 ∷ []) 253 (a ∷ c ∷ []) ∷ b ∷ [])) []
+divided_text : expr_text (of_bytes (shift shru) (kind_expr (division divs) 8 (8 ∷ 8 ∷ []) 253 (a ∷ c ∷ []) ∷ b ∷ [])) []
     ≡ codes "$unsigned($signed(a) / " ++ (decimal 8 ++ codes "'shFD) >> b")
 unfolding expr_text hex
 divided_text = refl
 
 -- ---- selects and joins
 
-odd_difference_text : expr_text (built parity 1 (8 ∷ []) 0 (of_bytes sub (a ∷ b ∷ []) ∷ [])) [] ≡ codes "^(a - b)"
+odd_difference_text : expr_text (kind_expr parity 1 (8 ∷ []) 0 (of_bytes sub (a ∷ b ∷ []) ∷ [])) [] ≡ codes "^(a - b)"
 unfolding expr_text
 odd_difference_text = refl
 
-joined_text : expr_text (built concat 16 (8 ∷ 8 ∷ []) 0 (of_bytes sub (a ∷ b ∷ []) ∷ c ∷ [])) [] ≡ codes "{a - b, c}"
+joined_text : expr_text (kind_expr concat 16 (8 ∷ 8 ∷ []) 0 (of_bytes sub (a ∷ b ∷ []) ∷ c ∷ [])) [] ≡ codes "{a - b, c}"
 unfolding expr_text
 joined_text = refl
 
-all_bits_are_the_operand : built (extract 0) 8 (8 ∷ []) 0 (a ∷ []) ≡ a
+all_bits_are_the_operand : kind_expr (extract 0) 8 (8 ∷ []) 0 (a ∷ []) ≡ a
 all_bits_are_the_operand = refl
 
-one_bit_select : built (extract 3) 1 (8 ∷ []) 0 (a ∷ []) ≡ bit_select (codes "a") (decimal 3)
+one_bit_select : kind_expr (extract 3) 1 (8 ∷ []) 0 (a ∷ []) ≡ bit_select (codes "a") (decimal 3)
 one_bit_select = refl
 
-two_bit_select : built (extract 3) 2 (8 ∷ []) 0 (a ∷ []) ≡ part_select (codes "a") (decimal 4) (decimal 3)
+two_bit_select : kind_expr (extract 3) 2 (8 ∷ []) 0 (a ∷ []) ≡ part_select (codes "a") (decimal 4) (decimal 3)
 two_bit_select = refl
 
-three_copies : built replicate 24 (8 ∷ []) 0 (a ∷ []) ≡ repeated (decimal 3) (last a)
+three_copies : kind_expr replicate 24 (8 ∷ []) 0 (a ∷ []) ≡ repeated (decimal 3) (last a)
 three_copies = refl
 
 -- ---- the texts are read as the trees

@@ -11,7 +11,7 @@ use Rattle.verilog_model.specs.Grammar.{strength, choice_level, primary_level, l
 use Rattle.verilog_model.specs.Expression.{Context, context_of, binary_signed, is_signed}
 use Rattle.verilog_model.specs.Expression.Context.{both_operands, left_operand, no_operand}
 use Rattle.verilog_model.proofs.Numerals.{and_intro}
-use Rattle.verilog_expr.specs.Building.{literal_of, unsigned, parenthesize, unsigned_at, of_one_expr, of_two_exprs, of_three_exprs, unsigned_pair, chain, variadic_expr, signed_pair, unsigned_division, signed_division, comparison, select, select_bits, exprs_of, concatenation, conditional, built, division_expr, shift_expr, variadic_operator, division_operator, shift_operator, is_signed_division, is_signed_shift}
+use Rattle.verilog_expr.specs.Building.{literal_of, unsigned, parenthesize, unsigned_at, of_one_expr, of_two_exprs, of_three_exprs, unsigned_pair, chain, variadic_expr, signed_pair, unsigned_division, signed_division, comparison, select, select_bits, exprs_of, concatenation, conditional, kind_expr, division_expr, shift_expr, variadic_operator, division_operator, shift_operator, is_signed_division, is_signed_shift}
 use Rattle.verilog_expr.specs.Signs.{alike, signs_kept, keeps_signs, all_keep_signs, is_signed_kind}
 use Rattle.verilog_expr.proofs.Operators.{division_context, shift_context}
 use Rattle.verilog_expr.proofs.Carried.{IsCarried, one_holds, two_hold, three_hold}
@@ -173,7 +173,7 @@ conditional_keeps c a b condition first second =
 
 -- ---- each kind
 
-pub built_keeps : (kind : Kind) (w : ℕ) (ws : List ℕ) (divisor : ℕ) (es : List Expr) → ((e : Expr) → In e es → keeps_signs e ≡ true) → keeps_signs (built kind w ws divisor es) ≡ true
+pub built_keeps : (kind : Kind) (w : ℕ) (ws : List ℕ) (divisor : ℕ) (es : List Expr) → ((e : Expr) → In e es → keeps_signs e ≡ true) → keeps_signs (kind_expr kind w ws divisor es) ≡ true
 built_keeps (variadic v) w ws divisor es all = variadic_keeps (variadic_operator v) es all
 built_keeps sub w ws divisor es all = two_hold keeps_signs refl _ (unsigned_pair_keeps minus) es all
 built_keeps (division d) w ws divisor es all = two_hold keeps_signs refl _ (λ a b h also. division_keeps (is_signed_division d) (division_operator d) w divisor a h) es all
@@ -269,7 +269,7 @@ shift_plain : (s : Bool) (o : Operator) (a b : Expr) → s ≡ false → is_sign
 shift_plain false o a b is = first_unsigned o (strength o) a (parenthesize (suc (strength o)) b)
 shift_plain true o a b is = cc
 
-built_plain : (kind : Kind) (w : ℕ) (ws : List ℕ) (divisor : ℕ) (es : List Expr) → is_signed_kind kind ≡ false → IsPlain (built kind w ws divisor es) es
+built_plain : (kind : Kind) (w : ℕ) (ws : List ℕ) (divisor : ℕ) (es : List Expr) → is_signed_kind kind ≡ false → IsPlain (kind_expr kind w ws divisor es) es
 built_plain (variadic v) w ws divisor es is = variadic_plain (variadic_operator v) es
 built_plain sub w ws divisor es is = two_plain _ (λ a b. first_unsigned minus 8 a (unsigned_at 9 b)) es
 built_plain (division d) w ws divisor es is = two_plain _ (λ a b. division_plain (is_signed_division d) (division_operator d) w divisor a is) es
@@ -287,14 +287,14 @@ built_plain wire w ws divisor es is = one_plain _ (λ a. inr (inl refl)) es
 built_plain _ w ws divisor es is = inl refl
 
 -- what is signed is of a signed kind, or stands as an operand does
-pub signed_only : (kind : Kind) (w : ℕ) (ws : List ℕ) (divisor : ℕ) (es : List Expr) → is_signed (built kind w ws divisor es) ≡ true
-    → (is_signed_kind kind ≡ true) ⊎ In (built kind w ws divisor es) es
+pub signed_only : (kind : Kind) (w : ℕ) (ws : List ℕ) (divisor : ℕ) (es : List Expr) → is_signed (kind_expr kind w ws divisor es) ≡ true
+    → (is_signed_kind kind ≡ true) ⊎ In (kind_expr kind w ws divisor es) es
 signed_only kind w ws divisor es is = go (is_signed_kind kind) refl where
-  later : IsPlain (built kind w ws divisor es) es → (is_signed_kind kind ≡ true) ⊎ In (built kind w ws divisor es) es
+  later : IsPlain (kind_expr kind w ws divisor es) es → (is_signed_kind kind ≡ true) ⊎ In (kind_expr kind w ws divisor es) es
   later (inl plain) = cc
   later (inr here) = inr here
 
-  go : (b : Bool) → is_signed_kind kind ≡ b → (is_signed_kind kind ≡ true) ⊎ In (built kind w ws divisor es) es
+  go : (b : Bool) → is_signed_kind kind ≡ b → (is_signed_kind kind ≡ true) ⊎ In (kind_expr kind w ws divisor es) es
   go true signed = inl signed
   go false other = later (built_plain kind w ws divisor es other)
 
@@ -312,7 +312,7 @@ shift_signed : (s : Bool) (o : Operator) (a b : Expr) → context_of o ≡ left_
 shift_signed true o a b is h = ap (λ x. binary_signed x true (is_signed (parenthesize (suc (strength o)) b))) is
 shift_signed false o a b is h = cc
 
-pub signed_kinds : (kind : Kind) (w : ℕ) (ws : List ℕ) (divisor : ℕ) (es : List Expr) → is_signed_kind kind ≡ true → length es ≡ 2 → is_signed (built kind w ws divisor es) ≡ true
+pub signed_kinds : (kind : Kind) (w : ℕ) (ws : List ℕ) (divisor : ℕ) (es : List Expr) → is_signed_kind kind ≡ true → length es ≡ 2 → is_signed (kind_expr kind w ws divisor es) ≡ true
 signed_kinds (division d) w ws divisor es is two =
     two_signed _ (λ a b. division_signed (is_signed_division d) (division_operator d) w divisor a (division_context d) is) es two
 signed_kinds (shift s) w ws divisor es is two = two_signed _ (λ a b. shift_signed (is_signed_shift s) (shift_operator s) a b (shift_context s) is) es two

@@ -170,18 +170,18 @@ is_signed_shift _ = false
 
 -- the expression of an operation of a kind with a result of w bits, its operands' widths and expressions being `ws` and
 -- `es`, and `divisor` the number of the constant that it divides by
-abbrev pub built : Kind → ℕ → List ℕ → ℕ → List Expr → Expr
-built (variadic v) w ws divisor es = variadic_expr (variadic_operator v) es
-built sub w ws divisor es = of_two_exprs (unsigned_pair minus) es
-built (division d) w ws divisor es = of_two_exprs (λ a b. division_expr (is_signed_division d) (division_operator d) w divisor a) es
-built (shift s) w ws divisor es = of_two_exprs (shift_expr (is_signed_shift s) (shift_operator s)) es
-built (icmp p) w ws divisor es = of_two_exprs (comparison p) es
-built parity w ws divisor es = of_one_expr (λ a. odd (parenthesize primary_level a)) es
-built (extract low) w ws divisor es = of_one_expr (select_bits low (first_width ws) w) es
-built concat w ws divisor es = concatenation es
-built replicate w ws divisor es = of_one_expr (λ a. repeated (decimal (w / first_width ws)) (last a)) es
-built mux w ws divisor es = of_three_exprs conditional es
-built (constant z) w ws divisor es = literal_of w false (number (bits_of_ℤ w z))
-built bitcast w ws divisor es = of_one_expr (λ a. a) es
-built wire w ws divisor es = of_one_expr (λ a. a) es
-built _ w ws divisor es = no_expr
+abbrev pub kind_expr : Kind → ℕ → List ℕ → ℕ → List Expr → Expr
+kind_expr (variadic v) w ws divisor es = variadic_expr (variadic_operator v) es
+kind_expr sub w ws divisor es = of_two_exprs (unsigned_pair minus) es
+kind_expr (division d) w ws divisor es = of_two_exprs (λ a b. division_expr (is_signed_division d) (division_operator d) w divisor a) es
+kind_expr (shift s) w ws divisor es = of_two_exprs (shift_expr (is_signed_shift s) (shift_operator s)) es
+kind_expr (icmp p) w ws divisor es = of_two_exprs (comparison p) es
+kind_expr parity w ws divisor es = of_one_expr (λ a. odd (parenthesize primary_level a)) es
+kind_expr (extract low) w ws divisor es = of_one_expr (select_bits low (first_width ws) w) es
+kind_expr concat w ws divisor es = concatenation es
+kind_expr replicate w ws divisor es = of_one_expr (λ a. repeated (decimal (w / first_width ws)) (last a)) es
+kind_expr mux w ws divisor es = of_three_exprs conditional es
+kind_expr (constant z) w ws divisor es = literal_of w false (number (bits_of_ℤ w z))
+kind_expr bitcast w ws divisor es = of_one_expr (λ a. a) es
+kind_expr wire w ws divisor es = of_one_expr (λ a. a) es
+kind_expr _ w ws divisor es = no_expr

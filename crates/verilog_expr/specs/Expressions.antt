@@ -10,7 +10,7 @@ use Rattle.hw_model.specs.Flat.{width_of}
 use Rattle.hw_model.specs.Sound.{type_in}
 use Rattle.verilog_model.specs.Tree.{Expr}
 use Rattle.verilog_model.specs.Tree.Expr.{name}
-use Rattle.verilog_expr.specs.Building.{no_expr, built}
+use Rattle.verilog_expr.specs.Building.{no_expr, kind_expr}
 
 -- the operation whose first result a value is
 abbrev pub op_at : List Op → Ref → Option Op
@@ -47,7 +47,7 @@ name_or (Some n) e = name n
 module _ (named : Ref → Option Name) (ports : List Port) (os : List Op) where
   -- the expression of an operation that gives a result of a type, from those of its operands
   abbrev pub op_expr : (Ref → Expr) → Op → ℕ → Expr
-  op_expr ex o w = built o.kind w (map (value_width ports os) o.operands) (divisor_in os w o.operands) (map ex o.operands)
+  op_expr ex o w = kind_expr o.kind w (map (value_width ports os) o.operands) (divisor_in os w o.operands) (map ex o.operands)
 
   abbrev pub typed_expr : (Ref → Expr) → Op → Option HwType → Expr
   typed_expr ex o None = no_expr

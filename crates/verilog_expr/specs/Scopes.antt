@@ -5,7 +5,7 @@ use Rattle.ir_store.specs.declared.operation.Value.{Value}
 use Rattle.ir_store.specs.declared.body.Op as body
 use Rattle.ir_store.specs.Bodies.{ids_of, ops_of, op_id, read_op}
 use Rattle.ir_store.specs.Designs.{ports_in}
-use Rattle.ir_store.specs.Numbered.{position_of, ref_by, op_by, numbered}
+use Rattle.ir_store.specs.Numbered.{position_of, ref_by, op_by, ops_by_position}
 use Rattle.verilog_expr.specs.declared.scope.Scope.{Scope}
 
 -- the ids of the operations
@@ -14,7 +14,7 @@ scope_ids s = ids_of s.body.now
 
 -- the operations, by positions
 abbrev pub scope_ops : Scope → List Op
-scope_ops s = numbered (ops_of s.body.now)
+scope_ops s = ops_by_position (ops_of s.body.now)
 
 -- the ports
 abbrev pub scope_ports : Scope → List Port

@@ -40,7 +40,7 @@ enum Step {
 }
 
 // How high an operation of this height stands where it has a wire only for its height.
-fn wrapped(height: u32) -> u32
+fn height_in_expression(height: u32) -> u32
     ensures { result ≡ told.height_under told.Part.nested height }
 {
     if height < LIMIT { height } else { 0 }
@@ -60,7 +60,7 @@ fn stand_of(scope: &Scope<'_>, parts: &[Part], heights: &[Option<u32>], value: V
     match parts[place] {
         Part::Flat | Part::Shared => Stand::Known(0),
         Part::Nested => match heights[place] {
-            Some(height) => Stand::Known(wrapped(height)),
+            Some(height) => Stand::Known(height_in_expression(height)),
             None => Stand::Unknown(place),
         },
     }

@@ -16,7 +16,7 @@ ghost use Rattle.verilog_model.specs.Grammar.{fits};
 ghost use Rattle.verilog_model.specs.Expression.{is_signed, own_value, assigned};
 ghost use Rattle.verilog_model.specs.Hierarchy.{range_width};
 ghost use Rattle.verilog_expr.specs.Numerals.{hex, high_of};
-ghost use Rattle.verilog_expr.specs.Building.{built};
+ghost use Rattle.verilog_expr.specs.Building.{kind_expr};
 ghost use Rattle.verilog_expr.specs.Forms.{asks_unsigned, in_position};
 ghost use Rattle.verilog_expr.specs.Templates.{template_for};
 ghost use Rattle.verilog_expr.specs.declared.form.Form.{Form};
@@ -51,10 +51,10 @@ pub fn assigned_values()
 pub fn built_expressions()
     ensures bits { (widths : Name → ℕ) (ρ : Name → Word) (kind : Kind) (ts : List HwType) (xs : List (Option HwType)) (t : HwType) (k divisor : ℕ)
         (es : List Expr) → Fits kind ts xs t k → IsBuildable widths ρ kind xs t es
-        → HasBits widths ρ (width t) (built kind (width t) (map width_of xs) divisor es) }
+        → HasBits widths ρ (width t) (kind_expr kind (width t) (map width_of xs) divisor es) }
     ensures worth { (widths : Name → ℕ) (ρ : Name → Word) (kind : Kind) (ts : List HwType) (xs : List (Option HwType)) (t : HwType) (k divisor : ℕ)
         (es : List Expr) → Fits kind ts xs t k → IsBuildable widths ρ kind xs t es → IsDividedBy widths ρ kind (width t) divisor es
-        → own_value widths ρ (built kind (width t) (map width_of xs) divisor es) ≡ op_value kind ts t k (map (own_value widths ρ) es) }
+        → own_value widths ρ (kind_expr kind (width t) (map width_of xs) divisor es) ≡ op_value kind ts t k (map (own_value widths ρ) es) }
 {}
 
 /// Does nothing. Its clauses say of the expressions of a body: each has the width of its value (`bits`); the expression
@@ -94,8 +94,8 @@ pub fn expressions_hold()
 /// Does nothing. Its clauses say that expressions keep the precedence and association of the operators (IEEE 1364-2005,
 /// 5.1.2): that of an operation where those of its operands do, each expression of a body, and each down to a depth.
 pub fn expressions_fit()
-    ensures built { (kind : Kind) (w : ℕ) (ws : List ℕ) (divisor : ℕ) (es : List Expr) → ((e : Expr) → In e es → fits e ≡ true)
-        → fits (built kind w ws divisor es) ≡ true }
+    ensures kind_expr { (kind : Kind) (w : ℕ) (ws : List ℕ) (divisor : ℕ) (es : List Expr) → ((e : Expr) → In e es → fits e ≡ true)
+        → fits (kind_expr kind w ws divisor es) ≡ true }
     ensures body { (named : Ref → Option Name) (ports : List Port) (os : List Op) (ex : Ref → Expr) → IsWritable named ports os
         → IsAcyclic (inner_needs os) → AreExprs named ports os ex → (r : Ref) → fits (ex r) ≡ true }
     ensures depth { (named : Ref → Option Name) (ports : List Port) (os : List Op) (n : ℕ) (r : Ref) → fits (expr_to named ports os n r) ≡ true }
@@ -109,8 +109,8 @@ pub fn expressions_fit()
 /// expression of a body, each down to a depth, and what is assigned to a name, whatever names the values have.
 pub fn parentheses_are_needed()
     ensures left_out { (e x : Expr) → tight e ≡ true → In x (opened e) → fits x ≡ false }
-    ensures built { (kind : Kind) (w : ℕ) (ws : List ℕ) (divisor : ℕ) (es : List Expr) → ((e : Expr) → In e es → tight e ≡ true)
-        → tight (built kind w ws divisor es) ≡ true }
+    ensures kind_expr { (kind : Kind) (w : ℕ) (ws : List ℕ) (divisor : ℕ) (es : List Expr) → ((e : Expr) → In e es → tight e ≡ true)
+        → tight (kind_expr kind w ws divisor es) ≡ true }
     ensures body { (named : Ref → Option Name) (ports : List Port) (os : List Op) (ex : Ref → Expr) → IsWritable named ports os
         → IsAcyclic (inner_needs os) → AreExprs named ports os ex → (r : Ref) → tight (ex r) ≡ true }
     ensures depth { (named : Ref → Option Name) (ports : List Port) (os : List Op) (n : ℕ) (r : Ref) → tight (expr_to named ports os n r) ≡ true }
@@ -129,11 +129,11 @@ pub fn signs_are_kept()
         → asks_unsigned f i ≡ is_unsigned_place kind i }
     ensures places { (l : ℕ) (e : Expr) → is_signed (in_position true l e) ≡ false }
     ensures kinds { (kind : Kind) (w : ℕ) (ws : List ℕ) (divisor : ℕ) (es : List Expr) → is_signed_kind kind ≡ true → length es ≡ 2
-        → is_signed (built kind w ws divisor es) ≡ true }
-    ensures signed { (kind : Kind) (w : ℕ) (ws : List ℕ) (divisor : ℕ) (es : List Expr) → is_signed (built kind w ws divisor es) ≡ true
-        → (is_signed_kind kind ≡ true) ⊎ In (built kind w ws divisor es) es }
-    ensures built { (kind : Kind) (w : ℕ) (ws : List ℕ) (divisor : ℕ) (es : List Expr) → ((e : Expr) → In e es → keeps_signs e ≡ true)
-        → keeps_signs (built kind w ws divisor es) ≡ true }
+        → is_signed (kind_expr kind w ws divisor es) ≡ true }
+    ensures signed { (kind : Kind) (w : ℕ) (ws : List ℕ) (divisor : ℕ) (es : List Expr) → is_signed (kind_expr kind w ws divisor es) ≡ true
+        → (is_signed_kind kind ≡ true) ⊎ In (kind_expr kind w ws divisor es) es }
+    ensures kind_expr { (kind : Kind) (w : ℕ) (ws : List ℕ) (divisor : ℕ) (es : List Expr) → ((e : Expr) → In e es → keeps_signs e ≡ true)
+        → keeps_signs (kind_expr kind w ws divisor es) ≡ true }
     ensures body { (named : Ref → Option Name) (ports : List Port) (os : List Op) (ex : Ref → Expr) → IsWritable named ports os
         → IsAcyclic (inner_needs os) → AreExprs named ports os ex → (r : Ref) → keeps_signs (ex r) ≡ true }
     ensures depth { (named : Ref → Option Name) (ports : List Port) (os : List Op) (n : ℕ) (r : Ref) → keeps_signs (expr_to named ports os n r) ≡ true }

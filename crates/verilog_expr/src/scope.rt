@@ -5,7 +5,7 @@ ghost use Rattle.hw_model.specs.Flat.{width_of};
 ghost use Rattle.hw_model.specs.Sound.{input_type};
 ghost use Rattle.ir_store.specs.Designs.{port_of, ports_in};
 ghost use Rattle.ir_store.specs.Bodies.{ids_of, ops_of, op_id, read_op};
-ghost use Rattle.ir_store.specs.Numbered.{position_of, op_by, numbered};
+ghost use Rattle.ir_store.specs.Numbered.{position_of, op_by, ops_by_position};
 ghost use Rattle.ir_store.specs.PositionTables.{ArePositions};
 ghost use Rattle.verilog_expr.specs.Marks.{AreSmall};
 
@@ -26,14 +26,14 @@ pub struct Scope<'m> {
     positions: Vec<u32>,
     ghost all: { ids.items ≡ map op_id (ids_of body.now) },
     ghost known: { ArePositions (ids_of body.now) positions.items },
-    ghost small: { AreSmall (ports_in ports.now) (numbered (ops_of body.now)) },
+    ghost small: { AreSmall (ports_in ports.now) (ops_by_position (ops_of body.now)) },
 }
 
 impl<'m> Scope<'m> {
     ghost use Rattle.std.specs.Prelude.{◌≡◌, ◌<◌, length, IfOk, Some, None, slice_get, option_map, cond, nat_lt};
     ghost use Rattle.ir_store.specs.Bodies.{ids_of, ops_of};
     ghost use Rattle.ir_store.specs.Designs.{ports_in};
-    ghost use Rattle.ir_store.specs.Numbered.{position_of, numbered};
+    ghost use Rattle.ir_store.specs.Numbered.{position_of, ops_by_position};
     ghost use Rattle.verilog_expr.specs.Expressions.{value_width};
     ghost use Rattle.verilog_expr.specs.Marks.{first_place};
     ghost use Rattle.verilog_expr.specs.Scopes.{scope_ports, scope_ops, scope_ids, scope_ref, op_read};
@@ -41,9 +41,9 @@ impl<'m> Scope<'m> {
     /// A body with its ports, in which no value has more than 128 bits. One of 2^32 operations or more wants more memory than
     /// there is.
     pub fn of(alloc: Global, ports: &'m PortList, body: &'m Body) -> Result<Scope<'m>, AllocError>
-        requires small { AreSmall (ports_in ports.now) (numbered (ops_of body.now)) }
+        requires small { AreSmall (ports_in ports.now) (ops_by_position (ops_of body.now)) }
         ensures ports { IfOk result (λ s. ports_in s.ports.now ≡ ports_in ports.now) }
-        ensures ops { IfOk result (λ s. numbered (ops_of s.body.now) ≡ numbered (ops_of body.now)) }
+        ensures ops { IfOk result (λ s. ops_by_position (ops_of s.body.now) ≡ ops_by_position (ops_of body.now)) }
         ensures ids { IfOk result (λ s. ids_of s.body.now ≡ ids_of body.now) }
     {
         let ids = ids_in(alloc, body)?;
@@ -183,7 +183,7 @@ pub fn result_width(op: &Op<'_>, number: u32) -> u64
 fn op_in<'b>(body: &'b Body, ids: &[OpId], position: usize) -> Op<'b>
     requires all { ids.now ≡ map op_id (ids_of body.now) }
     requires within { position < length ids.now }
-    ensures { slice_get (numbered (ops_of body.now)) position ≡ Some (op_by (position_of (ids_of body.now)) (read_op (op_id 0) result)) }
+    ensures { slice_get (ops_by_position (ops_of body.now)) position ≡ Some (op_by (position_of (ids_of body.now)) (read_op (op_id 0) result)) }
 {
     body.op(ids[position])
 }

@@ -78,8 +78,8 @@ is_signed _ = false
 -- ---- value (5.5.2, 5.5.3): the width k and the sign s are pushed down to the operands that the context determines
 
 -- a simple operand, extended to k bits, by its sign only where the pushed sign is signed
-abbrev pub extended : ℕ → Bool → Word → Word
-extended k s x = replicate (k - length x) (s && sign x) ++ x
+abbrev pub extend : ℕ → Bool → Word → Word
+extend k s x = replicate (k - length x) (s && sign x) ++ x
 
 -- whether a condition holds: whether a bit of its word is 1
 abbrev pub is_true : Word → Bool
@@ -129,7 +129,7 @@ abbrev pub binary_value : Context → Operator → ℕ → Bool → Operand → 
 binary_value both_operands o k s a b = arithmetic o s (a.value_at k s) (b.value_at k s)
 binary_value left_operand o k s a b = shift_word o s (a.value_at k s) (number (own b))
 binary_value no_operand o k s a b =
-    extended k s (flag (compare_words o (a.is_signed && b.is_signed)
+    extend k s (flag (compare_words o (a.is_signed && b.is_signed)
     (a.value_at (max a.long b.long) (a.is_signed && b.is_signed))
     (b.value_at (max a.long b.long) (a.is_signed && b.is_signed))))
 
@@ -140,16 +140,16 @@ low_bits k x = drop (length x - k) x
 module _ (widths : Name → ℕ) (ρ : Name → Word) where
   abbrev mutual
     pub value : ℕ → Bool → Expr → Word
-    value k s (name n) = extended k s (ρ n)
-    value k s (bit_select n i) = extended k s (extract (decimal_number i) 1 (ρ n))
-    value k s (part_select n h l) = extended k s (extract (decimal_number l) (decimal_number h - decimal_number l + 1) (ρ n))
-    value k s (literal w signed h) = extended k s (bits (decimal_number w) (hex_number h))
-    value k s (joined es) = extended k s (values es)
-    value k s (repeated n es) = extended k s (copies (decimal_number n) (values es))
-    value k s (as_signed e) = extended k s (value (length_of widths e) (is_signed e) e)
-    value k s (as_unsigned e) = extended k s (value (length_of widths e) (is_signed e) e)
+    value k s (name n) = extend k s (ρ n)
+    value k s (bit_select n i) = extend k s (extract (decimal_number i) 1 (ρ n))
+    value k s (part_select n h l) = extend k s (extract (decimal_number l) (decimal_number h - decimal_number l + 1) (ρ n))
+    value k s (literal w signed h) = extend k s (bits (decimal_number w) (hex_number h))
+    value k s (joined es) = extend k s (values es)
+    value k s (repeated n es) = extend k s (copies (decimal_number n) (values es))
+    value k s (as_signed e) = extend k s (value (length_of widths e) (is_signed e) e)
+    value k s (as_unsigned e) = extend k s (value (length_of widths e) (is_signed e) e)
     value k s (paren e) = value k s e
-    value k s (odd e) = extended k s (flag (parity (value (length_of widths e) (is_signed e) e)))
+    value k s (odd e) = extend k s (flag (parity (value (length_of widths e) (is_signed e) e)))
     value k s (binary o a b) = binary_value (context_of o) o k s
         (record { value_at = λ l t. value l t a; long = length_of widths a; is_signed = is_signed a })
         (record { value_at = λ l t. value l t b; long = length_of widths b; is_signed = is_signed b })

@@ -7,7 +7,7 @@ use Rattle.hw_model.specs.Value.{concat_words, is_high}
 use Rattle.hw_model.specs.Machine.{Machine}
 use Rattle.verilog_model.specs.Tree.{Expr, VPort, Load, Block, VModule, Tree}
 use Rattle.verilog_model.specs.Tree.Block.{load, if_load, if_else, if_else_if}
-use Rattle.verilog_model.specs.Expression.{assigned, own_value, is_true, extended, low_bits}
+use Rattle.verilog_model.specs.Expression.{assigned, own_value, is_true, extend, low_bits}
 use Rattle.verilog_model.specs.Hierarchy.{VPath, VNet, vnet, Drive, drive, vmodule_at, width_in, width_at, block_target, find_vmodule, vports_of, vstate, VSlot, vregisters}
 use Rattle.verilog_model.specs.Hierarchy.Drive.{nothing, input, held, expression, net}
 
@@ -21,7 +21,7 @@ drive_value t top inputs content ρ k nothing = []
 drive_value t top inputs content ρ k (input start w) = first w (drop start inputs)
 drive_value t top inputs content ρ k (held start w) = first w (drop start content)
 drive_value t top inputs content ρ k (expression q e) = assigned (width_at (vmodule_at t top q)) (names_at q ρ) k e
-drive_value t top inputs content ρ k (net v) = low_bits k (extended k false (ρ v))
+drive_value t top inputs content ρ k (net v) = low_bits k (extend k false (ρ v))
 
 -- under the map each net has what drives it
 abbrev pub TreeSettled : Tree → Name → Word → Word → (VNet → Word) → Type 0
@@ -51,17 +51,17 @@ abbrev pub slot_width : VSlot → ℕ
 slot_width s = width_in s.in_module (block_target s.block)
 
 -- the content slot by slot, `each` giving what a slot holds from what it held
-abbrev pub passed_vslots : (VSlot → Word → Word) → List VSlot → Word → Word
-passed_vslots each [] content = []
-passed_vslots each (s ∷ ss) content =
-    first (slot_width s) (each s (first (slot_width s) content)) ++ passed_vslots each ss (drop (slot_width s) content)
+abbrev pub map_vslots : (VSlot → Word → Word) → List VSlot → Word → Word
+map_vslots each [] content = []
+map_vslots each (s ∷ ss) content =
+    first (slot_width s) (each s (first (slot_width s) content)) ++ map_vslots each ss (drop (slot_width s) content)
 
-abbrev pub slot_loaded : (VNet → Word) → VSlot → Word → Word
-slot_loaded ρ s old = slot_value ρ (slot_width s) old s
+abbrev pub slot_next : (VNet → Word) → VSlot → Word → Word
+slot_next ρ s old = slot_value ρ (slot_width s) old s
 
 -- the content after a step: all registers at once
 abbrev pub next_vcontent : List VSlot → (VNet → Word) → Word → Word
-next_vcontent ss ρ content = passed_vslots (slot_loaded ρ) ss content
+next_vcontent ss ρ content = map_vslots (slot_next ρ) ss content
 
 -- ---- registers that a second event resets
 
@@ -82,12 +82,12 @@ event_value (Some e) ρ σ k old s =
     cond (is_high (low_bits 1 (ρ (vnet s.path e.signal)))) old
     (cond (is_high (low_bits 1 (σ (vnet s.path e.signal)))) (load_value s.in_module (names_at s.path σ) k e.reset_load) old)
 
-abbrev pub slot_risen : (VNet → Word) → (VNet → Word) → VSlot → Word → Word
-slot_risen ρ σ s old = event_value (second_event s.block) ρ σ (slot_width s) old s
+abbrev pub slot_rise : (VNet → Word) → (VNet → Word) → VSlot → Word → Word
+slot_rise ρ σ s old = event_value (second_event s.block) ρ σ (slot_width s) old s
 
 -- the content after the first phase of a step, from the map of the step before and that of this step
 abbrev pub risen_vcontent : List VSlot → (VNet → Word) → (VNet → Word) → Word → Word
-risen_vcontent ss ρ σ content = passed_vslots (slot_risen ρ σ) ss content
+risen_vcontent ss ρ σ content = map_vslots (slot_rise ρ σ) ss content
 
 -- ---- the machine of a module
 

@@ -10,7 +10,7 @@ use Rattle.hw_model.specs.Design.{Ref, Port, Op, Module, Design, find_module, in
 use Rattle.hw_model.specs.Design.Ref.{port, result, undefined}
 use Rattle.hw_model.specs.Value.{op_value}
 use Rattle.hw_model.specs.Flat.{Path, Net, net as at, Source, source, module_at, instances, width_of, input_width, input_of, input_source, copy_of, joined_ref, joined_at, operand_for, input_count, given_ref, held_of, made_of, result_source, offset}
-use Rattle.hw_model.specs.Flat.Source.{nowhere, made, input as from_input}
+use Rattle.hw_model.specs.Flat.Source.{nowhere, op_result, input as from_input}
 use Rattle.hw_model.specs.Meaning.{needs, needs_of, Settled}
 use Rattle.hw_model.specs.Sound.{type_in, input_type, output_types}
 use Rattle.hw_model.proofs.Sorts.{Sort, sort_of}
@@ -128,14 +128,14 @@ module _ (d : Design) (x : Setting d) (top : Name) (inputs content : Word) (m0 :
         absurd (clash (value_name m (result i k)) ((can_write d x top inputs content p m here).owned i k o t there typed pure) (ap (value_name m) (sym same) ∙ unnamed))
     by_pure i k o t same there typed true pure =
         let h = pure_sort o pure in
-        let s : source d top (at p r) ≡ made o.kind o.types t k (map (at p) o.operands) = ap (λ z. source d top (at p z)) same ∙ made_from d top p m here i k o t there h.0 h.1 h.2 typed in
+        let s : source d top (at p r) ≡ op_result o.kind o.types t k (map (at p) o.operands) = ap (λ z. source d top (at p z)) same ∙ made_from d top p m here i k o t there h.0 h.1 h.2 typed in
         own_unnamed d x top inputs content p m here σ good.words r unnamed
         ∙ ap (λ z. Rattle.verilog_model.specs.Expression.own_value (Rattle.verilog_model.specs.Hierarchy.width_in (vmodule d m)) (names_at (vpath_of d top p) σ) (Rattle.export_verilog.specs.Exported.assigned_expr m z)) same
         ∙ made_worth d x top inputs content p m here σ good.words i k o t there (gives_values-pure o pure) typed (λ e. good.constants p m here)
         ∙ ap (op_value o.kind o.types t k)
         (map_same (worth σ p m) (λ z. τ (at p z)) o.operands (λ z within. own_is z (subst (λ w. In (at p z) (needs_of w)) (sym s) (In-map (at p) z o.operands within)))
         ∙ sym (map_map (at p) τ o.operands))
-        ∙ sym (evaluated_as d x top inputs content τ p r (made o.kind o.types t k (map (at p) o.operands)) s)
+        ∙ sym (evaluated_as d x top inputs content τ p r (op_result o.kind o.types t k (map (at p) o.operands)) s)
 
     by_ref : (z : Ref) (t : HwType) → r ≡ z → type_in m.ports m.body z ≡ Some t → worth σ p m r ≡ got τ p r
     by_ref (port j) t same typed = absurd (clash (value_name m (port j)) ((can_write d x top inputs content p m here).inputs j t typed) (ap (value_name m) (sym same) ∙ unnamed))

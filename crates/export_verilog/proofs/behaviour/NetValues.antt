@@ -14,11 +14,11 @@ use Rattle.hw_model.specs.Design.{Ref, Port, OpResult, Op, Module, Design, find_
 use Rattle.hw_model.specs.Design.Ref.{port, result}
 use Rattle.hw_model.specs.Value.{op_value}
 use Rattle.hw_model.specs.Flat.{Path, Net, net as at, Source, source, module_at, instances, width_of, base, body_state, state, offset, input_count, input_width, input_of, input_source, copy_of, joined_ref, joined_at, port_ref, operand_for, held_of}
-use Rattle.hw_model.specs.Flat.Source.{nowhere, input as from_input, held as from_held, copy, made}
+use Rattle.hw_model.specs.Flat.Source.{nowhere, input as from_input, held as from_held, copy, op_result}
 use Rattle.hw_model.specs.Meaning.{needs_of, value_of}
 use Rattle.hw_model.specs.Sound.{type_in, input_type, output_types}
 use Rattle.hw_model.proofs.Sorts.{instance_found}
-use Rattle.verilog_model.specs.Expression.{own_value, assigned, extended, low_bits}
+use Rattle.verilog_model.specs.Expression.{own_value, assigned, extend, low_bits}
 use Rattle.verilog_model.specs.Hierarchy.{VNet, vnet, Drive, vmodule_at, width_in, width_at}
 use Rattle.verilog_model.specs.Hierarchy.Drive.{nothing, held, expression as driven_by, net as driven_from}
 use Rattle.verilog_model.specs.Meaning.{names_at, drive_value}
@@ -48,15 +48,15 @@ use Rattle.export_verilog.proofs.items.Operands.{output_ref_at, operand_at, outp
 
 -- ---- words
 
-pub low_long : (k : ℕ) (s : Bool) (w : Word) → length (low_bits k (extended k s w)) ≡ k
+pub low_long : (k : ℕ) (s : Bool) (w : Word) → length (low_bits k (extend k s w)) ≡ k
 low_long k s w =
-    let e : length (extended k s w) ≡ (k - length w) + length w = length-append _ w ∙ ap (λ n. n + length w) (length-replicate (k - length w) _) in
-    omega (arith, length-drop (length (extended k s w) - k) (extended k s w))
+    let e : length (extend k s w) ≡ (k - length w) + length w = length-append _ w ∙ ap (λ n. n + length w) (length-replicate (k - length w) _) in
+    omega (arith, length-drop (length (extend k s w) - k) (extend k s w))
 
 pub low_all : (k : ℕ) (w : Word) → length w ≡ k → low_bits k w ≡ w
 low_all k w size = let none : length w - k ≡ 0 = omega arith in ap (λ n. drop n w) none
 
-pub low_whole : (k : ℕ) (w : Word) → length w ≡ k → low_bits k (extended k false w) ≡ w
+pub low_whole : (k : ℕ) (w : Word) → length w ≡ k → low_bits k (extend k false w) ≡ w
 low_whole k w size = ap (low_bits k) (extended_full k false w size) ∙ low_all k w size
 
 pub constant_form : (k : Kind) (z : ℤ) → k ≡ constant z → (register_form k ≡ None) × (instance_in k ≡ None) × (is_division k ≡ false)
@@ -286,7 +286,7 @@ module _ (d : Design) (x : Setting d) (top : Name) (inputs content : Word) where
         let h = made_of_emission m.ports m.body i o emission in
         net_given p m here σ good.words i o t.0 there emission t.1 (λ e. good.constants p m here)
         ∙ ap (op_value o.kind o.types t.0 0) (operands_agree p m o.operands (λ r within. own_is r))
-        ∙ sym (evaluated_as τ p (result i 0) (made o.kind o.types t.0 0 (map (at p) o.operands)) (made_from d top p m here i 0 o t.0 there h.0 h.1 h.2 t.1))
+        ∙ sym (evaluated_as τ p (result i 0) (op_result o.kind o.types t.0 0 (map (at p) o.operands)) (made_from d top p m here i 0 o t.0 there h.0 h.1 h.2 t.1))
 
     variable_agrees : (p : Path) (m : Module) (here : module_at d top p ≡ Some m) (i : ℕ) (o : Op) → slice_get m.body i ≡ Some o → emission_of m.ports m.body i o ≡ as_reg
         → given σ p m (value_identifier i 0) ≡ evaluated τ p (result i 0)

@@ -9,7 +9,7 @@ use Rattle.hw_model.specs.Design.{Ref, Port, OpResult, Op, Module, Design, find_
 use Rattle.hw_model.specs.Design.Ref.{port, result, undefined}
 use Rattle.hw_model.specs.Value.{op_value}
 use Rattle.hw_model.specs.Flat.{Path, Net, net as at, module_at, width_of}
-use Rattle.hw_model.specs.Flat.Source.{made}
+use Rattle.hw_model.specs.Flat.Source.{op_result}
 use Rattle.hw_model.specs.Meaning.{needs, HasHeights}
 use Rattle.hw_model.specs.Sound.{type_in, input_type}
 use Rattle.hw_model.proofs.Finite.{heights_from_no_cycle}
@@ -104,7 +104,7 @@ module _ (d : Design) (x : Setting d) (top : Name) (inputs content : Word) (m0 :
         let form = constant_form o.kind z kind in
         name_shows p m here (result i 0) n (named_as d x (symbol_there d x top inputs content p m here) m (found_there d x top inputs content p m here) (result i 0) n called)
         ∙ settled (at p (result i 0))
-        ∙ evaluated_as d x top inputs content ρ p (result i 0) (made o.kind o.types t 0 (map (at p) o.operands)) (made_from d top p m here i 0 o t there form.0 form.1 (ap is_output_kind kind) typed)
+        ∙ evaluated_as d x top inputs content ρ p (result i 0) (op_result o.kind o.types t 0 (map (at p) o.operands)) (made_from d top p m here i 0 o t there form.0 form.1 (ap is_output_kind kind) typed)
         ∙ ap (λ w. op_value w o.types t 0 (map ρ (map (at p) o.operands))) kind
 
     pub over_good : IsGood d x top inputs content (over ρ)

@@ -8,7 +8,7 @@ use Rattle.hw_model.specs.Design.{Ref, Port, OpResult, Op, Module, Design, find_
 use Rattle.hw_model.specs.Design.Ref.{result}
 use Rattle.hw_model.specs.Value.{is_high}
 use Rattle.hw_model.specs.Flat.{Path, Net, net as at, module_at, instances, width_of, held_width, Slot, Register, ResetBy, register_in, instance_registers, op_registers, body_registers, registers_of, module_registers, registers, depth}
-use Rattle.hw_model.specs.Meaning.{value_if_enabled, reset, next_value, passed, loaded, next_content, risen_in, risen_content}
+use Rattle.hw_model.specs.Meaning.{value_if_enabled, reset, next_value, map_slots, next_in, next_content, rise_in, risen_content}
 use Rattle.hw_model.specs.Sound.{type_in}
 use Rattle.hw_model.proofs.Sorts.{Sort, sort_of}
 use Rattle.hw_model.proofs.Sorts.Sort.{a_register, an_instance as is_an_instance, an_output, a_made}
@@ -17,7 +17,7 @@ use Rattle.verilog_model.specs.Tree.{Item, VModule}
 use Rattle.verilog_model.specs.Tree.Item.{assign}
 use Rattle.verilog_model.specs.Expression.{is_true, low_bits}
 use Rattle.verilog_model.specs.Hierarchy.{VPath, VNet, vnet, width_in, VSlot, item_registers, items_registers, vregisters_of, vmodule_registers, vregisters}
-use Rattle.verilog_model.specs.Meaning.{names_at, load_value, holds, block_value, slot_value, slot_width, passed_vslots, slot_loaded, next_vcontent, slot_risen, risen_vcontent}
+use Rattle.verilog_model.specs.Meaning.{names_at, load_value, holds, block_value, slot_value, slot_width, map_vslots, slot_next, next_vcontent, slot_rise, risen_vcontent}
 use Rattle.verilog_expr.specs.Spilling.{is_wire_kind, spilled}
 use Rattle.verilog_expr.specs.Values.{HasBits}
 use Rattle.verilog_expr.proofs.Assigned.{assigned_same}
@@ -278,25 +278,25 @@ module _ (d : Design) (x : Setting d) (top : Name) (inputs content : Word) (m0 :
       ∙ ap₂ (λ c b. cond (is_high c) b old) (clock_is s.path is.m is.here is.place s.op g.0 is.there g.1 g.2.clocked) (block_is s.path is.m is.here is.place r.0.type g.0 g.2 old)
       ∙ sym (ap (λ z. next_value z (λ r. ρ (at s.path r)) old) g.1)
 
-  loaded_is : (s : Slot) (v : VSlot) → IsSlot d x top s v → (old : Word) → slot_loaded over v old ≡ loaded ρ s old
-  loaded_is s v is old = ap (λ k. slot_value over k old v) (slot_width_is s v is) ∙ slot_is s v is old
+  next_in_is : (s : Slot) (v : VSlot) → IsSlot d x top s v → (old : Word) → slot_next over v old ≡ next_in ρ s old
+  next_in_is s v is old = ap (λ k. slot_value over k old v) (slot_width_is s v is) ∙ slot_is s v is old
 
   -- where each slot of the tree gives what that of the design gives, so do all
-  passed_is : (gives : Slot → Word → Word) (vgives : VSlot → Word → Word)
+  map_slots_is : (gives : Slot → Word → Word) (vgives : VSlot → Word → Word)
       → ((s : Slot) (v : VSlot) → IsSlot d x top s v → (old : Word) → vgives v old ≡ gives s old)
-      → (ss : List Slot) (vs : List VSlot) → AreSlots d x top ss vs → (c : Word) → passed_vslots vgives vs c ≡ passed gives ss c
-  passed_is gives vgives alike [] [] are c = refl
-  passed_is gives vgives alike [] (v ∷ vs) are c = absurd are
-  passed_is gives vgives alike (s ∷ ss) [] are c = absurd are
-  passed_is gives vgives alike (s ∷ ss) (v ∷ vs) are c =
-      ap (λ k. first k (vgives v (first k c)) ++ passed_vslots vgives vs (drop k c)) (slot_width_is s v are.0)
+      → (ss : List Slot) (vs : List VSlot) → AreSlots d x top ss vs → (c : Word) → map_vslots vgives vs c ≡ map_slots gives ss c
+  map_slots_is gives vgives alike [] [] are c = refl
+  map_slots_is gives vgives alike [] (v ∷ vs) are c = absurd are
+  map_slots_is gives vgives alike (s ∷ ss) [] are c = absurd are
+  map_slots_is gives vgives alike (s ∷ ss) (v ∷ vs) are c =
+      ap (λ k. first k (vgives v (first k c)) ++ map_vslots vgives vs (drop k c)) (slot_width_is s v are.0)
       ∙ ap₂ (λ a b. first (held_width s.op) a ++ b) (alike s v are.0 (first (held_width s.op) c))
-      (passed_is gives vgives alike ss vs are.1 (drop (held_width s.op) c))
+      (map_slots_is gives vgives alike ss vs are.1 (drop (held_width s.op) c))
 
   pub next_is : (ss : List Slot) (vs : List VSlot) → AreSlots d x top ss vs → (c : Word) → next_vcontent vs over c ≡ next_content ss ρ c
-  next_is ss vs are c = passed_is (loaded ρ) (slot_loaded over) loaded_is ss vs are c
+  next_is ss vs are c = map_slots_is (next_in ρ) (slot_next over) next_in_is ss vs are c
 
   -- no register of the design has an asynchronous reset, and no block of the tree has a second event
   pub risen_is : (σ : Net → Word) (ss : List Slot) (vs : List VSlot) → AreSlots d x top ss vs → (c : Word)
       → risen_vcontent vs (to d x top m0 top_is σ) over c ≡ risen_content ss σ ρ c
-  risen_is σ ss vs are c = passed_is (risen_in σ ρ) (slot_risen (to d x top m0 top_is σ) over) (λ s v is old. refl) ss vs are c
+  risen_is σ ss vs are c = map_slots_is (rise_in σ ρ) (slot_rise (to d x top m0 top_is σ) over) (λ s v is old. refl) ss vs are c

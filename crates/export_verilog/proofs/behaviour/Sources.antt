@@ -8,7 +8,7 @@ use Rattle.hw_model.specs.Kinds.{Instance}
 use Rattle.hw_model.specs.Design.{Ref, OpResult, Op, Module, Design, RegisterForm, find_module, instance_in, register_form, is_output_kind, is_instance, is_output_op, result_type}
 use Rattle.hw_model.specs.Design.Ref.{port, result, undefined}
 use Rattle.hw_model.specs.Flat.{Path, net, source, module_at, instances, offset, copy_of, given_ref, held_of, made_of, op_source, result_source, result_source_of}
-use Rattle.hw_model.specs.Flat.Source.{nowhere, made}
+use Rattle.hw_model.specs.Flat.Source.{nowhere, op_result}
 use Rattle.hw_model.specs.Meaning.{needs, needs_of, HasNoCycle}
 use Rattle.hw_model.proofs.Sorts.{Sort, sort_of}
 use Rattle.hw_model.proofs.Sorts.Sort.{a_register, an_instance, an_output, a_made}
@@ -42,7 +42,7 @@ module _ (d : Design) (top : Name) (p : Path) (m : Module) (here : module_at d t
       ∙ ap (λ z. cond (is_some z) (copy_of (length (instances (take i m.body)) ∷ p) (given_ref d k o)) (cond (is_output_op o) nowhere (made_of p o k (result_type o k)))) n
 
   pub made_from : (i k : ℕ) (o : Op) (t : HwType) → slice_get m.body i ≡ Some o → register_form o.kind ≡ None → instance_in o.kind ≡ None → is_output_kind o.kind ≡ false
-      → result_type o k ≡ Some t → source d top (net p (result i k)) ≡ made o.kind o.types t k (map (net p) o.operands)
+      → result_type o k ≡ Some t → source d top (net p (result i k)) ≡ op_result o.kind o.types t k (map (net p) o.operands)
   made_from i k o t there r n u typed = rest_from i k o there r n ∙ ap (λ b. cond b nowhere (made_of p o k (result_type o k))) u ∙ ap (made_of p o k) typed
 
 -- ---- a value that a pure operation needs is a net that its result needs

@@ -6,7 +6,7 @@ use Rattle.wiring.proofs.Lists.{map-map}
 use Rattle.hw_model.specs.Design.{Module, Op}
 use Rattle.hw_model.specs.Types.{Name}
 use Rattle.hw_model.specs.Hierarchy.{callee_symbols}
-use Rattle.ir_store.specs.Numbered.{numbered}
+use Rattle.ir_store.specs.Numbered.{ops_by_position}
 use Rattle.ir_store.specs.Designs.{StoredModule, numbered_module}
 use Rattle.design_cycles.specs.Calls.{call_lists, numbers_of, IsCalleeAt}
 use Rattle.design_cycles.specs.Graphs.{edges, has_mark}
@@ -71,10 +71,10 @@ pub record HasMarks (lists : List (List ℕ)) (i : ℕ) (marks : List Bool) : Ty
   pub all : (k v : ℕ) → k < i → In v (edges lists k) → v < length lists → has_mark marks v ≡ true
 
 edges_at : (modules : List StoredModule) (i : ℕ) (m : StoredModule) → Some m ≡ slice_get modules i
-    → edges (call_lists (map numbered_module modules)) i ≡ numbers_of (map (λ (x : StoredModule). x.symbol) modules) (callee_symbols (numbered m.ops))
+    → edges (call_lists (map numbered_module modules)) i ≡ numbers_of (map (λ (x : StoredModule). x.symbol) modules) (callee_symbols (ops_by_position m.ops))
 edges_at modules i m at =
     call_edges (map numbered_module modules) i (numbered_module m) (slice_get-map numbered_module modules i ∙ ap (option_map numbered_module) (sym at))
-    ∙ ap (λ symbols. numbers_of symbols (callee_symbols (numbered m.ops))) (map-map (λ (x : Module). x.symbol) numbered_module modules)
+    ∙ ap (λ symbols. numbers_of symbols (callee_symbols (ops_by_position m.ops))) (map-map (λ (x : Module). x.symbol) numbered_module modules)
 
 list_more : (lists : List (List ℕ)) (i : ℕ) (old : List Bool) → HasMarks lists i old → HasMarks lists (i + 1) (with_marks (edges lists i) old)
 list_more lists i old before = record {
@@ -94,7 +94,7 @@ list_more lists i old before = record {
 
 pub marks_more : (modules : List StoredModule) (i : ℕ) (m : StoredModule) (old new : List Bool) → Some m ≡ slice_get modules i
     → HasMarks (call_lists (map numbered_module modules)) i old
-    → new ≡ with_marks (numbers_of (map (λ (x : StoredModule). x.symbol) modules) (callee_symbols (numbered m.ops))) old
+    → new ≡ with_marks (numbers_of (map (λ (x : StoredModule). x.symbol) modules) (callee_symbols (ops_by_position m.ops))) old
     → HasMarks (call_lists (map numbered_module modules)) (i + 1) new
 marks_more modules i m old new at before now =
     subst (HasMarks (call_lists (map numbered_module modules)) (i + 1)) (ap (λ ns. with_marks ns old) (edges_at modules i m at) ∙ sym now)

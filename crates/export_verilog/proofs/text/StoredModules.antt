@@ -4,7 +4,7 @@ use Rattle.std.proofs.lemmas.List.{length-map}
 use Rattle.hw_model.specs.Types.{Name}
 use Rattle.hw_model.specs.Design.{Port, Op, Module}
 use Rattle.ir_store.specs.Designs.{StoredModule, numbered_module}
-use Rattle.ir_store.specs.Numbered.{numbered}
+use Rattle.ir_store.specs.Numbered.{ops_by_position}
 use Rattle.export_verilog.specs.Exported.{symbol_names, symbol_name, vmodule}
 use Rattle.export_verilog.specs.Layout.{Text, module_text}
 use Rattle.export_verilog.specs.ModuleTexts.{module_under}
@@ -30,8 +30,8 @@ stored_at (y ∷ xs) zero x there = let same : x ≡ y = cc in ap (λ z. Some (n
 stored_at (y ∷ xs) (suc n) x there = stored_at xs n x there
 
 module _ (xs : List StoredModule) (w : IsWritableDesign (map numbered_module xs)) (n : ℕ) (x : StoredModule) (there : Some x ≡ slice_get xs n)
-    (ps : List Port) (os : List Op) (ports : ps ≡ x.ports) (ops : os ≡ numbered x.ops) where
-  bare_same : bare x.ports (numbered x.ops) ≡ bare ps os
+    (ps : List Port) (os : List Op) (ports : ps ≡ x.ports) (ops : os ≡ ops_by_position x.ops) where
+  bare_same : bare x.ports (ops_by_position x.ops) ≡ bare ps os
   bare_same = ap₂ bare (sym ports) (sym ops)
 
   at : IsWritableModule (numbered_module x)

@@ -7,7 +7,7 @@ use Rattle.hw_model.specs.Types.{Name}
 use Rattle.hw_model.specs.Design.{Ref}
 use Rattle.ir_store.specs.declared.operation.Value.{Value}
 use Rattle.ir_store.specs.BodyOps.{BodyOp, ids_in}
-use Rattle.ir_store.specs.Numbered.{position_of, ref_by, op_by, numbered}
+use Rattle.ir_store.specs.Numbered.{position_of, ref_by, op_by, ops_by_position}
 use Rattle.ir_store.specs.Designs.{StoredModule, numbered_module}
 use Rattle.mlir_printer.specs.Naming.{name_count, input_count, names_given, value_named}
 use Rattle.mlir_printer.specs.Elements.{ValueText}
@@ -94,11 +94,11 @@ pub module_added : (means : Value → ValueText) (ns : List Name) (m : StoredMod
     → end ≡ out ++ module_bytes (module_shown (numbered_module m))
 module_added means ns m first out one two end small given same capped p q r =
     let position : ℕ → ℕ = position_of (ids_in m.ops) in
-    let parts : map parts_in (numbered m.ops) ≡ parts_in_body m.ops = parts_by position m.ops in
+    let parts : map parts_in (ops_by_position m.ops) ≡ parts_in_body m.ops = parts_by position m.ops in
     let behind : drop first ns ≡ drop (input_count m.ports) ns = ap (λ k. drop k ns) capped ∙ capped_drop (input_count m.ports) ns small in
-    let lines : stored_shown means (drop first ns) m.ops ≡ operations_shown (value_named ns m.ports (map parts_in (numbered m.ops))) (drop (input_count m.ports) ns) (numbered m.ops) =
+    let lines : stored_shown means (drop first ns) m.ops ≡ operations_shown (value_named ns m.ports (map parts_in (ops_by_position m.ops))) (drop (input_count m.ports) ns) (ops_by_position m.ops) =
     ap (λ l. stored_shown means l m.ops) behind
     ∙ shown_by means (value_named ns m.ports (parts_in_body m.ops)) position same (drop (input_count m.ports) ns) m.ops
-    ∙ ap (λ ps. operations_shown (value_named ns m.ports ps) (drop (input_count m.ports) ns) (numbered m.ops)) (sym parts) in
+    ∙ ap (λ ps. operations_shown (value_named ns m.ports ps) (drop (input_count m.ports) ns) (ops_by_position m.ops)) (sym parts) in
     whole_module (module_named ns (numbered_module m)) out one two end (p ∙ ap (λ h. out ++ h) (headers ns m)) (q ∙ ap (λ l. one ++ operation_lines l) lines) r
     ∙ ap (λ l. out ++ module_bytes (module_named l (numbered_module m))) (given ∙ ap (names_given m.ports) (sym parts))

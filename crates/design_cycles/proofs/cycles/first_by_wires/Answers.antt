@@ -1,7 +1,7 @@
 use Rattle.std.proofs.Common.{◌≡◌, ◌<◌, true, MatchBool, length, map, arith, ap, subst, sym, ◌∙◌}
 use Rattle.wiring.specs.Wiring.{Depends}
 use Rattle.ir_store.specs.Bodies.{ids_of, ops_of}
-use Rattle.ir_store.specs.Numbered.{numbered}
+use Rattle.ir_store.specs.Numbered.{ops_by_position}
 use Rattle.ir_store.specs.Designs.{StoredModule, modules_of, design_of, module_of}
 use Rattle.design_cycles.specs.Asked.{IsCyclicAt}
 use Rattle.design_cycles.specs.Graphs.{lists_of, edges, has_mark, ReturnsWithin}
@@ -21,7 +21,7 @@ callees_first-requires c =
     omega (
       arith,
       length-lists c.as_slice.result.now,
-      graph_small (length c.module.result.now.ports.ports.items) rows (numbered (ops_of c.module.result.now.body)) (lists_of c.as_slice.result.now)
+      graph_small (length c.module.result.now.ports.ports.items) rows (ops_by_position (ops_of c.module.result.now.body)) (lists_of c.as_slice.result.now)
           (ap lists_of c.as_slice.ensures.value ∙ c.in_ok-wired.ensures.graph) (ids_of c.module.result.now.body) c.in_ok-wired.wired.layout c.in_ok-wired.ensures.layout c.in_ok-wired.ensures.small,
     )
 

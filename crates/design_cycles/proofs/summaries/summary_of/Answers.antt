@@ -1,6 +1,6 @@
 use Rattle.std.proofs.Common.{◌^◌, map, length, arith, ap, ◌∙◌}
 use Rattle.ir_store.specs.Bodies.{ids_of, ops_of}
-use Rattle.ir_store.specs.Numbered.{numbered}
+use Rattle.ir_store.specs.Numbered.{ops_by_position}
 use Rattle.ir_store.specs.Designs.{StoredModule, modules_of, port_of}
 use Rattle.design_cycles.specs.Graphs.{lists_of}
 use Rattle.design_cycles.specs.Nodes.{rows_by}
@@ -22,7 +22,7 @@ lists_of_outputs-requires c = record {
       omega (
         arith,
         length-lists c.in_ok-wired.wired.graph.items,
-        graph_small (length c.module-module.result.now.ports.ports.items) rows (numbered (ops_of c.module-module.result.now.body)) (lists_of c.in_ok-wired.wired.graph.items)
+        graph_small (length c.module-module.result.now.ports.ports.items) rows (ops_by_position (ops_of c.module-module.result.now.body)) (lists_of c.in_ok-wired.wired.graph.items)
             c.in_ok-wired.ensures.graph (ids_of c.module-module.result.now.body) c.in_ok-wired.wired.layout c.in_ok-wired.ensures.layout c.in_ok-wired.ensures.small,
       );
   small = inputs_small c.module-module.result.now.ports.ports.items c.as_slice-3.result.now (2 ^ 32) c.in_ok-wired.ensures.small

@@ -1,7 +1,7 @@
 use Rattle.std.proofs.Common.{refl}
 use Rattle.ir_store.specs.Bodies.{ops_of}
 use Rattle.ir_store.specs.Designs.{modules_of, module_of, ports_in}
-use Rattle.ir_store.specs.Numbered.{numbered}
+use Rattle.ir_store.specs.Numbered.{ops_by_position}
 use Rattle.verilog_expr.specs.Scopes.{scope_ports, scope_ops}
 use Rattle.export_verilog.proofs.text.StoredModules.{scope_writable, scope_text}
 use Rattle.export_verilog.proofs.module_text.push_module.Goals as goal
@@ -11,7 +11,7 @@ of-requires c =
     let x = c.module-module.result.now in
     record {
       small = (scope_writable (modules_of c.args.all.now.design.now) c.requires.writable c.args.number (module_of x) c.module-module.ensures
-          (ports_in x.ports) (numbered (ops_of x.body)) refl refl).small;
+          (ports_in x.ports) (ops_by_position (ops_of x.body)) refl refl).small;
     }
 
 pub of-requires-2 : goal.of-requires-2

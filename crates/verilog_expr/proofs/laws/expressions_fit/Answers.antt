@@ -3,8 +3,8 @@ use Rattle.verilog_expr.proofs.Carried.{body_carried}
 use Rattle.verilog_expr.proofs.Fit.{built_fits, fits_carried, own_fits, depth_fits}
 use Rattle.verilog_expr.proofs.laws.expressions_fit.Goals as goal
 
-pub returns-clause-built : goal.returns-clause-built
-returns-clause-built c = built_fits
+pub returns-clause-kind_expr : goal.returns-clause-kind_expr
+returns-clause-kind_expr c = built_fits
 
 pub returns-clause-body : goal.returns-clause-body
 returns-clause-body c = body_carried fits fits_carried

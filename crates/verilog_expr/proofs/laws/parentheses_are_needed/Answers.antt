@@ -6,8 +6,8 @@ use Rattle.verilog_expr.proofs.laws.parentheses_are_needed.Goals as goal
 pub returns-clause-left_out : goal.returns-clause-left_out
 returns-clause-left_out c = left_out
 
-pub returns-clause-built : goal.returns-clause-built
-returns-clause-built c = built_tight
+pub returns-clause-kind_expr : goal.returns-clause-kind_expr
+returns-clause-kind_expr c = built_tight
 
 pub returns-clause-body : goal.returns-clause-body
 returns-clause-body c = body_carried tight tight_carried

@@ -16,8 +16,8 @@ returns-clause-kinds c = signed_kinds
 pub returns-clause-signed : goal.returns-clause-signed
 returns-clause-signed c = signed_only
 
-pub returns-clause-built : goal.returns-clause-built
-returns-clause-built c = built_keeps
+pub returns-clause-kind_expr : goal.returns-clause-kind_expr
+returns-clause-kind_expr c = built_keeps
 
 pub returns-clause-body : goal.returns-clause-body
 returns-clause-body c = body_carried keeps_signs signs_carried

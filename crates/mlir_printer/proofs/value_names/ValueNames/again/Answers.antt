@@ -11,22 +11,22 @@ use Rattle.mlir_printer.proofs.value_names.ValueNames.again.Goals as goal
 pub returns-clause-names : goal.returns-clause-names
 returns-clause-names c =
     let ps = ports_in c.args.one.now.ports in
-    let first : chosen_names c.add_ports.new.self ≡ with_name_hints (chosen_names c.cleared-names.result) (port_name_hints ps) = rw (c.deref.ensures.value) at c.in_ok-add_ports.ensures.chosen in
-    all_names (chosen_names c.cleared-names.result) (chosen_names c.add_ports.new.self) (chosen_names c.add_operations.new.self) ps (ops_of c.args.one.now.body)
-    c.cleared-names.ensures.names c.cleared-names.ensures.numbered first c.in_ok-add_operations.ensures.chosen
+    let first : chosen_names c.add_ports.new.self ≡ with_name_hints (chosen_names c.into_empty-names.result) (port_name_hints ps) = rw (c.deref.ensures.value) at c.in_ok-add_ports.ensures.chosen in
+    all_names (chosen_names c.into_empty-names.result) (chosen_names c.add_ports.new.self) (chosen_names c.add_operations.new.self) ps (ops_of c.args.one.now.body)
+    c.into_empty-names.ensures.names c.into_empty-names.ensures.numbered first c.in_ok-add_operations.ensures.chosen
 
 pub returns-clause-values : goal.returns-clause-values
 returns-clause-values c =
     let ps = ports_in c.args.one.now.ports in
     let ops = ops_of c.args.one.now.body in
-    let empty = c.cleared-names.result in
+    let empty = c.into_empty-names.result in
     let v = c.add_operations.new.self in
     let first : chosen_names c.add_ports.new.self ≡ with_name_hints (chosen_names empty) (port_name_hints ps) = rw (c.deref.ensures.value) at c.in_ok-add_ports.ensures.chosen in
     let added : c.add_ports.new.self.ports.items ≡ empty.ports.items ++ port_places (length (names_held empty)) ps = rw (c.deref.ensures.value) at c.in_ok-add_ports.ensures.ports in
     let ports : v.ports.items ≡ port_places 0 ps =
     ap (λ l. l.items) c.in_ok-add_operations.ensures.ports
     ∙ added
-    ∙ ap (λ l. l ++ port_places (length (names_held empty)) ps) c.cleared-names.ensures.ports
-    ∙ ap (λ (ns : List (List ℕ)). port_places (length ns) ps) c.cleared-names.ensures.names in
-    let places = subst (λ n. HavePlaces n ops v.places.items) (ports_first (chosen_names empty) (chosen_names c.add_ports.new.self) ps c.cleared-names.ensures.names first) c.in_ok-add_operations.ensures.places in
+    ∙ ap (λ l. l ++ port_places (length (names_held empty)) ps) c.into_empty-names.ensures.ports
+    ∙ ap (λ (ns : List (List ℕ)). port_places (length ns) ps) c.into_empty-names.ensures.names in
+    let places = subst (λ n. HavePlaces n ops v.places.items) (ports_first (chosen_names empty) (chosen_names c.add_ports.new.self) ps c.into_empty-names.ensures.names first) c.in_ok-add_operations.ensures.places in
     all_values v ps ops ports places
