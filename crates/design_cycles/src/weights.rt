@@ -34,6 +34,7 @@ fn family_weight(family: Family<'_>, types: &[Ty], operands: usize, inner: u64) 
         Family::Instance(_) => leaves_in(types).saturating_add(1).saturating_add(inner),
         Family::Output => leaves_in(types).saturating_add(1),
         Family::Register(op, reset) => register(types, register_weight(op), reset),
+        Family::AsyncFirReg => register(types, register_weight(RegisterOp::FirReg), Reset::Sync),
         _ => (operands as u64).saturating_add(1),
     }
 }

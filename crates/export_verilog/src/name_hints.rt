@@ -30,7 +30,7 @@ pub fn emission_of(kind: &OpKind, has_wire: bool) -> Emission
     ensures { emission_seen result ≡ emission_by has_wire (kind_of kind.now) }
 {
     match kind {
-        OpKind::CompReg(_) | OpKind::CompRegCe(_) | OpKind::FirReg(_) => Emission::Reg,
+        OpKind::CompReg(_) | OpKind::CompRegCe(_) | OpKind::FirReg(_) | OpKind::AsyncFirReg => Emission::Reg,
         OpKind::Instance(_) => Emission::Instance,
         OpKind::Output => Emission::Inline,
         OpKind::Wire => Emission::Wire,
@@ -59,7 +59,7 @@ pub fn own_name_hint<'b>(op: &Op<'b>) -> &'b [u8]
     ensures { result.now ≡ own_name_hint (op_seen op.now) }
 {
     match op.kind {
-        OpKind::CompReg(_) | OpKind::CompRegCe(_) | OpKind::FirReg(_) => {
+        OpKind::CompReg(_) | OpKind::CompRegCe(_) | OpKind::FirReg(_) | OpKind::AsyncFirReg => {
             or_name(op.name.as_bytes(), b"_reg")
         }
         OpKind::Wire => or_name(op.name.as_bytes(), b"_wire"),

@@ -110,6 +110,7 @@ pub fn register_in(op: &Op<'_>) -> Option<Register>
 {
     match op.kind {
         OpKind::CompReg(reset) | OpKind::FirReg(reset) => plain_register(*reset, op.operands),
+        OpKind::AsyncFirReg => plain_register(kinds::Reset::Sync, op.operands),
         OpKind::CompRegCe(reset) => enabled_register(*reset, op.operands),
         _ => None,
     }

@@ -8,7 +8,7 @@ use Rattle.hw_model.specs.Kinds.Literal.{leaf, parts}
 use Rattle.hw_model.specs.Kinds.Literals.{no_literals, literal}
 use Rattle.hw_model.specs.Kinds.ArrayOp.{array_create, array_concat, array_get, array_slice, array_inject}
 use Rattle.hw_model.specs.Kinds.StructOp.{struct_create, struct_extract, struct_inject, struct_explode}
-use Rattle.hw_model.specs.Kinds.Kind.{concat, mux, aggregate_constant, on_array, on_struct, bitcast, wire, instance, output, register}
+use Rattle.hw_model.specs.Kinds.Kind.{concat, mux, aggregate_constant, on_array, on_struct, bitcast, wire, instance, output, register, async_firreg}
 use Rattle.hw_model.specs.IntegerKinds.{TakesWords, OfTwo}
 
 -- a width that integers have
@@ -94,4 +94,5 @@ Suits (on_struct s) ts t xs = StructSuits s ts xs
 Suits (instance i) ts t xs = ⊤
 Suits output ts t xs = ⊤
 Suits (register f r) ts t xs = ⊤
+Suits async_firreg ts t xs = ⊤
 Suits kind ts t xs = SuitIntegers kind (width t) xs

@@ -49,7 +49,7 @@ pub fn is_register(operation: &Operation) -> bool
 {
     matches!(
         operation.kind,
-        OpKind::CompReg(_) | OpKind::CompRegCe(_) | OpKind::FirReg(_)
+        OpKind::CompReg(_) | OpKind::CompRegCe(_) | OpKind::FirReg(_) | OpKind::AsyncFirReg
     )
 }
 

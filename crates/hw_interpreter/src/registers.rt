@@ -53,6 +53,7 @@ pub fn register_in(operation: &Operation) -> Option<Register>
     let operands = operation.operands.as_slice();
     match operation.kind {
         OpKind::CompReg(reset) | OpKind::FirReg(reset) => plain_register(reset, operands),
+        OpKind::AsyncFirReg => plain_register(Reset::Sync, operands),
         OpKind::CompRegCe(reset) => enabled_register(reset, operands),
         _ => None,
     }

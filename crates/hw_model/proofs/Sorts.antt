@@ -1,7 +1,7 @@
 -- What an operation is to its module: a register, an instance, an output, or made of its operands.
 use Rattle.std.proofs.Common.{◌≡◌, ℕ, zero, suc, true, false, List, [], ◌∷◌, length, take, slice_get, Some, None, refl, ap, ◌∙◌}
 use Rattle.hw_model.specs.Kinds.{Kind, Instance}
-use Rattle.hw_model.specs.Kinds.Kind.{instance, output, register}
+use Rattle.hw_model.specs.Kinds.Kind.{instance, output, register, async_firreg}
 use Rattle.hw_model.specs.Design.{Op, RegisterForm, takes_enable, instance_in, register_form, is_output_kind}
 use Rattle.hw_model.specs.Flat.{instances}
 
@@ -16,6 +16,7 @@ pub sort_of : (k : Kind) → Sort k
 sort_of (instance i) = an_instance i refl refl refl
 sort_of output = an_output refl refl refl
 sort_of (register f r) = a_register (record { has_enable = takes_enable f; reset = r }) refl refl refl
+sort_of async_firreg = a_register (record { has_enable = false; reset = sync_reset }) refl refl refl
 sort_of k = a_made refl refl refl
 
 -- an instance stands, among the instances, after those before it

@@ -22,7 +22,7 @@ use Rattle.hw_model.specs.Kinds.Division.{divu, modu, divs, mods}
 use Rattle.hw_model.specs.Kinds.Shift.{shl, shru, shrs}
 use Rattle.hw_model.specs.Kinds.ArrayOp.{array_create, array_concat, array_get, array_slice, array_inject}
 use Rattle.hw_model.specs.Kinds.StructOp.{struct_create, struct_extract, struct_inject, struct_explode}
-use Rattle.hw_model.specs.Kinds.Kind.{variadic, sub, division, shift, icmp, parity, extract, concat, replicate, mux, constant, aggregate_constant, on_array, on_struct, bitcast, wire, instance, output, register}
+use Rattle.hw_model.specs.Kinds.Kind.{variadic, sub, division, shift, icmp, parity, extract, concat, replicate, mux, constant, aggregate_constant, on_array, on_struct, bitcast, wire, instance, output, register, async_firreg}
 use Rattle.hw_model.specs.Design.{instance_in, register_form, same_name}
 use Rattle.hw_model.specs.Value.{concat_words, is_high, and_all, or_all, xor_all, of_one, of_two, of_three, word_of_literal, word_of_literals, element, elements_from, slice_of, injected_below, inject_element, field_of, with_field, field_at, fields, nth_type, variadic_value, division_value, shift_value, array_value, struct_value, op_value}
 use Rattle.hw_model.specs.Sound.{HasWidth, HaveWidths, field_list, field_type, literal_width, literals_width, AllAre, ArrayFits, StructFits, Fits}
@@ -316,3 +316,4 @@ fits_width wire ts xs t k ws r i fits have = one_width _ (width t) (Some t) xs w
 fits_width (instance x) ts xs t k ws r i fits have = cc
 fits_width output ts xs t k ws r i fits have = absurd fits
 fits_width (register f x) ts xs t k ws r i fits have = cc
+fits_width async_firreg ts xs t k ws r i fits have = cc

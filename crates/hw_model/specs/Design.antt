@@ -5,8 +5,9 @@ use Rattle.std.specs.Cmp.Lexicographic.{pointwise}
 use Rattle.wiring.specs.Options.{bind, omap}
 use Rattle.hw_model.specs.Types.{Name, HwType}
 use Rattle.hw_model.specs.Kinds.{Kind, Instance, Reset, RegisterOp}
+use Rattle.hw_model.specs.Kinds.Reset.{sync_reset}
 use Rattle.hw_model.specs.Kinds.RegisterOp.{compreg, compreg_ce, firreg}
-use Rattle.hw_model.specs.Kinds.Kind.{instance, output, register}
+use Rattle.hw_model.specs.Kinds.Kind.{instance, output, register, async_firreg}
 
 -- a place in the source: its line and its column in bytes, both from 1
 pub record Place : Type 0 where
@@ -124,9 +125,10 @@ pub record RegisterForm : Type 0 where
   pub has_enable : Bool
   pub reset : Reset
 
--- the form of the register that a kind is
+-- the form of the register that a kind is: where its clock rises one with an asynchronous reset loads as one with another
 abbrev pub register_form : Kind → Option RegisterForm
 register_form (register f r) = Some (record { has_enable = takes_enable f; reset = r })
+register_form async_firreg = Some (record { has_enable = false; reset = sync_reset })
 register_form _ = None
 
 -- whether an operation is an instance, a register, a module's output

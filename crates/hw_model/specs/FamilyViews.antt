@@ -72,3 +72,4 @@ family_of families.Wire = HwKind.wire
 family_of (families.Instance i) = HwKind.instance (instance_of i.now)
 family_of families.Output = HwKind.output
 family_of (families.Register f r) = HwKind.register (register_op_of f) (reset_of r)
+family_of families.AsyncFirReg = HwKind.async_firreg

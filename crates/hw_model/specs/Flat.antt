@@ -6,6 +6,7 @@ use Rattle.wiring.specs.Options.{bind}
 use Rattle.hw_model.specs.Types.{Name, HwType, width}
 use Rattle.hw_model.specs.Kinds.{Kind, Instance, Reset}
 use Rattle.hw_model.specs.Kinds.Reset.{no_reset, sync_reset}
+use Rattle.hw_model.specs.Kinds.Kind.{async_firreg}
 use Rattle.hw_model.specs.Design.{Ref, Port, Op, Module, Design, RegisterForm, find_module, instance_in, register_form, is_instance, is_register, is_output_op, result_type, output_refs, callee}
 use Rattle.hw_model.specs.Design.Ref.{port, result, undefined}
 
@@ -214,8 +215,9 @@ register_parts _ _ _ = None
 abbrev pub register_in : Op → Option Register
 register_in o = bind (register_form o.kind) (λ (f : RegisterForm). register_parts f.has_enable f.reset o.operands)
 
--- whether a kind is a register with an asynchronous reset (CIRCT, Seq dialect: `seq.firreg` with `reset async`): none is
+-- whether a kind is a register with an asynchronous reset (CIRCT, Seq dialect: `seq.firreg` with `reset async`)
 abbrev pub has_async_reset : Kind → Bool
+has_async_reset async_firreg = true
 has_async_reset _ = false
 
 -- its reset and the value of that, from its operands: data, clock, reset, value

@@ -107,3 +107,4 @@ kind_of kinds.Output = HwKind.output
 kind_of (kinds.CompReg r) = HwKind.register compreg (reset_of r)
 kind_of (kinds.CompRegCe r) = HwKind.register compreg_ce (reset_of r)
 kind_of (kinds.FirReg r) = HwKind.register firreg (reset_of r)
+kind_of kinds.AsyncFirReg = HwKind.async_firreg

@@ -72,3 +72,5 @@ pub data Kind : Type 0 where
   instance : Instance → Kind
   output : Kind
   register : RegisterOp → Reset → Kind
+  -- a register that a signal resets without its clock (CIRCT, Seq dialect: `seq.firreg` with `reset async`)
+  async_firreg : Kind

@@ -18,11 +18,11 @@ use Rattle.hw_model.specs.Kinds.Shift.{shl}
 use Rattle.hw_model.specs.Kinds.ArrayOp.{array_create}
 use Rattle.hw_model.specs.Kinds.StructOp.{struct_extract, struct_inject}
 use Rattle.hw_model.specs.Kinds.RegisterOp.{compreg, compreg_ce, firreg}
-use Rattle.hw_model.specs.Kinds.Kind.{variadic, variadic, division, division, shift, shift, icmp, extract, constant, aggregate_constant, on_array, on_array, on_struct, on_struct, instance, register, register}
+use Rattle.hw_model.specs.Kinds.Kind.{variadic, variadic, division, division, shift, shift, icmp, extract, constant, aggregate_constant, on_array, on_array, on_struct, on_struct, instance, register, register, async_firreg}
 use Rattle.hw_model.specs.Design.{same_name}
 use Rattle.hw_model.specs.Opcodes.{register_opcode, opcode_of, kind_named_by}
 use Rattle.hw_model.specs.SameType.{same_type, type_self, type_from}
-use Rattle.hw_model.specs.SameKind.{predicate_number, same_predicate, same_reset, same_integer, same_literal, same_literals, same_optional_name, same_instance, is_icmp, is_extract, is_constant, is_aggregate_constant, is_struct_extract, is_struct_inject, is_instance, is_register, same_opcode, same_kind}
+use Rattle.hw_model.specs.SameKind.{predicate_number, same_predicate, same_reset, same_integer, same_literal, same_literals, same_optional_name, same_instance, is_icmp, is_extract, is_constant, is_aggregate_constant, is_struct_extract, is_struct_inject, is_instance, is_register, is_async_firreg, same_opcode, same_kind}
 use Rattle.hw_model.specs.Equality.{TellsApart, by_view, both, both_of, number_self, number_from, name_self, name_from}
 use Rattle.hw_model.specs.KindViews.{predicate_of, reset_of, integer_of, literals_in, kind_of}
 use Rattle.hw_model.specs.declared.kinds.Predicate.{Predicate as OwnPredicate}
@@ -208,6 +208,10 @@ is_register_from f own (register g other) h =
     let r : own ≡ other = reset_from own other p.1 in cc
 is_register_from f own _ h = cc
 
+is_async_firreg_from : (k : Kind) → is_async_firreg k ≡ true → async_firreg ≡ k
+is_async_firreg_from async_firreg h = refl
+is_async_firreg_from _ h = cc
+
 -- an operation whose opcode alone tells its kind is found again by it
 pub kind_found : (k : Kind) → (kind_named_by (opcode_of k) ≡ Some k) ⊎ (kind_named_by (opcode_of k) ≡ None)
 kind_found (variadic add) = inl refl
@@ -228,6 +232,7 @@ kind_found (aggregate_constant ls) = inr refl
 kind_found (instance i) = inr refl
 kind_found (register compreg r) = inr refl
 kind_found (register _ r) = inr refl
+kind_found async_firreg = inr refl
 kind_found _ = inl refl
 
 -- so two kinds of one opcode are one, where the opcode alone tells the first
@@ -249,6 +254,7 @@ kind_self (on_struct (struct_extract name)) = name_self name
 kind_self (on_struct (struct_inject name)) = name_self name
 kind_self (instance i) = instance_self i
 kind_self (register f r) = both (same_opcode (register_opcode f) (register_opcode f)) (same_reset r r) (opcode_self (register_opcode f)) (reset_self r)
+kind_self async_firreg = refl
 kind_self k = opcode_self (opcode_of k)
 
 kind_from : (j k : Kind) → same_kind j k ≡ true → j ≡ k
@@ -260,6 +266,7 @@ kind_from (on_struct (struct_extract name)) k h = is_struct_extract_from name k 
 kind_from (on_struct (struct_inject name)) k h = is_struct_inject_from name k h
 kind_from (instance i) k h = is_instance_from i k h
 kind_from (register f r) k h = is_register_from f r k h
+kind_from async_firreg k h = is_async_firreg_from k h
 kind_from (variadic add) k h = plain_from (variadic add) k refl h
 kind_from (variadic v) k h = plain_from (variadic v) k refl h
 kind_from (division divu) k h = plain_from (division divu) k refl h

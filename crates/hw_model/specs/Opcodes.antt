@@ -10,7 +10,7 @@ use Rattle.hw_model.specs.Kinds.Shift.{shl, shru, shrs}
 use Rattle.hw_model.specs.Kinds.ArrayOp.{array_create, array_concat, array_get, array_slice, array_inject}
 use Rattle.hw_model.specs.Kinds.StructOp.{struct_create, struct_extract, struct_inject, struct_explode}
 use Rattle.hw_model.specs.Kinds.RegisterOp.{compreg, compreg_ce, firreg}
-use Rattle.hw_model.specs.Kinds.Kind.{variadic, sub, division, shift, icmp, parity, extract, concat, replicate, mux, constant, aggregate_constant, on_array, on_struct, bitcast, wire, instance, output, register}
+use Rattle.hw_model.specs.Kinds.Kind.{variadic, sub, division, shift, icmp, parity, extract, concat, replicate, mux, constant, aggregate_constant, on_array, on_struct, bitcast, wire, instance, output, register, async_firreg}
 
 abbrev pub variadic_opcode : Variadic → Listed
 variadic_opcode add = listed.CombAdd
@@ -69,6 +69,7 @@ opcode_of wire = listed.HwWire
 opcode_of (instance i) = listed.HwInstance
 opcode_of output = listed.HwOutput
 opcode_of (register f r) = register_opcode f
+opcode_of async_firreg = listed.SeqFirreg
 
 -- the kind that an opcode alone tells; none where operations say more than their operands and types
 abbrev pub kind_named_by : Listed → Option Kind

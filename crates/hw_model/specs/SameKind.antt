@@ -8,7 +8,7 @@ use Rattle.hw_model.specs.Kinds.Reset.{no_reset, sync_reset}
 use Rattle.hw_model.specs.Kinds.Literal.{leaf, parts}
 use Rattle.hw_model.specs.Kinds.Literals.{no_literals, literal}
 use Rattle.hw_model.specs.Kinds.StructOp.{struct_extract, struct_inject}
-use Rattle.hw_model.specs.Kinds.Kind.{icmp, extract, constant, aggregate_constant, on_struct, instance, register}
+use Rattle.hw_model.specs.Kinds.Kind.{icmp, extract, constant, aggregate_constant, on_struct, instance, register, async_firreg}
 use Rattle.opcode.specs.Listed.{name_of_listed}
 use Rattle.opcode.specs.declared.listed.Listed.{Listed}
 use Rattle.hw_model.specs.Design.{same_name}
@@ -102,6 +102,10 @@ abbrev pub is_register : Listed → Reset → Kind → Bool
 is_register own reset (register other r) = same_opcode own (register_opcode other) && same_reset reset r
 is_register own reset _ = false
 
+abbrev pub is_async_firreg : Kind → Bool
+is_async_firreg async_firreg = true
+is_async_firreg _ = false
+
 -- whether two kinds are one
 abbrev pub same_kind : Kind → Kind → Bool
 same_kind (icmp p) k = is_icmp p k
@@ -112,4 +116,5 @@ same_kind (on_struct (struct_extract name)) k = is_struct_extract name k
 same_kind (on_struct (struct_inject name)) k = is_struct_inject name k
 same_kind (instance i) k = is_instance i k
 same_kind (register f r) k = is_register (register_opcode f) r k
+same_kind async_firreg k = is_async_firreg k
 same_kind j k = same_opcode (opcode_of j) (opcode_of k)

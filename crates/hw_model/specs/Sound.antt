@@ -14,7 +14,7 @@ use Rattle.hw_model.specs.Kinds.Literal.{leaf, parts}
 use Rattle.hw_model.specs.Kinds.Literals.{no_literals, literal}
 use Rattle.hw_model.specs.Kinds.ArrayOp.{array_create, array_concat, array_get, array_slice, array_inject}
 use Rattle.hw_model.specs.Kinds.StructOp.{struct_create, struct_extract, struct_inject, struct_explode}
-use Rattle.hw_model.specs.Kinds.Kind.{variadic, sub, division, shift, icmp, parity, extract, concat, replicate, mux, constant, aggregate_constant, on_array, on_struct, bitcast, wire, instance, output, register}
+use Rattle.hw_model.specs.Kinds.Kind.{variadic, sub, division, shift, icmp, parity, extract, concat, replicate, mux, constant, aggregate_constant, on_array, on_struct, bitcast, wire, instance, output, register, async_firreg}
 use Rattle.hw_model.specs.Design.{Ref, Port, OpResult, Op, Module, Design, same_name, find_module, instance_in, takes_enable, result_type, output_refs}
 use Rattle.hw_model.specs.Design.Ref.{port, result, undefined}
 use Rattle.hw_model.specs.Value.{nth_type}
@@ -134,6 +134,7 @@ Fits wire ts xs t k = xs ≡ Some t ∷ []
 Fits (instance i) ts xs t k = Unit {0}
 Fits output ts xs t k = ⊥
 Fits (register f r) ts xs t k = xs ≡ register_types (takes_enable f) r t
+Fits async_firreg ts xs t k = xs ≡ register_types false sync_reset t
 
 -- each result of the operation fits its operands; an output has no result
 abbrev pub OpFits : (Ref → Option HwType) → Op → Type 0

@@ -15,7 +15,7 @@ use Rattle.hw_model.specs.Kinds.Division.{divu, modu, divs, mods}
 use Rattle.hw_model.specs.Kinds.Shift.{shl, shru, shrs}
 use Rattle.hw_model.specs.Kinds.ArrayOp.{array_create, array_concat, array_get, array_slice, array_inject}
 use Rattle.hw_model.specs.Kinds.StructOp.{struct_create, struct_extract, struct_inject, struct_explode}
-use Rattle.hw_model.specs.Kinds.Kind.{variadic, sub, division, shift, icmp, parity, extract, concat, replicate, mux, constant, aggregate_constant, on_array, on_struct, bitcast, wire, instance, output, register}
+use Rattle.hw_model.specs.Kinds.Kind.{variadic, sub, division, shift, icmp, parity, extract, concat, replicate, mux, constant, aggregate_constant, on_array, on_struct, bitcast, wire, instance, output, register, async_firreg}
 use Rattle.hw_model.specs.Design.{same_name}
 
 -- the words joined, the first most significant
@@ -205,3 +205,4 @@ op_value wire ts t k xs = of_one (λ x. x) xs
 op_value (instance i) ts t k xs = []
 op_value output ts t k xs = []
 op_value (register f r) ts t k xs = []
+op_value async_firreg ts t k xs = []

@@ -9,7 +9,7 @@ use Rattle.hw_model.specs.Kinds.Literals.{no_literals, literal}
 use Rattle.hw_model.specs.Kinds.Reset.{no_reset, sync_reset}
 use Rattle.hw_model.specs.Kinds.ArrayOp.{array_get, array_slice, array_inject}
 use Rattle.hw_model.specs.Kinds.RegisterOp.{compreg, compreg_ce, firreg}
-use Rattle.hw_model.specs.Kinds.Kind.{mux, constant, aggregate_constant, on_array, bitcast, wire, instance, output, register}
+use Rattle.hw_model.specs.Kinds.Kind.{mux, constant, aggregate_constant, on_array, bitcast, wire, instance, output, register, async_firreg}
 use Rattle.hw_model.specs.Design.{Port, Op, Module, Design, find_module}
 use Rattle.hw_model.specs.Value.{nth_type}
 
@@ -68,6 +68,7 @@ kind_weight inner wire ts n = 2 * leaf_count ts
 kind_weight inner (instance i) ts n = 1 + leaf_count ts + inner i.symbol
 kind_weight inner output ts n = 1 + leaf_count ts
 kind_weight inner (register f r) ts n = (register_weight f + reset_weight r) * leaf_count ts
+kind_weight inner async_firreg ts n = (register_weight firreg + reset_weight sync_reset) * leaf_count ts
 kind_weight inner _ ts n = 1 + n
 
 abbrev pub body_weight : (Name → ℕ) → List Op → ℕ

@@ -141,6 +141,8 @@ pub enum Family<'k> {
     Output,
     /// A register, with its reset.
     Register(RegisterOp, Reset),
+    /// `seq.firreg` with `reset async`
+    AsyncFirReg,
 }
 
 impl OpKind {
@@ -187,6 +189,7 @@ impl OpKind {
             OpKind::CompReg(reset) => Family::Register(RegisterOp::CompReg, *reset),
             OpKind::CompRegCe(reset) => Family::Register(RegisterOp::CompRegCe, *reset),
             OpKind::FirReg(reset) => Family::Register(RegisterOp::FirReg, *reset),
+            OpKind::AsyncFirReg => Family::AsyncFirReg,
         }
     }
 
@@ -231,7 +234,7 @@ impl OpKind {
             OpKind::Output => Listed::HwOutput,
             OpKind::CompReg(_) => Listed::SeqCompreg,
             OpKind::CompRegCe(_) => Listed::SeqCompregCe,
-            OpKind::FirReg(_) => Listed::SeqFirreg,
+            OpKind::FirReg(_) | OpKind::AsyncFirReg => Listed::SeqFirreg,
         }
     }
 

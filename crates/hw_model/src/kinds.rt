@@ -167,6 +167,8 @@ pub enum OpKind {
     CompRegCe(Reset),
     /// `seq.firreg`
     FirReg(Reset),
+    /// `seq.firreg` with `reset async`
+    AsyncFirReg,
 }
 
 impl Literal {
@@ -253,6 +255,7 @@ impl OpKind {
             OpKind::CompReg(reset) => Ok(OpKind::CompReg(*reset)),
             OpKind::CompRegCe(reset) => Ok(OpKind::CompRegCe(*reset)),
             OpKind::FirReg(reset) => Ok(OpKind::FirReg(*reset)),
+            OpKind::AsyncFirReg => Ok(OpKind::AsyncFirReg),
             _ => unreachable!(),
         }
     }

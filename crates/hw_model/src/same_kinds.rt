@@ -4,7 +4,7 @@ ghost use Rattle.std.specs.Cmp.Lexicographic.{pointwise};
 ghost use Rattle.hw_model.specs.Design.{same_name};
 ghost use Rattle.hw_model.specs.Opcodes.{opcode_of};
 ghost use Rattle.hw_model.specs.KindViews.{kind_of, predicate_of, reset_of, integer_of, literal_of, literals_of, literals_in, instance_of};
-ghost use Rattle.hw_model.specs.SameKind.{predicate_number, same_opcode, same_literal, same_literals, same_optional_name, same_instance, is_icmp, is_extract, is_constant, is_aggregate_constant, is_struct_extract, is_struct_inject, is_instance, is_register};
+ghost use Rattle.hw_model.specs.SameKind.{predicate_number, same_opcode, same_literal, same_literals, same_optional_name, same_instance, is_icmp, is_extract, is_constant, is_aggregate_constant, is_struct_extract, is_struct_inject, is_instance, is_register, is_async_firreg};
 
 use crate::kinds::{Instance, Integer, Literal, LiteralList, OpKind, Predicate, Reset};
 use io_edge::byte_text::Text;
@@ -119,6 +119,7 @@ impl PartialEq for OpKind {
             OpKind::CompReg(reset) | OpKind::CompRegCe(reset) | OpKind::FirReg(reset) => {
                 is_register(self.listed(), *reset, other)
             }
+            OpKind::AsyncFirReg => is_async_firreg(other),
             _ => same_opcode(self.listed(), other.listed()),
         }
     }
@@ -274,6 +275,15 @@ fn is_instance(instance: &Instance, kind: &OpKind) -> bool
 {
     match kind {
         OpKind::Instance(other) => same_instance(instance, other),
+        _ => false,
+    }
+}
+
+fn is_async_firreg(kind: &OpKind) -> bool
+    ensures { result ≡ is_async_firreg (kind_of kind.now) }
+{
+    match kind {
+        OpKind::AsyncFirReg => true,
         _ => false,
     }
 }

@@ -5,7 +5,7 @@ use Rattle.hw_model.specs.Types.HwType.{int, array, struct}
 use Rattle.hw_model.specs.Kinds.{Kind, ArrayOp, StructOp}
 use Rattle.hw_model.specs.Kinds.ArrayOp.{array_create, array_concat, array_get, array_slice, array_inject}
 use Rattle.hw_model.specs.Kinds.StructOp.{struct_create, struct_extract, struct_inject, struct_explode}
-use Rattle.hw_model.specs.Kinds.Kind.{variadic, sub, division, shift, icmp, parity, extract, concat, replicate, mux, constant, aggregate_constant, on_array, on_struct, bitcast, wire, instance, output, register}
+use Rattle.hw_model.specs.Kinds.Kind.{variadic, sub, division, shift, icmp, parity, extract, concat, replicate, mux, constant, aggregate_constant, on_array, on_struct, bitcast, wire, instance, output, register, async_firreg}
 use Rattle.hw_model.specs.SameType.{same_type}
 use Rattle.hw_model.specs.Sound.{field_list, field_type}
 
@@ -112,6 +112,7 @@ result_type wire ts n = first_type ts
 result_type (instance i) ts n = None
 result_type output ts n = None
 result_type (register f r) ts n = first_type ts
+result_type async_firreg ts n = first_type ts
 
 -- the types of an operation's results, one for each
 unfoldable pub result_types : Kind → List HwType → ℕ → List (Option HwType)

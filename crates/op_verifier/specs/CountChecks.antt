@@ -9,7 +9,7 @@ use Rattle.hw_model.specs.Kinds.Literal.{parts}
 use Rattle.hw_model.specs.Kinds.ArrayOp.{array_create, array_concat, array_get, array_slice, array_inject}
 use Rattle.hw_model.specs.Kinds.StructOp.{struct_create, struct_extract, struct_inject, struct_explode}
 use Rattle.hw_model.specs.Kinds.RegisterOp.{compreg, compreg_ce, firreg}
-use Rattle.hw_model.specs.Kinds.Kind.{variadic, parity, extract, concat, replicate, mux, constant, aggregate_constant, on_array, on_struct, bitcast, wire, instance, output, register}
+use Rattle.hw_model.specs.Kinds.Kind.{variadic, parity, extract, concat, replicate, mux, constant, aggregate_constant, on_array, on_struct, bitcast, wire, instance, output, register, async_firreg}
 use Rattle.ir_store.specs.ResultTypes.{first_type, field_count, result_count}
 use Rattle.op_verifier.specs.LiteralChecks.{is_miscounted}
 
@@ -54,6 +54,7 @@ operand_count wire ts n = 1
 operand_count (instance i) ts n = length i.inputs
 operand_count output ts n = length ts
 operand_count (register f r) ts n = register_operands f + reset_operands r
+operand_count async_firreg ts n = register_operands firreg + reset_operands sync_reset
 operand_count kind ts n = 2
 
 -- how many types an operation on arrays writes

@@ -5,7 +5,7 @@ use Rattle.hw_model.specs.Types.{HwType, width}
 use Rattle.hw_model.specs.Kinds.{Kind}
 use Rattle.hw_model.specs.Kinds.ArrayOp.{array_create, array_concat, array_get, array_slice, array_inject}
 use Rattle.hw_model.specs.Kinds.StructOp.{struct_extract, struct_inject}
-use Rattle.hw_model.specs.Kinds.Kind.{division, extract, concat, replicate, constant, aggregate_constant, on_array, on_struct, bitcast, instance, register}
+use Rattle.hw_model.specs.Kinds.Kind.{division, extract, concat, replicate, constant, aggregate_constant, on_array, on_struct, bitcast, instance, register, async_firreg}
 use Rattle.ir_store.specs.ResultTypes.{first_type, second_type, field_of, joined_width}
 use Rattle.op_verifier.specs.TypeChecks.{is_outside, has_bad_field, has_clock_part, is_clock}
 use Rattle.op_verifier.specs.TypeLists.{int_width, array_length, settled_at}
@@ -130,6 +130,7 @@ has_other_clock xs = of_type is_clock (settled_at xs 0) || list_any (of_type is_
 unfoldable pub has_clock_operand : Kind → List (Option HwType) → Bool
 has_clock_operand (instance i) xs = false
 has_clock_operand (register f r) xs = has_other_clock xs
+has_clock_operand async_firreg xs = has_other_clock xs
 has_clock_operand kind xs = list_any (of_type is_clock) xs
 
 -- whether a clock stands where a value is wanted: within an aggregate, as a written type, so as a result or the type of a

@@ -9,7 +9,7 @@ use Rattle.hw_model.specs.Kinds.Reset.{no_reset, sync_reset}
 use Rattle.hw_model.specs.Kinds.Literal.{parts}
 use Rattle.hw_model.specs.Kinds.ArrayOp.{array_create, array_concat, array_get, array_slice, array_inject}
 use Rattle.hw_model.specs.Kinds.StructOp.{struct_create, struct_extract, struct_inject, struct_explode}
-use Rattle.hw_model.specs.Kinds.Kind.{concat, mux, aggregate_constant, on_array, on_struct, bitcast, wire, instance, output, register}
+use Rattle.hw_model.specs.Kinds.Kind.{concat, mux, aggregate_constant, on_array, on_struct, bitcast, wire, instance, output, register, async_firreg}
 use Rattle.hw_model.specs.Design.{takes_enable}
 use Rattle.ir_store.specs.ResultTypes.{first_type, second_type, element_of, field_of, fields_of, result_types}
 use Rattle.op_verifier.specs.TypeChecks.{is_int}
@@ -45,6 +45,7 @@ has_other_form wire ts = false
 has_other_form (instance i) ts = false
 has_other_form output ts = false
 has_other_form (register f r) ts = false
+has_other_form async_firreg ts = false
 has_other_form kind ts = list_any (λ (t : HwType). not (is_int t)) ts
 
 -- whether the enable of a register, where it has one, is no i1
@@ -92,6 +93,7 @@ has_other_operand (on_struct s) ts xs = has_other_struct_operand s ts xs
 has_other_operand (instance i) ts xs = differ xs (known_types ts)
 has_other_operand output ts xs = differ xs (known_types ts)
 has_other_operand (register f r) ts xs = register_differs (takes_enable f) r (first_type ts) xs
+has_other_operand async_firreg ts xs = register_differs false sync_reset (first_type ts) xs
 has_other_operand kind ts xs = any_differs xs (first_type ts)
 
 -- whether a result has another type than the operation gives it, where it gives one: never in a text that is read

@@ -42,6 +42,7 @@ fn operand_count(family: Family<'_>, types: &[Ty], operands: usize) -> usize
         Family::Instance(instance) => instance.inputs.len(),
         Family::Output => types.len(),
         Family::Register(op, reset) => register_operands(op) + reset_operands(reset),
+        Family::AsyncFirReg => register_operands(RegisterOp::FirReg) + reset_operands(Reset::Sync),
         _ => 2,
     }
 }

@@ -240,7 +240,7 @@ fn has_clock_operand(family: Family<'_>, operands: &[Option<&Ty>]) -> bool
 {
     match family {
         Family::Instance(_) => false,
-        Family::Register(_, _) => has_other_clock(operands),
+        Family::Register(_, _) | Family::AsyncFirReg => has_other_clock(operands),
         _ => any_settled_clock(operands),
     }
 }

@@ -39,7 +39,8 @@ pub(crate) fn has_other_form(family: Family<'_>, types: &[Ty]) -> bool
         | Family::Wire
         | Family::Instance(_)
         | Family::Output
-        | Family::Register(_, _) => false,
+        | Family::Register(_, _)
+        | Family::AsyncFirReg => false,
         _ => any_other_than_int(types),
     }
 }
@@ -100,6 +101,7 @@ pub(crate) fn has_other_operand(family: Family<'_>, types: &[Ty], operands: &[Op
             field_of(first, name),
         ),
         Family::Register(op, reset) => register_differs(op.takes_enable(), reset, first, operands),
+        Family::AsyncFirReg => register_differs(false, Reset::Sync, first, operands),
         _ => any_differs(operands, first),
     }
 }

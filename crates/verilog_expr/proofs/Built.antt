@@ -12,7 +12,7 @@ use Rattle.hw_model.specs.Types.{Name, HwType, width}
 use Rattle.hw_model.specs.Types.HwType.{int}
 use Rattle.hw_model.specs.Kinds.{Kind, Variadic, Division, Shift}
 use Rattle.hw_model.specs.Kinds.Variadic.{add, mul, and, or, xor}
-use Rattle.hw_model.specs.Kinds.Kind.{variadic, sub, division, shift, icmp, parity, extract, concat, replicate, mux, constant, aggregate_constant, on_array, on_struct, bitcast, wire, instance, output, register}
+use Rattle.hw_model.specs.Kinds.Kind.{variadic, sub, division, shift, icmp, parity, extract, concat, replicate, mux, constant, aggregate_constant, on_array, on_struct, bitcast, wire, instance, output, register, async_firreg}
 use Rattle.hw_model.specs.Value.{product, and_all, or_all, xor_all, of_one, of_two, of_three, compare, variadic_value, division_value, shift_value, op_value}
 use Rattle.hw_model.specs.Flat.{width_of}
 use Rattle.hw_model.specs.Sound.{AllAre, Fits}
@@ -269,6 +269,7 @@ module _ (widths : Name → ℕ) (ρ : Name → Word) where
   built_gives (instance i) ts xs t k divisor es fits can = absurd (true≢false can.values)
   built_gives output ts xs t k divisor es fits can = absurd fits
   built_gives (register f r) ts xs t k divisor es fits can = absurd (true≢false can.values)
+  built_gives async_firreg ts xs t k divisor es fits can = absurd (true≢false can.values)
 
   pub built_bits : (kind : Kind) (ts : List HwType) (xs : List (Option HwType)) (t : HwType) (k divisor : ℕ) (es : List Expr)
       → Fits kind ts xs t k → IsBuildable widths ρ kind xs t es → HasBits widths ρ (width t) (kind_expr kind (width t) (map width_of xs) divisor es)

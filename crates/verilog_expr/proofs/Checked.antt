@@ -9,7 +9,7 @@ use Rattle.hw_model.specs.Types.{Name, HwType, width}
 use Rattle.hw_model.specs.Types.HwType.{int}
 use Rattle.hw_model.specs.Kinds.{Kind, Predicate}
 use Rattle.hw_model.specs.Kinds.Predicate.{eq, ne, slt, sle, sgt, sge, ult, ule, ugt, uge, ceq, cne, weq, wne}
-use Rattle.hw_model.specs.Kinds.Kind.{variadic, sub, division, shift, icmp, parity, extract, concat, replicate, mux, constant, aggregate_constant, on_array, on_struct, bitcast, wire, instance, output, register}
+use Rattle.hw_model.specs.Kinds.Kind.{variadic, sub, division, shift, icmp, parity, extract, concat, replicate, mux, constant, aggregate_constant, on_array, on_struct, bitcast, wire, instance, output, register, async_firreg}
 use Rattle.hw_model.specs.Flat.{width_of}
 use Rattle.hw_model.specs.Sound.{Fits}
 use Rattle.verilog_model.specs.Tokens.{is_word_byte, is_digit, is_between}
@@ -407,3 +407,4 @@ module _ (known : List Declared) where
   built_well (instance i) ts xs t k divisor es fits whole values filled some small narrow are divided cut = cc
   built_well output ts xs t k divisor es fits whole values filled some small narrow are divided cut = cc
   built_well (register f r) ts xs t k divisor es fits whole values filled some small narrow are divided cut = cc
+  built_well async_firreg ts xs t k divisor es fits whole values filled some small narrow are divided cut = cc

@@ -46,6 +46,7 @@ fn is_pure(kind: &OpKind) -> bool
         OpKind::CompReg(_)
         | OpKind::CompRegCe(_)
         | OpKind::FirReg(_)
+        | OpKind::AsyncFirReg
         | OpKind::Instance(_)
         | OpKind::Output
         | OpKind::Wire => false,
