@@ -16,3 +16,4 @@ pub mod Registers
 pub mod Loads
 pub mod ReloadFollows
 pub mod ModuleGone
+pub mod ResetsKept

@@ -3,3 +3,4 @@ pub mod Falls
 pub mod Follows
 pub mod Laws
 pub mod Registers
+pub mod Resets

@@ -3,11 +3,14 @@
 ghost use Rattle.hw_model.specs.Machine.{Same};
 ghost use Rattle.hw_model.specs.Meaning.{machine};
 ghost use Rattle.hw_model.specs.Hierarchy.{IsWithout};
-ghost use Rattle.std.specs.Prelude.{◌≡◌, ◌≤◌, ℕ, List, Some, length, set, slice_get};
+ghost use Rattle.std.specs.Prelude.{◌≡◌, ◌≤◌, ℕ, Bool, List, Some, length, set, slice_get};
 ghost use Rattle.hw_model.specs.Types.{Name, HwType};
 ghost use Rattle.hw_model.specs.Design.{Ref, Op, Module, Design, find_module};
-ghost use Rattle.hw_model.specs.Design.Ref.{undefined};
+ghost use Rattle.hw_model.specs.Design.Ref.{result, undefined};
+ghost use Rattle.hw_model.specs.Resets.{IsConstantOf, ResetsFromPorts};
 ghost use Rattle.hw_model.specs.Weight.{kind_weight, body_weight, weight};
+ghost use Rattle.hw_edits.specs.Edit.{Edit, EditedModule};
+ghost use Rattle.hw_edits.specs.Resets.{marks_by_symbol, KeepsResetValues};
 ghost use Rattle.hw_edits.specs.Follows.{SameEdit, ValidEdit, Valid, Follows};
 ghost use Rattle.hw_edits.specs.Registers.{Reloaded};
 ghost use Rattle.hw_edits.specs.Laws.{InPlace, Inserted, Erased, IsUnused, erase_op, insert_op, with_body};
@@ -64,6 +67,16 @@ pub fn replace_register_preserves()
 pub fn remove_module_preserves()
     ensures valid { (d e : Design) (gone : Name) → IsWithout d e gone → Valid d → Valid e }
     ensures others { (d e : Design) (gone : Name) → IsWithout d e gone → Valid d → (top : Name) → (top ≡ gone → ⊥) → Same (machine d top) (machine e top) }
+{}
+
+/// Does nothing. Its clauses say that edits of modules keep where asynchronous resets come from, the marks of ports going
+/// by the modules' symbols, where what stands for each constant that a register is so reset to is a constant; and that a
+/// constant that an edit does not change or take out is one.
+pub fn edits_keep_resets()
+    ensures edits { (d e : Design) (marked : Module → ℕ → Bool) (each : (s : Name) → EditedModule (find_module d s) (find_module e s))
+        → ((s : Name) → KeepsResetValues (find_module d s) (find_module e s) (each s)) → ResetsFromPorts d marked → ResetsFromPorts e (marks_by_symbol d marked) }
+    ensures constants { (os os' : List Op) (edit : Edit os os') (j j' k : ℕ) → edit.place j ≡ Some j' → IsConstantOf os (result j k)
+        → IsConstantOf os' (edit.stand (result j k)) }
 {}
 
 /// Does nothing. Its clauses say that no module becomes heavier where a module gets a body that is not heavier, where an

@@ -9,11 +9,11 @@ use Rattle.bits_core.specs.Word.{Word, first}
 use Rattle.bits_core.proofs.First.{length-first, first-append_seam, first-first}
 use Rattle.hw_model.specs.Types.{Name, HwType, width}
 use Rattle.hw_model.specs.Kinds.{Kind, Instance}
-use Rattle.hw_model.specs.Kinds.Kind.{constant, aggregate_constant}
-use Rattle.hw_model.specs.Design.{Ref, Op, Module, Design, find_module, instance_in, register_form, is_output_kind, is_instance, result_type, callee}
+use Rattle.hw_model.specs.Kinds.Kind.{constant, aggregate_constant, async_firreg}
+use Rattle.hw_model.specs.Design.{Ref, Op, Module, Design, RegisterForm, find_module, instance_in, register_form, is_output_kind, is_instance, result_type, callee}
 use Rattle.hw_model.specs.Design.Ref.{port, result}
 use Rattle.hw_model.specs.Value.{op_value, is_high}
-use Rattle.hw_model.specs.Flat.{Path, Net, net, Source, source, module_at, instances, input_width, input_of, input_source, port_ref, copy_of, joined_ref, joined_at, made_of, Slot, Register, ResetBy, register_in, async_reset_in, held_width, op_registers, body_registers, module_registers, registers, depth}
+use Rattle.hw_model.specs.Flat.{Path, Net, net, Source, source, module_at, instances, input_width, input_of, input_source, port_ref, copy_of, joined_ref, joined_at, made_of, Slot, Register, ResetBy, register_parts, register_in, has_async_reset, async_parts, async_reset_in, held_width, op_registers, body_registers, module_registers, registers, depth}
 use Rattle.hw_model.specs.Flat.Source.{nowhere, input, copy}
 use Rattle.hw_model.specs.Machine.{RunAfter, Run}
 use Rattle.hw_model.specs.Meaning.{needs_of, value_of, Settled, value_if_enabled, reset, next_value, map_slots, next_in, rise_value, rise_in, risen_content, machine}
@@ -27,7 +27,13 @@ use Rattle.hw_model.proofs.Gone.{from_In-instances}
 
 -- a register that is reset without its clock loads its reset value as one with a synchronous reset
 async_register : (o : Op) (r : ResetBy) → async_reset_in o ≡ Some r → (g : Register) × (register_in o ≡ Some g) × (g.reset ≡ Some r)
-async_register o r is = cc
+async_register o r is = go o.kind o.operands is
+  where
+    go : (k : Kind) (rs : List Ref) → cond (has_async_reset k) (async_parts rs) None ≡ Some r
+        → (g : Register) × (bind (register_form k) (λ (f : RegisterForm). register_parts f.has_enable f.reset rs) ≡ Some g) × (g.reset ≡ Some r)
+    go async_firreg (d ∷ c ∷ s ∷ v ∷ []) h = (record { next = d; clock = c; enable = None; reset = Some (record { signal = s; value = v }) }, refl, h)
+    go async_firreg _ h = cc
+    go _ rs h = cc
 
 -- ---- registers and the modules that they stand in
 

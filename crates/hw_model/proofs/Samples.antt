@@ -11,8 +11,8 @@ use Rattle.hw_model.specs.Kinds.Variadic.{add, xor}
 use Rattle.hw_model.specs.Kinds.Division.{divs}
 use Rattle.hw_model.specs.Kinds.Shift.{shl, shru, shrs}
 use Rattle.hw_model.specs.Kinds.ArrayOp.{array_get}
-use Rattle.hw_model.specs.Kinds.RegisterOp.{compreg_ce}
-use Rattle.hw_model.specs.Kinds.Kind.{variadic, division, shift, constant, on_array, bitcast, instance, output, register}
+use Rattle.hw_model.specs.Kinds.RegisterOp.{compreg_ce, firreg}
+use Rattle.hw_model.specs.Kinds.Kind.{variadic, division, shift, constant, on_array, bitcast, instance, output, register, async_firreg}
 use Rattle.hw_model.specs.Design.{Ref, Port, Op, Module, Design, nowhere_place}
 use Rattle.hw_model.specs.Design.Ref.{port, result}
 use Rattle.hw_model.specs.Machine.{Run}
@@ -129,6 +129,28 @@ two_registers_runs =
 
 two_registers_size : (machine two_registers (codes "Two")).size ≡ 16
 two_registers_size = refl
+
+-- ---- a register that is reset without its clock, and one that is reset at its clock
+
+-- a register of this kind with the inputs clk, rst and d and the reset value 9
+abbrev reset_register : Kind → Design
+reset_register kind = only_module (in_port (codes "clk") clock ∷ in_port (codes "rst") (int 1) ∷ in_port (codes "d") (int 8) ∷ out_port (codes "q") (int 8) ∷ [])
+    (nine ∷ operation kind (port 2 ∷ port 0 ∷ port 1 ∷ result 0 0 ∷ []) (int 8 ∷ []) (int 8 ∷ [])
+    ∷ operation output (result 1 0 ∷ []) (int 8 ∷ []) [] ∷ [])
+
+abbrev reset_step : ℕ → ℕ → ℕ → Word
+reset_step rise rst d = bits 1 rise ++ bits 1 rst ++ byte d
+
+abbrev reset_steps : List Word
+reset_steps = reset_step 0 1 0x11 ∷ reset_step 1 1 0x22 ∷ reset_step 1 0 0x33 ∷ reset_step 0 0 0x44 ∷ []
+
+asynchronous_run : (outs : List Word) → Run (machine (reset_register async_firreg) (codes "M")) (byte 0x05) reset_steps outs
+    → outs ≡ byte 0x09 ∷ byte 0x09 ∷ byte 0x09 ∷ byte 0x33 ∷ []
+asynchronous_run outs run = run_value (reset_register async_firreg) (codes "M") 4 refl (byte 0x05) reset_steps outs run
+
+synchronous_run : (outs : List Word) → Run (machine (reset_register (register firreg sync_reset)) (codes "M")) (byte 0x05) reset_steps outs
+    → outs ≡ byte 0x05 ∷ byte 0x05 ∷ byte 0x09 ∷ byte 0x33 ∷ []
+synchronous_run outs run = run_value (reset_register (register firreg sync_reset)) (codes "M") 4 refl (byte 0x05) reset_steps outs run
 
 -- ---- parts of a word as an array's element and as a struct's fields
 

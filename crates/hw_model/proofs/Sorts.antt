@@ -1,6 +1,7 @@
 -- What an operation is to its module: a register, an instance, an output, or made of its operands.
 use Rattle.std.proofs.Common.{◌≡◌, ℕ, zero, suc, true, false, List, [], ◌∷◌, length, take, slice_get, Some, None, refl, ap, ◌∙◌}
 use Rattle.hw_model.specs.Kinds.{Kind, Instance}
+use Rattle.hw_model.specs.Kinds.Reset.{sync_reset}
 use Rattle.hw_model.specs.Kinds.Kind.{instance, output, register, async_firreg}
 use Rattle.hw_model.specs.Design.{Op, RegisterForm, takes_enable, instance_in, register_form, is_output_kind}
 use Rattle.hw_model.specs.Flat.{instances}
