@@ -22,22 +22,22 @@ use Rattle.hw_edits.specs.Resets.{has_mark, marks_by_symbol, KeepsResetValues}
 
 In-anchors : (o : Op) (os : List Op) → In o (anchors os) → In o os
 In-anchors o [] never = never
-In-anchors o (y ∷ ys) here = go (is_anchor y) here
+In-anchors o (y ∷ ys) here = go (is_anchor y) (In-anchors o ys) here
   where
-    go : (b : Bool) → In o (cond b (y ∷ anchors ys) (anchors ys)) → In o (y ∷ ys)
-    go true (inl same) = inl same
-    go true (inr later) = inr (In-anchors o ys later)
-    go false later = inr (In-anchors o ys later)
+    go : (b : Bool) → (In o (anchors ys) → In o ys) → In o (cond b (y ∷ anchors ys) (anchors ys)) → In o (y ∷ ys)
+    go true rest (inl same) = inl same
+    go true rest (inr later) = inr (rest later)
+    go false rest later = inr (rest later)
 
 anchor_within : (o : Op) (os : List Op) → is_anchor o ≡ true → In o os → In o (anchors os)
 anchor_within o [] is never = never
 anchor_within o (y ∷ ys) is (inl same) =
     subst (λ b. In o (cond b (y ∷ anchors ys) (anchors ys))) (sym (ap is_anchor (sym same) ∙ is)) (inl same)
-anchor_within o (y ∷ ys) is (inr later) = go (is_anchor y)
+anchor_within o (y ∷ ys) is (inr later) = go (is_anchor y) (anchor_within o ys is later)
   where
-    go : (b : Bool) → In o (cond b (y ∷ anchors ys) (anchors ys))
-    go true = inr (anchor_within o ys is later)
-    go false = anchor_within o ys is later
+    go : (b : Bool) → In o (anchors ys) → In o (cond b (y ∷ anchors ys) (anchors ys))
+    go true there = inr there
+    go false there = there
 
 async_anchor : (o : Op) (r : ResetBy) → async_reset_in o ≡ Some r → is_anchor o ≡ true
 async_anchor o r is = go o.kind refl
@@ -87,11 +87,11 @@ retarget_port f ps rs j q is = go (slice_get ps j) is
 
 find_symbol : (d : Design) (s : Name) (m : Module) → find_module d s ≡ Some m → m.symbol ≡ s
 find_symbol [] s m is = cc
-find_symbol (x ∷ d) s m is = go (same_name x.symbol s) refl is
+find_symbol (x ∷ d) s m is = go (same_name x.symbol s) refl (find_symbol d s m) is
   where
-    go : (b : Bool) → same_name x.symbol s ≡ b → cond b (Some x) (find_module d s) ≡ Some m → m.symbol ≡ s
-    go true same here = let first : x ≡ m = cc in ap (λ (y : Module). y.symbol) (sym first) ∙ same_text x.symbol s (sym same)
-    go false other there = find_symbol d s m there
+    go : (b : Bool) → same_name x.symbol s ≡ b → (find_module d s ≡ Some m → m.symbol ≡ s) → cond b (Some x) (find_module d s) ≡ Some m → m.symbol ≡ s
+    go true same later here = let first : x ≡ m = cc in ap (λ (y : Module). y.symbol) (sym first) ∙ same_text x.symbol s (sym same)
+    go false other later there = later there
 
 -- what was found where something is found now
 was_found : (o n : Option Module) → is_some n ≡ is_some o → (m : Module) → n ≡ Some m → (was : Module) × (o ≡ Some was)
@@ -102,14 +102,14 @@ was_found None n same m is = let never : true ≡ false = sym (ap is_some is) �
 
 module _ (d e : Design) (marked : Module → ℕ → Bool) (each : (s : Name) → EditedModule (find_module d s) (find_module e s))
     (keeps : (s : Name) → KeepsResetValues (find_module d s) (find_module e s) (each s)) (resets : ResetsFromPorts d marked) where
-  marks : Module → ℕ → Bool
+  abbrev marks : Module → ℕ → Bool
   marks = marks_by_symbol d marked
 
   module _ (s : Name) (m : Module) (is : find_module e s ≡ Some m) where
-    was : (x : Module) × (find_module d s ≡ Some x)
+    abbrev was : (x : Module) × (find_module d s ≡ Some x)
     was = was_found (find_module d s) (find_module e s) (each s).is_there m is
 
-    old : Module
+    abbrev old : Module
     old = was.0
 
     ports_same : m.ports ≡ old.ports
@@ -118,7 +118,7 @@ module _ (d e : Design) (marked : Module → ℕ → Bool) (each : (s : Name) �
     marks_same : (j : ℕ) → marks m j ≡ marked old j
     marks_same j = ap (λ n. has_mark marked j (find_module d n)) (find_symbol e s m is) ∙ ap (has_mark marked j) was.1
 
-    stand : Ref → Ref
+    abbrev stand : Ref → Ref
     stand = (each s).edit.stand
 
     -- an anchor of the new body was one of the old, with other operands
@@ -168,6 +168,7 @@ module _ (d e : Design) (marked : Module → ℕ → Bool) (each : (s : Name) �
 
   joined_after : (s : Name) (m : Module) (is : find_module e s ≡ Some m) (o : Op) (c : Module) (r : Ref) → In o m.body → callee e o ≡ Some c
       → (given : IsMarkedInput marks c r) → (q : Ref) × (port_ref c.ports o.operands given.number ≡ Some q) × IsMarkedInput marks m q
+  unfolding marked_before
   joined_after s m is o c r within leads given = (
     stand s m is joins.0,
     ap (λ ps. port_ref ps o.operands given.number) (ports_same i.0.symbol c i.2)

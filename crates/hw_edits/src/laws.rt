@@ -6,7 +6,7 @@ ghost use Rattle.hw_model.specs.Hierarchy.{IsWithout};
 ghost use Rattle.std.specs.Prelude.{◌≡◌, ◌≤◌, ℕ, Bool, List, Some, length, set, slice_get};
 ghost use Rattle.hw_model.specs.Types.{Name, HwType};
 ghost use Rattle.hw_model.specs.Design.{Ref, Op, Module, Design, find_module};
-ghost use Rattle.hw_model.specs.Design.Ref.{result, undefined};
+ghost use Rattle.hw_model.specs.Design.Ref.{result as op_result, undefined};
 ghost use Rattle.hw_model.specs.Resets.{IsConstantOf, ResetsFromPorts};
 ghost use Rattle.hw_model.specs.Weight.{kind_weight, body_weight, weight};
 ghost use Rattle.hw_edits.specs.Edit.{Edit, EditedModule};
@@ -75,8 +75,8 @@ pub fn remove_module_preserves()
 pub fn edits_keep_resets()
     ensures edits { (d e : Design) (marked : Module → ℕ → Bool) (each : (s : Name) → EditedModule (find_module d s) (find_module e s))
         → ((s : Name) → KeepsResetValues (find_module d s) (find_module e s) (each s)) → ResetsFromPorts d marked → ResetsFromPorts e (marks_by_symbol d marked) }
-    ensures constants { (os os' : List Op) (edit : Edit os os') (j j' k : ℕ) → edit.place j ≡ Some j' → IsConstantOf os (result j k)
-        → IsConstantOf os' (edit.stand (result j k)) }
+    ensures constants { (os os' : List Op) (edit : Edit os os') (j j' k : ℕ) → edit.place j ≡ Some j' → IsConstantOf os (op_result j k)
+        → IsConstantOf os' (edit.stand (op_result j k)) }
 {}
 
 /// Does nothing. Its clauses say that no module becomes heavier where a module gets a body that is not heavier, where an
