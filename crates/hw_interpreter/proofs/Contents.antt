@@ -2,13 +2,12 @@
 use Rattle.std.proofs.Common.{◌≡◌, ℕ, zero, suc, ◌-◌, ◌<◌, ◌≤◌, List, [], ◌∷◌, ◌++◌, drop, Some, sym, ap, ap₂, ◌∙◌, inl, inr, arith}
 use Rattle.wiring.specs.Wiring.{In}
 use Rattle.bits_core.specs.Word.{Word, first}
-use Rattle.bits_core.proofs.First.{first-first}
 use Rattle.hw_model.specs.Types.{Name}
 use Rattle.hw_model.specs.Design.{Module, Design, find_module}
 use Rattle.hw_model.specs.Flat.{Slot, registers, held_width, depth, state, body_state, state_of, module_state}
+use Rattle.hw_model.specs.Meaning.{map_slots}
 use Rattle.hw_model.proofs.Content.{slots_width, registers_width}
 use Rattle.hw_interpreter.specs.Suits.{IsCounted}
-use Rattle.hw_interpreter.specs.Depth.{held_content}
 use Rattle.hw_interpreter.proofs.Pieces.{piece_more}
 
 -- the content of a module that is found, from that of the depth below
@@ -31,10 +30,11 @@ register_counted d top counted s here =
     let all : slots_width (registers d top) ≡ state d top = registers_width d (depth d) [] top in
     omega (arith, within, all, counted)
 
--- one register more of the content that the registers hold
-pub held_more : (s : Slot) (ss : List Slot) (word left whole new after : Word) (w : ℕ) → w ≡ held_width s.op → new ≡ word ++ first w left
-    → after ≡ drop w left → word ++ held_content (s ∷ ss) left ≡ whole → new ++ held_content ss after ≡ whole
-held_more s ss word left whole new after w wide is cut so_far =
-    piece_more word (first w (first w left)) (held_content ss after) new whole
-    (ap₂ (λ k c. word ++ (first k (first k left) ++ held_content ss c)) wide (cut ∙ ap (λ k. drop k left) wide) ∙ so_far)
-    (is ∙ ap (λ z. word ++ z) (sym (first-first w left)))
+-- one register more of the content slot by slot, `each` giving what it holds from what it held
+pub slot_more : (each : Slot → Word → Word) (s : Slot) (ss : List Slot) (word left whole held new after : Word) (w : ℕ) → w ≡ held_width s.op
+    → held ≡ each s (first w left) → new ≡ word ++ first w held → after ≡ drop w left → word ++ map_slots each (s ∷ ss) left ≡ whole
+    → new ++ map_slots each ss after ≡ whole
+slot_more each s ss word left whole held new after w wide is put cut so_far =
+    piece_more word (first w (each s (first w left))) (map_slots each ss after) new whole
+    (ap₂ (λ k c. word ++ (first k (each s (first k left)) ++ map_slots each ss c)) wide (cut ∙ ap (λ k. drop k left) wide) ∙ so_far)
+    (put ∙ ap (λ z. word ++ first w z) is)

@@ -16,7 +16,7 @@ use Rattle.hw_model.specs.Flat.{Net, Path, net, module_at, source}
 use Rattle.hw_model.specs.Flat.Source.{nowhere, input, copy}
 use Rattle.hw_model.proofs.Samples.{operation, module_of, out_port}
 use Rattle.hw_interpreter.specs.Suits.{IsCounted, Suits}
-use Rattle.hw_interpreter.specs.SuitsWithin.{SuitsSource, SuitsFrom, SuitsWithin, AlwaysSuits, IsCountedDesign, register_refs, TakesStep, TakesRun}
+use Rattle.hw_interpreter.specs.SuitsWithin.{SuitsSource, SuitsFrom, SuitsWithin, AlwaysSuits, IsCountedDesign, register_refs, signal_refs, reset_refs, TakesStep, TakesRun}
 
 -- a constant of 128 bits has no operand; one of 129 bits is no integer here
 suits_constant : Suits (constant (pos 5)) [] (int 128) []
@@ -120,9 +120,11 @@ always_none inputs content ρ settled n = subst (SuitsSource ρ) (sym (no_source
 within_none : (n : Net) → SuitsWithin [] (codes "M") [] [] 1 n
 within_none n = subst (SuitsFrom (λ a. []) (λ a. ⊤)) (sym (no_source n.path n.ref)) (tt, λ a none. absurd none)
 
-step_none : TakesStep [] (codes "M") [] [] 1
+step_none : TakesStep [] (codes "M") [] [] [] 1
 step_none = record {
   numbers = counted_none;
+  earlier_nets = λ s here r read. within_none (net s.path r);
+  reset_nets = λ s here r read. within_none (net s.path r);
   output_nets = λ r here. within_none (net [] r);
   register_nets = λ s here r read. within_none (net s.path r);
 }
@@ -138,3 +140,10 @@ read_by_register = refl
 
 read_by_none : register_refs None ≡ []
 read_by_none = refl
+
+-- and what its asynchronous reset does
+read_by_reset : reset_refs (Some (record { signal = port 3; value = port 4 })) ≡ port 3 ∷ port 4 ∷ []
+read_by_reset = refl
+
+read_before : signal_refs (Some (record { signal = port 3; value = port 4 })) ≡ port 3 ∷ []
+read_before = refl

@@ -1,5 +1,6 @@
 -- What suits within a depth, from a settled map, and by the parts of sources.
-use Rattle.std.proofs.Common.{◌≡◌, ℕ, zero, suc, ◌+◌, ◌-◌, ◌<◌, ◌≤◌, List, [], ◌∷◌, map, length, take, get_or, All, inl, inr, sym, ap, subst, ◌∙◌, arith}
+use Rattle.std.proofs.Common.{◌≡◌, ℕ, zero, suc, ◌+◌, ◌-◌, ◌<◌, ◌≤◌, List, [], ◌∷◌, map, length, take, get_or, All, inl, inr, sym, ap, ap₂, subst, ◌∙◌, arith}
+use mathlib.Core.Path.{fun_ext}
 use Rattle.wiring.specs.Wiring.{In, IsHeight, greatest}
 use Rattle.std.proofs.lemmas.List.Elements.{All-append}
 use Rattle.wiring.proofs.Members.{map_same, In-map, from_In-map, All-from_members}
@@ -9,12 +10,12 @@ use Rattle.hw_model.specs.Types.{Name}
 use Rattle.hw_model.specs.Design.{Ref, Design}
 use Rattle.hw_model.specs.Flat.{Net, Path, Source, net, source, registers}
 use Rattle.hw_model.specs.Flat.Source.{nowhere, input, held, copy, op_result}
-use Rattle.hw_model.specs.Meaning.{needs_of, needs, value, Settled}
+use Rattle.hw_model.specs.Meaning.{needs_of, needs, value, Settled, risen_content}
 use Rattle.hw_interpreter.specs.declared.design.Operand.{Operand}
 use Rattle.hw_interpreter.specs.DesignViews.{ref_of}
 use Rattle.hw_interpreter.specs.Suits.{IsInteger, Suits}
-use Rattle.hw_interpreter.specs.SuitsWithin.{SuitsSource, SuitsFrom, SuitsWithin, SuitsUnder, AlwaysSuits, IsCountedDesign, TakesRefs, TakesStep, TakesRun}
-use Rattle.hw_interpreter.specs.Depth.{value_within, held_content, content_within, Suffices}
+use Rattle.hw_interpreter.specs.SuitsWithin.{SuitsSource, SuitsFrom, SuitsWithin, SuitsUnder, AlwaysSuits, IsCountedDesign, TakesRefs, TakesStep, SuitsStep, TakesRunAfter, TakesRun}
+use Rattle.hw_interpreter.specs.Depth.{value_within, risen_within, content_within, Suffices}
 use Rattle.hw_interpreter.proofs.Counts.{member_of, take_more}
 use Rattle.hw_interpreter.proofs.Within.{within_settled}
 
@@ -65,32 +66,69 @@ suits_more d top inputs content (suc depth) n positive suit =
     let e : suc depth - 1 ≡ depth = omega arith in
     subst (λ k. SuitsFrom (value_within d top inputs content k) (SuitsWithin d top inputs content k) (source d top n)) (sym e) suit
 
--- a step is computed within a depth that reaches, where all sources suit under its settled map
-pub step_taken : (d : Design) (top : Name) (depth : ℕ) → Suffices d top depth → IsCountedDesign d top → (inputs content : Word) (ρ : Net → Word)
-    → Settled d top inputs content ρ → SuitsUnder d top ρ → TakesStep d top inputs content depth
-step_taken d top depth reaches counted inputs content ρ settled all =
+-- where a depth reaches all that nets need, the values within it are those of a settled map
+reached_is : (d : Design) (top : Name) (depth : ℕ) → Suffices d top depth → (inputs content : Word) (ρ : Net → Word)
+    → Settled d top inputs content ρ → (n : Net) → value_within d top inputs content depth n ≡ ρ n
+reached_is d top depth (height, is, low) inputs content ρ settled n = within_is d top inputs content height is ρ settled depth n (low n)
+
+-- and so is the content after the first phase
+risen_is : (d : Design) (top : Name) (depth : ℕ) → Suffices d top depth → (before inputs content : Word) (ρ σ : Net → Word)
+    → Settled d top before content ρ → Settled d top inputs content σ
+    → risen_within d top before inputs content depth ≡ risen_content (registers d top) ρ σ content
+risen_is d top depth reaches before inputs content ρ σ settled also =
+    ap₂ (λ f g. risen_content (registers d top) f g content)
+    (fun_ext (reached_is d top depth reaches before content ρ settled))
+    (fun_ext (reached_is d top depth reaches inputs content σ also))
+
+-- a step is computed within a depth that reaches, where all sources suit under its settled maps
+pub step_taken : (d : Design) (top : Name) (depth : ℕ) → Suffices d top depth → IsCountedDesign d top → (before inputs content : Word)
+    → SuitsStep d top before inputs content → TakesStep d top before inputs content depth
+step_taken d top depth reaches counted before inputs content maps =
+    let rises = risen_is d top depth reaches before inputs content maps.earlier maps.first_map maps.settled_earlier maps.settled_first in
+    let settled : Settled d top inputs (risen_within d top before inputs content depth) maps.map_of =
+    subst (λ c. Settled d top inputs c maps.map_of) (sym rises) maps.settled in
     record {
       numbers = counted;
-      output_nets = λ r here. suits_reached d top depth reaches inputs content ρ settled all (net [] r);
-      register_nets = λ s here r read. suits_reached d top depth reaches inputs content ρ settled all (net s.path r);
+      earlier_nets = λ s here r read. suits_reached d top depth reaches before content maps.earlier maps.settled_earlier maps.suits_earlier (net s.path r);
+      reset_nets = λ s here r read. suits_reached d top depth reaches inputs content maps.first_map maps.settled_first maps.suits_first (net s.path r);
+      output_nets = λ r here. suits_reached d top depth reaches inputs (risen_within d top before inputs content depth) maps.map_of settled maps.suits (net [] r);
+      register_nets = λ s here r read. suits_reached d top depth reaches inputs (risen_within d top before inputs content depth) maps.map_of settled maps.suits (net s.path r);
     }
 
--- and a run, where they do under each settled map
+-- all sources suit under the settled maps of a step, where they do under each settled map
+steps_suit : (d : Design) (top : Name) (depth : ℕ) → Suffices d top depth → AlwaysSuits d top → (before inputs content : Word)
+    → SuitsStep d top before inputs content
+steps_suit d top depth reaches always before inputs content =
+    let risen = risen_within d top before inputs content depth in
+    let earlier = within_settled d top depth reaches before content in
+    let first_map = within_settled d top depth reaches inputs content in
+    let map_of = within_settled d top depth reaches inputs risen in
+    record {
+      earlier = value_within d top before content depth;
+      first_map = value_within d top inputs content depth;
+      map_of = value_within d top inputs risen depth;
+      settled_earlier = earlier;
+      settled_first = first_map;
+      settled = map_of;
+      suits_earlier = always before content (value_within d top before content depth) earlier;
+      suits_first = always inputs content (value_within d top inputs content depth) first_map;
+      suits = always inputs risen (value_within d top inputs risen depth) map_of;
+    }
+
+-- then each step of a run is computed within a depth that reaches
 pub run_taken : (d : Design) (top : Name) (depth : ℕ) → Suffices d top depth → IsCountedDesign d top → AlwaysSuits d top
-    → (content : Word) (steps : List Word) → TakesRun d top depth content steps
-run_taken d top depth reaches counted always content [] = tt
-run_taken d top depth reaches counted always content (s ∷ steps) =
-    let kept = held_content (registers d top) content in
-    let settled = within_settled d top depth reaches s kept in (
-      step_taken d top depth reaches counted s kept (value_within d top s kept depth) settled (always s kept (value_within d top s kept depth) settled),
-      run_taken d top depth reaches counted always (content_within d top s content depth) steps,
-    )
+    → (before content : Word) (steps : List Word) → TakesRunAfter d top depth before content steps
+run_taken d top depth reaches counted always before content [] = tt
+run_taken d top depth reaches counted always before content (s ∷ steps) = (
+  step_taken d top depth reaches counted before s content (steps_suit d top depth reaches always before s content),
+  run_taken d top depth reaches counted always s (content_within d top before s content depth) steps,
+)
 
 -- and the rest of a run after its first step
-pub takes_more : (d : Design) (top : Name) (depth : ℕ) (content : Word) (steps : List Word) (s : Word) (rest : List Word) (after : Word) → steps ≡ s ∷ rest
-    → after ≡ content_within d top s content depth → TakesRun d top depth content steps → TakesRun d top depth after rest
-takes_more d top depth content steps s rest after is taken takes =
-    subst (λ c. TakesRun d top depth c rest) (sym taken) (subst (TakesRun d top depth content) is takes).1
+pub takes_more : (d : Design) (top : Name) (depth : ℕ) (before content : Word) (steps : List Word) (s : Word) (rest : List Word) (after : Word) → steps ≡ s ∷ rest
+    → after ≡ content_within d top before s content depth → TakesRunAfter d top depth before content steps → TakesRunAfter d top depth s after rest
+takes_more d top depth before content steps s rest after is taken takes =
+    subst (λ c. TakesRunAfter d top depth s c rest) (sym taken) (subst (TakesRunAfter d top depth before content) is takes).1
 
 -- an operand's net is among those of the operands
 pub operand_in : (p : Path) (os : List Operand) (i : ℕ) (d : Operand) → i < length os → In (net p (ref_of (get_or os i d))) (map (net p) (map ref_of os))

@@ -6,10 +6,10 @@ use Rattle.wiring.proofs.Heights.{FallsAlong-height}
 use Rattle.bits_core.specs.Word.{Word}
 use Rattle.hw_model.specs.Types.{Name}
 use Rattle.hw_model.specs.Design.{Ref, Design}
-use Rattle.hw_model.specs.Flat.{Net, net, registers}
+use Rattle.hw_model.specs.Flat.{Net, net}
 use Rattle.hw_model.specs.Machine.{Step, RunAfter, Run}
 use Rattle.hw_model.specs.Meaning.{needs, value, Settled, outputs, machine}
-use Rattle.hw_interpreter.specs.Depth.{value_within, held_content, values_within, content_within, run_within, Suffices}
+use Rattle.hw_interpreter.specs.Depth.{value_within, risen_within, values_within, content_within, run_after_within, run_within, Suffices}
 
 module _ (d : Design) (top : Name) where
   -- at and above a net's height its value stays
@@ -37,37 +37,37 @@ module _ (d : Design) (top : Name) where
       steady inputs content height is n (suc n) b (omega arith) (low b)))
 
   -- one step more of a run
-  pub run_more : (depth : ℕ) (held : Word) (steps : List Word) (s : Word) (rest outs all : List Word) (o after : Word) → steps ≡ s ∷ rest
-      → o ≡ outputs d top (values_within d top s held depth) → after ≡ content_within d top s held depth
-      → outs ++ run_within d top depth held steps ≡ all → (outs ++ (o ∷ [])) ++ run_within d top depth after rest ≡ all
-  run_more depth held steps s rest outs all o after is read taken so_far =
-      append_assoc outs (o ∷ []) (run_within d top depth after rest)
-      ∙ ap (λ z. outs ++ z) (ap₂ (λ x c. x ∷ run_within d top depth c rest) read taken ∙ sym (ap (run_within d top depth held) is))
+  pub run_more : (depth : ℕ) (before held : Word) (steps : List Word) (s : Word) (rest outs all : List Word) (o after : Word) → steps ≡ s ∷ rest
+      → o ≡ outputs d top (values_within d top before s held depth) → after ≡ content_within d top before s held depth
+      → outs ++ run_after_within d top depth before held steps ≡ all → (outs ++ (o ∷ [])) ++ run_after_within d top depth s after rest ≡ all
+  run_more depth before held steps s rest outs all o after is read taken so_far =
+      append_assoc outs (o ∷ []) (run_after_within d top depth s after rest)
+      ∙ ap (λ z. outs ++ z) (ap₂ (λ x c. x ∷ run_after_within d top depth s c rest) read taken ∙ sym (ap (run_after_within d top depth before held) is))
       ∙ so_far
 
-  -- a step under these values is one of the module, whatever the inputs of the step before
+  -- a step under these values is one of the module
   pub step_within : (depth : ℕ) → Suffices d top depth → (before inputs content outs after : Word)
-      → outs ≡ outputs d top (values_within d top inputs content depth)
-      → after ≡ content_within d top inputs content depth
+      → outs ≡ outputs d top (values_within d top before inputs content depth)
+      → after ≡ content_within d top before inputs content depth
       → Step (machine d top) before inputs content outs after
   step_within depth reaches before inputs content outs after read taken = record {
     earlier = value_within d top before content depth;
     first_map = value_within d top inputs content depth;
-    map_of = values_within d top inputs content depth;
+    map_of = values_within d top before inputs content depth;
     settled_earlier = within_settled depth reaches before content;
     settled_first = within_settled depth reaches inputs content;
-    settled = within_settled depth reaches inputs (held_content (registers d top) content);
+    settled = within_settled depth reaches inputs (risen_within d top before inputs content depth);
     read = read;
     taken = taken;
   }
 
   -- and so are the steps of a run
-  pub run_holds : (depth : ℕ) → Suffices d top depth → (before content : Word) (steps : List Word)
-      → RunAfter (machine d top) before content steps (run_within d top depth content steps)
+  run_holds : (depth : ℕ) → Suffices d top depth → (before content : Word) (steps : List Word)
+      → RunAfter (machine d top) before content steps (run_after_within d top depth before content steps)
   run_holds depth reaches before content [] = tt
   run_holds depth reaches before content (s ∷ steps) =
-      let after = content_within d top s content depth in
-      (after, step_within depth reaches before s content (outputs d top (values_within d top s content depth)) after refl refl, run_holds depth reaches s after steps)
+      let after = content_within d top before s content depth in
+      (after, step_within depth reaches before s content (outputs d top (values_within d top before s content depth)) after refl refl, run_holds depth reaches s after steps)
 
   pub run_holds_of : (depth : ℕ) (content : Word) (steps outs : List Word) → outs ≡ run_within d top depth content steps → Suffices d top depth
       → Run (machine d top) content steps outs

@@ -4,11 +4,11 @@ use Rattle.wiring.specs.Wiring.{In}
 use Rattle.bits_core.specs.Word.{Word}
 use Rattle.hw_model.specs.Types.{Name}
 use Rattle.hw_model.specs.Design.{Ref, Module, Design, find_module}
-use Rattle.hw_model.specs.Flat.{Net, Path, Source, Slot, Register, ResetBy, net, source, instances, register_in, registers, state}
+use Rattle.hw_model.specs.Flat.{Net, Path, Source, Slot, Register, ResetBy, net, source, instances, register_in, async_reset_in, registers, state}
 use Rattle.hw_model.specs.Flat.Source.{nowhere, input, held, copy, op_result}
-use Rattle.hw_model.specs.Meaning.{needs_of, Settled, outputs_of}
+use Rattle.hw_model.specs.Meaning.{needs_of, Settled, risen_content, outputs_of}
 use Rattle.hw_interpreter.specs.Suits.{IsCounted, Suits}
-use Rattle.hw_interpreter.specs.Depth.{value_within, held_content, content_within}
+use Rattle.hw_interpreter.specs.Depth.{value_within, risen_within, content_within}
 
 -- the operation takes the words of the nets that it needs, bits of inputs and content end at a number that is counted,
 -- and the instances on a path are numbered by 32 bits
@@ -60,15 +60,39 @@ register_refs (Some r) = r.clock ∷ r.next ∷ (option_to_list r.enable ++ rese
 abbrev pub TakesRefs : Design → Name → Word → Word → ℕ → Path → List Ref → Type 0
 TakesRefs d top inputs content depth p rs = (r : Ref) → In r rs → SuitsWithin d top inputs content depth (net p r)
 
--- a step under inputs, from the content after its first phase, is computed within a depth: what the outputs and the
--- registers read is
-pub record TakesStep (d : Design) (top : Name) (inputs content : Word) (depth : ℕ) : Type 0 where
-  pub numbers : IsCountedDesign d top
-  pub output_nets : TakesRefs d top inputs content depth [] (outputs_of (find_module d top))
-  pub register_nets : (s : Slot) → In s (registers d top) → TakesRefs d top inputs content depth s.path (register_refs (register_in s.op))
+-- the signal of what resets a register
+abbrev pub signal_refs : Option ResetBy → List Ref
+signal_refs None = []
+signal_refs (Some r) = r.signal ∷ []
 
--- and each step of a run
+-- a step under inputs after one under the inputs `before`, from a content, is computed within a depth: what the
+-- asynchronous resets, the outputs and the registers read is
+pub record TakesStep (d : Design) (top : Name) (before inputs content : Word) (depth : ℕ) : Type 0 where
+  pub numbers : IsCountedDesign d top
+  pub earlier_nets : (s : Slot) → In s (registers d top) → TakesRefs d top before content depth s.path (signal_refs (async_reset_in s.op))
+  pub reset_nets : (s : Slot) → In s (registers d top) → TakesRefs d top inputs content depth s.path (reset_refs (async_reset_in s.op))
+  pub output_nets : TakesRefs d top inputs (risen_within d top before inputs content depth) depth [] (outputs_of (find_module d top))
+  pub register_nets : (s : Slot) → In s (registers d top)
+      → TakesRefs d top inputs (risen_within d top before inputs content depth) depth s.path (register_refs (register_in s.op))
+
+-- each net's source suits under the three settled maps of a step
+pub record SuitsStep (d : Design) (top : Name) (before inputs content : Word) : Type 0 where
+  pub earlier : Net → Word
+  pub first_map : Net → Word
+  pub map_of : Net → Word
+  pub settled_earlier : Settled d top before content earlier
+  pub settled_first : Settled d top inputs content first_map
+  pub settled : Settled d top inputs (risen_content (registers d top) earlier first_map content) map_of
+  pub suits_earlier : SuitsUnder d top earlier
+  pub suits_first : SuitsUnder d top first_map
+  pub suits : SuitsUnder d top map_of
+
+-- each step of a run after a step with the inputs `before` is computed within a depth
+abbrev pub TakesRunAfter : Design → Name → ℕ → Word → Word → List Word → Type 0
+TakesRunAfter d top depth before content [] = ⊤
+TakesRunAfter d top depth before content (s ∷ steps) =
+    TakesStep d top before s content depth × TakesRunAfter d top depth s (content_within d top before s content depth) steps
+
+-- and so is each step of a run from the beginning
 abbrev pub TakesRun : Design → Name → ℕ → Word → List Word → Type 0
-TakesRun d top depth content [] = ⊤
-TakesRun d top depth content (s ∷ steps) =
-    TakesStep d top s (held_content (registers d top) content) depth × TakesRun d top depth (content_within d top s content depth) steps
+TakesRun d top depth content steps = TakesRunAfter d top depth [] content steps

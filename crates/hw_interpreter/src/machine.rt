@@ -5,13 +5,13 @@ ghost use Rattle.wiring.specs.Wiring.{In};
 ghost use Rattle.hw_model.specs.Flat.{Slot as FlatSlot};
 ghost use Rattle.hw_model.specs.KindViews.{kind_of};
 ghost use Rattle.hw_model.specs.Design.{find_module, register_form};
-ghost use Rattle.hw_model.specs.Flat.{Net, held_width, net, module_registers, body_registers, op_registers, registers, register_in, register_parts, depth};
-ghost use Rattle.hw_model.specs.Meaning.{value_if_enabled as enabled_word, reset as reset_word, next_value as loaded_word, next_content, outputs_of, outputs, Settled, machine};
+ghost use Rattle.hw_model.specs.Flat.{Net, held_width, net, registers, register_in, async_reset_in};
+ghost use Rattle.hw_model.specs.Meaning.{value_if_enabled as enabled_word, reset as reset_word, next_value as loaded_word, rise_value as risen_word, next_content, risen_content as risen_contents, outputs_of, outputs, machine};
 ghost use Rattle.hw_model.specs.Machine.{Step, Run};
 ghost use Rattle.hw_interpreter.specs.DesignViews.{ref_of, op_of, module_of};
-ghost use Rattle.hw_interpreter.specs.Depth.{held_content as held_word, value_within, values_within, content_within, run_within, Suffices};
+ghost use Rattle.hw_interpreter.specs.Depth.{value_within, values_within, content_within, run_within, Suffices};
 ghost use Rattle.hw_interpreter.specs.Suits.{IsCounted};
-ghost use Rattle.hw_interpreter.specs.SuitsWithin.{SuitsUnder, AlwaysSuits, TakesRefs, register_refs, reset_refs, IsCountedDesign, TakesStep, TakesRun};
+ghost use Rattle.hw_interpreter.specs.SuitsWithin.{AlwaysSuits, TakesRefs, register_refs, reset_refs, signal_refs, IsCountedDesign, TakesStep, SuitsStep, TakesRun};
 ghost use Rattle.hw_interpreter.specs.declared.refusal.Refusal.TheVariants.{NotFitting};
 ghost use Rattle.hw_interpreter.specs.Registers.{slot_of, register_of, reset_by_of};
 
@@ -20,7 +20,7 @@ use crate::design::{Module, Operand, Setting};
 use crate::modules::{find_module, held_width, output_operands};
 use crate::nets::{net_value, operand_values, pad};
 use crate::refusal::Refusal;
-use crate::registers::{Register, ResetBy, Slot, register_in, registers};
+use crate::registers::{Register, ResetBy, Slot, async_reset_in, register_in, registers};
 use crate::values::{concat_words, is_high};
 use crate::word_parts::bits_after;
 use std::alloc::Global;
@@ -34,28 +34,33 @@ pub struct Stepped {
     pub content: BitString,
 }
 
-/// One step of a module: its outputs, and its content after it, under the values of its nets within a depth.
+/// One step of a module after one with the inputs `before`: its outputs, and its content after it, under the values of
+/// its nets within a depth. First the registers whose asynchronous reset rises take its value.
 ///
-/// No register has an asynchronous reset, so in the first phase of the step each keeps its bits, whatever the inputs of
-/// the step before. A refusal other than out of memory comes only where an operation that the outputs or the registers
-/// need does not take the words of its operands, or a number of bits or of instances is too large to count. Where the
-/// depth suffices, the words are those of the settled map.
-pub fn step(alloc: Global, at: &Setting, depth: u32) -> Result<Stepped, Refusal>
-    ensures outputs { IfOk result (λ s. s.outputs ≡ outputs (map module_of at.now.modules.now) at.now.top.now (values_within (map module_of at.now.modules.now) at.now.top.now at.now.inputs.now at.now.content.now depth)) }
-    ensures content { IfOk result (λ s. s.content ≡ content_within (map module_of at.now.modules.now) at.now.top.now at.now.inputs.now at.now.content.now depth) }
-    ensures holds { IfOk result (λ s. Suffices (map module_of at.now.modules.now) at.now.top.now depth → (before : Word) → Step (machine (map module_of at.now.modules.now) at.now.top.now) before at.now.inputs.now at.now.content.now s.outputs s.content) }
-    ensures refuses { IsErrOf result NotFitting → ¬ TakesStep (map module_of at.now.modules.now) at.now.top.now at.now.inputs.now (held_word (registers (map module_of at.now.modules.now) at.now.top.now) at.now.content.now) depth }
+/// A refusal other than out of memory comes only where an operation that the resets, the outputs or the registers need
+/// does not take the words of its operands, or a number of bits or of instances is too large to count. Where the depth
+/// suffices, the words are those of the settled map.
+pub fn step(
+    alloc: Global,
+    before: &[bool],
+    at: &Setting,
+    depth: u32,
+) -> Result<Stepped, Refusal>
+    ensures outputs { IfOk result (λ s. s.outputs ≡ outputs (map module_of at.now.modules.now) at.now.top.now (values_within (map module_of at.now.modules.now) at.now.top.now before.now at.now.inputs.now at.now.content.now depth)) }
+    ensures content { IfOk result (λ s. s.content ≡ content_within (map module_of at.now.modules.now) at.now.top.now before.now at.now.inputs.now at.now.content.now depth) }
+    ensures holds { IfOk result (λ s. Suffices (map module_of at.now.modules.now) at.now.top.now depth → Step (machine (map module_of at.now.modules.now) at.now.top.now) before.now at.now.inputs.now at.now.content.now s.outputs s.content) }
+    ensures refuses { IsErrOf result NotFitting → ¬ TakesStep (map module_of at.now.modules.now) at.now.top.now before.now at.now.inputs.now at.now.content.now depth }
     ensures settles { IsErrOf result NotFitting → Suffices (map module_of at.now.modules.now) at.now.top.now depth
-        → (ρ : Net → Word) → Settled (map module_of at.now.modules.now) at.now.top.now at.now.inputs.now (held_word (registers (map module_of at.now.modules.now) at.now.top.now) at.now.content.now) ρ → SuitsUnder (map module_of at.now.modules.now) at.now.top.now ρ
+        → SuitsStep (map module_of at.now.modules.now) at.now.top.now before.now at.now.inputs.now at.now.content.now
         → ¬ IsCountedDesign (map module_of at.now.modules.now) at.now.top.now }
 {
     let slots = registers(alloc, at.modules, at.top)?;
-    let held = held_content(alloc, slots.as_slice(), at.content)?;
+    let risen = risen_content(alloc, before, at, depth, slots.as_slice())?;
     let within = Setting {
         modules: at.modules,
         top: at.top,
         inputs: at.inputs,
-        content: held.as_slice(),
+        content: risen.as_slice(),
     };
     let outputs = output_word(alloc, &within, depth)?;
     let content = content_after(alloc, &within, depth, slots.as_slice())?;
@@ -63,19 +68,86 @@ pub fn step(alloc: Global, at: &Setting, depth: u32) -> Result<Stepped, Refusal>
 }
 
 // what the registers hold after the first phase of the step
-fn held_content(alloc: Global, slots: &[Slot], content: &[bool]) -> Result<BitString, Refusal>
-    ensures value { IfOk result (λ word. word ≡ held_word (map slot_of slots.now) content.now) }
-    ensures refuses { IsErrOf result NotFitting → ¬ ((s : FlatSlot) → In s (map slot_of slots.now) → IsCounted (held_width s.op)) }
+fn risen_content(
+    alloc: Global,
+    before: &[bool],
+    at: &Setting,
+    depth: u32,
+    slots: &[Slot],
+) -> Result<BitString, Refusal>
+    ensures value { IfOk result (λ word. word ≡ risen_contents (map slot_of slots.now)
+        (value_within (map module_of at.now.modules.now) at.now.top.now before.now at.now.content.now depth)
+        (value_within (map module_of at.now.modules.now) at.now.top.now at.now.inputs.now at.now.content.now depth) at.now.content.now) }
+    ensures refuses { IsErrOf result NotFitting → ((s : FlatSlot) → In s (map slot_of slots.now) → IsCounted (held_width s.op))
+        → ((s : FlatSlot) → In s (map slot_of slots.now) → TakesRefs (map module_of at.now.modules.now) at.now.top.now before.now at.now.content.now depth s.path (signal_refs (async_reset_in s.op)))
+        → ¬ ((s : FlatSlot) → In s (map slot_of slots.now) → TakesRefs (map module_of at.now.modules.now) at.now.top.now at.now.inputs.now at.now.content.now depth s.path (reset_refs (async_reset_in s.op))) }
 {
+    let earlier = Setting {
+        modules: at.modules,
+        top: at.top,
+        inputs: before,
+        content: at.content,
+    };
     let mut word = BitString::new(alloc);
-    let mut left = content;
+    let mut left = at.content;
     for slot in slots {
         let width = held_width(slot.operation)?;
-        let old = pad(alloc, left, width)?;
-        word.push_bits(old.as_slice())?;
+        let held = rise_in(alloc, &earlier, at, depth, slot, pad(alloc, left, width)?)?;
+        let kept = pad(alloc, held.as_slice(), width)?;
+        word.push_bits(kept.as_slice())?;
         left = bits_after(left, width);
     }
     Ok(word)
+}
+
+// what a register holds after the first phase of the step
+fn rise_in(
+    alloc: Global,
+    earlier: &Setting,
+    at: &Setting,
+    depth: u32,
+    slot: &Slot,
+    old: BitString,
+) -> Result<BitString, Refusal>
+    ensures value { IfOk result (λ word. word ≡ risen_word (async_reset_in (op_of slot.now.operation.now))
+        (λ r. value_within (map module_of earlier.now.modules.now) earlier.now.top.now earlier.now.inputs.now earlier.now.content.now depth (net slot.now.path.items r))
+        (λ r. value_within (map module_of at.now.modules.now) at.now.top.now at.now.inputs.now at.now.content.now depth (net slot.now.path.items r)) old) }
+    ensures refuses { IsErrOf result NotFitting
+        → TakesRefs (map module_of earlier.now.modules.now) earlier.now.top.now earlier.now.inputs.now earlier.now.content.now depth slot.now.path.items (signal_refs (async_reset_in (op_of slot.now.operation.now)))
+        → ¬ TakesRefs (map module_of at.now.modules.now) at.now.top.now at.now.inputs.now at.now.content.now depth slot.now.path.items (reset_refs (async_reset_in (op_of slot.now.operation.now))) }
+{
+    match async_reset_in(slot.operation) {
+        None => Ok(old),
+        Some(by) => rise_value(alloc, earlier, at, depth, slot.path.as_slice(), by, old),
+    }
+}
+
+// the reset value where the reset was 0 and is 1 now, else the old one
+fn rise_value(
+    alloc: Global,
+    earlier: &Setting,
+    at: &Setting,
+    depth: u32,
+    path: &[u32],
+    by: ResetBy,
+    old: BitString,
+) -> Result<BitString, Refusal>
+    ensures value { IfOk result (λ word. word ≡ risen_word (Some (reset_by_of by))
+        (λ r. value_within (map module_of earlier.now.modules.now) earlier.now.top.now earlier.now.inputs.now earlier.now.content.now depth (net path.now r))
+        (λ r. value_within (map module_of at.now.modules.now) at.now.top.now at.now.inputs.now at.now.content.now depth (net path.now r)) old) }
+    ensures refuses { IsErrOf result NotFitting
+        → TakesRefs (map module_of earlier.now.modules.now) earlier.now.top.now earlier.now.inputs.now earlier.now.content.now depth path.now (signal_refs (Some (reset_by_of by)))
+        → ¬ TakesRefs (map module_of at.now.modules.now) at.now.top.now at.now.inputs.now at.now.content.now depth path.now (reset_refs (Some (reset_by_of by))) }
+{
+    let was = net_value(alloc, earlier, depth, path, by.signal)?;
+    if is_high(&was) {
+        return Ok(old);
+    }
+    let signal = net_value(alloc, at, depth, path, by.signal)?;
+    if !is_high(&signal) {
+        return Ok(old);
+    }
+    net_value(alloc, at, depth, path, by.value)
 }
 
 // the outputs, in port order
@@ -212,7 +284,7 @@ fn reset(
 }
 
 /// A run of a module: the outputs of a list of steps, each the bits of its inputs, from a content, under the values of
-/// its nets within a depth.
+/// its nets within a depth. Before the first step all inputs are 0.
 ///
 /// A refusal other than out of memory comes only where one comes for a step.
 pub fn run(
@@ -230,10 +302,12 @@ pub fn run(
         → ¬ IsCountedDesign (map module_of modules.now) top.now }
 {
     let mut outputs = Vec::new(alloc);
+    let mut before: &[bool] = &[];
     let mut held = BitString::of(alloc, content)?;
     for inputs in steps {
-        let stepped = step_of(alloc, modules, top, inputs, &held, depth)?;
+        let stepped = step_of(alloc, modules, top, before, inputs, &held, depth)?;
         outputs.push(stepped.outputs)?;
+        before = inputs.as_slice();
         held = stepped.content;
     }
     Ok(outputs)
@@ -243,13 +317,14 @@ fn step_of(
     alloc: Global,
     modules: &[Module],
     top: &[u8],
+    before: &[bool],
     inputs: &BitString,
     content: &BitString,
     depth: u32,
 ) -> Result<Stepped, Refusal>
-    ensures outputs { IfOk result (λ s. s.outputs ≡ outputs (map module_of modules.now) top.now (values_within (map module_of modules.now) top.now inputs.now content.now depth)) }
-    ensures content { IfOk result (λ s. s.content ≡ content_within (map module_of modules.now) top.now inputs.now content.now depth) }
-    ensures refuses { IsErrOf result NotFitting → ¬ TakesStep (map module_of modules.now) top.now inputs.now (held_word (registers (map module_of modules.now) top.now) content.now) depth }
+    ensures outputs { IfOk result (λ s. s.outputs ≡ outputs (map module_of modules.now) top.now (values_within (map module_of modules.now) top.now before.now inputs.now content.now depth)) }
+    ensures content { IfOk result (λ s. s.content ≡ content_within (map module_of modules.now) top.now before.now inputs.now content.now depth) }
+    ensures refuses { IsErrOf result NotFitting → ¬ TakesStep (map module_of modules.now) top.now before.now inputs.now content.now depth }
 {
     let at = Setting {
         modules,
@@ -257,5 +332,5 @@ fn step_of(
         inputs: inputs.as_slice(),
         content: content.as_slice(),
     };
-    step(alloc, &at, depth)
+    step(alloc, before, &at, depth)
 }

@@ -2,9 +2,9 @@
 ghost use Rattle.std.specs.Prelude.{ℕ, ◌≡◌, ◌+◌, ◌-◌, ◌∷◌, [], ◌++◌, ◌≤◌, ◌<◌, length, take, drop, map, cond, IfOk, OnOk, OnErr, IsErrOf, ◌^◌, suc, true, false, MatchOption, Option, Some, None, option_map};
 ghost use Rattle.hw_model.specs.KindViews.{kind_of, reset_of};
 ghost use Rattle.hw_model.specs.Design.{find_module, register_form, is_instance};
-ghost use Rattle.hw_model.specs.Flat.{instances, net, module_registers, body_registers, op_registers, registers, register_in, register_parts, depth};
+ghost use Rattle.hw_model.specs.Flat.{instances, net, module_registers, body_registers, op_registers, registers, register_in, register_parts, async_reset_in, async_parts, depth};
 ghost use Rattle.hw_interpreter.specs.DesignViews.{ref_of, op_of, module_of};
-ghost use Rattle.hw_interpreter.specs.Registers.{slot_of, register_of};
+ghost use Rattle.hw_interpreter.specs.Registers.{slot_of, register_of, reset_by_of};
 ghost use Rattle.hw_interpreter.specs.SuitsWithin.{HasFewInstances};
 ghost use Rattle.hw_interpreter.specs.declared.refusal.Refusal.TheVariants.{NotFitting};
 
@@ -121,6 +121,29 @@ fn with_reset(
         clock,
         enable,
         reset,
+    }
+}
+
+/// What resets a register without its clock, and to what.
+pub fn async_reset_in(operation: &Operation) -> Option<ResetBy>
+    ensures { option_map reset_by_of result ≡ async_reset_in (op_of operation.now) }
+{
+    match operation.kind {
+        OpKind::AsyncFirReg => async_parts(operation.operands.as_slice()),
+        _ => None,
+    }
+}
+
+// the reset and its value among the operands of such a register
+fn async_parts(operands: &[Operand]) -> Option<ResetBy>
+    ensures { option_map reset_by_of result ≡ async_parts (map ref_of operands.now) }
+{
+    match operands {
+        [_, _, signal, value] => Some(ResetBy {
+            signal: *signal,
+            value: *value,
+        }),
+        _ => None,
     }
 }
 

@@ -1,8 +1,8 @@
 use Rattle.std.proofs.Common.{map, arith, rules, length, drop, suc, ◌+◌, ◌≡◌, ◌≤◌, ◌∷◌, [], ◌++◌, ap, subst, ◌∙◌}
 use Rattle.std.proofs.lemmas.List.{drop_all}
 use Rattle.hw_interpreter.specs.DesignViews.{module_of}
-use Rattle.hw_interpreter.specs.Depth.{run_within}
-use Rattle.hw_interpreter.specs.SuitsWithin.{TakesRun}
+use Rattle.hw_interpreter.specs.Depth.{run_after_within, run_within}
+use Rattle.hw_interpreter.specs.SuitsWithin.{TakesRunAfter}
 use Rattle.hw_interpreter.proofs.Counts.{from_position}
 use Rattle.hw_interpreter.proofs.Pieces.{piece_last}
 use Rattle.hw_interpreter.proofs.Suiting.{run_taken, takes_more}
@@ -12,8 +12,8 @@ use Rattle.hw_interpreter.proofs.machine.run.Goals as goal
 pub returns-clause-holds : goal.returns-clause-holds
 returns-clause-holds c reaches =
     let past : length c.args.steps.now ≤ c.loop-inputs.inputs-index = omega (arith, c.loop-inputs-test.false) in
-    let none : run_within (map module_of c.args.modules.now) c.args.top.now c.args.depth c.loop-inputs.held (drop c.loop-inputs.inputs-index c.args.steps.now) ≡ []
-    = ap (run_within (map module_of c.args.modules.now) c.args.top.now c.args.depth c.loop-inputs.held) (drop_all c.loop-inputs.inputs-index c.args.steps.now past) in
+    let none : run_after_within (map module_of c.args.modules.now) c.args.top.now c.args.depth c.loop-inputs.before.now c.loop-inputs.held (drop c.loop-inputs.inputs-index c.args.steps.now) ≡ []
+    = ap (run_after_within (map module_of c.args.modules.now) c.args.top.now c.args.depth c.loop-inputs.before.now c.loop-inputs.held) (drop_all c.loop-inputs.inputs-index c.args.steps.now past) in
     run_holds_of (map module_of c.args.modules.now) c.args.top.now c.args.depth c.args.content.now c.args.steps.now c.loop-inputs.outputs.items
     (piece_last c.loop-inputs.outputs.items _ _ none c.loop-inputs.invariant.outputs) reaches
 
@@ -25,22 +25,22 @@ loop-inputs-preserved c =
     here ∙ ap (λ k. c.inputs-item.result ∷ drop k c.args.steps.now) next in
     record {
       outputs =
-          ap (λ xs. xs ++ run_within (map module_of c.args.modules.now) c.args.top.now c.args.depth c.in_ok-stepped.stepped.content (drop (c.loop-inputs.inputs-index + 1) c.args.steps.now)) c.in_ok-push.ensures.items
-          ∙ run_more (map module_of c.args.modules.now) c.args.top.now c.args.depth c.loop-inputs.held (drop c.loop-inputs.inputs-index c.args.steps.now) c.inputs-item.result
+          ap (λ xs. xs ++ run_after_within (map module_of c.args.modules.now) c.args.top.now c.args.depth c.as_slice.result.now c.in_ok-stepped.stepped.content (drop (c.loop-inputs.inputs-index + 1) c.args.steps.now)) c.in_ok-push.ensures.items
+          ∙ run_more (map module_of c.args.modules.now) c.args.top.now c.args.depth c.loop-inputs.before.now c.loop-inputs.held (drop c.loop-inputs.inputs-index c.args.steps.now) c.inputs-item.result
           (drop (c.loop-inputs.inputs-index + 1) c.args.steps.now) c.loop-inputs.outputs.items (run_within (map module_of c.args.modules.now) c.args.top.now c.args.depth c.args.content.now c.args.steps.now)
           c.in_ok-stepped.stepped.outputs c.in_ok-stepped.stepped.content is c.in_ok-stepped.ensures.outputs c.in_ok-stepped.ensures.content c.loop-inputs.invariant.outputs;
       takes = λ takes.
-          takes_more (map module_of c.args.modules.now) c.args.top.now c.args.depth c.loop-inputs.held (drop c.loop-inputs.inputs-index c.args.steps.now) c.inputs-item.result
+          takes_more (map module_of c.args.modules.now) c.args.top.now c.args.depth c.loop-inputs.before.now c.loop-inputs.held (drop c.loop-inputs.inputs-index c.args.steps.now) c.inputs-item.result
           (drop (c.loop-inputs.inputs-index + 1) c.args.steps.now) c.in_ok-stepped.stepped.content is c.in_ok-stepped.ensures.content (c.loop-inputs.invariant.takes takes);
     }
 
 pub returns-in_err-stepped-clause-refuses : goal.returns-in_err-stepped-clause-refuses
 returns-in_err-stepped-clause-refuses c is takes =
     let here = from_position c.args.steps.now c.loop-inputs.inputs-index c.inputs-item.result (omega (arith, c.loop-inputs-test.true)) c.inputs-item.is in
-    let rest = subst (TakesRun (map module_of c.args.modules.now) c.args.top.now c.args.depth c.loop-inputs.held) here (c.loop-inputs.invariant.takes takes) in
+    let rest = subst (TakesRunAfter (map module_of c.args.modules.now) c.args.top.now c.args.depth c.loop-inputs.before.now c.loop-inputs.held) here (c.loop-inputs.invariant.takes takes) in
     c.in_err-stepped.ensures.refuses (search rules) rest.0
 
 pub returns-in_err-stepped-clause-settles : goal.returns-in_err-stepped-clause-settles
 returns-in_err-stepped-clause-settles c is reaches always numbers =
     c.in_err-stepped.ensures.refuses (search rules)
-    (run_taken (map module_of c.args.modules.now) c.args.top.now c.args.depth reaches numbers always c.loop-inputs.held (c.inputs-item.result ∷ [])).0
+    (run_taken (map module_of c.args.modules.now) c.args.top.now c.args.depth reaches numbers always c.loop-inputs.before.now c.loop-inputs.held (c.inputs-item.result ∷ [])).0
