@@ -89,7 +89,7 @@ front_elements format.Instance = element.Instance ∷ []
 front_elements format.Nothing = []
 front_elements format.Register = element.Operand ∷ comma ∷ element.Operand ∷ element.Reset ∷ []
 front_elements format.EnabledRegister = element.Operand ∷ comma ∷ element.Operand ∷ comma ∷ element.Operand ∷ element.Reset ∷ []
-front_elements format.ClockedRegister = element.Operand ∷ element.Word Clock ∷ element.Operand ∷ element.SyncReset ∷ []
+front_elements format.ClockedRegister = element.Operand ∷ element.Word Clock ∷ element.Operand ∷ element.SyncOrAsyncReset ∷ []
 
 -- `: T`
 abbrev pub one_type : List FormatElement

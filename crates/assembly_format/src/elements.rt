@@ -39,8 +39,8 @@ pub enum FormatElement {
     Instance,
     /// `reset` and two operands, or nothing.
     Reset,
-    /// `reset sync` and two operands, or nothing.
-    SyncReset,
+    /// `reset sync` or `reset async` and two operands, or nothing.
+    SyncOrAsyncReset,
     /// A type.
     Type,
     /// A type for each operand, with commas between them.

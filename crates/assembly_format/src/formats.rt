@@ -96,7 +96,7 @@ const CLOCKED_REGISTER: [FormatElement; 4] = [
     FormatElement::Operand,
     FormatElement::Word(Keyword::Clock),
     FormatElement::Operand,
-    FormatElement::SyncReset,
+    FormatElement::SyncOrAsyncReset,
 ];
 
 const ONE_TYPE: [FormatElement; 2] = [COLON, FormatElement::Type];

@@ -11,11 +11,11 @@ use Rattle.mlir_syntax.specs.Stream.{Symbol, token, first, is_first, is_next, is
 use Rattle.mlir_syntax.specs.Reads.{Read, on}
 use Rattle.mlir_syntax.specs.TypeText.{any_type, most_open}
 use Rattle.mlir_operations.specs.OperandText.{OperandName}
-use Rattle.mlir_operations.specs.ElementText.{Gathered, with_operands, with_inherent, group_text, further_types, types_text, reset_operands, reset_text, want_sync, sync_reset_text, Joined, input_text, output_text, inputs_text, outputs_text, instance_text, element_text, elements_text}
+use Rattle.mlir_operations.specs.ElementText.{InherentAttributes, Gathered, with_operands, with_inherent, group_text, further_types, types_text, reset_operands, reset_text, reset_mode, sync_or_async_reset_text, Joined, input_text, output_text, inputs_text, outputs_text, instance_text, element_text, elements_text}
 use Rattle.mlir_syntax.specs.WordText.{bare_text, as_known, predicate_named, predicate_text, truth_named, truth_text, string_text, symbol_text, inner_symbol, module_symbol}
-use Rattle.mlir_operations.specs.ElementText.InherentAttributes.{with_reset}
-use Rattle.mlir_syntax.specs.Spelling.{Phrase, Mark, Word, Holding, Then, Where, Commas, Between, Nothing, SymbolPhrase, TruthWord, TypePhrase}
-use Rattle.mlir_operations.specs.Spelling.{OperandPhrase, ResetPhrase, InputPhrase, OutputPhrase, InnerSymbol, InstancePhrase, FormatElementPhrase, ElementsPhrase}
+use Rattle.mlir_operations.specs.ElementText.InherentAttributes.{with_reset, with_async_reset}
+use Rattle.mlir_syntax.specs.Spelling.{Phrase, Mark, Word, Holding, Then, Either, Where, Commas, Between, Nothing, SymbolPhrase, TruthWord, TypePhrase}
+use Rattle.mlir_operations.specs.Spelling.{OperandPhrase, ResetSync, ResetAsync, ResetPhrase, InputPhrase, OutputPhrase, InnerSymbol, InstancePhrase, FormatElementPhrase, ElementsPhrase}
 use Rattle.assembly_format.specs.declared.elements.FormatElement.{FormatElement}
 use Rattle.assembly_format.specs.declared.elements.FormatElement.TheVariants as element
 use Rattle.mlir_syntax.proofs.Again.{At, at_then, at_one, at_where, at_nothing, at_either, on_ok, if_true, if_false, Leads, leads_one, leads_then, starts, starts_test, Again, Any}
@@ -93,11 +93,11 @@ types_at op (suc n) (x ∷ l) {s} {left} e h = types_after op n x l s left (omeg
 abbrev pub NoReset : List Symbol → Type 0
 NoReset s = is_first (is_word (codes "reset")) s ≡ false
 
-reset_operands_at : (op : OpName) (g : Gathered) (r v : OperandName) {s left : List Symbol} → NoNumber left
+reset_operands_at : (op : OpName) (e : InherentAttributes) (g : Gathered) (r v : OperandName) {s left : List Symbol} → NoNumber left
     → At (Then (OperandPhrase r) (Then (Mark kind.Comma) (OperandPhrase v))) s left
-    → reset_operands op g s ≡ Ok (with_inherent (with_operands g (r ∷ v ∷ [])) with_reset, left)
+    → reset_operands op e g s ≡ Ok (with_inherent (with_operands g (r ∷ v ∷ [])) e, left)
 unfolding reset_operands
-reset_operands_at op g r v {s} {left} clear h =
+reset_operands_at op how g r v {s} {left} clear h =
     let (m, a, b) = at_then h in
     let (k, c, d) = at_then b in
     let (t, e) = mark_at op c in
@@ -110,35 +110,57 @@ no_reset_at g h {s} {left} clear a =
     (ap (is_first (is_word (codes "reset"))) same ∙ clear, ap (λ y. Ok (g, y)) same ∙ ap (λ x. Ok (x, left)) (sym e))
 
 reset_at : (op : OpName) (g h : Gathered) {s left : List Symbol} → NoNumber left → NoReset left
-    → At (ResetPhrase (Word (codes "reset")) g h) s left ⊎ At (Where (h ≡ g) Nothing) s left → reset_text op g s ≡ Ok (h, left)
+    → At (ResetPhrase (Word (codes "reset")) with_reset g h) s left ⊎ At (Where (h ≡ g) Nothing) s left → reset_text op g s ≡ Ok (h, left)
 unfolding reset_text
 reset_at op g h {s} {left} clear other (inl a) =
     let (r, v, same, p) = a.says in
     let inside : At (Then (Word (codes "reset")) (Then (OperandPhrase r) (Then (Mark kind.Comma) (OperandPhrase v)))) s left = record { passed = a.passed; same = a.same; says = p } in
     let (m, b, c) = at_then inside in
     let (next, behind) = word_first b in
-    if_true _ next (ap (reset_operands op g) behind ∙ reset_operands_at op g r v clear c ∙ ap (λ x. Ok (x, left)) (sym same))
+    if_true _ next (ap (reset_operands op with_reset g) behind ∙ reset_operands_at op with_reset g r v clear c ∙ ap (λ x. Ok (x, left)) (sym same))
 reset_at op g h {s} {left} clear other (inr a) = let (b, e) = no_reset_at g h other a in if_false _ b e
 
-sync_at : (op : OpName) {s left : List Symbol} → At (Word (codes "sync")) s left → (t : Lexeme) × (want_sync op s ≡ Ok (t, left))
-unfolding want_sync
+-- `sync` and `async` say what they say
+sync_at : (op : OpName) {s left : List Symbol} → At (Word (codes "sync")) s left → reset_mode op s ≡ Ok (with_reset, left)
+unfolding reset_mode
 sync_at op h =
     let (t, e) = word_at op h in
-    (t, if_false _ (other_first (codes "async") (leads_one (λ t p. other_word (codes "async") (codes "sync") refl t p.1)) h) e)
+    if_false _ (other_first (codes "async") (leads_one (λ t p. other_word (codes "async") (codes "sync") refl t p.1)) h) (on_ok _ e refl)
 
-sync_reset_at : (op : OpName) (g h : Gathered) {s left : List Symbol} → NoNumber left → NoReset left
-    → At (ResetPhrase (Then (Word (codes "reset")) (Word (codes "sync"))) g h) s left ⊎ At (Where (h ≡ g) Nothing) s left → sync_reset_text op g s ≡ Ok (h, left)
-unfolding sync_reset_text
-sync_reset_at op g h {s} {left} clear other (inl a) =
+async_at : (op : OpName) {s left : List Symbol} → At (Word (codes "async")) s left → reset_mode op s ≡ Ok (with_async_reset, left)
+unfolding reset_mode
+async_at op h =
+    let (next, behind) = word_first h in
+    if_true _ next (ap (λ x. Ok (with_async_reset, x)) behind)
+
+-- `reset`, such a word and two operands
+mode_reset_at : (op : OpName) (Mode : Phrase) (how : InherentAttributes) (g h : Gathered) {s left : List Symbol} → NoNumber left
+    → ((m k : List Symbol) → At Mode m k → reset_mode op m ≡ Ok (how, k))
+    → At (ResetPhrase (Then (Word (codes "reset")) Mode) how g h) s left → sync_or_async_reset_text op g s ≡ Ok (h, left)
+unfolding sync_or_async_reset_text
+mode_reset_at op Mode how g h {s} {left} clear says a =
     let (r, v, same, p) = a.says in
-    let inside : At (Then (Then (Word (codes "reset")) (Word (codes "sync"))) (Then (OperandPhrase r) (Then (Mark kind.Comma) (OperandPhrase v)))) s left =
+    let inside : At (Then (Then (Word (codes "reset")) Mode) (Then (OperandPhrase r) (Then (Mark kind.Comma) (OperandPhrase v)))) s left =
     record { passed = a.passed; same = a.same; says = p } in
     let (m, b, c) = at_then inside in
     let (k, x, y) = at_then b in
     let (next, behind) = word_first x in
-    let (t, e) = sync_at op y in
-    if_true _ next (on_ok _ (ap (want_sync op) behind ∙ e) (reset_operands_at op g r v clear c ∙ ap (λ x. Ok (x, left)) (sym same)))
-sync_reset_at op g h {s} {left} clear other (inr a) = let (b, e) = no_reset_at g h other a in if_false _ b e
+    if_true _ next (on_ok _ (ap (reset_mode op) behind ∙ says k m y) (reset_operands_at op how g r v clear c ∙ ap (λ x. Ok (x, left)) (sym same)))
+
+no_mode_reset_at : (op : OpName) (g h : Gathered) {s left : List Symbol} → NoReset left → At (Where (h ≡ g) Nothing) s left → sync_or_async_reset_text op g s ≡ Ok (h, left)
+unfolding sync_or_async_reset_text
+no_mode_reset_at op g h other a = let (b, e) = no_reset_at g h other a in if_false _ b e
+
+some_mode_reset_at : (op : OpName) (g h : Gathered) {s left : List Symbol} → NoNumber left → NoReset left
+    → At (ResetPhrase ResetAsync with_async_reset g h) s left ⊎ At (Where (h ≡ g) Nothing) s left → sync_or_async_reset_text op g s ≡ Ok (h, left)
+some_mode_reset_at op g h clear other (inl a) = mode_reset_at op (Word (codes "async")) with_async_reset g h clear (λ m k b. async_at op b) a
+some_mode_reset_at op g h clear other (inr a) = no_mode_reset_at op g h other a
+
+sync_or_async_reset_at : (op : OpName) (g h : Gathered) {s left : List Symbol} → NoNumber left → NoReset left
+    → At (ResetPhrase ResetSync with_reset g h) s left ⊎ At (Either (ResetPhrase ResetAsync with_async_reset g h) (Where (h ≡ g) Nothing)) s left
+    → sync_or_async_reset_text op g s ≡ Ok (h, left)
+sync_or_async_reset_at op g h clear other (inl a) = mode_reset_at op (Word (codes "sync")) with_reset g h clear (λ m k b. sync_at op b) a
+sync_or_async_reset_at op g h clear other (inr a) = some_mode_reset_at op g h clear other (at_either a)
 
 -- ---- instances
 
@@ -226,7 +248,7 @@ abbrev pub EndOf : FormatElement → List Symbol → Type 0
 EndOf element.Operand s = NoNumber s
 EndOf element.Operands s = NoNumber s × (is_next kind.Comma s ≡ false)
 EndOf element.Reset s = NoNumber s × NoReset s
-EndOf element.SyncReset s = NoNumber s × NoReset s
+EndOf element.SyncOrAsyncReset s = NoNumber s × NoReset s
 EndOf _ s = Unit {0}
 
 pub element_at : (op : OpName) (p : FormatElement) (g h : Gathered) {s left : List Symbol} → EndOf p left → At (FormatElementPhrase p g h) s left → element_text op p g s ≡ Ok (h, left)
@@ -273,7 +295,7 @@ element_at op element.Field g h {s} {left} end a =
     on_ok _ ((again_string op).gives name s left (record { passed = a.passed; same = a.same; says = p }) tt) (ap (λ x. Ok (x, left)) (sym same))
 element_at op element.Instance g h end a = instance_at op g h a
 element_at op element.Reset g h end a = reset_at op g h end.0 end.1 (at_either a)
-element_at op element.SyncReset g h end a = sync_reset_at op g h end.0 end.1 (at_either a)
+element_at op element.SyncOrAsyncReset g h end a = sync_or_async_reset_at op g h end.0 end.1 (at_either a)
 element_at op element.Type g h {s} {left} end a =
     let (x, same, p) = a.says in
     on_ok _ ((again_any_type op).gives x s left (record { passed = a.passed; same = a.same; says = p }) tt) (ap (λ x. Ok (x, left)) (sym same))

@@ -16,11 +16,12 @@ use Rattle.mlir_lexer.specs.TokenKinds.{is_kind}
 use Rattle.mlir_syntax.specs.Reads.{Read, on}
 use Rattle.mlir_syntax.specs.AttributeText.{maybe_dictionary}
 use Rattle.assembly_format.specs.Formats.{is_of, format_of, comma, front_elements, type_elements}
-use Rattle.mlir_operations.specs.ElementText.{Gathered, gathered_nothing, elements_text}
+use Rattle.mlir_operations.specs.ElementText.{InherentAttributes, Gathered, gathered_nothing, elements_text}
+use Rattle.mlir_operations.specs.ElementText.InherentAttributes.{with_reset, with_async_reset}
 use Rattle.mlir_syntax.specs.WordText.{predicate_named}
 use Rattle.mlir_operations.specs.OperationText.{Tail, given_entries, late_dictionary, form_text, is_last}
-use Rattle.mlir_syntax.specs.Spelling.{Phrase, Mark, Word, Holding, TruthWord, Then, Where, Nothing, MaybeDictionary}
-use Rattle.mlir_operations.specs.Spelling.{ResetPhrase, OperandPhrase, FormatElementPhrase, ElementsPhrase, IsOneOf, FormPhrase}
+use Rattle.mlir_syntax.specs.Spelling.{Phrase, Mark, Word, Holding, TruthWord, Then, Either, Where, Nothing, MaybeDictionary}
+use Rattle.mlir_operations.specs.Spelling.{ResetSync, ResetAsync, ResetPhrase, OperandPhrase, FormatElementPhrase, ElementsPhrase, IsOneOf, FormPhrase}
 use Rattle.assembly_format.specs.declared.elements.Keyword.{Keyword}
 use Rattle.assembly_format.specs.declared.elements.Keyword.TheVariants.{From, Clock}
 use Rattle.assembly_format.specs.declared.elements.FormatElement.{FormatElement}
@@ -144,10 +145,10 @@ field_ends : {left : List Symbol} (ps : List FormatElement) → Ends ps left
 field_ends ps rest = operand_mark_ends kind.LeftBracket (element.Field ∷ element.Mark kind.RightBracket ∷ ps) refl (λ m x y a. tt, mark_ends kind.RightBracket ps rest)
 
 -- a reset that may be left out begins with no number within a pack
-optional_reset : (Reset : Phrase) (x g y : Gathered) {m k left : List Symbol} → FrontEnd left → Leads (Unlike kind.ResultNumber) Reset
-    → At (ResetPhrase Reset x g) m k ⊎ At (Where (g ≡ x) Nothing) m k → At (ElementsPhrase [] g y) k left → NoNumber m
-optional_reset Reset x g y last leads (inl a) b = no_next kind.ResultNumber (record { lead = λ ts p. (leads_then {P = Reset} leads).lead ts p.3 }) a
-optional_reset Reset x g y {k = k} last leads (inr a) b = ap (is_next kind.ResultNumber) (at_nothing (at_where a).1) ∙ operand_last last k g y b
+optional_reset : (Reset : Phrase) (how : InherentAttributes) (x g y : Gathered) {m k left : List Symbol} → FrontEnd left → Leads (Unlike kind.ResultNumber) Reset
+    → At (ResetPhrase Reset how x g) m k ⊎ At (Where (g ≡ x) Nothing) m k → At (ElementsPhrase [] g y) k left → NoNumber m
+optional_reset Reset how x g y last leads (inl a) b = no_next kind.ResultNumber (record { lead = λ ts p. (leads_then {P = Reset} leads).lead ts p.3 }) a
+optional_reset Reset how x g y {k = k} last leads (inr a) b = ap (is_next kind.ResultNumber) (at_nothing (at_where a).1) ∙ operand_last last k g y b
 
 word_unlike : {word : List ℕ} → Leads (Unlike kind.ResultNumber) (Word word)
 word_unlike = leads_one (λ t w. unlike kind.ResultNumber kind.BareName refl t w.0)
@@ -157,20 +158,27 @@ behind_reset {left} last m x y a =
     let (g, q) = a.says in
     let inside : At (Then (FormatElementPhrase element.Reset x g) (ElementsPhrase [] g y)) m left = record { passed = a.passed; same = a.same; says = q } in
     let (k, b, c) = at_then inside in
-    optional_reset (Word (codes "reset")) x g y last word_unlike (at_either b) c
+    optional_reset (Word (codes "reset")) with_reset x g y last word_unlike (at_either b) c
 
-behind_sync : {left : List Symbol} → FrontEnd left → (m : List Symbol) (x y : Gathered) → At (ElementsPhrase (element.SyncReset ∷ []) x y) m left → NoNumber m
+-- such a reset with `sync` or `async`
+mode_reset : (x g y : Gathered) {m k left : List Symbol} → FrontEnd left
+    → At (ResetPhrase ResetSync with_reset x g) m k ⊎ At (Either (ResetPhrase ResetAsync with_async_reset x g) (Where (g ≡ x) Nothing)) m k
+    → At (ElementsPhrase [] g y) k left → NoNumber m
+mode_reset x g y last (inl a) b = optional_reset ResetSync with_reset x g y last (leads_then word_unlike) (inl a) b
+mode_reset x g y last (inr a) b = optional_reset ResetAsync with_async_reset x g y last (leads_then word_unlike) (at_either a) b
+
+behind_sync : {left : List Symbol} → FrontEnd left → (m : List Symbol) (x y : Gathered) → At (ElementsPhrase (element.SyncOrAsyncReset ∷ []) x y) m left → NoNumber m
 behind_sync {left} last m x y a =
     let (g, q) = a.says in
-    let inside : At (Then (FormatElementPhrase element.SyncReset x g) (ElementsPhrase [] g y)) m left = record { passed = a.passed; same = a.same; says = q } in
+    let inside : At (Then (FormatElementPhrase element.SyncOrAsyncReset x g) (ElementsPhrase [] g y)) m left = record { passed = a.passed; same = a.same; says = q } in
     let (k, b, c) = at_then inside in
-    optional_reset (Then (Word (codes "reset")) (Word (codes "sync"))) x g y last (leads_then word_unlike) (at_either b) c
+    mode_reset x g y last (at_either b) c
 
 reset_ends : {left : List Symbol} → FrontEnd left → Ends (element.Operand ∷ element.Reset ∷ []) left
 reset_ends last =
     (behind_reset last, (λ m x y a. (operand_last last m x y a, ap (is_first (is_word (codes "reset"))) (no_elements a).1 ∙ last.no_reset), tt))
 
-sync_ends : {left : List Symbol} → FrontEnd left → Ends (element.Operand ∷ element.SyncReset ∷ []) left
+sync_ends : {left : List Symbol} → FrontEnd left → Ends (element.Operand ∷ element.SyncOrAsyncReset ∷ []) left
 sync_ends last =
     (behind_sync last, (λ m x y a. (operand_last last m x y a, ap (is_first (is_word (codes "reset"))) (no_elements a).1 ∙ last.no_reset), tt))
 
@@ -203,7 +211,7 @@ front_ends format.Instance last = (λ m x y a. tt, tt)
 front_ends format.Nothing last = tt
 front_ends format.Register last = comma_ends (element.Operand ∷ element.Reset ∷ []) (reset_ends last)
 front_ends format.EnabledRegister last = comma_ends (element.Operand ∷ comma ∷ element.Operand ∷ element.Reset ∷ []) (comma_ends (element.Operand ∷ element.Reset ∷ []) (reset_ends last))
-front_ends format.ClockedRegister last = word_ends Clock (element.Operand ∷ element.SyncReset ∷ []) (sync_ends last)
+front_ends format.ClockedRegister last = word_ends Clock (element.Operand ∷ element.SyncOrAsyncReset ∷ []) (sync_ends last)
 
 one_type_ends : {left : List Symbol} → Ends (element.Mark kind.Colon ∷ element.Type ∷ []) left
 one_type_ends = (λ m x y a. tt, (λ m x y a. tt, tt))
@@ -324,7 +332,7 @@ IsFront (element.Word w) = ⊥
 IsFront element.Number = ⊥
 IsFront element.Field = ⊥
 IsFront element.Reset = ⊥
-IsFront element.SyncReset = ⊥
+IsFront element.SyncOrAsyncReset = ⊥
 IsFront element.Type = ⊥
 IsFront element.Types = ⊥
 IsFront _ = Unit {0}
@@ -348,7 +356,7 @@ leads_front (element.Word w) g h f = absurd f
 leads_front element.Number g h f = absurd f
 leads_front element.Field g h f = absurd f
 leads_front element.Reset g h f = absurd f
-leads_front element.SyncReset g h f = absurd f
+leads_front element.SyncOrAsyncReset g h f = absurd f
 leads_front element.Type g h f = absurd f
 leads_front element.Types g h f = absurd f
 leads_front element.Operand g h f = record { lead = λ ts p. (leads_operand p.0 (no_word (codes "bin") kind.ValueName refl)).lead ts p.2 }

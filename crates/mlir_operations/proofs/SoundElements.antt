@@ -18,10 +18,10 @@ use Rattle.mlir_syntax.specs.Numerals.{count_limit}
 use Rattle.mlir_syntax.specs.TypeText.{any_type, most_open}
 use Rattle.mlir_operations.specs.OperandText.{OperandName}
 use Rattle.assembly_format.specs.Formats.{text_of_keyword}
-use Rattle.mlir_operations.specs.ElementText.{Gathered, with_operands, with_types, with_inherent, truth_number, group_text, further_types, types_text, reset_operands, reset_text, want_sync, sync_reset_text, input_text, output_text, inputs_text, outputs_text, instance_with, with_instance, instance_text, element_text, elements_text}
+use Rattle.mlir_operations.specs.ElementText.{InherentAttributes, Gathered, with_operands, with_types, with_inherent, truth_number, group_text, further_types, types_text, reset_operands, reset_text, reset_mode, sync_or_async_reset_text, input_text, output_text, inputs_text, outputs_text, instance_with, with_instance, instance_text, element_text, elements_text}
 use Rattle.mlir_syntax.specs.WordText.{predicate_named, bare_text, as_known, predicate_text, truth_named, truth_text, string_text, inner_symbol, module_symbol}
-use Rattle.mlir_operations.specs.ElementText.InherentAttributes.{with_reset, predicate, position, number, literals, field_name}
-use Rattle.mlir_syntax.specs.Spelling.{Phrase, Mark, Word, Holding, Then, Commas, Between, SymbolPhrase, TruthWord, TypePhrase}
+use Rattle.mlir_operations.specs.ElementText.InherentAttributes.{with_reset, with_async_reset, predicate, position, number, literals, field_name}
+use Rattle.mlir_syntax.specs.Spelling.{Phrase, Mark, Word, Holding, Then, Either, Where, Commas, Between, SymbolPhrase, TruthWord, TypePhrase}
 use Rattle.mlir_operations.specs.Spelling.{OperandPhrase, InputPhrase, OutputPhrase, InnerSymbol, InstancePhrase, FormatElementPhrase, ElementsPhrase}
 use Rattle.assembly_format.specs.declared.elements.FormatElement.{FormatElement}
 use Rattle.assembly_format.specs.declared.elements.FormatElement.TheVariants as element
@@ -104,35 +104,48 @@ sound_types op (suc n) =
 -- ---- resets
 
 -- two operands after a reset
-abbrev ResetOperands : Gathered → Gathered → Phrase
-ResetOperands g h ts =
-    (r v : OperandName) × (h ≡ with_inherent (with_operands g (r ∷ v ∷ [])) with_reset)
+abbrev ResetOperands : InherentAttributes → Gathered → Gathered → Phrase
+ResetOperands e g h ts =
+    (r v : OperandName) × (h ≡ with_inherent (with_operands g (r ∷ v ∷ [])) e)
     × Then (OperandPhrase r) (Then (Mark kind.Comma) (OperandPhrase v)) ts
 
-sound_reset_operands : (op : OpName) (g : Gathered) → Sound (reset_operands op g) (ResetOperands g)
+sound_reset_operands : (op : OpName) (e : InherentAttributes) (g : Gathered) → Sound (reset_operands op e g) (ResetOperands e g)
 unfolding reset_operands
-sound_reset_operands op g =
+sound_reset_operands op e g =
     sound_on (sound_operand op) (λ r. sound_on (sound_want op kind.Comma) (λ _.
-    sound_last (λ v. with_inherent (with_operands g (r ∷ v ∷ [])) with_reset) (sound_operand op) (λ v c pc b pb a pa.
+    sound_last (λ v. with_inherent (with_operands g (r ∷ v ∷ [])) e) (sound_operand op) (λ v c pc b pb a pa.
     (r, v, refl, pair a (b ++ c) pa (pair b c (mark pb) pc)))))
 
 sound_reset : (op : OpName) (g : Gathered) → Sound (reset_text op g) (FormatElementPhrase element.Reset g)
 unfolding reset_text
 sound_reset op g =
-    sound_past {r = reset_operands op g} (λ t h. sound_as (sound_reset_operands op g) (λ x a p.
+    sound_past {r = reset_operands op with_reset g} (λ t h. sound_as (sound_reset_operands op with_reset g) (λ x a p.
     inl (p.0, p.1, p.2, pair (t ∷ []) a (said_word h) p.3)))
     (sound_give {y = g} (inr (refl, refl)))
 
-sound_sync : (op : OpName) → Sound (want_sync op) (λ _. Word (codes "sync"))
-unfolding want_sync
-sound_sync op = sound_if (is_first (is_word (codes "async"))) sound_refused (sound_word op (codes "sync"))
+-- a word, by what reset it says
+abbrev ResetMode : InherentAttributes → Phrase
+ResetMode e = Either (Where (e ≡ with_reset) (Word (codes "sync"))) (Where (e ≡ with_async_reset) (Word (codes "async")))
 
-sound_sync_reset : (op : OpName) (g : Gathered) → Sound (sync_reset_text op g) (FormatElementPhrase element.SyncReset g)
-unfolding sync_reset_text
-sound_sync_reset op g =
-    sound_past (λ t h. sound_on (sound_sync op) (λ _. sound_as (sound_reset_operands op g) (λ x b pb a pa.
-    inl (pb.0, pb.1, pb.2, pair (t ∷ a) b (pair (t ∷ []) a (said_word h) pa) pb.3))))
-    (sound_give {y = g} (inr (refl, refl)))
+sound_mode : (op : OpName) → Sound (reset_mode op) ResetMode
+unfolding reset_mode
+sound_mode op =
+    sound_past {r = λ s. Ok (with_async_reset, s)} (λ t h. sound_give {y = with_async_reset} (inr (refl, said_word h)))
+    (sound_last (λ _. with_reset) (sound_word op (codes "sync")) (λ _ a p. inl (refl, p)))
+
+-- `reset`, such a word and two operands
+mode_said : (e : InherentAttributes) (g h : Gathered) (t : Lexeme) (a b : List Lexeme) → is_word (codes "reset") t ≡ true → ResetMode e a
+    → ResetOperands e g h b → FormatElementPhrase element.SyncOrAsyncReset g h (t ∷ (a ++ b))
+mode_said e g h t a b reset (inl (says, word)) (r, v, same, p) =
+    inl (r, v, same ∙ ap (with_inherent (with_operands g (r ∷ v ∷ []))) says, pair (t ∷ a) b (pair (t ∷ []) a (said_word reset) word) p)
+mode_said e g h t a b reset (inr (says, word)) (r, v, same, p) =
+    inr (inl (r, v, same ∙ ap (with_inherent (with_operands g (r ∷ v ∷ []))) says, pair (t ∷ a) b (pair (t ∷ []) a (said_word reset) word) p))
+
+sound_sync_or_async_reset : (op : OpName) (g : Gathered) → Sound (sync_or_async_reset_text op g) (FormatElementPhrase element.SyncOrAsyncReset g)
+unfolding sync_or_async_reset_text
+sound_sync_or_async_reset op g =
+    sound_past (λ t h. sound_on (sound_mode op) (λ e. sound_as (sound_reset_operands op e g) (λ x b pb a pa. mode_said e g x t a b h pa pb)))
+    (sound_give {y = g} (inr (inr (refl, refl))))
 
 -- ---- instances
 
@@ -199,7 +212,7 @@ sound_element op element.Literals g = sound_last (λ ls. with_inherent g (litera
 sound_element op element.Field g = sound_last (λ name. with_inherent g (field_name name)) (sound_string op) (λ name a p. (name, refl, p))
 sound_element op element.Instance g = sound_instance op g
 sound_element op element.Reset g = sound_reset op g
-sound_element op element.SyncReset g = sound_sync_reset op g
+sound_element op element.SyncOrAsyncReset g = sound_sync_or_async_reset op g
 sound_element op element.Type g = sound_last (λ t. with_types g (t ∷ [])) (sound_type most_open op) (λ t a p. (t, refl, p))
 sound_element op element.Types g = sound_last (λ ts. with_types g ts) (sound_types op (length g.operands)) (λ l a p. (l, refl, p.0, p.1))
 

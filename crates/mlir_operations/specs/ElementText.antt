@@ -1,14 +1,13 @@
 -- The text of the pieces of an operation.
-use Rattle.std.specs.Prelude.{ℕ, zero, suc, Bool, cond, List, [], ◌∷◌, ◌++◌, length, map, Option, Ok, Err, codes, ℤ, pos}
+use Rattle.std.specs.Prelude.{ℕ, zero, suc, Bool, cond, List, [], ◌∷◌, ◌++◌, length, map, Option, Ok, codes, ℤ, pos}
 use Rattle.diag.specs.declared.refusal.OpName.{OpName}
-use Rattle.diag.specs.declared.cause.Cause.TheVariants.{OutsideProfile}
 use Rattle.hw_model.specs.Types.{Name, HwType}
 use Rattle.hw_model.specs.Types.HwType.{int}
 use Rattle.hw_model.specs.Kinds.{Predicate, Literals, Instance}
 use Rattle.hw_model.specs.TypeViews.{NamedType}
 use Rattle.mlir_lexer.specs.Tokens.{Lexeme}
 use Rattle.mlir_lexer.specs.declared.token.TokenKind.TheVariants as kind
-use Rattle.mlir_syntax.specs.Stream.{is_first, is_word, after, refusal_at}
+use Rattle.mlir_syntax.specs.Stream.{is_first, is_word, after}
 use Rattle.mlir_syntax.specs.Reads.{Reads, on, want, want_word, some_items, items_until}
 use Rattle.mlir_syntax.specs.Numerals.{number_below, count_limit, integer}
 use Rattle.mlir_syntax.specs.TypeText.{type_text, any_type, name_text, field_text, most_open}
@@ -21,7 +20,7 @@ use Rattle.assembly_format.specs.declared.elements.FormatElement.TheVariants as 
 
 -- what the text of an operation says besides its operands and types
 pub data InherentAttributes : Type 0 where
-  nothing with_reset : InherentAttributes
+  nothing with_reset with_async_reset : InherentAttributes
   predicate : Predicate → InherentAttributes
   position : ℕ → InherentAttributes
   number : ℤ → InherentAttributes
@@ -71,24 +70,26 @@ types_text op (suc n) s = on (any_type op s) (λ t s1. on (further_types op n s1
 
 -- ---- resets
 
--- two operands after a reset
-unfoldable pub reset_operands : OpName → Gathered → Reads Gathered
-reset_operands op g s =
+-- two operands after a reset, `e` saying what reset it is
+unfoldable pub reset_operands : OpName → InherentAttributes → Gathered → Reads Gathered
+reset_operands op e g s =
     on (operand_text op s) (λ r s1. on (want op kind.Comma s1) (λ _ s2. on (operand_text op s2) (λ v s3.
-    Ok (with_inherent (with_operands g (r ∷ v ∷ [])) with_reset, s3))))
+    Ok (with_inherent (with_operands g (r ∷ v ∷ [])) e, s3))))
 
 -- `reset %r, %v`, or nothing
 unfoldable pub reset_text : OpName → Gathered → Reads Gathered
-reset_text op g s = cond (is_first (is_word (codes "reset")) s) (reset_operands op g (after s)) (Ok (g, s))
+reset_text op g s = cond (is_first (is_word (codes "reset")) s) (reset_operands op with_reset g (after s)) (Ok (g, s))
 
--- `sync`; `async` is outside the profile
-unfoldable pub want_sync : OpName → Reads Lexeme
-want_sync op s = cond (is_first (is_word (codes "async")) s) (Err (refusal_at OutsideProfile op s)) (want_word op (codes "sync") s)
+-- `sync` or `async`, with what reset it says
+unfoldable pub reset_mode : OpName → Reads InherentAttributes
+reset_mode op s =
+    cond (is_first (is_word (codes "async")) s) (Ok (with_async_reset, after s))
+    (on (want_word op (codes "sync") s) (λ _ left. Ok (with_reset, left)))
 
--- `reset sync %r, %v`, or nothing
-unfoldable pub sync_reset_text : OpName → Gathered → Reads Gathered
-sync_reset_text op g s =
-    cond (is_first (is_word (codes "reset")) s) (on (want_sync op (after s)) (λ _ s1. reset_operands op g s1)) (Ok (g, s))
+-- `reset sync %r, %v`, `reset async %r, %v`, or nothing (CIRCT, Seq dialect: `seq.firreg`)
+unfoldable pub sync_or_async_reset_text : OpName → Gathered → Reads Gathered
+sync_or_async_reset_text op g s =
+    cond (is_first (is_word (codes "reset")) s) (on (reset_mode op (after s)) (λ e s1. reset_operands op e g s1)) (Ok (g, s))
 
 -- ---- instances
 
@@ -157,7 +158,7 @@ element_text op element.Literals g s = on (aggregate_text op s) (λ ls left. Ok 
 element_text op element.Field g s = on (string_text op s) (λ name left. Ok (with_inherent g (field_name name), left))
 element_text op element.Instance g s = instance_text op g s
 element_text op element.Reset g s = reset_text op g s
-element_text op element.SyncReset g s = sync_reset_text op g s
+element_text op element.SyncOrAsyncReset g s = sync_or_async_reset_text op g s
 element_text op element.Type g s = on (any_type op s) (λ t left. Ok (with_types g (t ∷ []), left))
 element_text op element.Types g s = on (types_text op (length g.operands) s) (λ ts left. Ok (with_types g ts, left))
 

@@ -20,9 +20,9 @@ use Rattle.mlir_syntax.specs.TypeText.{most_open}
 use Rattle.mlir_operations.specs.OperandText.{OperandName, ResultNames}
 use Rattle.mlir_operations.specs.OperandText.ResultNames.{no_names, names, pack}
 use Rattle.assembly_format.specs.Formats.{text_of_keyword, format_of, front_elements, type_elements}
-use Rattle.mlir_operations.specs.ElementText.{Gathered, gathered_nothing, with_operands, with_types, with_inherent, truth_number, Joined, instance_with, with_instance}
+use Rattle.mlir_operations.specs.ElementText.{InherentAttributes, Gathered, gathered_nothing, with_operands, with_types, with_inherent, truth_number, Joined, instance_with, with_instance}
 use Rattle.mlir_syntax.specs.WordText.{predicate_named}
-use Rattle.mlir_operations.specs.ElementText.InherentAttributes.{with_reset, predicate, position, number, literals, field_name}
+use Rattle.mlir_operations.specs.ElementText.InherentAttributes.{with_reset, with_async_reset, predicate, position, number, literals, field_name}
 use Rattle.mlir_operations.specs.OperationText.{OperationText, takes_bin, string_keys, is_last, given_entries}
 use Rattle.mlir_operations.specs.ModuleText.{PortText, ModuleText, module_keys}
 use Rattle.assembly_format.specs.declared.elements.FormatElement.{FormatElement}
@@ -49,10 +49,18 @@ ResultsPhrase (pack n k) = Then (ValueName n) (Then (Mark kind.Colon) (Then (Num
 
 -- ---- pieces of operations: what is gathered grows from one piece to the next
 
--- `reset %r, %v` with this word
-abbrev pub ResetPhrase : Phrase → Gathered → Gathered → Phrase
-ResetPhrase Reset g h ts =
-    (r v : OperandName) × (h ≡ with_inherent (with_operands g (r ∷ v ∷ [])) with_reset)
+-- `reset sync`
+abbrev pub ResetSync : Phrase
+ResetSync = Then (Word (codes "reset")) (Word (codes "sync"))
+
+-- `reset async`
+abbrev pub ResetAsync : Phrase
+ResetAsync = Then (Word (codes "reset")) (Word (codes "async"))
+
+-- `reset %r, %v` with these words, which say what reset it is
+abbrev pub ResetPhrase : Phrase → InherentAttributes → Gathered → Gathered → Phrase
+ResetPhrase Reset e g h ts =
+    (r v : OperandName) × (h ≡ with_inherent (with_operands g (r ∷ v ∷ [])) e)
     × Then Reset (Then (OperandPhrase r) (Then (Mark kind.Comma) (OperandPhrase v))) ts
 
 -- `p: %v: T`
@@ -95,8 +103,9 @@ FormatElementPhrase element.Integer g h = λ ts. (z : ℤ) × (h ≡ with_inhere
 FormatElementPhrase element.Literals g h = λ ts. (ls : Literals) × (h ≡ with_inherent g (literals ls)) × AggregatePhrase ls ts
 FormatElementPhrase element.Field g h = λ ts. (name : Name) × (h ≡ with_inherent g (field_name name)) × Holding kind.StringLiteral name ts
 FormatElementPhrase element.Instance g h = InstancePhrase g h
-FormatElementPhrase element.Reset g h = Either (ResetPhrase (Word (codes "reset")) g h) (Where (h ≡ g) Nothing)
-FormatElementPhrase element.SyncReset g h = Either (ResetPhrase (Then (Word (codes "reset")) (Word (codes "sync"))) g h) (Where (h ≡ g) Nothing)
+FormatElementPhrase element.Reset g h = Either (ResetPhrase (Word (codes "reset")) with_reset g h) (Where (h ≡ g) Nothing)
+FormatElementPhrase element.SyncOrAsyncReset g h =
+    Either (ResetPhrase ResetSync with_reset g h) (Either (ResetPhrase ResetAsync with_async_reset g h) (Where (h ≡ g) Nothing))
 FormatElementPhrase element.Type g h = λ ts. (t : HwType) × (h ≡ with_types g (t ∷ [])) × TypePhrase most_open t ts
 FormatElementPhrase element.Types g h =
     λ ts. (l : List HwType) × (h ≡ with_types g l) × (length l ≡ length g.operands) × Commas (TypePhrase most_open) l ts

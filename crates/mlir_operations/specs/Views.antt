@@ -29,6 +29,7 @@ names_of (Pack n k) = text.ResultNames.pack n.now k
 abbrev pub inherent_of : InherentAttributes → element.InherentAttributes
 inherent_of inherent.Nothing = element.InherentAttributes.nothing
 inherent_of inherent.WithReset = element.InherentAttributes.with_reset
+inherent_of inherent.WithAsyncReset = element.InherentAttributes.with_async_reset
 inherent_of (inherent.Predicate p) = element.InherentAttributes.predicate (predicate_of p)
 inherent_of (inherent.Position n) = element.InherentAttributes.position n
 inherent_of (inherent.Number z) = element.InherentAttributes.number (integer_of z)

@@ -4,11 +4,12 @@ ghost use Rattle.std.specs.Prelude.{◌≡◌, ◌≤◌, ◌++◌, ◌∷◌, [
 ghost use Rattle.ir_store.specs.OperationViews.{types_in};
 ghost use Rattle.mlir_lexer.specs.declared.token.TokenKind.TheVariants as kind;
 ghost use Rattle.mlir_operations.specs.OperandText.{operand_text};
-ghost use Rattle.mlir_operations.specs.ElementText.{Gathered as Gathering, with_operands, with_inherent, group_text, further_types, types_text, reset_operands, reset_text, sync_reset_text, want_sync, element_text, elements_text};
+ghost use Rattle.mlir_operations.specs.ElementText.{Gathered as Gathering, with_operands, with_inherent, group_text, further_types, types_text, reset_operands, reset_text, sync_or_async_reset_text, reset_mode, element_text, elements_text};
 ghost use Rattle.mlir_syntax.specs.Reads.{on, want, some_items};
 ghost use Rattle.mlir_syntax.specs.TypeText.{any_type};
 ghost use Rattle.mlir_syntax.specs.Views.{ReadsAs};
-ghost use Rattle.mlir_operations.specs.Views.{gathered_of, operand_of};
+ghost use Rattle.mlir_operations.specs.ElementText.InherentAttributes.{with_reset};
+ghost use Rattle.mlir_operations.specs.Views.{gathered_of, inherent_of, operand_of};
 ghost use Rattle.assembly_format.specs.declared.elements.FormatElement.TheVariants as element;
 
 use crate::instance_text::instance_element;
@@ -16,7 +17,6 @@ use crate::operand_text::operand_text;
 use crate::syntax::{Gathered, InherentAttributes, OperandName};
 use assembly_format::elements::{FormatElement, Keyword};
 use assembly_format::formats::text_of_keyword;
-use diag::cause::Cause;
 use diag::refusal::OpName;
 use hw_model::kinds::Integer;
 use hw_model::types::Ty;
@@ -72,7 +72,7 @@ fn element_text<'s>(
         FormatElement::Field => field_element(reader, op, gathered),
         FormatElement::Instance => instance_element(reader, op, gathered),
         FormatElement::Reset => reset_element(reader, op, gathered),
-        FormatElement::SyncReset => sync_reset_element(reader, op, gathered),
+        FormatElement::SyncOrAsyncReset => sync_or_async_reset_element(reader, op, gathered),
         FormatElement::Type => type_element(reader, op, gathered),
         FormatElement::Types => types_element(reader, op, gathered),
     }
@@ -271,51 +271,52 @@ fn reset_element<'s>(
     ensures shorter { OnOk result (length reader.new ≤ length reader.old) }
 {
     if reader.pass_word(b"reset") {
-        reset_operands(reader, op, gathered)
+        reset_operands(reader, op, InherentAttributes::WithReset, gathered)
     } else {
         Ok(())
     }
 }
 
-// `reset sync %r, %v`, or nothing.
-#[tactic(auto, unfolding(crate::specs::ElementText::element_text, crate::specs::ElementText::sync_reset_text))]
-fn sync_reset_element<'s>(
+// `reset sync %r, %v`, `reset async %r, %v`, or nothing.
+#[tactic(auto, unfolding(crate::specs::ElementText::element_text, crate::specs::ElementText::sync_or_async_reset_text))]
+fn sync_or_async_reset_element<'s>(
     reader: &mut Reader<'s>,
     op: OpName,
     gathered: &mut Gathered<'s>,
 ) -> Result<(), ReadFail>
-    ensures gives { ReadsAs (λ (_ : Unit {0}). gathered_of gathered.new) result reader.new (element_text op element.SyncReset (gathered_of gathered.old) reader.old) }
+    ensures gives { ReadsAs (λ (_ : Unit {0}). gathered_of gathered.new) result reader.new (element_text op element.SyncOrAsyncReset (gathered_of gathered.old) reader.old) }
     ensures shorter { OnOk result (length reader.new ≤ length reader.old) }
 {
     if reader.pass_word(b"reset") {
-        want_sync(reader, op)?;
-        reset_operands(reader, op, gathered)
+        let mode = reset_mode(reader, op)?;
+        reset_operands(reader, op, mode, gathered)
     } else {
         Ok(())
     }
 }
 
-// `sync`; `async` is outside the profile.
-#[tactic(auto, unfolding(crate::specs::ElementText::want_sync))]
-fn want_sync(reader: &mut Reader<'_>, op: OpName) -> Result<(), ReadFail>
-    ensures gives { ReadsAs (λ u. u) result reader.new (on (want_sync op reader.old) (λ _ left. Ok (tt, left))) }
+// `sync` or `async`: what reset it says.
+#[tactic(auto, unfolding(crate::specs::ElementText::reset_mode))]
+fn reset_mode(reader: &mut Reader<'_>, op: OpName) -> Result<InherentAttributes, ReadFail>
+    ensures gives { ReadsAs inherent_of result reader.new (reset_mode op reader.old) }
     ensures shorter { OnOk result (length reader.new ≤ length reader.old) }
 {
-    if reader.is_word(b"async") {
-        return Err(ReadFail::Refused(reader.refusal_for(Cause::OutsideProfile, op)));
+    if reader.pass_word(b"async") {
+        return Ok(InherentAttributes::WithAsyncReset);
     }
     reader.want_word(op, b"sync")?;
-    Ok(())
+    Ok(InherentAttributes::WithReset)
 }
 
-// Two operands after a reset.
+// Two operands after a reset, which is of this kind.
 #[tactic(auto, unfolding(crate::specs::ElementText::reset_operands))]
 fn reset_operands<'s>(
     reader: &mut Reader<'s>,
     op: OpName,
+    mode: InherentAttributes,
     gathered: &mut Gathered<'s>,
 ) -> Result<(), ReadFail>
-    ensures gives { ReadsAs (λ (_ : Unit {0}). gathered_of gathered.new) result reader.new (reset_operands op (gathered_of gathered.old) reader.old) }
+    ensures gives { ReadsAs (λ (_ : Unit {0}). gathered_of gathered.new) result reader.new (reset_operands op (inherent_of mode) (gathered_of gathered.old) reader.old) }
     ensures shorter { OnOk result (length reader.new ≤ length reader.old) }
 {
     let reset = operand_text(reader, op)?;
@@ -323,7 +324,7 @@ fn reset_operands<'s>(
     let value = operand_text(reader, op)?;
     gathered.operands.push(reset)?;
     gathered.operands.push(value)?;
-    gathered.inherent = InherentAttributes::WithReset;
+    gathered.inherent = mode;
     Ok(())
 }
 

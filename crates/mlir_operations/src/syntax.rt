@@ -36,6 +36,8 @@ pub enum InherentAttributes {
     Nothing,
     /// That the register has a reset.
     WithReset,
+    /// That the register has an asynchronous reset.
+    WithAsyncReset,
     /// A predicate.
     Predicate(Predicate),
     /// A position.

@@ -25,9 +25,9 @@ use Rattle.mlir_syntax.specs.TypeText.{any_type, most_open}
 use Rattle.mlir_syntax.specs.AttributeText.{is_symbol}
 use Rattle.mlir_operations.specs.OperandText.{ResultNames}
 use Rattle.assembly_format.specs.Formats.{text_of_keyword, format_of, front_elements, type_elements}
-use Rattle.mlir_operations.specs.ElementText.{Gathered, gathered_nothing, with_operands, with_types, with_inherent, truth_number, group_text, further_types, types_text, reset_operands, reset_text, want_sync, sync_reset_text, input_text, output_text, inputs_text, outputs_text, instance_with, with_instance, instance_text, element_text, elements_text}
+use Rattle.mlir_operations.specs.ElementText.{InherentAttributes, Gathered, gathered_nothing, with_operands, with_types, with_inherent, truth_number, group_text, further_types, types_text, reset_operands, reset_text, reset_mode, sync_or_async_reset_text, input_text, output_text, inputs_text, outputs_text, instance_with, with_instance, instance_text, element_text, elements_text}
 use Rattle.mlir_syntax.specs.WordText.{predicate_named, bare_text, as_known, predicate_text, truth_named, truth_text, string_text, inner_symbol, module_symbol}
-use Rattle.mlir_operations.specs.ElementText.InherentAttributes.{with_reset, predicate, position, number, literals, field_name}
+use Rattle.mlir_operations.specs.ElementText.InherentAttributes.{with_reset, with_async_reset, predicate, position, number, literals, field_name}
 use Rattle.mlir_operations.specs.OperationText.{NameClass, operation, module_name, file_name, locations, outside, unknown, class_of, misplaced_refusal, is_outside, no_operation, takes_bin, bin_text, string_keys, OperationText, given_entries, late_dictionary, form_text, named_operation, classed_operation, operation_behind, operation_text, is_last, operations_text}
 use Rattle.mlir_operations.specs.ModuleText.{header, port_name, port_type, input_port, output_port, port_text, older_input, older_outputs, older_ports, ports_text, ModuleText, module_keys, attributes_text, private_text, body_text, module_behind, classed_module, module_text, modules_text, file_symbol, want_end, wrapped_text, is_file_name, file_text}
 use Rattle.mlir_reader.specs.Reading.{text_limit, design_read, read}
@@ -69,24 +69,25 @@ unfolding types_text any_type
 local_types op zero c n = loc_give {y = []}
 local_types op (suc m) c n = loc_on (local_type most_open op c n) (λ t. loc_on (local_further op m c n) (λ ts. loc_give {y = t ∷ ts}))
 
-local_reset_operands : (op : OpName) (g : Gathered) → Local (reset_operands op g)
+local_reset_operands : (op : OpName) (e : InherentAttributes) (g : Gathered) → Local (reset_operands op e g)
 unfolding reset_operands
-local_reset_operands op g c n =
+local_reset_operands op e g c n =
     loc_on (local_operand op c n) (λ r. loc_on (local_want op kind.Comma c n) (λ _. loc_on (local_operand op c n) (λ v.
-    loc_give {y = with_inherent (with_operands g (r ∷ v ∷ [])) with_reset})))
+    loc_give {y = with_inherent (with_operands g (r ∷ v ∷ [])) e})))
 
 local_reset : (op : OpName) (g : Gathered) → Local (reset_text op g)
 unfolding reset_text
-local_reset op g c n = loc_next (is_word (codes "reset")) (loc_after (local_reset_operands op g c n)) (loc_give {y = g})
+local_reset op g c n = loc_next (is_word (codes "reset")) (loc_after (local_reset_operands op with_reset g c n)) (loc_give {y = g})
 
-local_sync : (op : OpName) → Local (want_sync op)
-unfolding want_sync
-local_sync op c n = loc_next (is_word (codes "async")) (loc_refused OutsideProfile op) (local_word op (codes "sync") c n)
+local_mode : (op : OpName) → Local (reset_mode op)
+unfolding reset_mode
+local_mode op c n =
+    loc_next (is_word (codes "async")) (loc_after (loc_give {y = with_async_reset})) (loc_on (local_word op (codes "sync") c n) (λ _. loc_give {y = with_reset}))
 
-local_sync_reset : (op : OpName) (g : Gathered) → Local (sync_reset_text op g)
-unfolding sync_reset_text
-local_sync_reset op g c n =
-    loc_next (is_word (codes "reset")) (loc_on (loc_after (local_sync op c n)) (λ _. local_reset_operands op g c n)) (loc_give {y = g})
+local_sync_or_async_reset : (op : OpName) (g : Gathered) → Local (sync_or_async_reset_text op g)
+unfolding sync_or_async_reset_text
+local_sync_or_async_reset op g c n =
+    loc_next (is_word (codes "reset")) (loc_on (loc_after (local_mode op c n)) (λ e. local_reset_operands op e g c n)) (loc_give {y = g})
 
 local_input : (op : OpName) → Local (input_text op)
 unfolding input_text any_type
@@ -139,7 +140,7 @@ local_element op element.Literals g c n = loc_on (local_aggregate op c n) (λ ls
 local_element op element.Field g c n = loc_on (local_string op c n) (λ name. loc_give {y = with_inherent g (field_name name)})
 local_element op element.Instance g c n = local_instance op g c n
 local_element op element.Reset g c n = local_reset op g c n
-local_element op element.SyncReset g c n = local_sync_reset op g c n
+local_element op element.SyncOrAsyncReset g c n = local_sync_or_async_reset op g c n
 local_element op element.Type g c n = loc_on (local_type most_open op c n) (λ t. loc_give {y = with_types g (t ∷ [])})
 local_element op element.Types g c n = loc_on (local_types op (length g.operands) c n) (λ ts. loc_give {y = with_types g ts})
 

@@ -14,7 +14,7 @@ use Rattle.hw_model.specs.Kinds.Literal.{leaf, parts}
 use Rattle.hw_model.specs.Kinds.Literals.{no_literals, literal}
 use Rattle.hw_model.specs.Kinds.StructOp.{struct_extract, struct_inject}
 use Rattle.hw_model.specs.Kinds.RegisterOp.{compreg, compreg_ce, firreg}
-use Rattle.hw_model.specs.Kinds.Kind.{icmp, extract, constant, aggregate_constant, on_struct, instance, output, register}
+use Rattle.hw_model.specs.Kinds.Kind.{icmp, extract, constant, aggregate_constant, on_struct, instance, output, register, async_firreg}
 use Rattle.hw_model.specs.Opcodes.{kind_named_by}
 use Rattle.hw_model.specs.Design.{Attribute, Entry, Ref, Port, OpResult, Op, Module, Design, same_name}
 use Rattle.hw_model.specs.Design.Attribute.{text_value}
@@ -26,7 +26,7 @@ use Rattle.ir_store.specs.ResultTypes.{result_types, result_count}
 use Rattle.mlir_operations.specs.OperandText.{OperandName, ResultNames, named_count}
 use Rattle.mlir_operations.specs.OperandText.ResultNames.{no_names, names, pack}
 use Rattle.mlir_operations.specs.ElementText.{InherentAttributes}
-use Rattle.mlir_operations.specs.ElementText.InherentAttributes.{with_reset, predicate, position, number, literals, field_name, child}
+use Rattle.mlir_operations.specs.ElementText.InherentAttributes.{with_reset, with_async_reset, predicate, position, number, literals, field_name, child}
 use Rattle.mlir_operations.specs.OperationText.{OperationText, is_last}
 use Rattle.mlir_operations.specs.ModuleText.{PortText, ModuleText}
 
@@ -90,6 +90,11 @@ abbrev pub inherent_reset : InherentAttributes → Reset
 inherent_reset with_reset = sync_reset
 inherent_reset _ = no_reset
 
+-- the kind of a `seq.firreg` by its reset
+abbrev pub firreg_kind : InherentAttributes → Kind
+firreg_kind with_async_reset = async_firreg
+firreg_kind e = register firreg (inherent_reset e)
+
 -- the kind of an operation that its name and the rest of its text tell
 unfoldable pub inherent_kind : Listed → InherentAttributes → List HwType → Kind
 inherent_kind listed.CombIcmp e ts = icmp (inherent_predicate e)
@@ -101,7 +106,7 @@ inherent_kind listed.HwStructInject e ts = on_struct (struct_inject (inherent_fi
 inherent_kind listed.HwInstance e ts = instance (inherent_instance e)
 inherent_kind listed.SeqCompreg e ts = register compreg (inherent_reset e)
 inherent_kind listed.SeqCompregCe e ts = register compreg_ce (inherent_reset e)
-inherent_kind listed.SeqFirreg e ts = register firreg (inherent_reset e)
+inherent_kind listed.SeqFirreg e ts = firreg_kind e
 inherent_kind _ e ts = output
 
 abbrev pub kind_or : Option Kind → Kind → Kind

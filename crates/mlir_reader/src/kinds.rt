@@ -3,7 +3,7 @@ ghost use Rattle.std.specs.Prelude.{◌≡◌, ◌-◌, ◌^◌, true, map, IfOk
 ghost use Rattle.std.specs.Box.{box_value};
 ghost use Rattle.hw_model.specs.TypeViews.{type_of};
 ghost use Rattle.hw_model.specs.KindViews.{kind_of, integer_of, predicate_of, reset_of, literal_of, literals_in, instance_of};
-ghost use Rattle.mlir_reader.specs.Resolving.{has_negative, kept_number, kept_integer, kept_by_first, kept_literal, kept_literals, kind_named, inherent_kind, inherent_predicate, inherent_position, inherent_number, inherent_literals, inherent_field, inherent_instance, inherent_reset};
+ghost use Rattle.mlir_reader.specs.Resolving.{has_negative, kept_number, kept_integer, kept_by_first, kept_literal, kept_literals, kind_named, inherent_kind, inherent_predicate, inherent_position, inherent_number, inherent_literals, inherent_field, inherent_instance, inherent_reset, firreg_kind};
 ghost use Rattle.mlir_operations.specs.ElementText.InherentAttributes.{nothing};
 ghost use Rattle.mlir_operations.specs.Views.{inherent_of};
 
@@ -52,7 +52,7 @@ fn inherent_kind(
         Listed::HwInstance => Ok(OpKind::Instance(inherent_instance(alloc, inherent)?)),
         Listed::SeqCompreg => Ok(OpKind::CompReg(inherent_reset(inherent))),
         Listed::SeqCompregCe => Ok(OpKind::CompRegCe(inherent_reset(inherent))),
-        Listed::SeqFirreg => Ok(OpKind::FirReg(inherent_reset(inherent))),
+        Listed::SeqFirreg => Ok(firreg_kind(inherent)),
         _ => Ok(OpKind::Output),
     }
 }
@@ -142,6 +142,17 @@ fn inherent_reset(inherent: InherentAttributes) -> Reset
     match inherent {
         InherentAttributes::WithReset => Reset::Sync,
         _ => Reset::No,
+    }
+}
+
+// The kind of a `seq.firreg`, by its reset.
+fn firreg_kind(inherent: InherentAttributes) -> OpKind
+    ensures { kind_of result ≡ firreg_kind (inherent_of inherent) }
+{
+    match inherent {
+        InherentAttributes::WithAsyncReset => OpKind::AsyncFirReg,
+        InherentAttributes::WithReset => OpKind::FirReg(Reset::Sync),
+        _ => OpKind::FirReg(Reset::No),
     }
 }
 
