@@ -7,7 +7,7 @@ use Rattle.hw_model.specs.Kinds.Predicate.{eq, ne, slt, sle, sgt, sge, ult, ule,
 use Rattle.mlir_lexer.specs.declared.token.TokenKind.{TokenKind}
 use Rattle.mlir_lexer.specs.declared.token.TokenKind.TheVariants as kind
 use Rattle.mlir_operations.specs.ElementText.{InherentAttributes}
-use Rattle.mlir_operations.specs.ElementText.InherentAttributes.{with_reset, predicate, position, number, literals, field_name, child}
+use Rattle.mlir_operations.specs.ElementText.InherentAttributes.{with_reset, with_async_reset, predicate, position, number, literals, field_name, child}
 use Rattle.assembly_format.specs.declared.elements.Keyword.{Keyword}
 use Rattle.assembly_format.specs.declared.elements.Keyword.TheVariants.{From, Clock}
 use Rattle.assembly_format.specs.declared.elements.FormatElement.{FormatElement}
@@ -125,10 +125,20 @@ abbrev pub field_said : InherentAttributes → List ℕ
 field_said (field_name name) = string_bytes name
 field_said _ = []
 
--- a word and two operands, where something resets
-abbrev pub reset_said : List ℕ → InherentAttributes → List ValueText → List ℕ
-reset_said word with_reset os = word ++ (operand_bytes (first_operand os) ++ (codes ", " ++ operand_bytes (first_operand (drop 1 os))))
-reset_said word _ os = []
+-- words and two operands
+abbrev pub reset_bytes : List ℕ → List ValueText → List ℕ
+reset_bytes words os = words ++ (operand_bytes (first_operand os) ++ (codes ", " ++ operand_bytes (first_operand (drop 1 os))))
+
+-- `reset %r, %v`, where something resets
+abbrev pub reset_said : InherentAttributes → List ValueText → List ℕ
+reset_said with_reset os = reset_bytes (codes " reset ") os
+reset_said _ os = []
+
+-- `reset sync %r, %v` or `reset async %r, %v`, where something resets
+abbrev pub sync_or_async_reset_said : InherentAttributes → List ValueText → List ℕ
+sync_or_async_reset_said with_reset os = reset_bytes (codes " reset sync ") os
+sync_or_async_reset_said with_async_reset os = reset_bytes (codes " reset async ") os
+sync_or_async_reset_said _ os = []
 
 -- ---- instances
 
@@ -206,8 +216,8 @@ element_bytes element.Integer g = number_said g.inherent
 element_bytes element.Literals g = codes "[" ++ (literals_said g.inherent ++ codes "]")
 element_bytes element.Field g = field_said g.inherent
 element_bytes element.Instance g = instance_said g.inherent g.operands g.types
-element_bytes element.Reset g = reset_said (codes " reset ") g.inherent g.operands
-element_bytes element.SyncReset g = reset_said (codes " reset sync ") g.inherent g.operands
+element_bytes element.Reset g = reset_said g.inherent g.operands
+element_bytes element.SyncOrAsyncReset g = sync_or_async_reset_said g.inherent g.operands
 element_bytes element.Type g = first_type_bytes g.types
 element_bytes element.Types g = commas type_bytes g.types
 

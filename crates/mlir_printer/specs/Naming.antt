@@ -4,7 +4,7 @@ use Rattle.hw_model.specs.Types.{Name, HwType}
 use Rattle.hw_model.specs.Types.HwType.{int}
 use Rattle.hw_model.specs.Kinds.{Kind}
 use Rattle.hw_model.specs.Kinds.StructOp.{struct_explode}
-use Rattle.hw_model.specs.Kinds.Kind.{constant, on_struct, wire, instance, output, register}
+use Rattle.hw_model.specs.Kinds.Kind.{constant, on_struct, wire, instance, output, register, async_firreg}
 use Rattle.hw_model.specs.Design.{Ref, Port}
 use Rattle.hw_model.specs.Design.Ref.{port, result, undefined}
 use Rattle.fresh_names.specs.Fresh.{fresh}
@@ -54,6 +54,7 @@ name_hints_of wire ts own n = own_name_hint own ∷ []
 name_hints_of (instance i) ts own n = instance_name_hints i.name i.outputs
 name_hints_of output ts own n = []
 name_hints_of (register f r) ts own n = own_name_hint own ∷ []
+name_hints_of async_firreg ts own n = own_name_hint own ∷ []
 name_hints_of _ ts own n = None ∷ []
 
 -- what the results of an operation want

@@ -21,7 +21,7 @@ use Rattle.mlir_operations.specs.OperandText.{OperandName, ResultNames}
 use Rattle.mlir_operations.specs.OperandText.ResultNames.{no_names, names, pack}
 use Rattle.assembly_format.specs.Formats.{front_elements, type_elements}
 use Rattle.mlir_operations.specs.ElementText.{InherentAttributes, Gathered, gathered_nothing, with_operands, with_types, with_inherent}
-use Rattle.mlir_operations.specs.ElementText.InherentAttributes.{with_reset, predicate, position, number, literals, field_name, child}
+use Rattle.mlir_operations.specs.ElementText.InherentAttributes.{with_reset, with_async_reset, predicate, position, number, literals, field_name, child}
 use Rattle.mlir_operations.specs.OperationText.{OperationText as OperationSaid, takes_bin, string_keys, is_last}
 use Rattle.mlir_operations.specs.ModuleText.{PortText as PortSaid, ModuleText as ModuleSaid, module_keys}
 use Rattle.mlir_syntax.specs.Spelling.{AreOnce}
@@ -199,10 +199,20 @@ abbrev pub HasType : List HwType → Type 0
 HasType [] = ⊥
 HasType (t ∷ ts) = IsAnyType t
 
+-- two operands stand there
+abbrev pub HasTwoOperands : List ValueText → Type 0
+HasTwoOperands os = IsOperand (first_operand os) × IsOperand (first_operand (drop 1 os))
+
 -- two operands stand after a reset
 abbrev pub MayReset : InherentAttributes → List ValueText → Type 0
-MayReset with_reset os = IsOperand (first_operand os) × IsOperand (first_operand (drop 1 os))
+MayReset with_reset os = HasTwoOperands os
 MayReset _ os = ⊤
+
+-- also after an asynchronous one
+abbrev pub MaySyncOrAsyncReset : InherentAttributes → List ValueText → Type 0
+MaySyncOrAsyncReset with_reset os = HasTwoOperands os
+MaySyncOrAsyncReset with_async_reset os = HasTwoOperands os
+MaySyncOrAsyncReset _ os = ⊤
 
 -- a predicate is said
 abbrev pub SaysPredicate : InherentAttributes → Type 0
@@ -275,7 +285,7 @@ Needs element.Literals p g = SaysLiterals p.inherent
 Needs element.Field p g = SaysField p.inherent
 Needs element.Instance p g = SaysInstance p.inherent p.operands p.types
 Needs element.Reset p g = MayReset p.inherent p.operands
-Needs element.SyncReset p g = MayReset p.inherent p.operands
+Needs element.SyncOrAsyncReset p g = MaySyncOrAsyncReset p.inherent p.operands
 Needs element.Type p g = HasType p.types
 Needs element.Types p g = (length p.types ≡ length g.operands) × Each IsAnyType p.types
 
@@ -284,11 +294,21 @@ abbrev pub first_type : List HwType → List HwType
 first_type [] = []
 first_type (t ∷ ts) = t ∷ []
 
+-- what is gathered with two operands of a reset
+abbrev pub gathered_operands_of_reset : InherentAttributes → List ValueText → Gathered → Gathered
+gathered_operands_of_reset e os g =
+    with_inherent (with_operands g (said_operand (first_operand os) ∷ said_operand (first_operand (drop 1 os)) ∷ [])) e
+
 -- what is gathered with a reset
 abbrev pub gathered_reset : InherentAttributes → List ValueText → Gathered → Gathered
-gathered_reset with_reset os g =
-    with_inherent (with_operands g (said_operand (first_operand os) ∷ said_operand (first_operand (drop 1 os)) ∷ [])) with_reset
+gathered_reset with_reset os g = gathered_operands_of_reset with_reset os g
 gathered_reset _ os g = g
+
+-- also with an asynchronous one
+abbrev pub gathered_sync_or_async_reset : InherentAttributes → List ValueText → Gathered → Gathered
+gathered_sync_or_async_reset with_reset os g = gathered_operands_of_reset with_reset os g
+gathered_sync_or_async_reset with_async_reset os g = gathered_operands_of_reset with_async_reset os g
+gathered_sync_or_async_reset _ os g = g
 
 -- what is gathered with a piece of what is left, where so much is gathered before
 abbrev pub gathered_with : FormatElement → Pending → Gathered → Gathered
@@ -305,7 +325,7 @@ gathered_with element.Literals p g = with_inherent g p.inherent
 gathered_with element.Field p g = with_inherent g p.inherent
 gathered_with element.Instance p g = with_inherent (with_types (with_operands g (map said_operand p.operands)) p.types) p.inherent
 gathered_with element.Reset p g = gathered_reset p.inherent p.operands g
-gathered_with element.SyncReset p g = gathered_reset p.inherent p.operands g
+gathered_with element.SyncOrAsyncReset p g = gathered_sync_or_async_reset p.inherent p.operands g
 gathered_with element.Type p g = with_types g (first_type p.types)
 gathered_with element.Types p g = with_types g p.types
 

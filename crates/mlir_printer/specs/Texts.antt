@@ -4,13 +4,13 @@ use Rattle.hw_model.specs.Types.{Name, HwType}
 use Rattle.hw_model.specs.Kinds.{Kind, Reset}
 use Rattle.hw_model.specs.Kinds.Reset.{no_reset, sync_reset}
 use Rattle.hw_model.specs.Kinds.StructOp.{struct_extract, struct_inject}
-use Rattle.hw_model.specs.Kinds.Kind.{icmp, extract, constant, aggregate_constant, on_struct, instance, register}
+use Rattle.hw_model.specs.Kinds.Kind.{icmp, extract, constant, aggregate_constant, on_struct, instance, register, async_firreg}
 use Rattle.hw_model.specs.Opcodes.{opcode_of}
 use Rattle.hw_model.specs.Design.{Entry, Ref, Port, Op, Module, Design, same_name}
 use Rattle.hw_model.specs.Design.Attribute.{text_value}
 use Rattle.ir_store.specs.OperationViews.{OpParts}
 use Rattle.mlir_operations.specs.ElementText.{InherentAttributes}
-use Rattle.mlir_operations.specs.ElementText.InherentAttributes.{nothing, with_reset, predicate, position, number, literals, field_name, child}
+use Rattle.mlir_operations.specs.ElementText.InherentAttributes.{nothing, with_reset, with_async_reset, predicate, position, number, literals, field_name, child}
 use Rattle.mlir_reader.specs.Resolving.{put_entry}
 use Rattle.mlir_printer.specs.Numbers.{shown_by_first, shown_literals}
 use Rattle.mlir_printer.specs.Naming.{name_count, input_count, port_name_hint, names_given, first_name, value_named, results_named}
@@ -35,6 +35,7 @@ inherent_shown (on_struct (struct_extract name)) ts = field_name name
 inherent_shown (on_struct (struct_inject name)) ts = field_name name
 inherent_shown (instance i) ts = child i
 inherent_shown (register f r) ts = reset_inherent r
+inherent_shown async_firreg ts = with_async_reset
 inherent_shown _ ts = nothing
 
 -- the entry that gives an operation its name

@@ -58,6 +58,7 @@ value_held v Undefined = no_value
 abbrev pub inherent_of : InherentView → InherentAttributes
 inherent_of inherent_view.Nothing = text.InherentAttributes.nothing
 inherent_of inherent_view.WithReset = text.InherentAttributes.with_reset
+inherent_of inherent_view.WithAsyncReset = text.InherentAttributes.with_async_reset
 inherent_of (inherent_view.Predicate p) = text.InherentAttributes.predicate (predicate_of p)
 inherent_of (inherent_view.Position n) = text.InherentAttributes.position n
 inherent_of (inherent_view.Number z) = text.InherentAttributes.number (integer_of z)

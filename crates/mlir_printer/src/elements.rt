@@ -6,7 +6,7 @@ ghost use Rattle.mlir_printer.specs.Commas.{commas};
 ghost use Rattle.mlir_printer.specs.Strings.{name_bytes};
 ghost use Rattle.mlir_printer.specs.Types.{type_bytes};
 ghost use Rattle.mlir_printer.specs.Operations.{left_behind_all};
-ghost use Rattle.mlir_printer.specs.Elements.{mark_bytes, word_bytes, predicate_bytes, value_name_bytes, pack_number_bytes, operand_bytes, first_operand, first_type_bytes, reset_said, input_bytes, output_bytes, inputs_joined, outputs_joined, inner_bytes, instance_head, connections_bytes, instance_bytes, element_bytes, elements_bytes, said_bytes};
+ghost use Rattle.mlir_printer.specs.Elements.{mark_bytes, word_bytes, predicate_bytes, value_name_bytes, pack_number_bytes, operand_bytes, first_operand, first_type_bytes, reset_bytes, reset_said, sync_or_async_reset_said, input_bytes, output_bytes, inputs_joined, outputs_joined, inner_bytes, instance_head, connections_bytes, instance_bytes, element_bytes, elements_bytes, said_bytes};
 ghost use Rattle.mlir_printer.specs.Views.{value_held, pending_of, inherent_of};
 
 use crate::commas::{push_comma, push_few};
@@ -141,20 +141,50 @@ fn push_operands(out: &mut Text, names: &ValueNames, operands: &[Value]) -> Resu
     Ok(())
 }
 
-// Adds a word and two operands, where something resets.
+// Adds words and two operands.
+fn push_with_operands(
+    out: &mut Text,
+    names: &ValueNames,
+    words: &[u8],
+    operands: &[Value],
+) -> Result<(), AllocError>
+    ensures { OnOk result (out.new ≡ out.old ++ reset_bytes words.now (map (value_held names.now) operands.now)) }
+{
+    out.push_bytes(words)?;
+    push_first_operand(out, names, operands)?;
+    out.push_bytes(b", ")?;
+    push_first_operand(out, names, rest_of(operands, 1))?;
+    Ok(())
+}
+
+// Adds `reset` and two operands, where something resets.
 fn push_reset(
     out: &mut Text,
     names: &ValueNames,
-    word: &[u8],
     pending: &Pending<'_>,
 ) -> Result<(), AllocError>
-    ensures { OnOk result (out.new ≡ out.old ++ reset_said word.now (inherent_of pending.now.inherent_view) (map (value_held names.now) pending.now.operands.now)) }
+    ensures { OnOk result (out.new ≡ out.old ++ reset_said (inherent_of pending.now.inherent_view) (map (value_held names.now) pending.now.operands.now)) }
 {
-    if let InherentView::WithReset = pending.inherent_view {
-        out.push_bytes(word)?;
-        push_first_operand(out, names, pending.operands)?;
-        out.push_bytes(b", ")?;
-        push_first_operand(out, names, rest_of(pending.operands, 1))?;
+    match pending.inherent_view {
+        InherentView::WithReset => push_with_operands(out, names, b" reset ", pending.operands)?,
+        _ => {}
+    }
+    Ok(())
+}
+
+// Adds `reset sync` or `reset async` and two operands, where something resets.
+fn push_sync_or_async_reset(
+    out: &mut Text,
+    names: &ValueNames,
+    pending: &Pending<'_>,
+) -> Result<(), AllocError>
+    ensures { OnOk result (out.new ≡ out.old ++ sync_or_async_reset_said (inherent_of pending.now.inherent_view) (map (value_held names.now) pending.now.operands.now)) }
+{
+    let operands = pending.operands;
+    match pending.inherent_view {
+        InherentView::WithReset => push_with_operands(out, names, b" reset sync ", operands)?,
+        InherentView::WithAsyncReset => push_with_operands(out, names, b" reset async ", operands)?,
+        _ => {}
     }
     Ok(())
 }
@@ -356,8 +386,8 @@ fn push_element(
             push_inherent(out, names, element, pending)?;
             out.push_bytes(b"]")?;
         }
-        FormatElement::Reset => push_reset(out, names, b" reset ", pending)?,
-        FormatElement::SyncReset => push_reset(out, names, b" reset sync ", pending)?,
+        FormatElement::Reset => push_reset(out, names, pending)?,
+        FormatElement::SyncOrAsyncReset => push_sync_or_async_reset(out, names, pending)?,
         FormatElement::Type => push_first_type(out, pending.types)?,
         FormatElement::Types => push_types(out, pending.types)?,
         FormatElement::Number

@@ -19,6 +19,8 @@ pub enum InherentView<'d> {
     Nothing,
     /// That the register has a reset.
     WithReset,
+    /// That the register has an asynchronous reset.
+    WithAsyncReset,
     /// A predicate.
     Predicate(Predicate),
     /// A position.
@@ -71,6 +73,7 @@ pub fn inherent_view_of<'d>(kind: &'d OpKind, types: &[Ty]) -> InherentView<'d>
         OpKind::CompReg(reset) | OpKind::CompRegCe(reset) | OpKind::FirReg(reset) => {
             reset_view(*reset)
         }
+        OpKind::AsyncFirReg => InherentView::WithAsyncReset,
         _ => InherentView::Nothing,
     }
 }

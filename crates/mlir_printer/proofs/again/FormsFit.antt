@@ -13,11 +13,11 @@ use Rattle.hw_model.specs.Kinds.Literals.{no_literals, literal}
 use Rattle.hw_model.specs.Kinds.ArrayOp.{array_create, array_concat, array_get, array_slice, array_inject}
 use Rattle.hw_model.specs.Kinds.StructOp.{struct_create, struct_extract, struct_inject, struct_explode}
 use Rattle.hw_model.specs.Kinds.RegisterOp.{compreg, compreg_ce, firreg}
-use Rattle.hw_model.specs.Kinds.Kind.{variadic, sub, division, shift, icmp, parity, extract, concat, replicate, mux, constant, aggregate_constant, on_array, on_struct, bitcast, wire, instance, output, register}
+use Rattle.hw_model.specs.Kinds.Kind.{variadic, sub, division, shift, icmp, parity, extract, concat, replicate, mux, constant, aggregate_constant, on_array, on_struct, bitcast, wire, instance, output, register, async_firreg}
 use Rattle.hw_model.specs.Opcodes.{opcode_of, variadic_opcode, division_opcode, shift_opcode}
 use Rattle.mlir_syntax.specs.Numerals.{count_limit}
 use Rattle.mlir_operations.specs.ElementText.{InherentAttributes}
-use Rattle.mlir_operations.specs.ElementText.InherentAttributes.{nothing, with_reset, predicate, position, number, literals, field_name, child}
+use Rattle.mlir_operations.specs.ElementText.InherentAttributes.{nothing, with_reset, with_async_reset, predicate, position, number, literals, field_name, child}
 use Rattle.assembly_format.specs.Formats.{format_of}
 use Rattle.assembly_format.specs.declared.elements.Format.{Format}
 use Rattle.assembly_format.specs.declared.elements.Format.TheVariants as format
@@ -29,7 +29,7 @@ use Rattle.mlir_printer.specs.Spellable.{Each, AreBytes, IsInteger, IsAnyType, I
 use Rattle.mlir_printer.specs.Printable.{IsWritten, IsWrittenInstance, operands_written, types_written}
 use Rattle.mlir_printer.proofs.lexed.LexedLiterals.{one_bit}
 use Rattle.mlir_printer.proofs.again.KindsKept.{negative_parts}
-use Rattle.mlir_printer.proofs.again.ViewForms.{pending, says_variadic, says_binary, says_comparison, says_unary, says_extraction, says_joined, says_conversion, says_choice, says_truth, says_integer, says_aggregate, says_element, says_slice, says_element_change, says_struct, says_field, says_field_change, says_instance, says_nothing, says_register, says_reset_register, says_enabled, says_reset_enabled, says_clocked, says_reset_clocked}
+use Rattle.mlir_printer.proofs.again.ViewForms.{pending, says_variadic, says_binary, says_comparison, says_unary, says_extraction, says_joined, says_conversion, says_choice, says_truth, says_integer, says_aggregate, says_element, says_slice, says_element_change, says_struct, says_field, says_field_change, says_instance, says_nothing, says_register, says_reset_register, says_enabled, says_reset_enabled, says_clocked, says_reset_clocked, says_async_reset_clocked}
 
 -- ---- lists of so many
 
@@ -196,6 +196,12 @@ clocked_reset_register os ts lo lt =
     (λ a b c d. of_one (λ ts. Fit format.ClockedRegister with_reset (a ∷ b ∷ c ∷ d ∷ []) ts)
     (λ t ho ht. says_reset_clocked a b c d t ho.0 ho.1.0 ho.1.1.0 ho.1.1.1.0 ht.0) ts lt) os lo
 
+async_reset_register : (os : List ValueText) (ts : List HwType) → length os ≡ 4 → length ts ≡ 1 → Fit format.ClockedRegister with_async_reset os ts
+async_reset_register os ts lo lt =
+    of_four (λ os. Fit format.ClockedRegister with_async_reset os ts)
+    (λ a b c d. of_one (λ ts. Fit format.ClockedRegister with_async_reset (a ∷ b ∷ c ∷ d ∷ []) ts)
+    (λ t ho ht. says_async_reset_clocked a b c d t ho.0 ho.1.0 ho.1.1.0 ho.1.1.1.0 ht.0) ts lt) os lo
+
 call : (i : Instance) (os : List ValueText) (ts : List HwType) → IsWrittenInstance i → length os ≡ length i.inputs
     → length ts ≡ length i.inputs + length i.outputs
     → Fit format.Instance (child i) os ts
@@ -324,3 +330,4 @@ form_fits (register compreg_ce no_reset) os ts lo lt w = enabled_register os ts 
 form_fits (register compreg_ce sync_reset) os ts lo lt w = enabled_reset_register os ts lo lt
 form_fits (register firreg no_reset) os ts lo lt w = clocked_register os ts lo lt
 form_fits (register firreg sync_reset) os ts lo lt w = clocked_reset_register os ts lo lt
+form_fits async_firreg os ts lo lt w = async_reset_register os ts lo lt

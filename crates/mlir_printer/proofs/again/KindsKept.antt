@@ -11,7 +11,7 @@ use Rattle.hw_model.specs.Kinds.Literal.{leaf, parts}
 use Rattle.hw_model.specs.Kinds.Literals.{no_literals, literal}
 use Rattle.hw_model.specs.Kinds.StructOp.{struct_create}
 use Rattle.hw_model.specs.Kinds.RegisterOp.{compreg, compreg_ce, firreg}
-use Rattle.hw_model.specs.Kinds.Kind.{variadic, division, shift, constant, aggregate_constant, on_array, on_struct, register}
+use Rattle.hw_model.specs.Kinds.Kind.{variadic, division, shift, constant, aggregate_constant, on_array, on_struct, register, async_firreg}
 use Rattle.hw_model.specs.Opcodes.{opcode_of, variadic_opcode, division_opcode, shift_opcode, array_opcode, kind_named_by}
 use Rattle.mlir_operations.specs.ElementText.{InherentAttributes}
 use Rattle.mlir_operations.specs.ElementText.InherentAttributes.{nothing}
@@ -107,4 +107,5 @@ kind_again (register compreg_ce no_reset) ts h = refl
 kind_again (register compreg_ce sync_reset) ts h = refl
 kind_again (register firreg no_reset) ts h = refl
 kind_again (register firreg sync_reset) ts h = refl
+kind_again async_firreg ts h = refl
 kind_again _ ts h = refl

@@ -8,7 +8,7 @@ use Rattle.hw_model.specs.Types.{Name, HwType}
 use Rattle.hw_model.specs.Types.HwType.{int, clock, array, struct}
 use Rattle.hw_model.specs.Kinds.{Kind}
 use Rattle.hw_model.specs.Kinds.StructOp.{struct_explode}
-use Rattle.hw_model.specs.Kinds.Kind.{on_struct, wire, instance, output, register}
+use Rattle.hw_model.specs.Kinds.Kind.{on_struct, wire, instance, output, register, async_firreg}
 use Rattle.hw_model.specs.Sound.{field_list}
 use Rattle.hw_model.specs.Design.{Ref, Port, Op, is_output_kind, op_without_place}
 use Rattle.ir_store.specs.ResultTypes.{first_type, fields_of, field_count, result_types, result_count}
@@ -100,6 +100,7 @@ marks_few i own (pack n k) = go (k == 0)
 abbrev is_named : Kind → Bool
 is_named wire = true
 is_named (register f r) = true
+is_named async_firreg = true
 is_named _ = false
 
 named_listed : (k : Kind) → has_name (opcode_of k) ≡ is_named k
@@ -110,6 +111,7 @@ named_name_hints : (k : Kind) (ts : List HwType) (own : Name) (n : ℕ) → is_n
 unfolding name_hints_of
 named_name_hints wire ts own n h = (refl, refl)
 named_name_hints (register f r) ts own n h = (refl, refl)
+named_name_hints async_firreg ts own n h = (refl, refl)
 named_name_hints _ ts own n h = cc
 
 named_kind : (k : Kind) (ts : List HwType) (own : Name) (n : ℕ) → has_name (opcode_of k) ≡ true

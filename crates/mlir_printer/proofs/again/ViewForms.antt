@@ -8,7 +8,7 @@ use Rattle.hw_model.specs.Kinds.{Predicate, Literals, Instance}
 use Rattle.mlir_syntax.specs.Numerals.{count_limit}
 use Rattle.assembly_format.specs.Formats.{front_elements, type_elements}
 use Rattle.mlir_operations.specs.ElementText.{InherentAttributes}
-use Rattle.mlir_operations.specs.ElementText.InherentAttributes.{nothing, with_reset, predicate, position, number, literals, field_name, child}
+use Rattle.mlir_operations.specs.ElementText.InherentAttributes.{nothing, with_reset, with_async_reset, predicate, position, number, literals, field_name, child}
 use Rattle.assembly_format.specs.declared.elements.Format.TheVariants as format
 use Rattle.mlir_printer.specs.Numbers.{is_truth}
 use Rattle.mlir_printer.specs.Elements.{ValueText, Pending}
@@ -137,3 +137,8 @@ pub says_reset_clocked : (a c r v : ValueText) (t : HwType) → IsOperand a → 
     → IsViewAs format.ClockedRegister (pending (a ∷ c ∷ r ∷ v ∷ []) (t ∷ []) with_reset)
 unfolding front_elements type_elements
 says_reset_clocked a c r v t ha hc hr hv type = record { front = (ha, (tt, (hc, ((hr, hv), tt)))); types = (tt, (type, tt)); all = refl }
+
+pub says_async_reset_clocked : (a c r v : ValueText) (t : HwType) → IsOperand a → IsOperand c → IsOperand r → IsOperand v → IsAnyType t
+    → IsViewAs format.ClockedRegister (pending (a ∷ c ∷ r ∷ v ∷ []) (t ∷ []) with_async_reset)
+unfolding front_elements type_elements
+says_async_reset_clocked a c r v t ha hc hr hv type = record { front = (ha, (tt, (hc, ((hr, hv), tt)))); types = (tt, (type, tt)); all = refl }

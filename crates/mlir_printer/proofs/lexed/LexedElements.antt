@@ -6,16 +6,16 @@ use Rattle.hw_model.specs.Types.{HwType}
 use Rattle.hw_model.specs.Types.HwType.{int}
 use Rattle.mlir_syntax.specs.TypeText.{most_open}
 use Rattle.mlir_operations.specs.ElementText.{InherentAttributes, Gathered, with_operands, with_types, with_inherent}
-use Rattle.mlir_operations.specs.ElementText.InherentAttributes.{with_reset, predicate, position, number, literals, field_name, child}
+use Rattle.mlir_operations.specs.ElementText.InherentAttributes.{with_reset, with_async_reset, predicate, position, number, literals, field_name, child}
 use Rattle.mlir_syntax.specs.Spelling.{Phrase, Word, Then, Either, Where, Nothing, TypePhrase}
-use Rattle.mlir_operations.specs.Spelling.{ResetPhrase, FormatElementPhrase, ElementsPhrase}
+use Rattle.mlir_operations.specs.Spelling.{ResetSync, ResetAsync, ResetPhrase, FormatElementPhrase, ElementsPhrase}
 use Rattle.assembly_format.specs.declared.elements.FormatElement.{FormatElement}
 use Rattle.assembly_format.specs.declared.elements.FormatElement.TheVariants as element
 use Rattle.mlir_printer.specs.Numbers.{is_one}
 use Rattle.mlir_printer.specs.Types.{type_bytes}
 use Rattle.mlir_printer.specs.Commas.{commas}
-use Rattle.mlir_printer.specs.Elements.{ValueText, Pending, first_operand, first_type_bytes, operand_bytes, predicate_said, position_said, truth_said, number_said, literals_said, field_said, reset_said, instance_said, element_bytes, left_behind, elements_bytes}
-use Rattle.mlir_printer.specs.Spellable.{Each, IsAnyType, IsOperand, HasType, MayReset, SaysPredicate, SaysPosition, SaysTruth, SaysInteger, SaysLiterals, SaysField, SaysInstance, Needs, NeedAll, first_type, gathered_reset, gathered_with, gathered_with_all, said_operand}
+use Rattle.mlir_printer.specs.Elements.{ValueText, Pending, first_operand, first_type_bytes, operand_bytes, predicate_said, position_said, truth_said, number_said, literals_said, field_said, reset_bytes, reset_said, sync_or_async_reset_said, instance_said, element_bytes, left_behind, elements_bytes}
+use Rattle.mlir_printer.specs.Spellable.{Each, IsAnyType, IsOperand, HasType, HasTwoOperands, MayReset, MaySyncOrAsyncReset, SaysPredicate, SaysPosition, SaysTruth, SaysInteger, SaysLiterals, SaysField, SaysInstance, Needs, NeedAll, first_type, gathered_operands_of_reset, gathered_reset, gathered_sync_or_async_reset, gathered_with, gathered_with_all, said_operand}
 use Rattle.mlir_printer.proofs.lexed.LexedTexts.{Stops, Whole, Lexed, lexed, lexed_as, whole_as, then, then_on, then_whole, nothing, blank_behind, blank_on_whole, left_parenthesis, right_parenthesis}
 use Rattle.mlir_printer.proofs.lexed.LexedStrings.{string_lexed}
 use Rattle.mlir_printer.proofs.lexed.LexedNames.{bare_lexed}
@@ -63,26 +63,34 @@ instance_element _ os ts g h = absurd h
 
 -- ---- resets
 
--- two operands after a word
-reset_lexed : (Reset : Phrase) (word : List ℕ) → Whole Reset word → (r v : ValueText) (g : Gathered) → IsOperand r → IsOperand v
-    → Lexed (ResetPhrase Reset g (with_inherent (with_operands g (said_operand r ∷ said_operand v ∷ [])) with_reset))
-    (word ++ (operand_bytes r ++ (codes ", " ++ operand_bytes v)))
-reset_lexed Reset word whole r v g hr hv =
-    lexed_as (λ ts w. (said_operand r, said_operand v, refl, w))
-    (then_on whole (then (operand_lexed r hr) (then_on comma_blank (operand_lexed v hv)) refl))
-
--- a word and two operands, or nothing
-reset_element : (Reset : Phrase) (word : List ℕ) → Whole Reset word → (e : InherentAttributes) (os : List ValueText) (g : Gathered) → MayReset e os
-    → Lexed (Either (ResetPhrase Reset g (gathered_reset e os g)) (Where (gathered_reset e os g ≡ g) Nothing)) (reset_said word e os)
-reset_element Reset word whole with_reset os g h =
-    lexed_as (λ ts w. inl w) (reset_lexed Reset word whole (first_operand os) (first_operand (drop 1 os)) g h.0 h.1)
-reset_element Reset word whole _ os g h = lexed_as (λ ts w. inr (refl, w)) (lexed nothing)
+-- two operands after words
+reset_lexed : (Reset : Phrase) (words : List ℕ) → Whole Reset words → (e : InherentAttributes) (os : List ValueText) (g : Gathered) → HasTwoOperands os
+    → Lexed (ResetPhrase Reset e g (gathered_operands_of_reset e os g)) (reset_bytes words os)
+reset_lexed Reset words whole e os g h =
+    lexed_as (λ ts w. (said_operand (first_operand os), said_operand (first_operand (drop 1 os)), refl, w))
+    (then_on whole (then (operand_lexed (first_operand os) h.0) (then_on comma_blank (operand_lexed (first_operand (drop 1 os)) h.1)) refl))
 
 reset_word : Whole (Word (codes "reset")) (codes " reset ")
 reset_word = blank_on_whole (blank_behind (bare_lexed (codes "reset") refl))
 
-sync_word : Whole (Then (Word (codes "reset")) (Word (codes "sync"))) (codes " reset sync ")
-sync_word = then_whole reset_word (blank_behind (bare_lexed (codes "sync") refl))
+sync_words : Whole ResetSync (codes " reset sync ")
+sync_words = then_whole reset_word (blank_behind (bare_lexed (codes "sync") refl))
+
+async_words : Whole ResetAsync (codes " reset async ")
+async_words = then_whole reset_word (blank_behind (bare_lexed (codes "async") refl))
+
+-- a reset, or nothing
+reset_element : (e : InherentAttributes) (os : List ValueText) (g : Gathered) → MayReset e os
+    → Lexed (FormatElementPhrase element.Reset g (gathered_reset e os g)) (reset_said e os)
+reset_element with_reset os g h = lexed_as (λ ts w. inl w) (reset_lexed (Word (codes "reset")) (codes " reset ") reset_word with_reset os g h)
+reset_element _ os g h = lexed_as (λ ts w. inr (refl, w)) (lexed nothing)
+
+sync_or_async_reset_element : (e : InherentAttributes) (os : List ValueText) (g : Gathered) → MaySyncOrAsyncReset e os
+    → Lexed (FormatElementPhrase element.SyncOrAsyncReset g (gathered_sync_or_async_reset e os g)) (sync_or_async_reset_said e os)
+sync_or_async_reset_element with_reset os g h = lexed_as (λ ts w. inl w) (reset_lexed ResetSync (codes " reset sync ") sync_words with_reset os g h)
+sync_or_async_reset_element with_async_reset os g h =
+    lexed_as (λ ts w. inr (inl w)) (reset_lexed ResetAsync (codes " reset async ") async_words with_async_reset os g h)
+sync_or_async_reset_element _ os g h = lexed_as (λ ts w. inr (inr (refl, w))) (lexed nothing)
 
 -- ---- operands and types
 
@@ -119,9 +127,8 @@ element_lexed element.Integer p g h = integer_element p.inherent g h
 element_lexed element.Literals p g h = lexed (literals_element p.inherent g h)
 element_lexed element.Field p g h = lexed (field_element p.inherent g h)
 element_lexed element.Instance p g h = instance_element p.inherent p.operands p.types g h
-element_lexed element.Reset p g h = reset_element (Word (codes "reset")) (codes " reset ") reset_word p.inherent p.operands g h
-element_lexed element.SyncReset p g h =
-    reset_element (Then (Word (codes "reset")) (Word (codes "sync"))) (codes " reset sync ") sync_word p.inherent p.operands g h
+element_lexed element.Reset p g h = reset_element p.inherent p.operands g h
+element_lexed element.SyncOrAsyncReset p g h = sync_or_async_reset_element p.inherent p.operands g h
 element_lexed element.Type p g h = type_element p.types g h
 element_lexed element.Types p g h = types_element p.types g h.0 h.1
 
@@ -146,14 +153,21 @@ stops_at [] = true
 stops_at (element.Mark k ∷ xs) = true
 stops_at (element.Word w ∷ xs) = true
 stops_at (element.Reset ∷ xs) = stops_at xs
-stops_at (element.SyncReset ∷ xs) = stops_at xs
+stops_at (element.SyncOrAsyncReset ∷ xs) = stops_at xs
 stops_at (_ ∷ xs) = false
 
-reset_stops : (word : List ℕ) → ((rest : List ℕ) → Stops (word ++ rest)) → (e : InherentAttributes) (os : List ValueText) (rest : List ℕ) → Stops rest
-    → Stops (reset_said word e os ++ rest)
-reset_stops word first with_reset os rest stops =
-    rw (append_assoc word (operand_bytes (first_operand os) ++ (codes ", " ++ operand_bytes (first_operand (drop 1 os)))) rest) (first _)
-reset_stops word first _ os rest stops = stops
+words_stop : (words : List ℕ) → ((rest : List ℕ) → Stops (words ++ rest)) → (os : List ValueText) (rest : List ℕ) → Stops (reset_bytes words os ++ rest)
+words_stop words first os rest =
+    rw (append_assoc words (operand_bytes (first_operand os) ++ (codes ", " ++ operand_bytes (first_operand (drop 1 os)))) rest) (first _)
+
+reset_stops : (e : InherentAttributes) (os : List ValueText) (rest : List ℕ) → Stops rest → Stops (reset_said e os ++ rest)
+reset_stops with_reset os rest stops = words_stop (codes " reset ") (λ rest. refl) os rest
+reset_stops _ os rest stops = stops
+
+sync_or_async_reset_stops : (e : InherentAttributes) (os : List ValueText) (rest : List ℕ) → Stops rest → Stops (sync_or_async_reset_said e os ++ rest)
+sync_or_async_reset_stops with_reset os rest stops = words_stop (codes " reset sync ") (λ rest. refl) os rest
+sync_or_async_reset_stops with_async_reset os rest stops = words_stop (codes " reset async ") (λ rest. refl) os rest
+sync_or_async_reset_stops _ os rest stops = stops
 
 pub elements_stop : (xs : List FormatElement) (p : Pending) (g : Gathered) → NeedAll xs p g → stops_at xs ≡ true → Stops (elements_bytes xs p)
 unfolding element_bytes
@@ -161,11 +175,11 @@ elements_stop [] p g h e = tt
 elements_stop (element.Mark k ∷ xs) p g h e = mark_stops k (elements_bytes xs (left_behind (element.Mark k) p)) h.0
 elements_stop (element.Word w ∷ xs) p g h e = word_stops w (elements_bytes xs (left_behind (element.Word w) p))
 elements_stop (element.Reset ∷ xs) p g h e =
-    reset_stops (codes " reset ") (λ rest. refl) p.inherent p.operands (elements_bytes xs (left_behind element.Reset p))
+    reset_stops p.inherent p.operands (elements_bytes xs (left_behind element.Reset p))
     (elements_stop xs (left_behind element.Reset p) (gathered_with element.Reset p g) h.1 e)
-elements_stop (element.SyncReset ∷ xs) p g h e =
-    reset_stops (codes " reset sync ") (λ rest. refl) p.inherent p.operands (elements_bytes xs (left_behind element.SyncReset p))
-    (elements_stop xs (left_behind element.SyncReset p) (gathered_with element.SyncReset p g) h.1 e)
+elements_stop (element.SyncOrAsyncReset ∷ xs) p g h e =
+    sync_or_async_reset_stops p.inherent p.operands (elements_bytes xs (left_behind element.SyncOrAsyncReset p))
+    (elements_stop xs (left_behind element.SyncOrAsyncReset p) (gathered_with element.SyncOrAsyncReset p g) h.1 e)
 elements_stop (_ ∷ xs) p g h e = absurd cc
 
 -- whether each piece ends where the next begins

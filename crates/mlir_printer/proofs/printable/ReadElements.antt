@@ -9,7 +9,7 @@ use Rattle.mlir_lexer.specs.declared.token.TokenKind.TheVariants as kind
 use Rattle.mlir_syntax.specs.Numerals.{count_limit}
 use Rattle.mlir_syntax.specs.TypeText.{most_open}
 use Rattle.mlir_operations.specs.ElementText.{InherentAttributes, Gathered, Joined, truth_number}
-use Rattle.mlir_operations.specs.ElementText.InherentAttributes.{position, number, literals, field_name, child}
+use Rattle.mlir_operations.specs.ElementText.InherentAttributes.{with_reset, with_async_reset, position, number, literals, field_name, child}
 use Rattle.mlir_syntax.specs.Spelling.{Phrase, TypePhrase}
 use Rattle.mlir_operations.specs.Spelling.{InputPhrase, OutputPhrase, InnerSymbol, InstancePhrase, ResetPhrase, FormatElementPhrase, ElementsPhrase}
 use Rattle.assembly_format.specs.declared.elements.FormatElement.{FormatElement}
@@ -99,8 +99,11 @@ truth_read : (b : Bool) → IsInteger (truth_number b)
 truth_read true = omega arith
 truth_read false = omega arith
 
-reset_read : {Word : Phrase} (g h : Gathered) (ts : List Lexeme) → IsReadPart g → ResetPhrase Word g h ts → IsReadPart h
+reset_read : {Reset : Phrase} (g h : Gathered) (ts : List Lexeme) → IsReadPart g → ResetPhrase Reset with_reset g h ts → IsReadPart h
 reset_read g h ts r i = subst IsReadPart (sym i.2) (record { types = r.types; inherent = tt })
+
+async_reset_read : {Reset : Phrase} (g h : Gathered) (ts : List Lexeme) → IsReadPart g → ResetPhrase Reset with_async_reset g h ts → IsReadPart h
+async_reset_read g h ts r i = subst IsReadPart (sym i.2) (record { types = r.types; inherent = tt })
 
 element_read : (p : FormatElement) (g h : Gathered) (ts : List Lexeme) → AreTexts ts → IsReadPart g → FormatElementPhrase p g h ts → IsReadPart h
 element_read (element.Mark k) g h ts texts r i = subst IsReadPart (sym i.0) r
@@ -118,8 +121,9 @@ element_read element.Field g h ts texts r i = subst IsReadPart (sym i.1) (record
 element_read element.Instance g h ts texts r i = instance_read g h ts texts r i
 element_read element.Reset g h ts texts r (inl i) = reset_read g h ts r i
 element_read element.Reset g h ts texts r (inr i) = subst IsReadPart (sym i.0) r
-element_read element.SyncReset g h ts texts r (inl i) = reset_read g h ts r i
-element_read element.SyncReset g h ts texts r (inr i) = subst IsReadPart (sym i.0) r
+element_read element.SyncOrAsyncReset g h ts texts r (inl i) = reset_read g h ts r i
+element_read element.SyncOrAsyncReset g h ts texts r (inr (inl i)) = async_reset_read g h ts r i
+element_read element.SyncOrAsyncReset g h ts texts r (inr (inr i)) = subst IsReadPart (sym i.0) r
 element_read element.Type g h ts texts r i =
     subst IsReadPart (sym i.1) (record {
       types = each_append IsAnyType g.types (i.0 ∷ []) r.types

@@ -155,8 +155,9 @@ element_few element.Instance g h ts texts i =
     omega (arith, within, few, n, m)
 element_few element.Reset g h ts texts (inl i) = said_none g h (length ts) (ap (λ (x : Gathered). outputs_said x.inherent) i.2)
 element_few element.Reset g h ts texts (inr i) = said_same g h (length ts) (ap (λ (x : Gathered). x.inherent) i.0)
-element_few element.SyncReset g h ts texts (inl i) = said_none g h (length ts) (ap (λ (x : Gathered). outputs_said x.inherent) i.2)
-element_few element.SyncReset g h ts texts (inr i) = said_same g h (length ts) (ap (λ (x : Gathered). x.inherent) i.0)
+element_few element.SyncOrAsyncReset g h ts texts (inl i) = said_none g h (length ts) (ap (λ (x : Gathered). outputs_said x.inherent) i.2)
+element_few element.SyncOrAsyncReset g h ts texts (inr (inl i)) = said_none g h (length ts) (ap (λ (x : Gathered). outputs_said x.inherent) i.2)
+element_few element.SyncOrAsyncReset g h ts texts (inr (inr i)) = said_same g h (length ts) (ap (λ (x : Gathered). x.inherent) i.0)
 element_few element.Type g h ts texts i = said_same g h (length ts) (ap (λ (x : Gathered). x.inherent) i.1)
 element_few element.Types g h ts texts i = said_same g h (length ts) (ap (λ (x : Gathered). x.inherent) i.1)
 

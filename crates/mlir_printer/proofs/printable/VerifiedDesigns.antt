@@ -9,7 +9,7 @@ use Rattle.hw_model.specs.Kinds.Reset.{no_reset, sync_reset}
 use Rattle.hw_model.specs.Kinds.ArrayOp.{array_concat}
 use Rattle.hw_model.specs.Kinds.StructOp.{struct_create}
 use Rattle.hw_model.specs.Kinds.RegisterOp.{compreg, compreg_ce, firreg}
-use Rattle.hw_model.specs.Kinds.Kind.{concat, on_array, on_struct, output, register}
+use Rattle.hw_model.specs.Kinds.Kind.{concat, on_array, on_struct, output, register, async_firreg}
 use Rattle.hw_model.specs.Sound.{type_in, input_type}
 use Rattle.hw_model.specs.Design.{Ref, Port, OpResult, Op, Module, Design, is_output_op, result_type}
 use Rattle.hw_model.specs.Design.Ref.{port, result, undefined}
@@ -51,6 +51,7 @@ counts_written (register compreg_ce no_reset) ts n h g = (h, g)
 counts_written (register compreg_ce sync_reset) ts n h g = (h, g)
 counts_written (register firreg no_reset) ts n h g = (h, g)
 counts_written (register firreg sync_reset) ts n h g = (h, g)
+counts_written async_firreg ts n h g = (h, g)
 counts_written _ ts n h g = (h, g)
 
 -- ---- results
