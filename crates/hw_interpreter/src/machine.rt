@@ -40,12 +40,7 @@ pub struct Stepped {
 /// A refusal other than out of memory comes only where an operation that the resets, the outputs or the registers need
 /// does not take the words of its operands, or a number of bits or of instances is too large to count. Where the depth
 /// suffices, the words are those of the settled map.
-pub fn step(
-    alloc: Global,
-    before: &[bool],
-    at: &Setting,
-    depth: u32,
-) -> Result<Stepped, Refusal>
+pub fn step(alloc: Global, before: &[bool], at: &Setting, depth: u32) -> Result<Stepped, Refusal>
     ensures outputs { IfOk result (λ s. s.outputs ≡ outputs (map module_of at.now.modules.now) at.now.top.now (values_within (map module_of at.now.modules.now) at.now.top.now before.now at.now.inputs.now at.now.content.now depth)) }
     ensures content { IfOk result (λ s. s.content ≡ content_within (map module_of at.now.modules.now) at.now.top.now before.now at.now.inputs.now at.now.content.now depth) }
     ensures holds { IfOk result (λ s. Suffices (map module_of at.now.modules.now) at.now.top.now depth → Step (machine (map module_of at.now.modules.now) at.now.top.now) before.now at.now.inputs.now at.now.content.now s.outputs s.content) }

@@ -65,7 +65,9 @@ fn family_word(
         Family::Bitcast | Family::Wire => operand_value(alloc, operands),
         Family::Array(op) => array_word(alloc, op, types, ty, operands),
         Family::Struct(op) => struct_word(alloc, op, types, index, operands),
-        Family::Instance(_) | Family::Output | Family::Register(_, _) | Family::AsyncFirReg => Ok(BitString::new(alloc)),
+        Family::Instance(_) | Family::Output | Family::Register(_, _) | Family::AsyncFirReg => {
+            Ok(BitString::new(alloc))
+        }
         _ => integer_value(alloc, family, ty, operands),
     }
 }

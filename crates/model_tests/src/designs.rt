@@ -175,6 +175,86 @@ const CLOCKS: Part = Part {
     ],
 };
 
+// A register with a synchronous reset, to 9, of the ports clk, rst and d.
+const SYNC_RESET: Part = Part {
+    symbol: "R",
+    inputs: &[Clock, Int(1), Int(8)],
+    outputs: &[Int(8)],
+    body: &[
+        NINE,
+        Line {
+            kind: Kind::FirReg(Reset::Sync),
+            operands: RESET_OPERANDS,
+            types: &[],
+            results: &[Int(8)],
+        },
+        Line {
+            kind: Kind::Output,
+            operands: &[OpResult(1, 0)],
+            types: &[],
+            results: &[],
+        },
+    ],
+};
+
+// The same with an asynchronous reset.
+const ASYNC_RESET: Part = Part {
+    symbol: "R",
+    inputs: &[Clock, Int(1), Int(8)],
+    outputs: &[Int(8)],
+    body: &[
+        NINE,
+        Line {
+            kind: Kind::AsyncFirReg,
+            operands: RESET_OPERANDS,
+            types: &[],
+            results: &[Int(8)],
+        },
+        Line {
+            kind: Kind::Output,
+            operands: &[OpResult(1, 0)],
+            types: &[],
+            results: &[],
+        },
+    ],
+};
+
+const RESET_OPERANDS: &[Operand] = &[
+    Operand::Port(2),
+    Operand::Port(0),
+    Operand::Port(1),
+    OpResult(0, 0),
+];
+
+// An instance of it, whose reset is read beside its output.
+const RESET_INSTANCE: Part = Part {
+    symbol: "M",
+    inputs: &[Clock, Int(1), Int(8)],
+    outputs: &[Int(1), Int(8)],
+    body: &[
+        Line {
+            kind: Kind::Instance("R"),
+            operands: &[Operand::Port(0), Operand::Port(1), Operand::Port(2)],
+            types: &[],
+            results: &[Int(8)],
+        },
+        Line {
+            kind: Kind::Output,
+            operands: &[Operand::Port(1), OpResult(0, 0)],
+            types: &[],
+            results: &[],
+        },
+    ],
+};
+
+// clk, rst and d: the reset rises, the clock rises with it, without it, and nothing rises
+const RESET_STEPS: &[u128] = &[
+    0b01_0001_0001,
+    0b11_0010_0010,
+    0b10_0011_0011,
+    0b00_0100_0100,
+];
+
 // a shifted down with its sign, and exclusive or with c.
 const SHIFT: Part = Part {
     symbol: "M",
@@ -324,7 +404,7 @@ const BITCAST: Part = Part {
     ],
 };
 
-pub const RUNS: [Run; 8] = [
+pub const RUNS: [Run; 12] = [
     // clk, rst and en one bit each, then d: a load, no enable, a reset, and no clock
     Run {
         design: &[REGISTER, INSTANCES],
@@ -357,6 +437,42 @@ pub const RUNS: [Run; 8] = [
         width: 10,
         steps: &[0x2aa, 0x1bb, 0x0cc],
         outputs: &[0x0102, 0xaa02, 0xaabb],
+    },
+    Run {
+        design: &[SYNC_RESET],
+        content: &[(8, 0x05)],
+        width: 10,
+        steps: RESET_STEPS,
+        outputs: &[0x05, 0x05, 0x09, 0x33],
+    },
+    Run {
+        design: &[ASYNC_RESET],
+        content: &[(8, 0x05)],
+        width: 10,
+        steps: RESET_STEPS,
+        outputs: &[0x09, 0x09, 0x09, 0x33],
+    },
+    Run {
+        design: &[ASYNC_RESET, RESET_INSTANCE],
+        content: &[(8, 0x05)],
+        width: 10,
+        steps: RESET_STEPS,
+        outputs: &[0x109, 0x109, 0x009, 0x033],
+    },
+    // a load, the reset rises, a load that it keeps off, a load, nothing, and the reset rises again
+    Run {
+        design: &[ASYNC_RESET],
+        content: &[(8, 0x05)],
+        width: 10,
+        steps: &[
+            0b10_0001_0001,
+            0b01_0010_0010,
+            0b11_0011_0011,
+            0b10_0100_0100,
+            0b00_0101_0101,
+            0b01_0110_0110,
+        ],
+        outputs: &[0x05, 0x09, 0x09, 0x09, 0x44, 0x09],
     },
     Run {
         design: &[SHIFT],

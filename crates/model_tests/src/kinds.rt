@@ -44,6 +44,7 @@ pub enum Kind {
     CompReg(Reset),
     CompRegCe(Reset),
     FirReg(Reset),
+    AsyncFirReg,
     Instance(&'static str),
     Output,
 }
@@ -108,6 +109,7 @@ pub fn kind_of(alloc: Global, kind: Kind) -> Result<OpKind, Refusal> {
         Kind::CompReg(reset) => OpKind::CompReg(reset),
         Kind::CompRegCe(reset) => OpKind::CompRegCe(reset),
         Kind::FirReg(reset) => OpKind::FirReg(reset),
+        Kind::AsyncFirReg => OpKind::AsyncFirReg,
         Kind::Instance(symbol) => instance(alloc, symbol)?,
         Kind::Output => OpKind::Output,
     })
