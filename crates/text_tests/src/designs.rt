@@ -46,6 +46,7 @@ module @file attributes {a = 1} {
     %r = seq.compreg %a, %clk reset %c, %b : i8
     %t = seq.compreg.ce %a, %clk, %c : i8
     %x = seq.firreg %a clock %clk reset sync %c, %b : i8
+    %y = seq.firreg %a clock %clk reset async %c, %k : i8
     hw.output %r : i8
   }
   hw.module @\"other one\"() {
@@ -72,7 +73,7 @@ fn every_form_is_read(rt: HostRuntime) -> Result<(), Fail> {
         ("builtin.module {hw.module @A() {}}", 1, 1),
         ("hw.module @A() {} hw.module @A(out o : i1) {}", 2, 1),
         ("hw.module @A(out o : i1) {}", 1, 0),
-        (FORMS, 2, 39),
+        (FORMS, 2, 40),
     ] {
         let found = counts(rt.alloc(), text.as_bytes());
         assert_eq!(rt; found, (modules, operations), "of {text}");

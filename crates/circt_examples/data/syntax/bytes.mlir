@@ -43,7 +43,7 @@ hw.module @T(in %a : i8 loc(unknown)) {}
 hw.module @T() {} loc(unknown)
 // -----
 hw.module @T(in %clk : !seq.clock, in %r : i1, in %d : i1) {
-  %q = seq.firreg %d clock %clk reset async %r, %d : i1
+  %q = seq.firreg %d clock %clk reset %r, %d : i1
 }
 // -----
 hw.module @T() {

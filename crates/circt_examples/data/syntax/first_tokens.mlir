@@ -166,7 +166,7 @@ hw.module @M(in %a : i8) {
 hw.instance "u" @N<p: i8 = 1>()
 // -----
 hw.module @M(in %a : i8) {
-%0 = seq.firreg %a clock %a reset async %a, %a : i8
+%0 = seq.compreg %a, %a reset async %a, %a : i8
 // -----
 hw.module @M(in %a : i8) {
 hw.module.extern @X()

@@ -1,0 +1,33 @@
+// -----
+module {
+  hw.module @T(in %clk : !seq.clock, in %rst : i1, in %d : i8, out q : i8) {
+    %c9_i8 = hw.constant 9 : i8
+    %0 = seq.firreg %d clock %clk reset async %rst, %c9_i8 {k, sv.namehint = "s"} : i8
+    %_x_y = seq.firreg %0 clock %clk reset async %rst, %c9_i8 {name = "x y"} : i8
+    hw.output %_x_y : i8
+  }
+}
+// -----
+module {
+  hw.module @T(in %clk : !seq.clock, in %rst : i1, in %d : !hw.array<2xi8>) {
+    %r = seq.firreg %d clock %clk reset async %rst, %0 : !hw.array<2xi8>
+    %0 = hw.aggregate_constant [1 : i8, 2 : i8] : !hw.array<2xi8>
+    hw.output
+  }
+}
+// -----
+module {
+  hw.module private @Reg(in %clk : !seq.clock, in %rst : i1, in %d : i8, out q : i8) {
+    %c9_i8 = hw.constant 9 : i8
+    %r = seq.firreg %d clock %clk reset async %rst, %c9_i8 : i8
+    hw.output %r : i8
+  }
+  hw.module private @Mid(in %clk : !seq.clock, in %x : i1, in %d : i8, out q : i8) {
+    %u.q = hw.instance "u" @Reg(clk: %clk: !seq.clock, rst: %x: i1, d: %d: i8) -> (q: i8)
+    hw.output %u.q : i8
+  }
+  hw.module @Top(in %clk : !seq.clock, in %a : i1, in %d : i8, out q : i8) {
+    %m.q = hw.instance "m" @Mid(clk: %clk: !seq.clock, x: %a: i1, d: %d: i8) -> (q: i8)
+    hw.output %m.q : i8
+  }
+}
