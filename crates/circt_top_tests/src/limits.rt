@@ -41,7 +41,7 @@ const FILLED: &str =
 ";
 
 // Operations of a size of 25, of every kind.
-const REST: [&str; 9] = [
+const REST: [&str; 10] = [
     "  %r = seq.compreg.ce %a, %clk, %a reset %a, %a : i1
   %w = hw.wire %s : !hw.struct<x: i1, y: i1>
   %m = comb.mux %a, %s, %s : !hw.struct<x: i1, y: i1>
@@ -84,6 +84,12 @@ const REST: [&str; 9] = [
   %w = hw.wire %r : !hw.struct<x: i1, y: i1>
   %f = seq.firreg %w clock %clk : !hw.struct<x: i1, y: i1>
   %t = hw.constant true
+",
+    "  %t = hw.constant true
+  %r = seq.firreg %a clock %clk reset async %a, %t : i1
+  %f = seq.firreg %r clock %clk reset async %a, %t : i1
+  %e = seq.compreg.ce %f, %clk, %r : i1
+  %g = seq.firreg %e clock %clk : i1
 ",
     "  %d = comb.divu %t, %t : i1
   %t = hw.constant true

@@ -32,7 +32,9 @@ pub(crate) fn sort_of(kind: &OpKind) -> Sort<'_>
     ensures output { gives result ≡ is_output_kind (kind_of kind.now) }
 {
     match kind {
-        OpKind::CompReg(_) | OpKind::CompRegCe(_) | OpKind::FirReg(_) | OpKind::AsyncFirReg => Sort::Register,
+        OpKind::CompReg(_) | OpKind::CompRegCe(_) | OpKind::FirReg(_) | OpKind::AsyncFirReg => {
+            Sort::Register
+        }
         OpKind::Instance(instance) => Sort::Calls(instance),
         OpKind::Output => Sort::Gives,
         _ => Sort::Made,
