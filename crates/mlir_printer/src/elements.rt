@@ -158,11 +158,7 @@ fn push_with_operands(
 }
 
 // Adds `reset` and two operands, where something resets.
-fn push_reset(
-    out: &mut Text,
-    names: &ValueNames,
-    pending: &Pending<'_>,
-) -> Result<(), AllocError>
+fn push_reset(out: &mut Text, names: &ValueNames, pending: &Pending<'_>) -> Result<(), AllocError>
     ensures { OnOk result (out.new ≡ out.old ++ reset_said (inherent_of pending.now.inherent_view) (map (value_held names.now) pending.now.operands.now)) }
 {
     match pending.inherent_view {

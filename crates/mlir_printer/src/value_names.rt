@@ -212,7 +212,11 @@ impl ValueNames {
                     self.names.take_number()?;
                 }
             }
-            OpKind::Wire | OpKind::CompReg(_) | OpKind::CompRegCe(_) | OpKind::FirReg(_) | OpKind::AsyncFirReg => {
+            OpKind::Wire
+            | OpKind::CompReg(_)
+            | OpKind::CompRegCe(_)
+            | OpKind::FirReg(_)
+            | OpKind::AsyncFirReg => {
                 self.take_own(alloc, op.name.as_bytes())?;
             }
             OpKind::Instance(instance) => self.take_outputs(alloc, instance)?,

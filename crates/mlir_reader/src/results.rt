@@ -44,9 +44,10 @@ fn one_type(alloc: Global, kind: &OpKind, types: &[Ty]) -> Result<Option<Option<
         Family::Variadic(_) | Family::Sub | Family::Division(_) | Family::Shift(_) => {
             Ok(Some(clone_type(alloc, types.first())?))
         }
-        Family::Mux | Family::Constant(_) | Family::Wire | Family::Register(..) | Family::AsyncFirReg => {
+        Family::Mux | Family::Constant(_) | Family::Wire => {
             Ok(Some(clone_type(alloc, types.first())?))
         }
+        Family::Register(..) | Family::AsyncFirReg => Ok(Some(clone_type(alloc, types.first())?)),
         _ => Ok(None),
     }
 }
