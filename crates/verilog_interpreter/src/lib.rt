@@ -5,6 +5,7 @@ mod cursor;
 mod expressions;
 pub mod fault;
 pub mod machine;
+mod registers;
 mod shapes;
 pub mod text;
 pub mod tokens;

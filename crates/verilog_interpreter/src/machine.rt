@@ -1,13 +1,14 @@
 //! Runs the modules of a Verilog text by cycles, for tests (IEEE 1364-2005, 6.1: continuous assignments; 9.2.2:
-//! nonblocking assignments; 12.3: ports): nets are settled by passes over what drives them until all have values. That
+//! nonblocking assignments; 9.7: event control; 12.3: ports): nets are settled by passes over what drives them until all have values. That
 //! it does what `specs/` says is not proved, only that it is safe and ends.
 use crate::fault::{Fault, require, require_some};
+use crate::registers::{next_value, rise_value};
 use crate::shapes::Shape;
 use crate::tree::{
-    Always, Branch, Connection, Declared, Expression, Instance, Item, Module, Node, Role,
-    find_module, place_of,
+    Always, Connection, Declared, Expression, Instance, Item, Module, Role, find_module, only_name,
+    place_of,
 };
-use crate::values::{Scope, assigned_value, extend, is_known, is_true, low_bits, value_under};
+use crate::values::{Scope, assigned_value, extend, is_known, low_bits};
 use bits_core::Bits;
 use std::alloc::Global;
 
@@ -61,14 +62,6 @@ pub struct Stepped {
 // The sum of two places.
 fn sum(a: usize, b: usize) -> Result<usize, Fault> {
     require_some(a.checked_add(b))
-}
-
-// The name that an expression is, if it is one alone.
-fn only_name(expression: &Expression) -> Option<usize> {
-    match expression.nodes.as_slice() {
-        [Node::Net { net, .. }] => Some(*net),
-        _ => None,
-    }
 }
 
 impl<'p> Machine<'p> {
@@ -201,11 +194,35 @@ impl<'p> Machine<'p> {
         }
     }
 
-    /// A step: the outputs under the inputs and the content, and the content after it.
+    /// The first step of a run, before which all inputs are 0.
+    pub fn step(&self, alloc: Global, inputs: &[Bits], content: &[Bits]) -> Result<Stepped, Fault> {
+        let mut before = Vec::new(alloc);
+        for word in inputs {
+            before.push(Bits::truncate(word.width(), 0))?;
+        }
+        self.step_after(alloc, before.as_slice(), inputs, content)
+    }
+
+    /// A step, from the inputs of the step before: registers take what second events load, and then the outputs under the
+    /// inputs and that content, and the content after the step.
     ///
     /// The inputs stand in port order, and the content in text order, an instance's in its place. `Unreadable` where they
     /// do not fit, or a net depends on itself or has nothing that drives it.
-    pub fn step(&self, alloc: Global, inputs: &[Bits], content: &[Bits]) -> Result<Stepped, Fault> {
+    pub fn step_after(
+        &self,
+        alloc: Global,
+        before: &[Bits],
+        inputs: &[Bits],
+        content: &[Bits],
+    ) -> Result<Stepped, Fault> {
+        let earlier = self.net_values(alloc, before, content)?;
+        let now = self.net_values(alloc, inputs, content)?;
+        let first_phase = self.rise(alloc, earlier.as_slice(), now.as_slice(), content)?;
+        self.load(alloc, inputs, first_phase.as_slice())
+    }
+
+    // The outputs and the content after a step, whose second events have come.
+    fn load(&self, alloc: Global, inputs: &[Bits], content: &[Bits]) -> Result<Stepped, Fault> {
         let nets = self.net_values(alloc, inputs, content)?;
         let mut outputs = Vec::new(alloc);
         for output in self.outputs.as_slice() {
@@ -288,6 +305,29 @@ impl<'p> Machine<'p> {
         }
     }
 
+    // The content once second events have come, from the nets of the step before and of this one.
+    fn rise(
+        &self,
+        alloc: Global,
+        earlier: &[Option<Bits>],
+        now: &[Option<Bits>],
+        content: &[Bits],
+    ) -> Result<Vec<Bits>, Fault> {
+        require(content.len() == self.registers.len())?;
+        let mut all = Vec::new(alloc);
+        for (at, slot) in self.registers.as_slice().iter().enumerate() {
+            let old = require_some(content.get(at).copied())?;
+            let start = slot.start;
+            let before = Scope {
+                nets: earlier,
+                start,
+            };
+            let word = rise_value(alloc, slot.register, &before, &Scope { nets: now, start }, old)?;
+            all.push(word)?;
+        }
+        Ok(all)
+    }
+
     // The content after a step, all registers at once.
     fn next(
         &self,
@@ -333,29 +373,4 @@ fn net_value(scope: &Scope, width: u32) -> Result<Option<Bits>, Fault> {
     };
     let wide = require_some(extend(word, shape))?;
     Ok(low_bits(wide, width))
-}
-
-// What a register takes: where the lowest bit of its clock is 1, the value of the first branch that holds.
-fn next_value(alloc: Global, register: &Always, scope: &Scope, old: Bits) -> Result<Bits, Fault> {
-    let clock = require_some(scope.value(register.clock))?;
-    if clock.value() % 2 == 0 {
-        return Ok(old);
-    }
-    for branch in register.branches.as_slice() {
-        if holds(alloc, branch, scope)? {
-            return assigned_value(alloc, &branch.value, old.width(), scope);
-        }
-    }
-    Ok(old)
-}
-
-// Whether a branch has no condition, or one that holds.
-fn holds(alloc: Global, branch: &Branch, scope: &Scope) -> Result<bool, Fault> {
-    match &branch.condition {
-        None => Ok(true),
-        Some(condition) => {
-            let word = value_under(alloc, condition, 1, scope)?;
-            Ok(is_true(word))
-        }
-    }
 }

@@ -4,7 +4,8 @@ use crate::cursor::Cursor;
 use crate::fault::{Fault, require, require_some};
 use crate::tokens::{Token, tokens};
 use crate::tree::{
-    Always, Branch, Connection, Declared, Expression, Instance, Item, Module, Role, place_of,
+    Always, Branch, Connection, Declared, Expression, Instance, Item, Module, Node, Role, only_name,
+    place_of,
 };
 use std::alloc::Global;
 
@@ -162,21 +163,48 @@ impl<'r, 't> Cursor<'r, 't> {
     fn register(&mut self, declared: &[Declared]) -> Result<Always, Fault> {
         self.mark(b'@')?;
         self.mark(b'(')?;
-        self.word(b"posedge")?;
-        let name = self.name()?;
-        let clock = place_as(declared, name, &[Role::Input])?;
+        let clock = self.event(declared)?;
+        let second_event = self.second_event(declared)?;
         self.mark(b')')?;
         let mut branches = Vec::new(self.alloc);
-        let target = self.branch(declared, &mut branches)?;
-        if branches_go_on(branches.as_slice()) && self.takes_word(b"else") {
-            let other = self.branch(declared, &mut branches)?;
-            require(other == target)?;
-        }
+        let target = self.branches(declared, &mut branches)?;
+        require(fit_event(branches.as_slice(), second_event))?;
         Ok(Always {
             clock,
+            second_event,
             target,
             branches,
         })
+    }
+
+    // `posedge` and the name of an input.
+    fn event(&mut self, declared: &[Declared]) -> Result<usize, Fault> {
+        self.word(b"posedge")?;
+        let name = self.name()?;
+        place_as(declared, name, &[Role::Input])
+    }
+
+    // `or` and another event, or nothing.
+    fn second_event(&mut self, declared: &[Declared]) -> Result<Option<usize>, Fault> {
+        if !self.takes_word(b"or") {
+            return Ok(None);
+        }
+        let net = self.event(declared)?;
+        Ok(Some(net))
+    }
+
+    // One branch, or two of one register: its place.
+    fn branches(
+        &mut self,
+        declared: &[Declared],
+        branches: &mut Vec<Branch>,
+    ) -> Result<usize, Fault> {
+        let target = self.branch(declared, branches)?;
+        if branches_go_on(branches.as_slice()) && self.takes_word(b"else") {
+            let other = self.branch(declared, branches)?;
+            require(other == target)?;
+        }
+        Ok(target)
     }
 
     // A condition, if there is one, and a load: the place of its register.
@@ -251,6 +279,36 @@ impl<'r, 't> Cursor<'r, 't> {
         self.mark(b')')?;
         connections.push(Connection { port, value })?;
         Ok(())
+    }
+}
+
+// Whether a second event, if there is one, is what the first of two branches asks for, which loads a literal, and the
+// other asks for nothing.
+fn fit_event(branches: &[Branch], second_event: Option<usize>) -> bool {
+    let Some(net) = second_event else {
+        return true;
+    };
+    match branches {
+        [first, other] => {
+            asks_for(first, net) && (is_literal(&first.value) && other.condition.is_none())
+        }
+        _ => false,
+    }
+}
+
+// Whether a branch asks for a net alone.
+fn asks_for(branch: &Branch, net: usize) -> bool {
+    match &branch.condition {
+        None => false,
+        Some(condition) => only_name(condition) == Some(net),
+    }
+}
+
+// Whether an expression is a literal.
+fn is_literal(expression: &Expression) -> bool {
+    match expression.nodes.as_slice() {
+        [Node::Literal { .. }] => true,
+        _ => false,
     }
 }
 

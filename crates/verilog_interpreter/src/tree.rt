@@ -148,10 +148,12 @@ pub struct Branch {
     pub value: Expression,
 }
 
-/// A register: its clock, its name, and its branches, of which the first that holds is taken.
+/// A register: its clock, its name, and its branches, of which the first that holds is taken. Where a second event loads it
+/// too, that is the rise of a net, for which the first of its two branches asks.
 #[derive(Debug, Drop)]
 pub struct Always {
     pub clock: usize,
+    pub second_event: Option<usize>,
     pub target: usize,
     pub branches: Vec<Branch>,
 }
@@ -184,6 +186,14 @@ pub struct Module<'t> {
     pub name: &'t [u8],
     pub declared: Vec<Declared<'t>>,
     pub items: Vec<Item<'t>>,
+}
+
+/// The name that an expression is, if it is one alone.
+pub fn only_name(expression: &Expression) -> Option<usize> {
+    match expression.nodes.as_slice() {
+        [Node::Net { net, .. }] => Some(*net),
+        _ => None,
+    }
 }
 
 /// The place of a name among what is declared.

@@ -9,10 +9,10 @@ use Rattle.verilog_model.specs.Reserved.{reserved_words}
 use Rattle.verilog_model.specs.Tree.{Expr, Exprs, VPort, Load, Block, Connection, Item, VModule, Tree}
 use Rattle.verilog_model.specs.Tree.Expr.{name, bit_select, part_select, literal, joined, repeated, as_signed, as_unsigned, paren, odd, binary, choice}
 use Rattle.verilog_model.specs.Tree.Exprs.{last, more}
-use Rattle.verilog_model.specs.Tree.Block.{load, if_load, if_else, if_else_if}
+use Rattle.verilog_model.specs.Tree.Block.{load, if_load, if_else, if_else_if, async_reset}
 use Rattle.verilog_model.specs.Tree.Item.{wire, reg, assign, always, instance}
 use Rattle.verilog_model.specs.Hierarchy.{first_some, when, or_else, find_vmodule, find_port, vports_of, block_target}
-use Rattle.verilog_model.specs.Grammar.{fits, all_fit, level, strength, choice_level, primary_level, block_fits, connections_fit, item_fits, items_fit, tree_fits}
+use Rattle.verilog_model.specs.Grammar.{fits, all_fit, level, strength, choice_level, primary_level, is_literal, block_fits, connections_fit, item_fits, items_fit, tree_fits}
 use Rattle.verilog_model.specs.Checks.{contains_name, starts_name, is_identifier, are_distinct, all_identifiers, Role, Declared, find_declared, has_role, can_read, can_assign, is_input, is_variable, has_bit, divides, is_divisor, expr_checks, exprs_check, load_checks, block_checks, joins_net, connection_checks, connections_check, ports_joined, item_checks, items_check, declared_by, declared_ports, declared_items, declared_in, names_check, ports_check, each_driven, clocks_check, nesting_checks, module_checks, modules_check, tree_checks}
 use Rattle.verilog_model.specs.Behaviour.{IsVerilog}
 use Rattle.verilog_model.proofs.Numerals.{and_intro, and_first, and_second}
@@ -156,6 +156,11 @@ module _ (known : List Declared) (named : AllNamed known) where
       let first_checked = both (expr_checks known d) (load_checks known r l) checked.0 in
       let second_checked = both (expr_checks known e) (load_checks known r m) checked.1 in
       ((expr_clear d first_fit.0 first_checked.0, load_clear r l first_fit.1 first_checked.1), (expr_clear e second_fit.0 second_checked.0, load_clear r m second_fit.1 second_checked.1))
+  block_clear r (async_reset n l m) h f c =
+      let fit = both (fits l.value) (fits m.value) (and_second (is_literal l.value) (fits l.value && fits m.value) f) in
+      let checked = both (has_role is_input (find_declared known n)) (load_checks known r l && load_checks known r m) c in
+      let loads = both (load_checks known r l) (load_checks known r m) checked.1 in
+      (starts_of n (role_name is_input n checked.0), (load_clear r l fit.0 loads.0, load_clear r m fit.1 loads.1))
 
   net_clear : (e : Expr) → IsTrue (joins_net known e) → Clear e
   net_clear (name n) h = starts_of n (role_name can_assign n h)

@@ -5,12 +5,13 @@ use Rattle.hw_model.specs.Design.{same_name}
 use Rattle.verilog_model.specs.Tokens.{Piece}
 use Rattle.verilog_model.specs.Tokens.Piece.{word, operator, mark, gap}
 use Rattle.verilog_model.specs.Tree.{Numeral, Expr, VPort, Load, Block, Connection, Item, Tree}
-use Rattle.verilog_model.specs.Tree.Block.{load, if_load, if_else, if_else_if}
+use Rattle.verilog_model.specs.Tree.Expr.{name}
+use Rattle.verilog_model.specs.Tree.Block.{load, if_load, if_else, if_else_if, async_reset}
 use Rattle.verilog_model.specs.Tree.Item.{wire, reg, assign, always, instance}
 use Rattle.verilog_model.specs.Grammar.{expr_spelled, load_spelled, if_spelled, block_spelled, more_connections_spelled, connections_spelled, range_spelled, direction, port_spelled, more_ports_spelled, ports_spelled, item_spelled, items_spelled, spell_tree, open_paren, close_paren, semicolon, arrow}
 use Rattle.verilog_model.specs.Reserved.{reserved_words}
 use Rattle.verilog_model.specs.Checks.{contains_name}
-use Rattle.verilog_model.proofs.TokenReader.{Rest, State, Class, class_of, next, run, on_word, load_behind, if_behind, with_block, block_word, else_word, after_if_word, item_word, instance_behind, connection_behind, first_connection, range_or_name, more_or_end, skip}
+use Rattle.verilog_model.proofs.TokenReader.{Rest, State, Class, class_of, next, run, on_word, load_behind, if_behind, with_block, block_word, clock_behind, else_word, after_if_word, item_word, instance_behind, connection_behind, first_connection, range_or_name, more_or_end, skip}
 use Rattle.verilog_model.proofs.TokenReader.State.{take, operand, modules, port, items, connection, after_if}
 use Rattle.verilog_model.proofs.TokenReader.Class.{ends}
 use Rattle.verilog_model.proofs.TokenReader.Around.{bottom}
@@ -25,6 +26,7 @@ ClearBlock (load l) = NoKeyword l.target × Clear l.value
 ClearBlock (if_load c l) = Clear c × Clear l.value
 ClearBlock (if_else c l m) = (Clear c × Clear l.value) × (NoKeyword m.target × Clear m.value)
 ClearBlock (if_else_if c l e m) = (Clear c × Clear l.value) × (Clear e × Clear m.value)
+ClearBlock (async_reset n l m) = Clear (name n) × (Clear l.value × Clear m.value)
 
 abbrev pub ClearConnections : List Connection → Type 0
 ClearConnections [] = Unit {0}
@@ -79,7 +81,7 @@ block_load clock k w h = rw h refl
 else_load : (clock : Name) (c : Expr) (l : Load) (k : Rest) (w : Name) → same_name (codes "if") w ≡ false → else_word clock c l k w ≡ load_behind (λ (m : Load). with_block clock k (if_else c l m)) w
 else_load clock c l k w h = rw h refl
 
-read_block : (b : Block) (clock : Name) (k : Rest) (ps : List Piece) → ClearBlock b → NoElse ps → run (take (on_word (block_word clock k))) (block_spelled b ps) ≡ run (with_block clock k b) ps
+read_block : (b : Block) (clock : Name) (k : Rest) (ps : List Piece) → ClearBlock b → NoElse ps → run (take (clock_behind clock k)) (block_spelled b ps) ≡ run (with_block clock k b) ps
 unfolding reserved_words
 read_block (load l) clock k ps h g =
     ap (λ t. run t (arrow ∷ expr_spelled l.value (semicolon ∷ ps))) (block_load clock k l.target (h.0 (codes "if") refl))
@@ -92,6 +94,9 @@ read_block (if_else c l m) clock k ps h g =
 read_block (if_else_if c l e m) clock k ps h g =
     read_if c l (λ (c : Expr) (l : Load). after_if clock c l k) (word (codes "else") ∷ if_spelled e (load_spelled m ps)) h.0.0 h.0.1
     ∙ read_if e m (λ (e : Expr) (m : Load). with_block clock k (if_else_if c l e m)) ps h.1.0 h.1.1
+read_block (async_reset n l m) clock k ps h g =
+    read_if (name n) l (λ (c : Expr) (l : Load). skip (take (on_word (load_behind (λ (m : Load). with_block clock k (async_reset n l m)))))) (word (codes "else") ∷ load_spelled m ps) h.0 h.1.0
+    ∙ read_load m (λ (m : Load). with_block clock k (async_reset n l m)) ps h.1.1
 
 -- ---- instances
 

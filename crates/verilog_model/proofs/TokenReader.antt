@@ -9,7 +9,7 @@ use Rattle.verilog_model.specs.Tree.{Numeral, Operator, Expr, Exprs, VPort, Load
 use Rattle.verilog_model.specs.Tree.Operator.{times, over, modulo, plus, minus, left_shift, right_shift, signed_right_shift, below, at_most, above, at_least, equals, differs, bit_and, bit_xor, bit_or}
 use Rattle.verilog_model.specs.Tree.Expr.{name, bit_select, part_select, literal, joined, repeated, as_signed, as_unsigned, paren, odd, binary, choice}
 use Rattle.verilog_model.specs.Tree.Exprs.{last, more}
-use Rattle.verilog_model.specs.Tree.Block.{load, if_load, if_else, if_else_if}
+use Rattle.verilog_model.specs.Tree.Block.{load, if_load, if_else, if_else_if, async_reset}
 use Rattle.verilog_model.specs.Tree.Item.{wire, reg, assign, always, instance}
 use Rattle.verilog_model.specs.Grammar.{operator_token, strength}
 
@@ -190,6 +190,13 @@ block_word clock k w = cond (same_name (codes "if") w) (if_behind (λ (c : Expr)
 abbrev pub else_word : Name → Expr → Load → Rest → Name → State
 else_word clock c l k w = cond (same_name (codes "if") w) (if_behind (λ (e : Expr) (m : Load). with_block clock k (if_else_if c l e m))) (load_behind (λ (m : Load). with_block clock k (if_else c l m)) w)
 
+-- after the clock's name: `)` and the block, or after `or` the second event's name, an `if` and two loads
+abbrev pub clock_behind : Name → Rest → Piece → State
+clock_behind clock k (mark b) = take (on_word (block_word clock k))
+clock_behind clock k (word w) =
+    skip (take (on_word (λ (n : Name). skip (skip (if_behind (λ (c : Expr) (l : Load). skip (take (on_word (load_behind (λ (m : Load). with_block clock k (async_reset n l m)))))))))))
+clock_behind clock k _ = lost
+
 -- ---- connections, ports
 
 abbrev pub more_or_end : {A : Type 0} → ((List A → Rest) → State) → (List A → Rest) → A → State
@@ -217,7 +224,7 @@ item_word k w =
     (cond (same_name (codes "wire") w) (take (range_or_name (λ (h : Option Numeral) (n : Name). skip (items (λ (is : List Item). k (wire h n ∷ is))))))
     (cond (same_name (codes "reg") w) (take (range_or_name (λ (h : Option Numeral) (n : Name). skip (items (λ (is : List Item). k (reg h n ∷ is))))))
     (cond (same_name (codes "assign") w) (take (on_word (λ (n : Name). skip (operand (bottom (λ (e : Expr). items (λ (is : List Item). k (assign n e ∷ is))))))))
-    (cond (same_name (codes "always") w) (skip (skip (skip (take (on_word (λ (clock : Name). skip (take (on_word (block_word clock k)))))))))
+    (cond (same_name (codes "always") w) (skip (skip (skip (take (on_word (λ (clock : Name). take (clock_behind clock k)))))))
     (instance_behind k w)))))
 
 abbrev pub after_if_word : Name → Expr → Load → Rest → Name → State

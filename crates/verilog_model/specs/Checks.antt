@@ -1,6 +1,6 @@
 -- What a tree must meet beside its grammar: names declared once and before use (IEEE 1364-2005, 12.7: scope rules),
--- selects in range and on ranges (5.2.1), one driver for each net and output, nonzero literal divisors, clocks that come
--- from the inputs at the top, no module within itself.
+-- selects in range and on ranges (5.2.1), one driver for each net and output, nonzero literal divisors, clocks and
+-- asynchronous resets that come from the inputs at the top, no module within itself.
 use Rattle.std.specs.Prelude.{ℕ, zero, suc, ◌+◌, ◌%◌, ◌^◌, Bool, true, false, cond, not, ◌&&◌, ◌||◌, ◌==◌, nat_lt, nat_le, List, [], ◌∷◌, ◌++◌, length, map, Option, Some, None, is_some}
 use Rattle.hw_model.specs.Types.{Name}
 use Rattle.hw_model.specs.Design.{same_name}
@@ -11,7 +11,7 @@ use Rattle.verilog_model.specs.Tree.{Numeral, Operator, Expr, Exprs, VPort, Load
 use Rattle.verilog_model.specs.Tree.Operator.{over, modulo}
 use Rattle.verilog_model.specs.Tree.Expr.{name, bit_select, part_select, literal, joined, repeated, as_signed, as_unsigned, paren, odd, binary, choice}
 use Rattle.verilog_model.specs.Tree.Exprs.{last, more}
-use Rattle.verilog_model.specs.Tree.Block.{load, if_load, if_else, if_else_if}
+use Rattle.verilog_model.specs.Tree.Block.{load, if_load, if_else, if_else_if, async_reset}
 use Rattle.verilog_model.specs.Tree.Item.{wire, reg, assign, always, instance}
 use Rattle.verilog_model.specs.Hierarchy.{first_some, when, find_vmodule, find_port, find_connection, vports_of, block_target, is_name}
 
@@ -119,12 +119,13 @@ module _ (known : List Declared) where
   abbrev pub load_checks : Name → Load → Bool
   load_checks r l = same_name l.target r && expr_checks l.value
 
-  -- each load of a block is of one variable
+  -- each load of a block is of one variable, and the name of a second event is an input
   abbrev pub block_checks : Name → Block → Bool
   block_checks r (load l) = load_checks r l
   block_checks r (if_load c l) = expr_checks c && load_checks r l
   block_checks r (if_else c l m) = expr_checks c && (load_checks r l && load_checks r m)
   block_checks r (if_else_if c l e m) = (expr_checks c && load_checks r l) && (expr_checks e && load_checks r m)
+  block_checks r (async_reset n l m) = has_role is_input (find_declared known n) && (load_checks r l && load_checks r m)
 
   abbrev pub joins_net : Expr → Bool
   joins_net (name n) = has_role can_assign (find_declared known n)
@@ -220,9 +221,14 @@ abbrev pub inner_clock : (Name → Name → Bool) → Name → Name → List Con
 inner_clock inner n m [] = false
 inner_clock inner n m (c ∷ cs) = (inner m c.port && is_name n c.value) || inner_clock inner n m cs
 
--- whether an item uses n as a clock, `inner` saying it of a port of the module of a name
+-- whether n is the name of a block's second event
+abbrev pub resets_by : Name → Block → Bool
+resets_by n (async_reset r l m) = same_name r n
+resets_by n _ = false
+
+-- whether an item uses n as a clock, or as a second event, `inner` saying it of a port of the module of a name
 abbrev pub uses_clock : (Name → Name → Bool) → Name → Item → Bool
-uses_clock inner n (always clock b) = same_name clock n
+uses_clock inner n (always clock b) = same_name clock n || resets_by n b
 uses_clock inner n (instance m u cs) = inner_clock inner n m cs
 uses_clock inner n _ = false
 

@@ -8,7 +8,7 @@ use Rattle.verilog_model.specs.Tree.{Numeral, Operator, Expr, Exprs, VPort, Load
 use Rattle.verilog_model.specs.Tree.Operator.{times, over, modulo, plus, minus, left_shift, right_shift, signed_right_shift, below, at_most, above, at_least, equals, differs, bit_and, bit_xor, bit_or}
 use Rattle.verilog_model.specs.Tree.Expr.{name, bit_select, part_select, literal, joined, repeated, as_signed, as_unsigned, paren, odd, binary, choice}
 use Rattle.verilog_model.specs.Tree.Exprs.{last, more}
-use Rattle.verilog_model.specs.Tree.Block.{load, if_load, if_else, if_else_if}
+use Rattle.verilog_model.specs.Tree.Block.{load, if_load, if_else, if_else_if, async_reset}
 use Rattle.verilog_model.specs.Tree.Item.{wire, reg, assign, always, instance}
 
 abbrev pub Spelling : Type 0
@@ -135,11 +135,14 @@ load_spelled l ps = word l.target ∷ arrow ∷ expr_spelled l.value (semicolon 
 abbrev pub if_spelled : Expr → Spelling → Spelling
 if_spelled e ps = word (codes "if") ∷ open_paren ∷ expr_spelled e (close_paren ∷ ps)
 
+-- what stands behind the clock's name: the second event where there is one, and after `)` what the block does
 abbrev pub block_spelled : Block → Spelling → Spelling
-block_spelled (load l) ps = load_spelled l ps
-block_spelled (if_load c l) ps = if_spelled c (load_spelled l ps)
-block_spelled (if_else c l m) ps = if_spelled c (load_spelled l (word (codes "else") ∷ load_spelled m ps))
-block_spelled (if_else_if c l e m) ps = if_spelled c (load_spelled l (word (codes "else") ∷ if_spelled e (load_spelled m ps)))
+block_spelled (load l) ps = close_paren ∷ load_spelled l ps
+block_spelled (if_load c l) ps = close_paren ∷ if_spelled c (load_spelled l ps)
+block_spelled (if_else c l m) ps = close_paren ∷ if_spelled c (load_spelled l (word (codes "else") ∷ load_spelled m ps))
+block_spelled (if_else_if c l e m) ps = close_paren ∷ if_spelled c (load_spelled l (word (codes "else") ∷ if_spelled e (load_spelled m ps)))
+block_spelled (async_reset n l m) ps =
+    word (codes "or") ∷ word (codes "posedge") ∷ word n ∷ close_paren ∷ if_spelled (name n) (load_spelled l (word (codes "else") ∷ load_spelled m ps))
 
 abbrev pub connection_spelled : Connection → Spelling → Spelling
 connection_spelled c ps = dot ∷ word c.port ∷ open_paren ∷ expr_spelled c.value (close_paren ∷ ps)
@@ -156,7 +159,7 @@ abbrev pub item_spelled : Item → Spelling → Spelling
 item_spelled (wire high n) ps = word (codes "wire") ∷ range_spelled high (word n ∷ semicolon ∷ ps)
 item_spelled (reg high n) ps = word (codes "reg") ∷ range_spelled high (word n ∷ semicolon ∷ ps)
 item_spelled (assign n e) ps = word (codes "assign") ∷ word n ∷ equal ∷ expr_spelled e (semicolon ∷ ps)
-item_spelled (always clock b) ps = word (codes "always") ∷ at_sign ∷ open_paren ∷ word (codes "posedge") ∷ word clock ∷ close_paren ∷ block_spelled b ps
+item_spelled (always clock b) ps = word (codes "always") ∷ at_sign ∷ open_paren ∷ word (codes "posedge") ∷ word clock ∷ block_spelled b ps
 item_spelled (instance m n cs) ps = word m ∷ word n ∷ open_paren ∷ connections_spelled cs (close_paren ∷ semicolon ∷ ps)
 
 abbrev pub items_spelled : List Item → Spelling → Spelling
@@ -233,11 +236,17 @@ abbrev mutual
 abbrev pub load_fits : Load → Bool
 load_fits l = fits l.value
 
+abbrev pub is_literal : Expr → Bool
+is_literal (literal w s h) = true
+is_literal _ = false
+
+-- an asynchronous reset loads a literal
 abbrev pub block_fits : Block → Bool
 block_fits (load l) = load_fits l
 block_fits (if_load c l) = fits c && load_fits l
 block_fits (if_else c l m) = fits c && (load_fits l && load_fits m)
 block_fits (if_else_if c l e m) = (fits c && load_fits l) && (fits e && load_fits m)
+block_fits (async_reset n l m) = is_literal l.value && (load_fits l && load_fits m)
 
 abbrev pub connections_fit : List Connection → Bool
 connections_fit [] = true

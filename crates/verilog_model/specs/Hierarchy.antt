@@ -7,7 +7,7 @@ use Rattle.hw_model.specs.Design.{same_name}
 use Rattle.verilog_model.specs.Numerals.{decimal_number}
 use Rattle.verilog_model.specs.Tree.{Numeral, Expr, VPort, Block, Connection, Item, VModule, Tree}
 use Rattle.verilog_model.specs.Tree.Expr.{name}
-use Rattle.verilog_model.specs.Tree.Block.{load, if_load, if_else, if_else_if}
+use Rattle.verilog_model.specs.Tree.Block.{load, if_load, if_else, if_else_if, async_reset}
 use Rattle.verilog_model.specs.Tree.Item.{wire, reg, assign, always, instance}
 
 -- ---- finding
@@ -101,6 +101,7 @@ block_target (load l) = l.target
 block_target (if_load c l) = l.target
 block_target (if_else c l m) = l.target
 block_target (if_else_if c l e m) = l.target
+block_target (async_reset n l m) = l.target
 
 -- how many bits of content an item of a module has, `inner` saying it of the module of a name
 abbrev pub item_state : (Name → ℕ) → VModule → Item → ℕ

@@ -6,7 +6,8 @@ use Rattle.hw_model.specs.Types.{Name}
 use Rattle.hw_model.specs.Value.{concat_words, is_high}
 use Rattle.hw_model.specs.Machine.{Machine}
 use Rattle.verilog_model.specs.Tree.{Expr, VPort, Load, Block, VModule, Tree}
-use Rattle.verilog_model.specs.Tree.Block.{load, if_load, if_else, if_else_if}
+use Rattle.verilog_model.specs.Tree.Expr.{name}
+use Rattle.verilog_model.specs.Tree.Block.{load, if_load, if_else, if_else_if, async_reset}
 use Rattle.verilog_model.specs.Expression.{assigned, own_value, is_true, extend, low_bits}
 use Rattle.verilog_model.specs.Hierarchy.{VPath, VNet, vnet, Drive, drive, vmodule_at, width_in, width_at, block_target, find_vmodule, vports_of, vstate, VSlot, vregisters}
 use Rattle.verilog_model.specs.Hierarchy.Drive.{nothing, input, held, expression, net}
@@ -42,6 +43,7 @@ block_value m τ k old (load l) = load_value m τ k l
 block_value m τ k old (if_load c l) = cond (holds m τ c) (load_value m τ k l) old
 block_value m τ k old (if_else c l e) = cond (holds m τ c) (load_value m τ k l) (load_value m τ k e)
 block_value m τ k old (if_else_if c l b e) = cond (holds m τ c) (load_value m τ k l) (cond (holds m τ b) (load_value m τ k e) old)
+block_value m τ k old (async_reset n l e) = cond (holds m τ (name n)) (load_value m τ k l) (load_value m τ k e)
 
 -- where the clock's lowest bit is 1 in this step, the block runs (9.7.2: event control)
 abbrev pub slot_value : (VNet → Word) → ℕ → Word → VSlot → Word
@@ -70,8 +72,9 @@ pub record SecondEvent : Type 0 where
   pub signal : Name
   pub reset_load : Load
 
--- the second event of a block (9.7.2, 9.7.3: event `or`): the blocks of these trees have one event
+-- the second event of a block (9.7.2, 9.7.3: event `or`): where it comes the block's `if` holds, so the first load is made
 abbrev pub second_event : Block → Option SecondEvent
+second_event (async_reset n l e) = Some (record { signal = n; reset_load = l })
 second_event _ = None
 
 -- what a register of k bits holds once the second event of its block has come, if it has: the net's lowest bit was 0 in

@@ -50,12 +50,14 @@ pub record Load : Type 0 where
   pub target : Name
   pub value : Expr
 
--- what an `always` block does where its clock rises
+-- what an `always` block does where its clock rises; with an asynchronous reset it has a second event, the rise of a name,
+-- and of its two loads the first one is made where that name is 1 (9.7.2, 9.7.3: event control, event `or`)
 pub data Block : Type 0 where
   load : Load → Block
   if_load : Expr → Load → Block
   if_else : Expr → Load → Load → Block
   if_else_if : Expr → Load → Expr → Load → Block
+  async_reset : Name → Load → Load → Block
 
 -- a connection of an instance: a port of its module, and what is joined to it
 pub record Connection : Type 0 where
