@@ -4,4 +4,6 @@
 #[cfg(test)]
 mod legal_names;
 #[cfg(test)]
+mod second_events;
+#[cfg(test)]
 mod text_runs;
