@@ -7,6 +7,7 @@ pub mod Owners
 pub mod Places
 pub mod SampleSame
 pub mod Slots
+pub mod Rises
 pub mod Sources
 pub mod ModuleBehaviour
 pub mod NetMaps

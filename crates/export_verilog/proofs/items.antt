@@ -5,5 +5,6 @@ pub mod Lookups
 pub mod Marks
 pub mod Operands
 pub mod Registers
+pub mod Resets
 pub mod Settings
 pub mod Writable

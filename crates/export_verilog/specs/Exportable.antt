@@ -1,5 +1,5 @@
 -- The designs whose export behaves as they do: sound ones on integers, as the verifier accepts them.
-use Rattle.std.specs.Prelude.{◌≡◌, ℕ, ◌+◌, ◌<◌, ◌≤◌, ◌^◌, true, false, ◌||◌, List, [], ◌∷◌, length, Some, slice_get}
+use Rattle.std.specs.Prelude.{◌≡◌, ℕ, Bool, ◌+◌, ◌<◌, ◌≤◌, ◌^◌, true, false, ◌||◌, List, [], ◌∷◌, length, Some, slice_get}
 use Rattle.hw_model.specs.Types.{Name, width}
 use Rattle.hw_model.specs.Types.HwType.{clock}
 use Rattle.hw_model.specs.Design.{Ref, Port, OpResult, Op, Module, Design, is_instance, is_output_op}
@@ -7,6 +7,7 @@ use Rattle.hw_model.specs.Design.Ref.{port}
 use Rattle.hw_model.specs.Flat.{Register, register_in}
 use Rattle.hw_model.specs.Hierarchy.{HasNoRecursion}
 use Rattle.hw_model.specs.Meaning.{HasNoCycle}
+use Rattle.hw_model.specs.Resets.{ResetsFromPorts}
 use Rattle.hw_model.specs.Sound.{Sound, type_in}
 use Rattle.verilog_expr.specs.Expressions.{value_width}
 use Rattle.verilog_expr.specs.Values.{is_aggregate_kind, is_variadic, is_division, IsDivision}
@@ -47,7 +48,8 @@ pub record IsExportableModule (m : Module) : Type 0 where
   -- names are told apart by numbers of a machine
   pub room : length (module_identifiers m) + 130 < 2 ^ 64
 
--- a design on integers that is sound, with distinct symbols, no module within itself, and no net that depends on itself
+-- a design on integers that is sound, with distinct symbols, no module within itself, no net that depends on itself, and
+-- asynchronous resets that come from input ports
 pub record IsExportable (d : Design) : Type 0 where
   pub sound : Sound d
   pub distinct : (i j : ℕ) (m n : Module) → slice_get d i ≡ Some m → slice_get d j ≡ Some n → m.symbol ≡ n.symbol → i ≡ j
@@ -55,3 +57,6 @@ pub record IsExportable (d : Design) : Type 0 where
   pub acyclic : (top : Name) → HasNoCycle d top
   pub modules : (n : ℕ) (m : Module) → slice_get d n ≡ Some m → IsExportableModule m
   pub room : length d + 130 < 2 ^ 64
+  -- asynchronous resets come from input ports that have a mark, and reset to constants
+  pub marked : Module → ℕ → Bool
+  pub resets : ResetsFromPorts d marked

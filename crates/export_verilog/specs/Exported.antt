@@ -6,15 +6,15 @@ use Rattle.hw_model.specs.Types.{Name, width}
 use Rattle.hw_model.specs.Kinds.{Instance}
 use Rattle.hw_model.specs.Design.{Ref, Port, OpResult, Op, Module, Design, same_name, find_module, instance_in, result_type, output_refs}
 use Rattle.hw_model.specs.Design.Ref.{result}
-use Rattle.hw_model.specs.Flat.{width_of, Register, ResetBy, register_in}
+use Rattle.hw_model.specs.Flat.{width_of, Register, ResetBy, register_in, async_reset_in}
 use Rattle.verilog_model.specs.Tree.{Expr, VPort, Load, Block, Connection, Item, VModule, Tree}
 use Rattle.verilog_model.specs.Tree.Expr.{name}
-use Rattle.verilog_model.specs.Tree.Block.{load, if_load, if_else, if_else_if}
+use Rattle.verilog_model.specs.Tree.Block.{load, if_load, if_else, if_else_if, async_reset}
 use Rattle.verilog_model.specs.Tree.Item.{wire, reg, assign, always, instance}
 use Rattle.name_legalise.specs.Legal.{legal}
 use Rattle.verilog_expr.specs.Numerals.{high_of}
 use Rattle.verilog_expr.specs.Building.{no_expr}
-use Rattle.verilog_expr.specs.Expressions.{expr_to, own_expr}
+use Rattle.verilog_expr.specs.Expressions.{expr_to, own_expr, constant_expr}
 use Rattle.verilog_expr.specs.Spilling.{height_limit}
 use Rattle.export_verilog.specs.Identifiers.{Emission, each, emission_of, identifier_text, name_or_nothing, value_name}
 use Rattle.export_verilog.specs.Identifiers.Identifier.{port_identifier, value_identifier, instance_identifier}
@@ -78,9 +78,23 @@ block_of ex q next (Some en) None = if_load (ex en) (loads q (ex next))
 block_of ex q next None (Some r) = if_else (ex r.signal) (loads q (ex r.value)) (loads q (ex next))
 block_of ex q next (Some en) (Some r) = if_else_if (ex r.signal) (loads q (ex r.value)) (ex en) (loads q (ex next))
 
-abbrev pub always_of : Module → Name → Option Register → List Item
-always_of m q None = []
-always_of m q (Some r) = always (name_or_nothing (value_name m r.clock)) (block_of (expression m) q r.next r.enable r.reset) ∷ []
+-- the block of a register with an asynchronous reset: the reset's rise is a second event, and loads the reset's value, which
+-- is always written as a literal (9.7.2, 9.7.3: event control, event `or`)
+abbrev pub async_block : (Ref → Option Name) → (Ref → Expr) → (Ref → Expr) → Name → Ref → ResetBy → Block
+async_block named ex literal q next r = async_reset (name_or_nothing (named r.signal)) (loads q (literal r.value)) (loads q (ex next))
+
+-- the block of a register that an asynchronous reset resets or not
+abbrev pub register_block : (Ref → Option Name) → (Ref → Expr) → (Ref → Expr) → Name → Register → Option ResetBy → Block
+register_block named ex literal q g None = block_of ex q g.next g.enable g.reset
+register_block named ex literal q g (Some r) = async_block named ex literal q g.next r
+
+-- the same in a module
+abbrev pub module_block : Module → Name → Register → Option ResetBy → Block
+module_block m q g a = register_block (value_name m) (expression m) (constant_expr m.ports m.body) q g a
+
+abbrev pub always_of : Module → Name → Option ResetBy → Option Register → List Item
+always_of m q a None = []
+always_of m q a (Some r) = always (name_or_nothing (value_name m r.clock)) (module_block m q r a) ∷ []
 
 -- ---- instances
 
@@ -115,7 +129,7 @@ instance_of d m i o (Some x) =
 abbrev pub stated_as : Design → Module → ℕ → Op → Emission → List Item
 stated_as d m i o inline = []
 stated_as d m i o as_wire = assign (identifier_text m (value_identifier i 0)) (assigned_expr m (result i 0)) ∷ []
-stated_as d m i o as_reg = always_of m (identifier_text m (value_identifier i 0)) (register_in o)
+stated_as d m i o as_reg = always_of m (identifier_text m (value_identifier i 0)) (async_reset_in o) (register_in o)
 stated_as d m i o as_instance = instance_of d m i o (instance_in o.kind)
 
 abbrev pub states : Design → Module → ℕ → Op → List Item

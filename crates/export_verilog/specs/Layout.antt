@@ -3,7 +3,8 @@
 use Rattle.std.specs.Prelude.{ℕ, List, [], ◌∷◌, ◌++◌, Option, Some, None, codes}
 use Rattle.hw_model.specs.Design.{Design}
 use Rattle.verilog_model.specs.Tree.{Numeral, Expr, VPort, Load, Block, Connection, Item, VModule, Tree}
-use Rattle.verilog_model.specs.Tree.Block.{load, if_load, if_else, if_else_if}
+use Rattle.verilog_model.specs.Tree.Expr.{name}
+use Rattle.verilog_model.specs.Tree.Block.{load, if_load, if_else, if_else_if, async_reset}
 use Rattle.verilog_model.specs.Tree.Item.{wire, reg, assign, always, instance}
 use Rattle.verilog_model.specs.Grammar.{direction}
 use Rattle.verilog_expr.specs.Text.{expr_text}
@@ -41,11 +42,17 @@ load_text indent l bs = indent ++ (l.target ++ (codes " <= " ++ expr_text l.valu
 unfoldable pub if_text : Text → Expr → Text → Text
 if_text front e bs = front ++ (codes "if (" ++ expr_text e (41 ∷ 10 ∷ bs))
 
+-- what stands behind the clock's name: a second event where there is one, and `)`
+unfoldable pub event_text : Block → Text → Text
+event_text (async_reset n l m) bs = codes " or posedge " ++ (n ++ (41 ∷ 10 ∷ bs))
+event_text _ bs = 41 ∷ 10 ∷ bs
+
 unfoldable pub block_text : Block → Text → Text
 block_text (load l) bs = load_text (codes "    ") l bs
 block_text (if_load c l) bs = if_text (codes "    ") c (load_text (codes "      ") l bs)
 block_text (if_else c l m) bs = if_text (codes "    ") c (load_text (codes "      ") l (codes "    else" ++ (10 ∷ load_text (codes "      ") m bs)))
 block_text (if_else_if c l e m) bs = if_text (codes "    ") c (load_text (codes "      ") l (if_text (codes "    else ") e (load_text (codes "      ") m bs)))
+block_text (async_reset n l m) bs = if_text (codes "    ") (name n) (load_text (codes "      ") l (codes "    else" ++ (10 ∷ load_text (codes "      ") m bs)))
 
 -- ---- instances
 
@@ -67,7 +74,7 @@ unfoldable pub item_text : Item → Text → Text
 item_text (wire high n) bs = codes "  wire " ++ range_text high (n ++ (59 ∷ 10 ∷ bs))
 item_text (reg high n) bs = codes "  reg " ++ range_text high (n ++ (59 ∷ 10 ∷ bs))
 item_text (assign n e) bs = codes "  assign " ++ (n ++ (codes " = " ++ expr_text e (59 ∷ 10 ∷ bs)))
-item_text (always clock b) bs = codes "  always @(posedge " ++ (clock ++ (41 ∷ 10 ∷ block_text b bs))
+item_text (always clock b) bs = codes "  always @(posedge " ++ (clock ++ event_text b (block_text b bs))
 item_text (instance m n cs) bs = codes "  " ++ (m ++ (32 ∷ n ++ (codes " (" ++ connections_text cs bs)))
 
 unfoldable pub items_text : List Item → Text → Text

@@ -6,7 +6,7 @@ use Rattle.hw_model.specs.Flat.{ResetBy}
 use Rattle.verilog_model.specs.Tree.{Expr, Item}
 use Rattle.verilog_model.specs.Tree.Item.{wire, reg}
 use Rattle.verilog_expr.specs.Numerals.{high_of}
-use Rattle.verilog_expr.specs.Expressions.{value_width, expr_to, own_expr}
+use Rattle.verilog_expr.specs.Expressions.{value_width, expr_to, own_expr, constant_expr}
 use Rattle.verilog_expr.specs.Spilling.{height_limit}
 use Rattle.verilog_expr.specs.Text.{expr_text}
 use Rattle.verilog_expr.specs.Scopes.{scope_ports, scope_ops}
@@ -30,9 +30,20 @@ used_text s v r = expr_text (value_expr s v r) []
 abbrev pub defined_text : Scope → ValueNames → Ref → Text
 defined_text s v r = expr_text (own_expr (named_of v) (scope_ports s) (scope_ops s) (value_expr s v) r) []
 
+-- the literal of the constant that a value is
+abbrev pub value_literal : Scope → Ref → Expr
+value_literal s r = constant_expr (scope_ports s) (scope_ops s) r
+
+abbrev pub literal_text : Scope → Ref → Text
+literal_text s r = expr_text (value_literal s r) []
+
 -- a reset whose parts are written
 abbrev pub reset_text : Scope → ValueNames → ResetBy → WrittenReset
 reset_text s v r = record { signal = used_text s v r.signal; value = used_text s v r.value }
+
+-- an asynchronous reset, whose signal is written by its name and whose value by its literal
+abbrev pub async_text : Scope → ValueNames → ResetBy → WrittenReset
+async_text s v r = record { signal = name_or_nothing (named_of v r.signal); value = literal_text s r.value }
 
 -- ---- declarations
 

@@ -4,7 +4,7 @@ use Rattle.hw_model.specs.Types.{Name, width}
 use Rattle.hw_model.specs.Design.{Port}
 use Rattle.verilog_model.specs.Tree.{Expr, VPort, Load, Block, Connection}
 use Rattle.verilog_model.specs.Tree.Expr.{name}
-use Rattle.verilog_model.specs.Tree.Block.{load, if_load, if_else, if_else_if}
+use Rattle.verilog_model.specs.Tree.Block.{load, if_load, if_else, if_else_if, async_reset}
 use Rattle.verilog_expr.specs.Numerals.{high_of}
 use Rattle.export_verilog.specs.Layout.{Text, load_text, if_text, port_lines, connection_lines}
 
@@ -30,6 +30,14 @@ written_block q next None None = load (written_load q next)
 written_block q next (Some en) None = if_load (verbatim en) (written_load q next)
 written_block q next None (Some r) = if_else (verbatim r.signal) (written_load q r.value) (written_load q next)
 written_block q next (Some en) (Some r) = if_else_if (verbatim r.signal) (written_load q r.value) (verbatim en) (written_load q next)
+
+-- the block of a register with an asynchronous reset, whose signal is a name (9.7.3: event `or`)
+abbrev pub written_async : Name → Text → WrittenReset → Block
+written_async q next r = async_reset r.signal (written_load q r.value) (written_load q next)
+
+-- the events of a block that has two
+unfoldable pub events_text : Text → Text → Text
+events_text clock signal = codes "  always @(posedge " ++ (clock ++ (codes " or posedge " ++ (signal ++ (41 ∷ 10 ∷ []))))
 
 -- what stands after the reset of a register: an `else` alone on its line, or with the enable
 abbrev pub otherwise_text : Name → Text → Option Text → Text

@@ -2,8 +2,8 @@
 ghost use Rattle.std.specs.Prelude.{◌≡◌, ◌++◌, [], None, OnOk, codes, option_map};
 ghost use Rattle.verilog_model.specs.Tree.Item.{always};
 ghost use Rattle.export_verilog.specs.Layout.{load_text, if_text, block_text, item_text};
-ghost use Rattle.export_verilog.specs.Written.{verbatim, written_load, written_block, otherwise_text};
-ghost use Rattle.export_verilog.specs.WrittenViews.{block_held};
+ghost use Rattle.export_verilog.specs.Written.{verbatim, written_load, written_block, written_async, events_text, otherwise_text};
+ghost use Rattle.export_verilog.specs.WrittenViews.{reset_of, block_held};
 
 use io_edge::byte_text::Text;
 use std::alloc::AllocError;
@@ -121,5 +121,41 @@ pub fn push_always(out: &mut Text, clock: &[u8], block: &Clocked<'_>) -> Result<
     out.push_bytes(clock)?;
     out.push_bytes(b")\n")?;
     push_block(out, block)?;
+    Ok(())
+}
+
+// Adds the events of a block that has two.
+#[tactic(auto, using(std::proofs::Common::append_assoc), unfolding(crate::specs::Written::events_text))]
+fn push_events(out: &mut Text, clock: &[u8], signal: &[u8]) -> Result<(), AllocError>
+    ensures { OnOk result (out.new ≡ out.old ++ events_text clock.now signal.now) }
+{
+    out.push_bytes(b"  always @(posedge ")?;
+    out.push_bytes(clock)?;
+    out.push_bytes(b" or posedge ")?;
+    out.push_bytes(signal)?;
+    out.push_bytes(b")\n")?;
+    Ok(())
+}
+
+/// Adds the block of a register with a clock and an asynchronous reset, whose signal is a name and whose value a literal
+/// (IEEE 1364-2005, 9.7.3: event `or`).
+#[tactic(auto, unfolding(crate::specs::Layout::item_text))]
+pub fn push_async(
+    out: &mut Text,
+    clock: &[u8],
+    target: &[u8],
+    next: &[u8],
+    reset: &Reset<'_>,
+) -> Result<(), AllocError>
+    ensures { OnOk result (out.new ≡ out.old ++ item_text (always clock.now (written_async target.now next.now (reset_of reset.now))) []) }
+{
+    push_events(out, clock, reset.signal)?;
+    let block = Clocked {
+        target,
+        next,
+        enable: None,
+        reset: Some(*reset),
+    };
+    push_block(out, &block)?;
     Ok(())
 }

@@ -1,20 +1,20 @@
 //! The statements of registers.
-ghost use Rattle.std.specs.Prelude.{◌≡◌, ◌++◌, [], None, true, false, map, option_map, OnOk};
+ghost use Rattle.std.specs.Prelude.{◌≡◌, ◌++◌, [], None, Some, true, false, map, option_map, OnOk};
 ghost use Rattle.hw_model.specs.KindViews.{reset_of as reset_kind};
-ghost use Rattle.hw_model.specs.Flat.{register_in, register_parts};
+ghost use Rattle.hw_model.specs.Flat.{register_in, register_parts, async_reset_in, async_parts};
 ghost use Rattle.verilog_model.specs.Tree.Item.{always};
 ghost use Rattle.verilog_expr.specs.Scopes.{scope_ref, op_read};
 ghost use Rattle.verilog_expr.specs.declared.scope.Scope.{Scope};
 ghost use Rattle.verilog_expr.specs.Named.{named_of};
 ghost use Rattle.export_verilog.specs.Layout.{item_text, items_text};
 ghost use Rattle.export_verilog.specs.Written.{written_block};
-ghost use Rattle.export_verilog.specs.Values.{value_expr, used_text, reset_text};
+ghost use Rattle.export_verilog.specs.Values.{value_expr, value_literal, used_text, reset_text};
 ghost use Rattle.export_verilog.specs.RegisterViews.{reset_seen, register_seen};
 ghost use Rattle.export_verilog.specs.Statements.{register_item, register_items};
 
-use crate::blocks::{Clocked, Reset, push_always};
+use crate::blocks::{Clocked, Reset, push_always, push_async};
 use crate::module_writer::ModuleWriter;
-use crate::values::{name_text, used_text};
+use crate::values::{literal_text, name_text, used_text};
 use hw_model::kinds;
 use hw_model::kinds::OpKind;
 use io_edge::byte_text::Text;
@@ -116,6 +116,29 @@ pub fn register_in(op: &Op<'_>) -> Option<Register>
     }
 }
 
+// What resets a register without its clock, by the operands of the register.
+fn async_parts(operands: &[Value]) -> Option<ResetBy>
+    ensures { (scope : Scope) → option_map (reset_seen scope) result ≡ async_parts (map (scope_ref scope) operands.now) }
+{
+    match operands {
+        [_, _, signal, value] => Some(ResetBy {
+            signal: *signal,
+            value: *value,
+        }),
+        _ => None,
+    }
+}
+
+/// What resets the register without its clock that an operation of a body is, and to what.
+pub fn async_reset_in(op: &Op<'_>) -> Option<ResetBy>
+    ensures { (scope : Scope) → option_map (reset_seen scope) result ≡ async_reset_in (op_read scope op.now) }
+{
+    match op.kind {
+        OpKind::AsyncFirReg => async_parts(op.operands),
+        _ => None,
+    }
+}
+
 // Adds the block of a register of which all but the reset is written.
 fn push_reset<'t>(
     writer: &ModuleWriter<'_>,
@@ -161,14 +184,14 @@ fn push_reset<'t>(
     Ok(())
 }
 
-// Adds the block of a register under its name.
+// Adds the block of a register under its name that only its clock loads.
 fn push_parts(
     writer: &ModuleWriter<'_>,
     out: &mut Text,
     target: &[u8],
     register: &Register,
 ) -> Result<(), AllocError>
-    ensures { OnOk result (out.new ≡ out.old ++ item_text (register_item (named_of writer.now.names.values) (value_expr writer.now.scope writer.now.names.values) target.now (register_seen writer.now.scope register.now)) []) }
+    ensures { OnOk result (out.new ≡ out.old ++ item_text (register_item (named_of writer.now.names.values) (value_expr writer.now.scope writer.now.names.values) (value_literal writer.now.scope) target.now None (register_seen writer.now.scope register.now)) []) }
 {
     let clock = name_text(writer, register.clock);
     let next = used_text(writer, register.next)?;
@@ -198,6 +221,45 @@ fn push_parts(
     Ok(())
 }
 
+// Adds the block of a register under its name that a reset resets without its clock.
+fn push_reset_parts(
+    writer: &ModuleWriter<'_>,
+    out: &mut Text,
+    target: &[u8],
+    register: &Register,
+    by: ResetBy,
+) -> Result<(), AllocError>
+    ensures { OnOk result (out.new ≡ out.old ++ item_text (register_item (named_of writer.now.names.values) (value_expr writer.now.scope writer.now.names.values) (value_literal writer.now.scope) target.now (Some (reset_seen writer.now.scope by)) (register_seen writer.now.scope register.now)) []) }
+{
+    let clock = name_text(writer, register.clock);
+    let signal = name_text(writer, by.signal);
+    let next = used_text(writer, register.next)?;
+    let value = literal_text(writer, by.value)?;
+    let reset = Reset {
+        signal,
+        value: value.as_bytes(),
+    };
+    push_async(out, clock, target, next.as_bytes(), &reset)?;
+    Ok(())
+}
+
+// Adds the block of a register under its name, which an asynchronous reset resets or not.
+fn push_item(
+    writer: &ModuleWriter<'_>,
+    out: &mut Text,
+    target: &[u8],
+    register: &Register,
+    by: Option<ResetBy>,
+) -> Result<(), AllocError>
+    ensures { OnOk result (out.new ≡ out.old ++ item_text (register_item (named_of writer.now.names.values) (value_expr writer.now.scope writer.now.names.values) (value_literal writer.now.scope) target.now (option_map (reset_seen writer.now.scope) by) (register_seen writer.now.scope register.now)) []) }
+{
+    match by {
+        None => push_parts(writer, out, target, register)?,
+        Some(by) => push_reset_parts(writer, out, target, register, by)?,
+    }
+    Ok(())
+}
+
 /// Adds the statement of an operation that is a register, under its name (IEEE 1364-2005, 9.2.2: nonblocking
 /// assignments). The error is out of memory.
 #[tactic(auto, unfolding(crate::specs::Layout::items_text))]
@@ -207,10 +269,10 @@ pub fn push_register(
     target: &[u8],
     op: &Op<'_>,
 ) -> Result<(), AllocError>
-    ensures { OnOk result (out.new ≡ out.old ++ items_text (register_items (named_of writer.now.names.values) (value_expr writer.now.scope writer.now.names.values) target.now (register_in (op_read writer.now.scope op.now))) []) }
+    ensures { OnOk result (out.new ≡ out.old ++ items_text (register_items (named_of writer.now.names.values) (value_expr writer.now.scope writer.now.names.values) (value_literal writer.now.scope) target.now (async_reset_in (op_read writer.now.scope op.now)) (register_in (op_read writer.now.scope op.now))) []) }
 {
     if let Some(register) = register_in(op) {
-        push_parts(writer, out, target, &register)?;
+        push_item(writer, out, target, &register, async_reset_in(op))?;
     }
     Ok(())
 }

@@ -3,7 +3,7 @@ ghost use Rattle.std.specs.Prelude.{◌≡◌, IfOk};
 ghost use Rattle.verilog_expr.specs.Scopes.{scope_ports, scope_ops, scope_ref};
 ghost use Rattle.verilog_expr.specs.Named.{named_of};
 ghost use Rattle.export_verilog.specs.Identifiers.{name_or_nothing};
-ghost use Rattle.export_verilog.specs.Values.{used_text, defined_text};
+ghost use Rattle.export_verilog.specs.Values.{used_text, defined_text, literal_text};
 
 use crate::module_writer::ModuleWriter;
 use io_edge::byte_text::Text;
@@ -33,6 +33,14 @@ pub fn defined_text(writer: &ModuleWriter<'_>, value: Value) -> Result<Text, All
     ensures { IfOk result (λ text. text ≡ defined_text writer.now.scope writer.now.names.values (scope_ref writer.now.scope value)) }
 {
     let expr = Expr::define(writer.alloc, &writer.scope, &writer.names.values, value)?;
+    bytes_of(writer.alloc, &expr)
+}
+
+/// The literal of the constant that a value is, whether or not it has a name. The error is out of memory.
+pub fn literal_text(writer: &ModuleWriter<'_>, value: Value) -> Result<Text, AllocError>
+    ensures { IfOk result (λ text. text ≡ literal_text writer.now.scope (scope_ref writer.now.scope value)) }
+{
+    let expr = Expr::constant(writer.alloc, &writer.scope, value)?;
     bytes_of(writer.alloc, &expr)
 }
 

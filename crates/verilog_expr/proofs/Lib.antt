@@ -15,6 +15,7 @@ pub mod Assigned
 pub mod Templates
 pub mod Parts
 pub mod Built
+pub mod Constants
 pub mod Nets
 pub mod Bodies
 pub mod Heights

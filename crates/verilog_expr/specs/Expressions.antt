@@ -10,7 +10,7 @@ use Rattle.hw_model.specs.Flat.{width_of}
 use Rattle.hw_model.specs.Sound.{type_in}
 use Rattle.verilog_model.specs.Tree.{Expr}
 use Rattle.verilog_model.specs.Tree.Expr.{name}
-use Rattle.verilog_expr.specs.Building.{no_expr, kind_expr}
+use Rattle.verilog_expr.specs.Building.{no_expr, literal_of, kind_expr}
 
 -- the operation whose first result a value is
 abbrev pub op_at : List Op → Ref → Option Op
@@ -37,6 +37,11 @@ constant_of (Some o) w = constant_number o.kind w
 abbrev pub divisor_in : List Op → ℕ → List Ref → ℕ
 divisor_in os w (a ∷ b ∷ []) = constant_of (op_at os b) w
 divisor_in os w _ = 0
+
+-- the literal of the constant that a value is, whether or not it has a name (IEEE 1364-2005, 3.5.1); of any other value
+-- that of 0
+abbrev pub constant_expr : List Port → List Op → Ref → Expr
+constant_expr ports os r = literal_of (value_width ports os r) false (constant_of (op_at os r) (value_width ports os r))
 
 -- ---- expressions
 

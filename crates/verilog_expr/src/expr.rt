@@ -1,7 +1,7 @@
 //! The text of the expression of a value.
 ghost use Rattle.std.specs.Prelude.{◌≡◌, ◌++◌, ◌<◌, [], option_map, OnOk, OnErr};
 ghost use Rattle.verilog_expr.specs.Building.{no_expr};
-ghost use Rattle.verilog_expr.specs.Expressions.{own_expr};
+ghost use Rattle.verilog_expr.specs.Expressions.{own_expr, constant_expr};
 ghost use Rattle.verilog_expr.specs.Text.{expr_text};
 ghost use Rattle.verilog_expr.specs.Scopes.{scope_ports, scope_ops, scope_ref};
 ghost use Rattle.verilog_expr.specs.Forms.{in_position, form_text};
@@ -11,7 +11,7 @@ ghost use Rattle.verilog_expr.specs.ExprNode.{expr_at, exprs_at, select_text, sh
 use crate::form::{Form, asks_level, asks_unsigned, push_before, push_behind};
 use crate::info::{info_at, only_name, push_close, push_open, wrap_for};
 use crate::literals::{push_decimal, push_literal};
-use crate::node::node_at;
+use crate::node::{constant_at, node_at};
 use crate::scope::Scope;
 use crate::template::Template;
 use crate::value_names::ValueNames;
@@ -208,6 +208,18 @@ impl Expr {
         let mut text = Text::new(alloc);
         let node = node_at(scope, value);
         push_template(&mut text, scope, names, node.template, node.operands, DEPTH)?;
+        Ok(Expr { text })
+    }
+
+    /// The literal of the constant that a value is, whether or not it has a name; of any other value that of 0. No value may
+    /// have more than 128 bits. The error is out of memory.
+    pub fn constant(alloc: Global, scope: &Scope<'_>, value: Value) -> Result<Expr, AllocError>
+        ensures { IfOk result (λ e. e.text ≡ expr_text (constant_expr (scope_ports scope.now) (scope_ops scope.now) (scope_ref scope.now value)) []) }
+    {
+        let mut text = Text::new(alloc);
+        let bits = scope.width(value);
+        let number = constant_at(scope, value, bits);
+        push_literal(&mut text, bits, false, number)?;
         Ok(Expr { text })
     }
 

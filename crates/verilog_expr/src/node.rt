@@ -23,8 +23,8 @@ pub(crate) struct ExprNode<'m> {
     pub(crate) operands: &'m [Value],
 }
 
-// The number that a value always has in so many bits, or 0.
-fn constant_at(scope: &Scope<'_>, value: Value, width: u64) -> u128
+/// The number that a value always has in so many bits, or 0.
+pub(crate) fn constant_at(scope: &Scope<'_>, value: Value, width: u64) -> u128
     requires { width < 129 }
     ensures { result ≡ constant_of (op_at (scope_ops scope.now) (scope_ref scope.now value)) width }
 {

@@ -3,12 +3,13 @@ use Rattle.std.proofs.Common.{◌≡◌, ℕ, ◌<◌, ◌^◌, false, ◌||◌,
 use Rattle.std.specs.Prelude.{is_some}
 use Rattle.wiring.specs.Options.{bind, omap}
 use Rattle.hw_model.specs.Kinds.{Kind}
-use Rattle.hw_model.specs.Kinds.Kind.{register}
+use Rattle.hw_model.specs.Kinds.Kind.{register, async_firreg}
 use Rattle.hw_model.specs.Design.{Port, OpResult, Op, Module, Design, RegisterForm, register_form, instance_in, is_output_kind, is_instance, is_output_op, result_type}
 use Rattle.hw_model.specs.Flat.{Register, register_in, register_parts}
 use Rattle.hw_model.specs.Sound.{type_in, OpFits, Sound}
+use Rattle.port_checks.specs.ResetPorts.{is_reset_port}
 use Rattle.op_verifier.specs.Verdict.{IsAccepted}
-use Rattle.op_verifier.proofs.AcceptedDesigns.{no_fault, accepted_distinct, accepted_finite, accepted_acyclic}
+use Rattle.op_verifier.proofs.AcceptedDesigns.{no_fault, accepted_distinct, accepted_finite, accepted_acyclic, accepted_resets}
 use Rattle.op_verifier.proofs.NoOwnCause.{NoCauseAlone, result_number}
 use Rattle.op_verifier.proofs.SoundDesigns.{sound_design}
 use Rattle.verilog_expr.specs.Marks.{AreSmall}
@@ -31,6 +32,7 @@ accepted_sound d fine = sound_design d (no_fault d fine)
 -- a register is no instance and no output
 register_alone : (kind : Kind) (f : RegisterForm) → register_form kind ≡ Some f → (is_some (instance_in kind) || is_output_kind kind) ≡ false
 register_alone (register g r) f h = refl
+register_alone async_firreg f h = refl
 register_alone _ f h = cc
 
 register_kind : (o : Op) (r : Register) → register_in o ≡ Some r → (f : RegisterForm) × (register_form o.kind ≡ Some f)
@@ -97,4 +99,6 @@ accepted_exportable d fine plain room = record {
   acyclic = accepted_acyclic d fine;
   modules = exportable_module d fine plain;
   room = room;
+  marked = is_reset_port d;
+  resets = accepted_resets d fine;
 }

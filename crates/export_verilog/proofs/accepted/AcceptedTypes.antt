@@ -7,7 +7,7 @@ use Rattle.wiring.specs.Wiring.{In}
 use Rattle.hw_model.specs.Types.{HwType, width}
 use Rattle.hw_model.specs.Types.HwType.{int, clock, array, struct}
 use Rattle.hw_model.specs.Kinds.{Kind}
-use Rattle.hw_model.specs.Kinds.Kind.{variadic, sub, division, shift, icmp, parity, extract, concat, replicate, mux, constant, aggregate_constant, on_array, on_struct, bitcast, wire, instance, output, register}
+use Rattle.hw_model.specs.Kinds.Kind.{variadic, sub, division, shift, icmp, parity, extract, concat, replicate, mux, constant, aggregate_constant, on_array, on_struct, bitcast, wire, instance, output, register, async_firreg}
 use Rattle.ir_store.specs.ResultTypes.{first_type, second_type, with_width, joined_width, kept_size, as_int, result_type, result_types}
 use Rattle.op_verifier.specs.TypeChecks.{has_bad_part, is_outside, is_clock}
 use Rattle.op_verifier.specs.TypeLists.{known_types}
@@ -145,6 +145,7 @@ given (instance i) ts rs n plain same operands types h wide t here =
 given output ts [] n plain same operands types h wide t here = absurd here
 given output ts (r ∷ rs) n plain same operands types h wide t here = cc
 given (register f r) ts rs n plain same operands types h wide t here = by_first ts t rs same here
+given async_firreg ts rs n plain same operands types h wide t here = by_first ts t rs same here
 
 -- ---- values
 

@@ -7,8 +7,9 @@ use Rattle.std.proofs.lemmas.List.{length-append}
 use Rattle.hw_model.specs.Types.{Name, HwType, leaves}
 use Rattle.hw_model.specs.Types.HwType.{int, clock, array, struct}
 use Rattle.hw_model.specs.Kinds.{Kind, RegisterOp}
-use Rattle.hw_model.specs.Kinds.RegisterOp.{compreg}
-use Rattle.hw_model.specs.Kinds.Kind.{variadic, sub, division, shift, icmp, parity, extract, concat, replicate, mux, constant, aggregate_constant, on_array, on_struct, bitcast, wire, instance, output, register}
+use Rattle.hw_model.specs.Kinds.RegisterOp.{compreg, firreg}
+use Rattle.hw_model.specs.Kinds.Reset.{sync_reset}
+use Rattle.hw_model.specs.Kinds.Kind.{variadic, sub, division, shift, icmp, parity, extract, concat, replicate, mux, constant, aggregate_constant, on_array, on_struct, bitcast, wire, instance, output, register, async_firreg}
 use Rattle.hw_model.specs.Design.{Port, OpResult, Op, Module, Design, instance_in, is_instance, is_register, is_output_op}
 use Rattle.hw_model.specs.Design.Ref.{result}
 use Rattle.hw_model.specs.Weight.{leaf_count, reset_weight, register_weight, kind_weight, body_weight, weight_of, module_weight, weight}
@@ -84,6 +85,7 @@ module _ (inner : Name → ℕ) where
   weighs output ts n kind plain types = omega arith
   weighs (register f r) ts n kind plain types =
       some_times (register_weight f + reset_weight r) (leaf_count ts) (let some = register_weighs f in omega (arith, some)) (leaves_of_all ts plain ∙ types)
+  weighs async_firreg ts n kind plain types = some_times (register_weight firreg + reset_weight sync_reset) (leaf_count ts) (omega arith) (leaves_of_all ts plain ∙ types)
 
   -- an instance weighs more than its results are
   instance_weighs : (kind : Kind) (ts : List HwType) (n count : ℕ) → is_some (instance_in kind) ≡ true → list_any is_aggregate ts ≡ false → count ≡ result_count kind ts

@@ -7,7 +7,7 @@ use Rattle.hw_model.specs.Kinds.{Instance}
 use Rattle.hw_model.specs.Design.{Ref, Port, OpResult, Op, Module, Design, RegisterForm, same_name, find_module, instance_in, register_form, result_type, output_refs}
 use Rattle.hw_model.specs.Design.Ref.{result}
 use Rattle.hw_model.specs.Equality.{name_self, name_from}
-use Rattle.hw_model.specs.Flat.{Path, width_of, module_at, instance_state, op_state, body_state, module_state, state_of, state, base, before_instance, state_before, held_width, Register, register_in}
+use Rattle.hw_model.specs.Flat.{Path, width_of, module_at, instance_state, op_state, body_state, module_state, state_of, state, base, before_instance, state_before, held_width, Register, ResetBy, register_in, async_reset_in}
 use Rattle.hw_model.proofs.Sorts.{Sort, sort_of}
 use Rattle.hw_model.proofs.Sorts.Sort.{a_register, an_instance as is_an_instance, an_output, a_made}
 use Rattle.hw_model.proofs.Content.{before_position}
@@ -18,7 +18,7 @@ use Rattle.verilog_expr.specs.Spilling.{is_wire_kind, spilled}
 use Rattle.export_verilog.specs.Identifiers.{Identifier, Emission, each, emission_of, module_identifiers, identifier_text, value_name, name_or_nothing}
 use Rattle.export_verilog.specs.Identifiers.Identifier.{port_identifier, value_identifier, instance_identifier}
 use Rattle.export_verilog.specs.Identifiers.Emission.{inline, as_wire, as_reg, as_instance}
-use Rattle.export_verilog.specs.Exported.{symbol_name, expression, result_wires, declared_as, declares, block_of, always_of, instance_of, stated_as, states, output_assigns, expr_or_none, others, vitems, vmodule, tree_of}
+use Rattle.export_verilog.specs.Exported.{symbol_name, expression, result_wires, declared_as, declares, module_block, always_of, instance_of, stated_as, states, output_assigns, expr_or_none, others, vitems, vmodule, tree_of}
 use Rattle.export_verilog.proofs.names.IdentifierNames.{AreNames, texts_apart}
 use Rattle.export_verilog.proofs.names.IdentifiersOf.{emission_of_register, emission_of_instance, emission_of_output, emission_of_made, instance_of_emission, register_of_emission, variable_in, instance_in_identifiers}
 use Rattle.export_verilog.proofs.names.Symbols.{vmodule_found}
@@ -113,9 +113,9 @@ module _ (d : Design) (x : Setting d) (s : Name) (m : Module) (is : find_module 
           let emission = emission_of_register m.ports m.body i o h r in
           let g' = register_of d x s m is i o there emission in
           by_emission as_reg emission
-          ∙ ap (λ z. items_state f (vmodule d m) (always_of m (identifier_text m (value_identifier i 0)) z)) g'.1
-          ∙ add-zero (width_in (vmodule d m) (block_target (block_of (expression m) (identifier_text m (value_identifier i 0)) g'.0.next g'.0.enable g'.0.reset)))
-          ∙ ap (width_in (vmodule d m)) (block_name d x s m is s [] i g'.0) ∙ variable_width i o there emission ∙ sym (at_register h r)
+          ∙ ap (λ z. items_state f (vmodule d m) (always_of m (identifier_text m (value_identifier i 0)) (async_reset_in o) z)) g'.1
+          ∙ add-zero (width_in (vmodule d m) (block_target (module_block m (identifier_text m (value_identifier i 0)) g'.0 (async_reset_in o))))
+          ∙ ap (width_in (vmodule d m)) (block_name d x s m is s [] i g'.0 (async_reset_in o)) ∙ variable_width i o there emission ∙ sym (at_register h r)
       go (is_an_instance k r n u) =
           let emission = emission_of_instance m.ports m.body i o k r n in
           let c = called_by_emission d x s m is i o there emission in
@@ -203,11 +203,11 @@ module _ (d : Design) (x : Setting d) (s : Name) (m : Module) (is : find_module 
           test = loads (identifier_text m (value_identifier i 0))
 
           in_block : (a : ℕ) (z : Op) → a < i → slice_get m.body a ≡ Some z → emission_of m.ports m.body a z ≡ as_reg → (r : Option Register) (y : Item)
-              → In y (always_of m (identifier_text m (value_identifier a 0)) r) → loads (identifier_text m (value_identifier i 0)) y ≡ false
+              → In y (always_of m (identifier_text m (value_identifier a 0)) (async_reset_in z) r) → loads (identifier_text m (value_identifier i 0)) y ≡ false
           in_block a z below at emission' None y here = absurd here
           in_block a z below at emission' (Some r) y (inl same) =
               ap (loads (identifier_text m (value_identifier i 0))) same
-              ∙ ap (λ n. same_name n (identifier_text m (value_identifier i 0))) (block_name d x s m is s [] a r)
+              ∙ ap (λ n. same_name n (identifier_text m (value_identifier i 0))) (block_name d x s m is s [] a r (async_reset_in z))
               ∙ apart (value_identifier a 0) (value_identifier i 0) (variable_in m a z at emission') (variable_in m i o there emission) (λ e. (let h : a ≡ i = cc in omega arith))
           in_block a z below at emission' (Some r) y (inr never) = absurd never
 
@@ -231,16 +231,16 @@ module _ (d : Design) (x : Setting d) (s : Name) (m : Module) (is : find_module 
           passes r =
               let g' = register_of d x s m is i o there emission in
               ap (λ z. until (loads (identifier_text m (value_identifier i 0))) (stated_as d m i o z ++ r)) emission
-              ∙ ap (λ z. until (loads (identifier_text m (value_identifier i 0))) (always_of m (identifier_text m (value_identifier i 0)) z ++ r)) g'.1
-              ∙ ap (λ b. cond b [] (always (name_or_nothing (value_name m g'.0.clock)) (block_of (expression m) (identifier_text m (value_identifier i 0)) g'.0.next g'.0.enable g'.0.reset) ∷ until (loads (identifier_text m (value_identifier i 0))) r))
-              (ap (λ n. same_name n (identifier_text m (value_identifier i 0))) (block_name d x s m is s [] i g'.0) ∙ name_self (identifier_text m (value_identifier i 0)))
+              ∙ ap (λ z. until (loads (identifier_text m (value_identifier i 0))) (always_of m (identifier_text m (value_identifier i 0)) (async_reset_in o) z ++ r)) g'.1
+              ∙ ap (λ b. cond b [] (always (name_or_nothing (value_name m g'.0.clock)) (module_block m (identifier_text m (value_identifier i 0)) g'.0 (async_reset_in o)) ∷ until (loads (identifier_text m (value_identifier i 0))) r))
+              (ap (λ n. same_name n (identifier_text m (value_identifier i 0))) (block_name d x s m is s [] i g'.0 (async_reset_in o)) ∙ name_self (identifier_text m (value_identifier i 0)))
 
     pub state_before_instance : (i : ℕ) (o : Op) → slice_get m.body i ≡ Some o → emission_of m.ports m.body i o ≡ as_instance
         → items_state f (vmodule d m) (until (is_instance_named (identifier_text m (instance_identifier i))) (vitems d m)) ≡ body_state g (take i m.body)
     state_before_instance i o there emission =
         state_before_op (is_instance_named (identifier_text m (instance_identifier i))) i o there
         (not_declares (is_instance_named (identifier_text m (instance_identifier i))) (λ h n. refl) (λ h n. refl)) earlier passes where
-          in_block : (a : ℕ) (z : Op) (r : Option Register) (y : Item) → In y (always_of m (identifier_text m (value_identifier a 0)) r) → is_instance_named (identifier_text m (instance_identifier i)) y ≡ false
+          in_block : (a : ℕ) (z : Op) (r : Option Register) (y : Item) → In y (always_of m (identifier_text m (value_identifier a 0)) (async_reset_in z) r) → is_instance_named (identifier_text m (instance_identifier i)) y ≡ false
           in_block a z None y here = absurd here
           in_block a z (Some r) y (inl same) = ap (is_instance_named (identifier_text m (instance_identifier i))) same
           in_block a z (Some r) y (inr never) = absurd never

@@ -163,6 +163,12 @@ module _ (d : Design) (x : Setting d) (top : Name) (inputs content : Word) where
       made_worth i k o t there gives typed hold =
           body_worth (value_name m) m.ports m.body (expression m) (width_in (vmodule d m)) (names_at (vpath_of d top p) σ) can_write no_inner_cycle are_exprs names_fit i k o t there gives typed hold
 
+      -- what is assigned to a made value has its bits
+      pub assigned_bits : (i : ℕ) (o : Op) (t : HwType) → slice_get m.body i ≡ Some o → gives_values o ≡ true → result_type o 0 ≡ Some t
+          → HasBits (width_in (vmodule d m)) (names_at (vpath_of d top p) σ) (width t) (assigned_expr m (result i 0))
+      assigned_bits i o t there gives typed =
+          body_own_bits (value_name m) m.ports m.body (expression m) (width_in (vmodule d m)) (names_at (vpath_of d top p) σ) can_write no_inner_cycle are_exprs names_fit i 0 o t there gives typed
+
       pub own_unnamed : (r : Ref) → value_name m r ≡ None → own σ p m r ≡ own_value (width_in (vmodule d m)) (names_at (vpath_of d top p) σ) (assigned_expr m r)
       own_unnamed r e = ap (own_value (width_in (vmodule d m)) (names_at (vpath_of d top p) σ))
           (is_own (value_name m) m.ports m.body (expression m) (width_in (vmodule d m)) (names_at (vpath_of d top p) σ) are_exprs r e)
@@ -177,7 +183,7 @@ module _ (d : Design) (x : Setting d) (top : Name) (inputs content : Word) where
           ap₂ (λ w z. drive_value (tree_of d) (symbol_name d top) inputs content σ w z) (result_width_is i 0 o t there typed) (drive_net d x top p m here i o there emission)
           ∙ ap (λ v. assigned (width_at v) (names_at (vpath_of d top p) σ) (width t) (assigned_expr m (result i 0))) (vplace d x top p m here)
           ∙ assigned_same (width_in (vmodule d m)) (names_at (vpath_of d top p) σ) (width t) (assigned_expr m (result i 0))
-          (body_own_bits (value_name m) m.ports m.body (expression m) (width_in (vmodule d m)) (names_at (vpath_of d top p) σ) can_write no_inner_cycle are_exprs names_fit i 0 o t there gives typed)
+          (assigned_bits i o t there gives typed)
           ∙ made_worth i 0 o t there gives typed hold
 
     -- what drives a thing's net gives as many bits as it has

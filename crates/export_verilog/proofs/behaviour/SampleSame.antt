@@ -1,5 +1,5 @@
 -- A register with enable and reset meets what the theorem asks, and so behaves in Verilog as it does.
-use Rattle.std.proofs.Common.{◌≡◌, ℕ, zero, suc, ◌+◌, ◌<◌, ◌≤◌, ◌^◌, Bool, true, false, cond, [], ◌∷◌, length, slice_get, Option, Some, None, pos, refl, ap, subst, arith, codes}
+use Rattle.std.proofs.Common.{◌≡◌, ℕ, zero, suc, ◌+◌, ◌<◌, ◌≤◌, ◌^◌, Bool, true, false, cond, [], ◌∷◌, length, slice_get, Option, Some, None, pos, refl, sym, ◌∙◌, ap, subst, inl, inr, arith, codes}
 use Rattle.wiring.specs.Wiring.{In}
 use Rattle.wiring.specs.Options.{bind}
 use Rattle.hw_model.specs.Types.{Name, HwType, width}
@@ -9,7 +9,8 @@ use Rattle.hw_model.specs.Kinds.Kind.{constant, output, register}
 use Rattle.hw_model.specs.Kinds.Reset.{sync_reset}
 use Rattle.hw_model.specs.Design.{Ref, Port, OpResult, Op, Module, Design, same_name, find_module, callee}
 use Rattle.hw_model.specs.Design.Ref.{port, result, undefined}
-use Rattle.hw_model.specs.Flat.{Path, source_at, module_at, instances, input_source, copy_of, joined_at, result_source, Register, register_in}
+use Rattle.hw_model.specs.Flat.{Path, source_at, module_at, instances, input_source, copy_of, joined_at, result_source, Register, ResetBy, register_in, async_reset_in}
+use Rattle.hw_model.specs.Resets.{ResetsFromPorts}
 use Rattle.hw_model.specs.Meaning.{needs_of, HasNoCycle, machine}
 use Rattle.hw_model.specs.Machine.{Same}
 use Rattle.hw_model.specs.Hierarchy.{calls, callee_symbols, HasNoRecursion}
@@ -232,6 +233,30 @@ module_exportable = record {
   room = identifier_room;
 }
 
+-- ---- it has no asynchronous reset
+
+within_body : (s : Name) (m : Module) (o : Op) → find_module one_register s ≡ Some m → In o m.body → In o register_module.body
+within_body s m o is within = subst (λ (z : Module). In o z.body) (sym (found_is s m is)) within
+
+no_reset : (o : Op) (r : ResetBy) → In o register_module.body → async_reset_in o ≡ Some r → ⊥
+no_reset o r (inl e) is = absurd (let h : None ≡ Some r = sym (ap async_reset_in e) ∙ is in cc)
+no_reset o r (inr (inl e)) is = absurd (let h : None ≡ Some r = sym (ap async_reset_in e) ∙ is in cc)
+no_reset o r (inr (inr (inl e))) is = absurd (let h : None ≡ Some r = sym (ap async_reset_in e) ∙ is in cc)
+no_reset o r (inr (inr (inr never))) is = never
+
+no_callee : (o : Op) (c : Module) → In o register_module.body → callee one_register o ≡ Some c → ⊥
+no_callee o c (inl e) is = absurd (let h : None ≡ Some c = sym (ap (callee one_register) e) ∙ is in cc)
+no_callee o c (inr (inl e)) is = absurd (let h : None ≡ Some c = sym (ap (callee one_register) e) ∙ is in cc)
+no_callee o c (inr (inr (inl e))) is = absurd (let h : None ≡ Some c = sym (ap (callee one_register) e) ∙ is in cc)
+no_callee o c (inr (inr (inr never))) is = never
+
+no_resets : ResetsFromPorts one_register (λ m j. false)
+no_resets = record {
+  signals = λ s m o r is within at. absurd (no_reset o r (within_body s m o is within) at);
+  values = λ s m o r is within at. absurd (no_reset o r (within_body s m o is within) at);
+  joined = λ s m o c r is within at given. absurd (no_callee o c (within_body s m o is within) at);
+}
+
 pub register_is_exportable : IsExportable one_register
 register_is_exportable = record {
   sound = sound;
@@ -240,6 +265,8 @@ register_is_exportable = record {
   acyclic = acyclic;
   modules = each_module;
   room = (let h : 131 < 2 ^ 64 = omega arith in h);
+  marked = λ m j. false;
+  resets = no_resets;
 }
   where
     distinct : (i j : ℕ) (m n : Module) → slice_get one_register i ≡ Some m → slice_get one_register j ≡ Some n → m.symbol ≡ n.symbol → i ≡ j

@@ -1,41 +1,48 @@
--- The registers of a design and those of its tree stand in the same order, and take the same values.
-use Rattle.std.proofs.Common.{◌≡◌, ℕ, zero, suc, ◌+◌, Bool, true, false, cond, ◌||◌, is_some, List, [], ◌∷◌, ◌++◌, length, take, drop, slice_get, Option, Some, None, refl, sym, ◌∙◌, ap, ap₂, subst, inr, zero-add, add-zero, suc-add, add-suc, append_assoc, append-nil, arith}
+-- The registers of a design and those of its tree stand in the same order, and load the same values.
+use Rattle.std.proofs.Common.{◌≡◌, ℕ, zero, suc, ◌+◌, Bool, true, false, cond, ◌||◌, is_some, List, [], ◌∷◌, ◌++◌, map, length, take, drop, slice_get, Option, Some, None, refl, sym, ◌∙◌, ap, ap₂, subst, inr, zero-add, add-zero, suc-add, add-suc, append_assoc, append-nil, arith}
 use Rattle.wiring.specs.Options.{omap}
+use Rattle.wiring.specs.Wiring.{In}
+use Rattle.wiring.proofs.Members.{In-slice_get}
 use Rattle.bits_core.specs.Word.{Word, first}
 use Rattle.hw_model.specs.Types.{Name, HwType, width}
 use Rattle.hw_model.specs.Types.HwType.{int, clock}
-use Rattle.hw_model.specs.Design.{Ref, Port, OpResult, Op, Module, Design, find_module, instance_in, register_form, is_instance, result_type, output_refs}
+use Rattle.hw_model.specs.Design.{Ref, Port, OpResult, Op, Module, Design, find_module, instance_in, register_form, is_instance, is_output_kind, result_type, output_refs}
 use Rattle.hw_model.specs.Design.Ref.{result}
-use Rattle.hw_model.specs.Value.{is_high}
-use Rattle.hw_model.specs.Flat.{Path, Net, net as at, module_at, instances, width_of, held_width, Slot, Register, ResetBy, register_in, instance_registers, op_registers, body_registers, registers_of, module_registers, registers, depth}
-use Rattle.hw_model.specs.Meaning.{value_if_enabled, reset, next_value, map_slots, next_in, next_content, rise_in, risen_content}
+use Rattle.hw_model.specs.Value.{op_value, is_high}
+use Rattle.hw_model.specs.Flat.Source.{op_result}
+use Rattle.hw_model.specs.Flat.{Path, Net, net as at, module_at, instances, width_of, held_width, Slot, Register, ResetBy, register_in, async_reset_in, instance_registers, op_registers, body_registers, registers_of, module_registers, registers, depth}
+use Rattle.hw_model.specs.Meaning.{value_if_enabled, reset, next_value, map_slots, next_in, next_content}
 use Rattle.hw_model.specs.Sound.{type_in}
 use Rattle.hw_model.proofs.Sorts.{Sort, sort_of}
 use Rattle.hw_model.proofs.Sorts.Sort.{a_register, an_instance as is_an_instance, an_output, a_made}
 use Rattle.hw_model.proofs.NetWidths.{value_widths}
 use Rattle.verilog_model.specs.Tree.{Item, VModule}
+use Rattle.verilog_model.specs.Tree.Expr.{name}
 use Rattle.verilog_model.specs.Tree.Item.{assign}
-use Rattle.verilog_model.specs.Expression.{is_true, low_bits}
+use Rattle.verilog_model.specs.Expression.{assigned, own_value, is_true, low_bits}
 use Rattle.verilog_model.specs.Hierarchy.{VPath, VNet, vnet, width_in, VSlot, item_registers, items_registers, vregisters_of, vmodule_registers, vregisters}
-use Rattle.verilog_model.specs.Meaning.{names_at, load_value, holds, block_value, slot_value, slot_width, map_vslots, slot_next, next_vcontent, slot_rise, risen_vcontent}
+use Rattle.verilog_model.specs.Meaning.{names_at, load_value, holds, block_value, slot_value, slot_width, map_vslots, slot_next, next_vcontent}
 use Rattle.verilog_expr.specs.Spilling.{is_wire_kind, spilled}
+use Rattle.verilog_expr.specs.Expressions.{constant_expr}
 use Rattle.verilog_expr.specs.Values.{HasBits}
 use Rattle.verilog_expr.proofs.Assigned.{assigned_same}
 use Rattle.export_verilog.specs.Identifiers.{Emission, each, emission_of, identifier_text, value_name, name_or_nothing}
 use Rattle.export_verilog.specs.Identifiers.Identifier.{port_identifier, value_identifier, instance_identifier}
 use Rattle.export_verilog.specs.Identifiers.Emission.{inline, as_wire, as_reg, as_instance}
 use Rattle.export_verilog.specs.Exportable.{IsClocked}
-use Rattle.export_verilog.specs.Exported.{symbol_name, expression, result_wires, declared_as, declares, loads, block_of, always_of, instance_of, stated_as, states, output_assigns, expr_or_none, others, vitems, vmodule, tree_of}
+use Rattle.export_verilog.specs.Exported.{symbol_name, expression, assigned_expr, result_wires, declared_as, declares, loads, block_of, module_block, always_of, instance_of, stated_as, states, output_assigns, expr_or_none, others, vitems, vmodule, tree_of}
 use Rattle.export_verilog.proofs.names.IdentifiersOf.{emission_of_register, emission_of_instance, emission_of_output, emission_of_made}
 use Rattle.export_verilog.proofs.names.Symbols.{vmodule_found}
 use Rattle.export_verilog.proofs.items.Settings.{Setting, module_ok, called_by_emission, first_result}
-use Rattle.export_verilog.proofs.items.Registers.{AreOperands, typed_register, register_of}
+use Rattle.export_verilog.proofs.items.Registers.{AreOperands, async_parts_of, typed_register, register_of}
+use Rattle.export_verilog.proofs.items.Resets.{signal_port, IsValueOf, value_of_reset, literal_own}
+use Rattle.export_verilog.proofs.behaviour.Sources.{made_from}
 use Rattle.export_verilog.proofs.items.Drives.{block_name}
 use Rattle.export_verilog.proofs.behaviour.Places.{number_of, vpath_of, symbol_at_path, inside_instance}
 use Rattle.export_verilog.proofs.behaviour.Content.{variable_width}
 use Rattle.export_verilog.proofs.items.Writable.{named_input}
 use Rattle.export_verilog.proofs.items.Writable.NamedAs.{by_port}
-use Rattle.export_verilog.proofs.behaviour.NetValues.{low_all, IsGood, symbol_there, found_there, own_bits}
+use Rattle.export_verilog.proofs.behaviour.NetValues.{low_all, constant_form, own, evaluated_as, IsGood, symbol_there, found_there, own_bits, made_worth, assigned_bits}
 use Rattle.export_verilog.proofs.behaviour.NetMaps.{IsDesignSettled}
 use Rattle.export_verilog.proofs.behaviour.Owners.{to}
 use Rattle.export_verilog.proofs.behaviour.SettledMaps.{heights, over_good, name_shows, own_is}
@@ -88,12 +95,12 @@ number_next (y ∷ ys) (suc j) o is = go (is_instance y) (is_instance o) (number
 
 module _ (d : Design) (x : Setting d) (top : Name) where
   -- the register that a variable of the tree is
-  abbrev pub vslot : VPath → Module → ℕ → Register → VSlot
-  vslot q m i r = record {
+  abbrev pub vslot : VPath → Module → ℕ → Register → Option ResetBy → VSlot
+  vslot q m i r a = record {
     path = q;
     in_module = vmodule d m;
     clock = name_or_nothing (value_name m r.clock);
-    block = block_of (expression m) (identifier_text m (value_identifier i 0)) r.next r.enable r.reset;
+    block = module_block m (identifier_text m (value_identifier i 0)) r a;
   }
 
   pub record IsSlot (s : Slot) (v : VSlot) : Type 0 where
@@ -104,7 +111,7 @@ module _ (d : Design) (x : Setting d) (top : Name) where
     pub emission : emission_of m.ports m.body place s.op ≡ as_reg
     pub parts : Register
     pub is_parts : register_in s.op ≡ Some parts
-    pub same : v ≡ vslot (vpath_of d top s.path) m place parts
+    pub same : v ≡ vslot (vpath_of d top s.path) m place parts (async_reset_in s.op)
 
   abbrev pub AreSlots : List Slot → List VSlot → Type 0
   AreSlots [] [] = Unit {0}
@@ -144,7 +151,7 @@ module _ (d : Design) (x : Setting d) (top : Name) where
           let parts = register_of d x s m is i o there emission in
           from_emission as_reg emission (record { path = p; op = o } ∷ [])
           (ap (λ z. cond (is_some z) (record { path = p; op = o } ∷ []) (instance_registers f p (number_of m.body i) (instance_in o.kind))) r)
-          (subst (λ z. AreSlots (record { path = p; op = o } ∷ []) (items_of (always_of m (identifier_text m (value_identifier i 0)) z))) (sym parts.1)
+          (subst (λ z. AreSlots (record { path = p; op = o } ∷ []) (items_of (always_of m (identifier_text m (value_identifier i 0)) (async_reset_in o) z))) (sym parts.1)
           (record { m = m; here = here; place = i; there = there; emission = emission; parts = parts.0; is_parts = parts.1; same = refl }, tt))
       by_sort (is_an_instance k r n u) =
           let emission = emission_of_instance m.ports m.body i o k r n in
@@ -250,6 +257,60 @@ module _ (d : Design) (x : Setting d) (top : Name) (inputs content : Word) (m0 :
           (holds_is f.signal (typed.signal f fe)) (reset_is f fe)
           ∙ ap₂ (λ b v. cond (is_high (ρ (at p f.signal))) (ρ (at p f.value)) (cond b v old)) (holds_is e (typed.enable e ee)) next_is
 
+    -- ---- asynchronous resets
+
+    -- the net of the reset's name shows the signal
+    pub signal_is : (o : Op) (b : ResetBy) → In o m.body → async_reset_in o ≡ Some b → type_in m.ports m.body b.signal ≡ Some (int 1)
+        → low_bits 1 (over (vnet (vpath_of d top p) (name_or_nothing (value_name m b.signal)))) ≡ ρ (at p b.signal)
+    signal_is o b within resets typed =
+        let c = signal_port d x (symbol_there d x top inputs content p m here) m (found_there d x top inputs content p m here) o b within resets in
+        ap (λ n. low_bits 1 (over (vnet (vpath_of d top p) n))) c.called
+        ∙ ap (low_bits 1) (name_shows d x top inputs content m0 top_is ρ settled p m here b.signal (identifier_text m (port_identifier c.number)) (by_port c.number c.port_of c.there c.input c.is_port refl))
+        ∙ low_all 1 (ρ (at p b.signal)) (typed_length b.signal (int 1) typed)
+
+    signal_holds : (o : Op) (b : ResetBy) → In o m.body → async_reset_in o ≡ Some b → type_in m.ports m.body b.signal ≡ Some (int 1)
+        → holds (vmodule d m) (names_at (vpath_of d top p) over) (name (name_or_nothing (value_name m b.signal))) ≡ is_high (ρ (at p b.signal))
+    signal_holds o b within resets typed =
+        let c = signal_port d x (symbol_there d x top inputs content p m here) m (found_there d x top inputs content p m here) o b within resets in
+        ap (λ n. holds (vmodule d m) (names_at (vpath_of d top p) over) (name n)) c.called
+        ∙ ap (holds (vmodule d m) (names_at (vpath_of d top p) over)) (sym c.written) ∙ holds_is b.signal typed
+
+    -- what is assigned to a constant is worth the constant
+    constant_worth : (r : Ref) (t : HwType) (v : IsValueOf d x (symbol_there d x top inputs content p m here) m (found_there d x top inputs content p m here) r t)
+        → own_value (width_in (vmodule d m)) (names_at (vpath_of d top p) over) (assigned_expr m (result v.place 0)) ≡ ρ (at p r)
+    constant_worth r t v =
+        let form = constant_form v.op.kind v.number v.kind in
+        made_worth d x top inputs content p m here over good.words v.place 0 v.op t v.there v.gives v.typed (λ e. good.constants p m here)
+        ∙ ap (λ k. op_value k v.op.types t 0 (map (own d x top inputs content over p m) v.op.operands)) v.kind
+        ∙ sym (ap (λ k. op_value k v.op.types t 0 (map ρ (map (at p) v.op.operands))) v.kind)
+        ∙ sym (ap (λ z. ρ (at p z)) v.is_result ∙ settled (at p (result v.place 0))
+        ∙ evaluated_as d x top inputs content ρ p (result v.place 0) (op_result v.op.kind v.op.types t 0 (map (at p) v.op.operands))
+        (made_from d top p m here v.place 0 v.op t v.there form.0 form.1 (ap is_output_kind v.kind) v.typed))
+
+    -- the load of the literal gives the reset's value
+    pub literal_is : (o : Op) (b : ResetBy) → In o m.body → async_reset_in o ≡ Some b → (t : HwType) → type_in m.ports m.body b.value ≡ Some t → (q : Name)
+        → load_value (vmodule d m) (names_at (vpath_of d top p) over) (width t) (loads q (constant_expr m.ports m.body b.value)) ≡ ρ (at p b.value)
+    literal_is o b within resets t typed q =
+        let s = symbol_there d x top inputs content p m here in
+        let f = found_there d x top inputs content p m here in
+        let v = value_of_reset d x s m f o b within resets t typed in
+        ap (assigned (width_in (vmodule d m)) (names_at (vpath_of d top p) over) (width t)) (literal_own d x s m f b.value t v)
+        ∙ assigned_same (width_in (vmodule d m)) (names_at (vpath_of d top p) over) (width t) (assigned_expr m (result v.place 0))
+        (assigned_bits d x top inputs content p m here over good.words v.place v.op t v.there v.gives v.typed)
+        ∙ constant_worth b.value t v
+
+    -- where its clock rises a register with an asynchronous reset loads as one with a synchronous reset
+    any_block_is : (i : ℕ) (o : Op) (t : HwType) (g : Register) (a : Option ResetBy) → In o m.body → register_in o ≡ Some g → async_reset_in o ≡ a → AreOperands (type_in m.ports m.body) t g → (old : Word)
+        → block_value (vmodule d m) (names_at (vpath_of d top p) over) (width t) old (module_block m (identifier_text m (value_identifier i 0)) g a)
+        ≡ reset g.reset (λ r. ρ (at p r)) (value_if_enabled g.enable (λ r. ρ (at p r)) old (ρ (at p g.next)))
+    any_block_is i o t g None within is_register_of resets typed old = block_is i t g typed old
+    any_block_is i o t g (Some b) within is_register_of resets typed old =
+        let parts = async_parts_of o b resets g is_register_of in
+        ap₂ (λ c (w : Word × Word). cond c w.0 w.1) (signal_holds o b within resets (typed.signal b parts.0))
+        (ap₂ (λ v w. (v, w)) (literal_is o b within resets t (typed.value b parts.0) (identifier_text m (value_identifier i 0)))
+        (load_is (width t) (identifier_text m (value_identifier i 0)) g.next t typed.next refl))
+        ∙ sym (ap₂ (λ f k. reset f (λ r. ρ (at p r)) (value_if_enabled k (λ r. ρ (at p r)) old (ρ (at p g.next)))) parts.0 parts.1)
+
     -- the clock's net shows the clock
     clock_is : (i : ℕ) (o : Op) (g : Register) → slice_get m.body i ≡ Some o → register_in o ≡ Some g → type_in m.ports m.body g.clock ≡ Some clock
         → low_bits 1 (over (vnet (vpath_of d top p) (name_or_nothing (value_name m g.clock)))) ≡ ρ (at p g.clock)
@@ -261,9 +322,9 @@ module _ (d : Design) (x : Setting d) (top : Name) (inputs content : Word) (m0 :
         ∙ ap (low_bits 1) (name_shows d x top inputs content m0 top_is ρ settled p m here g.clock (identifier_text m (port_identifier c.number)) (by_port c.number c.clock c.there c.input c.is_port refl))
         ∙ low_all 1 (ρ (at p g.clock)) (typed_length g.clock clock typed)
 
-  slot_width_is : (s : Slot) (v : VSlot) → IsSlot d x top s v → slot_width v ≡ held_width s.op
+  pub slot_width_is : (s : Slot) (v : VSlot) → IsSlot d x top s v → slot_width v ≡ held_width s.op
   slot_width_is s v is = let h = symbol_at_path d x top s.path is.m is.here in
-      ap slot_width is.same ∙ ap (width_in (vmodule d is.m)) (block_name d x h.0 is.m h.1 top [] is.place is.parts) ∙ variable_width d x h.0 is.m h.1 is.place s.op is.there is.emission
+      ap slot_width is.same ∙ ap (width_in (vmodule d is.m)) (block_name d x h.0 is.m h.1 top [] is.place is.parts (async_reset_in s.op)) ∙ variable_width d x h.0 is.m h.1 is.place s.op is.there is.emission
 
   slot_is : (s : Slot) (v : VSlot) → IsSlot d x top s v → (old : Word) → slot_value over (held_width s.op) old v ≡ next_value (register_in s.op) (λ r. ρ (at s.path r)) old
   slot_is s v is old =
@@ -274,15 +335,16 @@ module _ (d : Design) (x : Setting d) (top : Name) (inputs content : Word) (m0 :
       let parts : Some is.parts ≡ Some g.0 = sym is.is_parts ∙ g.1 in
       let one : is.parts ≡ g.0 = cc in
       let wide : held_width s.op ≡ width r.0.type = ap width_of typed in
-      ap₂ (λ k z. slot_value over k old z) wide (is.same ∙ ap (vslot d x top (vpath_of d top s.path) is.m is.place) one)
-      ∙ ap₂ (λ c b. cond (is_high c) b old) (clock_is s.path is.m is.here is.place s.op g.0 is.there g.1 g.2.clocked) (block_is s.path is.m is.here is.place r.0.type g.0 g.2 old)
+      ap₂ (λ k z. slot_value over k old z) wide (is.same ∙ ap (λ z. vslot d x top (vpath_of d top s.path) is.m is.place z (async_reset_in s.op)) one)
+      ∙ ap₂ (λ c b. cond (is_high c) b old) (clock_is s.path is.m is.here is.place s.op g.0 is.there g.1 g.2.clocked) 
+      (any_block_is s.path is.m is.here is.place s.op r.0.type g.0 (async_reset_in s.op) (In-slice_get s.op is.m.body is.place is.there) g.1 refl g.2 old)
       ∙ sym (ap (λ z. next_value z (λ r. ρ (at s.path r)) old) g.1)
 
   next_in_is : (s : Slot) (v : VSlot) → IsSlot d x top s v → (old : Word) → slot_next over v old ≡ next_in ρ s old
   next_in_is s v is old = ap (λ k. slot_value over k old v) (slot_width_is s v is) ∙ slot_is s v is old
 
   -- where each slot of the tree gives what that of the design gives, so do all
-  map_slots_is : (gives : Slot → Word → Word) (vgives : VSlot → Word → Word)
+  pub map_slots_is : (gives : Slot → Word → Word) (vgives : VSlot → Word → Word)
       → ((s : Slot) (v : VSlot) → IsSlot d x top s v → (old : Word) → vgives v old ≡ gives s old)
       → (ss : List Slot) (vs : List VSlot) → AreSlots d x top ss vs → (c : Word) → map_vslots vgives vs c ≡ map_slots gives ss c
   map_slots_is gives vgives alike [] [] are c = refl
@@ -295,8 +357,3 @@ module _ (d : Design) (x : Setting d) (top : Name) (inputs content : Word) (m0 :
 
   pub next_is : (ss : List Slot) (vs : List VSlot) → AreSlots d x top ss vs → (c : Word) → next_vcontent vs over c ≡ next_content ss ρ c
   next_is ss vs are c = map_slots_is (next_in ρ) (slot_next over) next_in_is ss vs are c
-
-  -- no register of the design has an asynchronous reset, and no block of the tree has a second event
-  pub risen_is : (σ : Net → Word) (ss : List Slot) (vs : List VSlot) → AreSlots d x top ss vs → (c : Word)
-      → risen_vcontent vs (to d x top m0 top_is σ) over c ≡ risen_content ss σ ρ c
-  risen_is σ ss vs are c = map_slots_is (rise_in σ ρ) (slot_rise (to d x top m0 top_is σ) over) (λ s v is old. refl) ss vs are c

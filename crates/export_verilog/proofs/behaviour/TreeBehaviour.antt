@@ -25,7 +25,8 @@ use Rattle.export_verilog.proofs.behaviour.Content.{state_is}
 use Rattle.export_verilog.proofs.behaviour.NetMaps.{back, back_settled}
 use Rattle.export_verilog.proofs.behaviour.Owners.{to, to_identifier, output_shows}
 use Rattle.export_verilog.proofs.behaviour.SettledMaps.{over_settled, round}
-use Rattle.export_verilog.proofs.behaviour.Slots.{are_slots, next_is, risen_is}
+use Rattle.export_verilog.proofs.behaviour.Slots.{are_slots, next_is}
+use Rattle.export_verilog.proofs.behaviour.Rises.{risen_is}
 
 -- the words of the output ports, where each shows what its module gives to it
 outputs_show : (σ : VNet → Word) (ρ : Net → Word) (m : Module) (type_of : Ref → Option HwType) (j : ℕ) (ps : List Port) (rs : List Ref)
@@ -92,7 +93,7 @@ module _ (d : Design) (x : Setting d) (top : Name) (m0 : Module) (top_is : find_
     next = λ inputs content ρ settled.
         next_is d x top inputs content m0 top_is ρ settled (registers d top) (vregisters (tree_of d) (symbol_name d top)) (are_slots d x top m0 top_is) content;
     rising = λ before inputs content ρ σ settled settled'.
-        risen_is d x top inputs content m0 top_is σ settled' ρ (registers d top) (vregisters (tree_of d) (symbol_name d top)) (are_slots d x top m0 top_is) content;
+        risen_is d x top m0 top_is before inputs content ρ σ settled settled' (registers d top) (vregisters (tree_of d) (symbol_name d top)) (are_slots d x top m0 top_is) content;
   }
 
   pub module_same : Same (machine d top) (tree_machine (tree_of d) (symbol_name d top))

@@ -4,7 +4,7 @@ use Rattle.std.proofs.lemmas.List.{map-append}
 use Rattle.wiring.specs.Wiring.{In}
 use Rattle.hw_model.specs.Types.{Name}
 use Rattle.hw_model.specs.Design.{Port, OpResult, Op, Module, Design, output_refs, Ref}
-use Rattle.hw_model.specs.Flat.{Register, register_in}
+use Rattle.hw_model.specs.Flat.{Register, ResetBy, register_in, async_reset_in}
 use Rattle.verilog_model.specs.Tree.{Item}
 use Rattle.verilog_model.specs.Tree.Item.{assign}
 use Rattle.verilog_model.specs.Checks.{is_identifier, all_identifiers, names_check, are_distinct, Declared, declared_by, declared_ports, declared_items, declared_in}
@@ -82,14 +82,14 @@ module _ (m : Module) where
   block_names : (d : Design) (i : ℕ) (o : Op) → names_of (states d m i o) ≡ map (identifier_text m) (op_blocks i o)
   unfolding names_of name_of_declared
   block_names d i o = go (emission_of m.ports m.body i o) refl where
-    in_always : (q : Name) (r : Option Register) → names_of (always_of m q r) ≡ []
-    in_always q None = refl
-    in_always q (Some r) = refl
+    in_always : (q : Name) (a : Option ResetBy) (r : Option Register) → names_of (always_of m q a r) ≡ []
+    in_always q a None = refl
+    in_always q a (Some r) = refl
 
     go : (r : Emission) → emission_of m.ports m.body i o ≡ r → names_of (stated_as d m i o r) ≡ map (identifier_text m) (block_identifiers r i o)
     go inline e = refl
     go as_wire e = refl
-    go as_reg e = in_always (identifier_text m (value_identifier i 0)) (register_in o)
+    go as_reg e = in_always (identifier_text m (value_identifier i 0)) (async_reset_in o) (register_in o)
     go as_instance e = ap (λ z. names_of (instance_of d m i o z)) (instance_of_emission m.ports m.body i o e).2
 
   output_names : (j : ℕ) (ps : List Port) (rs : List Ref) → names_of (output_assigns m j ps rs) ≡ []

@@ -7,24 +7,24 @@ use Rattle.hw_model.specs.Types.{Name}
 use Rattle.hw_model.specs.Design.{Ref, Port, OpResult, Op, Module, Design, same_name, find_module, output_refs}
 use Rattle.hw_model.specs.Design.Ref.{result}
 use Rattle.hw_model.specs.Equality.{name_self, name_from}
-use Rattle.hw_model.specs.Flat.{Register, ResetBy}
+use Rattle.hw_model.specs.Flat.{async_reset_in}
 use Rattle.hw_model.specs.Sound.{output_types}
 use Rattle.verilog_model.specs.Tree.{Expr, Connection, Item, Tree}
 use Rattle.verilog_model.specs.Tree.Expr.{name}
 use Rattle.verilog_model.specs.Tree.Item.{assign, always}
-use Rattle.verilog_model.specs.Hierarchy.{find_vmodule, find_port, vports_of, block_target}
+use Rattle.verilog_model.specs.Hierarchy.{find_vmodule, find_port, vports_of}
 use Rattle.verilog_model.specs.Checks.{outputs_joined, driver_count}
 use Rattle.export_verilog.specs.Identifiers.{Identifier, Emission, same_identifier, value_name, name_or_nothing, each, emission_of, result_identifiers, identifier_text, module_identifiers}
 use Rattle.export_verilog.specs.Identifiers.Identifier.{port_identifier, value_identifier}
 use Rattle.export_verilog.specs.Identifiers.Emission.{inline, as_wire, as_reg, as_instance}
-use Rattle.export_verilog.specs.Exported.{symbol_name, expression, assigned_expr, expr_or_none, others, vports, vitems, tree_of, result_wires, declared_as, declares, block_of, always_of, connections_of, connections_to, instance_of, stated_as, states, output_assigns}
+use Rattle.export_verilog.specs.Exported.{symbol_name, expression, assigned_expr, expr_or_none, others, vports, vitems, tree_of, result_wires, declared_as, declares, module_block, always_of, connections_of, connections_to, instance_of, stated_as, states, output_assigns}
 use Rattle.export_verilog.proofs.names.IdentifierNames.{AreNames, identifier_self, identifier_from, texts_apart}
 use Rattle.export_verilog.proofs.names.IdentifiersOf.{in_results, port_in, net_in, variable_in, result_in_identifiers}
 use Rattle.export_verilog.proofs.names.Apart.{AreApart, joined_apart}
 use Rattle.export_verilog.proofs.names.Symbols.{vmodule_found}
 use Rattle.export_verilog.proofs.items.Lookups.{port_under, vport_at}
 use Rattle.export_verilog.proofs.items.Settings.{Setting, Called, called_by_emission}
-use Rattle.export_verilog.proofs.items.Registers.{register_of}
+use Rattle.export_verilog.proofs.items.Registers.{module_block_target, register_of}
 use Rattle.export_verilog.proofs.checks.Declares.{wire_identifiers, op_wires, each_apart, wires_placed, wires_apart, wire_kind}
 
 -- ---- how often a key stands in a list
@@ -173,23 +173,15 @@ module _ (d : Design) (x : Setting d) (s : Name) (m : Module) (is : find_module 
     by_identifier true f = ap (λ z. cond z 1 0 + 0) f
     by_identifier false f = ap (λ z. cond z 1 0 + 0) f
 
-  target_of : (ex : Ref → Expr) (q : Name) (r : Register) → block_target (block_of ex q r.next r.enable r.reset) ≡ q
-  target_of ex q r = go r.enable r.reset where
-    go : (e : Option Ref) (b : Option ResetBy) → block_target (block_of ex q r.next e b) ≡ q
-    go None None = refl
-    go (Some e) None = refl
-    go None (Some b) = refl
-    go (Some e) (Some b) = refl
-
   states_drive : (i : ℕ) (o : Op) → slice_get m.body i ≡ Some o → driver_count t (identifier_text m k) (states d m i o) ≡ identifier_count k (op_wires m i o)
   states_drive i o there = go (emission_of m.ports m.body i o) refl where
     go : (r : Emission) → emission_of m.ports m.body i o ≡ r → driver_count t (identifier_text m k) (stated_as d m i o r) ≡ identifier_count k (wire_identifiers r i o)
     go inline emission = refl
     go as_wire emission = one_driven (value_identifier i 0) (assign (identifier_text m (value_identifier i 0)) (assigned_expr m (result i 0))) (net_in m i o there emission) refl
     go as_reg emission = let r = register_of d x s m is i o there emission in
-        ap (λ z. driver_count t (identifier_text m k) (always_of m (identifier_text m (value_identifier i 0)) z)) r.1
-        ∙ one_driven (value_identifier i 0) (always (name_or_nothing (value_name m r.0.clock)) (block_of (expression m) (identifier_text m (value_identifier i 0)) r.0.next r.0.enable r.0.reset)) (variable_in m i o there emission)
-        (ap (λ z. cond (same_name z (identifier_text m k)) 1 0 + 0) (target_of (expression m) (identifier_text m (value_identifier i 0)) r.0))
+        ap (λ z. driver_count t (identifier_text m k) (always_of m (identifier_text m (value_identifier i 0)) (async_reset_in o) z)) r.1
+        ∙ one_driven (value_identifier i 0) (always (name_or_nothing (value_name m r.0.clock)) (module_block m (identifier_text m (value_identifier i 0)) r.0 (async_reset_in o))) (variable_in m i o there emission)
+        (ap (λ z. cond (same_name z (identifier_text m k)) 1 0 + 0) (module_block_target m (identifier_text m (value_identifier i 0)) r.0 (async_reset_in o)))
     go as_instance emission =
         let c : Called d m o = called_by_emission d x s m is i o there emission in
         let identifiers : out_identifiers i 0 c.module_of.ports ≡ result_identifiers i 0 o.results = out_identifiers_are i 0 c.module_of.ports o.results c.outputs in

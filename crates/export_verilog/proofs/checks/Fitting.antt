@@ -4,7 +4,7 @@ use Rattle.hw_model.specs.Types.{Name}
 use Rattle.hw_model.specs.Kinds.{Instance}
 use Rattle.hw_model.specs.Design.{Ref, Port, OpResult, Op, Module, Design, find_module, instance_in, output_refs}
 use Rattle.hw_model.specs.Design.Ref.{result}
-use Rattle.hw_model.specs.Flat.{Register, ResetBy, register_in}
+use Rattle.hw_model.specs.Flat.{Register, ResetBy, register_in, async_reset_in}
 use Rattle.hw_model.specs.Equality.{both_of}
 use Rattle.verilog_model.specs.Tree.{Expr, Connection, Item}
 use Rattle.verilog_model.specs.Tree.Expr.{name}
@@ -16,7 +16,7 @@ use Rattle.verilog_expr.proofs.Fit.{depth_fits, own_fits}
 use Rattle.export_verilog.specs.Identifiers.{Emission, each, emission_of, identifier_text, name_or_nothing, value_name}
 use Rattle.export_verilog.specs.Identifiers.Identifier.{port_identifier, value_identifier}
 use Rattle.export_verilog.specs.Identifiers.Emission.{inline, as_wire, as_reg, as_instance}
-use Rattle.export_verilog.specs.Exported.{expression, assigned_expr, expr_or_none, others, result_wires, declared_as, declares, always_of, block_of, connections_of, connections_to, instance_of, stated_as, states, output_assigns, vitems, vmodule, tree_of}
+use Rattle.export_verilog.specs.Exported.{expression, assigned_expr, expr_or_none, others, result_wires, declared_as, declares, always_of, block_of, module_block, connections_of, connections_to, instance_of, stated_as, states, output_assigns, vitems, vmodule, tree_of}
 
 expression_fits : (m : Module) (r : Ref) → fits (expression m r) ≡ true
 expression_fits m r = depth_fits (value_name m) m.ports m.body (suc height_limit) r
@@ -65,9 +65,10 @@ connections_fit_all c m i j k (p ∷ ps) rs =
       go true x y = x
       go false x y = y
 
-always_fits : (m : Module) (q : Name) (r : Option Register) → items_fit (always_of m q r) ≡ true
-always_fits m q None = refl
-always_fits m q (Some r) = go r.enable r.reset where
+always_fits : (m : Module) (q : Name) (a : Option ResetBy) (r : Option Register) → items_fit (always_of m q a r) ≡ true
+always_fits m q a None = refl
+always_fits m q (Some b) (Some r) = rw (expression_fits m r.next) refl
+always_fits m q None (Some r) = go r.enable r.reset where
   ex : (x : Ref) → fits (expression m x) ≡ true
   ex x = expression_fits m x
 
@@ -92,7 +93,7 @@ states_fit d m i o = go (emission_of m.ports m.body i o) where
   go : (r : Emission) → items_fit (stated_as d m i o r) ≡ true
   go inline = refl
   go as_wire = and_intro (fits (assigned_expr m (result i 0))) true (assigned_fits m (result i 0)) refl
-  go as_reg = always_fits m (identifier_text m (value_identifier i 0)) (register_in o)
+  go as_reg = always_fits m (identifier_text m (value_identifier i 0)) (async_reset_in o) (register_in o)
   go as_instance = instance_fits d m i o (instance_in o.kind)
 
 outputs_fit : (m : Module) (j : ℕ) (ps : List Port) (rs : List Ref) → items_fit (output_assigns m j ps rs) ≡ true

@@ -2,11 +2,12 @@
 use Rattle.std.proofs.Common.{◌≡◌, ℕ, zero, suc, ◌+◌, ◌-◌, ◌<◌, ◌^◌, ◌==◌, Bool, true, false, cond, ◌&&◌, List, [], ◌∷◌, ◌++◌, map, take, slice_get, decimal, Option, Some, None, refl, sym, ◌∙◌, ap, subst, inl, inr, zero-add, arith, append_assoc, append-nil}
 use Rattle.wiring.specs.Options.{bind, omap}
 use Rattle.wiring.specs.Wiring.{In}
+use Rattle.wiring.proofs.Members.{In-slice_get}
 use Rattle.hw_model.specs.Types.{Name, HwType, width}
 use Rattle.hw_model.specs.Design.{Ref, Port, OpResult, Op, Module, Design, same_name, find_module, instance_in, result_type, output_refs, register_form, is_output_kind}
 use Rattle.hw_model.specs.Design.Ref.{result}
 use Rattle.hw_model.specs.Equality.{name_self}
-use Rattle.hw_model.specs.Flat.{width_of, input_count, Register, ResetBy, register_in}
+use Rattle.hw_model.specs.Flat.{width_of, input_count, Register, ResetBy, register_in, async_reset_in}
 use Rattle.hw_model.specs.Sound.{type_in, input_types, output_types}
 use Rattle.verilog_model.specs.Tree.{Expr, Connection, Item, Tree}
 use Rattle.verilog_model.specs.Tree.Expr.{name}
@@ -15,16 +16,18 @@ use Rattle.verilog_model.specs.Hierarchy.{find_port, block_target}
 use Rattle.verilog_model.specs.Checks.{Declared, find_declared, can_assign, is_variable, is_input, has_role, expr_checks, load_checks, block_checks, joins_net, connection_checks, connections_check, high_checks, item_checks, declared_by, items_check, port_role, declared_items}
 use Rattle.verilog_model.proofs.Numerals.{and_intro, is_decimal-decimal}
 use Rattle.verilog_expr.specs.Numerals.{high_of}
+use Rattle.verilog_expr.specs.Expressions.{constant_expr}
 use Rattle.verilog_expr.specs.Values.{gives_values}
 use Rattle.export_verilog.specs.Identifiers.{Emission, each, emission_of, identifier_text, value_name, name_or_nothing}
 use Rattle.export_verilog.specs.Identifiers.Identifier.{port_identifier, value_identifier}
 use Rattle.export_verilog.specs.Identifiers.Emission.{inline, as_wire, as_reg, as_instance}
-use Rattle.export_verilog.specs.Exported.{expression, assigned_expr, block_of, loads, vports, tree_of, declares, declared_as}
+use Rattle.export_verilog.specs.Exported.{expression, assigned_expr, block_of, module_block, loads, vports, tree_of, declares, declared_as}
 use Rattle.export_verilog.proofs.names.IdentifiersOf.{from_each, port_in, net_in, variable_in, result_in_identifiers, made_of_emission}
 use Rattle.export_verilog.proofs.items.Items.{output_count, expr_for, connection_of, from_wires, block_at}
 use Rattle.export_verilog.proofs.items.Lookups.{port_under, vport_at}
 use Rattle.export_verilog.proofs.items.Drives.{place_of_output}
-use Rattle.export_verilog.proofs.items.Registers.{AreOperands, typed_register}
+use Rattle.export_verilog.proofs.items.Registers.{AreOperands, async_reset_of, module_block_target, typed_register}
+use Rattle.export_verilog.proofs.items.Resets.{signal_port, value_of_reset, literal_own}
 use Rattle.export_verilog.proofs.items.Settings.{Setting, Called, module_ok, module_sound, result_at_first}
 use Rattle.export_verilog.proofs.items.Writable.{named_input}
 use Rattle.export_verilog.proofs.checks.Known.{result_emission, KnowsAll}
@@ -104,12 +107,6 @@ module _ (d : Design) (x : Setting d) (s : Name) (m : Module) (is : find_module 
     load_good : (q : Name) (r : Ref) (ty : HwType) → type_in m.ports m.body r ≡ Some ty → load_checks known q (loads q (expression m r)) ≡ true
     load_good q r ty typed = and_intro (same_name q q) (expr_checks known (expression m r)) (name_self q) (good r ty typed)
 
-    target_of : (q : Name) (next : Ref) (e : Option Ref) (b : Option ResetBy) → block_target (block_of (expression m) q next e b) ≡ q
-    target_of q next None None = refl
-    target_of q next (Some e) None = refl
-    target_of q next None (Some b) = refl
-    target_of q next (Some e) (Some b) = refl
-
     block_good : (q : Name) (ty : HwType) (r : Register) → AreOperands (type_in m.ports m.body) ty r → block_checks known q (block_of (expression m) q r.next r.enable r.reset) ≡ true
     block_good q ty r are = go r.enable r.reset refl refl where
       next_good : load_checks known q (loads q (expression m r.next)) ≡ true
@@ -126,7 +123,31 @@ module _ (d : Design) (x : Setting d) (s : Name) (m : Module) (is : find_module 
           (and_intro (expr_checks known (expression m b.signal)) (load_checks known q (loads q (expression m b.value))) (good b.signal _ (are.signal b v)) (load_good q b.value ty (are.value b v)))
           (and_intro (expr_checks known (expression m e)) (load_checks known q (loads q (expression m r.next))) (good e _ (are.enable e u)) next_good)
 
-    pub register_good : (i : ℕ) (o : Op) (r : Register) → slice_get m.body i ≡ Some o → emission_of m.ports m.body i o ≡ as_reg → register_in o ≡ Some r → item_checks t known (block_at m i r) ≡ true
+    -- the literal of a reset's value, and the signal's name
+    literal_good : (q : Name) (o : Op) (b : ResetBy) (ty : HwType) → In o m.body → async_reset_in o ≡ Some b → type_in m.ports m.body b.value ≡ Some ty
+        → load_checks known q (loads q (constant_expr m.ports m.body b.value)) ≡ true
+    literal_good q o b ty within at typed =
+        let v = value_of_reset d x s m is o b within at ty typed in
+        and_intro (same_name q q) (expr_checks known (constant_expr m.ports m.body b.value)) (name_self q)
+        (ap (expr_checks known) (literal_own d x s m is b.value ty v) ∙ (assigned_well d x s m is known knows v.place 0 v.op ty v.there v.gives v.typed).checks)
+
+    signal_good : (o : Op) (b : ResetBy) → In o m.body → async_reset_in o ≡ Some b → has_role is_input (find_declared known (name_or_nothing (value_name m b.signal))) ≡ true
+    signal_good o b within at =
+        let p = signal_port d x s m is o b within at in
+        ap (λ n. has_role is_input (find_declared known n)) p.called ∙ ap (has_role is_input) (found_port d x s m is known knows p.number p.port_of p.there) ∙ ap (λ z. is_input (port_role z)) p.input
+
+    -- the block of a register that an asynchronous reset resets or not
+    any_good : (q : Name) (o : Op) (ty : HwType) (r : Register) (a : Option ResetBy) → In o m.body → register_in o ≡ Some r → async_reset_in o ≡ a → AreOperands (type_in m.ports m.body) ty r
+        → block_checks known q (module_block m q r a) ≡ true
+    any_good q o ty r None within is_register_of at are = block_good q ty r are
+    any_good q o ty r (Some b) within is_register_of at are =
+        and_intro (has_role is_input (find_declared known (name_or_nothing (value_name m b.signal))))
+        (load_checks known q (loads q (constant_expr m.ports m.body b.value)) && load_checks known q (loads q (expression m r.next)))
+        (signal_good o b within at)
+        (and_intro (load_checks known q (loads q (constant_expr m.ports m.body b.value))) (load_checks known q (loads q (expression m r.next)))
+        (literal_good q o b ty within at (are.value b (async_reset_of o b at r is_register_of))) (load_good q r.next ty are.next))
+
+    pub register_good : (i : ℕ) (o : Op) (r : Register) → slice_get m.body i ≡ Some o → emission_of m.ports m.body i o ≡ as_reg → register_in o ≡ Some r → item_checks t known (block_at m i o r) ≡ true
     register_good i o r there emission is_register_of =
         let first = result_at_first d x s m is i o there (inr emission) in
         let typed = typed_register d x s m is i o there emission first.0.type (typed_first o first.0 first.1) in
@@ -135,13 +156,13 @@ module _ (d : Design) (x : Setting d) (s : Name) (m : Module) (is : find_module 
         let c = ((module_ok d x s m is).ops i o there).clocked r is_register_of in
         let clock_name : name_or_nothing (value_name m r.clock) ≡ identifier_text m (port_identifier c.number) = ap (λ z. name_or_nothing (value_name m z)) c.is_port ∙ ap name_or_nothing (named_input d x s m is c.number c.clock c.there c.input) in
         let q = identifier_text m (value_identifier i 0) in
-        let b = block_of (expression m) q r.next r.enable r.reset in
-        let target : block_target b ≡ q = target_of q r.next r.enable r.reset in
+        let b = module_block m q r (async_reset_in o) in
+        let target : block_target b ≡ q = module_block_target m q r (async_reset_in o) in
         and_intro (has_role is_input (find_declared known (name_or_nothing (value_name m r.clock)))) (has_role is_variable (find_declared known (block_target b)) && block_checks known (block_target b) b)
         (ap (λ n. has_role is_input (find_declared known n)) clock_name ∙ ap (has_role is_input) (found_port d x s m is known knows c.number c.clock c.there) ∙ ap (λ z. is_input (port_role z)) c.input)
         (and_intro (has_role is_variable (find_declared known (block_target b))) (block_checks known (block_target b) b)
         (ap (λ n. has_role is_variable (find_declared known n)) target ∙ ap (has_role is_variable) (found_result d x s m is known knows i 0 o first.0 (variable_in m i o there emission) there first.1) ∙ ap (λ z. is_variable (result_emission z)) emission)
-        (ap (λ n. block_checks known n b) target ∙ block_good q first.0.type r are))
+        (ap (λ n. block_checks known n b) target ∙ any_good q o first.0.type r (async_reset_in o) (In-slice_get o m.body i there) is_register_of refl are))
 
     -- ---- wires and outputs
 

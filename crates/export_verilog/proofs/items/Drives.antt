@@ -7,7 +7,7 @@ use Rattle.hw_model.specs.Types.{Name, HwType}
 use Rattle.hw_model.specs.Design.{Port, OpResult, Op, Module, Design, same_name, find_module, output_refs, callee}
 use Rattle.hw_model.specs.Design.Ref.{result}
 use Rattle.hw_model.specs.Equality.{name_self, name_from}
-use Rattle.hw_model.specs.Flat.{input_count, Register, if_zero}
+use Rattle.hw_model.specs.Flat.{input_count, Register, ResetBy, async_reset_in, if_zero}
 use Rattle.hw_model.specs.Sound.{output_types}
 use Rattle.verilog_model.specs.Tree.{Expr, VPort, Connection, Item, VModule}
 use Rattle.verilog_model.specs.Tree.Expr.{name}
@@ -17,7 +17,7 @@ use Rattle.verilog_model.specs.Hierarchy.Drive.{nothing, held, expression as dri
 use Rattle.export_verilog.specs.Identifiers.{Identifier, Emission, emission_of, identifier_text, module_identifiers}
 use Rattle.export_verilog.specs.Identifiers.Identifier.{port_identifier, value_identifier, instance_identifier}
 use Rattle.export_verilog.specs.Identifiers.Emission.{inline, as_wire, as_reg, as_instance}
-use Rattle.export_verilog.specs.Exported.{expression, assigned_expr, block_of, connections_of, connections_to, vports, vitems, vmodule, tree_of}
+use Rattle.export_verilog.specs.Exported.{expression, assigned_expr, module_block, connections_of, connections_to, vports, vitems, vmodule, tree_of}
 use Rattle.export_verilog.proofs.items.Lists.{first_found}
 use Rattle.export_verilog.proofs.names.IdentifierNames.{AreNames, texts_apart}
 use Rattle.export_verilog.proofs.names.IdentifiersOf.{Owner, owner_of, port_in, net_in, variable_in, result_in_identifiers}
@@ -27,7 +27,7 @@ use Rattle.export_verilog.proofs.items.Items.{output_count, expr_for, connection
 use Rattle.export_verilog.proofs.items.Items.From.{net_wire, variable_reg, result_wire, net_assign, variable_block, an_instance, output_assign}
 use Rattle.export_verilog.proofs.items.Lookups.{found, unfound, vport_at, port_under, no_port_under}
 use Rattle.export_verilog.proofs.items.Settings.{Setting, Called, called_by, called_by_emission, callee_is}
-use Rattle.export_verilog.proofs.items.Registers.{register_of}
+use Rattle.export_verilog.proofs.items.Registers.{module_block_target, register_of}
 
 pub first_from : {A B : Type 0} (f : A → Option B) (xs : List A) (b : B) → first_some f xs ≡ Some b → (x : A) × In x xs × (f x ≡ Some b)
 first_from f [] b is = cc
@@ -146,13 +146,8 @@ module _ (d : Design) (x : Setting d) (s : Name) (m : Module) (is : find_module 
   abbrev gives : Name → Item → Option Drive
   gives n y = item_drive (tree_of d) top q (vmodule d m) n y
 
-  pub block_name : (i : ℕ) (r : Register) → block_target (block_of (expression m) (identifier_text m (value_identifier i 0)) r.next r.enable r.reset) ≡ identifier_text m (value_identifier i 0)
-  block_name i r = go r.enable r.reset where
-    go : (e : _) (f : _) → block_target (block_of (expression m) (identifier_text m (value_identifier i 0)) r.next e f) ≡ identifier_text m (value_identifier i 0)
-    go None None = refl
-    go (Some e) None = refl
-    go None (Some f) = refl
-    go (Some e) (Some f) = refl
+  pub block_name : (i : ℕ) (r : Register) (a : Option ResetBy) → block_target (module_block m (identifier_text m (value_identifier i 0)) r a) ≡ identifier_text m (value_identifier i 0)
+  block_name i r a = module_block_target m (identifier_text m (value_identifier i 0)) r a
 
   -- an instance's items
   instance_drive : (n : Name) (i : ℕ) (o : Op) (c : Called d m o) → gives n (instance_at d m i o c.kind)
@@ -194,9 +189,9 @@ module _ (d : Design) (x : Setting d) (s : Name) (m : Module) (is : find_module 
         let h = when_some (same_name (identifier_text m (value_identifier i 0)) n) (driven_by q (assigned_expr m (result i 0))) w (sym (ap (gives n) same) ∙ is_given) in
         (value_identifier i 0, net_in m i o there emission, sym (name_from (identifier_text m (value_identifier i 0)) n h.0), value_by_emission i 0 o as_wire there emission ∙ ap (λ (z : Drive). Some z) h.1)
     go (variable_block i o r there emission at same) =
-        let given : gives n (block_at m i r) ≡ Some w = sym (ap (gives n) same) ∙ is_given in
+        let given : gives n (block_at m i o r) ≡ Some w = sym (ap (gives n) same) ∙ is_given in
         let held_under : Name → Drive = λ z. held (vbase (tree_of d) top q + vstate_before (tree_of d) (loads z) (Some (vmodule d m))) (width_in (vmodule d m) z) in
-        let h = when_some (same_name (identifier_text m (value_identifier i 0)) n) (held_under n) w (ap (λ z. when (same_name z n) (held_under n)) (sym (block_name i r)) ∙ given) in
+        let h = when_some (same_name (identifier_text m (value_identifier i 0)) n) (held_under n) w (ap (λ z. when (same_name z n) (held_under n)) (sym (block_name i r (async_reset_in o))) ∙ given) in
         let called : identifier_text m (value_identifier i 0) ≡ n = name_from (identifier_text m (value_identifier i 0)) n h.0 in
         (value_identifier i 0, variable_in m i o there emission, sym called, value_by_emission i 0 o as_reg there emission ∙ ap (λ z. Some (held_under z)) called ∙ ap (λ (z : Drive). Some z) h.1)
     go (an_instance i o k there emission kind same) = by_instance i o (called_by d x s m is i o there k kind) there emission (sym (ap (gives n) same) ∙ is_given)
@@ -287,9 +282,9 @@ module _ (d : Design) (x : Setting d) (s : Name) (m : Module) (is : find_module 
     )
     go (a_variable i o there emission same) =
         let r = register_of d x s m is i o there emission in (
-          block_at m i r.0,
-          into_items d m (block_at m i r.0) (variable_block i o r.0 there emission r.1 refl),
-          ap₂ (λ a b. when (same_name a (identifier_text m k)) (held (vbase (tree_of d) top q + vstate_before (tree_of d) (loads (identifier_text m b)) (Some (vmodule d m))) (width_in (vmodule d m) (identifier_text m b)))) (block_name i r.0) same
+          block_at m i o r.0,
+          into_items d m (block_at m i o r.0) (variable_block i o r.0 there emission r.1 refl),
+          ap₂ (λ a b. when (same_name a (identifier_text m k)) (held (vbase (tree_of d) top q + vstate_before (tree_of d) (loads (identifier_text m b)) (Some (vmodule d m))) (width_in (vmodule d m) (identifier_text m b)))) (block_name i r.0 (async_reset_in o)) same
               ∙ chosen (value_identifier i 0) (held_drive i) same (value_by_emission i 0 o as_reg there emission),
         )
     go (owns_instance i o there emission same) = absurd (let h : None ≡ Some w = sym (ap drive_value same) ∙ value in cc)

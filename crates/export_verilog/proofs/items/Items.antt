@@ -6,7 +6,7 @@ use Rattle.hw_model.specs.Types.{width}
 use Rattle.hw_model.specs.Kinds.{Instance}
 use Rattle.hw_model.specs.Design.{Ref, Port, OpResult, Op, Module, Design, find_module, instance_in, result_type, output_refs}
 use Rattle.hw_model.specs.Design.Ref.{result}
-use Rattle.hw_model.specs.Flat.{width_of, input_count, Register, register_in}
+use Rattle.hw_model.specs.Flat.{width_of, input_count, Register, ResetBy, register_in, async_reset_in}
 use Rattle.verilog_model.specs.Tree.{Expr, Connection, Item}
 use Rattle.verilog_model.specs.Tree.Expr.{name}
 use Rattle.verilog_model.specs.Tree.Item.{wire, reg, assign, always, instance}
@@ -15,7 +15,7 @@ use Rattle.verilog_expr.specs.Building.{no_expr}
 use Rattle.export_verilog.specs.Identifiers.{Emission, each, emission_of, identifier_text, name_or_nothing, value_name}
 use Rattle.export_verilog.specs.Identifiers.Identifier.{port_identifier, value_identifier, instance_identifier}
 use Rattle.export_verilog.specs.Identifiers.Emission.{inline, as_wire, as_reg, as_instance}
-use Rattle.export_verilog.specs.Exported.{symbol_name, expression, assigned_expr, result_wires, declared_as, declares, block_of, always_of, expr_or_none, others, connections_of, connections_to, instance_of, stated_as, states, output_assigns, vitems}
+use Rattle.export_verilog.specs.Exported.{symbol_name, expression, assigned_expr, result_wires, declared_as, declares, module_block, always_of, expr_or_none, others, connections_of, connections_to, instance_of, stated_as, states, output_assigns, vitems}
 use Rattle.export_verilog.proofs.items.Lists.{in_append}
 use Rattle.export_verilog.proofs.names.IdentifiersOf.{from_each, into_each}
 
@@ -207,8 +207,8 @@ into_wires m i k (x ∷ rs) (suc n) r is =
 
 -- ---- items
 
-abbrev pub block_at : Module → ℕ → Register → Item
-block_at m i r = always (name_or_nothing (value_name m r.clock)) (block_of (expression m) (identifier_text m (value_identifier i 0)) r.next r.enable r.reset)
+abbrev pub block_at : Module → ℕ → Op → Register → Item
+block_at m i o r = always (name_or_nothing (value_name m r.clock)) (module_block m (identifier_text m (value_identifier i 0)) r (async_reset_in o))
 
 abbrev pub instance_at : Design → Module → ℕ → Op → Instance → Item
 instance_at d m i o x = instance (symbol_name d x.symbol) (identifier_text m (instance_identifier i)) (connections_to (find_module d x.symbol) m i o)
@@ -223,7 +223,7 @@ pub data From (d : Design) (m : Module) (y : Item) : Type 0 where
   net_assign : (i : ℕ) (o : Op) → slice_get m.body i ≡ Some o → emission_of m.ports m.body i o ≡ as_wire
       → y ≡ assign (identifier_text m (value_identifier i 0)) (assigned_expr m (result i 0)) → From d m y
   variable_block : (i : ℕ) (o : Op) (r : Register) → slice_get m.body i ≡ Some o → emission_of m.ports m.body i o ≡ as_reg → register_in o ≡ Some r
-      → y ≡ block_at m i r → From d m y
+      → y ≡ block_at m i o r → From d m y
   an_instance : (i : ℕ) (o : Op) (x : Instance) → slice_get m.body i ≡ Some o → emission_of m.ports m.body i o ≡ as_instance → instance_in o.kind ≡ Some x
       → y ≡ instance_at d m i o x → From d m y
   output_assign : (j : ℕ) (p : Port) → slice_get m.ports j ≡ Some p → p.is_output ≡ true
@@ -242,7 +242,7 @@ module _ (d : Design) (m : Module) where
         result_wire i h.0 o h.1 there emission h.2 (h.3 ∙ ap (λ n. wire (high_of (width h.1.type)) (identifier_text m (value_identifier i n))) (zero-add h.0))
 
     in_block : (i : ℕ) (o : Op) → slice_get m.body i ≡ Some o → emission_of m.ports m.body i o ≡ as_reg → (r : Option Register) → register_in o ≡ r
-        → In y (always_of m (identifier_text m (value_identifier i 0)) r) → From d m y
+        → In y (always_of m (identifier_text m (value_identifier i 0)) (async_reset_in o) r) → From d m y
     in_block i o there emission None is within = absurd within
     in_block i o there emission (Some r) is (inl same) = variable_block i o r there emission is same
     in_block i o there emission (Some r) is (inr never) = absurd never
@@ -293,7 +293,7 @@ module _ (d : Design) (m : Module) where
       (subst (λ z. In z (result_wires m i 0 o.results)) (sym (same ∙ ap (λ n. wire (high_of (width r.type)) (identifier_text m (value_identifier i n))) (sym (zero-add k)))) (into_wires m i 0 o.results k r found)))
   into_items y (net_assign i o there emission same) = among_states y i o there (subst (λ r. In y (stated_as d m i o r)) (sym emission) (inl same))
   into_items y (variable_block i o r there emission is same) = among_states y i o there (subst (λ x. In y (stated_as d m i o x)) (sym emission)
-      (subst (λ x. In y (always_of m (identifier_text m (value_identifier i 0)) x)) (sym is) (inl same)))
+      (subst (λ x. In y (always_of m (identifier_text m (value_identifier i 0)) (async_reset_in o) x)) (sym is) (inl same)))
   into_items y (an_instance i o x there emission is same) = among_states y i o there (subst (λ r. In y (stated_as d m i o r)) (sym emission)
       (subst (λ z. In y (instance_of d m i o z)) (sym is) (inl same)))
   into_items y (output_assign j p there out same) = among_outputs y

@@ -1,16 +1,19 @@
--- The operands of a register and their types.
-use Rattle.std.proofs.Common.{◌≡◌, ℕ, Bool, true, false, List, [], ◌∷◌, map, slice_get, Option, Some, None, refl, sym, ◌∙◌, ap, inr}
+-- The operands of a register and their types, what an asynchronous reset says of a register, and the target of its block.
+use Rattle.std.proofs.Common.{◌≡◌, ℕ, Bool, true, false, cond, List, [], ◌∷◌, map, slice_get, Option, Some, None, refl, sym, ◌∙◌, ap, inr}
 use Rattle.wiring.specs.Options.{bind, omap}
 use Rattle.hw_model.specs.Types.{Name, HwType}
 use Rattle.hw_model.specs.Types.HwType.{int, clock}
 use Rattle.hw_model.specs.Kinds.{Kind, Reset}
 use Rattle.hw_model.specs.Kinds.Reset.{no_reset, sync_reset}
-use Rattle.hw_model.specs.Kinds.Kind.{register}
+use Rattle.hw_model.specs.Kinds.Kind.{register, async_firreg}
 use Rattle.hw_model.specs.Design.{Ref, OpResult, Op, Module, Design, RegisterForm, takes_enable, find_module, register_form, result_type}
-use Rattle.hw_model.specs.Flat.{Register, ResetBy, register_parts, register_in}
+use Rattle.hw_model.specs.Flat.{Register, ResetBy, register_parts, register_in, has_async_reset, async_parts, async_reset_in}
 use Rattle.hw_model.specs.Sound.{type_in, register_types, Fits}
+use Rattle.verilog_model.specs.Tree.{Expr}
+use Rattle.verilog_model.specs.Hierarchy.{block_target}
 use Rattle.export_verilog.specs.Identifiers.{emission_of}
 use Rattle.export_verilog.specs.Identifiers.Emission.{as_reg}
+use Rattle.export_verilog.specs.Exported.{expression, block_of, module_block}
 use Rattle.export_verilog.proofs.names.IdentifiersOf.{register_of_emission}
 use Rattle.export_verilog.proofs.items.Settings.{Setting, module_sound, result_at_first}
 
@@ -83,7 +86,49 @@ pub form_fits : (kind : Kind) (f : RegisterForm) (ts : List HwType) (xs : List (
     → xs ≡ register_types f.has_enable f.reset t
 form_fits (register g r) f ts xs t k is fits =
     fits ∙ ap (λ (z : RegisterForm). register_types z.has_enable z.reset t) (let e : record { has_enable = takes_enable g; reset = r } ≡ f = cc in e)
+form_fits async_firreg f ts xs t k is fits =
+    fits ∙ ap (λ (z : RegisterForm). register_types z.has_enable z.reset t) (let e : record { has_enable = false; reset = sync_reset } ≡ f = cc in e)
 form_fits kind f ts xs t k is fits = cc
+
+-- ---- asynchronous resets
+
+-- a register with an asynchronous reset: where its clock rises it loads as one with a synchronous reset and no enable
+pub record IsAsync (o : Op) (b : ResetBy) : Type 0 where
+  pub next : Ref
+  pub clock_ref : Ref
+  pub is_register : register_in o ≡ Some (record { next = next; clock = clock_ref; enable = None; reset = Some b })
+
+pub async_register : (o : Op) (b : ResetBy) → async_reset_in o ≡ Some b → IsAsync o b
+async_register o b is = let g = go o.kind o.operands is in record { next = g.0; clock_ref = g.1; is_register = g.2 } where
+  go : (k : Kind) (rs : List Ref) → cond (has_async_reset k) (async_parts rs) None ≡ Some b
+      → (next : Ref) × (clock_ref : Ref) × (bind (register_form k) (λ (f : RegisterForm). register_parts f.has_enable f.reset rs) ≡ Some (record { next = next; clock = clock_ref; enable = None; reset = Some b }))
+  go async_firreg (p ∷ q ∷ r ∷ v ∷ []) h = (p, q, ap (λ (z : Option ResetBy). Some (record { next = p; clock = q; enable = None; reset = z })) h)
+  go async_firreg _ h = cc
+  go _ rs h = cc
+
+-- its reset is that of the register, and it has no enable
+pub async_parts_of : (o : Op) (b : ResetBy) → async_reset_in o ≡ Some b → (r : Register) → register_in o ≡ Some r → (r.reset ≡ Some b) × (r.enable ≡ None)
+async_parts_of o b is r at =
+    let g = async_register o b is in
+    let e : Some (record { next = g.next; clock = g.clock_ref; enable = None; reset = Some b }) ≡ Some r = sym g.is_register ∙ at in
+    let f : record { next = g.next; clock = g.clock_ref; enable = None; reset = Some b } ≡ r = cc in
+    (ap (λ (z : Register). z.reset) (sym f), ap (λ (z : Register). z.enable) (sym f))
+
+pub async_reset_of : (o : Op) (b : ResetBy) → async_reset_in o ≡ Some b → (r : Register) → register_in o ≡ Some r → r.reset ≡ Some b
+async_reset_of o b is r at = (async_parts_of o b is r at).0
+
+-- ---- blocks
+
+block_of_target : (ex : Ref → Expr) (q : Name) (next : Ref) (e : Option Ref) (b : Option ResetBy) → block_target (block_of ex q next e b) ≡ q
+block_of_target ex q next None None = refl
+block_of_target ex q next (Some e) None = refl
+block_of_target ex q next None (Some b) = refl
+block_of_target ex q next (Some e) (Some b) = refl
+
+-- the block of a register loads the register
+pub module_block_target : (m : Module) (q : Name) (r : Register) (a : Option ResetBy) → block_target (module_block m q r a) ≡ q
+module_block_target m q r None = block_of_target (expression m) q r.next r.enable r.reset
+module_block_target m q r (Some b) = refl
 
 module _ (d : Design) (x : Setting d) (s : Name) (m : Module) (is : find_module d s ≡ Some m) where
   pub typed_register : (i : ℕ) (o : Op) → slice_get m.body i ≡ Some o → emission_of m.ports m.body i o ≡ as_reg → (t : HwType) → result_type o 0 ≡ Some t

@@ -25,7 +25,7 @@ use Rattle.export_verilog.proofs.names.IdentifiersOf.{emission_of_register, emis
 use Rattle.export_verilog.proofs.items.Settings.{Setting, module_ok, module_sound, one_result_of}
 use Rattle.export_verilog.proofs.behaviour.Sources.{pure_sort}
 
-only_first : {A : Type 0} (xs : List A) (z : A) (k : ℕ) (y : A) → xs ≡ z ∷ [] → slice_get xs k ≡ Some y → k ≡ 0
+pub only_first : {A : Type 0} (xs : List A) (z : A) (k : ℕ) (y : A) → xs ≡ z ∷ [] → slice_get xs k ≡ Some y → k ≡ 0
 only_first xs z zero y is at = refl
 only_first xs z (suc k) y is at = absurd (let h : None ≡ Some y = ap (λ w. slice_get w (suc k)) (sym is) ∙ at in cc)
 

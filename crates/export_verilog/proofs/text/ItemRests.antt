@@ -1,23 +1,39 @@
 -- The rest of a text stands after its items.
 use Rattle.std.proofs.Common.{◌≡◌, List, [], ◌∷◌, ◌++◌, Option, codes, refl, sym, ◌∙◌, ap, append_assoc}
 use Rattle.verilog_model.specs.Tree.{Numeral, Expr, Load, Block, Connection, Item}
-use Rattle.verilog_model.specs.Tree.Block.{load, if_load, if_else, if_else_if}
+use Rattle.verilog_model.specs.Tree.Block.{load, if_load, if_else, if_else_if, async_reset}
+use Rattle.verilog_model.specs.Tree.Expr.{name}
 use Rattle.verilog_model.specs.Tree.Item.{wire, reg, assign, always, instance}
 use Rattle.verilog_expr.specs.Text.{expr_text}
-use Rattle.export_verilog.specs.Layout.{Text, range_text, load_text, if_text, block_text, connection_text, connection_lines, connections_text, item_text, items_text}
+use Rattle.export_verilog.specs.Layout.{Text, range_text, load_text, if_text, event_text, block_text, connection_text, connection_lines, connections_text, item_text, items_text}
 use Rattle.export_verilog.proofs.text.Rests.{expr_rest, load_rest, if_rest, range_rest, connection_rest}
 
 -- a condition and a load before a rest
 if_load_rest : (f i : Text) (c : Expr) (l : Load) (a b : Text) → if_text f c (load_text i l (a ++ b)) ≡ if_text f c (load_text i l a) ++ b
 if_load_rest f i c l a b = ap (if_text f c) (load_rest i l a b) ∙ if_rest f c (load_text i l a) b
 
+-- a condition, a load, `else` and another load before a rest
+either_rest : (c : Expr) (l m : Load) (a b : Text)
+    → if_text (codes "    ") c (load_text (codes "      ") l (codes "    else" ++ (10 ∷ load_text (codes "      ") m (a ++ b))))
+    ≡ if_text (codes "    ") c (load_text (codes "      ") l (codes "    else" ++ (10 ∷ load_text (codes "      ") m a))) ++ b
+either_rest c l m a b =
+    ap (λ x. if_text (codes "    ") c (load_text (codes "      ") l (codes "    else" ++ (10 ∷ x)))) (load_rest (codes "      ") m a b)
+    ∙ if_load_rest (codes "    ") (codes "      ") c l (codes "    else" ++ (10 ∷ load_text (codes "      ") m a)) b
+
+event_rest : (k : Block) (a b : Text) → event_text k (a ++ b) ≡ event_text k a ++ b
+unfolding event_text
+event_rest (load l) a b = refl
+event_rest (if_load c l) a b = refl
+event_rest (if_else c l m) a b = refl
+event_rest (if_else_if c l e m) a b = refl
+event_rest (async_reset n l m) a b = ap (λ x. codes " or posedge " ++ x) (sym (append_assoc n (41 ∷ 10 ∷ a) b))
+
 pub block_rest : (k : Block) (a b : Text) → block_text k (a ++ b) ≡ block_text k a ++ b
 unfolding block_text
 block_rest (load l) a b = load_rest (codes "    ") l a b
 block_rest (if_load c l) a b = if_load_rest (codes "    ") (codes "      ") c l a b
-block_rest (if_else c l m) a b =
-    ap (λ x. if_text (codes "    ") c (load_text (codes "      ") l (codes "    else" ++ (10 ∷ x)))) (load_rest (codes "      ") m a b)
-    ∙ if_load_rest (codes "    ") (codes "      ") c l (codes "    else" ++ (10 ∷ load_text (codes "      ") m a)) b
+block_rest (if_else c l m) a b = either_rest c l m a b
+block_rest (async_reset n l m) a b = either_rest (name n) l m a b
 block_rest (if_else_if c l e m) a b =
     ap (λ x. if_text (codes "    ") c (load_text (codes "      ") l x)) (if_load_rest (codes "    else ") (codes "      ") e m a b)
     ∙ if_load_rest (codes "    ") (codes "      ") c l (if_text (codes "    else ") e (load_text (codes "      ") m a)) b
@@ -47,8 +63,8 @@ item_rest (assign n e) a b =
     ap (λ x. codes "  assign " ++ (n ++ (codes " = " ++ x))) (expr_rest e (59 ∷ 10 ∷ a) b)
     ∙ front_rest (codes "  assign ") n (codes " = ") (expr_text e (59 ∷ 10 ∷ a)) b
 item_rest (always clock k) a b =
-    ap (λ x. codes "  always @(posedge " ++ (clock ++ (41 ∷ 10 ∷ x))) (block_rest k a b)
-    ∙ front_rest (codes "  always @(posedge ") clock (41 ∷ 10 ∷ []) (block_text k a) b
+    ap (λ x. codes "  always @(posedge " ++ (clock ++ x)) (ap (event_text k) (block_rest k a b) ∙ event_rest k (block_text k a) b)
+    ∙ ap (λ x. codes "  always @(posedge " ++ x) (sym (append_assoc clock (event_text k (block_text k a)) b))
 item_rest (instance m n cs) a b =
     ap (λ x. codes "  " ++ (m ++ (32 ∷ n ++ (codes " (" ++ x)))) (connections_rest cs a b)
     ∙ ap (λ x. codes "  " ++ (m ++ x)) (front_rest (32 ∷ []) n (codes " (") (connections_text cs a) b)

@@ -4,18 +4,19 @@ use Rattle.hw_model.specs.Types.{Name, width}
 use Rattle.hw_model.specs.Kinds.{Instance}
 use Rattle.hw_model.specs.Design.{Ref, Port, OpResult, Op, Entry, Place, Module, Design, find_module, instance_in, result_type, output_refs}
 use Rattle.hw_model.specs.Design.Ref.{port, result, undefined}
-use Rattle.hw_model.specs.Flat.{width_of, Register, ResetBy, register_in}
+use Rattle.hw_model.specs.Flat.{width_of, Register, ResetBy, register_in, async_reset_in}
 use Rattle.verilog_model.specs.Tree.{Expr}
 use Rattle.verilog_model.specs.Tree.Expr.{name}
-use Rattle.verilog_model.specs.Tree.Block.{load, if_load, if_else, if_else_if}
+use Rattle.verilog_model.specs.Tree.Block.{load, if_load, if_else, if_else_if, async_reset}
 use Rattle.verilog_model.specs.Tree.Item.{wire, reg, assign, always, instance}
 use Rattle.name_legalise.specs.Legal.{legal}
 use Rattle.verilog_expr.specs.Numerals.{high_of}
+use Rattle.verilog_expr.specs.Expressions.{constant_expr}
 use Rattle.verilog_expr.specs.Spilling.{height_limit}
 use Rattle.export_verilog.specs.Identifiers.{Identifier, Emission, each, emission_of, name_hint, module_identifiers, names, name_among, identifier_name, identifier_text, name_or_nothing, input_name, value_name}
 use Rattle.export_verilog.specs.Identifiers.Identifier.{port_identifier, value_identifier, instance_identifier}
 use Rattle.export_verilog.specs.Identifiers.Emission.{inline, as_wire, as_reg, as_instance}
-use Rattle.export_verilog.specs.Exported.{expression, assigned_expr, vport, vports, result_wires, declared_as, declares, loads, block_of, always_of, expr_or_none, others, connections_of, connections_to, instance_of, stated_as, states, output_assigns, symbol_name, vitems}
+use Rattle.export_verilog.specs.Exported.{expression, assigned_expr, vport, vports, result_wires, declared_as, declares, loads, block_of, module_block, always_of, expr_or_none, others, connections_of, connections_to, instance_of, stated_as, states, output_assigns, symbol_name, vitems}
 use Rattle.export_verilog.specs.ModuleTexts.{module_under}
 use Rattle.export_verilog.proofs.names.SameNames.{own_same, expr_same}
 
@@ -94,10 +95,15 @@ module _ (m : Module) (symbol : Name) (is_private : Bool) (dictionary : List Ent
 
   -- ---- statements
 
-  always_same : (q p : Name) → q ≡ p → (r : Option Register) → always_of m q r ≡ always_of other p r
-  always_same q p e None = refl
-  always_same q p e (Some r) =
-      ap₂ (λ c b. always c b ∷ []) (ap name_or_nothing (named_same r.clock)) (block_same (expression m) (expression other) expression_same q p e r.next r.enable r.reset)
+  module_block_same : (q p : Name) → q ≡ p → (r : Register) (a : Option ResetBy) → module_block m q r a ≡ module_block other p r a
+  module_block_same q p e r None = block_same (expression m) (expression other) expression_same q p e r.next r.enable r.reset
+  module_block_same q p e r (Some b) =
+      ap₂ (λ n z. async_reset n (loads z (constant_expr m.ports m.body b.value)) (loads z (expression m r.next))) (ap name_or_nothing (named_same b.signal)) e
+      ∙ ap (λ x. async_reset (name_or_nothing (value_name other b.signal)) (loads p (constant_expr m.ports m.body b.value)) (loads p x)) (expression_same r.next)
+
+  always_same : (q p : Name) → q ≡ p → (a : Option ResetBy) (r : Option Register) → always_of m q a r ≡ always_of other p a r
+  always_same q p e a None = refl
+  always_same q p e a (Some r) = ap₂ (λ c b. always c b ∷ []) (ap name_or_nothing (named_same r.clock)) (module_block_same q p e r a)
 
   operand_same : (rs : List Ref) → expr_or_none (expression m) rs ≡ expr_or_none (expression other) rs
   operand_same rs = first_same (expression m) (expression other) expression_same rs
@@ -121,7 +127,7 @@ module _ (m : Module) (symbol : Name) (is_private : Bool) (dictionary : List Ent
   stated_same : (d : Design) (i : ℕ) (o : Op) (q : Emission) → stated_as d m i o q ≡ stated_as d other i o q
   stated_same d i o inline = refl
   stated_same d i o as_wire = ap₂ (λ n e. assign n e ∷ []) (text_same (value_identifier i 0)) (assigned_same (result i 0))
-  stated_same d i o as_reg = always_same (identifier_text m (value_identifier i 0)) (identifier_text other (value_identifier i 0)) (text_same (value_identifier i 0)) (register_in o)
+  stated_same d i o as_reg = always_same (identifier_text m (value_identifier i 0)) (identifier_text other (value_identifier i 0)) (text_same (value_identifier i 0)) (async_reset_in o) (register_in o)
   stated_same d i o as_instance = instance_same d i o (instance_in o.kind)
 
   outputs_same : (j : ℕ) (ps : List Port) (rs : List Ref) → output_assigns m j ps rs ≡ output_assigns other j ps rs

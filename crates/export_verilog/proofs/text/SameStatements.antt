@@ -3,9 +3,9 @@ use Rattle.std.proofs.Common.{◌≡◌, ℕ, suc, [], ◌∷◌, Option, Some, 
 use Rattle.hw_model.specs.Types.{Name}
 use Rattle.hw_model.specs.Design.{Ref, Op, Design}
 use Rattle.hw_model.specs.Design.Ref.{result}
-use Rattle.hw_model.specs.Flat.{Register, ResetBy, register_in}
+use Rattle.hw_model.specs.Flat.{Register, ResetBy, register_in, async_reset_in}
 use Rattle.verilog_model.specs.Tree.{Expr}
-use Rattle.verilog_model.specs.Tree.Block.{load, if_load, if_else, if_else_if}
+use Rattle.verilog_model.specs.Tree.Block.{load, if_load, if_else, if_else_if, async_reset}
 use Rattle.verilog_model.specs.Tree.Item.{assign, always}
 use Rattle.verilog_expr.specs.Expressions.{own_expr}
 use Rattle.verilog_expr.specs.Spilling.{height_limit}
@@ -16,10 +16,10 @@ use Rattle.verilog_expr.specs.declared.value_names.ValueNames.{ValueNames}
 use Rattle.export_verilog.specs.Identifiers.{name_or_nothing, value_name, identifier_text}
 use Rattle.export_verilog.specs.Identifiers.Identifier.{value_identifier}
 use Rattle.export_verilog.specs.Identifiers.Emission.{as_wire, as_reg}
-use Rattle.export_verilog.specs.Exported.{expression, assigned_expr, loads, block_of, always_of, stated_as}
+use Rattle.export_verilog.specs.Exported.{expression, assigned_expr, loads, block_of, register_block, always_of, stated_as}
 use Rattle.export_verilog.specs.ScopeModules.{scope_module}
 use Rattle.export_verilog.specs.Statements.{register_items}
-use Rattle.export_verilog.specs.Values.{value_expr}
+use Rattle.export_verilog.specs.Values.{value_expr, value_literal}
 use Rattle.export_verilog.proofs.names.SameNames.{expr_same, own_same}
 
 block_same : (ex ey : Ref → Expr) → ((r : Ref) → ex r ≡ ey r) → (q : Name) (next : Ref) (en : Option Ref) (by : Option ResetBy) → block_of ex q next en by ≡ block_of ey q next en by
@@ -32,6 +32,11 @@ block_same ex ey same q next (Some en) (Some by) =
     ap₂ (λ x y. if_else_if y (loads q (ex by.value)) (ex en) (loads q x)) (same next) (same by.signal)
     ∙ ap₂ (λ x y. if_else_if (ey by.signal) (loads q x) y (loads q (ey next))) (same by.value) (same en)
 
+register_block_same : (f g : Ref → Option Name) → ((r : Ref) → f r ≡ g r) → (ex ey : Ref → Expr) → ((r : Ref) → ex r ≡ ey r) → (literal : Ref → Expr) (q : Name) (r : Register) (a : Option ResetBy)
+    → register_block f ex literal q r a ≡ register_block g ey literal q r a
+register_block_same f g names ex ey same literal q r None = block_same ex ey same q r.next r.enable r.reset
+register_block_same f g names ex ey same literal q r (Some by) = ap₂ (λ n x. async_reset (name_or_nothing n) (loads q (literal by.value)) (loads q x)) (names by.signal) (same r.next)
+
 module _ (s : Scope) (v : ValueNames) (values : (r : Ref) → named_of v r ≡ value_name (scope_module s) r) where
   -- where a value is used
   pub used_same : (r : Ref) → value_expr s v r ≡ expression (scope_module s) r
@@ -42,10 +47,11 @@ module _ (s : Scope) (v : ValueNames) (values : (r : Ref) → named_of v r ≡ v
   assigned_same r = own_same (named_of v) (value_name (scope_module s)) (scope_ports s) (scope_ops s) (value_expr s v) (expression (scope_module s)) used_same r
 
   -- the statement of a register
-  pub register_same : (q : Name) (r : Option Register) → register_items (named_of v) (value_expr s v) q r ≡ always_of (scope_module s) q r
-  register_same q None = refl
-  register_same q (Some r) =
-      ap₂ (λ n b. always (name_or_nothing n) b ∷ []) (values r.clock) (block_same (value_expr s v) (expression (scope_module s)) used_same q r.next r.enable r.reset)
+  pub register_same : (q : Name) (a : Option ResetBy) (r : Option Register) → register_items (named_of v) (value_expr s v) (value_literal s) q a r ≡ always_of (scope_module s) q a r
+  register_same q a None = refl
+  register_same q a (Some r) =
+      ap₂ (λ n b. always (name_or_nothing n) b ∷ []) (values r.clock)
+      (register_block_same (named_of v) (value_name (scope_module s)) values (value_expr s v) (expression (scope_module s)) used_same (value_literal s) q r a)
 
   -- what is stated for an operation at a place
   module _ (d : Design) (i j : ℕ) (o : Op) (place : j ≡ i) where
@@ -58,5 +64,5 @@ module _ (s : Scope) (v : ValueNames) (values : (r : Ref) → named_of v r ≡ v
         ap₂ (λ n e. assign n e ∷ []) own_name
         (ap (λ n. own_expr (named_of v) (scope_ports s) (scope_ops s) (value_expr s v) (result n 0)) place ∙ assigned_same (result i 0))
 
-    pub variable_same : (q : Name) → q ≡ name_or_nothing (named_of v (result j 0)) → register_items (named_of v) (value_expr s v) q (register_in o) ≡ stated_as d (scope_module s) i o as_reg
-    variable_same q is = register_same q (register_in o) ∙ ap (λ n. always_of (scope_module s) n (register_in o)) (is ∙ own_name)
+    pub variable_same : (q : Name) → q ≡ name_or_nothing (named_of v (result j 0)) → register_items (named_of v) (value_expr s v) (value_literal s) q (async_reset_in o) (register_in o) ≡ stated_as d (scope_module s) i o as_reg
+    variable_same q is = register_same q (async_reset_in o) (register_in o) ∙ ap (λ n. always_of (scope_module s) n (async_reset_in o) (register_in o)) (is ∙ own_name)

@@ -6,27 +6,29 @@ use Rattle.wiring.proofs.Members.{In-slice_get, position_of_In}
 use Rattle.hw_model.specs.Types.{Name, HwType, width}
 use Rattle.hw_model.specs.Design.{Ref, Port, OpResult, Op, Module, Design, find_module, instance_in, result_type, output_refs, register_form, is_output_kind}
 use Rattle.hw_model.specs.Design.Ref.{result}
-use Rattle.hw_model.specs.Flat.{width_of, input_count, Register, ResetBy, register_in}
+use Rattle.hw_model.specs.Flat.{width_of, input_count, Register, ResetBy, register_in, async_reset_in}
 use Rattle.hw_model.specs.Sound.{type_in, input_types, output_types}
 use Rattle.verilog_model.specs.Tree.{VPort, Connection, Item}
 use Rattle.verilog_model.specs.Tree.Expr.{name}
 use Rattle.verilog_model.specs.Checks.{are_distinct, all_identifiers}
 use Rattle.verilog_model.proofs.Numerals.{and_second}
 use Rattle.verilog_expr.specs.Numerals.{high_of}
+use Rattle.verilog_expr.specs.Expressions.{constant_expr}
 use Rattle.verilog_expr.specs.Values.{gives_values}
 use Rattle.verilog_expr.proofs.TextRead.{IsWord, IsSpellable}
 use Rattle.verilog_expr.proofs.Checked.{decimal_word}
 use Rattle.export_verilog.specs.Identifiers.{Identifier, emission_of, identifier_text, module_identifiers, value_name, name_or_nothing}
 use Rattle.export_verilog.specs.Identifiers.Identifier.{port_identifier, value_identifier, instance_identifier}
 use Rattle.export_verilog.specs.Identifiers.Emission.{as_wire, as_reg, as_instance}
-use Rattle.export_verilog.specs.Exported.{expression, assigned_expr, symbol_names, symbol_name, block_of, loads, connections_of, connections_to, vport, vports, vitems, vmodule, tree_of}
+use Rattle.export_verilog.specs.Exported.{expression, assigned_expr, symbol_names, symbol_name, block_of, module_block, loads, connections_of, connections_to, vport, vports, vitems, vmodule, tree_of}
 use Rattle.export_verilog.proofs.text.TextRead.{IsHigh, IsSpellablePort, ArePorts, IsSpellableLoad, IsSpellableBlock, IsSpellableConnection, AreConnections, IsSpellableItem, AreItems, IsSpellableTree}
 use Rattle.export_verilog.proofs.names.IdentifierNames.{text_named, name_is_identifier, identifier_among}
 use Rattle.export_verilog.proofs.names.IdentifiersOf.{from_each, port_in, net_in, variable_in, instance_in_identifiers, result_in_identifiers, made_of_emission}
 use Rattle.export_verilog.proofs.names.Symbols.{found_symbol, symbol_at, module_at_position}
 use Rattle.export_verilog.proofs.items.Items.{output_count, expr_for, connection_of, from_connections, From, from_items}
 use Rattle.export_verilog.proofs.items.Items.From.{net_wire, variable_reg, result_wire, net_assign, variable_block, an_instance, output_assign}
-use Rattle.export_verilog.proofs.items.Registers.{AreOperands, typed_register}
+use Rattle.export_verilog.proofs.items.Registers.{AreOperands, async_reset_of, typed_register}
+use Rattle.export_verilog.proofs.items.Resets.{signal_port, value_of_reset, literal_own}
 use Rattle.export_verilog.proofs.items.Settings.{Setting, Called, module_ok, module_sound, called_by, result_at_first}
 use Rattle.export_verilog.proofs.items.Writable.{named_input}
 use Rattle.export_verilog.proofs.checks.Known.{identifier_word, known_first, knows_first}
@@ -85,8 +87,21 @@ module _ (d : Design) (x : Setting d) where
       go None (Some b) u v = (written b.signal _ (are.signal b v), (load_spelled i here b.value t (are.value b v), next))
       go (Some e) (Some b) u v = (written b.signal _ (are.signal b v), (load_spelled i here b.value t (are.value b v), (written e _ (are.enable e u), next)))
 
+    -- a register's block, whose second event, if it has one, is the rise of a port
+    any_spelled : (i : ℕ) (o : Op) → In (value_identifier i 0) (module_identifiers m) → (t : HwType) (r : Register) (a : Option ResetBy) → In o m.body → register_in o ≡ Some r → async_reset_in o ≡ a
+        → AreOperands (type_in m.ports m.body) t r → IsSpellableBlock (module_block m (identifier_text m (value_identifier i 0)) r a)
+    any_spelled i o here t r None within is_register_of at are = block_spelled i here t r are
+    any_spelled i o here t r (Some b) within is_register_of at are =
+        let p = signal_port d x s m is o b within at in
+        let v = value_of_reset d x s m is o b within at t (are.value b (async_reset_of o b at r is_register_of)) in
+        let literal : IsSpellable (constant_expr m.ports m.body b.value) =
+        subst IsSpellable (sym (literal_own d x s m is b.value t v)) (assigned_well d x s m is (known_first m) (knows_first d x s m is) v.place 0 v.op t v.there v.gives v.typed).words in (
+          subst IsWord (sym p.called) (word_of_identifier s m is (port_identifier p.number) (port_in m p.number p.port_of p.there)),
+          (record { target = word_of_identifier s m is (value_identifier i 0) here; value = literal }, load_spelled i here r.next t are.next),
+        )
+
     register_spelled : (i : ℕ) (o : Op) (r : Register) → slice_get m.body i ≡ Some o → emission_of m.ports m.body i o ≡ as_reg → register_in o ≡ Some r
-        → IsWord (name_or_nothing (value_name m r.clock)) × IsSpellableBlock (block_of (expression m) (identifier_text m (value_identifier i 0)) r.next r.enable r.reset)
+        → IsWord (name_or_nothing (value_name m r.clock)) × IsSpellableBlock (module_block m (identifier_text m (value_identifier i 0)) r (async_reset_in o))
     register_spelled i o r there emission at =
         let first = result_at_first d x s m is i o there (inr emission) in
         let typed = typed_register d x s m is i o there emission first.0.type (ap (omap (λ (z : OpResult). z.type)) first.1) in
@@ -95,7 +110,7 @@ module _ (d : Design) (x : Setting d) where
         let c = ((module_ok d x s m is).ops i o there).clocked r at in
         let clock_name : name_or_nothing (value_name m r.clock) ≡ identifier_text m (port_identifier c.number) = ap (λ z. name_or_nothing (value_name m z)) c.is_port ∙ ap name_or_nothing (named_input d x s m is c.number c.clock c.there c.input) in (
           subst IsWord (sym clock_name) (word_of_identifier s m is (port_identifier c.number) (port_in m c.number c.clock c.there)),
-          block_spelled i (variable_in m i o there emission) first.0.type r (subst (AreOperands (type_in m.ports m.body) first.0.type) f typed.2),
+          any_spelled i o (variable_in m i o there emission) first.0.type r (async_reset_in o) (In-slice_get o m.body i there) at refl (subst (AreOperands (type_in m.ports m.body) first.0.type) f typed.2),
         )
 
     -- ---- instances

@@ -3,12 +3,13 @@ use Rattle.std.proofs.Common.{◌≡◌, Bool, true, false, List, [], ◌∷◌,
 use Rattle.verilog_model.specs.Tokens.{tokens}
 use Rattle.verilog_model.specs.Tokens.Piece.{word, operator, mark}
 use Rattle.verilog_model.specs.Tree.{Numeral, Expr, VPort, Load, Block, Connection, Item, VModule, Tree}
-use Rattle.verilog_model.specs.Tree.Block.{load, if_load, if_else, if_else_if}
+use Rattle.verilog_model.specs.Tree.Block.{load, if_load, if_else, if_else_if, async_reset}
+use Rattle.verilog_model.specs.Tree.Expr.{name}
 use Rattle.verilog_model.specs.Tree.Item.{wire, reg, assign, always, instance}
 use Rattle.verilog_model.specs.Grammar.{direction, range_spelled, port_spelled, more_ports_spelled, ports_spelled, load_spelled, if_spelled, block_spelled, connection_spelled, more_connections_spelled, connections_spelled, item_spelled, items_spelled, module_spelled, spell_tree}
 use Rattle.verilog_expr.specs.Text.{expr_text}
 use Rattle.verilog_expr.proofs.TextRead.{IsWord, IsSpellable, GoesOn, word_read, expr_read}
-use Rattle.export_verilog.specs.Layout.{Text, range_text, port_text, port_lines, ports_text, load_text, if_text, block_text, connection_text, connection_lines, connections_text, item_text, items_text, module_text, further_text, tree_text}
+use Rattle.export_verilog.specs.Layout.{Text, range_text, port_text, port_lines, ports_text, load_text, if_text, event_text, block_text, connection_text, connection_lines, connections_text, item_text, items_text, module_text, further_text, tree_text}
 
 -- ---- trees whose names and numerals are words
 
@@ -33,6 +34,7 @@ IsSpellableBlock (load l) = IsSpellableLoad l
 IsSpellableBlock (if_load c l) = IsSpellable c × IsSpellableLoad l
 IsSpellableBlock (if_else c l m) = IsSpellable c × (IsSpellableLoad l × IsSpellableLoad m)
 IsSpellableBlock (if_else_if c l e m) = IsSpellable c × (IsSpellableLoad l × (IsSpellable e × IsSpellableLoad m))
+IsSpellableBlock (async_reset n l m) = IsWord n × (IsSpellableLoad l × IsSpellableLoad m)
 
 pub record IsSpellableConnection (c : Connection) : Type 0 where
   pub port : IsWord c.port
@@ -123,19 +125,37 @@ else_if_read : (e : Expr) (rest : Text) → IsSpellable e → tokens (if_text (c
 unfolding if_text
 else_if_read e rest is = ap (λ ts. word (codes "else") ∷ word (codes "if") ∷ mark 40 ∷ ts) (expr_read e (41 ∷ 10 ∷ rest) is refl)
 
-block_read : (b : Block) (rest : Text) → IsSpellableBlock b → tokens (block_text b rest) ≡ block_spelled b (tokens rest)
-unfolding block_text
-block_read (load l) rest is = four_read l rest is
-block_read (if_load c l) rest is = if_read c (load_text (codes "      ") l rest) is.0 ∙ ap (if_spelled c) (six_read l rest is.1)
-block_read (if_else c l m) rest is =
-    if_read c (load_text (codes "      ") l (codes "    else" ++ (10 ∷ load_text (codes "      ") m rest))) is.0
-    ∙ ap (if_spelled c) (six_read l (codes "    else" ++ (10 ∷ load_text (codes "      ") m rest)) is.1.0
-    ∙ ap (λ ts. load_spelled l (word (codes "else") ∷ ts)) (six_read m rest is.1.1))
+-- a condition, a load, `else` and another load
+either_read : (c : Expr) (l m : Load) (rest : Text) → IsSpellable c → IsSpellableLoad l → IsSpellableLoad m
+    → tokens (if_text (codes "    ") c (load_text (codes "      ") l (codes "    else" ++ (10 ∷ load_text (codes "      ") m rest)))) ≡ if_spelled c (load_spelled l (word (codes "else") ∷ load_spelled m (tokens rest)))
+either_read c l m rest condition first second =
+    if_read c (load_text (codes "      ") l (codes "    else" ++ (10 ∷ load_text (codes "      ") m rest))) condition
+    ∙ ap (if_spelled c) (six_read l (codes "    else" ++ (10 ∷ load_text (codes "      ") m rest)) first
+    ∙ ap (λ ts. load_spelled l (word (codes "else") ∷ ts)) (six_read m rest second))
+
+-- what stands behind the clock's name
+block_read : (b : Block) (rest : Text) → IsSpellableBlock b → tokens (event_text b (block_text b rest)) ≡ block_spelled b (tokens rest)
+unfolding event_text block_text
+block_read (load l) rest is = ap (λ ts. mark 41 ∷ ts) (four_read l rest is)
+block_read (if_load c l) rest is = ap (λ ts. mark 41 ∷ ts) (if_read c (load_text (codes "      ") l rest) is.0 ∙ ap (if_spelled c) (six_read l rest is.1))
+block_read (if_else c l m) rest is = ap (λ ts. mark 41 ∷ ts) (either_read c l m rest is.0 is.1.0 is.1.1)
 block_read (if_else_if c l e m) rest is =
-    if_read c (load_text (codes "      ") l (if_text (codes "    else ") e (load_text (codes "      ") m rest))) is.0
+    ap (λ ts. mark 41 ∷ ts) (if_read c (load_text (codes "      ") l (if_text (codes "    else ") e (load_text (codes "      ") m rest))) is.0
     ∙ ap (if_spelled c) (six_read l (if_text (codes "    else ") e (load_text (codes "      ") m rest)) is.1.0
     ∙ ap (load_spelled l) (else_if_read e (load_text (codes "      ") m rest) is.1.1.0
-    ∙ ap (λ ts. word (codes "else") ∷ if_spelled e ts) (six_read m rest is.1.1.1)))
+    ∙ ap (λ ts. word (codes "else") ∷ if_spelled e ts) (six_read m rest is.1.1.1))))
+block_read (async_reset n l m) rest is =
+    ap (λ ts. word (codes "or") ∷ word (codes "posedge") ∷ ts) (word_read n (41 ∷ 10 ∷ block_text (async_reset n l m) rest) is.0 refl
+    ∙ ap (λ ts. word n ∷ mark 41 ∷ ts) (either_read (name n) l m rest is.0 is.1.0 is.1.1))
+
+-- no name goes on into what stands behind a clock's
+events_apart : (b : Block) (rest : Text) → GoesOn (event_text b rest)
+unfolding event_text
+events_apart (load l) rest = refl
+events_apart (if_load c l) rest = refl
+events_apart (if_else c l m) rest = refl
+events_apart (if_else_if c l e m) rest = refl
+events_apart (async_reset n l m) rest = refl
 
 -- ---- instances
 
@@ -169,8 +189,8 @@ item_read (assign n e) rest is =
     ap (λ ts. word (codes "assign") ∷ ts) (word_read n (codes " = " ++ expr_text e (59 ∷ 10 ∷ rest)) is.0 refl
     ∙ ap (λ ts. word n ∷ operator (codes "=") ∷ ts) (expr_read e (59 ∷ 10 ∷ rest) is.1 refl))
 item_read (always clock b) rest is =
-    ap (λ ts. word (codes "always") ∷ mark 64 ∷ mark 40 ∷ word (codes "posedge") ∷ ts) (word_read clock (41 ∷ 10 ∷ block_text b rest) is.0 refl
-    ∙ ap (λ ts. word clock ∷ mark 41 ∷ ts) (block_read b rest is.1))
+    ap (λ ts. word (codes "always") ∷ mark 64 ∷ mark 40 ∷ word (codes "posedge") ∷ ts) (word_read clock (event_text b (block_text b rest)) is.0 (events_apart b (block_text b rest))
+    ∙ ap (λ ts. word clock ∷ ts) (block_read b rest is.1))
 item_read (instance m n cs) rest is =
     word_read m (32 ∷ n ++ (codes " (" ++ connections_text cs rest)) is.0 refl
     ∙ ap (λ ts. word m ∷ ts) (word_read n (codes " (" ++ connections_text cs rest) is.1.0 refl
