@@ -5,6 +5,8 @@
 #[cfg(test)]
 mod designs;
 #[cfg(test)]
+mod reset_ports;
+#[cfg(test)]
 mod verdicts;
 #[cfg(test)]
 mod weights;

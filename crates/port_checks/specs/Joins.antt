@@ -1,0 +1,77 @@
+-- The ports that registers name as their asynchronous resets, and the ports that instances join to others.
+use Rattle.std.specs.Prelude.{ℕ, zero, suc, cond, List, [], ◌∷◌, ◌++◌, map, length, flat_map, Option, Some, None, is_some, slice_get}
+use Rattle.wiring.specs.Options.{bind, omap}
+use Rattle.hw_model.specs.Types.{Name}
+use Rattle.hw_model.specs.Kinds.{Instance}
+use Rattle.hw_model.specs.Design.{Ref, Port, Op, Module, Design, instance_in}
+use Rattle.hw_model.specs.Design.Ref.{port}
+use Rattle.hw_model.specs.Flat.{ResetBy, async_reset_in, port_ref}
+use Rattle.hw_model.specs.Sound.{ports_of}
+use Rattle.ir_store.specs.Symbols.{symbol_place}
+use Rattle.port_checks.specs.InstanceChecks.{instance_cause}
+use Rattle.port_checks.specs.ResetPorts.{is_bit_input}
+use Rattle.port_checks.specs.Numbers.{port_number}
+use Rattle.port_checks.specs.Graphs.{Pair, pair_of}
+use Rattle.port_checks.specs.declared.named.PortPlace.{PortPlace}
+
+-- the port that a value is, where that is an input of type i1
+abbrev pub bit_port : List Port → Option Ref → Option ℕ
+bit_port ports (Some (port j)) = cond (is_bit_input (slice_get ports j)) (Some j) None
+bit_port ports _ = None
+
+-- ---- what registers name
+
+-- the i1 input that an operation names as its asynchronous reset
+abbrev pub named_port : List Port → Op → Option ℕ
+named_port ports o = bit_port ports (omap (λ (r : ResetBy). r.signal) (async_reset_in o))
+
+abbrev pub place_of : ℕ → Option ℕ → List PortPlace
+place_of i None = []
+place_of i (Some j) = record { module = i; port = j } ∷ []
+
+-- those that the operations of a module name, and so of modules from a number on
+abbrev pub named_in : ℕ → Module → List PortPlace
+named_in i m = flat_map (λ (o : Op). place_of i (named_port m.ports o)) m.body
+
+abbrev pub named_from : ℕ → List Module → List PortPlace
+named_from i [] = []
+named_from i (m ∷ ms) = named_in i m ++ named_from (suc i) ms
+
+-- ---- what instances join
+
+-- the pairs of an instance's first n ports with what its operands join to them, by numbers: the module that is called has
+-- a number and ports, and so has its caller
+abbrev pub operand_pairs : List ℕ → ℕ → List Port → ℕ → List Port → List Ref → ℕ → List Pair
+operand_pairs starts called ports caller outer operands zero = []
+operand_pairs starts called ports caller outer operands (suc n) =
+    operand_pairs starts called ports caller outer operands n
+    ++ pair_of (port_number starts called n) (bind (bit_port outer (port_ref ports operands n)) (port_number starts caller))
+
+-- so with the module of a number, where there is one
+abbrev pub found_pairs : Design → List ℕ → ℕ → List Port → List Ref → Option ℕ → List Pair
+found_pairs d starts caller outer operands None = []
+found_pairs d starts caller outer operands (Some called) =
+    operand_pairs starts called (ports_of (slice_get d called)) caller outer operands (length (ports_of (slice_get d called)))
+
+-- so with the module of a symbol
+abbrev pub call_pairs : Design → List ℕ → ℕ → List Port → List Ref → Name → List Pair
+call_pairs d starts caller outer operands symbol =
+    found_pairs d starts caller outer operands (symbol_place symbol (map (λ (m : Module). m.symbol) d))
+
+-- so of an instance; other operations join nothing
+abbrev pub called_pairs : Design → List ℕ → ℕ → List Port → List Ref → Option Instance → List Pair
+called_pairs d starts caller outer operands None = []
+called_pairs d starts caller outer operands (Some i) = call_pairs d starts caller outer operands i.symbol
+
+-- so of one that its module does not refuse
+abbrev pub instance_pairs : Design → List ℕ → ℕ → List Port → Op → List Pair
+instance_pairs d starts caller outer o =
+    cond (is_some (instance_cause d o.types (instance_in o.kind))) [] (called_pairs d starts caller outer o.operands (instance_in o.kind))
+
+-- those of a module, and of modules from a number on
+abbrev pub pairs_in : Design → List ℕ → ℕ → Module → List Pair
+pairs_in d starts i m = flat_map (instance_pairs d starts i m.ports) m.body
+
+abbrev pub pairs_from : Design → List ℕ → ℕ → List Module → List Pair
+pairs_from d starts i [] = []
+pairs_from d starts i (m ∷ ms) = pairs_in d starts i m ++ pairs_from d starts (suc i) ms

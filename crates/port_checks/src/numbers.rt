@@ -1,0 +1,100 @@
+//! The numbers of ports among those of all modules of a design.
+ghost use Rattle.std.specs.Prelude.{◌≡◌, ◌++◌, [], replicate, option_to_list, IfOk, OnOk};
+ghost use Rattle.wiring.specs.Options.{bind};
+ghost use Rattle.ir_store.specs.Designs.{design_of};
+ghost use Rattle.port_checks.specs.Graphs.{lists_of};
+ghost use Rattle.port_checks.specs.Numbers.{port_number, numbers_of, AreStarts};
+ghost use Rattle.port_checks.specs.ResetPorts.{port_count};
+
+use crate::graph::JoinedPorts;
+use crate::named::PortPlace;
+use ir_store::design::Design;
+use std::alloc::{AllocError, Global};
+
+/// The ports of all modules of a design in one row.
+#[derive(Drop)]
+pub(crate) struct PortRow {
+    /// The number of the first port of each module, and behind these how many ports there are.
+    pub(crate) starts: Vec<usize>,
+    /// Of each port those that instances join to it.
+    pub(crate) joined: Vec<JoinedPorts>,
+}
+
+/// The ports of a design, none joined to another.
+pub(crate) fn port_row(alloc: Global, design: &Design) -> Result<PortRow, AllocError>
+    ensures starts { IfOk result (λ row. AreStarts (design_of design.now) row.starts.items) }
+    ensures joined { IfOk result (λ row. lists_of row.joined.items ≡ replicate (port_count (design_of design.now)) []) }
+{
+    let mut starts = Vec::new(alloc);
+    let mut joined = Vec::new(alloc);
+    for number in 0..design.module_count() {
+        starts.push(joined.len())?;
+        push_ports(alloc, design.module(number).ports.ports.len(), &mut joined)?;
+    }
+    starts.push(joined.len())?;
+    Ok(PortRow { starts, joined })
+}
+
+/// Appends so many ports to which none is joined.
+fn push_ports(alloc: Global, count: usize, joined: &mut Vec<JoinedPorts>) -> Result<(), AllocError>
+    ensures { OnOk result (lists_of joined.new.items ≡ lists_of joined.old.items ++ replicate count []) }
+{
+    for _port in 0..count {
+        joined.push(JoinedPorts {
+            numbers: Vec::new(alloc),
+        })?;
+    }
+    Ok(())
+}
+
+/// The number of a port of a module, where there is such a port.
+pub(crate) fn port_number(starts: &[usize], module: usize, port: usize) -> Option<usize>
+    ensures { result ≡ port_number starts.now module port }
+{
+    let start = *starts.get(module)?;
+    let end = *starts.get(module + 1)?;
+    if port < end.saturating_sub(start) {
+        Some(start + port)
+    } else {
+        None
+    }
+}
+
+/// The number of a port, where there is one.
+pub(crate) fn optional_number(starts: &[usize], module: usize, port: Option<u32>) -> Option<usize>
+    ensures { result ≡ bind port (port_number starts.now module) }
+{
+    match port {
+        Some(port) => port_number(starts, module, port as usize),
+        None => None,
+    }
+}
+
+/// The numbers of ports.
+pub(crate) fn numbers_of(
+    alloc: Global,
+    starts: &[usize],
+    places: &[PortPlace],
+) -> Result<Vec<usize>, AllocError>
+    ensures { IfOk result (λ numbers. numbers.items ≡ numbers_of starts.now places.now) }
+{
+    let mut numbers = Vec::with_capacity(alloc, places.len())?;
+    for place in places {
+        let number = port_number(starts, place.module as usize, place.port as usize);
+        push_number(number, &mut numbers)?;
+    }
+    Ok(numbers)
+}
+
+/// Appends a number, where there is one.
+fn push_number(number: Option<usize>, numbers: &mut Vec<usize>) -> Result<(), AllocError>
+    ensures { OnOk result (numbers.new.items ≡ numbers.old.items ++ option_to_list number) }
+{
+    match number {
+        Some(number) => {
+            numbers.push(number)?;
+            Ok(())
+        }
+        None => Ok(()),
+    }
+}
