@@ -1,7 +1,7 @@
 -- The causes of refusals: their codes and their words.
 use Rattle.std.specs.Prelude.{ℕ, List, codes}
 use Rattle.diag.specs.declared.cause.Cause.{Cause}
-use Rattle.diag.specs.declared.cause.Cause.TheVariants.{BadByte, Unexpected, UnknownOperation, OutsideProfile, NumberTooLarge, TooDeep, TooLong, Redefined, Undefined, TypeMismatch, WidthLimit, ConstantRange, ExtractRange, ReplicateMultiple, ConcatWidth, Divisor, IndexWidth, Field, BitcastWidth, ClockOperand, Arity, OutputMismatch, DuplicateSymbol, UnknownModule, InstancePorts, DuplicatePort, MissingOutput, RecursiveInstance, TooLarge, CombinationalCycle, NoSuchModule, PortsDiffer, HasRegisters, TooManyGates}
+use Rattle.diag.specs.declared.cause.Cause.TheVariants.{BadByte, Unexpected, UnknownOperation, OutsideProfile, NumberTooLarge, TooDeep, TooLong, Redefined, Undefined, TypeMismatch, WidthLimit, ConstantRange, ExtractRange, ReplicateMultiple, ConcatWidth, Divisor, IndexWidth, Field, BitcastWidth, ClockOperand, Arity, OutputMismatch, DuplicateSymbol, UnknownModule, InstancePorts, DuplicatePort, MissingOutput, RecursiveInstance, TooLarge, CombinationalCycle, AsyncReset, NoSuchModule, PortsDiffer, HasRegisters, TooManyGates}
 
 -- the code of a cause: S for texts, V for designs, L for comparisons
 unfoldable pub code_of : Cause → List ℕ
@@ -35,6 +35,7 @@ code_of MissingOutput = codes "V20"
 code_of RecursiveInstance = codes "V21"
 code_of TooLarge = codes "V22"
 code_of CombinationalCycle = codes "V23"
+code_of AsyncReset = codes "V24"
 code_of NoSuchModule = codes "L1"
 code_of PortsDiffer = codes "L2"
 code_of HasRegisters = codes "L3"
@@ -72,6 +73,7 @@ text_of MissingOutput = codes "hw.output is missing"
 text_of RecursiveInstance = codes "module instances itself"
 text_of TooLarge = codes "design too large"
 text_of CombinationalCycle = codes "combinational cycle"
+text_of AsyncReset = codes "asynchronous reset needs an input port and a constant"
 text_of NoSuchModule = codes "no such module"
 text_of PortsDiffer = codes "ports differ"
 text_of HasRegisters = codes "module has registers"

@@ -66,6 +66,8 @@ pub enum Cause {
     TooLarge,
     /// A result depends on itself without a register between.
     CombinationalCycle,
+    /// An asynchronous reset is no input port, or what it resets to is no constant.
+    AsyncReset,
     /// The module to compare is not in its file.
     NoSuchModule,
     /// The modules to compare differ in the types of their ports.
@@ -113,6 +115,7 @@ impl Cause {
             Cause::RecursiveInstance => b"V21",
             Cause::TooLarge => b"V22",
             Cause::CombinationalCycle => b"V23",
+            Cause::AsyncReset => b"V24",
             Cause::NoSuchModule => b"L1",
             Cause::PortsDiffer => b"L2",
             Cause::HasRegisters => b"L3",
@@ -156,6 +159,7 @@ impl Cause {
             Cause::RecursiveInstance => b"module instances itself",
             Cause::TooLarge => b"design too large",
             Cause::CombinationalCycle => b"combinational cycle",
+            Cause::AsyncReset => b"asynchronous reset needs an input port and a constant",
             Cause::NoSuchModule => b"no such module",
             Cause::PortsDiffer => b"ports differ",
             Cause::HasRegisters => b"module has registers",
