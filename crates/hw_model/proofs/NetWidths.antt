@@ -67,7 +67,7 @@ instance_position (y ∷ ys) u o is = go (sort_of y.kind) u is (instance_positio
     go (a_made r i x) u is rest = later (rest u o (simp i at is))
 
 -- the type of an input, among the types of the inputs
-input_found : (ps : List Port) (j : ℕ) (q : Port) → slice_get ps j ≡ Some q → q.is_output ≡ false → slice_get (input_types ps) (input_count (take j ps)) ≡ Some q.type
+pub input_found : (ps : List Port) (j : ℕ) (q : Port) → slice_get ps j ≡ Some q → q.is_output ≡ false → slice_get (input_types ps) (input_count (take j ps)) ≡ Some q.type
 input_found [] j q is inward = cc
 input_found (x ∷ ps) zero q is inward =
     let same : x ≡ q = cc in
@@ -81,7 +81,7 @@ input_found (x ∷ ps) (suc j) q is inward = go x.is_output refl (input_found ps
     go false e rest = rest
 
 -- what stands at a position of a list whose types are known
-typed_at : (type_of : Ref → Option HwType) (rs : List Ref) (ts : List HwType) (n : ℕ) (t : HwType) → map type_of rs ≡ map (λ (u : HwType). Some u) ts → slice_get ts n ≡ Some t
+pub typed_at : (type_of : Ref → Option HwType) (rs : List Ref) (ts : List HwType) (n : ℕ) (t : HwType) → map type_of rs ≡ map (λ (u : HwType). Some u) ts → slice_get ts n ≡ Some t
     → (r : Ref) × (slice_get rs n ≡ Some r) × (type_of r ≡ Some t)
 typed_at type_of rs ts n t same is =
     let e : omap type_of (slice_get rs n) ≡ Some (Some t) =
