@@ -13,16 +13,19 @@ use Rattle.hw_model.specs.Design.Ref.{result}
 use Rattle.hw_model.specs.Flat.{Net, net}
 use Rattle.hw_model.specs.Hierarchy.{HasNoRecursion}
 use Rattle.hw_model.specs.Meaning.{HasNoCycle}
+use Rattle.hw_model.specs.Resets.{ResetsFromPorts}
 use Rattle.hw_model.specs.Sound.{body_of}
 use Rattle.design_cycles.specs.Asked.{HasDistinctSymbols, IsRecursiveAt, IsCyclicAt}
 use Rattle.design_cycles.proofs.Callees.{found_at}
 use Rattle.design_cycles.proofs.Cyclic.{cyclic_op, none_cyclic}
 use Rattle.design_cycles.proofs.Returning.{none_recursive}
+use Rattle.port_checks.specs.ResetPorts.{is_reset_port}
 use Rattle.op_verifier.specs.Faults.{first_fault}
 use Rattle.op_verifier.specs.LimitChecks.{has_constant_outside}
 use Rattle.op_verifier.specs.LiteralChecks.{is_out_of_range}
 use Rattle.op_verifier.specs.Verdict.{IsInRange, OpAt, NoOp, NoModule, IsRecursive, IsTooLarge, IsOnCycle, IsAccepted}
 use Rattle.op_verifier.proofs.Distinct.{distinct_symbols}
+use Rattle.op_verifier.proofs.InputResets.{resets_from_ports}
 use Rattle.op_verifier.proofs.NoOwnCause.{no_cause_alone}
 use Rattle.op_verifier.proofs.Placeless.{calls_placeless, weight_placeless, needs_placeless}
 use Rattle.op_verifier.proofs.PlacelessFaults.{fault_placeless}
@@ -57,6 +60,9 @@ module _ (d : Design) (accepted : IsAccepted d) where
           let found : find_module d c.module_there.symbol ≡ Some c.module_there = (found_at d accepted_distinct i c.module_there c.has_module).1 in
           let at : OpAt d i j c.module_there has.0 = record { module_there = c.has_module; op_there = ap (λ o. slice_get (body_of o) j) (sym found) ∙ has.1 } in
           accepted.no_cycle i j c.module_there has.0 at ((cyclic_forms d).from i j c.module_there has.0 at c)
+
+  pub accepted_resets : ResetsFromPorts d (is_reset_port d)
+  accepted_resets = resets_from_ports d no_fault
 
 -- ---- designs without places
 

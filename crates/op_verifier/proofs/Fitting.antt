@@ -5,8 +5,9 @@ use Rattle.hw_model.specs.Types.{HwType, width}
 use Rattle.hw_model.specs.Kinds.{Kind, Instance}
 use Rattle.hw_model.specs.Kinds.ArrayOp.{array_create, array_concat, array_get, array_slice, array_inject}
 use Rattle.hw_model.specs.Kinds.StructOp.{struct_create, struct_extract, struct_inject, struct_explode}
+use Rattle.hw_model.specs.Kinds.Reset.{sync_reset}
 use Rattle.hw_model.specs.Kinds.RegisterOp.{compreg, compreg_ce, firreg}
-use Rattle.hw_model.specs.Kinds.Kind.{variadic, sub, division, shift, icmp, parity, extract, concat, replicate, mux, constant, aggregate_constant, on_array, on_struct, bitcast, wire, instance, output, register}
+use Rattle.hw_model.specs.Kinds.Kind.{variadic, sub, division, shift, icmp, parity, extract, concat, replicate, mux, constant, aggregate_constant, on_array, on_struct, bitcast, wire, instance, output, register, async_firreg}
 use Rattle.hw_model.specs.Sound.{Fits}
 use Rattle.ir_store.specs.ResultTypes.{first_type, second_type, result_type, result_types, result_count}
 use Rattle.op_verifier.specs.TypeLists.{known_types}
@@ -65,6 +66,7 @@ fits_by output ts rs us h k t e = without_results rs k t h.results e
 fits_by (register compreg r) ts rs us h k t e = plain_register r ts rs us k t h.types h.operands h.results h.operand h.result e
 fits_by (register compreg_ce r) ts rs us h k t e = enabled_register r ts rs us k t h.types h.operands h.results h.operand h.result e
 fits_by (register firreg r) ts rs us h k t e = plain_register r ts rs us k t h.types h.operands h.results h.operand h.result e
+fits_by async_firreg ts rs us h k t e = plain_register sync_reset ts rs us k t h.types h.operands h.results h.operand h.result e
 
 pub fits : (kind : Kind) (ts rs : List HwType) (named : ℕ) (us : List HwType) (is_known : Bool) → own_cause kind ts rs named (known_types us) is_known ≡ None
     → (k : ℕ) (t : HwType) → slice_get rs k ≡ Some t → Fits kind ts (known_types us) t k

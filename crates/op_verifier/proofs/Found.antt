@@ -8,6 +8,7 @@ use Rattle.wiring.specs.Options.{omap}
 use Rattle.hw_model.specs.KindViews.{kind_of}
 use Rattle.hw_model.specs.Design.{Port, OpResult}
 use Rattle.hw_model.specs.Design.Ref.{result}
+use Rattle.hw_model.specs.Resets.{is_constant}
 use Rattle.hw_model.specs.Sound.{type_in}
 use Rattle.ir_store.specs.Numbered.{op_by, ref_by}
 use Rattle.ir_store.specs.OperationViews.{result_of}
@@ -15,6 +16,7 @@ use Rattle.ir_store.specs.ShortLists.{short_items}
 use Rattle.op_verifier.specs.declared.entries.Entry.{Entry}
 use Rattle.op_verifier.specs.Entries.{op_in, types_beside, settled_for, AreSettled}
 use Rattle.op_verifier.specs.OpChecks.{settled_type, is_nonzero_kind, is_nonzero_op}
+use Rattle.op_verifier.specs.ResetChecks.{is_constant_op}
 
 pub copied_some : {A : Type 0} (r : Option (Bor A)) (o : Option A) (b : Bor A) → option_copied r ≡ o → r ≡ Some b → o ≡ Some b.now
 copied_some r o b e is = sym e ∙ ap option_copied is
@@ -79,3 +81,12 @@ nonzero_there p es i e found = ap is_nonzero_op (op_there p es i (Some e) found)
 pub nonzero_gone : (p : ℕ → ℕ) (es : List Entry) (i : ℕ) → slice_get es i ≡ None
     → is_nonzero_op (slice_get (map (op_by p) (map op_in es)) i) ≡ false
 nonzero_gone p es i found = ap is_nonzero_op (op_there p es i None found)
+
+-- whether a constant is there
+pub constant_there : (p : ℕ → ℕ) (es : List Entry) (i : ℕ) (e : Entry) → slice_get es i ≡ Some e
+    → is_constant_op (slice_get (map (op_by p) (map op_in es)) i) ≡ is_constant (kind_of e.op.kind.now)
+constant_there p es i e found = ap is_constant_op (op_there p es i (Some e) found)
+
+pub constant_gone : (p : ℕ → ℕ) (es : List Entry) (i : ℕ) → slice_get es i ≡ None
+    → is_constant_op (slice_get (map (op_by p) (map op_in es)) i) ≡ false
+constant_gone p es i found = ap is_constant_op (op_there p es i None found)

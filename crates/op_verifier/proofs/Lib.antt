@@ -8,6 +8,7 @@ pub mod FitIntegers
 pub mod FitStructs
 pub mod Fitting
 pub mod Found
+pub mod InputResets
 pub mod Lists
 pub mod Mismatch
 pub mod Names
@@ -16,6 +17,7 @@ pub mod Owned
 pub mod Placeless
 pub mod PlacelessFaults
 pub mod Positions
+pub mod ResetJoins
 pub mod Settled
 pub mod SoundDesigns
 pub mod Symbols

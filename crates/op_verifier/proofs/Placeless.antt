@@ -81,7 +81,7 @@ weight_placeless d s = ap (λ n. module_weight (suc n) (without_places d) s) (le
 -- ---- what needs what
 
 module _ (d : Design) where
-  callee_placeless : (o : Op) → callee (without_places d) (op_without_place o) ≡ omap module_without_places (callee d o)
+  pub callee_placeless : (o : Op) → callee (without_places d) (op_without_place o) ≡ omap module_without_places (callee d o)
   callee_placeless o = go (instance_in o.kind)
     where
       go : (y : Option Instance) → bind y (λ (i : Instance). find_module (without_places d) i.symbol) ≡ omap module_without_places (bind y (λ (i : Instance). find_module d i.symbol))

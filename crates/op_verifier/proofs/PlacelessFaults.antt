@@ -1,23 +1,28 @@
 -- The places of modules and operations in the source decide nothing of whether a header or an operation is refused.
-use Rattle.std.proofs.Common.{◌≡◌, ℕ, zero, suc, Bool, true, false, cond, not, ◌&&◌, nat_eq, List, [], ◌∷◌, length, map, take, slice_get, Option, Some, None, option_map, is_some, refl, sym, ap, ap₂, ◌∙◌}
+use Rattle.std.proofs.Common.{◌≡◌, ℕ, zero, suc, Bool, true, false, cond, not, ◌&&◌, ◌||◌, nat_eq, List, [], ◌∷◌, length, map, take, slice_get, Option, Some, None, option_map, is_some, refl, sym, ap, ap₂, ◌∙◌}
 use Rattle.std.specs.Prelude.{slice_index_or}
 use Rattle.std.proofs.lemmas.Option.{slice_get-map}
 use Rattle.std.proofs.lemmas.List.{take-map}
 use Rattle.diag.specs.declared.cause.Cause.{Cause}
-use Rattle.diag.specs.declared.cause.Cause.TheVariants.{Redefined, Undefined, OutputMismatch, DuplicateSymbol, DuplicatePort, MissingOutput}
+use Rattle.diag.specs.declared.cause.Cause.TheVariants.{Redefined, Undefined, OutputMismatch, DuplicateSymbol, DuplicatePort, MissingOutput, AsyncReset}
 use Rattle.diag.specs.declared.refusal.Refusal.{Refusal}
 use Rattle.wiring.specs.Options.{bind, omap}
 use Rattle.hw_model.specs.Types.{Name, HwType}
 use Rattle.hw_model.specs.Kinds.{Instance}
-use Rattle.hw_model.specs.Design.{Ref, Port, OpResult, Op, Module, Design, op_without_place, module_without_places, without_places, find_module, instance_in, is_output_op, result_type}
+use Rattle.hw_model.specs.Design.{Ref, Port, OpResult, Op, Module, Design, op_without_place, module_without_places, without_places, find_module, instance_in, is_output_op, result_type, callee}
 use Rattle.hw_model.specs.Design.Ref.{port, result, undefined}
 use Rattle.hw_model.specs.Sound.{type_in}
+use Rattle.hw_model.specs.Flat.{async_reset_in, port_ref, ResetBy}
+use Rattle.port_checks.specs.InstanceChecks.{call_cause, instance_cause}
+use Rattle.port_checks.specs.ResetPorts.{is_reset_port}
 use Rattle.op_verifier.specs.Answers.{when, or_else}
 use Rattle.op_verifier.specs.OwnChecks.{own_cause}
-use Rattle.op_verifier.specs.OpChecks.{has_again, has_undefined, settled_by, settled_type, is_nonzero_op, is_nonzero_ref, has_other_outputs, call_cause, instance_cause, value_cause, alone_cause, outer_cause, op_cause}
+use Rattle.op_verifier.specs.OpChecks.{has_again, has_undefined, settled_by, settled_type, is_nonzero_op, is_nonzero_ref, has_other_outputs, value_cause, alone_cause, outer_cause, op_cause}
+use Rattle.op_verifier.specs.ResetChecks.{is_input_port, is_constant_op, is_constant_ref, has_other_reset, has_other_join, reset_cause}
 use Rattle.op_verifier.specs.Headers.{has_twice, has_output, ports_cause, names_cause, header_cause}
 use Rattle.op_verifier.specs.Faults.{header_refusal, op_refusal, is_empty, body_fault, module_fault, faults_from, first_fault}
-use Rattle.op_verifier.proofs.Placeless.{find_placeless}
+use Rattle.op_verifier.proofs.Placeless.{find_placeless, callee_placeless}
+use Rattle.op_verifier.proofs.ResetJoins.{joins_same}
 
 -- ---- what stands in a body
 
@@ -74,12 +79,38 @@ instance_placeless d ts (Some i) = ap (call_cause i ts) (find_placeless d i.symb
     go None = refl
     go (Some m) = refl
 
+constant_placeless : (os : List Op) (r : Ref) → is_constant_ref (map op_without_place os) r ≡ is_constant_ref os r
+constant_placeless os (port j) = refl
+constant_placeless os (result j k) = op_there os j is_constant_op go
+  where
+    go : (x : Option Op) → is_constant_op (option_map op_without_place x) ≡ is_constant_op x
+    go None = refl
+    go (Some o) = refl
+constant_placeless os undefined = refl
+
+other_reset_placeless : (ports : List Port) (os : List Op) (x : Option ResetBy) → has_other_reset ports (map op_without_place os) x ≡ has_other_reset ports os x
+other_reset_placeless ports os None = refl
+other_reset_placeless ports os (Some r) = ap (λ b. not (is_input_port ports r.signal && b)) (constant_placeless os r.value)
+
+other_join_placeless : (d : Design) (ports : List Port) (refs : List Ref) (x : Option Module)
+    → has_other_join (without_places d) ports refs (omap module_without_places x) ≡ has_other_join d ports refs x
+other_join_placeless d ports refs None = refl
+other_join_placeless d ports refs (Some c) =
+    joins_same (is_reset_port (without_places d) (module_without_places c)) (is_reset_port d c) ports (port_ref c.ports refs) (length c.ports) (reset_port_placeless d c)
+
+reset_placeless : (d : Design) (ports : List Port) (os : List Op) (o : Op) → reset_cause (without_places d) ports (map op_without_place os) (op_without_place o) ≡ reset_cause d ports os o
+reset_placeless d ports os o =
+    ap₂ (λ a b. when (a || b) AsyncReset) (other_reset_placeless ports os (async_reset_in o))
+    (ap (has_other_join (without_places d) ports o.operands) (callee_placeless d o) ∙ other_join_placeless d ports o.operands (callee d o))
+
 cause_placeless : (d : Design) (ports : List Port) (os : List Op) (last : Bool) (o : Op) → op_cause (without_places d) ports (map op_without_place os) last (op_without_place o) ≡ op_cause d ports os last o
 cause_placeless d ports os last o =
     ap₂ (λ a b. or_else a b) (ap (λ b. or_else (when (has_again o.results) Redefined) (when b Undefined)) (undefined_placeless ports os o.operands))
     (ap₂ (λ a b. or_else a b)
     (ap₂ (λ xs b. own_cause o.kind o.types (map (λ (r : OpResult). r.type) o.results) o.named xs b) (all_settled_placeless ports os o.operands) (nonzero_placeless os (slice_get o.operands 1)))
-    (ap (λ c. or_else (when (has_other_outputs ports o) OutputMismatch) (or_else c (when (is_output_op o && not last) MissingOutput))) (instance_placeless d o.types (instance_in o.kind))))
+    (ap₂ (λ a b. or_else a b)
+    (ap (λ c. or_else (when (has_other_outputs ports o) OutputMismatch) (or_else c (when (is_output_op o && not last) MissingOutput))) (instance_placeless d o.types (instance_in o.kind)))
+    (reset_placeless d ports os o)))
 
 header_placeless : (d : Design) (n : ℕ) (m : Module) → header_cause (without_places d) n (module_without_places m) ≡ header_cause d n m
 header_placeless d n m =

@@ -7,7 +7,7 @@ use Rattle.hw_model.specs.Types.HwType.{int, clock, array, struct}
 use Rattle.hw_model.specs.Kinds.{Kind}
 use Rattle.hw_model.specs.Kinds.ArrayOp.{array_create, array_concat, array_get, array_slice, array_inject}
 use Rattle.hw_model.specs.Kinds.StructOp.{struct_create, struct_extract, struct_inject, struct_explode}
-use Rattle.hw_model.specs.Kinds.Kind.{variadic, sub, division, shift, icmp, parity, extract, concat, replicate, mux, constant, aggregate_constant, on_array, on_struct, bitcast, wire, instance, output, register}
+use Rattle.hw_model.specs.Kinds.Kind.{variadic, sub, division, shift, icmp, parity, extract, concat, replicate, mux, constant, aggregate_constant, on_array, on_struct, bitcast, wire, instance, output, register, async_firreg}
 use Rattle.hw_model.specs.Sound.{field_list}
 use Rattle.hw_model.specs.SameType.{same_type}
 use Rattle.ir_store.specs.ResultTypes.{first_type, second_type, with_width, joined_width, elements_in, sum_of, length_joined, joined_length, kept_size, as_int, as_array, array_of, element_of, field_of, fields_of, field_count, result_type, result_types, result_count}
@@ -115,6 +115,7 @@ settles_all (on_struct struct_create) ts n form field operands types = by_first 
 settles_all (on_struct (struct_inject name)) ts n form field operands types = by_first ts types
 settles_all wire ts n form field operands types = by_first ts types
 settles_all (register f r) ts n form field operands types = by_first ts types
+settles_all async_firreg ts n form field operands types = by_first ts types
 settles_all (extract low) ts n form field operands types = by_second ts types
 settles_all replicate ts n form field operands types = by_second ts types
 settles_all (on_array array_slice) ts n form field operands types = by_second ts types

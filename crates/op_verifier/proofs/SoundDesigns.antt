@@ -11,9 +11,10 @@ use Rattle.hw_model.specs.Design.{Ref, Port, OpResult, Op, Module, Design, find_
 use Rattle.hw_model.specs.Design.Ref.{port, result, undefined}
 use Rattle.hw_model.specs.Sound.{input_types, output_types, type_in, Fits, OpFits, InstanceFits, Sound}
 use Rattle.hw_model.specs.SameType.{same_type, type_from}
+use Rattle.port_checks.specs.InstanceChecks.{names_ports, call_cause, instance_cause}
 use Rattle.op_verifier.specs.TypeLists.{known_types}
 use Rattle.op_verifier.specs.OwnChecks.{own_cause}
-use Rattle.op_verifier.specs.OpChecks.{has_undefined, settled_by, settled_type, divides_by_constant, names_ports, call_cause, instance_cause}
+use Rattle.op_verifier.specs.OpChecks.{has_undefined, settled_by, settled_type, divides_by_constant}
 use Rattle.op_verifier.specs.Headers.{has_output}
 use Rattle.op_verifier.specs.Faults.{first_fault}
 use Rattle.op_verifier.proofs.Fitting.{fits, instance_types, output_types as outputs_typed}
@@ -23,7 +24,7 @@ use Rattle.op_verifier.proofs.Unrefused.{when_none, not_false, no_op_cause, no_h
 
 -- ---- small facts
 
-some_from : {A : Type 0} {a b : A} → Some a ≡ Some b → a ≡ b
+pub some_from : {A : Type 0} {a b : A} → Some a ≡ Some b → a ≡ b
 some_from {a = a} h = ap (λ (o : Option _). value a o) h
   where
     value : {A : Type 0} → A → Option A → A
@@ -36,7 +37,7 @@ known_at [] (suc k) = refl
 known_at (t ∷ ts) zero = refl
 known_at (t ∷ ts) (suc k) = known_at ts k
 
-both_true : (p q : Bool) → (p && q) ≡ true → (p ≡ true) × (q ≡ true)
+pub both_true : (p q : Bool) → (p && q) ≡ true → (p ≡ true) × (q ≡ true)
 both_true true true h = (refl, refl)
 both_true true false h = cc
 both_true false true h = cc

@@ -1,14 +1,18 @@
 -- What an answer without a refusal says of each part that was asked.
-use Rattle.std.proofs.Common.{◌≡◌, ℕ, zero, suc, Bool, true, false, cond, not, ◌&&◌, List, [], ◌∷◌, map, take, slice_get, is_some, Option, Some, None, option_map, refl, sym, ap, ◌∙◌}
+use Rattle.std.proofs.Common.{◌≡◌, ℕ, zero, suc, Bool, true, false, cond, not, ◌&&◌, ◌||◌, List, [], ◌∷◌, map, take, slice_get, is_some, Option, Some, None, option_map, refl, sym, ap, ◌∙◌}
 use Rattle.diag.specs.declared.cause.Cause.{Cause}
-use Rattle.diag.specs.declared.cause.Cause.TheVariants.{Redefined, Undefined, WidthLimit, Field, ClockOperand, OutputMismatch, DuplicateSymbol, DuplicatePort, MissingOutput}
+use Rattle.diag.specs.declared.cause.Cause.TheVariants.{Redefined, Undefined, WidthLimit, Field, ClockOperand, OutputMismatch, DuplicateSymbol, DuplicatePort, MissingOutput, AsyncReset}
 use Rattle.hw_model.specs.Types.{Name}
-use Rattle.hw_model.specs.Design.{Port, Op, Module, Design, same_name, find_module, instance_in, is_output_op}
+use Rattle.hw_model.specs.Design.{Port, Op, Module, Design, same_name, find_module, instance_in, is_output_op, callee}
+use Rattle.hw_model.specs.Flat.{async_reset_in}
+use Rattle.port_checks.specs.InstanceChecks.{instance_cause}
 use Rattle.op_verifier.specs.Answers.{when, or_else}
-use Rattle.op_verifier.specs.OpChecks.{has_again, has_undefined, has_other_outputs, instance_cause, value_cause, alone_cause, outer_cause, op_cause}
+use Rattle.op_verifier.specs.OpChecks.{has_again, has_undefined, has_other_outputs, value_cause, alone_cause, outer_cause, op_cause}
+use Rattle.op_verifier.specs.ResetChecks.{has_other_reset, has_other_join, reset_cause}
 use Rattle.op_verifier.specs.TypeChecks.{is_outside, has_bad_field}
 use Rattle.op_verifier.specs.Headers.{has_port, has_wrong_clock, has_twice, has_output, ports_cause, names_cause, header_cause}
 use Rattle.op_verifier.specs.Faults.{op_refusal, header_refusal, is_empty, body_fault, module_fault, faults_from, first_fault}
+use Rattle.op_verifier.proofs.Widths.{neither}
 
 pub or_none : {A : Type 0} (a b : Option A) → or_else a b ≡ None → (a ≡ None) × (b ≡ None)
 or_none None b h = (refl, h)
@@ -34,15 +38,19 @@ pub record NoOpCause (d : Design) (ports : List Port) (os : List Op) (last : Boo
   pub outputs : has_other_outputs ports o ≡ false
   pub called : instance_cause d o.types (instance_in o.kind) ≡ None
   pub ends : (is_output_op o && not last) ≡ false
+  pub reset : has_other_reset ports os (async_reset_in o) ≡ false
+  pub join : has_other_join d ports o.operands (callee d o) ≡ false
 
 pub no_op_cause : (d : Design) (ports : List Port) (os : List Op) (last : Bool) (o : Op) → op_cause d ports os last o ≡ None
     → NoOpCause d ports os last o
 no_op_cause d ports os last o h =
-    let a = or_none (value_cause ports os o) (or_else (alone_cause ports os o) (outer_cause d ports last o)) h in
+    let a = or_none (value_cause ports os o) (or_else (alone_cause ports os o) (or_else (outer_cause d ports last o) (reset_cause d ports os o))) h in
     let v = or_none (when (has_again o.results) Redefined) (when (has_undefined ports os o.operands) Undefined) a.0 in
-    let b = or_none (alone_cause ports os o) (outer_cause d ports last o) a.1 in
-    let c = or_none (when (has_other_outputs ports o) OutputMismatch) _ b.1 in
+    let b = or_none (alone_cause ports os o) (or_else (outer_cause d ports last o) (reset_cause d ports os o)) a.1 in
+    let w = or_none (outer_cause d ports last o) (reset_cause d ports os o) b.1 in
+    let c = or_none (when (has_other_outputs ports o) OutputMismatch) _ w.0 in
     let e = or_none (instance_cause d o.types (instance_in o.kind)) (when (is_output_op o && not last) MissingOutput) c.1 in
+    let r = neither (has_other_reset ports os (async_reset_in o)) (has_other_join d ports o.operands (callee d o)) (when_none _ AsyncReset w.1) in
     record {
       again = when_none (has_again o.results) Redefined v.0;
       defined = when_none (has_undefined ports os o.operands) Undefined v.1;
@@ -50,6 +58,8 @@ no_op_cause d ports os last o h =
       outputs = when_none (has_other_outputs ports o) OutputMismatch c.0;
       called = e.0;
       ends = when_none (is_output_op o && not last) MissingOutput e.1;
+      reset = r.0;
+      join = r.1;
     }
 
 -- what holds of a module, which stands as number n in a design, whose header is refused for no cause

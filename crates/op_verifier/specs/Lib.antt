@@ -12,6 +12,7 @@ pub mod OpChecks
 pub mod OperandChecks
 pub mod OwnChecks
 pub mod OwnViews
+pub mod ResetChecks
 pub mod Tables
 pub mod TypeChecks
 pub mod TypeLists

@@ -1,20 +1,22 @@
 -- Why an operation of a module's body is refused, by itself and by what stands around it (CIRCT: HW dialect, `hw.output`
 -- and `hw.instance`; MLIR language reference: SSA values in graph regions).
-use Rattle.std.specs.Prelude.{ℤ, pos, negsuc, Bool, true, false, cond, not, ◌&&◌, nat_eq, List, [], ◌∷◌, map, take, drop, length, Option, Some, None, is_some, slice_get, slice_index_or}
+use Rattle.std.specs.Prelude.{ℤ, pos, negsuc, Bool, true, false, cond, not, ◌&&◌, nat_eq, List, [], ◌∷◌, map, length, Option, Some, None, is_some, slice_get, slice_index_or}
 use Rattle.std.specs.Cmp.Lexicographic.{pointwise}
 use Rattle.wiring.specs.Options.{bind}
 use Rattle.diag.specs.declared.cause.Cause.{Cause}
-use Rattle.diag.specs.declared.cause.Cause.TheVariants.{Redefined, Undefined, OutputMismatch, UnknownModule, InstancePorts, MissingOutput}
-use Rattle.hw_model.specs.Types.{Name, HwType}
-use Rattle.hw_model.specs.Kinds.{Kind, Instance}
+use Rattle.diag.specs.declared.cause.Cause.TheVariants.{Redefined, Undefined, OutputMismatch, MissingOutput}
+use Rattle.hw_model.specs.Types.{HwType}
+use Rattle.hw_model.specs.Kinds.{Kind}
 use Rattle.hw_model.specs.Kinds.Kind.{constant}
-use Rattle.hw_model.specs.Design.{Ref, Port, OpResult, Op, Module, Design, same_name, find_module, instance_in, is_output_op}
+use Rattle.hw_model.specs.Design.{Ref, Port, OpResult, Op, Design, instance_in, is_output_op}
 use Rattle.hw_model.specs.Design.Ref.{port, result, undefined}
-use Rattle.hw_model.specs.Sound.{input_type, type_in, input_types, output_types}
+use Rattle.hw_model.specs.Sound.{input_type, type_in}
 use Rattle.hw_model.specs.SameType.{same_type}
 use Rattle.ir_store.specs.ResultTypes.{result_types}
+use Rattle.port_checks.specs.InstanceChecks.{port_types, instance_cause}
 use Rattle.op_verifier.specs.Answers.{when, or_else}
 use Rattle.op_verifier.specs.OwnChecks.{own_cause}
+use Rattle.op_verifier.specs.ResetChecks.{reset_cause}
 
 -- ---- values
 
@@ -62,36 +64,11 @@ is_nonzero_ref os _ = false
 abbrev pub divides_by_constant : List Op → List Ref → Bool
 divides_by_constant os refs = is_nonzero_ref os (slice_get refs 1)
 
--- ---- outputs and instances
-
--- the names of a module's ports of one direction, and their types
-abbrev pub port_names : Bool → List Port → List Name
-port_names out [] = []
-port_names true (q ∷ qs) = cond q.is_output (q.name ∷ port_names true qs) (port_names true qs)
-port_names false (q ∷ qs) = cond q.is_output (port_names false qs) (q.name ∷ port_names false qs)
-
-abbrev pub port_types : Bool → List Port → List HwType
-port_types true qs = output_types qs
-port_types false qs = input_types qs
+-- ---- outputs
 
 -- whether an output gives other types than the module's output ports have
 abbrev pub has_other_outputs : List Port → Op → Bool
 has_other_outputs ports o = is_output_op o && not (pointwise same_type o.types (port_types true ports))
-
--- whether an instance names a module's ports, in order and with their types: first the inputs, then the outputs
-abbrev pub names_ports : Instance → List HwType → List Port → Bool
-names_ports i ts ports =
-    (pointwise same_name i.inputs (port_names false ports) && pointwise same_name i.outputs (port_names true ports))
-    && (pointwise same_type (take (length i.inputs) ts) (port_types false ports) && pointwise same_type (drop (length i.inputs) ts) (port_types true ports))
-
-abbrev pub call_cause : Instance → List HwType → Option Module → Option Cause
-call_cause i ts None = Some UnknownModule
-call_cause i ts (Some c) = when (not (names_ports i ts c.ports)) InstancePorts
-
--- why an instance is refused by the module that it names
-abbrev pub instance_cause : Design → List HwType → Option Instance → Option Cause
-instance_cause d ts None = None
-instance_cause d ts (Some i) = call_cause i ts (find_module d i.symbol)
 
 -- ---- an operation
 
@@ -113,6 +90,7 @@ outer_cause d ports last o =
     (or_else (instance_cause d o.types (instance_in o.kind))
     (when (is_output_op o && not last) MissingOutput))
 
--- why an operation of a body is refused
+-- why an operation of a body is refused, an asynchronous reset being the last cause that is asked
 abbrev pub op_cause : Design → List Port → List Op → Bool → Op → Option Cause
-op_cause d ports os last o = or_else (value_cause ports os o) (or_else (alone_cause ports os o) (outer_cause d ports last o))
+op_cause d ports os last o =
+    or_else (value_cause ports os o) (or_else (alone_cause ports os o) (or_else (outer_cause d ports last o) (reset_cause d ports os o)))

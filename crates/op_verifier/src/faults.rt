@@ -2,6 +2,7 @@
 ghost use Rattle.std.specs.Prelude.{◌≡◌, IfOk};
 ghost use Rattle.ir_store.specs.Designs.{design_of, module_of, numbered_module};
 ghost use Rattle.ir_store.specs.OperationViews.{place_of};
+ghost use Rattle.port_checks.specs.Marked.{AreResetPorts};
 ghost use Rattle.op_verifier.specs.Entries.{AreSettled};
 ghost use Rattle.op_verifier.specs.BodyViews.{ports_viewed, body_viewed};
 ghost use Rattle.op_verifier.specs.Faults.{refused_at, body_fault, module_fault, first_fault};
@@ -12,6 +13,7 @@ use diag::cause::Cause;
 use diag::refusal::{OpName, Place, Refusal};
 use ir_store::design::{Design, Module};
 use opcode::listed::Listed;
+use port_checks::ResetPorts;
 use std::alloc::{AllocError, Global};
 
 /// The first refusal of a header or an operation, in text order, but for those that look at the design as a whole: those
@@ -19,8 +21,9 @@ use std::alloc::{AllocError, Global};
 pub fn first_fault(alloc: Global, design: &Design) -> Result<Option<Refusal>, AllocError>
     ensures { IfOk result (λ fault. fault ≡ first_fault (design_of design.now)) }
 {
+    let resets = ResetPorts::of(alloc, design)?;
     for number in 0..design.module_count() {
-        match module_fault(alloc, design, number, design.module(number))? {
+        match module_fault(alloc, design, &resets, number, design.module(number))? {
             Some(refusal) => return Ok(Some(refusal)),
             None => {}
         }
@@ -32,9 +35,11 @@ pub fn first_fault(alloc: Global, design: &Design) -> Result<Option<Refusal>, Al
 fn module_fault(
     alloc: Global,
     design: &Design,
+    resets: &ResetPorts,
     number: u32,
     module: &Module,
 ) -> Result<Option<Refusal>, AllocError>
+    requires { AreResetPorts (design_of design.now) resets.now }
     ensures { IfOk result (λ fault. fault ≡ module_fault (design_of design.now) number (numbered_module (module_of «module».now))) }
 {
     let view = BodyView::new(alloc, &module.ports.ports, &module.body)?;
@@ -45,21 +50,23 @@ fn module_fault(
     if let Some(cause) = names_cause(alloc, design, number, symbol, &view)? {
         return Ok(Some(refused_at(module.place, Listed::HwModule, cause)));
     }
-    body_fault(alloc, design, &view)
+    body_fault(alloc, design, resets, &view)
 }
 
 /// The first refusal of an operation of a body.
 fn body_fault(
     alloc: Global,
     design: &Design,
+    resets: &ResetPorts,
     view: &BodyView<'_>,
 ) -> Result<Option<Refusal>, AllocError>
-    requires { AreSettled view.now.entries.items }
+    requires resets { AreResetPorts (design_of design.now) resets.now }
+    requires settled { AreSettled view.now.entries.items }
     ensures { IfOk result (λ fault. fault ≡ body_fault (design_of design.now) (ports_viewed view.now) (body_viewed view.now) (body_viewed view.now)) }
 {
     let count = view.entries.len();
     for (place, entry) in view.entries.iter().enumerate() {
-        match view.op_cause(alloc, design, entry, place + 1 == count)? {
+        match view.op_cause(alloc, design, resets, entry, place + 1 == count)? {
             Some(cause) => {
                 let name = entry.op.kind.listed();
                 return Ok(Some(refused_at(entry.op.place, name, cause)));

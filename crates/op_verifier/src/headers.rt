@@ -7,7 +7,7 @@ ghost use Rattle.op_verifier.specs.Headers.{has_port, has_wrong_clock, is_among,
 ghost use Rattle.op_verifier.specs.BodyViews.{ports_viewed, body_viewed};
 
 use crate::body_view::BodyView;
-use crate::outer_checks::is_output;
+use crate::operations::is_output;
 use crate::type_checks::{has_bad_field, has_clock_part, is_clock, is_outside};
 use diag::cause::Cause;
 use indexmap::IndexSet;

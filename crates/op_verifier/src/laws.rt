@@ -7,8 +7,10 @@ ghost use Rattle.hw_model.specs.Kinds.Kind.{constant};
 ghost use Rattle.hw_model.specs.Design.{Op, Module, Design, IsSameDesign};
 ghost use Rattle.hw_model.specs.Hierarchy.{HasNoRecursion};
 ghost use Rattle.hw_model.specs.Meaning.{HasNoCycle};
+ghost use Rattle.hw_model.specs.Resets.{ResetsFromPorts};
 ghost use Rattle.hw_model.specs.Sound.{Sound};
 ghost use Rattle.ir_store.specs.ResultTypes.{result_types};
+ghost use Rattle.port_checks.specs.ResetPorts.{is_reset_port};
 ghost use Rattle.op_verifier.specs.TypeLists.{known_types};
 ghost use Rattle.op_verifier.specs.OwnChecks.{own_cause};
 ghost use Rattle.design_cycles.specs.Asked.{HasDistinctSymbols};
@@ -39,6 +41,12 @@ pub fn accepted_designs_are_sound()
     ensures acyclic { (d : Design) → IsAccepted d → (top : Name) → HasNoCycle d top }
     ensures constants { (d : Design) (n j : ℕ) (m : Module) (o : Op) (z : ℤ) (w : ℕ) → IsAccepted d → OpAt d n j m o
         → o.kind ≡ constant z → o.types ≡ int w ∷ [] → IsInRange z w }
+{}
+
+/// Does nothing. Its clause says that in an accepted design the signal of each asynchronous reset is a reset port of its
+/// module and its value a constant, and that what instances join to reset ports are reset ports of their own modules.
+pub fn resets_come_from_ports()
+    ensures { (d : Design) → IsAccepted d → ResetsFromPorts d (is_reset_port d) }
 {}
 
 /// Does nothing. Its clause says that a design that differs from an accepted one in nothing but places is accepted.

@@ -12,9 +12,9 @@ mod limit_checks;
 mod literal_checks;
 mod operand_checks;
 mod operations;
-mod outer_checks;
 mod own_checks;
 mod own_laws;
+mod reset_checks;
 mod result_checks;
 mod settled_types;
 mod type_checks;
@@ -27,8 +27,8 @@ mod verify_fail;
 pub use accepted::Verified;
 pub use faults::{first_fault, refused_at};
 pub use laws::{
-    accepted_designs_are_sound, places_decide_no_verdict, results_are_settled,
-    unrefused_designs_are_sound,
+    accepted_designs_are_sound, places_decide_no_verdict, resets_come_from_ports,
+    results_are_settled, unrefused_designs_are_sound,
 };
 pub use own_laws::operations_fit;
 pub use verdicts::verify;

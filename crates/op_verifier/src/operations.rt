@@ -1,16 +1,20 @@
 //! Why an operation of a body is refused.
 ghost use Rattle.std.specs.Prelude.{◌≡◌, map, IfOk};
+ghost use Rattle.hw_model.specs.KindViews.{kind_of};
+ghost use Rattle.hw_model.specs.Design.{is_output_kind};
 ghost use Rattle.ir_store.specs.Designs.{design_of};
 ghost use Rattle.ir_store.specs.OperationViews.{result_of};
+ghost use Rattle.port_checks.specs.Marked.{AreResetPorts};
 ghost use Rattle.op_verifier.specs.OpChecks.{has_again};
 
 use crate::body_view::BodyView;
 use crate::entries::Entry;
-use crate::outer_checks::{are_types, instance_cause, is_output};
 use crate::own_checks::own_cause;
 use diag::cause::Cause;
+use hw_model::kinds::OpKind;
 use ir_store::design::Design;
 use ir_store::operation::NewResult;
+use port_checks::{ResetPorts, are_types, instance_cause};
 use std::alloc::{AllocError, Global};
 
 impl<'b> BodyView<'b> {
@@ -23,10 +27,12 @@ impl<'b> BodyView<'b> {
         &self,
         alloc: Global,
         design: &Design,
+        resets: &ResetPorts,
         entry: &Entry<'_>,
         last: bool,
     ) -> Result<Option<Cause>, AllocError>
-        requires { AreSettled self.now.entries.items }
+        requires settled { AreSettled self.now.entries.items }
+        requires resets { AreResetPorts (design_of design.now) resets.now }
         ensures { IfOk result (λ cause. cause ≡ op_cause (design_of design.now) (ports_viewed self.now) (body_viewed self.now) last (op_viewed self.now (op_in entry.now))) }
     {
         if let Some(cause) = self.value_cause(entry) {
@@ -35,7 +41,10 @@ impl<'b> BodyView<'b> {
         if let Some(cause) = self.alone_cause(alloc, entry)? {
             return Ok(Some(cause));
         }
-        Ok(self.outer_cause(design, entry, last))
+        if let Some(cause) = self.outer_cause(design, entry, last) {
+            return Ok(Some(cause));
+        }
+        Ok(self.reset_cause(design, resets, entry))
     }
 
     /// What the values of an operation are refused for.
@@ -91,4 +100,14 @@ fn has_again(results: &[NewResult]) -> bool
         }
     }
     false
+}
+
+/// Whether a kind is `hw.output`.
+pub(crate) fn is_output(kind: &OpKind) -> bool
+    ensures { result ≡ is_output_kind (kind_of kind.now) }
+{
+    match kind {
+        OpKind::Output => true,
+        _ => false,
+    }
 }

@@ -20,7 +20,7 @@ impl<'b> BodyView<'b> {
     ghost use Rattle.op_verifier.specs.BodyViews.{ports_viewed, body_viewed, ref_viewed, position_viewed};
 
     /// The entry of an id.
-    fn find(&self, id: OpId) -> Option<&Entry<'b>>
+    pub(crate) fn find(&self, id: OpId) -> Option<&Entry<'b>>
         ensures { option_copied result ≡ slice_get self.now.entries.items (position_viewed self.now id.index) }
     {
         match self.positions.get(id.number() as usize) {
@@ -121,7 +121,7 @@ impl<'b> BodyView<'b> {
 }
 
 /// The type of an input port.
-fn input_type(port: Option<&Port>) -> Option<&Ty>
+pub(crate) fn input_type(port: Option<&Port>) -> Option<&Ty>
     ensures { option_map (λ t. type_of t.now) result ≡ input_type (option_map (λ p. port_of p.now) port.entry) }
 {
     match port {

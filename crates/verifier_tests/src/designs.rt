@@ -75,20 +75,25 @@ fn ports(alloc: Global) -> Result<PortList, AllocError> {
     Ok(PortList { ports })
 }
 
-/// The module of a symbol with two inputs and an output of one bit, on the first line.
-pub fn module(alloc: Global, symbol: &[u8], ops: Vec<NewOp>) -> Result<Module, AllocError> {
+/// The body of some operations.
+pub fn body(alloc: Global, ops: Vec<NewOp>) -> Result<Body, AllocError> {
     let mut body = Body::new(alloc);
     for op in ops {
         if body.op_count() < 100 {
             let _ = body.add_op(None, op)?;
         }
     }
+    Ok(body)
+}
+
+/// The module of a symbol with two inputs and an output of one bit, on the first line.
+pub fn module(alloc: Global, symbol: &[u8], ops: Vec<NewOp>) -> Result<Module, AllocError> {
     Ok(Module {
         symbol: Text::of(alloc, symbol)?,
         private: false,
         ports: ports(alloc)?,
         dictionary: Dictionary::new(alloc),
-        body,
+        body: body(alloc, ops)?,
         place: Place { line: 1, col: 1 },
     })
 }

@@ -6,6 +6,9 @@
 mod designs;
 #[cfg(test)]
 mod reset_ports;
+mod reset_designs;
+#[cfg(test)]
+mod resets;
 #[cfg(test)]
 mod verdicts;
 #[cfg(test)]
