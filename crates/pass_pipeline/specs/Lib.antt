@@ -3,3 +3,4 @@ pub mod Passes
 pub mod Symbols
 pub mod Steps
 pub mod Pipelines
+pub mod Grammar
