@@ -5,8 +5,9 @@
 #[cfg(test)]
 mod designs;
 #[cfg(test)]
-mod reset_ports;
 mod reset_designs;
+#[cfg(test)]
+mod reset_ports;
 #[cfg(test)]
 mod resets;
 #[cfg(test)]
