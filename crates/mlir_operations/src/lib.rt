@@ -9,3 +9,4 @@ pub mod operation_names;
 pub mod operation_text;
 pub mod port_text;
 pub mod syntax;
+mod type_elements;

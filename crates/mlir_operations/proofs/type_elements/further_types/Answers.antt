@@ -4,7 +4,7 @@ use Rattle.ir_store.specs.OperationViews.{types_in}
 use Rattle.mlir_syntax.specs.Reads.{on}
 use Rattle.mlir_operations.specs.ElementText.{further_types}
 use Rattle.mlir_operations.proofs.Joining.{behind, further_at, further_fails, further_ends}
-use Rattle.mlir_operations.proofs.element_text.further_types.Goals as goal
+use Rattle.mlir_operations.proofs.type_elements.further_types.Goals as goal
 
 pub returns-in-Err-clause-gives : goal.returns-in-Err-clause-gives
 returns-in-Err-clause-gives c =

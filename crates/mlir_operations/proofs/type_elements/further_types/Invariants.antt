@@ -2,7 +2,7 @@ use Rattle.std.proofs.Common.{◌≡◌, ◌-◌, ◌≤◌, length}
 use Rattle.ir_store.specs.OperationViews.{types_in}
 use Rattle.mlir_operations.specs.ElementText.{further_types}
 use Rattle.mlir_operations.proofs.Joining.{behind}
-use Rattle.mlir_operations.proofs.element_text.further_types.Given as goal
+use Rattle.mlir_operations.proofs.type_elements.further_types.Given as goal
 
 abbrev pub invariant-loop : goal.invariant-loop
 invariant-loop l =
