@@ -1,19 +1,18 @@
 //! The pieces of an operation, as they are printed.
-ghost use Rattle.std.specs.Prelude.{◌≡◌, ◌++◌, map, take, drop, codes, IfOk, OnOk};
+ghost use Rattle.std.specs.Prelude.{◌≡◌, ◌++◌, map, IfOk, OnOk};
 ghost use Rattle.hw_model.specs.TypeViews.{type_of};
-ghost use Rattle.hw_model.specs.KindViews.{predicate_of, instance_of};
+ghost use Rattle.hw_model.specs.KindViews.{predicate_of};
 ghost use Rattle.mlir_printer.specs.Commas.{commas};
-ghost use Rattle.mlir_printer.specs.Strings.{name_bytes};
-ghost use Rattle.mlir_printer.specs.Types.{type_bytes};
 ghost use Rattle.mlir_printer.specs.Operations.{left_behind_all};
-ghost use Rattle.mlir_printer.specs.Elements.{mark_bytes, word_bytes, predicate_bytes, value_name_bytes, pack_number_bytes, operand_bytes, first_operand, first_type_bytes, reset_bytes, reset_said, sync_or_async_reset_said, input_bytes, output_bytes, inputs_joined, outputs_joined, inner_bytes, instance_head, connections_bytes, instance_bytes, element_bytes, elements_bytes, said_bytes};
+ghost use Rattle.mlir_printer.specs.Elements.{mark_bytes, word_bytes, predicate_bytes, value_name_bytes, pack_number_bytes, operand_bytes, first_operand, first_type_bytes, reset_bytes, reset_said, sync_or_async_reset_said, element_bytes, elements_bytes, said_bytes};
 ghost use Rattle.mlir_printer.specs.Views.{value_held, pending_of, inherent_of};
 
 use crate::commas::{push_comma, push_few};
 use crate::inherent_view::{InherentView, Pending};
+use crate::instances::push_instance;
 use crate::literals::push_literals;
 use crate::numbers::{is_one, push_count, push_integer, truth_text};
-use crate::strings::{push_name, push_string, push_symbol};
+use crate::strings::push_string;
 use crate::types::{push_type, push_types};
 use crate::value_names::ValueNames;
 use assembly_format::elements::{FormatElement, Keyword};
@@ -103,9 +102,13 @@ fn push_pack_number(out: &mut Text, number: Option<u32>) -> Result<(), AllocErro
     Ok(())
 }
 
-// Adds an operand.
+/// Adds an operand.
 #[tactic(auto, unfolding(crate::specs::Elements::operand_bytes))]
-fn push_operand(out: &mut Text, names: &ValueNames, value: Value) -> Result<(), AllocError>
+pub(crate) fn push_operand(
+    out: &mut Text,
+    names: &ValueNames,
+    value: Value,
+) -> Result<(), AllocError>
     ensures { OnOk result (out.new ≡ out.old ++ operand_bytes (value_held names.now value)) }
 {
     let operand = names.value(value);
@@ -182,142 +185,6 @@ fn push_sync_or_async_reset(
         InherentView::WithAsyncReset => push_with_operands(out, names, b" reset async ", operands)?,
         _ => {}
     }
-    Ok(())
-}
-
-// The items after so many.
-fn rest_of<T>(items: &[T], count: usize) -> &[T]
-    ensures { result.now ≡ drop count items.now }
-{
-    &items[count.min(items.len())..]
-}
-
-// Adds `p: %v: T`.
-#[tactic(auto, unfolding(crate::specs::Elements::input_bytes))]
-fn push_input(
-    out: &mut Text,
-    names: &ValueNames,
-    port: &[u8],
-    value: Value,
-    ty: &Ty,
-) -> Result<(), AllocError>
-    ensures { OnOk result (out.new ≡ out.old ++ input_bytes (record { port = port.now; operand = value_held names.now value; type = type_of ty.now })) }
-{
-    push_name(out, port)?;
-    out.push_bytes(b": ")?;
-    push_operand(out, names, value)?;
-    out.push_bytes(b": ")?;
-    push_type(out, ty)?;
-    Ok(())
-}
-
-// Adds the inputs of an instance with commas between them.
-fn push_inputs(
-    out: &mut Text,
-    names: &ValueNames,
-    ports: &[Text],
-    operands: &[Value],
-    types: &[Ty],
-) -> Result<(), AllocError>
-    ensures { OnOk result (out.new ≡ out.old ++ commas input_bytes (inputs_joined ports.now (map (value_held names.now) operands.now) (map type_of types.now))) }
-{
-    let count = ports.len().min(operands.len()).min(types.len());
-    for i in 0..count {
-        push_comma(out, i)?;
-        push_input(out, names, ports[i].as_bytes(), operands[i], &types[i])?;
-    }
-    Ok(())
-}
-
-// Adds `q: T`.
-#[tactic(auto, unfolding(crate::specs::Elements::output_bytes))]
-fn push_output(out: &mut Text, port: &[u8], ty: &Ty) -> Result<(), AllocError>
-    ensures { OnOk result (out.new ≡ out.old ++ output_bytes (record { name = port.now; type = type_of ty.now })) }
-{
-    push_name(out, port)?;
-    out.push_bytes(b": ")?;
-    push_type(out, ty)?;
-    Ok(())
-}
-
-// Adds the outputs of an instance with commas between them.
-fn push_outputs(out: &mut Text, ports: &[Text], types: &[Ty]) -> Result<(), AllocError>
-    ensures { OnOk result (out.new ≡ out.old ++ commas output_bytes (outputs_joined ports.now (map type_of types.now))) }
-{
-    let count = ports.len().min(types.len());
-    for i in 0..count {
-        push_comma(out, i)?;
-        push_output(out, ports[i].as_bytes(), &types[i])?;
-    }
-    Ok(())
-}
-
-// Adds an instance's inner symbol, where it has one.
-#[tactic(auto, unfolding(crate::specs::Elements::inner_bytes))]
-fn push_inner(out: &mut Text, symbol: &Option<Text>) -> Result<(), AllocError>
-    ensures { OnOk result (out.new ≡ out.old ++ inner_bytes symbol.now) }
-{
-    if let Some(symbol) = symbol {
-        out.push_bytes(b"sym ")?;
-        push_symbol(out, symbol.as_bytes())?;
-        out.push_bytes(b" ")?;
-    }
-    Ok(())
-}
-
-// Adds what an instance and its module are called.
-#[tactic(auto, unfolding(crate::specs::Elements::instance_head))]
-fn push_instance_head(out: &mut Text, instance: &Instance) -> Result<(), AllocError>
-    ensures { OnOk result (out.new ≡ out.old ++ instance_head (instance_of instance.now)) }
-{
-    push_string(out, instance.name.as_bytes())?;
-    out.push_bytes(b" ")?;
-    push_inner(out, &instance.inner_symbol)?;
-    push_symbol(out, instance.symbol.as_bytes())?;
-    Ok(())
-}
-
-// Adds the inputs and the outputs of an instance.
-#[tactic(auto, unfolding(crate::specs::Elements::connections_bytes))]
-fn push_connections(
-    out: &mut Text,
-    names: &ValueNames,
-    inputs: &[Text],
-    outputs: &[Text],
-    operands: &[Value],
-    types: &[Ty],
-) -> Result<(), AllocError>
-    ensures { OnOk result (out.new ≡ out.old ++ connections_bytes inputs.now outputs.now (map (value_held names.now) operands.now) (map type_of types.now)) }
-{
-    let behind = rest_of(types, inputs.len());
-    out.push_bytes(b"(")?;
-    push_inputs(out, names, inputs, operands, types)?;
-    out.push_bytes(b") -> (")?;
-    push_outputs(out, outputs, behind)?;
-    out.push_bytes(b")")?;
-    Ok(())
-}
-
-// Adds an instance.
-#[tactic(auto, unfolding(crate::specs::Elements::instance_bytes))]
-fn push_instance(
-    out: &mut Text,
-    names: &ValueNames,
-    instance: &Instance,
-    operands: &[Value],
-    types: &[Ty],
-) -> Result<(), AllocError>
-    ensures { OnOk result (out.new ≡ out.old ++ instance_bytes (instance_of instance.now) (map (value_held names.now) operands.now) (map type_of types.now)) }
-{
-    push_instance_head(out, instance)?;
-    push_connections(
-        out,
-        names,
-        &instance.inputs,
-        &instance.outputs,
-        operands,
-        types,
-    )?;
     Ok(())
 }
 

@@ -8,6 +8,7 @@ pub mod design_text;
 mod dictionaries;
 mod elements;
 mod inherent_view;
+mod instances;
 pub mod laws;
 mod literals;
 mod modules;

@@ -6,7 +6,7 @@ use Rattle.mlir_printer.specs.Elements.{input_bytes, output_bytes, inputs_joined
 use Rattle.mlir_printer.specs.Views.{value_held}
 use Rattle.mlir_printer.proofs.steps.Steps.{five}
 use Rattle.mlir_printer.proofs.steps.Entries.{map_drop}
-use Rattle.mlir_printer.proofs.elements.push_connections.Goals as goal
+use Rattle.mlir_printer.proofs.instances.push_connections.Goals as goal
 
 pub returns : goal.returns
 unfolding connections_bytes

@@ -5,7 +5,7 @@ use Rattle.mlir_printer.specs.Elements.{input_bytes, inputs_joined}
 use Rattle.mlir_printer.specs.Views.{value_held}
 use Rattle.std.proofs.Common.{drop}
 use Rattle.mlir_printer.proofs.steps.Passing.{inputs_none, all_added}
-use Rattle.mlir_printer.proofs.elements.push_inputs.Goals as goal
+use Rattle.mlir_printer.proofs.instances.push_inputs.Goals as goal
 
 pub returns : goal.returns
 returns c =

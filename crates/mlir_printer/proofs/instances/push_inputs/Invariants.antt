@@ -3,7 +3,7 @@ use Rattle.hw_model.specs.TypeViews.{type_of}
 use Rattle.mlir_printer.specs.Commas.{items_from, commas}
 use Rattle.mlir_printer.specs.Elements.{input_bytes, inputs_joined}
 use Rattle.mlir_printer.specs.Views.{value_held}
-use Rattle.mlir_printer.proofs.elements.push_inputs.Given as goal
+use Rattle.mlir_printer.proofs.instances.push_inputs.Given as goal
 
 abbrev pub invariant-loop-i : goal.invariant-loop-i
 invariant-loop-i l =

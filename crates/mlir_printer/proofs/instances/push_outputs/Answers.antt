@@ -3,7 +3,7 @@ use Rattle.hw_model.specs.TypeViews.{type_of}
 use Rattle.mlir_printer.specs.Commas.{commas}
 use Rattle.mlir_printer.specs.Elements.{output_bytes, outputs_joined}
 use Rattle.mlir_printer.proofs.steps.Passing.{outputs_none, all_added}
-use Rattle.mlir_printer.proofs.elements.push_outputs.Goals as goal
+use Rattle.mlir_printer.proofs.instances.push_outputs.Goals as goal
 
 pub returns : goal.returns
 returns c =
