@@ -12,6 +12,7 @@ pub mod SameDeclarations
 pub mod SameModules
 pub mod SameStatements
 pub mod Samples
+pub mod AsyncSample
 pub mod Spelled
 pub mod StoredModules
 pub mod TextRead

@@ -9,7 +9,7 @@ use Rattle.hw_model.specs.Kinds.Reset.{sync_reset}
 use Rattle.hw_model.specs.Design.{Ref, Port, Op, Module, Design}
 use Rattle.hw_model.specs.Design.Ref.{port, result}
 use Rattle.hw_model.proofs.Samples.{operation, in_port, out_port, module_of}
-use Rattle.export_verilog.specs.Layout.{verilog_text, tree_text, further_text, module_text, items_text, item_text, connections_text, connection_lines, connection_text, block_text, if_text, load_text, ports_text, port_lines, port_text, range_text}
+use Rattle.export_verilog.specs.Layout.{verilog_text, tree_text, further_text, module_text, items_text, item_text, connections_text, connection_lines, connection_text, event_text, block_text, if_text, load_text, ports_text, port_lines, port_text, range_text}
 use Rattle.export_verilog.specs.Identifiers.{names}
 use Rattle.export_verilog.specs.Exported.{symbol_names}
 use Rattle.name_legalise.specs.Legal.{clean}
@@ -43,11 +43,11 @@ two_registers =
     ∷ operation output (result 0 0 ∷ result 1 0 ∷ []) (int 8 ∷ int 8 ∷ []) [] ∷ []) ∷ []
 
 -- a line of these parts
-abbrev line : List (List ℕ) → List ℕ → List ℕ
+abbrev pub line : List (List ℕ) → List ℕ → List ℕ
 line [] bs = 10 ∷ bs
 line (p ∷ ps) bs = p ++ line ps bs
 
-abbrev lines : List (List (List ℕ)) → List ℕ → List ℕ
+abbrev pub lines : List (List (List ℕ)) → List ℕ → List ℕ
 lines [] bs = bs
 lines (l ∷ ls) bs = line l (lines ls bs)
 
