@@ -30,7 +30,8 @@ pub fn emission_of(kind: &OpKind, has_wire: bool) -> Emission
     ensures { emission_seen result ≡ emission_by has_wire (kind_of kind.now) }
 {
     match kind {
-        OpKind::CompReg(_) | OpKind::CompRegCe(_) | OpKind::FirReg(_) | OpKind::AsyncFirReg => Emission::Reg,
+        OpKind::CompReg(_) | OpKind::CompRegCe(_) | OpKind::FirReg(_) | OpKind::AsyncFirReg =>
+            Emission::Reg,
         OpKind::Instance(_) => Emission::Instance,
         OpKind::Output => Emission::Inline,
         OpKind::Wire => Emission::Wire,

@@ -322,7 +322,13 @@ impl<'p> Machine<'p> {
                 nets: earlier,
                 start,
             };
-            let word = rise_value(alloc, slot.register, &before, &Scope { nets: now, start }, old)?;
+            let word = rise_value(
+                alloc,
+                slot.register,
+                &before,
+                &Scope { nets: now, start },
+                old,
+            )?;
             all.push(word)?;
         }
         Ok(all)

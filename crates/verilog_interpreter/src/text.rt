@@ -4,8 +4,8 @@ use crate::cursor::Cursor;
 use crate::fault::{Fault, require, require_some};
 use crate::tokens::{Token, tokens};
 use crate::tree::{
-    Always, Branch, Connection, Declared, Expression, Instance, Item, Module, Node, Role, only_name,
-    place_of,
+    Always, Branch, Connection, Declared, Expression, Instance, Item, Module, Node, Role,
+    only_name, place_of,
 };
 use std::alloc::Global;
 

@@ -6,3 +6,4 @@ pub mod ReadTrees
 pub mod OneTree
 pub mod Samples
 pub mod TwoRegisters
+pub mod SecondEvent

@@ -18,13 +18,13 @@ use Rattle.verilog_model.specs.Hierarchy.Drive.{nothing}
 use Rattle.verilog_model.specs.Meaning.{TreeSettled, tree_machine, drive_value, tree_outputs, next_vcontent, risen_vcontent}
 use Rattle.verilog_model.specs.Behaviour.{IsVerilog}
 
-abbrev high : Option Name
+abbrev pub high : Option Name
 high = Some (codes "7")
 
-abbrev input_port : Option Name → Name → VPort
+abbrev pub input_port : Option Name → Name → VPort
 input_port h n = record { is_output = false; high = h; name = n }
 
-abbrev output_port : Name → VPort
+abbrev pub output_port : Name → VPort
 output_port n = record { is_output = true; high = high; name = n }
 
 -- resets `r` to 9, or loads it with `d`

@@ -57,7 +57,11 @@ fn run_is(rt: &(impl AllocGlobal + Abort), text: &str, outputs: [u128; 4]) -> Re
             assert!(rt; false, "of {text}");
             return Ok(());
         };
-        assert_eq!(rt; only_word(stepped.outputs.as_slice()), Some(output), "of {text}");
+        assert_eq!(rt;
+            only_word(stepped.outputs.as_slice()),
+            Some(output),
+            "of {text}"
+        );
         content = stepped.content;
         before = inputs;
     }

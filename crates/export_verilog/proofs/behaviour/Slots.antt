@@ -336,7 +336,7 @@ module _ (d : Design) (x : Setting d) (top : Name) (inputs content : Word) (m0 :
       let one : is.parts ≡ g.0 = cc in
       let wide : held_width s.op ≡ width r.0.type = ap width_of typed in
       ap₂ (λ k z. slot_value over k old z) wide (is.same ∙ ap (λ z. vslot d x top (vpath_of d top s.path) is.m is.place z (async_reset_in s.op)) one)
-      ∙ ap₂ (λ c b. cond (is_high c) b old) (clock_is s.path is.m is.here is.place s.op g.0 is.there g.1 g.2.clocked) 
+      ∙ ap₂ (λ c b. cond (is_high c) b old) (clock_is s.path is.m is.here is.place s.op g.0 is.there g.1 g.2.clocked)
       (any_block_is s.path is.m is.here is.place s.op r.0.type g.0 (async_reset_in s.op) (In-slice_get s.op is.m.body is.place is.there) g.1 refl g.2 old)
       ∙ sym (ap (λ z. next_value z (λ r. ρ (at s.path r)) old) g.1)
 
