@@ -1,4 +1,4 @@
-use Rattle.std.proofs.Common.{map, arith, rules, length, drop, suc, ◌+◌, ◌≡◌, ◌≤◌, ◌∷◌, [], ◌++◌, ap, subst, ◌∙◌}
+use Rattle.std.proofs.Common.{map, arith, rules, length, drop, suc, ◌+◌, ◌≡◌, ◌≤◌, ◌∷◌, [], ◌++◌, ap, ap₂, sym, subst, ◌∙◌}
 use Rattle.std.proofs.lemmas.List.{drop_all}
 use Rattle.hw_interpreter.specs.DesignViews.{module_of}
 use Rattle.hw_interpreter.specs.Depth.{run_after_within, run_within}
@@ -25,13 +25,14 @@ loop-inputs-preserved c =
     here ∙ ap (λ k. c.inputs-item.result ∷ drop k c.args.steps.now) next in
     record {
       outputs =
-          ap (λ xs. xs ++ run_after_within (map module_of c.args.modules.now) c.args.top.now c.args.depth c.as_slice.result.now c.in_ok-stepped.stepped.content (drop (c.loop-inputs.inputs-index + 1) c.args.steps.now)) c.in_ok-push.ensures.items
+          ap₂ (λ xs b. xs ++ run_after_within (map module_of c.args.modules.now) c.args.top.now c.args.depth b c.in_ok-stepped.stepped.content (drop (c.loop-inputs.inputs-index + 1) c.args.steps.now)) c.in_ok-push.ensures.items c.as_slice-before.ensures
           ∙ run_more (map module_of c.args.modules.now) c.args.top.now c.args.depth c.loop-inputs.before.now c.loop-inputs.held (drop c.loop-inputs.inputs-index c.args.steps.now) c.inputs-item.result
           (drop (c.loop-inputs.inputs-index + 1) c.args.steps.now) c.loop-inputs.outputs.items (run_within (map module_of c.args.modules.now) c.args.top.now c.args.depth c.args.content.now c.args.steps.now)
           c.in_ok-stepped.stepped.outputs c.in_ok-stepped.stepped.content is c.in_ok-stepped.ensures.outputs c.in_ok-stepped.ensures.content c.loop-inputs.invariant.outputs;
       takes = λ takes.
-          takes_more (map module_of c.args.modules.now) c.args.top.now c.args.depth c.loop-inputs.before.now c.loop-inputs.held (drop c.loop-inputs.inputs-index c.args.steps.now) c.inputs-item.result
-          (drop (c.loop-inputs.inputs-index + 1) c.args.steps.now) c.in_ok-stepped.stepped.content is c.in_ok-stepped.ensures.content (c.loop-inputs.invariant.takes takes);
+          subst (λ b. TakesRunAfter (map module_of c.args.modules.now) c.args.top.now c.args.depth b c.in_ok-stepped.stepped.content (drop (c.loop-inputs.inputs-index + 1) c.args.steps.now)) (sym c.as_slice-before.ensures)
+          (takes_more (map module_of c.args.modules.now) c.args.top.now c.args.depth c.loop-inputs.before.now c.loop-inputs.held (drop c.loop-inputs.inputs-index c.args.steps.now) c.inputs-item.result
+          (drop (c.loop-inputs.inputs-index + 1) c.args.steps.now) c.in_ok-stepped.stepped.content is c.in_ok-stepped.ensures.content (c.loop-inputs.invariant.takes takes));
     }
 
 pub returns-in_err-stepped-clause-refuses : goal.returns-in_err-stepped-clause-refuses

@@ -22,6 +22,11 @@ risen_is : (d : Design) (top : Name) (before inputs content : Word) (depth : ℕ
 risen_is d top before inputs content depth seen risen slots same is all =
     same ∙ is ∙ ap (λ ss. risen_content ss (value_within d top before content depth) (value_within d top inputs content depth) content) all
 
+pub returns-clause-content : goal.returns-clause-content
+returns-clause-content c =
+    let rises = (risen_is (map module_of c.args.at.now.modules.now) c.args.at.now.top.now c.args.before.now c.args.at.now.inputs.now c.args.at.now.content.now c.args.depth c.as_slice-2.result.now c.in_ok-risen.risen (map slot_of c.as_slice.result.now) c.as_slice-2.ensures c.in_ok-risen.ensures.value (ap (map slot_of) c.as_slice.ensures.value ∙ c.in_ok-slots.ensures.value)) in
+    subst₂ (λ ss w. c.in_ok-content.content ≡ next_content ss (value_within (map module_of c.args.at.now.modules.now) c.args.at.now.top.now c.args.at.now.inputs.now w c.args.depth) w) (ap (map slot_of) c.as_slice-3.ensures.value ∙ c.in_ok-slots.ensures.value) rises c.in_ok-content.ensures.value
+
 pub returns-clause-holds : goal.returns-clause-holds
 returns-clause-holds c reaches =
     let rises = (risen_is (map module_of c.args.at.now.modules.now) c.args.at.now.top.now c.args.before.now c.args.at.now.inputs.now c.args.at.now.content.now c.args.depth c.as_slice-2.result.now c.in_ok-risen.risen (map slot_of c.as_slice.result.now) c.as_slice-2.ensures c.in_ok-risen.ensures.value (ap (map slot_of) c.as_slice.ensures.value ∙ c.in_ok-slots.ensures.value)) in
