@@ -1,4 +1,4 @@
-//! Runs of the program's Verilog on a plain machine (IEEE 1364-2005, 5.4, 5.5, 9.2.2), with words in hexadecimal.
+//! Runs of the program's Verilog on a plain machine (IEEE 1364-2005, 5.4, 5.5, 9.2.2, 9.7.2), with words in hexadecimal.
 use crate::runs::{Failing, run_words};
 use bits_core::Bits;
 use std::alloc::{AllocError, AllocGlobal, Global};
@@ -72,7 +72,76 @@ const DIVISION: &str = "hw.module @T(in %a : i8, in %b : i8, out o : i8) {
 }
 ";
 
-const RUNS: [Run; 4] = [
+const SYNC_RESET: &str =
+    "hw.module @T(in %clk : !seq.clock, in %rst : i1, in %d : i8, out q : i8) {
+  %z = hw.constant 9 : i8
+  %r = seq.firreg %d clock %clk reset sync %rst, %z : i8
+  hw.output %r : i8
+}
+";
+
+// the same with an asynchronous reset, in an instance
+const ASYNC_RESET: &str =
+    "hw.module private @Reg(in %clk : !seq.clock, in %rst : i1, in %d : i8, out q : i8) {
+  %z = hw.constant 9 : i8
+  %r = seq.firreg %d clock %clk reset async %rst, %z : i8
+  hw.output %r : i8
+}
+hw.module @T(in %clk : !seq.clock, in %stop : i1, in %d : i8, out q : i8) {
+  %u.q = hw.instance \"u\" @Reg(clk: %clk: !seq.clock, rst: %stop: i1, d: %d: i8) -> (q: i8)
+  hw.output %u.q : i8
+}
+";
+
+const RUNS: [Run; 6] = [
+    Run {
+        source: SYNC_RESET,
+        top: "T",
+        content: &[Byte(0x05)],
+        steps: &[
+            TestVector {
+                inputs: &[Bit(0), Bit(1), Byte(0x11)],
+                outputs: &[0x05],
+            },
+            TestVector {
+                inputs: &[Bit(1), Bit(1), Byte(0x22)],
+                outputs: &[0x05],
+            },
+            TestVector {
+                inputs: &[Bit(1), Bit(0), Byte(0x33)],
+                outputs: &[0x09],
+            },
+            TestVector {
+                inputs: &[Bit(0), Bit(0), Byte(0x44)],
+                outputs: &[0x33],
+            },
+        ],
+        last: &[0x33],
+    },
+    Run {
+        source: ASYNC_RESET,
+        top: "T",
+        content: &[Byte(0x05)],
+        steps: &[
+            TestVector {
+                inputs: &[Bit(0), Bit(1), Byte(0x11)],
+                outputs: &[0x09],
+            },
+            TestVector {
+                inputs: &[Bit(1), Bit(1), Byte(0x22)],
+                outputs: &[0x09],
+            },
+            TestVector {
+                inputs: &[Bit(1), Bit(0), Byte(0x33)],
+                outputs: &[0x09],
+            },
+            TestVector {
+                inputs: &[Bit(0), Bit(0), Byte(0x44)],
+                outputs: &[0x33],
+            },
+        ],
+        last: &[0x33],
+    },
     Run {
         source: TWO,
         top: "Two",
@@ -155,17 +224,35 @@ fn all_bits(alloc: Global, words: &[Word]) -> Result<Vec<Bits>, AllocError> {
     Ok(bits)
 }
 
-// The step of the module of a name in a text.
+// Words of the same widths, all of them 0.
+fn zeros(alloc: Global, words: &[Word]) -> Result<Vec<Bits>, AllocError> {
+    let mut bits = Vec::new(alloc);
+    for word in words {
+        bits.push(Bits::truncate(bits_of(*word).width(), 0))?;
+    }
+    Ok(bits)
+}
+
+// The inputs before the first step: all of them are 0.
+fn inputs_at_first(alloc: Global, run: &Run) -> Result<Vec<Bits>, AllocError> {
+    match run.steps.first() {
+        Some(vector) => zeros(alloc, vector.inputs),
+        None => Ok(Vec::new(alloc)),
+    }
+}
+
+// The step of the module of a name in a text, from the inputs of the step before.
 fn step(
     alloc: Global,
     text: &[u8],
     top: &str,
+    before: &[Bits],
     inputs: &[Bits],
     content: &[Bits],
 ) -> Result<Stepped, Fault> {
     let read = modules(alloc, text)?;
     let machine = Machine::new(alloc, read.as_slice(), top.as_bytes())?;
-    machine.step(alloc, inputs, content)
+    machine.step_after(alloc, before, inputs, content)
 }
 
 // Whether words are these numbers.
@@ -180,14 +267,23 @@ fn are(words: &[Bits], numbers: &[u128]) -> bool {
 
 // Whether a text takes the steps of a run, with its outputs and its content in the end.
 fn steps_are(alloc: Global, text: &[u8], run: &Run) -> Result<bool, AllocError> {
+    let mut before = inputs_at_first(alloc, run)?;
     let mut content = all_bits(alloc, run.content)?;
     for vector in run.steps {
         let inputs = all_bits(alloc, vector.inputs)?;
-        match step(alloc, text, run.top, inputs.as_slice(), content.as_slice()) {
+        match step(
+            alloc,
+            text,
+            run.top,
+            before.as_slice(),
+            inputs.as_slice(),
+            content.as_slice(),
+        ) {
             Ok(stepped) => {
                 if !are(stepped.outputs.as_slice(), vector.outputs) {
                     return Ok(false);
                 }
+                before = inputs;
                 content = stepped.content;
             }
             Err(_) => return Ok(false),
