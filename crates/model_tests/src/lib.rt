@@ -10,6 +10,8 @@ mod designs;
 #[cfg(test)]
 mod kinds;
 #[cfg(test)]
+mod register_designs;
+#[cfg(test)]
 mod rooms;
 #[cfg(test)]
 mod runs;

@@ -2,6 +2,7 @@
 
 use crate::designs::{Line, Part, RUNS, Run};
 use crate::kinds::{Shape, kind_of, type_of, types_of, word};
+use crate::register_designs;
 use hw_interpreter::bit_string::{BitString, bits_of};
 use hw_interpreter::design::{Module, Operation, Port};
 use hw_interpreter::machine::run;
@@ -113,5 +114,11 @@ fn first_other(alloc: Global, runs: &[Run]) -> Result<Option<usize>, Refusal> {
 #[test]
 fn designs_run(rt: HostRuntime) -> Result<(), Fail> {
     assert_eq!(rt; first_other(rt.alloc(), &RUNS)?, None);
+    Ok(())
+}
+
+#[test]
+fn designs_with_registers_run(rt: HostRuntime) -> Result<(), Fail> {
+    assert_eq!(rt; first_other(rt.alloc(), &register_designs::RUNS)?, None);
     Ok(())
 }
