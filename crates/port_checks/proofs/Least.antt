@@ -204,6 +204,6 @@ module _ (d : Design) where
           absurd (omega arith)
 
   pub is_complete : (m : Module) (j : ℕ) → IsResetPort d m j → is_reset_port d m j ≡ true
-  is_complete m j (named m j o r is here reset signal) = reset_named d (port_count d) m j o is here (r, reset, signal)
-  is_complete m j (joined m j o c k is here found allowed has ref) =
+  is_complete m j (named _ _ o r is here reset signal) = reset_named d (port_count d) m j o is here (r, reset, signal)
+  is_complete m j (joined _ _ o c k is here found allowed has ref) =
       reset_joined d (port_count d) m j o c k is here (found, allowed, ref) (closed c (called_module d o c found) k (is_complete c k has))

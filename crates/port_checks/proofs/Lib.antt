@@ -1,5 +1,13 @@
 -- Lemmas.
 pub mod Booleans
+pub mod Joining
 pub mod Least
+pub mod Marks
+pub mod Numbering
+pub mod Pairs
 pub mod Placeless
+pub mod Reaching
 pub mod ResetTests
+pub mod Seeing
+pub mod Symbols
+pub mod Walks

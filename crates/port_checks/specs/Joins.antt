@@ -19,6 +19,11 @@ abbrev pub bit_port : List Port → Option Ref → Option ℕ
 bit_port ports (Some (port j)) = cond (is_bit_input (slice_get ports j)) (Some j) None
 bit_port ports _ = None
 
+-- what f makes of modules from a number on, one after another
+abbrev pub made_from : {A : Type 0} → (ℕ → Module → List A) → ℕ → List Module → List A
+made_from f i [] = []
+made_from f i (m ∷ ms) = f i m ++ made_from f (suc i) ms
+
 -- ---- what registers name
 
 -- the i1 input that an operation names as its asynchronous reset
@@ -27,15 +32,11 @@ named_port ports o = bit_port ports (omap (λ (r : ResetBy). r.signal) (async_re
 
 abbrev pub place_of : ℕ → Option ℕ → List PortPlace
 place_of i None = []
-place_of i (Some j) = record { module = i; port = j } ∷ []
+place_of i (Some j) = record { owner = i; port = j } ∷ []
 
--- those that the operations of a module name, and so of modules from a number on
+-- those that the operations of a module name
 abbrev pub named_in : ℕ → Module → List PortPlace
 named_in i m = flat_map (λ (o : Op). place_of i (named_port m.ports o)) m.body
-
-abbrev pub named_from : ℕ → List Module → List PortPlace
-named_from i [] = []
-named_from i (m ∷ ms) = named_in i m ++ named_from (suc i) ms
 
 -- ---- what instances join
 
@@ -68,10 +69,6 @@ abbrev pub instance_pairs : Design → List ℕ → ℕ → List Port → Op →
 instance_pairs d starts caller outer o =
     cond (is_some (instance_cause d o.types (instance_in o.kind))) [] (called_pairs d starts caller outer o.operands (instance_in o.kind))
 
--- those of a module, and of modules from a number on
+-- those of a module
 abbrev pub pairs_in : Design → List ℕ → ℕ → Module → List Pair
 pairs_in d starts i m = flat_map (instance_pairs d starts i m.ports) m.body
-
-abbrev pub pairs_from : Design → List ℕ → ℕ → List Module → List Pair
-pairs_from d starts i [] = []
-pairs_from d starts i (m ∷ ms) = pairs_in d starts i m ++ pairs_from d starts (suc i) ms

@@ -18,4 +18,4 @@ port_number starts i j =
 -- the numbers of ports
 abbrev pub numbers_of : List ℕ → List PortPlace → List ℕ
 numbers_of starts [] = []
-numbers_of starts (p ∷ ps) = option_to_list (port_number starts p.module p.port) ++ numbers_of starts ps
+numbers_of starts (p ∷ ps) = option_to_list (port_number starts p.owner p.port) ++ numbers_of starts ps

@@ -19,14 +19,18 @@ pub(crate) fn push_joined(
 ) -> Result<(), AllocError>
     ensures { OnOk result (AddsPairs (pair_of to port) (lists_of joined.old.items) (lists_of joined.new.items)) }
 {
-    match (to, port) {
-        (Some(to), Some(port)) if to < joined.len() => {
-            let list = &mut joined[to];
-            list.numbers.push(port)?;
-            Ok(())
-        }
-        _ => Ok(()),
+    let Some(to) = to else {
+        return Ok(());
+    };
+    let Some(port) = port else {
+        return Ok(());
+    };
+    if to >= joined.len() {
+        return Ok(());
     }
+    let list = &mut joined[to];
+    list.numbers.push(port)?;
+    Ok(())
 }
 
 /// Of each port whether it is reached from one of `starts`, in any number of steps.

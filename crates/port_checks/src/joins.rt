@@ -3,7 +3,7 @@ ghost use Rattle.std.specs.Prelude.{◌≡◌, map, option_map, length, OnOk, So
 ghost use Rattle.hw_model.specs.Flat.{operand_for};
 ghost use Rattle.ir_store.specs.Designs.{port_of, module_of, numbered_module, design_of};
 ghost use Rattle.port_checks.specs.Graphs.{lists_of, AddsPairs};
-ghost use Rattle.port_checks.specs.Joins.{operand_pairs, call_pairs, instance_pairs, pairs_in, pairs_from};
+ghost use Rattle.port_checks.specs.Joins.{operand_pairs, call_pairs, instance_pairs, pairs_in, made_from};
 ghost use Rattle.port_checks.specs.Seen.{ref_seen, op_seen};
 
 use crate::graph::{JoinedPorts, push_joined};
@@ -20,7 +20,7 @@ use std::alloc::AllocError;
 #[derive(Clone, Copy)]
 struct ModulePorts<'d> {
     /// The module's number.
-    module: usize,
+    number: usize,
     /// Its ports.
     ports: &'d [Port],
 }
@@ -31,7 +31,7 @@ pub(crate) fn push_joins(
     starts: &[usize],
     joined: &mut Vec<JoinedPorts>,
 ) -> Result<(), AllocError>
-    ensures { OnOk result (AddsPairs (pairs_from (design_of design.now) starts.now 0 (design_of design.now)) (lists_of joined.old.items) (lists_of joined.new.items)) }
+    ensures { OnOk result (AddsPairs (made_from (pairs_in (design_of design.now) starts.now) 0 (design_of design.now)) (lists_of joined.old.items) (lists_of joined.new.items)) }
 {
     for number in 0..design.module_count() {
         push_module(design, starts, number, design.module(number), joined)?;
@@ -44,17 +44,17 @@ fn push_module(
     design: &Design,
     starts: &[usize],
     number: u32,
-    module: &Module,
+    owner: &Module,
     joined: &mut Vec<JoinedPorts>,
 ) -> Result<(), AllocError>
-    ensures { OnOk result (AddsPairs (pairs_in (design_of design.now) starts.now number (numbered_module (module_of module.now))) (lists_of joined.old.items) (lists_of joined.new.items)) }
+    ensures { OnOk result (AddsPairs (pairs_in (design_of design.now) starts.now number (numbered_module (module_of owner.now))) (lists_of joined.old.items) (lists_of joined.new.items)) }
 {
     let caller = ModulePorts {
-        module: number as usize,
-        ports: &module.ports.ports,
+        number: number as usize,
+        ports: &owner.ports.ports,
     };
-    for id in module.body.ops() {
-        let op = module.body.op(id);
+    for id in owner.body.ops() {
+        let op = owner.body.op(id);
         push_operation(design, starts, &caller, &op, joined)?;
     }
     Ok(())
@@ -68,7 +68,7 @@ fn push_operation(
     op: &Op<'_>,
     joined: &mut Vec<JoinedPorts>,
 ) -> Result<(), AllocError>
-    ensures { OnOk result (AddsPairs (instance_pairs (design_of design.now) starts.now caller.now.module (map port_of caller.now.ports.now) (op_seen op.now)) (lists_of joined.old.items) (lists_of joined.new.items)) }
+    ensures { OnOk result (AddsPairs (instance_pairs (design_of design.now) starts.now caller.now.number (map port_of caller.now.ports.now) (op_seen op.now)) (lists_of joined.old.items) (lists_of joined.new.items)) }
 {
     let refused = instance_cause(design, op.kind, op.types.as_slice()).is_some();
     match op.kind {
@@ -88,12 +88,12 @@ fn push_call(
     operands: &[Value],
     joined: &mut Vec<JoinedPorts>,
 ) -> Result<(), AllocError>
-    ensures { OnOk result (AddsPairs (call_pairs (design_of design.now) starts.now caller.now.module (map port_of caller.now.ports.now) (map ref_seen operands.now) instance.now.symbol) (lists_of joined.old.items) (lists_of joined.new.items)) }
+    ensures { OnOk result (AddsPairs (call_pairs (design_of design.now) starts.now caller.now.number (map port_of caller.now.ports.now) (map ref_seen operands.now) instance.now.symbol) (lists_of joined.old.items) (lists_of joined.new.items)) }
 {
     match design.find(instance.symbol.as_bytes()) {
         Some(number) => {
             let called = ModulePorts {
-                module: number as usize,
+                number: number as usize,
                 ports: &design.module(number).ports.ports,
             };
             push_operands(starts, &called, caller, operands, joined)
@@ -110,14 +110,14 @@ fn push_operands(
     operands: &[Value],
     joined: &mut Vec<JoinedPorts>,
 ) -> Result<(), AllocError>
-    ensures { OnOk result (AddsPairs (operand_pairs starts.now called.now.module (map port_of called.now.ports.now) caller.now.module (map port_of caller.now.ports.now) (map ref_seen operands.now) (length called.now.ports.now)) (lists_of joined.old.items) (lists_of joined.new.items)) }
+    ensures { OnOk result (AddsPairs (operand_pairs starts.now called.now.number (map port_of called.now.ports.now) caller.now.number (map port_of caller.now.ports.now) (map ref_seen operands.now) (length called.now.ports.now)) (lists_of joined.old.items) (lists_of joined.new.items)) }
 {
     let mut inputs = 0;
     for number in 0..called.ports.len() {
         let port = &called.ports[number];
         let value = bit_port(caller.ports, operand_for(port, operands, inputs));
-        let to = port_number(starts, called.module, number);
-        push_joined(joined, to, optional_number(starts, caller.module, value))?;
+        let to = port_number(starts, called.number, number);
+        push_joined(joined, to, optional_number(starts, caller.number, value))?;
         inputs += usize::from(!port.out);
     }
     Ok(())

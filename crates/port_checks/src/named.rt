@@ -3,7 +3,7 @@ ghost use Rattle.std.specs.Prelude.{◌≡◌, ◌++◌, map, option_map, IfOk, 
 ghost use Rattle.wiring.specs.Options.{omap};
 ghost use Rattle.hw_model.specs.Flat.{ResetBy, async_parts};
 ghost use Rattle.ir_store.specs.Designs.{port_of, module_of, numbered_module, design_of};
-ghost use Rattle.port_checks.specs.Joins.{named_port, place_of, named_in, named_from};
+ghost use Rattle.port_checks.specs.Joins.{named_port, place_of, named_in, made_from};
 ghost use Rattle.port_checks.specs.Seen.{ref_seen, op_seen};
 
 use crate::ports::bit_port;
@@ -17,14 +17,14 @@ use std::alloc::{AllocError, Global};
 #[derive(Clone, Copy, Debug, PartialEq, Eq)]
 pub(crate) struct PortPlace {
     /// The module's number.
-    pub(crate) module: u32,
+    pub(crate) owner: u32,
     /// The port's number in the module.
     pub(crate) port: u32,
 }
 
 /// The i1 inputs of a design's modules that registers name as asynchronous resets. Where none does, it takes no memory.
 pub(crate) fn named_ports(alloc: Global, design: &Design) -> Result<Vec<PortPlace>, AllocError>
-    ensures { IfOk result (λ named. named.items ≡ named_from 0 (design_of design.now)) }
+    ensures { IfOk result (λ named. named.items ≡ made_from named_in 0 (design_of design.now)) }
 {
     let mut named = Vec::new(alloc);
     for number in 0..design.module_count() {
@@ -34,23 +34,23 @@ pub(crate) fn named_ports(alloc: Global, design: &Design) -> Result<Vec<PortPlac
 }
 
 /// Appends those that the registers of a module name.
-fn push_named(module: &Module, number: u32, named: &mut Vec<PortPlace>) -> Result<(), AllocError>
-    ensures { OnOk result (named.new.items ≡ named.old.items ++ named_in number (numbered_module (module_of module.now))) }
+fn push_named(owner: &Module, number: u32, named: &mut Vec<PortPlace>) -> Result<(), AllocError>
+    ensures { OnOk result (named.new.items ≡ named.old.items ++ named_in number (numbered_module (module_of owner.now))) }
 {
-    for id in module.body.ops() {
-        let op = module.body.op(id);
-        push_port(number, named_port(&module.ports.ports, &op), named)?;
+    for id in owner.body.ops() {
+        let op = owner.body.op(id);
+        push_port(number, named_port(&owner.ports.ports, &op), named)?;
     }
     Ok(())
 }
 
 /// Appends a port, where there is one.
-fn push_port(module: u32, port: Option<u32>, named: &mut Vec<PortPlace>) -> Result<(), AllocError>
-    ensures { OnOk result (named.new.items ≡ named.old.items ++ place_of module port) }
+fn push_port(owner: u32, port: Option<u32>, named: &mut Vec<PortPlace>) -> Result<(), AllocError>
+    ensures { OnOk result (named.new.items ≡ named.old.items ++ place_of owner port) }
 {
     match port {
         Some(port) => {
-            named.push(PortPlace { module, port })?;
+            named.push(PortPlace { owner, port })?;
             Ok(())
         }
         None => Ok(()),

@@ -48,11 +48,11 @@ fn push_ports(alloc: Global, count: usize, joined: &mut Vec<JoinedPorts>) -> Res
 }
 
 /// The number of a port of a module, where there is such a port.
-pub(crate) fn port_number(starts: &[usize], module: usize, port: usize) -> Option<usize>
-    ensures { result ≡ port_number starts.now module port }
+pub(crate) fn port_number(starts: &[usize], owner: usize, port: usize) -> Option<usize>
+    ensures { result ≡ port_number starts.now owner port }
 {
-    let start = *starts.get(module)?;
-    let end = *starts.get(module + 1)?;
+    let start = *starts.get(owner)?;
+    let end = *starts.get(owner + 1)?;
     if port < end.saturating_sub(start) {
         Some(start + port)
     } else {
@@ -61,11 +61,11 @@ pub(crate) fn port_number(starts: &[usize], module: usize, port: usize) -> Optio
 }
 
 /// The number of a port, where there is one.
-pub(crate) fn optional_number(starts: &[usize], module: usize, port: Option<u32>) -> Option<usize>
-    ensures { result ≡ bind port (port_number starts.now module) }
+pub(crate) fn optional_number(starts: &[usize], owner: usize, port: Option<u32>) -> Option<usize>
+    ensures { result ≡ bind port (port_number starts.now owner) }
 {
     match port {
-        Some(port) => port_number(starts, module, port as usize),
+        Some(port) => port_number(starts, owner, port as usize),
         None => None,
     }
 }
@@ -80,7 +80,7 @@ pub(crate) fn numbers_of(
 {
     let mut numbers = Vec::with_capacity(alloc, places.len())?;
     for place in places {
-        let number = port_number(starts, place.module as usize, place.port as usize);
+        let number = port_number(starts, place.owner as usize, place.port as usize);
         push_number(number, &mut numbers)?;
     }
     Ok(numbers)

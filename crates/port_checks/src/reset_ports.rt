@@ -45,7 +45,7 @@ impl ResetPorts {
 
     /// Whether a port of a module is a reset port; none is that is not there.
     pub fn has(&self, module: usize, port: usize) -> bool
-        ensures { result ≡ has_reset self.now module port }
+        ensures { result ≡ has_reset self.now «module» port }
     {
         match port_number(self.starts.as_slice(), module, port) {
             Some(number) => is_marked(self.marks.as_slice(), number),

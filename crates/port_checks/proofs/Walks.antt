@@ -1,0 +1,155 @@
+-- A walk over the ids of a body, and what it makes of the operations.
+use Rattle.std.proofs.Common.{◌≡◌, ◌⊎◌, ℕ, zero, suc, ◌+◌, ◌≤◌, Bool, true, false, cond, nat_eq, List, [], ◌∷◌, ◌++◌, map, length, flat_map, take, slice_get, option_map, Option, Some, None, refl, sym, ap, ap₂, subst, ◌∙◌, inl, inr, arith, append_assoc, eq-eqb, ne_eqb}
+use Rattle.std.proofs.lemmas.Bool.{eqb-false}
+use Rattle.std.proofs.lemmas.List.{append-nil, length-map}
+use Rattle.std.proofs.lemmas.Option.{slice_get-map}
+use Rattle.wiring.specs.Wiring.{In}
+use Rattle.wiring.proofs.Members.{In-append_left, In-append_right, In-append_cases}
+use Rattle.hw_model.specs.Design.{Op, Module}
+use Rattle.ir_store.specs.declared.operation.OpId.{OpId}
+use Rattle.ir_store.specs.Bodies.{op_id}
+use Rattle.ir_store.specs.BodyOps.{BodyOp, op_at, ids_in}
+use Rattle.ir_store.specs.Ids.{times}
+use Rattle.ir_store.specs.Live.{AreDistinct}
+use Rattle.ir_store.specs.Designs.{StoredModule, numbered_module}
+use Rattle.ir_store.specs.Numbered.{position_of, op_by, numbered}
+use Rattle.port_checks.specs.Seen.{body_op_seen}
+use Rattle.port_checks.specs.Joins.{made_from}
+
+-- an operation, where there is one, before others
+abbrev pub in_front : Option BodyOp → List BodyOp → List BodyOp
+in_front None ops = ops
+in_front (Some o) ops = o ∷ ops
+
+-- the operations of ids, in their order
+abbrev pub ops_at : List BodyOp → List OpId → List BodyOp
+ops_at ops [] = []
+ops_at ops (i ∷ is) = in_front (op_at ops i.index) (ops_at ops is)
+
+-- each of some operations is found by its id
+abbrev AreFound : List BodyOp → List BodyOp → Type 0
+AreFound whole [] = Unit {0}
+AreFound whole (o ∷ os) = (op_at whole o.id ≡ Some o) × AreFound whole os
+
+found_in : (whole os : List BodyOp) → AreFound whole os → ops_at whole (map op_id (ids_in os)) ≡ os
+found_in whole [] h = refl
+found_in whole (o ∷ os) h = ap (λ (r : Option BodyOp). in_front r (ops_at whole (map op_id (ids_in os)))) h.0 ∙ ap (λ (rest : List BodyOp). o ∷ rest) (found_in whole os h.1)
+
+-- after another operation, where none of them has its id
+found_behind : (o : BodyOp) (whole os : List BodyOp) → times o.id (ids_in os) ≡ 0 → AreFound whole os → AreFound (o ∷ whole) os
+found_behind o whole [] none h = tt
+found_behind o whole (p ∷ os) none h = go (nat_eq p.id o.id) refl none (λ n. found_behind o whole os n h.1)
+  where
+    go : (b : Bool) → nat_eq p.id o.id ≡ b → cond b (suc (times o.id (ids_in os))) (times o.id (ids_in os)) ≡ 0
+        → (times o.id (ids_in os) ≡ 0 → AreFound (o ∷ whole) os) → (op_at (o ∷ whole) p.id ≡ Some p) × AreFound (o ∷ whole) os
+    go true e n rest = absurd (omega (arith, n))
+    go false e n rest =
+        let other : nat_eq o.id p.id ≡ false = ne_eqb o.id p.id (λ same. eqb-false p.id o.id e (sym same)) in
+        (rw other h.0, rest n)
+
+found_all : (ops : List BodyOp) → AreDistinct (ids_in ops) → AreFound ops ops
+found_all [] once = tt
+found_all (o ∷ os) once = (rw (eq-eqb o.id o.id refl) refl, found_behind o os os (none (nat_eq o.id o.id) (eq-eqb o.id o.id refl) (once o.id)) (found_all os (λ v. fewer v (nat_eq o.id v) (once v))))
+  where
+    fewer : (v : ℕ) (b : Bool) → cond b (suc (times v (ids_in os))) (times v (ids_in os)) ≤ 1 → times v (ids_in os) ≤ 1
+    fewer v true h = omega (arith, h)
+    fewer v false h = h
+
+    none : (b : Bool) → b ≡ true → cond b (suc (times o.id (ids_in os))) (times o.id (ids_in os)) ≤ 1 → times o.id (ids_in os) ≡ 0
+    none true e h = omega (arith, h)
+    none false e h = cc
+
+-- the ids of a body lead through all of it
+pub through_all : (ops : List BodyOp) → AreDistinct (ids_in ops) → ops_at ops (map op_id (ids_in ops)) ≡ ops
+through_all ops once = found_in ops ops (found_all ops once)
+
+-- one step of the walk
+pub walk : (ops : List BodyOp) (i : OpId) (before after : List OpId) (o : BodyOp) → op_at ops i.index ≡ Some o → before ≡ i ∷ after → ops_at ops before ≡ o ∷ ops_at ops after
+walk ops i before after o found steps = ap (ops_at ops) steps ∙ ap (λ (r : Option BodyOp). in_front r (ops_at ops after)) found
+
+-- ---- what is made of each operation, one after another
+
+module _ {A : Type 0} (f : Op → List A) where
+  -- of the operations of a body as they are seen
+  abbrev pub made_of : List BodyOp → List A
+  made_of [] = []
+  made_of (o ∷ os) = f (body_op_seen o) ++ made_of os
+
+  -- one step more
+  pub made_step : (whole : List BodyOp) (all old new : List A) (i : OpId) (before left : List OpId) (o : BodyOp) → op_at whole i.index ≡ Some o → before ≡ i ∷ left
+      → new ≡ old ++ f (body_op_seen o) → old ++ made_of (ops_at whole before) ≡ all → new ++ made_of (ops_at whole left) ≡ all
+  made_step whole all old new i before left o found steps pushed so_far =
+      ap (λ xs. xs ++ made_of (ops_at whole left)) pushed
+      ∙ append_assoc old (f (body_op_seen o)) (made_of (ops_at whole left))
+      ∙ ap (λ os. old ++ made_of os) (sym (walk whole i before left o found steps))
+      ∙ so_far
+
+  -- the positions that stand for ids are of no account
+  pub made_numbered : ((position : ℕ → ℕ) (o : BodyOp) → f (op_by position o) ≡ f (body_op_seen o)) → (ops : List BodyOp) → flat_map f (numbered ops) ≡ made_of ops
+  made_numbered same ops = go ops
+    where
+      go : (os : List BodyOp) → flat_map f (map (op_by (position_of (ids_in ops))) os) ≡ made_of os
+      go [] = refl
+      go (o ∷ os) = ap₂ (λ xs ys. xs ++ ys) (same (position_of (ids_in ops)) o) (go os)
+
+-- ---- what is made of each module
+
+module _ {A : Type 0} (f : ℕ → Module → List A) where
+  -- of one module more
+  pub made_more : (i n k : ℕ) (ms : List Module) (m : Module) → k ≡ i + n → slice_get ms n ≡ Some m
+      → made_from f i (take (suc n) ms) ≡ made_from f i (take n ms) ++ f k m
+  made_more i n k [] m e is = cc
+  made_more i zero k (x ∷ ms) m e is =
+      let first : i ≡ k = omega arith in
+      let same : x ≡ m = cc in
+      append-nil (f i x) ∙ ap₂ f first same
+  made_more i (suc n) k (x ∷ ms) m e is =
+      ap (λ ys. f i x ++ ys) (made_more (suc i) n k ms m (omega arith) is) ∙ sym (append_assoc (f i x) (made_from f (suc i) (take n ms)) (f k m))
+
+  pub made_some : (i : ℕ) (ms : List Module) (y : A) → In y (made_from f i ms) → (n : ℕ) × (m : Module) × (slice_get ms n ≡ Some m) × In y (f (i + n) m)
+  made_some i [] y here = absurd here
+  made_some i (x ∷ ms) y here = go (In-append_cases y (f i x) (made_from f (suc i) ms) here) (made_some (suc i) ms y)
+    where
+      go : In y (f i x) ⊎ In y (made_from f (suc i) ms) → (In y (made_from f (suc i) ms) → (n : ℕ) × (m : Module) × (slice_get ms n ≡ Some m) × In y (f (suc i + n) m))
+          → (n : ℕ) × (m : Module) × (slice_get (x ∷ ms) n ≡ Some m) × In y (f (i + n) m)
+      go (inl first) rest =
+          let e : i ≡ i + 0 = omega arith in
+          (0, x, refl, subst (λ k. In y (f k x)) e first)
+      go (inr later) rest =
+          let found = rest later in
+          let e : suc i + found.0 ≡ i + suc found.0 = omega arith in
+          (suc found.0, found.1, found.2, subst (λ k. In y (f k found.1)) e found.3)
+
+  pub some_made : (i : ℕ) (ms : List Module) (y : A) (n k : ℕ) (m : Module) → k ≡ i + n → slice_get ms n ≡ Some m → In y (f k m) → In y (made_from f i ms)
+  some_made i [] y n k m e is here = cc
+  some_made i (x ∷ ms) y zero k m e is here =
+      let first : k ≡ i = omega arith in
+      let same : m ≡ x = cc in
+      In-append_left y (f i x) (made_from f (suc i) ms) (subst (λ z. In y (f i z)) same (subst (λ n. In y (f n m)) first here))
+  some_made i (x ∷ ms) y (suc n) k m e is here = In-append_right y (f i x) (made_from f (suc i) ms) (some_made (suc i) ms y n k m (omega arith) is here)
+
+-- ---- the modules of a design in code, one after another
+
+take_past : {B : Type 0} (n : ℕ) (xs : List B) → length xs ≤ n → take n xs ≡ xs
+take_past zero [] past = refl
+take_past (suc n) [] past = refl
+take_past zero (x ∷ xs) past = absurd (omega arith)
+take_past (suc n) (x ∷ xs) past = ap (λ ys. x ∷ ys) (take_past n xs (omega arith))
+
+pub numbered_at : (ms : List StoredModule) (n : ℕ) (m : StoredModule) → Some m ≡ slice_get ms n → slice_get (map numbered_module ms) n ≡ Some (numbered_module m)
+numbered_at ms n m is = slice_get-map numbered_module ms n ∙ ap (option_map numbered_module) (sym is)
+
+pub modules_past : (ms : List StoredModule) (n : ℕ) → length ms ≤ n → take n (map numbered_module ms) ≡ map numbered_module ms
+modules_past ms n past = let same : length (map numbered_module ms) ≡ length ms = length-map ms numbered_module in take_past n (map numbered_module ms) (omega arith)
+
+module _ {A : Type 0} (f : ℕ → Module → List A) (ms : List StoredModule) where
+  -- of one module more
+  pub modules_more : (n : ℕ) (m : StoredModule) → Some m ≡ slice_get ms n
+      → made_from f 0 (take (n + 1) (map numbered_module ms)) ≡ made_from f 0 (take n (map numbered_module ms)) ++ f n (numbered_module m)
+  modules_more n m is =
+      let next : n + 1 ≡ suc n = omega arith in
+      ap (λ k. made_from f 0 (take k (map numbered_module ms))) next
+      ∙ made_more f 0 n n (map numbered_module ms) (numbered_module m) (omega arith) (numbered_at ms n m is)
+
+  pub modules_all : (n : ℕ) → length ms ≤ n → made_from f 0 (take n (map numbered_module ms)) ≡ made_from f 0 (map numbered_module ms)
+  modules_all n past = ap (made_from f 0) (modules_past ms n past)

@@ -1,0 +1,17 @@
+use Rattle.std.proofs.Common.{arith, ap, ◌∙◌}
+use Rattle.port_checks.proofs.Marks.{pass_mark, pass_skip}
+use Rattle.port_checks.proofs.graph.mark_all.Goals as goal
+use Rattle.port_checks.proofs.graph.mark_all.Goals.{then-is_open+in_ok-push, else-is_open}
+
+pub loop-port-preserved : goal.loop-port-preserved
+loop-port-preserved c =
+    elim c.if-is_open.branch [
+      | then-is_open+in_ok-push w ↦
+          pass_mark c.args.ports.now c.loop-port.port-index (omega arith) c.args.marks.now.items c.loop-port.marks.items c.args.waiting.now.items c.loop-port.waiting.items
+          c.loop-port.invariant c.is_open.result c.is_open.ensures c.if-is_open.marks.items c.if-is_open.waiting.items w.if-is_open.true (ap (λ v. v.items) w.marks-is)
+          (ap (λ v. v.items) w.waiting-is ∙ w.in_ok-push.ensures.items)
+      | else-is_open w ↦
+          pass_skip c.args.ports.now c.loop-port.port-index (omega arith) c.args.marks.now.items c.loop-port.marks.items c.args.waiting.now.items c.loop-port.waiting.items
+          c.loop-port.invariant c.is_open.result c.is_open.ensures c.if-is_open.marks.items c.if-is_open.waiting.items w.if-is_open.false (ap (λ v. v.items) w.marks-is)
+          (ap (λ v. v.items) w.waiting-is)
+    ]
