@@ -15,9 +15,9 @@ use Rattle.diag.specs.declared.cause.Cause.{Cause}
 use Rattle.port_checks.specs.declared.named.PortPlace.{PortPlace}
 use Rattle.port_checks.specs.InstanceChecks.{instance_cause}
 use Rattle.port_checks.specs.ResetPorts.{IsBitInput, is_bit_input}
-use Rattle.port_checks.specs.Graphs.{Pair, pair_of}
+use Rattle.port_checks.specs.Graphs.{Pair, pair, pair_of}
 use Rattle.port_checks.specs.Numbers.{port_number}
-use Rattle.port_checks.specs.Joins.{bit_port, named_port, place_of, named_in, operand_pairs, found_pairs, call_pairs, called_pairs, instance_pairs, pairs_in, made_from}
+use Rattle.port_checks.specs.Joins.{bit_port, named_port, place_at, place_of, named_in, operand_pairs, found_pairs, call_pairs, called_pairs, instance_pairs, pairs_in, made_from}
 use Rattle.port_checks.proofs.Pairs.{pair_some, some_pair}
 use Rattle.port_checks.proofs.ResetTests.{Names, Joins, bit_input_some, some_bit_input, port_ref_within}
 use Rattle.port_checks.proofs.Symbols.{module_place, found_place}
@@ -72,11 +72,11 @@ named_some d p here =
       is_bit = bit.1;
     }
 
-pub some_named : (d : Design) (i j : ℕ) → IsNamed d i j → In (record { owner = i; port = j }) (made_from named_in 0 d)
+pub some_named : (d : Design) (i j : ℕ) → IsNamed d i j → In (place_at i j) (made_from named_in 0 d)
 some_named d i j is =
-    some_made named_in 0 d (record { owner = i; port = j }) i i is.owner (let e : i ≡ 0 + i = omega arith in e) is.there
-    (In-flat_map (λ (o : Op). place_of i (named_port is.owner.ports o)) is.op is.owner.body (record { owner = i; port = j }) is.member
-    (subst (λ x. In (record { owner = i; port = j }) (place_of i x)) (sym port_is) (inl refl)))
+    some_made named_in 0 d (place_at i j) i i is.owner (let e : i ≡ 0 + i = omega arith in e) is.there
+    (In-flat_map (λ (o : Op). place_of i (named_port is.owner.ports o)) is.op is.owner.body (place_at i j) is.member
+    (subst (λ x. In (place_at i j) (place_of i x)) (sym port_is) (inl refl)))
   where
     port_is : named_port is.owner.ports is.op ≡ Some j
     port_is =

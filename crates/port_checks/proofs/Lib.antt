@@ -4,6 +4,7 @@ pub mod Joining
 pub mod Least
 pub mod Marks
 pub mod Numbering
+pub mod Operands
 pub mod Pairs
 pub mod Placeless
 pub mod Reaching

@@ -136,12 +136,6 @@ module _ (ports : List ℕ) (i : ℕ) (below : i < length ports) (old new : List
 
 -- ---- a search
 
--- what is joined to a port, of lists in code
-pub lists_at : (graph : List JoinedPorts) (v : ℕ) (n : JoinedPorts) → v < length graph → edges (lists_of graph) v ≡ (get_or graph v n).numbers.items
-lists_at [] v n below = absurd (omega arith)
-lists_at (x ∷ xs) zero n below = refl
-lists_at (x ∷ xs) (suc v) n below = lists_at xs v n (omega arith)
-
 pub length-lists : (graph : List JoinedPorts) → length (lists_of graph) ≡ length graph
 length-lists graph = length-map graph (λ (p : JoinedPorts). p.numbers.items)
 
@@ -252,16 +246,8 @@ search_ends lists starts marks s = record {
         go (inr done) = done c need (chain_within lists k c b chain below)
 
 -- the same of a search in code
-module _ (graph : List JoinedPorts) (starts : List ℕ) (old new : List Bool) where
-  pub searching_begins : (n : ℕ) (waited waiting : List ℕ) → length old ≡ length graph → old ≡ replicate n false → waited ≡ []
-      → MarksAll starts old new waited waiting → IsSearching (lists_of graph) starts new waiting
-  searching_begins n waited waiting count fresh none all =
-      search_begins (lists_of graph) starts old new waiting (count ∙ sym (length-lists graph)) (λ v. ap (λ ms. has_mark ms v) fresh ∙ none_marked n v)
-      (subst (λ ws. MarksAll starts old new ws waiting) none all)
-
-  pub searching_goes : (ports waited rest waiting : List ℕ) (v : ℕ) (x : JoinedPorts) → v < length graph → ports ≡ (get_or graph v x).numbers.items
-      → waited ≡ rest ++ v ∷ [] → IsSearching (lists_of graph) starts old waited → MarksAll ports old new rest waiting
-      → IsSearching (lists_of graph) starts new waiting
-  searching_goes ports waited rest waiting v x below are popped search all =
-      search_goes (lists_of graph) starts old new rest waiting v (subst (IsSearching (lists_of graph) starts old) popped search)
-      (subst (λ ns. MarksAll ns old new rest waiting) (are ∙ sym (lists_at graph v x below)) all)
+pub searching_begins : (graph : List JoinedPorts) (starts : List ℕ) (old new : List Bool) (n : ℕ) (waited waiting : List ℕ) → length old ≡ length graph → old ≡ replicate n false → waited ≡ []
+    → MarksAll starts old new waited waiting → IsSearching (lists_of graph) starts new waiting
+searching_begins graph starts old new n waited waiting count fresh none all =
+    search_begins (lists_of graph) starts old new waiting (count ∙ sym (length-lists graph)) (λ v. ap (λ ms. has_mark ms v) fresh ∙ none_marked n v)
+    (subst (λ ws. MarksAll starts old new ws waiting) none all)

@@ -1,5 +1,6 @@
 -- The numbers of ports: each port of a design has one, and no two have the same.
-use Rattle.std.proofs.Common.{◌≡◌, ◌⊎◌, inl, inr, ℕ, zero, suc, ◌+◌, ◌-◌, ◌<◌, Bool, true, false, cond, nat_lt, List, [], ◌∷◌, ◌++◌, length, map, take, slice_get, Option, Some, None, refl, sym, ap, ap₂, subst, ◌∙◌, arith, lt-ltb, ltb-true, length-append}
+use Rattle.std.proofs.Common.{◌≡◌, ◌⊎◌, inl, inr, ℕ, zero, suc, ◌+◌, ◌-◌, ◌<◌, Bool, true, false, cond, nat_lt, List, [], ◌∷◌, ◌++◌, length, map, take, slice_get, Option, Some, None, refl, sym, ap, ap₂, subst, ◌∙◌, arith, get_or, option_to_list, lt-ltb, ltb-true, length-append, append_assoc}
+use Rattle.std.proofs.lemmas.List.{append-nil}
 use Rattle.std.proofs.lemmas.Option.{slice_get_within}
 use Rattle.wiring.specs.Lists.{total}
 use Rattle.wiring.specs.Options.{bind}
@@ -7,7 +8,8 @@ use Rattle.wiring.proofs.Lists.{slice_get_some, slice_get-append_left, slice_get
 use Rattle.wiring.proofs.Options.{bind_some}
 use Rattle.hw_model.specs.Design.{Module, Design}
 use Rattle.port_checks.specs.ResetPorts.{port_count}
-use Rattle.port_checks.specs.Numbers.{AreStarts, port_number}
+use Rattle.port_checks.specs.Numbers.{AreStarts, port_number, numbers_of}
+use Rattle.port_checks.specs.declared.named.PortPlace.{PortPlace}
 
 -- ---- how many ports stand before a module
 
@@ -133,3 +135,18 @@ module _ (d : Design) (starts : List ℕ) (are : AreStarts d starts) where
       let first = some_number i j v is in
       let second = some_number k l v at in
       count_once d i k first.0 second.0 j l first.1 second.1 first.2 second.2 (sym first.3 ∙ second.3)
+
+numbers_next : (starts : List ℕ) (ps : List PortPlace) (n : ℕ) (p : PortPlace) → n < length ps
+    → numbers_of starts (take (suc n) ps) ≡ numbers_of starts (take n ps) ++ option_to_list (port_number starts (get_or ps n p).owner (get_or ps n p).port)
+numbers_next starts [] n p below = absurd (omega arith)
+numbers_next starts (q ∷ ps) zero p below = append-nil (option_to_list (port_number starts q.owner q.port))
+numbers_next starts (q ∷ ps) (suc n) p below =
+    ap (λ ns. option_to_list (port_number starts q.owner q.port) ++ ns) (numbers_next starts ps n p (omega arith))
+    ∙ sym (append_assoc (option_to_list (port_number starts q.owner q.port)) (numbers_of starts (take n ps)) (option_to_list (port_number starts (get_or ps n p).owner (get_or ps n p).port)))
+
+-- the numbers of one place more
+pub numbers_more : (starts : List ℕ) (ps : List PortPlace) (n : ℕ) (p : PortPlace) → n < length ps
+    → numbers_of starts (take (n + 1) ps) ≡ numbers_of starts (take n ps) ++ option_to_list (port_number starts (get_or ps n p).owner (get_or ps n p).port)
+numbers_more starts ps n p below =
+    let next : n + 1 ≡ suc n = omega arith in
+    ap (λ k. numbers_of starts (take k ps)) next ∙ numbers_next starts ps n p below

@@ -9,7 +9,7 @@ use Rattle.ir_store.specs.declared.operation.OpId.{OpId}
 use Rattle.ir_store.specs.BodyOps.{BodyOp, op_at}
 use Rattle.port_checks.specs.Seen.{body_op_seen}
 use Rattle.port_checks.proofs.Walks.{ops_at, walk, made_of}
-use Rattle.port_checks.specs.Graphs.{lists_of, edges, Pair, pair_of, AddsPairs}
+use Rattle.port_checks.specs.Graphs.{lists_of, edges, Pair, pair, pair_of, AddsPairs}
 use Rattle.port_checks.specs.declared.graph.JoinedPorts.{JoinedPorts}
 
 pub adds_none : (lists : List (List ℕ)) → AddsPairs [] lists lists
@@ -26,25 +26,25 @@ adds_both ps qs old between new first second = record {
   count = second.count ∙ first.count;
   kept = λ v w here. second.kept v w (first.kept v w here);
   from = λ v w here. go v w (second.from v w here);
-  all = λ v w here below. back v w below (In-append_cases (record { to = v; port = w }) ps qs here);
+  all = λ v w here below. back v w below (In-append_cases (pair v w) ps qs here);
 }
   where
-    go : (v w : ℕ) → In w (edges between v) ⊎ In (record { to = v; port = w }) qs → In w (edges old v) ⊎ In (record { to = v; port = w }) (ps ++ qs)
-    go v w (inr later) = inr (In-append_right (record { to = v; port = w }) ps qs later)
+    go : (v w : ℕ) → In w (edges between v) ⊎ In (pair v w) qs → In w (edges old v) ⊎ In (pair v w) (ps ++ qs)
+    go v w (inr later) = inr (In-append_right (pair v w) ps qs later)
     go v w (inl here) = before (first.from v w here)
       where
-        before : In w (edges old v) ⊎ In (record { to = v; port = w }) ps → In w (edges old v) ⊎ In (record { to = v; port = w }) (ps ++ qs)
+        before : In w (edges old v) ⊎ In (pair v w) ps → In w (edges old v) ⊎ In (pair v w) (ps ++ qs)
         before (inl was) = inl was
-        before (inr earlier) = inr (In-append_left (record { to = v; port = w }) ps qs earlier)
+        before (inr earlier) = inr (In-append_left (pair v w) ps qs earlier)
 
-    back : (v w : ℕ) → v < length old → In (record { to = v; port = w }) ps ⊎ In (record { to = v; port = w }) qs → In w (edges new v)
+    back : (v w : ℕ) → v < length old → In (pair v w) ps ⊎ In (pair v w) qs → In w (edges new v)
     back v w below (inl earlier) = second.kept v w (first.all v w earlier below)
     back v w below (inr later) = second.all v w later (subst (λ n. v < n) (sym first.count) below)
 
 -- one pair is added to lists that have its first port
-pub adds_one : (old new : List (List ℕ)) (a b : ℕ) → a < length old → new ≡ set old a (edges old a ++ b ∷ []) → AddsPairs (record { to = a; port = b } ∷ []) old new
+pub adds_one : (old new : List (List ℕ)) (a b : ℕ) → a < length old → new ≡ set old a (edges old a ++ b ∷ []) → AddsPairs (pair a b ∷ []) old new
 adds_one old new a b below is =
-    subst (AddsPairs (record { to = a; port = b } ∷ []) old) (sym is) (record {
+    subst (AddsPairs (pair a b ∷ []) old) (sym is) (record {
       count = length-set old a (edges old a ++ b ∷ []);
       kept = λ v w here. kept v w here (eqb v a) refl;
       from = λ v w here. from v w here (eqb v a) refl;
@@ -65,16 +65,16 @@ adds_one old new a b below is =
     kept v w here false e = subst (In w) (sym (elsewhere v (eqb-false v a e))) here
 
     from : (v w : ℕ) → In w (edges (set old a (edges old a ++ b ∷ [])) v) → (t : Bool) → eqb v a ≡ t
-        → In w (edges old v) ⊎ In (record { to = v; port = w }) (record { to = a; port = b } ∷ [])
+        → In w (edges old v) ⊎ In (pair v w) (pair a b ∷ [])
     from v w here false e = inl (subst (In w) (elsewhere v (eqb-false v a e)) here)
     from v w here true e = go (In-append_cases w (edges old a) (b ∷ []) (subst (In w) there (subst (λ z. In w (edges (set old a (edges old a ++ b ∷ [])) z)) (eqb-true v a e) here)))
       where
-        go : In w (edges old a) ⊎ In w (b ∷ []) → In w (edges old v) ⊎ In (record { to = v; port = w }) (record { to = a; port = b } ∷ [])
+        go : In w (edges old a) ⊎ In w (b ∷ []) → In w (edges old v) ⊎ In (pair v w) (pair a b ∷ [])
         go (inl was) = inl (subst (λ z. In w (edges old z)) (sym (eqb-true v a e)) was)
-        go (inr (inl same)) = inr (inl (ap₂ (λ x y. record { to = x; port = y }) (eqb-true v a e) same))
+        go (inr (inl same)) = inr (inl (ap₂ (λ x y. pair x y) (eqb-true v a e) same))
         go (inr (inr never)) = absurd never
 
-    all : (v w : ℕ) → In (record { to = v; port = w }) (record { to = a; port = b } ∷ []) → In w (edges (set old a (edges old a ++ b ∷ [])) v)
+    all : (v w : ℕ) → In (pair v w) (pair a b ∷ []) → In w (edges (set old a (edges old a ++ b ∷ [])) v)
     all v w (inl same) =
         let to_is : v ≡ a = ap (λ (p : Pair). p.to) same in
         let port_is : w ≡ b = ap (λ (p : Pair). p.port) same in
@@ -83,7 +83,7 @@ adds_one old new a b below is =
     all v w (inr never) = absurd never
 
 -- lists that have not its first port stay
-pub adds_nowhere : (lists : List (List ℕ)) (a b : ℕ) → length lists ≤ a → AddsPairs (record { to = a; port = b } ∷ []) lists lists
+pub adds_nowhere : (lists : List (List ℕ)) (a b : ℕ) → length lists ≤ a → AddsPairs (pair a b ∷ []) lists lists
 adds_nowhere lists a b past = record {
   count = refl;
   kept = λ v w here. here;
@@ -91,7 +91,7 @@ adds_nowhere lists a b past = record {
   all = λ v w here below. go v w below here;
 }
   where
-    go : (v w : ℕ) → v < length lists → In (record { to = v; port = w }) (record { to = a; port = b } ∷ []) → In w (edges lists v)
+    go : (v w : ℕ) → v < length lists → In (pair v w) (pair a b ∷ []) → In w (edges lists v)
     go v w below (inl same) = let to_is : v ≡ a = ap (λ (p : Pair). p.to) same in absurd (omega arith)
     go v w below (inr never) = absurd never
 
@@ -122,8 +122,8 @@ pair_some (Some a) None p here = absurd here
 pair_some None (Some b) p here = absurd here
 pair_some None None p here = absurd here
 
-pub some_pair : (x y : Option ℕ) (a b : ℕ) → x ≡ Some a → y ≡ Some b → In (record { to = a; port = b }) (pair_of x y)
-some_pair x y a b is also = subst (In (record { to = a; port = b })) (sym (ap₂ pair_of is also)) (inl refl)
+pub some_pair : (x y : Option ℕ) (a b : ℕ) → x ≡ Some a → y ≡ Some b → In (pair a b) (pair_of x y)
+some_pair x y a b is also = subst (In (pair a b)) (sym (ap₂ pair_of is also)) (inl refl)
 
 -- ---- the operations of a body, one after another
 

@@ -13,9 +13,9 @@ use Rattle.hw_model.specs.Flat.{ResetBy}
 use Rattle.port_checks.specs.declared.named.PortPlace.{PortPlace}
 use Rattle.port_checks.specs.ResetPorts.{IsBitInput, IsResetPort, is_bit_input, is_reset_within, port_count, is_reset_port}
 use Rattle.port_checks.specs.ResetPorts.IsResetPort.{named, joined}
-use Rattle.port_checks.specs.Graphs.{edges, has_mark, Pair, AddsPairs, AreReached}
+use Rattle.port_checks.specs.Graphs.{edges, has_mark, Pair, pair, AddsPairs, AreReached}
 use Rattle.port_checks.specs.Numbers.{AreStarts, port_number, numbers_of}
-use Rattle.port_checks.specs.Joins.{named_in, pairs_in, made_from}
+use Rattle.port_checks.specs.Joins.{place_at, named_in, pairs_in, made_from}
 use Rattle.port_checks.specs.Marked.{has_mark_at, is_reset_of}
 use Rattle.port_checks.proofs.Booleans.{same_tests, and_left}
 use Rattle.port_checks.proofs.ResetTests.{Names, bit_input_within, bit_input_some}
@@ -76,10 +76,10 @@ module _ (d : Design) (starts : List ℕ) (are : AreStarts d starts) (fresh list
   edge_reset : (v w : ℕ) → In w (edges lists v) → IsResetNumber v → IsResetNumber w
   edge_reset v w need reset = go (adds.from v w need)
     where
-      go : In w (edges fresh v) ⊎ In (record { to = v; port = w }) (made_from (pairs_in d starts) 0 d) → IsResetNumber w
+      go : In w (edges fresh v) ⊎ In (pair v w) (made_from (pairs_in d starts) 0 d) → IsResetNumber w
       go (inl was) = absurd (subst (λ ns. In w ns) (ap (λ ls. edges ls v) none ∙ no_edges (port_count d) v) was)
-      go (inr pair) =
-          let is = pairs_some d starts (record { to = v; port = w }) pair in
+      go (inr found) =
+          let is = pairs_some d starts (pair v w) found in
           let by = is.is_joined in
           let joins = joins_by d is.i is.j is.c is.k by in
           by_number w is.i is.j by.owner is.port_is by.there
@@ -114,12 +114,12 @@ module _ (d : Design) (starts : List ℕ) (are : AreStarts d starts) (fresh list
 
   named_marked : (i j : ℕ) → IsNamed d i j → (v : ℕ) → port_number starts i j ≡ Some v → has_mark marks v ≡ true
   named_marked i j is v number =
-      start_marked v (subst (In v) (sym from) (some_numbers starts (made_from named_in 0 d) (record { owner = i; port = j }) v (some_named d i j is) number)) (bound i j v number)
+      start_marked v (subst (In v) (sym from) (some_numbers starts (made_from named_in 0 d) (place_at i j) v (some_named d i j is) number)) (bound i j v number)
 
   joined_marked : (i j c k : ℕ) → IsJoined d i j c k → (u v : ℕ) → port_number starts c k ≡ Some u → has_mark marks u ≡ true → port_number starts i j ≡ Some v
       → has_mark marks v ≡ true
   joined_marked i j c k is u v to has number =
-      next_marked u v has (adds.all u v (some_pairs d starts i j c k is (record { to = u; port = v }) to number)
+      next_marked u v has (adds.all u v (some_pairs d starts i j c k is (pair u v) to number)
       (subst (λ n. u < n) adds.count (bound c k u to))) (bound i j v number)
 
   reset_marked : (m : Module) (j : ℕ) → IsResetPort d m j → (i : ℕ) → slice_get d i ≡ Some m → (v : ℕ) → port_number starts i j ≡ Some v → has_mark marks v ≡ true
@@ -182,7 +182,7 @@ none_reset d none i j = go (slice_get d i) refl
   where
     no_port : (m : Module) (k : ℕ) → IsResetPort d m k → (n : ℕ) → slice_get d n ≡ Some m → ⊥
     no_port m k (named _ _ o r is here reset signal) n there =
-        subst (λ ps. In (record { owner = n; port = k }) ps) (sym none)
+        subst (λ ps. In (place_at n k) ps) (sym none)
         (some_named d n k (record { owner = m; op = o; there = there; member = here; names = (r, reset, signal); is_bit = is }))
     no_port m k (joined _ _ o c l is here found allowed has ref) n there =
         let by = bind_some (instance_in o.kind) (λ (x : Instance). find_module d x.symbol) found in

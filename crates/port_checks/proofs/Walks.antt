@@ -12,7 +12,7 @@ use Rattle.ir_store.specs.BodyOps.{BodyOp, op_at, ids_in}
 use Rattle.ir_store.specs.Ids.{times}
 use Rattle.ir_store.specs.Live.{AreDistinct}
 use Rattle.ir_store.specs.Designs.{StoredModule, numbered_module}
-use Rattle.ir_store.specs.Numbered.{position_of, op_by, numbered}
+use Rattle.ir_store.specs.Numbered.{position_of, op_by, ops_by_position}
 use Rattle.port_checks.specs.Seen.{body_op_seen}
 use Rattle.port_checks.specs.Joins.{made_from}
 
@@ -85,8 +85,8 @@ module _ {A : Type 0} (f : Op → List A) where
       ∙ so_far
 
   -- the positions that stand for ids are of no account
-  pub made_numbered : ((position : ℕ → ℕ) (o : BodyOp) → f (op_by position o) ≡ f (body_op_seen o)) → (ops : List BodyOp) → flat_map f (numbered ops) ≡ made_of ops
-  made_numbered same ops = go ops
+  pub made_by_position : ((position : ℕ → ℕ) (o : BodyOp) → f (op_by position o) ≡ f (body_op_seen o)) → (ops : List BodyOp) → flat_map f (ops_by_position ops) ≡ made_of ops
+  made_by_position same ops = go ops
     where
       go : (os : List BodyOp) → flat_map f (map (op_by (position_of (ids_in ops))) os) ≡ made_of os
       go [] = refl

@@ -22,17 +22,20 @@ pub record Pair : Type 0 where
   pub to : ℕ
   pub port : ℕ
 
+abbrev pub pair : ℕ → ℕ → Pair
+pair to port = record { to = to; port = port }
+
 -- the pair of two ports, where there are both
 abbrev pub pair_of : Option ℕ → Option ℕ → List Pair
-pair_of (Some a) (Some b) = record { to = a; port = b } ∷ []
+pair_of (Some to) (Some port) = pair to port ∷ []
 pair_of _ _ = []
 
 -- the lists have the pairs beside what they had
 pub record AddsPairs (pairs : List Pair) (old new : List (List ℕ)) : Type 0 where
   pub count : length new ≡ length old
   pub kept : (v w : ℕ) → In w (edges old v) → In w (edges new v)
-  pub from : (v w : ℕ) → In w (edges new v) → In w (edges old v) ⊎ In (record { to = v; port = w }) pairs
-  pub all : (v w : ℕ) → In (record { to = v; port = w }) pairs → v < length old → In w (edges new v)
+  pub from : (v w : ℕ) → In w (edges new v) → In w (edges old v) ⊎ In (pair v w) pairs
+  pub all : (v w : ℕ) → In (pair v w) pairs → v < length old → In w (edges new v)
 
 -- ---- a search
 

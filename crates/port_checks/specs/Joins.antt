@@ -30,9 +30,13 @@ made_from f i (m ∷ ms) = f i m ++ made_from f (suc i) ms
 abbrev pub named_port : List Port → Op → Option ℕ
 named_port ports o = bit_port ports (omap (λ (r : ResetBy). r.signal) (async_reset_in o))
 
+-- port j of module i
+abbrev pub place_at : ℕ → ℕ → PortPlace
+place_at i j = record { owner = i; port = j }
+
 abbrev pub place_of : ℕ → Option ℕ → List PortPlace
 place_of i None = []
-place_of i (Some j) = record { owner = i; port = j } ∷ []
+place_of i (Some j) = place_at i j ∷ []
 
 -- those that the operations of a module name
 abbrev pub named_in : ℕ → Module → List PortPlace

@@ -1,6 +1,6 @@
 //! Ports by their numbers, with those that are joined to each, and which ports are reached from which.
 ghost use Rattle.std.specs.Prelude.{◌≡◌, ◌<◌, ◌↔◌, false, length, IfOk, OnOk, IsTrue};
-ghost use Rattle.port_checks.specs.Graphs.{lists_of, has_mark, pair_of, AddsPairs, AreReached, MarksAll};
+ghost use Rattle.port_checks.specs.Graphs.{lists_of, edges, has_mark, pair_of, AddsPairs, AreReached, MarksAll};
 
 use std::alloc::{AllocError, Global};
 
@@ -45,9 +45,19 @@ pub(crate) fn reached_from(
     let mut waiting = Vec::new(alloc);
     mark_all(starts, &mut marks, &mut waiting)?;
     while let Some(port) = waiting.pop() {
-        mark_all(joined[port].numbers.as_slice(), &mut marks, &mut waiting)?;
+        mark_all(joined_to(joined, port), &mut marks, &mut waiting)?;
     }
     Ok(marks)
+}
+
+/// The ports that are joined to one; none where there is no such port.
+fn joined_to(joined: &[JoinedPorts], port: usize) -> &[usize]
+    ensures { result.now ≡ edges (lists_of joined.now) port }
+{
+    match joined.get(port) {
+        Some(list) => list.numbers.as_slice(),
+        None => &[],
+    }
 }
 
 /// Marks `ports`, and lets those wait that had no mark. What is not there gets none.

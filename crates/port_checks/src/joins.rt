@@ -1,5 +1,5 @@
 //! Which ports instances join to which.
-ghost use Rattle.std.specs.Prelude.{◌≡◌, map, option_map, length, OnOk, Some};
+ghost use Rattle.std.specs.Prelude.{◌≡◌, ◌+◌, ◌<◌, ◌^◌, cond, map, option_map, length, OnOk, Some};
 ghost use Rattle.hw_model.specs.Flat.{operand_for};
 ghost use Rattle.ir_store.specs.Designs.{port_of, module_of, numbered_module, design_of};
 ghost use Rattle.port_checks.specs.Graphs.{lists_of, AddsPairs};
@@ -118,9 +118,17 @@ fn push_operands(
         let value = bit_port(caller.ports, operand_for(port, operands, inputs));
         let to = port_number(starts, called.number, number);
         push_joined(joined, to, optional_number(starts, caller.number, value))?;
-        inputs += usize::from(!port.out);
+        inputs = inputs_after(port, inputs);
     }
     Ok(())
+}
+
+/// How many inputs stand before the port behind one, before which so many stand.
+fn inputs_after(port: &Port, inputs: usize) -> usize
+    requires { inputs + 1 < 2 ^ 64 }
+    ensures { result ≡ cond port.now.out inputs (inputs + 1) }
+{
+    if port.out { inputs } else { inputs + 1 }
 }
 
 /// The operand for a port, before which so many inputs stand; none for an output.

@@ -36,6 +36,6 @@ fn is_bit(ty: &Ty) -> bool
 {
     match ty {
         Ty::Int(width) => *width == 1,
-        _ => false,
+        Ty::Clock | Ty::Array(..) | Ty::Struct(_) => false,
     }
 }

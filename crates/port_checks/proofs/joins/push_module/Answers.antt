@@ -9,8 +9,9 @@ use Rattle.ir_store.proofs.Living.{all_mapped}
 use Rattle.port_checks.specs.Graphs.{lists_of, AddsPairs}
 use Rattle.port_checks.specs.Joins.{instance_pairs}
 use Rattle.port_checks.specs.Seen.{op_seen}
-use Rattle.port_checks.proofs.Pairs.{pairs_step}
-use Rattle.port_checks.proofs.Walks.{ops_at, through_all, made_of}
+use Rattle.port_checks.proofs.Pairs.{adds_none, pairs_step}
+use Rattle.port_checks.proofs.Seeing.{pairs_seen}
+use Rattle.port_checks.proofs.Walks.{ops_at, through_all, made_of, made_by_position}
 use Rattle.port_checks.proofs.joins.push_module.Goals as goal
 
 pub loop-id-init : goal.loop-id-init
@@ -45,3 +46,12 @@ loop-id-preserved c =
           (lists_of c.loop-id.joined.items) (lists_of c.push_operation.new.joined.items)) c.deref.ensures.value c.in_ok-push_operation.ensures)
           c.loop-id.invariant.pairs;
     }
+
+pub returns : goal.returns
+returns c =
+    let b = c.args.owner.now.body in
+    let f = instance_pairs (design_of c.args.design.now) c.args.starts.now c.args.number (ports_in c.args.owner.now.ports) in
+    let last = lists_of c.loop-id.joined.items in
+    subst (λ ps. AddsPairs ps (lists_of c.args.joined.now.items) last)
+    (sym (made_by_position f (pairs_seen (design_of c.args.design.now) c.args.starts.now c.args.number (ports_in c.args.owner.now.ports)) (ops_of b)))
+    (c.loop-id.invariant.pairs last (subst (λ is. AddsPairs (made_of f (ops_at (ops_of b) is)) last last) (sym c.in-None.ensures.steps.0) (adds_none last)))

@@ -1,4 +1,5 @@
 use Rattle.std.proofs.Common.{◌≡◌, ◌++◌, map, subst, sym, ◌∙◌, ap, List, All, Contains}
+use Rattle.std.proofs.lemmas.List.{append-nil}
 use Rattle.std.proofs.lemmas.List.Elements.{All-head, All-tail, All-contains_itself}
 use Rattle.hw_model.specs.Design.{Op}
 use Rattle.ir_store.specs.declared.operation.OpId.{OpId}
@@ -9,7 +10,8 @@ use Rattle.ir_store.proofs.BodyLemmas.{ids_once}
 use Rattle.ir_store.proofs.Living.{all_mapped}
 use Rattle.port_checks.specs.Joins.{named_port, place_of}
 use Rattle.port_checks.specs.Seen.{op_seen}
-use Rattle.port_checks.proofs.Walks.{ops_at, through_all, made_of, made_step}
+use Rattle.port_checks.proofs.Seeing.{named_seen}
+use Rattle.port_checks.proofs.Walks.{ops_at, through_all, made_of, made_by_position, made_step}
 use Rattle.port_checks.proofs.named.push_named.Goals as goal
 
 pub loop-id-init : goal.loop-id-init
@@ -43,3 +45,14 @@ loop-id-preserved c =
           (c.named_port.ensures ∙ ap (λ ps. named_port (map port_of ps) (op_seen c.op-op.result)) c.deref.ensures.value))
           c.loop-id.invariant.items;
     }
+
+pub returns : goal.returns
+returns c =
+    let b = c.args.owner.now.body in
+    let ports = ports_in c.args.owner.now.ports in
+    let f = λ (o : Op). place_of c.args.number (named_port ports o) in
+    let old = c.args.named.now.items in
+    sym (append-nil c.loop-id.named.items)
+    ∙ ap (λ is. c.loop-id.named.items ++ made_of f (ops_at (ops_of b) is)) (sym c.in-None.ensures.steps.0)
+    ∙ c.loop-id.invariant.items
+    ∙ ap (λ xs. old ++ xs) (sym (made_by_position f (λ position o. ap (place_of c.args.number) (named_seen ports position o)) (ops_of b)))

@@ -2,5 +2,5 @@ use Rattle.std.proofs.Common.{◌≡◌, ◌++◌, [], replicate}
 use Rattle.port_checks.specs.Graphs.{lists_of}
 use Rattle.port_checks.proofs.numbers.push_ports.Given as goal
 
-abbrev pub invariant-loop-_port : goal.invariant-loop-_port
-invariant-loop-_port l = lists_of l.joined.items ≡ lists_of l.fn.joined.items ++ replicate l._port []
+abbrev pub invariant-loop-port : goal.invariant-loop-port
+invariant-loop-port l = lists_of l.joined.items ≡ lists_of l.fn.joined.items ++ replicate l._port []
