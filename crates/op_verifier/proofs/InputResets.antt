@@ -19,13 +19,14 @@ use Rattle.hw_model.specs.Resets.{is_constant, IsMarkedInput, IsConstantOf, Rese
 use Rattle.hw_model.proofs.NetWidths.{input_found, typed_at}
 use Rattle.ir_store.specs.ResultTypes.{result_count}
 use Rattle.ir_store.proofs.IdLemmas.{below_unless}
-use Rattle.port_checks.specs.ResetPorts.{IsBitInput, IsResetPort, is_reset_port}
-use Rattle.port_checks.specs.ResetPorts.IsResetPort as reset_port
+use Rattle.port_checks.specs.ResetPorts.{IsBitInput, IsResetPort, port_count, is_reset_port}
+use Rattle.port_checks.proofs.Least.{reset_some, is_sound, is_complete}
 use Rattle.op_verifier.specs.Faults.{first_fault}
 use Rattle.op_verifier.specs.ResetChecks.{is_input_port, is_no_input, is_constant_op, is_constant_ref, has_other_reset, joins_other, has_other_join}
 use Rattle.op_verifier.proofs.NoOwnCause.{no_cause_alone, result_number}
 use Rattle.op_verifier.proofs.Unrefused.{not_false, NoOpCause, no_op_cause, ops_unrefused, module_unrefused}
-use Rattle.op_verifier.proofs.SoundDesigns.{some_from, both_true, sound_design}
+use Rattle.op_verifier.proofs.SoundDesigns.{both_true, sound_design}
+use Rattle.op_verifier.proofs.WholeDesigns.{some_from}
 use Rattle.op_verifier.proofs.Widths.{neither}
 
 -- ---- values
@@ -152,7 +153,7 @@ module _ (d : Design) (no_fault : first_fault d ≡ None) (s : Name) (m : Module
     port_of = i.port_of;
     there = i.there;
     is_input = i.inward;
-    has_mark = reset_port_told d m i.number (resets (record { port_there = i.port_of; there = i.there; is_input = i.inward; is_bit = typed }));
+    has_mark = is_complete d m i.number (resets (record { port_there = i.port_of; there = i.there; is_input = i.inward; is_bit = typed }));
   }
 
   -- the reset of a register that has an asynchronous one is an input port, and its value a constant
@@ -174,7 +175,7 @@ module _ (d : Design) (no_fault : first_fault d ≡ None) (s : Name) (m : Module
   signals o r within is =
       let i = input_is m.ports r.signal (parts_told o r within is).0 in
       marked_input r.signal i (some_from (sym (input_typed m.ports m.body r.signal i) ∙ signal_typed o r within is))
-      (λ bit. reset_port.named m i.number o r bit within is i.is_port)
+      (λ bit. IsResetPort.named m i.number o r bit within is i.is_port)
 
   values : (o : Op) (r : ResetBy) → In o m.body → async_reset_in o ≡ Some r → IsConstantOf m.body r.value
   values o r within is = constant_is m.body r.value (parts_told o r within is).1
@@ -194,10 +195,11 @@ module _ (d : Design) (no_fault : first_fault d ≡ None) (s : Name) (m : Module
       let i = input_is m.ports join.value
       (joins_input (is_reset_port d c) m.ports (port_ref c.ports o.operands) (length c.ports) given.number join.value no_other
       (slice_get_within c.ports given.number given.port_of given.there) given.has_mark join.joins) in
+      let bit = (reset_some d (port_count d) c given.number given.has_mark).1 in
       let typed : i.port_of.type ≡ int 1 =
-      some_from (sym (input_typed m.ports m.body join.value i) ∙ join.typed) ∙ bit_of d c given.number given.port_of given.has_mark given.there in
+      some_from (sym (input_typed m.ports m.body join.value i) ∙ join.typed) ∙ ap (λ (q : Port). q.type) (some_from (sym given.there ∙ bit.there)) ∙ bit.is_bit in
       (join.value, join.joins, marked_input join.value i typed
-      (λ bit. reset_port.joined m i.number o c given.number bit within called u.no_cause.called (reset_port_is d c given.number given.has_mark) (join.joins ∙ ap Some i.is_port)))
+      (λ bit. IsResetPort.joined m i.number o c given.number bit within called u.no_cause.called (is_sound d c given.number given.has_mark) (join.joins ∙ ap Some i.is_port)))
 
 pub resets_from_ports : (d : Design) → first_fault d ≡ None → ResetsFromPorts d (is_reset_port d)
 resets_from_ports d no_fault = record {

@@ -5,8 +5,7 @@ use Rattle.std.proofs.lemmas.List.{length-map, take-map}
 use mathlib.Core.Path.{fun_ext}
 use Rattle.wiring.specs.Options.{bind, omap}
 use Rattle.hw_model.specs.Types.{Name, HwType}
-use Rattle.hw_model.specs.Kinds.{Instance}
-use Rattle.hw_model.specs.Design.{Ref, Port, Op, Module, Design, op_without_place, module_without_places, without_places, same_name, find_module, instance_in, is_instance, is_register, is_output_op, result_type, output_refs, callee}
+use Rattle.hw_model.specs.Design.{Ref, Port, Op, Module, Design, op_without_place, module_without_places, without_places, find_module, instance_in, is_instance, is_register, is_output_op, result_type, output_refs, callee}
 use Rattle.hw_model.specs.Design.Ref.{port, result, undefined}
 use Rattle.hw_model.specs.Flat.{Path, Net, net, Source, instances, module_at, base, body_state, state, port_ref, copy_of, joined_ref, joined_at, given_ref, held_of, made_of}
 use Rattle.hw_model.specs.Flat.Source.{nowhere}
@@ -15,6 +14,7 @@ use Rattle.hw_model.specs.Meaning.{needs_of, needs}
 use Rattle.hw_model.specs.Sound.{body_of, ports_of}
 use Rattle.hw_model.specs.Weight.{leaf_count, kind_weight, body_weight, weight_of, module_weight, weight}
 use Rattle.hw_model.proofs.Paths.{module_inside, joined_body, port_of, output_of, result_in, result_here}
+use Rattle.port_checks.proofs.Placeless.{find_placeless, callee_placeless}
 use Rattle.design_cycles.proofs.Inside.{no_needs_port}
 
 -- ---- modules and bodies
@@ -26,15 +26,6 @@ body_placeless (Some m) = refl
 ports_placeless : (o : Option Module) → ports_of (omap module_without_places o) ≡ ports_of o
 ports_placeless None = refl
 ports_placeless (Some m) = refl
-
-pub find_placeless : (d : Design) (s : Name) → find_module (without_places d) s ≡ omap module_without_places (find_module d s)
-find_placeless [] s = refl
-find_placeless (m ∷ d) s = go (same_name m.symbol s) (find_placeless d s)
-  where
-    go : (b : Bool) → find_module (without_places d) s ≡ omap module_without_places (find_module d s)
-        → cond b (Some (module_without_places m)) (find_module (without_places d) s) ≡ omap module_without_places (cond b (Some m) (find_module d s))
-    go true rest = refl
-    go false rest = rest
 
 instances_placeless : (os : List Op) → instances (map op_without_place os) ≡ map op_without_place (instances os)
 instances_placeless [] = refl
@@ -81,13 +72,6 @@ weight_placeless d s = ap (λ n. module_weight (suc n) (without_places d) s) (le
 -- ---- what needs what
 
 module _ (d : Design) where
-  pub callee_placeless : (o : Op) → callee (without_places d) (op_without_place o) ≡ omap module_without_places (callee d o)
-  callee_placeless o = go (instance_in o.kind)
-    where
-      go : (y : Option Instance) → bind y (λ (i : Instance). find_module (without_places d) i.symbol) ≡ omap module_without_places (bind y (λ (i : Instance). find_module d i.symbol))
-      go None = refl
-      go (Some i) = find_placeless d i.symbol
-
   module _ (top : Name) where
     -- what stands at an instance's number
     instance_placeless : (o : Option Module) (u : ℕ) → slice_get (instances (body_of (omap module_without_places o))) u ≡ omap op_without_place (slice_get (instances (body_of o)) u)
@@ -106,7 +90,7 @@ module _ (d : Design) where
       where
         go : (x : Option Op) → bind (omap op_without_place x) (callee (without_places d)) ≡ omap module_without_places (bind x (callee d))
         go None = refl
-        go (Some o) = callee_placeless o
+        go (Some o) = callee_placeless d o
 
     joined_placeless : (p : Path) (u j : ℕ) → bind (module_at (without_places d) top p) (joined_at (without_places d) u j) ≡ bind (module_at d top p) (joined_at d u j)
     joined_placeless p u j =
@@ -120,14 +104,14 @@ module _ (d : Design) where
         go None = refl
         go (Some o) =
             port_of (callee (without_places d) (op_without_place o)) o.operands j
-            ∙ ap (λ m. port_ref (ports_of m) o.operands j) (callee_placeless o)
+            ∙ ap (λ m. port_ref (ports_of m) o.operands j) (callee_placeless d o)
             ∙ ap (λ ps. port_ref ps o.operands j) (ports_placeless (callee d o))
             ∙ sym (port_of (callee d o) o.operands j)
 
     given_placeless : (k : ℕ) (o : Op) → given_ref (without_places d) k (op_without_place o) ≡ given_ref d k o
     given_placeless k o =
         output_of (callee (without_places d) (op_without_place o)) k
-        ∙ ap (λ m. slice_get (output_refs (body_of m)) k) (callee_placeless o)
+        ∙ ap (λ m. slice_get (output_refs (body_of m)) k) (callee_placeless d o)
         ∙ ap (λ os. slice_get (output_refs os) k) (body_placeless (callee d o))
         ∙ ap (λ rs. slice_get rs k) (output_refs_placeless (body_of (callee d o)))
         ∙ sym (output_of (callee d o) k)

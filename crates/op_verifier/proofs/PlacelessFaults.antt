@@ -8,12 +8,11 @@ use Rattle.diag.specs.declared.cause.Cause.TheVariants.{Redefined, Undefined, Ou
 use Rattle.diag.specs.declared.refusal.Refusal.{Refusal}
 use Rattle.wiring.specs.Options.{bind, omap}
 use Rattle.hw_model.specs.Types.{Name, HwType}
-use Rattle.hw_model.specs.Kinds.{Instance}
 use Rattle.hw_model.specs.Design.{Ref, Port, OpResult, Op, Module, Design, op_without_place, module_without_places, without_places, find_module, instance_in, is_output_op, result_type, callee}
 use Rattle.hw_model.specs.Design.Ref.{port, result, undefined}
 use Rattle.hw_model.specs.Sound.{type_in}
 use Rattle.hw_model.specs.Flat.{async_reset_in, port_ref, ResetBy}
-use Rattle.port_checks.specs.InstanceChecks.{call_cause, instance_cause}
+use Rattle.port_checks.specs.InstanceChecks.{instance_cause}
 use Rattle.port_checks.specs.ResetPorts.{is_reset_port}
 use Rattle.op_verifier.specs.Answers.{when, or_else}
 use Rattle.op_verifier.specs.OwnChecks.{own_cause}
@@ -21,7 +20,7 @@ use Rattle.op_verifier.specs.OpChecks.{has_again, has_undefined, settled_by, set
 use Rattle.op_verifier.specs.ResetChecks.{is_input_port, is_constant_op, is_constant_ref, has_other_reset, has_other_join, reset_cause}
 use Rattle.op_verifier.specs.Headers.{has_twice, has_output, ports_cause, names_cause, header_cause}
 use Rattle.op_verifier.specs.Faults.{header_refusal, op_refusal, is_empty, body_fault, module_fault, faults_from, first_fault}
-use Rattle.op_verifier.proofs.Placeless.{find_placeless, callee_placeless}
+use Rattle.port_checks.proofs.Placeless.{find_placeless, callee_placeless, instance_placeless, reset_placeless}
 use Rattle.op_verifier.proofs.ResetJoins.{joins_same}
 
 -- ---- what stands in a body
@@ -71,14 +70,6 @@ has_output_placeless (o ∷ os) = ap (λ b. cond (is_output_op o) true b) (has_o
 
 -- ---- causes
 
-instance_placeless : (d : Design) (ts : List HwType) (x : Option Instance) → instance_cause (without_places d) ts x ≡ instance_cause d ts x
-instance_placeless d ts None = refl
-instance_placeless d ts (Some i) = ap (call_cause i ts) (find_placeless d i.symbol) ∙ go (find_module d i.symbol)
-  where
-    go : (m : Option Module) → call_cause i ts (omap module_without_places m) ≡ call_cause i ts m
-    go None = refl
-    go (Some m) = refl
-
 constant_placeless : (os : List Op) (r : Ref) → is_constant_ref (map op_without_place os) r ≡ is_constant_ref os r
 constant_placeless os (port j) = refl
 constant_placeless os (result j k) = op_there os j is_constant_op go
@@ -96,10 +87,10 @@ other_join_placeless : (d : Design) (ports : List Port) (refs : List Ref) (x : O
     → has_other_join (without_places d) ports refs (omap module_without_places x) ≡ has_other_join d ports refs x
 other_join_placeless d ports refs None = refl
 other_join_placeless d ports refs (Some c) =
-    joins_same (is_reset_port (without_places d) (module_without_places c)) (is_reset_port d c) ports (port_ref c.ports refs) (length c.ports) (reset_port_placeless d c)
+    joins_same (is_reset_port (without_places d) (module_without_places c)) (is_reset_port d c) ports (port_ref c.ports refs) (length c.ports) (reset_placeless d c)
 
-reset_placeless : (d : Design) (ports : List Port) (os : List Op) (o : Op) → reset_cause (without_places d) ports (map op_without_place os) (op_without_place o) ≡ reset_cause d ports os o
-reset_placeless d ports os o =
+reset_cause_placeless : (d : Design) (ports : List Port) (os : List Op) (o : Op) → reset_cause (without_places d) ports (map op_without_place os) (op_without_place o) ≡ reset_cause d ports os o
+reset_cause_placeless d ports os o =
     ap₂ (λ a b. when (a || b) AsyncReset) (other_reset_placeless ports os (async_reset_in o))
     (ap (has_other_join (without_places d) ports o.operands) (callee_placeless d o) ∙ other_join_placeless d ports o.operands (callee d o))
 
@@ -110,7 +101,7 @@ cause_placeless d ports os last o =
     (ap₂ (λ xs b. own_cause o.kind o.types (map (λ (r : OpResult). r.type) o.results) o.named xs b) (all_settled_placeless ports os o.operands) (nonzero_placeless os (slice_get o.operands 1)))
     (ap₂ (λ a b. or_else a b)
     (ap (λ c. or_else (when (has_other_outputs ports o) OutputMismatch) (or_else c (when (is_output_op o && not last) MissingOutput))) (instance_placeless d o.types (instance_in o.kind)))
-    (reset_placeless d ports os o)))
+    (reset_cause_placeless d ports os o)))
 
 header_placeless : (d : Design) (n : ℕ) (m : Module) → header_cause (without_places d) n (module_without_places m) ≡ header_cause d n m
 header_placeless d n m =

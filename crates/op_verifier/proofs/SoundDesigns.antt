@@ -24,7 +24,7 @@ use Rattle.op_verifier.proofs.Unrefused.{when_none, not_false, no_op_cause, no_h
 
 -- ---- small facts
 
-pub some_from : {A : Type 0} {a b : A} → Some a ≡ Some b → a ≡ b
+some_from : {A : Type 0} {a b : A} → Some a ≡ Some b → a ≡ b
 some_from {a = a} h = ap (λ (o : Option _). value a o) h
   where
     value : {A : Type 0} → A → Option A → A

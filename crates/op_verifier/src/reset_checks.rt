@@ -1,5 +1,5 @@
 //! The checks of asynchronous resets: what resets a register, and what instances join to the reset ports of their modules.
-ghost use Rattle.std.specs.Prelude.{◌≡◌, ◌&&◌, cond, map, length, Some, slice_get};
+ghost use Rattle.std.specs.Prelude.{◌≡◌, ◌≤◌, ◌&&◌, cond, map, length, Some, slice_get};
 ghost use Rattle.hw_model.specs.KindViews.{kind_of, instance_of};
 ghost use Rattle.hw_model.specs.Design.{find_module, callee};
 ghost use Rattle.hw_model.specs.Flat.{operand_for, port_ref, async_parts, async_reset_in};
@@ -98,15 +98,15 @@ impl<'b> BodyView<'b> {
     fn joins_other_among(
         &self,
         resets: &ResetPorts,
-        module: u32,
+        owner: u32,
         ports: &[Port],
         operands: &[Value],
     ) -> bool
-        ensures { result ≡ joins_other (has_reset resets.now module) (ports_viewed self.now) (port_ref (map port_of ports.now) (map (ref_viewed self.now) operands.now)) (length ports.now) }
+        ensures { result ≡ joins_other (has_reset resets.now owner) (ports_viewed self.now) (port_ref (map port_of ports.now) (map (ref_viewed self.now) operands.now)) (length ports.now) }
     {
         let mut inputs = 0;
         for (number, port) in ports.iter().enumerate() {
-            let is_reset = resets.has(module as usize, number);
+            let is_reset = resets.has(owner as usize, number);
             if self.joins_other_at(is_reset, port, operands, inputs) {
                 return true;
             }
@@ -184,7 +184,8 @@ fn is_constant(kind: &OpKind) -> bool
 
 /// How many inputs a port is.
 fn input_count(port: &Port) -> usize
-    ensures { result ≡ cond port.now.out 0 1 }
+    ensures count { result ≡ cond port.now.out 0 1 }
+    ensures few { result ≤ 1 }
 {
     if port.out { 0 } else { 1 }
 }

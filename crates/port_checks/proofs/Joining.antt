@@ -1,12 +1,11 @@
 -- Which pairs the instances of a design join, and which ports its registers name.
-use Rattle.std.proofs.Common.{◌≡◌, ◌⊎◌, ◌<◌, ℕ, zero, suc, ◌+◌, Bool, true, false, cond, List, [], ◌∷◌, ◌++◌, length, map, flat_map, slice_get, Option, Some, None, is_some, refl, sym, ap, ap₂, subst, ◌∙◌, inl, inr, arith}
+use Rattle.std.proofs.Common.{◌≡◌, ◌⊎◌, ◌<◌, ℕ, zero, suc, ◌+◌, Bool, true, false, cond, List, [], length, map, slice_get, Option, Some, None, is_some, refl, sym, ap, subst, ◌∙◌, inl, inr, arith}
 use Rattle.wiring.specs.Options.{bind, omap}
 use Rattle.wiring.specs.Wiring.{In}
 use Rattle.wiring.proofs.Members.{In-append_left, In-append_right, In-append_cases, In-flat_map, from_In-flat_map}
 use Rattle.wiring.proofs.Options.{bind_some, omap_some}
-use Rattle.hw_model.specs.Types.{Name}
 use Rattle.hw_model.specs.Kinds.{Instance}
-use Rattle.hw_model.specs.Design.{Ref, Port, Op, Module, Design, find_module, instance_in, callee}
+use Rattle.hw_model.specs.Design.{Ref, Port, Op, Module, Design, find_module, instance_in}
 use Rattle.hw_model.specs.Design.Ref.{port, result, undefined}
 use Rattle.hw_model.specs.Flat.{ResetBy, async_reset_in, port_ref}
 use Rattle.hw_model.specs.Sound.{ports_of}
@@ -15,12 +14,12 @@ use Rattle.diag.specs.declared.cause.Cause.{Cause}
 use Rattle.port_checks.specs.declared.named.PortPlace.{PortPlace}
 use Rattle.port_checks.specs.InstanceChecks.{instance_cause}
 use Rattle.port_checks.specs.ResetPorts.{IsBitInput, is_bit_input}
-use Rattle.port_checks.specs.Graphs.{Pair, pair, pair_of}
+use Rattle.port_checks.specs.Graphs.{Pair, pair_of}
 use Rattle.port_checks.specs.Numbers.{port_number}
-use Rattle.port_checks.specs.Joins.{bit_port, named_port, place_at, place_of, named_in, operand_pairs, found_pairs, call_pairs, called_pairs, instance_pairs, pairs_in, made_from}
+use Rattle.port_checks.specs.Joins.{bit_port, named_port, place_at, place_of, named_in, operand_pairs, found_pairs, called_pairs, instance_pairs, pairs_in, made_from}
 use Rattle.port_checks.proofs.Pairs.{pair_some, some_pair}
 use Rattle.port_checks.proofs.ResetTests.{Names, Joins, bit_input_some, some_bit_input, port_ref_within}
-use Rattle.port_checks.proofs.Symbols.{module_place, found_place}
+use Rattle.port_checks.proofs.Symbols.{module_place}
 use Rattle.port_checks.proofs.Walks.{made_some, some_made}
 
 -- ---- a port that a value is
@@ -101,9 +100,12 @@ pub record IsJoined (d : Design) (i j c k : ℕ) : Type 0 where
   pub is_bit : IsBitInput owner j
 
 pub joins_by : (d : Design) (i j c k : ℕ) (is : IsJoined d i j c k) → Joins d j is.op is.called k
-joins_by d i j c k is =
-    (ap (λ x. bind x (λ (y : Instance). find_module d y.symbol)) is.is_instance
-    ∙ sym (module_place is.named.symbol d) ∙ ap (λ x. bind x (slice_get d)) is.place ∙ is.called_there, is.allowed, is.is_port)
+joins_by d i j c k is = (
+  ap (λ x. bind x (λ (y : Instance). find_module d y.symbol)) is.is_instance
+      ∙ sym (module_place is.named.symbol d) ∙ ap (λ x. bind x (slice_get d)) is.place ∙ is.called_there,
+  is.allowed,
+  is.is_port,
+)
 
 -- a pair is that of two such ports, by their numbers
 pub record IsPairOf (d : Design) (starts : List ℕ) (p : Pair) : Type 0 where

@@ -1,8 +1,7 @@
 -- The numbers of ports: each port of a design has one, and no two have the same.
-use Rattle.std.proofs.Common.{◌≡◌, ◌⊎◌, inl, inr, ℕ, zero, suc, ◌+◌, ◌-◌, ◌<◌, Bool, true, false, cond, nat_lt, List, [], ◌∷◌, ◌++◌, length, map, take, slice_get, Option, Some, None, refl, sym, ap, ap₂, subst, ◌∙◌, arith, get_or, option_to_list, lt-ltb, ltb-true, length-append, append_assoc}
+use Rattle.std.proofs.Common.{◌≡◌, ◌⊎◌, inl, inr, ℕ, zero, suc, ◌+◌, ◌-◌, ◌<◌, Bool, true, false, cond, nat_lt, List, [], ◌∷◌, ◌++◌, length, take, slice_get, Some, None, refl, sym, ap, ◌∙◌, arith, get_or, option_to_list, lt-ltb, ltb-true, length-append, append_assoc}
 use Rattle.std.proofs.lemmas.List.{append-nil}
 use Rattle.std.proofs.lemmas.Option.{slice_get_within}
-use Rattle.wiring.specs.Lists.{total}
 use Rattle.wiring.specs.Options.{bind}
 use Rattle.wiring.proofs.Lists.{slice_get_some, slice_get-append_left, slice_get-append_at}
 use Rattle.wiring.proofs.Options.{bind_some}
@@ -32,10 +31,6 @@ count_within (x ∷ d) zero m j is below =
 count_within (x ∷ d) (suc i) m j is below =
     let rest : port_count (take i d) + j < port_count d = count_within d i m j is below in
     omega arith
-
-pub take_all : {A : Type 0} (xs : List A) → take (length xs) xs ≡ xs
-take_all [] = refl
-take_all (x ∷ xs) = ap (λ ys. x ∷ ys) (take_all xs)
 
 -- two ports at one place are the same
 pub count_once : (d : Design) (i k : ℕ) (m n : Module) (j l : ℕ) → slice_get d i ≡ Some m → slice_get d k ≡ Some n → j < length m.ports → l < length n.ports

@@ -1,17 +1,17 @@
 -- The ports of a module and the operands for them, one after another, and the module that an instance calls.
-use Rattle.std.proofs.Common.{◌≡◌, ℕ, zero, suc, ◌+◌, ◌<◌, ◌≤◌, Bool, true, false, cond, List, [], ◌∷◌, ◌++◌, map, length, take, get_or, slice_get, Option, Some, None, refl, sym, ap, ap₂, subst, ◌∙◌, arith}
+use Rattle.std.proofs.Common.{◌≡◌, ℕ, zero, suc, ◌+◌, ◌<◌, ◌≤◌, Bool, true, false, cond, List, [], ◌∷◌, map, length, take, get_or, slice_get, Option, Some, None, refl, sym, ap, ap₂, subst, ◌∙◌, arith}
 use Rattle.std.proofs.lemmas.List.{length-map}
 use Rattle.wiring.specs.Options.{bind}
 use Rattle.hw_model.specs.Types.{Name}
 use Rattle.hw_model.specs.Design as hw
 use Rattle.hw_model.specs.Design.{Ref}
-use Rattle.hw_model.specs.Flat.{operand_for, port_ref, input_count}
+use Rattle.hw_model.specs.Flat.{port_ref, input_count}
 use Rattle.hw_model.specs.Sound.{ports_of}
 use Rattle.ir_store.specs.declared.design.Port.{Port}
 use Rattle.ir_store.specs.Designs.{StoredModule, port_of, numbered_module}
 use Rattle.ir_store.specs.Symbols.{symbol_place}
 use Rattle.ir_store.proofs.DesignLemmas.{read_get}
-use Rattle.port_checks.specs.Graphs.{Pair, pair_of, AddsPairs}
+use Rattle.port_checks.specs.Graphs.{pair_of, AddsPairs}
 use Rattle.port_checks.specs.Numbers.{port_number}
 use Rattle.port_checks.specs.Joins.{bit_port, operand_pairs, found_pairs, call_pairs}
 use Rattle.port_checks.proofs.Pairs.{adds_both}
@@ -61,7 +61,7 @@ pub operands_more : (starts : List ℕ) (called : ℕ) (ports : List hw.Port) (c
 operands_more starts called ports caller outer operands n first old new to bit port to_is bit_is port_is before adds =
     let next : suc n ≡ n + 1 = omega arith in
     let pairs : pair_of to port ≡ pair_of (port_number starts called n) (bind (bit_port outer (port_ref ports operands n)) (port_number starts caller)) =
-        ap₂ pair_of to_is (port_is ∙ ap (λ x. bind x (port_number starts caller)) bit_is) in
+    ap₂ pair_of to_is (port_is ∙ ap (λ x. bind x (port_number starts caller)) bit_is) in
     subst (λ k. AddsPairs (operand_pairs starts called ports caller outer operands k) first new) next
     (adds_both (operand_pairs starts called ports caller outer operands n)
     (pair_of (port_number starts called n) (bind (bit_port outer (port_ref ports operands n)) (port_number starts caller))) first old new before

@@ -1,6 +1,6 @@
 -- Pairs of ports that are added to lists.
-use Rattle.std.proofs.Common.{◌≡◌, ◌⊎◌, ℕ, zero, suc, ◌+◌, ◌<◌, ◌≤◌, ◌≢◌, Bool, true, false, eqb, List, [], ◌∷◌, ◌++◌, length, map, set, get_or, replicate, slice_get, Option, Some, None, refl, sym, ap, ap₂, subst, ◌∙◌, inl, inr, arith, length-set}
-use Rattle.std.proofs.lemmas.List.{length-map, get_or-set_same, get_or-set_other, append-nil}
+use Rattle.std.proofs.Common.{◌≡◌, ◌⊎◌, ℕ, zero, suc, ◌<◌, ◌≢◌, Bool, true, false, eqb, List, [], ◌∷◌, ◌++◌, length, set, get_or, replicate, Option, Some, None, refl, sym, ap, ap₂, subst, ◌∙◌, inl, inr, arith, length-set}
+use Rattle.std.proofs.lemmas.List.{get_or-set_same, get_or-set_other}
 use Rattle.std.proofs.lemmas.Bool.{eqb-true, eqb-false}
 use Rattle.wiring.specs.Wiring.{In}
 use Rattle.wiring.proofs.Members.{In-append_left, In-append_right, In-append_cases}
@@ -82,23 +82,7 @@ adds_one old new a b below is =
         (subst (In w) (sym there) (In-append_right w (edges old a) (b ∷ []) (inl port_is)))
     all v w (inr never) = absurd never
 
--- lists that have not its first port stay
-pub adds_nowhere : (lists : List (List ℕ)) (a b : ℕ) → length lists ≤ a → AddsPairs (pair a b ∷ []) lists lists
-adds_nowhere lists a b past = record {
-  count = refl;
-  kept = λ v w here. here;
-  from = λ v w here. inl here;
-  all = λ v w here below. go v w below here;
-}
-  where
-    go : (v w : ℕ) → v < length lists → In (pair v w) (pair a b ∷ []) → In w (edges lists v)
-    go v w below (inl same) = let to_is : v ≡ a = ap (λ (p : Pair). p.to) same in absurd (omega arith)
-    go v w below (inr never) = absurd never
-
 -- ---- lists in code
-
-pub length-joined : (joined : List JoinedPorts) → length (lists_of joined) ≡ length joined
-length-joined joined = length-map joined (λ (p : JoinedPorts). p.numbers.items)
 
 pub joined_set : (joined : List JoinedPorts) (a : ℕ) (x y : JoinedPorts) (ports : List ℕ) → a < length joined → x ≡ get_or joined a x → ports ≡ x.numbers.items
     → (b : ℕ) → y.numbers.items ≡ ports ++ b ∷ [] → lists_of (set joined a y) ≡ set (lists_of joined) a (edges (lists_of joined) a ++ b ∷ [])

@@ -1,29 +1,26 @@
 -- The ports that are reached from those that registers name are the reset ports.
-use Rattle.std.proofs.Common.{◌≡◌, ◌⊎◌, ◌<◌, ℕ, zero, suc, ◌+◌, Bool, true, false, List, [], ◌∷◌, ◌++◌, length, map, take, replicate, slice_get, option_to_list, Option, Some, None, refl, sym, ap, ap₂, subst, ◌∙◌, inl, inr, arith}
-use Rattle.std.proofs.lemmas.Option.{slice_get_within}
+use Rattle.std.proofs.Common.{◌≡◌, ◌⊎◌, ◌<◌, ℕ, zero, suc, ◌+◌, Bool, true, false, List, [], ◌∷◌, length, take, replicate, slice_get, option_to_list, Option, Some, None, refl, sym, ap, subst, ◌∙◌, inl, inr, arith}
 use Rattle.std.proofs.lemmas.List.{length-replicate}
-use Rattle.wiring.specs.Options.{bind}
 use Rattle.wiring.specs.Wiring.{In, Chain}
-use Rattle.wiring.proofs.Members.{In-append_left, In-append_right, In-append_cases, position_of_In}
+use Rattle.wiring.proofs.Members.{In-append_left, In-append_right, In-append_cases}
 use Rattle.wiring.proofs.Options.{bind_some}
 use Rattle.wiring.proofs.Chains.{Chain-append}
 use Rattle.hw_model.specs.Kinds.{Instance}
-use Rattle.hw_model.specs.Design.{Op, Module, Design, find_module, instance_in, callee}
-use Rattle.hw_model.specs.Flat.{ResetBy}
+use Rattle.hw_model.specs.Design.{Module, Design, find_module, instance_in}
 use Rattle.port_checks.specs.declared.named.PortPlace.{PortPlace}
-use Rattle.port_checks.specs.ResetPorts.{IsBitInput, IsResetPort, is_bit_input, is_reset_within, port_count, is_reset_port}
+use Rattle.port_checks.specs.ResetPorts.{IsResetPort, port_count, is_reset_port}
 use Rattle.port_checks.specs.ResetPorts.IsResetPort.{named, joined}
-use Rattle.port_checks.specs.Graphs.{edges, has_mark, Pair, pair, AddsPairs, AreReached}
+use Rattle.port_checks.specs.Graphs.{edges, has_mark, pair, AddsPairs, AreReached}
 use Rattle.port_checks.specs.Numbers.{AreStarts, port_number, numbers_of}
 use Rattle.port_checks.specs.Joins.{place_at, named_in, pairs_in, made_from}
 use Rattle.port_checks.specs.Marked.{has_mark_at, is_reset_of}
-use Rattle.port_checks.proofs.Booleans.{same_tests, and_left}
-use Rattle.port_checks.proofs.ResetTests.{Names, bit_input_within, bit_input_some}
+use Rattle.port_checks.proofs.Booleans.{same_tests}
+use Rattle.port_checks.proofs.ResetTests.{bit_input_within}
 use Rattle.port_checks.proofs.Least.{is_sound, is_complete, reset_some}
 use Rattle.port_checks.proofs.Symbols.{found_place}
 use Rattle.port_checks.proofs.Numbering.{number_some, some_number, number_once, count_within}
 use Rattle.port_checks.proofs.Pairs.{no_edges}
-use Rattle.port_checks.proofs.Joining.{IsNamed, IsJoined, IsPairOf, joins_by, named_some, some_named, pairs_some, some_pairs}
+use Rattle.port_checks.proofs.Joining.{IsNamed, IsJoined, joins_by, named_some, some_named, pairs_some, some_pairs}
 
 -- ---- numbers of places
 

@@ -3,11 +3,9 @@
 use Rattle.std.proofs.Common.{◌≡◌, ℕ, zero, suc, Bool, true, false, cond, List, [], ◌∷◌, ◌++◌, map, length, take, slice_get, Option, Some, None, option_map, is_some, refl, sym, ap, ap₂, ◌∙◌}
 use Rattle.std.proofs.lemmas.Option.{slice_get-map}
 use Rattle.wiring.specs.Options.{bind, omap}
-use Rattle.hw_model.specs.Types.{Name}
-use Rattle.hw_model.specs.Kinds.{Kind, Instance}
-use Rattle.hw_model.specs.Design.{Ref, Port, Op, Module, Design, instance_in}
-use Rattle.hw_model.specs.Design.Ref.{port, result, undefined}
-use Rattle.hw_model.specs.Flat.{ResetBy, has_async_reset, async_parts, async_reset_in, operand_for, port_ref, input_count}
+use Rattle.hw_model.specs.Kinds.{Instance}
+use Rattle.hw_model.specs.Design.{Port, Module, Design, instance_in}
+use Rattle.hw_model.specs.Flat.{ResetBy, has_async_reset, async_parts, operand_for, port_ref, input_count}
 use Rattle.hw_model.specs.Sound.{ports_of}
 use Rattle.ir_store.specs.declared.operation.Value.{Value}
 use Rattle.ir_store.specs.declared.operation.Value.TheVariants.{Port as APort, Result, Undefined}
@@ -15,9 +13,9 @@ use Rattle.ir_store.specs.BodyOps.{BodyOp}
 use Rattle.ir_store.specs.Numbered.{ref_by, op_by}
 use Rattle.ir_store.specs.Symbols.{symbol_place}
 use Rattle.port_checks.specs.InstanceChecks.{instance_cause}
-use Rattle.port_checks.specs.Graphs.{Pair, pair_of}
+use Rattle.port_checks.specs.Graphs.{pair_of}
 use Rattle.port_checks.specs.Numbers.{port_number}
-use Rattle.port_checks.specs.Joins.{bit_port, named_port, operand_pairs, found_pairs, call_pairs, called_pairs, instance_pairs}
+use Rattle.port_checks.specs.Joins.{bit_port, named_port, operand_pairs, found_pairs, called_pairs, instance_pairs}
 use Rattle.port_checks.specs.Seen.{ref_seen, body_op_seen}
 
 bit_port_seen : (ports : List Port) (position : ℕ → ℕ) (v : Option Value) → bit_port ports (option_map (ref_by position) v) ≡ bit_port ports (option_map ref_seen v)

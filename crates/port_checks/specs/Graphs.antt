@@ -1,5 +1,5 @@
 -- Ports by their numbers: for each those that are joined to it; and which are reached.
-use Rattle.std.specs.Prelude.{◌≡◌, ℕ, suc, ◌+◌, ◌<◌, ◌⊎◌, Bool, true, false, cond, List, [], ◌∷◌, map, length, slice_index_or, Option, Some, None}
+use Rattle.std.specs.Prelude.{◌≡◌, ℕ, suc, ◌+◌, ◌<◌, ◌⊎◌, Bool, true, false, cond, List, [], ◌∷◌, map, length, slice_index_or, Option, Some}
 use Rattle.wiring.specs.Wiring.{In, Chain}
 use Rattle.port_checks.specs.declared.graph.JoinedPorts.{JoinedPorts}
 

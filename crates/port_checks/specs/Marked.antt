@@ -1,5 +1,5 @@
 -- What code knows of the reset ports of a design.
-use Rattle.std.specs.Prelude.{◌≡◌, ℕ, Bool, true, false, List, Option, Some, None, slice_get}
+use Rattle.std.specs.Prelude.{◌≡◌, ℕ, Bool, false, List, Option, Some, None, slice_get}
 use Rattle.hw_model.specs.Design.{Module, Design}
 use Rattle.port_checks.specs.declared.reset_ports.ResetPorts.{ResetPorts}
 use Rattle.port_checks.specs.Graphs.{has_mark}

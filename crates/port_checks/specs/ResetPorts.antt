@@ -1,7 +1,7 @@
 -- Reset ports: the input ports from which registers of a design are reset without their clocks, whether a register names
 -- the port itself or an instance hands it on (CIRCT: Seq dialect, `seq.firreg` with an asynchronous reset; HW dialect,
 -- `hw.instance`).
-use Rattle.std.specs.Prelude.{◌≡◌, ℕ, zero, suc, Bool, true, false, cond, not, ◌&&◌, ◌||◌, nat_eq, List, [], ◌∷◌, map, length, Option, Some, None, is_some, slice_get}
+use Rattle.std.specs.Prelude.{◌≡◌, ℕ, zero, suc, Bool, false, not, ◌&&◌, ◌||◌, nat_eq, List, map, length, Option, Some, None, is_some, slice_get}
 use Rattle.std.specs.List.{list_any}
 use Rattle.wiring.specs.Lists.{total}
 use Rattle.wiring.specs.Options.{omap}

@@ -1,7 +1,8 @@
 use Rattle.std.proofs.Common.{◌<◌, ap₂, length, slice_set, refl, subst, sym, arith}
 use Rattle.port_checks.specs.Graphs.{lists_of, pair_of, AddsPairs}
 use Rattle.port_checks.specs.declared.graph.JoinedPorts.{JoinedPorts}
-use Rattle.port_checks.proofs.Pairs.{adds_one, adds_nowhere, adds_none, joined_set, length-joined}
+use Rattle.port_checks.proofs.Marks.{length-lists}
+use Rattle.port_checks.proofs.Pairs.{adds_one, joined_set}
 use Rattle.port_checks.proofs.graph.push_joined.Goals as goal
 
 pub returns : goal.returns
@@ -10,7 +11,7 @@ returns c =
     let list = c.index_mut-list.result.now in
     let grown : JoinedPorts = record { numbers = c.push.new.self } in
     let below : c.in-Some.to < length joined = omega (arith, c.if-to-len.false, c.len.ensures, c.args.joined.now.ok.0) in
-    let within : c.in-Some.to < length (lists_of joined) = omega (arith, below, length-joined joined) in
+    let within : c.in-Some.to < length (lists_of joined) = omega (arith, below, length-lists joined) in
     subst (λ ps. AddsPairs ps (lists_of joined) (lists_of (slice_set joined c.in-Some.to grown))) (sym (ap₂ pair_of c.in-Some.is c.in-Some-port.is))
     (adds_one (lists_of joined) (lists_of (slice_set joined c.in-Some.to grown)) c.in-Some.to c.in-Some-port.port within
     (joined_set joined c.in-Some.to list grown list.numbers.items below c.index_mut-list.ensures.value refl c.in-Some-port.port c.in_ok-push.ensures.items))

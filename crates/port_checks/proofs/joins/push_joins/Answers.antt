@@ -1,4 +1,4 @@
-use Rattle.std.proofs.Common.{◌++◌, take, subst, ap, sym, ◌∙◌, arith}
+use Rattle.std.proofs.Common.{take, subst, sym, arith}
 use Rattle.ir_store.specs.Designs.{modules_of, module_of, numbered_module, design_of}
 use Rattle.port_checks.specs.Graphs.{lists_of, AddsPairs}
 use Rattle.port_checks.specs.Joins.{pairs_in, made_from}

@@ -13,6 +13,6 @@ invariant-loop-id l = record {
   live : All (λ (i : OpId). Contains (ids_of l.owner.body) i.index) (ids_left l.id-iterator);
   pairs : (end : List (List ℕ))
       → AddsPairs (made_of (instance_pairs (design_of l.design) l.starts l.number (ports_in l.owner.ports)) (ops_at (ops_of l.owner.body) (ids_left l.id-iterator)))
-          (lists_of l.joined.items) end
+      (lists_of l.joined.items) end
       → AddsPairs (made_of (instance_pairs (design_of l.design) l.starts l.number (ports_in l.owner.ports)) (ops_of l.owner.body)) (lists_of l.fn.joined.items) end;
 }

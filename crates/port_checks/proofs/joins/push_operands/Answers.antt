@@ -1,5 +1,5 @@
-use Rattle.std.proofs.Common.{◌≡◌, ◌<◌, ◌≤◌, ◌+◌, map, take, length, cond, Some, slice_get, refl, ap, ap₂, sym, subst, ◌∙◌, arith}
-use Rattle.hw_model.specs.Flat.{operand_for, input_count, port_ref}
+use Rattle.std.proofs.Common.{◌≡◌, ◌≤◌, ◌+◌, map, take, cond, Some, slice_get, refl, ap, ap₂, sym, ◌∙◌, arith}
+use Rattle.hw_model.specs.Flat.{operand_for, input_count}
 use Rattle.ir_store.specs.declared.design.Port.{Port}
 use Rattle.ir_store.specs.Designs.{port_of}
 use Rattle.port_checks.specs.Graphs.{lists_of}

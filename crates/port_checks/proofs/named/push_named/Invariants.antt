@@ -1,4 +1,4 @@
-use Rattle.std.proofs.Common.{◌≡◌, ◌++◌, map}
+use Rattle.std.proofs.Common.{◌≡◌, ◌++◌}
 use Rattle.std.specs.Prelude.{All, Contains}
 use Rattle.hw_model.specs.Design.{Op}
 use Rattle.ir_store.specs.declared.operation.OpId.{OpId}

@@ -1,12 +1,11 @@
-use Rattle.std.proofs.Common.{◌≡◌, ◌++◌, ◌+◌, suc, [], length, map, take, replicate, refl, ap, sym, subst, ◌∙◌, arith}
+use Rattle.std.proofs.Common.{◌≡◌, ◌++◌, ◌+◌, suc, [], length, take, replicate, ap, sym, subst, ◌∙◌, arith}
 use Rattle.std.proofs.lemmas.List.{length-map, length-replicate, replicate-append-replicate}
 use Rattle.ir_store.specs.Designs.{design_of, modules_of, module_of, numbered_module, port_of}
 use Rattle.port_checks.specs.Graphs.{lists_of}
 use Rattle.port_checks.specs.ResetPorts.{port_count}
-use Rattle.port_checks.specs.Numbers.{AreStarts}
 use Rattle.port_checks.proofs.Numbering.{HaveStarts, no_starts, more_starts, all_starts, count_next}
-use Rattle.port_checks.proofs.Pairs.{length-joined}
-use Rattle.port_checks.proofs.Walks.{numbered_at, modules_past}
+use Rattle.port_checks.proofs.Marks.{length-lists}
+use Rattle.port_checks.proofs.Walks.{numbered_at}
 use Rattle.port_checks.proofs.numbers.port_row.Goals as goal
 
 pub loop-number-init : goal.loop-number-init
@@ -23,12 +22,12 @@ loop-number-preserved c =
     let joined = c.loop-number.joined.items in
     let next : suc n ≡ n + 1 = omega arith in
     let size : length joined ≡ port_count (take n d) =
-        sym (length-joined joined) ∙ ap length c.loop-number.invariant.joined ∙ length-replicate (port_count (take n d)) [] in
+    sym (length-lists joined) ∙ ap length c.loop-number.invariant.joined ∙ length-replicate (port_count (take n d)) [] in
     let start : c.len.result ≡ port_count (take n d) = omega (arith, c.len.ensures, c.loop-number.joined.ok.0, size) in
     let count : port_count (take (n + 1) d) ≡ port_count (take n d) + length m.ports =
-        ap (λ k. port_count (take k d)) (sym next) ∙ count_next d n m (numbered_at (modules_of c.args.design.now) n (module_of c.module.result.now) c.module.ensures) in
+    ap (λ k. port_count (take k d)) (sym next) ∙ count_next d n m (numbered_at (modules_of c.args.design.now) n (module_of c.module.result.now) c.module.ensures) in
     let more : c.len-in-loop-number.result ≡ length m.ports =
-        omega (arith, c.len-in-loop-number.ensures, c.module.result.now.ports.ports.ok.0, length-map c.module.result.now.ports.ports.items port_of) in
+    omega (arith, c.len-in-loop-number.ensures, c.module.result.now.ports.ports.ok.0, length-map c.module.result.now.ports.ports.items port_of) in
     record {
       starts =
           subst (λ k. HaveStarts d k c.push.new.self.items) next
@@ -47,10 +46,10 @@ returns-clause-starts c =
     let n = c.loop-number.number in
     let joined = c.loop-number.joined.items in
     let size : length joined ≡ port_count (take n d) =
-        sym (length-joined joined) ∙ ap length c.loop-number.invariant.joined ∙ length-replicate (port_count (take n d)) [] in
+    sym (length-lists joined) ∙ ap length c.loop-number.invariant.joined ∙ length-replicate (port_count (take n d)) [] in
     let start : c.len-2.result ≡ port_count (take n d) = omega (arith, c.len-2.ensures, c.loop-number.joined.ok.0, size) in
     let all : n ≡ length d =
-        omega (arith, c.loop-number-test.false, c.loop-number.auto.number-end, c.module_count-number-end.ensures, length-map (modules_of c.args.design.now) numbered_module) in
+    omega (arith, c.loop-number-test.false, c.loop-number.auto.number-end, c.module_count-number-end.ensures, length-map (modules_of c.args.design.now) numbered_module) in
     all_starts d c.push-2.new.self.items
     (subst (λ k. HaveStarts d (suc k) c.push-2.new.self.items) all
     (subst (HaveStarts d (suc n)) (sym c.in_ok-push-2.ensures.items) (more_starts d n c.loop-number.starts.items c.len-2.result c.loop-number.invariant.starts start)))

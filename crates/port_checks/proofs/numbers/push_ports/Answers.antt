@@ -1,4 +1,4 @@
-use Rattle.std.proofs.Common.{◌++◌, ◌∷◌, [], replicate, ap, sym, ◌∙◌, append_assoc}
+use Rattle.std.proofs.Common.{◌++◌, ◌∷◌, [], replicate, ap, ◌∙◌, append_assoc}
 use Rattle.std.proofs.lemmas.List.{map_push, replicate_more}
 use Rattle.port_checks.specs.declared.graph.JoinedPorts.{JoinedPorts}
 use Rattle.port_checks.specs.Graphs.{lists_of}
