@@ -3,7 +3,7 @@ ghost use Rattle.std.specs.Prelude.{◌≡◌, ◌++◌, [], None, OnOk, codes, 
 ghost use Rattle.verilog_model.specs.Tree.Item.{always};
 ghost use Rattle.export_verilog.specs.Layout.{load_text, if_text, block_text, item_text};
 ghost use Rattle.export_verilog.specs.Written.{verbatim, written_load, written_block, written_async, events_text, otherwise_text};
-ghost use Rattle.export_verilog.specs.WrittenViews.{reset_of, block_held};
+ghost use Rattle.export_verilog.specs.WrittenViews.{block_held};
 
 use io_edge::byte_text::Text;
 use std::alloc::AllocError;
@@ -140,21 +140,22 @@ fn push_events(out: &mut Text, clock: &[u8], signal: &[u8]) -> Result<(), AllocE
 /// Adds the block of a register with a clock and an asynchronous reset, whose signal is a name and whose value a literal
 /// (IEEE 1364-2005, 9.7.3: event `or`).
 #[tactic(auto, unfolding(crate::specs::Layout::item_text))]
-pub fn push_async(
+pub fn push_async<'t>(
     out: &mut Text,
     clock: &[u8],
-    target: &[u8],
-    next: &[u8],
-    reset: &Reset<'_>,
+    target: &'t [u8],
+    next: &'t [u8],
+    signal: &'t [u8],
+    value: &'t [u8],
 ) -> Result<(), AllocError>
-    ensures { OnOk result (out.new ≡ out.old ++ item_text (always clock.now (written_async target.now next.now (reset_of reset.now))) []) }
+    ensures { OnOk result (out.new ≡ out.old ++ item_text (always clock.now (written_async target.now next.now (record { signal = signal.now; value = value.now }))) []) }
 {
-    push_events(out, clock, reset.signal)?;
+    push_events(out, clock, signal)?;
     let block = Clocked {
         target,
         next,
         enable: None,
-        reset: Some(*reset),
+        reset: Some(Reset { signal, value }),
     };
     push_block(out, &block)?;
     Ok(())

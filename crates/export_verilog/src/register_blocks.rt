@@ -235,11 +235,14 @@ fn push_reset_parts(
     let signal = name_text(writer, by.signal);
     let next = used_text(writer, register.next)?;
     let value = literal_text(writer, by.value)?;
-    let reset = Reset {
+    push_async(
+        out,
+        clock,
+        target,
+        next.as_bytes(),
         signal,
-        value: value.as_bytes(),
-    };
-    push_async(out, clock, target, next.as_bytes(), &reset)?;
+        value.as_bytes(),
+    )?;
     Ok(())
 }
 

@@ -1,5 +1,5 @@
 -- The expressions of the values of a body: a value that has a name is written by it, any other one by its operation.
-use Rattle.std.specs.Prelude.{◌≡◌, ℕ, zero, suc, List, [], ◌∷◌, map, Option, Some, None, slice_get}
+use Rattle.std.specs.Prelude.{◌≡◌, ℕ, zero, suc, false, List, [], ◌∷◌, map, Option, Some, None, slice_get}
 use Rattle.bits_core.specs.Word.{number, bits_of_ℤ}
 use Rattle.hw_model.specs.Types.{Name, HwType, width}
 use Rattle.hw_model.specs.Kinds.{Kind}

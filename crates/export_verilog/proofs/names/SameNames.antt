@@ -4,7 +4,7 @@ use Rattle.hw_model.specs.Types.{Name, HwType, width}
 use Rattle.hw_model.specs.Design.{Ref, Port, Op, result_type}
 use Rattle.hw_model.specs.Design.Ref.{port, result, undefined}
 use Rattle.verilog_model.specs.Tree.{Expr}
-use Rattle.verilog_expr.specs.Building.{built}
+use Rattle.verilog_expr.specs.Building.{kind_expr}
 use Rattle.verilog_expr.specs.Expressions.{value_width, divisor_in, name_or, typed_expr, result_expr, own_expr, expr_to}
 
 map_all : (f g : Ref → Expr) → ((r : Ref) → f r ≡ g r) → (rs : List Ref) → map f rs ≡ map g rs
@@ -14,7 +14,7 @@ map_all f g same (r ∷ rs) = ap₂ (λ x xs. x ∷ xs) (same r) (map_all f g sa
 module _ (named other : Ref → Option Name) (ports : List Port) (os : List Op) where
   typed_same : (f g : Ref → Expr) → ((r : Ref) → f r ≡ g r) → (o : Op) (t : Option HwType) → typed_expr named ports os f o t ≡ typed_expr other ports os g o t
   typed_same f g same o None = refl
-  typed_same f g same o (Some t) = ap (λ es. built o.kind (width t) (map (value_width ports os) o.operands) (divisor_in os (width t) o.operands) es) (map_all f g same o.operands)
+  typed_same f g same o (Some t) = ap (λ es. kind_expr o.kind (width t) (map (value_width ports os) o.operands) (divisor_in os (width t) o.operands) es) (map_all f g same o.operands)
 
   result_same : (f g : Ref → Expr) → ((r : Ref) → f r ≡ g r) → (k : ℕ) (o : Option Op) → result_expr named ports os f k o ≡ result_expr other ports os g k o
   result_same f g same k None = refl

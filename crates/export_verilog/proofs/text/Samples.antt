@@ -101,5 +101,5 @@ two_lines =
     (codes "endmodule" ∷ []) ∷ []
 
 two_registers_text : verilog_text two_registers ≡ lines register_lines (lines two_lines [])
-unfolding verilog_text tree_text further_text module_text items_text item_text connections_text connection_lines connection_text block_text if_text load_text ports_text port_lines port_text range_text names symbol_names clean free_name reserved_words expr_to spilled height hex expr_text exprs_text
+unfolding verilog_text tree_text further_text module_text items_text item_text connections_text connection_lines connection_text event_text block_text if_text load_text ports_text port_lines port_text range_text names symbol_names clean free_name reserved_words expr_to spilled height hex expr_text exprs_text
 two_registers_text = refl
