@@ -142,13 +142,19 @@ fn operation_of(alloc: Global, line: u32, row: &Operation) -> Result<NewOp, Allo
         }
         Operation::And(a, b) => on_bits(alloc, line, OpKind::And, &[a, b], false),
         Operation::Wire(a) => on_bits(alloc, line, OpKind::Wire, &[a], false),
-        Operation::Register { reset, value, again } => {
+        Operation::Register {
+            reset,
+            value,
+            again,
+        } => {
             let operands = [DATA, CLOCK, reset, value];
             on_bits(alloc, line, OpKind::AsyncFirReg, &operands, again)
         }
-        Operation::Instance { symbol, data, reset } => {
-            instance(alloc, line, symbol, data, reset)
-        }
+        Operation::Instance {
+            symbol,
+            data,
+            reset,
+        } => instance(alloc, line, symbol, data, reset),
         Operation::Output => output(alloc, line),
     }
 }
@@ -157,11 +163,7 @@ fn operation_of(alloc: Global, line: u32, row: &Operation) -> Result<NewOp, Allo
 fn ports(alloc: Global) -> Result<PortList, AllocError> {
     let mut ports = Vec::new(alloc);
     for name in [b"c", b"d", b"r", b"q"] {
-        let ty = if name == b"c" {
-            Ty::Clock
-        } else {
-            Ty::Int(1)
-        };
+        let ty = if name == b"c" { Ty::Clock } else { Ty::Int(1) };
         ports.push(Port {
             name: Text::of(alloc, name)?,
             out: name == b"q",

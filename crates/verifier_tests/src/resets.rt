@@ -13,12 +13,15 @@ struct Case {
 }
 
 const CONSTANT: Operation = Operation::Constant;
+
 const AND: Operation = Operation::And(DATA, RESET);
+
 const REGISTER: Operation = Operation::Register {
     reset: RESET,
     value: Operand::Result(0),
     again: false,
 };
+
 const OUTPUT: Operation = Operation::Output;
 
 /// A module whose port `r` resets a register.
