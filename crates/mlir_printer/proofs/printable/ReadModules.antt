@@ -20,11 +20,11 @@ use Rattle.mlir_syntax.specs.TypeText.{most_open}
 use Rattle.mlir_operations.specs.OperandText.{ResultNames, named_count}
 use Rattle.mlir_operations.specs.OperandText.ResultNames.{no_names, names, pack}
 use Rattle.mlir_operations.specs.ElementText.{InherentAttributes, Gathered, gathered_nothing}
-use Rattle.mlir_operations.specs.ElementText.InherentAttributes.{child}
+use Rattle.mlir_operations.specs.ElementText.InherentAttributes.{with_async_reset, child}
 use Rattle.assembly_format.specs.Formats.{front_elements, type_elements}
 use Rattle.mlir_operations.specs.OperationText.{OperationText, string_keys}
 use Rattle.mlir_operations.specs.ModuleText.{PortText, ModuleText, module_keys}
-use Rattle.mlir_reader.specs.Resolving.{Meanings, inherent_instance, inherent_kind, kind_named, with_definitions, operation_definitions, operation_at, operations_from, port_definition, ports_from, no_meaning, port_meanings, meanings, ends_with_output, has_outputs, left_out_output, with_output, module_of, design_of}
+use Rattle.mlir_reader.specs.Resolving.{Meanings, inherent_instance, firreg_kind, inherent_kind, kind_named, with_definitions, operation_definitions, operation_at, operations_from, port_definition, ports_from, no_meaning, port_meanings, meanings, ends_with_output, has_outputs, left_out_output, with_output, module_of, design_of}
 use Rattle.mlir_syntax.specs.Spelling.{Phrase, Either, Holding, Where, Nothing, Commas, Between}
 use Rattle.mlir_operations.specs.Spelling.{Stands, IsPlaceOf, ValueName, OutputPhrase, FormatElementPhrase, ElementsPhrase, FormPhrase, ResultsPhrase, OperationPhrase, OperationsPhrase, PortPhrase, OlderInputPhrase, OlderOutputPhrase, OlderOutputsPhrase, PortsPhrase, AttributesPhrase, ModulePhrase, ModulesPhrase, FilePhrase}
 use Rattle.mlir_reader.specs.Spelling.{Spells}
@@ -111,9 +111,14 @@ instance_outputs : (e : InherentAttributes) → length (inherent_instance e).out
 instance_outputs (child i) = omega arith
 instance_outputs _ = omega arith
 
+firreg_outputs : (e : InherentAttributes) → outputs_of (firreg_kind e) ≡ 0
+firreg_outputs with_async_reset = refl
+firreg_outputs _ = refl
+
 kind_outputs : (o : Listed) (e : InherentAttributes) (ts : List HwType) → outputs_of (kind_named o e ts) ≤ outputs_said e
 unfolding inherent_kind
 kind_outputs listed.HwInstance e ts = instance_outputs e
+kind_outputs listed.SeqFirreg e ts = omega (arith, firreg_outputs e)
 kind_outputs _ e ts = omega arith
 
 name_hints_few : (k : Kind) (ts : List HwType) (own : Name) (n m : ℕ) → 1 ≤ m → outputs_of k ≤ m → length (name_hints_of k ts own n) ≤ m

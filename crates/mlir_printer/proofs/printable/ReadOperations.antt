@@ -24,12 +24,12 @@ use Rattle.mlir_syntax.specs.AttributeText.{is_among}
 use Rattle.mlir_operations.specs.OperandText.{ResultNames}
 use Rattle.mlir_operations.specs.OperandText.ResultNames.{no_names, names, pack}
 use Rattle.mlir_operations.specs.ElementText.{InherentAttributes, Gathered, gathered_nothing}
-use Rattle.mlir_operations.specs.ElementText.InherentAttributes.{position, number, literals, field_name, child}
+use Rattle.mlir_operations.specs.ElementText.InherentAttributes.{with_async_reset, position, number, literals, field_name, child}
 use Rattle.assembly_format.specs.Formats.{front_elements, type_elements}
 use Rattle.assembly_format.specs.declared.elements.Format.{Format}
 use Rattle.mlir_operations.specs.OperationText.{OperationText, takes_bin, string_keys, given_entries}
 use Rattle.mlir_reader.specs.Resolving as read
-use Rattle.mlir_reader.specs.Resolving.{Meanings, resolve_operand, has_negative, kept_number, kept_integer, kept_by_first, kept_literal, kept_literals, inherent_position, inherent_number, inherent_literals, inherent_field, inherent_instance, inherent_kind, kind_named, sort_entries, without, is_dropped, has_name, is_name_entry, kept_entries, text_in, given_name, unless_digits, name_or, own_name_of, marks, marked_results, operation_definitions, operation_at}
+use Rattle.mlir_reader.specs.Resolving.{Meanings, resolve_operand, has_negative, kept_number, kept_integer, kept_by_first, kept_literal, kept_literals, inherent_position, inherent_number, inherent_literals, inherent_field, inherent_instance, firreg_kind, inherent_kind, kind_named, sort_entries, without, is_dropped, has_name, is_name_entry, kept_entries, text_in, given_name, unless_digits, name_or, own_name_of, marks, marked_results, operation_definitions, operation_at}
 use Rattle.mlir_operations.specs.Spelling.{Stands, IsOneOf, FormPhrase, BinPhrase, ResultsPhrase, StandsInBody, OperationPhrase}
 use Rattle.mlir_syntax.specs.Spelling.{AreOnce, DictionaryPhrase, EntryPhrase, MaybeDictionary}
 use Rattle.mlir_printer.specs.Spellable.{Each, AreBytes, IsInteger, IsAnyType, IsLiteral, AreLiterals, IsValue, IsEntry}
@@ -195,15 +195,30 @@ mutual
 
 -- ---- kinds
 
+-- a `seq.firreg`, whatever resets it
+firreg_listed : (e : InherentAttributes) → opcode_of (firreg_kind e) ≡ listed.SeqFirreg
+firreg_listed with_async_reset = refl
+firreg_listed _ = refl
+
+firreg_kept : (e : InherentAttributes) (ts : List HwType) → KeepsConstants (firreg_kind e) ts
+firreg_kept with_async_reset ts = tt
+firreg_kept _ ts = tt
+
+firreg_written : (e : InherentAttributes) → IsWritten (firreg_kind e)
+firreg_written with_async_reset = tt
+firreg_written _ = tt
+
 listed_again : (o : Listed) (e : InherentAttributes) (ts : List HwType) → StandsInBody o → opcode_of (kind_named o e ts) ≡ o
 unfolding inherent_kind
 listed_again listed.HwModule e ts h = absurd h
+listed_again listed.SeqFirreg e ts h = firreg_listed e
 listed_again _ e ts h = refl
 
 constants_kept : (o : Listed) (e : InherentAttributes) (ts : List HwType) → KeepsConstants (kind_named o e ts) ts
 unfolding inherent_kind
 constants_kept listed.HwConstant e ts = by_first_kept ts (inherent_number e)
 constants_kept listed.HwAggregateConstant e ts = literals_kept (inherent_literals e)
+constants_kept listed.SeqFirreg e ts = firreg_kept e ts
 constants_kept _ e ts = tt
 
 position_written : (e : InherentAttributes) → IsReadInherentAttributes e → inherent_position e < count_limit
@@ -234,6 +249,7 @@ kind_written listed.HwAggregateConstant e ts h = literals_small (inherent_litera
 kind_written listed.HwStructExtract e ts h = field_written e h
 kind_written listed.HwStructInject e ts h = field_written e h
 kind_written listed.HwInstance e ts h = instance_written e h
+kind_written listed.SeqFirreg e ts h = firreg_written e
 kind_written _ e ts h = tt
 
 -- ---- own names
