@@ -164,9 +164,8 @@ fn push_with_operands(
 fn push_reset(out: &mut Text, names: &ValueNames, pending: &Pending<'_>) -> Result<(), AllocError>
     ensures { OnOk result (out.new ≡ out.old ++ reset_said (inherent_of pending.now.inherent_view) (map (value_held names.now) pending.now.operands.now)) }
 {
-    match pending.inherent_view {
-        InherentView::WithReset => push_with_operands(out, names, b" reset ", pending.operands)?,
-        _ => {}
+    if let InherentView::WithReset = pending.inherent_view {
+        push_with_operands(out, names, b" reset ", pending.operands)?;
     }
     Ok(())
 }
