@@ -1,5 +1,5 @@
 //! The pieces of an operation, as they are printed.
-ghost use Rattle.std.specs.Prelude.{◌≡◌, ◌++◌, map, IfOk, OnOk};
+ghost use Rattle.std.specs.Prelude.{◌≡◌, ◌++◌, map, drop, IfOk, OnOk};
 ghost use Rattle.hw_model.specs.TypeViews.{type_of};
 ghost use Rattle.hw_model.specs.KindViews.{predicate_of};
 ghost use Rattle.mlir_printer.specs.Commas.{commas};
@@ -142,6 +142,13 @@ fn push_operands(out: &mut Text, names: &ValueNames, operands: &[Value]) -> Resu
         push_operand(out, names, *value)?;
     }
     Ok(())
+}
+
+/// The items after so many.
+pub(crate) fn rest_of<T>(items: &[T], count: usize) -> &[T]
+    ensures { result.now ≡ drop count items.now }
+{
+    &items[count.min(items.len())..]
 }
 
 // Adds words and two operands.

@@ -7,7 +7,7 @@ ghost use Rattle.mlir_printer.specs.Elements.{input_bytes, output_bytes, inputs_
 ghost use Rattle.mlir_printer.specs.Views.{value_held};
 
 use crate::commas::push_comma;
-use crate::elements::push_operand;
+use crate::elements::{push_operand, rest_of};
 use crate::strings::{push_name, push_string, push_symbol};
 use crate::types::push_type;
 use crate::value_names::ValueNames;
@@ -16,13 +16,6 @@ use hw_model::types::Ty;
 use io_edge::byte_text::Text;
 use ir_store::operation::Value;
 use std::alloc::AllocError;
-
-// The items after so many.
-fn rest_of<T>(items: &[T], count: usize) -> &[T]
-    ensures { result.now ≡ drop count items.now }
-{
-    &items[count.min(items.len())..]
-}
 
 // Adds `p: %v: T`.
 #[tactic(auto, unfolding(crate::specs::Elements::input_bytes))]
