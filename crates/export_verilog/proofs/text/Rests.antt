@@ -19,6 +19,11 @@ pub four_parts : (out one two thr end a b c d : Text) → one ≡ out ++ a → t
 four_parts out one two thr end a b c d p q r s =
     three_parts one two thr end b c d q r s ∙ ap (λ x. x ++ (b ++ (c ++ d))) p ∙ append_assoc out a (b ++ (c ++ d))
 
+pub five_parts : (out one two thr fou end a b c d e : Text) → one ≡ out ++ a → two ≡ one ++ b → thr ≡ two ++ c → fou ≡ thr ++ d → end ≡ fou ++ e
+    → end ≡ out ++ (a ++ (b ++ (c ++ (d ++ e))))
+five_parts out one two thr fou end a b c d e p q r s t =
+    four_parts one two thr fou end b c d e q r s t ∙ ap (λ x. x ++ (b ++ (c ++ (d ++ e)))) p ∙ append_assoc out a (b ++ (c ++ (d ++ e)))
+
 -- ---- expressions
 
 -- three and five parts before a rest
