@@ -72,8 +72,7 @@ const DIVISION: &str = "hw.module @T(in %a : i8, in %b : i8, out o : i8) {
 }
 ";
 
-const SYNC_RESET: &str =
-    "hw.module @T(in %clk : !seq.clock, in %rst : i1, in %d : i8, out q : i8) {
+const SYNC_RESET: &str = "hw.module @T(in %clk : !seq.clock, in %rst : i1, in %d : i8, out q : i8) {
   %z = hw.constant 9 : i8
   %r = seq.firreg %d clock %clk reset sync %rst, %z : i8
   hw.output %r : i8

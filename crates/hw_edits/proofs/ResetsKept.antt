@@ -125,7 +125,7 @@ module _ (d e : Design) (marked : Module → ℕ → Bool) (each : (s : Name) �
     came_from : (o : Op) → In o m.body → is_anchor o ≡ true → (x : Op) × In x old.body × (o ≡ retarget stand x)
     came_from o within anchor =
         let all : anchors m.body ≡ map (retarget stand) (anchors old.body) =
-            ap (λ z. anchors (body_of z)) (sym is) ∙ (each s).edit.anchors_are ∙ ap (λ z. map (retarget stand) (anchors (body_of z))) was.1 in
+        ap (λ z. anchors (body_of z)) (sym is) ∙ (each s).edit.anchors_are ∙ ap (λ z. map (retarget stand) (anchors (body_of z))) was.1 in
         let from = from_In-map (retarget stand) o (anchors old.body) (subst (In o) all (anchor_within o m.body anchor within)) in
         (from.0, In-anchors from.0 old.body from.1, from.2)
 
@@ -161,9 +161,9 @@ module _ (d e : Design) (marked : Module → ℕ → Bool) (each : (s : Name) �
         let from = came_from o within (async_anchor o r async) in
         let reset = retarget_reset stand from.0 r (ap async_reset_in (sym from.2) ∙ async) in
         let old_value : IsConstantOf (body_of (find_module d s)) reset.0.value =
-            subst (λ z. IsConstantOf (body_of z) reset.0.value) (sym was.1) (resets.values s old from.0 reset.0 was.1 from.1 reset.1) in
+        subst (λ z. IsConstantOf (body_of z) reset.0.value) (sym was.1) (resets.values s old from.0 reset.0 was.1 from.1 reset.1) in
         let new_value : IsConstantOf (body_of (find_module e s)) (stand reset.0.value) =
-            keeps s from.0 reset.0 (subst (λ z. In from.0 (body_of z)) (sym was.1) from.1) reset.1 old_value in
+        keeps s from.0 reset.0 (subst (λ z. In from.0 (body_of z)) (sym was.1) from.1) reset.1 old_value in
         subst (IsConstantOf m.body) (sym reset.3) (subst (λ z. IsConstantOf (body_of z) (stand reset.0.value)) is new_value)
 
   joined_after : (s : Name) (m : Module) (is : find_module e s ≡ Some m) (o : Op) (c : Module) (r : Ref) → In o m.body → callee e o ≡ Some c

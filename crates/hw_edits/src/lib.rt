@@ -11,7 +11,7 @@
 mod laws;
 
 pub use laws::{
-    edits_are_lighter, edits_keep_resets, edits_preserve, erase_dead_op_preserves, erase_op_preserves,
-    following_composes, insert_op_preserves, remove_module_preserves, replace_op_preserves,
-    replace_register_preserves,
+    edits_are_lighter, edits_keep_resets, edits_preserve, erase_dead_op_preserves,
+    erase_op_preserves, following_composes, insert_op_preserves, remove_module_preserves,
+    replace_op_preserves, replace_register_preserves,
 };

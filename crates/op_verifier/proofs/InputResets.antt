@@ -197,9 +197,12 @@ module _ (d : Design) (no_fault : first_fault d ≡ None) (s : Name) (m : Module
       (slice_get_within c.ports given.number given.port_of given.there) given.has_mark join.joins) in
       let bit = (reset_some d (port_count d) c given.number given.has_mark).1 in
       let typed : i.port_of.type ≡ int 1 =
-      some_from (sym (input_typed m.ports m.body join.value i) ∙ join.typed) ∙ ap (λ (q : Port). q.type) (some_from (sym given.there ∙ bit.there)) ∙ bit.is_bit in
-      (join.value, join.joins, marked_input join.value i typed
-      (λ bit. IsResetPort.joined m i.number o c given.number bit within called u.no_cause.called (is_sound d c given.number given.has_mark) (join.joins ∙ ap Some i.is_port)))
+      some_from (sym (input_typed m.ports m.body join.value i) ∙ join.typed) ∙ ap (λ (q : Port). q.type) (some_from (sym given.there ∙ bit.there)) ∙ bit.is_bit in (
+        join.value,
+        join.joins,
+        marked_input join.value i typed
+            (λ bit. IsResetPort.joined m i.number o c given.number bit within called u.no_cause.called (is_sound d c given.number given.has_mark) (join.joins ∙ ap Some i.is_port)),
+      )
 
 pub resets_from_ports : (d : Design) → first_fault d ≡ None → ResetsFromPorts d (is_reset_port d)
 resets_from_ports d no_fault = record {

@@ -116,13 +116,7 @@ impl<'b> BodyView<'b> {
     }
 
     /// Whether a port is a reset port to which another value than an input port is joined, so many inputs being before it.
-    fn joins_other_at(
-        &self,
-        is_reset: bool,
-        port: &Port,
-        operands: &[Value],
-        inputs: usize,
-    ) -> bool
+    fn joins_other_at(&self, is_reset: bool, port: &Port, operands: &[Value], inputs: usize) -> bool
         ensures { result ≡ (is_reset && is_no_input (ports_viewed self.now) (operand_for (Some (port_of port.now)) (map (ref_viewed self.now) operands.now) inputs)) }
     {
         is_reset && self.is_other(port, operands, inputs)

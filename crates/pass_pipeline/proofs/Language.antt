@@ -113,19 +113,34 @@ module _ (offered : List Pass) where
           → After ss out (cond b (Ok (record { pass = Some p; next = expected.Separator a })) (Err (WrongPlace at))) → Rest (expected.Item a) (s ∷ ss) out
       by_pass a p named false other never = absurd never
       by_pass BuiltinModule p named true runs (rest, told, (is, same, out_is, stand)) = (
-        on_design p, is, ap (λ x. x ∷ ss) (found_name offered s p named) ∙ ap (λ z. pass_name p ∷ z) same, told ∙ ap (λ z. p ∷ z) out_is,
-        ap (pass_named offered) (sym (found_name offered s p named)) ∙ named, stand,
+        on_design p,
+        is,
+        ap (λ x. x ∷ ss) (found_name offered s p named) ∙ ap (λ z. pass_name p ∷ z) same,
+        told ∙ ap (λ z. p ∷ z) out_is,
+        ap (pass_named offered) (sym (found_name offered s p named)) ∙ named,
+        stand,
       )
       by_pass HwModule p named true runs (rest, told, (ps, is, same, out_is, run, stand)) = (
-        p, ps, is, ap (λ x. x ∷ ss) (found_name offered s p named) ∙ ap (λ z. pass_name p ∷ z) same, told ∙ ap (λ z. p ∷ z) out_is,
-        (ap (pass_named offered) (sym (found_name offered s p named)) ∙ named, runs), run, stand,
+        p,
+        ps,
+        is,
+        ap (λ x. x ∷ ss) (found_name offered s p named) ∙ ap (λ z. pass_name p ∷ z) same,
+        told ∙ ap (λ z. p ∷ z) out_is,
+        (ap (pass_named offered) (sym (found_name offered s p named)) ∙ named, runs),
+        run,
+        stand,
       )
 
       by_anchor : (b : Bool) → same_bytes s (codes "hw.module") ≡ b → After ss out (cond b (mark (expected.Opening HwModule)) (Err (UnknownPass at)))
           → Rest (expected.Item BuiltinModule) (s ∷ ss) out
       by_anchor false other never = absurd never
       by_anchor true same (rest, told, (ps, is, spelled, out_is, run, stand)) = (
-        on_modules ps, is, ap (λ x. x ∷ ss) (same_text s (codes "hw.module") (sym same)) ∙ ap (λ z. codes "hw.module" ∷ z) spelled, told ∙ out_is, run, stand,
+        on_modules ps,
+        is,
+        ap (λ x. x ∷ ss) (same_text s (codes "hw.module") (sym same)) ∙ ap (λ z. codes "hw.module" ∷ z) spelled,
+        told ∙ out_is,
+        run,
+        stand,
       )
 
       by_found : (a : Anchor) (x : Option Pass) → pass_named offered s ≡ x → After ss out (named_item a at s x) → Rest (expected.Item a) (s ∷ ss) out
@@ -141,10 +156,18 @@ module _ (offered : List Pass) where
   closed_forth : (a : Anchor) (s : List ℕ) (ss : Symbols) (out : List Pass) → s ≡ codes ")" → After ss out (Ok (closed a)) → Rest (expected.Separator a) (s ∷ ss) out
   unfolding closed
   closed_forth BuiltinModule s ss out same (rest, told, (none, nothing)) = (
-    [], ap (λ x. x ∷ ss) same ∙ ap (λ z. codes ")" ∷ z) none, told ∙ nothing, tt,
+    [],
+    ap (λ x. x ∷ ss) same ∙ ap (λ z. codes ")" ∷ z) none,
+    told ∙ nothing,
+    tt,
   )
   closed_forth HwModule s ss out same (rest, told, (is, spelled, out_is, stand)) = (
-    [], is, ap (λ x. x ∷ ss) same ∙ ap (λ z. codes ")" ∷ z) spelled, told ∙ out_is, tt, stand,
+    [],
+    is,
+    ap (λ x. x ∷ ss) same ∙ ap (λ z. codes ")" ∷ z) spelled,
+    told ∙ out_is,
+    tt,
+    stand,
   )
 
   separator_forth : (a : Anchor) (at : ℕ) (s : List ℕ) (ss : Symbols) (out : List Pass) → After ss out (separator a at s) → Rest (expected.Separator a) (s ∷ ss) out
@@ -153,10 +176,18 @@ module _ (offered : List Pass) where
     where
       comma : (a : Anchor) → s ≡ codes "," → After ss out (mark (expected.Item a)) → Rest (expected.Separator a) (s ∷ ss) out
       comma BuiltinModule same (rest, told, (i, is, spelled, out_is, stands, stand)) = (
-        i ∷ is, ap (λ x. x ∷ ss) same ∙ ap (λ z. codes "," ∷ z) spelled, told ∙ out_is, (stands, stand),
+        i ∷ is,
+        ap (λ x. x ∷ ss) same ∙ ap (λ z. codes "," ∷ z) spelled,
+        told ∙ out_is,
+        (stands, stand),
       )
       comma HwModule same (rest, told, (p, ps, is, spelled, out_is, one, run, stand)) = (
-        p ∷ ps, is, ap (λ x. x ∷ ss) same ∙ ap (λ z. codes "," ∷ z) spelled, told ∙ out_is, (one, run), stand,
+        p ∷ ps,
+        is,
+        ap (λ x. x ∷ ss) same ∙ ap (λ z. codes "," ∷ z) spelled,
+        told ∙ out_is,
+        (one, run),
+        stand,
       )
 
       by_end : (b : Bool) → same_bytes s (codes ")") ≡ b → After ss out (cond b (Ok (closed a)) (Err (BadText at))) → Rest (expected.Separator a) (s ∷ ss) out
@@ -174,10 +205,18 @@ module _ (offered : List Pass) where
     where
       ending : (a : Anchor) → s ≡ codes ")" → After ss out (Ok (closed a)) → Rest (expected.FirstItem a) (s ∷ ss) out
       ending BuiltinModule same (rest, told, (none, nothing)) = (
-        [], ap (λ x. x ∷ ss) same ∙ ap (λ z. codes ")" ∷ z) none, told ∙ nothing, tt,
+        [],
+        ap (λ x. x ∷ ss) same ∙ ap (λ z. codes ")" ∷ z) none,
+        told ∙ nothing,
+        tt,
       )
       ending HwModule same (rest, told, (is, spelled, out_is, stand)) = (
-        [], is, ap (λ x. x ∷ ss) same ∙ ap (λ z. codes ")" ∷ z) spelled, told ∙ out_is, tt, stand,
+        [],
+        is,
+        ap (λ x. x ∷ ss) same ∙ ap (λ z. codes ")" ∷ z) spelled,
+        told ∙ out_is,
+        tt,
+        stand,
       )
 
       items : (a : Anchor) → Rest (expected.Item a) (s ∷ ss) out → Rest (expected.FirstItem a) (s ∷ ss) out
@@ -195,10 +234,18 @@ module _ (offered : List Pass) where
       go : (a : Anchor) (b : Bool) → same_bytes s (codes "(") ≡ b → After ss out (cond b (mark (expected.FirstItem a)) (Err (BadText at))) → Rest (expected.Opening a) (s ∷ ss) out
       go a false other never = absurd never
       go BuiltinModule true same (rest, told, (is, spelled, out_is, stand)) = (
-        is, ap (λ x. x ∷ ss) (same_text s (codes "(") (sym same)) ∙ ap (λ z. codes "(" ∷ z) spelled, told ∙ out_is, stand,
+        is,
+        ap (λ x. x ∷ ss) (same_text s (codes "(") (sym same)) ∙ ap (λ z. codes "(" ∷ z) spelled,
+        told ∙ out_is,
+        stand,
       )
       go HwModule true same (rest, told, (ps, is, spelled, out_is, run, stand)) = (
-        ps, is, ap (λ x. x ∷ ss) (same_text s (codes "(") (sym same)) ∙ ap (λ z. codes "(" ∷ z) spelled, told ∙ out_is, run, stand,
+        ps,
+        is,
+        ap (λ x. x ∷ ss) (same_text s (codes "(") (sym same)) ∙ ap (λ z. codes "(" ∷ z) spelled,
+        told ∙ out_is,
+        run,
+        stand,
       )
 
   root_forth : (at : ℕ) (s : List ℕ) (ss : Symbols) (out : List Pass) → After ss out (root offered at s) → Rest expected.Root (s ∷ ss) out
@@ -218,7 +265,10 @@ module _ (offered : List Pass) where
           → Rest expected.Root (s ∷ ss) out
       go false other g = absurd (no_name (is_name s) g)
       go true same (rest, told, (is, spelled, out_is, stand)) = (
-        is, ap (λ x. x ∷ ss) (same_text s (codes "builtin.module") (sym same)) ∙ ap (λ z. codes "builtin.module" ∷ z) spelled, told ∙ out_is, stand,
+        is,
+        ap (λ x. x ∷ ss) (same_text s (codes "builtin.module") (sym same)) ∙ ap (λ z. codes "builtin.module" ∷ z) spelled,
+        told ∙ out_is,
+        stand,
       )
 
   step_forth : (e : Expected) (at : ℕ) (s : List ℕ) (ss : Symbols) (out : List Pass) → After ss out (step_over offered e at s) → Rest e (s ∷ ss) out
@@ -286,7 +336,7 @@ module _ (offered : List Pass) where
       (head_is s (codes ")") ss (more_items is) spelled, (out, refl, (is, rest_is s (codes ")") ss (more_items is) spelled, out_is, stand)))
   closed_back HwModule s ss out (p ∷ ps, is, spelled, out_is, run, stand) other =
       let clash : true ≡ false =
-          ap (λ z. same_bytes z (codes ",")) (sym (head_is s (codes ",") ss (pass_name p ∷ more_passes ps ++ codes ")" ∷ more_items is) spelled)) ∙ other in cc
+      ap (λ z. same_bytes z (codes ",")) (sym (head_is s (codes ",") ss (pass_name p ∷ more_passes ps ++ codes ")" ∷ more_items is) spelled)) ∙ other in cc
 
   comma_back : (a : Anchor) (s : List ℕ) (ss : Symbols) (out : List Pass) → Rest (expected.Separator a) (s ∷ ss) out → same_bytes s (codes ",") ≡ true
       → Rest (expected.Item a) ss out
