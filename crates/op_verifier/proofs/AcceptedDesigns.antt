@@ -30,7 +30,7 @@ use Rattle.op_verifier.proofs.NoOwnCause.{no_cause_alone}
 use Rattle.op_verifier.proofs.Placeless.{calls_placeless, weight_placeless, needs_placeless}
 use Rattle.op_verifier.proofs.PlacelessFaults.{fault_placeless}
 use Rattle.op_verifier.proofs.Unrefused.{no_op_cause, ops_unrefused, module_unrefused}
-use Rattle.op_verifier.proofs.WholeDesigns.{unmapped, Forms, recursive_forms, cyclic_forms}
+use Rattle.op_verifier.proofs.WholeDesigns.{unmapped, recursive_forms, cyclic_forms}
 
 module _ (d : Design) (accepted : IsAccepted d) where
   pub no_fault : first_fault d ≡ None

@@ -1,8 +1,8 @@
 -- In a design of which nothing is refused asynchronous resets come from input ports, and reset to constants.
-use Rattle.std.proofs.Common.{◌≡◌, ℕ, zero, suc, ◌<◌, nat_eq, Bool, true, false, cond, not, ◌&&◌, ◌||◌, is_some, List, [], ◌∷◌, map, length, take, slice_get, Option, Some, None, refl, sym, ap, ap₂, ◌∙◌, arith, eqb-true}
+use Rattle.std.proofs.Common.{◌≡◌, ℕ, zero, suc, ◌<◌, nat_eq, Bool, true, false, cond, ◌&&◌, is_some, List, [], ◌∷◌, map, length, take, slice_get, Option, Some, None, refl, sym, ap, ap₂, ◌∙◌, arith, eqb-true}
 use Rattle.std.proofs.lemmas.Bool.{eqb-false}
-use Rattle.std.proofs.lemmas.Option.{slice_get-map, slice_get_within}
-use Rattle.wiring.specs.Options.{bind, omap}
+use Rattle.std.proofs.lemmas.Option.{slice_get_within}
+use Rattle.wiring.specs.Options.{omap}
 use Rattle.wiring.specs.Wiring.{In}
 use Rattle.wiring.proofs.Lists.{slice_get_some}
 use Rattle.wiring.proofs.Members.{position_of_In}
@@ -11,11 +11,11 @@ use Rattle.hw_model.specs.Types.{Name, HwType}
 use Rattle.hw_model.specs.Types.HwType.{int}
 use Rattle.hw_model.specs.Kinds.{Kind, Instance}
 use Rattle.hw_model.specs.Kinds.Kind.{async_firreg}
-use Rattle.hw_model.specs.Design.{Ref, Port, OpResult, Op, Module, Design, find_module, instance_in, result_type, callee}
+use Rattle.hw_model.specs.Design.{Ref, Port, OpResult, Op, Module, Design, find_module, instance_in, callee}
 use Rattle.hw_model.specs.Design.Ref.{port, result, undefined}
 use Rattle.hw_model.specs.Flat.{ResetBy, has_async_reset, async_parts, async_reset_in, input_count, operand_for, port_ref}
-use Rattle.hw_model.specs.Sound.{input_type, input_types, type_in, Fits, OpFits, SoundBody}
-use Rattle.hw_model.specs.Resets.{is_constant, IsMarkedInput, IsConstantOf, ResetsFromPorts}
+use Rattle.hw_model.specs.Sound.{input_type, input_types, type_in, Fits, SoundBody}
+use Rattle.hw_model.specs.Resets.{IsMarkedInput, IsConstantOf, ResetsFromPorts}
 use Rattle.hw_model.proofs.NetWidths.{input_found, typed_at}
 use Rattle.ir_store.specs.ResultTypes.{result_count}
 use Rattle.ir_store.proofs.IdLemmas.{below_unless}

@@ -1,5 +1,5 @@
 -- Operations whose results have the types that are settled for them.
-use Rattle.std.proofs.Common.{◌≡◌, Bool, true, false, List, [], ◌∷◌, map, length, refl, sym, ap, ◌∙◌, arith, ◌||◌, not, nat_lt, ◌==◌, ℕ, zero, suc, ◌<◌, get_or}
+use Rattle.std.proofs.Common.{◌≡◌, Bool, true, false, List, [], ◌∷◌, map, length, refl, sym, ap, arith, ◌||◌, not, nat_lt, ◌==◌, ℕ, zero, suc, ◌<◌, get_or}
 use Rattle.std.specs.Prelude.{Option, Some, None, is_some, slice_index_or}
 use Rattle.hw_model.specs.Types.{HwType}
 use Rattle.hw_model.specs.Types.HwType.{int, clock}

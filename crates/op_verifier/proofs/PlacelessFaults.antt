@@ -1,5 +1,5 @@
 -- The places of modules and operations in the source decide nothing of whether a header or an operation is refused.
-use Rattle.std.proofs.Common.{◌≡◌, ℕ, zero, suc, Bool, true, false, cond, not, ◌&&◌, ◌||◌, nat_eq, List, [], ◌∷◌, length, map, take, slice_get, Option, Some, None, option_map, is_some, refl, sym, ap, ap₂, ◌∙◌}
+use Rattle.std.proofs.Common.{◌≡◌, ℕ, suc, Bool, true, cond, not, ◌&&◌, ◌||◌, nat_eq, List, [], ◌∷◌, length, map, take, slice_get, Option, Some, None, option_map, is_some, refl, ap, ap₂, ◌∙◌}
 use Rattle.std.specs.Prelude.{slice_index_or}
 use Rattle.std.proofs.lemmas.Option.{slice_get-map}
 use Rattle.std.proofs.lemmas.List.{take-map}
@@ -7,18 +7,16 @@ use Rattle.diag.specs.declared.cause.Cause.{Cause}
 use Rattle.diag.specs.declared.cause.Cause.TheVariants.{Redefined, Undefined, OutputMismatch, DuplicateSymbol, DuplicatePort, MissingOutput, AsyncReset}
 use Rattle.diag.specs.declared.refusal.Refusal.{Refusal}
 use Rattle.wiring.specs.Options.{bind, omap}
-use Rattle.hw_model.specs.Types.{Name, HwType}
 use Rattle.hw_model.specs.Design.{Ref, Port, OpResult, Op, Module, Design, op_without_place, module_without_places, without_places, find_module, instance_in, is_output_op, result_type, callee}
 use Rattle.hw_model.specs.Design.Ref.{port, result, undefined}
 use Rattle.hw_model.specs.Sound.{type_in}
 use Rattle.hw_model.specs.Flat.{async_reset_in, port_ref, ResetBy}
-use Rattle.port_checks.specs.InstanceChecks.{instance_cause}
 use Rattle.port_checks.specs.ResetPorts.{is_reset_port}
 use Rattle.op_verifier.specs.Answers.{when, or_else}
 use Rattle.op_verifier.specs.OwnChecks.{own_cause}
-use Rattle.op_verifier.specs.OpChecks.{has_again, has_undefined, settled_by, settled_type, is_nonzero_op, is_nonzero_ref, has_other_outputs, value_cause, alone_cause, outer_cause, op_cause}
+use Rattle.op_verifier.specs.OpChecks.{has_again, has_undefined, settled_by, settled_type, is_nonzero_op, is_nonzero_ref, has_other_outputs, op_cause}
 use Rattle.op_verifier.specs.ResetChecks.{is_input_port, is_constant_op, is_constant_ref, has_other_reset, has_other_join, reset_cause}
-use Rattle.op_verifier.specs.Headers.{has_twice, has_output, ports_cause, names_cause, header_cause}
+use Rattle.op_verifier.specs.Headers.{has_twice, has_output, ports_cause, header_cause}
 use Rattle.op_verifier.specs.Faults.{header_refusal, op_refusal, is_empty, body_fault, module_fault, faults_from, first_fault}
 use Rattle.port_checks.proofs.Placeless.{find_placeless, callee_placeless, instance_placeless, reset_placeless}
 use Rattle.op_verifier.proofs.ResetJoins.{joins_same}

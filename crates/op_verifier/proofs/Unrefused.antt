@@ -1,5 +1,5 @@
 -- What an answer without a refusal says of each part that was asked.
-use Rattle.std.proofs.Common.{◌≡◌, ℕ, zero, suc, Bool, true, false, cond, not, ◌&&◌, ◌||◌, List, [], ◌∷◌, map, take, slice_get, is_some, Option, Some, None, option_map, refl, sym, ap, ◌∙◌}
+use Rattle.std.proofs.Common.{◌≡◌, ℕ, zero, suc, Bool, true, false, cond, not, ◌&&◌, List, [], ◌∷◌, map, take, slice_get, is_some, Option, Some, None, option_map, refl, sym, ap, ◌∙◌}
 use Rattle.diag.specs.declared.cause.Cause.{Cause}
 use Rattle.diag.specs.declared.cause.Cause.TheVariants.{Redefined, Undefined, WidthLimit, Field, ClockOperand, OutputMismatch, DuplicateSymbol, DuplicatePort, MissingOutput, AsyncReset}
 use Rattle.hw_model.specs.Types.{Name}

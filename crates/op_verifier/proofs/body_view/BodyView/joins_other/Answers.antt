@@ -1,6 +1,6 @@
-use Rattle.std.proofs.Common.{◌≡◌, map, slice_get, Option, Some, option_map, option_and_then, sym, ap, ◌∙◌}
+use Rattle.std.proofs.Common.{◌≡◌, map, slice_get, Some, option_map, option_and_then, sym, ap, ◌∙◌}
 use Rattle.std.proofs.lemmas.Option.{slice_get-map}
-use Rattle.hw_model.specs.Design.{Module, find_module}
+use Rattle.hw_model.specs.Design.{find_module}
 use Rattle.ir_store.specs.Designs.{port_of, design_of, modules_of, module_of, numbered_module}
 use Rattle.port_checks.specs.Marked.{has_reset, is_reset_of}
 use Rattle.op_verifier.specs.BodyViews.{ports_viewed, ref_viewed}
