@@ -17,5 +17,6 @@ mod Tables
 pub mod Bodies
 pub mod Files
 mod Examples
+pub mod ResultCounts
 mod LocalModules
 mod SoundModules

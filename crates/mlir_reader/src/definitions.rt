@@ -53,7 +53,7 @@ pub fn define_operation<'s>(
 }
 
 // How many results an operation has of its own.
-#[tactic(auto, unfolding(crate::specs::Resolving::inherent_kind, ir_store::specs::ResultTypes::result_count))]
+#[tactic(auto, using(crate::proofs::ResultCounts::firreg_count), unfolding(crate::specs::Resolving::inherent_kind, ir_store::specs::ResultTypes::result_count))]
 fn result_count(name: Listed, inherent: &InherentAttributes, types: &[Ty]) -> usize
     ensures { result ≡ result_count (kind_named name (inherent_of inherent.now) (map type_of types.now)) (map type_of types.now) }
 {
