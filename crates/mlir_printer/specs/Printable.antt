@@ -7,7 +7,7 @@ use Rattle.opcode.specs.declared.listed.Listed.TheVariants as listed
 use Rattle.hw_model.specs.Types.{Name, HwType}
 use Rattle.hw_model.specs.Kinds.{Kind, Reset, Instance}
 use Rattle.hw_model.specs.Kinds.Reset.{no_reset, sync_reset}
-use Rattle.hw_model.specs.Kinds.ArrayOp.{array_create, array_concat, array_get, array_slice, array_inject}
+use Rattle.hw_model.specs.Kinds.ArrayOp.{array_create, array_concat, array_inject}
 use Rattle.hw_model.specs.Kinds.StructOp.{struct_create, struct_extract, struct_inject, struct_explode}
 use Rattle.hw_model.specs.Kinds.RegisterOp.{compreg, compreg_ce, firreg}
 use Rattle.hw_model.specs.Kinds.Kind.{variadic, parity, extract, concat, replicate, mux, constant, aggregate_constant, on_array, on_struct, bitcast, wire, instance, output, register, async_firreg}
@@ -15,6 +15,7 @@ use Rattle.hw_model.specs.Opcodes.{opcode_of}
 use Rattle.hw_model.specs.Design.{Entry, Ref, Port, OpResult, Op, Module, Design, is_output_op}
 use Rattle.hw_model.specs.Design.Ref.{port, result, undefined}
 use Rattle.ir_store.specs.ResultTypes.{result_types}
+use Rattle.op_verifier.specs.CountChecks.{type_count}
 use Rattle.mlir_syntax.specs.Numerals.{count_limit}
 use Rattle.mlir_operations.specs.OperationText.{takes_bin, string_keys}
 use Rattle.mlir_operations.specs.ModuleText.{module_keys}
@@ -114,20 +115,6 @@ operands_written (register firreg r) n = 2 + reset_operands r
 operands_written async_firreg n = 2 + reset_operands sync_reset
 operands_written kind n = 2
 
--- how many types are written of an operation with n operands
-unfoldable pub types_written : Kind → ℕ → ℕ
-types_written (extract low) n = 2
-types_written concat n = n
-types_written replicate n = 2
-types_written (on_array array_concat) n = n
-types_written (on_array array_get) n = 2
-types_written (on_array array_slice) n = 2
-types_written (on_array array_inject) n = 2
-types_written bitcast n = 2
-types_written (instance i) n = length i.inputs + length i.outputs
-types_written output n = n
-types_written kind n = 1
-
 -- ---- operations
 
 -- an operation of a body of a module with these ports
@@ -137,7 +124,7 @@ pub record IsPrintableOp (ports : List Port) (body : List Op) (o : Op) : Type 0 
   -- there are as many operands as the text has
   pub operands : length o.operands ≡ operands_written o.kind (length o.operands)
   -- there are as many types as the text has
-  pub types : length o.types ≡ types_written o.kind (length o.operands)
+  pub types : length o.types ≡ type_count o.kind (length o.operands)
   -- the types can be read
   pub readable : Each IsAnyType o.types
   -- the results are those that the kind and the types give, and no name was defined earlier

@@ -18,7 +18,8 @@ use Rattle.mlir_printer.specs.Elements.{ValueText, no_value}
 use Rattle.mlir_printer.specs.Naming.{name_hints, port_name_hint, port_name_hints, input_count, body_name_hints, names_given, name_count, first_name, firsts, name_value_text, is_pack, value_at, value_in, port_value, value_named, listed_names, results_named}
 use Rattle.mlir_printer.specs.Texts.{parts_in, operation_shown, operations_shown, ports_shown, module_shown, modules_shown}
 use Rattle.mlir_printer.specs.Spellable.{Each, IsValueName, IsOperand, AreResults, MayBeValue, IsSpellableOperation, AreSpellable, IsSpellablePort, IsSpellable}
-use Rattle.mlir_printer.specs.Printable.{IsDefined, operands_written, types_written, IsPrintableOp, IsPrintablePort, EndsWithOutput, IsPrintableModule, Printable}
+use Rattle.op_verifier.specs.CountChecks.{type_count}
+use Rattle.mlir_printer.specs.Printable.{IsDefined, operands_written, IsPrintableOp, IsPrintablePort, EndsWithOutput, IsPrintableModule, Printable}
 use Rattle.mlir_printer.proofs.names.NameTables.{Among}
 use Rattle.mlir_printer.proofs.names.NamedDefinitions.{pack_named}
 use Rattle.mlir_printer.proofs.names.GivenNames.{Suits, digits_value, word_value, given_suit, suit_first, suit_behind}
@@ -134,7 +135,7 @@ module _ (ports : List Port) (body : List Op) (o : Op) (p : IsPrintableOp ports 
         bin = p.bin;
         form =
             form_fits o.kind (map means o.operands) o.types (n ∙ p.operands ∙ ap (operands_written o.kind) (sym n))
-            (p.types ∙ ap (types_written o.kind) (sym n))
+            (p.types ∙ ap (type_count o.kind) (sym n))
             p.written (operands_fit means (IsDefined ports body) o.operands f p.defined) p.readable;
         dictionary = shown_fits (opcode_of o.kind) _ o.name (first_name ns) o.dictionary p.dictionary p.nameless p.name;
       }

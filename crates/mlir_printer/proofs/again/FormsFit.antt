@@ -26,7 +26,8 @@ use Rattle.mlir_printer.specs.Elements.{ValueText, Pending}
 use Rattle.mlir_printer.specs.Operations.{format_shown, output_format, is_truth_view}
 use Rattle.mlir_printer.specs.Texts.{inherent_shown}
 use Rattle.mlir_printer.specs.Spellable.{Each, AreBytes, IsInteger, IsAnyType, IsLiteral, AreLiterals, IsOperand, IsViewAs}
-use Rattle.mlir_printer.specs.Printable.{IsWritten, IsWrittenInstance, operands_written, types_written}
+use Rattle.op_verifier.specs.CountChecks.{type_count}
+use Rattle.mlir_printer.specs.Printable.{IsWritten, IsWrittenInstance, operands_written}
 use Rattle.mlir_printer.proofs.lexed.LexedLiterals.{one_bit}
 use Rattle.mlir_printer.proofs.again.KindsKept.{negative_parts}
 use Rattle.mlir_printer.proofs.again.ViewForms.{pending, says_variadic, says_binary, says_comparison, says_unary, says_extraction, says_joined, says_conversion, says_choice, says_truth, says_integer, says_aggregate, says_element, says_slice, says_element_change, says_struct, says_field, says_field_change, says_instance, says_nothing, says_register, says_reset_register, says_enabled, says_reset_enabled, says_clocked, says_reset_clocked, says_async_reset_clocked}
@@ -294,10 +295,10 @@ shift_format s g = grind arith
 
 -- the form of an operation takes its operands and types
 pub form_fits : (k : Kind) (os : List ValueText) (ts : List HwType) → length os ≡ operands_written k (length os)
-    → length ts ≡ types_written k (length os)
+    → length ts ≡ type_count k (length os)
     → IsWritten k → Each IsOperand os → Each IsAnyType ts
     → IsViewAs (format_shown (opcode_of k) (pending os ts (inherent_shown k ts))) (pending os ts (inherent_shown k ts))
-unfolding format_shown format_of inherent_shown operands_written types_written
+unfolding format_shown format_of inherent_shown operands_written type_count
 form_fits (variadic v) os ts lo lt w =
     subst (λ s. Fit s nothing os ts) (sym (variadic_format v (pending os ts nothing))) (variadic_form os ts (some_there (length os) lo) lt)
 form_fits sub os ts lo lt w = binary os ts lo lt

@@ -22,7 +22,8 @@ use Rattle.mlir_printer.specs.Elements.{ValueText}
 use Rattle.mlir_printer.specs.Naming.{name_hints, name_hints_of, own_name_hint, pack_name_hints, name_count, first_name, firsts, is_pack, listed_names, results_named}
 use Rattle.mlir_printer.specs.Texts.{parts_in, operation_shown, entries_shown}
 use Rattle.mlir_printer.specs.Spellable.{Each, said_operand, said_operation}
-use Rattle.mlir_printer.specs.Printable.{IsDefined, settled_result, types_written, IsPrintableOp}
+use Rattle.op_verifier.specs.CountChecks.{type_count}
+use Rattle.mlir_printer.specs.Printable.{IsDefined, settled_result, IsPrintableOp}
 use Rattle.mlir_printer.proofs.steps.Listing.{instance_length}
 use Rattle.mlir_printer.proofs.names.NameTables.{AreNew, marks_in, no_marks}
 use Rattle.mlir_printer.proofs.names.NamedDefinitions.{name_of, results_names, firsts_length, pack_kind, pack_named}
@@ -47,9 +48,9 @@ types_counted (on_struct struct_explode) ts n = fields (first_type ts)
 types_counted (instance i) ts n = length-map (drop (length i.inputs) ts) (λ (t : HwType). Some t) ∙ length-drop (length i.inputs) ts
 types_counted _ ts n = refl
 
-names_counted : (k : Kind) (ts : List HwType) (own : Name) (n c : ℕ) → n ≡ result_count k ts → length ts ≡ types_written k c → is_pack k n ≡ false
+names_counted : (k : Kind) (ts : List HwType) (own : Name) (n c : ℕ) → n ≡ result_count k ts → length ts ≡ type_count k c → is_pack k n ≡ false
     → length (name_hints_of k ts own n) ≡ n
-unfolding name_hints_of result_count types_written
+unfolding name_hints_of result_count type_count
 names_counted output ts own n c e t h = sym e
 names_counted (on_struct struct_explode) ts own n c e t h = few n h
   where

@@ -10,7 +10,8 @@ use Rattle.ir_store.specs.ResultTypes.{result_types, result_type}
 use Rattle.mlir_reader.specs.Spelling.{SpellsPlacelessly}
 use Rattle.mlir_printer.specs.Naming.{name_hints_of}
 use Rattle.mlir_printer.specs.Texts.{ir_text}
-use Rattle.mlir_printer.specs.Printable.{operands_written, types_written, Printable}
+use Rattle.op_verifier.specs.CountChecks.{type_count}
+use Rattle.mlir_printer.specs.Printable.{operands_written, Printable}
 use Rattle.mlir_printer.proofs.again.PrintedDesigns.{printable_designs_are_spelled}
 
 byte : HwType
@@ -53,7 +54,7 @@ adder = record {
 }
 
 adder_is_printable : Printable (adder ∷ [])
-unfolding adder byte input operands_written types_written result_types result_type name_hints_of
+unfolding adder byte input operands_written type_count result_types result_type name_hints_of
 adder_is_printable = (
   record {
     symbol = (omega arith, (omega arith, (omega arith, (omega arith, (omega arith, tt)))));

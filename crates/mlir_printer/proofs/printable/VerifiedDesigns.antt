@@ -30,7 +30,7 @@ use Rattle.op_verifier.specs.Faults.{op_refusal, header_refusal, is_empty, body_
 use Rattle.op_verifier.proofs.NoOwnCause.{no_cause_alone, result_number}
 use Rattle.op_verifier.proofs.Unrefused.{or_none, map_none, no_op_cause, no_header_cause}
 use Rattle.mlir_printer.specs.Spellable.{Each, AreBytes}
-use Rattle.mlir_printer.specs.Printable.{IsDefined, settled_result, operands_written, types_written, IsPrintableOp, IsPrintablePort, EndsWithOutput, IsPrintableModule, Printable}
+use Rattle.mlir_printer.specs.Printable.{IsDefined, settled_result, operands_written, IsPrintableOp, IsPrintablePort, EndsWithOutput, IsPrintableModule, Printable}
 use Rattle.mlir_printer.proofs.again.OperationsAgain.{types_counted}
 use Rattle.mlir_printer.proofs.printable.ReadOperations.{IsReadOp}
 use Rattle.mlir_printer.proofs.printable.ReadModules.{IsReadPort, IsReadModule, spelled_is_read}
@@ -39,8 +39,8 @@ use Rattle.mlir_printer.proofs.printable.ReadModules.{IsReadPort, IsReadModule, 
 
 -- its operands and types are as many as are written
 counts_written : (k : Kind) (ts : List HwType) (n : ℕ) → n ≡ operand_count k ts n → length ts ≡ type_count k n
-    → (n ≡ operands_written k n) × (length ts ≡ types_written k n)
-unfolding operand_count type_count operands_written types_written
+    → (n ≡ operands_written k n) × (length ts ≡ type_count k n)
+unfolding operand_count type_count operands_written
 counts_written concat ts n h g = (h ∙ ap (λ m. max 1 m) g, g)
 counts_written (on_array array_concat) ts n h g = (h ∙ ap (λ m. max 1 m) g, g)
 counts_written (on_struct struct_create) ts n h g = (refl, g)
