@@ -7,8 +7,8 @@ use Rattle.hw_model.specs.Design.{Module, Design, find_module}
 use Rattle.hw_model.specs.Flat.{Slot, registers, held_width, depth, state, body_state, state_of, module_state}
 use Rattle.hw_model.specs.Meaning.{map_slots}
 use Rattle.hw_model.proofs.Content.{slots_width, registers_width}
-use Rattle.hw_interpreter.specs.Suits.{IsCounted}
-use Rattle.hw_interpreter.proofs.Pieces.{piece_more}
+use Rattle.operation_values.specs.Suits.{IsCounted}
+use Rattle.operation_values.proofs.Pieces.{piece_more}
 
 -- the content of a module that is found, from that of the depth below
 pub module_state_found : (n : ℕ) (d : Design) (s : Name) (m : Module) → 0 < n → find_module d s ≡ Some m

@@ -1,5 +1,5 @@
 -- How many instances stand before an operation of a body, and what stands from it on.
-use Rattle.std.proofs.Common.{◌≡◌, ℕ, suc, ◌+◌, ◌-◌, ◌^◌, ◌<◌, Bool, true, false, cond, List, [], ◌∷◌, ◌++◌, length, take, drop, get_or, drop-cons, take-suc, refl, sym, ap, subst, inl, ◌∙◌, arith}
+use Rattle.std.proofs.Common.{◌≡◌, ℕ, suc, ◌+◌, ◌-◌, ◌^◌, ◌<◌, Bool, true, false, cond, List, [], ◌∷◌, length, drop, get_or, drop-cons, refl, sym, ap, subst, inl, ◌∙◌, arith}
 use Rattle.wiring.specs.Wiring.{In}
 use Rattle.wiring.proofs.Members.{from_In-drop}
 use Rattle.hw_model.specs.Design.{Op, is_instance}
@@ -34,8 +34,3 @@ member_of xs i d within = from_In-drop (get_or xs i d) i xs (subst (In (get_or x
 pub none_below : {A : Type 0} (xs : List A) → length xs < 1 → xs ≡ []
 none_below [] less = refl
 none_below (x ∷ xs) less = absurd (omega (arith, less))
-
--- the first items and one more
-pub take_more : {A : Type 0} (xs : List A) (i : ℕ) (x : A) → i < length xs → x ≡ get_or xs i x → take (i + 1) xs ≡ take i xs ++ (x ∷ [])
-take_more xs i x within is =
-    let e : i + 1 ≡ suc i = omega arith in ap (λ n. take n xs) e ∙ take-suc xs i x within ∙ ap (λ z. take i xs ++ (z ∷ [])) (sym is)

@@ -1,5 +1,4 @@
 -- Lemmas.
-pub mod Pieces
 pub mod Contents
 pub mod Counts
 pub mod Samples

@@ -15,7 +15,7 @@ use Rattle.hw_model.specs.Design.Ref.{port, result, undefined}
 use Rattle.hw_model.specs.Flat.{Net, Path, net, module_at, source}
 use Rattle.hw_model.specs.Flat.Source.{nowhere, input, copy}
 use Rattle.hw_model.proofs.Samples.{operation, module_of, out_port}
-use Rattle.hw_interpreter.specs.Suits.{IsCounted, Suits}
+use Rattle.operation_values.specs.Suits.{IsCounted, Suits}
 use Rattle.hw_interpreter.specs.SuitsWithin.{SuitsSource, SuitsFrom, SuitsWithin, AlwaysSuits, IsCountedDesign, register_refs, signal_refs, reset_refs, TakesStep, TakesRun}
 
 -- a constant of 128 bits has no operand; one of 129 bits is no integer here

@@ -1,9 +1,8 @@
 -- What suits within a depth, from a settled map, and by the parts of sources.
-use Rattle.std.proofs.Common.{◌≡◌, ℕ, zero, suc, ◌+◌, ◌-◌, ◌<◌, ◌≤◌, List, [], ◌∷◌, map, length, take, get_or, All, inl, inr, sym, ap, ap₂, subst, ◌∙◌, arith}
+use Rattle.std.proofs.Common.{◌≡◌, ℕ, zero, suc, ◌+◌, ◌-◌, ◌<◌, ◌≤◌, List, [], ◌∷◌, map, length, get_or, inl, inr, sym, ap, ap₂, subst, ◌∙◌, arith}
 use mathlib.Core.Path.{fun_ext}
 use Rattle.wiring.specs.Wiring.{In, IsHeight, greatest}
-use Rattle.std.proofs.lemmas.List.Elements.{All-append}
-use Rattle.wiring.proofs.Members.{map_same, In-map, from_In-map, All-from_members}
+use Rattle.wiring.proofs.Members.{map_same, In-map, from_In-map}
 use Rattle.wiring.proofs.Heights.{FallsAlong-height}
 use Rattle.bits_core.specs.Word.{Word}
 use Rattle.hw_model.specs.Types.{Name}
@@ -13,10 +12,10 @@ use Rattle.hw_model.specs.Flat.Source.{nowhere, input, held, copy, op_result}
 use Rattle.hw_model.specs.Meaning.{needs_of, needs, value, Settled, risen_content}
 use Rattle.hw_interpreter.specs.declared.design.Operand.{Operand}
 use Rattle.hw_interpreter.specs.DesignViews.{ref_of}
-use Rattle.hw_interpreter.specs.Suits.{IsInteger, Suits}
+use Rattle.operation_values.specs.Suits.{Suits}
 use Rattle.hw_interpreter.specs.SuitsWithin.{SuitsSource, SuitsFrom, SuitsWithin, SuitsUnder, AlwaysSuits, IsCountedDesign, TakesRefs, TakesStep, SuitsStep, TakesRunAfter, TakesRun}
 use Rattle.hw_interpreter.specs.Depth.{value_within, risen_within, content_within, Suffices}
-use Rattle.hw_interpreter.proofs.Counts.{member_of, take_more}
+use Rattle.hw_interpreter.proofs.Counts.{member_of}
 use Rattle.hw_interpreter.proofs.Within.{within_settled}
 
 -- a source suits under each map that says the same of the nets that it needs
@@ -133,18 +132,6 @@ takes_more d top depth before content steps s rest after is taken takes =
 -- an operand's net is among those of the operands
 pub operand_in : (p : Path) (os : List Operand) (i : ℕ) (d : Operand) → i < length os → In (net p (ref_of (get_or os i d))) (map (net p) (map ref_of os))
 operand_in p os i d within = In-map (net p) (ref_of (get_or os i d)) (map ref_of os) (In-map ref_of (get_or os i d) os (member_of os i d within))
-
-all_one : (x : Word) → IsInteger x → All IsInteger (x ∷ [])
-all_one x is = All-from_members IsInteger (x ∷ []) member
-  where
-    member : (y : Word) → In y (x ∷ []) → IsInteger y
-    member y (inl same) = subst IsInteger (sym same) is
-    member y (inr none) = absurd none
-
--- one integer more
-pub integers_more : (xs : List Word) (i : ℕ) (x : Word) → i < length xs → x ≡ get_or xs i x → All IsInteger (take i xs) → IsInteger x → All IsInteger (take (i + 1) xs)
-integers_more xs i x within is before next =
-    subst (All IsInteger) (sym (take_more xs i x within is)) (All-append IsInteger (take i xs) (x ∷ []) before (all_one x next))
 
 -- the nets of values that are computed within a depth
 pub nets_taken : (d : Design) (top : Name) (inputs content : Word) (depth : ℕ) (p : Path) (rs : List Ref) → TakesRefs d top inputs content depth p rs

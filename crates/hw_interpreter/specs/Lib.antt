@@ -2,5 +2,4 @@ pub mod Depth
 pub mod DesignViews
 pub mod Ranges
 pub mod Registers
-pub mod Suits
 pub mod SuitsWithin

@@ -7,7 +7,7 @@ use Rattle.hw_model.specs.Design.{Ref, Module, Design, find_module}
 use Rattle.hw_model.specs.Flat.{Net, Path, Source, Slot, Register, ResetBy, net, source, instances, register_in, async_reset_in, registers, state}
 use Rattle.hw_model.specs.Flat.Source.{nowhere, input, held, copy, op_result}
 use Rattle.hw_model.specs.Meaning.{needs_of, Settled, risen_content, outputs_of}
-use Rattle.hw_interpreter.specs.Suits.{IsCounted, Suits}
+use Rattle.operation_values.specs.Suits.{IsCounted, Suits}
 use Rattle.hw_interpreter.specs.Depth.{value_within, risen_within, content_within}
 
 -- the operation takes the words of the nets that it needs, bits of inputs and content end at a number that is counted,

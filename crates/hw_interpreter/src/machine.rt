@@ -10,19 +10,19 @@ ghost use Rattle.hw_model.specs.Meaning.{value_if_enabled as enabled_word, reset
 ghost use Rattle.hw_model.specs.Machine.{Step, Run};
 ghost use Rattle.hw_interpreter.specs.DesignViews.{ref_of, op_of, module_of};
 ghost use Rattle.hw_interpreter.specs.Depth.{value_within, values_within, content_within, run_within, Suffices};
-ghost use Rattle.hw_interpreter.specs.Suits.{IsCounted};
+ghost use Rattle.operation_values.specs.Suits.{IsCounted};
 ghost use Rattle.hw_interpreter.specs.SuitsWithin.{AlwaysSuits, TakesRefs, register_refs, reset_refs, signal_refs, IsCountedDesign, TakesStep, SuitsStep, TakesRun};
-ghost use Rattle.hw_interpreter.specs.declared.refusal.Refusal.TheVariants.{NotFitting};
+ghost use Rattle.operation_values.specs.declared.refusal.Refusal.TheVariants.{NotFitting};
 ghost use Rattle.hw_interpreter.specs.Registers.{slot_of, register_of, reset_by_of};
 
-use crate::bit_string::BitString;
 use crate::design::{Module, Operand, Setting};
 use crate::modules::{find_module, held_width, output_operands};
 use crate::nets::{net_value, operand_values, pad};
-use crate::refusal::Refusal;
 use crate::registers::{Register, ResetBy, Slot, async_reset_in, register_in, registers};
-use crate::values::{concat_words, is_high};
-use crate::word_parts::bits_after;
+use operation_values::bit_string::BitString;
+use operation_values::refusal::Refusal;
+use operation_values::values::{concat_words, is_high};
+use operation_values::word_parts::bits_after;
 use std::alloc::Global;
 
 /// What a step gives.

@@ -7,12 +7,12 @@ ghost use Rattle.hw_model.specs.Design.{find_module, instance_in, is_instance, i
 ghost use Rattle.hw_model.specs.Flat.{instances, before_instance, module_at, op_state, body_state, module_state, state, state_before, base, held_width, depth, offset};
 ghost use Rattle.wiring.specs.Options.{bind};
 ghost use Rattle.hw_interpreter.specs.DesignViews.{ref_of, op_of, module_of};
-ghost use Rattle.hw_interpreter.specs.Suits.{IsCounted};
+ghost use Rattle.operation_values.specs.Suits.{IsCounted};
 
 use crate::design::{Module, Operand, Operation};
-use crate::operands::exact_width;
-use crate::refusal::Refusal;
 use hw_model::kinds::{Instance, OpKind};
+use operation_values::operands::exact_width;
+use operation_values::refusal::Refusal;
 
 /// The first module of a symbol.
 pub fn find_module<'a>(modules: &'a [Module], symbol: &[u8]) -> Option<&'a Module>

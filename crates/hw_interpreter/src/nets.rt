@@ -7,25 +7,25 @@ ghost use Rattle.hw_model.specs.Flat.{Net, instances, net, input_width, input_of
 ghost use Rattle.hw_model.specs.Flat.Source.{nowhere};
 ghost use Rattle.hw_interpreter.specs.DesignViews.{ref_of, op_of, port_of, module_of};
 ghost use Rattle.hw_interpreter.specs.Depth.{value_from, value_within};
-ghost use Rattle.hw_interpreter.specs.Suits.{IsCounted};
+ghost use Rattle.operation_values.specs.Suits.{IsCounted};
 ghost use Rattle.hw_interpreter.specs.SuitsWithin.{SuitsFrom, SuitsWithin, SuitsSource};
-ghost use Rattle.hw_interpreter.specs.declared.refusal.Refusal.TheVariants.{NotFitting};
+ghost use Rattle.operation_values.specs.declared.refusal.Refusal.TheVariants.{NotFitting};
 ghost use Rattle.wiring.specs.Wiring.{In};
 ghost use Rattle.hw_interpreter.specs.Ranges.{input_range_source};
 
-use crate::bit_string::BitString;
 use crate::design::{Module, Operand, Operation, Port, Setting};
 use crate::joins::{first_ports, given_operand, joined_operand};
 use crate::modules::{
     find_module, first_operations, instance_count, is_instance, is_register, module_at, offset,
     sum_of,
 };
-use crate::operands::exact_width;
-use crate::refusal::Refusal;
-use crate::values::value_of;
-use crate::word_parts::{bits_after, first_bits};
 use hw_model::kinds::OpKind;
 use hw_model::types::Ty;
+use operation_values::bit_string::BitString;
+use operation_values::operands::exact_width;
+use operation_values::refusal::Refusal;
+use operation_values::values::value_of;
+use operation_values::word_parts::{bits_after, first_bits};
 use std::alloc::{AllocError, Global};
 
 /// A range of bits.

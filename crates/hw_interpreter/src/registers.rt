@@ -6,13 +6,13 @@ ghost use Rattle.hw_model.specs.Flat.{instances, net, module_registers, body_reg
 ghost use Rattle.hw_interpreter.specs.DesignViews.{ref_of, op_of, module_of};
 ghost use Rattle.hw_interpreter.specs.Registers.{slot_of, register_of, reset_by_of};
 ghost use Rattle.hw_interpreter.specs.SuitsWithin.{HasFewInstances};
-ghost use Rattle.hw_interpreter.specs.declared.refusal.Refusal.TheVariants.{NotFitting};
+ghost use Rattle.operation_values.specs.declared.refusal.Refusal.TheVariants.{NotFitting};
 
 use crate::design::{Module, Operand, Operation};
 use crate::modules::{depth_of, find_module, instance_in, is_instance, is_register};
 use crate::nets::inner_path;
-use crate::refusal::Refusal;
 use hw_model::kinds::{OpKind, Reset};
+use operation_values::refusal::Refusal;
 use std::alloc::Global;
 
 /// A register of a module: the path of instances to it, the innermost first, and its operation.

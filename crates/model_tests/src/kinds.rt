@@ -1,7 +1,7 @@
 //! Kinds of operations, types and words, as tables write them.
 use bits_core::Bits;
-use hw_interpreter::bit_string::BitString;
-use hw_interpreter::refusal::Refusal;
+use operation_values::bit_string::BitString;
+use operation_values::refusal::Refusal;
 use hw_model::kinds::{Instance, Integer, OpKind, Predicate, Reset};
 use hw_model::types::{Field, FieldList, Ty};
 use io_edge::byte_text::Text;

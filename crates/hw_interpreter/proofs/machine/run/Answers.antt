@@ -4,7 +4,7 @@ use Rattle.hw_interpreter.specs.DesignViews.{module_of}
 use Rattle.hw_interpreter.specs.Depth.{run_after_within, run_within}
 use Rattle.hw_interpreter.specs.SuitsWithin.{TakesRunAfter}
 use Rattle.hw_interpreter.proofs.Counts.{from_position}
-use Rattle.hw_interpreter.proofs.Pieces.{piece_last}
+use Rattle.operation_values.proofs.Pieces.{piece_last}
 use Rattle.hw_interpreter.proofs.Suiting.{run_taken, takes_more}
 use Rattle.hw_interpreter.proofs.Within.{run_more, run_holds_of}
 use Rattle.hw_interpreter.proofs.machine.run.Goals as goal

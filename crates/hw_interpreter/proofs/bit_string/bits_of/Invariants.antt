@@ -1,5 +1,0 @@
-use Rattle.std.proofs.Common.{◌≡◌, ◌++◌, take}
-use Rattle.hw_interpreter.proofs.bit_string.bits_of.Given as goal
-
-abbrev pub invariant-loop-bit : goal.invariant-loop-bit
-invariant-loop-bit l = l.word ≡ take 1 l.bits ++ take l.bit-index l.bit-items

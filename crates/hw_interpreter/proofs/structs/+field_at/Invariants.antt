@@ -1,5 +1,0 @@
-use Rattle.std.proofs.Common.{length}
-use Rattle.hw_interpreter.proofs.structs.+field_at.Given as goal
-
-abbrev pub decreases-field_at : goal.decreases-field_at
-decreases-field_at l = length l.fields.now

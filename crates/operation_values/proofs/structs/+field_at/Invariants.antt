@@ -1,0 +1,5 @@
+use Rattle.std.proofs.Common.{length}
+use Rattle.operation_values.proofs.structs.+field_at.Given as goal
+
+abbrev pub decreases-field_at : goal.decreases-field_at
+decreases-field_at l = length l.fields.now
