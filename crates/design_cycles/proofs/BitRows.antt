@@ -10,10 +10,11 @@ use Rattle.std.proofs.lemmas.Option.{slice_get_within}
 use Rattle.wiring.specs.Wiring.{In, Chain}
 use Rattle.wiring.proofs.Members.{In-append_left, In-append_right, In-append_cases}
 use Rattle.wiring.proofs.Lists.{slice_get-append_left, slice_get-append_at, slice_get-append_past}
-use Rattle.design_cycles.specs.Graphs.{lists_of, edges}
-use Rattle.design_cycles.specs.declared.graph.NodeList.{NodeList}
+use Rattle.graphs.specs.Graphs.{lists_of, edges}
+use Rattle.graphs.specs.declared.graph.NodeList.{NodeList}
 use Rattle.design_cycles.specs.Rows.{row_at, IsSet, LeadsToInput, AreSound, AreRows, GivesBits, JoinsRows, HasNeeds, room_left, Spreads, Settles}
-use Rattle.design_cycles.proofs.Marking.{edges_within, lists_at, length-lists, written_back}
+use Rattle.graphs.proofs.Lists.{written_back}
+use Rattle.graphs.proofs.Marking.{edges_within, lists_at, length-lists}
 
 -- ---- bits
 

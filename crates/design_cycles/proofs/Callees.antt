@@ -17,7 +17,7 @@ use Rattle.ir_store.specs.Numbered.{ops_by_position}
 use Rattle.ir_store.specs.Designs.{StoredModule, numbered_module}
 use Rattle.design_cycles.specs.Asked.{HasDistinctSymbols}
 use Rattle.design_cycles.specs.Calls.{symbols_in, numbers_of, call_lists, callee_number, IsCalleeAt}
-use Rattle.design_cycles.specs.Graphs.{edges}
+use Rattle.graphs.specs.Graphs.{edges}
 
 -- ---- lists of numbers
 

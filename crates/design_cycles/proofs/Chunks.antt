@@ -8,12 +8,13 @@ use Rattle.std.proofs.lemmas.Nat.Bits.{bit_at-zero, shr_and_one}
 use Rattle.wiring.specs.Wiring.{In, Chain}
 use Rattle.wiring.proofs.Members.{In-append_left, In-append_right, In-append_cases}
 use Rattle.wiring.proofs.Lists.{slice_get-append_left, slice_get-append_right, slice_get-append_past, slice_get-append_some}
-use Rattle.design_cycles.specs.Graphs.{lists_of, edges, LeadsTo}
-use Rattle.design_cycles.specs.declared.graph.NodeList.{NodeList}
+use Rattle.graphs.specs.Graphs.{lists_of, edges}
+use Rattle.design_cycles.specs.Graphs.{LeadsTo}
+use Rattle.graphs.specs.declared.graph.NodeList.{NodeList}
 use Rattle.design_cycles.specs.Nodes.{times_over}
 use Rattle.design_cycles.specs.Rows.{row_at, row_of, IsSet, AreRows, AddsBits, AddsRows}
 use Rattle.design_cycles.specs.Summing.{AreInputs, AreOutputs}
-use Rattle.design_cycles.proofs.Marking.{lists_at, length-lists}
+use Rattle.graphs.proofs.Marking.{lists_at, length-lists}
 
 -- ---- the numbers of a row's bits
 

@@ -15,16 +15,17 @@ use Rattle.ir_store.specs.declared.design.Module.{Module as CodeModule}
 use Rattle.ir_store.specs.Bodies.{ids_of, ops_of}
 use Rattle.ir_store.specs.Numbered.{ops_by_position}
 use Rattle.ir_store.specs.Designs.{StoredModule, module_of, numbered_module}
-use Rattle.design_cycles.specs.declared.graph.NodeList.{NodeList}
+use Rattle.graphs.specs.declared.graph.NodeList.{NodeList}
 use Rattle.design_cycles.specs.declared.layout.Layout.{Layout}
 use Rattle.design_cycles.specs.declared.layout.Span.{Span}
 use Rattle.design_cycles.specs.declared.layout.Summary.{Summary}
 use Rattle.design_cycles.specs.Asked.{HasDistinctSymbols, IsCyclicAt}
-use Rattle.design_cycles.specs.Graphs.{lists_of, edges, has_mark, AreReached, ReturnsWithin}
+use Rattle.graphs.specs.Graphs.{lists_of, edges, has_mark, AreReached}
+use Rattle.design_cycles.specs.Graphs.{ReturnsWithin}
 use Rattle.design_cycles.specs.Nodes.{rows_by, sizes_in, AreSpans, body_lists, IsLayout}
 use Rattle.design_cycles.specs.Places.{symbol_at}
 use Rattle.design_cycles.specs.Summing.{KnowsCallees}
-use Rattle.design_cycles.proofs.Marking.{lists_at, length-lists, edges_within}
+use Rattle.graphs.proofs.Marking.{lists_at, length-lists, edges_within}
 use Rattle.design_cycles.proofs.Returning.{stored_at}
 use Rattle.design_cycles.proofs.Callees.{number_found, place_found, found_at}
 use Rattle.design_cycles.proofs.Known.{found, known_inner, lists_found}

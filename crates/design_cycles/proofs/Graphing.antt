@@ -10,7 +10,7 @@ use Rattle.hw_model.specs.Design.Ref.{result}
 use Rattle.wiring.specs.Options.{omap}
 use Rattle.design_cycles.specs.declared.layout.Layout.{Layout}
 use Rattle.design_cycles.specs.declared.layout.Span.{Span}
-use Rattle.design_cycles.specs.Graphs.{edges}
+use Rattle.graphs.specs.Graphs.{edges}
 use Rattle.design_cycles.specs.Local.{operands_at, where_typed, op_wires, result_wires}
 use Rattle.design_cycles.specs.Nodes.{size_by, size_in, sizes_in, AreSpans, IsLayout, node_ref, nodes_in, port_refs, op_refs, result_refs, body_refs, table_by, node_needs, body_lists, times_over, lists_at, lists_of_op}
 

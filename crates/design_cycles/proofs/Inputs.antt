@@ -9,7 +9,8 @@ use Rattle.hw_model.specs.Design.{Port}
 use Rattle.hw_model.specs.Flat.{input_count}
 use Rattle.ir_store.specs.Designs.{port_of}
 use Rattle.ir_store.specs.declared.design.Port.{Port as CodePort}
-use Rattle.design_cycles.specs.Graphs.{edges, has_mark, AreReached, LeadsTo}
+use Rattle.graphs.specs.Graphs.{edges, has_mark, AreReached}
+use Rattle.design_cycles.specs.Graphs.{LeadsTo}
 use Rattle.design_cycles.specs.Local.{IsInput}
 use Rattle.design_cycles.specs.Summing.{inputs_from, reached_numbers, AreInputs, AreOutputs}
 

@@ -19,7 +19,8 @@ use Rattle.design_cycles.specs.declared.layout.Layout.{Layout}
 use Rattle.design_cycles.specs.declared.layout.Summary.{Summary}
 use Rattle.design_cycles.specs.Asked.{HasDistinctSymbols}
 use Rattle.design_cycles.specs.Calls.{symbols_in, call_lists}
-use Rattle.design_cycles.specs.Graphs.{edges, has_mark, AreCalled}
+use Rattle.graphs.specs.Graphs.{edges, has_mark}
+use Rattle.design_cycles.specs.Graphs.{AreCalled}
 use Rattle.design_cycles.specs.Local.{IsSummary}
 use Rattle.design_cycles.specs.Nodes.{rows_of, rows_at, rows_by, sizes_in, body_lists, node_ref, value_node, table_by, IsLayout}
 use Rattle.design_cycles.specs.Places.{symbol_of, symbol_at}

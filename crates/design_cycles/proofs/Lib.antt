@@ -1,6 +1,6 @@
 pub mod Inside
 pub mod Locals
-pub mod Marking
+pub mod Called
 pub mod BitRows
 pub mod Chunks
 pub mod NodeNumbers

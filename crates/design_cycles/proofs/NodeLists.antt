@@ -11,8 +11,8 @@ use Rattle.hw_model.specs.Design.{Op}
 use Rattle.ir_store.specs.declared.operation.Value.{Value}
 use Rattle.design_cycles.specs.declared.layout.Layout.{Layout}
 use Rattle.design_cycles.specs.declared.layout.Span.{Span}
-use Rattle.design_cycles.specs.declared.graph.NodeList.{NodeList}
-use Rattle.design_cycles.specs.Graphs.{lists_of}
+use Rattle.graphs.specs.declared.graph.NodeList.{NodeList}
+use Rattle.graphs.specs.Graphs.{lists_of}
 use Rattle.design_cycles.specs.Nodes.{size_in, sizes_in, HasSize, AreSpans, value_node, value_nodes, picked_values, times_over}
 
 values-append : (l : Layout) (xs ys : List Value) → value_nodes l (xs ++ ys) ≡ value_nodes l xs ++ value_nodes l ys

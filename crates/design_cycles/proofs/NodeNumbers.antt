@@ -11,10 +11,10 @@ use Rattle.hw_model.specs.Kinds.{Instance}
 use Rattle.hw_model.specs.Design.{Ref, Op, OpResult, instance_in, is_register, is_output_op, result_type}
 use Rattle.hw_model.specs.Design.Ref.{port, result, undefined}
 use Rattle.wiring.proofs.Options.{omap_some}
-use Rattle.design_cycles.specs.Graphs.{edges}
+use Rattle.graphs.specs.Graphs.{edges}
 use Rattle.design_cycles.specs.Local.{operands_at, where_typed, op_wires, result_wires, wires}
 use Rattle.design_cycles.specs.Nodes.{size_by, size_in, sizes_in, node_at, node_ref, nodes_in, port_refs, op_refs, result_refs, body_refs, table_by, node_needs, body_lists}
-use Rattle.design_cycles.proofs.Marking.{edges_within}
+use Rattle.graphs.proofs.Marking.{edges_within}
 
 -- ---- what stands at a node
 

@@ -6,10 +6,13 @@ use Rattle.wiring.specs.Wiring.{In, Chain, Depends, IsAcyclic, IsWithin}
 use Rattle.wiring.proofs.Members.{In-append_left, In-append_right, In-append_cases, position_of_In}
 use Rattle.wiring.proofs.Lists.{slice_get-append_left, slice_get-append_at}
 use Rattle.wiring.proofs.Chains.{Chain-append, Chain-le}
-use Rattle.design_cycles.specs.declared.graph.NodeList.{NodeList}
-use Rattle.design_cycles.specs.Graphs.{lists_of, edges, has_mark, IsOrder}
-use Rattle.design_cycles.specs.Marks.{open_count, AreMarked, CanBePlaced, MustWait, Placed}
-use Rattle.design_cycles.proofs.Marking.{marked_same, marked_kept, marked_cases, open_fewer, edges_within, none_marked, written_back, length-lists}
+use Rattle.graphs.specs.declared.graph.NodeList.{NodeList}
+use Rattle.graphs.specs.Graphs.{lists_of, edges, has_mark}
+use Rattle.design_cycles.specs.Graphs.{IsOrder}
+use Rattle.graphs.specs.Marks.{open_count}
+use Rattle.design_cycles.specs.Marks.{AreMarked, CanBePlaced, MustWait, Placed}
+use Rattle.graphs.proofs.Lists.{written_back}
+use Rattle.graphs.proofs.Marking.{marked_same, marked_kept, marked_cases, open_fewer, edges_within, none_marked, length-lists}
 
 -- ---- whether all have their marks
 

@@ -21,7 +21,8 @@ use Rattle.ir_store.specs.Designs.{StoredModule, numbered_module}
 use Rattle.design_cycles.specs.Places.{IsFirstOp, IsFirst, ids_at, ids_of_module}
 use Rattle.design_cycles.specs.Asked.{HasDistinctSymbols, Returns, IsRecursiveAt}
 use Rattle.design_cycles.specs.Calls.{symbols_in, call_lists, callee_number, IsCalleeAt, IsFoundAt}
-use Rattle.design_cycles.specs.Graphs.{edges, has_mark, AreReached, LeadsTo, IsOrder}
+use Rattle.graphs.specs.Graphs.{edges, has_mark, AreReached}
+use Rattle.design_cycles.specs.Graphs.{LeadsTo, IsOrder}
 use Rattle.design_cycles.proofs.Callees.{number, call_edges, place_found, number_found, In-numbers, chain_numbers, found_at, chain_symbols}
 use Rattle.design_cycles.proofs.Placing.{placed_no_cycle}
 

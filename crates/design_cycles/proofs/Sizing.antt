@@ -23,7 +23,8 @@ use Rattle.ir_store.specs.Designs.{StoredModule, numbered_module, port_of}
 use Rattle.ir_store.specs.declared.design.Port.{Port as CodePort}
 use Rattle.design_cycles.specs.Asked.{HasDistinctSymbols, IsTooLargeAt}
 use Rattle.design_cycles.specs.Calls.{symbols_in, numbers_of, call_lists}
-use Rattle.design_cycles.specs.Graphs.{edges, has_mark, IsOrder}
+use Rattle.graphs.specs.Graphs.{edges, has_mark}
+use Rattle.design_cycles.specs.Graphs.{IsOrder}
 use Rattle.design_cycles.specs.Places.{FindsNumber}
 use Rattle.design_cycles.specs.Weighing.{kept_weight, weight_by, WeighsAt, Weighs, IsWhole}
 use Rattle.design_cycles.proofs.Callees.{call_edges, place_found, number_found, In-numbers, found_at, acyclic_numbers}
@@ -31,7 +32,7 @@ use Rattle.design_cycles.specs.Marks.{MustWait}
 use Rattle.design_cycles.proofs.Placing.{acyclic_complete}
 use Rattle.design_cycles.proofs.Returning.{symbols_stored}
 use Rattle.design_cycles.proofs.Capped.{leaf_count-push}
-use Rattle.design_cycles.proofs.Marking.{marked_within}
+use Rattle.graphs.proofs.Marking.{marked_within}
 use Rattle.wiring.proofs.Members.{In-slice_get}
 
 -- ---- sums

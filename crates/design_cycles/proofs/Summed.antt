@@ -12,11 +12,12 @@ use Rattle.hw_model.specs.Flat.{net}
 use Rattle.hw_model.specs.Meaning.{Depends}
 use Rattle.hw_model.specs.Sound.{body_of, ports_of}
 use Rattle.design_cycles.specs.declared.layout.Span.{Span}
-use Rattle.design_cycles.specs.Graphs.{edges, LeadsTo, ReturnsWithin}
+use Rattle.graphs.specs.Graphs.{edges}
+use Rattle.design_cycles.specs.Graphs.{LeadsTo, ReturnsWithin}
 use Rattle.design_cycles.specs.Local.{IsInput, IsSummary, wires}
 use Rattle.design_cycles.specs.Nodes.{sizes_in, AreSpans, node_ref, span_node, table_by, body_lists}
 use Rattle.design_cycles.specs.Summing.{inputs_from, AreOutputs, KnowsCallees}
-use Rattle.design_cycles.proofs.Marking.{edges_within}
+use Rattle.graphs.proofs.Marking.{edges_within}
 use Rattle.design_cycles.proofs.Locals.{FeedsLocally, feeds_from_local, feeds_to_local, depends_wires, wires_depend}
 use Rattle.design_cycles.proofs.NodeNumbers.{needing_node, nodes_chain, wires_chain}
 use Rattle.design_cycles.proofs.NodeValues.{spans_give}

@@ -1,25 +1,7 @@
--- Graphs: for each node, by its number, the nodes that it needs.
-use Rattle.std.specs.Prelude.{◌≡◌, ℕ, ◌+◌, ◌<◌, ◌≤◌, Bool, true, false, List, [], map, length, take, slice_get, slice_index_or, Option, Some}
+-- What is asked of graphs: orders of their nodes, what some node leads to, what leads back to itself.
+use Rattle.std.specs.Prelude.{◌≡◌, ℕ, ◌+◌, ◌<◌, ◌≤◌, Bool, true, List, length, take, slice_get, Option, Some}
 use Rattle.wiring.specs.Wiring.{In, Chain, Depends}
-use Rattle.design_cycles.specs.declared.graph.NodeList.{NodeList}
-
--- the lists of the nodes
-abbrev pub lists_of : List NodeList → List (List ℕ)
-lists_of graph = map (λ (n : NodeList). n.nodes.items) graph
-
--- what a node needs; a node that is not there needs nothing
-abbrev pub edges : List (List ℕ) → ℕ → List ℕ
-edges lists v = slice_index_or lists v []
-
--- whether a node has its mark
-abbrev pub has_mark : List Bool → ℕ → Bool
-has_mark marks v = slice_index_or marks v false
-
--- the marks say which nodes are reached from the starts, in any number of steps
-pub record AreReached (lists : List (List ℕ)) (starts : List ℕ) (marks : List Bool) : Type 0 where
-  pub count : length marks ≡ length lists
-  pub sound : (b : ℕ) → has_mark marks b ≡ true → (a : ℕ) × (k : ℕ) × In a starts × Chain (edges lists) k a b
-  pub complete : (a k b : ℕ) → In a starts → Chain (edges lists) k a b → b < length lists → has_mark marks b ≡ true
+use Rattle.graphs.specs.Graphs.{edges, has_mark}
 
 -- some nodes, each after all that it needs, and the marks of those
 pub record IsOrder (lists : List (List ℕ)) (placed : List Bool) (nodes : List ℕ) : Type 0 where

@@ -1,24 +1,8 @@
--- Marks of nodes, and what a pass over nodes does to them.
-use Rattle.std.specs.Prelude.{◌≡◌, ℕ, suc, ◌+◌, ◌<◌, ◌⊎◌, Bool, true, false, cond, List, [], ◌∷◌, length, MatchBool}
+-- Marks of nodes that are placed after what they need.
+use Rattle.std.specs.Prelude.{◌≡◌, ℕ, ◌<◌, Bool, true, false, List, length, MatchBool}
 use Rattle.wiring.specs.Wiring.{In}
-use Rattle.design_cycles.specs.Graphs.{edges, has_mark}
-
--- how many marks are not set
-abbrev pub open_count : List Bool → ℕ
-open_count [] = 0
-open_count (m ∷ ms) = cond m (open_count ms) (suc (open_count ms))
-
--- the nodes that are there have their marks, and those that had none wait
-pub record MarksAll (nodes : List ℕ) (old new : List Bool) (waited waiting : List ℕ) : Type 0 where
-  pub count : length new ≡ length old
-  pub kept : (b : ℕ) → has_mark old b ≡ true → has_mark new b ≡ true
-  pub cases : (b : ℕ) → has_mark new b ≡ true → (has_mark old b ≡ true) ⊎ (In b nodes × In b waiting)
-  pub all : (b : ℕ) → In b nodes → b < length old → has_mark new b ≡ true
-  pub waits : (b : ℕ) → In b waited → In b waiting
-  pub comes : (b : ℕ) → In b waiting → In b waited ⊎ ((b < length old) × (has_mark new b ≡ true))
-  pub size : open_count new + length waiting ≡ open_count old + length waited
-
--- ---- placing nodes after what they need
+use Rattle.graphs.specs.Graphs.{edges, has_mark}
+use Rattle.graphs.specs.Marks.{open_count}
 
 -- the nodes that are there have their marks
 abbrev pub AreMarked : List ℕ → List Bool → Type 0

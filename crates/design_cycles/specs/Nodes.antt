@@ -12,7 +12,7 @@ use Rattle.ir_store.specs.Symbols.{symbol_place}
 use Rattle.design_cycles.specs.declared.layout.Span.{Span}
 use Rattle.design_cycles.specs.declared.layout.Summary.{Summary}
 use Rattle.design_cycles.specs.declared.layout.Layout.{Layout}
-use Rattle.design_cycles.specs.Graphs.{lists_of, edges}
+use Rattle.graphs.specs.Graphs.{lists_of, edges}
 use Rattle.design_cycles.specs.Local.{wires}
 
 -- the lists of a summary; of a module without one there are none

@@ -2,7 +2,7 @@
 use Rattle.std.specs.Prelude.{◌≡◌, ◌⊎◌, ℕ, ◌+◌, ◌-◌, ◌^◌, ◌<◌, Bool, List, [], ◌∷◌, length, map, MatchBool, slice_get, slice_index_or, Option, Some, None}
 use Rattle.std.specs.Int.{bit_at}
 use Rattle.wiring.specs.Wiring.{In, Chain}
-use Rattle.design_cycles.specs.Graphs.{edges}
+use Rattle.graphs.specs.Graphs.{edges}
 
 -- the row of a node; what is not there has an empty one
 abbrev pub row_at : List ℕ → ℕ → ℕ

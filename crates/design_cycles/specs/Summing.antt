@@ -4,7 +4,8 @@ use Rattle.wiring.specs.Wiring.{In}
 use Rattle.hw_model.specs.Types.{Name}
 use Rattle.hw_model.specs.Design.{Port, Module, Design}
 use Rattle.hw_model.specs.Hierarchy.{calls}
-use Rattle.design_cycles.specs.Graphs.{edges, has_mark, LeadsTo}
+use Rattle.graphs.specs.Graphs.{edges, has_mark}
+use Rattle.design_cycles.specs.Graphs.{LeadsTo}
 use Rattle.design_cycles.specs.Local.{IsSummary}
 use Rattle.design_cycles.specs.Nodes.{table_by}
 

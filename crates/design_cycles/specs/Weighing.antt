@@ -5,7 +5,7 @@ use Rattle.hw_model.specs.Types.{Name}
 use Rattle.hw_model.specs.Design.{Op, Module, Design}
 use Rattle.hw_model.specs.Weight.{kind_weight, weight}
 use Rattle.ir_store.specs.Symbols.{symbol_place}
-use Rattle.design_cycles.specs.Graphs.{edges}
+use Rattle.graphs.specs.Graphs.{edges}
 
 -- the weight that is kept under a number, where there is one
 abbrev pub kept_weight : List ℕ → Option ℕ → ℕ

@@ -4,10 +4,11 @@ ghost use Rattle.hw_model.specs.Hierarchy.{callee_symbols};
 ghost use Rattle.ir_store.specs.Bodies.{ids_of, ops_of, op_id};
 ghost use Rattle.ir_store.specs.Numbered.{ops_by_position};
 ghost use Rattle.ir_store.specs.Designs.{design_of, modules_of};
-ghost use Rattle.design_cycles.specs.Graphs.{lists_of, AreCalled};
+ghost use Rattle.graphs.specs.Graphs.{lists_of};
+ghost use Rattle.design_cycles.specs.Graphs.{AreCalled};
 ghost use Rattle.design_cycles.specs.Calls.{numbers_of, call_lists, IsCalleeAt};
 
-use crate::graph::{NodeList, mark_all};
+use graphs::{NodeList, mark_all};
 use crate::ops::{Sort, op_at, read_ids, sort_of};
 use ir_store::body::Body;
 use ir_store::design::Design;

@@ -4,14 +4,15 @@ ghost use Rattle.hw_model.specs.Hierarchy.{HasNoRecursion};
 ghost use Rattle.ir_store.specs.Designs.{design_of, modules_of};
 ghost use Rattle.wiring.specs.Wiring.{Depends};
 ghost use Rattle.design_cycles.specs.Asked.{HasDistinctSymbols, IsCyclicAt};
-ghost use Rattle.design_cycles.specs.Graphs.{lists_of, edges, has_mark, ReturnsWithin};
+ghost use Rattle.graphs.specs.Graphs.{lists_of, edges, has_mark};
+ghost use Rattle.design_cycles.specs.Graphs.{ReturnsWithin};
 ghost use Rattle.design_cycles.specs.Hierarchies.{IsHierarchy};
 ghost use Rattle.design_cycles.specs.Nodes.{rows_by};
 ghost use Rattle.design_cycles.specs.Places.{Finds, FindsOp, ids_at, symbol_at};
 ghost use Rattle.design_cycles.specs.Summing.{KnowsCallees};
 
 use crate::calls::called_modules;
-use crate::graph::{NodeList, is_open, reached_from};
+use graphs::{NodeList, is_open, reached_from};
 use crate::hierarchy::Hierarchy;
 use crate::in_order::are_in_order;
 use crate::layout::{Span, Summary};

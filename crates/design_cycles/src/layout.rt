@@ -1,7 +1,7 @@
 //! Where the values of a body stand among the nodes of its graph, and what is kept of a module.
 ghost use Rattle.std.specs.Prelude.{◌<◌, ◌+◌, ◌^◌};
 
-use crate::graph::NodeList;
+use graphs::NodeList;
 
 /// Of each output of a module, the numbers of the inputs that it depends on or is.
 #[derive(Drop)]

@@ -5,7 +5,6 @@
 
 mod calls;
 mod cycles;
-mod graph;
 mod hierarchy;
 mod in_order;
 mod layout;

@@ -1,11 +1,12 @@
 //! Orders of a graph's nodes in which each stands after all that it needs.
 ghost use Rattle.std.specs.Prelude.{◌≡◌, ◌<◌, ◌^◌, ℕ, [], length, IfOk, MatchBool};
 ghost use Rattle.wiring.specs.Wiring.{In};
-ghost use Rattle.design_cycles.specs.Graphs.{lists_of, IsOrder};
+ghost use Rattle.graphs.specs.Graphs.{lists_of};
+ghost use Rattle.design_cycles.specs.Graphs.{IsOrder};
 ghost use Rattle.design_cycles.specs.Nodes.{times_over};
 ghost use Rattle.design_cycles.specs.Marks.{AreMarked, HasOpen, CanBePlaced, MustWait, Placed};
 
-use crate::graph::{NodeList, is_open};
+use graphs::{NodeList, is_open};
 use std::alloc::{AllocError, Global};
 
 /// Nodes in order, and of each node of the graph whether it is among them.

@@ -5,12 +5,13 @@ ghost use Rattle.ir_store.specs.Bodies.{ids_of};
 ghost use Rattle.ir_store.specs.Designs.{design_of, modules_of};
 ghost use Rattle.design_cycles.specs.Asked.{HasDistinctSymbols, IsRecursiveAt};
 ghost use Rattle.design_cycles.specs.Calls.{call_lists};
-ghost use Rattle.design_cycles.specs.Graphs.{lists_of, LeadsTo};
+ghost use Rattle.graphs.specs.Graphs.{lists_of};
+ghost use Rattle.design_cycles.specs.Graphs.{LeadsTo};
 ghost use Rattle.design_cycles.specs.Hierarchies.{IsHierarchy};
 ghost use Rattle.design_cycles.specs.Places.{Finds, FindsOp, ids_at};
 
 use crate::calls::callee_of;
-use crate::graph::{NodeList, is_open, reached_from};
+use graphs::{NodeList, is_open, reached_from};
 use crate::hierarchy::Hierarchy;
 use crate::place::OpPlace;
 use ir_store::design::Design;

@@ -1,11 +1,11 @@
 //! The inputs that a module's outputs depend on, by rows of bits, 64 inputs at a time.
 ghost use Rattle.std.specs.Prelude.{◌≡◌, ◌<◌, ◌≤◌, ◌+◌, ◌^◌, length, map, IfOk, OnOk};
-ghost use Rattle.design_cycles.specs.Graphs.{lists_of};
+ghost use Rattle.graphs.specs.Graphs.{lists_of};
 ghost use Rattle.design_cycles.specs.Nodes.{value_node};
 ghost use Rattle.design_cycles.specs.Summing.{AreOutputs};
 ghost use Rattle.design_cycles.specs.Rows.{AddsBits, AddsRows};
 
-use crate::graph::NodeList;
+use graphs::NodeList;
 use crate::layout::Layout;
 use crate::order::{all_numbers, empty_lists};
 use crate::rows::{ROW_BITS, row_of, rows_of};

@@ -1,10 +1,10 @@
 //! Rows of bits: of each node of a graph, which of some inputs it depends on or is, one bit for each input.
 ghost use Rattle.std.specs.Prelude.{◌≡◌, ◌<◌, ◌≤◌, ℕ, ◌∷◌, [], length, IfOk};
 ghost use Rattle.wiring.specs.Wiring.{In};
-ghost use Rattle.design_cycles.specs.Graphs.{lists_of};
+ghost use Rattle.graphs.specs.Graphs.{lists_of};
 ghost use Rattle.design_cycles.specs.Rows.{row_at, row_of, JoinsRows, Spreads, Settles, GivesBits, AreRows};
 
-use crate::graph::NodeList;
+use graphs::NodeList;
 use std::alloc::{AllocError, Global};
 
 /// How many inputs have bits in a row.

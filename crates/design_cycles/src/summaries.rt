@@ -7,13 +7,14 @@ ghost use Rattle.ir_store.specs.Numbered.{ops_by_position, position_of, ref_by};
 ghost use Rattle.ir_store.specs.Designs.{port_of, design_of, modules_of};
 ghost use Rattle.design_cycles.specs.Asked.{HasDistinctSymbols};
 ghost use Rattle.design_cycles.specs.Calls.{call_lists};
-ghost use Rattle.design_cycles.specs.Graphs.{lists_of, AreCalled};
+ghost use Rattle.graphs.specs.Graphs.{lists_of};
+ghost use Rattle.design_cycles.specs.Graphs.{AreCalled};
 ghost use Rattle.design_cycles.specs.Places.{symbol_at};
 ghost use Rattle.design_cycles.specs.Weighing.{IsWhole};
 ghost use Rattle.design_cycles.specs.Nodes.{rows_by, value_node};
 ghost use Rattle.design_cycles.specs.Summing.{inputs_from, reached_numbers, AreInputs, AreOutputs, KnowsCallees, IsSummed};
 
-use crate::graph::{NodeList, is_marked, reached_from};
+use graphs::{NodeList, is_marked, reached_from};
 use crate::in_order::are_in_order;
 use crate::layout::{Layout, Summary};
 use crate::ops::{Sort, op_at, sort_of};

@@ -3,10 +3,10 @@ ghost use Rattle.std.specs.Prelude.{◌≡◌, ◌<◌, ◌^◌, length, map, If
 ghost use Rattle.ir_store.specs.Bodies.{ids_of, ops_of, op_id};
 ghost use Rattle.ir_store.specs.Numbered.{ops_by_position};
 ghost use Rattle.ir_store.specs.Designs.{modules_of};
-ghost use Rattle.design_cycles.specs.Graphs.{lists_of};
+ghost use Rattle.graphs.specs.Graphs.{lists_of};
 ghost use Rattle.design_cycles.specs.Nodes.{rows_by, sizes_in, body_lists, IsLayout};
 
-use crate::graph::NodeList;
+use graphs::NodeList;
 use crate::layout::{Layout, Summary};
 use crate::wires::{Scope, graph_of, layout_of};
 use ir_store::design::{Design, Module};

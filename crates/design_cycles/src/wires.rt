@@ -7,10 +7,10 @@ ghost use Rattle.ir_store.specs.Bodies.{ids_of, ops_of, op_id};
 ghost use Rattle.ir_store.specs.Designs.{modules_of};
 ghost use Rattle.ir_store.specs.Numbered.{ops_by_position};
 ghost use Rattle.std.specs.Prelude.{slice_get};
-ghost use Rattle.design_cycles.specs.Graphs.{lists_of};
+ghost use Rattle.graphs.specs.Graphs.{lists_of};
 ghost use Rattle.design_cycles.specs.Nodes.{rows_at as rows_kept, rows_by, HasSize, sizes_in, AreSpans, IsLayout, span_node, value_node, value_nodes, picked_values, times_over, body_lists, lists_at};
 
-use crate::graph::NodeList;
+use graphs::NodeList;
 use crate::layout::{Layout, Span, Summary};
 use crate::ops::{Sort, op_at, sort_of};
 use crate::order::empty_lists;

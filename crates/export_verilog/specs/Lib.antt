@@ -13,7 +13,6 @@ pub mod EmissionViews
 pub mod Walks
 pub mod ModuleNames
 pub mod Values
-pub mod RegisterViews
 pub mod Statements
 pub mod Joined
 pub mod ScopeModules

@@ -8,7 +8,8 @@ ghost use Rattle.ir_store.specs.Bodies.{ops_of};
 ghost use Rattle.ir_store.specs.Numbered.{ops_by_position};
 ghost use Rattle.ir_store.specs.Designs.{design_of, modules_of};
 ghost use Rattle.design_cycles.specs.Calls.{call_lists, callee_number, numbers_of};
-ghost use Rattle.design_cycles.specs.Graphs.{has_mark, AreCalled};
+ghost use Rattle.graphs.specs.Graphs.{has_mark};
+ghost use Rattle.design_cycles.specs.Graphs.{AreCalled};
 ghost use Rattle.export_verilog.specs.Called.{with_marks};
 
 use design_cycles::op_at;

@@ -8,17 +8,19 @@ ghost use Rattle.hw_model.specs.Design.{find_module, register_form};
 ghost use Rattle.hw_model.specs.Flat.{Net, held_width, net, registers, register_in, async_reset_in};
 ghost use Rattle.hw_model.specs.Meaning.{value_if_enabled as enabled_word, reset as reset_word, next_value as loaded_word, rise_value as risen_word, next_content, risen_content as risen_contents, outputs_of, outputs, machine};
 ghost use Rattle.hw_model.specs.Machine.{Step, Run};
+ghost use Rattle.hw_model.specs.RegisterViews.{register_of, reset_by_of};
 ghost use Rattle.hw_interpreter.specs.DesignViews.{ref_of, op_of, module_of};
 ghost use Rattle.hw_interpreter.specs.Depth.{value_within, values_within, content_within, run_within, Suffices};
 ghost use Rattle.operation_values.specs.Suits.{IsCounted};
 ghost use Rattle.hw_interpreter.specs.SuitsWithin.{AlwaysSuits, TakesRefs, register_refs, reset_refs, signal_refs, IsCountedDesign, TakesStep, SuitsStep, TakesRun};
 ghost use Rattle.operation_values.specs.declared.refusal.Refusal.TheVariants.{NotFitting};
-ghost use Rattle.hw_interpreter.specs.Registers.{slot_of, register_of, reset_by_of};
+ghost use Rattle.hw_interpreter.specs.Registers.{slot_of};
 
 use crate::design::{Module, Operand, Setting};
 use crate::modules::{find_module, held_width, output_operands};
 use crate::nets::{net_value, operand_values, pad};
-use crate::registers::{Register, ResetBy, Slot, async_reset_in, register_in, registers};
+use crate::registers::{Slot, async_reset_in, register_in, registers};
+use hw_model::registers::{Register, ResetBy};
 use operation_values::bit_string::BitString;
 use operation_values::refusal::Refusal;
 use operation_values::values::{concat_words, is_high};
@@ -124,15 +126,15 @@ fn rise_value(
     at: &Setting,
     depth: u32,
     path: &[u32],
-    by: ResetBy,
+    by: ResetBy<Operand>,
     old: BitString,
 ) -> Result<BitString, Refusal>
-    ensures value { IfOk result (λ word. word ≡ risen_word (Some (reset_by_of by))
+    ensures value { IfOk result (λ word. word ≡ risen_word (Some (reset_by_of ref_of by))
         (λ r. value_within (map module_of earlier.now.modules.now) earlier.now.top.now earlier.now.inputs.now earlier.now.content.now depth (net path.now r))
         (λ r. value_within (map module_of at.now.modules.now) at.now.top.now at.now.inputs.now at.now.content.now depth (net path.now r)) old) }
     ensures refuses { IsErrOf result NotFitting
-        → TakesRefs (map module_of earlier.now.modules.now) earlier.now.top.now earlier.now.inputs.now earlier.now.content.now depth path.now (signal_refs (Some (reset_by_of by)))
-        → ¬ TakesRefs (map module_of at.now.modules.now) at.now.top.now at.now.inputs.now at.now.content.now depth path.now (reset_refs (Some (reset_by_of by))) }
+        → TakesRefs (map module_of earlier.now.modules.now) earlier.now.top.now earlier.now.inputs.now earlier.now.content.now depth path.now (signal_refs (Some (reset_by_of ref_of by)))
+        → ¬ TakesRefs (map module_of at.now.modules.now) at.now.top.now at.now.inputs.now at.now.content.now depth path.now (reset_refs (Some (reset_by_of ref_of by))) }
 {
     let was = net_value(alloc, earlier, depth, path, by.signal)?;
     if is_high(&was) {
@@ -214,12 +216,12 @@ fn next_value(
     at: &Setting,
     depth: u32,
     path: &[u32],
-    register: Register,
+    register: Register<Operand>,
     old: BitString,
 ) -> Result<BitString, Refusal>
-    ensures value { IfOk result (λ word. word ≡ loaded_word (Some (register_of register))
+    ensures value { IfOk result (λ word. word ≡ loaded_word (Some (register_of ref_of register))
         (λ r. value_within (map module_of at.now.modules.now) at.now.top.now at.now.inputs.now at.now.content.now depth (net path.now r)) old) }
-    ensures refuses { IsErrOf result NotFitting → ¬ TakesRefs (map module_of at.now.modules.now) at.now.top.now at.now.inputs.now at.now.content.now depth path.now (register_refs (Some (register_of register))) }
+    ensures refuses { IsErrOf result NotFitting → ¬ TakesRefs (map module_of at.now.modules.now) at.now.top.now at.now.inputs.now at.now.content.now depth path.now (register_refs (Some (register_of ref_of register))) }
 {
     let clock = net_value(alloc, at, depth, path, register.clock)?;
     if !is_high(&clock) {
@@ -259,12 +261,12 @@ fn reset(
     at: &Setting,
     depth: u32,
     path: &[u32],
-    reset: Option<ResetBy>,
+    reset: Option<ResetBy<Operand>>,
     next: BitString,
 ) -> Result<BitString, Refusal>
-    ensures value { IfOk result (λ word. word ≡ reset_word (option_map reset_by_of reset)
+    ensures value { IfOk result (λ word. word ≡ reset_word (option_map (reset_by_of ref_of) reset)
         (λ r. value_within (map module_of at.now.modules.now) at.now.top.now at.now.inputs.now at.now.content.now depth (net path.now r)) next) }
-    ensures refuses { IsErrOf result NotFitting → ¬ TakesRefs (map module_of at.now.modules.now) at.now.top.now at.now.inputs.now at.now.content.now depth path.now (reset_refs (option_map reset_by_of reset)) }
+    ensures refuses { IsErrOf result NotFitting → ¬ TakesRefs (map module_of at.now.modules.now) at.now.top.now at.now.inputs.now at.now.content.now depth path.now (reset_refs (option_map (reset_by_of ref_of) reset)) }
 {
     match reset {
         None => Ok(next),

@@ -1,17 +1,17 @@
 //! The registers of a module, through its instances.
 ghost use Rattle.std.specs.Prelude.{ℕ, ◌≡◌, ◌+◌, ◌-◌, ◌∷◌, [], ◌++◌, ◌≤◌, ◌<◌, length, take, drop, map, cond, IfOk, OnOk, OnErr, IsErrOf, ◌^◌, suc, true, false, MatchOption, Option, Some, None, option_map};
-ghost use Rattle.hw_model.specs.KindViews.{kind_of, reset_of};
 ghost use Rattle.hw_model.specs.Design.{find_module, register_form, is_instance};
-ghost use Rattle.hw_model.specs.Flat.{instances, net, module_registers, body_registers, op_registers, registers, register_in, register_parts, async_reset_in, async_parts, depth};
+ghost use Rattle.hw_model.specs.Flat.{instances, net, module_registers, body_registers, op_registers, registers, register_in, async_reset_in, depth};
+ghost use Rattle.hw_model.specs.RegisterViews.{register_of, reset_by_of};
 ghost use Rattle.hw_interpreter.specs.DesignViews.{ref_of, op_of, module_of};
-ghost use Rattle.hw_interpreter.specs.Registers.{slot_of, register_of, reset_by_of};
+ghost use Rattle.hw_interpreter.specs.Registers.{slot_of};
 ghost use Rattle.hw_interpreter.specs.SuitsWithin.{HasFewInstances};
 ghost use Rattle.operation_values.specs.declared.refusal.Refusal.TheVariants.{NotFitting};
 
 use crate::design::{Module, Operand, Operation};
 use crate::modules::{depth_of, find_module, instance_in, is_instance, is_register};
 use crate::nets::inner_path;
-use hw_model::kinds::{OpKind, Reset};
+use hw_model::registers::{Register, ResetBy, async_reset_of, register_of};
 use operation_values::refusal::Refusal;
 use std::alloc::Global;
 
@@ -24,127 +24,18 @@ pub struct Slot<'a> {
     pub operation: &'a Operation,
 }
 
-/// What resets a register, and to what.
-#[derive(Clone, Copy, Debug)]
-pub struct ResetBy {
-    /// The signal.
-    pub signal: Operand,
-    /// The value.
-    pub value: Operand,
-}
-
-/// A register's operands.
-#[derive(Clone, Copy, Debug)]
-pub struct Register {
-    /// The data.
-    pub next: Operand,
-    /// The clock.
-    pub clock: Operand,
-    /// The enable, where it has one.
-    pub enable: Option<Operand>,
-    /// The reset, where it has one.
-    pub reset: Option<ResetBy>,
-}
-
 /// The register that an operation is.
-pub fn register_in(operation: &Operation) -> Option<Register>
-    ensures { option_map register_of result ≡ register_in (op_of operation.now) }
+pub fn register_in(operation: &Operation) -> Option<Register<Operand>>
+    ensures { option_map (register_of ref_of) result ≡ register_in (op_of operation.now) }
 {
-    let operands = operation.operands.as_slice();
-    match operation.kind {
-        OpKind::CompReg(reset) | OpKind::FirReg(reset) => plain_register(reset, operands),
-        OpKind::AsyncFirReg => plain_register(Reset::Sync, operands),
-        OpKind::CompRegCe(reset) => enabled_register(reset, operands),
-        _ => None,
-    }
-}
-
-fn plain_register(reset: Reset, operands: &[Operand]) -> Option<Register>
-    ensures { option_map register_of result ≡ register_parts false (reset_of reset) (map ref_of operands.now) }
-{
-    match reset {
-        Reset::No => match operands {
-            [next, clock] => Some(without_reset(*next, *clock, None)),
-            _ => None,
-        },
-        Reset::Sync => match operands {
-            [next, clock, signal, value] => Some(with_reset(*next, *clock, None, *signal, *value)),
-            _ => None,
-        },
-    }
-}
-
-fn enabled_register(reset: Reset, operands: &[Operand]) -> Option<Register>
-    ensures { option_map register_of result ≡ register_parts true (reset_of reset) (map ref_of operands.now) }
-{
-    match reset {
-        Reset::No => match operands {
-            [next, clock, enable] => Some(without_reset(*next, *clock, Some(*enable))),
-            _ => None,
-        },
-        Reset::Sync => match operands {
-            [next, clock, enable, signal, value] => Some(with_reset(
-                *next,
-                *clock,
-                Some(*enable),
-                *signal,
-                *value,
-            )),
-            _ => None,
-        },
-    }
-}
-
-fn without_reset(next: Operand, clock: Operand, enable: Option<Operand>) -> Register
-    ensures { result ≡ record { next = next; clock = clock; enable = enable; reset = None } }
-{
-    Register {
-        next,
-        clock,
-        enable,
-        reset: None,
-    }
-}
-
-fn with_reset(
-    next: Operand,
-    clock: Operand,
-    enable: Option<Operand>,
-    signal: Operand,
-    value: Operand,
-) -> Register
-    ensures { result ≡ record { next = next; clock = clock; enable = enable; reset = Some (record { signal = signal; value = value }) } }
-{
-    let reset = Some(ResetBy { signal, value });
-    Register {
-        next,
-        clock,
-        enable,
-        reset,
-    }
+    register_of(&operation.kind, operation.operands.as_slice())
 }
 
 /// What resets a register without its clock, and to what.
-pub fn async_reset_in(operation: &Operation) -> Option<ResetBy>
-    ensures { option_map reset_by_of result ≡ async_reset_in (op_of operation.now) }
+pub fn async_reset_in(operation: &Operation) -> Option<ResetBy<Operand>>
+    ensures { option_map (reset_by_of ref_of) result ≡ async_reset_in (op_of operation.now) }
 {
-    match operation.kind {
-        OpKind::AsyncFirReg => async_parts(operation.operands.as_slice()),
-        _ => None,
-    }
-}
-
-// the reset and its value among the operands of such a register
-fn async_parts(operands: &[Operand]) -> Option<ResetBy>
-    ensures { option_map reset_by_of result ≡ async_parts (map ref_of operands.now) }
-{
-    match operands {
-        [_, _, signal, value] => Some(ResetBy {
-            signal: *signal,
-            value: *value,
-        }),
-        _ => None,
-    }
+    async_reset_of(&operation.kind, operation.operands.as_slice())
 }
 
 /// The registers of the module of a symbol, in the order of its content.

@@ -18,4 +18,5 @@ pub mod IntegerKinds
 pub mod TypeViews
 pub mod KindViews
 pub mod FamilyViews
+pub mod RegisterViews
 pub mod KindsApart

@@ -4,14 +4,15 @@
 //! and where its nets' values come from, machines, steps and runs, weights, and sound designs. The laws on them are the
 //! clauses of functions that do nothing.
 //!
-//! [`types`] and [`kinds`] are what a program keeps of types and kinds; contracts see them by their views. [`families`] says
-//! what an operation has in common with others.
+//! [`types`] and [`kinds`] are what a program keeps of types and kinds, [`registers`] the operands of registers; contracts see
+//! them by their views. [`families`] says what an operation has in common with others.
 #![tactic(auto)]
 
 pub mod families;
 pub mod integer_values;
 pub mod kinds;
 mod laws;
+pub mod registers;
 mod same_kinds;
 pub mod types;
 

@@ -14,3 +14,4 @@ pub mod PositionTables
 pub mod ReadOps
 pub mod Samples
 pub mod UseLemmas
+pub mod Walks

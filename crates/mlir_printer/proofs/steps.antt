@@ -4,4 +4,3 @@ pub mod Listing
 pub mod Passing
 pub mod Showing
 pub mod Steps
-pub mod Walks

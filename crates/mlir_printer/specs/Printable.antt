@@ -1,21 +1,18 @@
 -- What a design must have to be printed and read again as itself.
-use Rattle.std.specs.Prelude.{◌≡◌, ℕ, ◌+◌, ◌^◌, ◌<◌, max, true, false, List, [], ◌∷◌, ◌++◌, length, map, Option, Some, slice_get, ⊤}
+use Rattle.std.specs.Prelude.{◌≡◌, ◌+◌, ◌^◌, ◌<◌, true, false, List, [], ◌∷◌, ◌++◌, length, map, Option, Some, slice_get, ⊤}
 use Rattle.std.specs.Ordering.{nat_cmp, is_lt}
 use Rattle.std.specs.Cmp.Lexicographic.{slice_cmp}
 use Rattle.opcode.specs.declared.listed.Listed.{Listed}
 use Rattle.opcode.specs.declared.listed.Listed.TheVariants as listed
 use Rattle.hw_model.specs.Types.{Name, HwType}
-use Rattle.hw_model.specs.Kinds.{Kind, Reset, Instance}
-use Rattle.hw_model.specs.Kinds.Reset.{no_reset, sync_reset}
-use Rattle.hw_model.specs.Kinds.ArrayOp.{array_create, array_concat, array_inject}
-use Rattle.hw_model.specs.Kinds.StructOp.{struct_create, struct_extract, struct_inject, struct_explode}
-use Rattle.hw_model.specs.Kinds.RegisterOp.{compreg, compreg_ce, firreg}
-use Rattle.hw_model.specs.Kinds.Kind.{variadic, parity, extract, concat, replicate, mux, constant, aggregate_constant, on_array, on_struct, bitcast, wire, instance, output, register, async_firreg}
+use Rattle.hw_model.specs.Kinds.{Kind, Instance}
+use Rattle.hw_model.specs.Kinds.StructOp.{struct_extract, struct_inject}
+use Rattle.hw_model.specs.Kinds.Kind.{extract, constant, aggregate_constant, on_struct, instance, output}
 use Rattle.hw_model.specs.Opcodes.{opcode_of}
 use Rattle.hw_model.specs.Design.{Entry, Ref, Port, OpResult, Op, Module, Design, is_output_op}
 use Rattle.hw_model.specs.Design.Ref.{port, result, undefined}
 use Rattle.ir_store.specs.ResultTypes.{result_types}
-use Rattle.op_verifier.specs.CountChecks.{type_count}
+use Rattle.op_verifier.specs.CountChecks.{operands_written, type_count}
 use Rattle.mlir_syntax.specs.Numerals.{count_limit}
 use Rattle.mlir_operations.specs.OperationText.{takes_bin, string_keys}
 use Rattle.mlir_operations.specs.ModuleText.{module_keys}
@@ -83,37 +80,6 @@ IsWritten (on_struct (struct_extract name)) = AreBytes name
 IsWritten (on_struct (struct_inject name)) = AreBytes name
 IsWritten (instance i) = IsWrittenInstance i
 IsWritten _ = ⊤
-
--- the operands of a reset
-abbrev pub reset_operands : Reset → ℕ
-reset_operands no_reset = 0
-reset_operands sync_reset = 2
-
--- how many operands are written of an operation that has n: of some kinds any number, of some any from 1 on
-unfoldable pub operands_written : Kind → ℕ → ℕ
-operands_written (variadic v) n = max 1 n
-operands_written parity n = 1
-operands_written (extract low) n = 1
-operands_written concat n = max 1 n
-operands_written replicate n = 1
-operands_written mux n = 3
-operands_written (constant z) n = 0
-operands_written (aggregate_constant ls) n = 0
-operands_written (on_array array_create) n = max 1 n
-operands_written (on_array array_concat) n = max 1 n
-operands_written (on_array array_inject) n = 3
-operands_written (on_struct struct_create) n = n
-operands_written (on_struct (struct_extract name)) n = 1
-operands_written (on_struct struct_explode) n = 1
-operands_written bitcast n = 1
-operands_written wire n = 1
-operands_written (instance i) n = length i.inputs
-operands_written output n = n
-operands_written (register compreg r) n = 2 + reset_operands r
-operands_written (register compreg_ce r) n = 3 + reset_operands r
-operands_written (register firreg r) n = 2 + reset_operands r
-operands_written async_firreg n = 2 + reset_operands sync_reset
-operands_written kind n = 2
 
 -- ---- operations
 

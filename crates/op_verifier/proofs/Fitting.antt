@@ -13,7 +13,7 @@ use Rattle.ir_store.specs.ResultTypes.{first_type, second_type, result_type, res
 use Rattle.op_verifier.specs.TypeLists.{known_types}
 use Rattle.op_verifier.specs.OperandChecks.{has_other_form, has_other_operand}
 use Rattle.op_verifier.specs.LimitChecks.{has_extract_outside, has_broken_copy, has_wide_concat, are_unequal, has_unequal_widths}
-use Rattle.op_verifier.specs.CountChecks.{operand_count, type_count, has_miscounted_parts}
+use Rattle.op_verifier.specs.CountChecks.{operands_written, operand_count, type_count, has_miscounted_parts}
 use Rattle.op_verifier.specs.OwnChecks.{own_cause}
 use Rattle.op_verifier.proofs.Agreeing.{same_number, pairwise_agreed, prefix_agreed}
 use Rattle.op_verifier.proofs.FitArrays.{creation, joining, element, slicing, injection}
@@ -30,14 +30,11 @@ equal_widths (Some t) (Some s) u v h p q =
 equal_widths None y u v h p q = cc
 equal_widths (Some t) None u v h p q = cc
 
-joined_count : (m n : ℕ) → n ≡ max 1 m → m ≡ n → n ≡ m
-joined_count m n h e = omega arith
-
-some_joined : (m n : ℕ) → n ≡ max 1 m → m ≡ n → 1 ≤ m
+some_joined : (m n : ℕ) → n ≡ max 1 n → m ≡ n → 1 ≤ m
 some_joined m n h e = omega arith
 
 fits_by : {named : ℕ} {is_known : Bool} (kind : Kind) (ts rs us : List HwType) → NoOwnCause kind ts rs named (length us) (known_types us) is_known → (k : ℕ) (t : HwType) → slice_get rs k ≡ Some t → Fits kind ts (known_types us) t k
-unfolding has_other_form has_other_operand operand_count type_count result_type result_types result_count has_extract_outside has_broken_copy has_wide_concat has_unequal_widths has_miscounted_parts
+unfolding has_other_form has_other_operand operands_written operand_count type_count result_type result_types result_count has_extract_outside has_broken_copy has_wide_concat has_unequal_widths has_miscounted_parts
 fits_by (variadic v) ts rs us h k t e = variadic_fits ts rs us k t h.types h.results h.operand h.result e
 fits_by sub ts rs us h k t e = binary ts rs us k t h.types h.results h.operands h.operand h.result e
 fits_by (division d) ts rs us h k t e = binary ts rs us k t h.types h.results h.operands h.operand h.result e
@@ -45,13 +42,13 @@ fits_by (shift s) ts rs us h k t e = binary ts rs us k t h.types h.results h.ope
 fits_by (icmp p) ts rs us h k t e = comparison ts rs us k t h.types h.results h.operands h.operand h.result e
 fits_by parity ts rs us h k t e = parities ts rs us k t h.types h.results h.operands h.operand h.result e
 fits_by (extract low) ts rs us h k t e = extraction low ts rs us k t h.types h.results h.operands h.form h.operand h.extract h.result e
-fits_by concat ts rs us h k t e = concatenation ts rs us k t (joined_count (length ts) (length us) h.operands h.types) h.results h.form h.operand h.wide h.result e
+fits_by concat ts rs us h k t e = concatenation ts rs us k t (sym h.types) h.results h.form h.operand h.wide h.result e
 fits_by replicate ts rs us h k t e = replication ts rs us k t h.types h.results h.operands h.form h.operand h.copy h.result e
 fits_by mux ts rs us h k t e = choice ts rs us k t h.types h.results h.operands h.operand h.result e
 fits_by (constant z) ts rs us h k t e = none_left us h.operands
 fits_by (aggregate_constant ls) ts rs us h k t e = aggregate ls ts rs us k t h.types h.operands h.results h.operand h.parts h.result e
 fits_by (on_array array_create) ts rs us h k t e = creation ts rs us k t h.types h.results h.operand h.array h.result e
-fits_by (on_array array_concat) ts rs us h k t e = joining ts rs us k t (some_joined (length ts) (length us) h.operands h.types) (joined_count (length ts) (length us) h.operands h.types) h.results h.form h.operand h.array h.result e
+fits_by (on_array array_concat) ts rs us h k t e = joining ts rs us k t (some_joined (length ts) (length us) h.operands h.types) (sym h.types) h.results h.form h.operand h.array h.result e
 fits_by (on_array array_get) ts rs us h k t e = element ts rs us k t h.types h.operands h.results h.form h.operand h.result e
 fits_by (on_array array_slice) ts rs us h k t e = slicing ts rs us k t h.types h.operands h.results h.form h.operand h.result e
 fits_by (on_array array_inject) ts rs us h k t e = injection ts rs us k t h.types h.operands h.results h.form h.operand h.result e
@@ -74,7 +71,7 @@ fits kind ts rs named us is_known h = fits_by kind ts rs us (no_settled_cause ki
 
 -- an instance's operands and results have its written types
 instance_by : {named : ℕ} {is_known : Bool} (i : Instance) (ts rs us : List HwType) → NoOwnCause (instance i) ts rs named (length us) (known_types us) is_known → (us ≡ take (length i.inputs) ts) × (rs ≡ drop (length i.inputs) ts)
-unfolding has_other_operand operand_count type_count result_types result_count
+unfolding has_other_operand operands_written operand_count type_count result_types result_count
 instance_by i ts rs us h =
     let n : length us ≡ length i.inputs = h.operands in
     let l : length us ≤ length ts = at_most (length us) (length i.inputs) (length i.outputs) (length ts) n h.types in
@@ -90,8 +87,8 @@ instance_types i ts rs named us is_known h = instance_by i ts rs us (no_settled_
 
 -- an output's operands have its written types
 output_by : {named : ℕ} {is_known : Bool} (ts rs us : List HwType) → NoOwnCause output ts rs named (length us) (known_types us) is_known → us ≡ ts
-unfolding has_other_operand operand_count
-output_by ts rs us h = pairwise_agreed us ts h.operands h.operand
+unfolding has_other_operand type_count
+output_by ts rs us h = pairwise_agreed us ts (sym h.types) h.operand
 
 pub output_types : (ts rs : List HwType) (named : ℕ) (us : List HwType) (is_known : Bool) → own_cause output ts rs named (known_types us) is_known ≡ None → us ≡ ts
 output_types ts rs named us is_known h = output_by ts rs us (no_settled_cause output ts rs named us is_known h)

@@ -2,6 +2,7 @@
 pub mod AcceptedDesigns
 pub mod Agreeing
 pub mod Distinct
+pub mod EntryWalks
 pub mod FaultSteps
 pub mod FitArrays
 pub mod FitIntegers
@@ -22,6 +23,5 @@ pub mod Settled
 pub mod SoundDesigns
 pub mod Symbols
 pub mod Unrefused
-pub mod Walks
 pub mod WholeDesigns
 pub mod Widths

@@ -15,7 +15,7 @@ use Rattle.op_verifier.specs.TypeChecks.{is_int}
 use Rattle.op_verifier.specs.TypeLists.{known_types, is_no_int, is_no_array, differ}
 use Rattle.op_verifier.specs.OperandChecks.{is_no_array_of, has_other_array, has_other_form}
 use Rattle.op_verifier.specs.LimitChecks.{has_unknown_field}
-use Rattle.op_verifier.specs.CountChecks.{operand_count, type_count}
+use Rattle.op_verifier.specs.CountChecks.{operands_written, operand_count, type_count}
 use Rattle.op_verifier.proofs.Widths.{neither}
 use Rattle.op_verifier.proofs.Agreeing.{not_false, pairwise_agreed}
 use Rattle.op_verifier.proofs.NoOwnCause.{NoOwnCause}
@@ -80,7 +80,7 @@ element_known (Some clock) t e h = cc
 element_known (Some (struct fs)) t e h = cc
 element_known None t e h = cc
 
-joined_arrays : (ts : List HwType) (n : ℕ) → n ≡ max 1 (length ts) → length ts ≡ n → has_other_array ts ≡ false → Settles (array_of (joined_length ts) (element_of (first_type ts)) ∷ []) 1
+joined_arrays : (ts : List HwType) (n : ℕ) → n ≡ max 1 n → length ts ≡ n → has_other_array ts ≡ false → Settles (array_of (joined_length ts) (element_of (first_type ts)) ∷ []) 1
 unfolding joined_length
 joined_arrays [] n some count h = absurd (omega (arith, some, count))
 joined_arrays (array c e ∷ ts) n some count h =
@@ -103,7 +103,7 @@ fields_known (Some (struct fs)) = record { us = field_list fs; same = refl; numb
 
 settles_all : (kind : Kind) (ts : List HwType) (n : ℕ) → has_other_form kind ts ≡ false → has_unknown_field kind ts ≡ false → n ≡ operand_count kind ts n → length ts ≡ type_count kind n
     → Settles (result_types kind ts n) (result_count kind ts)
-unfolding result_types result_type result_count type_count operand_count has_other_form
+unfolding result_types result_type result_count type_count operands_written operand_count has_other_form
 settles_all (variadic v) ts n form field operands types = by_first ts types
 settles_all sub ts n form field operands types = by_first ts types
 settles_all (division d) ts n form field operands types = by_first ts types

@@ -21,7 +21,7 @@ use Rattle.op_verifier.specs.Faults.{op_refusal, header_refusal, first_fault}
 use Rattle.op_verifier.specs.Verdict.{OpAt, IsEarlier, FirstOp, NoOp, FirstModule, NoModule, IsRecursive, IsTooLarge, IsOnCycle, IsAccepted, IsRefusal}
 use Rattle.op_verifier.specs.Verdict.IsRefusal.{recursive, too_large, cyclic}
 use Rattle.op_verifier.specs.Answered.{IsRefusedModule, IsRefusedOp}
-use Rattle.op_verifier.proofs.Walks.{found_by_id}
+use Rattle.ir_store.proofs.Walks.{found_by_id}
 
 pub some_from : {A : Type 0} {a b : A} → Some a ≡ Some b → a ≡ b
 some_from {a = a} h = ap (λ (o : Option _). value a o) h

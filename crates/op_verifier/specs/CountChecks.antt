@@ -24,38 +24,45 @@ register_operands compreg = 2
 register_operands compreg_ce = 3
 register_operands firreg = 2
 
-abbrev pub array_operands : ArrayOp → List HwType → ℕ → ℕ
-array_operands array_create ts n = max 1 n
-array_operands array_concat ts n = max 1 (length ts)
-array_operands array_get ts n = 2
-array_operands array_slice ts n = 2
-array_operands array_inject ts n = 3
+-- those of an operation on arrays that has n
+abbrev pub array_operands : ArrayOp → ℕ → ℕ
+array_operands array_create n = max 1 n
+array_operands array_concat n = max 1 n
+array_operands array_get n = 2
+array_operands array_slice n = 2
+array_operands array_inject n = 3
 
-abbrev pub struct_operands : StructOp → List HwType → ℕ
-struct_operands struct_create ts = field_count (first_type ts)
-struct_operands (struct_extract name) ts = 1
-struct_operands (struct_inject name) ts = 2
-struct_operands struct_explode ts = 1
+-- those of an operation on structs that has n
+abbrev pub struct_operands : StructOp → ℕ → ℕ
+struct_operands struct_create n = n
+struct_operands (struct_extract name) n = 1
+struct_operands (struct_inject name) n = 2
+struct_operands struct_explode n = 1
 
--- how many operands an operation takes that writes these types and has n operands: of some kinds any number from 1 on
+-- how many operands are written of an operation that has n: of some kinds any number, of some any from 1 on
+unfoldable pub operands_written : Kind → ℕ → ℕ
+operands_written (variadic v) n = max 1 n
+operands_written parity n = 1
+operands_written (extract low) n = 1
+operands_written concat n = max 1 n
+operands_written replicate n = 1
+operands_written mux n = 3
+operands_written (constant z) n = 0
+operands_written (aggregate_constant ls) n = 0
+operands_written (on_array a) n = array_operands a n
+operands_written (on_struct s) n = struct_operands s n
+operands_written bitcast n = 1
+operands_written wire n = 1
+operands_written (instance i) n = length i.inputs
+operands_written output n = n
+operands_written (register f r) n = register_operands f + reset_operands r
+operands_written async_firreg n = register_operands firreg + reset_operands sync_reset
+operands_written kind n = 2
+
+-- how many an operation takes that writes these types and has n: a struct that is made takes one for each of its fields
 unfoldable pub operand_count : Kind → List HwType → ℕ → ℕ
-operand_count (variadic v) ts n = max 1 n
-operand_count parity ts n = 1
-operand_count (extract low) ts n = 1
-operand_count concat ts n = max 1 (length ts)
-operand_count replicate ts n = 1
-operand_count mux ts n = 3
-operand_count (constant z) ts n = 0
-operand_count (aggregate_constant ls) ts n = 0
-operand_count (on_array a) ts n = array_operands a ts n
-operand_count (on_struct s) ts n = struct_operands s ts
-operand_count bitcast ts n = 1
-operand_count wire ts n = 1
-operand_count (instance i) ts n = length i.inputs
-operand_count output ts n = length ts
-operand_count (register f r) ts n = register_operands f + reset_operands r
-operand_count async_firreg ts n = register_operands firreg + reset_operands sync_reset
-operand_count kind ts n = 2
+operand_count (on_struct struct_create) ts n = field_count (first_type ts)
+operand_count kind ts n = operands_written kind n
 
 -- how many types an operation on arrays writes
 abbrev pub array_types : ArrayOp → ℕ → ℕ

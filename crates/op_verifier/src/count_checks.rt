@@ -5,7 +5,7 @@ ghost use Rattle.hw_model.specs.TypeViews.{type_of};
 ghost use Rattle.hw_model.specs.FamilyViews.{family_of, register_op_of};
 ghost use Rattle.hw_model.specs.KindViews.{reset_of, literals_in};
 ghost use Rattle.ir_store.specs.ResultTypes.{field_count, result_count};
-ghost use Rattle.op_verifier.specs.CountChecks.{register_operands, reset_operands, operand_count, type_count, parts_miscounted, has_miscounted_parts, has_wrong_operands, has_wrong_results};
+ghost use Rattle.op_verifier.specs.CountChecks.{register_operands, reset_operands, operands_written, operand_count, type_count, parts_miscounted, has_miscounted_parts, has_wrong_operands, has_wrong_results};
 
 use crate::literal_checks::are_parts_miscounted;
 use crate::type_parts::field_count;
@@ -21,14 +21,28 @@ pub(crate) fn has_wrong_operands(family: Family<'_>, types: &[Ty], operands: usi
     operands != operand_count(family, types, operands) || !has_type_count(family, types, operands)
 }
 
-/// How many operands an operation takes: of some kinds any number from 1 on.
+/// How many operands an operation takes that has so many: a struct that is made takes one for each of its fields.
 #[tactic(auto, unfolding(crate::specs::CountChecks::operand_count))]
 fn operand_count(family: Family<'_>, types: &[Ty], operands: usize) -> usize
     ensures { result ≡ operand_count (family_of family.entry) (map type_of types.now) operands }
 {
     match family {
-        Family::Variadic(_) | Family::Array(ArrayOp::Create) => operands.max(1),
-        Family::Concat | Family::Array(ArrayOp::Concat) => types.len().max(1),
+        Family::Struct(StructOp::Create) => struct_size(types.first()),
+        _ => operands_written(family, operands),
+    }
+}
+
+/// How many operands are written of an operation that has so many: of some kinds any number, of some any from 1 on.
+#[tactic(auto, unfolding(crate::specs::CountChecks::operands_written))]
+fn operands_written(family: Family<'_>, operands: usize) -> usize
+    ensures { result ≡ operands_written (family_of family.entry) operands }
+{
+    match family {
+        Family::Variadic(_)
+        | Family::Concat
+        | Family::Array(ArrayOp::Create)
+        | Family::Array(ArrayOp::Concat) => operands.max(1),
+        Family::Struct(StructOp::Create) | Family::Output => operands,
         Family::Constant(_) | Family::AggregateConstant(_) => 0,
         Family::Parity
         | Family::Extract(_)
@@ -38,9 +52,7 @@ fn operand_count(family: Family<'_>, types: &[Ty], operands: usize) -> usize
         | Family::Bitcast
         | Family::Wire => 1,
         Family::Mux | Family::Array(ArrayOp::Inject) => 3,
-        Family::Struct(StructOp::Create) => struct_size(types.first()),
         Family::Instance(instance) => instance.inputs.len(),
-        Family::Output => types.len(),
         Family::Register(op, reset) => register_operands(op) + reset_operands(reset),
         Family::AsyncFirReg => register_operands(RegisterOp::FirReg) + reset_operands(Reset::Sync),
         _ => 2,

@@ -14,13 +14,13 @@ use Rattle.diag.specs.declared.cause.Cause.{Cause}
 use Rattle.port_checks.specs.declared.named.PortPlace.{PortPlace}
 use Rattle.port_checks.specs.InstanceChecks.{instance_cause}
 use Rattle.port_checks.specs.ResetPorts.{IsBitInput, is_bit_input}
-use Rattle.port_checks.specs.Graphs.{Pair, pair_of}
+use Rattle.port_checks.specs.Pairs.{Pair, pair_of}
 use Rattle.port_checks.specs.Numbers.{port_number}
 use Rattle.port_checks.specs.Joins.{bit_port, named_port, place_at, place_of, named_in, operand_pairs, found_pairs, called_pairs, instance_pairs, pairs_in, made_from}
 use Rattle.port_checks.proofs.Pairs.{pair_some, some_pair}
 use Rattle.port_checks.proofs.ResetTests.{Names, Joins, bit_input_some, some_bit_input, port_ref_within}
 use Rattle.port_checks.proofs.Symbols.{module_place}
-use Rattle.port_checks.proofs.Walks.{made_some, some_made}
+use Rattle.port_checks.proofs.Making.{made_some, some_made}
 
 -- ---- a port that a value is
 

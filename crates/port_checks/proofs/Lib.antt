@@ -2,7 +2,7 @@
 pub mod Booleans
 pub mod Joining
 pub mod Least
-pub mod Marks
+pub mod Making
 pub mod Numbering
 pub mod Operands
 pub mod Pairs
@@ -11,4 +11,3 @@ pub mod Reaching
 pub mod ResetTests
 pub mod Seeing
 pub mod Symbols
-pub mod Walks

@@ -11,11 +11,11 @@ use Rattle.ir_store.specs.declared.design.Port.{Port}
 use Rattle.ir_store.specs.Designs.{StoredModule, port_of, numbered_module}
 use Rattle.ir_store.specs.Symbols.{symbol_place}
 use Rattle.ir_store.proofs.DesignLemmas.{read_get}
-use Rattle.port_checks.specs.Graphs.{pair_of, AddsPairs}
+use Rattle.port_checks.specs.Pairs.{pair_of, AddsPairs}
 use Rattle.port_checks.specs.Numbers.{port_number}
 use Rattle.port_checks.specs.Joins.{bit_port, operand_pairs, found_pairs, call_pairs}
 use Rattle.port_checks.proofs.Pairs.{adds_both}
-use Rattle.port_checks.proofs.Walks.{numbered_at}
+use Rattle.port_checks.proofs.Making.{numbered_at}
 
 -- ---- inputs
 

@@ -8,9 +8,11 @@ use Rattle.hw_model.specs.Design.{Op}
 use Rattle.ir_store.specs.declared.operation.OpId.{OpId}
 use Rattle.ir_store.specs.BodyOps.{BodyOp, op_at}
 use Rattle.port_checks.specs.Seen.{body_op_seen}
-use Rattle.port_checks.proofs.Walks.{ops_at, walk, made_of}
-use Rattle.port_checks.specs.Graphs.{lists_of, edges, Pair, pair, pair_of, AddsPairs}
-use Rattle.port_checks.specs.declared.graph.JoinedPorts.{JoinedPorts}
+use Rattle.ir_store.proofs.Walks.{ops_at, walk}
+use Rattle.port_checks.proofs.Making.{made_of}
+use Rattle.graphs.specs.Graphs.{lists_of, edges}
+use Rattle.port_checks.specs.Pairs.{Pair, pair, pair_of, AddsPairs}
+use Rattle.graphs.specs.declared.graph.NodeList.{NodeList}
 
 pub adds_none : (lists : List (List ℕ)) → AddsPairs [] lists lists
 adds_none lists = record {
@@ -84,13 +86,13 @@ adds_one old new a b below is =
 
 -- ---- lists in code
 
-pub joined_set : (joined : List JoinedPorts) (a : ℕ) (x y : JoinedPorts) (ports : List ℕ) → a < length joined → x ≡ get_or joined a x → ports ≡ x.numbers.items
-    → (b : ℕ) → y.numbers.items ≡ ports ++ b ∷ [] → lists_of (set joined a y) ≡ set (lists_of joined) a (edges (lists_of joined) a ++ b ∷ [])
+pub joined_set : (joined : List NodeList) (a : ℕ) (x y : NodeList) (ports : List ℕ) → a < length joined → x ≡ get_or joined a x → ports ≡ x.nodes.items
+    → (b : ℕ) → y.nodes.items ≡ ports ++ b ∷ [] → lists_of (set joined a y) ≡ set (lists_of joined) a (edges (lists_of joined) a ++ b ∷ [])
 joined_set [] a x y ports below is are b pushed = absurd (omega arith)
 joined_set (z ∷ joined) zero x y ports below is are b pushed =
-    ap (λ ns. ns ∷ lists_of joined) (pushed ∙ ap (λ ns. ns ++ b ∷ []) (are ∙ ap (λ (p : JoinedPorts). p.numbers.items) is))
+    ap (λ ns. ns ∷ lists_of joined) (pushed ∙ ap (λ ns. ns ++ b ∷ []) (are ∙ ap (λ (p : NodeList). p.nodes.items) is))
 joined_set (z ∷ joined) (suc a) x y ports below is are b pushed =
-    ap (λ ls. z.numbers.items ∷ ls) (joined_set joined a x y ports (omega arith) is are b pushed)
+    ap (λ ls. z.nodes.items ∷ ls) (joined_set joined a x y ports (omega arith) is are b pushed)
 
 pub no_edges : (n v : ℕ) → edges (replicate n []) v ≡ []
 no_edges zero v = refl

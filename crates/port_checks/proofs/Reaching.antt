@@ -10,7 +10,8 @@ use Rattle.hw_model.specs.Design.{Module, Design, find_module, instance_in}
 use Rattle.port_checks.specs.declared.named.PortPlace.{PortPlace}
 use Rattle.port_checks.specs.ResetPorts.{IsResetPort, port_count, is_reset_port}
 use Rattle.port_checks.specs.ResetPorts.IsResetPort.{named, joined}
-use Rattle.port_checks.specs.Graphs.{edges, has_mark, pair, AddsPairs, AreReached}
+use Rattle.graphs.specs.Graphs.{edges, has_mark, AreReached}
+use Rattle.port_checks.specs.Pairs.{pair, AddsPairs}
 use Rattle.port_checks.specs.Numbers.{AreStarts, port_number, numbers_of}
 use Rattle.port_checks.specs.Joins.{place_at, named_in, pairs_in, made_from}
 use Rattle.port_checks.specs.Marked.{has_mark_at, is_reset_of}

@@ -13,7 +13,7 @@ use Rattle.ir_store.specs.BodyOps.{BodyOp}
 use Rattle.ir_store.specs.Numbered.{ref_by, op_by}
 use Rattle.ir_store.specs.Symbols.{symbol_place}
 use Rattle.port_checks.specs.InstanceChecks.{instance_cause}
-use Rattle.port_checks.specs.Graphs.{pair_of}
+use Rattle.port_checks.specs.Pairs.{pair_of}
 use Rattle.port_checks.specs.Numbers.{port_number}
 use Rattle.port_checks.specs.Joins.{bit_port, named_port, operand_pairs, found_pairs, called_pairs, instance_pairs}
 use Rattle.port_checks.specs.Seen.{ref_seen, body_op_seen}

@@ -11,7 +11,7 @@ use Rattle.ir_store.specs.Symbols.{symbol_place}
 use Rattle.port_checks.specs.InstanceChecks.{instance_cause}
 use Rattle.port_checks.specs.ResetPorts.{is_bit_input}
 use Rattle.port_checks.specs.Numbers.{port_number}
-use Rattle.port_checks.specs.Graphs.{Pair, pair_of}
+use Rattle.port_checks.specs.Pairs.{Pair, pair_of}
 use Rattle.port_checks.specs.declared.named.PortPlace.{PortPlace}
 
 -- the port that a value is, where that is an input of type i1

@@ -1,8 +1,8 @@
 pub mod Answers
-pub mod Graphs
 pub mod InstanceChecks
 pub mod Joins
 pub mod Marked
 pub mod Numbers
+pub mod Pairs
 pub mod ResetPorts
 pub mod Seen

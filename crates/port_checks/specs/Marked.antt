@@ -2,7 +2,7 @@
 use Rattle.std.specs.Prelude.{◌≡◌, ℕ, Bool, false, List, Option, Some, None, slice_get}
 use Rattle.hw_model.specs.Design.{Module, Design}
 use Rattle.port_checks.specs.declared.reset_ports.ResetPorts.{ResetPorts}
-use Rattle.port_checks.specs.Graphs.{has_mark}
+use Rattle.graphs.specs.Graphs.{has_mark}
 use Rattle.port_checks.specs.Numbers.{port_number}
 use Rattle.port_checks.specs.ResetPorts.{is_reset_port}
 

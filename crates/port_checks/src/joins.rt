@@ -2,14 +2,16 @@
 ghost use Rattle.std.specs.Prelude.{◌≡◌, ◌+◌, ◌<◌, ◌^◌, cond, map, option_map, length, OnOk, Some};
 ghost use Rattle.hw_model.specs.Flat.{operand_for};
 ghost use Rattle.ir_store.specs.Designs.{port_of, module_of, numbered_module, design_of};
-ghost use Rattle.port_checks.specs.Graphs.{lists_of, AddsPairs};
+ghost use Rattle.graphs.specs.Graphs.{lists_of};
+ghost use Rattle.port_checks.specs.Pairs.{AddsPairs};
 ghost use Rattle.port_checks.specs.Joins.{operand_pairs, call_pairs, instance_pairs, pairs_in, made_from};
 ghost use Rattle.port_checks.specs.Seen.{ref_seen, op_seen};
 
-use crate::graph::{JoinedPorts, push_joined};
 use crate::instances::instance_cause;
 use crate::numbers::{optional_number, port_number};
+use crate::pairs::push_joined;
 use crate::ports::bit_port;
+use graphs::NodeList;
 use hw_model::kinds::{Instance, OpKind};
 use ir_store::body::Op;
 use ir_store::design::{Design, Module, Port};
@@ -28,8 +30,8 @@ struct ModulePorts<'d> {
 /// Appends to each port of a design the i1 inputs that instances join to it.
 pub(crate) fn push_joins(
     design: &Design,
-    starts: &[usize],
-    joined: &mut Vec<JoinedPorts>,
+    starts: &[u32],
+    joined: &mut Vec<NodeList>,
 ) -> Result<(), AllocError>
     ensures { OnOk result (AddsPairs (made_from (pairs_in (design_of design.now) starts.now) 0 (design_of design.now)) (lists_of joined.old.items) (lists_of joined.new.items)) }
 {
@@ -42,10 +44,10 @@ pub(crate) fn push_joins(
 /// Appends those that the instances of one module join.
 fn push_module(
     design: &Design,
-    starts: &[usize],
+    starts: &[u32],
     number: u32,
     owner: &Module,
-    joined: &mut Vec<JoinedPorts>,
+    joined: &mut Vec<NodeList>,
 ) -> Result<(), AllocError>
     ensures { OnOk result (AddsPairs (pairs_in (design_of design.now) starts.now number (numbered_module (module_of owner.now))) (lists_of joined.old.items) (lists_of joined.new.items)) }
 {
@@ -63,10 +65,10 @@ fn push_module(
 /// Appends those that an operation joins, where it is an instance that its module does not refuse.
 fn push_operation(
     design: &Design,
-    starts: &[usize],
+    starts: &[u32],
     caller: &ModulePorts<'_>,
     op: &Op<'_>,
-    joined: &mut Vec<JoinedPorts>,
+    joined: &mut Vec<NodeList>,
 ) -> Result<(), AllocError>
     ensures { OnOk result (AddsPairs (instance_pairs (design_of design.now) starts.now caller.now.number (map port_of caller.now.ports.now) (op_seen op.now)) (lists_of joined.old.items) (lists_of joined.new.items)) }
 {
@@ -82,11 +84,11 @@ fn push_operation(
 /// Appends those that an instance joins.
 fn push_call(
     design: &Design,
-    starts: &[usize],
+    starts: &[u32],
     caller: &ModulePorts<'_>,
     instance: &Instance,
     operands: &[Value],
-    joined: &mut Vec<JoinedPorts>,
+    joined: &mut Vec<NodeList>,
 ) -> Result<(), AllocError>
     ensures { OnOk result (AddsPairs (call_pairs (design_of design.now) starts.now caller.now.number (map port_of caller.now.ports.now) (map ref_seen operands.now) instance.now.symbol) (lists_of joined.old.items) (lists_of joined.new.items)) }
 {
@@ -104,11 +106,11 @@ fn push_call(
 
 /// Appends the i1 inputs of the caller that operands join to the ports of the module that is called.
 fn push_operands(
-    starts: &[usize],
+    starts: &[u32],
     called: &ModulePorts<'_>,
     caller: &ModulePorts<'_>,
     operands: &[Value],
-    joined: &mut Vec<JoinedPorts>,
+    joined: &mut Vec<NodeList>,
 ) -> Result<(), AllocError>
     ensures { OnOk result (AddsPairs (operand_pairs starts.now called.now.number (map port_of called.now.ports.now) caller.now.number (map port_of caller.now.ports.now) (map ref_seen operands.now) (length called.now.ports.now)) (lists_of joined.old.items) (lists_of joined.new.items)) }
 {

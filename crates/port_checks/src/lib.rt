@@ -2,12 +2,12 @@
 //! registers without their clocks.
 #![tactic(auto)]
 
-mod graph;
 mod instances;
 mod joins;
 mod laws;
 mod named;
 mod numbers;
+mod pairs;
 mod ports;
 mod reset_ports;
 

@@ -3,10 +3,10 @@ ghost use Rattle.std.specs.Prelude.{◌≡◌, IfOk};
 ghost use Rattle.ir_store.specs.Designs.{design_of};
 ghost use Rattle.port_checks.specs.Marked.{has_reset, AreResetPorts};
 
-use crate::graph::{is_marked, reached_from};
 use crate::joins::push_joins;
 use crate::named::named_ports;
 use crate::numbers::{numbers_of, port_number, port_row};
+use graphs::{is_marked, reached_from};
 use ir_store::design::Design;
 use std::alloc::{AllocError, Global};
 
@@ -15,14 +15,15 @@ use std::alloc::{AllocError, Global};
 #[derive(Drop)]
 pub struct ResetPorts {
     /// The number of the first port of each module, and behind these how many ports there are.
-    starts: Vec<usize>,
+    starts: Vec<u32>,
     /// Of each port whether it is a reset port.
     marks: Vec<bool>,
 }
 
 impl ResetPorts {
     /// The reset ports of a design, in time linear in the design. Where no register has an asynchronous reset, one look over
-    /// its operations tells so, and no memory is taken.
+    /// its operations tells so, and no memory is taken. The error is out of memory; so it is where some register has one and
+    /// there are 2^32 ports or more.
     pub fn of(alloc: Global, design: &Design) -> Result<ResetPorts, AllocError>
         ensures { IfOk result (AreResetPorts (design_of design.now)) }
     {

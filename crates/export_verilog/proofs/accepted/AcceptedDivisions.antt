@@ -21,7 +21,7 @@ use Rattle.op_verifier.specs.TypeLists.{known_types}
 use Rattle.op_verifier.specs.LiteralChecks.{is_out_of_range}
 use Rattle.op_verifier.specs.OperandChecks.{has_other_form}
 use Rattle.op_verifier.specs.LimitChecks.{has_constant_outside, has_unknown_divisor}
-use Rattle.op_verifier.specs.CountChecks.{operand_count}
+use Rattle.op_verifier.specs.CountChecks.{operands_written, operand_count}
 use Rattle.op_verifier.specs.OpChecks.{is_nonzero, is_nonzero_kind, is_nonzero_op, divides_by_constant}
 use Rattle.op_verifier.proofs.NoOwnCause.{types_of, NoCauseAlone}
 use Rattle.op_verifier.proofs.Settled.{settles}
@@ -96,7 +96,7 @@ known_divisor (division d) b h e = not_false b e
 known_divisor kind b h e = cc
 
 two_operands : (kind : Kind) (ts : List HwType) (n : ℕ) → is_division kind ≡ true → n ≡ operand_count kind ts n → n ≡ 2
-unfolding operand_count
+unfolding operands_written operand_count
 two_operands (division d) ts n h e = e
 two_operands kind ts n h e = cc
 

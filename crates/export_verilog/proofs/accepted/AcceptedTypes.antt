@@ -12,7 +12,7 @@ use Rattle.ir_store.specs.ResultTypes.{first_type, second_type, with_width, join
 use Rattle.op_verifier.specs.TypeChecks.{has_bad_part, is_outside, is_clock}
 use Rattle.op_verifier.specs.TypeLists.{known_types}
 use Rattle.op_verifier.specs.LimitChecks.{value_types, is_too_wide, has_wide_concat}
-use Rattle.op_verifier.specs.CountChecks.{operand_count, type_count}
+use Rattle.op_verifier.specs.CountChecks.{operands_written, operand_count, type_count}
 use Rattle.op_verifier.proofs.Widths.{neither}
 use Rattle.verilog_expr.specs.Values.{is_aggregate_kind}
 use Rattle.export_verilog.specs.Aggregates.{is_aggregate}
@@ -115,14 +115,14 @@ joined_given ts (clock ∷ us) some h wide u is = cc
 joined_given ts (array n t ∷ us) some h wide u is = cc
 joined_given ts (struct fs ∷ us) some h wide u is = cc
 
-some_joined : (k n : ℕ) → n ≡ max 1 k → k ≡ n → 1 ≤ k
+some_joined : (k n : ℕ) → n ≡ max 1 n → k ≡ n → 1 ≤ k
 some_joined k n p q = omega (arith, p, q)
 
 -- ---- results
 
 pub given : (kind : Kind) (ts rs : List HwType) (n : ℕ) → is_aggregate_kind kind ≡ false → result_types kind ts n ≡ known_types rs → n ≡ operand_count kind ts n → length ts ≡ type_count kind n
     → list_any is_outside ts ≡ false → has_wide_concat kind ts ≡ false → (t : HwType) → In t rs → IsGiven (value_types kind ts) t
-unfolding result_types result_type operand_count type_count has_wide_concat
+unfolding result_types result_type operands_written operand_count type_count has_wide_concat
 given (variadic v) ts rs n plain same operands types h wide t here = by_first ts t rs same here
 given sub ts rs n plain same operands types h wide t here = by_first ts t rs same here
 given (division d) ts rs n plain same operands types h wide t here = by_first ts t rs same here

@@ -12,7 +12,7 @@ use Rattle.hw_model.specs.Design.Ref.{port, result, undefined}
 use Rattle.hw_model.specs.Flat.{width_of, Register, register_parts, register_in}
 use Rattle.hw_model.specs.Sound.{input_type, type_in, OpFits}
 use Rattle.ir_store.specs.ResultTypes.{result_count}
-use Rattle.op_verifier.specs.CountChecks.{operand_count}
+use Rattle.op_verifier.specs.CountChecks.{operands_written, operand_count}
 use Rattle.op_verifier.specs.TypeChecks.{is_clock}
 use Rattle.op_verifier.specs.LimitChecks.{value_types}
 use Rattle.op_verifier.proofs.NoOwnCause.{types_of, NoCauseAlone}
@@ -50,7 +50,7 @@ nothing (x ∷ xs) h = absurd (omega (arith, h))
 
 -- an operation of any number of operands has one at least
 pub some_operand : (kind : Kind) (ts : List HwType) (n : ℕ) → is_variadic kind ≡ true → n ≡ operand_count kind ts n → 1 ≤ n
-unfolding operand_count
+unfolding operands_written operand_count
 some_operand (variadic v) ts n h e = omega (arith, e)
 some_operand _ ts n h e = cc
 

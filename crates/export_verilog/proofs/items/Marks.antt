@@ -9,9 +9,9 @@ use Rattle.hw_model.specs.Hierarchy.{callee_symbols}
 use Rattle.ir_store.specs.Numbered.{ops_by_position}
 use Rattle.ir_store.specs.Designs.{StoredModule, numbered_module}
 use Rattle.design_cycles.specs.Calls.{call_lists, numbers_of, IsCalleeAt}
-use Rattle.design_cycles.specs.Graphs.{edges, has_mark}
+use Rattle.graphs.specs.Graphs.{edges, has_mark}
 use Rattle.design_cycles.proofs.Callees.{call_edges, calls_more}
-use Rattle.design_cycles.proofs.Marking.{marked_same, marked_cases}
+use Rattle.graphs.proofs.Marking.{marked_same, marked_cases}
 use Rattle.export_verilog.specs.Called.{with_marks}
 
 -- ---- marks of a list of numbers

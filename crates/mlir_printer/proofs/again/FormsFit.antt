@@ -26,8 +26,8 @@ use Rattle.mlir_printer.specs.Elements.{ValueText, Pending}
 use Rattle.mlir_printer.specs.Operations.{format_shown, output_format, is_truth_view}
 use Rattle.mlir_printer.specs.Texts.{inherent_shown}
 use Rattle.mlir_printer.specs.Spellable.{Each, AreBytes, IsInteger, IsAnyType, IsLiteral, AreLiterals, IsOperand, IsViewAs}
-use Rattle.op_verifier.specs.CountChecks.{type_count}
-use Rattle.mlir_printer.specs.Printable.{IsWritten, IsWrittenInstance, operands_written}
+use Rattle.op_verifier.specs.CountChecks.{operands_written, type_count}
+use Rattle.mlir_printer.specs.Printable.{IsWritten, IsWrittenInstance}
 use Rattle.mlir_printer.proofs.lexed.LexedLiterals.{one_bit}
 use Rattle.mlir_printer.proofs.again.KindsKept.{negative_parts}
 use Rattle.mlir_printer.proofs.again.ViewForms.{pending, says_variadic, says_binary, says_comparison, says_unary, says_extraction, says_joined, says_conversion, says_choice, says_truth, says_integer, says_aggregate, says_element, says_slice, says_element_change, says_struct, says_field, says_field_change, says_instance, says_nothing, says_register, says_reset_register, says_enabled, says_reset_enabled, says_clocked, says_reset_clocked, says_async_reset_clocked}

@@ -1,15 +1,12 @@
 -- A design that is read and not refused can be printed and read again.
-use Rattle.std.proofs.Common.{◌≡◌, ℕ, zero, suc, ◌<◌, max, Bool, true, false, cond, ◌&&◌, List, [], ◌∷◌, map, length, refl, ap, ◌∙◌, sym, arith}
+use Rattle.std.proofs.Common.{◌≡◌, ℕ, zero, suc, ◌<◌, Bool, true, false, cond, ◌&&◌, List, [], ◌∷◌, map, length, refl, ap, ◌∙◌, sym, arith}
 use Rattle.std.specs.Prelude.{not, nat_lt, Option, Some, None, is_some, slice_get, ⊤, Ok, Err}
 use Rattle.std.proofs.lemmas.Bool.{ltb-false}
 use Rattle.wiring.specs.Options.{bind, omap}
 use Rattle.hw_model.specs.Types.{HwType}
 use Rattle.hw_model.specs.Kinds.{Kind}
-use Rattle.hw_model.specs.Kinds.Reset.{no_reset, sync_reset}
-use Rattle.hw_model.specs.Kinds.ArrayOp.{array_concat}
 use Rattle.hw_model.specs.Kinds.StructOp.{struct_create}
-use Rattle.hw_model.specs.Kinds.RegisterOp.{compreg, compreg_ce, firreg}
-use Rattle.hw_model.specs.Kinds.Kind.{concat, on_array, on_struct, output, register, async_firreg}
+use Rattle.hw_model.specs.Kinds.Kind.{on_struct, output}
 use Rattle.hw_model.specs.Sound.{type_in, input_type}
 use Rattle.hw_model.specs.Design.{Ref, Port, OpResult, Op, Module, Design, is_output_op, result_type}
 use Rattle.hw_model.specs.Design.Ref.{port, result, undefined}
@@ -23,36 +20,25 @@ use Rattle.mlir_reader.specs.Reading.{text_limit, design_read, read}
 use Rattle.mlir_syntax.specs.Numerals.{count_limit}
 use Rattle.mlir_reader.specs.Resolving.{marked_results, type_or_none}
 use Rattle.mlir_reader.specs.Spelling.{Spells}
-use Rattle.op_verifier.specs.CountChecks.{operand_count, type_count}
+use Rattle.op_verifier.specs.CountChecks.{operands_written, operand_count}
 use Rattle.op_verifier.specs.OpChecks.{has_again, has_undefined, op_cause}
 use Rattle.op_verifier.specs.Headers.{has_port, has_output, header_cause}
 use Rattle.op_verifier.specs.Faults.{op_refusal, header_refusal, is_empty, body_fault, module_fault, faults_from, first_fault}
 use Rattle.op_verifier.proofs.NoOwnCause.{no_cause_alone, result_number}
 use Rattle.op_verifier.proofs.Unrefused.{or_none, map_none, no_op_cause, no_header_cause}
 use Rattle.mlir_printer.specs.Spellable.{Each, AreBytes}
-use Rattle.mlir_printer.specs.Printable.{IsDefined, settled_result, operands_written, IsPrintableOp, IsPrintablePort, EndsWithOutput, IsPrintableModule, Printable}
+use Rattle.mlir_printer.specs.Printable.{IsDefined, settled_result, IsPrintableOp, IsPrintablePort, EndsWithOutput, IsPrintableModule, Printable}
 use Rattle.mlir_printer.proofs.again.OperationsAgain.{types_counted}
 use Rattle.mlir_printer.proofs.printable.ReadOperations.{IsReadOp}
 use Rattle.mlir_printer.proofs.printable.ReadModules.{IsReadPort, IsReadModule, spelled_is_read}
 
 -- ---- the counts of an operation that is not refused
 
--- its operands and types are as many as are written
-counts_written : (k : Kind) (ts : List HwType) (n : ℕ) → n ≡ operand_count k ts n → length ts ≡ type_count k n
-    → (n ≡ operands_written k n) × (length ts ≡ type_count k n)
-unfolding operand_count type_count operands_written
-counts_written concat ts n h g = (h ∙ ap (λ m. max 1 m) g, g)
-counts_written (on_array array_concat) ts n h g = (h ∙ ap (λ m. max 1 m) g, g)
-counts_written (on_struct struct_create) ts n h g = (refl, g)
-counts_written output ts n h g = (refl, g)
-counts_written (register compreg no_reset) ts n h g = (h, g)
-counts_written (register compreg sync_reset) ts n h g = (h, g)
-counts_written (register compreg_ce no_reset) ts n h g = (h, g)
-counts_written (register compreg_ce sync_reset) ts n h g = (h, g)
-counts_written (register firreg no_reset) ts n h g = (h, g)
-counts_written (register firreg sync_reset) ts n h g = (h, g)
-counts_written async_firreg ts n h g = (h, g)
-counts_written _ ts n h g = (h, g)
+-- its operands are as many as are written
+counts_written : (k : Kind) (ts : List HwType) (n : ℕ) → n ≡ operand_count k ts n → n ≡ operands_written k n
+unfolding operand_count operands_written
+counts_written (on_struct struct_create) ts n h = refl
+counts_written _ ts n h = h
 
 -- ---- results
 
@@ -112,15 +98,15 @@ op_printable d ports whole last o h read named =
     let none = no_op_cause d ports whole last o h in
     let right = no_cause_alone ports whole o none.alone in
     let count = result_number ports whole o right in
-    let written = counts_written o.kind o.types (length o.operands) right.operands right.types in
+    let written = counts_written o.kind o.types (length o.operands) right.operands in
     let ts = result_types o.kind o.types (length o.operands) in
     let size : length (marked_results ts read.again) ≡ length ts = sym (ap length read.results) ∙ count ∙ sym
     (types_counted o.kind o.types (length o.operands)) in
     let some : o.named ≡ length o.results = right.names ∙ sym count in
     record {
       defined = all_defined ports whole o.operands none.defined;
-      operands = written.0;
-      types = written.1;
+      operands = written;
+      types = right.types;
       readable = read.readable;
       results = read.results ∙ unmarked ts read.again size (sym (ap has_again read.results) ∙ none.again);
       named = some;

@@ -1,6 +1,6 @@
 use Rattle.std.proofs.Common.{◌≡◌, take}
 use Rattle.ir_store.specs.Designs.{modules_of}
-use Rattle.design_cycles.specs.Graphs.{lists_of}
+use Rattle.graphs.specs.Graphs.{lists_of}
 use Rattle.design_cycles.proofs.Callees.{stored_calls}
 use Rattle.design_cycles.proofs.calls.call_graph.Given as goal
 

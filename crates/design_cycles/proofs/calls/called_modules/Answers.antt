@@ -1,5 +1,5 @@
 use Rattle.std.proofs.Common.{length, arith}
-use Rattle.design_cycles.proofs.Marking.{calls_none, calls_more, calls_end}
+use Rattle.design_cycles.proofs.Called.{calls_none, calls_more, calls_end}
 use Rattle.design_cycles.proofs.calls.called_modules.Goals as goal
 
 pub loop-list-preserved : goal.loop-list-preserved

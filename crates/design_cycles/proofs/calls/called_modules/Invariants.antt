@@ -1,4 +1,4 @@
-use Rattle.design_cycles.proofs.Marking.{HasCalled}
+use Rattle.design_cycles.proofs.Called.{HasCalled}
 use Rattle.design_cycles.proofs.calls.called_modules.Given as goal
 
 abbrev pub invariant-loop-list : goal.invariant-loop-list

@@ -4,12 +4,13 @@ use Rattle.ir_store.specs.Bodies.{ids_of, ops_of}
 use Rattle.ir_store.specs.Numbered.{ops_by_position}
 use Rattle.ir_store.specs.Designs.{StoredModule, modules_of, design_of, module_of}
 use Rattle.design_cycles.specs.Asked.{IsCyclicAt}
-use Rattle.design_cycles.specs.Graphs.{lists_of, edges, has_mark, ReturnsWithin}
+use Rattle.graphs.specs.Graphs.{lists_of, edges, has_mark}
+use Rattle.design_cycles.specs.Graphs.{ReturnsWithin}
 use Rattle.design_cycles.specs.Nodes.{rows_by}
 use Rattle.design_cycles.specs.Places.{ids_at}
 use Rattle.design_cycles.proofs.Cyclic.{position_cyclic, position_acyclic, cyclic_within}
 use Rattle.design_cycles.proofs.Graphing.{graph_small}
-use Rattle.design_cycles.proofs.Marking.{length-lists}
+use Rattle.graphs.proofs.Marking.{length-lists}
 use Rattle.design_cycles.proofs.Placing.{placed_no_cycle}
 use Rattle.design_cycles.proofs.Pushing.{ids_count, spans_below}
 use Rattle.design_cycles.proofs.Returning.{none_more, first_found, id_at_position}

@@ -1,12 +1,12 @@
 use Rattle.std.proofs.Common.{length, map, arith, subst, sym}
 use Rattle.ir_store.specs.Designs.{StoredModule, modules_of, design_of}
 use Rattle.design_cycles.specs.Asked.{IsCyclicAt}
-use Rattle.design_cycles.specs.Graphs.{lists_of}
+use Rattle.graphs.specs.Graphs.{lists_of}
 use Rattle.design_cycles.specs.Nodes.{rows_by}
 use Rattle.design_cycles.specs.Places.{FindsOp, ids_at, symbol_at}
 use Rattle.design_cycles.specs.Summing.{KnowsCallees}
 use Rattle.design_cycles.proofs.Cyclic.{cyclic_module}
-use Rattle.design_cycles.proofs.Marking.{length-lists}
+use Rattle.graphs.proofs.Marking.{length-lists}
 use Rattle.design_cycles.proofs.Returning.{no_module_more, place_found_first}
 use Rattle.design_cycles.proofs.Sizing.{whole_order}
 use Rattle.design_cycles.proofs.cycles.first_cycle.Goals as goal

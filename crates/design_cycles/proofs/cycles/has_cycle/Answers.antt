@@ -1,6 +1,6 @@
 use Rattle.std.proofs.Common.{MatchBool, subst}
 use Rattle.wiring.specs.Wiring.{Depends}
-use Rattle.design_cycles.specs.Graphs.{lists_of, edges}
+use Rattle.graphs.specs.Graphs.{lists_of, edges}
 use Rattle.design_cycles.proofs.Cyclic.{node_more, closed_node, none_within}
 use Rattle.design_cycles.proofs.cycles.has_cycle.Goals as goal
 use Rattle.design_cycles.proofs.cycles.has_cycle.Goals.{else-is_open-via-then-is_open+in_ok-needs_itself+else-branch, else-is_open-via-else-is_open}

@@ -1,6 +1,6 @@
 use Rattle.std.proofs.Common.{ℕ, ◌<◌, ◌≤◌}
 use Rattle.wiring.specs.Wiring.{Depends}
-use Rattle.design_cycles.specs.Graphs.{lists_of, edges}
+use Rattle.graphs.specs.Graphs.{lists_of, edges}
 use Rattle.design_cycles.proofs.cycles.has_cycle.Given as goal
 
 abbrev pub invariant-loop-node : goal.invariant-loop-node

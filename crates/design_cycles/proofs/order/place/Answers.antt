@@ -1,6 +1,6 @@
 use Rattle.std.proofs.Common.{arith, ap, ◌∙◌, subst}
 use Rattle.std.proofs.lemmas.List.{take_all}
-use Rattle.design_cycles.specs.Graphs.{lists_of}
+use Rattle.graphs.specs.Graphs.{lists_of}
 use Rattle.design_cycles.specs.Marks.{Placed}
 use Rattle.design_cycles.proofs.Placing.{placing_place, placing_skip}
 use Rattle.design_cycles.proofs.order.place.Goals as goal

@@ -1,5 +1,5 @@
 use Rattle.std.proofs.Common.{take}
-use Rattle.design_cycles.specs.Graphs.{lists_of}
+use Rattle.graphs.specs.Graphs.{lists_of}
 use Rattle.design_cycles.proofs.Placing.{IsPlacing}
 use Rattle.design_cycles.proofs.order.place.Given as goal
 

@@ -1,5 +1,6 @@
-use Rattle.design_cycles.specs.Graphs.{lists_of, IsOrder}
-use Rattle.design_cycles.specs.Marks.{open_count}
+use Rattle.graphs.specs.Graphs.{lists_of}
+use Rattle.design_cycles.specs.Graphs.{IsOrder}
+use Rattle.graphs.specs.Marks.{open_count}
 use Rattle.design_cycles.proofs.order.place_all.Given as goal
 
 abbrev pub invariant-loop : goal.invariant-loop

@@ -1,7 +1,8 @@
 use Rattle.std.proofs.Common.{arith, subst, sym}
 use Rattle.ir_store.specs.Designs.{modules_of, design_of}
 use Rattle.design_cycles.specs.Asked.{IsRecursiveAt}
-use Rattle.design_cycles.specs.Graphs.{lists_of, IsOrder}
+use Rattle.graphs.specs.Graphs.{lists_of}
+use Rattle.design_cycles.specs.Graphs.{IsOrder}
 use Rattle.design_cycles.specs.Places.{FindsOp, ids_at}
 use Rattle.design_cycles.proofs.Returning.{no_module_more, place_found_first, placed_none, recursive_module, none_recursive}
 use Rattle.design_cycles.proofs.recursion.first_recursive.Goals as goal

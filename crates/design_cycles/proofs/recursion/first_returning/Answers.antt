@@ -3,7 +3,8 @@ use Rattle.std.proofs.lemmas.List.{length-map}
 use Rattle.ir_store.specs.Bodies.{ids_of, op_id}
 use Rattle.ir_store.specs.Designs.{modules_of, design_of, module_of}
 use Rattle.design_cycles.specs.Asked.{IsRecursiveAt}
-use Rattle.design_cycles.specs.Graphs.{lists_of, LeadsTo}
+use Rattle.graphs.specs.Graphs.{lists_of}
+use Rattle.design_cycles.specs.Graphs.{LeadsTo}
 use Rattle.design_cycles.specs.Places.{ids_at}
 use Rattle.design_cycles.proofs.Returning.{position_returns, position_not, none_more, first_found, recursive_within, id_at_position}
 use Rattle.design_cycles.proofs.recursion.first_returning.Goals as goal

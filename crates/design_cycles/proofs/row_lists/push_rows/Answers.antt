@@ -2,10 +2,10 @@ use Rattle.std.proofs.Common.{map, length, Some, option_map, ap, sym, ◌∙◌,
 use Rattle.std.proofs.lemmas.List.{length-map}
 use Rattle.std.proofs.lemmas.Option.{slice_get-map, slice_get-get_or}
 use Rattle.ir_store.specs.declared.operation.Value.TheVariants.{Port}
-use Rattle.design_cycles.specs.Graphs.{lists_of}
+use Rattle.graphs.specs.Graphs.{lists_of}
 use Rattle.design_cycles.specs.Nodes.{value_node}
 use Rattle.design_cycles.proofs.Chunks.{added_step, added_all}
-use Rattle.design_cycles.proofs.Marking.{length-lists}
+use Rattle.graphs.proofs.Marking.{length-lists}
 use Rattle.design_cycles.proofs.row_lists.push_rows.Goals as goal
 
 pub loop-k-preserved : goal.loop-k-preserved

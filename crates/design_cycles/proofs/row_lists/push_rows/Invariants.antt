@@ -1,5 +1,5 @@
 use Rattle.std.proofs.Common.{◌≡◌, map, length, take}
-use Rattle.design_cycles.specs.Graphs.{lists_of}
+use Rattle.graphs.specs.Graphs.{lists_of}
 use Rattle.design_cycles.specs.Nodes.{value_node}
 use Rattle.design_cycles.proofs.Chunks.{HasAdded}
 use Rattle.design_cycles.proofs.row_lists.push_rows.Given as goal

@@ -1,7 +1,7 @@
 use Rattle.std.proofs.Common.{◌++◌, map, take, length, subst, sym, ap, ◌∙◌}
 use Rattle.std.proofs.lemmas.List.{length-map, take-append-drop}
 use Rattle.wiring.specs.Wiring.{In}
-use Rattle.design_cycles.specs.Graphs.{lists_of}
+use Rattle.graphs.specs.Graphs.{lists_of}
 use Rattle.design_cycles.specs.Nodes.{value_node}
 use Rattle.design_cycles.specs.Rows.{AreRows, AddsRows}
 use Rattle.design_cycles.proofs.Chunks.{listed_none, listed_more}

@@ -1,5 +1,5 @@
 use Rattle.std.proofs.Common.{◌≡◌, ◌<◌, ◌+◌, ◌++◌, List, ℕ, map, length}
-use Rattle.design_cycles.specs.Graphs.{lists_of}
+use Rattle.graphs.specs.Graphs.{lists_of}
 use Rattle.design_cycles.specs.Nodes.{value_node}
 use Rattle.design_cycles.proofs.Chunks.{HasListed}
 use Rattle.design_cycles.proofs.row_lists.row_lists.Given as goal

@@ -1,7 +1,7 @@
 use Rattle.std.proofs.Common.{◌<◌, length, subst}
-use Rattle.design_cycles.specs.Graphs.{lists_of}
+use Rattle.graphs.specs.Graphs.{lists_of}
 use Rattle.design_cycles.proofs.BitRows.{settled}
-use Rattle.design_cycles.proofs.Marking.{length-lists}
+use Rattle.graphs.proofs.Marking.{length-lists}
 use Rattle.design_cycles.proofs.rows.settle.Goals as goal
 
 pub returns-then-not-spread : goal.returns-then-not-spread

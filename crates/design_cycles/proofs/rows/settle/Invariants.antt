@@ -1,4 +1,4 @@
-use Rattle.design_cycles.specs.Graphs.{lists_of}
+use Rattle.graphs.specs.Graphs.{lists_of}
 use Rattle.design_cycles.specs.Rows.{room_left}
 use Rattle.design_cycles.proofs.BitRows.{HasSpread}
 use Rattle.design_cycles.proofs.rows.settle.Given as goal

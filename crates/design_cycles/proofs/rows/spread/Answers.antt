@@ -1,4 +1,4 @@
-use Rattle.design_cycles.specs.Graphs.{lists_of}
+use Rattle.graphs.specs.Graphs.{lists_of}
 use Rattle.design_cycles.proofs.BitRows.{spread_changed, spread_unchanged}
 use Rattle.design_cycles.proofs.rows.spread.Goals as goal
 use Rattle.design_cycles.proofs.rows.spread.Goals.{then-add_needs, else-add_needs}

@@ -1,7 +1,7 @@
 use Rattle.std.proofs.Common.{length, arith}
 use Rattle.ir_store.specs.Designs.{modules_of}
-use Rattle.design_cycles.specs.Graphs.{lists_of}
-use Rattle.design_cycles.proofs.Marking.{length-lists}
+use Rattle.graphs.specs.Graphs.{lists_of}
+use Rattle.graphs.proofs.Marking.{length-lists}
 use Rattle.design_cycles.proofs.Sizing.{whole_order, large_answer}
 use Rattle.design_cycles.proofs.size.first_too_large.Goals as goal
 

@@ -1,5 +1,5 @@
 use Rattle.std.proofs.Common.{subst, sym}
-use Rattle.design_cycles.specs.Graphs.{lists_of}
+use Rattle.graphs.specs.Graphs.{lists_of}
 use Rattle.design_cycles.specs.Summing.{AreInputs}
 use Rattle.design_cycles.proofs.Inputs.{if_ok, inputs_reached}
 use Rattle.design_cycles.proofs.summaries.inputs_of.Goals as goal

@@ -1,7 +1,7 @@
 use Rattle.std.proofs.Common.{◌≡◌, ℕ, true, length, take, slice_get}
 use Rattle.wiring.specs.Wiring.{In}
 use Rattle.ir_store.specs.Designs.{design_of, modules_of}
-use Rattle.design_cycles.specs.Graphs.{has_mark}
+use Rattle.graphs.specs.Graphs.{has_mark}
 use Rattle.design_cycles.specs.Nodes.{rows_of}
 use Rattle.design_cycles.specs.Summing.{IsSummed}
 use Rattle.design_cycles.proofs.summaries.summaries_of.Given as goal

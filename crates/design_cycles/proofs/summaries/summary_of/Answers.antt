@@ -2,10 +2,10 @@ use Rattle.std.proofs.Common.{◌^◌, map, length, arith, ap, ◌∙◌}
 use Rattle.ir_store.specs.Bodies.{ids_of, ops_of}
 use Rattle.ir_store.specs.Numbered.{ops_by_position}
 use Rattle.ir_store.specs.Designs.{StoredModule, modules_of, port_of}
-use Rattle.design_cycles.specs.Graphs.{lists_of}
+use Rattle.graphs.specs.Graphs.{lists_of}
 use Rattle.design_cycles.specs.Nodes.{rows_by}
 use Rattle.design_cycles.proofs.Graphing.{graph_small}
-use Rattle.design_cycles.proofs.Marking.{length-lists}
+use Rattle.graphs.proofs.Marking.{length-lists}
 use Rattle.design_cycles.specs.Summing.{inputs_from}
 use Rattle.design_cycles.proofs.Inputs.{inputs_small}
 use Rattle.design_cycles.proofs.Known.{summed_at}

@@ -2,7 +2,7 @@ use Rattle.std.proofs.Common.{map, arith, subst, sym}
 use Rattle.ir_store.specs.Bodies.{ids_of, ops_of}
 use Rattle.ir_store.specs.Numbered.{ops_by_position}
 use Rattle.ir_store.specs.Designs.{StoredModule, modules_of}
-use Rattle.design_cycles.specs.Graphs.{lists_of}
+use Rattle.graphs.specs.Graphs.{lists_of}
 use Rattle.design_cycles.specs.Nodes.{rows_by, sizes_in, IsLayout}
 use Rattle.design_cycles.proofs.Graphing.{graph_begins, graph_more, graph_ends}
 use Rattle.design_cycles.proofs.Pushing.{ids_count}

@@ -5,7 +5,7 @@ use Rattle.hw_model.specs.KindViews.{instance_of}
 use Rattle.ir_store.specs.OperationViews.{result_of}
 use Rattle.ir_store.specs.ShortLists.{short_items}
 use Rattle.ir_store.specs.Designs.{StoredModule, modules_of}
-use Rattle.design_cycles.specs.Graphs.{lists_of}
+use Rattle.graphs.specs.Graphs.{lists_of}
 use Rattle.design_cycles.specs.Nodes.{rows_by, rows_at}
 use Rattle.design_cycles.proofs.Pushing.{made_need, called_need}
 use Rattle.design_cycles.proofs.wires.push_op.Goals as goal

@@ -10,8 +10,8 @@ use Rattle.mlir_printer.specs.Shown.{stored_shown}
 use Rattle.mlir_printer.specs.Views.{names_held, value_held}
 use Rattle.mlir_printer.proofs.steps.Showing.{line_step}
 use Rattle.mlir_printer.proofs.names.Values.{names_few}
-use Rattle.op_verifier.proofs.Walks.{ops_at, through_all}
-use Rattle.mlir_printer.proofs.steps.Walks.{walk}
+use Rattle.ir_store.proofs.Walks.{ops_at, through_all}
+use Rattle.ir_store.proofs.Walks.{walk}
 use Rattle.mlir_printer.proofs.operations.push_operations.Goals as goal
 
 pub loop-id-init : goal.loop-id-init

@@ -5,7 +5,7 @@ use Rattle.ir_store.specs.Bodies.{ids_of, ops_of, ids_left}
 use Rattle.mlir_printer.specs.Operations.{operation_lines}
 use Rattle.mlir_printer.specs.Shown.{stored_shown}
 use Rattle.mlir_printer.specs.Views.{names_held, value_held}
-use Rattle.op_verifier.proofs.Walks.{ops_at}
+use Rattle.ir_store.proofs.Walks.{ops_at}
 use Rattle.mlir_printer.proofs.operations.push_operations.Given as goal
 
 abbrev pub invariant-loop-id : goal.invariant-loop-id

@@ -1,6 +1,7 @@
 use Rattle.std.proofs.Common.{OnOk, map, ap, sym, subst}
 use Rattle.ir_store.specs.Designs.{modules_of, module_of, port_of}
-use Rattle.port_checks.specs.Graphs.{lists_of, AddsPairs}
+use Rattle.graphs.specs.Graphs.{lists_of}
+use Rattle.port_checks.specs.Pairs.{AddsPairs}
 use Rattle.port_checks.specs.Seen.{ref_seen}
 use Rattle.port_checks.proofs.Operands.{call_none, call_some}
 use Rattle.port_checks.proofs.Pairs.{adds_none}

@@ -1,9 +1,10 @@
 use Rattle.std.proofs.Common.{take, subst, sym, arith}
 use Rattle.ir_store.specs.Designs.{modules_of, module_of, numbered_module, design_of}
-use Rattle.port_checks.specs.Graphs.{lists_of, AddsPairs}
+use Rattle.graphs.specs.Graphs.{lists_of}
+use Rattle.port_checks.specs.Pairs.{AddsPairs}
 use Rattle.port_checks.specs.Joins.{pairs_in, made_from}
 use Rattle.port_checks.proofs.Pairs.{adds_none, adds_both}
-use Rattle.port_checks.proofs.Walks.{modules_more, modules_all}
+use Rattle.port_checks.proofs.Making.{modules_more, modules_all}
 use Rattle.port_checks.proofs.joins.push_joins.Goals as goal
 
 pub loop-number-init : goal.loop-number-init

@@ -1,6 +1,7 @@
 use Rattle.std.proofs.Common.{take}
 use Rattle.ir_store.specs.Designs.{design_of}
-use Rattle.port_checks.specs.Graphs.{lists_of, AddsPairs}
+use Rattle.graphs.specs.Graphs.{lists_of}
+use Rattle.port_checks.specs.Pairs.{AddsPairs}
 use Rattle.port_checks.specs.Joins.{pairs_in, made_from}
 use Rattle.port_checks.proofs.joins.push_joins.Given as goal
 

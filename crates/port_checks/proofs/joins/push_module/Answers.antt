@@ -6,12 +6,14 @@ use Rattle.ir_store.specs.Bodies.{ops_of, ids_of, ids_left, op_id, read_op}
 use Rattle.ir_store.specs.Designs.{ports_in, port_of, design_of}
 use Rattle.ir_store.proofs.BodyLemmas.{ids_once}
 use Rattle.ir_store.proofs.Living.{all_mapped}
-use Rattle.port_checks.specs.Graphs.{lists_of, AddsPairs}
+use Rattle.graphs.specs.Graphs.{lists_of}
+use Rattle.port_checks.specs.Pairs.{AddsPairs}
 use Rattle.port_checks.specs.Joins.{instance_pairs}
 use Rattle.port_checks.specs.Seen.{op_seen}
 use Rattle.port_checks.proofs.Pairs.{adds_none, pairs_step}
 use Rattle.port_checks.proofs.Seeing.{pairs_seen}
-use Rattle.port_checks.proofs.Walks.{ops_at, through_all, made_of, made_by_position}
+use Rattle.ir_store.proofs.Walks.{ops_at, through_all}
+use Rattle.port_checks.proofs.Making.{made_of, made_by_position}
 use Rattle.port_checks.proofs.joins.push_module.Goals as goal
 
 pub loop-id-init : goal.loop-id-init

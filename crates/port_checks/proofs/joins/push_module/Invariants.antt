@@ -3,9 +3,11 @@ use Rattle.std.specs.Prelude.{All, Contains}
 use Rattle.ir_store.specs.declared.operation.OpId.{OpId}
 use Rattle.ir_store.specs.Bodies.{ids_of, ops_of, ids_left}
 use Rattle.ir_store.specs.Designs.{ports_in, design_of}
-use Rattle.port_checks.specs.Graphs.{lists_of, AddsPairs}
+use Rattle.graphs.specs.Graphs.{lists_of}
+use Rattle.port_checks.specs.Pairs.{AddsPairs}
 use Rattle.port_checks.specs.Joins.{instance_pairs}
-use Rattle.port_checks.proofs.Walks.{ops_at, made_of}
+use Rattle.ir_store.proofs.Walks.{ops_at}
+use Rattle.port_checks.proofs.Making.{made_of}
 use Rattle.port_checks.proofs.joins.push_module.Given as goal
 
 abbrev pub invariant-loop-id : goal.invariant-loop-id

@@ -2,7 +2,7 @@ use Rattle.std.proofs.Common.{◌≡◌, ◌≤◌, ◌+◌, map, take, cond, So
 use Rattle.hw_model.specs.Flat.{operand_for, input_count}
 use Rattle.ir_store.specs.declared.design.Port.{Port}
 use Rattle.ir_store.specs.Designs.{port_of}
-use Rattle.port_checks.specs.Graphs.{lists_of}
+use Rattle.graphs.specs.Graphs.{lists_of}
 use Rattle.port_checks.specs.Joins.{bit_port}
 use Rattle.port_checks.specs.Seen.{ref_seen}
 use Rattle.port_checks.proofs.Operands.{input_count_le, input_count_more, port_here, operands_more}

@@ -1,7 +1,8 @@
 use Rattle.std.proofs.Common.{◌≡◌, map, take}
 use Rattle.hw_model.specs.Flat.{input_count}
 use Rattle.ir_store.specs.Designs.{port_of}
-use Rattle.port_checks.specs.Graphs.{lists_of, AddsPairs}
+use Rattle.graphs.specs.Graphs.{lists_of}
+use Rattle.port_checks.specs.Pairs.{AddsPairs}
 use Rattle.port_checks.specs.Joins.{operand_pairs}
 use Rattle.port_checks.specs.Seen.{ref_seen}
 use Rattle.port_checks.proofs.joins.push_operands.Given as goal

@@ -1,7 +1,7 @@
 use Rattle.std.proofs.Common.{◌++◌, ap, sym, ◌∙◌, arith}
 use Rattle.ir_store.specs.Designs.{modules_of, module_of, numbered_module}
 use Rattle.port_checks.specs.Joins.{named_in}
-use Rattle.port_checks.proofs.Walks.{modules_more, modules_all}
+use Rattle.port_checks.proofs.Making.{modules_more, modules_all}
 use Rattle.port_checks.proofs.named.named_ports.Goals as goal
 
 pub loop-number-preserved : goal.loop-number-preserved

@@ -11,7 +11,8 @@ use Rattle.ir_store.proofs.Living.{all_mapped}
 use Rattle.port_checks.specs.Joins.{named_port, place_of}
 use Rattle.port_checks.specs.Seen.{op_seen}
 use Rattle.port_checks.proofs.Seeing.{named_seen}
-use Rattle.port_checks.proofs.Walks.{ops_at, through_all, made_of, made_by_position, made_step}
+use Rattle.ir_store.proofs.Walks.{ops_at, through_all}
+use Rattle.port_checks.proofs.Making.{made_of, made_by_position, made_step}
 use Rattle.port_checks.proofs.named.push_named.Goals as goal
 
 pub loop-id-init : goal.loop-id-init

@@ -5,7 +5,8 @@ use Rattle.ir_store.specs.declared.operation.OpId.{OpId}
 use Rattle.ir_store.specs.Bodies.{ids_of, ops_of, ids_left}
 use Rattle.ir_store.specs.Designs.{ports_in}
 use Rattle.port_checks.specs.Joins.{named_port, place_of}
-use Rattle.port_checks.proofs.Walks.{ops_at, made_of}
+use Rattle.ir_store.proofs.Walks.{ops_at}
+use Rattle.port_checks.proofs.Making.{made_of}
 use Rattle.port_checks.proofs.named.push_named.Given as goal
 
 abbrev pub invariant-loop-id : goal.invariant-loop-id

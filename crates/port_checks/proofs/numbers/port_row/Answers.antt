@@ -1,11 +1,11 @@
 use Rattle.std.proofs.Common.{◌≡◌, ◌++◌, ◌+◌, suc, [], length, take, replicate, ap, sym, subst, ◌∙◌, arith}
 use Rattle.std.proofs.lemmas.List.{length-map, length-replicate, replicate-append-replicate}
 use Rattle.ir_store.specs.Designs.{design_of, modules_of, module_of, numbered_module, port_of}
-use Rattle.port_checks.specs.Graphs.{lists_of}
+use Rattle.graphs.specs.Graphs.{lists_of}
 use Rattle.port_checks.specs.ResetPorts.{port_count}
 use Rattle.port_checks.proofs.Numbering.{HaveStarts, no_starts, more_starts, all_starts, count_next}
-use Rattle.port_checks.proofs.Marks.{length-lists}
-use Rattle.port_checks.proofs.Walks.{numbered_at}
+use Rattle.graphs.proofs.Marking.{length-lists}
+use Rattle.port_checks.proofs.Making.{numbered_at}
 use Rattle.port_checks.proofs.numbers.port_row.Goals as goal
 
 pub loop-number-init : goal.loop-number-init

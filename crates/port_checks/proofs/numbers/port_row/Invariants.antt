@@ -1,6 +1,6 @@
 use Rattle.std.proofs.Common.{◌≡◌, [], take, replicate}
 use Rattle.ir_store.specs.Designs.{design_of}
-use Rattle.port_checks.specs.Graphs.{lists_of}
+use Rattle.graphs.specs.Graphs.{lists_of}
 use Rattle.port_checks.specs.ResetPorts.{port_count}
 use Rattle.port_checks.proofs.Numbering.{HaveStarts}
 use Rattle.port_checks.proofs.numbers.port_row.Given as goal

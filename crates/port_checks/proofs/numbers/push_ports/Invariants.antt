@@ -1,5 +1,5 @@
 use Rattle.std.proofs.Common.{◌≡◌, ◌++◌, [], replicate}
-use Rattle.port_checks.specs.Graphs.{lists_of}
+use Rattle.graphs.specs.Graphs.{lists_of}
 use Rattle.port_checks.proofs.numbers.push_ports.Given as goal
 
 abbrev pub invariant-loop-port : goal.invariant-loop-port

@@ -13,8 +13,8 @@ use Rattle.mlir_printer.specs.Shown.{parts_in_body}
 use Rattle.mlir_printer.specs.Views.{names_held, chosen_names}
 use Rattle.mlir_printer.proofs.names.Choosing.{name_hints_step, name_hints_length}
 use Rattle.mlir_printer.proofs.names.Placing.{place_left, place_step, once_step, none_kept}
-use Rattle.op_verifier.proofs.Walks.{ops_at, through_all}
-use Rattle.mlir_printer.proofs.steps.Walks.{walk}
+use Rattle.ir_store.proofs.Walks.{ops_at, through_all}
+use Rattle.ir_store.proofs.Walks.{walk}
 use Rattle.mlir_printer.proofs.value_names.ValueNames.add_operations.Goals as goal
 
 pub loop-id-init : goal.loop-id-init

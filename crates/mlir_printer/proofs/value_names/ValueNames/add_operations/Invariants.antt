@@ -10,7 +10,7 @@ use Rattle.mlir_printer.specs.Places.{place_in}
 use Rattle.mlir_printer.specs.Shown.{parts_in_body}
 use Rattle.mlir_printer.specs.Views.{names_held, chosen_names}
 use Rattle.mlir_printer.proofs.names.Placing.{place_left}
-use Rattle.op_verifier.proofs.Walks.{ops_at}
+use Rattle.ir_store.proofs.Walks.{ops_at}
 use Rattle.mlir_printer.proofs.value_names.ValueNames.add_operations.Given as goal
 
 abbrev pub invariant-loop-id : goal.invariant-loop-id

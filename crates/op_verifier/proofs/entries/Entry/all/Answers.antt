@@ -4,7 +4,8 @@ use Rattle.ir_store.specs.declared.operation.OpId.{OpId}
 use Rattle.ir_store.specs.Bodies.{ops_of, ids_of, ids_left, op_id, read_op}
 use Rattle.ir_store.proofs.BodyLemmas.{ids_once}
 use Rattle.ir_store.proofs.Living.{all_mapped}
-use Rattle.op_verifier.proofs.Walks.{through_all, walk_step, settled_step}
+use Rattle.ir_store.proofs.Walks.{through_all}
+use Rattle.op_verifier.proofs.EntryWalks.{walk_step, settled_step}
 use Rattle.op_verifier.proofs.entries.Entry.all.Goals as goal
 
 pub op-requires : goal.op-requires

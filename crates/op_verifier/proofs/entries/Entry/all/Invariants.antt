@@ -3,7 +3,7 @@ use Rattle.std.specs.Prelude.{All, Contains}
 use Rattle.ir_store.specs.declared.operation.OpId.{OpId}
 use Rattle.ir_store.specs.Bodies.{ops_of, ids_of, ids_left}
 use Rattle.op_verifier.specs.Entries.{op_in, types_beside, settled_for}
-use Rattle.op_verifier.proofs.Walks.{ops_at}
+use Rattle.ir_store.proofs.Walks.{ops_at}
 use Rattle.op_verifier.proofs.entries.Entry.all.Given as goal
 
 abbrev pub invariant-loop-id : goal.invariant-loop-id

@@ -1,11 +1,12 @@
 use Rattle.std.proofs.Common.{◌≡◌, [], ap, ap₂, sym, subst, ◌∙◌, arith, eqb-true}
 use Rattle.std.specs.Vec.{vec_len}
 use Rattle.ir_store.specs.Designs.{design_of}
-use Rattle.port_checks.specs.Graphs.{lists_of, AddsPairs, AreReached}
+use Rattle.graphs.specs.Graphs.{lists_of, AreReached}
+use Rattle.port_checks.specs.Pairs.{AddsPairs}
 use Rattle.port_checks.specs.Numbers.{port_number, numbers_of}
 use Rattle.port_checks.specs.Joins.{pairs_in, made_from}
 use Rattle.port_checks.specs.Marked.{has_mark_at}
-use Rattle.port_checks.proofs.Marks.{no_items}
+use Rattle.graphs.proofs.Lists.{no_items}
 use Rattle.port_checks.proofs.Reaching.{marks_are, none_reset}
 use Rattle.port_checks.proofs.reset_ports.ResetPorts.of.Goals as goal
 

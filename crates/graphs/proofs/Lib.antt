@@ -1,0 +1,3 @@
+-- Lemmas.
+pub mod Lists
+pub mod Marking
