@@ -1,5 +1,6 @@
 -- What registers hold, where some of them load in another way: each takes its content where its net takes its value.
 use Rattle.std.proofs.Common.{◌≡◌, ℕ, zero, suc, ◌+◌, ◌≤◌, ◌<◌, Bool, true, false, cond, List, [], ◌∷◌, ◌++◌, length, take, drop, slice_get, is_some, Option, Some, None, refl, sym, ap, ap₂, subst, ◌∙◌, inl, arith, add-zero, length-append}
+use Rattle.std.proofs.lemmas.List.{drop-drop}
 use Rattle.std.proofs.lemmas.List.Elements.{filter-append}
 use Rattle.wiring.specs.Options.{bind}
 use Rattle.wiring.specs.Wiring.{In, IsHeight}
@@ -18,7 +19,7 @@ use Rattle.hw_model.specs.Sound.{body_of, ports_of}
 use Rattle.hw_model.proofs.Sorts.{Sort, sort_of, instance_found}
 use Rattle.hw_model.proofs.Sorts.Sort.{a_register, an_instance, an_output, a_made}
 use Rattle.hw_model.proofs.Paths.{module_inside, before_body, registers_body, op_in, result_in, result_here}
-use Rattle.hw_model.proofs.Content.{state_at_depth, slots_width, registers_width, drop_drop, map_slots-append, body_state-append, before_position}
+use Rattle.hw_model.proofs.Content.{state_at_depth, slots_width, registers_width, map_slots-append, body_state-append, before_position}
 use Rattle.hw_edits.proofs.Edited.{reads}
 use Rattle.hw_edits.proofs.Twins.Twin.{one, two}
 use Rattle.hw_edits.proofs.Twins.{Twin, Twins, twin_instance, twin_state}
@@ -169,7 +170,7 @@ module _ (d d' : Design) (none : Reregistered None None) (each : (s : Name) → 
             omega arith
 
         pointer : (w : ℕ) → w ≡ op_state (state d) o → drop w (drop (start j) content) ≡ drop (start (suc j)) content
-        pointer w is_w = drop_drop (start j) w content ∙ ap (λ k. drop k content) (ap (λ x. start j + x) is_w ∙ further)
+        pointer w is_w = drop-drop w (start j) content ∙ ap (λ k. drop k content) (ap (λ x. start j + x) is_w ∙ further)
 
   pub map_slots_same : (n : ℕ) (p : Path) (s : Name) → module_at d top p ≡ find_module d s → module_at d' top p ≡ find_module d' s → h s ≤ n → Same_at n p s
   map_slots_same zero p s is is' low = refl

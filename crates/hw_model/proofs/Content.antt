@@ -1,6 +1,6 @@
 -- Where the registers of the flattened module take their content: in order, each where its net takes its value.
-use Rattle.std.proofs.Common.{◌≡◌, ℕ, zero, suc, ◌+◌, ◌<◌, ◌≤◌, Bool, cond, List, [], ◌∷◌, ◌++◌, length, map, take, drop, slice_get, Some, refl, sym, ap, ap₂, subst, ◌∙◌, inl, arith, zero-add, suc-add, append_assoc}
-use Rattle.std.proofs.lemmas.List.{length-map}
+use Rattle.std.proofs.Common.{◌≡◌, ℕ, zero, suc, ◌+◌, ◌<◌, ◌≤◌, Bool, cond, List, [], ◌∷◌, ◌++◌, length, map, take, drop, slice_get, Some, refl, sym, ap, ap₂, subst, ◌∙◌, inl, arith, zero-add, append_assoc}
+use Rattle.std.proofs.lemmas.List.{length-map, drop-drop}
 use Rattle.wiring.specs.Wiring.{In, HasHeights, IsHeight}
 use Rattle.wiring.proofs.Members.{In-append_left, In-append_right}
 use Rattle.wiring.proofs.Heights.{HasHeights-acyclic, FallsAlong-height, height-le}
@@ -88,22 +88,13 @@ registers_width d (suc n) p s =
 
 -- ---- the content of joined lists
 
-pub drop_none : (n : ℕ) → drop {A = Bool} n [] ≡ []
-drop_none zero = refl
-drop_none (suc n) = refl
-
-pub drop_drop : (a b : ℕ) (c : Word) → drop b (drop a c) ≡ drop (a + b) c
-drop_drop zero b c = ap (λ n. drop n c) (sym (zero-add b))
-drop_drop (suc a) b [] = drop_none b ∙ sym (drop_none (suc a + b))
-drop_drop (suc a) b (x ∷ c) = drop_drop a b c ∙ ap (λ n. drop n (x ∷ c)) (sym (suc-add a b))
-
 pub map_slots-append : (each : Slot → Word → Word) (xs ys : List Slot) (c : Word)
     → map_slots each (xs ++ ys) c ≡ map_slots each xs c ++ map_slots each ys (drop (slots_width xs) c)
 map_slots-append each [] ys c = refl
 map_slots-append each (s ∷ xs) ys c =
     ap (λ rest. first (held_width s.op) (each s (first (held_width s.op) c)) ++ rest)
     (map_slots-append each xs ys (drop (held_width s.op) c)
-    ∙ ap (λ rest. map_slots each xs (drop (held_width s.op) c) ++ map_slots each ys rest) (drop_drop (held_width s.op) (slots_width xs) c))
+    ∙ ap (λ rest. map_slots each xs (drop (held_width s.op) c) ++ map_slots each ys rest) (drop-drop (slots_width xs) (held_width s.op) c))
     ∙ sym append_assoc'
   where
     append_assoc' : (first (held_width s.op) (each s (first (held_width s.op) c)) ++ map_slots each xs (drop (held_width s.op) c)) ++ map_slots each ys (drop (held_width s.op + slots_width xs) c)

@@ -1,6 +1,7 @@
 -- Asynchronous resets that come from outside a design follow the inputs of the top module, in every run.
 use Rattle.std.proofs.Common.{◌≡◌, ◌⊎◌, ℕ, zero, suc, ◌+◌, Bool, true, false, cond, List, [], ◌∷◌, ◌++◌, length, map, take, drop, slice_get, Option, Some, None, refl, sym, ap, ap₂, subst, ◌∙◌, inl, inr, zero-add, add-suc, suc-add, arith}
 use Rattle.std.proofs.Math.Seq.{drop-append_seam}
+use Rattle.std.proofs.lemmas.List.{drop_all}
 use Rattle.wiring.specs.Options.{bind}
 use Rattle.wiring.proofs.Options.{bind_some}
 use Rattle.wiring.specs.Wiring.{In}
@@ -22,7 +23,6 @@ use Rattle.hw_model.specs.Resets.{is_constant, IsMarkedInput, IsConstantOf, Rese
 use Rattle.hw_model.proofs.Sorts.{Sort, sort_of}
 use Rattle.hw_model.proofs.Sorts.Sort.{a_register, an_instance, an_output, a_made}
 use Rattle.hw_model.proofs.Paths.{registers_body, op_in, result_in, result_here}
-use Rattle.hw_model.proofs.Content.{drop_none}
 use Rattle.hw_model.proofs.Gone.{from_In-instances}
 
 -- a register that is reset without its clock loads its reset value as one with a synchronous reset
@@ -248,7 +248,7 @@ all_reset ρ (s ∷ ss) each content =
 
 -- no input is 1 before the first step
 before_low : (w start : ℕ) → is_high (first w (drop start [])) ≡ false
-before_low w start = ap (λ x. is_high (first w x)) (drop_none start) ∙ go w
+before_low w start = ap (λ x. is_high (first w x)) (drop_all start [] (omega arith)) ∙ go w
   where
     go : (n : ℕ) → is_high (first n []) ≡ false
     go zero = refl

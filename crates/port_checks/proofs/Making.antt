@@ -1,10 +1,9 @@
 -- What is made of the operations of a body and of the modules of a design, one after another.
 use Rattle.std.proofs.Common.{◌≡◌, ◌⊎◌, ℕ, zero, suc, ◌+◌, ◌≤◌, List, [], ◌∷◌, ◌++◌, map, length, flat_map, take, slice_get, option_map, Option, Some, refl, sym, ap, ap₂, subst, ◌∙◌, inl, inr, arith, append_assoc}
-use Rattle.std.proofs.lemmas.List.{append-nil, length-map}
+use Rattle.std.proofs.lemmas.List.{append-nil, length-map, take_all}
 use Rattle.std.proofs.lemmas.Option.{slice_get-map}
 use Rattle.wiring.specs.Wiring.{In}
 use Rattle.wiring.proofs.Members.{In-append_left, In-append_right, In-append_cases}
-use Rattle.graphs.proofs.Lists.{take_whole}
 use Rattle.hw_model.specs.Design.{Op, Module}
 use Rattle.ir_store.specs.declared.operation.OpId.{OpId}
 use Rattle.ir_store.specs.BodyOps.{BodyOp, op_at, ids_in}
@@ -81,7 +80,7 @@ pub numbered_at : (ms : List StoredModule) (n : ℕ) (m : StoredModule) → Some
 numbered_at ms n m is = slice_get-map numbered_module ms n ∙ ap (option_map numbered_module) (sym is)
 
 pub modules_past : (ms : List StoredModule) (n : ℕ) → length ms ≤ n → take n (map numbered_module ms) ≡ map numbered_module ms
-modules_past ms n past = let same : length (map numbered_module ms) ≡ length ms = length-map ms numbered_module in take_whole n (map numbered_module ms) (omega arith)
+modules_past ms n past = let same : length (map numbered_module ms) ≡ length ms = length-map ms numbered_module in take_all n (map numbered_module ms) (omega arith)
 
 module _ {A : Type 0} (f : ℕ → Module → List A) (ms : List StoredModule) where
   -- of one module more

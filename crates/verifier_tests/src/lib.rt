@@ -3,9 +3,9 @@
 #![tactic(auto)]
 
 #[cfg(test)]
-mod designs;
+mod definitions;
 #[cfg(test)]
-mod reset_designs;
+mod designs;
 #[cfg(test)]
 mod reset_ports;
 #[cfg(test)]

@@ -1,5 +1,5 @@
 //! The verdicts on designs with asynchronous resets.
-use crate::reset_designs::{DATA, Definition, OUT, Operand, Operation, RESET, design_of};
+use crate::definitions::{DATA, Definition, OUT, Operand, Operation, RESET, design_of};
 use diag::cause::Cause;
 use ir_store::design::Design;
 use op_verifier::{VerifyFail, verify};

@@ -1,31 +1,44 @@
 //! The searches over a design, each once with ample memory.
-use crate::designs::{Shape, module, operation};
+use crate::designs::{HeaderPort, PortType, Shape, design, instance, instance_types, module, operation};
 use design_cycles::{
     Hierarchy, first_cycle, first_recursive, first_too_large, has_distinct_symbols,
 };
-use hw_model::kinds::{Instance, OpKind};
-use io_edge::byte_text::Text;
+use hw_model::kinds::OpKind;
 use ir_store::design::Design;
 use ir_store::operation::{NewOp, OpId, Value};
 use std::alloc::{AllocError, Global};
 use std::test::Fail;
 
+/// The ports of each module.
+const PORTS: [HeaderPort; 3] = [
+    HeaderPort {
+        name: b"a",
+        out: false,
+        ty: PortType::Int(1),
+    },
+    HeaderPort {
+        name: b"b",
+        out: false,
+        ty: PortType::Int(1),
+    },
+    HeaderPort {
+        name: b"o",
+        out: true,
+        ty: PortType::Int(1),
+    },
+];
+
 // An instance of a module on two values.
-fn instance(alloc: Global, symbol: &[u8], operands: [Value; 2]) -> Result<NewOp, AllocError> {
-    let instance = Instance {
-        name: Text::new(alloc),
-        inner_symbol: None,
-        symbol: Text::of(alloc, symbol)?,
-        inputs: Vec::new(alloc),
-        outputs: Vec::new(alloc),
-    };
-    let kind = OpKind::Instance(Box::new(alloc, instance)?);
+fn call(alloc: Global, symbol: &[u8], operands: [Value; 2]) -> Result<NewOp, AllocError> {
     let shape = Shape {
-        types: 3,
+        types: 0,
         results: 1,
         again: false,
     };
-    operation(alloc, 1, kind, operands.as_slice(), shape)
+    let kind = instance(alloc, symbol, &PORTS)?;
+    let mut op = operation(alloc, 1, kind, operands.as_slice(), shape)?;
+    op.types = instance_types(alloc, &PORTS)?;
+    Ok(op)
 }
 
 // The output of a value.
@@ -45,7 +58,7 @@ fn two_instances(alloc: Global, number: u8) -> Result<Vec<NewOp>, AllocError> {
     if number > 0 {
         let inner = [number - 1];
         for op in 0..2 {
-            ops.push(instance(alloc, inner.as_slice(), [value, Value::Port(1)])?)?;
+            ops.push(call(alloc, inner.as_slice(), [value, Value::Port(1)])?)?;
             value = Value::Result(OpId::nth(op), 0);
         }
     }
@@ -55,14 +68,12 @@ fn two_instances(alloc: Global, number: u8) -> Result<Vec<NewOp>, AllocError> {
 
 // Modules of which each but the first has two instances of the one before it.
 fn doubling(alloc: Global, count: u8) -> Result<Design, AllocError> {
-    let mut design = Design::new(alloc);
+    let mut modules = Vec::new(alloc);
     for number in 0..count {
         let ops = two_instances(alloc, number)?;
-        if design.module_count() < 1000 {
-            let _ = design.add_module(module(alloc, &[number], ops)?)?;
-        }
+        modules.push(module(alloc, 1, &[number], &PORTS, ops)?)?;
     }
-    Ok(design)
+    design(alloc, modules)
 }
 
 // Whether a value depends on itself, and the first module that is too large, where no module is in itself.

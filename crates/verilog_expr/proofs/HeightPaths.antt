@@ -1,5 +1,6 @@
 -- Heights as they are found along paths of operations, each of which waits for the next.
 use Rattle.std.proofs.Common.{◌≡◌, ℕ, zero, suc, ◌+◌, ◌*◌, ◌-◌, ◌<◌, ◌≤◌, max, Bool, true, false, cond, not, ◌&&◌, nat_eq, List, [], ◌∷◌, length, map, drop, get_or, set, ◌⊎◌, inl, inr, slice_get, Option, Some, None, is_some, refl, sym, ap, subst, ◌∙◌, arith}
+use Rattle.std.proofs.lemmas.List.{drop_all}
 use Rattle.std.proofs.lemmas.Bool.{eqb-true, eqb-false}
 use Rattle.wiring.specs.Wiring.{In, greatest, IsAcyclic}
 use Rattle.wiring.proofs.Members.{In-slice_get}
@@ -11,7 +12,6 @@ use Rattle.verilog_expr.specs.Spilling as told
 use Rattle.verilog_expr.specs.Spilling.{is_pure, is_constant_kind, is_shared, height, operands_of, operands_at, inner_of, inner_needs}
 use Rattle.verilog_expr.specs.PartTables.{height_get, AreStill, IsWaiting, IsDown, starting}
 use Rattle.verilog_expr.specs.declared.height_table.Waiting.{Waiting}
-use Rattle.verilog_expr.proofs.Drops.{drop_none}
 use Rattle.verilog_expr.proofs.Nets.{results, length-results, IsWithin-results}
 
 -- ---- operands one after another
@@ -37,7 +37,7 @@ module _ (g : Ref → ℕ) where
 
   pub most_all : (rs : List Ref) (i m whole : ℕ) → length rs ≤ i → max m (greatest (map g (drop i rs))) ≡ whole → m ≡ whole
   most_all rs i m whole le h =
-      let d : greatest (map g (drop i rs)) ≡ 0 = ap (λ l. greatest (map g l)) (drop_none rs i le) in
+      let d : greatest (map g (drop i rs)) ≡ 0 = ap (λ l. greatest (map g l)) (drop_all i rs le) in
       omega (arith, h, d)
 
 -- ---- what an operation needs

@@ -1,7 +1,7 @@
 -- Marks of values as uses are noted.
 use Rattle.std.proofs.Common.{◌≡◌, ℕ, zero, suc, ◌+◌, ◌<◌, ◌≤◌, min, Bool, true, false, cond, ◌&&◌, ◌||◌, nat_eq, nat_lt, List, [], ◌∷◌, ◌++◌, length, map, take, drop, set, replicate, get_or, slice_get, Some, refl, sym, ap, subst, ◌∙◌, arith, eq-eqb, ne_eqb}
 use Rattle.std.proofs.lemmas.Bool.{ltb-false, eqb-true, eqb-false}
-use Rattle.std.proofs.lemmas.List.{drop_more, append-nil, take_all}
+use Rattle.std.proofs.lemmas.List.{drop_more, append-nil, take_all, drop_all}
 use Rattle.std.proofs.lemmas.Option.{slice_get_within, get_or_from_slice_get}
 use Rattle.hw_model.specs.Design.{Ref, Port, Op, is_instance, result_type}
 use Rattle.hw_model.specs.Design.Ref.{result}
@@ -12,7 +12,7 @@ use Rattle.verilog_expr.specs.Expressions.{value_width}
 use Rattle.verilog_expr.specs.Spilling.{one_if, places_in, use_count, cuts, joins, some_op}
 use Rattle.verilog_expr.specs.Marks.{no_mark, mark_at, note_use, one_use, after_operands, is_cut_by, after_ops}
 use Rattle.verilog_expr.specs.declared.marks.Mark.{Mark}
-use Rattle.verilog_expr.proofs.Drops.{drop_none, split}
+use Rattle.verilog_expr.proofs.Drops.{split}
 
 -- ---- places
 
@@ -93,7 +93,7 @@ no_more r cut joined m few =
 pub operands_end : {A : Type 0} (r : Ref) (cut joined : Bool) (f : A → Ref) (xs : List A) (i : ℕ) (m whole : Mark) → m.uses < 3 → length xs ≤ i
     → after_operands r cut joined (map f (drop i xs)) m ≡ whole → m ≡ whole
 operands_end r cut joined f xs i m whole few le h =
-    sym (no_more r cut joined m few) ∙ sym (ap (λ l. after_operands r cut joined (map f l) m) (drop_none xs i le)) ∙ h
+    sym (no_more r cut joined m few) ∙ sym (ap (λ l. after_operands r cut joined (map f l) m) (drop_all i xs le)) ∙ h
 
 -- ---- operations
 
@@ -125,7 +125,7 @@ pub ops_end : (ports : List Port) (os : List Op) (r : Ref) (i : ℕ) (m whole : 
     → after_ops ports os r (drop i os) m ≡ whole → m ≡ whole
 ops_end ports os r i m whole few le h =
     let none : after_ops ports os r [] m ≡ m = same_mark (min 2 (m.uses + 0)) (m.cut || false) (m.joined || false) m (omega arith) (or_false m.cut) (or_false m.joined) in
-    sym none ∙ sym (ap (λ l. after_ops ports os r l m) (drop_none os i le)) ∙ h
+    sym none ∙ sym (ap (λ l. after_ops ports os r l m) (drop_all i os le)) ∙ h
 
 pub all_none : (n i : ℕ) → mark_at (replicate n no_mark) i ≡ no_mark
 all_none zero i = refl
@@ -144,6 +144,6 @@ width_there ports os i o at small = subst (λ m. width_of (bind m (λ (x : Op). 
 -- what a slice of a whole list writes back
 pub written_back : {A : Type 0} (n : ℕ) (new old : List A) → length new ≡ length old → n ≡ length old → take n (new ++ drop (length new) old) ≡ new
 written_back n new old same whole =
-    ap (λ rest. take n (new ++ rest)) (drop_none old (length new) (omega (arith, same)))
+    ap (λ rest. take n (new ++ rest)) (drop_all (length new) old (omega (arith, same)))
     ∙ ap (take n) (append-nil new)
     ∙ take_all n new (omega (arith, same, whole))

@@ -1,5 +1,6 @@
 -- What an operation is, by the mark of its first result.
 use Rattle.std.proofs.Common.{◌≡◌, ℕ, zero, suc, ◌+◌, ◌<◌, ◌≤◌, min, Bool, true, false, cond, not, ◌&&◌, ◌||◌, nat_le, List, [], ◌∷◌, ◌++◌, length, length-append, map, drop, get_or, ◌⊎◌, inl, inr, slice_get, Some, refl, sym, ap, subst, ◌∙◌, arith}
+use Rattle.std.proofs.lemmas.List.{drop_all}
 use Rattle.std.proofs.lemmas.Bool.{leb-true, leb-false}
 use Rattle.hw_model.specs.Types.{Name}
 use Rattle.hw_model.specs.Design.{Ref, Port, Op, Entry, same_name}
@@ -10,7 +11,7 @@ use Rattle.verilog_expr.specs.Spilling.{is_pure, is_constant_kind, hint_of, use_
 use Rattle.verilog_expr.specs.Marks.{no_mark, after_ops}
 use Rattle.verilog_expr.specs.PartTables.{part_marked}
 use Rattle.verilog_expr.specs.declared.marks.Mark.{Mark}
-use Rattle.verilog_expr.proofs.Drops.{drop_none, split}
+use Rattle.verilog_expr.proofs.Drops.{split}
 
 two_capped : (n : ℕ) → nat_le 2 (min 2 (0 + n)) ≡ nat_le 2 n
 two_capped n = go (nat_le 2 n) refl (nat_le 2 (min 2 (0 + n))) refl
@@ -51,7 +52,7 @@ hint_here f key xs i x whole lt at h same =
     sym (ap (λ b. cond b (text_of (f x).value) (text_at key (map f (drop (i + 1) xs)))) same) ∙ sym (ap (text_at key) (hint_at f xs i x lt at)) ∙ h
 
 pub hint_none : {A : Type 0} (f : A → Entry) (key : Name) (xs : List A) (i : ℕ) (whole : Name) → length xs ≤ i → text_at key (map f (drop i xs)) ≡ whole → [] ≡ whole
-hint_none f key xs i whole le h = sym (ap (λ l. text_at key (map f l)) (drop_none xs i le)) ∙ h
+hint_none f key xs i whole le h = sym (ap (λ l. text_at key (map f l)) (drop_all i xs le)) ∙ h
 
 -- ---- a table of parts as it grows
 

@@ -1,10 +1,10 @@
 -- Names that are added one after another.
 use Rattle.std.proofs.Common.{◌≡◌, ℕ, zero, suc, ◌+◌, ◌<◌, ◌≤◌, List, [], ◌∷◌, ◌++◌, map, length, drop, get_or, Option, Some, refl, sym, ◌∙◌, ap, append_assoc, arith, zero-add, suc-add, add-zero, add-suc}
-use Rattle.std.proofs.lemmas.List.{append-nil}
+use Rattle.std.proofs.lemmas.List.{append-nil, drop_all}
 use Rattle.hw_model.specs.Types.{Name}
 use Rattle.hw_model.specs.Kinds.{Instance}
 use Rattle.name_legalise.specs.Legal.{legal_name, legal_after}
-use Rattle.verilog_expr.proofs.Drops.{split, drop_none}
+use Rattle.verilog_expr.proofs.Drops.{split}
 use Rattle.export_verilog.specs.Identifiers.{result_name_hint}
 use Rattle.export_verilog.specs.Held.{result_name_hints}
 
@@ -28,11 +28,11 @@ module _ (ts us ws wholeN : List Name) (list one wholeL : List (Option Name)) (k
       ∙ ap (λ l. list ++ map (λ (x : Name). Some x) (legal_after ts l)) (sym next) ∙ inv
 
 pub names_end : (ts ws wholeN : List Name) (k : ℕ) → length ws ≤ k → ts ++ legal_after ts (drop k ws) ≡ wholeN → ts ≡ wholeN
-names_end ts ws wholeN k le inv = sym (append-nil ts) ∙ ap (λ l. ts ++ legal_after ts l) (sym (drop_none ws k le)) ∙ inv
+names_end ts ws wholeN k le inv = sym (append-nil ts) ∙ ap (λ l. ts ++ legal_after ts l) (sym (drop_all k ws le)) ∙ inv
 
 pub list_end : (ts ws : List Name) (list wholeL : List (Option Name)) (k : ℕ) → length ws ≤ k
     → list ++ map (λ (x : Name). Some x) (legal_after ts (drop k ws)) ≡ wholeL → list ≡ wholeL
-list_end ts ws list wholeL k le inv = sym (append-nil list) ∙ ap (λ l. list ++ map (λ (x : Name). Some x) (legal_after ts l)) (sym (drop_none ws k le)) ∙ inv
+list_end ts ws list wholeL k le inv = sym (append-nil list) ∙ ap (λ l. list ++ map (λ (x : Name). Some x) (legal_after ts l)) (sym (drop_all k ws le)) ∙ inv
 
 -- ---- the names that are wanted for an instance's results
 

@@ -1,6 +1,6 @@
 -- Steps of the walk over a body that gives names.
 use Rattle.std.proofs.Common.{◌≡◌, ℕ, ◌+◌, ◌<◌, ◌≤◌, List, [], ◌∷◌, ◌++◌, map, length, drop, slice_get, Option, Some, None, refl, sym, ◌∙◌, ap, append_assoc}
-use Rattle.std.proofs.lemmas.List.{append-nil}
+use Rattle.std.proofs.lemmas.List.{append-nil, drop_all}
 use Rattle.std.proofs.lemmas.Option.{get_or_from_slice_get}
 use Rattle.hw_model.specs.Types.{Name}
 use Rattle.hw_model.specs.Kinds.{Instance}
@@ -10,7 +10,7 @@ use Rattle.ir_store.specs.declared.body.Op as body
 use Rattle.name_legalise.specs.Legal.{legal_after}
 use Rattle.verilog_expr.specs.Scopes.{op_read}
 use Rattle.verilog_expr.specs.declared.scope.Scope.{Scope}
-use Rattle.verilog_expr.proofs.Drops.{split, drop_none}
+use Rattle.verilog_expr.proofs.Drops.{split}
 use Rattle.export_verilog.specs.Identifiers.{Emission, emission_of}
 use Rattle.export_verilog.specs.Identifiers.Emission.{inline, as_wire, as_reg, as_instance}
 use Rattle.export_verilog.specs.Held.{op_seen, name_hints_of, op_name_hints, results_of, op_results}
@@ -67,10 +67,10 @@ module _ (ports : List Port) (os : List Op) (i : ℕ) (x : Op) (r : Emission) (t
 
 module _ (ports : List Port) (os : List Op) (i : ℕ) (le : length os ≤ i) where
   pub walked_names : (ts whole : List Name) → ts ++ legal_after ts (body_name_hints ports os i (drop i os)) ≡ whole → ts ≡ whole
-  walked_names ts whole inv = sym (append-nil ts) ∙ ap (λ l. ts ++ legal_after ts (body_name_hints ports os i l)) (sym (drop_none os i le)) ∙ inv
+  walked_names ts whole inv = sym (append-nil ts) ∙ ap (λ l. ts ++ legal_after ts (body_name_hints ports os i l)) (sym (drop_all i os le)) ∙ inv
 
   pub walked_given : {A : Type 0} (f : List Name → Emission → Op → A) (ts : List Name) (list whole : List A) → list ++ body_given f ports os ts i (drop i os) ≡ whole → list ≡ whole
-  walked_given f ts list whole inv = sym (append-nil list) ∙ ap (λ l. list ++ body_given f ports os ts i l) (sym (drop_none os i le)) ∙ inv
+  walked_given f ts list whole inv = sym (append-nil list) ∙ ap (λ l. list ++ body_given f ports os ts i l) (sym (drop_all i os le)) ∙ inv
 
 map_last : {A B : Type 0} (f : A → B) (xs : List A) (y : A) → map f (xs ++ y ∷ []) ≡ map f xs ++ f y ∷ []
 map_last f [] y = refl

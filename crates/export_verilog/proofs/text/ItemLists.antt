@@ -1,9 +1,8 @@
 -- The items of a body, added operation after operation, and the items of a module, added part after part.
 use Rattle.std.proofs.Common.{◌≡◌, ℕ, suc, ◌+◌, ◌<◌, ◌≤◌, List, [], ◌++◌, length, map, drop, get_or, slice_get, Some, refl, sym, ◌∙◌, ap, subst, arith}
-use Rattle.std.proofs.lemmas.List.{append-nil}
+use Rattle.std.proofs.lemmas.List.{append-nil, drop_all}
 use Rattle.wiring.proofs.Lists.{drop_some}
 use Rattle.verilog_model.specs.Tree.{Item}
-use Rattle.verilog_expr.proofs.Drops.{drop_none}
 use Rattle.export_verilog.specs.Identifiers.{each}
 use Rattle.export_verilog.specs.Layout.{Text, items_text}
 use Rattle.export_verilog.proofs.text.ItemRests.{items_added}
@@ -27,7 +26,7 @@ module _ {A : Type 0} (f : ℕ → A → List Item) (xs : List A) where
 
   pub each_end : (i : ℕ) (out whole : Text) → length xs ≤ i → out ++ each_left i ≡ whole → out ≡ whole
   unfolding items_text
-  each_end i out whole le inv = sym (append-nil out) ∙ ap (λ l. out ++ items_text (each f i l) []) (sym (drop_none xs i le)) ∙ inv
+  each_end i out whole le inv = sym (append-nil out) ∙ ap (λ l. out ++ items_text (each f i l) []) (sym (drop_all i xs le)) ∙ inv
 
 -- ---- the parts of a module
 

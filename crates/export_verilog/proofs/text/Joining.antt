@@ -1,13 +1,13 @@
 -- The connections of an instance, added one after another.
 use Rattle.std.proofs.Common.{◌≡◌, ℕ, zero, suc, ◌+◌, ◌<◌, ◌≤◌, nat_lt, Bool, true, false, cond, not, List, [], ◌∷◌, ◌++◌, map, length, drop, get_or, refl, sym, ◌∙◌, ap, append_assoc, arith}
 use Rattle.std.proofs.lemmas.Bool.Decides.{nat_tests}
-use Rattle.std.proofs.lemmas.List.{append-nil}
+use Rattle.std.proofs.lemmas.List.{append-nil, drop_all}
 use Rattle.hw_model.specs.Types.{Name}
 use Rattle.hw_model.specs.Design.{Ref, Port}
 use Rattle.verilog_model.specs.Tree.{Expr, Connection}
 use Rattle.verilog_model.specs.Tree.Expr.{name}
 use Rattle.verilog_expr.specs.Text.{expr_text}
-use Rattle.verilog_expr.proofs.Drops.{drop_none, split}
+use Rattle.verilog_expr.proofs.Drops.{split}
 use Rattle.export_verilog.specs.Exported.{expr_or_none, others}
 use Rattle.export_verilog.specs.Layout.{Text, connection_text}
 use Rattle.export_verilog.specs.Written.{line_end, some_left, connections_left, written_connection}
@@ -21,8 +21,8 @@ some_either false c e cs es = refl
 
 -- the operands after those that are taken
 pub others_drop : {A B : Type 0} (view : A → B) (xs : List A) (u : ℕ) → others (map view (drop u xs)) ≡ map view (drop (u + 1) xs)
-others_drop view [] zero = sym (ap (map view) (drop_none [] (0 + 1) (omega arith)))
-others_drop view [] (suc u) = sym (ap (map view) (drop_none [] (suc u + 1) (omega arith)))
+others_drop view [] zero = sym (ap (map view) (drop_all (0 + 1) [] (omega arith)))
+others_drop view [] (suc u) = sym (ap (map view) (drop_all (suc u + 1) [] (omega arith)))
 others_drop view (x ∷ xs) zero = refl
 others_drop view (x ∷ xs) (suc u) =
     let e : suc (u + 1) ≡ suc u + 1 = omega arith in
@@ -106,4 +106,4 @@ module _ {A B : Type 0} (view : A → Port) (vref : B → Ref) (ex : Ref → Exp
   pub joined_end : (ns : List Name) (xs : List A) (os : List B) (j k u : ℕ) (out whole : Text) → length ns ≡ length xs → length xs ≤ j
       → out ++ joined_left ns xs os j k u ≡ whole → out ≡ whole
   joined_end ns xs os j k u out whole count le inv =
-      sym (append-nil out) ∙ sym (ap (λ l. out ++ connections_left (connections_from ex given k l (map view (drop j xs)) (map vref (drop u os))) []) (drop_none ns j (omega (arith, count, le)))) ∙ inv
+      sym (append-nil out) ∙ sym (ap (λ l. out ++ connections_left (connections_from ex given k l (map view (drop j xs)) (map vref (drop u os))) []) (drop_all j ns (omega (arith, count, le)))) ∙ inv

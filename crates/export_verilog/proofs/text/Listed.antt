@@ -1,11 +1,11 @@
 -- Lines of a list, added one after another.
 use Rattle.std.proofs.Common.{◌≡◌, ℕ, zero, suc, ◌+◌, ◌<◌, ◌≤◌, ◌^◌, nat_lt, Bool, List, [], ◌∷◌, ◌++◌, codes, map, length, drop, get_or, slice_get, Some, refl, sym, ◌∙◌, ap, append_assoc, arith}
 use Rattle.std.proofs.lemmas.Bool.Decides.{nat_tests}
-use Rattle.std.proofs.lemmas.List.{append-nil}
+use Rattle.std.proofs.lemmas.List.{append-nil, drop_all}
 use Rattle.hw_model.specs.Types.{Name, width}
 use Rattle.hw_model.specs.Design.{Port}
 use Rattle.verilog_model.specs.Tree.{VPort, Connection}
-use Rattle.verilog_expr.proofs.Drops.{drop_none, split}
+use Rattle.verilog_expr.proofs.Drops.{split}
 use Rattle.export_verilog.specs.Layout.{Text, port_text, port_lines, ports_text, connection_text, connection_lines}
 use Rattle.export_verilog.specs.Written.{line_end, some_left, ports_left, connections_left, port_named, ports_named, AreNarrow}
 use Rattle.export_verilog.proofs.text.Rests.{port_rest, connection_rest}
@@ -26,7 +26,7 @@ gather_step f F xs i x out one whole more lt at inv e =
 
 pub gather_end : {A B : Type 0} (F : List A → List B) (xs : List A) (i : ℕ) (out whole : List B) → F [] ≡ [] → length xs ≤ i
     → out ++ F (drop i xs) ≡ whole → out ≡ whole
-gather_end F xs i out whole none le inv = sym (append-nil out) ∙ sym (ap (λ l. out ++ l) (ap F (drop_none xs i le) ∙ none)) ∙ inv
+gather_end F xs i out whole none le inv = sym (append-nil out) ∙ sym (ap (λ l. out ++ l) (ap F (drop_all i xs le) ∙ none)) ∙ inv
 
 -- ---- ports
 
@@ -68,7 +68,7 @@ ports_step view ns xs i n x left out one whole count lt nat xat is inv e =
 pub ports_end : {A : Type 0} (view : A → Port) (ns : List Name) (xs : List A) (i : ℕ) (out whole : Text) → length ns ≡ length xs → length xs ≤ i
     → out ++ ports_left (ports_named (drop i ns) (map view (drop i xs))) [] ≡ whole → out ≡ whole
 ports_end view ns xs i out whole count le inv =
-    sym (append-nil out) ∙ sym (ap (λ l. out ++ ports_left (ports_named l (map view (drop i xs))) []) (drop_none ns i (omega (arith, count, le)))) ∙ inv
+    sym (append-nil out) ∙ sym (ap (λ l. out ++ ports_left (ports_named l (map view (drop i xs))) []) (drop_all i ns (omega (arith, count, le)))) ∙ inv
 
 pub lines_rest : (p : VPort) (ps : List VPort) (a b : Text) → port_lines p ps (a ++ b) ≡ port_lines p ps a ++ b
 unfolding port_lines

@@ -1,12 +1,12 @@
 -- The parts of the text of a module and of a design, added one after another.
 use Rattle.std.proofs.Common.{◌≡◌, ℕ, zero, suc, ◌+◌, ◌<◌, ◌≤◌, nat_lt, Bool, true, cond, List, [], ◌∷◌, ◌++◌, map, drop, length, slice_get, Some, codes, refl, sym, ◌∙◌, ap, append_assoc, arith, add-zero, add-suc, zero-add}
 use Rattle.std.proofs.lemmas.Bool.Decides.{nat_tests}
-use Rattle.std.proofs.lemmas.List.{append-nil}
+use Rattle.std.proofs.lemmas.List.{append-nil, drop_all}
 use Rattle.std.proofs.lemmas.Option.{get_or_from_slice_get}
 use Rattle.hw_model.specs.Types.{Name}
 use Rattle.hw_model.specs.Design.{Port, Module, Design}
 use Rattle.verilog_model.specs.Tree.{VPort, Item, VModule, Tree}
-use Rattle.verilog_expr.proofs.Drops.{split, drop_none}
+use Rattle.verilog_expr.proofs.Drops.{split}
 use Rattle.export_verilog.specs.Identifiers.{identifier_text, name_or_nothing}
 use Rattle.export_verilog.specs.Identifiers.Identifier.{port_identifier}
 use Rattle.export_verilog.specs.Exported.{vports, vmodule}
@@ -105,4 +105,4 @@ module_step view xs i follows out one two whole lt is inv p q =
 pub modules_end : {A : Type 0} (view : A → VModule) (xs : List A) (i : ℕ) (out whole : Text) → length xs ≤ i
     → out ++ modules_left i (map view (drop i xs)) ≡ whole → out ≡ whole
 modules_end view xs i out whole le inv =
-    sym (append-nil out) ∙ sym (ap (λ l. out ++ l) (ap (λ l. modules_left i (map view l)) (drop_none xs i le) ∙ left_none i)) ∙ inv
+    sym (append-nil out) ∙ sym (ap (λ l. out ++ l) (ap (λ l. modules_left i (map view l)) (drop_all i xs le) ∙ left_none i)) ∙ inv

@@ -1,12 +1,11 @@
 -- The operands of a module's output, and the assignments to its output ports, added port after port.
 use Rattle.std.proofs.Common.{◌≡◌, ℕ, suc, ◌+◌, ◌≤◌, Bool, true, false, cond, List, [], ◌∷◌, ◌++◌, length, map, drop, slice_get, Some, refl, sym, ◌∙◌, ap, append_assoc, arith}
-use Rattle.std.proofs.lemmas.List.{append-nil}
+use Rattle.std.proofs.lemmas.List.{append-nil, drop_all}
 use Rattle.wiring.proofs.Lists.{drop_some}
 use Rattle.hw_model.specs.Types.{Name}
 use Rattle.hw_model.specs.Design.{Ref, Port, Op, Module, is_output_op, output_refs}
 use Rattle.verilog_model.specs.Tree.{Expr, Item}
 use Rattle.verilog_model.specs.Tree.Item.{assign}
-use Rattle.verilog_expr.proofs.Drops.{drop_none}
 use Rattle.export_verilog.specs.Identifiers.{identifier_text}
 use Rattle.export_verilog.specs.Identifiers.Identifier.{port_identifier}
 use Rattle.export_verilog.specs.Exported.{expression, expr_or_none, others, output_assigns}
@@ -26,7 +25,7 @@ module _ (os : List Op) (i : ℕ) (whole : List Ref) (inv : output_refs (drop i 
       ap (λ n. output_refs (drop n os)) next ∙ sym (ap (λ b. cond b o.operands (output_refs (drop (suc i) os))) is) ∙ ap output_refs (sym (drop_some os i o at)) ∙ inv
 
   pub output_nowhere : length os ≤ i → [] ≡ whole
-  output_nowhere le = ap output_refs (sym (drop_none os i le)) ∙ inv
+  output_nowhere le = ap output_refs (sym (drop_all i os le)) ∙ inv
 
 -- ---- the assignments to the output ports
 
@@ -74,4 +73,4 @@ module _ {A : Type 0} (m : Module) (view : A → Ref) (xs : List A) where
   pub outputs_end : (i u : ℕ) (out whole : Text) → length m.ports ≤ i → out ++ outputs_left i u ≡ whole → out ≡ whole
   unfolding items_text
   outputs_end i u out whole le inv =
-      sym (append-nil out) ∙ ap (λ l. out ++ items_text (output_assigns m i l (map view (drop u xs))) []) (sym (drop_none m.ports i le)) ∙ inv
+      sym (append-nil out) ∙ ap (λ l. out ++ items_text (output_assigns m i l (map view (drop u xs))) []) (sym (drop_all i m.ports le)) ∙ inv

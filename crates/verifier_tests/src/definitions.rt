@@ -1,12 +1,8 @@
-//! Designs of modules with registers that have asynchronous resets.
-use crate::designs::{Shape, body, operation};
-use diag::refusal::Place;
-use hw_model::kinds::{Instance, Integer, OpKind};
-use hw_model::types::Ty;
-use io_edge::byte_text::Text;
-use ir_store::design::{Design, Module, Port, PortList};
-use ir_store::dictionary::Dictionary;
-use ir_store::operation::{NewOp, OpId, TyList, Value};
+//! Designs of modules by rows of operations, among them registers that have asynchronous resets.
+use crate::designs::{HeaderPort, PortType, Shape, design, instance, instance_types, module, operation};
+use hw_model::kinds::{Integer, OpKind};
+use ir_store::design::{Design, Module};
+use ir_store::operation::{NewOp, OpId, Value};
 use std::alloc::{AllocError, Global};
 
 /// A value of a module, each of which has the ports `in c : !seq.clock, in d : i1, in r : i1, out q : i1`.
@@ -22,6 +18,8 @@ pub enum Operand {
 pub enum Operation {
     Constant,
     And(Operand, Operand),
+    /// The same, whose result has the mark of a second definition.
+    MarkedAnd(Operand, Operand),
     Wire(Operand),
     /// A register of the data port, by its reset and the value of that; `again` marks the name of its result.
     Register {
@@ -40,10 +38,35 @@ pub enum Operation {
 }
 
 /// A module, by its symbol and its operations.
+#[derive(Clone, Copy)]
 pub struct Definition {
     pub symbol: &'static [u8],
     pub ops: &'static [Operation],
 }
+
+/// The ports of each module.
+const PORTS: [HeaderPort; 4] = [
+    HeaderPort {
+        name: b"c",
+        out: false,
+        ty: PortType::Clock,
+    },
+    HeaderPort {
+        name: b"d",
+        out: false,
+        ty: PortType::Int(1),
+    },
+    HeaderPort {
+        name: b"r",
+        out: false,
+        ty: PortType::Int(1),
+    },
+    HeaderPort {
+        name: b"q",
+        out: true,
+        ty: PortType::Int(1),
+    },
+];
 
 /// The port `c`.
 const CLOCK: Operand = Operand::Port(0);
@@ -93,43 +116,17 @@ fn output(alloc: Global, line: u32) -> Result<NewOp, AllocError> {
     operation(alloc, line, OpKind::Output, &[Value::Port(1)], shape)
 }
 
-// The names of the ports of one direction.
-fn names(alloc: Global, names: &[&[u8]]) -> Result<Vec<Text>, AllocError> {
-    let mut texts = Vec::new(alloc);
-    for name in names {
-        texts.push(Text::of(alloc, name)?)?;
-    }
-    Ok(texts)
-}
-
-// The types of the ports in order.
-fn types(alloc: Global) -> Result<TyList, AllocError> {
-    let mut types = Vec::new(alloc);
-    types.push(Ty::Clock)?;
-    for _ in 0..3 {
-        types.push(Ty::Int(1))?;
-    }
-    Ok(TyList::of(types))
-}
-
 // An instance of a module on the clock and two values.
-fn instance(
+fn call(
     alloc: Global,
     line: u32,
     symbol: &[u8],
     data: Operand,
     reset: Operand,
 ) -> Result<NewOp, AllocError> {
-    let instance = Instance {
-        name: Text::new(alloc),
-        inner_symbol: None,
-        symbol: Text::of(alloc, symbol)?,
-        inputs: names(alloc, &[b"c", b"d", b"r"])?,
-        outputs: names(alloc, &[b"q"])?,
-    };
-    let kind = OpKind::Instance(Box::new(alloc, instance)?);
+    let kind = instance(alloc, symbol, &PORTS)?;
     let mut op = on_bits(alloc, line, kind, &[CLOCK, data, reset], false)?;
-    op.types = types(alloc)?;
+    op.types = instance_types(alloc, &PORTS)?;
     Ok(op)
 }
 
@@ -141,6 +138,7 @@ fn operation_of(alloc: Global, line: u32, row: &Operation) -> Result<NewOp, Allo
             on_bits(alloc, line, one, &[], false)
         }
         Operation::And(a, b) => on_bits(alloc, line, OpKind::And, &[a, b], false),
+        Operation::MarkedAnd(a, b) => on_bits(alloc, line, OpKind::And, &[a, b], true),
         Operation::Wire(a) => on_bits(alloc, line, OpKind::Wire, &[a], false),
         Operation::Register {
             reset,
@@ -154,24 +152,9 @@ fn operation_of(alloc: Global, line: u32, row: &Operation) -> Result<NewOp, Allo
             symbol,
             data,
             reset,
-        } => instance(alloc, line, symbol, data, reset),
+        } => call(alloc, line, symbol, data, reset),
         Operation::Output => output(alloc, line),
     }
-}
-
-// The ports of a module.
-fn ports(alloc: Global) -> Result<PortList, AllocError> {
-    let mut ports = Vec::new(alloc);
-    for name in [b"c", b"d", b"r", b"q"] {
-        let ty = if name == b"c" { Ty::Clock } else { Ty::Int(1) };
-        ports.push(Port {
-            name: Text::of(alloc, name)?,
-            out: name == b"q",
-            ty,
-            again: false,
-        })?;
-    }
-    Ok(PortList { ports })
 }
 
 // A module, whose header stands on a line.
@@ -182,26 +165,17 @@ fn module_of(alloc: Global, line: u32, definition: &Definition) -> Result<Module
         op_line = op_line.wrapping_add(1);
         ops.push(operation_of(alloc, op_line, row)?)?;
     }
-    Ok(Module {
-        symbol: Text::of(alloc, definition.symbol)?,
-        private: false,
-        ports: ports(alloc)?,
-        dictionary: Dictionary::new(alloc),
-        body: body(alloc, ops)?,
-        place: Place { line, col: 1 },
-    })
+    module(alloc, line, definition.symbol, &PORTS, ops)
 }
 
 /// The design of some modules. The header of the module of number n stands on line 10 n + 1, and its operations on the lines
 /// after it.
 pub fn design_of(alloc: Global, modules: &[Definition]) -> Result<Design, AllocError> {
-    let mut design = Design::new(alloc);
+    let mut built = Vec::new(alloc);
     let mut line = 1u32;
     for definition in modules {
-        if design.module_count() < 100 {
-            let _ = design.add_module(module_of(alloc, line, definition)?)?;
-        }
+        built.push(module_of(alloc, line, definition)?)?;
         line = line.wrapping_add(10);
     }
-    Ok(design)
+    design(alloc, built)
 }
