@@ -2,6 +2,7 @@ pub mod Inside
 pub mod Locals
 pub mod Called
 pub mod BitRows
+pub mod InputBits
 pub mod Chunks
 pub mod NodeNumbers
 pub mod NodeValues

@@ -65,10 +65,7 @@ pub fn ports_text<'s>(reader: &mut Reader<'s>) -> Result<Vec<PortText<'s>>, Read
     ensures shorter { OnOk result (length reader.new ≤ length reader.old) }
 {
     reader.want(HEADER, TokenKind::LeftParenthesis)?;
-    if reader.is_next(TokenKind::ValueName) {
-        return older_ports(reader);
-    }
-    if reader.is_next(TokenKind::RightParenthesis) {
+    if reader.is_next(TokenKind::ValueName) || reader.is_next(TokenKind::RightParenthesis) {
         return older_ports(reader);
     }
     ports_until(reader, PortForm::Directed)

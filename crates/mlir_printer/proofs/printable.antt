@@ -1,3 +1,4 @@
+pub mod FewNames
 pub mod PrintableExample
 pub mod ReadBytes
 pub mod ReadModules

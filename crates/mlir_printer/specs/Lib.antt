@@ -18,4 +18,5 @@ pub mod Places
 pub mod Shown
 pub mod Views
 pub mod Spellable
+pub mod SpellableModules
 pub mod Printable

@@ -25,7 +25,8 @@ use Rattle.mlir_printer.specs.Numbers.{is_negative, shown_number, shown_integer,
 use Rattle.mlir_printer.specs.Elements.{ValueText, Pending}
 use Rattle.mlir_printer.specs.Operations.{format_shown, output_format, is_truth_view}
 use Rattle.mlir_printer.specs.Texts.{inherent_shown}
-use Rattle.mlir_printer.specs.Spellable.{Each, AreBytes, IsInteger, IsAnyType, IsLiteral, AreLiterals, IsOperand, IsViewAs}
+use Rattle.mlir_printer.specs.Spellable.{Each, AreBytes, IsInteger, IsAnyType, IsLiteral, AreLiterals, IsOperand}
+use Rattle.mlir_printer.specs.SpellableModules.{IsViewAs}
 use Rattle.op_verifier.specs.CountChecks.{operands_written, type_count}
 use Rattle.mlir_printer.specs.Printable.{IsWritten, IsWrittenInstance}
 use Rattle.mlir_printer.proofs.lexed.LexedLiterals.{one_bit}

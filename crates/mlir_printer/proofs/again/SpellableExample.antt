@@ -10,7 +10,8 @@ use Rattle.mlir_operations.specs.ElementText.InherentAttributes.{nothing}
 use Rattle.mlir_printer.specs.Elements.{ValueText}
 use Rattle.mlir_printer.specs.Operations.{OperationText, format_shown}
 use Rattle.mlir_printer.specs.Modules.{ModuleText, file_bytes}
-use Rattle.mlir_printer.specs.Spellable.{IsValueName, IsOperand, IsSpellable, AreSpelled}
+use Rattle.mlir_printer.specs.Spellable.{IsValueName, IsOperand}
+use Rattle.mlir_printer.specs.SpellableModules.{IsSpellable, AreSpelled}
 use Rattle.mlir_printer.proofs.lexed.LexedModules.{spellable_texts_are_spelled}
 use Rattle.mlir_printer.proofs.again.ViewForms.{pending, says_variadic, says_joined}
 

@@ -12,7 +12,8 @@ use Rattle.mlir_operations.specs.ElementText.InherentAttributes.{nothing, with_r
 use Rattle.assembly_format.specs.declared.elements.Format.TheVariants as format
 use Rattle.mlir_printer.specs.Numbers.{is_truth}
 use Rattle.mlir_printer.specs.Elements.{ValueText, Pending}
-use Rattle.mlir_printer.specs.Spellable.{Each, AreBytes, IsAnyType, IsInteger, AreLiterals, IsOperand, IsInstance, IsViewAs}
+use Rattle.mlir_printer.specs.Spellable.{Each, AreBytes, IsAnyType, IsInteger, AreLiterals, IsOperand, IsInstance}
+use Rattle.mlir_printer.specs.SpellableModules.{IsViewAs}
 
 -- operands, types and what is said besides
 abbrev pub pending : List ValueText → List HwType → InherentAttributes → Pending

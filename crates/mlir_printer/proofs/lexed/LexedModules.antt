@@ -18,7 +18,8 @@ use Rattle.mlir_printer.specs.Strings.{symbol_bytes, string_bytes}
 use Rattle.mlir_printer.specs.Commas.{commas}
 use Rattle.mlir_printer.specs.Attributes.{dictionary_bytes}
 use Rattle.mlir_printer.specs.Modules.{PortText, ModuleText, port_name_bytes, input_port_bytes, output_port_bytes, port_bytes_by, port_bytes, private_bytes, header_bytes, module_bytes, modules_bytes, file_bytes}
-use Rattle.mlir_printer.specs.Spellable.{Each, AreBytes, IsAnyType, IsDictionary, MayBeValue, IsSpellablePort, IsSpellable, AreSpelled, inherent_view, said_port}
+use Rattle.mlir_printer.specs.Spellable.{Each, AreBytes, IsAnyType, IsDictionary, inherent_view, said_port}
+use Rattle.mlir_printer.specs.SpellableModules.{MayBeValue, IsSpellablePort, IsSpellable, AreSpelled}
 use Rattle.mlir_printer.proofs.lexed.LexedTexts.{Stops, Whole, Lexed, lexed, lexed_as, whole_as, whole_by, then, then_on, then_whole, closed, nothing, blank_on, blank_on_whole, blank_behind, line_behind, left_brace, right_brace, left_parenthesis, right_parenthesis}
 use Rattle.mlir_printer.proofs.lexed.LexedStrings.{string_lexed}
 use Rattle.mlir_printer.proofs.lexed.LexedNames.{bare_lexed, name_lexed, symbol_lexed, value_name_lexed}

@@ -25,7 +25,8 @@ use Rattle.mlir_printer.specs.Strings.{is_bare}
 use Rattle.mlir_printer.specs.Attributes.{dictionary_bytes}
 use Rattle.mlir_printer.specs.Elements.{Pending, ValueText, value_name_bytes, elements_bytes}
 use Rattle.mlir_printer.specs.Operations.{OperationText, results_bytes, bin_bytes, is_truth_view, output_format, format_shown, after_blank, left_behind_all, form_bytes, shaped_bytes, operation_bytes, operation_line, operation_lines}
-use Rattle.mlir_printer.specs.Spellable.{AreResults, IsDictionary, gathered_front, IsViewAs, IsSpellableOperation, AreSpellable, said_pending, said_operation}
+use Rattle.mlir_printer.specs.Spellable.{IsDictionary, said_pending, said_operation}
+use Rattle.mlir_printer.specs.SpellableModules.{AreResults, gathered_front, IsViewAs, IsSpellableOperation, AreSpellable}
 use Rattle.mlir_printer.proofs.lexed.LexedTexts.{Stops, Whole, Lexed, lexed, lexed_as, whole_as, then, then_on, then_whole, closed, nothing, blank, blank_on, line_behind, behind_nothing, with_nothing, colon_mark}
 use Rattle.mlir_printer.proofs.lexed.LexedNames.{bare_lexed, value_name_lexed}
 use Rattle.mlir_printer.proofs.lexed.LexedNumbers.{count_lexed}

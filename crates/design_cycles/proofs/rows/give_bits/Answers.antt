@@ -1,4 +1,4 @@
-use Rattle.design_cycles.proofs.BitRows.{gives_more, gives_no_more}
+use Rattle.design_cycles.proofs.InputBits.{gives_more, gives_no_more}
 use Rattle.design_cycles.proofs.rows.give_bits.Goals as goal
 use Rattle.design_cycles.proofs.rows.give_bits.Goals.{then-node-rows, else-node-rows}
 
