@@ -26,7 +26,7 @@ use Rattle.design_cycles.specs.Nodes.{rows_by, sizes_in, AreSpans, body_lists, I
 use Rattle.design_cycles.specs.Places.{symbol_at}
 use Rattle.design_cycles.specs.Summing.{KnowsCallees}
 use Rattle.graphs.proofs.Marking.{lists_at, length-lists, edges_within}
-use Rattle.design_cycles.proofs.Returning.{stored_at}
+use Rattle.ir_store.proofs.StoredModules.{stored_at}
 use Rattle.design_cycles.proofs.Callees.{number_found, place_found, found_at}
 use Rattle.design_cycles.proofs.Known.{found, known_inner, lists_found}
 use Rattle.design_cycles.proofs.Summed.{returning_depends, depending_returns}

@@ -29,7 +29,8 @@ use Rattle.design_cycles.specs.Weighing.{IsWhole}
 use Rattle.design_cycles.proofs.Callees.{call_edges, place_found, number_found, In-numbers, found_at}
 use Rattle.design_cycles.proofs.NodeValues.{value_is}
 use Rattle.design_cycles.proofs.Pushing.{sizes_count}
-use Rattle.design_cycles.proofs.Returning.{stored_at, symbols_stored}
+use Rattle.ir_store.proofs.StoredModules.{stored_at}
+use Rattle.design_cycles.proofs.Returning.{symbols_stored}
 use Rattle.design_cycles.proofs.Sizing.{count_modules}
 use Rattle.design_cycles.proofs.Summed.{sums_up}
 

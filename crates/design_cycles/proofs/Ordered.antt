@@ -38,7 +38,7 @@ use Rattle.design_cycles.specs.Summing.{KnowsCallees}
 use Rattle.design_cycles.proofs.Known.{found, known_inner}
 use Rattle.design_cycles.proofs.Locals.{from_In-picked, depends_wires}
 use Rattle.design_cycles.proofs.NodeValues.{position_least}
-use Rattle.design_cycles.proofs.Returning.{stored_at}
+use Rattle.ir_store.proofs.StoredModules.{stored_at}
 
 -- ---- what code tells by ids
 

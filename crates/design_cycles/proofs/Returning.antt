@@ -18,6 +18,7 @@ use Rattle.ir_store.specs.BodyOps.{ids_in}
 use Rattle.ir_store.specs.Bodies.{op_id}
 use Rattle.ir_store.specs.Numbered.{ops_by_position}
 use Rattle.ir_store.specs.Designs.{StoredModule, numbered_module}
+use Rattle.ir_store.proofs.StoredModules.{stored_at}
 use Rattle.design_cycles.specs.Places.{IsFirstOp, IsFirst, ids_at, ids_of_module}
 use Rattle.design_cycles.specs.Asked.{HasDistinctSymbols, Returns, IsRecursiveAt}
 use Rattle.design_cycles.specs.Calls.{symbols_in, call_lists, callee_number, IsCalleeAt, IsFoundAt}
@@ -166,10 +167,6 @@ pub none_leads : (lists : List (List ℕ)) (v : ℕ) → LeadsTo lists None v �
 none_leads lists v leads = let e : None ≡ Some leads.0 = leads.1 in cc
 
 -- ---- the loops
-
--- what is stored under a number is a module of the design
-pub stored_at : (modules : List StoredModule) (i : ℕ) (m : StoredModule) → Some m ≡ slice_get modules i → slice_get (map numbered_module modules) i ≡ Some (numbered_module m)
-stored_at modules i m at = slice_get-map numbered_module modules i ∙ ap (option_map numbered_module) (sym at)
 
 pub symbols_stored : (modules : List StoredModule) → map (λ (x : StoredModule). x.symbol) modules ≡ symbols_in (map numbered_module modules)
 symbols_stored modules = sym (map-map (λ (x : Module). x.symbol) numbered_module modules)

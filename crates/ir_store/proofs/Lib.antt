@@ -13,5 +13,6 @@ pub mod Numbering
 pub mod PositionTables
 pub mod ReadOps
 pub mod Samples
+pub mod StoredModules
 pub mod UseLemmas
 pub mod Walks

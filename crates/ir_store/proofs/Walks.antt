@@ -1,11 +1,13 @@
 -- Walks over the ids of a body.
-use Rattle.std.proofs.Common.{◌≡◌, ℕ, zero, suc, ◌≤◌, Bool, true, false, cond, nat_eq, List, [], ◌∷◌, map, slice_get, Option, Some, None, refl, sym, ap, subst, ◌∙◌, arith, eq-eqb, ne_eqb}
+use Rattle.std.proofs.Common.{◌≡◌, ℕ, zero, suc, ◌≤◌, Bool, true, false, cond, nat_eq, List, [], ◌∷◌, map, All, Contains, slice_get, Option, Some, None, refl, sym, ap, subst, ◌∙◌, arith, eq-eqb, ne_eqb}
 use Rattle.std.proofs.lemmas.Bool.{eqb-false}
+use Rattle.std.proofs.lemmas.List.Elements.{All-head, All-tail, All-contains_itself}
 use Rattle.ir_store.specs.declared.operation.OpId.{OpId}
 use Rattle.ir_store.specs.Bodies.{op_id}
 use Rattle.ir_store.specs.BodyOps.{BodyOp, op_at, ids_in}
 use Rattle.ir_store.specs.Ids.{times}
 use Rattle.ir_store.specs.Live.{AreDistinct}
+use Rattle.ir_store.proofs.Living.{all_mapped}
 
 -- an operation, where there is one, before others
 abbrev pub in_front : Option BodyOp → List BodyOp → List BodyOp
@@ -66,3 +68,19 @@ found_by_id ops once j o there = among ops j there (found_all ops once)
     among [] k e h = cc
     among (p ∷ os) zero e h = let same : p ≡ o = cc in subst (λ (x : BodyOp). op_at ops x.id ≡ Some x) same h.0
     among (p ∷ os) (suc k) e h = among os k e h.1
+
+-- ---- the ids that a walk leaves are those of the body
+
+module _ (ids : List ℕ) where
+  -- each of some ids is one of these
+  abbrev pub AreAmong : List OpId → Type 0
+  AreAmong is = All (λ (i : OpId). Contains ids i.index) is
+
+  pub all_among : (left : List OpId) → left ≡ map op_id ids → AreAmong left
+  all_among left all = subst AreAmong (sym all) (all_mapped (Contains ids) (λ (i : OpId). Contains ids i.index) op_id (λ x h. h) ids (All-contains_itself ids))
+
+  pub first_among : (i : OpId) (before after : List OpId) → before ≡ i ∷ after → AreAmong before → Contains ids i.index
+  first_among i before after steps among = All-head (λ (j : OpId). Contains ids j.index) i after (subst AreAmong steps among)
+
+  pub rest_among : (i : OpId) (before after : List OpId) → before ≡ i ∷ after → AreAmong before → AreAmong after
+  rest_among i before after steps among = All-tail (λ (j : OpId). Contains ids j.index) i after (subst AreAmong steps among)

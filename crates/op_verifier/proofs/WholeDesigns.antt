@@ -22,6 +22,7 @@ use Rattle.op_verifier.specs.Verdict.{OpAt, IsEarlier, FirstOp, NoOp, FirstModul
 use Rattle.op_verifier.specs.Verdict.IsRefusal.{recursive, too_large, cyclic}
 use Rattle.op_verifier.specs.Answered.{IsRefusedModule, IsRefusedOp}
 use Rattle.ir_store.proofs.Walks.{found_by_id}
+use Rattle.ir_store.proofs.StoredModules.{stored_at}
 
 pub some_from : {A : Type 0} {a b : A} → Some a ≡ Some b → a ≡ b
 some_from {a = a} h = ap (λ (o : Option _). value a o) h
@@ -132,7 +133,7 @@ found_first modules P Q place distinct forms h =
     let m = numbered_module x.stored in
     let o = op_by (position_of (ids_in x.stored.ops)) x.op in
     let at : OpAt (map numbered_module modules) place.module h.found.position m o = record {
-      module_there = slice_get-map numbered_module modules place.module ∙ ap (option_map numbered_module) x.has_module;
+      module_there = stored_at modules place.module x.stored (sym x.has_module);
       op_there = slice_get-map (op_by (position_of (ids_in x.stored.ops))) x.stored.ops h.found.position ∙ ap (option_map (op_by (position_of (ids_in x.stored.ops)))) x.has_op;
     } in
     record {

@@ -1,7 +1,6 @@
 -- What is made of the operations of a body and of the modules of a design, one after another.
-use Rattle.std.proofs.Common.{◌≡◌, ◌⊎◌, ℕ, zero, suc, ◌+◌, ◌≤◌, List, [], ◌∷◌, ◌++◌, map, length, flat_map, take, slice_get, option_map, Option, Some, refl, sym, ap, ap₂, subst, ◌∙◌, inl, inr, arith, append_assoc}
+use Rattle.std.proofs.Common.{◌≡◌, ◌⊎◌, ℕ, zero, suc, ◌+◌, ◌≤◌, List, [], ◌∷◌, ◌++◌, map, length, flat_map, take, slice_get, Some, refl, sym, ap, ap₂, subst, ◌∙◌, inl, inr, arith, append_assoc}
 use Rattle.std.proofs.lemmas.List.{append-nil, length-map, take_all}
-use Rattle.std.proofs.lemmas.Option.{slice_get-map}
 use Rattle.wiring.specs.Wiring.{In}
 use Rattle.wiring.proofs.Members.{In-append_left, In-append_right, In-append_cases}
 use Rattle.hw_model.specs.Design.{Op, Module}
@@ -10,6 +9,7 @@ use Rattle.ir_store.specs.BodyOps.{BodyOp, op_at, ids_in}
 use Rattle.ir_store.specs.Designs.{StoredModule, numbered_module}
 use Rattle.ir_store.specs.Numbered.{position_of, op_by, ops_by_position}
 use Rattle.ir_store.proofs.Walks.{ops_at, walk}
+use Rattle.ir_store.proofs.StoredModules.{stored_at}
 use Rattle.port_checks.specs.Seen.{body_op_seen}
 use Rattle.port_checks.specs.Joins.{made_from}
 
@@ -76,9 +76,6 @@ module _ {A : Type 0} (f : ℕ → Module → List A) where
 
 -- ---- the modules of a design in code, one after another
 
-pub numbered_at : (ms : List StoredModule) (n : ℕ) (m : StoredModule) → Some m ≡ slice_get ms n → slice_get (map numbered_module ms) n ≡ Some (numbered_module m)
-numbered_at ms n m is = slice_get-map numbered_module ms n ∙ ap (option_map numbered_module) (sym is)
-
 pub modules_past : (ms : List StoredModule) (n : ℕ) → length ms ≤ n → take n (map numbered_module ms) ≡ map numbered_module ms
 modules_past ms n past = let same : length (map numbered_module ms) ≡ length ms = length-map ms numbered_module in take_all n (map numbered_module ms) (omega arith)
 
@@ -89,7 +86,7 @@ module _ {A : Type 0} (f : ℕ → Module → List A) (ms : List StoredModule) w
   modules_more n m is =
       let next : n + 1 ≡ suc n = omega arith in
       ap (λ k. made_from f 0 (take k (map numbered_module ms))) next
-      ∙ made_more f 0 n n (map numbered_module ms) (numbered_module m) (omega arith) (numbered_at ms n m is)
+      ∙ made_more f 0 n n (map numbered_module ms) (numbered_module m) (omega arith) (stored_at ms n m is)
 
   pub modules_all : (n : ℕ) → length ms ≤ n → made_from f 0 (take n (map numbered_module ms)) ≡ made_from f 0 (map numbered_module ms)
   modules_all n past = ap (made_from f 0) (modules_past ms n past)

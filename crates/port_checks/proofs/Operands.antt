@@ -15,7 +15,7 @@ use Rattle.port_checks.specs.Pairs.{pair_of, AddsPairs}
 use Rattle.port_checks.specs.Numbers.{port_number}
 use Rattle.port_checks.specs.Joins.{bit_port, operand_pairs, found_pairs, call_pairs}
 use Rattle.port_checks.proofs.Pairs.{adds_both}
-use Rattle.port_checks.proofs.Making.{numbered_at}
+use Rattle.ir_store.proofs.StoredModules.{stored_at}
 
 -- ---- inputs
 
@@ -87,6 +87,6 @@ module _ (ms : List StoredModule) (starts : List ℕ) (caller : ℕ) (outer : Li
       → call_pairs (map numbered_module ms) starts caller outer operands symbol ≡ operand_pairs starts number (map port_of ports) caller outer operands (length ports)
   call_some number m ports is there are =
       by_place ∙ ap (found_pairs (map numbered_module ms) starts caller outer operands) is
-      ∙ ap (λ x. operand_pairs starts number (ports_of x) caller outer operands (length (ports_of x))) (numbered_at ms number m there)
+      ∙ ap (λ x. operand_pairs starts number (ports_of x) caller outer operands (length (ports_of x))) (stored_at ms number m there)
       ∙ ap (λ qs. operand_pairs starts number qs caller outer operands (length qs)) are
       ∙ ap (operand_pairs starts number (map port_of ports) caller outer operands) (length-map ports port_of)

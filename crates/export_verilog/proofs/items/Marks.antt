@@ -1,6 +1,5 @@
 -- Marks of modules: what setting those of some numbers does, operation by operation and module by module.
-use Rattle.std.proofs.Common.{◌≡◌, ◌⊎◌, ℕ, zero, suc, ◌+◌, ◌<◌, Bool, true, List, [], ◌∷◌, ◌++◌, length, map, take, set, slice_get, option_map, option_to_list, Option, Some, refl, sym, ap, subst, ◌∙◌, inl, inr, arith, length-set}
-use Rattle.std.proofs.lemmas.Option.{slice_get-map}
+use Rattle.std.proofs.Common.{◌≡◌, ◌⊎◌, ℕ, zero, suc, ◌+◌, ◌<◌, Bool, true, List, [], ◌∷◌, ◌++◌, length, map, take, set, slice_get, option_to_list, Option, Some, refl, sym, ap, subst, ◌∙◌, inl, inr, arith, length-set}
 use Rattle.wiring.specs.Wiring.{In}
 use Rattle.wiring.proofs.Lists.{map-map}
 use Rattle.hw_model.specs.Design.{Module, Op}
@@ -8,6 +7,7 @@ use Rattle.hw_model.specs.Types.{Name}
 use Rattle.hw_model.specs.Hierarchy.{callee_symbols}
 use Rattle.ir_store.specs.Numbered.{ops_by_position}
 use Rattle.ir_store.specs.Designs.{StoredModule, numbered_module}
+use Rattle.ir_store.proofs.StoredModules.{stored_at}
 use Rattle.design_cycles.specs.Calls.{call_lists, numbers_of, IsCalleeAt}
 use Rattle.graphs.specs.Graphs.{edges, has_mark}
 use Rattle.design_cycles.proofs.Callees.{call_edges, calls_more}
@@ -73,7 +73,7 @@ pub record HasMarks (lists : List (List ℕ)) (i : ℕ) (marks : List Bool) : Ty
 edges_at : (modules : List StoredModule) (i : ℕ) (m : StoredModule) → Some m ≡ slice_get modules i
     → edges (call_lists (map numbered_module modules)) i ≡ numbers_of (map (λ (x : StoredModule). x.symbol) modules) (callee_symbols (ops_by_position m.ops))
 edges_at modules i m at =
-    call_edges (map numbered_module modules) i (numbered_module m) (slice_get-map numbered_module modules i ∙ ap (option_map numbered_module) (sym at))
+    call_edges (map numbered_module modules) i (numbered_module m) (stored_at modules i m at)
     ∙ ap (λ symbols. numbers_of symbols (callee_symbols (ops_by_position m.ops))) (map-map (λ (x : Module). x.symbol) numbered_module modules)
 
 list_more : (lists : List (List ℕ)) (i : ℕ) (old : List Bool) → HasMarks lists i old → HasMarks lists (i + 1) (with_marks (edges lists i) old)

@@ -1,10 +1,11 @@
 -- A module of a stored design, by its number: what a scope of it is, and its text under its name.
-use Rattle.std.proofs.Common.{◌≡◌, ℕ, zero, suc, false, List, [], ◌∷◌, ◌++◌, map, length, slice_get, Some, sym, ◌∙◌, ap, ap₂, subst}
+use Rattle.std.proofs.Common.{◌≡◌, ℕ, false, List, [], ◌++◌, map, length, slice_get, Some, sym, ◌∙◌, ap, ap₂, subst}
 use Rattle.std.proofs.lemmas.List.{length-map}
 use Rattle.hw_model.specs.Types.{Name}
 use Rattle.hw_model.specs.Design.{Port, Op, Module}
 use Rattle.ir_store.specs.Designs.{StoredModule, numbered_module}
 use Rattle.ir_store.specs.Numbered.{ops_by_position}
+use Rattle.ir_store.proofs.StoredModules.{stored_at}
 use Rattle.export_verilog.specs.Exported.{symbol_names, symbol_name, vmodule}
 use Rattle.export_verilog.specs.Layout.{Text, module_text}
 use Rattle.export_verilog.specs.ModuleTexts.{module_under}
@@ -23,11 +24,6 @@ stored_count xs = length-map xs numbered_module
 
 pub stored_symbols : (xs : List StoredModule) (ns : List Name) → ns ≡ symbol_names (map numbered_module xs) → length ns ≡ length xs
 stored_symbols xs ns are = ap length are ∙ symbol_count (map numbered_module xs) ∙ stored_count xs
-
-stored_at : (xs : List StoredModule) (n : ℕ) (x : StoredModule) → Some x ≡ slice_get xs n → slice_get (map numbered_module xs) n ≡ Some (numbered_module x)
-stored_at [] n x there = cc
-stored_at (y ∷ xs) zero x there = let same : x ≡ y = cc in ap (λ z. Some (numbered_module z)) (sym same)
-stored_at (y ∷ xs) (suc n) x there = stored_at xs n x there
 
 module _ (xs : List StoredModule) (w : IsWritableDesign (map numbered_module xs)) (n : ℕ) (x : StoredModule) (there : Some x ≡ slice_get xs n)
     (ps : List Port) (os : List Op) (ports : ps ≡ x.ports) (ops : os ≡ ops_by_position x.ops) where

@@ -5,7 +5,7 @@ use Rattle.graphs.specs.Graphs.{lists_of}
 use Rattle.port_checks.specs.ResetPorts.{port_count}
 use Rattle.port_checks.proofs.Numbering.{HaveStarts, no_starts, more_starts, all_starts, count_next}
 use Rattle.graphs.proofs.Marking.{length-lists}
-use Rattle.port_checks.proofs.Making.{numbered_at}
+use Rattle.ir_store.proofs.StoredModules.{stored_at}
 use Rattle.port_checks.proofs.numbers.port_row.Goals as goal
 
 pub loop-number-init : goal.loop-number-init
@@ -25,7 +25,7 @@ loop-number-preserved c =
     sym (length-lists joined) ∙ ap length c.loop-number.invariant.joined ∙ length-replicate (port_count (take n d)) [] in
     let start : c.len.result ≡ port_count (take n d) = omega (arith, c.len.ensures, c.loop-number.joined.ok.0, size) in
     let count : port_count (take (n + 1) d) ≡ port_count (take n d) + length m.ports =
-    ap (λ k. port_count (take k d)) (sym next) ∙ count_next d n m (numbered_at (modules_of c.args.design.now) n (module_of c.module.result.now) c.module.ensures) in
+    ap (λ k. port_count (take k d)) (sym next) ∙ count_next d n m (stored_at (modules_of c.args.design.now) n (module_of c.module.result.now) c.module.ensures) in
     let more : c.len-in-loop-number.result ≡ length m.ports =
     omega (arith, c.len-in-loop-number.ensures, c.module.result.now.ports.ports.ok.0, length-map c.module.result.now.ports.ports.items port_of) in
     record {

@@ -1,11 +1,8 @@
-use Rattle.std.proofs.Common.{◌≡◌, ◌+◌, [], ◌∷◌, ℕ, cond, nat_eq, map, length, subst, sym, ◌∙◌, ap, refl, List, All, Contains}
-use Rattle.std.proofs.lemmas.List.Elements.{All-head, All-tail, All-contains_itself}
-use Rattle.ir_store.specs.declared.operation.OpId.{OpId}
+use Rattle.std.proofs.Common.{◌≡◌, ◌+◌, [], ◌∷◌, ℕ, cond, nat_eq, map, length, subst, sym, ◌∙◌, ap, refl, List}
 use Rattle.ir_store.specs.BodyOps.{BodyOp, ids_in}
 use Rattle.ir_store.specs.Bodies.{ops_of, ids_of, ids_left, op_id, read_op}
 use Rattle.ir_store.specs.Live.{AreDistinct}
 use Rattle.ir_store.proofs.BodyLemmas.{ids_once}
-use Rattle.ir_store.proofs.Living.{all_mapped}
 use Rattle.mlir_printer.specs.Naming.{name_hints, body_name_hints, name_count}
 use Rattle.mlir_printer.specs.Chosen.{Chosen, with_name_hints}
 use Rattle.mlir_printer.specs.Places.{place_at, place_in, place_for}
@@ -13,18 +10,16 @@ use Rattle.mlir_printer.specs.Shown.{parts_in_body}
 use Rattle.mlir_printer.specs.Views.{names_held, chosen_names}
 use Rattle.mlir_printer.proofs.names.Choosing.{name_hints_step, name_hints_length}
 use Rattle.mlir_printer.proofs.names.Placing.{place_left, place_step, once_step, none_kept}
-use Rattle.ir_store.proofs.Walks.{ops_at, through_all}
-use Rattle.ir_store.proofs.Walks.{walk}
+use Rattle.ir_store.proofs.Walks.{ops_at, through_all, walk, all_among, first_among, rest_among}
 use Rattle.mlir_printer.proofs.value_names.ValueNames.add_operations.Goals as goal
 
 pub loop-id-init : goal.loop-id-init
 loop-id-init c =
     let b = c.args.body.now in
-    let live = λ (i : OpId). Contains (ids_of b) i.index in
     let left : ids_left c.into_iter-id-iterator.result ≡ map op_id (ids_of b) = ap ids_left c.into_iter-id-iterator.ensures.into_iter_gives ∙ c.ops-id-items.ensures in
     let all = ap (ops_at (ops_of b)) left ∙ through_all (ops_of b) (ids_once b) in
     record {
-      live = subst (λ (is : List OpId). All live is) (sym left) (all_mapped (Contains (ids_of b)) live op_id (λ x h. h) (ids_of b) (All-contains_itself (ids_of b)));
+      live = all_among (ids_of b) (ids_left c.into_iter-id-iterator.result) left;
       chosen = ap (λ (os : List BodyOp). with_name_hints (chosen_names c.args.self.now) (body_name_hints (parts_in_body os))) all;
       ports = refl;
       once = subst (λ (os : List BodyOp). AreDistinct (ids_in os)) (sym all) (ids_once b);
@@ -37,13 +32,11 @@ loop-id-init c =
 -- each id that is left is one of the body
 pub op-op-requires : goal.op-op-requires
 op-op-requires c =
-    let live = λ (i : OpId). Contains (ids_of c.args.body.now) i.index in
-    All-head live c.in-Some.id (ids_left c.next.new.self) (subst (λ (is : List OpId). All live is) c.in-Some.ensures.steps c.loop-id.invariant.live)
+    first_among (ids_of c.args.body.now) c.in-Some.id (ids_left c.loop-id.id-iterator) (ids_left c.next.new.self) c.in-Some.ensures.steps c.loop-id.invariant.live
 
 pub loop-id-preserved : goal.loop-id-preserved
 loop-id-preserved c =
     let b = c.args.body.now in
-    let live = λ (i : OpId). Contains (ids_of b) i.index in
     let o = read_op c.in-Some.id c.op-op.result in
     let after = ops_at (ops_of b) (ids_left c.next.new.self) in
     let steps : ops_at (ops_of b) (ids_left c.loop-id.id-iterator) ≡ o ∷ after =
@@ -56,7 +49,7 @@ loop-id-preserved c =
     let more : length (names_held c.add_operation.new.self) ≡ length (names_held c.loop-id.self) + name_count o.parts =
     ap (λ (n : Chosen). length n.names) c.in_ok-place.ensures.chosen ∙ name_hints_length (chosen_names c.loop-id.self) (name_hints o.parts) in
     record {
-      live = All-tail live c.in-Some.id (ids_left c.next.new.self) (subst (λ (is : List OpId). All live is) c.in-Some.ensures.steps c.loop-id.invariant.live);
+      live = rest_among (ids_of b) c.in-Some.id (ids_left c.loop-id.id-iterator) (ids_left c.next.new.self) c.in-Some.ensures.steps c.loop-id.invariant.live;
       chosen =
           name_hints_step (chosen_names c.loop-id.self) (chosen_names c.add_operation.new.self) _ (name_hints o.parts) (body_name_hints (parts_in_body after)) c.in_ok-place.ensures.chosen
           (ap (λ (os : List BodyOp). with_name_hints (chosen_names c.loop-id.self) (body_name_hints (parts_in_body os))) (sym steps) ∙ c.loop-id.invariant.chosen);
