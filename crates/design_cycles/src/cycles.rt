@@ -12,7 +12,6 @@ ghost use Rattle.design_cycles.specs.Places.{Finds, FindsOp, ids_at, symbol_at};
 ghost use Rattle.design_cycles.specs.Summing.{KnowsCallees};
 
 use crate::calls::called_modules;
-use graphs::{NodeList, is_open, reached_from};
 use crate::hierarchy::Hierarchy;
 use crate::in_order::are_in_order;
 use crate::layout::{Span, Summary};
@@ -21,6 +20,7 @@ use crate::order::callees_first;
 use crate::place::OpPlace;
 use crate::summaries::summaries_of;
 use crate::wired::wires_of;
+use graphs::{NodeList, is_open, reached_from};
 use ir_store::design::Design;
 use ir_store::operation::OpId;
 use std::alloc::{AllocError, Global};

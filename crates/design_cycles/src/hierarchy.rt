@@ -4,8 +4,8 @@ ghost use Rattle.ir_store.specs.Designs.{design_of};
 ghost use Rattle.design_cycles.specs.Hierarchies.{IsHierarchy};
 
 use crate::calls::call_graph;
-use graphs::NodeList;
 use crate::order::{Order, callees_first};
+use graphs::NodeList;
 use ir_store::design::Design;
 use std::alloc::{AllocError, Global};
 

@@ -11,9 +11,9 @@ ghost use Rattle.design_cycles.specs.Hierarchies.{IsHierarchy};
 ghost use Rattle.design_cycles.specs.Places.{Finds, FindsOp, ids_at};
 
 use crate::calls::callee_of;
-use graphs::{NodeList, is_open, reached_from};
 use crate::hierarchy::Hierarchy;
 use crate::place::OpPlace;
+use graphs::{NodeList, is_open, reached_from};
 use ir_store::design::Design;
 use ir_store::operation::OpId;
 use ir_store::position_table::ids_in;

@@ -5,11 +5,11 @@ ghost use Rattle.design_cycles.specs.Nodes.{value_node};
 ghost use Rattle.design_cycles.specs.Summing.{AreOutputs};
 ghost use Rattle.design_cycles.specs.Rows.{AddsBits, AddsRows};
 
-use graphs::NodeList;
 use crate::layout::Layout;
 use crate::order::{all_numbers, empty_lists};
 use crate::rows::{ROW_BITS, row_of, rows_of};
 use crate::wires::node_of;
+use graphs::NodeList;
 use ir_store::operation::Value;
 use std::alloc::{AllocError, Global};
 

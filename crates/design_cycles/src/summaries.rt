@@ -14,7 +14,6 @@ ghost use Rattle.design_cycles.specs.Weighing.{IsWhole};
 ghost use Rattle.design_cycles.specs.Nodes.{rows_by, value_node};
 ghost use Rattle.design_cycles.specs.Summing.{inputs_from, reached_numbers, AreInputs, AreOutputs, KnowsCallees, IsSummed};
 
-use graphs::{NodeList, is_marked, reached_from};
 use crate::in_order::are_in_order;
 use crate::layout::{Layout, Summary};
 use crate::ops::{Sort, op_at, sort_of};
@@ -23,6 +22,7 @@ use crate::row_lists::row_lists;
 use crate::rows::ROW_BITS;
 use crate::wired::{Wired, wires_of};
 use crate::wires::node_of;
+use graphs::{NodeList, is_marked, reached_from};
 use ir_store::body::Body;
 use ir_store::design::{Design, Port};
 use ir_store::operation::{OpId, Value};

@@ -6,9 +6,9 @@ ghost use Rattle.ir_store.specs.Designs.{modules_of};
 ghost use Rattle.graphs.specs.Graphs.{lists_of};
 ghost use Rattle.design_cycles.specs.Nodes.{rows_by, sizes_in, body_lists, IsLayout};
 
-use graphs::NodeList;
 use crate::layout::{Layout, Summary};
 use crate::wires::{Scope, graph_of, layout_of};
+use graphs::NodeList;
 use ir_store::design::{Design, Module};
 use ir_store::operation::OpId;
 use ir_store::position_table::ids_in;

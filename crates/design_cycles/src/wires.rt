@@ -10,10 +10,10 @@ ghost use Rattle.std.specs.Prelude.{slice_get};
 ghost use Rattle.graphs.specs.Graphs.{lists_of};
 ghost use Rattle.design_cycles.specs.Nodes.{rows_at as rows_kept, rows_by, HasSize, sizes_in, AreSpans, IsLayout, span_node, value_node, value_nodes, picked_values, times_over, body_lists, lists_at};
 
-use graphs::NodeList;
 use crate::layout::{Layout, Span, Summary};
 use crate::ops::{Sort, op_at, sort_of};
 use crate::order::empty_lists;
+use graphs::NodeList;
 use ir_store::body::Body;
 use ir_store::design::Design;
 use ir_store::operation::{OpId, Value};

@@ -34,11 +34,7 @@ pub fn reached_from(
 }
 
 /// Marks `nodes`, and lets those wait that had no mark. What is not there gets none.
-pub fn mark_all(
-    nodes: &[u32],
-    marks: &mut [bool],
-    waiting: &mut Vec<u32>,
-) -> Result<(), AllocError>
+pub fn mark_all(nodes: &[u32], marks: &mut [bool], waiting: &mut Vec<u32>) -> Result<(), AllocError>
     ensures { IfOk result (λ _. MarksAll nodes.now marks.old marks.new waiting.old.items waiting.new.items) }
 {
     for node in nodes {

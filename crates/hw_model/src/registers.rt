@@ -92,13 +92,7 @@ fn without_reset<V: Copy>(next: V, clock: V, enable: Option<V>) -> Register<V>
     }
 }
 
-fn with_reset<V: Copy>(
-    next: V,
-    clock: V,
-    enable: Option<V>,
-    signal: V,
-    value: V,
-) -> Register<V>
+fn with_reset<V: Copy>(next: V, clock: V, enable: Option<V>, signal: V, value: V) -> Register<V>
     ensures { result ≡ record { next = next; clock = clock; enable = enable; reset = Some (record { signal = signal; value = value }) } }
 {
     Register {

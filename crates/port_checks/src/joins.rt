@@ -8,8 +8,8 @@ ghost use Rattle.port_checks.specs.Joins.{operand_pairs, call_pairs, instance_pa
 ghost use Rattle.port_checks.specs.Seen.{ref_seen, op_seen};
 
 use crate::instances::instance_cause;
+use crate::joined_ports::push_joined;
 use crate::numbers::{optional_number, port_number};
-use crate::pairs::push_joined;
 use crate::ports::bit_port;
 use graphs::NodeList;
 use hw_model::kinds::{Instance, OpKind};

@@ -3,11 +3,11 @@
 #![tactic(auto)]
 
 mod instances;
+mod joined_ports;
 mod joins;
 mod laws;
 mod named;
 mod numbers;
-mod pairs;
 mod ports;
 mod reset_ports;
 

@@ -1,5 +1,7 @@
 //! Designs of modules by rows of operations, among them registers that have asynchronous resets.
-use crate::designs::{HeaderPort, PortType, Shape, design, instance, instance_types, module, operation};
+use crate::designs::{
+    HeaderPort, PortType, Shape, design, instance, instance_types, module, operation,
+};
 use hw_model::kinds::{Integer, OpKind};
 use ir_store::design::{Design, Module};
 use ir_store::operation::{NewOp, OpId, Value};

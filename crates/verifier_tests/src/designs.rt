@@ -125,11 +125,7 @@ fn names(alloc: Global, header: &[HeaderPort], out: bool) -> Result<Vec<Text>, A
 }
 
 /// An instance of the module of a symbol, as if it had these ports.
-pub fn instance(
-    alloc: Global,
-    symbol: &[u8],
-    header: &[HeaderPort],
-) -> Result<OpKind, AllocError> {
+pub fn instance(alloc: Global, symbol: &[u8], header: &[HeaderPort]) -> Result<OpKind, AllocError> {
     let instance = Instance {
         name: Text::new(alloc),
         inner_symbol: None,

@@ -1,5 +1,7 @@
 //! The searches over a design, each once with ample memory.
-use crate::designs::{HeaderPort, PortType, Shape, design, instance, instance_types, module, operation};
+use crate::designs::{
+    HeaderPort, PortType, Shape, design, instance, instance_types, module, operation,
+};
 use design_cycles::{
     Hierarchy, first_cycle, first_recursive, first_too_large, has_distinct_symbols,
 };

@@ -1,7 +1,6 @@
 use Rattle.std.proofs.Common.{rules, [], ◌++◌, sym, ap, ◌∙◌}
 use Rattle.std.specs.Prelude.{option_map}
 use Rattle.hw_model.specs.Flat.{async_reset_in}
-
 use Rattle.verilog_expr.specs.Named.{named_of}
 use Rattle.verilog_expr.specs.Scopes.{scope_ref, op_read}
 use Rattle.export_verilog.specs.Layout.{item_text, items_text}

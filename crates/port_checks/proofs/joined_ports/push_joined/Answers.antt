@@ -4,7 +4,7 @@ use Rattle.port_checks.specs.Pairs.{pair_of, AddsPairs}
 use Rattle.graphs.specs.declared.graph.NodeList.{NodeList}
 use Rattle.graphs.proofs.Marking.{length-lists}
 use Rattle.port_checks.proofs.Pairs.{adds_one, joined_set}
-use Rattle.port_checks.proofs.pairs.push_joined.Goals as goal
+use Rattle.port_checks.proofs.joined_ports.push_joined.Goals as goal
 
 pub returns : goal.returns
 returns c =
