@@ -12,7 +12,7 @@ use Rattle.hw_model.specs.Opcodes.{opcode_of}
 use Rattle.hw_model.specs.Design.{Entry, Ref, Port, OpResult, Op, Module, Design, is_output_op}
 use Rattle.hw_model.specs.Design.Ref.{port, result, undefined}
 use Rattle.ir_store.specs.ResultTypes.{result_types}
-use Rattle.op_verifier.specs.CountChecks.{operands_written, type_count}
+use Rattle.op_checks.specs.CountChecks.{operands_written, type_count}
 use Rattle.mlir_syntax.specs.Numerals.{count_limit}
 use Rattle.mlir_operations.specs.OperationText.{takes_bin, string_keys}
 use Rattle.mlir_operations.specs.ModuleText.{module_keys}

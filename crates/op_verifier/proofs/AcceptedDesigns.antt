@@ -21,12 +21,12 @@ use Rattle.design_cycles.proofs.Cyclic.{cyclic_op, none_cyclic}
 use Rattle.design_cycles.proofs.Returning.{none_recursive}
 use Rattle.port_checks.specs.ResetPorts.{is_reset_port}
 use Rattle.op_verifier.specs.Faults.{first_fault}
-use Rattle.op_verifier.specs.LimitChecks.{has_constant_outside}
-use Rattle.op_verifier.specs.LiteralChecks.{is_out_of_range}
+use Rattle.op_checks.specs.LimitChecks.{has_constant_outside}
+use Rattle.op_checks.specs.LiteralChecks.{is_out_of_range}
 use Rattle.op_verifier.specs.Verdict.{IsInRange, OpAt, NoOp, NoModule, IsRecursive, IsTooLarge, IsOnCycle, IsAccepted}
 use Rattle.op_verifier.proofs.Distinct.{distinct_symbols}
 use Rattle.op_verifier.proofs.InputResets.{resets_from_ports}
-use Rattle.op_verifier.proofs.NoOwnCause.{no_cause_alone}
+use Rattle.op_verifier.proofs.NoCauseAlone.{no_cause_alone}
 use Rattle.op_verifier.proofs.Placeless.{calls_placeless, weight_placeless, needs_placeless}
 use Rattle.op_verifier.proofs.PlacelessFaults.{fault_placeless}
 use Rattle.op_verifier.proofs.Unrefused.{no_op_cause, ops_unrefused, module_unrefused}

@@ -23,11 +23,11 @@ use Rattle.port_checks.specs.ResetPorts.{IsBitInput, IsResetPort, port_count, is
 use Rattle.port_checks.proofs.Least.{reset_some, is_sound, is_complete}
 use Rattle.op_verifier.specs.Faults.{first_fault}
 use Rattle.op_verifier.specs.ResetChecks.{is_input_port, is_no_input, is_constant_op, is_constant_ref, has_other_reset, joins_other, has_other_join}
-use Rattle.op_verifier.proofs.NoOwnCause.{no_cause_alone, result_number}
+use Rattle.op_verifier.proofs.NoCauseAlone.{no_cause_alone, result_number}
 use Rattle.op_verifier.proofs.Unrefused.{not_false, NoOpCause, no_op_cause, ops_unrefused, module_unrefused}
 use Rattle.op_verifier.proofs.SoundDesigns.{both_true, sound_design}
 use Rattle.op_verifier.proofs.WholeDesigns.{some_from}
-use Rattle.op_verifier.proofs.Widths.{neither}
+use Rattle.op_checks.proofs.Widths.{neither}
 
 -- ---- values
 

@@ -13,7 +13,7 @@ use Rattle.hw_model.specs.Sound.{type_in}
 use Rattle.hw_model.specs.Flat.{async_reset_in, port_ref, ResetBy}
 use Rattle.port_checks.specs.ResetPorts.{is_reset_port}
 use Rattle.op_verifier.specs.Answers.{when, or_else}
-use Rattle.op_verifier.specs.OwnChecks.{own_cause}
+use Rattle.op_checks.specs.OwnChecks.{own_cause}
 use Rattle.op_verifier.specs.OpChecks.{has_again, has_undefined, settled_by, settled_type, is_nonzero_op, is_nonzero_ref, has_other_outputs, op_cause}
 use Rattle.op_verifier.specs.ResetChecks.{is_input_port, is_constant_op, is_constant_ref, has_other_reset, has_other_join, reset_cause}
 use Rattle.op_verifier.specs.Headers.{has_twice, has_output, ports_cause, header_cause}

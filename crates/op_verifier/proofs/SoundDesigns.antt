@@ -12,14 +12,14 @@ use Rattle.hw_model.specs.Design.Ref.{port, result, undefined}
 use Rattle.hw_model.specs.Sound.{input_types, output_types, type_in, Fits, OpFits, InstanceFits, Sound}
 use Rattle.hw_model.specs.SameType.{same_type, type_from}
 use Rattle.port_checks.specs.InstanceChecks.{names_ports, call_cause, instance_cause}
-use Rattle.op_verifier.specs.TypeLists.{known_types}
-use Rattle.op_verifier.specs.OwnChecks.{own_cause}
+use Rattle.op_checks.specs.TypeLists.{known_types}
+use Rattle.op_checks.specs.OwnChecks.{own_cause}
 use Rattle.op_verifier.specs.OpChecks.{has_undefined, settled_by, settled_type, divides_by_constant}
 use Rattle.op_verifier.specs.Headers.{has_output}
 use Rattle.op_verifier.specs.Faults.{first_fault}
-use Rattle.op_verifier.proofs.Fitting.{fits, instance_types, output_types as outputs_typed}
-use Rattle.op_verifier.proofs.NoOwnCause.{types_of, no_cause_alone}
-use Rattle.op_verifier.proofs.Settled.{settles}
+use Rattle.op_checks.proofs.Fitting.{fits, instance_types, output_types as outputs_typed}
+use Rattle.op_verifier.proofs.NoCauseAlone.{types_of, no_cause_alone}
+use Rattle.op_checks.proofs.Settled.{settles}
 use Rattle.op_verifier.proofs.Unrefused.{when_none, not_false, no_op_cause, no_header_cause, IsUnrefused, ops_unrefused, module_unrefused}
 
 -- ---- small facts

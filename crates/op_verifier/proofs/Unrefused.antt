@@ -9,10 +9,10 @@ use Rattle.port_checks.specs.InstanceChecks.{instance_cause}
 use Rattle.op_verifier.specs.Answers.{when, or_else}
 use Rattle.op_verifier.specs.OpChecks.{has_again, has_undefined, has_other_outputs, value_cause, alone_cause, outer_cause, op_cause}
 use Rattle.op_verifier.specs.ResetChecks.{has_other_reset, has_other_join, reset_cause}
-use Rattle.op_verifier.specs.TypeChecks.{is_outside, has_bad_field}
+use Rattle.op_checks.specs.TypeChecks.{is_outside, has_bad_field}
 use Rattle.op_verifier.specs.Headers.{has_port, has_wrong_clock, has_twice, has_output, ports_cause, names_cause, header_cause}
 use Rattle.op_verifier.specs.Faults.{op_refusal, header_refusal, is_empty, body_fault, module_fault, faults_from, first_fault}
-use Rattle.op_verifier.proofs.Widths.{neither}
+use Rattle.op_checks.proofs.Widths.{neither}
 
 pub or_none : {A : Type 0} (a b : Option A) → or_else a b ≡ None → (a ≡ None) × (b ≡ None)
 or_none None b h = (refl, h)

@@ -5,7 +5,7 @@ use Rattle.diag.specs.declared.cause.Cause.TheVariants.{Redefined, WidthLimit, F
 use Rattle.hw_model.specs.Types.{Name}
 use Rattle.hw_model.specs.Design.{Port, Op, Module, Design, same_name, find_module, is_output_op}
 use Rattle.op_verifier.specs.Answers.{when, or_else}
-use Rattle.op_verifier.specs.TypeChecks.{is_outside, has_bad_field, has_clock_part, is_clock}
+use Rattle.op_checks.specs.TypeChecks.{is_outside, has_bad_field, has_clock_part, is_clock}
 
 -- whether some port meets a test
 abbrev pub has_port : (Port → Bool) → List Port → Bool

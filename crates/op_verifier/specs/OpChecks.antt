@@ -15,7 +15,7 @@ use Rattle.hw_model.specs.SameType.{same_type}
 use Rattle.ir_store.specs.ResultTypes.{result_types}
 use Rattle.port_checks.specs.InstanceChecks.{port_types, instance_cause}
 use Rattle.op_verifier.specs.Answers.{when, or_else}
-use Rattle.op_verifier.specs.OwnChecks.{own_cause}
+use Rattle.op_checks.specs.OwnChecks.{own_cause}
 use Rattle.op_verifier.specs.ResetChecks.{reset_cause}
 
 -- ---- values

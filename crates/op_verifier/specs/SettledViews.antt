@@ -2,7 +2,7 @@
 use Rattle.std.specs.Prelude.{List, map, Option, option_map}
 use Rattle.hw_model.specs.Types.{HwType}
 use Rattle.hw_model.specs.TypeViews.{type_of}
-use Rattle.op_verifier.specs.TypeLists.{known_types}
+use Rattle.op_checks.specs.TypeLists.{known_types}
 use Rattle.op_verifier.specs.declared.settled_types.Settled.{Settled}
 use Rattle.op_verifier.specs.declared.settled_types.Settled.TheVariants.{Own, Made}
 

@@ -2,17 +2,17 @@
 ghost use Rattle.std.specs.Prelude.{◌≡◌, map, take, is_some, IfOk};
 ghost use Rattle.hw_model.specs.Design.{find_module};
 ghost use Rattle.ir_store.specs.Designs.{port_of, design_of};
-ghost use Rattle.op_verifier.specs.TypeChecks.{is_outside, has_bad_field};
+ghost use Rattle.op_checks.specs.TypeChecks.{is_outside, has_bad_field};
 ghost use Rattle.op_verifier.specs.Headers.{has_port, has_wrong_clock, is_among, has_twice, has_output, ports_cause, names_cause};
 ghost use Rattle.op_verifier.specs.BodyViews.{ports_viewed, body_viewed};
 
 use crate::body_view::BodyView;
 use crate::operations::is_output;
-use crate::type_checks::{has_bad_field, has_clock_part, is_clock, is_outside};
 use diag::cause::Cause;
 use indexmap::IndexSet;
 use io_edge::byte_text::Text;
 use ir_store::design::{Design, Port};
+use op_checks::type_checks::{has_bad_field, has_clock_part, is_clock, is_outside};
 use std::alloc::{AllocError, Global};
 
 /// What a header is refused for by the types and marks of its ports.

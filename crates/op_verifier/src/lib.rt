@@ -3,23 +3,13 @@
 
 mod accepted;
 mod body_view;
-mod count_checks;
 mod entries;
 mod faults;
 mod headers;
 mod laws;
-mod limit_checks;
-mod literal_checks;
-mod operand_checks;
 mod operations;
-mod own_checks;
-mod own_laws;
 mod reset_checks;
-mod result_checks;
 mod settled_types;
-mod type_checks;
-mod type_lists;
-mod type_parts;
 mod values;
 mod verdicts;
 mod verify_fail;
@@ -30,6 +20,5 @@ pub use laws::{
     accepted_designs_are_sound, places_decide_no_verdict, resets_come_from_ports,
     results_are_settled, unrefused_designs_are_sound,
 };
-pub use own_laws::operations_fit;
 pub use verdicts::verify;
 pub use verify_fail::VerifyFail;

@@ -9,11 +9,11 @@ ghost use Rattle.op_verifier.specs.OpChecks.{has_again};
 
 use crate::body_view::BodyView;
 use crate::entries::Entry;
-use crate::own_checks::own_cause;
 use diag::cause::Cause;
 use hw_model::kinds::OpKind;
 use ir_store::design::Design;
 use ir_store::operation::NewResult;
+use op_checks::own_checks::own_cause;
 use port_checks::{ResetPorts, are_types, instance_cause};
 use std::alloc::{AllocError, Global};
 

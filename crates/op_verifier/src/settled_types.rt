@@ -5,14 +5,14 @@ ghost use Rattle.hw_model.specs.TypeViews.{type_of};
 ghost use Rattle.hw_model.specs.FamilyViews.{family_of};
 ghost use Rattle.hw_model.specs.KindViews.{kind_of};
 ghost use Rattle.ir_store.specs.ResultTypes.{result_type, result_types};
-ghost use Rattle.op_verifier.specs.TypeLists.{known_types};
+ghost use Rattle.op_checks.specs.TypeLists.{known_types};
 
-use crate::result_checks::single_differs;
 use hw_model::families::{ArrayOp, Family, StructOp};
 use hw_model::types::Ty;
 use ir_store::body::Op;
 use ir_store::operation::NewResult;
 use ir_store::result_types::{element_of, field_of, joined_length, joined_width, result_types};
+use op_checks::result_checks::single_differs;
 use std::alloc::{AllocError, Global};
 
 /// The types that an operation settles for its results.

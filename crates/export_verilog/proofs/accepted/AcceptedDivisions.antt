@@ -16,17 +16,17 @@ use Rattle.hw_model.specs.Design.{Ref, Port, OpResult, Op, result_type}
 use Rattle.hw_model.specs.Design.Ref.{port, result, undefined}
 use Rattle.hw_model.specs.Sound.{type_in, Fits, OpFits}
 use Rattle.ir_store.specs.ResultTypes.{result_type as kind_result_type, result_types}
-use Rattle.op_verifier.specs.TypeChecks.{is_outside}
-use Rattle.op_verifier.specs.TypeLists.{known_types}
-use Rattle.op_verifier.specs.LiteralChecks.{is_out_of_range}
-use Rattle.op_verifier.specs.OperandChecks.{has_other_form}
-use Rattle.op_verifier.specs.LimitChecks.{has_constant_outside, has_unknown_divisor}
-use Rattle.op_verifier.specs.CountChecks.{operands_written, operand_count}
+use Rattle.op_checks.specs.TypeChecks.{is_outside}
+use Rattle.op_checks.specs.TypeLists.{known_types}
+use Rattle.op_checks.specs.LiteralChecks.{is_out_of_range}
+use Rattle.op_checks.specs.OperandChecks.{has_other_form}
+use Rattle.op_checks.specs.LimitChecks.{has_constant_outside, has_unknown_divisor}
+use Rattle.op_checks.specs.CountChecks.{operands_written, operand_count}
 use Rattle.op_verifier.specs.OpChecks.{is_nonzero, is_nonzero_kind, is_nonzero_op, divides_by_constant}
-use Rattle.op_verifier.proofs.NoOwnCause.{types_of, NoCauseAlone}
-use Rattle.op_verifier.proofs.Settled.{settles}
+use Rattle.op_verifier.proofs.NoCauseAlone.{types_of, NoCauseAlone}
+use Rattle.op_checks.proofs.Settled.{settles}
 use Rattle.op_verifier.proofs.Unrefused.{not_false}
-use Rattle.op_verifier.proofs.Widths.{neither}
+use Rattle.op_checks.proofs.Widths.{neither}
 use Rattle.verilog_expr.specs.Expressions.{constant_number}
 use Rattle.verilog_expr.specs.Spilling.{is_constant_kind}
 use Rattle.verilog_expr.specs.Values.{is_division, IsDivision}

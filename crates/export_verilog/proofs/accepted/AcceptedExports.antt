@@ -10,7 +10,7 @@ use Rattle.hw_model.specs.Sound.{type_in, OpFits, Sound}
 use Rattle.port_checks.specs.ResetPorts.{is_reset_port}
 use Rattle.op_verifier.specs.Verdict.{IsAccepted}
 use Rattle.op_verifier.proofs.AcceptedDesigns.{no_fault, accepted_distinct, accepted_finite, accepted_acyclic, accepted_resets}
-use Rattle.op_verifier.proofs.NoOwnCause.{NoCauseAlone, result_number}
+use Rattle.op_verifier.proofs.NoCauseAlone.{NoCauseAlone, result_number}
 use Rattle.op_verifier.proofs.SoundDesigns.{sound_design}
 use Rattle.verilog_expr.specs.Marks.{AreSmall}
 use Rattle.export_verilog.specs.Aggregates.{HasNoAggregates, is_aggregate}

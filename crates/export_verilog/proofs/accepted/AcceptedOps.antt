@@ -2,11 +2,11 @@
 use Rattle.std.proofs.Common.{◌≡◌, ℕ, zero, suc, Bool, true, false, cond, List, [], ◌∷◌, slice_get, Some, refl, sym, ap, ◌∙◌}
 use Rattle.hw_model.specs.Design.{Port, Op, Module, Design, find_module}
 use Rattle.design_cycles.proofs.Callees.{found_at}
-use Rattle.op_verifier.specs.TypeChecks.{is_outside}
+use Rattle.op_checks.specs.TypeChecks.{is_outside}
 use Rattle.op_verifier.specs.Headers.{has_port}
 use Rattle.op_verifier.specs.Verdict.{IsAccepted}
 use Rattle.op_verifier.proofs.AcceptedDesigns.{no_fault, accepted_distinct}
-use Rattle.op_verifier.proofs.NoOwnCause.{NoCauseAlone, no_cause_alone}
+use Rattle.op_verifier.proofs.NoCauseAlone.{NoCauseAlone, no_cause_alone}
 use Rattle.op_verifier.proofs.Unrefused.{no_op_cause, no_header_cause, IsUnrefused, ops_unrefused, IsUnrefusedModule, module_unrefused}
 
 -- a header that is not refused has no type outside the limits

@@ -12,11 +12,11 @@ use Rattle.hw_model.specs.Design.Ref.{port, result, undefined}
 use Rattle.hw_model.specs.Flat.{width_of, Register, register_parts, register_in}
 use Rattle.hw_model.specs.Sound.{input_type, type_in, OpFits}
 use Rattle.ir_store.specs.ResultTypes.{result_count}
-use Rattle.op_verifier.specs.CountChecks.{operands_written, operand_count}
-use Rattle.op_verifier.specs.TypeChecks.{is_clock}
-use Rattle.op_verifier.specs.LimitChecks.{value_types}
-use Rattle.op_verifier.proofs.NoOwnCause.{types_of, NoCauseAlone}
-use Rattle.op_verifier.proofs.Settled.{settles}
+use Rattle.op_checks.specs.CountChecks.{operands_written, operand_count}
+use Rattle.op_checks.specs.TypeChecks.{is_clock}
+use Rattle.op_checks.specs.LimitChecks.{value_types}
+use Rattle.op_verifier.proofs.NoCauseAlone.{types_of, NoCauseAlone}
+use Rattle.op_checks.proofs.Settled.{settles}
 use Rattle.verilog_expr.specs.Marks.{AreSmall}
 use Rattle.verilog_expr.specs.Values.{is_aggregate_kind, is_variadic}
 use Rattle.export_verilog.specs.Aggregates.{is_aggregate}

@@ -14,10 +14,10 @@ use Rattle.hw_model.specs.Design.{Port, OpResult, Op, Module, Design, instance_i
 use Rattle.hw_model.specs.Design.Ref.{result}
 use Rattle.hw_model.specs.Weight.{leaf_count, reset_weight, register_weight, kind_weight, body_weight, weight_of, module_weight, weight}
 use Rattle.ir_store.specs.ResultTypes.{result_count}
-use Rattle.op_verifier.specs.CountChecks.{type_count}
+use Rattle.op_checks.specs.CountChecks.{type_count}
 use Rattle.op_verifier.specs.Verdict.{IsAccepted}
-use Rattle.op_verifier.proofs.NoOwnCause.{NoCauseAlone, result_number}
-use Rattle.op_verifier.proofs.Widths.{neither}
+use Rattle.op_verifier.proofs.NoCauseAlone.{NoCauseAlone, result_number}
+use Rattle.op_checks.proofs.Widths.{neither}
 use Rattle.verilog_expr.specs.Spilling.{is_wire_kind, spilled}
 use Rattle.verilog_expr.specs.Values.{is_aggregate_kind}
 use Rattle.export_verilog.specs.Identifiers.{Identifier, each, result_identifiers, identifiers_of, op_identifiers, port_identifiers, module_identifiers}

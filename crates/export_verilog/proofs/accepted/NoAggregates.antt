@@ -6,7 +6,7 @@ use Rattle.hw_model.specs.Design.{Port, OpResult, Op, Module, Design}
 use Rattle.op_verifier.specs.Answers.{when}
 use Rattle.op_verifier.specs.Faults.{header_refusal, op_refusal}
 use Rattle.op_verifier.proofs.Unrefused.{or_none, map_none, when_none}
-use Rattle.op_verifier.proofs.Widths.{neither}
+use Rattle.op_checks.proofs.Widths.{neither}
 use Rattle.verilog_expr.specs.Values.{is_aggregate_kind}
 use Rattle.export_verilog.specs.Aggregates.{is_aggregate, has_aggregate_port, has_aggregate, header_aggregate, op_aggregate, body_aggregate, module_aggregate, first_aggregate}
 

@@ -19,7 +19,7 @@ use Rattle.mlir_printer.specs.Naming.{name_hints, port_name_hint, port_name_hint
 use Rattle.mlir_printer.specs.Texts.{parts_in, operation_shown, operations_shown, ports_shown, module_shown, modules_shown}
 use Rattle.mlir_printer.specs.Spellable.{Each, IsValueName, IsOperand}
 use Rattle.mlir_printer.specs.SpellableModules.{AreResults, MayBeValue, IsSpellableOperation, AreSpellable, IsSpellablePort, IsSpellable}
-use Rattle.op_verifier.specs.CountChecks.{operands_written, type_count}
+use Rattle.op_checks.specs.CountChecks.{operands_written, type_count}
 use Rattle.mlir_printer.specs.Printable.{IsDefined, IsPrintableOp, IsPrintablePort, EndsWithOutput, IsPrintableModule, Printable}
 use Rattle.mlir_printer.proofs.names.NameTables.{Among}
 use Rattle.mlir_printer.proofs.names.NamedDefinitions.{pack_named}

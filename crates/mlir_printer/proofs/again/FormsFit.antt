@@ -27,7 +27,7 @@ use Rattle.mlir_printer.specs.Operations.{format_shown, output_format, is_truth_
 use Rattle.mlir_printer.specs.Texts.{inherent_shown}
 use Rattle.mlir_printer.specs.Spellable.{Each, AreBytes, IsInteger, IsAnyType, IsLiteral, AreLiterals, IsOperand}
 use Rattle.mlir_printer.specs.SpellableModules.{IsViewAs}
-use Rattle.op_verifier.specs.CountChecks.{operands_written, type_count}
+use Rattle.op_checks.specs.CountChecks.{operands_written, type_count}
 use Rattle.mlir_printer.specs.Printable.{IsWritten, IsWrittenInstance}
 use Rattle.mlir_printer.proofs.lexed.LexedLiterals.{one_bit}
 use Rattle.mlir_printer.proofs.again.KindsKept.{negative_parts}

@@ -22,7 +22,7 @@ use Rattle.mlir_printer.specs.Elements.{ValueText}
 use Rattle.mlir_printer.specs.Naming.{name_hints, name_hints_of, own_name_hint, pack_name_hints, name_count, first_name, firsts, is_pack, listed_names, results_named}
 use Rattle.mlir_printer.specs.Texts.{parts_in, operation_shown, entries_shown}
 use Rattle.mlir_printer.specs.Spellable.{Each, said_operand, said_operation}
-use Rattle.op_verifier.specs.CountChecks.{type_count}
+use Rattle.op_checks.specs.CountChecks.{type_count}
 use Rattle.mlir_printer.specs.Printable.{IsDefined, settled_result, IsPrintableOp}
 use Rattle.mlir_printer.proofs.steps.Listing.{instance_length}
 use Rattle.mlir_printer.proofs.names.NameTables.{AreNew, marks_in, no_marks}

@@ -10,7 +10,7 @@ use Rattle.ir_store.specs.ResultTypes.{result_types, result_type}
 use Rattle.mlir_reader.specs.Spelling.{SpellsPlacelessly}
 use Rattle.mlir_printer.specs.Naming.{name_hints_of}
 use Rattle.mlir_printer.specs.Texts.{ir_text}
-use Rattle.op_verifier.specs.CountChecks.{operands_written, type_count}
+use Rattle.op_checks.specs.CountChecks.{operands_written, type_count}
 use Rattle.mlir_printer.specs.Printable.{Printable}
 use Rattle.mlir_printer.proofs.again.PrintedDesigns.{printable_designs_are_spelled}
 

@@ -1,6 +1,6 @@
 use Rattle.std.proofs.Common.{◌≡◌, map, drop}
 use Rattle.ir_store.specs.Designs.{port_of}
-use Rattle.op_verifier.specs.TypeChecks.{has_bad_field}
+use Rattle.op_checks.specs.TypeChecks.{has_bad_field}
 use Rattle.op_verifier.specs.Headers.{has_port}
 use Rattle.op_verifier.proofs.headers.has_bad_fields.Given as goal
 

@@ -1,6 +1,6 @@
 use Rattle.std.proofs.Common.{◌≡◌, map, drop}
 use Rattle.ir_store.specs.Designs.{port_of}
-use Rattle.op_verifier.specs.TypeChecks.{is_outside}
+use Rattle.op_checks.specs.TypeChecks.{is_outside}
 use Rattle.op_verifier.specs.Headers.{has_port}
 use Rattle.op_verifier.proofs.headers.has_outside.Given as goal
 

@@ -1,6 +1,6 @@
 use Rattle.std.proofs.Common.{length, refl}
-use Rattle.op_verifier.proofs.NoOwnCause.{no_own_cause}
-use Rattle.op_verifier.proofs.Settled.{settles}
+use Rattle.op_checks.proofs.NoOwnCause.{no_own_cause}
+use Rattle.op_checks.proofs.Settled.{settles}
 use Rattle.op_verifier.proofs.laws.results_are_settled.Goals as goal
 
 pub returns : goal.returns

@@ -4,7 +4,7 @@ use Rattle.hw_model.specs.TypeViews.{type_of}
 use Rattle.hw_model.specs.FamilyViews.{family_of}
 use Rattle.ir_store.specs.declared.operation.NewResult.{NewResult}
 use Rattle.ir_store.specs.ResultTypes.{result_type}
-use Rattle.op_verifier.proofs.Owned.{one_owned, denied}
+use Rattle.op_checks.proofs.Owned.{one_owned, denied}
 use Rattle.op_verifier.proofs.settled_types.is_own.Goals as goal
 
 pub returns-then-is_settled : goal.returns-then-is_settled

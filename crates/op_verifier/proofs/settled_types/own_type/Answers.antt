@@ -1,4 +1,4 @@
-use Rattle.op_verifier.proofs.Owned.{own_index}
+use Rattle.op_checks.proofs.Owned.{own_index}
 use Rattle.op_verifier.proofs.settled_types.own_type.Goals as goal
 
 pub returns-in-Some : goal.returns-in-Some

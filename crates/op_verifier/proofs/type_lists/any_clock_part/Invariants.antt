@@ -1,8 +1,0 @@
-use Rattle.std.proofs.Common.{◌≡◌, map, drop}
-use Rattle.std.specs.List.{list_any}
-use Rattle.hw_model.specs.TypeViews.{type_of}
-use Rattle.op_verifier.specs.TypeChecks.{has_clock_part}
-use Rattle.op_verifier.proofs.type_lists.any_clock_part.Given as goal
-
-abbrev pub invariant-loop-ty : goal.invariant-loop-ty
-invariant-loop-ty l = list_any has_clock_part (map type_of l.types) ≡ list_any has_clock_part (map type_of (drop l.ty-index l.types))

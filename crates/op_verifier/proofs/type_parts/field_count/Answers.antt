@@ -1,7 +1,0 @@
-use Rattle.std.proofs.Common.{sym}
-use Rattle.hw_model.specs.TypeViews.{field_of}
-use Rattle.op_verifier.proofs.Lists.{fields_counted}
-use Rattle.op_verifier.proofs.type_parts.field_count.Goals as goal
-
-pub returns : goal.returns
-returns c = sym (fields_counted field_of c.args.fields.now)
