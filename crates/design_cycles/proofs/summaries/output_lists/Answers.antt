@@ -1,8 +1,8 @@
 use Rattle.std.proofs.Common.{◌∷◌, [], ap, ◌∙◌, subst}
 use Rattle.std.proofs.lemmas.List.{map-append}
 use Rattle.ir_store.specs.declared.operation.Value.TheVariants.{Port}
-use Rattle.design_cycles.specs.declared.graph.NodeList.{NodeList}
-use Rattle.design_cycles.specs.Graphs.{lists_of}
+use Rattle.graphs.specs.declared.graph.NodeList.{NodeList}
+use Rattle.graphs.specs.Graphs.{lists_of}
 use Rattle.design_cycles.specs.Nodes.{value_node}
 use Rattle.design_cycles.specs.Summing.{AreInputs}
 use Rattle.design_cycles.proofs.Inputs.{outputs_more, outputs_all}
