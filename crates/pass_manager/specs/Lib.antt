@@ -1,1 +1,3 @@
+pub mod PassLaw
+pub mod Remaining
 pub mod Results

@@ -1,4 +1,7 @@
-//! Passes over a design: what a list of them makes of it.
+//! Passes over a design: what a list of them makes of it, and what each of them keeps.
 #![tactic(auto)]
 
 pub mod gate;
+mod laws;
+
+pub use laws::{identity_keeps, laws_compose, result_keeps};

@@ -1,0 +1,5 @@
+-- Lemmas.
+pub mod Those
+pub mod Remaining
+pub mod Unchanged
+pub mod Composed
