@@ -1,7 +1,7 @@
 -- A design that keeps the modules of a fit one is fit, and accepted where it is light.
 use Rattle.std.proofs.Common.{◌≡◌, ◌⊎◌, ◌<◌, ◌≤◌, ◌+◌, ◌^◌, ℕ, zero, suc, Bool, true, false, cond, not, ◌&&◌, ◌||◌, List, [], ◌∷◌, map, take, length, Option, Some, None, option_map, slice_get, refl, sym, ap, ap₂, subst, ◌∙◌, inl, inr, arith}
 use Rattle.std.specs.Prelude.{is_some, ⊤}
-use Rattle.std.specs.Cmp.Lexicographic.{pointwise}
+use Rattle.std.specs.Cmp.Lexicographic.{pointwise, same_text}
 use Rattle.std.proofs.lemmas.List.{length-map}
 use Rattle.wiring.specs.Options.{bind, omap}
 use Rattle.wiring.specs.Wiring.{In, Depends as IsDependent}
@@ -37,7 +37,7 @@ use Rattle.op_verifier.proofs.AcceptedDesigns.{no_fault, accepted_finite, accept
 use Rattle.op_verifier.proofs.Distinct.{distinct_symbols}
 use Rattle.op_verifier.proofs.InputResets.{resets_from_ports}
 use Rattle.op_verifier.proofs.SoundDesigns.{sound_design}
-use Rattle.op_verifier.proofs.Unrefused.{or_none, map_none, no_op_cause, NoHeaderCause, no_header_cause, ops_unrefused}
+use Rattle.op_verifier.proofs.Unrefused.{or_none, map_none, no_op_cause, no_header_cause, IsUnrefusedModule, ops_unrefused, module_unrefused}
 use Rattle.opcode.specs.declared.listed.Listed.TheVariants as listed
 use Rattle.mlir_operations.specs.ModuleText.{module_keys}
 use Rattle.mlir_printer.specs.Spellable.{Each, AreBytes}
@@ -45,9 +45,8 @@ use Rattle.mlir_printer.specs.Printable.{IsDefined, operands_written, settled_re
 use Rattle.hw_edits.specs.Follows.{Valid}
 use Rattle.hw_edits.specs.Resets.{has_mark, marks_by_symbol}
 use Rattle.accepted_edits.specs.Asked.{asked, all_asked, Called, Around, called_as, around, cause_of, CallsMore, AllowMore, AllowsMoreAround}
-use Rattle.accepted_edits.specs.Keeps.{IsMoved, IsFitting, IsPlainFitting, KeepsBody, KeepsModule, KeepsModules, IsPrintableBody, IsFit}
+use Rattle.accepted_edits.specs.Keeps.{IsMoved, IsFitting, IsPlainFitting, KeepsBody, KeepsModule, KeepsFound, KeepsDesign, IsPrintableBody, IsFit}
 use Rattle.accepted_edits.proofs.Causes.{cause_told, fewer_causes, none_or, when_false, both_false, length_more}
-use Rattle.accepted_edits.proofs.Modules.{BothKept, kept_found, kept_take, same_there, KeptAt, kept_at}
 use Rattle.accepted_edits.proofs.ResetsKept.{resets_kept}
 use Rattle.accepted_edits.proofs.Resets.{found_symbol, reset_marked, no_other_reset, no_other_join}
 
@@ -63,18 +62,6 @@ each_from P [] all = tt
 each_from P (x ∷ xs) all = (all 0 x refl, each_from P xs (λ i y is. all (suc i) y is))
 
 -- ---- what is refused of modules, by their places
-
-fault_at : (d : Design) (n : ℕ) (ms : List Module) → faults_from d n ms ≡ None → (i : ℕ) (m : Module) → slice_get ms i ≡ Some m → module_fault d (n + i) m ≡ None
-fault_at d n [] h i m there = cc
-fault_at d n (x ∷ ms) h zero m there =
-    let parts = or_none (module_fault d n x) (faults_from d (suc n) ms) h in
-    let same : x ≡ m = cc in
-    let e : n + 0 ≡ n = omega arith in
-    ap (λ k. module_fault d k m) e ∙ ap (module_fault d n) (sym same) ∙ parts.0
-fault_at d n (x ∷ ms) h (suc i) m there =
-    let parts = or_none (module_fault d n x) (faults_from d (suc n) ms) h in
-    let e : n + suc i ≡ suc n + i = omega arith in
-    ap (λ k. module_fault d k m) e ∙ fault_at d (suc n) ms parts.1 i m there
 
 no_faults : (d : Design) (n : ℕ) (ms : List Module) → ((i : ℕ) (m : Module) → slice_get ms i ≡ Some m → module_fault d (n + i) m ≡ None) → faults_from d n ms ≡ None
 no_faults d n [] all = refl
@@ -153,6 +140,37 @@ printable_with ports os os' o rs count defined was = record {
   bin = was.bin;
 }
 
+-- ---- symbols
+
+-- what is found among the first modules stands there
+found_early : (e : Design) (i : ℕ) (s : Name) (x : Module) → find_module (take i e) s ≡ Some x → (j : ℕ) × (j < i) × (slice_get e j ≡ Some x) × (x.symbol ≡ s)
+found_early e zero s x is = cc
+found_early [] (suc i) s x is = cc
+found_early (y ∷ e) (suc i) s x is = go (same_name y.symbol s) refl is (found_early e i s x)
+  where
+    go : (b : Bool) → same_name y.symbol s ≡ b → cond b (Some y) (find_module (take i e) s) ≡ Some x
+        → (find_module (take i e) s ≡ Some x → (j : ℕ) × (j < i) × (slice_get e j ≡ Some x) × (x.symbol ≡ s))
+        → (j : ℕ) × (j < suc i) × (slice_get (y ∷ e) j ≡ Some x) × (x.symbol ≡ s)
+    go true same here rest =
+        let first : y ≡ x = cc in
+        (0, omega arith, here, ap (λ (z : Module). z.symbol) (sym first) ∙ same_text y.symbol s (sym same))
+    go false same here rest =
+        let later = rest here in
+        let less : later.0 < i = later.1 in
+        (suc later.0, omega arith, later.2, later.3)
+
+-- no module before one has its symbol
+none_before : (e : Design) → HasDistinctSymbols e → (i : ℕ) (n : Module) → slice_get e i ≡ Some n → is_some (find_module (take i e) n.symbol) ≡ false
+none_before e distinct i n there = go (find_module (take i e) n.symbol) refl
+  where
+    go : (x : Option Module) → find_module (take i e) n.symbol ≡ x → is_some x ≡ false
+    go None is = refl
+    go (Some x) is =
+        let early = found_early e i n.symbol x is in
+        let less : early.0 < i = early.1 in
+        let same : early.0 ≡ i = distinct early.0 i x n early.2 there early.3 in
+        absurd (omega arith)
+
 -- ---- operations that fit
 
 -- what is no instance and no output has no cause where it fits and its reset is not refused
@@ -181,58 +199,57 @@ called_at (y ∷ os) (suc j) o x is inst = In-append_right x.symbol (called_by (
 
 -- ---- the theorem
 
-module _ (d e : Design) (none : first_fault d ≡ None) (printable : Each IsPrintableBody d) (keeps : KeepsModules d e) (valid : Valid e) where
+module _ (d e : Design) (fit : IsFit d) (keeps : KeepsDesign d e) (valid : Valid e) where
   resets : ResetsFromPorts e (marks_by_symbol d (is_reset_port d))
-  resets = resets_kept d e (is_reset_port d) keeps (resets_from_ports d none)
-
-  distinct : HasDistinctSymbols e
-  distinct i j m n at_i at_j same =
-      let x = kept_at d e i m keeps at_i in
-      let y = kept_at d e j n keeps at_j in
-      distinct_symbols d none i j x.was y.was x.there y.there (sym x.keeps.symbol_is ∙ same ∙ y.keeps.symbol_is)
+  resets = resets_kept d e (is_reset_port d) keeps (resets_from_ports d fit.unrefused)
 
   found_here : (i : ℕ) (n : Module) → slice_get e i ≡ Some n → find_module e n.symbol ≡ Some n
-  found_here i n there = (found_at e distinct i n there).1
+  found_here i n there = (found_at e keeps.distinct i n there).1
 
   -- the module that an instance names is called with no more reset ports
-  calls_more : (o : Op) → CallsMore (omap (called_as d) (callee d o)) (omap (called_as e) (callee e o))
-  calls_more o = go (instance_in o.kind)
+  calls_more : (s : Name) (n m : Module) → find_module e s ≡ Some n → find_module d s ≡ Some m → (j : ℕ) (o : Op) → slice_get m.body j ≡ Some o
+      → CallsMore (omap (called_as d) (callee d o)) (omap (called_as e) (callee e o))
+  calls_more s n m now was j o at = go (instance_in o.kind) refl
     where
-      fewer : (s : Name) (c n : Module) → find_module d s ≡ Some c → find_module e s ≡ Some n → (k : ℕ) → is_reset_port e n k ≡ true → is_reset_port d c k ≡ true
-      fewer s c n was now k is =
-          ap (has_mark (is_reset_port d) k) (sym (ap (find_module d) (found_symbol e s n now) ∙ was))
-          ∙ reset_marked e (marks_by_symbol d (is_reset_port d)) resets n k (is_sound e n k is) s now
+      fewer : (t : Name) (c f : Module) → find_module d t ≡ Some c → find_module e t ≡ Some f → (k : ℕ) → is_reset_port e f k ≡ true → is_reset_port d c k ≡ true
+      fewer t c f old new k is =
+          ap (has_mark (is_reset_port d) k) (sym (ap (find_module d) (found_symbol e t f new) ∙ old))
+          ∙ reset_marked e (marks_by_symbol d (is_reset_port d)) resets f k (is_sound e f k is) t new
 
-      by_module : (s : Name) (x y : Option Module) → find_module d s ≡ x → find_module e s ≡ y → BothKept x y → CallsMore (omap (called_as d) x) (omap (called_as e) y)
-      by_module s None None was now both = tt
-      by_module s None (Some n) was now both = absurd both
-      by_module s (Some c) None was now both = absurd both
-      by_module s (Some c) (Some n) was now both = (both.ports_are, fewer s c n was now)
+      by_module : (t : Name) → In t (calls d s) → (x y : Option Module) → find_module d t ≡ x → find_module e t ≡ y → CallsMore (omap (called_as d) x) (omap (called_as e) y)
+      by_module t need None None old new = tt
+      by_module t need None (Some f) old new =
+          let kept = keeps.modules t f new in
+          let clash : None ≡ Some kept.was = sym old ∙ kept.is_found in cc
+      by_module t need (Some c) None old new =
+          let clash : true ≡ false = sym (keeps.called s t (ap is_some now) need (ap is_some old)) ∙ ap is_some new in cc
+      by_module t need (Some c) (Some f) old new =
+          let kept = keeps.modules t f new in
+          let same : Some kept.was ≡ Some c = sym kept.is_found ∙ old in
+          let one : kept.was ≡ c = cc in
+          (kept.keeps.ports_are ∙ ap (λ (y : Module). y.ports) one, fewer t c f old new)
 
-      go : (x : Option Instance) → CallsMore (omap (called_as d) (bind x (λ (i : Instance). find_module d i.symbol))) (omap (called_as e) (bind x (λ (i : Instance). find_module e i.symbol)))
-      go None = tt
-      go (Some i) = by_module i.symbol (find_module d i.symbol) (find_module e i.symbol) refl refl (kept_found d e keeps i.symbol)
+      go : (x : Option Instance) → instance_in o.kind ≡ x
+          → CallsMore (omap (called_as d) (bind x (λ (i : Instance). find_module d i.symbol))) (omap (called_as e) (bind x (λ (i : Instance). find_module e i.symbol)))
+      go None inst = tt
+      go (Some i) inst =
+          by_module i.symbol (subst (λ y. In i.symbol (callee_symbols (body_of y))) (sym was) (called_at m.body j o i at inst))
+          (find_module d i.symbol) (find_module e i.symbol) refl refl
 
   module _ (i : ℕ) (n : Module) (there : slice_get e i ≡ Some n) where
-    before : KeptAt d i n
-    before = kept_at d e i n keeps there
-
-    abbrev m : Module
-    m = before.was
+    before : KeepsFound (find_module d n.symbol) n
+    before = keeps.modules n.symbol n (found_here i n there)
 
     abbrev kept : KeepsModule before.was n
     kept = before.keeps
 
-    parts_before : (header_cause d i before.was ≡ None) × (body_fault d before.was.ports before.was.body before.was.body ≡ None)
-    parts_before =
-        let whole = fault_at d 0 d none i before.was before.there in
-        let e : 0 + i ≡ i = omega arith in
-        let both = or_none (option_map (header_refusal before.was) (header_cause d i before.was)) (body_fault d before.was.ports before.was.body before.was.body)
-        (ap (λ k. module_fault d k before.was) (sym e) ∙ whole) in
-        (map_none (header_refusal before.was) (header_cause d i before.was) both.0, both.1)
+    unrefused_before : IsUnrefusedModule d before.was
+    unrefused_before = module_unrefused d fit.unrefused n.symbol before.was before.is_found
 
     printed_before : IsPrintableBody before.was
-    printed_before = each_at IsPrintableBody d i before.was printable before.there
+    printed_before =
+        let place = position_of_In before.was d (found_module d n.symbol before.was before.is_found) in
+        each_at IsPrintableBody d place.0 before.was fit.printable place.1
 
     ends_now : EndsWithOutput n.body
     ends_now = kept.body.ends printed_before.ends
@@ -246,11 +263,11 @@ module _ (d e : Design) (none : first_fault d ≡ None) (printable : Each IsPrin
         moved : (x : IsMoved before.was.ports before.was.body n.body o) → op_cause e before.was.ports n.body last (record x.was { operands = o.operands }) ≡ None
         moved x =
             let at = position_of_In x.was before.was.body x.was_there in
-            let old = ops_unrefused d before.was.ports before.was.body before.was.body parts_before.1 at.0 x.was at.1 in
+            let old = ops_unrefused d before.was.ports before.was.body before.was.body unrefused_before.body at.0 x.was at.1 in
             cause_told e before.was.ports n.body last (record x.was { operands = o.operands })
             ∙ fewer_causes x.was (all_asked before.was.ports before.was.body x.was.operands) (all_asked before.was.ports n.body o.operands)
             (around d before.was.ports old.last x.was) (around e before.was.ports last x.was) x.operands
-            (record { ports = refl; last = λ out old_last. is_last (ap is_output_op x.same ∙ out); called = calls_more x.was })
+            (record { ports = refl; last = λ out old_last. is_last (ap is_output_op x.same ∙ out); called = calls_more n.symbol n before.was (found_here i n there) before.is_found at.0 x.was at.1 })
             (sym (cause_told d before.was.ports before.was.body old.last x.was) ∙ old.none)
 
         go : IsMoved before.was.ports before.was.body n.body o ⊎ IsPlainFitting before.was.ports before.was.body n.body o → op_cause e before.was.ports n.body last o ≡ None
@@ -263,14 +280,11 @@ module _ (d e : Design) (none : first_fault d ≡ None) (printable : Each IsPrin
     -- its header is not refused
     header_kept : header_cause e i n ≡ None
     header_kept =
-        let was = no_header_cause d i before.was parts_before.0 in
-        let ports = or_none (ports_cause before.was.ports) (names_cause d i before.was.symbol before.was.ports before.was.body) parts_before.0 in
+        let was = no_header_cause d unrefused_before.number before.was unrefused_before.header in
+        let ports = or_none (ports_cause before.was.ports) (names_cause d unrefused_before.number before.was.symbol before.was.ports before.was.body) unrefused_before.header in
         none_or (ports_cause n.ports) (names_cause e i n.symbol n.ports n.body) (ap ports_cause kept.ports_are ∙ ports.0)
         (none_or _ _
-        (when_false (is_some (find_module (take i e) n.symbol)) cause.DuplicateSymbol
-        (ap (λ s. is_some (find_module (take i e) s)) kept.symbol_is
-        ∙ same_there (find_module (take i d) before.was.symbol) (find_module (take i e) before.was.symbol) (kept_found (take i d) (take i e) (kept_take d e i keeps) before.was.symbol)
-        ∙ was.symbol))
+        (when_false (is_some (find_module (take i e) n.symbol)) cause.DuplicateSymbol (none_before e keeps.distinct i n there))
         (none_or _ _
         (when_false (has_twice (map (λ (q : Port). q.name) n.ports)) cause.DuplicatePort
         (ap (λ ps. has_twice (map (λ (q : Port). q.name) ps)) kept.ports_are ∙ was.names))

@@ -26,8 +26,7 @@ use Rattle.hw_edits.proofs.ReloadFollows.{replace_register_preserves}
 use Rattle.accepted_edits.specs.Asked.{asked, all_asked, AllowsMore, AllowMore}
 use Rattle.accepted_edits.specs.Forms.{InPlaceFits}
 use Rattle.accepted_edits.specs.Keeps.{IsMoved, IsFitting, ResetStays, IsPlainFitting, KeepsModule, IsFit}
-use Rattle.accepted_edits.proofs.Accepted.{fit_kept}
-use Rattle.accepted_edits.proofs.Edited.{allows_itself, operands_allow, no_async, plain_parts, kept_set}
+use Rattle.accepted_edits.proofs.Edited.{allows_itself, operands_allow, no_async, plain_parts, fit_set}
 use Rattle.accepted_edits.proofs.Ends.{ends_set}
 use Rattle.accepted_edits.proofs.FitBodies.{fitting_moved, found_md, alone}
 use Rattle.accepted_edits.proofs.Resets.{constant_told}
@@ -118,8 +117,7 @@ module _ (d : Design) (fit : IsFit d) (k : ℕ) (md : Module) (at : slice_get d 
 pub fit_in_place : (d : Design) (k : ℕ) (md : Module) (i : ℕ) (o o' : Op) → IsFit d → slice_get d k ≡ Some md → InPlace md i o o' → InPlaceFits md o o'
     → IsFit (with_body d k md (set md.body i o'))
 fit_in_place d k md i o o' fit at change fits =
-    fit_kept d (with_body d k md (set md.body i o')) fit.unrefused fit.printable
-    (kept_set d k md (record md { body = set md.body i o' }) at (changed_keeps d fit k md at i o o' (record {
+    fit_set d k md (record md { body = set md.body i o' }) fit at (changed_keeps d fit k md at i o o' (record {
       there = change.there;
       same_types = change.same_types;
       known = fits.known;
@@ -129,7 +127,7 @@ fit_in_place d k md i o o' fit at change fits =
       no_output = new.1;
       was_no_output = (plain_parts o change.old_plain).1;
       reset = λ r is. absurd (no_async o' r new.2 is);
-    })))
+    }))
     (replace_op_preserves d k md i o o' fit.valid at change).valid
   where
     new : (instance_in o'.kind ≡ None) × (is_output_op o' ≡ false) × (is_register o' ≡ false)
@@ -155,8 +153,7 @@ register_parts_are o is = go (sort_of o.kind)
 pub fit_reloaded : (d : Design) (k : ℕ) (md : Module) (i : ℕ) (o o' : Op) → IsFit d → slice_get d k ≡ Some md → Reloaded md i o o' → IsFitting md.ports md.body o'
     → IsFit (with_body d k md (set md.body i o'))
 fit_reloaded d k md i o o' fit at change fits =
-    fit_kept d (with_body d k md (set md.body i o')) fit.unrefused fit.printable
-    (kept_set d k md (record md { body = set md.body i o' }) at (changed_keeps d fit k md at i o o' (record {
+    fit_set d k md (record md { body = set md.body i o' }) fit at (changed_keeps d fit k md at i o o' (record {
       there = change.there;
       same_types = change.same_types;
       known = λ h. let clash : true ≡ false = sym h ∙ old.2 in cc;
@@ -166,7 +163,7 @@ fit_reloaded d k md i o o' fit at change fits =
       no_output = new.1;
       was_no_output = old.1;
       reset = λ r is. sym change.async_is ∙ is;
-    })))
+    }))
     (replace_register_preserves d k md i o o' fit.valid at change).valid
   where
     old : (instance_in o.kind ≡ None) × (is_output_op o ≡ false) × (is_nonzero_kind o.kind ≡ false) × (is_constant o.kind ≡ false)

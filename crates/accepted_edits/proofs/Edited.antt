@@ -13,12 +13,14 @@ use Rattle.hw_model.specs.Flat.{ResetBy, has_async_reset, async_parts, async_res
 use Rattle.hw_model.proofs.Sorts.{Sort, sort_of}
 use Rattle.hw_model.proofs.Sorts.Sort.{a_register, an_instance, an_output, a_made}
 use Rattle.hw_edits.specs.Edit.{retarget, is_anchor}
-use Rattle.hw_edits.specs.Follows.{ValidEdit}
+use Rattle.hw_edits.specs.Follows.{ValidEdit, Valid}
 use Rattle.hw_edits.specs.Laws.{with_body}
 use Rattle.hw_edits.proofs.Follows.{valid_set}
 use Rattle.accepted_edits.specs.Asked.{Operand, asked, all_asked, AllowsMore, AllowMore}
 use Rattle.accepted_edits.specs.Keeps.{IsMoved, IsPlainFitting, KeepsModule, KeepsModules, IsFit, KeepsAsked}
+use Rattle.op_verifier.proofs.Distinct.{distinct_symbols}
 use Rattle.accepted_edits.proofs.Accepted.{fit_kept}
+use Rattle.accepted_edits.proofs.Modules.{design_kept}
 
 -- ---- values
 
@@ -85,10 +87,19 @@ all_kept [] = tt
 all_kept (m ∷ d) = (kept_self m, all_kept d)
 
 -- one module is changed to one that keeps it
-pub kept_set : (d : Design) (k : ℕ) (m n : Module) → slice_get d k ≡ Some m → KeepsModule m n → KeepsModules d (set d k n)
+kept_set : (d : Design) (k : ℕ) (m n : Module) → slice_get d k ≡ Some m → KeepsModule m n → KeepsModules d (set d k n)
 kept_set [] k m n at keeps = cc
 kept_set (x ∷ d) zero m n at keeps = let same : m ≡ x = cc in (subst (λ y. KeepsModule y n) same keeps, all_kept d)
 kept_set (x ∷ d) (suc k) m n at keeps = (kept_self x, kept_set d k m n at keeps)
+
+-- ---- designs
+
+pub fit_modules : (d e : Design) → IsFit d → KeepsModules d e → Valid e → IsFit e
+fit_modules d e fit keeps valid = fit_kept d e fit (design_kept d e (distinct_symbols d fit.unrefused) keeps) valid
+
+-- a fit design stays fit where a module is changed to one that keeps it, and it stays valid
+pub fit_set : (d : Design) (k : ℕ) (m n : Module) → IsFit d → slice_get d k ≡ Some m → KeepsModule m n → Valid (set d k n) → IsFit (set d k n)
+fit_set d k m n fit at keeps valid = fit_modules d (set d k n) fit (kept_set d k m n at keeps) valid
 
 -- ---- the edit
 
@@ -122,5 +133,5 @@ module _ (d : Design) (k : ℕ) (m : Module) (os : List Op) (edit : ValidEdit (S
 
   pub fit_after : IsFit (with_body d k m os)
   fit_after =
-      fit_kept d (with_body d k m os) fit.unrefused fit.printable (kept_set d k m (record m { body = os }) at module_kept)
+      fit_set d k m (record m { body = os }) fit at module_kept
       (valid_set d k m (record m { body = os }) at refl edit fit.valid)

@@ -5,6 +5,7 @@ pub mod Resets
 pub mod ResetsKept
 pub mod Accepted
 pub mod Edited
+pub mod ModuleRemoved
 pub mod NameCounts
 pub mod FitBodies
 pub mod Values

@@ -15,8 +15,7 @@ use Rattle.hw_edits.proofs.Positions.{up_from_down, down_none, get_put}
 use Rattle.accepted_edits.specs.Asked.{asked, all_asked, AllowsMore, AllowMore}
 use Rattle.accepted_edits.specs.Forms.{InsertedFits}
 use Rattle.accepted_edits.specs.Keeps.{IsMoved, IsPlainFitting, KeepsModule, IsFit}
-use Rattle.accepted_edits.proofs.Accepted.{fit_kept}
-use Rattle.accepted_edits.proofs.Edited.{allows_itself, operands_allow, get_stood, no_async, plain_parts, kept_set}
+use Rattle.accepted_edits.proofs.Edited.{allows_itself, operands_allow, get_stood, no_async, plain_parts, fit_set}
 use Rattle.accepted_edits.proofs.Ends.{ends_retarget, ends_insert}
 use Rattle.accepted_edits.proofs.FitBodies.{fitting_moved}
 use Rattle.accepted_edits.proofs.Values.{asked_of, asked_retarget}
@@ -85,6 +84,5 @@ module _ (md : Module) (i : ℕ) (o : Op) (change : Inserted md i o) (fits : Ins
 pub fit_inserted : (d : Design) (k : ℕ) (md : Module) (i : ℕ) (o : Op) → IsFit d → slice_get d k ≡ Some md → Inserted md i o → InsertedFits md i o
     → IsFit (with_body d k md (insert_op i o md.body))
 fit_inserted d k md i o fit at change fits =
-    fit_kept d (with_body d k md (insert_op i o md.body)) fit.unrefused fit.printable
-    (kept_set d k md (record md { body = insert_op i o md.body }) at (put_in_keeps md i o change fits))
+    fit_set d k md (record md { body = insert_op i o md.body }) fit at (put_in_keeps md i o change fits)
     (insert_op_preserves d k md i o fit.valid at change).valid

@@ -13,8 +13,7 @@ use Rattle.hw_model.specs.Resets.{IsMarkedInput, IsConstantOf, ResetsFromPorts}
 use Rattle.op_verifier.specs.ResetChecks.{is_constant_op, is_constant_ref}
 use Rattle.hw_edits.specs.Resets.{has_mark, marks_by_symbol}
 use Rattle.accepted_edits.specs.Asked.{asked, all_asked, AllowsMore, AllowMore}
-use Rattle.accepted_edits.specs.Keeps.{IsMoved, ResetStays, IsPlainFitting, KeepsModule, KeepsModules}
-use Rattle.accepted_edits.proofs.Modules.{BothKept, kept_found}
+use Rattle.accepted_edits.specs.Keeps.{IsMoved, ResetStays, IsPlainFitting, KeepsModule, KeepsDesign}
 use Rattle.accepted_edits.proofs.Resets.{found_symbol, constant_told}
 
 some_from : {A : Type 0} {a b : A} → Some a ≡ Some b → a ≡ b
@@ -73,32 +72,19 @@ was_reset ports os os' was rs r allow is = go (has_async_reset was.kind) refl wa
 
 -- ---- designs
 
-module _ (d e : Design) (marked : Module → ℕ → Bool) (keeps : KeepsModules d e) (resets : ResetsFromPorts d marked) where
+module _ (d e : Design) (marked : Module → ℕ → Bool) (keeps : KeepsDesign d e) (resets : ResetsFromPorts d marked) where
   abbrev marks : Module → ℕ → Bool
   marks = marks_by_symbol d marked
 
-  -- the module that a symbol found
-  record WasFound (s : Name) (n : Module) : Type 0 where
-    was : Module
-    found : find_module d s ≡ Some was
-    keeps_it : KeepsModule was n
-
-  was_found : (s : Name) (n : Module) → find_module e s ≡ Some n → WasFound s n
-  was_found s n is = go (find_module d s) refl (subst (BothKept (find_module d s)) is (kept_found d e keeps s))
-    where
-      go : (x : Option Module) → find_module d s ≡ x → BothKept x (Some n) → WasFound s n
-      go None was both = absurd both
-      go (Some m) was both = record { was = m; found = was; keeps_it = both }
-
   module _ (s : Name) (n : Module) (is : find_module e s ≡ Some n) where
     abbrev old : Module
-    old = (was_found s n is).was
+    old = (keeps.modules s n is).was
 
-    abbrev keeps_old : KeepsModule (was_found s n is).was n
-    keeps_old = (was_found s n is).keeps_it
+    abbrev keeps_old : KeepsModule (keeps.modules s n is).was n
+    keeps_old = (keeps.modules s n is).keeps
 
     marks_same : (j : ℕ) → marks n j ≡ marked old j
-    marks_same j = ap (λ z. has_mark marked j (find_module d z)) (found_symbol e s n is) ∙ ap (has_mark marked j) (was_found s n is).found
+    marks_same j = ap (λ z. has_mark marked j (find_module d z)) (found_symbol e s n is) ∙ ap (has_mark marked j) (keeps.modules s n is).is_found
 
     -- a port that was a marked input is one
     marked_now : (r : Ref) → IsMarkedInput marked old r → (q : Ref) → q ≡ r → IsMarkedInput marks n q
@@ -126,15 +112,15 @@ module _ (d e : Design) (marked : Module → ℕ → Bool) (keeps : KeepsModules
     register_now o r async (inl x) =
         let w = was_reset old.ports old.body n.body x.was o.operands r x.operands
         (sym (ap (λ (z : Op). cond (has_async_reset z.kind) (async_parts o.operands) None) x.same) ∙ async) in
-        let signal = resets.signals s old x.was w.reset (was_found s n is).found x.was_there w.has_reset in
-        let value = resets.values s old x.was w.reset (was_found s n is).found x.was_there w.has_reset in
+        let signal = resets.signals s old x.was w.reset (keeps.modules s n is).is_found x.was_there w.has_reset in
+        let value = resets.values s old x.was w.reset (keeps.modules s n is).is_found x.was_there w.has_reset in
         let stays : slice_get o.operands 2 ≡ Some (port signal.number) = x.ports_stay 2 signal.number (w.old_signal ∙ ap Some signal.is_port) in (
           marked_now w.reset.signal signal r.signal (some_from (sym w.new_signal ∙ stays) ∙ sym signal.is_port),
           constant_from n.body r.value (w.value.constant (constant_told old.body w.reset.value value)),
         )
     register_now o r async (inr x) =
         let stays = x.reset r async in
-        let signal = resets.signals s old stays.was stays.reset (was_found s n is).found stays.was_there stays.has_reset in
+        let signal = resets.signals s old stays.was stays.reset (keeps.modules s n is).is_found stays.was_there stays.has_reset in
         (marked_now stays.reset.signal signal r.signal (sym stays.signal), constant_from n.body r.value stays.constant)
 
     register_in_body : (o : Op) (r : ResetBy) → In o n.body → async_reset_in o ≡ Some r → IsMarkedInput marks n r.signal × IsConstantOf n.body r.value
@@ -166,16 +152,16 @@ module _ (d e : Design) (marked : Module → ℕ → Bool) (keeps : KeepsModules
           → (q : Ref) × (port_ref c.ports o.operands given.number ≡ Some q) × IsMarkedInput marks n q
       go (inr x) = let clash : None ≡ Some inst.0 = sym x.no_instance ∙ inst.1 in cc
       go (inl x) =
-          let called = was_found inst.0.symbol c inst.2 in
+          let called = keeps.modules inst.0.symbol c inst.2 in
           let kind : instance_in x.was.kind ≡ Some inst.0 = sym (ap (λ (z : Op). instance_in z.kind) x.same) ∙ inst.1 in
-          let old_leads : callee d x.was ≡ Some called.was = ap (λ z. bind z (λ (i : Instance). find_module d i.symbol)) kind ∙ called.found in
+          let old_leads : callee d x.was ≡ Some called.was = ap (λ z. bind z (λ (i : Instance). find_module d i.symbol)) kind ∙ called.is_found in
           let was = marked_then inst.0.symbol c inst.2 r given in
-          let joins = resets.joined s (old s n is) x.was called.was r (was_found s n is).found x.was_there old_leads was in
+          let joins = resets.joined s (old s n is) x.was called.was r (keeps.modules s n is).is_found x.was_there old_leads was in
           let at : port_ref called.was.ports x.was.operands was.number ≡ Some (port joins.2.number) = joins.1 ∙ ap Some joins.2.is_port in
           let stays : port_ref called.was.ports o.operands was.number ≡ Some (port joins.2.number) =
           port_stays (slice_get called.was.ports was.number) x.was.operands o.operands (input_count (take was.number called.was.ports)) joins.2.number x.ports_stay at in (
             port joins.2.number,
-            ap (λ ps. port_ref ps o.operands given.number) called.keeps_it.ports_are ∙ stays,
+            ap (λ ps. port_ref ps o.operands given.number) called.keeps.ports_are ∙ stays,
             marked_now s n is joins.0 joins.2 (port joins.2.number) (sym joins.2.is_port),
           )
 

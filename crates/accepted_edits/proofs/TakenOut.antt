@@ -20,8 +20,7 @@ use Rattle.hw_edits.proofs.Unused.{erase_dead_op_preserves}
 use Rattle.accepted_edits.specs.Asked.{Operand, asked, all_asked, AllowsMore, AllowMore}
 use Rattle.accepted_edits.specs.Forms.{ErasedFits}
 use Rattle.accepted_edits.specs.Keeps.{IsMoved, IsPlainFitting, KeepsModule, IsFit}
-use Rattle.accepted_edits.proofs.Accepted.{fit_kept}
-use Rattle.accepted_edits.proofs.Edited.{allows_itself, operands_allow, get_stood, plain_parts, kept_set}
+use Rattle.accepted_edits.proofs.Edited.{allows_itself, operands_allow, get_stood, plain_parts, fit_set}
 use Rattle.accepted_edits.proofs.Ends.{ends_retarget, ends_remove}
 use Rattle.accepted_edits.proofs.FitBodies.{found_md, alone, operand_there, settled_here}
 use Rattle.accepted_edits.proofs.Values.{asked_of, asked_retarget}
@@ -142,15 +141,13 @@ module _ (d : Design) (fit : IsFit d) (k : ℕ) (md : Module) (at : slice_get d 
 pub fit_erased : (d : Design) (k : ℕ) (md : Module) (i : ℕ) (o : Op) (t : HwType) (x : Ref) → IsFit d → slice_get d k ≡ Some md → Erased md i o t x → ErasedFits md o x
     → IsFit (with_body d k md (erase_op i x md.body))
 fit_erased d k md i o t x fit at change fits =
-    fit_kept d (with_body d k md (erase_op i x md.body)) fit.unrefused fit.printable
-    (kept_set d k md (record md { body = erase_op i x md.body }) at (erased_keeps d fit k md at i o t x change fits))
+    fit_set d k md (record md { body = erase_op i x md.body }) fit at (erased_keeps d fit k md at i o t x change fits)
     (erase_op_preserves d k md i o t x fit.valid at change).valid
 
 -- and where one is taken out that nothing names
 pub fit_without_dead : (d : Design) (k : ℕ) (md : Module) (i : ℕ) (o : Op) → IsFit d → slice_get d k ≡ Some md → IsUnused md i o
     → IsFit (with_body d k md (erase_op i undefined md.body))
 fit_without_dead d k md i o fit at unused =
-    fit_kept d (with_body d k md (erase_op i undefined md.body)) fit.unrefused fit.printable
-    (kept_set d k md (record md { body = erase_op i undefined md.body }) at
-    (taken_out_keeps md i o unused.there unused.plain undefined (λ j z r is here. allows_other md i o unused.there unused.plain undefined r (unused.unnamed j z r is here))))
+    fit_set d k md (record md { body = erase_op i undefined md.body }) fit at
+    (taken_out_keeps md i o unused.there unused.plain undefined (λ j z r is here. allows_other md i o unused.there unused.plain undefined r (unused.unnamed j z r is here)))
     (erase_dead_op_preserves d k md i o fit.valid at unused).valid

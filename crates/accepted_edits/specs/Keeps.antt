@@ -1,7 +1,10 @@
 -- Edits of a module's body by which a design stays accepted and printable.
-use Rattle.std.specs.Prelude.{◌≡◌, ◌⊎◌, ℕ, true, false, List, [], ◌∷◌, Option, Some, None, slice_get, ⊤}
+use Rattle.std.specs.Prelude.{◌≡◌, ◌⊎◌, ℕ, true, false, List, [], ◌∷◌, Option, Some, None, is_some, slice_get, ⊤}
 use Rattle.wiring.specs.Wiring.{In}
-use Rattle.hw_model.specs.Design.{Ref, Port, Op, Module, Design, instance_in, is_output_op}
+use Rattle.hw_model.specs.Types.{Name}
+use Rattle.hw_model.specs.Hierarchy.{calls}
+use Rattle.design_cycles.specs.Asked.{HasDistinctSymbols}
+use Rattle.hw_model.specs.Design.{Ref, Port, Op, Module, Design, find_module, instance_in, is_output_op}
 use Rattle.hw_model.specs.Design.Ref.{port}
 use Rattle.hw_model.specs.Flat.{ResetBy, async_reset_in}
 use Rattle.op_verifier.specs.ResetChecks.{is_constant_ref}
@@ -67,6 +70,20 @@ KeepsModules [] [] = ⊤
 KeepsModules (m ∷ d) (n ∷ e) = KeepsModule m n × KeepsModules d e
 KeepsModules [] (n ∷ e) = ⊥
 KeepsModules (m ∷ d) [] = ⊥
+
+-- the module keeps the one that is found
+pub record KeepsFound (found : Option Module) (n : Module) : Type 0 where
+  pub was : Module
+  pub is_found : found ≡ Some was
+  pub keeps : KeepsModule was n
+
+-- no two modules of the design e have one symbol, each keeps the one of its symbol in d, and the modules that those
+-- instance are there
+pub record KeepsDesign (d e : Design) : Type 0 where
+  pub distinct : HasDistinctSymbols e
+  pub modules : (s : Name) (n : Module) → find_module e s ≡ Some n → KeepsFound (find_module d s) n
+  pub called : (s t : Name) → is_some (find_module e s) ≡ true → In t (calls d s) → is_some (find_module d t) ≡ true
+      → is_some (find_module e t) ≡ true
 
 -- ---- fit designs
 

@@ -1,21 +1,22 @@
 //! The laws of edits that keep designs accepted, each a clause of a function that does nothing.
 
 ghost use Rattle.std.specs.Prelude.{◌≡◌, ◌≤◌, ℕ, Bool, List, set, Some, None, slice_get};
+ghost use Rattle.std.specs.List.{remove};
+ghost use Rattle.wiring.specs.Wiring.{In};
 ghost use Rattle.hw_model.specs.Types.{Name, HwType};
 ghost use Rattle.hw_model.specs.Design.{Ref, Port, Op, Module, Design};
+ghost use Rattle.hw_model.specs.Design.Ref.{undefined};
+ghost use Rattle.hw_model.specs.Hierarchy.{calls};
 ghost use Rattle.hw_model.specs.Weight.{weight};
-ghost use Rattle.op_verifier.specs.Faults.{first_fault};
 ghost use Rattle.op_verifier.specs.OpChecks.{op_cause};
 ghost use Rattle.op_verifier.specs.Verdict.{IsAccepted};
-ghost use Rattle.mlir_printer.specs.Spellable.{Each};
 ghost use Rattle.mlir_printer.specs.Printable.{Printable};
 ghost use Rattle.hw_edits.specs.Follows.{ValidEdit, Valid};
 ghost use Rattle.hw_edits.specs.Laws.{InPlace, Inserted, Erased, IsUnused, erase_op, insert_op, with_body};
 ghost use Rattle.hw_edits.specs.Registers.{Reloaded};
-ghost use Rattle.hw_model.specs.Design.Ref.{undefined};
 ghost use Rattle.accepted_edits.specs.Asked.{Operand, Around, all_asked, around, cause_of, AllowMore, AllowsMoreAround};
 ghost use Rattle.accepted_edits.specs.Forms.{InPlaceFits, ErasedFits, InsertedFits};
-ghost use Rattle.accepted_edits.specs.Keeps.{IsFitting, KeepsModules, IsPrintableBody, IsFit, KeepsAsked};
+ghost use Rattle.accepted_edits.specs.Keeps.{IsFitting, KeepsModules, KeepsDesign, IsFit, KeepsAsked};
 
 /// Does nothing. Its clauses say that the cause for which an operation is refused is told by what is asked of its operands
 /// and by what stands around it, and that it has none where no more is refused of these.
@@ -33,11 +34,13 @@ pub fn fit_designs_are_accepted()
 {}
 
 /// Does nothing. Its clauses say that a design stays fit by an edit of one module by which no more is refused of what stands
-/// for an operand; and so by any change that keeps its modules, where the new design is valid.
+/// for an operand; and so by any change that keeps its modules, at their places or by their symbols, where the new design
+/// is valid.
 pub fn edits_keep_fit()
     ensures edit { (d : Design) (k : ℕ) (m : Module) (os : List Op) (edit : ValidEdit (Some m) (Some (record m { body = os }))) → IsFit d
         → slice_get d k ≡ Some m → KeepsAsked m os edit → IsFit (with_body d k m os) }
-    ensures modules { (d e : Design) → first_fault d ≡ None → Each IsPrintableBody d → KeepsModules d e → Valid e → IsFit e }
+    ensures modules { (d e : Design) → IsFit d → KeepsModules d e → Valid e → IsFit e }
+    ensures design { (d e : Design) → IsFit d → KeepsDesign d e → Valid e → IsFit e }
 {}
 
 /// Does nothing. Its clauses say what must be shown of each edit of `hw_edits`, beside what keeps a design valid, so that a
@@ -54,4 +57,12 @@ pub fn each_edit_keeps_fit()
         → IsFit (with_body d k md (insert_op i o md.body)) }
     ensures register { (d : Design) (k : ℕ) (md : Module) (i : ℕ) (o new : Op) → IsFit d → slice_get d k ≡ Some md → Reloaded md i o new
         → IsFitting md.ports md.body new → IsFit (with_body d k md (set md.body i new)) }
+{}
+
+/// Does nothing. Its clauses say that a fit design stays fit where a module goes that nothing instances, and that no module
+/// gets heavier by that.
+pub fn removal_keeps_fit()
+    ensures fit { (d : Design) (k : ℕ) (m : Module) → IsFit d → slice_get d k ≡ Some m → ((s : Name) → In m.symbol (calls d s) → ⊥) → IsFit (remove d k) }
+    ensures lighter { (d : Design) (k : ℕ) (m : Module) → IsFit d → slice_get d k ≡ Some m → ((s : Name) → In m.symbol (calls d s) → ⊥)
+        → (s : Name) → weight (remove d k) s ≤ weight d s }
 {}

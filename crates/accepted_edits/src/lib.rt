@@ -7,4 +7,7 @@
 
 mod laws;
 
-pub use laws::{causes_are_asked, each_edit_keeps_fit, edits_keep_fit, fit_designs_are_accepted};
+pub use laws::{
+    causes_are_asked, each_edit_keeps_fit, edits_keep_fit, fit_designs_are_accepted,
+    removal_keeps_fit,
+};
