@@ -1,6 +1,6 @@
 -- A design that keeps the modules of a fit one is fit, and accepted where it is light.
-use Rattle.std.proofs.Common.{◌≡◌, ◌⊎◌, ◌<◌, ◌≤◌, ◌+◌, ◌^◌, ℕ, zero, suc, Bool, true, false, cond, not, ◌&&◌, ◌||◌, List, [], ◌∷◌, map, take, length, Option, Some, None, option_map, slice_get, refl, sym, ap, ap₂, subst, ◌∙◌, inl, inr, arith}
-use Rattle.std.specs.Prelude.{is_some, ⊤}
+use Rattle.std.proofs.Common.{◌≡◌, ◌⊎◌, ◌<◌, ◌≤◌, ◌+◌, ◌^◌, ℕ, zero, suc, Bool, true, false, cond, not, ◌&&◌, ◌||◌, List, [], ◌∷◌, map, take, length, Option, Some, None, option_map, slice_get, refl, sym, ap, subst, ◌∙◌, inl, inr, arith}
+use Rattle.std.specs.Prelude.{is_some}
 use Rattle.std.specs.Cmp.Lexicographic.{pointwise, same_text}
 use Rattle.std.proofs.lemmas.List.{length-map}
 use Rattle.wiring.specs.Options.{bind, omap}
@@ -26,29 +26,28 @@ use Rattle.design_cycles.proofs.Callees.{found_at}
 use Rattle.port_checks.specs.InstanceChecks.{port_types, instance_cause}
 use Rattle.port_checks.specs.ResetPorts.{is_reset_port}
 use Rattle.port_checks.proofs.Least.{found_module, is_sound}
-use Rattle.op_verifier.specs.Answers.{when, or_else}
-use Rattle.op_verifier.specs.TypeChecks.{is_outside, has_bad_field}
+use Rattle.op_verifier.specs.Answers.{when}
 use Rattle.op_verifier.specs.OpChecks.{has_undefined, has_other_outputs, value_cause, alone_cause, outer_cause, op_cause}
 use Rattle.op_verifier.specs.ResetChecks.{has_other_reset, has_other_join}
-use Rattle.op_verifier.specs.Headers.{has_port, has_wrong_clock, has_twice, has_output, ports_cause, names_cause, header_cause}
-use Rattle.op_verifier.specs.Faults.{op_refusal, header_refusal, is_empty, body_fault, module_fault, faults_from, first_fault}
+use Rattle.op_verifier.specs.Headers.{has_twice, has_output, ports_cause, names_cause, header_cause}
+use Rattle.op_verifier.specs.Faults.{op_refusal, header_refusal, body_fault, module_fault, faults_from, first_fault}
 use Rattle.op_verifier.specs.Verdict.{IsRecursive, IsAccepted}
 use Rattle.op_verifier.proofs.AcceptedDesigns.{no_fault, accepted_finite, accepted_acyclic}
 use Rattle.op_verifier.proofs.Distinct.{distinct_symbols}
 use Rattle.op_verifier.proofs.InputResets.{resets_from_ports}
 use Rattle.op_verifier.proofs.SoundDesigns.{sound_design}
-use Rattle.op_verifier.proofs.Unrefused.{or_none, map_none, no_op_cause, no_header_cause, IsUnrefusedModule, ops_unrefused, module_unrefused}
+use Rattle.op_verifier.proofs.Unrefused.{or_none, no_op_cause, no_header_cause, IsUnrefusedModule, ops_unrefused, module_unrefused}
 use Rattle.opcode.specs.declared.listed.Listed.TheVariants as listed
 use Rattle.mlir_operations.specs.ModuleText.{module_keys}
 use Rattle.mlir_printer.specs.Spellable.{Each, AreBytes}
 use Rattle.mlir_printer.specs.Printable.{IsDefined, operands_written, settled_result, IsKeptDictionary, IsPrintableOp, IsPrintablePort, EndsWithOutput, IsPrintableModule, Printable}
 use Rattle.hw_edits.specs.Follows.{Valid}
 use Rattle.hw_edits.specs.Resets.{has_mark, marks_by_symbol}
-use Rattle.accepted_edits.specs.Asked.{asked, all_asked, Called, Around, called_as, around, cause_of, CallsMore, AllowMore, AllowsMoreAround}
-use Rattle.accepted_edits.specs.Keeps.{IsMoved, IsFitting, IsPlainFitting, KeepsBody, KeepsModule, KeepsFound, KeepsDesign, IsPrintableBody, IsFit}
+use Rattle.accepted_edits.specs.Asked.{asked, all_asked, called_as, around, CallsMore}
+use Rattle.accepted_edits.specs.Keeps.{IsMoved, IsPlainFitting, KeepsModule, KeepsFound, KeepsDesign, IsPrintableBody, IsFit}
 use Rattle.accepted_edits.proofs.Causes.{cause_told, fewer_causes, none_or, when_false, both_false, length_more}
 use Rattle.accepted_edits.proofs.ResetsKept.{resets_kept}
-use Rattle.accepted_edits.proofs.Resets.{found_symbol, reset_marked, no_other_reset, no_other_join}
+use Rattle.accepted_edits.proofs.Resets.{found_symbol, reset_marked, no_other_reset}
 
 -- ---- lists
 

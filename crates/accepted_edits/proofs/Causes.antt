@@ -1,6 +1,6 @@
 -- The cause for which an operation is refused, by what is asked of its operands.
-use Rattle.std.proofs.Common.{◌≡◌, ℕ, zero, suc, Bool, true, false, cond, not, ◌&&◌, ◌||◌, List, [], ◌∷◌, map, take, length, Option, Some, None, slice_get, refl, sym, ap, ap₂, subst, ◌∙◌}
-use Rattle.std.specs.Prelude.{is_some, ⊤}
+use Rattle.std.proofs.Common.{◌≡◌, ℕ, zero, suc, Bool, true, false, cond, not, ◌&&◌, ◌||◌, List, [], ◌∷◌, map, take, length, Option, Some, None, slice_get, refl, sym, ap, ap₂, ◌∙◌}
+use Rattle.std.specs.Prelude.{is_some}
 use Rattle.std.proofs.lemmas.Option.{slice_get-map}
 use Rattle.wiring.specs.Options.{bind, omap}
 use Rattle.wiring.proofs.Lists.{map-map}
@@ -10,20 +10,19 @@ use Rattle.hw_model.specs.Types.{HwType}
 use Rattle.hw_model.specs.Kinds.{Kind, Instance}
 use Rattle.hw_model.specs.Kinds.Kind.{division}
 use Rattle.hw_model.specs.Design.{Ref, Port, OpResult, Op, Module, Design, find_module, instance_in, is_output_op, callee}
-use Rattle.hw_model.specs.Flat.{ResetBy, has_async_reset, async_parts, async_reset_in, input_count, operand_for, port_ref}
+use Rattle.hw_model.specs.Flat.{has_async_reset, async_parts, async_reset_in, input_count, operand_for, port_ref}
 use Rattle.hw_model.specs.Sound.{type_in}
 use Rattle.port_checks.specs.InstanceChecks.{names_ports, call_cause, instance_cause}
 use Rattle.port_checks.specs.ResetPorts.{is_reset_port}
 use Rattle.op_verifier.specs.Answers.{when, or_else}
 use Rattle.op_verifier.specs.OpChecks.{has_again, has_undefined, settled_type, divides_by_constant, has_other_outputs, op_cause}
 use Rattle.op_verifier.specs.OperandChecks.{has_mismatch}
-use Rattle.op_verifier.specs.LimitChecks.{has_type_outside, has_constant_outside, has_extract_outside, has_broken_copy, has_wide_concat, has_unknown_divisor, has_wrong_index, has_wrong_field, has_unequal_widths, has_clock_value}
-use Rattle.op_verifier.specs.CountChecks.{has_wrong_count}
+use Rattle.op_verifier.specs.LimitChecks.{has_type_outside, has_constant_outside, has_extract_outside, has_broken_copy, has_wide_concat, has_unknown_divisor}
 use Rattle.op_verifier.specs.OwnChecks.{cause_if, own_cause}
-use Rattle.op_verifier.specs.ResetChecks.{is_input_port, is_no_input, is_constant_ref, has_other_reset, joins_other, has_other_join}
+use Rattle.op_verifier.specs.ResetChecks.{is_no_input, has_other_reset, joins_other, has_other_join}
 use Rattle.op_verifier.proofs.Unrefused.{or_none, when_none, not_false}
 use Rattle.op_verifier.proofs.Widths.{neither}
-use Rattle.accepted_edits.specs.Asked.{Operand, asked, all_asked, Called, Around, called_as, around, some_undefined, second_known, reset_refused, async_refused, operand_at, is_other, join_refused, call_refused, called_cause, cause_of, AllowsMore, AllowMore, CallsMore, AllowsMoreAround}
+use Rattle.accepted_edits.specs.Asked.{Operand, asked, all_asked, Called, Around, called_as, around, some_undefined, second_known, reset_refused, async_refused, operand_at, is_other, join_refused, call_refused, called_cause, cause_of, AllowMore, CallsMore, AllowsMoreAround}
 
 -- ---- what is asked tells the cause
 

@@ -1,22 +1,19 @@
 -- An operation is changed in place, a register among them: a fit design stays fit.
-use Rattle.std.proofs.Common.{◌≡◌, ◌⊎◌, ℕ, Bool, true, false, List, map, set, length, Option, Some, None, slice_get, refl, sym, ap, subst, ◌∙◌, inl, inr}
+use Rattle.std.proofs.Common.{◌≡◌, ◌⊎◌, ℕ, true, false, List, set, Option, Some, None, slice_get, refl, sym, ap, subst, ◌∙◌, inl, inr}
 use Rattle.std.specs.Prelude.{is_some}
 use Rattle.std.proofs.lemmas.List.{map-id}
 use Rattle.std.proofs.lemmas.Option.{slice_get_within}
-use Rattle.wiring.specs.Wiring.{In}
 use Rattle.wiring.proofs.Lists.{slice_get-set_same}
 use Rattle.wiring.proofs.Members.{In-slice_get}
 use Rattle.hw_model.specs.Kinds.{Kind}
 use Rattle.hw_model.specs.Kinds.Kind.{constant, aggregate_constant}
-use Rattle.hw_model.specs.Design.{Ref, Port, Op, Module, Design, register_form, instance_in, is_output_op, is_register, result_type}
+use Rattle.hw_model.specs.Design.{Ref, Op, Module, Design, register_form, instance_in, is_output_op, is_register, result_type}
 use Rattle.hw_model.specs.Design.Ref.{port, result, undefined}
 use Rattle.hw_model.specs.Flat.{ResetBy, async_reset_in}
 use Rattle.hw_model.specs.Resets.{is_constant}
 use Rattle.hw_model.proofs.Sorts.{Sort, sort_of}
 use Rattle.hw_model.proofs.Sorts.Sort.{a_register, an_instance, an_output, a_made}
-use Rattle.port_checks.specs.ResetPorts.{is_reset_port}
 use Rattle.op_verifier.specs.OpChecks.{is_nonzero_kind}
-use Rattle.op_verifier.specs.ResetChecks.{is_constant_ref}
 use Rattle.op_verifier.proofs.InputResets.{resets_from_ports}
 use Rattle.hw_edits.specs.Laws.{other_than, with_body, InPlace}
 use Rattle.hw_edits.specs.Registers.{Reloaded}

@@ -1,5 +1,5 @@
 -- What is known of the operations of a fit design, and of operations that are moved to another body.
-use Rattle.std.proofs.Common.{◌≡◌, ℕ, zero, suc, Bool, true, false, cond, List, [], ◌∷◌, map, length, Option, Some, None, slice_get, refl, sym, ap, ap₂, ◌∙◌, inl, inr}
+use Rattle.std.proofs.Common.{◌≡◌, ℕ, zero, suc, Bool, true, false, cond, List, [], ◌∷◌, map, Option, Some, None, slice_get, refl, sym, ap, ap₂, ◌∙◌, inl, inr}
 use Rattle.std.specs.Prelude.{is_some, slice_index_or}
 use Rattle.std.proofs.lemmas.List.{length-map}
 use Rattle.std.proofs.lemmas.Option.{slice_get-map}
@@ -14,7 +14,7 @@ use Rattle.hw_model.specs.Sound.{type_in}
 use Rattle.op_verifier.specs.Answers.{when}
 use Rattle.op_verifier.specs.TypeLists.{known_types}
 use Rattle.op_verifier.specs.OwnChecks.{own_cause}
-use Rattle.op_verifier.specs.OpChecks.{has_again, has_undefined, settled_by, settled_type, divides_by_constant, alone_cause}
+use Rattle.op_verifier.specs.OpChecks.{has_again, has_undefined, settled_by, settled_type, alone_cause}
 use Rattle.op_verifier.proofs.NoOwnCause.{no_cause_alone}
 use Rattle.op_verifier.proofs.Settled.{settles}
 use Rattle.op_verifier.proofs.Unrefused.{or_none, when_none, NoOpCause, no_op_cause, ops_unrefused, module_unrefused}

@@ -1,5 +1,5 @@
 -- A module that nothing instances goes: a fit design stays fit, and no module gets heavier.
-use Rattle.std.proofs.Common.{◌≡◌, ◌≤◌, ◌<◌, ℕ, zero, suc, List, [], ◌∷◌, length, remove, Option, Some, None, slice_get, refl, sym, ap, subst, ◌∙◌, arith}
+use Rattle.std.proofs.Common.{◌≡◌, ◌≤◌, ℕ, zero, suc, List, [], ◌∷◌, length, remove, Option, Some, None, slice_get, refl, sym, ap, subst, ◌∙◌, arith}
 use Rattle.std.specs.Prelude.{is_some}
 use Rattle.std.proofs.lemmas.Option.{slice_get_within}
 use Rattle.wiring.specs.Wiring.{In}
@@ -18,7 +18,7 @@ use Rattle.op_verifier.proofs.Distinct.{distinct_symbols}
 use Rattle.hw_edits.specs.Laws.{up, down}
 use Rattle.hw_edits.proofs.ModuleGone.{gone_valid, removed_others}
 use Rattle.hw_edits.proofs.Positions.{down-up, down_same, get_taken}
-use Rattle.accepted_edits.specs.Keeps.{KeepsFound, KeepsDesign, IsFit}
+use Rattle.accepted_edits.specs.Keeps.{IsFit}
 use Rattle.accepted_edits.proofs.Accepted.{fit_kept}
 use Rattle.accepted_edits.proofs.Edited.{kept_self}
 use Rattle.accepted_edits.proofs.Resets.{found_symbol}

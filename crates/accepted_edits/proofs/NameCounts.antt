@@ -1,13 +1,13 @@
 -- Each name that a module's values take weighs something: the limit on weights is one on names.
-use Rattle.std.proofs.Common.{◌≡◌, ℕ, zero, suc, ◌+◌, ◌*◌, ◌≤◌, ◌<◌, ◌^◌, Bool, true, false, cond, not, ◌||◌, ◌==◌, List, [], ◌∷◌, ◌++◌, map, length, slice_get, Option, Some, None, refl, sym, ap, ◌∙◌, subst, arith}
+use Rattle.std.proofs.Common.{◌≡◌, ℕ, zero, suc, ◌+◌, ◌*◌, ◌≤◌, ◌<◌, ◌^◌, Bool, true, false, cond, not, ◌||◌, ◌==◌, List, [], ◌∷◌, ◌++◌, map, length, slice_get, Option, Some, refl, ap, ◌∙◌, arith}
 use Rattle.std.specs.Prelude.{nat_lt, nat_eq}
 use Rattle.std.specs.List.{list_any}
 use Rattle.std.proofs.lemmas.Bool.{eqb-true, ltb-true, ltb-false}
 use Rattle.std.proofs.lemmas.List.{length-append}
-use Rattle.hw_model.specs.Types.{Name, HwType, FieldTypes, leaves, leaves_of_fields, list_copies}
+use Rattle.hw_model.specs.Types.{Name, HwType, leaves, leaves_of_fields, list_copies}
 use Rattle.hw_model.specs.Types.HwType.{int, clock, array, struct}
 use Rattle.hw_model.specs.Types.FieldTypes.{no_fields, field}
-use Rattle.hw_model.specs.Kinds.{Kind, Reset, RegisterOp, Literal, Literals, ArrayOp}
+use Rattle.hw_model.specs.Kinds.{Kind, RegisterOp, Literal, Literals}
 use Rattle.hw_model.specs.Kinds.Literal.{leaf, parts}
 use Rattle.hw_model.specs.Kinds.Literals.{no_literals, literal}
 use Rattle.hw_model.specs.Kinds.Reset.{sync_reset}
@@ -18,9 +18,9 @@ use Rattle.hw_model.specs.Kinds.Kind.{variadic, sub, division, shift, icmp, pari
 use Rattle.hw_model.specs.Design.{Port, Op, Module, Design, find_module}
 use Rattle.hw_model.specs.Sound.{field_list}
 use Rattle.hw_model.specs.Value.{nth_type}
-use Rattle.hw_model.specs.Weight.{leaf_count, literal_leaves, literals_leaves, element_count, element_leaves, reset_weight, register_weight, kind_weight, body_weight, weight_of, module_weight, weight}
+use Rattle.hw_model.specs.Weight.{leaf_count, literal_leaves, literals_leaves, element_count, reset_weight, register_weight, kind_weight, body_weight, weight_of, module_weight, weight}
 use Rattle.ir_store.specs.ResultTypes.{first_type}
-use Rattle.op_verifier.specs.TypeChecks.{is_without_fields, has_bad_part, has_bad_part_among, is_outside}
+use Rattle.op_verifier.specs.TypeChecks.{has_bad_part, has_bad_part_among, is_outside}
 use Rattle.op_verifier.specs.TypeLists.{is_no_array, is_no_int}
 use Rattle.op_verifier.specs.LiteralChecks.{is_miscounted, literal_count, literal_differs, any_miscounted, are_miscounted, any_literal_differs, literals_differ}
 use Rattle.op_verifier.specs.OperandChecks.{is_no_array_of, has_other_array, has_other_form, has_other_operand, parts_differ}
@@ -29,13 +29,12 @@ use Rattle.op_verifier.specs.Headers.{has_port}
 use Rattle.op_verifier.specs.Verdict.{IsAccepted}
 use Rattle.op_verifier.proofs.AcceptedDesigns.{no_fault}
 use Rattle.op_verifier.proofs.Distinct.{distinct_symbols}
-use Rattle.op_verifier.proofs.NoOwnCause.{NoCauseAlone, no_cause_alone}
+use Rattle.op_verifier.proofs.NoOwnCause.{no_cause_alone}
 use Rattle.op_verifier.proofs.Unrefused.{not_false, no_op_cause, ops_unrefused, no_header_cause, module_unrefused}
 use Rattle.op_verifier.proofs.Widths.{neither}
 use Rattle.design_cycles.proofs.Callees.{found_at}
-use Rattle.mlir_printer.specs.Naming.{constant_name_hint, own_name_hint, instance_name_hints, pack_name_hints, name_hints_of, name_hints, body_name_hints, port_name_hint, port_name_hints}
+use Rattle.mlir_printer.specs.Naming.{instance_name_hints, pack_name_hints, name_hints_of, name_hints, body_name_hints, port_name_hint, port_name_hints}
 use Rattle.mlir_printer.specs.Texts.{parts_in}
-use Rattle.mlir_printer.specs.Spellable.{Each}
 use Rattle.mlir_printer.specs.Printable.{IsPrintableModule, Printable}
 use Rattle.accepted_edits.specs.Keeps.{IsPrintableBody, IsFit}
 use Rattle.accepted_edits.proofs.Accepted.{each_at, each_from, light_is_accepted}

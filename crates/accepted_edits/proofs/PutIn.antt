@@ -1,12 +1,12 @@
 -- An operation is put in before the output: a fit design stays fit.
-use Rattle.std.proofs.Common.{◌≡◌, ◌⊎◌, ◌<◌, ◌≤◌, ℕ, List, map, length, insert, Option, Some, None, slice_get, refl, sym, ap, subst, ◌∙◌, inl, inr, arith}
+use Rattle.std.proofs.Common.{◌≡◌, ◌⊎◌, ◌<◌, ◌≤◌, ℕ, List, map, length, Option, Some, None, slice_get, refl, sym, ap, subst, ◌∙◌, inl, inr}
 use Rattle.std.proofs.lemmas.List.{length-map}
 use Rattle.std.proofs.lemmas.Option.{slice_get-map}
 use Rattle.wiring.specs.Options.{omap}
 use Rattle.wiring.proofs.Edits.{slice_get-insert_at}
 use Rattle.wiring.proofs.Members.{In-slice_get}
 use Rattle.wiring.proofs.Options.{omap_some}
-use Rattle.hw_model.specs.Design.{Ref, Port, Op, Module, Design}
+use Rattle.hw_model.specs.Design.{Ref, Op, Module, Design}
 use Rattle.hw_model.specs.Design.Ref.{port, result, undefined}
 use Rattle.hw_edits.specs.Edit.{retarget}
 use Rattle.hw_edits.specs.Laws.{up, down, up_ref, insert_op, with_body, Inserted}

@@ -1,11 +1,11 @@
 -- Where modules are kept, asynchronous resets come from the ports that were reset ports.
-use Rattle.std.proofs.Common.{◌≡◌, ◌⊎◌, ℕ, zero, suc, Bool, true, false, cond, List, [], ◌∷◌, map, take, Option, Some, None, slice_get, refl, sym, ap, subst, ◌∙◌, inl, inr}
+use Rattle.std.proofs.Common.{◌≡◌, ◌⊎◌, ℕ, Bool, true, false, cond, List, [], ◌∷◌, take, Option, Some, None, slice_get, refl, sym, ap, subst, ◌∙◌, inl, inr}
 use Rattle.wiring.specs.Options.{bind}
 use Rattle.wiring.specs.Wiring.{In}
 use Rattle.wiring.proofs.Members.{position_of_In}
 use Rattle.wiring.proofs.Options.{bind_some}
 use Rattle.hw_model.specs.Types.{Name}
-use Rattle.hw_model.specs.Kinds.{Kind, Instance}
+use Rattle.hw_model.specs.Kinds.{Instance}
 use Rattle.hw_model.specs.Design.{Ref, Port, Op, Module, Design, find_module, instance_in, callee}
 use Rattle.hw_model.specs.Design.Ref.{port, result, undefined}
 use Rattle.hw_model.specs.Flat.{ResetBy, has_async_reset, async_parts, async_reset_in, input_count, operand_for, port_ref}
@@ -13,7 +13,7 @@ use Rattle.hw_model.specs.Resets.{IsMarkedInput, IsConstantOf, ResetsFromPorts}
 use Rattle.op_verifier.specs.ResetChecks.{is_constant_op, is_constant_ref}
 use Rattle.hw_edits.specs.Resets.{has_mark, marks_by_symbol}
 use Rattle.accepted_edits.specs.Asked.{asked, all_asked, AllowsMore, AllowMore}
-use Rattle.accepted_edits.specs.Keeps.{IsMoved, ResetStays, IsPlainFitting, KeepsModule, KeepsDesign}
+use Rattle.accepted_edits.specs.Keeps.{IsMoved, IsPlainFitting, KeepsModule, KeepsDesign}
 use Rattle.accepted_edits.proofs.Resets.{found_symbol, constant_told}
 
 some_from : {A : Type 0} {a b : A} → Some a ≡ Some b → a ≡ b

@@ -1,14 +1,13 @@
 -- An operation is taken out: a fit design stays fit.
-use Rattle.std.proofs.Common.{◌≡◌, ◌⊎◌, ℕ, zero, suc, Bool, true, false, ◌&&◌, nat_eq, List, map, remove, Option, Some, None, slice_get, refl, sym, ap, subst, ◌∙◌, inl, inr}
+use Rattle.std.proofs.Common.{◌≡◌, ℕ, zero, suc, true, false, ◌&&◌, nat_eq, List, map, remove, Option, Some, None, slice_get, refl, sym, ap, subst, ◌∙◌, inl}
 use Rattle.std.specs.Prelude.{is_some}
-use Rattle.wiring.specs.Options.{bind, omap}
+use Rattle.wiring.specs.Options.{bind}
 use Rattle.wiring.specs.Wiring.{In}
 use Rattle.wiring.proofs.Members.{In-slice_get}
 use Rattle.wiring.proofs.Options.{omap_some}
 use Rattle.hw_model.specs.Types.{HwType}
-use Rattle.hw_model.specs.Design.{Ref, Port, Op, Module, Design, is_output_op, result_type}
+use Rattle.hw_model.specs.Design.{Ref, Op, Module, Design, result_type}
 use Rattle.hw_model.specs.Design.Ref.{port, result, undefined}
-use Rattle.hw_model.specs.Resets.{is_constant}
 use Rattle.hw_model.specs.Sound.{type_in}
 use Rattle.op_verifier.specs.OpChecks.{is_nonzero_op}
 use Rattle.op_verifier.specs.ResetChecks.{is_constant_op}
@@ -17,12 +16,12 @@ use Rattle.hw_edits.specs.Laws.{up, down, ref_after_erase, without, erase_op, wi
 use Rattle.hw_edits.proofs.Positions.{down-up, down_none, down_same}
 use Rattle.hw_edits.proofs.TakeOut.{old_there, erase_op_preserves}
 use Rattle.hw_edits.proofs.Unused.{erase_dead_op_preserves}
-use Rattle.accepted_edits.specs.Asked.{Operand, asked, all_asked, AllowsMore, AllowMore}
+use Rattle.accepted_edits.specs.Asked.{asked, AllowsMore}
 use Rattle.accepted_edits.specs.Forms.{ErasedFits}
-use Rattle.accepted_edits.specs.Keeps.{IsMoved, IsPlainFitting, KeepsModule, IsFit}
+use Rattle.accepted_edits.specs.Keeps.{IsMoved, KeepsModule, IsFit}
 use Rattle.accepted_edits.proofs.Edited.{allows_itself, operands_allow, get_stood, plain_parts, fit_set}
 use Rattle.accepted_edits.proofs.Ends.{ends_retarget, ends_remove}
-use Rattle.accepted_edits.proofs.FitBodies.{found_md, alone, operand_there, settled_here}
+use Rattle.accepted_edits.proofs.FitBodies.{operand_there, settled_here}
 use Rattle.accepted_edits.proofs.Values.{asked_of, asked_retarget}
 
 module _ (md : Module) (i : ℕ) (o : Op) (there : slice_get md.body i ≡ Some o) (plain : is_anchor o ≡ false) (y : Ref) where

@@ -1,16 +1,15 @@
 -- What is asked of a value of a body, by the operation that it is a result of.
-use Rattle.std.proofs.Common.{◌≡◌, ℕ, Bool, true, false, ◌&&◌, nat_eq, List, map, length, Option, Some, None, slice_get, refl, sym, ap, ap₂, subst, ◌∙◌}
+use Rattle.std.proofs.Common.{◌≡◌, ℕ, Bool, true, false, ◌&&◌, nat_eq, List, Option, Some, None, refl, sym, ap, ◌∙◌}
 use Rattle.std.specs.Prelude.{is_some, slice_index_or}
 use Rattle.std.proofs.lemmas.List.{length-map}
 use Rattle.wiring.specs.Options.{bind, omap}
 use Rattle.hw_model.specs.Design.{Ref, Port, Op, result_type}
-use Rattle.hw_model.specs.Design.Ref.{port, result, undefined}
 use Rattle.hw_model.specs.Resets.{is_constant}
 use Rattle.ir_store.specs.ResultTypes.{result_types}
 use Rattle.op_verifier.specs.OpChecks.{settled_by, is_nonzero_kind, is_nonzero_op, alone_cause}
 use Rattle.op_verifier.specs.ResetChecks.{is_constant_op}
 use Rattle.hw_edits.specs.Edit.{retarget}
-use Rattle.accepted_edits.specs.Asked.{Operand, asked, AllowsMore}
+use Rattle.accepted_edits.specs.Asked.{Operand, AllowsMore}
 use Rattle.accepted_edits.proofs.FitBodies.{settled_result}
 
 -- what is asked of result k of an operation

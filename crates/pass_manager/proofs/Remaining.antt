@@ -1,5 +1,5 @@
 -- Which modules remain after passes, told by the design before or by the one between.
-use Rattle.std.proofs.Common.{◌≡◌, ℕ, zero, suc, ◌+◌, Bool, true, false, ◌||◌, cond, List, [], ◌∷◌, ◌++◌, map, Option, Some, None, refl, sym, ap, subst, ◌∙◌, inl, inr}
+use Rattle.std.proofs.Common.{◌≡◌, ℕ, zero, suc, ◌+◌, Bool, true, false, ◌||◌, cond, List, [], ◌∷◌, ◌++◌, Some, refl, sym, ap, subst, ◌∙◌, inl, inr}
 use Rattle.wiring.specs.Wiring.{In, Chain}
 use Rattle.wiring.proofs.Chains.{Chain-append}
 use Rattle.hw_model.specs.Types.{Name}

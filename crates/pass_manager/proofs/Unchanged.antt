@@ -1,17 +1,15 @@
 -- A design that stays as it is.
-use Rattle.std.proofs.Common.{◌≡◌, Bool, true, false, List, Option, Some, refl, sym, ap, subst, ◌∙◌, arith}
+use Rattle.std.proofs.Common.{◌≡◌, Bool, true, false, List, Some, refl, sym, subst, ◌∙◌, arith}
 use Rattle.hw_model.specs.Types.{Name}
-use Rattle.hw_model.specs.Design.{Module, Design, find_module}
+use Rattle.hw_model.specs.Design.{Module, Design}
 use Rattle.hw_model.specs.Hierarchy.{calls}
 use Rattle.hw_model.specs.Meaning.{machine}
 use Rattle.hw_model.proofs.Finite.{heights_from_no_cycle, settles_with_heights}
 use Rattle.hw_model.proofs.Machines.{same_self}
-use Rattle.op_verifier.specs.Verdict.{IsAccepted}
 use Rattle.op_verifier.proofs.AcceptedDesigns.{accepted_finite, accepted_acyclic}
-use Rattle.mlir_printer.specs.Printable.{Printable}
 use Rattle.pass_pipeline.specs.declared.pass.Pass.{Pass}
 use Rattle.pass_manager.specs.Remaining.{is_flatten, is_symbol_dce, is_lowering, has_pass, symbols, IsKept, remaining}
-use Rattle.pass_manager.specs.PassLaw.{InstancesStay, IsModuleAfter, IsAfter, PassLaw}
+use Rattle.pass_manager.specs.PassLaw.{InstancesStay, IsModuleAfter, PassLaw}
 use Rattle.pass_manager.proofs.Those.{all_those}
 
 all_remain : (a b : Bool) → a ≡ false → b ≡ false → (d : Design) (s : Name) → remaining a b d s

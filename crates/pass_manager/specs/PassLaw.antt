@@ -1,5 +1,5 @@
 -- What every pass keeps of a design.
-use Rattle.std.specs.Prelude.{◌≡◌, ℕ, ◌≤◌, Bool, true, false, List, map, Option, Some}
+use Rattle.std.specs.Prelude.{◌≡◌, ◌≤◌, Bool, true, false, List, map, Option, Some}
 use Rattle.hw_model.specs.Types.{Name, HwType}
 use Rattle.hw_model.specs.Design.{Port, Module, Design, find_module, result_type}
 use Rattle.hw_model.specs.Flat.{Slot, registers}
