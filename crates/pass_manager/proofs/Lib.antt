@@ -3,3 +3,5 @@ pub mod Those
 pub mod Remaining
 pub mod Unchanged
 pub mod Composed
+pub mod Shapes
+pub mod Steady

@@ -12,7 +12,7 @@ use Rattle.pass_manager.specs.Remaining.{is_flatten, is_symbol_dce, is_lowering,
 use Rattle.pass_manager.specs.PassLaw.{InstancesStay, IsModuleAfter, PassLaw}
 use Rattle.pass_manager.proofs.Those.{all_those}
 
-all_remain : (a b : Bool) → a ≡ false → b ≡ false → (d : Design) (s : Name) → remaining a b d s
+pub all_remain : (a b : Bool) → a ≡ false → b ≡ false → (d : Design) (s : Name) → remaining a b d s
 all_remain true b flat gone d s = cc
 all_remain false true flat gone d s = cc
 all_remain false false flat gone d s = tt

@@ -1,3 +1,4 @@
 pub mod PassLaw
 pub mod Remaining
 pub mod Results
+pub mod Steady

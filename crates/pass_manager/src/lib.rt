@@ -4,4 +4,6 @@
 pub mod gate;
 mod laws;
 
-pub use laws::{identity_keeps, laws_compose, result_keeps};
+pub use laws::{
+    edits_keep_shape, identity_keeps, laws_compose, result_keeps, steady_designs_compose,
+};
