@@ -43,7 +43,7 @@ use Rattle.mlir_printer.specs.Spellable.{Each, AreBytes}
 use Rattle.mlir_printer.specs.Printable.{IsDefined, operands_written, settled_result, IsKeptDictionary, IsPrintableOp, IsPrintablePort, EndsWithOutput, IsPrintableModule, Printable}
 use Rattle.hw_edits.specs.Follows.{Valid}
 use Rattle.hw_edits.specs.Resets.{has_mark, marks_by_symbol}
-use Rattle.accepted_edits.specs.Asked.{asked, all_asked, called_as, around, CallsMore}
+use Rattle.accepted_edits.specs.Asked.{operand_in, operands_in, called_as, around, CallsMore}
 use Rattle.accepted_edits.specs.Keeps.{IsMoved, IsPlainFitting, KeepsModule, KeepsFound, KeepsDesign, IsPrintableBody, IsFit}
 use Rattle.accepted_edits.proofs.Causes.{cause_told, fewer_causes, none_or, when_false, both_false, length_more}
 use Rattle.accepted_edits.proofs.ResetsKept.{resets_kept}
@@ -218,15 +218,15 @@ module _ (d e : Design) (fit : IsFit d) (keeps : KeepsDesign d e) (valid : Valid
       by_module : (t : Name) → In t (calls d s) → (x y : Option Module) → find_module d t ≡ x → find_module e t ≡ y → CallsMore (omap (called_as d) x) (omap (called_as e) y)
       by_module t need None None old new = tt
       by_module t need None (Some f) old new =
-          let kept = keeps.modules t f new in
-          let clash : None ≡ Some kept.was = sym old ∙ kept.is_found in cc
+          let keeps_it = keeps.modules t f new in
+          let clash : None ≡ Some keeps_it.was = sym old ∙ keeps_it.is_found in cc
       by_module t need (Some c) None old new =
           let clash : true ≡ false = sym (keeps.called s t (ap is_some now) need (ap is_some old)) ∙ ap is_some new in cc
       by_module t need (Some c) (Some f) old new =
-          let kept = keeps.modules t f new in
-          let same : Some kept.was ≡ Some c = sym kept.is_found ∙ old in
-          let one : kept.was ≡ c = cc in
-          (kept.keeps.ports_are ∙ ap (λ (y : Module). y.ports) one, fewer t c f old new)
+          let keeps_it = keeps.modules t f new in
+          let same : Some keeps_it.was ≡ Some c = sym keeps_it.is_found ∙ old in
+          let one : keeps_it.was ≡ c = cc in
+          (keeps_it.keeps.ports_are ∙ ap (λ (y : Module). y.ports) one, fewer t c f old new)
 
       go : (x : Option Instance) → instance_in o.kind ≡ x
           → CallsMore (omap (called_as d) (bind x (λ (i : Instance). find_module d i.symbol))) (omap (called_as e) (bind x (λ (i : Instance). find_module e i.symbol)))
@@ -239,8 +239,8 @@ module _ (d e : Design) (fit : IsFit d) (keeps : KeepsDesign d e) (valid : Valid
     before : KeepsFound (find_module d n.symbol) n
     before = keeps.modules n.symbol n (found_here i n there)
 
-    abbrev kept : KeepsModule before.was n
-    kept = before.keeps
+    abbrev keeps_it : KeepsModule before.was n
+    keeps_it = before.keeps
 
     unrefused_before : IsUnrefusedModule d before.was
     unrefused_before = module_unrefused d fit.unrefused n.symbol before.was before.is_found
@@ -251,29 +251,29 @@ module _ (d e : Design) (fit : IsFit d) (keeps : KeepsDesign d e) (valid : Valid
         each_at IsPrintableBody d place.0 before.was fit.printable place.1
 
     ends_now : EndsWithOutput n.body
-    ends_now = kept.body.ends printed_before.ends
+    ends_now = keeps_it.body.ends printed_before.ends
 
     -- an operation of the new body is not refused
     op_kept : (last : Bool) (o : Op) → In o n.body → (is_output_op o ≡ true → last ≡ true) → op_cause e before.was.ports n.body last o ≡ None
     op_kept last o here is_last =
         let at = position_of_In o n.body here in
-        go (kept.body.each at.0 o at.1)
+        go (keeps_it.body.each at.0 o at.1)
       where
-        moved : (x : IsMoved before.was.ports before.was.body n.body o) → op_cause e before.was.ports n.body last (record x.was { operands = o.operands }) ≡ None
-        moved x =
+        if_moved : (x : IsMoved before.was.ports before.was.body n.body o) → op_cause e before.was.ports n.body last (record x.was { operands = o.operands }) ≡ None
+        if_moved x =
             let at = position_of_In x.was before.was.body x.was_there in
             let old = ops_unrefused d before.was.ports before.was.body before.was.body unrefused_before.body at.0 x.was at.1 in
             cause_told e before.was.ports n.body last (record x.was { operands = o.operands })
-            ∙ fewer_causes x.was (all_asked before.was.ports before.was.body x.was.operands) (all_asked before.was.ports n.body o.operands)
+            ∙ fewer_causes x.was (operands_in before.was.ports before.was.body x.was.operands) (operands_in before.was.ports n.body o.operands)
             (around d before.was.ports old.last x.was) (around e before.was.ports last x.was) x.operands
             (record { ports = refl; last = λ out old_last. is_last (ap is_output_op x.same ∙ out); called = calls_more n.symbol n before.was (found_here i n there) before.is_found at.0 x.was at.1 })
             (sym (cause_told d before.was.ports before.was.body old.last x.was) ∙ old.none)
 
         go : IsMoved before.was.ports before.was.body n.body o ⊎ IsPlainFitting before.was.ports before.was.body n.body o → op_cause e before.was.ports n.body last o ≡ None
-        go (inl x) = subst (λ z. op_cause e before.was.ports n.body last z ≡ None) (sym x.same) (moved x)
+        go (inl x) = subst (λ z. op_cause e before.was.ports n.body last z ≡ None) (sym x.same) (if_moved x)
         go (inr x) =
             plain_no_cause e before.was.ports before.was.body n.body last o x
-            (ap (λ ps. has_other_reset ps n.body (async_reset_in o)) (sym kept.ports_are)
+            (ap (λ ps. has_other_reset ps n.body (async_reset_in o)) (sym keeps_it.ports_are)
             ∙ no_other_reset e (marks_by_symbol d (is_reset_port d)) resets n.symbol n (found_here i n there) o here)
 
     -- its header is not refused
@@ -281,44 +281,44 @@ module _ (d e : Design) (fit : IsFit d) (keeps : KeepsDesign d e) (valid : Valid
     header_kept =
         let was = no_header_cause d unrefused_before.number before.was unrefused_before.header in
         let ports = or_none (ports_cause before.was.ports) (names_cause d unrefused_before.number before.was.symbol before.was.ports before.was.body) unrefused_before.header in
-        none_or (ports_cause n.ports) (names_cause e i n.symbol n.ports n.body) (ap ports_cause kept.ports_are ∙ ports.0)
+        none_or (ports_cause n.ports) (names_cause e i n.symbol n.ports n.body) (ap ports_cause keeps_it.ports_are ∙ ports.0)
         (none_or _ _
         (when_false (is_some (find_module (take i e) n.symbol)) cause.DuplicateSymbol (none_before e keeps.distinct i n there))
         (none_or _ _
         (when_false (has_twice (map (λ (q : Port). q.name) n.ports)) cause.DuplicatePort
-        (ap (λ ps. has_twice (map (λ (q : Port). q.name) ps)) kept.ports_are ∙ was.names))
+        (ap (λ ps. has_twice (map (λ (q : Port). q.name) ps)) keeps_it.ports_are ∙ was.names))
         (when_false (not (has_output n.body)) cause.MissingOutput (ap not (ends_has_output n.body ends_now)))))
 
     module_kept : module_fault e i n ≡ None
     module_kept =
         none_or (option_map (header_refusal n) (header_cause e i n)) (body_fault e n.ports n.body n.body) (ap (option_map (header_refusal n)) header_kept)
-        (ap (λ ps. body_fault e ps n.body n.body) kept.ports_are ∙ no_body_fault e before.was.ports n.body n.body op_kept ends_now)
+        (ap (λ ps. body_fault e ps n.body n.body) keeps_it.ports_are ∙ no_body_fault e before.was.ports n.body n.body op_kept ends_now)
 
     op_printed : (j : ℕ) (o : Op) → slice_get n.body j ≡ Some o → IsPrintableOp before.was.ports n.body o
-    op_printed j o at = go (kept.body.each j o at)
+    op_printed j o at = go (keeps_it.body.each j o at)
       where
-        moved : (x : IsMoved before.was.ports before.was.body n.body o) → IsPrintableOp before.was.ports n.body (record x.was { operands = o.operands })
-        moved x =
+        if_moved : (x : IsMoved before.was.ports before.was.body n.body o) → IsPrintableOp before.was.ports n.body (record x.was { operands = o.operands })
+        if_moved x =
             let place = position_of_In x.was before.was.body x.was_there in
             let here = In-slice_get o n.body j at in
             printable_with before.was.ports before.was.body n.body x.was o.operands
-            (sym (length-map o.operands (asked before.was.ports n.body))
-            ∙ length_more (all_asked before.was.ports before.was.body x.was.operands) (all_asked before.was.ports n.body o.operands) x.operands
-            ∙ length-map x.was.operands (asked before.was.ports before.was.body))
+            (sym (length-map o.operands (operand_in before.was.ports n.body))
+            ∙ length_more (operands_in before.was.ports before.was.body x.was.operands) (operands_in before.was.ports n.body o.operands) x.operands
+            ∙ length-map x.was.operands (operand_in before.was.ports before.was.body))
             (values_defined before.was.ports n.body o.operands (no_op_cause e before.was.ports n.body true o (op_kept true o here (λ out. refl))).defined)
             (each_at (IsPrintableOp before.was.ports before.was.body) before.was.body place.0 x.was printed_before.operations place.1)
 
         go : IsMoved before.was.ports before.was.body n.body o ⊎ IsPlainFitting before.was.ports before.was.body n.body o → IsPrintableOp before.was.ports n.body o
-        go (inl x) = subst (IsPrintableOp before.was.ports n.body) (sym x.same) (moved x)
+        go (inl x) = subst (IsPrintableOp before.was.ports n.body) (sym x.same) (if_moved x)
         go (inr x) = x.fits.printable
 
     module_printed : IsPrintableBody n
     module_printed = record {
-      symbol = subst AreBytes (sym kept.symbol_is) printed_before.symbol;
-      ports = subst (Each IsPrintablePort) (sym kept.ports_are) printed_before.ports;
-      dictionary = subst (IsKeptDictionary listed.HwModule module_keys) (sym kept.dictionary_is) printed_before.dictionary;
+      symbol = subst AreBytes (sym keeps_it.symbol_is) printed_before.symbol;
+      ports = subst (Each IsPrintablePort) (sym keeps_it.ports_are) printed_before.ports;
+      dictionary = subst (IsKeptDictionary listed.HwModule module_keys) (sym keeps_it.dictionary_is) printed_before.dictionary;
       operations = each_from (IsPrintableOp n.ports n.body) n.body
-          (λ j o at. subst (λ ps. IsPrintableOp ps n.body o) (sym kept.ports_are) (op_printed j o at));
+          (λ j o at. subst (λ ps. IsPrintableOp ps n.body o) (sym keeps_it.ports_are) (op_printed j o at));
       ends = ends_now;
     }
 

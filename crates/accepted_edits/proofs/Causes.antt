@@ -22,27 +22,27 @@ use Rattle.op_verifier.specs.OwnChecks.{cause_if, own_cause}
 use Rattle.op_verifier.specs.ResetChecks.{is_no_input, has_other_reset, joins_other, has_other_join}
 use Rattle.op_verifier.proofs.Unrefused.{or_none, when_none, not_false}
 use Rattle.op_verifier.proofs.Widths.{neither}
-use Rattle.accepted_edits.specs.Asked.{Operand, asked, all_asked, Called, Around, called_as, around, some_undefined, second_known, reset_refused, async_refused, operand_at, is_other, join_refused, call_refused, called_cause, cause_of, AllowMore, CallsMore, AllowsMoreAround}
+use Rattle.accepted_edits.specs.Asked.{Operand, operand_in, operands_in, CalledModule, Around, called_as, around, some_undefined, second_known, reset_refused, async_refused, operand_at, is_other, join_refused, call_refused, called_cause, cause_of, AllowMore, CallsMore, AllowsMoreAround}
 
 -- ---- what is asked tells the cause
 
 module _ (ports : List Port) (os : List Op) where
-  pub undefined_told : (rs : List Ref) → has_undefined ports os rs ≡ some_undefined (all_asked ports os rs)
+  pub undefined_told : (rs : List Ref) → has_undefined ports os rs ≡ some_undefined (operands_in ports os rs)
   undefined_told [] = refl
   undefined_told (r ∷ rs) = ap (λ b. cond (is_some (type_in ports os r)) b true) (undefined_told rs)
 
-  pub types_told : (rs : List Ref) → map (settled_type ports os) rs ≡ map (λ (x : Operand). x.type) (all_asked ports os rs)
-  types_told rs = sym (map-map (λ (x : Operand). x.type) (asked ports os) rs)
+  pub types_told : (rs : List Ref) → map (settled_type ports os) rs ≡ map (λ (x : Operand). x.type) (operands_in ports os rs)
+  types_told rs = sym (map-map (λ (x : Operand). x.type) (operand_in ports os) rs)
 
-  pub known_told : (rs : List Ref) → divides_by_constant os rs ≡ second_known (all_asked ports os rs)
+  pub known_told : (rs : List Ref) → divides_by_constant os rs ≡ second_known (operands_in ports os rs)
   known_told [] = refl
   known_told (r ∷ []) = refl
   known_told (r ∷ q ∷ rs) = refl
 
-  async_told : (kind : Kind) (rs : List Ref) → has_other_reset ports os (cond (has_async_reset kind) (async_parts rs) None) ≡ async_refused kind (all_asked ports os rs)
+  async_told : (kind : Kind) (rs : List Ref) → has_other_reset ports os (cond (has_async_reset kind) (async_parts rs) None) ≡ async_refused kind (operands_in ports os rs)
   async_told kind rs = go (has_async_reset kind) rs
     where
-      go : (b : Bool) (rs : List Ref) → has_other_reset ports os (cond b (async_parts rs) None) ≡ cond b (reset_refused (all_asked ports os rs)) false
+      go : (b : Bool) (rs : List Ref) → has_other_reset ports os (cond b (async_parts rs) None) ≡ cond b (reset_refused (operands_in ports os rs)) false
       go false rs = refl
       go true [] = refl
       go true (a ∷ []) = refl
@@ -51,25 +51,25 @@ module _ (ports : List Port) (os : List Op) where
       go true (a ∷ b ∷ c ∷ e ∷ []) = refl
       go true (a ∷ b ∷ c ∷ e ∷ f ∷ rs) = refl
 
-  other_told : (p : Option Port) (rs : List Ref) (k : ℕ) → is_no_input ports (operand_for p rs k) ≡ is_other (operand_at p (all_asked ports os rs) k)
+  other_told : (p : Option Port) (rs : List Ref) (k : ℕ) → is_no_input ports (operand_for p rs k) ≡ is_other (operand_at p (operands_in ports os rs) k)
   other_told None rs k = refl
   other_told (Some p) rs k = go p.is_output
     where
-      at : (x : Option Ref) → is_no_input ports x ≡ is_other (omap (asked ports os) x)
+      at : (x : Option Ref) → is_no_input ports x ≡ is_other (omap (operand_in ports os) x)
       at None = refl
       at (Some r) = refl
 
-      go : (b : Bool) → is_no_input ports (cond b None (slice_get rs k)) ≡ is_other (cond b None (slice_get (all_asked ports os rs) k))
+      go : (b : Bool) → is_no_input ports (cond b None (slice_get rs k)) ≡ is_other (cond b None (slice_get (operands_in ports os rs) k))
       go true = refl
-      go false = at (slice_get rs k) ∙ ap is_other (sym (slice_get-map (asked ports os) rs k))
+      go false = at (slice_get rs k) ∙ ap is_other (sym (slice_get-map (operand_in ports os) rs k))
 
   join_told : (resets : ℕ → Bool) (called : List Port) (rs : List Ref) (n : ℕ)
-      → joins_other resets ports (port_ref called rs) n ≡ join_refused resets called (all_asked ports os rs) n
+      → joins_other resets ports (port_ref called rs) n ≡ join_refused resets called (operands_in ports os rs) n
   join_told resets called rs zero = refl
   join_told resets called rs (suc n) =
       ap₂ (λ a b. a || (resets n && b)) (join_told resets called rs n) (other_told (slice_get called n) rs (input_count (take n called)))
 
-  call_told : (d : Design) (rs : List Ref) (c : Option Module) → has_other_join d ports rs c ≡ call_refused (omap (called_as d) c) (all_asked ports os rs)
+  call_told : (d : Design) (rs : List Ref) (c : Option Module) → has_other_join d ports rs c ≡ call_refused (omap (called_as d) c) (operands_in ports os rs)
   call_told d rs None = refl
   call_told d rs (Some c) = join_told (is_reset_port d c) c.ports rs (length c.ports)
 
@@ -92,15 +92,15 @@ module _ (d : Design) (ports : List Port) (os : List Op) (last : Bool) (o : Op) 
       (or_else (when (has_other_outputs ports o) cause.OutputMismatch) (or_else named (when (is_output_op o && not last) cause.MissingOutput)))
       (when (async || join) cause.AsyncReset)))
 
-  pub cause_told : op_cause d ports os last o ≡ cause_of o (all_asked ports os o.operands) (around d ports last o)
+  pub cause_told : op_cause d ports os last o ≡ cause_of o (operands_in ports os o.operands) (around d ports last o)
   cause_told =
       ap (λ u. told_by u (map (settled_type ports os) o.operands) (divides_by_constant os o.operands) (instance_cause d o.types (instance_in o.kind)) (has_other_reset ports os (async_reset_in o)) (has_other_join d ports o.operands (callee d o)))
       (undefined_told ports os o.operands)
-      ∙ ap₂ (λ ts k. told_by (some_undefined (all_asked ports os o.operands)) ts k (instance_cause d o.types (instance_in o.kind)) (has_other_reset ports os (async_reset_in o)) (has_other_join d ports o.operands (callee d o)))
+      ∙ ap₂ (λ ts k. told_by (some_undefined (operands_in ports os o.operands)) ts k (instance_cause d o.types (instance_in o.kind)) (has_other_reset ports os (async_reset_in o)) (has_other_join d ports o.operands (callee d o)))
       (types_told ports os o.operands) (known_told ports os o.operands)
-      ∙ ap (λ c. told_by (some_undefined (all_asked ports os o.operands)) (map (λ (x : Operand). x.type) (all_asked ports os o.operands)) (second_known (all_asked ports os o.operands)) c (has_other_reset ports os (async_reset_in o)) (has_other_join d ports o.operands (callee d o)))
+      ∙ ap (λ c. told_by (some_undefined (operands_in ports os o.operands)) (map (λ (x : Operand). x.type) (operands_in ports os o.operands)) (second_known (operands_in ports os o.operands)) c (has_other_reset ports os (async_reset_in o)) (has_other_join d ports o.operands (callee d o)))
       (named_told d o.types (instance_in o.kind))
-      ∙ ap₂ (λ a j. told_by (some_undefined (all_asked ports os o.operands)) (map (λ (x : Operand). x.type) (all_asked ports os o.operands)) (second_known (all_asked ports os o.operands)) (called_cause o.types (instance_in o.kind) (omap (called_as d) (callee d o))) a j)
+      ∙ ap₂ (λ a j. told_by (some_undefined (operands_in ports os o.operands)) (map (λ (x : Operand). x.type) (operands_in ports os o.operands)) (second_known (operands_in ports os o.operands)) (called_cause o.types (instance_in o.kind) (omap (called_as d) (callee d o))) a j)
       (async_told ports os o.kind o.operands) (call_told ports os d o.operands (callee d o))
 
 -- ---- no more is refused
@@ -235,14 +235,14 @@ join_more f g ports xs ys to more (suc n) h =
         (ap (λ (z : Bool). z && is_other (operand_at (slice_get ports n) xs (input_count (take n ports)))) (sym (to n e)) ∙ k)
     go false e k = refl
 
-call_more : (c e : Option Called) (xs ys : List Operand) → CallsMore c e → AllowMore xs ys → call_refused c xs ≡ false → call_refused e ys ≡ false
+call_more : (c e : Option CalledModule) (xs ys : List Operand) → CallsMore c e → AllowMore xs ys → call_refused c xs ≡ false → call_refused e ys ≡ false
 call_more None None xs ys calls more h = refl
 call_more None (Some e) xs ys calls more h = absurd calls
 call_more (Some c) None xs ys calls more h = absurd calls
 call_more (Some c) (Some e) xs ys (ports, resets) more h =
     ap (λ ps. join_refused e.is_reset ps ys (length ps)) ports ∙ join_more c.is_reset e.is_reset c.ports xs ys resets more (length c.ports) h
 
-named_more : (ts : List HwType) (i : Option Instance) (c e : Option Called) → CallsMore c e → called_cause ts i c ≡ None → called_cause ts i e ≡ None
+named_more : (ts : List HwType) (i : Option Instance) (c e : Option CalledModule) → CallsMore c e → called_cause ts i c ≡ None → called_cause ts i e ≡ None
 named_more ts None c e calls h = refl
 named_more ts (Some i) None None calls h = h
 named_more ts (Some i) None (Some e) calls h = absurd calls

@@ -20,14 +20,14 @@ use Rattle.hw_edits.specs.Registers.{Reloaded}
 use Rattle.hw_edits.proofs.ChangeInPlace.{replace_op_preserves}
 use Rattle.hw_edits.proofs.Positions.{other_none, get_other}
 use Rattle.hw_edits.proofs.ReloadFollows.{replace_register_preserves}
-use Rattle.accepted_edits.specs.Asked.{asked, all_asked, AllowsMore, AllowMore}
+use Rattle.accepted_edits.specs.Asked.{operand_in, operands_in, AllowsMore, AllowMore}
 use Rattle.accepted_edits.specs.Forms.{InPlaceFits}
 use Rattle.accepted_edits.specs.Keeps.{IsMoved, IsFitting, ResetStays, IsPlainFitting, KeepsModule, IsFit}
 use Rattle.accepted_edits.proofs.Edited.{allows_itself, operands_allow, no_async, plain_parts, fit_set}
 use Rattle.accepted_edits.proofs.Ends.{ends_set}
-use Rattle.accepted_edits.proofs.FitBodies.{fitting_moved, found_md, alone}
+use Rattle.accepted_edits.proofs.FitBodies.{fitting_moved, found_md, own_cause_none}
 use Rattle.accepted_edits.proofs.Resets.{constant_told}
-use Rattle.accepted_edits.proofs.Values.{asked_of, result_allows}
+use Rattle.accepted_edits.proofs.Values.{result_operand, result_allows}
 
 -- o at position i becomes o', which fits, has results of the same types, is a constant where o is one, has the asynchronous
 -- reset of o, if it has any, and is no instance and no output, as o is none
@@ -47,24 +47,24 @@ module _ (d : Design) (fit : IsFit d) (k : ℕ) (md : Module) (at : slice_get d 
   new_there = slice_get-set_same md.body i o' (slice_get_within md.body i o change.there)
 
   -- no more is refused of any value
-  values_allow : (r : Ref) → AllowsMore (asked md.ports md.body r) (asked md.ports (set md.body i o') r)
-  values_allow (port j) = allows_itself (asked md.ports md.body (port j))
-  values_allow undefined = allows_itself (asked md.ports md.body undefined)
+  values_allow : (r : Ref) → AllowsMore (operand_in md.ports md.body r) (operand_in md.ports (set md.body i o') r)
+  values_allow (port j) = allows_itself (operand_in md.ports md.body (port j))
+  values_allow undefined = allows_itself (operand_in md.ports md.body undefined)
   values_allow (result j n) = go (other_than i j) refl
     where
-      go : (x : Option ℕ) → other_than i j ≡ x → AllowsMore (asked_of n (slice_get md.body j)) (asked_of n (slice_get (set md.body i o') j))
+      go : (x : Option ℕ) → other_than i j ≡ x → AllowsMore (result_operand n (slice_get md.body j)) (result_operand n (slice_get (set md.body i o') j))
       go (Some j') is =
-          subst (λ z. AllowsMore (asked_of n (slice_get md.body j)) (asked_of n z)) (sym (get_other md.body i j j' o' is)) (allows_itself (asked_of n (slice_get md.body j)))
+          subst (λ z. AllowsMore (result_operand n (slice_get md.body j)) (result_operand n z)) (sym (get_other md.body i j j' o' is)) (allows_itself (result_operand n (slice_get md.body j)))
       go None is =
           let here : j ≡ i = other_none i j is in
-          subst (λ z. AllowsMore (asked_of n (slice_get md.body z)) (asked_of n (slice_get (set md.body i o') z))) (sym here)
-          (subst (λ z. AllowsMore (asked_of n z) (asked_of n (slice_get (set md.body i o') i))) (sym change.there)
-          (subst (λ z. AllowsMore (asked_of n (Some o)) (asked_of n z)) (sym new_there)
-          (result_allows md.ports md.body o o' (alone d fit k md at i o change.there) change.fits.alone change.same_types change.known change.constant n)))
+          subst (λ z. AllowsMore (result_operand n (slice_get md.body z)) (result_operand n (slice_get (set md.body i o') z))) (sym here)
+          (subst (λ z. AllowsMore (result_operand n z) (result_operand n (slice_get (set md.body i o') i))) (sym change.there)
+          (subst (λ z. AllowsMore (result_operand n (Some o)) (result_operand n z)) (sym new_there)
+          (result_allows md.ports md.body o o' (own_cause_none d fit k md at i o change.there) change.fits.alone change.same_types change.known change.constant n)))
 
-  operands_same : (rs : List Ref) → AllowMore (all_asked md.ports md.body rs) (all_asked md.ports (set md.body i o') rs)
+  operands_same : (rs : List Ref) → AllowMore (operands_in md.ports md.body rs) (operands_in md.ports (set md.body i o') rs)
   operands_same rs =
-      subst (λ z. AllowMore (all_asked md.ports md.body rs) (all_asked md.ports (set md.body i o') z)) (map-id rs)
+      subst (λ z. AllowMore (operands_in md.ports md.body rs) (operands_in md.ports (set md.body i o') z)) (map-id rs)
       (operands_allow md.ports md.body (set md.body i o') (λ r. r) rs (λ r here. values_allow r))
 
   reset_stays : (r : ResetBy) → async_reset_in o' ≡ Some r → ResetStays md.body (set md.body i o') r

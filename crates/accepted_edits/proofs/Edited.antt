@@ -15,7 +15,7 @@ use Rattle.hw_edits.specs.Edit.{retarget, is_anchor}
 use Rattle.hw_edits.specs.Follows.{ValidEdit, Valid}
 use Rattle.hw_edits.specs.Laws.{with_body}
 use Rattle.hw_edits.proofs.Follows.{valid_set}
-use Rattle.accepted_edits.specs.Asked.{Operand, asked, all_asked, AllowsMore, AllowMore}
+use Rattle.accepted_edits.specs.Asked.{Operand, operand_in, operands_in, AllowsMore, AllowMore}
 use Rattle.accepted_edits.specs.Keeps.{IsMoved, IsPlainFitting, KeepsModule, KeepsModules, IsFit, KeepsAsked}
 use Rattle.op_verifier.proofs.Distinct.{distinct_symbols}
 use Rattle.accepted_edits.proofs.Accepted.{fit_kept}
@@ -32,8 +32,8 @@ allow_themselves [] = tt
 allow_themselves (a ∷ xs) = (allows_itself a, allow_themselves xs)
 
 -- so of operands one by one
-pub operands_allow : (ports : List Port) (os os' : List Op) (f : Ref → Ref) (rs : List Ref) → ((r : Ref) → In r rs → AllowsMore (asked ports os r) (asked ports os' (f r)))
-    → AllowMore (all_asked ports os rs) (all_asked ports os' (map f rs))
+pub operands_allow : (ports : List Port) (os os' : List Op) (f : Ref → Ref) (rs : List Ref) → ((r : Ref) → In r rs → AllowsMore (operand_in ports os r) (operand_in ports os' (f r)))
+    → AllowMore (operands_in ports os rs) (operands_in ports os' (map f rs))
 operands_allow ports os os' f [] each = tt
 operands_allow ports os os' f (r ∷ rs) each = (each r (inl refl), operands_allow ports os os' f rs (λ q here. each q (inr here)))
 
@@ -74,7 +74,7 @@ kept_self m = record {
       was = o;
       was_there = In-slice_get o m.body j at;
       same = refl;
-      operands = allow_themselves (all_asked m.ports m.body o.operands);
+      operands = allow_themselves (operands_in m.ports m.body o.operands);
       ports_stay = λ n i is. is;
     });
     ends = λ h. h;

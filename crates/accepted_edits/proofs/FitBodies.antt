@@ -18,7 +18,7 @@ use Rattle.op_verifier.specs.OpChecks.{has_again, has_undefined, settled_by, set
 use Rattle.op_verifier.proofs.NoOwnCause.{no_cause_alone}
 use Rattle.op_verifier.proofs.Settled.{settles}
 use Rattle.op_verifier.proofs.Unrefused.{or_none, when_none, NoOpCause, no_op_cause, ops_unrefused, module_unrefused}
-use Rattle.accepted_edits.specs.Asked.{Operand, asked, all_asked, second_known, AllowMore}
+use Rattle.accepted_edits.specs.Asked.{Operand, operand_in, operands_in, second_known, AllowMore}
 use Rattle.accepted_edits.specs.Keeps.{IsFitting, IsFit}
 use Rattle.accepted_edits.proofs.Causes.{undefined_told, types_told, known_told, undefined_more, types_more, known_more, length_more, own_more, none_or, when_false}
 use Rattle.accepted_edits.proofs.Accepted.{values_defined, printable_with, fit_found}
@@ -45,22 +45,22 @@ abbrev own_of : Op → List (Option HwType) → Bool → Option Cause
 own_of o ts known = own_cause o.kind o.types (map (λ (r : OpResult). r.type) o.results) o.named ts known
 
 -- an operation that fits a body fits another one with operands of which no more is refused
-pub fitting_moved : (ports : List Port) (os os' : List Op) (o : Op) (rs : List Ref) → IsFitting ports os o → AllowMore (all_asked ports os o.operands) (all_asked ports os' rs)
+pub fitting_moved : (ports : List Port) (os os' : List Op) (o : Op) (rs : List Ref) → IsFitting ports os o → AllowMore (operands_in ports os o.operands) (operands_in ports os' rs)
     → IsFitting ports os' (record o { operands = rs })
 fitting_moved ports os os' o rs fits more =
     let values = or_none (when (has_again o.results) cause.Redefined) (when (has_undefined ports os o.operands) cause.Undefined) fits.values in
     let before : has_undefined ports os o.operands ≡ false = when_none (has_undefined ports os o.operands) cause.Undefined values.1 in
     let defined : has_undefined ports os' rs ≡ false =
-    undefined_told ports os' rs ∙ undefined_more (all_asked ports os o.operands) (all_asked ports os' rs) more (sym (undefined_told ports os o.operands) ∙ before) in
+    undefined_told ports os' rs ∙ undefined_more (operands_in ports os o.operands) (operands_in ports os' rs) more (sym (undefined_told ports os o.operands) ∙ before) in
     record {
       values = none_or (when (has_again o.results) cause.Redefined) (when (has_undefined ports os' rs) cause.Undefined) values.0 (when_false (has_undefined ports os' rs) cause.Undefined defined);
       alone = ap₂ (own_of o) (types_told ports os' rs) (known_told ports os' rs)
-          ∙ ap (λ ts. own_of o ts (second_known (all_asked ports os' rs))) (types_more (all_asked ports os o.operands) (all_asked ports os' rs) more)
-          ∙ own_more o.kind o.types (map (λ (r : OpResult). r.type) o.results) o.named (map (λ (x : Operand). x.type) (all_asked ports os o.operands)) (second_known (all_asked ports os o.operands)) (second_known (all_asked ports os' rs))
-          (known_more (all_asked ports os o.operands) (all_asked ports os' rs) more)
+          ∙ ap (λ ts. own_of o ts (second_known (operands_in ports os' rs))) (types_more (operands_in ports os o.operands) (operands_in ports os' rs) more)
+          ∙ own_more o.kind o.types (map (λ (r : OpResult). r.type) o.results) o.named (map (λ (x : Operand). x.type) (operands_in ports os o.operands)) (second_known (operands_in ports os o.operands)) (second_known (operands_in ports os' rs))
+          (known_more (operands_in ports os o.operands) (operands_in ports os' rs) more)
           (sym (ap₂ (own_of o) (types_told ports os o.operands) (known_told ports os o.operands)) ∙ fits.alone);
       printable = printable_with ports os os' o rs
-          (sym (length-map rs (asked ports os')) ∙ length_more (all_asked ports os o.operands) (all_asked ports os' rs) more ∙ length-map o.operands (asked ports os))
+          (sym (length-map rs (operand_in ports os')) ∙ length_more (operands_in ports os o.operands) (operands_in ports os' rs) more ∙ length-map o.operands (operand_in ports os))
           (values_defined ports os' rs defined) fits.printable;
     }
 
@@ -71,18 +71,18 @@ module _ (d : Design) (fit : IsFit d) (k : ℕ) (md : Module) (at : slice_get d 
   found_md = fit_found d fit k md at
 
   -- an operation of the body has no cause
-  record Uncaused (o : Op) : Type 0 where
+  record HasNoCause (o : Op) : Type 0 where
     last : Bool
     no_cause : NoOpCause d md.ports md.body last o
 
-  uncaused : (j : ℕ) (o : Op) → slice_get md.body j ≡ Some o → Uncaused o
-  uncaused j o is =
+  no_cause_at : (j : ℕ) (o : Op) → slice_get md.body j ≡ Some o → HasNoCause o
+  no_cause_at j o is =
       let body = (module_unrefused d fit.unrefused md.symbol md found_md).body in
       let none = ops_unrefused d md.ports md.body md.body body j o is in
       record { last = none.last; no_cause = no_op_cause d md.ports md.body none.last o none.none }
 
-  pub alone : (j : ℕ) (o : Op) → slice_get md.body j ≡ Some o → alone_cause md.ports md.body o ≡ None
-  alone j o is = (uncaused j o is).no_cause.alone
+  pub own_cause_none : (j : ℕ) (o : Op) → slice_get md.body j ≡ Some o → alone_cause md.ports md.body o ≡ None
+  own_cause_none j o is = (no_cause_at j o is).no_cause.alone
 
   each_defined : (rs : List Ref) (r : Ref) → has_undefined md.ports md.body rs ≡ false → In r rs → is_some (type_in md.ports md.body r) ≡ true
   each_defined [] r h here = absurd here
@@ -96,7 +96,7 @@ module _ (d : Design) (fit : IsFit d) (k : ℕ) (md : Module) (at : slice_get d 
 
   -- an operand is a value of the body
   pub operand_there : (j : ℕ) (o : Op) (r : Ref) → slice_get md.body j ≡ Some o → In r o.operands → is_some (type_in md.ports md.body r) ≡ true
-  operand_there j o r is here = each_defined o.operands r (uncaused j o is).no_cause.defined here
+  operand_there j o r is here = each_defined o.operands r (no_cause_at j o is).no_cause.defined here
 
   -- a value has the type that its operation settles
   pub settled_here : (r : Ref) → settled_type md.ports md.body r ≡ type_in md.ports md.body r
@@ -106,4 +106,4 @@ module _ (d : Design) (fit : IsFit d) (k : ℕ) (md : Module) (at : slice_get d 
     where
       go : (x : Option Op) → slice_get md.body j ≡ x → bind x (λ (o : Op). slice_index_or (settled_by o) n None) ≡ bind x (λ (o : Op). result_type o n)
       go None is = refl
-      go (Some o) is = settled_result md.ports md.body o (alone j o is) n
+      go (Some o) is = settled_result md.ports md.body o (own_cause_none j o is) n

@@ -53,32 +53,32 @@ module _ (d : Design) (k : ℕ) (m : Module) (fit : IsFit d) (at : slice_get d k
   was_distinct = distinct_symbols d fit.unrefused
 
   -- where a module that is left stood
-  stood : (j : ℕ) (n : Module) → slice_get (remove d k) j ≡ Some n → slice_get d (up k j) ≡ Some n
-  stood j n is = sym (get_taken d k (up k j) j (down-up k j)) ∙ is
+  stood_at : (j : ℕ) (n : Module) → slice_get (remove d k) j ≡ Some n → slice_get d (up k j) ≡ Some n
+  stood_at j n is = sym (get_taken d k (up k j) j (down-up k j)) ∙ is
 
   still_distinct : HasDistinctSymbols (remove d k)
   still_distinct i j n p at_i at_j same =
-      let ups : up k i ≡ up k j = was_distinct (up k i) (up k j) n p (stood i n at_i) (stood j p at_j) same in
+      let ups : up k i ≡ up k j = was_distinct (up k i) (up k j) n p (stood_at i n at_i) (stood_at j p at_j) same in
       let downs : Some i ≡ Some j = sym (down-up k i) ∙ ap (down k) ups ∙ down-up k j in cc
 
   -- what a symbol finds it found, and it is not the module that is gone
   left_found : (s : Name) (n : Module) → find_module (remove d k) s ≡ Some n → find_module d s ≡ Some n
   left_found s n is =
       let place = position_of_In n (remove d k) (found_module (remove d k) s n is) in
-      ap (find_module d) (sym (found_symbol (remove d k) s n is)) ∙ (found_at d was_distinct (up k place.0) n (stood place.0 n place.1)).1
+      ap (find_module d) (sym (found_symbol (remove d k) s n is)) ∙ (found_at d was_distinct (up k place.0) n (stood_at place.0 n place.1)).1
 
-  absent : find_module (remove d k) m.symbol ≡ None
-  absent = go (find_module (remove d k) m.symbol) refl
+  none_found : find_module (remove d k) m.symbol ≡ None
+  none_found = go (find_module (remove d k) m.symbol) refl
     where
       go : (x : Option Module) → find_module (remove d k) m.symbol ≡ x → find_module (remove d k) m.symbol ≡ None
       go None is = is
       go (Some n) is =
           let place = position_of_In n (remove d k) (found_module (remove d k) m.symbol n is) in
-          let here : up k place.0 ≡ k = was_distinct (up k place.0) k n m (stood place.0 n place.1) at (found_symbol (remove d k) m.symbol n is) in
+          let here : up k place.0 ≡ k = was_distinct (up k place.0) k n m (stood_at place.0 n place.1) at (found_symbol (remove d k) m.symbol n is) in
           let clash : Some place.0 ≡ None = sym (down-up k place.0) ∙ ap (down k) here ∙ down_same k in cc
 
-  without : IsWithout d (remove d k) m.symbol
-  without = record { others = removed_others d k m at; absent = absent; unused = unused }
+  is_without : IsWithout d (remove d k) m.symbol
+  is_without = record { others = removed_others d k m at; absent = none_found; unused = unused }
 
   pub fit_without_module : IsFit (remove d k)
   fit_without_module =
@@ -86,7 +86,7 @@ module _ (d : Design) (k : ℕ) (m : Module) (fit : IsFit d) (at : slice_get d k
         distinct = still_distinct;
         modules = λ s n is. record { was = n; is_found = left_found s n is; keeps = kept_self n };
         called = λ s t there need was. ap is_some (removed_others d k m at t (λ same. unused s (subst (λ z. In z (calls d s)) same need))) ∙ was;
-      }) (gone_valid d (remove d k) m.symbol without fit.valid)
+      }) (gone_valid d (remove d k) m.symbol is_without fit.valid)
 
   at_depth : (n : ℕ) (s : Name) → module_weight n (remove d k) s ≤ module_weight n d s
   at_depth zero s = omega arith

@@ -215,8 +215,8 @@ port_names (p ∷ ps) h = go (is_outside p.type) refl h (port_names ps)
 -- ---- modules
 
 module _ (e : Design) (accepted : IsAccepted e) (i : ℕ) (m : Module) (there : slice_get e i ≡ Some m) where
-  found : find_module e m.symbol ≡ Some m
-  found = (found_at e (distinct_symbols e (no_fault e accepted)) i m there).1
+  found_here : find_module e m.symbol ≡ Some m
+  found_here = (found_at e (distinct_symbols e (no_fault e accepted)) i m there).1
 
   light : weight e m.symbol ≤ 2 ^ 28
   light = go (nat_lt (2 ^ 28) (weight e m.symbol)) refl
@@ -227,17 +227,17 @@ module _ (e : Design) (accepted : IsAccepted e) (i : ℕ) (m : Module) (there : 
 
   op_names : (inner : Name → ℕ) (j : ℕ) (o : Op) → slice_get m.body j ≡ Some o → length (name_hints (parts_in o)) ≤ kind_weight inner o.kind o.types (length o.operands)
   op_names inner j o at =
-      let body = (module_unrefused e (no_fault e accepted) m.symbol m found).body in
+      let body = (module_unrefused e (no_fault e accepted) m.symbol m found_here).body in
       let is = ops_unrefused e m.ports m.body m.body body j o at in
       let none = no_cause_alone m.ports m.body o (no_op_cause e m.ports m.body is.last o is.none).alone in
       names_weigh inner o.kind o.types o.name (length o.operands) (length o.results) _ none.written none.types none.form none.operand none.parts
 
   pub few_names : length (port_name_hints m.ports ++ body_name_hints (map parts_in m.body)) < 2 ^ 64
   few_names =
-      let header = module_unrefused e (no_fault e accepted) m.symbol m found in
+      let header = module_unrefused e (no_fault e accepted) m.symbol m found_here in
       let ports = port_names m.ports (no_header_cause e header.number m header.header).types in
       let ops = body_names (module_weight (length e) e) m.body (op_names (module_weight (length e) e)) in
-      let same : weight e m.symbol ≡ weight_of (module_weight (length e) e) (Some m) = ap (weight_of (module_weight (length e) e)) found in
+      let same : weight e m.symbol ≡ weight_of (module_weight (length e) e) (Some m) = ap (weight_of (module_weight (length e) e)) found_here in
       let both = length-append (port_name_hints m.ports) (body_name_hints (map parts_in m.body)) in
       let small = light in
       omega (arith, ports, ops, same, both, small)

@@ -12,13 +12,13 @@ use Rattle.hw_edits.specs.Edit.{retarget}
 use Rattle.hw_edits.specs.Laws.{up, down, up_ref, insert_op, with_body, Inserted}
 use Rattle.hw_edits.proofs.Inserted.{insert_op_preserves}
 use Rattle.hw_edits.proofs.Positions.{up_from_down, down_none, get_put}
-use Rattle.accepted_edits.specs.Asked.{asked, all_asked, AllowsMore, AllowMore}
+use Rattle.accepted_edits.specs.Asked.{operand_in, operands_in, AllowsMore, AllowMore}
 use Rattle.accepted_edits.specs.Forms.{InsertedFits}
 use Rattle.accepted_edits.specs.Keeps.{IsMoved, IsPlainFitting, KeepsModule, IsFit}
 use Rattle.accepted_edits.proofs.Edited.{allows_itself, operands_allow, get_stood, no_async, plain_parts, fit_set}
 use Rattle.accepted_edits.proofs.Ends.{ends_retarget, ends_insert}
 use Rattle.accepted_edits.proofs.FitBodies.{fitting_moved}
-use Rattle.accepted_edits.proofs.Values.{asked_of, asked_retarget}
+use Rattle.accepted_edits.proofs.Values.{result_operand, operand_retarget}
 
 module _ (md : Module) (i : ℕ) (o : Op) (change : Inserted md i o) (fits : InsertedFits md i o) where
   within : i ≤ length (map (retarget (up_ref i)) md.body)
@@ -31,15 +31,15 @@ module _ (md : Module) (i : ℕ) (o : Op) (change : Inserted md i o) (fits : Ins
   new_there = slice_get-insert_at (map (retarget (up_ref i)) md.body) i (retarget (up_ref i) o) within
 
   -- each value is asked the same
-  asked_up : (r : Ref) → asked md.ports (insert_op i o md.body) (up_ref i r) ≡ asked md.ports md.body r
-  asked_up (port j) = refl
-  asked_up undefined = refl
-  asked_up (result j n) = ap (asked_of n) (old_there j) ∙ asked_retarget (up_ref i) n (slice_get md.body j)
+  operand_up : (r : Ref) → operand_in md.ports (insert_op i o md.body) (up_ref i r) ≡ operand_in md.ports md.body r
+  operand_up (port j) = refl
+  operand_up undefined = refl
+  operand_up (result j n) = ap (result_operand n) (old_there j) ∙ operand_retarget (up_ref i) n (slice_get md.body j)
 
-  operands_up : (rs : List Ref) → AllowMore (all_asked md.ports md.body rs) (all_asked md.ports (insert_op i o md.body) (map (up_ref i) rs))
+  operands_up : (rs : List Ref) → AllowMore (operands_in md.ports md.body rs) (operands_in md.ports (insert_op i o md.body) (map (up_ref i) rs))
   operands_up rs =
       operands_allow md.ports md.body (insert_op i o md.body) (up_ref i) rs
-      (λ r here. subst (AllowsMore (asked md.ports md.body r)) (sym (asked_up r)) (allows_itself (asked md.ports md.body r)))
+      (λ r here. subst (AllowsMore (operand_in md.ports md.body r)) (sym (operand_up r)) (allows_itself (operand_in md.ports md.body r)))
 
   each_kept : (j : ℕ) (z : Op) → slice_get (insert_op i o md.body) j ≡ Some z
       → IsMoved md.ports md.body (insert_op i o md.body) z ⊎ IsPlainFitting md.ports md.body (insert_op i o md.body) z

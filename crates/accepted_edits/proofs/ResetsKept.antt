@@ -12,7 +12,7 @@ use Rattle.hw_model.specs.Flat.{ResetBy, has_async_reset, async_parts, async_res
 use Rattle.hw_model.specs.Resets.{IsMarkedInput, IsConstantOf, ResetsFromPorts}
 use Rattle.op_verifier.specs.ResetChecks.{is_constant_op, is_constant_ref}
 use Rattle.hw_edits.specs.Resets.{has_mark, marks_by_symbol}
-use Rattle.accepted_edits.specs.Asked.{asked, all_asked, AllowsMore, AllowMore}
+use Rattle.accepted_edits.specs.Asked.{operand_in, operands_in, AllowsMore, AllowMore}
 use Rattle.accepted_edits.specs.Keeps.{IsMoved, IsPlainFitting, KeepsModule, KeepsDesign}
 use Rattle.accepted_edits.proofs.Resets.{found_symbol, constant_told}
 
@@ -41,14 +41,14 @@ record WasReset (ports : List Port) (os os' : List Op) (was : Op) (rs : List Ref
   has_reset : async_reset_in was ≡ Some reset
   old_signal : slice_get was.operands 2 ≡ Some reset.signal
   new_signal : slice_get rs 2 ≡ Some r.signal
-  value : AllowsMore (asked ports os reset.value) (asked ports os' r.value)
+  value : AllowsMore (operand_in ports os reset.value) (operand_in ports os' r.value)
 
-was_reset : (ports : List Port) (os os' : List Op) (was : Op) (rs : List Ref) (r : ResetBy) → AllowMore (all_asked ports os was.operands) (all_asked ports os' rs)
+was_reset : (ports : List Port) (os os' : List Op) (was : Op) (rs : List Ref) (r : ResetBy) → AllowMore (operands_in ports os was.operands) (operands_in ports os' rs)
     → cond (has_async_reset was.kind) (async_parts rs) None ≡ Some r → WasReset ports os os' was rs r
 was_reset ports os os' was rs r allow is = go (has_async_reset was.kind) refl was.operands refl rs refl allow is
   where
     go : (b : Bool) → has_async_reset was.kind ≡ b → (qs : List Ref) → was.operands ≡ qs → (ss : List Ref) → rs ≡ ss
-        → AllowMore (all_asked ports os qs) (all_asked ports os' ss) → cond b (async_parts ss) None ≡ Some r → WasReset ports os os' was rs r
+        → AllowMore (operands_in ports os qs) (operands_in ports os' ss) → cond b (async_parts ss) None ≡ Some r → WasReset ports os os' was rs r
     go true kind (d ∷ c ∷ s ∷ v ∷ []) old (d' ∷ c' ∷ s' ∷ v' ∷ []) new more at =
         let same : record { signal = s'; value = v' } ≡ r = some_from at in
         record {
@@ -56,7 +56,7 @@ was_reset ports os os' was rs r allow is = go (has_async_reset was.kind) refl wa
           has_reset = ap (λ b. cond b (async_parts was.operands) None) kind ∙ ap async_parts old;
           old_signal = ap (λ z. slice_get z 2) old;
           new_signal = ap (λ z. slice_get z 2) new ∙ ap (λ (z : ResetBy). Some z.signal) same;
-          value = subst (λ (z : ResetBy). AllowsMore (asked ports os v) (asked ports os' z.value)) same more.1.1.1.0;
+          value = subst (λ (z : ResetBy). AllowsMore (operand_in ports os v) (operand_in ports os' z.value)) same more.1.1.1.0;
         }
     go true kind [] old (d' ∷ c' ∷ s' ∷ v' ∷ []) new more at = absurd more
     go true kind (d ∷ []) old (d' ∷ c' ∷ s' ∷ v' ∷ []) new more at = absurd more.1

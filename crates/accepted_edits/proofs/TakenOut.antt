@@ -16,33 +16,33 @@ use Rattle.hw_edits.specs.Laws.{up, down, ref_after_erase, without, erase_op, wi
 use Rattle.hw_edits.proofs.Positions.{down-up, down_none, down_same}
 use Rattle.hw_edits.proofs.TakeOut.{old_there, erase_op_preserves}
 use Rattle.hw_edits.proofs.Unused.{erase_dead_op_preserves}
-use Rattle.accepted_edits.specs.Asked.{asked, AllowsMore}
+use Rattle.accepted_edits.specs.Asked.{operand_in, AllowsMore}
 use Rattle.accepted_edits.specs.Forms.{ErasedFits}
 use Rattle.accepted_edits.specs.Keeps.{IsMoved, KeepsModule, IsFit}
 use Rattle.accepted_edits.proofs.Edited.{allows_itself, operands_allow, get_stood, plain_parts, fit_set}
 use Rattle.accepted_edits.proofs.Ends.{ends_retarget, ends_remove}
 use Rattle.accepted_edits.proofs.FitBodies.{operand_there, settled_here}
-use Rattle.accepted_edits.proofs.Values.{asked_of, asked_retarget}
+use Rattle.accepted_edits.proofs.Values.{result_operand, operand_retarget}
 
 module _ (md : Module) (i : ℕ) (o : Op) (there : slice_get md.body i ≡ Some o) (plain : is_anchor o ≡ false) (y : Ref) where
   abbrev less : List Op
   less = map (retarget (without i y)) (remove md.body i)
 
   -- a value that is none of the operation's is asked the same
-  asked_stays : (r : Ref) → IsNotOf i r → asked md.ports (map (retarget (without i y)) (remove md.body i)) (without i y r) ≡ asked md.ports md.body r
-  asked_stays (port j) other = refl
-  asked_stays undefined other = refl
-  asked_stays (result j n) other = go (down i j) refl
+  operand_stays : (r : Ref) → IsNotOf i r → operand_in md.ports (map (retarget (without i y)) (remove md.body i)) (without i y r) ≡ operand_in md.ports md.body r
+  operand_stays (port j) other = refl
+  operand_stays undefined other = refl
+  operand_stays (result j n) other = go (down i j) refl
     where
-      go : (x : Option ℕ) → down i j ≡ x → asked md.ports (map (retarget (without i y)) (remove md.body i)) (ref_after_erase x y n) ≡ asked_of n (slice_get md.body j)
+      go : (x : Option ℕ) → down i j ≡ x → operand_in md.ports (map (retarget (without i y)) (remove md.body i)) (ref_after_erase x y n) ≡ result_operand n (slice_get md.body j)
       go None here = absurd (other n (ap (λ z. result z n) (down_none i j here)))
-      go (Some j') is = ap (asked_of n) (old_there md i o there plain y j j' is) ∙ asked_retarget (without i y) n (slice_get md.body j)
+      go (Some j') is = ap (result_operand n) (old_there md i o there plain y j j' is) ∙ operand_retarget (without i y) n (slice_get md.body j)
 
-  allows_other : (r : Ref) → IsNotOf i r → AllowsMore (asked md.ports md.body r) (asked md.ports (map (retarget (without i y)) (remove md.body i)) (without i y r))
-  allows_other r other = subst (AllowsMore (asked md.ports md.body r)) (sym (asked_stays r other)) (allows_itself (asked md.ports md.body r))
+  allows_other : (r : Ref) → IsNotOf i r → AllowsMore (operand_in md.ports md.body r) (operand_in md.ports (map (retarget (without i y)) (remove md.body i)) (without i y r))
+  allows_other r other = subst (AllowsMore (operand_in md.ports md.body r)) (sym (operand_stays r other)) (allows_itself (operand_in md.ports md.body r))
 
   module _ (named : (j : ℕ) (z : Op) (r : Ref) → slice_get md.body j ≡ Some z → In r z.operands
-      → AllowsMore (asked md.ports md.body r) (asked md.ports (map (retarget (without i y)) (remove md.body i)) (without i y r))) where
+      → AllowsMore (operand_in md.ports md.body r) (operand_in md.ports (map (retarget (without i y)) (remove md.body i)) (without i y r))) where
     each_moved : (j : ℕ) (z : Op) → slice_get (map (retarget (without i y)) (remove md.body i)) j ≡ Some z
         → IsMoved md.ports md.body (map (retarget (without i y)) (remove md.body i)) z
     each_moved j z is =
@@ -83,7 +83,7 @@ module _ (d : Design) (fit : IsFit d) (k : ℕ) (md : Module) (at : slice_get d 
   stand = without i undefined x
 
   -- no more is refused of x than of the result
-  result_allows_stand : AllowsMore (asked md.ports md.body (result i 0)) (asked md.ports md.body x)
+  result_allows_stand : AllowsMore (operand_in md.ports md.body (result i 0)) (operand_in md.ports md.body x)
   result_allows_stand = record {
     type = settled_here d fit k md at x ∙ change.stand_is ∙ sym result_typed ∙ sym (settled_here d fit k md at (result i 0));
     defined = λ h. ap is_some change.stand_is;
@@ -96,14 +96,14 @@ module _ (d : Design) (fit : IsFit d) (k : ℕ) (md : Module) (at : slice_get d 
       result_typed = ap (λ z. bind z (λ (w : Op). result_type w 0)) change.there ∙ change.result_is
 
   named_allow : (j : ℕ) (z : Op) (r : Ref) → slice_get md.body j ≡ Some z → In r z.operands
-      → AllowsMore (asked md.ports md.body r) (asked md.ports (erase_op i x md.body) (without i (without i undefined x) r))
+      → AllowsMore (operand_in md.ports md.body r) (operand_in md.ports (erase_op i x md.body) (without i (without i undefined x) r))
   named_allow j z r is here = by_ref r (operand_there d fit k md at j z r is here)
     where
-      stand_allows : AllowsMore (asked md.ports md.body (result i 0)) (asked md.ports (erase_op i x md.body) (without i undefined x))
+      stand_allows : AllowsMore (operand_in md.ports md.body (result i 0)) (operand_in md.ports (erase_op i x md.body) (without i undefined x))
       stand_allows =
-          subst (AllowsMore (asked md.ports md.body (result i 0)))
-          (sym (ap (asked md.ports (erase_op i x md.body)) (without_same i undefined (without i undefined x) x change.stand_stays)
-          ∙ asked_stays md i o change.there change.plain (without i undefined x) x change.stand_stays))
+          subst (AllowsMore (operand_in md.ports md.body (result i 0)))
+          (sym (ap (operand_in md.ports (erase_op i x md.body)) (without_same i undefined (without i undefined x) x change.stand_stays)
+          ∙ operand_stays md i o change.there change.plain (without i undefined x) x change.stand_stays))
           result_allows_stand
 
       no_other_result : (n : ℕ) → is_some (type_in md.ports md.body (result i (suc n))) ≡ true → ⊥
@@ -113,24 +113,24 @@ module _ (d : Design) (fit : IsFit d) (k : ℕ) (md : Module) (at : slice_get d 
           let clash : true ≡ false = sym h ∙ none in cc
 
       by_number : (n : ℕ) → is_some (type_in md.ports md.body (result i n)) ≡ true
-          → AllowsMore (asked md.ports md.body (result i n)) (asked md.ports (erase_op i x md.body) (ref_after_erase None (without i undefined x) n))
+          → AllowsMore (operand_in md.ports md.body (result i n)) (operand_in md.ports (erase_op i x md.body) (ref_after_erase None (without i undefined x) n))
       by_number zero h = stand_allows
       by_number (suc n) h = absurd (no_other_result n h)
 
       by_place : (j n : ℕ) (w : Option ℕ) → down i j ≡ w → is_some (type_in md.ports md.body (result j n)) ≡ true
-          → AllowsMore (asked md.ports md.body (result j n)) (asked md.ports (erase_op i x md.body) (without i (without i undefined x) (result j n)))
+          → AllowsMore (operand_in md.ports md.body (result j n)) (operand_in md.ports (erase_op i x md.body) (without i (without i undefined x) (result j n)))
       by_place j n (Some j') is h =
           allows_other md i o change.there change.plain (without i undefined x) (result j n) (λ m same. let e : j ≡ i = cc in let clash : None ≡ Some j' = sym (down_same i) ∙ ap (down i) (sym e) ∙ is in cc)
       by_place j n None is h =
           let e : j ≡ i = down_none i j is in
-          subst (λ z. AllowsMore (asked md.ports md.body (result j n)) (asked md.ports (erase_op i x md.body) (ref_after_erase z (without i undefined x) n))) (sym is)
-          (subst (λ z. AllowsMore (asked md.ports md.body (result z n)) (asked md.ports (erase_op i x md.body) (ref_after_erase None (without i undefined x) n))) (sym e)
+          subst (λ z. AllowsMore (operand_in md.ports md.body (result j n)) (operand_in md.ports (erase_op i x md.body) (ref_after_erase z (without i undefined x) n))) (sym is)
+          (subst (λ z. AllowsMore (operand_in md.ports md.body (result z n)) (operand_in md.ports (erase_op i x md.body) (ref_after_erase None (without i undefined x) n))) (sym e)
           (by_number n (subst (λ z. is_some (type_in md.ports md.body (result z n)) ≡ true) e h)))
 
       by_ref : (r : Ref) → is_some (type_in md.ports md.body r) ≡ true
-          → AllowsMore (asked md.ports md.body r) (asked md.ports (erase_op i x md.body) (without i (without i undefined x) r))
-      by_ref (port p) h = allows_itself (asked md.ports md.body (port p))
-      by_ref undefined h = allows_itself (asked md.ports md.body undefined)
+          → AllowsMore (operand_in md.ports md.body r) (operand_in md.ports (erase_op i x md.body) (without i (without i undefined x) r))
+      by_ref (port p) h = allows_itself (operand_in md.ports md.body (port p))
+      by_ref undefined h = allows_itself (operand_in md.ports md.body undefined)
       by_ref (result p n) h = by_place p n (down i p) refl h
 
   erased_keeps : KeepsModule md (record md { body = erase_op i x md.body })

@@ -13,8 +13,8 @@ use Rattle.accepted_edits.specs.Asked.{Operand, AllowsMore}
 use Rattle.accepted_edits.proofs.FitBodies.{settled_result}
 
 -- what is asked of result k of an operation
-abbrev pub asked_of : ℕ → Option Op → Operand
-asked_of k x = record {
+abbrev pub result_operand : ℕ → Option Op → Operand
+result_operand k x = record {
   defined = is_some (bind x (λ (o : Op). result_type o k));
   type = bind x (λ (o : Op). slice_index_or (settled_by o) k None);
   known = nat_eq k 0 && is_nonzero_op x;
@@ -23,9 +23,9 @@ asked_of k x = record {
 }
 
 -- other operands change nothing of it
-pub asked_retarget : (f : Ref → Ref) (k : ℕ) (x : Option Op) → asked_of k (omap (retarget f) x) ≡ asked_of k x
-asked_retarget f k None = refl
-asked_retarget f k (Some o) =
+pub operand_retarget : (f : Ref → Ref) (k : ℕ) (x : Option Op) → result_operand k (omap (retarget f) x) ≡ result_operand k x
+operand_retarget f k None = refl
+operand_retarget f k (Some o) =
     ap (λ n. record {
       defined = is_some (result_type o k);
       type = slice_index_or (result_types o.kind o.types n) k None;
@@ -38,7 +38,7 @@ asked_retarget f k (Some o) =
 -- first one is
 pub result_allows : (ports : List Port) (os : List Op) (o o' : Op) → alone_cause ports os o ≡ None → alone_cause ports os o' ≡ None
     → ((k : ℕ) → result_type o' k ≡ result_type o k) → (is_nonzero_kind o.kind ≡ true → is_nonzero_kind o'.kind ≡ true)
-    → (is_constant o.kind ≡ true → is_constant o'.kind ≡ true) → (k : ℕ) → AllowsMore (asked_of k (Some o)) (asked_of k (Some o'))
+    → (is_constant o.kind ≡ true → is_constant o'.kind ≡ true) → (k : ℕ) → AllowsMore (result_operand k (Some o)) (result_operand k (Some o'))
 result_allows ports os o o' none none' same known constant k = record {
   type = settled_result ports os o' none' k ∙ same k ∙ sym (settled_result ports os o none k);
   defined = λ h. ap is_some (same k) ∙ h;

@@ -28,8 +28,8 @@ pub record Operand : Type 0 where
   pub input : Bool
 
 -- what is asked of a value of a body of a module with these ports
-abbrev pub asked : List Port → List Op → Ref → Operand
-asked ports os r = record {
+abbrev pub operand_in : List Port → List Op → Ref → Operand
+operand_in ports os r = record {
   defined = is_some (type_in ports os r);
   type = settled_type ports os r;
   known = is_nonzero_ref os (Some r);
@@ -38,13 +38,13 @@ asked ports os r = record {
 }
 
 -- of an operation's operands
-abbrev pub all_asked : List Port → List Op → List Ref → List Operand
-all_asked ports os rs = map (asked ports os) rs
+abbrev pub operands_in : List Port → List Op → List Ref → List Operand
+operands_in ports os rs = map (operand_in ports os) rs
 
 -- ---- what stands around an operation
 
 -- the module that an instance names: its ports, and which of them are reset ports
-pub record Called : Type 0 where
+pub record CalledModule : Type 0 where
   pub ports : List Port
   pub is_reset : ℕ → Bool
 
@@ -52,9 +52,9 @@ pub record Called : Type 0 where
 pub record Around : Type 0 where
   pub ports : List Port
   pub last : Bool
-  pub called : Option Called
+  pub called : Option CalledModule
 
-abbrev pub called_as : Design → Module → Called
+abbrev pub called_as : Design → Module → CalledModule
 called_as d c = record { ports = c.ports; is_reset = is_reset_port d c }
 
 abbrev pub around : Design → List Port → Bool → Op → Around
@@ -99,12 +99,12 @@ join_refused is_reset ports xs (suc n) =
     join_refused is_reset ports xs n || (is_reset n && is_other (operand_at (slice_get ports n) xs (input_count (take n ports))))
 
 -- whether an instance does so at some port
-abbrev pub call_refused : Option Called → List Operand → Bool
+abbrev pub call_refused : Option CalledModule → List Operand → Bool
 call_refused None xs = false
 call_refused (Some c) xs = join_refused c.is_reset c.ports xs (length c.ports)
 
 -- why an instance is refused by the module that it names
-abbrev pub called_cause : List HwType → Option Instance → Option Called → Option Cause
+abbrev pub called_cause : List HwType → Option Instance → Option CalledModule → Option Cause
 called_cause ts None called = None
 called_cause ts (Some i) None = Some UnknownModule
 called_cause ts (Some i) (Some c) = when (not (names_ports i ts c.ports)) InstancePorts
@@ -139,7 +139,7 @@ AllowMore [] (b ∷ ys) = ⊥
 AllowMore (a ∷ xs) [] = ⊥
 
 -- the module that an instance names has the same ports, and no more reset ports
-abbrev pub CallsMore : Option Called → Option Called → Type 0
+abbrev pub CallsMore : Option CalledModule → Option CalledModule → Type 0
 CallsMore None None = ⊤
 CallsMore (Some c) (Some e) = (e.ports ≡ c.ports) × ((n : ℕ) → e.is_reset n ≡ true → c.is_reset n ≡ true)
 CallsMore None (Some e) = ⊥

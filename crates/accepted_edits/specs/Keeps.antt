@@ -15,7 +15,7 @@ use Rattle.mlir_operations.specs.ModuleText.{module_keys}
 use Rattle.mlir_printer.specs.Spellable.{Each, AreBytes}
 use Rattle.mlir_printer.specs.Printable.{IsKeptDictionary, IsPrintableOp, IsPrintablePort, EndsWithOutput}
 use Rattle.hw_edits.specs.Follows.{ValidEdit, Valid}
-use Rattle.accepted_edits.specs.Asked.{asked, all_asked, AllowsMore, AllowMore}
+use Rattle.accepted_edits.specs.Asked.{operand_in, operands_in, AllowsMore, AllowMore}
 
 -- ---- operations of a new body
 
@@ -24,7 +24,7 @@ pub record IsMoved (ports : List Port) (os os' : List Op) (o : Op) : Type 0 wher
   pub was : Op
   pub was_there : In was os
   pub same : o ≡ record was { operands = o.operands }
-  pub operands : AllowMore (all_asked ports os was.operands) (all_asked ports os' o.operands)
+  pub operands : AllowMore (operands_in ports os was.operands) (operands_in ports os' o.operands)
   pub ports_stay : (n j : ℕ) → slice_get was.operands n ≡ Some (port j) → slice_get o.operands n ≡ Some (port j)
 
 -- the operation is not refused in the body by itself, and can be printed in it
@@ -108,6 +108,6 @@ pub record IsFit (d : Design) : Type 0 where
 -- and the output stays the last
 pub record KeepsAsked (m : Module) (os : List Op) (edit : ValidEdit (Some m) (Some (record m { body = os }))) : Type 0 where
   pub operands : (j : ℕ) (o : Op) (r : Ref) → slice_get m.body j ≡ Some o → In r o.operands
-      → AllowsMore (asked m.ports m.body r) (asked m.ports os (edit.edited.edit.stand r))
+      → AllowsMore (operand_in m.ports m.body r) (operand_in m.ports os (edit.edited.edit.stand r))
   pub fresh : (j : ℕ) (o : Op) → edit.falls.home j ≡ None → slice_get os j ≡ Some o → IsFitting m.ports os o
   pub ends : EndsWithOutput m.body → EndsWithOutput os

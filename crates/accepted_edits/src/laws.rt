@@ -14,7 +14,7 @@ ghost use Rattle.mlir_printer.specs.Printable.{Printable};
 ghost use Rattle.hw_edits.specs.Follows.{ValidEdit, Valid};
 ghost use Rattle.hw_edits.specs.Laws.{InPlace, Inserted, Erased, IsUnused, erase_op, insert_op, with_body};
 ghost use Rattle.hw_edits.specs.Registers.{Reloaded};
-ghost use Rattle.accepted_edits.specs.Asked.{Operand, Around, all_asked, around, cause_of, AllowMore, AllowsMoreAround};
+ghost use Rattle.accepted_edits.specs.Asked.{Operand, Around, operands_in, around, cause_of, AllowMore, AllowsMoreAround};
 ghost use Rattle.accepted_edits.specs.Forms.{InPlaceFits, ErasedFits, InsertedFits};
 ghost use Rattle.accepted_edits.specs.Keeps.{IsFitting, KeepsModules, KeepsDesign, IsFit, KeepsAsked};
 
@@ -22,7 +22,7 @@ ghost use Rattle.accepted_edits.specs.Keeps.{IsFitting, KeepsModules, KeepsDesig
 /// and by what stands around it, and that it has none where no more is refused of these.
 pub fn causes_are_asked()
     ensures told { (d : Design) (ports : List Port) (os : List Op) (last : Bool) (o : Op)
-        → op_cause d ports os last o ≡ cause_of o (all_asked ports os o.operands) (around d ports last o) }
+        → op_cause d ports os last o ≡ cause_of o (operands_in ports os o.operands) (around d ports last o) }
     ensures fewer { (o : Op) (xs ys : List Operand) (a b : Around) → AllowMore xs ys → AllowsMoreAround o a b → cause_of o xs a ≡ None → cause_of o ys b ≡ None }
 {}
 

@@ -10,7 +10,7 @@ use Rattle.hw_model.proofs.Finite.{module_found}
 use Rattle.hw_model.proofs.Machines.{same_then}
 use Rattle.pass_pipeline.specs.declared.pass.Pass.{Pass}
 use Rattle.pass_manager.specs.Results.{chosen, result}
-use Rattle.pass_manager.specs.Remaining.{is_flatten, is_symbol_dce, has_pass, symbols, IsPublic, IsKept, remaining, AreThose, AreWithin}
+use Rattle.pass_manager.specs.Remaining.{is_flatten, is_symbol_dce, has_pass, symbols, IsPublic, IsKept, Remains, AreThose, AreWithin}
 use Rattle.pass_manager.specs.PassLaw.{InstancesStay, IsModuleAfter, IsAfter, PassLaw}
 use Rattle.pass_manager.proofs.Those.{those_were, those_meet, those_same, those_then, within_then, within_those}
 use Rattle.pass_manager.proofs.Remaining.{has_pass-append, symbol_found, public_after, public_before, remains_both, remained_first, remained_second}
@@ -19,9 +19,9 @@ use Rattle.pass_manager.proofs.Unchanged.{identity_keeps}
 module _ (ps qs : List Pass) (d e f : Design) (first : IsAfter ps d e) (second : IsAfter qs e f) where
   symbols_both : AreThose (IsKept (ps ++ qs) d) (symbols d) (symbols f)
   symbols_both =
-      subst (λ z. AreThose (remaining (has_pass is_flatten (ps ++ qs)) z d) (symbols d) (symbols f)) (sym (has_pass-append is_symbol_dce ps qs))
-      (subst (λ z. AreThose (remaining z (has_pass is_symbol_dce ps || has_pass is_symbol_dce qs) d) (symbols d) (symbols f)) (sym (has_pass-append is_flatten ps qs))
-      (those_then (IsKept ps d) (IsKept qs e) (remaining (has_pass is_flatten ps || has_pass is_flatten qs) (has_pass is_symbol_dce ps || has_pass is_symbol_dce qs) d) (symbols d) (symbols e) (symbols f)
+      subst (λ z. AreThose (Remains (has_pass is_flatten (ps ++ qs)) z d) (symbols d) (symbols f)) (sym (has_pass-append is_symbol_dce ps qs))
+      (subst (λ z. AreThose (Remains z (has_pass is_symbol_dce ps || has_pass is_symbol_dce qs) d) (symbols d) (symbols f)) (sym (has_pass-append is_flatten ps qs))
+      (those_then (IsKept ps d) (IsKept qs e) (Remains (has_pass is_flatten ps || has_pass is_flatten qs) (has_pass is_symbol_dce ps || has_pass is_symbol_dce qs) d) (symbols d) (symbols e) (symbols f)
       (λ s here p q. remains_both ps d e first (has_pass is_flatten ps) (has_pass is_symbol_dce ps) (has_pass is_flatten qs) (has_pass is_symbol_dce qs) refl s p q)
       (λ s r. remained_first ps d e first (has_pass is_flatten ps) (has_pass is_symbol_dce ps) (has_pass is_flatten qs) (has_pass is_symbol_dce qs) s r)
       (λ s here r. remained_second ps d e first (has_pass is_flatten ps) (has_pass is_symbol_dce ps) (has_pass is_flatten qs) (has_pass is_symbol_dce qs) refl s r)

@@ -8,7 +8,7 @@ use Rattle.hw_model.specs.Equality.{name_self}
 use Rattle.hw_model.specs.Hierarchy.{calls}
 use Rattle.hw_model.proofs.Finite.{module_found, calls_within}
 use Rattle.pass_pipeline.specs.declared.pass.Pass.{Pass}
-use Rattle.pass_manager.specs.Remaining.{is_flatten, is_symbol_dce, has_pass, symbols, IsPublic, IsReached, remaining, IsKept}
+use Rattle.pass_manager.specs.Remaining.{is_flatten, is_symbol_dce, has_pass, symbols, IsPublic, IsReached, Remains, IsKept}
 use Rattle.pass_manager.specs.PassLaw.{InstancesStay, IsAfter}
 use Rattle.pass_manager.proofs.Those.{those_were, those_stay}
 
@@ -45,7 +45,7 @@ public_reached d s is = (s, 0, is, refl)
 -- ---- one law after another
 
 module _ (ps : List Pass) (d e : Design) (after : IsAfter ps d e) where
-  public_kept : (a b : Bool) (s : Name) → IsPublic d s → remaining a b d s
+  public_kept : (a b : Bool) (s : Name) → IsPublic d s → Remains a b d s
   public_kept true b s is = is
   public_kept false true s is = public_reached d s is
   public_kept false false s is = tt
@@ -72,7 +72,7 @@ module _ (ps : List Pass) (d e : Design) (after : IsAfter ps d e) where
       let was = symbol_found d s (was_there s here) in
       subst (λ b. InstancesStay b d (calls d s) (calls e s)) none (after.modules s was.0 now.0 was.1 now.1).instances
 
-  reached_kept : (a b : Bool) (s : Name) → a ≡ false → IsReached d s → remaining a b d s
+  reached_kept : (a b : Bool) (s : Name) → a ≡ false → IsReached d s → Remains a b d s
   reached_kept true b s none is = cc
   reached_kept false true s none is = is
   reached_kept false false s none is = tt
@@ -96,20 +96,20 @@ module _ (ps : List Pass) (d e : Design) (after : IsAfter ps d e) where
   reached_before none s (top, k, is, chain) = (top, k, public_before top is, chain_before none k top s chain)
 
   -- what remains after both lists of passes is what remains after the second of what remains after the first
-  pub remains_both : (a b c g : Bool) → has_pass is_flatten ps ≡ a → (s : Name) → remaining a b d s → remaining c g e s → remaining (a || c) (b || g) d s
+  pub remains_both : (a b c g : Bool) → has_pass is_flatten ps ≡ a → (s : Name) → Remains a b d s → Remains c g e s → Remains (a || c) (b || g) d s
   remains_both true b c g none s first second = first
   remains_both false b true g none s first second = public_before s second
   remains_both false true false g none s first second = first
   remains_both false false false true none s first second = reached_before none s second
   remains_both false false false false none s first second = tt
 
-  pub remained_first : (a b c g : Bool) → (s : Name) → remaining (a || c) (b || g) d s → remaining a b d s
+  pub remained_first : (a b c g : Bool) → (s : Name) → Remains (a || c) (b || g) d s → Remains a b d s
   remained_first true b c g s both = both
   remained_first false true true g s both = public_reached d s both
   remained_first false true false g s both = both
   remained_first false false c g s both = tt
 
-  pub remained_second : (a b c g : Bool) → has_pass is_flatten ps ≡ a → (s : Name) → remaining (a || c) (b || g) d s → remaining c g e s
+  pub remained_second : (a b c g : Bool) → has_pass is_flatten ps ≡ a → (s : Name) → Remains (a || c) (b || g) d s → Remains c g e s
   remained_second true b true g none s both = public_after s both
   remained_second false b true g none s both = public_after s both
   remained_second true b false true none s both = public_reached e s (public_after s both)

@@ -8,11 +8,11 @@ use Rattle.hw_model.proofs.Finite.{heights_from_no_cycle, settles_with_heights}
 use Rattle.hw_model.proofs.Machines.{same_self}
 use Rattle.op_verifier.proofs.AcceptedDesigns.{accepted_finite, accepted_acyclic}
 use Rattle.pass_pipeline.specs.declared.pass.Pass.{Pass}
-use Rattle.pass_manager.specs.Remaining.{is_flatten, is_symbol_dce, is_lowering, has_pass, symbols, IsKept, remaining}
+use Rattle.pass_manager.specs.Remaining.{is_flatten, is_symbol_dce, is_lowering, has_pass, symbols, IsKept, Remains}
 use Rattle.pass_manager.specs.PassLaw.{InstancesStay, IsModuleAfter, PassLaw}
 use Rattle.pass_manager.proofs.Those.{all_those}
 
-pub all_remain : (a b : Bool) → a ≡ false → b ≡ false → (d : Design) (s : Name) → remaining a b d s
+pub all_remain : (a b : Bool) → a ≡ false → b ≡ false → (d : Design) (s : Name) → Remains a b d s
 all_remain true b flat gone d s = cc
 all_remain false true flat gone d s = cc
 all_remain false false flat gone d s = tt

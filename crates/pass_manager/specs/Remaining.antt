@@ -43,14 +43,14 @@ IsReached d s = (top : Name) × (k : ℕ) × IsPublic d top × Chain (calls d) k
 
 -- which modules remain: public ones where modules are flattened, else reached ones where private ones that are not reached
 -- go, else all
-abbrev pub remaining : (flattened symbols_gone : Bool) → Design → Name → Type 0
-remaining true gone d s = IsPublic d s
-remaining false true d s = IsReached d s
-remaining false false d s = ⊤
+abbrev pub Remains : (flattened symbols_gone : Bool) → Design → Name → Type 0
+Remains true gone d s = IsPublic d s
+Remains false true d s = IsReached d s
+Remains false false d s = ⊤
 
 -- the module of a symbol remains after passes
 abbrev pub IsKept : List Pass → Design → Name → Type 0
-IsKept passes d s = remaining (has_pass is_flatten passes) (has_pass is_symbol_dce passes) d s
+IsKept passes d s = Remains (has_pass is_flatten passes) (has_pass is_symbol_dce passes) d s
 
 -- ---- lists
 
