@@ -83,25 +83,41 @@ named_told d ts (Some i) = go (find_module d i.symbol)
     go (Some c) = refl
 
 module _ (d : Design) (ports : List Port) (os : List Op) (last : Bool) (o : Op) where
+  abbrev rs : List Ref
+  rs = o.operands
+
+  abbrev xs : List Operand
+  xs = operands_in ports os o.operands
+
+  abbrev types : List (Option HwType)
+  types = map (λ (x : Operand). x.type) (operands_in ports os o.operands)
+
+  -- what the tests of the module that is named, of an asynchronous reset and of what is joined say
+  abbrev by_call : Option Cause
+  by_call = instance_cause d o.types (instance_in o.kind)
+
+  abbrev by_reset : Bool
+  by_reset = has_other_reset ports os (async_reset_in o)
+
+  abbrev by_join : Bool
+  by_join = has_other_join d ports o.operands (callee d o)
+
   -- the cause, over what each test says
   abbrev told_by : Bool → List (Option HwType) → Bool → Option Cause → Bool → Bool → Option Cause
-  told_by undefined types known named async join =
+  told_by undefined ts known called resets joins =
       or_else (or_else (when (has_again o.results) cause.Redefined) (when undefined cause.Undefined))
-      (or_else (own_cause o.kind o.types (map (λ (r : OpResult). r.type) o.results) o.named types known)
+      (or_else (own_cause o.kind o.types (map (λ (r : OpResult). r.type) o.results) o.named ts known)
       (or_else
-      (or_else (when (has_other_outputs ports o) cause.OutputMismatch) (or_else named (when (is_output_op o && not last) cause.MissingOutput)))
-      (when (async || join) cause.AsyncReset)))
+      (or_else (when (has_other_outputs ports o) cause.OutputMismatch) (or_else called (when (is_output_op o && not last) cause.MissingOutput)))
+      (when (resets || joins) cause.AsyncReset)))
 
   pub cause_told : op_cause d ports os last o ≡ cause_of o (operands_in ports os o.operands) (around d ports last o)
   cause_told =
-      ap (λ u. told_by u (map (settled_type ports os) o.operands) (divides_by_constant os o.operands) (instance_cause d o.types (instance_in o.kind)) (has_other_reset ports os (async_reset_in o)) (has_other_join d ports o.operands (callee d o)))
-      (undefined_told ports os o.operands)
-      ∙ ap₂ (λ ts k. told_by (some_undefined (operands_in ports os o.operands)) ts k (instance_cause d o.types (instance_in o.kind)) (has_other_reset ports os (async_reset_in o)) (has_other_join d ports o.operands (callee d o)))
-      (types_told ports os o.operands) (known_told ports os o.operands)
-      ∙ ap (λ c. told_by (some_undefined (operands_in ports os o.operands)) (map (λ (x : Operand). x.type) (operands_in ports os o.operands)) (second_known (operands_in ports os o.operands)) c (has_other_reset ports os (async_reset_in o)) (has_other_join d ports o.operands (callee d o)))
-      (named_told d o.types (instance_in o.kind))
-      ∙ ap₂ (λ a j. told_by (some_undefined (operands_in ports os o.operands)) (map (λ (x : Operand). x.type) (operands_in ports os o.operands)) (second_known (operands_in ports os o.operands)) (called_cause o.types (instance_in o.kind) (omap (called_as d) (callee d o))) a j)
-      (async_told ports os o.kind o.operands) (call_told ports os d o.operands (callee d o))
+      ap (λ u. told_by u (map (settled_type ports os) rs) (divides_by_constant os rs) by_call by_reset by_join) (undefined_told ports os rs)
+      ∙ ap₂ (λ ts k. told_by (some_undefined xs) ts k by_call by_reset by_join) (types_told ports os rs) (known_told ports os rs)
+      ∙ ap (λ c. told_by (some_undefined xs) types (second_known xs) c by_reset by_join) (named_told d o.types (instance_in o.kind))
+      ∙ ap₂ (told_by (some_undefined xs) types (second_known xs) (called_cause o.types (instance_in o.kind) (omap (called_as d) (callee d o))))
+      (async_told ports os o.kind rs) (call_told ports os d rs (callee d o))
 
 -- ---- no more is refused
 
