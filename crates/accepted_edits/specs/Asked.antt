@@ -54,9 +54,11 @@ pub record Around : Type 0 where
   pub last : Bool
   pub called : Option CalledModule
 
+-- a module of a design as the one that an instance names
 abbrev pub called_as : Design → Module → CalledModule
 called_as d c = record { ports = c.ports; is_reset = is_reset_port d c }
 
+-- what stands around an operation of a module with these ports
 abbrev pub around : Design → List Port → Bool → Op → Around
 around d ports last o = record { ports = ports; last = last; called = omap (called_as d) (callee d o) }
 

@@ -10,6 +10,7 @@ use Rattle.pass_pipeline.specs.declared.pass.Pass.TheVariants.{HwLowerAggregates
 
 -- ---- passes
 
+-- whether a pass is `hw-flatten-modules`, `symbol-dce`, `hw-lower-aggregates`
 abbrev pub is_flatten : Pass → Bool
 is_flatten HwFlattenModules = true
 is_flatten _ = false

@@ -11,11 +11,12 @@ use Rattle.pass_manager.specs.PassLaw.{register_types}
 
 -- ---- the shape of a body
 
+-- the types of the registers within an instance, `inner` giving those of the module of a symbol
 abbrev pub instance_held : (Name → List (Option HwType)) → Option Instance → List (Option HwType)
 instance_held inner None = []
 instance_held inner (Some i) = inner i.symbol
 
--- the types of the registers of an operation's content, `inner` giving those of the module of a symbol
+-- of an operation's content
 abbrev pub op_held : (Name → List (Option HwType)) → Op → List (Option HwType)
 op_held inner o = cond (is_register o) (result_type o 0 ∷ []) (instance_held inner (instance_in o.kind))
 
