@@ -16,12 +16,12 @@ use Rattle.port_checks.specs.InstanceChecks.{names_ports, call_cause, instance_c
 use Rattle.port_checks.specs.ResetPorts.{is_reset_port}
 use Rattle.op_verifier.specs.Answers.{when, or_else}
 use Rattle.op_verifier.specs.OpChecks.{has_again, has_undefined, settled_type, divides_by_constant, has_other_outputs, op_cause}
-use Rattle.op_verifier.specs.OperandChecks.{has_mismatch}
-use Rattle.op_verifier.specs.LimitChecks.{has_type_outside, has_constant_outside, has_extract_outside, has_broken_copy, has_wide_concat, has_unknown_divisor}
-use Rattle.op_verifier.specs.OwnChecks.{cause_if, own_cause}
+use Rattle.op_checks.specs.OperandChecks.{has_mismatch}
+use Rattle.op_checks.specs.LimitChecks.{has_type_outside, has_constant_outside, has_extract_outside, has_broken_copy, has_wide_concat, has_unknown_divisor}
+use Rattle.op_checks.specs.OwnChecks.{cause_if, own_cause}
 use Rattle.op_verifier.specs.ResetChecks.{is_no_input, has_other_reset, joins_other, has_other_join}
 use Rattle.op_verifier.proofs.Unrefused.{or_none, when_none, not_false}
-use Rattle.op_verifier.proofs.Widths.{neither}
+use Rattle.op_checks.proofs.Widths.{neither}
 use Rattle.accepted_edits.specs.Asked.{Operand, operand_in, operands_in, CalledModule, Around, called_as, around, some_undefined, second_known, reset_refused, async_refused, operand_at, is_other, join_refused, call_refused, called_cause, cause_of, AllowMore, CallsMore, AllowsMoreAround}
 
 -- ---- what is asked tells the cause

@@ -12,11 +12,11 @@ use Rattle.hw_model.specs.Design.{Ref, Port, OpResult, Op, Module, Design, find_
 use Rattle.hw_model.specs.Design.Ref.{port, result, undefined}
 use Rattle.hw_model.specs.Sound.{type_in}
 use Rattle.op_verifier.specs.Answers.{when}
-use Rattle.op_verifier.specs.TypeLists.{known_types}
-use Rattle.op_verifier.specs.OwnChecks.{own_cause}
+use Rattle.op_checks.specs.TypeLists.{known_types}
+use Rattle.op_checks.specs.OwnChecks.{own_cause}
 use Rattle.op_verifier.specs.OpChecks.{has_again, has_undefined, settled_by, settled_type, alone_cause}
-use Rattle.op_verifier.proofs.NoOwnCause.{no_cause_alone}
-use Rattle.op_verifier.proofs.Settled.{settles}
+use Rattle.op_verifier.proofs.NoCauseAlone.{no_cause_alone}
+use Rattle.op_checks.proofs.Settled.{settles}
 use Rattle.op_verifier.proofs.Unrefused.{or_none, when_none, NoOpCause, no_op_cause, ops_unrefused, module_unrefused}
 use Rattle.accepted_edits.specs.Asked.{Operand, operand_in, operands_in, second_known, AllowMore}
 use Rattle.accepted_edits.specs.Keeps.{IsFitting, IsFit}

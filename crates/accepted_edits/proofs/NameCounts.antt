@@ -20,18 +20,18 @@ use Rattle.hw_model.specs.Sound.{field_list}
 use Rattle.hw_model.specs.Value.{nth_type}
 use Rattle.hw_model.specs.Weight.{leaf_count, literal_leaves, literals_leaves, element_count, reset_weight, register_weight, kind_weight, body_weight, weight_of, module_weight, weight}
 use Rattle.ir_store.specs.ResultTypes.{first_type}
-use Rattle.op_verifier.specs.TypeChecks.{has_bad_part, has_bad_part_among, is_outside}
-use Rattle.op_verifier.specs.TypeLists.{is_no_array, is_no_int}
-use Rattle.op_verifier.specs.LiteralChecks.{is_miscounted, literal_count, literal_differs, any_miscounted, are_miscounted, any_literal_differs, literals_differ}
-use Rattle.op_verifier.specs.OperandChecks.{is_no_array_of, has_other_array, has_other_form, has_other_operand, parts_differ}
-use Rattle.op_verifier.specs.CountChecks.{type_count, parts_miscounted, has_miscounted_parts}
+use Rattle.op_checks.specs.TypeChecks.{has_bad_part, has_bad_part_among, is_outside}
+use Rattle.op_checks.specs.TypeLists.{is_no_array, is_no_int}
+use Rattle.op_checks.specs.LiteralChecks.{is_miscounted, literal_count, literal_differs, any_miscounted, are_miscounted, any_literal_differs, literals_differ}
+use Rattle.op_checks.specs.OperandChecks.{is_no_array_of, has_other_array, has_other_form, has_other_operand, parts_differ}
+use Rattle.op_checks.specs.CountChecks.{type_count, parts_miscounted, has_miscounted_parts}
 use Rattle.op_verifier.specs.Headers.{has_port}
 use Rattle.op_verifier.specs.Verdict.{IsAccepted}
 use Rattle.op_verifier.proofs.AcceptedDesigns.{no_fault}
 use Rattle.op_verifier.proofs.Distinct.{distinct_symbols}
-use Rattle.op_verifier.proofs.NoOwnCause.{no_cause_alone}
+use Rattle.op_verifier.proofs.NoCauseAlone.{no_cause_alone}
 use Rattle.op_verifier.proofs.Unrefused.{not_false, no_op_cause, ops_unrefused, no_header_cause, module_unrefused}
-use Rattle.op_verifier.proofs.Widths.{neither}
+use Rattle.op_checks.proofs.Widths.{neither}
 use Rattle.design_cycles.proofs.Callees.{found_at}
 use Rattle.mlir_printer.specs.Naming.{instance_name_hints, pack_name_hints, name_hints_of, name_hints, body_name_hints, port_name_hint, port_name_hints}
 use Rattle.mlir_printer.specs.Texts.{parts_in}

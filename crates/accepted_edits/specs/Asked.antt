@@ -13,7 +13,7 @@ use Rattle.port_checks.specs.InstanceChecks.{names_ports}
 use Rattle.port_checks.specs.ResetPorts.{is_reset_port}
 use Rattle.op_verifier.specs.Answers.{when, or_else}
 use Rattle.op_verifier.specs.OpChecks.{has_again, settled_type, is_nonzero_ref, has_other_outputs}
-use Rattle.op_verifier.specs.OwnChecks.{own_cause}
+use Rattle.op_checks.specs.OwnChecks.{own_cause}
 use Rattle.op_verifier.specs.ResetChecks.{is_input_port, is_constant_ref}
 
 -- ---- what is asked of a value
