@@ -20,7 +20,7 @@ use Rattle.hw_model.specs.SameType.{same_type}
 use Rattle.hw_model.specs.Weight.{weight_of, module_weight, weight}
 use Rattle.hw_model.proofs.Finite.{heights_from_no_cycle, no_cycle_from_heights}
 use Rattle.ir_store.specs.ResultTypes.{result_types}
-use Rattle.op_checks.specs.CountChecks.{type_count}
+use Rattle.op_checks.specs.CountChecks.{operands_written, type_count}
 use Rattle.design_cycles.specs.Asked.{HasDistinctSymbols}
 use Rattle.design_cycles.proofs.Callees.{found_at}
 use Rattle.port_checks.specs.InstanceChecks.{port_types, instance_cause}
@@ -40,7 +40,7 @@ use Rattle.op_verifier.proofs.Unrefused.{or_none, no_op_cause, no_header_cause, 
 use Rattle.opcode.specs.declared.listed.Listed.TheVariants as listed
 use Rattle.mlir_operations.specs.ModuleText.{module_keys}
 use Rattle.mlir_printer.specs.Spellable.{Each, AreBytes}
-use Rattle.mlir_printer.specs.Printable.{IsDefined, operands_written, settled_result, IsKeptDictionary, IsPrintableOp, IsPrintablePort, EndsWithOutput, IsPrintableModule, Printable}
+use Rattle.mlir_printer.specs.Printable.{IsDefined, settled_result, IsKeptDictionary, IsPrintableOp, IsPrintablePort, EndsWithOutput, IsPrintableModule, Printable}
 use Rattle.hw_edits.specs.Follows.{Valid}
 use Rattle.hw_edits.specs.Resets.{has_mark, marks_by_symbol}
 use Rattle.accepted_edits.specs.Asked.{operand_in, operands_in, called_as, around, CallsMore}
