@@ -1,5 +1,8 @@
 -- Lemmas.
 pub mod BodyLemmas
+pub mod ChainCalls
+pub mod ChainLists
+pub mod Chaining
 pub mod Cutting
 pub mod DesignLemmas
 mod FieldTypes

@@ -6,6 +6,7 @@
 #![tactic(auto)]
 
 pub mod body;
+mod chains;
 pub mod design;
 pub mod dictionary;
 pub mod ids;

@@ -1,8 +1,8 @@
 //! The links between the ids of a body: each id's neighbours in text order.
-ghost use Rattle.std.specs.Prelude.{◌≡◌, ◌<◌, ◌≤◌, length};
+ghost use Rattle.std.specs.Prelude.{◌≡◌, ◌<◌, ◌≤◌, length, nat_eq, cond};
 ghost use Rattle.std.specs.Vec.{vec_len, vec_capacity};
 ghost use Rattle.ir_store.specs.Ids.{put_at};
-ghost use Rattle.ir_store.specs.Links.{next_at, prev_at, is_live_at, with_next, with_prev, new_link, linked_in, linked_out};
+ghost use Rattle.ir_store.specs.Links.{none, next_at, prev_at, is_live_at, with_next, with_prev, new_link, linked_in, linked_out};
 
 /// What stands for no id.
 pub const NONE: u32 = u32::MAX;
@@ -47,7 +47,7 @@ pub fn is_live(links: &[Link], id: u32) -> bool
 }
 
 /// Puts `next` after an id, where it is one.
-fn set_next(links: &mut Vec<Link>, id: u32, next: u32)
+pub fn set_next(links: &mut Vec<Link>, id: u32, next: u32)
     ensures items { links.new.items ≡ with_next id next links.old.items }
     ensures len { vec_len links.new ≡ vec_len links.old }
     ensures capacity { vec_capacity links.new ≡ vec_capacity links.old }
@@ -58,7 +58,7 @@ fn set_next(links: &mut Vec<Link>, id: u32, next: u32)
 }
 
 /// Puts `prev` before an id, where it is one.
-fn set_prev(links: &mut Vec<Link>, id: u32, prev: u32)
+pub fn set_prev(links: &mut Vec<Link>, id: u32, prev: u32)
     ensures items { links.new.items ≡ with_prev id prev links.old.items }
     ensures len { vec_len links.new ≡ vec_len links.old }
     ensures capacity { vec_capacity links.new ≡ vec_capacity links.old }
@@ -112,4 +112,11 @@ pub fn link_out(links: &mut Vec<Link>, id: u32, prev: u32, next: u32, free: u32)
         next: free,
         live: false,
     };
+}
+
+/// `other` where `end` is none, and else `kept`.
+pub fn unless_none(end: u32, kept: u32, other: u32) -> u32
+    ensures { result ≡ cond (nat_eq end none) other kept }
+{
+    if end == NONE { other } else { kept }
 }

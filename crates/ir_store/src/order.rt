@@ -3,7 +3,7 @@ ghost use Rattle.std.specs.Prelude.{◌≡◌, ℕ, ◌-◌, ◌<◌, ◌≤◌,
 ghost use Rattle.ir_store.specs.Ids.{times};
 ghost use Rattle.ir_store.specs.Links.{none, walk, last_of, IsLinked, IsLinked-prop, is_live_at};
 
-use crate::links::{Link, NONE, is_live, link_in, link_out, next_of, prev_of};
+use crate::links::{Link, NONE, is_live, link_in, link_out, next_of, prev_of, unless_none};
 use crate::operation::OpId;
 use std::alloc::{AllocError, Global};
 
@@ -184,11 +184,4 @@ impl Order {
             (self.live as u32, NONE)
         }
     }
-}
-
-/// `other` where `end` is none, and else `kept`.
-fn unless_none(end: u32, kept: u32, other: u32) -> u32
-    ensures { result ≡ cond (nat_eq end none) other kept }
-{
-    if end == NONE { other } else { kept }
 }
