@@ -7,6 +7,7 @@ pub mod Cutting
 pub mod DesignLemmas
 mod FieldTypes
 pub mod IdLemmas
+pub mod Indexing
 pub mod Joining
 pub mod Linking
 pub mod Living

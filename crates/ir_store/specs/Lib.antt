@@ -1,5 +1,6 @@
 pub mod Bodies
 pub mod BodyOps
+pub mod ChainedValues
 pub mod Chains
 pub mod Designs
 pub mod DictionaryViews

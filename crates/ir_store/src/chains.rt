@@ -42,6 +42,13 @@ impl Chains {
         Ok(Chains { links, heads })
     }
 
+    /// How many heads there are.
+    pub fn head_count(&self) -> usize
+        ensures { result ≡ length self.now.chains }
+    {
+        self.heads.len()
+    }
+
     /// The first cell of a head, where it has one, in constant time.
     pub fn first(&self, head: usize) -> Option<u32>
         ensures { result ≡ cell_or_none (slice_index_or self.now.chains head []) }

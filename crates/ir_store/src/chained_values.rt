@@ -1,0 +1,117 @@
+//! Values in order, those that may be equal linked in chains.
+ghost use Rattle.std.specs.Prelude.{◌≡◌, ◌<◌, ◌≤◌, ◌+◌, length};
+ghost use Rattle.ir_store.specs.ChainedValues.{value_number, head_of};
+
+use crate::chains::Chains;
+use crate::operation::Value;
+use std::alloc::{AllocError, Global};
+use std::marker::Model;
+
+/// Values in order. The place of each, its cell, is in the chain of the head that follows from the value, so equal
+/// values are in one chain. Contracts see the values, the cells of each head, and for how many more there is room.
+#[derive(Drop)]
+pub struct ChainedValues {
+    values: Vec<Value>,
+    chains: Chains,
+}
+
+impl Model for ChainedValues {
+    ghost use Rattle.std.specs.Prelude.{◌-◌, ◌^◌, length, min};
+    ghost use Rattle.std.specs.Vec.{vec_capacity};
+    ghost use Rattle.ir_store.specs.ChainedValues.{ValueChains, AreIndexed};
+
+    ghost Value = { ValueChains };
+
+    ghost view = { λ t. record { items = t.values.items; chains = t.chains.chains; room = min (vec_capacity t.values) (min (min t.chains.room (2 ^ 32 - 1)) (length t.chains.chains)) - length t.values.items } };
+
+    ghost invariant = { λ t. AreIndexed t.values.items t.chains };
+}
+
+/// The number from which a value's head follows.
+fn number_of(value: Value) -> usize
+    ensures { result ≡ value_number value }
+{
+    match value {
+        Value::Port(n) => n as usize * 2_246_822_519 + 374_761_393,
+        Value::Result(id, k) => id.index as usize + k as usize * 2_654_435_761,
+        Value::Undefined => 668_265_263,
+    }
+}
+
+/// The head of a value among so many.
+#[tactic(auto, unfolding(crate::specs::ChainedValues::head_of))]
+fn head_of(value: Value, heads: usize) -> usize
+    requires { 0 < heads }
+    ensures head { result ≡ head_of heads value }
+    ensures within { result < heads }
+{
+    number_of(value) % heads
+}
+
+impl ChainedValues {
+    ghost use Rattle.std.specs.Prelude.{◌≡◌, ℕ, ◌<◌, ◌≤◌, ◌+◌, ◌-◌, [], ◌∷◌, ◌++◌, length, min, take, slice_set, slice_index_or, IfOk};
+    ghost use Rattle.ir_store.specs.Ids.{times};
+    ghost use Rattle.ir_store.specs.Chains.{cell_or_none, has_head, once_if};
+    ghost use Rattle.ir_store.specs.ChainedValues.{head_of, head_at};
+
+    /// No values, with room for so many.
+    pub fn with_room(alloc: Global, room: usize) -> Result<ChainedValues, AllocError>
+        ensures items { IfOk result (λ t. t.items ≡ []) }
+        ensures room { IfOk result (λ t. min room u32.MAX ≤ t.room) }
+    {
+        let values = Vec::with_capacity(alloc, room)?;
+        let chains = Chains::with_room(alloc, room, room)?;
+        Ok(ChainedValues { values, chains })
+    }
+
+    /// The values.
+    pub fn as_slice(&self) -> &[Value]
+        ensures { result.now ≡ self.now.items }
+    {
+        self.values.as_slice()
+    }
+
+    /// The first cell in the chain of a value's head, in constant time.
+    pub fn first(&self, value: Value) -> Option<u32>
+        requires { 0 < length self.now.chains }
+        ensures first { result ≡ cell_or_none (slice_index_or self.now.chains (head_of (length self.now.chains) value) []) }
+        ensures cells { (s cell : ℕ) → times cell (slice_index_or self.now.chains s []) ≡ once_if (has_head (head_at (length self.now.chains) self.now.items cell) s) }
+    {
+        self.chains.first(head_of(value, self.chains.head_count()))
+    }
+
+    /// Puts a value after the others, where there is room for it, in constant time.
+    pub fn push(&mut self, value: Value)
+        requires { 1 ≤ self.old.room }
+        ensures items { self.new.items ≡ self.old.items ++ value ∷ [] }
+        ensures room { self.new.room + 1 ≡ self.old.room }
+    {
+        let cell = self.values.len() as u32;
+        self.chains.put_first(head_of(value, self.chains.head_count()), cell);
+        self.values.push_reserved(value);
+    }
+
+    /// Puts a value in the place of that of a cell, in constant time.
+    pub fn set(&mut self, cell: usize, value: Value)
+        requires { cell < length self.old.items }
+        ensures items { self.new.items ≡ slice_set self.old.items cell value }
+        ensures room { self.new.room ≡ self.old.room }
+    {
+        let heads = self.chains.head_count();
+        self.chains.take_out(head_of(self.values[cell], heads), cell as u32);
+        self.chains.put_first(head_of(value, heads), cell as u32);
+        self.values[cell] = value;
+    }
+
+    /// Takes the last value out, in constant time.
+    pub fn pop(&mut self)
+        requires { 0 < length self.old.items }
+        ensures items { self.new.items ≡ take (length self.old.items - 1) self.old.items }
+        ensures room { self.new.room ≡ self.old.room + 1 }
+    {
+        let cell = self.values.len() - 1;
+        let head = head_of(self.values[cell], self.chains.head_count());
+        self.chains.take_out(head, cell as u32);
+        self.values.truncate(cell);
+    }
+}
