@@ -11,7 +11,7 @@ use Rattle.ir_store.proofs.IdLemmas.{times-append, get_or-put_at_other, length-p
 use Rattle.ir_store.proofs.Linking.{next_other, prev_other, apart, first_there, last_there, linked_same, linked_back, linked_join, linked_more, linked_less, length-with_next, length-with_prev, new_end, new_start}
 use Rattle.ir_store.proofs.Ordering.{length-linked_in, length-linked_out}
 
-once_at_most : (b : Bool) → once_if b ≤ 1
+pub once_at_most : (b : Bool) → once_if b ≤ 1
 once_at_most true = omega arith
 once_at_most false = omega arith
 

@@ -16,7 +16,9 @@ pub mod Ordering
 pub mod Numbering
 pub mod PositionTables
 pub mod ReadOps
+pub mod Replacing
 pub mod Samples
 pub mod StoredModules
+pub mod Seeking
 pub mod UseLemmas
 pub mod Walks

@@ -1,8 +1,9 @@
 -- Values in order, those that may be equal linked in chains.
-use Rattle.std.specs.Prelude.{◌≡◌, ℕ, ◌+◌, ◌*◌, ◌%◌, ◌<◌, ◌≤◌, ◌^◌, List, [], Option, length, option_map, slice_get, slice_index_or}
+use Rattle.std.specs.Prelude.{◌≡◌, ℕ, ◌+◌, ◌*◌, ◌%◌, ◌<◌, ◌≤◌, ◌^◌, Bool, false, cond, nat_eq, List, [], ◌∷◌, Option, Some, None, length, option_map, slice_get, slice_index_or}
 use Rattle.ir_store.specs.declared.operation.Value.{Value}
 use Rattle.ir_store.specs.declared.operation.Value.TheVariants.{Port, Result, Undefined}
 use Rattle.ir_store.specs.Ids.{times}
+use Rattle.ir_store.specs.BodyOps.{same_value}
 use Rattle.ir_store.specs.Chains.{ChainTable, has_head, once_if}
 
 -- the number from which a value's head follows; the factors are the primes of xxHash for 32 bits
@@ -32,3 +33,30 @@ pub record AreIndexed (values : List Value) (table : ChainTable) : Type 0 where
   pub known : length values ≤ table.cells
   pub small : length values ≤ table.room
   pub members : (s cell : ℕ) → times cell (slice_index_or table.chains s []) ≡ once_if (has_head (head_at (length table.chains) values cell) s)
+
+-- whether the value of a cell is this one
+abbrev pub is_value : Value → Option Value → Bool
+is_value v None = false
+is_value v (Some x) = same_value v x
+
+abbrev pub has_value : Value → List Value → ℕ → Bool
+has_value v values cell = is_value v (slice_get values cell)
+
+-- those of some cells that have a value
+abbrev pub cells_with : Value → List Value → List ℕ → List ℕ
+cells_with v values [] = []
+cells_with v values (c ∷ cells) = cond (has_value v values c) (c ∷ cells_with v values cells) (cells_with v values cells)
+
+-- the cells that have a value, in the order of their chain
+abbrev pub cells_of : Value → ValueChains → List ℕ
+cells_of v t = cells_with v t.items (slice_index_or t.chains (head_of (length t.chains) v) [])
+
+-- the cells from one on
+abbrev pub from_cell : ℕ → List ℕ → List ℕ
+from_cell c [] = []
+from_cell c (x ∷ xs) = cond (nat_eq x c) (x ∷ xs) (from_cell c xs)
+
+-- the cells from a place on; from none on there are none
+abbrev pub rest_at : Option ℕ → List ℕ → List ℕ
+rest_at None cells = []
+rest_at (Some c) cells = from_cell c cells

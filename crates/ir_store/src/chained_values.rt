@@ -3,6 +3,7 @@ ghost use Rattle.std.specs.Prelude.{◌≡◌, ◌<◌, ◌≤◌, ◌+◌, leng
 ghost use Rattle.ir_store.specs.ChainedValues.{value_number, head_of};
 
 use crate::chains::Chains;
+use crate::operands::is_same;
 use crate::operation::Value;
 use std::alloc::{AllocError, Global};
 use std::marker::Model;
@@ -49,10 +50,11 @@ fn head_of(value: Value, heads: usize) -> usize
 }
 
 impl ChainedValues {
-    ghost use Rattle.std.specs.Prelude.{◌≡◌, ℕ, ◌<◌, ◌≤◌, ◌+◌, ◌-◌, [], ◌∷◌, ◌++◌, length, min, take, slice_set, slice_index_or, IfOk};
+    ghost use Rattle.std.specs.Prelude.{◌≡◌, ℕ, ◌<◌, ◌≤◌, ◌+◌, ◌-◌, map, List, [], ◌∷◌, ◌++◌, length, min, take, slice_set, slice_index_or, Contains, IfOk, IfSome};
     ghost use Rattle.ir_store.specs.Ids.{times};
-    ghost use Rattle.ir_store.specs.Chains.{cell_or_none, has_head, once_if};
-    ghost use Rattle.ir_store.specs.ChainedValues.{head_of, head_at};
+    ghost use Rattle.ir_store.specs.BodyOps.{replace_value};
+    ghost use Rattle.ir_store.specs.Chains.{cell_or_none, once_if};
+    ghost use Rattle.ir_store.specs.ChainedValues.{has_value, cells_with, cells_of, rest_at};
 
     /// No values, with room for so many.
     pub fn with_room(alloc: Global, room: usize) -> Result<ChainedValues, AllocError>
@@ -71,13 +73,51 @@ impl ChainedValues {
         self.values.as_slice()
     }
 
-    /// The first cell in the chain of a value's head, in constant time.
+    /// The first cell that has a value, where one has it. Linear in the cells before it in the chain of the value's head.
     pub fn first(&self, value: Value) -> Option<u32>
-        requires { 0 < length self.now.chains }
-        ensures first { result ≡ cell_or_none (slice_index_or self.now.chains (head_of (length self.now.chains) value) []) }
-        ensures cells { (s cell : ℕ) → times cell (slice_index_or self.now.chains s []) ≡ once_if (has_head (head_at (length self.now.chains) self.now.items cell) s) }
+        ensures first { result ≡ cell_or_none (cells_of value self.now) }
+        ensures each { (cell : ℕ) → times cell (cells_of value self.now) ≡ once_if (has_value value self.now.items cell) }
     {
-        self.chains.first(head_of(value, self.chains.head_count()))
+        let heads = self.chains.head_count();
+        if heads == 0 {
+            return None;
+        }
+        let head = head_of(value, heads);
+        self.seek(value, head, self.chains.first(head))
+    }
+
+    /// The cell after this one that has the same value, where there is one. Linear in the cells between them in the chain.
+    pub fn next(&self, value: Value, cell: u32) -> Option<u32>
+        requires { Contains (cells_of value self.now) cell }
+        ensures { (xs ys : List ℕ) → cells_of value self.now ≡ xs ++ cell ∷ ys → result ≡ cell_or_none ys }
+    {
+        let head = head_of(value, self.chains.head_count());
+        self.seek(value, head, self.chains.next(cell))
+    }
+
+    /// The first cell that has a value, from a cell of a head's chain on.
+    fn seek(&self, value: Value, head: usize, from: Option<u32>) -> Option<u32>
+        requires { IfSome from (λ c. Contains (slice_index_or self.now.chains head []) c) }
+        ensures { result ≡ cell_or_none (cells_with value self.now.items (rest_at from (slice_index_or self.now.chains head []))) }
+    {
+        let mut at = from;
+        while let Some(cell) = at {
+            if self.has(cell, value) {
+                return Some(cell);
+            }
+            at = self.chains.next(cell);
+        }
+        None
+    }
+
+    /// Whether a cell has a value.
+    fn has(&self, cell: u32, value: Value) -> bool
+        ensures { result ≡ has_value value self.now.items cell }
+    {
+        match self.values.get(cell as usize) {
+            Some(other) => is_same(value, *other),
+            None => false,
+        }
     }
 
     /// Puts a value after the others, where there is room for it, in constant time.
@@ -87,7 +127,8 @@ impl ChainedValues {
         ensures room { self.new.room + 1 ≡ self.old.room }
     {
         let cell = self.values.len() as u32;
-        self.chains.put_first(head_of(value, self.chains.head_count()), cell);
+        self.chains
+            .put_first(head_of(value, self.chains.head_count()), cell);
         self.values.push_reserved(value);
     }
 
@@ -98,7 +139,8 @@ impl ChainedValues {
         ensures room { self.new.room ≡ self.old.room }
     {
         let heads = self.chains.head_count();
-        self.chains.take_out(head_of(self.values[cell], heads), cell as u32);
+        self.chains
+            .take_out(head_of(self.values[cell], heads), cell as u32);
         self.chains.put_first(head_of(value, heads), cell as u32);
         self.values[cell] = value;
     }
@@ -113,5 +155,19 @@ impl ChainedValues {
         let head = head_of(self.values[cell], self.chains.head_count());
         self.chains.take_out(head, cell as u32);
         self.values.truncate(cell);
+    }
+
+    /// Puts `to` in the place of each `from`. Linear in the cells of the chain of `from`'s head, and in their square where
+    /// `to` has the same head.
+    pub fn replace(&mut self, from: Value, to: Value)
+        ensures items { self.new.items ≡ map (replace_value from to) self.old.items }
+        ensures room { self.new.room ≡ self.old.room }
+    {
+        if is_same(from, to) {
+            return;
+        }
+        while let Some(cell) = self.first(from) {
+            self.set(cell as usize, to);
+        }
     }
 }

@@ -2,7 +2,9 @@
 ghost use Rattle.std.specs.Prelude.{◌≡◌};
 ghost use Rattle.ir_store.specs.Chains.{cell_unless_none};
 
-use crate::links::{Link, NONE, link_in, link_out, next_of, prev_of, set_next, set_prev, unless_none};
+use crate::links::{
+    Link, NONE, link_in, link_out, next_of, prev_of, set_next, set_prev, unless_none,
+};
 use std::alloc::{AllocError, Global};
 use std::marker::Model;
 
