@@ -8,6 +8,9 @@ use crate::operation::Value;
 use std::alloc::{AllocError, Global};
 use std::marker::Model;
 
+/// The most values that there can be.
+const MOST: usize = u32::MAX as usize;
+
 /// Values in order. The place of each, its cell, is in the chain of the head that follows from the value, so equal
 /// values are in one chain. Contracts see the values, the cells of each head, and for how many more there is room.
 #[derive(Drop)]
@@ -50,7 +53,7 @@ fn head_of(value: Value, heads: usize) -> usize
 }
 
 impl ChainedValues {
-    ghost use Rattle.std.specs.Prelude.{◌≡◌, ℕ, ◌<◌, ◌≤◌, ◌+◌, ◌-◌, map, List, [], ◌∷◌, ◌++◌, length, min, take, slice_set, slice_index_or, Contains, IfOk, IfSome};
+    ghost use Rattle.std.specs.Prelude.{◌≡◌, ℕ, ◌<◌, ◌≤◌, ◌+◌, ◌-◌, ◌^◌, map, List, [], ◌∷◌, ◌++◌, length, min, take, slice_set, slice_index_or, Contains, IfOk, IfSome, IsOk, OnOk};
     ghost use Rattle.ir_store.specs.Ids.{times};
     ghost use Rattle.ir_store.specs.BodyOps.{replace_value};
     ghost use Rattle.ir_store.specs.Chains.{cell_or_none, once_if};
@@ -71,6 +74,46 @@ impl ChainedValues {
         ensures { result.now ≡ self.now.items }
     {
         self.values.as_slice()
+    }
+
+    /// For how many more values there is room.
+    pub fn room(&self) -> usize
+        ensures { result ≡ self.now.room }
+    {
+        let cells = self.chains.room().min(self.chains.head_count());
+        self.values.capacity().min(cells.min(MOST)) - self.values.len()
+    }
+
+    /// Makes room for so many more values, twice as many as there are at least where memory is taken. The values stay.
+    pub fn reserve(&mut self, alloc: Global, more: usize) -> Result<(), AllocError>
+        ensures items { self.new.items ≡ self.old.items }
+        ensures ok { OnOk result (more ≤ self.new.room) }
+        ensures room { self.old.room ≤ self.new.room }
+        ensures succeeds { more ≤ self.old.room → IsOk result }
+    {
+        if more <= self.room() {
+            return Ok(());
+        }
+        let len = self.values.len();
+        if MOST - len < more {
+            return Err(AllocError);
+        }
+        let room = (len + more).max(len.saturating_mul(2)).min(MOST);
+        *self = ChainedValues::copied(alloc, self.values.as_slice(), room)?;
+        Ok(())
+    }
+
+    /// Equal values with memory of their own, with room for so many in all.
+    pub fn copied(alloc: Global, values: &[Value], room: usize) -> Result<ChainedValues, AllocError>
+        requires { (length values.now ≤ room) × (room < 2 ^ 32) }
+        ensures items { IfOk result (λ t. t.items ≡ values.now) }
+        ensures room { IfOk result (λ t. room ≤ t.room + length values.now) }
+    {
+        let mut copy = ChainedValues::with_room(alloc, room)?;
+        for value in values {
+            copy.push(*value);
+        }
+        Ok(copy)
     }
 
     /// The first cell that has a value, where one has it. Linear in the cells before it in the chain of the value's head.

@@ -8,6 +8,9 @@ use crate::links::{
 use std::alloc::{AllocError, Global};
 use std::marker::Model;
 
+/// The most cells that there can be.
+const MOST: usize = u32::MAX as usize;
+
 /// Cells and heads, both by numbers from 0 on; each cell is in the chain of one head or in none. Contracts see the cells
 /// of each head in order, how many cells were put in yet, and for how many there is room.
 #[derive(Drop)]
@@ -49,6 +52,13 @@ impl Chains {
         ensures { result ≡ length self.now.chains }
     {
         self.heads.len()
+    }
+
+    /// For how many cells there is room, those that were put in yet among them.
+    pub fn room(&self) -> usize
+        ensures { result ≡ self.now.room }
+    {
+        self.links.capacity().min(MOST)
     }
 
     /// The first cell of a head, where it has one, in constant time.

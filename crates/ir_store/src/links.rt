@@ -47,7 +47,7 @@ pub fn is_live(links: &[Link], id: u32) -> bool
 }
 
 /// Puts `next` after an id, where it is one.
-pub fn set_next(links: &mut Vec<Link>, id: u32, next: u32)
+pub(crate) fn set_next(links: &mut Vec<Link>, id: u32, next: u32)
     ensures items { links.new.items ≡ with_next id next links.old.items }
     ensures len { vec_len links.new ≡ vec_len links.old }
     ensures capacity { vec_capacity links.new ≡ vec_capacity links.old }
@@ -58,7 +58,7 @@ pub fn set_next(links: &mut Vec<Link>, id: u32, next: u32)
 }
 
 /// Puts `prev` before an id, where it is one.
-pub fn set_prev(links: &mut Vec<Link>, id: u32, prev: u32)
+pub(crate) fn set_prev(links: &mut Vec<Link>, id: u32, prev: u32)
     ensures items { links.new.items ≡ with_prev id prev links.old.items }
     ensures len { vec_len links.new ≡ vec_len links.old }
     ensures capacity { vec_capacity links.new ≡ vec_capacity links.old }
@@ -115,7 +115,7 @@ pub fn link_out(links: &mut Vec<Link>, id: u32, prev: u32, next: u32, free: u32)
 }
 
 /// `other` where `end` is none, and else `kept`.
-pub fn unless_none(end: u32, kept: u32, other: u32) -> u32
+pub(crate) fn unless_none(end: u32, kept: u32, other: u32) -> u32
     ensures { result ≡ cond (nat_eq end none) other kept }
 {
     if end == NONE { other } else { kept }
