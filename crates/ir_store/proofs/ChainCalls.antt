@@ -2,14 +2,14 @@
 use Rattle.std.proofs.Common.{◌≡◌, ℕ, zero, suc, ◌+◌, ◌<◌, ◌≤◌, Bool, true, false, cond, nat_eq, List, [], ◌∷◌, ◌++◌, map, length, replicate, get_or, set, refl, ap, sym, ◌∙◌, subst, arith}
 use Rattle.std.specs.Prelude.{Option, Some, None, max, Contains}
 use Rattle.std.proofs.lemmas.List.{length-set, length-map, get_or_default}
-use Rattle.std.proofs.lemmas.Bool.{eqb-true, eqb-false}
+use Rattle.std.proofs.lemmas.Bool.{eqb-true}
 use Rattle.ir_store.specs.declared.links.Link.{Link}
 use Rattle.ir_store.specs.Ids.{times}
 use Rattle.ir_store.specs.Links.{none, new_link, next_at, prev_at, first_of, last_of, IsLinked, with_next, with_prev, linked_in, linked_out}
 use Rattle.ir_store.specs.Chains.{AreChains, HasChains, IsAlone, has_head, once_if, with_front, with_head, cut, without, spliced, cell_or_none, cell_unless_none, walk_on, chain_in, chains_in}
 use Rattle.ir_store.proofs.IdLemmas.{contained_times, times-append, length-put_at}
-use Rattle.ir_store.proofs.Linking.{linked_back, first_there}
-use Rattle.ir_store.proofs.Ordering.{length-linked_in, length-linked_out}
+use Rattle.ir_store.proofs.Linking.{linked_back}
+use Rattle.ir_store.proofs.Ordering.{length-linked_in}
 use Rattle.ir_store.proofs.Chaining.{eq_self, chain_bare, chained_more, chained_less, chained_splice}
 use Rattle.ir_store.proofs.ChainLists.{within, has_chains, chain_at, one_changed, two_changed}
 

@@ -1,5 +1,5 @@
 -- Chains of cells: what putting one in and taking one out does to each of them.
-use Rattle.std.proofs.Common.{◌≡◌, ℕ, zero, suc, ◌+◌, ◌<◌, ◌≤◌, Bool, true, false, cond, nat_eq, List, [], ◌∷◌, ◌++◌, length, get_or, set, refl, ap, sym, ◌∙◌, subst, arith}
+use Rattle.std.proofs.Common.{◌≡◌, ℕ, suc, ◌+◌, ◌<◌, ◌≤◌, Bool, true, false, cond, nat_eq, List, [], ◌∷◌, ◌++◌, length, get_or, set, refl, ap, sym, ◌∙◌, subst, arith}
 use Rattle.std.specs.Prelude.{Option, Some, None}
 use Rattle.std.proofs.lemmas.List.{get_or-set_same, get_or-set_other, length-set}
 use Rattle.std.proofs.lemmas.Bool.{eqb-true, eqb-false}
@@ -8,7 +8,7 @@ use Rattle.ir_store.specs.Ids.{times, put_at}
 use Rattle.ir_store.specs.Links.{none, no_link, new_link, free_link, link_at, next_at, prev_at, first_of, last_of, IsLinked, with_next, with_prev, linked_in, linked_out}
 use Rattle.ir_store.specs.Chains.{AreChains, has_head, once_if, with_front, cut, without, with_head, spliced}
 use Rattle.ir_store.proofs.IdLemmas.{times-append, get_or-put_at_other, length-put_at}
-use Rattle.ir_store.proofs.Linking.{next_other, prev_other, apart, first_there, last_there, linked_same, linked_back, linked_join, linked_more, linked_less, length-with_next, length-with_prev, new_end, new_start}
+use Rattle.ir_store.proofs.Linking.{next_other, prev_other, first_there, last_there, linked_same, linked_back, linked_join, linked_more, linked_less, length-with_next, length-with_prev, new_end, new_start}
 use Rattle.ir_store.proofs.Ordering.{length-linked_in, length-linked_out}
 
 pub once_at_most : (b : Bool) → once_if b ≤ 1

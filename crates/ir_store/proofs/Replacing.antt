@@ -1,11 +1,11 @@
 -- Values of which one takes the place of another, cell by cell.
-use Rattle.std.proofs.Common.{◌≡◌, ℕ, zero, suc, ◌+◌, ◌<◌, ◌≤◌, Bool, true, false, cond, List, [], ◌∷◌, map, length, set, refl, ap, sym, ◌∙◌, arith}
-use Rattle.std.specs.Prelude.{Option, Some, None, slice_get}
+use Rattle.std.proofs.Common.{◌≡◌, ℕ, zero, suc, ◌<◌, Bool, true, false, cond, List, [], ◌∷◌, map, length, set, refl, ap, sym, ◌∙◌, arith}
+use Rattle.std.specs.Prelude.{Some, None}
 use Rattle.ir_store.specs.declared.operation.Value.{Value}
 use Rattle.ir_store.specs.BodyOps.{same_value, replace_value}
 use Rattle.ir_store.specs.Ids.{times}
 use Rattle.ir_store.specs.Chains.{once_if, cell_or_none}
-use Rattle.ir_store.specs.ChainedValues.{is_value, has_value}
+use Rattle.ir_store.specs.ChainedValues.{has_value}
 use Rattle.ir_store.proofs.Linking.{first_there}
 use Rattle.ir_store.proofs.Seeking.{same_is}
 

@@ -1,8 +1,7 @@
 -- Walks along a chain to the cells of one value.
-use Rattle.std.proofs.Common.{◌≡◌, ℕ, zero, suc, ◌+◌, ◌<◌, ◌≤◌, Bool, true, false, cond, nat_eq, List, [], ◌∷◌, ◌++◌, length, get_or, refl, ap, sym, ◌∙◌, subst, arith}
+use Rattle.std.proofs.Common.{◌≡◌, ℕ, suc, ◌<◌, ◌≤◌, Bool, true, false, cond, nat_eq, List, [], ◌∷◌, ◌++◌, length, get_or, refl, ap, sym, ◌∙◌, subst, arith}
 use Rattle.std.specs.Prelude.{Option, Some, None, Contains, IfSome, ◌&&◌, option_map, slice_get}
 use Rattle.std.proofs.lemmas.Bool.{eqb-true, eqb-false}
-use Rattle.ir_store.specs.declared.operation.OpId.{OpId}
 use Rattle.ir_store.specs.declared.operation.Value.{Value}
 use Rattle.ir_store.specs.declared.operation.Value.TheVariants.{Port, Result, Undefined}
 use Rattle.ir_store.specs.BodyOps.{same_value}

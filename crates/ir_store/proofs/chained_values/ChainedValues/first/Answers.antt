@@ -1,4 +1,4 @@
-use Rattle.std.proofs.Common.{◌≡◌, length}
+use Rattle.std.proofs.Common.{length}
 use Rattle.ir_store.specs.ChainedValues.{head_of}
 use Rattle.std.proofs.Common.{refl}
 use Rattle.ir_store.proofs.Seeking.{each_once}

@@ -1,4 +1,4 @@
-use Rattle.std.proofs.Common.{◌≡◌, ◌<◌, ℕ, [], ◌∷◌, ◌++◌, List, length, get_or, refl, ap, sym, ◌∙◌}
+use Rattle.std.proofs.Common.{◌≡◌, [], length, get_or, ap, ◌∙◌}
 use Rattle.std.specs.Prelude.{Contains}
 use Rattle.ir_store.specs.Chains.{cell_or_none}
 use Rattle.ir_store.specs.ChainedValues.{head_of}

@@ -1,4 +1,4 @@
-use Rattle.std.proofs.Common.{◌≡◌, ℕ, [], length, get_or}
+use Rattle.std.proofs.Common.{◌≡◌, [], length, get_or}
 use Rattle.std.specs.Prelude.{Contains, IfSome}
 use Rattle.ir_store.specs.Chains.{cell_or_none}
 use Rattle.ir_store.specs.ChainedValues.{cells_with, rest_at}

@@ -1,4 +1,4 @@
-use Rattle.std.proofs.Common.{◌<◌, ◌≤◌, ◌-◌, ◌+◌, length, get_or, ap, arith, rules}
+use Rattle.std.proofs.Common.{◌<◌, ◌-◌, ◌+◌, length, get_or, ap, arith, rules}
 use Rattle.ir_store.specs.OperandLists.{OperandLists, start_of}
 use Rattle.ir_store.proofs.Cutting.{in_table, in_list, list_set, end_le}
 use Rattle.ir_store.proofs.operands.OperandTable.set.Goals as goal
