@@ -6,7 +6,7 @@ use Rattle.std.proofs.lemmas.Bool.{eqb-true}
 use Rattle.ir_store.specs.declared.links.Link.{Link}
 use Rattle.ir_store.specs.Ids.{times}
 use Rattle.ir_store.specs.Links.{none, new_link, next_at, prev_at, first_of, last_of, IsLinked, with_next, with_prev, linked_in, linked_out}
-use Rattle.ir_store.specs.Chains.{AreChains, HasChains, IsAlone, has_head, once_if, with_front, with_head, cut, without, spliced, cell_or_none, cell_unless_none, walk_on, chain_in, chains_in}
+use Rattle.ir_store.specs.Chains.{AreChains, HasChains, IsAlone, has_head, once_if, with_front, with_head, cut, without, splice_chains, cell_or_none, cell_unless_none, walk_on, chain_in, chains_in}
 use Rattle.ir_store.proofs.IdLemmas.{contained_times, times-append, length-put_at}
 use Rattle.ir_store.proofs.Linking.{linked_back}
 use Rattle.ir_store.proofs.Ordering.{length-linked_in}
@@ -118,12 +118,12 @@ splice_seen links ms heads s t last first next h s_in t_in other some e_last e_n
     let f : first ≡ get_or heads s none = e_first ∙ get_or_default heads s first none s_in in
     let links_are : ms ≡ with_prev (first_of (chain_in links heads t) none) (last_of none (chain_in links heads s)) (with_next (last_of none (chain_in links heads s)) (first_of (chain_in links heads t) none) links) = rw (← l, ← n) m in
     let long : 0 < length (chain_in links heads s) = rw at_s at some in
-    let ok : AreChains ms (set (set heads t first) s none) (spliced s t (chain_in links heads)) (λ v. cond (has_head (h.head v) s) (Some t) (h.head v)) = rw (links_are, f) (chained_splice links heads (chain_in links heads) h.head h.ok s t other long s_in t_in) in
+    let ok : AreChains ms (set (set heads t first) s none) (splice_chains s t (chain_in links heads)) (λ v. cond (has_head (h.head v) s) (Some t) (h.head v)) = rw (links_are, f) (chained_splice links heads (chain_in links heads) h.head h.ok s t other long s_in t_in) in
     let size : length (set (set heads t first) s none) ≡ length heads = length-set (set heads t first) s none ∙ length-set heads t first in
     record {
-      has = has_chains ms (set (set heads t first) s none) (spliced s t (chain_in links heads)) (λ v. cond (has_head (h.head v) s) (Some t) (h.head v)) ok;
+      has = has_chains ms (set (set heads t first) s none) (splice_chains s t (chain_in links heads)) (λ v. cond (has_head (h.head v) s) (Some t) (h.head v)) ok;
       seen =
-          two_changed links ms heads (set (set heads t first) s none) (spliced s t (chain_in links heads)) (λ v. cond (has_head (h.head v) s) (Some t) (h.head v)) ok size s t [] (chain_in links heads s ++ chain_in links heads t) s_in t_in (λ u. refl)
+          two_changed links ms heads (set (set heads t first) s none) (splice_chains s t (chain_in links heads)) (λ v. cond (has_head (h.head v) s) (Some t) (h.head v)) ok size s t [] (chain_in links heads s ++ chain_in links heads t) s_in t_in (λ u. refl)
           ∙ rw (at_s, at_t) refl;
     }
 

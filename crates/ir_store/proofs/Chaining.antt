@@ -6,7 +6,7 @@ use Rattle.std.proofs.lemmas.Bool.{eqb-true, eqb-false}
 use Rattle.ir_store.specs.declared.links.Link.{Link}
 use Rattle.ir_store.specs.Ids.{times, put_at}
 use Rattle.ir_store.specs.Links.{none, no_link, new_link, free_link, link_at, next_at, prev_at, first_of, last_of, IsLinked, with_next, with_prev, linked_in, linked_out}
-use Rattle.ir_store.specs.Chains.{AreChains, has_head, once_if, with_front, cut, without, with_head, spliced}
+use Rattle.ir_store.specs.Chains.{AreChains, has_head, once_if, with_front, cut, without, with_head, splice_chains}
 use Rattle.ir_store.proofs.IdLemmas.{times-append, get_or-put_at_other, length-put_at}
 use Rattle.ir_store.proofs.Linking.{next_other, prev_other, first_there, last_there, linked_same, linked_back, linked_join, linked_more, linked_less, length-with_next, length-with_prev, new_end, new_start}
 use Rattle.ir_store.proofs.Ordering.{length-linked_in, length-linked_out}
@@ -135,17 +135,17 @@ module _ (links : List Link) (heads : List ℕ) (chain : ℕ → List ℕ) (head
 -- ---- a cell is taken out
 
 -- the cells before and after one that is there
-pub record Parted (cell : ℕ) (zs : List ℕ) : Type 0 where
+pub record PartsAt (cell : ℕ) (zs : List ℕ) : Type 0 where
   pub front : List ℕ
   pub back : List ℕ
   pub whole : zs ≡ front ++ cell ∷ back
   pub rest : cut cell zs ≡ front ++ back
 
-pub parted : (cell : ℕ) (zs : List ℕ) → 0 < times cell zs → Parted cell zs
-parted cell [] h = absurd (omega (arith, h))
-parted cell (z ∷ zs) h = go (nat_eq z cell) refl h (parted cell zs)
+pub parts_at : (cell : ℕ) (zs : List ℕ) → 0 < times cell zs → PartsAt cell zs
+parts_at cell [] h = absurd (omega (arith, h))
+parts_at cell (z ∷ zs) h = go (nat_eq z cell) refl h (parts_at cell zs)
   where
-    go : (b : Bool) → nat_eq z cell ≡ b → 0 < cond b (suc (times cell zs)) (times cell zs) → (0 < times cell zs → Parted cell zs) → Parted cell (z ∷ zs)
+    go : (b : Bool) → nat_eq z cell ≡ b → 0 < cond b (suc (times cell zs)) (times cell zs) → (0 < times cell zs → PartsAt cell zs) → PartsAt cell (z ∷ zs)
     go true t h r = record {
       front = [];
       back = zs;
@@ -164,7 +164,7 @@ parted cell (z ∷ zs) h = go (nat_eq z cell) refl h (parted cell zs)
 -- how often a cell stands there once one is taken out
 pub times-cut : (cell v : ℕ) (zs : List ℕ) → 0 < times cell zs → times v (cut cell zs) + once_if (nat_eq cell v) ≡ times v zs
 times-cut cell v zs h =
-    let p = parted cell zs h in
+    let p = parts_at cell zs h in
     let e : times v (cut cell zs) ≡ times v (p.front ++ p.back) = ap (times v) p.rest in
     let f : times v zs ≡ times v (p.front ++ cell ∷ p.back) = ap (times v) p.whole in
     omega (arith, e, f, go (nat_eq cell v) refl p.front p.back)
@@ -199,8 +199,8 @@ module _ (links : List Link) (heads : List ℕ) (chain : ℕ → List ℕ) (head
   is_here : 0 < times cell (chain s)
   is_here = omega (arith, chain_here links heads chain head ok s cell at)
 
-  parts : Parted cell (chain s)
-  parts = parted cell (chain s) is_here
+  parts : PartsAt cell (chain s)
+  parts = parts_at cell (chain s) is_here
 
   link_here : link_at links cell ≡ new_link (last_of none parts.front) (first_of parts.back none)
   link_here =
@@ -294,8 +294,8 @@ module _ (links : List Link) (heads : List ℕ) (chain : ℕ → List ℕ) (head
   abbrev after : ℕ
   after = first_of (chain t) none
 
-  abbrev joined : List Link
-  joined = with_prev after last (with_next last after links)
+  abbrev joined_links : List Link
+  joined_links = with_prev after last (with_next last after links)
 
   last_here : 0 < length (chain s) → 0 < times last (chain s)
   last_here h = go (chain s) h
@@ -311,21 +311,21 @@ module _ (links : List Link) (heads : List ℕ) (chain : ℕ → List ℕ) (head
   not_after : (u v : ℕ) → (t ≡ u → ⊥) → 0 < times v (chain u) → v ≡ after → ⊥
   not_after u v n h = first_apart_of links heads chain head ok t u v (chain t) refl n h
 
-  joined_linked : 0 < length (chain s) → IsLinked joined none (chain s ++ chain t) none
+  joined_linked : 0 < length (chain s) → IsLinked joined_links none (chain s ++ chain t) none
   joined_linked some =
       let l1 = with_next last after links in
       let x1 : IsLinked l1 none (chain s) after = new_end links none (chain s) none after (chain_once links heads chain head ok s) (ok.linked s) in
       let y1 : IsLinked l1 none (chain t) none = linked_same links l1 none (chain t) none (λ v h. next_other last v after links (not_last some t v other h)) (ok.linked t) in
-      let x2 : IsLinked joined none (chain s) after = linked_same l1 joined none (chain s) after (λ v h. prev_other after v last l1 (not_after s v (λ e. other (sym e)) h)) x1 in
-      let y2 : IsLinked joined last (chain t) none = new_start l1 none (chain t) none last (chain_once links heads chain head ok t) y1 in
-      linked_join joined none (chain s) (chain t) none x2 y2
+      let x2 : IsLinked joined_links none (chain s) after = linked_same l1 joined_links none (chain s) after (λ v h. prev_other after v last l1 (not_after s v (λ e. other (sym e)) h)) x1 in
+      let y2 : IsLinked joined_links last (chain t) none = new_start l1 none (chain t) none last (chain_once links heads chain head ok t) y1 in
+      linked_join joined_links none (chain s) (chain t) none x2 y2
 
-  spliced_linked : 0 < length (chain s) → (u : ℕ) (a b : Bool) → nat_eq s u ≡ a → nat_eq t u ≡ b → IsLinked joined none (cond a [] (cond b (chain s ++ chain t) (chain u))) none
+  spliced_linked : 0 < length (chain s) → (u : ℕ) (a b : Bool) → nat_eq s u ≡ a → nat_eq t u ≡ b → IsLinked joined_links none (cond a [] (cond b (chain s ++ chain t) (chain u))) none
   spliced_linked some u true b e f = tt
   spliced_linked some u false true e f = joined_linked some
   spliced_linked some u false false e f =
       let l1 = with_next last after links in
-      linked_same links joined none (chain u) none
+      linked_same links joined_links none (chain u) none
       (λ v h. prev_other after v last l1 (not_after u v (eqb-false t u f) h) ∙ next_other last v after links (not_last some u v (eqb-false s u e) h))
       (ok.linked u)
 
@@ -345,8 +345,8 @@ module _ (links : List Link) (heads : List ℕ) (chain : ℕ → List ℕ) (head
       ∙ (get_or-set_other heads t u (get_or heads s none) none (λ d. eqb-false t u f (sym d)) ∙ ok.first u)
 
   -- the heads of cells once those of the first are those of the other
-  abbrev moved : ℕ → Option ℕ
-  moved v = cond (has_head (head v) s) (Some t) (head v)
+  abbrev head_moved : ℕ → Option ℕ
+  head_moved v = cond (has_head (head v) s) (Some t) (head v)
 
   -- how often a cell is in either chain
   either : (o : Option ℕ) → once_if (has_head o s) + once_if (has_head o t) ≡ once_if (has_head (cond (has_head o s) (Some t) o) t)
@@ -375,15 +375,15 @@ module _ (links : List Link) (heads : List ℕ) (chain : ℕ → List ℕ) (head
       go true e = rw (unlike t u m, unlike w u (λ d. n (sym (eqb-true w s e) ∙ d))) refl
       go false e = refl
 
-  spliced_members : (u v : ℕ) (a b : Bool) → nat_eq s u ≡ a → nat_eq t u ≡ b → times v (cond a [] (cond b (chain s ++ chain t) (chain u))) ≡ once_if (has_head (moved v) u)
+  spliced_members : (u v : ℕ) (a b : Bool) → nat_eq s u ≡ a → nat_eq t u ≡ b → times v (cond a [] (cond b (chain s ++ chain t) (chain u))) ≡ once_if (has_head (head_moved v) u)
   spliced_members u v true b e f = rw (← eqb-true s u e) (gone (head v))
   spliced_members u v false true e f =
       rw (← eqb-true t u f) (omega (arith, times-append v (chain s) (chain t), ok.members s v, ok.members t v, either (head v)))
   spliced_members u v false false e f = ok.members u v ∙ kept (head v) u (eqb-false s u e) (eqb-false t u f)
 
-  pub chained_splice : 0 < length (chain s) → s < length heads → t < length heads → AreChains joined (set (set heads t (get_or heads s none)) s none) (spliced s t chain) moved
+  pub chained_splice : 0 < length (chain s) → s < length heads → t < length heads → AreChains joined_links (set (set heads t (get_or heads s none)) s none) (splice_chains s t chain) head_moved
   chained_splice some s_in t_in =
-      let size : length joined ≡ length links = length-with_prev after last (with_next last after links) ∙ length-with_next last after links in
+      let size : length joined_links ≡ length links = length-with_prev after last (with_next last after links) ∙ length-with_next last after links in
       record {
         few = omega (arith, ok.few, size);
         linked = λ u. spliced_linked some u (nat_eq s u) (nat_eq t u) refl refl;

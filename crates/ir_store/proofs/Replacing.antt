@@ -15,7 +15,7 @@ value_count v [] = 0
 value_count v (x ∷ xs) = cond (same_value v x) (suc (value_count v xs)) (value_count v xs)
 
 -- a cell that has the value, written with another
-pub record Written (from to : Value) (xs : List Value) (cell : ℕ) : Type 0 where
+pub record CellWritten (from to : Value) (xs : List Value) (cell : ℕ) : Type 0 where
   pub within : cell < length xs
   pub kept : map (replace_value from to) (set xs cell to) ≡ map (replace_value from to) xs
   pub fewer : same_value from to ≡ false → value_count from (set xs cell to) < value_count from xs
@@ -27,17 +27,17 @@ to_is from to = go (same_value from to)
     go true = refl
     go false = refl
 
-pub written : (from to : Value) (xs : List Value) (cell : ℕ) → has_value from xs cell ≡ true → Written from to xs cell
-written from to [] cell h = cc
-written from to (x ∷ xs) zero h = record {
+pub cell_written : (from to : Value) (xs : List Value) (cell : ℕ) → has_value from xs cell ≡ true → CellWritten from to xs cell
+cell_written from to [] cell h = cc
+cell_written from to (x ∷ xs) zero h = record {
   within = omega arith;
   kept =
       let e : replace_value from to to ≡ replace_value from to x = rw (to_is from to, h) refl in
       ap (λ y. y ∷ map (replace_value from to) xs) e;
   fewer = λ n. rw (n, h) (omega arith);
 }
-written from to (x ∷ xs) (suc cell) h =
-    let r = written from to xs cell h in
+cell_written from to (x ∷ xs) (suc cell) h =
+    let r = cell_written from to xs cell h in
     record {
       within = omega (arith, r.within);
       kept = ap (λ ys. replace_value from to x ∷ ys) r.kept;

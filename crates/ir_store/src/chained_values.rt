@@ -99,12 +99,16 @@ impl ChainedValues {
             return Err(AllocError);
         }
         let room = (len + more).max(len.saturating_mul(2)).min(MOST);
-        *self = ChainedValues::copied(alloc, self.values.as_slice(), room)?;
+        *self = ChainedValues::copy_of(alloc, self.values.as_slice(), room)?;
         Ok(())
     }
 
     /// Equal values with memory of their own, with room for so many in all.
-    pub fn copied(alloc: Global, values: &[Value], room: usize) -> Result<ChainedValues, AllocError>
+    pub fn copy_of(
+        alloc: Global,
+        values: &[Value],
+        room: usize,
+    ) -> Result<ChainedValues, AllocError>
         requires { (length values.now ≤ room) × (room < 2 ^ 32) }
         ensures items { IfOk result (λ t. t.items ≡ values.now) }
         ensures room { IfOk result (λ t. room ≤ t.room + length values.now) }

@@ -1,6 +1,6 @@
 use Rattle.std.proofs.Common.{◌≤◌, length, sym, ◌∙◌, arith}
 use Rattle.std.proofs.lemmas.List.{take_more, take_all}
-use Rattle.ir_store.proofs.chained_values.ChainedValues.copied.Goals as goal
+use Rattle.ir_store.proofs.chained_values.ChainedValues.copy_of.Goals as goal
 
 pub loop-value-init : goal.loop-value-init
 loop-value-init c = (c.in_ok-copy.ensures.items, omega (arith, c.in_ok-copy.ensures.room, c.requires))
