@@ -1,4 +1,4 @@
-use command_line::invocation::{Invocation, LineFail, read_line};
+use command_line::invocation::{LineFail, Work, read_line};
 use command_line::normalise::{WordsFail, normalise};
 use command_line::usage::UsageKind;
 use std::alloc::{AllocError, Global};
@@ -108,11 +108,14 @@ fn is_command(
 ) -> Result<bool, AllocError> {
     let words = words_of(alloc, line)?;
     match read_line(alloc, words.as_slice()) {
-        Ok(Invocation::Opt(paths)) => {
-            Ok(!translates && paths.input == input && paths.output == output)
-        }
-        Ok(Invocation::Translate(paths)) => {
-            Ok(translates && paths.input == input && paths.output == output)
+        Ok(invocation) => {
+            let is_work = match invocation.work {
+                Work::Mlir(_) => !translates,
+                Work::Verilog(_) => translates,
+            };
+            let names = invocation.inputs.as_slice();
+            let is_input = names.len() == 1 && names[0] == input;
+            Ok(is_work && is_input && invocation.output == output)
         }
         Err(LineFail::Usage(_)) => Ok(false),
         Err(LineFail::NoMemory) => Err(AllocError),

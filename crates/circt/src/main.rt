@@ -2,7 +2,7 @@
 #![tactic(auto)]
 
 ghost use Rattle.std.specs.Prelude.{IfErr};
-ghost use Rattle.circt_top.specs.Runs.{IsStop};
+ghost use Rattle.circt_top.specs.Ends.{end_of, IsStop};
 
 use circt_top::run::run_circt;
 use circt_top::status::Status;
@@ -10,6 +10,7 @@ use circt_top::stop;
 use command_line::usage::UsageKind;
 use io_edge::real_files::RealFiles;
 use io_edge::real_sink::RealSink;
+use pass_manager::gate::Open;
 use std::env;
 use std::io::ErrorKind;
 use std::process::ExitCode;
@@ -34,13 +35,14 @@ fn main(rt: HostRuntime) -> ExitCode {
         &mut files,
         &mut out,
         &mut err,
+        &Open,
     );
     ExitCode::from(status.code())
 }
 
 // The words after the program's name.
 fn words(rt: &HostRuntime) -> Result<Vec<String>, Status>
-    ensures { IfErr result IsStop }
+    ensures { IfErr result (λ status. IsStop (end_of status)) }
 {
     let mut words = match env::args(rt) {
         Ok(args) => args,

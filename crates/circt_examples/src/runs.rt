@@ -2,6 +2,7 @@
 use circt_top::run::run_circt;
 use io_edge::memory_files::{MemoryFile, MemoryFiles};
 use io_edge::memory_sink::MemorySink;
+use pass_manager::gate::Open;
 use std::alloc::{AllocError, Global};
 use std::thread::Threads;
 
@@ -32,7 +33,15 @@ pub fn run(
     let mut files = MemoryFiles::new(alloc, files);
     let mut out = MemorySink::new(alloc, ROOM)?;
     let mut err = MemorySink::new(alloc, ROOM)?;
-    let status = run_circt(rt, alloc, split.as_slice(), &mut files, &mut out, &mut err);
+    let status = run_circt(
+        rt,
+        alloc,
+        split.as_slice(),
+        &mut files,
+        &mut out,
+        &mut err,
+        &Open,
+    );
     let code = status.code();
     Ok(Ended { code, out, err })
 }

@@ -1,37 +1,59 @@
--- What is known of the told input from what was read of it: at most one byte more than a text may have.
-use Rattle.std.proofs.Common.{◌≡◌, ℕ, ◌<◌, ◌≤◌, inl, inr, min, Bool, true, false, cond, nat_lt, List, length, take, Option, Some, None, Result, Ok, Err, refl, sym, ◌∙◌, ap, arith, length-take, take_all, option_map, lt-ltb, ltb-true, ltb-false}
+-- What is known of the told inputs from what was read of them: at most one byte more than a text may have.
+use Rattle.std.proofs.Common.{◌≡◌, ℕ, ◌<◌, ◌≤◌, inl, inr, min, Bool, true, false, cond, nat_lt, List, [], ◌∷◌, length, take, Option, Some, None, Result, Ok, Err, refl, sym, ◌∙◌, ap, subst, arith, length-take, take_all, option_map, lt-ltb, ltb-true, ltb-false}
+use Rattle.wiring.specs.Wiring.{In}
 use Rattle.hw_model.specs.Types.{Name}
 use Rattle.hw_model.specs.Design.{Design}
-use Rattle.io_edge.specs.Reading.{file_at}
+use Rattle.io_edge.specs.Reading.{Reads}
 use Rattle.diag.specs.Place.{start_place}
 use Rattle.diag.specs.declared.refusal.OpName.TheVariants as op
 use Rattle.diag.specs.declared.cause.Cause.TheVariants.{TooLong}
 use Rattle.diag.specs.declared.refusal.Refusal.{Refusal}
-use Rattle.command_line.specs.Line.{Command}
-use Rattle.command_line.specs.Line.Command.{opt, translate}
+use Rattle.command_line.specs.Line.{Command, Work}
+use Rattle.command_line.specs.Line.Work.{mlir, verilog}
 use Rattle.mlir_syntax.specs.Stream.{stream_of, refusal}
 use Rattle.mlir_operations.specs.ModuleText.{file_text}
 use Rattle.mlir_reader.specs.Reading.{text_limit, read, design_read}
-use Rattle.circt_top.specs.Accepting.{Accepted, IsRefused, unread, unaccepted}
+use Rattle.pass_pipeline.specs.declared.pass.Pass.{Pass}
+use Rattle.circt_top.specs.Accepting.{Accepted, IsRefused, IsRefusedIn, first_input, unread, unaccepted}
 use Rattle.circt_top.specs.Reprint.{IsReprint}
 use Rattle.circt_top.specs.Translation.{IsTranslation, IsUnexported}
-use Rattle.circt_top.specs.Outcome.{IsOutcome}
-use Rattle.circt_top.specs.Answer.{read_limit, told_at, IsMissing, IsMadeOf, IsRefusalOf, IsReadOf}
+use Rattle.circt_top.specs.Outcome.{Verdict, Answer, IsAnswer}
+use Rattle.circt_top.specs.Outcome.Verdict.{given}
+use Rattle.circt_top.specs.Outcome.Answer.{printed, refused}
+use Rattle.circt_top.specs.Inputs.{Told, read_limit, told_at, AreContents, IsMissing, IsOneMissing, AreReads, fronts}
+use Rattle.circt_top.specs.Answer.{IsMadeOf, IsRefusalOf}
 
--- what a read of a file says of the told files
-abbrev pub IsRead : Name → Option (List (Name × Name)) → List ℕ → Type 0
-IsRead name told source = (files : List (Name × Name)) → told ≡ Some files → option_map (take read_limit) (file_at name files) ≡ Some source
-
-pub front_read : (name : Name) (told : Option (List (Name × Name))) (source : List ℕ) → IsRead name told source → IsReadOf (told_at name told) source
-front_read name None source read bytes h = cc
-front_read name (Some files) source read bytes h =
+front_read : (name : Name) (told : Told) (source bytes : List ℕ) → Reads told name read_limit (Ok source) → told_at name told ≡ Some bytes → source ≡ take read_limit bytes
+front_read name None source bytes read h = cc
+front_read name (Some files) source bytes read h =
     let e : Some (take read_limit bytes) ≡ Some source = ap (option_map (take read_limit)) (sym h) ∙ read files refl in cc
 
+-- what was read of told files are fronts of their contents
+pub fronts_read : (told : Told) (names : List Name) (sources contents : List (List ℕ)) → AreReads told names sources → AreContents told names contents → sources ≡ fronts contents
+fronts_read told [] [] [] read h = refl
+fronts_read told [] [] (bytes ∷ contents) read h = absurd h
+fronts_read told [] (source ∷ sources) contents read h = absurd read
+fronts_read told (name ∷ names) [] contents read h = absurd read
+fronts_read told (name ∷ names) (source ∷ sources) [] read h = absurd h
+fronts_read told (name ∷ names) (source ∷ sources) (bytes ∷ contents) read h =
+    let first : source ≡ take read_limit bytes = front_read name told source bytes read.0 h.0 in
+    let rest : sources ≡ fronts contents = fronts_read told names sources contents read.1 h.1 in
+    rw (first, rest) refl
+
 -- no file that is missing is read
-pub missing_unread : (name : Name) (told : Option (List (Name × Name))) (source : List ℕ) → IsRead name told source → IsMissing name told → ⊥
+missing_unread : (name : Name) (told : Told) (source : List ℕ) → Reads told name read_limit (Ok source) → IsMissing name told → ⊥
 missing_unread name None source read missing = missing
 missing_unread name (Some files) source read missing =
     let e : None ≡ Some source = ap (option_map (take read_limit)) (sym missing) ∙ read files refl in cc
+
+missing_among : (told : Told) (names : List Name) (sources : List (List ℕ)) → AreReads told names sources → (name : Name) → In name names → IsMissing name told → ⊥
+missing_among told [] sources read name there missing = there
+missing_among told (first ∷ names) [] read name there missing = read
+missing_among told (first ∷ names) (source ∷ sources) read name (inl here) missing = missing_unread first told source read.0 (subst (λ n. IsMissing n told) here missing)
+missing_among told (first ∷ names) (source ∷ sources) read name (inr there) missing = missing_among told names sources read.1 name there missing
+
+pub none_missing : (told : Told) (names : List Name) (sources : List (List ℕ)) → AreReads told names sources → IsOneMissing told names → ⊥
+none_missing told names sources read missing = missing_among told names sources read missing.0 missing.1 missing.2
 
 -- a short front is the whole
 whole_read : (bytes source : List ℕ) → source ≡ take read_limit bytes → length source ≤ text_limit → source ≡ bytes
@@ -71,41 +93,55 @@ refused_again : (bytes source : List ℕ) (r : Refusal) → read source ≡ read
 refused_again bytes source r same (unread x e) = unread x (sym same ∙ e)
 refused_again bytes source r same (unaccepted d x e f) = unaccepted d x (sym same ∙ e) f
 
-reprint_whole : (bytes source text : List ℕ) → read source ≡ read bytes → IsReprint source text → IsReprint bytes text
-reprint_whole bytes source text same is = record {
+refused_in_again : (number : ℕ) (bytes source : List ℕ) (r : Refusal) → read source ≡ read bytes → IsRefusedIn number source r → IsRefusedIn number bytes r
+refused_in_again number bytes source r same is =
+    record { refusal = is.refusal; refused = refused_again bytes source is.refusal same is.refused; numbered = is.numbered }
+
+reprint_whole : (passes : List Pass) (bytes source text : List ℕ) → read source ≡ read bytes → IsReprint passes source text → IsReprint passes bytes text
+reprint_whole passes bytes source text same is = record {
   design = is.design;
   accepted = accepted_whole bytes source is.design same is.accepted;
+  partners = is.partners;
   said_again = is.said_again;
   laid_out = is.laid_out;
 }
 
-translation_whole : (bytes source text : List ℕ) → read source ≡ read bytes → IsTranslation source text → IsTranslation bytes text
-translation_whole bytes source text same is = record {
+translation_whole : (passes : List Pass) (bytes source text : List ℕ) → read source ≡ read bytes → IsTranslation passes source text → IsTranslation passes bytes text
+translation_whole passes bytes source text same is = record {
   design = is.design;
   accepted = accepted_whole bytes source is.design same is.accepted;
+  partners = is.partners;
   exported = is.exported;
   behaves = is.behaves;
   laid_out = is.laid_out;
 }
 
-unexported_whole : (bytes source : List ℕ) (r : Refusal) → read source ≡ read bytes → IsUnexported source r → IsUnexported bytes r
-unexported_whole bytes source r same is =
+unexported_whole : (passes : List Pass) (bytes source : List ℕ) (r : Refusal) → read source ≡ read bytes → IsUnexported passes source r → IsUnexported passes bytes r
+unexported_whole passes bytes source r same is =
     record { design = is.design; accepted = accepted_whole bytes source is.design same is.accepted; missing = is.missing }
 
--- what is answered for a front is answered for the whole
-outcome_whole : (c : Command) (bytes source : List ℕ) (x : Result (List ℕ) Refusal) → read source ≡ read bytes → IsOutcome c source x → IsOutcome c bytes x
-outcome_whole (opt p) bytes source (Ok text) same is = reprint_whole bytes source text same is
-outcome_whole (opt p) bytes source (Err r) same is = refused_again bytes source r same is
-outcome_whole (translate p) bytes source (Ok text) same is = translation_whole bytes source text same is
-outcome_whole (translate p) bytes source (Err r) same (inl is) = inl (refused_again bytes source r same is)
-outcome_whole (translate p) bytes source (Err r) same (inr is) = inr (unexported_whole bytes source r same is)
+-- what is answered for fronts is answered for the whole
+answer_whole : (work : Work) (contents sources : List (List ℕ)) (x : Answer) → read (first_input sources) ≡ read (first_input contents) → IsAnswer work sources x → IsAnswer work contents x
+answer_whole (mlir passes) contents sources (printed given text) same is = reprint_whole passes (first_input contents) (first_input sources) text same is
+answer_whole (mlir passes) contents sources (refused r) same is = refused_in_again 0 (first_input contents) (first_input sources) r same is
+answer_whole (verilog passes) contents sources (printed given text) same is = translation_whole passes (first_input contents) (first_input sources) text same is
+answer_whole (verilog passes) contents sources (refused r) same (inl is) = inl (refused_in_again 0 (first_input contents) (first_input sources) r same is)
+answer_whole (verilog passes) contents sources (refused r) same (inr is) = inr (unexported_whole passes (first_input contents) (first_input sources) r same is)
 
--- what is refused of what was read is refused of the told file
-pub refused_whole : (c : Command) (name : Name) (told : Option (List (Name × Name))) (source : List ℕ) (r : Refusal) → IsRead name told source → IsOutcome c source (Err r)
-    → IsRefusalOf c (told_at name told) r
-refused_whole c name told source r read is bytes h = outcome_whole c bytes source (Err r) (read_whole bytes source (front_read name told source read bytes h)) is
+first_front : (contents : List (List ℕ)) → first_input (fronts contents) ≡ take read_limit (first_input contents)
+first_front [] = refl
+first_front (bytes ∷ contents) = refl
 
--- what is made of what was read is made of the told file
-pub made_whole : (c : Command) (name : Name) (told : Option (List (Name × Name))) (source text : List ℕ) → IsRead name told source → IsOutcome c source (Ok text)
-    → IsMadeOf c (told_at name told) text
-made_whole c name told source text read is bytes h = outcome_whole c bytes source (Ok text) (read_whole bytes source (front_read name told source read bytes h)) is
+inputs_whole : (contents sources : List (List ℕ)) → sources ≡ fronts contents → read (first_input sources) ≡ read (first_input contents)
+inputs_whole contents sources e = read_whole (first_input contents) (first_input sources) (ap first_input e ∙ first_front contents)
+
+-- what is refused of what was read is refused of the told files
+pub refused_whole : (c : Command) (told : Told) (sources : List (List ℕ)) (r : Refusal) → AreReads told c.inputs sources → IsAnswer c.work sources (refused r) → IsRefusalOf c told r
+refused_whole c told sources r read is =
+    λ contents h. answer_whole c.work contents sources (refused r) (inputs_whole contents sources (fronts_read told c.inputs sources contents read h)) is
+
+-- what is made of what was read is made of the told files
+pub made_whole : (c : Command) (told : Told) (sources : List (List ℕ)) (verdict : Verdict) (text : List ℕ) → AreReads told c.inputs sources → IsAnswer c.work sources (printed verdict text)
+    → IsMadeOf c told verdict text
+made_whole c told sources verdict text read is =
+    λ contents h. answer_whole c.work contents sources (printed verdict text) (inputs_whole contents sources (fronts_read told c.inputs sources contents read h)) is

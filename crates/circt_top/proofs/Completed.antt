@@ -1,22 +1,23 @@
--- From a run on the files of a command to a run for its words; and the ends that are left where nothing failed.
+-- From a run of a command to a run for its words; and the ends that are left where nothing failed.
 use Rattle.std.proofs.Common.{◌≡◌, ℕ, List, [], Option, Some, None, Ok, Err, sym, ◌∙◌, ap, subst}
 use Rattle.hw_model.specs.Types.{Name}
 use Rattle.diag.specs.declared.refusal.Refusal.{Refusal}
 use Rattle.command_line.specs.Normal.{normal}
-use Rattle.command_line.specs.Line.{Command, Paths, parse, if_normal, line}
+use Rattle.command_line.specs.Line.{Command, parse, if_normal, line}
 use Rattle.command_line.specs.declared.usage.UsageKind.TheVariants.{Words}
 use Rattle.command_line.specs.declared.usage.UsageKind.{UsageKind}
-use Rattle.circt_top.specs.Words.{input_of, paths_in, fault_of, fault_in}
-use Rattle.circt_top.specs.Runs.{IsStop}
-use Rattle.circt_top.specs.Outcome.{IsAnswered}
-use Rattle.circt_top.specs.Answer.{Told, told_at, OnFile, IsReadOf, line_of, Reports, ReportsEnd, usage_of, ForCommand, OnRefused, OnReadFault, OnWriteFault, OnDone, IsRefusalOf, IsMadeOf, IsUsage, IsDoneOrNoMemory, IsRefusedOrNoMemory}
-use Rattle.circt_top.specs.declared.status.Status.{Status}
+use Rattle.circt_top.specs.Words.{fault_of, fault_in, ForCommand}
+use Rattle.circt_top.specs.Inputs.{Told, AreContents}
+use Rattle.circt_top.specs.Outcome.{Verdict, IsAnswered}
+use Rattle.circt_top.specs.Ends.{End, usage_of, OnAnswered, OnRefused, OnReadFault, OnWriteFault, IsUsage, IsStop, IsAnsweredOrNoMemory, IsRefusedOrNoMemory}
+use Rattle.circt_top.specs.Ends.End.{usage, answered, refused, read_fault, write_fault, no_memory}
+use Rattle.circt_top.specs.Answer.{IsMadeOf, IsRefusalOf, Subject, IsSubject, line_of, Reports, ReportsEnd}
 use Rattle.circt_top.proofs.Answers.{answered_unrefused, made_answered}
-use Rattle.circt_top.specs.declared.status.Status.TheVariants.{Done, Refused, Usage, ReadFault, WriteFault, NoMemory}
+use Rattle.circt_top.proofs.Ends.{answered_on, refused_on, read_fault_on, write_fault_on}
 
--- the files of an end that names none
-nameless : Paths
-nameless = record { input = []; output = None }
+-- what the line of an end names that names nothing
+nameless : Subject
+nameless = record { input = []; source = []; output = None }
 
 -- the words say one command
 same_command : (words : List Name) {p q : Command} → line words ≡ Ok p → line words ≡ Ok q → p ≡ q
@@ -36,100 +37,69 @@ pub reserved_is : (words : List Name) → normal words ≡ None → fault_of wor
 reserved_is words e = ap (λ o. fault_in (if_normal o)) e
 
 -- an end before any file is read is reported
-pub stopped_ends : {S : Type 0} (told : S → Option (List ℕ)) (faults : S → ℕ) (words : List Name) (files : Told) (status : Status) (before after : S) → IsStop status
-    → ((paths : Paths) → Reports told faults before after (line_of paths [] status)) → ReportsEnd told faults words files status before after
-stopped_ends told faults words files Done before after stop reports = absurd stop
-stopped_ends told faults words files (Refused refusal) before after stop reports = absurd stop
-stopped_ends told faults words files ReadFault before after stop reports = absurd stop
-stopped_ends told faults words files WriteFault before after stop reports = absurd stop
-stopped_ends told faults words files (Usage kind) before after stop reports =
-    record { paths = nameless; source = []; named = tt; read = tt; reports = reports nameless }
-stopped_ends told faults words files NoMemory before after stop reports =
-    record { paths = nameless; source = []; named = tt; read = tt; reports = reports nameless }
+pub stopped_ends : {S : Type 0} (told : S → Option (List ℕ)) (faults : S → ℕ) (words : List Name) (IsUnread : Name → Type 0) (files : Told) (end : End) (before after : S) → IsStop end
+    → ((s : Subject) → Reports told faults before after (line_of s end)) → ReportsEnd told faults words IsUnread files end before after
+stopped_ends told faults words IsUnread files (answered verdict) before after stop reports = absurd stop
+stopped_ends told faults words IsUnread files (refused r) before after stop reports = absurd stop
+stopped_ends told faults words IsUnread files read_fault before after stop reports = absurd stop
+stopped_ends told faults words IsUnread files write_fault before after stop reports = absurd stop
+stopped_ends told faults words IsUnread files (usage kind) before after stop reports = record { subject = nameless; named = λ c h. tt; reports = reports nameless }
+stopped_ends told faults words IsUnread files no_memory before after stop reports = record { subject = nameless; named = λ c h. tt; reports = reports nameless }
 
-named_on : (words : List Name) (p : Command) (status : Status) → line words ≡ Ok p → OnFile status (ForCommand words (λ c. paths_in p ≡ paths_in c))
-named_on words p Done h = tt
-named_on words p (Refused refusal) h = λ others k. ap paths_in (same_command words h k)
-named_on words p (Usage kind) h = tt
-named_on words p ReadFault h = λ others k. ap paths_in (same_command words h k)
-named_on words p WriteFault h = λ others k. ap paths_in (same_command words h k)
-named_on words p NoMemory h = tt
+-- the end of a run of a command is reported
+pub run_ends : {S : Type 0} (told : S → Option (List ℕ)) (faults : S → ℕ) (words : List Name) (IsUnread : Name → Type 0) (files : Told) (end : End) (before after : S) (p : Command)
+    → line words ≡ Ok p → (s : Subject) × IsSubject IsUnread files end p s × Reports told faults before after (line_of s end)
+    → ReportsEnd told faults words IsUnread files end before after
+run_ends told faults words IsUnread files end before after p h x =
+    record { subject = x.0; named = for_command words p (λ c. IsSubject IsUnread files end c x.0) h x.1; reports = x.2 }
 
--- the end of a run on the files of a command is reported
-pub run_ends : {S : Type 0} (told : S → Option (List ℕ)) (faults : S → ℕ) (words : List Name) (files : Told) (status : Status) (before after : S) (p : Command)
-    → line words ≡ Ok p
-    → (source : List ℕ) × OnRefused status (λ r. IsReadOf (told_at (input_of p) files) source) × Reports told faults before after (line_of (paths_in p) source status)
-    → ReportsEnd told faults words files status before after
-run_ends told faults words files status before after p h x =
-    record { paths = paths_in p; source = x.0; named = named_on words p status h; read = x.1; reports = x.2 }
+-- facts that hold of the command hold of the words
+pub refused_for : (words : List Name) (p : Command) (P : Command → Refusal → Type 0) (end : End) → line words ≡ Ok p → OnRefused end (P p)
+    → OnRefused end (λ r. ForCommand words (λ q. P q r))
+refused_for words p P end h x = refused_on (P p) (λ r. ForCommand words (λ q. P q r)) end (λ r. for_command words p (λ q. P q r) h) x
 
--- facts that hold of the files hold of the words
-pub refused_for : (words : List Name) (p : Command) (P : Command → Refusal → Type 0) (status : Status) → line words ≡ Ok p → OnRefused status (P p)
-    → OnRefused status (λ r. ForCommand words (λ q. P q r))
-refused_for words p P Done h x = tt
-refused_for words p P (Refused r) h x = for_command words p (λ q. P q r) h x
-refused_for words p P (Usage kind) h x = tt
-refused_for words p P ReadFault h x = tt
-refused_for words p P WriteFault h x = tt
-refused_for words p P NoMemory h x = tt
+pub answered_for : (words : List Name) (p : Command) (P : Command → Verdict → Type 0) (end : End) → line words ≡ Ok p → OnAnswered end (P p)
+    → OnAnswered end (λ verdict. ForCommand words (λ q. P q verdict))
+answered_for words p P end h x = answered_on (P p) (λ verdict. ForCommand words (λ q. P q verdict)) end (λ verdict. for_command words p (λ q. P q verdict) h) x
 
-pub read_fault_for : (words : List Name) (p : Command) (P : Command → Type 0) (status : Status) → line words ≡ Ok p → OnReadFault status (P p)
-    → OnReadFault status (ForCommand words P)
-read_fault_for words p P Done h x = tt
-read_fault_for words p P (Refused r) h x = tt
-read_fault_for words p P (Usage kind) h x = tt
-read_fault_for words p P ReadFault h x = for_command words p P h x
-read_fault_for words p P WriteFault h x = tt
-read_fault_for words p P NoMemory h x = tt
+pub read_fault_for : (words : List Name) (p : Command) (P : Command → Type 0) (end : End) → line words ≡ Ok p → OnReadFault end (P p)
+    → OnReadFault end (ForCommand words P)
+read_fault_for words p P end h x = read_fault_on (P p) (ForCommand words P) end (for_command words p P h) x
 
-pub write_fault_for : (words : List Name) (p : Command) (P : Command → Type 0) (status : Status) → line words ≡ Ok p → OnWriteFault status (P p)
-    → OnWriteFault status (ForCommand words P)
-write_fault_for words p P Done h x = tt
-write_fault_for words p P (Refused r) h x = tt
-write_fault_for words p P (Usage kind) h x = tt
-write_fault_for words p P ReadFault h x = tt
-write_fault_for words p P WriteFault h x = for_command words p P h x
-write_fault_for words p P NoMemory h x = tt
+pub write_fault_for : (words : List Name) (p : Command) (P : Command → Type 0) (end : End) → line words ≡ Ok p → OnWriteFault end (P p)
+    → OnWriteFault end (ForCommand words P)
+write_fault_for words p P end h x = write_fault_on (P p) (ForCommand words P) end (for_command words p P h) x
 
-pub done_for : (words : List Name) (p : Command) (P : Command → Type 0) (status : Status) → line words ≡ Ok p → OnDone status (P p)
-    → OnDone status (ForCommand words P)
-done_for words p P Done h x = for_command words p P h x
-done_for words p P (Refused r) h x = tt
-done_for words p P (Usage kind) h x = tt
-done_for words p P ReadFault h x = tt
-done_for words p P WriteFault h x = tt
-done_for words p P NoMemory h x = tt
+-- words that say a command are not wrong
+pub no_usage : (words : List Name) {p : Command} (end : End) → line words ≡ Ok p → usage_of end ≡ None → IsUsage end (fault_of words)
+no_usage words (usage kind) h none = let e : Some kind ≡ None = none in cc
+no_usage words (answered verdict) h none = ap fault_in h
+no_usage words (refused r) h none = ap fault_in h
+no_usage words read_fault h none = ap fault_in h
+no_usage words write_fault h none = ap fault_in h
+no_usage words no_memory h none = tt
 
--- words that name files are no usage
-pub no_usage : (words : List Name) {p : Command} (status : Status) → line words ≡ Ok p → usage_of status ≡ None → IsUsage status (fault_of words)
-no_usage words Done h none = ap fault_in h
-no_usage words (Refused r) h none = ap fault_in h
-no_usage words (Usage kind) h none = let e : Some kind ≡ None = none in cc
-no_usage words ReadFault h none = ap fault_in h
-no_usage words WriteFault h none = ap fault_in h
-no_usage words NoMemory h none = tt
-
-module _ (words : List Name) (p : Command) (input : Option (List ℕ)) (R W : Type 0) (D F : (List ℕ) → Type 0) (h : line words ≡ Ok p) (bytes : List ℕ) (told : input ≡ Some bytes) where
+module _ (words : List Name) (p : Command) (told : Told) (R W : Type 0) (D F : (List ℕ) → Type 0) (h : line words ≡ Ok p) (contents : List (List ℕ)) (are : AreContents told p.inputs contents) where
   usage_gone : (kind : UsageKind) → fault_of words ≡ Some kind → ⊥
   usage_gone kind e = let none : None ≡ Some kind = sym (ap fault_in h) ∙ e in cc
 
-  pub complete : (status : Status) → IsUsage status (fault_of words) → OnRefused status (IsRefusalOf p input) → OnReadFault status R → OnWriteFault status W
-      → IsAnswered p bytes → ¬ R → ¬ W → IsDoneOrNoMemory status
-  complete Done usage refuses read write answer no_read no_write = tt
-  complete (Refused refusal) usage refuses read write answer no_read no_write = answered_unrefused p bytes refusal answer (refuses bytes told)
-  complete (Usage kind) usage refuses read write answer no_read no_write = usage_gone kind usage
-  complete ReadFault usage refuses read write answer no_read no_write = no_read read
-  complete WriteFault usage refuses read write answer no_read no_write = no_write write
-  complete NoMemory usage refuses read write answer no_read no_write = tt
+  pub complete : (end : End) → IsUsage end (fault_of words) → OnRefused end (IsRefusalOf p told) → OnReadFault end R → OnWriteFault end W
+      → IsAnswered p.work contents → ¬ R → ¬ W → IsAnsweredOrNoMemory end
+  complete (usage kind) wrong refuses read write answer no_read no_write = usage_gone kind wrong
+  complete (answered verdict) wrong refuses read write answer no_read no_write = tt
+  complete (refused r) wrong refuses read write answer no_read no_write = answered_unrefused p.work contents r answer (refuses contents are)
+  complete read_fault wrong refuses read write answer no_read no_write = no_read read
+  complete write_fault wrong refuses read write answer no_read no_write = no_write write
+  complete no_memory wrong refuses read write answer no_read no_write = tt
 
-  pub refusing : (status : Status) → IsUsage status (fault_of words) → OnReadFault status R → OnDone status ((text : List ℕ) × D text × IsMadeOf p input text)
-      → OnWriteFault status ((text : List ℕ) × F text × IsMadeOf p input text) → ¬ IsAnswered p bytes → ¬ R → IsRefusedOrNoMemory status
-  refusing Done usage read done front outside no_read = outside (made_answered p bytes done.0 (done.2 bytes told))
-  refusing (Refused refusal) usage read done front outside no_read = tt
-  refusing (Usage kind) usage read done front outside no_read = usage_gone kind usage
-  refusing ReadFault usage read done front outside no_read = no_read read
-  refusing WriteFault usage read done front outside no_read = outside (made_answered p bytes front.0 (front.2 bytes told))
-  refusing NoMemory usage read done front outside no_read = tt
+  pub refusing : (end : End) → IsUsage end (fault_of words) → OnReadFault end R → OnAnswered end (λ verdict. (text : List ℕ) × D text × IsMadeOf p told verdict text)
+      → OnWriteFault end ((verdict : Verdict) × (text : List ℕ) × F text × IsMadeOf p told verdict text) → ¬ IsAnswered p.work contents → ¬ R → IsRefusedOrNoMemory end
+  refusing (usage kind) wrong read done front outside no_read = usage_gone kind wrong
+  refusing (answered verdict) wrong read done front outside no_read = outside (made_answered p.work contents verdict done.0 (done.2 contents are))
+  refusing (refused r) wrong read done front outside no_read = tt
+  refusing read_fault wrong read done front outside no_read = no_read read
+  refusing write_fault wrong read done front outside no_read = outside (made_answered p.work contents front.0 front.1 (front.3 contents are))
+  refusing no_memory wrong read done front outside no_read = tt
 
 -- the words say one command, so what holds of it holds of this
 pub one_command : (words : List Name) (p q : Command) (P : Command → Type 0) → line words ≡ Ok p → line words ≡ Ok q → P q → P p

@@ -1,54 +1,51 @@
 -- Facts for some ends of a run, from others.
 use Rattle.std.proofs.Common.{List, ℕ}
 use Rattle.diag.specs.declared.refusal.Refusal.{Refusal}
-use Rattle.io_edge.specs.declared.file_access.FileFail.{FileFail}
-use Rattle.io_edge.specs.declared.file_access.FileFail.TheVariants.{Failed}
-use Rattle.io_edge.specs.declared.file_access.FileFail.TheVariants as file
-use Rattle.circt_top.specs.Runs.{read_failure}
-use Rattle.circt_top.specs.Answer.{OnRefused, OnDone, OnWriteFault, IsReadFaultOrNoMemory}
-use Rattle.circt_top.specs.declared.status.Status.{Status}
-use Rattle.circt_top.specs.declared.status.Status.TheVariants.{Done, Refused, Usage, ReadFault, WriteFault, NoMemory}
+use Rattle.circt_top.specs.Outcome.{Verdict}
+use Rattle.circt_top.specs.Inputs.{unread_end}
+use Rattle.circt_top.specs.Ends.{End, OnAnswered, OnRefused, OnReadFault, OnWriteFault, IsReadFaultOrNoMemory}
+use Rattle.circt_top.specs.Ends.End.{usage, answered, refused, read_fault, write_fault, no_memory}
+use Rattle.circt_top.specs.declared.inputs.Unread.{Unread}
+use Rattle.circt_top.specs.declared.inputs.Unread.TheVariants.{Fault, NoMemory}
 
-pub refused_on : (P Q : Refusal → Type 0) (status : Status) → ((r : Refusal) → P r → Q r) → OnRefused status P → OnRefused status Q
-refused_on P Q Done f x = tt
-refused_on P Q (Refused r) f x = f r x
-refused_on P Q (Usage kind) f x = tt
-refused_on P Q ReadFault f x = tt
-refused_on P Q WriteFault f x = tt
-refused_on P Q NoMemory f x = tt
+pub answered_on : (P Q : Verdict → Type 0) (end : End) → ((verdict : Verdict) → P verdict → Q verdict) → OnAnswered end P → OnAnswered end Q
+answered_on P Q (usage kind) f x = tt
+answered_on P Q (answered verdict) f x = f verdict x
+answered_on P Q (refused r) f x = tt
+answered_on P Q read_fault f x = tt
+answered_on P Q write_fault f x = tt
+answered_on P Q no_memory f x = tt
 
-pub read_on : {P : Type 0} (status : Status) → P → OnRefused status (λ r. P)
-read_on Done x = tt
-read_on (Refused r) x = x
-read_on (Usage kind) x = tt
-read_on ReadFault x = tt
-read_on WriteFault x = tt
-read_on NoMemory x = tt
+pub refused_on : (P Q : Refusal → Type 0) (end : End) → ((r : Refusal) → P r → Q r) → OnRefused end P → OnRefused end Q
+refused_on P Q (usage kind) f x = tt
+refused_on P Q (answered verdict) f x = tt
+refused_on P Q (refused r) f x = f r x
+refused_on P Q read_fault f x = tt
+refused_on P Q write_fault f x = tt
+refused_on P Q no_memory f x = tt
 
-pub done_on : (D E P Q : List ℕ → Type 0) (status : Status) → ((text : List ℕ) → D text → E text) → ((text : List ℕ) → P text → Q text)
-    → OnDone status ((text : List ℕ) × D text × P text) → OnDone status ((text : List ℕ) × E text × Q text)
-done_on D E P Q Done f h x = (x.0, f x.0 x.1, h x.0 x.2)
-done_on D E P Q (Refused r) f h x = tt
-done_on D E P Q (Usage kind) f h x = tt
-done_on D E P Q ReadFault f h x = tt
-done_on D E P Q WriteFault f h x = tt
-done_on D E P Q NoMemory f h x = tt
+pub read_fault_on : (P Q : Type 0) (end : End) → (P → Q) → OnReadFault end P → OnReadFault end Q
+read_fault_on P Q (usage kind) f x = tt
+read_fault_on P Q (answered verdict) f x = tt
+read_fault_on P Q (refused r) f x = tt
+read_fault_on P Q read_fault f x = f x
+read_fault_on P Q write_fault f x = tt
+read_fault_on P Q no_memory f x = tt
 
-pub front_on : (D E P Q : List ℕ → Type 0) (status : Status) → ((text : List ℕ) → D text → E text) → ((text : List ℕ) → P text → Q text)
-    → OnWriteFault status ((text : List ℕ) × D text × P text) → OnWriteFault status ((text : List ℕ) × E text × Q text)
-front_on D E P Q Done f h x = tt
-front_on D E P Q (Refused r) f h x = tt
-front_on D E P Q (Usage kind) f h x = tt
-front_on D E P Q ReadFault f h x = tt
-front_on D E P Q WriteFault f h x = (x.0, f x.0 x.1, h x.0 x.2)
-front_on D E P Q NoMemory f h x = tt
+pub write_fault_on : (P Q : Type 0) (end : End) → (P → Q) → OnWriteFault end P → OnWriteFault end Q
+write_fault_on P Q (usage kind) f x = tt
+write_fault_on P Q (answered verdict) f x = tt
+write_fault_on P Q (refused r) f x = tt
+write_fault_on P Q read_fault f x = tt
+write_fault_on P Q write_fault f x = f x
+write_fault_on P Q no_memory f x = tt
 
--- nothing is refused where nothing was read
-pub unread_refuses : (P : Refusal → Type 0) (fail : FileFail) → OnRefused (read_failure fail) P
-unread_refuses P Failed = tt
-unread_refuses P file.NoMemory = tt
+-- nothing is refused where an input was not read
+pub unread_refuses : (P : Refusal → Type 0) (unread : Unread) → OnRefused (unread_end unread) P
+unread_refuses P (Fault name) = tt
+unread_refuses P NoMemory = tt
 
--- a run whose input was not read ends so
-pub unread_ends : (fail : FileFail) → IsReadFaultOrNoMemory (read_failure fail)
-unread_ends Failed = tt
-unread_ends file.NoMemory = tt
+-- a run of which an input was not read ends so
+pub unread_ends : (unread : Unread) → IsReadFaultOrNoMemory (unread_end unread)
+unread_ends (Fault name) = tt
+unread_ends NoMemory = tt

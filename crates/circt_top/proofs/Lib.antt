@@ -1,4 +1,5 @@
 pub mod Answered
+pub mod Read
 pub mod Completed
 mod Reported
 mod Ends

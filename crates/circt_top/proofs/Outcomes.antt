@@ -1,14 +1,17 @@
 -- What is made of an accepted design.
-use Rattle.std.proofs.Common.{◌≡◌, ℕ, ◌≤◌, inl, inr, List, length, Option, Some, None, Result, Ok, Err, is_some, false, refl, sym, subst}
+use Rattle.std.proofs.Common.{◌≡◌, ℕ, ◌≤◌, inl, inr, List, length, Option, Some, None, Result, Ok, Err, is_some, false, refl, sym, ◌∙◌, ap, subst}
 use Rattle.diag.specs.declared.refusal.Refusal.{Refusal}
-use Rattle.hw_model.specs.Design.{Design, IsSameDesign}
+use Rattle.hw_model.specs.Design.{Module, Design, IsSameDesign}
 use Rattle.hw_model.specs.Hierarchy.{HasNoRecursion}
 use Rattle.hw_model.specs.Machine.{Same}
 use Rattle.hw_model.specs.Meaning.{machine, HasNoCycle, HasHeights}
 use Rattle.hw_model.specs.Types.{Name}
-use Rattle.command_line.specs.Line.{Command, Paths}
-use Rattle.command_line.specs.Line.Command.{opt, translate}
-use Rattle.export_verilog.specs.Aggregates.{HasNoAggregates}
+use Rattle.command_line.specs.Line.{Work}
+use Rattle.command_line.specs.Line.Work.{mlir, verilog}
+use Rattle.pass_pipeline.specs.declared.pass.Pass.{Pass}
+use Rattle.pass_manager.specs.Results.{result}
+use Rattle.pass_manager.proofs.Results.{result_is}
+use Rattle.export_verilog.specs.Aggregates.{HasNoAggregates, first_aggregate}
 use Rattle.export_verilog.specs.Behaviour.{BehavesAs}
 use Rattle.export_verilog.specs.Exportable.{IsExportable}
 use Rattle.export_verilog.specs.Layout.{verilog_text}
@@ -26,11 +29,12 @@ use Rattle.op_verifier.specs.Verdict.{IsAccepted}
 use Rattle.mlir_printer.specs.Printable.{Printable}
 use Rattle.mlir_printer.specs.Spellable.{AreBytes}
 use Rattle.mlir_printer.specs.Texts.{ir_text}
-use Rattle.circt_top.specs.Accepting.{Accepted, IsRefused, unaccepted}
+use Rattle.circt_top.specs.Accepting.{Accepted, IsRefused, IsRefusedIn, in_file, first_input, unaccepted}
 use Rattle.circt_top.specs.Accepting.{unread as unread_text}
-use Rattle.circt_top.specs.Outcomes.{IsTaken, read_failure, verify_failure}
+use Rattle.circt_top.specs.Outcomes.{IsTaken, read_failure, verify_failure, fail_in_file}
+use Rattle.circt_top.specs.Partners.{HasPartners}
 use Rattle.circt_top.specs.Exports.{Exports}
-use Rattle.circt_top.specs.Outcome.{IsOutcome, Gives}
+use Rattle.circt_top.specs.Outcome.{Gives}
 use Rattle.circt_top.specs.Reprint.{IsReprint, IsSaidAgain}
 use Rattle.circt_top.specs.declared.outcome.OutcomeFail.{OutcomeFail}
 use Rattle.circt_top.specs.declared.outcome.OutcomeFail.TheVariants.{Refused, NoMemory}
@@ -51,6 +55,20 @@ no_fault : (x : Option Refusal) → is_some x ≡ false → x ≡ None
 no_fault None h = refl
 no_fault (Some r) h = cc
 
+-- each module of an accepted design is its own partner
+own_partners : DesignLaws → (d : Design) → IsAccepted d → HasPartners d d
+own_partners designs d accepted = λ m here exposed. record {
+  partner = m;
+  there = here;
+  symbol = refl;
+  exposed = exposed;
+  ports = refl;
+  behaves = designs.same d d refl m.symbol (designs.heights d m.symbol (designs.finite d accepted) (designs.acyclic d accepted m.symbol));
+}
+
+partners : DesignLaws → (passes : List Pass) (d : Design) → IsAccepted d → HasPartners d (result passes d)
+partners designs passes d accepted = subst (HasPartners d) (sym (result_is passes d)) (own_partners designs d accepted)
+
 module _ (printing : PrintingLaws) (designs : DesignLaws) (source : List ℕ) (d : Design) (bytes : AreBytes source) (accepted : Accepted source d) where
   printable : Printable d
   printable = printing.printable source d bytes accepted.says (no_fault (first_fault d) accepted.accepted.unrefused)
@@ -68,8 +86,16 @@ module _ (printing : PrintingLaws) (designs : DesignLaws) (source : List ℕ) (d
       }
 
   -- an accepted design printed is a reprint
-  pub reprinted : (text : List ℕ) → text ≡ ir_text d → IsReprint source text
-  reprinted text e = subst (λ t. IsReprint source t) (sym e) (record { design = d; accepted = accepted; said_again = said_again; laid_out = refl })
+  pub reprinted : (passes : List Pass) (text : List ℕ) → text ≡ ir_text d → IsReprint passes source text
+  reprinted passes text e =
+      let says : IsSaidAgain d text = subst (λ t. IsSaidAgain d t) (sym e) said_again in
+      record {
+        design = d;
+        accepted = accepted;
+        partners = partners designs passes d accepted.accepted;
+        said_again = subst (λ x. IsSaidAgain x text) (sym (result_is passes d)) says;
+        laid_out = e ∙ ap ir_text (sym (result_is passes d));
+      }
 
 -- what the laws of the export say
 pub record ExportLaws : Type 0 where
@@ -77,25 +103,31 @@ pub record ExportLaws : Type 0 where
   pub behaves : (d : Design) → IsExportable d → BehavesAs (verilog_text d) d
 
 -- an accepted design exported is a translation, or refused for its first aggregate
-pub translated : (laws : ExportLaws) (p : Paths) (source : List ℕ) (d : Design) (r : Result (List ℕ) OutcomeFail) → Accepted source d → HasRoomToExport d → Exports d r → Gives (translate p) source r
-translated laws p source d (Ok text) accepted room h = record {
-  design = d;
-  accepted = accepted;
-  exported = h.0;
-  behaves = subst (λ t. BehavesAs t d) (sym h.1) (laws.behaves d (laws.exportable d accepted.accepted h.0 room));
-  laid_out = h.1;
-}
-translated laws p source d (Err (Refused r)) accepted room h = inr (record { design = d; accepted = accepted; missing = h })
-translated laws p source d (Err NoMemory) accepted room h = tt
+pub translated : (laws : ExportLaws) (designs : DesignLaws) (passes : List Pass) (contents : List (List ℕ)) (d : Design) (r : Result (List ℕ) OutcomeFail) → Accepted (first_input contents) d → HasRoomToExport d
+    → Exports d r → Gives (verilog passes) contents r
+translated laws designs passes contents d (Ok text) accepted room h =
+    let same : d ≡ result passes d = sym (result_is passes d) in
+    let behaves : BehavesAs text d = subst (λ t. BehavesAs t d) (sym h.1) (laws.behaves d (laws.exportable d accepted.accepted h.0 room)) in
+    record {
+      design = d;
+      accepted = accepted;
+      partners = partners designs passes d accepted.accepted;
+      exported = subst HasNoAggregates same h.0;
+      behaves = subst (BehavesAs text) same behaves;
+      laid_out = h.1 ∙ ap verilog_text same;
+    }
+translated laws designs passes contents d (Err (Refused r)) accepted room h =
+    inr (record { design = d; accepted = accepted; missing = ap first_aggregate (result_is passes d) ∙ h })
+translated laws designs passes contents d (Err NoMemory) accepted room h = tt
 
--- what is refused is refused by each command
-pub refused_by : (c : Command) (source : List ℕ) (r : Refusal) → IsRefused source r → IsOutcome c source (Err r)
-refused_by (opt p) source r h = h
-refused_by (translate p) source r h = inl h
+-- what is refused is refused by each work
+refused_in : (r : Refusal) (bytes : List ℕ) → IsRefused bytes r → IsRefusedIn 0 bytes (in_file 0 r)
+refused_in r bytes h = record { refusal = r; refused = h; numbered = refl }
 
-pub refused_gives : (c : Command) (source : List ℕ) (fail : OutcomeFail) → IsTaken source (Err fail) → Gives c source (Err fail)
-refused_gives c source (Refused r) h = refused_by c source r h
-refused_gives c source NoMemory h = tt
+pub refused_gives : (work : Work) (contents : List (List ℕ)) (fail : OutcomeFail) → IsTaken (first_input contents) (Err fail) → Gives work contents (Err (fail_in_file 0 fail))
+refused_gives (mlir passes) contents (Refused r) h = refused_in r (first_input contents) h
+refused_gives (verilog passes) contents (Refused r) h = inl (refused_in r (first_input contents) h)
+refused_gives work contents NoMemory h = tt
 
 -- what is not read is refused, and what is not verified
 pub unread_taken : (source : List ℕ) (fail : ReadFail) → ReadsDesign (Err fail) (read source) → IsTaken source (Err (read_failure fail))

@@ -1,5 +1,5 @@
 -- Which bytes are accepted, and what the others are refused for.
-use Rattle.std.specs.Prelude.{◌≡◌, ℕ, List, Ok, Err}
+use Rattle.std.specs.Prelude.{◌≡◌, ℕ, List, [], ◌∷◌, Ok, Err}
 use Rattle.diag.specs.declared.refusal.Refusal.{Refusal}
 use Rattle.hw_model.specs.Design.{Design}
 use Rattle.mlir_reader.specs.Reading.{read}
@@ -14,3 +14,18 @@ pub record Accepted (bytes : List ℕ) (d : Design) : Type 0 where
 pub data IsRefused (bytes : List ℕ) : Refusal → Type 0 where
   unread : (r : Refusal) → read bytes ≡ Err r → IsRefused bytes r
   unaccepted : (d : Design) (r : Refusal) → read bytes ≡ Ok d → IsRefusal d r → IsRefused bytes r
+
+-- a refusal, as one of the input of this number
+abbrev pub in_file : ℕ → Refusal → Refusal
+in_file number r = record r { file = number }
+
+-- the bytes of the input of this number are refused so
+pub record IsRefusedIn (number : ℕ) (bytes : List ℕ) (r : Refusal) : Type 0 where
+  pub refusal : Refusal
+  pub refused : IsRefused bytes refusal
+  pub numbered : r ≡ in_file number refusal
+
+-- the bytes of the first input
+abbrev pub first_input : List (List ℕ) → List ℕ
+first_input [] = []
+first_input (bytes ∷ contents) = bytes

@@ -1,72 +1,23 @@
 -- What the program answers, for its words, the files that are told, and what its sinks take.
-use Rattle.std.specs.Prelude.{◌≡◌, ℕ, ◌+◌, ◌≤◌, Bool, true, false, List, [], ◌++◌, Option, Some, None, Result, Ok, Err, codes, take, length, ◌⊎◌}
+use Rattle.std.specs.Prelude.{◌≡◌, ℕ, ◌≤◌, Bool, true, false, List, ◌++◌, [], Option, Some, None, Result, Ok, Err, take, length, codes, ◌⊎◌}
+use Rattle.wiring.specs.Wiring.{In}
 use Rattle.hw_model.specs.Types.{Name}
 use Rattle.io_edge.specs.declared.file_access.FileFail.{FileFail}
 use Rattle.io_edge.specs.declared.file_access.FileFail.TheVariants.{Failed}
 use Rattle.io_edge.specs.Faults.{HasRisen}
-use Rattle.io_edge.specs.Reading.{file_at}
 use Rattle.io_edge.specs.Writing.{with_file}
 use Rattle.io_edge.specs.Bytes.{Appends, AppendsFront}
 use Rattle.io_edge.specs.Pieces.{pieces_of, Sends}
 use Rattle.diag.specs.Line.{refusal_line, shown_name}
 use Rattle.diag.specs.declared.refusal.Refusal.{Refusal}
-use Rattle.mlir_reader.specs.Reading.{text_limit}
-use Rattle.command_line.specs.Line.{Command, Paths, line}
+use Rattle.command_line.specs.Line.{Command}
 use Rattle.command_line.specs.Usage.{usage_text}
-use Rattle.command_line.specs.declared.usage.UsageKind.{UsageKind}
-use Rattle.circt_top.specs.Outcome.{IsOutcome}
-use Rattle.circt_top.specs.Words.{paths_in}
-use Rattle.circt_top.specs.declared.status.Status.{Status}
-use Rattle.circt_top.specs.declared.status.Status.TheVariants.{Done, Refused, Usage, ReadFault, WriteFault, NoMemory}
-
--- ---- files
-
--- told files, each a name and its bytes
-abbrev pub Told : Type 0
-Told = Option (List (Name × List ℕ))
-
--- how many bytes of a file are read at most: one more than a text may have
-abbrev pub read_limit : ℕ
-read_limit = text_limit + 1
-
--- the bytes of a file, where they are told
-abbrev pub told_at : Name → Told → Option (List ℕ)
-told_at name None = None
-told_at name (Some files) = file_at name files
-
--- files are told, and none of them has this name
-abbrev pub IsMissing : Name → Told → Type 0
-IsMissing name None = ⊥
-IsMissing name (Some files) = file_at name files ≡ None
-
--- ---- statuses
-
-abbrev pub usage_of : Status → Option UsageKind
-usage_of (Usage kind) = Some kind
-usage_of _ = None
-
--- facts for some statuses
-abbrev pub OnRefused : Status → (Refusal → Type 0) → Type 0
-OnRefused (Refused refusal) P = P refusal
-OnRefused _ P = Unit {0}
-
-abbrev pub OnReadFault : Status → Type 0 → Type 0
-OnReadFault ReadFault P = P
-OnReadFault _ P = Unit {0}
-
-abbrev pub OnWriteFault : Status → Type 0 → Type 0
-OnWriteFault WriteFault P = P
-OnWriteFault _ P = Unit {0}
-
-abbrev pub OnDone : Status → Type 0 → Type 0
-OnDone Done P = P
-OnDone _ P = Unit {0}
-
--- a fact for the ends before anything is written
-abbrev pub Unwritten : Status → Type 0 → Type 0
-Unwritten Done P = Unit {0}
-Unwritten WriteFault P = Unit {0}
-Unwritten _ P = P
+use Rattle.circt_top.specs.Outcome.{Verdict, IsAnswer}
+use Rattle.circt_top.specs.Outcome.Answer as answer
+use Rattle.circt_top.specs.Words.{ForCommand}
+use Rattle.circt_top.specs.Inputs.{Told, AreContents, AreReadOf, fronts, name_at, bytes_at}
+use Rattle.circt_top.specs.Ends.{End}
+use Rattle.circt_top.specs.Ends.End.{usage, answered, refused, read_fault, write_fault, no_memory}
 
 -- ---- the output
 
@@ -95,38 +46,35 @@ module _ {F O : Type 0} (writes : F → Name → List ℕ → Result (Unit {0}) 
   DeliversFront (Some name) before after old new text =
       writes before name text (Err Failed) after × IsHalfWritten name (files before) (files after) text × (new ≡ old)
 
-module _ {F : Type 0} (reads : F → Name → ℕ → Result (List ℕ) FileFail → F → Type 0) (files : F → Told) where
-  -- one read of the file of a name gave some bytes and changed no file, and what follows holds of the files after it
-  abbrev pub ReadsThen : F → Name → (F → Type 0) → Type 0
-  ReadsThen before name Follows = (after : F) × (source : List ℕ) × reads before name read_limit (Ok source) after × (files after ≡ files before) × Follows after
+-- a text with a verdict is what the command makes of its inputs, where these are told
+abbrev pub IsMadeOf : Command → Told → Verdict → List ℕ → Type 0
+IsMadeOf c told verdict text = (contents : List (List ℕ)) → AreContents told c.inputs contents → IsAnswer c.work contents (answer.printed verdict text)
 
--- a text is what the command makes of the input, where that is told
-abbrev pub IsMadeOf : Command → Option (List ℕ) → List ℕ → Type 0
-IsMadeOf c input text = (bytes : List ℕ) → input ≡ Some bytes → IsOutcome c bytes (Ok text)
-
--- a refusal is that of the input by the command, where that is told
-abbrev pub IsRefusalOf : Command → Option (List ℕ) → Refusal → Type 0
-IsRefusalOf c input refusal = (bytes : List ℕ) → input ≡ Some bytes → IsOutcome c bytes (Err refusal)
-
--- a fact about the command that the words say
-abbrev pub ForCommand : List Name → (Command → Type 0) → Type 0
-ForCommand words P = (c : Command) → line words ≡ Ok c → P c
+-- a refusal is the one of its inputs by the command, where these are told
+abbrev pub IsRefusalOf : Command → Told → Refusal → Type 0
+IsRefusalOf c told r = (contents : List (List ℕ)) → AreContents told c.inputs contents → IsAnswer c.work contents (answer.refused r)
 
 -- ---- the line on what is wrong
+
+-- what a line may name: an input, with what is read of it, and the output
+pub record Subject : Type 0 where
+  pub input : Name
+  pub source : List ℕ
+  pub output : Option Name
 
 -- where the output goes, as a line shows it
 abbrev pub shown_output : Option Name → List ℕ
 shown_output None = codes "<stdout>"
 shown_output (Some name) = name
 
--- the line for an end, of files of these names and an input of these bytes
-abbrev pub line_of : Paths → List ℕ → Status → List ℕ
-line_of paths source Done = []
-line_of paths source (Refused refusal) = refusal_line paths.input source refusal
-line_of paths source (Usage kind) = codes "circt: usage: " ++ (usage_text kind ++ codes "\n")
-line_of paths source ReadFault = codes "circt: cannot read " ++ (shown_name paths.input ++ codes "\n")
-line_of paths source WriteFault = codes "circt: cannot write " ++ (shown_output paths.output ++ codes "\n")
-line_of paths source NoMemory = codes "circt: out of memory\n"
+-- the line for an end
+abbrev pub line_of : Subject → End → List ℕ
+line_of s (usage kind) = codes "circt: usage: " ++ (usage_text kind ++ codes "\n")
+line_of s (answered verdict) = []
+line_of s (refused r) = refusal_line s.input s.source r
+line_of s read_fault = codes "circt: cannot read " ++ (shown_name s.input ++ codes "\n")
+line_of s write_fault = codes "circt: cannot write " ++ (shown_output s.output ++ codes "\n")
+line_of s no_memory = codes "circt: out of memory\n"
 
 module _ {S : Type 0} (told : S → Option (List ℕ)) (faults : S → ℕ) where
   -- a sink that meets no fault takes the line, and one that meets faults a front of it
@@ -135,44 +83,18 @@ module _ {S : Type 0} (told : S → Option (List ℕ)) (faults : S → ℕ) wher
     pub whole : ¬ HasRisen (faults before) (faults after) → Appends (told before) (told after) line
     pub kept : faults before ≤ faults after
 
--- ---- ends
+-- what the line of a command names: of a refusal its input, and what is read of that; of a fault an input that was not read, or the output
+abbrev pub IsSubject : (IsUnread : Name → Type 0) → Told → End → Command → Subject → Type 0
+IsSubject IsUnread files (refused r) c s =
+    (s.input ≡ name_at r.file c.inputs) × ((contents : List (List ℕ)) → AreContents files c.inputs contents → s.source ≡ bytes_at r.file (fronts contents))
+IsSubject IsUnread files read_fault c s = In s.input c.inputs × IsUnread s.input
+IsSubject IsUnread files write_fault c s = s.output ≡ c.output
+IsSubject IsUnread files (usage kind) c s = Unit {0}
+IsSubject IsUnread files (answered verdict) c s = Unit {0}
+IsSubject IsUnread files no_memory c s = Unit {0}
 
--- a usage comes exactly where something is wrong with the words, out of memory aside
-abbrev pub IsUsage : Status → Option UsageKind → Type 0
-IsUsage (Usage kind) fault = fault ≡ Some kind
-IsUsage NoMemory fault = Unit {0}
-IsUsage _ fault = fault ≡ None
-
-abbrev pub IsDoneOrNoMemory : Status → Type 0
-IsDoneOrNoMemory Done = Unit {0}
-IsDoneOrNoMemory NoMemory = Unit {0}
-IsDoneOrNoMemory _ = ⊥
-
-abbrev pub IsReadFaultOrNoMemory : Status → Type 0
-IsReadFaultOrNoMemory ReadFault = Unit {0}
-IsReadFaultOrNoMemory NoMemory = Unit {0}
-IsReadFaultOrNoMemory _ = ⊥
-
-abbrev pub IsRefusedOrNoMemory : Status → Type 0
-IsRefusedOrNoMemory (Refused refusal) = Unit {0}
-IsRefusedOrNoMemory NoMemory = Unit {0}
-IsRefusedOrNoMemory _ = ⊥
-
--- a source is what is read of the told bytes
-abbrev pub IsReadOf : Option (List ℕ) → List ℕ → Type 0
-IsReadOf input source = (bytes : List ℕ) → input ≡ Some bytes → source ≡ take read_limit bytes
-
--- a fact for the ends whose line names a file
-abbrev pub OnFile : Status → Type 0 → Type 0
-OnFile (Refused refusal) P = P
-OnFile ReadFault P = P
-OnFile WriteFault P = P
-OnFile _ P = Unit {0}
-
--- the line that a sink takes: of files that the words name, and, where the input is refused, of what is read of it
-pub record ReportsEnd {S : Type 0} (told : S → Option (List ℕ)) (faults : S → ℕ) (words : List Name) (files : Told) (status : Status) (before after : S) : Type 0 where
-  pub paths : Paths
-  pub source : List ℕ
-  pub named : OnFile status (ForCommand words (λ c. paths ≡ paths_in c))
-  pub read : OnRefused status (λ refusal. IsReadOf (told_at paths.input files) source)
-  pub reports : Reports told faults before after (line_of paths source status)
+-- the line that a sink takes
+pub record ReportsEnd {S : Type 0} (told : S → Option (List ℕ)) (faults : S → ℕ) (words : List Name) (IsUnread : Name → Type 0) (files : Told) (end : End) (before after : S) : Type 0 where
+  pub subject : Subject
+  pub named : ForCommand words (λ c. IsSubject IsUnread files end c subject)
+  pub reports : Reports told faults before after (line_of subject end)

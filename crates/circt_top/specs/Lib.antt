@@ -1,11 +1,14 @@
 pub mod Answer
+pub mod Inputs
+pub mod Ends
 pub mod Codes
 pub mod Translation
+pub mod Partners
 pub mod Words
 pub mod Outcome
 pub mod Delivery
-pub mod Runs
 pub mod Accepting
 pub mod Exports
 pub mod Reprint
 pub mod Outcomes
+pub mod Views

@@ -1,36 +1,46 @@
--- What is made of the text of an input.
+-- What is made of the texts of the inputs.
 use Rattle.std.specs.Prelude.{ℕ, ◌⊎◌, List, Result, Ok, Err}
 use Rattle.hw_model.specs.Design.{Design}
 use Rattle.diag.specs.declared.refusal.Refusal.{Refusal}
-use Rattle.command_line.specs.Line.{Command}
-use Rattle.command_line.specs.Line.Command.{opt, translate}
-use Rattle.circt_top.specs.Accepting.{Accepted, IsRefused}
+use Rattle.command_line.specs.Line.{Work}
+use Rattle.command_line.specs.Line.Work.{mlir, verilog}
 use Rattle.export_verilog.specs.Aggregates.{HasNoAggregates}
+use Rattle.pass_manager.specs.Results.{result}
+use Rattle.circt_top.specs.Accepting.{Accepted, IsRefusedIn, first_input}
 use Rattle.circt_top.specs.Reprint.{IsReprint}
 use Rattle.circt_top.specs.Translation.{IsTranslation, IsUnexported}
 use Rattle.circt_top.specs.declared.outcome.OutcomeFail.{OutcomeFail}
 use Rattle.circt_top.specs.declared.outcome.OutcomeFail.TheVariants.{Refused, NoMemory}
 
--- a command makes this text of these bytes, or refuses them so
-abbrev pub IsOutcome : Command → List ℕ → Result (List ℕ) Refusal → Type 0
-IsOutcome (opt paths) bytes (Ok text) = IsReprint bytes text
-IsOutcome (opt paths) bytes (Err r) = IsRefused bytes r
-IsOutcome (translate paths) bytes (Ok text) = IsTranslation bytes text
-IsOutcome (translate paths) bytes (Err r) = IsRefused bytes r ⊎ IsUnexported bytes r
+-- what a text that is printed says of what was asked: it is given, where nothing was asked but the text itself
+pub data Verdict : Type 0 where
+  given : Verdict
 
--- a command takes this design
-abbrev pub Takes : Command → Design → Type 0
-Takes (opt paths) d = Unit {0}
-Takes (translate paths) d = HasNoAggregates d
+-- an answer: a text with a verdict, or a refusal of an input, which has the input's number
+pub data Answer : Type 0 where
+  printed : Verdict → List ℕ → Answer
+  refused : Refusal → Answer
 
--- the bytes are accepted, as a design that the command takes
-pub record IsAnswered (c : Command) (bytes : List ℕ) : Type 0 where
+-- a work answers inputs of these contents so
+abbrev pub IsAnswer : Work → List (List ℕ) → Answer → Type 0
+IsAnswer (mlir passes) contents (printed given text) = IsReprint passes (first_input contents) text
+IsAnswer (mlir passes) contents (refused r) = IsRefusedIn 0 (first_input contents) r
+IsAnswer (verilog passes) contents (printed given text) = IsTranslation passes (first_input contents) text
+IsAnswer (verilog passes) contents (refused r) = IsRefusedIn 0 (first_input contents) r ⊎ IsUnexported passes (first_input contents) r
+
+-- a work takes this design
+abbrev pub Takes : Work → Design → Type 0
+Takes (mlir passes) d = Unit {0}
+Takes (verilog passes) d = HasNoAggregates (result passes d)
+
+-- the contents are accepted, as a design that the work takes
+pub record IsAnswered (work : Work) (contents : List (List ℕ)) : Type 0 where
   pub design : Design
-  pub accepted : Accepted bytes design
-  pub takes : Takes c design
+  pub accepted : Accepted (first_input contents) design
+  pub takes : Takes work design
 
--- an answer is the outcome, or out of memory
-abbrev pub Gives : Command → List ℕ → Result (List ℕ) OutcomeFail → Type 0
-Gives c bytes (Ok text) = IsOutcome c bytes (Ok text)
-Gives c bytes (Err (Refused refusal)) = IsOutcome c bytes (Err refusal)
-Gives c bytes (Err NoMemory) = Unit {0}
+-- what is given is the answer, or out of memory
+abbrev pub Gives : Work → List (List ℕ) → Result (List ℕ) OutcomeFail → Type 0
+Gives work contents (Ok text) = IsAnswer work contents (printed given text)
+Gives work contents (Err (Refused r)) = IsAnswer work contents (refused r)
+Gives work contents (Err NoMemory) = Unit {0}

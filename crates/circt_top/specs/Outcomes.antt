@@ -2,7 +2,7 @@
 use Rattle.std.specs.Prelude.{ℕ, List, Result, Ok, Err}
 use Rattle.ir_store.specs.Designs.{design_of}
 use Rattle.op_verifier.specs.declared.accepted.Verified.{Verified}
-use Rattle.circt_top.specs.Accepting.{Accepted, IsRefused}
+use Rattle.circt_top.specs.Accepting.{Accepted, IsRefused, in_file}
 use Rattle.mlir_syntax.specs.declared.fail.ReadFail.{ReadFail}
 use Rattle.mlir_syntax.specs.declared.fail.ReadFail.TheVariants as read
 use Rattle.op_verifier.specs.declared.verify_fail.VerifyFail.{VerifyFail}
@@ -24,3 +24,8 @@ read_failure read.NoMemory = NoMemory
 abbrev pub verify_failure : VerifyFail → OutcomeFail
 verify_failure (verify.Refused r) = Refused r
 verify_failure verify.NoMemory = NoMemory
+
+-- the same of the input of this number
+abbrev pub fail_in_file : ℕ → OutcomeFail → OutcomeFail
+fail_in_file number (Refused r) = Refused (in_file number r)
+fail_in_file number NoMemory = NoMemory

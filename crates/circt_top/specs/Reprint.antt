@@ -1,4 +1,4 @@
--- What `opt` does with a text: a text of the design that it says.
+-- What `opt` does with a text: a text of the design that passes make of the one that it says.
 use Rattle.std.specs.Prelude.{◌≡◌, ℕ, ◌≤◌, List, length, Ok}
 use Rattle.wiring.specs.Wiring.{In}
 use Rattle.hw_model.specs.Design.{Module, Design, IsSameDesign}
@@ -8,7 +8,10 @@ use Rattle.mlir_reader.specs.Reading.{text_limit, read}
 use Rattle.mlir_reader.specs.Spelling.{Spells}
 use Rattle.op_verifier.specs.Verdict.{IsAccepted}
 use Rattle.mlir_printer.specs.Texts.{ir_text}
+use Rattle.pass_pipeline.specs.declared.pass.Pass.{Pass}
+use Rattle.pass_manager.specs.Results.{result}
 use Rattle.circt_top.specs.Accepting.{Accepted}
+use Rattle.circt_top.specs.Partners.{HasPartners}
 
 -- the text says the design again: by the grammar it spells one that differs in nothing but places, of which nothing is refused, and each
 -- module of which does the same; and that one is read of it, where it is not too long to be read
@@ -20,10 +23,12 @@ pub record IsSaidAgain (d : Design) (text : List ℕ) : Type 0 where
   pub behaves : (m : Module) → In m d → Same (machine d m.symbol) (machine again m.symbol)
   pub read_again : length text ≤ text_limit → read text ≡ Ok again
 
--- the text is the input's design printed: the input is accepted, and the text says its design again
-pub record IsReprint (bytes text : List ℕ) : Type 0 where
+-- the text is the input's design printed, as passes make it: the input is accepted, each public module of its design has its
+-- partner in what they make of it, and the text says that again
+pub record IsReprint (passes : List Pass) (bytes text : List ℕ) : Type 0 where
   pub design : Design
   pub accepted : Accepted bytes design
-  pub said_again : IsSaidAgain design text
+  pub partners : HasPartners design (result passes design)
+  pub said_again : IsSaidAgain (result passes design) text
   -- and it is laid out so
-  pub laid_out : text ≡ ir_text design
+  pub laid_out : text ≡ ir_text (result passes design)

@@ -4,6 +4,7 @@
 #![tactic(auto)]
 
 mod delivery;
+mod inputs;
 mod outcome;
 mod report;
 pub mod run;

@@ -1,17 +1,17 @@
-//! What is made of the text of an input.
+//! What is made of the texts of the inputs.
 ghost use Rattle.std.specs.Prelude.{◌≡◌, ℕ, List, IfOk};
 ghost use Rattle.ir_store.specs.Designs.{design_of};
-ghost use Rattle.command_line.specs.Invocations.{command_of};
-ghost use Rattle.command_line.specs.Line.{Paths};
-ghost use Rattle.command_line.specs.Line.Command.{translate};
+ghost use Rattle.command_line.specs.Invocations.{work_of};
+ghost use Rattle.command_line.specs.Line.Work.{verilog};
 ghost use Rattle.mlir_printer.specs.Spellable.{AreBytes};
-ghost use Rattle.circt_top.specs.Accepting.{Accepted};
+ghost use Rattle.pass_pipeline.specs.declared.pass.Pass.{Pass};
+ghost use Rattle.circt_top.specs.Accepting.{Accepted, first_input};
 ghost use Rattle.circt_top.specs.Reprint.{IsReprint};
 ghost use Rattle.circt_top.specs.Exports.{Exports};
 ghost use Rattle.circt_top.specs.Outcome.{Gives};
-ghost use Rattle.circt_top.specs.Outcomes.{IsTaken, read_failure, verify_failure};
+ghost use Rattle.circt_top.specs.Outcomes.{IsTaken, read_failure, verify_failure, fail_in_file};
 
-use command_line::invocation::Invocation;
+use command_line::invocation::Work;
 use diag::refusal::Refusal;
 use export_verilog::aggregates::first_aggregate;
 use export_verilog::export::export;
@@ -24,10 +24,12 @@ use mlir_printer::design_text::print_and_drop;
 use mlir_printer::laws::{what_is_accepted_is_printable, what_is_printed_is_read_again};
 use mlir_reader::read::read_design;
 use mlir_syntax::fail::ReadFail;
+use pass_manager::gate::Gate;
 use op_verifier::{
     Verified, VerifyFail, accepted_designs_are_sound, places_decide_no_verdict, verify,
 };
 use std::alloc::{AllocError, Global};
+use std::thread::Threads;
 
 /// Why no text was made.
 #[derive(Clone, Copy, Debug, PartialEq, Eq)]
@@ -49,21 +51,50 @@ impl From<AllocError> for OutcomeFail {
     }
 }
 
-/// What a command makes of the text of its input: the text that it prints, or what is refused.
-pub fn outcome(
+/// What a work makes of the texts of its inputs: the text that it prints, or what is refused.
+pub(crate) fn outcome<R: Threads + Sync, G: Gate + Sync>(
+    rt: &R,
     alloc: Global,
-    invocation: &Invocation<'_>,
-    source: &[u8],
+    work: &Work,
+    sources: &[Text],
+    gate: &G,
 ) -> Result<Text, OutcomeFail>
-    ensures { Gives (command_of invocation.now) source.now result }
+    ensures { Gives (work_of work.now) sources.now result }
 {
+    let _ = gate;
+    let source = first_input(sources);
     let verified = match accept(alloc, source) {
         Ok(verified) => verified,
-        Err(fail) => return Err(fail),
+        Err(fail) => return Err(fail.in_file(0)),
     };
-    match invocation {
-        Invocation::Opt(_) => Ok(reprint(alloc, source, verified)?),
-        Invocation::Translate(_) => translate(alloc, &verified),
+    match work {
+        Work::Mlir(_) => Ok(reprint(alloc, source, verified)?),
+        Work::Verilog(_) => translate(rt, alloc, &verified),
+    }
+}
+
+/// The text of the first input.
+fn first_input(sources: &[Text]) -> &[u8]
+    ensures { result.now ≡ first_input sources.now }
+{
+    match sources {
+        [source, ..] => source.as_bytes(),
+        [] => b"",
+    }
+}
+
+impl OutcomeFail {
+    /// The same of the input of this number.
+    fn in_file(self, number: u32) -> OutcomeFail
+        ensures { result ≡ fail_in_file number self }
+    {
+        match self {
+            OutcomeFail::Refused(refusal) => OutcomeFail::Refused(Refusal {
+                file: number,
+                ..refusal
+            }),
+            OutcomeFail::NoMemory => OutcomeFail::NoMemory,
+        }
     }
 }
 
@@ -104,7 +135,7 @@ fn verify_failure(fail: VerifyFail) -> OutcomeFail
 /// The text of the accepted design that a text says.
 fn reprint(alloc: Global, source: &[u8], verified: Verified) -> Result<Text, AllocError>
     requires { Accepted source.now (design_of verified.design) }
-    ensures { IfOk result (IsReprint source.now) }
+    ensures { (passes : List Pass) → IfOk result (IsReprint passes source.now) }
 {
     what_is_accepted_is_printable();
     what_is_printed_is_read_again();
@@ -117,22 +148,34 @@ fn reprint(alloc: Global, source: &[u8], verified: Verified) -> Result<Text, All
 }
 
 /// The Verilog of an accepted design, of any text that says it, or the refusal of its first header or operation with an aggregate.
-fn translate(alloc: Global, verified: &Verified) -> Result<Text, OutcomeFail>
-    ensures { (source : List ℕ) (paths : Paths) → Accepted source (design_of verified.now.design) → Gives (translate paths) source result }
+fn translate<R: Threads + Sync>(
+    rt: &R,
+    alloc: Global,
+    verified: &Verified,
+) -> Result<Text, OutcomeFail>
+    ensures { (contents : List (List ℕ)) (passes : List Pass) → Accepted (first_input contents) (design_of verified.now.design) → Gives (verilog passes) contents result }
 {
     accepted_designs_are_exportable();
     exported_designs_behave();
     stored_designs_have_room(verified.design());
-    export_text(alloc, verified)
+    accepted_designs_are_sound();
+    places_decide_no_verdict();
+    heights_are_acyclic();
+    places_decide_nothing();
+    export_text(rt, alloc, verified)
 }
 
 /// The Verilog text of a design without aggregates, or the refusal of its first header or operation that has one.
-fn export_text(alloc: Global, verified: &Verified) -> Result<Text, OutcomeFail>
+fn export_text<R: Threads + Sync>(
+    rt: &R,
+    alloc: Global,
+    verified: &Verified,
+) -> Result<Text, OutcomeFail>
     ensures { Exports (design_of verified.now.design) result }
 {
     match first_aggregate(alloc, verified.design())? {
         Some(refusal) => Err(OutcomeFail::Refused(refusal)),
-        None => Ok(export(alloc, verified)?),
+        None => Ok(export(rt, alloc, verified)?),
     }
 }
 

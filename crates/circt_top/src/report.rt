@@ -3,66 +3,71 @@ ghost use Rattle.std.specs.Prelude.{◌≡◌, codes, ◌++◌, [], Err, Ok, OnO
 ghost use Rattle.io_edge.specs.Bytes.{Appends, AppendsFront};
 ghost use Rattle.io_edge.specs.Faults.{HasCause};
 ghost use Rattle.diag.specs.Line.{IsWithin, operation_of};
-ghost use Rattle.command_line.specs.Invocations.{paths_of};
-ghost use Rattle.circt_top.specs.Runs.{IsStop};
-ghost use Rattle.circt_top.specs.Answer.{line_of, shown_output, OnRefused, Reports};
+ghost use Rattle.circt_top.specs.Ends.{end_of, IsStop};
+ghost use Rattle.circt_top.specs.Answer.{line_of, shown_output, Reports};
+ghost use Rattle.circt_top.specs.Views.{subject_of};
 
 use crate::status::Status;
-use command_line::invocation::Paths;
 use diag::line::{display_name, put_three, refusal_text};
 use diag::refusal::{OpName, Refusal};
 use io_edge::sinks::{Failed, Sink, put_all};
 
-/// Sends the line on what is wrong, if anything is. A fault of the sink is let go. `source` is the
-/// text in which an operation that is not listed stands; of a place outside it nothing is shown. It
-/// takes no memory.
-pub fn report<E: Sink>(err: &mut E, paths: &Paths<'_>, source: &[u8], status: &Status)
-    ensures { Reports E.told E.faults err.old err.new (line_of (paths_of paths.now) source.now status.now) }
+/// What the line on a wrong end may name.
+#[derive(Clone, Copy, Debug)]
+pub(crate) struct Subject<'a> {
+    /// The name of an input.
+    pub(crate) input: &'a str,
+    /// What is read of that input. An operation that is not listed stands in it; of a place outside it nothing is shown.
+    pub(crate) source: &'a [u8],
+    /// The name of the output file; none is standard output.
+    pub(crate) output: Option<&'a str>,
+}
+
+/// Sends the line on what is wrong, if anything is. A fault of the sink is let go. It takes no
+/// memory.
+pub(crate) fn report<E: Sink>(err: &mut E, subject: &Subject<'_>, status: &Status)
+    ensures { Reports E.told E.faults err.old err.new (line_of (subject_of subject.now) (end_of status.now)) }
 {
-    let _ = put_line(err, paths, source, status);
+    let _ = put_line(err, subject, status);
 }
 
 /// An end before any file is read, with its line.
 pub fn stop<E: Sink>(err: &mut E, status: Status) -> Status
-    requires { IsStop status }
+    requires { IsStop (end_of status) }
     ensures status { result ≡ status }
-    ensures report { (paths : _) → Reports E.told E.faults err.old err.new (line_of paths [] status) }
+    ensures report { (subject : _) → Reports E.told E.faults err.old err.new (line_of subject (end_of status)) }
 {
-    let paths = Paths {
+    let subject = Subject {
         input: "-",
+        source: b"",
         output: None,
     };
-    report(err, &paths, b"", &status);
+    report(err, &subject, &status);
     status
 }
 
 // The line, up to the first fault of the sink.
-fn put_line<E: Sink>(
-    err: &mut E,
-    paths: &Paths<'_>,
-    source: &[u8],
-    status: &Status,
-) -> Result<(), Failed>
-    ensures ok { OnOk result (Appends (E.told err.old) (E.told err.new) (line_of (paths_of paths.now) source.now status.now)) }
-    ensures err { OnErr result (AppendsFront (E.told err.old) (E.told err.new) (line_of (paths_of paths.now) source.now status.now)) }
+fn put_line<E: Sink>(err: &mut E, subject: &Subject<'_>, status: &Status) -> Result<(), Failed>
+    ensures ok { OnOk result (Appends (E.told err.old) (E.told err.new) (line_of (subject_of subject.now) (end_of status.now))) }
+    ensures err { OnErr result (AppendsFront (E.told err.old) (E.told err.new) (line_of (subject_of subject.now) (end_of status.now))) }
     ensures cause { HasCause (E.faults err.old) (E.faults err.new) result }
 {
     match status {
         Status::Done => put_all(err, b""),
         Status::Refused(refusal) => {
             let shown = Refusal {
-                op: within(refusal.op, source),
+                op: within(refusal.op, subject.source),
                 ..*refusal
             };
-            refusal_text(err, paths.input, source, &shown)
+            refusal_text(err, subject.input, subject.source, &shown)
         }
         Status::Usage(kind) => put_three(err, b"circt: usage: ", kind.text(), b"\n"),
         Status::ReadFault => {
-            let name = display_name(paths.input.as_bytes());
+            let name = display_name(subject.input.as_bytes());
             put_three(err, b"circt: cannot read ", name, b"\n")
         }
         Status::WriteFault => {
-            let name = shown_output(paths.output);
+            let name = shown_output(subject.output);
             put_three(err, b"circt: cannot write ", name, b"\n")
         }
         Status::NoMemory => put_all(err, b"circt: out of memory\n"),

@@ -2,154 +2,189 @@
 ghost use Rattle.std.specs.Prelude.{◌≡◌, ℕ, List, [], Some, None, Ok, Err, map, string_bytes, option_map};
 ghost use Rattle.io_edge.specs.Faults.{HasRisen};
 ghost use Rattle.command_line.specs.Line.{line};
-ghost use Rattle.command_line.specs.Invocations.{command_of, paths_of as files_of};
-ghost use Rattle.circt_top.specs.Words.{input_of, output_of, paths_in, paths_named, fault_of};
-ghost use Rattle.circt_top.specs.Outcome.{IsOutcome, IsAnswered};
+ghost use Rattle.command_line.specs.Invocations.{command_of, work_of};
+ghost use Rattle.circt_top.specs.Words.{fault_of, ForCommand};
+ghost use Rattle.circt_top.specs.Inputs.{AreContents, IsOneMissing, IsOneRisen, ReadsThen, OnFault, unread_end, name_at, bytes_at};
+ghost use Rattle.circt_top.specs.Outcome.{Verdict, IsAnswer, IsAnswered};
+ghost use Rattle.circt_top.specs.Outcome.Answer.{printed, refused};
 ghost use Rattle.circt_top.specs.Delivery.{HasOutputFault};
-ghost use Rattle.circt_top.specs.Answer.{told_at, usage_of, IsReadOf, IsUsage, OnRefused, OnReadFault, OnWriteFault, OnDone, Unwritten, ForCommand, IsMissing, IsMadeOf, IsRefusalOf, ReadsThen, Delivers, DeliversFront, IsDoneOrNoMemory, IsReadFaultOrNoMemory, IsRefusedOrNoMemory, line_of, Reports, ReportsEnd};
-ghost use Rattle.circt_top.specs.Runs.{IsWorked, read_failure};
+ghost use Rattle.circt_top.specs.Ends.{end_of, usage_of, OnAnswered, OnRefused, OnReadFault, OnWriteFault, Unwritten, IsUsage, IsAnsweredOrNoMemory, IsReadFaultOrNoMemory, IsRefusedOrNoMemory, IsWorked};
+ghost use Rattle.circt_top.specs.Answer.{IsMadeOf, IsRefusalOf, Delivers, DeliversFront, Subject, line_of, Reports, ReportsEnd, IsSubject};
+ghost use Rattle.circt_top.specs.Views.{subject_of};
 
 use crate::delivery::{Delivery, deliver};
+use crate::inputs::{Unread, read_inputs};
 use crate::outcome::{OutcomeFail, outcome};
-use crate::report::{report, stop};
+use crate::report::{Subject, report, stop};
 use crate::status::Status;
-use command_line::invocation::{Invocation, LineFail, Paths, read_line};
+use command_line::invocation::{Invocation, LineFail, read_line};
 use command_line::normalise::{WordsFail, normalise};
 use command_line::usage::UsageKind;
-use io_edge::file_access::{FileFail, Files};
+use io_edge::byte_text::Text;
+use io_edge::file_access::Files;
 use io_edge::sinks::Sink;
-use mlir_reader::read::MOST_BYTES;
+use pass_manager::gate::Gate;
 use std::alloc::Global;
 use std::thread::Threads;
 
-/// How many bytes of the input are read at most: one more than a text may have.
-const READ_LIMIT: u64 = MOST_BYTES as u64 + 1;
-
 /// Runs the program: `words` are those after its name, `files` are read and written by name (`-` is
 /// standard input), the output goes to `out` or to the file of `-o`, and one line on what is wrong
-/// goes to `err`.
+/// goes to `err`. `gate` is told of each module before a pass works on it.
 ///
 /// `opt [FILE] [-o FILE]` reads FILE and prints its design as MLIR text, and
 /// `translate [FILE] --export-verilog [-o FILE]` prints it as Verilog. All other words are answered
 /// by [`Status::Usage`]. A fault of `err` changes no status.
-pub fn run_circt<R: Threads + Sync, F: Files, O: Sink, E: Sink>(
+pub fn run_circt<R: Threads + Sync, F: Files, O: Sink, E: Sink, G: Gate + Sync>(
     rt: &R,
     alloc: Global,
     words: &[String],
     files: &mut F,
     out: &mut O,
     err: &mut E,
+    gate: &G,
 ) -> Status
-    ensures usage { IsUsage result (fault_of (map string_bytes words.now)) }
-    ensures refused { OnRefused result (λ r. ForCommand (map string_bytes words.now) (λ c. IsRefusalOf c (told_at (input_of c) (F.files files.old)) r)) }
-    ensures read_fault { OnReadFault result (ForCommand (map string_bytes words.now) (λ c. HasRisen (F.read_faults files.old (input_of c)) (F.read_faults files.new (input_of c)))) }
-    ensures write_fault { OnWriteFault result (ForCommand (map string_bytes words.now) (λ c. HasOutputFault (output_of c) (O.faults out.old) (O.faults out.new) (F.write_faults files.old) (F.write_faults files.new))) }
-    ensures unwritten { Unwritten result ((out.new ≡ out.old) × (F.files files.new ≡ F.files files.old)) }
-    ensures read_once { OnRefused result (λ r. ForCommand (map string_bytes words.now) (λ c. ReadsThen F.reads F.files files.old (input_of c) (λ opened. files.new ≡ opened))) }
-    ensures done { OnDone result (ForCommand (map string_bytes words.now) (λ c. (text : List ℕ) × ReadsThen F.reads F.files files.old (input_of c) (λ opened. Delivers F.writes F.files O.puts O.told (output_of c) opened files.new out.old out.new text) × IsMadeOf c (told_at (input_of c) (F.files files.old)) text)) }
-    ensures front { OnWriteFault result (ForCommand (map string_bytes words.now) (λ c. (text : List ℕ) × ReadsThen F.reads F.files files.old (input_of c) (λ opened. DeliversFront F.writes F.files O.puts O.told (output_of c) opened files.new out.old out.new text) × IsMadeOf c (told_at (input_of c) (F.files files.old)) text)) }
-    ensures complete { (c : _) → line (map string_bytes words.now) ≡ Ok c → (bytes : List ℕ) → told_at (input_of c) (F.files files.old) ≡ Some bytes → IsAnswered c bytes
-        → ¬ HasRisen (F.read_faults files.old (input_of c)) (F.read_faults files.new (input_of c))
-        → ¬ HasOutputFault (output_of c) (O.faults out.old) (O.faults out.new) (F.write_faults files.old) (F.write_faults files.new)
-        → IsDoneOrNoMemory result }
-    ensures refusing { (c : _) → line (map string_bytes words.now) ≡ Ok c → (bytes : List ℕ) → told_at (input_of c) (F.files files.old) ≡ Some bytes → ¬ IsAnswered c bytes
-        → ¬ HasRisen (F.read_faults files.old (input_of c)) (F.read_faults files.new (input_of c))
-        → IsRefusedOrNoMemory result }
-    ensures missing { (c : _) → line (map string_bytes words.now) ≡ Ok c → IsMissing (input_of c) (F.files files.old) → IsReadFaultOrNoMemory result }
-    ensures report { ReportsEnd E.told E.faults (map string_bytes words.now) (F.files files.old) result err.old err.new }
+    ensures usage { IsUsage (end_of result) (fault_of (map string_bytes words.now)) }
+    ensures refused { OnRefused (end_of result) (λ r. ForCommand (map string_bytes words.now) (λ c. IsRefusalOf c (F.files files.old) r)) }
+    ensures read_fault { OnReadFault (end_of result) (ForCommand (map string_bytes words.now) (λ c. IsOneRisen (F.read_faults files.old) (F.read_faults files.new) c.inputs)) }
+    ensures write_fault { OnWriteFault (end_of result) (ForCommand (map string_bytes words.now) (λ c. HasOutputFault c.output (O.faults out.old) (O.faults out.new) (F.write_faults files.old) (F.write_faults files.new))) }
+    ensures unwritten { Unwritten (end_of result) ((out.new ≡ out.old) × (F.files files.new ≡ F.files files.old)) }
+    ensures read_once { OnRefused (end_of result) (λ r. ForCommand (map string_bytes words.now) (λ c. ReadsThen F.reads F.files files.old c.inputs (λ opened. files.new ≡ opened))) }
+    ensures done { OnAnswered (end_of result) (λ verdict. ForCommand (map string_bytes words.now) (λ c. (text : List ℕ) × ReadsThen F.reads F.files files.old c.inputs (λ opened. Delivers F.writes F.files O.puts O.told c.output opened files.new out.old out.new text) × IsMadeOf c (F.files files.old) verdict text)) }
+    ensures front { OnWriteFault (end_of result) (ForCommand (map string_bytes words.now) (λ c. (verdict : Verdict) × (text : List ℕ) × ReadsThen F.reads F.files files.old c.inputs (λ opened. DeliversFront F.writes F.files O.puts O.told c.output opened files.new out.old out.new text) × IsMadeOf c (F.files files.old) verdict text)) }
+    ensures complete { (c : _) → line (map string_bytes words.now) ≡ Ok c → (contents : List (List ℕ)) → AreContents (F.files files.old) c.inputs contents → IsAnswered c.work contents
+        → ¬ IsOneRisen (F.read_faults files.old) (F.read_faults files.new) c.inputs
+        → ¬ HasOutputFault c.output (O.faults out.old) (O.faults out.new) (F.write_faults files.old) (F.write_faults files.new)
+        → IsAnsweredOrNoMemory (end_of result) }
+    ensures refusing { (c : _) → line (map string_bytes words.now) ≡ Ok c → (contents : List (List ℕ)) → AreContents (F.files files.old) c.inputs contents → ¬ IsAnswered c.work contents
+        → ¬ IsOneRisen (F.read_faults files.old) (F.read_faults files.new) c.inputs
+        → IsRefusedOrNoMemory (end_of result) }
+    ensures missing { (c : _) → line (map string_bytes words.now) ≡ Ok c → IsOneMissing (F.files files.old) c.inputs → IsReadFaultOrNoMemory (end_of result) }
+    ensures report { ReportsEnd E.told E.faults (map string_bytes words.now) (λ name. HasRisen (F.read_faults files.old name) (F.read_faults files.new name)) (F.files files.old) (end_of result) err.old err.new }
 {
-    let _ = rt;
     let regular = match normalise(alloc, words) {
         Ok(regular) => regular,
         Err(WordsFail::Reserved) => return stop(err, Status::Usage(UsageKind::Words)),
         Err(WordsFail::NoMemory) => return stop(err, Status::NoMemory),
     };
     match read_line(alloc, &regular) {
-        Ok(invocation) => run_on(alloc, &invocation, files, out, err),
+        Ok(invocation) => run_on(rt, alloc, &invocation, files, out, err, gate),
         Err(LineFail::Usage(kind)) => stop(err, Status::Usage(kind)),
         Err(LineFail::NoMemory) => stop(err, Status::NoMemory),
     }
 }
 
-// The files that an invocation names.
-fn paths_of<'a>(invocation: &Invocation<'a>) -> Paths<'a>
-    ensures { files_of result ≡ paths_named invocation.now }
-{
-    match invocation {
-        Invocation::Opt(paths) | Invocation::Translate(paths) => *paths,
-    }
-}
-
-// The run on the files of a command.
-fn run_on<F: Files, O: Sink, E: Sink>(
+// The run of a command.
+fn run_on<R: Threads + Sync, F: Files, O: Sink, E: Sink, G: Gate + Sync>(
+    rt: &R,
     alloc: Global,
     invocation: &Invocation<'_>,
     files: &mut F,
     out: &mut O,
     err: &mut E,
+    gate: &G,
 ) -> Status
-    ensures refused { OnRefused result (λ r. IsRefusalOf (command_of invocation.now) (told_at (input_of (command_of invocation.now)) (F.files files.old)) r) }
-    ensures read_fault { OnReadFault result (HasRisen (F.read_faults files.old (input_of (command_of invocation.now))) (F.read_faults files.new (input_of (command_of invocation.now)))) }
-    ensures write_fault { OnWriteFault result (HasOutputFault (output_of (command_of invocation.now)) (O.faults out.old) (O.faults out.new) (F.write_faults files.old) (F.write_faults files.new)) }
-    ensures unwritten { Unwritten result ((out.new ≡ out.old) × (F.files files.new ≡ F.files files.old)) }
-    ensures read_once { OnRefused result (λ r. ReadsThen F.reads F.files files.old (input_of (command_of invocation.now)) (λ opened. files.new ≡ opened)) }
-    ensures done { OnDone result ((text : List ℕ) × ReadsThen F.reads F.files files.old (input_of (command_of invocation.now)) (λ opened. Delivers F.writes F.files O.puts O.told (output_of (command_of invocation.now)) opened files.new out.old out.new text) × IsMadeOf (command_of invocation.now) (told_at (input_of (command_of invocation.now)) (F.files files.old)) text) }
-    ensures front { OnWriteFault result ((text : List ℕ) × ReadsThen F.reads F.files files.old (input_of (command_of invocation.now)) (λ opened. DeliversFront F.writes F.files O.puts O.told (output_of (command_of invocation.now)) opened files.new out.old out.new text) × IsMadeOf (command_of invocation.now) (told_at (input_of (command_of invocation.now)) (F.files files.old)) text) }
-    ensures missing { IsMissing (input_of (command_of invocation.now)) (F.files files.old) → IsReadFaultOrNoMemory result }
-    ensures no_usage { usage_of result ≡ None }
-    ensures report { (source : List ℕ) × OnRefused result (λ r. IsReadOf (told_at (input_of (command_of invocation.now)) (F.files files.old)) source) × Reports E.told E.faults err.old err.new (line_of (paths_in (command_of invocation.now)) source result) }
+    ensures refused { OnRefused (end_of result) (IsRefusalOf (command_of invocation.now) (F.files files.old)) }
+    ensures read_fault { OnReadFault (end_of result) (IsOneRisen (F.read_faults files.old) (F.read_faults files.new) (command_of invocation.now).inputs) }
+    ensures write_fault { OnWriteFault (end_of result) (HasOutputFault (command_of invocation.now).output (O.faults out.old) (O.faults out.new) (F.write_faults files.old) (F.write_faults files.new)) }
+    ensures unwritten { Unwritten (end_of result) ((out.new ≡ out.old) × (F.files files.new ≡ F.files files.old)) }
+    ensures read_once { OnRefused (end_of result) (λ r. ReadsThen F.reads F.files files.old (command_of invocation.now).inputs (λ opened. files.new ≡ opened)) }
+    ensures done { OnAnswered (end_of result) (λ verdict. (text : List ℕ) × ReadsThen F.reads F.files files.old (command_of invocation.now).inputs (λ opened. Delivers F.writes F.files O.puts O.told (command_of invocation.now).output opened files.new out.old out.new text) × IsMadeOf (command_of invocation.now) (F.files files.old) verdict text) }
+    ensures front { OnWriteFault (end_of result) ((verdict : Verdict) × (text : List ℕ) × ReadsThen F.reads F.files files.old (command_of invocation.now).inputs (λ opened. DeliversFront F.writes F.files O.puts O.told (command_of invocation.now).output opened files.new out.old out.new text) × IsMadeOf (command_of invocation.now) (F.files files.old) verdict text) }
+    ensures missing { IsOneMissing (F.files files.old) (command_of invocation.now).inputs → IsReadFaultOrNoMemory (end_of result) }
+    ensures no_usage { usage_of (end_of result) ≡ None }
+    ensures report { (s : Subject) × IsSubject (λ name. HasRisen (F.read_faults files.old name) (F.read_faults files.new name)) (F.files files.old) (end_of result) (command_of invocation.now) s × Reports E.told E.faults err.old err.new (line_of s (end_of result)) }
 {
-    let paths = paths_of(invocation);
-    let source = match files.read(alloc, paths.input, READ_LIMIT) {
-        Ok(source) => source,
-        Err(fail) => {
-            let status = read_failure(fail);
-            report(err, &paths, b"", &status);
-            return status;
-        }
+    let sources = match read_inputs(alloc, invocation.inputs.as_slice(), files) {
+        Ok(sources) => sources,
+        Err(unread) => return report_unread(err, unread),
     };
-    let status = answer(
-        alloc,
-        invocation,
-        paths.output,
-        source.as_bytes(),
-        files,
-        out,
-    );
-    report(err, &paths, source.as_bytes(), &status);
+    let status = answer(rt, alloc, invocation, sources.as_slice(), files, out, gate);
+    report(err, &subject_of(invocation, sources.as_slice(), &status), &status);
     status
 }
 
-// How a run ends whose input was not read.
-fn read_failure(fail: FileFail) -> Status
-    ensures { result ≡ read_failure fail }
+// The end of a run of which an input was not read, with its line.
+fn report_unread<E: Sink>(err: &mut E, unread: Unread<'_>) -> Status
+    ensures status { end_of result ≡ unread_end unread }
+    ensures report { (s : Subject) × OnFault unread (λ name. s.input ≡ name) × Reports E.told E.faults err.old err.new (line_of s (unread_end unread)) }
 {
-    match fail {
-        FileFail::Failed => Status::ReadFault,
-        FileFail::NoMemory => Status::NoMemory,
+    let (input, status) = match unread {
+        Unread::Fault(name) => (name, Status::ReadFault),
+        Unread::NoMemory => ("-", Status::NoMemory),
+    };
+    let subject = Subject {
+        input,
+        source: b"",
+        output: None,
+    };
+    report(err, &subject, &status);
+    status
+}
+
+// What the line on the end of a command names.
+fn subject_of<'a>(
+    invocation: &Invocation<'a>,
+    sources: &'a [Text],
+    status: &Status,
+) -> Subject<'a>
+    ensures refused { OnRefused (end_of status.now) (λ r. ((subject_of result).input ≡ name_at r.file (command_of invocation.now).inputs) × ((subject_of result).source ≡ bytes_at r.file sources.now)) }
+    ensures output { (subject_of result).output ≡ (command_of invocation.now).output }
+{
+    let (input, source) = match status {
+        Status::Refused(refusal) => (
+            name_at(refusal.file, invocation.inputs.as_slice()),
+            bytes_at(refusal.file, sources),
+        ),
+        _ => ("-", b"".as_slice()),
+    };
+    Subject {
+        input,
+        source,
+        output: invocation.output,
     }
 }
 
-// The run on the text of the input.
-fn answer<F: Files, O: Sink>(
+// The name of the input of this number.
+fn name_at<'a>(number: u32, names: &[&'a str]) -> &'a str
+    ensures { result.now ≡ name_at number (map (λ s. s.now) names.now) }
+{
+    match names.get(number as usize) {
+        Some(name) => name,
+        None => "-",
+    }
+}
+
+// What is read of the input of this number.
+fn bytes_at(number: u32, sources: &[Text]) -> &[u8]
+    ensures { result.now ≡ bytes_at number sources.now }
+{
+    match sources.get(number as usize) {
+        Some(source) => source.as_bytes(),
+        None => b"",
+    }
+}
+
+// The run on the texts of the inputs.
+fn answer<R: Threads + Sync, F: Files, O: Sink, G: Gate + Sync>(
+    rt: &R,
     alloc: Global,
     invocation: &Invocation<'_>,
-    output: Option<&str>,
-    source: &[u8],
+    sources: &[Text],
     files: &mut F,
     out: &mut O,
+    gate: &G,
 ) -> Status
-    ensures refused { OnRefused result (λ r. IsOutcome (command_of invocation.now) source.now (Err r)) }
-    ensures write_fault { OnWriteFault result (HasOutputFault (option_map (λ s. s.now) output.entry) (O.faults out.old) (O.faults out.new) (F.write_faults files.old) (F.write_faults files.new)) }
-    ensures unwritten { Unwritten result ((out.new ≡ out.old) × (F.files files.new ≡ F.files files.old)) }
-    ensures untouched { OnRefused result (λ r. files.new ≡ files.old) }
-    ensures done { OnDone result ((text : List ℕ) × Delivers F.writes F.files O.puts O.told (option_map (λ s. s.now) output.entry) files.old files.new out.old out.new text × IsOutcome (command_of invocation.now) source.now (Ok text)) }
-    ensures front { OnWriteFault result ((text : List ℕ) × DeliversFront F.writes F.files O.puts O.told (option_map (λ s. s.now) output.entry) files.old files.new out.old out.new text × IsOutcome (command_of invocation.now) source.now (Ok text)) }
+    ensures refused { OnRefused (end_of result) (λ r. IsAnswer (command_of invocation.now).work sources.now (refused r)) }
+    ensures write_fault { OnWriteFault (end_of result) (HasOutputFault (command_of invocation.now).output (O.faults out.old) (O.faults out.new) (F.write_faults files.old) (F.write_faults files.new)) }
+    ensures unwritten { Unwritten (end_of result) ((out.new ≡ out.old) × (F.files files.new ≡ F.files files.old)) }
+    ensures untouched { OnRefused (end_of result) (λ r. files.new ≡ files.old) }
+    ensures done { OnAnswered (end_of result) (λ verdict. (text : List ℕ) × Delivers F.writes F.files O.puts O.told (command_of invocation.now).output files.old files.new out.old out.new text × IsAnswer (command_of invocation.now).work sources.now (printed verdict text)) }
+    ensures front { OnWriteFault (end_of result) ((verdict : Verdict) × (text : List ℕ) × DeliversFront F.writes F.files O.puts O.told (command_of invocation.now).output files.old files.new out.old out.new text × IsAnswer (command_of invocation.now).work sources.now (printed verdict text)) }
     ensures reads { F.read_faults files.new ≡ F.read_faults files.old }
-    ensures kinds { IsWorked result }
+    ensures kinds { IsWorked (end_of result) }
 {
-    match outcome(alloc, invocation, source) {
-        Ok(text) => match deliver(alloc, output, text.as_bytes(), files, out) {
+    match outcome(rt, alloc, &invocation.work, sources, gate) {
+        Ok(text) => match deliver(alloc, invocation.output, text.as_bytes(), files, out) {
             Delivery::Whole => Status::Done,
             Delivery::Fault => Status::WriteFault,
             Delivery::NoMemory => Status::NoMemory,

@@ -2,6 +2,7 @@
 use circt_top::run::run_circt;
 use io_edge::memory_files::{MemoryFile, MemoryFiles};
 use io_edge::memory_sink::MemorySink;
+use pass_manager::gate::Open;
 use std::alloc::{AllocError, AllocGlobal, Global};
 use std::thread::Threads;
 
@@ -89,7 +90,15 @@ pub fn run_words(
     let mut files = files_of(alloc, input, failing)?;
     let mut out = sink_of(alloc, failing == Failing::Put)?;
     let mut err = sink_of(alloc, failing == Failing::Line)?;
-    let status = run_circt(rt, alloc, words.as_slice(), &mut files, &mut out, &mut err);
+    let status = run_circt(
+        rt,
+        alloc,
+        words.as_slice(),
+        &mut files,
+        &mut out,
+        &mut err,
+        &Open,
+    );
     Ok(Ended {
         code: status.code(),
         files,

@@ -2,31 +2,39 @@
 use Rattle.std.specs.Prelude.{Bool, true, false, cond, List, [], ◌∷◌, Option, Some, None, Result, Ok, Err, codes, unwrap_or}
 use Rattle.std.specs.Str.{bytes_eq}
 use Rattle.clap.specs.Words.{Row, Text, Kinds, first_of, fault_of, subcommand_of}
+use Rattle.pass_pipeline.specs.declared.pass.Pass.{Pass}
 use Rattle.command_line.specs.Normal.{normal}
 use Rattle.command_line.specs.Commands.{circt_app}
 use Rattle.command_line.specs.declared.usage.UsageKind.{UsageKind}
 use Rattle.command_line.specs.declared.usage.UsageKind.TheVariants.{Words, NoTranslation}
 
--- where the input comes from and where the output goes to; `-` is standard input, no file standard output
-pub record Paths : Type 0 where
-  pub input : Text
-  pub output : Option Text
+-- what is made of the inputs: MLIR text, or Verilog, of the design that passes make of the one that is read
+pub data Work : Type 0 where
+  mlir : List Pass → Work
+  verilog : List Pass → Work
 
--- a command with its values
-pub data Command : Type 0 where
-  opt : Paths → Command
-  translate : Paths → Command
+-- a command: the files that it reads, in order, the one that it writes, and its work; `-` is standard input, no file standard output
+pub record Command : Type 0 where
+  pub inputs : List Text
+  pub output : Option Text
+  pub work : Work
 
 -- `-o -` counts as no `-o`
 abbrev pub unless_dash : Option Text → Option Text
 unless_dash None = None
 unless_dash (Some text) = cond (bytes_eq text (codes "-")) None (Some text)
 
-abbrev pub paths_in : List Row → Paths
-paths_in rows = record {
-  input = unwrap_or (first_of (codes "file") rows) (codes "-");
-  output = unless_dash (first_of (codes "output") rows);
-}
+-- the file that is read
+abbrev pub input_in : List Row → Text
+input_in rows = unwrap_or (first_of (codes "file") rows) (codes "-")
+
+-- the files that are read
+abbrev pub inputs_in : List Row → List Text
+inputs_in rows = input_in rows ∷ []
+
+-- the file that is written
+abbrev pub output_in : List Row → Option Text
+output_in rows = unless_dash (first_of (codes "output") rows)
 
 -- whether a flag is given
 abbrev pub is_true : Option Text → Bool
@@ -36,15 +44,22 @@ is_true (Some text) = bytes_eq text (codes "true")
 abbrev pub is_flagged : Text → List Row → Bool
 is_flagged id rows = is_true (first_of id rows)
 
-abbrev pub translation : Bool → Paths → Result Command UsageKind
-translation true paths = Ok (translate paths)
-translation false paths = Err NoTranslation
+abbrev pub translation : Bool → Result Work UsageKind
+translation true = Ok (verilog [])
+translation false = Err NoTranslation
+
+-- the work of a command of this name
+abbrev pub work_in : Text → List Row → Result Work UsageKind
+work_in name rows = cond (bytes_eq name (codes "opt")) (Ok (mlir [])) (translation (is_flagged (codes "export-verilog") rows))
+
+-- a work with the files that are named
+abbrev pub with_files : List Row → Result Work UsageKind → Result Command UsageKind
+with_files rows (Ok work) = Ok (record { inputs = inputs_in rows; output = output_in rows; work = work })
+with_files rows (Err kind) = Err kind
 
 -- the command of a name with its arguments
 abbrev pub command_in : Text → List Row → Result Command UsageKind
-command_in name rows =
-    cond (bytes_eq name (codes "opt")) (Ok (opt (paths_in rows)))
-    (translation (is_flagged (codes "export-verilog") rows) (paths_in rows))
+command_in name rows = with_files rows (work_in name rows)
 
 abbrev pub require_subcommand : Option (Text × List Row) → Result Command UsageKind
 require_subcommand None = Err Words

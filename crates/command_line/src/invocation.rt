@@ -2,31 +2,34 @@
 ghost use Rattle.std.specs.Prelude.{◌≡◌, IfOk, map, string_bytes, option_map, [], Some, Ok, Err};
 ghost use Rattle.clap.specs.Words.{found_of, rows_of, first_of, fault_of, subcommand_of, subcommand_rows_of, FailsBy};
 ghost use Rattle.command_line.specs.Commands.{circt_app};
-ghost use Rattle.command_line.specs.Line.{parse, paths_in, is_flagged, command_in, unless_dash};
-ghost use Rattle.command_line.specs.Invocations.{paths_of, command_of, Says, IsFault};
+ghost use Rattle.command_line.specs.Line.{parse, input_in, inputs_in, output_in, work_in, is_flagged, command_in};
+ghost use Rattle.command_line.specs.Invocations.{command_of, work_of, Says, SaysWork, IsFault};
 
 use crate::commands::circt_command;
 use crate::usage::UsageKind;
 use clap::ArgMatches;
 use clap::error::ErrorKind;
+use pass_pipeline::pass::Pass;
 use std::alloc::{AllocError, Global};
 
-/// Where the input comes from and where the output goes to.
-#[derive(Clone, Copy, Debug)]
-pub struct Paths<'a> {
-    /// The name of the input file; `-` is standard input.
-    pub input: &'a str,
-    /// The name of the output file; none is standard output.
-    pub output: Option<&'a str>,
+/// What is made of the inputs.
+#[derive(Debug, Drop)]
+pub enum Work {
+    /// MLIR text of the design that these passes make.
+    Mlir(Vec<Pass>),
+    /// Verilog of the design that these passes make.
+    Verilog(Vec<Pass>),
 }
 
 /// A command with its values.
-#[derive(Clone, Copy, Debug)]
-pub enum Invocation<'a> {
-    /// Prints the design as it is read.
-    Opt(Paths<'a>),
-    /// Prints the design as Verilog.
-    Translate(Paths<'a>),
+#[derive(Debug, Drop)]
+pub struct Invocation<'a> {
+    /// The names of the input files in order; `-` is standard input.
+    pub inputs: Vec<&'a str>,
+    /// The name of the output file; none is standard output.
+    pub output: Option<&'a str>,
+    /// What is made of the inputs.
+    pub work: Work,
 }
 
 /// Why words were not answered by an invocation.
@@ -56,7 +59,7 @@ pub fn read_line<'a>(alloc: Global, words: &'a [String]) -> Result<Invocation<'a
 {
     let matches = find_matches(alloc, words)?;
     match matches.subcommand() {
-        Some((name, rows)) => command_in(name, rows),
+        Some((name, rows)) => command_in(alloc, name, rows),
         None => Err(LineFail::Usage(UsageKind::Words)),
     }
 }
@@ -77,27 +80,59 @@ fn find_matches<'a>(alloc: Global, words: &'a [String]) -> Result<ArgMatches<'a>
 }
 
 /// The command of a name with its arguments.
-fn command_in<'a>(name: &str, matches: &ArgMatches<'a>) -> Result<Invocation<'a>, LineFail>
+fn command_in<'a>(
+    alloc: Global,
+    name: &str,
+    matches: &ArgMatches<'a>,
+) -> Result<Invocation<'a>, LineFail>
     ensures { Says (command_in name.now (rows_of (found_of matches.now))) result }
 {
-    let paths = paths_in(matches);
-    if name == "opt" {
-        return Ok(Invocation::Opt(paths));
-    }
-    if is_flagged(matches, "export-verilog") {
-        return Ok(Invocation::Translate(paths));
-    }
-    Err(LineFail::Usage(UsageKind::NoTranslation))
+    let work = match work_in(alloc, name, matches) {
+        Ok(work) => work,
+        Err(kind) => return Err(LineFail::Usage(kind)),
+    };
+    Ok(Invocation {
+        inputs: inputs_in(alloc, matches)?,
+        output: output_in(matches),
+        work,
+    })
 }
 
-/// The files that are named.
-fn paths_in<'a>(matches: &ArgMatches<'a>) -> Paths<'a>
-    ensures { paths_of result ≡ paths_in (rows_of (found_of matches.now)) }
+/// The work of a command of this name.
+fn work_in(alloc: Global, name: &str, matches: &ArgMatches<'_>) -> Result<Work, UsageKind>
+    ensures { SaysWork (work_in name.now (rows_of (found_of matches.now))) result }
 {
-    Paths {
-        input: value(matches, "file").unwrap_or("-"),
-        output: value(matches, "output").filter(|name| *name != "-"),
+    let passes = Vec::new(alloc);
+    if name == "opt" {
+        return Ok(Work::Mlir(passes));
     }
+    if is_flagged(matches, "export-verilog") {
+        return Ok(Work::Verilog(passes));
+    }
+    Err(UsageKind::NoTranslation)
+}
+
+/// The names of the files that are read.
+fn inputs_in<'a>(alloc: Global, matches: &ArgMatches<'a>) -> Result<Vec<&'a str>, AllocError>
+    ensures { IfOk result (λ v. map (λ s. s.now) v.items ≡ inputs_in (rows_of (found_of matches.now))) }
+{
+    let mut inputs = Vec::new(alloc);
+    inputs.push(input_in(matches))?;
+    Ok(inputs)
+}
+
+/// The name of the file that is read.
+fn input_in<'a>(matches: &ArgMatches<'a>) -> &'a str
+    ensures { result.now ≡ input_in (rows_of (found_of matches.now)) }
+{
+    value(matches, "file").unwrap_or("-")
+}
+
+/// The name of the file that is written, if one is.
+fn output_in<'a>(matches: &ArgMatches<'a>) -> Option<&'a str>
+    ensures { option_map (λ s. s.now) result ≡ output_in (rows_of (found_of matches.now)) }
+{
+    value(matches, "output").filter(|name| *name != "-")
 }
 
 /// Whether a flag is given.

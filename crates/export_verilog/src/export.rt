@@ -11,6 +11,7 @@ use crate::named_design::NamedDesign;
 use io_edge::byte_text::Text;
 use op_verifier::Verified;
 use std::alloc::{AllocError, Global};
+use std::thread::Threads;
 
 // Adds the empty line before a module that follows another.
 fn push_between(out: &mut Text, follows: bool) -> Result<(), AllocError>
@@ -36,11 +37,16 @@ fn design_text(alloc: Global, all: &NamedDesign<'_>) -> Result<Text, AllocError>
 }
 
 /// The Verilog text of an accepted design without aggregates, one module after another with an empty line between two
-/// (IEEE 1364-2005, 12.1: modules). The error comes only when out of memory.
-pub fn export(alloc: Global, verified: &Verified) -> Result<Text, AllocError>
+/// (IEEE 1364-2005, 12.1: modules). The error comes only when out of memory. `rt` may start threads; none is needed so far.
+pub fn export<R: Threads + Sync>(
+    rt: &R,
+    alloc: Global,
+    verified: &Verified,
+) -> Result<Text, AllocError>
     requires { HasNoAggregates (design_of verified.now.design) }
     ensures { IfOk result (λ text. text ≡ verilog_text (design_of verified.now.design)) }
 {
+    let _ = rt;
     let design = verified.design();
     stored_designs_have_room(design);
     let all = NamedDesign::of(alloc, design)?;

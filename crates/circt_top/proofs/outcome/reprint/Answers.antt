@@ -7,8 +7,8 @@ use Rattle.circt_top.proofs.Outcomes.{reprinted}
 use Rattle.circt_top.proofs.outcome.reprint.Goals as goal
 
 pub returns : goal.returns
-returns c =
-    IfOk-weaker c.print_and_drop.result (λ text. text ≡ ir_text (design_of c.args.verified.design)) (IsReprint c.args.source.now)
+returns c = λ passes.
+    IfOk-weaker c.print_and_drop.result (λ text. text ≡ ir_text (design_of c.args.verified.design)) (IsReprint passes c.args.source.now)
     (reprinted
     (record {
       printable = c.what_is_accepted_is_printable.ensures;
@@ -21,5 +21,5 @@ returns c =
       placeless = c.places_decide_no_verdict.ensures;
       same = c.places_decide_nothing.ensures;
     })
-    c.args.source.now (design_of c.args.verified.design) c.are_bytes.ensures c.requires)
+    c.args.source.now (design_of c.args.verified.design) c.are_bytes.ensures c.requires passes)
     c.print_and_drop.ensures

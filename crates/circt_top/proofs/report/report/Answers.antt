@@ -1,10 +1,11 @@
 -- The line that was sent is reported, whatever the sink met.
-use Rattle.command_line.specs.Invocations.{paths_of}
 use Rattle.circt_top.specs.Answer.{line_of}
+use Rattle.circt_top.specs.Ends.{end_of}
+use Rattle.circt_top.specs.Views.{subject_of}
 use Rattle.circt_top.proofs.Reported.{reported}
 use Rattle.circt_top.proofs.report.report.Goals as goal
 
 pub returns : goal.returns
 returns g c =
-    reported g.E.Sink.told g.E.Sink.faults c.args.err.now c.put_line.new.err (line_of (paths_of c.args.paths.now) c.args.source.now c.args.status.now) c.put_line.result
+    reported g.E.Sink.told g.E.Sink.faults c.args.err.now c.put_line.new.err (line_of (subject_of c.args.subject.now) (end_of c.args.status.now)) c.put_line.result
     c.put_line.ensures.ok c.put_line.ensures.err c.put_line.ensures.cause

@@ -6,7 +6,7 @@ use Rattle.export_verilog.proofs.accepted.AcceptedBodies.{accepted_writable}
 use Rattle.export_verilog.proofs.export.export.Goals as goal
 
 pub design_text-requires : goal.design_text-requires
-design_text-requires c =
+design_text-requires g c =
     let v = c.args.verified.now in
     let e : design_of c.design-design.result.now ≡ design_of v.design = ap (map numbered_module) c.design-design.ensures in
     subst IsWritableDesign (sym (c.in_ok-all.ensures ∙ e))
