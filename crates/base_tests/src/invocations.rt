@@ -114,8 +114,13 @@ fn is_command(
                 Work::Verilog(_) => translates,
             };
             let names = invocation.inputs.as_slice();
-            let is_input = names.len() == 1 && names[0] == input;
-            Ok(is_work && is_input && invocation.output == output)
+            let is_input = names.len() == 1 && names[0].as_str() == input;
+            let is_output = match (&invocation.output, output) {
+                (Some(name), Some(wanted)) => name.as_str() == wanted,
+                (None, None) => true,
+                _ => false,
+            };
+            Ok(is_work && (is_input && is_output))
         }
         Err(LineFail::Usage(_)) => Ok(false),
         Err(LineFail::NoMemory) => Err(AllocError),

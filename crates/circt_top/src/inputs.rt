@@ -1,5 +1,5 @@
 //! The files that a command reads.
-ghost use Rattle.std.specs.Prelude.{◌≡◌, ℕ, List, [], ◌∷◌, ◌++◌, Ok, IfOk, IfErr, OnOk, map};
+ghost use Rattle.std.specs.Prelude.{◌≡◌, ℕ, List, [], ◌∷◌, ◌++◌, Ok, IfOk, IfErr, OnOk, map, string_bytes};
 ghost use Rattle.wiring.specs.Wiring.{In};
 ghost use Rattle.io_edge.specs.Faults.{HasRisen};
 ghost use Rattle.io_edge.specs.Reading.{Reads, HasNamedCause};
@@ -25,12 +25,12 @@ pub(crate) enum Unread<'a> {
 /// What is read of the files of these names, in order, up to the first that cannot be read.
 pub(crate) fn read_inputs<'a, F: Files>(
     alloc: Global,
-    names: &[&'a str],
+    names: &'a [String],
     files: &mut F,
 ) -> Result<Vec<Text>, Unread<'a>>
-    ensures read { IfOk result (λ v. HasRead F.reads F.files files.old (map (λ s. s.now) names.now) v.items files.new) }
-    ensures told { IfOk result (λ v. AreReads (F.files files.old) (map (λ s. s.now) names.now) v.items) }
-    ensures fault { IfErr result (λ u. OnFault u (λ name. In name (map (λ s. s.now) names.now) × HasRisen (F.read_faults files.old name) (F.read_faults files.new name))) }
+    ensures read { IfOk result (λ v. HasRead F.reads F.files files.old (map string_bytes names.entry.now) v.items files.new) }
+    ensures told { IfOk result (λ v. AreReads (F.files files.old) (map string_bytes names.entry.now) v.items) }
+    ensures fault { IfErr result (λ u. OnFault u (λ name. In name (map string_bytes names.entry.now) × HasRisen (F.read_faults files.old name) (F.read_faults files.new name))) }
     ensures unchanged { F.files files.new ≡ F.files files.old }
     ensures writes { F.write_faults files.new ≡ F.write_faults files.old }
 {

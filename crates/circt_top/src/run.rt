@@ -77,7 +77,7 @@ pub fn run_circt<R: Threads + Sync, F: Files, O: Sink, E: Sink, G: Gate + Sync>(
 fn run_on<R: Threads + Sync, F: Files, O: Sink, E: Sink, G: Gate + Sync>(
     rt: &R,
     alloc: Global,
-    invocation: &Invocation<'_>,
+    invocation: &Invocation,
     files: &mut F,
     out: &mut O,
     err: &mut E,
@@ -123,12 +123,12 @@ fn report_unread<E: Sink>(err: &mut E, unread: Unread<'_>) -> Status
 
 // What the line on the end of a command names.
 fn subject_of<'a>(
-    invocation: &Invocation<'a>,
+    invocation: &'a Invocation,
     sources: &'a [Text],
     status: &Status,
 ) -> Subject<'a>
-    ensures refused { OnRefused (end_of status.now) (λ r. ((subject_of result).input ≡ name_at r.file (command_of invocation.now).inputs) × ((subject_of result).source ≡ bytes_at r.file sources.now)) }
-    ensures output { (subject_of result).output ≡ (command_of invocation.now).output }
+    ensures refused { OnRefused (end_of status.now) (λ r. ((subject_of result).input ≡ name_at r.file (command_of invocation.entry.now).inputs) × ((subject_of result).source ≡ bytes_at r.file sources.entry.now)) }
+    ensures output { (subject_of result).output ≡ (command_of invocation.entry.now).output }
 {
     let (input, source) = match status {
         Status::Refused(refusal) => (
@@ -140,13 +140,23 @@ fn subject_of<'a>(
     Subject {
         input,
         source,
-        output: invocation.output,
+        output: output_name(invocation),
+    }
+}
+
+// The name of the output file; none is standard output.
+fn output_name(invocation: &Invocation) -> Option<&str>
+    ensures { option_map (λ s. s.now) result ≡ (command_of invocation.now).output }
+{
+    match &invocation.output {
+        Some(name) => Some(name),
+        None => None,
     }
 }
 
 // The name of the input of this number.
-fn name_at<'a>(number: u32, names: &[&'a str]) -> &'a str
-    ensures { result.now ≡ name_at number (map (λ s. s.now) names.now) }
+fn name_at(number: u32, names: &[String]) -> &str
+    ensures { result.now ≡ name_at number (map string_bytes names.now) }
 {
     match names.get(number as usize) {
         Some(name) => name,
@@ -168,7 +178,7 @@ fn bytes_at(number: u32, sources: &[Text]) -> &[u8]
 fn answer<R: Threads + Sync, F: Files, O: Sink, G: Gate + Sync>(
     rt: &R,
     alloc: Global,
-    invocation: &Invocation<'_>,
+    invocation: &Invocation,
     sources: &[Text],
     files: &mut F,
     out: &mut O,
@@ -184,7 +194,7 @@ fn answer<R: Threads + Sync, F: Files, O: Sink, G: Gate + Sync>(
     ensures kinds { IsWorked (end_of result) }
 {
     match outcome(rt, alloc, &invocation.work, sources, gate) {
-        Ok(text) => match deliver(alloc, invocation.output, text.as_bytes(), files, out) {
+        Ok(text) => match deliver(alloc, output_name(invocation), text.as_bytes(), files, out) {
             Delivery::Whole => Status::Done,
             Delivery::Fault => Status::WriteFault,
             Delivery::NoMemory => Status::NoMemory,

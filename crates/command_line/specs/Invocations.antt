@@ -1,5 +1,5 @@
 -- What invocations in code stand for.
-use Rattle.std.specs.Prelude.{◌≡◌, [], Result, Ok, Err, map, option_map}
+use Rattle.std.specs.Prelude.{◌≡◌, [], Result, Ok, Err, map, string_bytes, option_map}
 use Rattle.clap.specs.Words.{Kinds}
 use Rattle.command_line.specs.Line as line
 use Rattle.command_line.specs.Line.{Command}
@@ -17,7 +17,7 @@ work_of (Mlir passes) = mlir passes.items
 work_of (Verilog passes) = verilog passes.items
 
 abbrev pub command_of : Invocation → Command
-command_of i = record { inputs = map (λ s. s.now) i.inputs.items; output = option_map (λ s. s.now) i.output; work = work_of i.work }
+command_of i = record { inputs = map string_bytes i.inputs.items; output = option_map string_bytes i.output; work = work_of i.work }
 
 -- an answer is what is said, or out of memory
 abbrev pub Says : Result Command UsageKind → Result Invocation LineFail → Type 0

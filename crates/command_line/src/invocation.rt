@@ -23,11 +23,11 @@ pub enum Work {
 
 /// A command with its values.
 #[derive(Debug, Drop)]
-pub struct Invocation<'a> {
+pub struct Invocation {
     /// The names of the input files in order; `-` is standard input.
-    pub inputs: Vec<&'a str>,
+    pub inputs: Vec<String>,
     /// The name of the output file; none is standard output.
-    pub output: Option<&'a str>,
+    pub output: Option<String>,
     /// What is made of the inputs.
     pub work: Work,
 }
@@ -54,8 +54,8 @@ impl From<AllocError> for LineFail {
 
 /// What regular words say. They are those after the program's name, after [`crate::normalise`].
 #[tactic(auto, unfolding(crate::specs::Line::parse))]
-pub fn read_line<'a>(alloc: Global, words: &'a [String]) -> Result<Invocation<'a>, LineFail>
-    ensures { Says (parse (map string_bytes words.entry.now)) result }
+pub fn read_line(alloc: Global, words: &[String]) -> Result<Invocation, LineFail>
+    ensures { Says (parse (map string_bytes words.now)) result }
 {
     let matches = find_matches(alloc, words)?;
     match matches.subcommand() {
@@ -80,11 +80,11 @@ fn find_matches<'a>(alloc: Global, words: &'a [String]) -> Result<ArgMatches<'a>
 }
 
 /// The command of a name with its arguments.
-fn command_in<'a>(
+fn command_in(
     alloc: Global,
     name: &str,
-    matches: &ArgMatches<'a>,
-) -> Result<Invocation<'a>, LineFail>
+    matches: &ArgMatches<'_>,
+) -> Result<Invocation, LineFail>
     ensures { Says (command_in name.now (rows_of (found_of matches.now))) result }
 {
     let work = match work_in(alloc, name, matches) {
@@ -93,7 +93,7 @@ fn command_in<'a>(
     };
     Ok(Invocation {
         inputs: inputs_in(alloc, matches)?,
-        output: output_in(matches),
+        output: output_in(alloc, matches)?,
         work,
     })
 }
@@ -113,11 +113,11 @@ fn work_in(alloc: Global, name: &str, matches: &ArgMatches<'_>) -> Result<Work, 
 }
 
 /// The names of the files that are read.
-fn inputs_in<'a>(alloc: Global, matches: &ArgMatches<'a>) -> Result<Vec<&'a str>, AllocError>
-    ensures { IfOk result (λ v. map (λ s. s.now) v.items ≡ inputs_in (rows_of (found_of matches.now))) }
+fn inputs_in(alloc: Global, matches: &ArgMatches<'_>) -> Result<Vec<String>, AllocError>
+    ensures { IfOk result (λ v. map string_bytes v.items ≡ inputs_in (rows_of (found_of matches.now))) }
 {
     let mut inputs = Vec::new(alloc);
-    inputs.push(input_in(matches))?;
+    inputs.push(String::from_str(alloc, input_in(matches))?)?;
     Ok(inputs)
 }
 
@@ -129,7 +129,17 @@ fn input_in<'a>(matches: &ArgMatches<'a>) -> &'a str
 }
 
 /// The name of the file that is written, if one is.
-fn output_in<'a>(matches: &ArgMatches<'a>) -> Option<&'a str>
+fn output_in(alloc: Global, matches: &ArgMatches<'_>) -> Result<Option<String>, AllocError>
+    ensures { IfOk result (λ o. option_map string_bytes o ≡ output_in (rows_of (found_of matches.now))) }
+{
+    match named_output(matches) {
+        Some(name) => Ok(Some(String::from_str(alloc, name)?)),
+        None => Ok(None),
+    }
+}
+
+/// The name after `-o`, but for `-`.
+fn named_output<'a>(matches: &ArgMatches<'a>) -> Option<&'a str>
     ensures { option_map (λ s. s.now) result ≡ output_in (rows_of (found_of matches.now)) }
 {
     value(matches, "output").filter(|name| *name != "-")
