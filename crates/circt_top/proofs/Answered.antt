@@ -19,7 +19,7 @@ use Rattle.circt_top.specs.Reprint.{IsReprint}
 use Rattle.circt_top.specs.Translation.{IsTranslation, IsUnexported}
 use Rattle.circt_top.specs.Outcome.{Verdict, Answer, IsAnswer}
 use Rattle.circt_top.specs.Outcome.Verdict.{given}
-use Rattle.circt_top.specs.Outcome.Answer.{printed, refused}
+use Rattle.circt_top.specs.Outcome.Answer.{prints, refuses}
 use Rattle.circt_top.specs.Inputs.{Told, read_limit, told_at, AreContents, IsMissing, IsOneMissing, AreReads, fronts}
 use Rattle.circt_top.specs.Answer.{IsMadeOf, IsRefusalOf}
 
@@ -122,11 +122,11 @@ unexported_whole passes bytes source r same is =
 
 -- what is answered for fronts is answered for the whole
 answer_whole : (work : Work) (contents sources : List (List ℕ)) (x : Answer) → read (first_input sources) ≡ read (first_input contents) → IsAnswer work sources x → IsAnswer work contents x
-answer_whole (mlir passes) contents sources (printed given text) same is = reprint_whole passes (first_input contents) (first_input sources) text same is
-answer_whole (mlir passes) contents sources (refused r) same is = refused_in_again 0 (first_input contents) (first_input sources) r same is
-answer_whole (verilog passes) contents sources (printed given text) same is = translation_whole passes (first_input contents) (first_input sources) text same is
-answer_whole (verilog passes) contents sources (refused r) same (inl is) = inl (refused_in_again 0 (first_input contents) (first_input sources) r same is)
-answer_whole (verilog passes) contents sources (refused r) same (inr is) = inr (unexported_whole passes (first_input contents) (first_input sources) r same is)
+answer_whole (mlir passes) contents sources (prints given text) same is = reprint_whole passes (first_input contents) (first_input sources) text same is
+answer_whole (mlir passes) contents sources (refuses r) same is = refused_in_again 0 (first_input contents) (first_input sources) r same is
+answer_whole (verilog passes) contents sources (prints given text) same is = translation_whole passes (first_input contents) (first_input sources) text same is
+answer_whole (verilog passes) contents sources (refuses r) same (inl is) = inl (refused_in_again 0 (first_input contents) (first_input sources) r same is)
+answer_whole (verilog passes) contents sources (refuses r) same (inr is) = inr (unexported_whole passes (first_input contents) (first_input sources) r same is)
 
 first_front : (contents : List (List ℕ)) → first_input (fronts contents) ≡ take read_limit (first_input contents)
 first_front [] = refl
@@ -136,12 +136,12 @@ inputs_whole : (contents sources : List (List ℕ)) → sources ≡ fronts conte
 inputs_whole contents sources e = read_whole (first_input contents) (first_input sources) (ap first_input e ∙ first_front contents)
 
 -- what is refused of what was read is refused of the told files
-pub refused_whole : (c : Command) (told : Told) (sources : List (List ℕ)) (r : Refusal) → AreReads told c.inputs sources → IsAnswer c.work sources (refused r) → IsRefusalOf c told r
+pub refused_whole : (c : Command) (told : Told) (sources : List (List ℕ)) (r : Refusal) → AreReads told c.inputs sources → IsAnswer c.work sources (refuses r) → IsRefusalOf c told r
 refused_whole c told sources r read is =
-    λ contents h. answer_whole c.work contents sources (refused r) (inputs_whole contents sources (fronts_read told c.inputs sources contents read h)) is
+    λ contents h. answer_whole c.work contents sources (refuses r) (inputs_whole contents sources (fronts_read told c.inputs sources contents read h)) is
 
 -- what is made of what was read is made of the told files
-pub made_whole : (c : Command) (told : Told) (sources : List (List ℕ)) (verdict : Verdict) (text : List ℕ) → AreReads told c.inputs sources → IsAnswer c.work sources (printed verdict text)
+pub made_whole : (c : Command) (told : Told) (sources : List (List ℕ)) (verdict : Verdict) (text : List ℕ) → AreReads told c.inputs sources → IsAnswer c.work sources (prints verdict text)
     → IsMadeOf c told verdict text
 made_whole c told sources verdict text read is =
-    λ contents h. answer_whole c.work contents sources (printed verdict text) (inputs_whole contents sources (fronts_read told c.inputs sources contents read h)) is
+    λ contents h. answer_whole c.work contents sources (prints verdict text) (inputs_whole contents sources (fronts_read told c.inputs sources contents read h)) is

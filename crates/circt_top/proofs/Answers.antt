@@ -12,7 +12,7 @@ use Rattle.circt_top.specs.Accepting.{Accepted, IsRefused, IsRefusedIn, first_in
 use Rattle.export_verilog.specs.Aggregates.{first_aggregate}
 use Rattle.circt_top.specs.Outcome.{Verdict, IsAnswer, IsAnswered}
 use Rattle.circt_top.specs.Outcome.Verdict.{given}
-use Rattle.circt_top.specs.Outcome.Answer.{printed, refused}
+use Rattle.circt_top.specs.Outcome.Answer.{prints, refuses}
 
 -- what is accepted is not refused
 not_both : (d : Design) (r : Refusal) → IsAccepted d → IsRefusal d r → ⊥
@@ -33,7 +33,7 @@ unrefused_in : (number : ℕ) (bytes : List ℕ) (d : Design) (r : Refusal) → 
 unrefused_in number bytes d r a is = unrefused bytes d is.refusal a is.refused
 
 -- what is answered is not refused
-pub answered_unrefused : (work : Work) (contents : List (List ℕ)) (r : Refusal) → IsAnswered work contents → IsAnswer work contents (refused r) → ⊥
+pub answered_unrefused : (work : Work) (contents : List (List ℕ)) (r : Refusal) → IsAnswered work contents → IsAnswer work contents (refuses r) → ⊥
 answered_unrefused (mlir passes) contents r a is = unrefused_in 0 (first_input contents) a.design r a.accepted is
 answered_unrefused (verilog passes) contents r a (inl is) = unrefused_in 0 (first_input contents) a.design r a.accepted is
 answered_unrefused (verilog passes) contents r a (inr is) =
@@ -42,6 +42,6 @@ answered_unrefused (verilog passes) contents r a (inr is) =
     let f : None ≡ Some r = sym a.takes ∙ e in cc
 
 -- what gives a text is answered
-pub made_answered : (work : Work) (contents : List (List ℕ)) (verdict : Verdict) (text : List ℕ) → IsAnswer work contents (printed verdict text) → IsAnswered work contents
+pub made_answered : (work : Work) (contents : List (List ℕ)) (verdict : Verdict) (text : List ℕ) → IsAnswer work contents (prints verdict text) → IsAnswered work contents
 made_answered (mlir passes) contents given text is = record { design = is.design; accepted = is.accepted; takes = tt }
 made_answered (verilog passes) contents given text is = record { design = is.design; accepted = is.accepted; takes = is.exported }

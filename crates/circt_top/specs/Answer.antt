@@ -13,7 +13,7 @@ use Rattle.diag.specs.declared.refusal.Refusal.{Refusal}
 use Rattle.command_line.specs.Line.{Command}
 use Rattle.command_line.specs.Usage.{usage_text}
 use Rattle.circt_top.specs.Outcome.{Verdict, IsAnswer}
-use Rattle.circt_top.specs.Outcome.Answer as answer
+use Rattle.circt_top.specs.Outcome.Answer.{prints, refuses}
 use Rattle.circt_top.specs.Words.{ForCommand}
 use Rattle.circt_top.specs.Inputs.{Told, AreContents, AreReadOf, fronts, name_at, bytes_at}
 use Rattle.circt_top.specs.Ends.{End}
@@ -48,11 +48,11 @@ module _ {F O : Type 0} (writes : F → Name → List ℕ → Result (Unit {0}) 
 
 -- a text with a verdict is what the command makes of its inputs, where these are told
 abbrev pub IsMadeOf : Command → Told → Verdict → List ℕ → Type 0
-IsMadeOf c told verdict text = (contents : List (List ℕ)) → AreContents told c.inputs contents → IsAnswer c.work contents (answer.printed verdict text)
+IsMadeOf c told verdict text = (contents : List (List ℕ)) → AreContents told c.inputs contents → IsAnswer c.work contents (prints verdict text)
 
 -- a refusal is the one of its inputs by the command, where these are told
 abbrev pub IsRefusalOf : Command → Told → Refusal → Type 0
-IsRefusalOf c told r = (contents : List (List ℕ)) → AreContents told c.inputs contents → IsAnswer c.work contents (answer.refused r)
+IsRefusalOf c told r = (contents : List (List ℕ)) → AreContents told c.inputs contents → IsAnswer c.work contents (refuses r)
 
 -- ---- the line on what is wrong
 

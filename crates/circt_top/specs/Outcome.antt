@@ -18,15 +18,15 @@ pub data Verdict : Type 0 where
 
 -- an answer: a text with a verdict, or a refusal of an input, which has the input's number
 pub data Answer : Type 0 where
-  printed : Verdict → List ℕ → Answer
-  refused : Refusal → Answer
+  prints : Verdict → List ℕ → Answer
+  refuses : Refusal → Answer
 
 -- a work answers inputs of these contents so
 abbrev pub IsAnswer : Work → List (List ℕ) → Answer → Type 0
-IsAnswer (mlir passes) contents (printed given text) = IsReprint passes (first_input contents) text
-IsAnswer (mlir passes) contents (refused r) = IsRefusedIn 0 (first_input contents) r
-IsAnswer (verilog passes) contents (printed given text) = IsTranslation passes (first_input contents) text
-IsAnswer (verilog passes) contents (refused r) = IsRefusedIn 0 (first_input contents) r ⊎ IsUnexported passes (first_input contents) r
+IsAnswer (mlir passes) contents (prints given text) = IsReprint passes (first_input contents) text
+IsAnswer (mlir passes) contents (refuses r) = IsRefusedIn 0 (first_input contents) r
+IsAnswer (verilog passes) contents (prints given text) = IsTranslation passes (first_input contents) text
+IsAnswer (verilog passes) contents (refuses r) = IsRefusedIn 0 (first_input contents) r ⊎ IsUnexported passes (first_input contents) r
 
 -- a work takes this design
 abbrev pub Takes : Work → Design → Type 0
@@ -41,6 +41,6 @@ pub record IsAnswered (work : Work) (contents : List (List ℕ)) : Type 0 where
 
 -- what is given is the answer, or out of memory
 abbrev pub Gives : Work → List (List ℕ) → Result (List ℕ) OutcomeFail → Type 0
-Gives work contents (Ok text) = IsAnswer work contents (printed given text)
-Gives work contents (Err (Refused r)) = IsAnswer work contents (refused r)
+Gives work contents (Ok text) = IsAnswer work contents (prints given text)
+Gives work contents (Err (Refused r)) = IsAnswer work contents (refuses r)
 Gives work contents (Err NoMemory) = Unit {0}

@@ -24,10 +24,10 @@ use mlir_printer::design_text::print_and_drop;
 use mlir_printer::laws::{what_is_accepted_is_printable, what_is_printed_is_read_again};
 use mlir_reader::read::read_design;
 use mlir_syntax::fail::ReadFail;
-use pass_manager::gate::Gate;
 use op_verifier::{
     Verified, VerifyFail, accepted_designs_are_sound, places_decide_no_verdict, verify,
 };
+use pass_manager::gate::Gate;
 use std::alloc::{AllocError, Global};
 use std::thread::Threads;
 

@@ -6,10 +6,11 @@ ghost use Rattle.command_line.specs.Invocations.{command_of, work_of};
 ghost use Rattle.circt_top.specs.Words.{fault_of, ForCommand};
 ghost use Rattle.circt_top.specs.Inputs.{AreContents, IsOneMissing, IsOneRisen, ReadsThen, OnFault, unread_end, name_at, bytes_at};
 ghost use Rattle.circt_top.specs.Outcome.{Verdict, IsAnswer, IsAnswered};
-ghost use Rattle.circt_top.specs.Outcome.Answer.{printed, refused};
+ghost use Rattle.circt_top.specs.Outcome.Answer.{prints, refuses};
 ghost use Rattle.circt_top.specs.Delivery.{HasOutputFault};
 ghost use Rattle.circt_top.specs.Ends.{end_of, usage_of, OnAnswered, OnRefused, OnReadFault, OnWriteFault, Unwritten, IsUsage, IsAnsweredOrNoMemory, IsReadFaultOrNoMemory, IsRefusedOrNoMemory, IsWorked};
-ghost use Rattle.circt_top.specs.Answer.{IsMadeOf, IsRefusalOf, Delivers, DeliversFront, Subject, line_of, Reports, ReportsEnd, IsSubject};
+ghost use Rattle.circt_top.specs.Answer.{IsMadeOf, IsRefusalOf, Delivers, DeliversFront, line_of, Reports, ReportsEnd, IsSubject};
+ghost use Rattle.circt_top.specs.Answer as answer;
 ghost use Rattle.circt_top.specs.Views.{subject_of};
 
 use crate::delivery::{Delivery, deliver};
@@ -92,21 +93,25 @@ fn run_on<R: Threads + Sync, F: Files, O: Sink, E: Sink, G: Gate + Sync>(
     ensures front { OnWriteFault (end_of result) ((verdict : Verdict) × (text : List ℕ) × ReadsThen F.reads F.files files.old (command_of invocation.now).inputs (λ opened. DeliversFront F.writes F.files O.puts O.told (command_of invocation.now).output opened files.new out.old out.new text) × IsMadeOf (command_of invocation.now) (F.files files.old) verdict text) }
     ensures missing { IsOneMissing (F.files files.old) (command_of invocation.now).inputs → IsReadFaultOrNoMemory (end_of result) }
     ensures no_usage { usage_of (end_of result) ≡ None }
-    ensures report { (s : Subject) × IsSubject (λ name. HasRisen (F.read_faults files.old name) (F.read_faults files.new name)) (F.files files.old) (end_of result) (command_of invocation.now) s × Reports E.told E.faults err.old err.new (line_of s (end_of result)) }
+    ensures report { (s : answer.Subject) × IsSubject (λ name. HasRisen (F.read_faults files.old name) (F.read_faults files.new name)) (F.files files.old) (end_of result) (command_of invocation.now) s × Reports E.told E.faults err.old err.new (line_of s (end_of result)) }
 {
     let sources = match read_inputs(alloc, invocation.inputs.as_slice(), files) {
         Ok(sources) => sources,
         Err(unread) => return report_unread(err, unread),
     };
     let status = answer(rt, alloc, invocation, sources.as_slice(), files, out, gate);
-    report(err, &subject_of(invocation, sources.as_slice(), &status), &status);
+    report(
+        err,
+        &subject_of(invocation, sources.as_slice(), &status),
+        &status,
+    );
     status
 }
 
 // The end of a run of which an input was not read, with its line.
 fn report_unread<E: Sink>(err: &mut E, unread: Unread<'_>) -> Status
-    ensures status { end_of result ≡ unread_end unread }
-    ensures report { (s : Subject) × OnFault unread (λ name. s.input ≡ name) × Reports E.told E.faults err.old err.new (line_of s (unread_end unread)) }
+    ensures status { end_of result ≡ unread_end unread.entry }
+    ensures report { (s : answer.Subject) × OnFault unread.entry (λ name. s.input ≡ name) × Reports E.told E.faults err.old err.new (line_of s (unread_end unread.entry)) }
 {
     let (input, status) = match unread {
         Unread::Fault(name) => (name, Status::ReadFault),
@@ -122,11 +127,7 @@ fn report_unread<E: Sink>(err: &mut E, unread: Unread<'_>) -> Status
 }
 
 // What the line on the end of a command names.
-fn subject_of<'a>(
-    invocation: &'a Invocation,
-    sources: &'a [Text],
-    status: &Status,
-) -> Subject<'a>
+fn subject_of<'a>(invocation: &'a Invocation, sources: &'a [Text], status: &Status) -> Subject<'a>
     ensures refused { OnRefused (end_of status.now) (λ r. ((subject_of result).input ≡ name_at r.file (command_of invocation.entry.now).inputs) × ((subject_of result).source ≡ bytes_at r.file sources.entry.now)) }
     ensures output { (subject_of result).output ≡ (command_of invocation.entry.now).output }
 {
@@ -184,12 +185,12 @@ fn answer<R: Threads + Sync, F: Files, O: Sink, G: Gate + Sync>(
     out: &mut O,
     gate: &G,
 ) -> Status
-    ensures refused { OnRefused (end_of result) (λ r. IsAnswer (command_of invocation.now).work sources.now (refused r)) }
+    ensures refused { OnRefused (end_of result) (λ r. IsAnswer (command_of invocation.now).work sources.now (refuses r)) }
     ensures write_fault { OnWriteFault (end_of result) (HasOutputFault (command_of invocation.now).output (O.faults out.old) (O.faults out.new) (F.write_faults files.old) (F.write_faults files.new)) }
     ensures unwritten { Unwritten (end_of result) ((out.new ≡ out.old) × (F.files files.new ≡ F.files files.old)) }
     ensures untouched { OnRefused (end_of result) (λ r. files.new ≡ files.old) }
-    ensures done { OnAnswered (end_of result) (λ verdict. (text : List ℕ) × Delivers F.writes F.files O.puts O.told (command_of invocation.now).output files.old files.new out.old out.new text × IsAnswer (command_of invocation.now).work sources.now (printed verdict text)) }
-    ensures front { OnWriteFault (end_of result) ((verdict : Verdict) × (text : List ℕ) × DeliversFront F.writes F.files O.puts O.told (command_of invocation.now).output files.old files.new out.old out.new text × IsAnswer (command_of invocation.now).work sources.now (printed verdict text)) }
+    ensures done { OnAnswered (end_of result) (λ verdict. (text : List ℕ) × Delivers F.writes F.files O.puts O.told (command_of invocation.now).output files.old files.new out.old out.new text × IsAnswer (command_of invocation.now).work sources.now (prints verdict text)) }
+    ensures front { OnWriteFault (end_of result) ((verdict : Verdict) × (text : List ℕ) × DeliversFront F.writes F.files O.puts O.told (command_of invocation.now).output files.old files.new out.old out.new text × IsAnswer (command_of invocation.now).work sources.now (prints verdict text)) }
     ensures reads { F.read_faults files.new ≡ F.read_faults files.old }
     ensures kinds { IsWorked (end_of result) }
 {

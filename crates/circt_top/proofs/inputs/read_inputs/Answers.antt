@@ -1,0 +1,35 @@
+-- One more file is read; or its count of faults rose.
+use Rattle.std.proofs.Common.{◌≡◌, ◌++◌, ◌∷◌, [], take, map, subst, sym, ◌∙◌, ap, arith, List, ℕ}
+use Rattle.std.specs.Prelude.{string_bytes}
+use Rattle.hw_model.specs.Types.{Name}
+use Rattle.circt_top.specs.Inputs.{HasRead, AreReads}
+use Rattle.circt_top.proofs.Read.{names_more, read_more, told_more, risen_later, named_at, kept_more}
+use Rattle.circt_top.proofs.inputs.read_inputs.Goals as goal
+
+pub loop-name-preserved : goal.loop-name-preserved
+loop-name-preserved g c =
+    let names = map string_bytes (take c.loop-name.name-index c.args.names.now) in
+    let item : c.deref.result.now ≡ string_bytes c.name-item.result = cc in
+    let more = names_more string_bytes c.args.names.now c.loop-name.name-index c.name-item.result (omega (arith, c.loop-name-test.true)) c.name-item.is in
+    let more_names : map string_bytes (take (c.loop-name.name-index + 1) c.args.names.now) ≡ names ++ c.deref.result.now ∷ [] = more ∙ ap (λ n. names ++ n ∷ []) (sym item) in
+    let i = c.loop-name.invariant in
+    let step = c.in-Ok.ensures.read in
+    record {
+      read = rw (more_names, step.1)
+          (read_more g.F.Files.reads g.F.Files.files c.args.files.now c.loop-name.files c.read_one.new.files names c.loop-name.sources.items c.deref.result.now step.0 i.read step.2 c.read_one.ensures.unchanged);
+      told = rw (more_names, step.1)
+          (told_more (g.F.Files.files c.args.files.now) names c.loop-name.sources.items c.deref.result.now step.0 i.told (rw (sym i.unchanged) step.3));
+      kept = λ name. kept_more (g.F.Files.read_faults c.args.files.now name) (g.F.Files.read_faults c.loop-name.files name) (g.F.Files.read_faults c.read_one.new.files name) (i.kept name) (c.read_one.ensures.cause.kept name);
+      unchanged = c.read_one.ensures.unchanged ∙ i.unchanged;
+      writes = c.read_one.ensures.writes ∙ i.writes;
+    }
+
+pub returns-in-Err-Failed-clause-fault : goal.returns-in-Err-Failed-clause-fault
+returns-in-Err-Failed-clause-fault g c =
+    let item : c.deref-in-Err-Failed.result.now ≡ string_bytes c.name-item.result = cc in
+    let same : c.deref.result.now ≡ c.deref-in-Err-Failed.result.now = cc in
+    let i = c.loop-name.invariant in (
+      rw item (named_at string_bytes c.args.names.now c.loop-name.name-index c.name-item.result (omega (arith, c.loop-name-test.true)) c.name-item.is),
+      risen_later (g.F.Files.read_faults c.args.files.now c.deref-in-Err-Failed.result.now) (g.F.Files.read_faults c.loop-name.files c.deref-in-Err-Failed.result.now)
+          (g.F.Files.read_faults c.read_one.new.files c.deref-in-Err-Failed.result.now) (i.kept c.deref-in-Err-Failed.result.now) (rw (sym same) c.read_one.ensures.cause.rose),
+    )
