@@ -3,6 +3,7 @@ pub mod Read
 pub mod Completed
 mod Reported
 mod Ends
+mod Subjects
 pub mod Answers
 pub mod Within
 pub mod Outcomes

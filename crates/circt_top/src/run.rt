@@ -113,17 +113,24 @@ fn report_unread<E: Sink>(err: &mut E, unread: Unread<'_>) -> Status
     ensures status { end_of result ≡ unread_end unread.entry }
     ensures report { (s : answer.Subject) × OnFault unread.entry (λ name. s.input ≡ name) × Reports E.told E.faults err.old err.new (line_of s (unread_end unread.entry)) }
 {
-    let (input, status) = match unread {
-        Unread::Fault(name) => (name, Status::ReadFault),
-        Unread::NoMemory => ("-", Status::NoMemory),
-    };
-    let subject = Subject {
-        input,
+    match unread {
+        Unread::Fault(name) => {
+            report(err, &unread_subject(name), &Status::ReadFault);
+            Status::ReadFault
+        }
+        Unread::NoMemory => stop(err, Status::NoMemory),
+    }
+}
+
+// What the line on an input names that could not be read.
+fn unread_subject(name: &str) -> Subject<'_>
+    ensures { (subject_of result).input ≡ name.entry.now }
+{
+    Subject {
+        input: name,
         source: b"",
         output: None,
-    };
-    report(err, &subject, &status);
-    status
+    }
 }
 
 // What the line on the end of a command names.

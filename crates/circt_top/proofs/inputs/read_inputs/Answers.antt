@@ -1,7 +1,8 @@
 -- One more file is read; or its count of faults rose.
-use Rattle.std.proofs.Common.{◌≡◌, ◌++◌, ◌∷◌, [], take, map, subst, sym, ◌∙◌, ap, arith, List, ℕ}
+use Rattle.std.proofs.Common.{◌≡◌, ◌+◌, ◌++◌, ◌∷◌, [], take, map, subst, sym, ◌∙◌, ap, arith, List, ℕ}
 use Rattle.std.specs.Prelude.{string_bytes}
 use Rattle.hw_model.specs.Types.{Name}
+use Rattle.io_edge.specs.Faults.{HasRisen}
 use Rattle.circt_top.specs.Inputs.{HasRead, AreReads}
 use Rattle.circt_top.proofs.Read.{names_more, read_more, told_more, risen_later, named_at, kept_more}
 use Rattle.circt_top.proofs.inputs.read_inputs.Goals as goal
@@ -31,5 +32,5 @@ returns-in-Err-Failed-clause-fault g c =
     let i = c.loop-name.invariant in (
       rw item (named_at string_bytes c.args.names.now c.loop-name.name-index c.name-item.result (omega (arith, c.loop-name-test.true)) c.name-item.is),
       risen_later (g.F.Files.read_faults c.args.files.now c.deref-in-Err-Failed.result.now) (g.F.Files.read_faults c.loop-name.files c.deref-in-Err-Failed.result.now)
-          (g.F.Files.read_faults c.read_one.new.files c.deref-in-Err-Failed.result.now) (i.kept c.deref-in-Err-Failed.result.now) (rw (sym same) c.read_one.ensures.cause.rose),
+          (g.F.Files.read_faults c.read_one.new.files c.deref-in-Err-Failed.result.now) (i.kept c.deref-in-Err-Failed.result.now) (subst (λ n. HasRisen (g.F.Files.read_faults c.loop-name.files n) (g.F.Files.read_faults c.read_one.new.files n)) same (rw c.in-Err-Failed.field-0-is at c.in-Err-Failed.ensures.cause.rose)),
     )

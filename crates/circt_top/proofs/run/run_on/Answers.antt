@@ -1,11 +1,14 @@
 -- What is answered for the bytes read is answered for the told files.
 use Rattle.std.proofs.Common.{◌≡◌, sym, subst, ap, ◌∙◌, map, List, ℕ}
 use Rattle.std.specs.Prelude.{string_bytes}
+use Rattle.io_edge.specs.Faults.{HasRisen}
 use Rattle.command_line.specs.Invocations.{command_of}
 use Rattle.circt_top.specs.Inputs.{HasRead, AreReads}
 use Rattle.circt_top.specs.Ends.{end_of}
+use Rattle.circt_top.specs.Views.{subject_of}
 use Rattle.circt_top.proofs.Answered.{none_missing, refused_whole, made_whole}
 use Rattle.circt_top.proofs.Ends.{refused_on, answered_on, write_fault_on, unread_refuses, unread_ends}
+use Rattle.circt_top.proofs.Subjects.{subject_named}
 use Rattle.circt_top.proofs.run.run_on.Goals as goal
 
 pub returns-in-Err-clause-missing : goal.returns-in-Err-clause-missing
@@ -16,3 +19,51 @@ returns-in-Err-clause-refused g c = rw c.report_unread.ensures.status (unread_re
 
 pub returns-in-Err-clause-read_once : goal.returns-in-Err-clause-read_once
 returns-in-Err-clause-read_once g c = rw c.report_unread.ensures.status (unread_refuses _ c.in-Err.unread)
+
+pub returns-clause-missing : goal.returns-clause-missing
+returns-clause-missing g c = λ missing.
+    (let same : c.as_slice.result.now ≡ c.args.invocation.now.inputs.items = cc in
+    let names : map string_bytes c.as_slice.result.now ≡ (command_of c.args.invocation.now).inputs = ap (map string_bytes) same in
+    absurd (none_missing (g.F.Files.files c.args.files.now) (command_of c.args.invocation.now).inputs c.in-Ok.sources.items (rw (← names) c.in-Ok.ensures.told) missing))
+
+pub returns-clause-refused : goal.returns-clause-refused
+returns-clause-refused g c =
+    let same : c.as_slice.result.now ≡ c.args.invocation.now.inputs.items = cc in
+    let viewed : c.as_slice-2.result.now ≡ c.in-Ok.sources.items = cc in
+    let names : map string_bytes c.as_slice.result.now ≡ (command_of c.args.invocation.now).inputs = ap (map string_bytes) same in
+    let told : AreReads (g.F.Files.files c.args.files.now) (command_of c.args.invocation.now).inputs c.as_slice-2.result.now = rw (← names, viewed) c.in-Ok.ensures.told in
+    refused_on _ _ (end_of c.answer-status.result) (λ r is. refused_whole (command_of c.args.invocation.now) (g.F.Files.files c.args.files.now) c.as_slice-2.result.now r told is) c.answer-status.ensures.refused
+
+pub returns-clause-done : goal.returns-clause-done
+returns-clause-done g c =
+    let same : c.as_slice.result.now ≡ c.args.invocation.now.inputs.items = cc in
+    let viewed : c.as_slice-2.result.now ≡ c.in-Ok.sources.items = cc in
+    let names : map string_bytes c.as_slice.result.now ≡ (command_of c.args.invocation.now).inputs = ap (map string_bytes) same in
+    let told : AreReads (g.F.Files.files c.args.files.now) (command_of c.args.invocation.now).inputs c.as_slice-2.result.now = rw (← names, viewed) c.in-Ok.ensures.told in
+    let read : HasRead g.F.Files.reads g.F.Files.files c.args.files.now (command_of c.args.invocation.now).inputs c.in-Ok.sources.items c.read_inputs.new.files = rw (← names) c.in-Ok.ensures.read in
+    answered_on _ _ (end_of c.answer-status.result)
+    (λ verdict x. (x.0, (c.read_inputs.new.files, c.in-Ok.sources.items, read, x.1), made_whole (command_of c.args.invocation.now) (g.F.Files.files c.args.files.now) c.as_slice-2.result.now verdict x.0 told x.2))
+    c.answer-status.ensures.done
+
+pub returns-clause-front : goal.returns-clause-front
+returns-clause-front g c =
+    let same : c.as_slice.result.now ≡ c.args.invocation.now.inputs.items = cc in
+    let viewed : c.as_slice-2.result.now ≡ c.in-Ok.sources.items = cc in
+    let names : map string_bytes c.as_slice.result.now ≡ (command_of c.args.invocation.now).inputs = ap (map string_bytes) same in
+    let told : AreReads (g.F.Files.files c.args.files.now) (command_of c.args.invocation.now).inputs c.as_slice-2.result.now = rw (← names, viewed) c.in-Ok.ensures.told in
+    let read : HasRead g.F.Files.reads g.F.Files.files c.args.files.now (command_of c.args.invocation.now).inputs c.in-Ok.sources.items c.read_inputs.new.files = rw (← names) c.in-Ok.ensures.read in
+    write_fault_on _ _ (end_of c.answer-status.result)
+    (λ x. (x.0, x.1, (c.read_inputs.new.files, c.in-Ok.sources.items, read, x.2), made_whole (command_of c.args.invocation.now) (g.F.Files.files c.args.files.now) c.as_slice-2.result.now x.0 x.1 told x.3))
+    c.answer-status.ensures.front
+
+pub returns-clause-report : goal.returns-clause-report
+returns-clause-report g c =
+    let same : c.as_slice.result.now ≡ c.args.invocation.now.inputs.items = cc in
+    let viewed : c.as_slice-3.result.now ≡ c.in-Ok.sources.items = cc in
+    let names : map string_bytes c.as_slice.result.now ≡ (command_of c.args.invocation.now).inputs = ap (map string_bytes) same in
+    let told : AreReads (g.F.Files.files c.args.files.now) (command_of c.args.invocation.now).inputs c.as_slice-3.result.now = rw (← names, viewed) c.in-Ok.ensures.told in
+    (subject_of c.subject_of.result,
+    subject_named (λ name. HasRisen (g.F.Files.read_faults c.args.files.now name) (g.F.Files.read_faults c.answer-status.new.files name)) (g.F.Files.files c.args.files.now)
+    c.as_slice-3.result.now (command_of c.args.invocation.now) (end_of c.answer-status.result) (subject_of c.subject_of.result) c.answer-status.ensures.kinds told
+    c.subject_of.ensures.refused c.subject_of.ensures.output,
+    c.report.ensures)
