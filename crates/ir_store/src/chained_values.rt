@@ -204,8 +204,8 @@ impl ChainedValues {
         self.values.truncate(cell);
     }
 
-    /// Puts `to` in the place of each `from`. Linear in the cells of the chain of `from`'s head, and in their square where
-    /// `to` has the same head.
+    /// Puts `to` in the place of each `from`. Each of its cells is looked for from the front of its chain: linear where no
+    /// other value, `to` among them, has the same head, and else at most the square of the chain's cells.
     pub fn replace(&mut self, from: Value, to: Value)
         ensures items { self.new.items ≡ map (replace_value from to) self.old.items }
         ensures room { self.new.room ≡ self.old.room }
