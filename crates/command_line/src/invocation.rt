@@ -80,11 +80,7 @@ fn find_matches<'a>(alloc: Global, words: &'a [String]) -> Result<ArgMatches<'a>
 }
 
 /// The command of a name with its arguments.
-fn command_in(
-    alloc: Global,
-    name: &str,
-    matches: &ArgMatches<'_>,
-) -> Result<Invocation, LineFail>
+fn command_in(alloc: Global, name: &str, matches: &ArgMatches<'_>) -> Result<Invocation, LineFail>
     ensures { Says (command_in name.now (rows_of (found_of matches.now))) result }
 {
     let work = match work_in(alloc, name, matches) {

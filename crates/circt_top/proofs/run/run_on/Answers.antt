@@ -61,9 +61,10 @@ returns-clause-report g c =
     let same : c.as_slice.result.now ≡ c.args.invocation.now.inputs.items = cc in
     let viewed : c.as_slice-3.result.now ≡ c.in-Ok.sources.items = cc in
     let names : map string_bytes c.as_slice.result.now ≡ (command_of c.args.invocation.now).inputs = ap (map string_bytes) same in
-    let told : AreReads (g.F.Files.files c.args.files.now) (command_of c.args.invocation.now).inputs c.as_slice-3.result.now = rw (← names, viewed) c.in-Ok.ensures.told in
-    (subject_of c.subject_of.result,
-    subject_named (λ name. HasRisen (g.F.Files.read_faults c.args.files.now name) (g.F.Files.read_faults c.answer-status.new.files name)) (g.F.Files.files c.args.files.now)
-    c.as_slice-3.result.now (command_of c.args.invocation.now) (end_of c.answer-status.result) (subject_of c.subject_of.result) c.answer-status.ensures.kinds told
-    c.subject_of.ensures.refused c.subject_of.ensures.output,
-    c.report.ensures)
+    let told : AreReads (g.F.Files.files c.args.files.now) (command_of c.args.invocation.now).inputs c.as_slice-3.result.now = rw (← names, viewed) c.in-Ok.ensures.told in (
+      subject_of c.subject_of.result,
+      subject_named (λ name. HasRisen (g.F.Files.read_faults c.args.files.now name) (g.F.Files.read_faults c.answer-status.new.files name)) (g.F.Files.files c.args.files.now)
+          c.as_slice-3.result.now (command_of c.args.invocation.now) (end_of c.answer-status.result) (subject_of c.subject_of.result) c.answer-status.ensures.kinds told
+          c.subject_of.ensures.refused c.subject_of.ensures.output,
+      c.report.ensures,
+    )
