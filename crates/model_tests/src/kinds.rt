@@ -1,10 +1,10 @@
 //! Kinds of operations, types and words, as tables write them.
 use bits_core::Bits;
-use operation_values::bit_string::BitString;
-use operation_values::refusal::Refusal;
 use hw_model::kinds::{Instance, Integer, OpKind, Predicate, Reset};
 use hw_model::types::{Field, FieldList, Ty};
 use io_edge::byte_text::Text;
+use operation_values::bit_string::BitString;
+use operation_values::refusal::Refusal;
 use std::alloc::Global;
 
 /// A kind of operation. A field is told by its name, an instance by the symbol of its module.

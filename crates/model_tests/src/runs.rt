@@ -3,11 +3,11 @@
 use crate::designs::{Line, Part, RUNS, Run};
 use crate::kinds::{Shape, kind_of, type_of, types_of, word};
 use crate::register_designs;
-use operation_values::bit_string::{BitString, bits_of};
 use hw_interpreter::design::{Module, Operation, Port};
 use hw_interpreter::machine::run;
-use operation_values::refusal::Refusal;
 use io_edge::byte_text::Text;
+use operation_values::bit_string::{BitString, bits_of};
+use operation_values::refusal::Refusal;
 use std::alloc::Global;
 use std::test::Fail;
 

@@ -3,11 +3,11 @@
 use crate::kinds::{kind_of, type_of, types_of, word};
 use crate::value_rows::{AGGREGATES, INTEGERS, Outcome, Row};
 use Outcome::{Empty, Is, Refused};
+use hw_model::kinds::{Integer, Literal, LiteralList, OpKind};
+use hw_model::types::Ty;
 use operation_values::bit_string::{BitString, bits_of};
 use operation_values::refusal::Refusal;
 use operation_values::values::value_of;
-use hw_model::kinds::{Integer, Literal, LiteralList, OpKind};
-use hw_model::types::Ty;
 use std::alloc::Global;
 use std::test::Fail;
 
