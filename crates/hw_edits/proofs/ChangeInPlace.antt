@@ -15,7 +15,7 @@ use Rattle.hw_model.proofs.Sorts.Sort.{a_register, an_instance, an_output, a_mad
 use Rattle.hw_edits.specs.Edit.{is_anchor, anchors, result_word, word_of, word_of_op, HoldsBut, Holds}
 use Rattle.hw_edits.specs.Follows.{Wide, ValidEdit, SameEdit, Valid, Follows}
 use Rattle.hw_edits.specs.Laws.{other_than, with_body, InPlace}
-use Rattle.hw_edits.proofs.Edited.{map_retarget_id, omap_retarget_id}
+use Rattle.hw_edits.proofs.OtherOperands.{map_retarget_id, omap_retarget_id}
 use Rattle.hw_edits.proofs.Follows.{follows_set}
 use Rattle.hw_edits.proofs.Positions.{other_some, other_none, get_other, anchors-set, before-set}
 

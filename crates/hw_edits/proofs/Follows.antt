@@ -15,7 +15,8 @@ use Rattle.hw_model.proofs.NetWidths.{net_widths}
 use Rattle.hw_edits.specs.Edit.{EditedModule}
 use Rattle.hw_edits.specs.Follows.{ValidEdit, SameEdit, Valid, Follows}
 use Rattle.hw_edits.proofs.Anchors.{called_follow}
-use Rattle.hw_edits.proofs.Edited.{no_edit, holds_at, at, standing, state_same, next_same, rising_same, outputs_same, back_settled}
+use Rattle.hw_edits.proofs.Edited.{holds_at, at, standing, state_same, next_same, rising_same, outputs_same, back_settled}
+use Rattle.hw_edits.proofs.OtherOperands.{no_edit}
 use Rattle.hw_edits.proofs.Heights.{heights_after}
 use Rattle.hw_edits.proofs.Types.{sound_after}
 

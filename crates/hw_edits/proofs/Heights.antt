@@ -16,7 +16,8 @@ use Rattle.hw_model.proofs.Sorts.Sort.{a_register, an_instance, an_output, a_mad
 use Rattle.hw_model.proofs.Paths.{op_in, result_in, result_here}
 use Rattle.hw_edits.specs.Edit.{is_anchor, EditedModule}
 use Rattle.hw_edits.specs.Falls.{LocalHeight, Falls}
-use Rattle.hw_edits.proofs.Edited.{map_source, at, shape_at, standing, port_same, kept_same}
+use Rattle.hw_edits.proofs.Edited.{at, shape_at, standing, port_same, kept_same}
+use Rattle.hw_edits.proofs.OtherOperands.{map_source}
 
 -- ---- what a body says of heights
 

@@ -13,7 +13,7 @@ use Rattle.hw_model.specs.Sound.{type_in, Fits, OpFits}
 use Rattle.hw_edits.specs.Edit.{retarget, is_anchor, anchors}
 use Rattle.hw_edits.specs.Follows.{ValidEdit, SameEdit, Valid, Follows}
 use Rattle.hw_edits.specs.Laws.{up, down, up_ref, insert_op, with_body, Inserted}
-use Rattle.hw_edits.proofs.Edited.{length_map}
+use Rattle.hw_edits.proofs.OtherOperands.{length_map}
 use Rattle.hw_edits.proofs.Follows.{follows_set}
 use Rattle.hw_edits.proofs.Positions.{down-up, up_from_down, down_none, get_put, take_map, anchors-retarget, anchors-insert, before-insert}
 

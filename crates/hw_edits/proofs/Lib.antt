@@ -1,6 +1,7 @@
 -- Lemmas.
 pub mod Anchors
 pub mod Edited
+pub mod OtherOperands
 pub mod Heights
 pub mod Types
 pub mod Follows

@@ -20,7 +20,7 @@ use Rattle.hw_model.proofs.Sorts.{Sort, sort_of, instance_found}
 use Rattle.hw_model.proofs.Sorts.Sort.{a_register, an_instance, an_output, a_made}
 use Rattle.hw_model.proofs.Paths.{module_inside, before_body, registers_body, op_in, result_in, result_here}
 use Rattle.hw_model.proofs.Content.{state_at_depth, slots_width, registers_width, map_slots-append, body_state-append, before_position}
-use Rattle.hw_edits.proofs.Edited.{reads}
+use Rattle.hw_edits.proofs.OtherOperands.{reads}
 use Rattle.hw_edits.proofs.Twins.Twin.{one, two}
 use Rattle.hw_edits.proofs.Twins.{Twin, Twins, twin_instance, twin_state}
 use Rattle.hw_edits.proofs.Registers.{Reregistered, module_state_same, twins_of, instances_same}

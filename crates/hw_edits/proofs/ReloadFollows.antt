@@ -22,7 +22,8 @@ use Rattle.hw_model.proofs.Content.{call_heights}
 use Rattle.hw_edits.specs.Follows.{Valid, Follows}
 use Rattle.hw_edits.specs.Laws.{other_than, with_body}
 use Rattle.hw_edits.specs.Registers.{Reloaded}
-use Rattle.hw_edits.proofs.Edited.{reads, holds_at}
+use Rattle.hw_edits.proofs.Edited.{holds_at}
+use Rattle.hw_edits.proofs.OtherOperands.{reads}
 use Rattle.hw_edits.proofs.Follows.{valid_settles, set_each}
 use Rattle.hw_edits.proofs.Positions.{other_none, get_other}
 use Rattle.hw_edits.proofs.Twins.Twin.{one, two}

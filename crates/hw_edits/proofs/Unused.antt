@@ -15,7 +15,7 @@ use Rattle.hw_model.proofs.Machines.{same_sym}
 use Rattle.hw_edits.specs.Edit.{retarget}
 use Rattle.hw_edits.specs.Follows.{Valid, Follows}
 use Rattle.hw_edits.specs.Laws.{up_ref, without, erase_op, insert_op, with_body, IsNotOf, Inserted, IsUnused}
-use Rattle.hw_edits.proofs.Edited.{length_map}
+use Rattle.hw_edits.proofs.OtherOperands.{length_map}
 use Rattle.hw_edits.proofs.Follows.{valid_settles, valid_set}
 use Rattle.hw_edits.proofs.Inserted.{insert_op_preserves}
 use Rattle.hw_edits.proofs.TakeOut.{up-without, types_stay, taken_out_valid}

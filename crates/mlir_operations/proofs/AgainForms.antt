@@ -1,27 +1,22 @@
 -- What the tokens of the forms of operations say is read of them.
-use Rattle.std.proofs.Common.{◌≡◌, Bool, true, false, cond, List, [], ◌∷◌, Option, Some, None, Ok, refl, sym, ◌∙◌, ap, ap₂, subst, ℕ, ◌⊎◌, inl, inr}
+use Rattle.std.proofs.Common.{◌≡◌, Bool, false, List, [], ◌∷◌, Option, Some, None, Ok, refl, sym, ◌∙◌, ap, ap₂, subst, ℕ, ◌⊎◌, inl, inr}
 use Rattle.std.specs.Prelude.{codes}
 use Rattle.diag.specs.declared.refusal.OpName.{OpName}
-use Rattle.opcode.specs.declared.listed.Listed.{Listed}
-use Rattle.opcode.specs.declared.listed.Listed.TheVariants as listed
 use Rattle.hw_model.specs.Types.{Name}
-use Rattle.hw_model.specs.Kinds.{Predicate}
-use Rattle.hw_model.specs.Design.{Entry, same_name}
-use Rattle.std.specs.Cmp.Lexicographic.{bytes_decides}
+use Rattle.hw_model.specs.Design.{Entry}
 use Rattle.mlir_lexer.specs.Tokens.{Lexeme}
 use Rattle.mlir_lexer.specs.declared.token.TokenKind.{TokenKind}
 use Rattle.mlir_lexer.specs.declared.token.TokenKind.TheVariants as kind
-use Rattle.mlir_syntax.specs.Stream.{Symbol, token, bad, end, first, is_first, is_next, is_word}
+use Rattle.mlir_syntax.specs.Stream.{Symbol, is_first, is_next, is_word}
 use Rattle.mlir_lexer.specs.TokenKinds.{is_kind}
 use Rattle.mlir_syntax.specs.Reads.{Read, on}
 use Rattle.mlir_syntax.specs.AttributeText.{maybe_dictionary}
-use Rattle.assembly_format.specs.Formats.{is_of, format_of, comma, front_elements, type_elements}
+use Rattle.assembly_format.specs.Formats.{comma, front_elements, type_elements}
 use Rattle.mlir_operations.specs.ElementText.{InherentAttributes, Gathered, gathered_nothing, elements_text}
 use Rattle.mlir_operations.specs.ElementText.InherentAttributes.{with_reset, with_async_reset}
-use Rattle.mlir_syntax.specs.WordText.{predicate_named}
-use Rattle.mlir_operations.specs.OperationText.{Tail, given_entries, late_dictionary, form_text, is_last}
-use Rattle.mlir_syntax.specs.Spelling.{Phrase, Mark, Word, Holding, TruthWord, Then, Either, Where, Nothing, MaybeDictionary}
-use Rattle.mlir_operations.specs.Spelling.{ResetSync, ResetAsync, ResetPhrase, OperandPhrase, FormatElementPhrase, ElementsPhrase, IsOneOf, FormPhrase}
+use Rattle.mlir_operations.specs.OperationText.{Tail, given_entries, late_dictionary, form_text}
+use Rattle.mlir_syntax.specs.Spelling.{Phrase, Word, Then, Either, Where, Nothing, MaybeDictionary}
+use Rattle.mlir_operations.specs.Spelling.{ResetSync, ResetAsync, ResetPhrase, FormatElementPhrase, ElementsPhrase, IsOneOf, FormPhrase}
 use Rattle.assembly_format.specs.declared.elements.Keyword.{Keyword}
 use Rattle.assembly_format.specs.declared.elements.Keyword.TheVariants.{From, Clock}
 use Rattle.assembly_format.specs.declared.elements.FormatElement.{FormatElement}
@@ -29,10 +24,9 @@ use Rattle.assembly_format.specs.declared.elements.FormatElement.TheVariants as 
 use Rattle.assembly_format.specs.declared.elements.Format.{Format}
 use Rattle.assembly_format.specs.declared.elements.Format.TheVariants as format
 use Rattle.mlir_syntax.proofs.Again.{At, at_then, at_where, at_nothing, at_either, on_ok, Leads, leads_one, leads_then, leads_where, starts, starts_test}
-use Rattle.mlir_syntax.proofs.AgainTokens.{Unlike, is_kind_of, unlike, no_word, other_word, no_next, leads_holding, leads_commas, leads_integer}
+use Rattle.mlir_syntax.proofs.AgainTokens.{Unlike, unlike, no_word, no_next}
 use Rattle.mlir_syntax.proofs.AgainAttributes.{NoBrace, some_dictionary_at, again_maybe}
-use Rattle.mlir_syntax.proofs.AgainLiterals.{leads_aggregate}
-use Rattle.mlir_operations.proofs.AgainOperands.{NoNumber, NoValue, leads_operand}
+use Rattle.mlir_operations.proofs.AgainOperands.{NoNumber}
 use Rattle.mlir_operations.proofs.AgainElements.{NoReset, Ends, elements_at}
 
 -- ---- what stands after a form
@@ -57,7 +51,7 @@ TypesForm [] = Unit {0}
 TypesForm (element.Mark k ∷ ps) = k ≡ kind.Colon
 TypesForm (_ ∷ ps) = ⊥
 
-types_form : (format : Format) → TypesForm (type_elements format)
+pub types_form : (format : Format) → TypesForm (type_elements format)
 unfolding type_elements
 types_form format.Variadic = refl
 types_form format.Truth = tt
@@ -72,7 +66,7 @@ leads_elements p ps g h one = record { lead = λ ts q. (leads_then {P = FormatEl
 leads_mark : {T : Lexeme → Type 0} (k : TokenKind) (ps : List FormatElement) (g h : Gathered) → ((t : Lexeme) → t.kind ≡ k → T t) → Leads T (ElementsPhrase (element.Mark k ∷ ps) g h)
 leads_mark k ps g h to = leads_elements (element.Mark k) ps g h (λ m. leads_where (leads_one to))
 
-no_elements : {g h : Gathered} {s left : List Symbol} → At (ElementsPhrase [] g h) s left → (h ≡ g) × (s ≡ left)
+pub no_elements : {g h : Gathered} {s left : List Symbol} → At (ElementsPhrase [] g h) s left → (h ≡ g) × (s ≡ left)
 no_elements a = let (same, p) = at_where a in (same, at_nothing p)
 
 leads_dictionary : {T : Lexeme → Type 0} (keys : List Name) (es : List Entry) → ((t : Lexeme) → t.kind ≡ kind.LeftBrace → T t) → Leads T (MaybeDictionary keys (Some es))
@@ -92,7 +86,7 @@ from_types test keys (element.Mark k ∷ ps) g h late form brace colon last a b 
     starts_test test false (λ t p. p) (starts (leads_mark k ps g h (λ t e. colon t (e ∙ form))) a)
 from_types test keys (_ ∷ ps) g h late form brace colon last a b = absurd form
 
-behind_front : (test : Lexeme → Bool) (keys : List Name) (tp : List FormatElement) (g h : Gathered) (early late : Option (List Entry)) {s left : List Symbol} → TypesForm tp
+pub behind_front : (test : Lexeme → Bool) (keys : List Name) (tp : List FormatElement) (g h : Gathered) (early late : Option (List Entry)) {s left : List Symbol} → TypesForm tp
     → ((t : Lexeme) → t.kind ≡ kind.LeftBrace → test t ≡ false) → ((t : Lexeme) → t.kind ≡ kind.Colon → test t ≡ false) → is_first test left ≡ false
     → At (Then (MaybeDictionary keys early) (Then (ElementsPhrase tp g h) (MaybeDictionary keys late))) s left → is_first test s ≡ false
 behind_front test keys tp g h early late form brace colon last a =
@@ -292,7 +286,7 @@ rest_at op keys tp g h es (Some ds) late {s} {m} last form ends one a b c =
     early_at op keys tp g h ds es late last ends one a (some_dictionary_at op keys ds a) b c
 
 -- the pieces before the types, and what stands after them
-front_of : (keys : List Name) (format : Format) (h : Gathered) (es : List Entry) {s left : List Symbol} → At (FormPhrase keys format h es) s left
+pub front_of : (keys : List Name) (format : Format) (h : Gathered) (es : List Entry) {s left : List Symbol} → At (FormPhrase keys format h es) s left
     → (g : Gathered) × (early : Option (List Entry)) × (late : Option (List Entry)) × IsOneOf early late es × (m : List Symbol) × At (ElementsPhrase (front_elements format) gathered_nothing g) s m
     × At (Then (MaybeDictionary keys early) (Then (ElementsPhrase (type_elements format) g h) (MaybeDictionary keys late))) m left
 front_of keys format h es {s} {left} a =
@@ -311,133 +305,3 @@ form_at op keys format h es last a =
     let (i, x, y) = at_then e in
     on_ok _ (elements_at op (front_elements format) gathered_nothing g (front_ends format (front_end keys (type_elements format) g h early late (types_form format) last c)) b)
     (rest_at op keys (type_elements format) g h es early late last (types_form format) (type_ends format i) one d x y)
-
--- ---- what a form begins with
-
--- the first token, by its kind
-pub of_first : (k : TokenKind) (s : List Symbol) → is_of k (first s) ≡ is_next k s
-of_first k [] = refl
-of_first k (token t ∷ s) = refl
-of_first k (bad p ∷ s) = refl
-of_first k (end p ∷ s) = refl
-
--- a token is not the mark `bin`
-abbrev NoBin : Lexeme → Type 0
-NoBin t = is_word (codes "bin") t ≡ false
-
--- pieces that do not begin with `bin`
-abbrev IsFront : FormatElement → Type 0
-IsFront (element.Mark k) = ⊥
-IsFront (element.Word w) = ⊥
-IsFront element.Number = ⊥
-IsFront element.Field = ⊥
-IsFront element.Reset = ⊥
-IsFront element.SyncOrAsyncReset = ⊥
-IsFront element.Type = ⊥
-IsFront element.Types = ⊥
-IsFront _ = Unit {0}
-
--- a predicate is no `bin`
-no_predicate : (name : Name) (p : Predicate) → predicate_named name ≡ Some p → same_name name (codes "bin") ≡ false
-unfolding predicate_named
-no_predicate name p e = go (same_name name (codes "bin")) refl
-  where
-    go : (b : Bool) → same_name name (codes "bin") ≡ b → b ≡ false
-    go true h = let known : Some p ≡ None = sym e ∙ ap predicate_named ((bytes_decides name (codes "bin")).0 h) in absurd cc
-    go false h = refl
-
-leads_truth : (b : Bool) → Leads NoBin (TruthWord b)
-leads_truth true = leads_one (λ t w. other_word (codes "bin") (codes "true") refl t w.1)
-leads_truth false = leads_one (λ t w. other_word (codes "bin") (codes "false") refl t w.1)
-
-leads_front : (p : FormatElement) (g h : Gathered) → IsFront p → Leads NoBin (FormatElementPhrase p g h)
-leads_front (element.Mark k) g h f = absurd f
-leads_front (element.Word w) g h f = absurd f
-leads_front element.Number g h f = absurd f
-leads_front element.Field g h f = absurd f
-leads_front element.Reset g h f = absurd f
-leads_front element.SyncOrAsyncReset g h f = absurd f
-leads_front element.Type g h f = absurd f
-leads_front element.Types g h f = absurd f
-leads_front element.Operand g h f = record { lead = λ ts p. (leads_operand p.0 (no_word (codes "bin") kind.ValueName refl)).lead ts p.2 }
-leads_front element.Operands g h f = record {
-  lead = λ ts p. (leads_commas OperandPhrase p.0 p.1 (leads_operand p.0 (no_word (codes "bin") kind.ValueName refl))).lead ts p.3;
-}
-leads_front element.Group g h f = record {
-  lead = λ ts p. (leads_then {P = Mark kind.LeftParenthesis} (leads_one (no_word (codes "bin") kind.LeftParenthesis refl))).lead ts p.2;
-}
-leads_front element.Predicate g h f = record {
-  lead = λ ts p. (leads_one {U = NoBin} (λ t w. other_word (codes "bin") p.1 (no_predicate p.1 p.0 p.3) t w.1)).lead ts p.4;
-}
-leads_front element.Truth g h f = record { lead = λ ts p. (leads_truth p.0).lead ts p.2 }
-leads_front element.Integer g h f = record {
-  lead = λ ts p. (leads_integer (no_word (codes "bin") kind.Integer refl) (no_word (codes "bin") kind.Minus refl)).lead ts p.2;
-}
-leads_front element.Literals g h f = record { lead = λ ts p. (leads_aggregate p.0 (no_word (codes "bin") kind.LeftBracket refl)).lead ts p.2 }
-leads_front element.Instance g h f = record {
-  lead = λ ts p. (leads_then {P = Holding kind.StringLiteral p.0} (leads_holding (no_word (codes "bin") kind.StringLiteral refl))).lead ts p.6;
-}
-
--- the first piece of a form does not begin with `bin`
-abbrev FrontFirst : List FormatElement → Type 0
-FrontFirst [] = Unit {0}
-FrontFirst (p ∷ ps) = IsFront p
-
-front_first : (format : Format) → FrontFirst (front_elements format)
-unfolding front_elements
-front_first format.Variadic = tt
-front_first _ = tt
-
-no_bin_front : (ps : List FormatElement) (g h : Gathered) {s m : List Symbol} → FrontFirst ps → is_first (is_word (codes "bin")) m ≡ false → At (ElementsPhrase ps g h) s m
-    → is_first (is_word (codes "bin")) s ≡ false
-no_bin_front [] g h first last a = ap (is_first (is_word (codes "bin"))) (no_elements a).1 ∙ last
-no_bin_front (p ∷ ps) g h first last a = starts_test (is_word (codes "bin")) false (λ t e. e) (starts (leads_elements p ps g h (λ m. leads_front p g m first)) a)
-
--- a form does not begin with `bin`
-pub no_bin : (keys : List Name) (format : Format) (h : Gathered) (es : List Entry) {s left : List Symbol} → OperationEnd left → At (FormPhrase keys format h es) s left
-    → is_first (is_word (codes "bin")) s ≡ false
-no_bin keys format h es last a =
-    let (g, early, late, one, m, b, c) = front_of keys format h es a in
-    no_bin_front (front_elements format) gathered_nothing g (front_first format)
-    (behind_front (is_word (codes "bin")) keys (type_elements format) g h early late (types_form format) (no_word (codes "bin") kind.LeftBrace refl)
-    (no_word (codes "bin") kind.Colon refl) last.no_bin c) b
-
--- ---- the form of an operation is told by the token that it begins with
-
-first_kind : (k : TokenKind) (b : Bool) {P : Phrase} {s left : List Symbol} → Leads (λ t. is_kind t.kind k ≡ b) P → At P s left → is_of k (first s) ≡ b
-first_kind k b {s = s} leads a = of_first k s ∙ starts_test (λ t. is_kind t.kind k) b (λ t e. e) (starts leads a)
-
-constant_at : (keys : List Name) (b : Bool) (h : Gathered) (es : List Entry) {s left : List Symbol} → At (FormPhrase keys (cond b format.Truth format.Integer) h es) s left
-    → is_of kind.BareName (first s) ≡ b
-unfolding front_elements
-constant_at keys true h es a =
-    let (g, early, late, one, m, b, c) = front_of keys format.Truth h es a in
-    first_kind kind.BareName true (leads_elements element.Truth [] gathered_nothing g (λ i. record {
-      lead = λ ts p. (leads_one {U = λ t. is_kind t.kind kind.BareName ≡ true} (λ t w. is_kind_of w.0)).lead ts p.2;
-    })) b
-constant_at keys false h es a =
-    let (g, early, late, one, m, b, c) = front_of keys format.Integer h es a in
-    first_kind kind.BareName false (leads_elements element.Integer [] gathered_nothing g (λ i. record {
-      lead = λ ts p. (leads_integer (unlike kind.BareName kind.Integer refl) (unlike kind.BareName kind.Minus refl)).lead ts p.2;
-    })) b
-
-output_at : (keys : List Name) (b : Bool) (h : Gathered) (es : List Entry) {s left : List Symbol} → NoValue left
-    → At (FormPhrase keys (cond b format.Joined format.Nothing) h es) s left → is_of kind.ValueName (first s) ≡ b
-unfolding front_elements
-output_at keys true h es last a =
-    let (g, early, late, one, m, b, c) = front_of keys format.Joined h es a in
-    first_kind kind.ValueName true (leads_elements element.Operands [] gathered_nothing g (λ i. record {
-      lead = λ ts p. (leads_commas OperandPhrase p.0 p.1 (leads_operand {T = λ t. is_kind t.kind kind.ValueName ≡ true} p.0 (λ t e. is_kind_of e))).lead ts p.3;
-    })) b
-output_at keys false h es {s} last a =
-    let (g, early, late, one, m, b, c) = front_of keys format.Nothing h es a in
-    of_first kind.ValueName s ∙ ap (is_next kind.ValueName) (no_elements b).1
-    ∙ behind_front (λ t. is_kind t.kind kind.ValueName) keys (type_elements format.Nothing) g h early late (types_form format.Nothing) (unlike kind.ValueName kind.LeftBrace refl)
-    (unlike kind.ValueName kind.Colon refl) last c
-
-pub format_at : (o : Listed) (next : Option Lexeme) (keys : List Name) (h : Gathered) (es : List Entry) {s left : List Symbol} → (is_last o ≡ true → NoValue left)
-    → At (FormPhrase keys (format_of o next) h es) s left → format_of o (first s) ≡ format_of o next
-unfolding format_of
-format_at listed.HwConstant next keys h es last a = ap (λ b. cond b format.Truth format.Integer) (constant_at keys (is_of kind.BareName next) h es a)
-format_at listed.HwOutput next keys h es last a = ap (λ b. cond b format.Joined format.Nothing) (output_at keys (is_of kind.ValueName next) h es (last refl) a)
-format_at _ next keys h es last a = refl

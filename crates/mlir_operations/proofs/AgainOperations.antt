@@ -22,7 +22,8 @@ use Rattle.mlir_syntax.proofs.Again.{At, at_then, at_one, at_where, at_nothing, 
 use Rattle.mlir_syntax.proofs.AgainTokens.{is_kind_of, unlike, no_word, other_word, next_at, no_next, leads_commas, no_mark, both_true, false_too}
 use Rattle.mlir_operations.proofs.AgainOperands.{NoValue, again_results, leads_value}
 use Rattle.mlir_operations.proofs.AgainElements.{word_first}
-use Rattle.mlir_operations.proofs.AgainForms.{OperationEnd, form_at, no_bin, format_at}
+use Rattle.mlir_operations.proofs.AgainForms.{OperationEnd, form_at}
+use Rattle.mlir_operations.proofs.FormStarts.{no_bin, format_at}
 
 -- ---- names of operations
 

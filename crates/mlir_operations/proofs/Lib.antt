@@ -6,6 +6,7 @@ pub mod Joining
 pub mod AgainOperands
 pub mod AgainElements
 pub mod AgainForms
+pub mod FormStarts
 pub mod AgainOperations
 pub mod SoundOperands
 pub mod SoundElements

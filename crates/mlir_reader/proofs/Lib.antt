@@ -19,4 +19,5 @@ pub mod Files
 mod Examples
 pub mod ResultCounts
 mod LocalModules
+mod LocalOperations
 mod SoundModules

@@ -1,6 +1,6 @@
 -- Expressions meet the checks of a text: names are known, selects are in range, divisors are literals that are not 0; and
 -- their names and numerals are words.
-use Rattle.std.proofs.Common.{◌≡◌, ℕ, suc, ◌+◌, ◌-◌, ◌*◌, ◌/◌, ◌%◌, ◌<◌, ◌≤◌, ◌^◌, Bool, true, false, cond, not, ◌&&◌, ◌||◌, ◌==◌, nat_le, nat_lt, List, [], ◌∷◌, map, length, decimal, Option, Some, is_some, refl, sym, ap, subst, ◌∙◌, inl, inr, arith, IsTrue, lt-ltb, le-leb, leb-true, eq-eqb}
+use Rattle.std.proofs.Common.{◌≡◌, ℕ, suc, ◌+◌, ◌-◌, ◌*◌, ◌/◌, ◌%◌, ◌<◌, ◌≤◌, ◌^◌, Bool, true, false, cond, not, ◌&&◌, ◌||◌, ◌==◌, nat_le, nat_lt, List, [], ◌∷◌, map, length, decimal, Option, Some, is_some, refl, sym, ap, subst, ◌∙◌, inl, inr, arith, IsTrue, eq-eqb}
 use Rattle.std.proofs.Math.Nat.{mul-div_cancel}
 use Rattle.wiring.specs.Lists.{total}
 use Rattle.wiring.specs.Wiring.{In}
@@ -12,75 +12,24 @@ use Rattle.hw_model.specs.Kinds.Predicate.{eq, ne, slt, sle, sgt, sge, ult, ule,
 use Rattle.hw_model.specs.Kinds.Kind.{variadic, sub, division, shift, icmp, parity, extract, concat, replicate, mux, constant, aggregate_constant, on_array, on_struct, bitcast, wire, instance, output, register, async_firreg}
 use Rattle.hw_model.specs.Flat.{width_of}
 use Rattle.hw_model.specs.Sound.{Fits}
-use Rattle.verilog_model.specs.Tokens.{is_word_byte, is_digit, is_between}
+use Rattle.verilog_model.specs.Tokens.{is_word_byte}
 use Rattle.verilog_model.specs.Numerals.{decimal_number, is_decimal, is_hex, is_nonempty, all_bytes}
 use Rattle.verilog_model.specs.Tree.{Operator, Expr, Exprs}
-use Rattle.verilog_model.specs.Tree.Operator.{times, over, modulo, plus, minus, left_shift, right_shift, signed_right_shift, below, at_most, above, at_least, equals, differs, bit_and, bit_xor, bit_or}
+use Rattle.verilog_model.specs.Tree.Operator.{minus, below, at_most, above, at_least, equals, differs}
 use Rattle.verilog_model.specs.Tree.Expr.{name, bit_select, part_select, repeated, as_signed, as_unsigned, paren, odd, binary}
 use Rattle.verilog_model.specs.Tree.Exprs.{last}
 use Rattle.verilog_model.specs.Grammar.{level, strength, choice_level, primary_level}
 use Rattle.verilog_model.specs.Expression.{is_signed}
 use Rattle.verilog_model.specs.Checks.{Declared, find_declared, has_bit, is_divisor, divides, expr_checks, exprs_check}
 use Rattle.verilog_model.proofs.Numerals.{and_intro, and_first, and_second, decimal_number-decimal, is_decimal-decimal, all_bytes_weaker}
-use Rattle.verilog_model.proofs.Reread.{all_digits_are_word}
-use Rattle.verilog_expr.specs.Building.{literal_of, unsigned, parenthesize, unsigned_at, of_one_expr, of_two_exprs, of_three_exprs, unsigned_pair, chain, variadic_expr, signed_pair, unsigned_shift, signed_shift, unsigned_division, signed_division, comparison, select, select_bits, exprs_of, concatenation, conditional, kind_expr, division_expr, shift_expr, variadic_operator, division_operator, shift_operator, is_signed_division, is_signed_shift}
+use Rattle.verilog_expr.specs.Building.{literal_of, unsigned, parenthesize, unsigned_at, of_one_expr, of_two_exprs, of_three_exprs, unsigned_pair, chain, variadic_expr, signed_pair, unsigned_shift, signed_shift, comparison, select, select_bits, exprs_of, concatenation, conditional, kind_expr, division_expr, shift_expr, variadic_operator, division_operator, shift_operator, is_signed_division, is_signed_shift}
 use Rattle.verilog_expr.specs.Values.{is_aggregate_kind, is_division, is_variadic, is_item_kind}
 use Rattle.verilog_expr.specs.Spilling.{is_narrower}
 use Rattle.verilog_expr.specs.Numerals.{hex}
 use Rattle.verilog_expr.proofs.Operators.{plain_operator, plain_shift}
 use Rattle.verilog_expr.proofs.Numerals.{hex_number-hex, is_hex-hex}
 use Rattle.verilog_expr.proofs.TextRead.{IsWord, IsSpellable, AreSpellable}
-
-abbrev is_hex_byte : ℕ → Bool
-is_hex_byte b = is_digit b || (is_between 65 70 b || is_between 97 102 b)
-
--- a decimal numeral is a word
-pub decimal_word : (n : ℕ) → n < 2 ^ 64 → IsWord (decimal n)
-decimal_word n small = let d = is_decimal-decimal n small in record {
-  some = and_first (is_nonempty (decimal n)) (all_bytes is_digit (decimal n)) d;
-  bytes = all_digits_are_word (decimal n) (and_second (is_nonempty (decimal n)) (all_bytes is_digit (decimal n)) d);
-}
-
-lt_true : (m n : ℕ) → m < n → IsTrue (nat_lt m n)
-lt_true m n h = lt-ltb m n h
-
-le_true : (m n : ℕ) → m ≤ n → IsTrue (nat_le m n)
-le_true m n h = le-leb m n h
-
--- what stands between two numbers stands between any further apart
-wider : (a b c x : ℕ) → b ≤ c → IsTrue (is_between a b x) → IsTrue (is_between a c x)
-wider a b c x further h =
-    and_intro (nat_le a x) (nat_le x c) (and_first (nat_le a x) (nat_le x b) h)
-    (le_true x c (let le : x ≤ b = leb-true x b (and_second (nat_le a x) (nat_le x b) h) in omega (arith, le, further)))
-
-hex_byte_is_word : (b : ℕ) → IsTrue (is_hex_byte b) → IsTrue (is_word_byte b)
-hex_byte_is_word b h = go (is_digit b) (is_between 65 70 b) (is_between 97 102 b) refl refl refl h where
-  finish : (l u e d m q : Bool) → IsTrue (l || (u || d)) → IsTrue (((l || (u || e)) || (d || m)) || q)
-  finish true u e d m q t = refl
-  finish false true e d m q t = refl
-  finish false false true true m q t = refl
-  finish false false false true m q t = refl
-  finish false false e false m q t = cc
-
-  lower : (l u d : Bool) → IsTrue l → IsTrue (l || (u || d))
-  lower l u d t = rw t refl
-
-  upper : (l u d : Bool) → IsTrue u → IsTrue (l || (u || d))
-  upper true u d t = refl
-  upper false u d t = rw t refl
-
-  digit : (l u d : Bool) → IsTrue d → IsTrue (l || (u || d))
-  digit true u d t = refl
-  digit false true d t = refl
-  digit false false d t = t
-
-  go : (d u l : Bool) → is_digit b ≡ d → is_between 65 70 b ≡ u → is_between 97 102 b ≡ l → IsTrue (d || (u || l)) → IsTrue (is_word_byte b)
-  go true u l x y z h = finish (is_between 97 122 b) (is_between 65 90 b) (b == 95) (is_digit b) (b == 36) (b == 39) (digit (is_between 97 122 b) (is_between 65 90 b) (is_digit b) x)
-  go false true l x y z h = finish (is_between 97 122 b) (is_between 65 90 b) (b == 95) (is_digit b) (b == 36) (b == 39)
-      (upper (is_between 97 122 b) (is_between 65 90 b) (is_digit b) (wider 65 70 90 b (omega arith) y))
-  go false false true x y z h = finish (is_between 97 122 b) (is_between 65 90 b) (b == 95) (is_digit b) (b == 36) (b == 39)
-      (lower (is_between 97 122 b) (is_between 65 90 b) (is_digit b) (wider 97 102 122 b (omega arith) z))
-  go false false false x y z h = cc
+use Rattle.verilog_expr.proofs.CheckedWords.{is_hex_byte, decimal_word, lt_true, le_true, hex_byte_is_word}
 
 module _ (known : List Declared) where
   -- an expression that is spelled in words and meets the checks after what is known

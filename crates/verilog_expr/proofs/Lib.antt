@@ -29,6 +29,7 @@ pub mod Signed
 pub mod Places
 pub mod TextRead
 pub mod Checked
+pub mod CheckedWords
 pub mod BodiesChecked
 pub mod Samples
 pub mod SampleBody

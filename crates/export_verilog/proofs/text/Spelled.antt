@@ -16,7 +16,7 @@ use Rattle.verilog_expr.specs.Numerals.{high_of}
 use Rattle.verilog_expr.specs.Expressions.{constant_expr}
 use Rattle.verilog_expr.specs.Values.{gives_values}
 use Rattle.verilog_expr.proofs.TextRead.{IsWord, IsSpellable}
-use Rattle.verilog_expr.proofs.Checked.{decimal_word}
+use Rattle.verilog_expr.proofs.CheckedWords.{decimal_word}
 use Rattle.export_verilog.specs.Identifiers.{Identifier, emission_of, identifier_text, module_identifiers, value_name, name_or_nothing}
 use Rattle.export_verilog.specs.Identifiers.Identifier.{port_identifier, value_identifier, instance_identifier}
 use Rattle.export_verilog.specs.Identifiers.Emission.{as_wire, as_reg, as_instance}
