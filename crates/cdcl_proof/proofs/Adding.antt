@@ -23,7 +23,7 @@ use Rattle.cdcl_proof.proofs.Entries.{entry_of_mentions}
 use Rattle.cdcl_proof.proofs.Resolution.{cases_le}
 use Rattle.cdcl_proof.proofs.LearntClauses.{free_before, holds_before}
 use Rattle.cdcl_proof.proofs.Rows.{holds_at, row_of}
-use Rattle.cdcl_proof.proofs.Tables.{same_push}
+use Rattle.cdcl_proof.proofs.AddedClauses.{same_push}
 use Rattle.cdcl_proof.proofs.Covering.{covered_more, kept_holds, take_holds, last_holds}
 
 -- the short clauses that were true are so still

@@ -9,6 +9,7 @@ pub mod LearntClauses
 pub mod Keeping
 pub mod Rows
 pub mod Tables
+pub mod AddedClauses
 pub mod Covering
 pub mod Visiting
 pub mod Adding

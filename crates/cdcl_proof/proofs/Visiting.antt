@@ -22,7 +22,8 @@ use Rattle.cdcl_proof.proofs.Entries.{holds_entry}
 use Rattle.cdcl_proof.proofs.Resolution.{holds_take}
 use Rattle.cdcl_proof.proofs.LearntClauses.{holds_before}
 use Rattle.cdcl_proof.proofs.Rows.{holds-swap}
-use Rattle.cdcl_proof.proofs.Tables.{bit_small, slot_same, of_other, at_slot, at_same, watch_count_by, watch_count_long, watch_count_where, watch_is_counted, row_inside, among_row, same_rows, permuted_set, swap_remove_before}
+use Rattle.cdcl_proof.proofs.Tables.{slot_same, of_other, at_slot, at_same, watch_count_by, watch_count_long, watch_count_where, watch_is_counted, row_inside, same_rows, permuted_set, swap_remove_before}
+use Rattle.cdcl_proof.proofs.AddedClauses.{bit_small, among_row}
 use Rattle.cdcl_proof.proofs.Covering.{propagates_then, take_holds, kept_holds, satisfied_more, satisfied_row, covered_swap}
 
 -- what is known of a watch of a list and of its row

@@ -4,7 +4,7 @@ use Rattle.resolution_proof.specs.declared.literal.Literal.{Literal}
 use Rattle.resolution_proof.specs.Formula.{are_clauses}
 use Rattle.cdcl_proof.specs.Table.{IsEntered}
 use Rattle.cdcl_proof.specs.Watching.{literal_at, AreRows, AreWatched, HaveBlockers, AreShort, slot_of}
-use Rattle.cdcl_proof.proofs.Tables.{slots_of_row, table_added, clauses_added, lists_added, short_added}
+use Rattle.cdcl_proof.proofs.AddedClauses.{slots_of_row, table_added, clauses_added, lists_added, short_added}
 use Rattle.cdcl_proof.proofs.table.Table.add.Goals as goal
 
 pub enter-requires-clause-slots : goal.enter-requires-clause-slots

@@ -6,7 +6,8 @@ use Rattle.cdcl_proof.specs.declared.row.Watch.{Watch}
 use Rattle.resolution_proof.specs.Literal.{holds}
 use Rattle.cdcl_proof.specs.Watching.{row_at, list_at, literal_at, no_literal, no_watch, AreRows, AreWatched, HaveBlockers, AreShort, slot_of}
 use Rattle.cdcl_proof.proofs.Rows.{holds_at}
-use Rattle.cdcl_proof.proofs.Tables.{slot_in, slots_apart, table_moved, moved_lists, reads}
+use Rattle.cdcl_proof.proofs.Tables.{table_moved, moved_lists}
+use Rattle.cdcl_proof.proofs.AddedClauses.{slot_in, slots_apart, reads}
 use Rattle.cdcl_proof.proofs.table.Table.move_watch.Goals as goal
 
 pub shift-requires-clause-to : goal.shift-requires-clause-to

@@ -2,7 +2,7 @@ use Rattle.std.proofs.Common.{[], ◌≡◌, List, set, ap, subst, sym, ◌∙�
 use Rattle.std.proofs.lemmas.List.{get_or_read, length-set, get_or-set_same}
 use Rattle.cdcl_proof.specs.declared.row.Watch.{Watch}
 use Rattle.cdcl_proof.specs.Watching.{list_at, watch_at, HasSameClauses, AreWatched, HaveBlockers}
-use Rattle.cdcl_proof.proofs.Tables.{refreshed_same, refreshed_watched, refreshed_blockers}
+use Rattle.cdcl_proof.proofs.AddedClauses.{refreshed_same, refreshed_watched, refreshed_blockers}
 use Rattle.cdcl_proof.proofs.table.Table.set_blocker.Goals as goal
 
 pub returns-clause-table : goal.returns-clause-table

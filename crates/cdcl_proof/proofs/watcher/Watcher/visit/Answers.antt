@@ -15,7 +15,7 @@ use Rattle.cdcl_proof.specs.Watcher.{IsProgress}
 use Rattle.std.proofs.lemmas.List.{get_or_read}
 use Rattle.resolution_proof.proofs.Sets.{any_from}
 use Rattle.cdcl_proof.proofs.Rows.{holds_at}
-use Rattle.cdcl_proof.proofs.Tables.{among_row, list_inside}
+use Rattle.cdcl_proof.proofs.AddedClauses.{among_row, list_inside}
 use Rattle.cdcl_proof.proofs.Covering.{implied_by_row, conflict_by_row, last_holds}
 use Rattle.cdcl_proof.proofs.Visiting.{same_clauses, same_from, visits, watched_false, moved_permuted, progress_moved}
 use Rattle.cdcl_proof.proofs.watcher.Watcher.visit.Goals as goal
